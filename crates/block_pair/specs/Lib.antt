@@ -1,0 +1,5 @@
+pub mod Words
+pub mod Pair
+pub mod Each
+pub mod Halves
+pub mod HalvesLaw

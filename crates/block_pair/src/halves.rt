@@ -1,0 +1,56 @@
+//! The drill block.
+
+ghost use Rattle.std.specs.Prelude.{◌≡◌};
+ghost use Rattle.block_pair.specs.Halves.{swapped_halves};
+ghost use Rattle.block_pair.specs.HalvesLaw.{swap_halves_lawful};
+
+use crate::BlockPair;
+
+/// The drill block: it exchanges the two halves of a block, so that answers can be worked by hand.
+/// It is a block pair and hides nothing.
+#[derive(Clone, Copy, Debug)]
+pub struct SwapHalves;
+
+impl BlockPair for SwapHalves {
+    ghost encrypted = { λ _. swapped_halves };
+
+    ghost decrypted = { λ _. swapped_halves };
+
+    fn enc(&self, b: [u8; 16]) -> [u8; 16] {
+        swap_halves(b)
+    }
+
+    fn dec(&self, b: [u8; 16]) -> [u8; 16] {
+        swap_halves(b)
+    }
+
+    ghost lawful = { λ _. swap_halves_lawful };
+}
+
+/// Exchanges bytes 0 to 7 with bytes 8 to 15.
+fn swap_halves(mut b: [u8; 16]) -> [u8; 16]
+    ensures { result ≡ swapped_halves b }
+{
+    b.rotate_left(8);
+    b
+}
+
+#[cfg(test)]
+mod tests {
+    use super::*;
+    use std::test::Fail;
+
+    /// Encrypts and then decrypts through the bound alone.
+    fn there_and_back<B: BlockPair>(pair: &B, block: [u8; 16]) -> ([u8; 16], [u8; 16]) {
+        (pair.enc(block), pair.dec(pair.enc(block)))
+    }
+
+    #[test]
+    fn exchanges_the_halves_and_back(rt: HostRuntime) -> Result<(), Fail> {
+        let block = *b"first 8.second 8";
+        let (swapped, back) = there_and_back(&SwapHalves, block);
+        assert_eq!(rt; swapped, *b"second 8first 8.");
+        assert_eq!(rt; back, block);
+        Ok(())
+    }
+}
