@@ -1,0 +1,69 @@
+-- Files within their limit and past it, and which faults a hex text has.
+use Rattle.std.proofs.Common.{◌≡◌, ◌≢◌, ◌<◌, ◌≤◌, ◌%◌, ℕ, List, length, Option, Some, None, Result, Ok, Err, arith, refl, ap}
+use Rattle.std.specs.Prelude.{◌↔◌, IsErrAnd}
+use Rattle.std.proofs.lemmas.Bool.Decides.{nat_tests}
+use Rattle.key_files.specs.declared.fault.FileFault.{FileFault}
+use Rattle.key_files.specs.declared.fault.FileFault.TheVariants.{TooLong, BadDigit, OddDigits, Memory}
+use Rattle.key_files.specs.Meaning.{file_meaning, hex_meaning, spelled}
+use Rattle.key_files.specs.HexText.{first_bad, digits_of, paired}
+
+-- a file within the limit denotes what its bytes do
+pub file_meaning-within : (meaning : List ℕ → Result (List ℕ) FileFault) (limit : ℕ) (file : List ℕ) → length file ≤ limit
+    → file_meaning meaning limit file ≡ meaning file
+unfolding file_meaning
+file_meaning-within meaning limit file h = grind (arith, nat_tests)
+
+-- a longer file is too long
+pub file_meaning-past : (meaning : List ℕ → Result (List ℕ) FileFault) (limit : ℕ) (file : List ℕ) → limit < length file
+    → file_meaning meaning limit file ≡ Err TooLong
+unfolding file_meaning
+file_meaning-past meaning limit file h = grind (arith, nat_tests)
+
+-- a text with a bad byte
+pub hex_meaning-bad : (text : List ℕ) (at : ℕ) → first_bad text ≡ Some at → hex_meaning text ≡ Err (BadDigit at)
+unfolding hex_meaning
+hex_meaning-bad text at h = rw h
+
+-- a text with an odd number of digits
+pub hex_meaning-odd : (text : List ℕ) → first_bad text ≡ None → length (digits_of text) % 2 ≡ 1 → hex_meaning text ≡ Err OddDigits
+unfolding hex_meaning
+hex_meaning-odd text h odd = rw (h, odd)
+
+-- a text that denotes bytes
+pub hex_meaning-even : (text : List ℕ) → first_bad text ≡ None → length (digits_of text) % 2 ≢ 1 → hex_meaning text ≡ Ok (paired (digits_of text))
+unfolding hex_meaning
+hex_meaning-even text h even = rw h (grind (arith, nat_tests))
+
+-- a text is never too long
+spelled-never_long : (bad : Option ℕ) (digits : List ℕ) → spelled bad digits ≢ Err TooLong
+spelled-never_long (Some at) digits h = cc h
+spelled-never_long None digits h = grind (arith, nat_tests)
+
+pub hex_meaning-never_long : (text : List ℕ) → hex_meaning text ≢ Err TooLong
+unfolding hex_meaning
+hex_meaning-never_long text h = spelled-never_long (first_bad text) (digits_of text) h
+
+-- a refusal that is answered for what it is
+pub refused-by : {X : Type 0} (answer : Result X FileFault) (meaning : Result (List ℕ) FileFault) (found : FileFault) → answer ≡ Err found → meaning ≡ Err found
+    → (fault : FileFault) → fault ≢ Memory → (answer ≡ Err fault) ↔ (meaning ≡ Err fault)
+refused-by answer meaning found a m fault other = (λ e. cc, λ e. cc)
+
+-- bytes, where the text denotes bytes
+pub refused-by_none : {X : Type 0} (answer : Result X FileFault) (meaning : Result (List ℕ) FileFault) (x : X) (bytes : List ℕ) → answer ≡ Ok x → meaning ≡ Ok bytes
+    → (fault : FileFault) → fault ≢ Memory → (answer ≡ Err fault) ↔ (meaning ≡ Err fault)
+refused-by_none answer meaning x bytes a m fault other = (λ e. cc, λ e. cc)
+
+-- Memory in the place of bytes
+pub refused-by_memory : {X : Type 0} (answer : Result X FileFault) (meaning : Result (List ℕ) FileFault) (bytes : List ℕ) → answer ≡ Err Memory → meaning ≡ Ok bytes
+    → (fault : FileFault) → fault ≢ Memory → (answer ≡ Err fault) ↔ (meaning ≡ Err fault)
+refused-by_memory answer meaning bytes a m fault other = (λ e. let same : fault ≡ Memory = cc in absurd (other same), λ e. cc)
+
+-- no first bad byte was found
+pub none_from : (found : Option ℕ) → ((at : ℕ) → found ≢ Some at) → found ≡ None
+none_from None h = refl
+none_from (Some at) h = absurd (h at refl)
+
+-- an answer that is this fault
+pub err_from : {X : Type 0} (answer : Result X FileFault) (fault : FileFault) → IsErrAnd answer (λ e. e ≡ fault) → answer ≡ Err fault
+err_from (Ok x) fault is = absurd is
+err_from (Err e) fault is = ap Err is

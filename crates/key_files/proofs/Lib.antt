@@ -1,0 +1,4 @@
+mod Denoting
+mod Pairs
+mod ReadBack
+mod Whole

@@ -1,0 +1,3 @@
+pub mod HexText
+pub mod Meaning
+pub mod Reading

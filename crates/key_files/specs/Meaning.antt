@@ -1,0 +1,22 @@
+-- What the bytes of a file denote.
+use Rattle.std.specs.Prelude.{ℕ, ◌%◌, ◌==◌, nat_lt, List, length, Option, Some, None, Result, Ok, Err, if◌then◌else◌}
+use Rattle.key_files.specs.declared.fault.FileFault.{FileFault}
+use Rattle.key_files.specs.declared.fault.FileFault.TheVariants.{TooLong, BadDigit, OddDigits}
+use Rattle.key_files.specs.HexText.{first_bad, digits_of, paired}
+
+-- a raw file denotes its bytes
+abbrev pub raw_meaning : List ℕ → Result (List ℕ) FileFault
+raw_meaning file = Ok file
+
+-- what digits spell, where the first bad byte is known
+abbrev pub spelled : Option ℕ → List ℕ → Result (List ℕ) FileFault
+spelled (Some at) digits = Err (BadDigit at)
+spelled None digits = if length digits % 2 == 1 then Err OddDigits else Ok (paired digits)
+
+-- a hex text denotes the bytes that its digits spell: it has no bad byte, and an even number of digits
+unfoldable pub hex_meaning : List ℕ → Result (List ℕ) FileFault
+hex_meaning text = spelled (first_bad text) (digits_of text)
+
+-- what a file denotes in a notation, where it may have `limit` bytes
+unfoldable pub file_meaning : (List ℕ → Result (List ℕ) FileFault) → ℕ → List ℕ → Result (List ℕ) FileFault
+file_meaning meaning limit file = if nat_lt limit (length file) then Err TooLong else meaning file

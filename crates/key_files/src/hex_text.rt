@@ -1,0 +1,64 @@
+//! The hex notation.
+ghost use Rattle.std.specs.Prelude.{◌≡◌, ◌≢◌, ◌↔◌, length, IsOk, IfOk, Err, Ok};
+ghost use Rattle.key_files.specs.HexText.{digits_of, first_bad, is_skipped, paired};
+ghost use Rattle.key_files.specs.Meaning.{hex_meaning};
+ghost use Rattle.key_files.specs.declared.fault.FileFault.{FileFault};
+
+use crate::fault::FileFault;
+use std::alloc::{AllocError, Global};
+
+/// The bytes that the hex text `text` denotes: its digits, of either case, in order and in pairs.
+/// Space, tab, CR and LF may stand anywhere.
+///
+/// The first that applies is answered: BadDigit, OddDigits, Memory. The first two take no memory.
+pub fn decode_hex(alloc: Global, text: &[u8]) -> Result<Vec<u8>, FileFault>
+    ensures bytes { IfOk result (λ v. hex_meaning text.now ≡ Ok v.items) }
+    ensures refused { (fault : FileFault) → fault ≢ FileFault.Memory
+        → (result ≡ Err fault) ↔ (hex_meaning text.now ≡ Err fault) }
+    // Memory stands in the place of bytes, and never of a refusal.
+    ensures memory { result ≡ Err FileFault.Memory → IsOk (hex_meaning text.now) }
+{
+    if let Some(at) = first_bad(text) {
+        return Err(FileFault::BadDigit { at });
+    }
+    if digit_count(text) % 2 == 1 {
+        return Err(FileFault::OddDigits);
+    }
+    Ok(decode_digits(alloc, text)?)
+}
+
+// Space, tab, CR and LF may stand between digits.
+fn is_skipped(c: u8) -> bool
+    ensures { result ≡ is_skipped c }
+{
+    matches!(c, b' ' | b'\t' | b'\r' | b'\n')
+}
+
+fn first_bad(text: &[u8]) -> Option<usize>
+    ensures { result ≡ first_bad text.now }
+{
+    text.iter()
+        .position(|c| !(c.is_ascii_hexdigit() || is_skipped(*c)))
+}
+
+fn digit_count(text: &[u8]) -> usize
+    ensures { result ≡ length (digits_of text.now) }
+{
+    text.iter().filter(|c| c.is_ascii_hexdigit()).count()
+}
+
+fn digits(alloc: Global, text: &[u8]) -> Result<Vec<u8>, AllocError>
+    ensures { IfOk result (λ v. v.items ≡ digits_of text.now) }
+{
+    text.iter()
+        .copied()
+        .filter(|c| c.is_ascii_hexdigit())
+        .collect(alloc)
+}
+
+// An even number of digits is refused for memory alone.
+fn decode_digits(alloc: Global, text: &[u8]) -> Result<Vec<u8>, AllocError>
+    ensures { IfOk result (λ v. v.items ≡ paired (digits_of text.now)) }
+{
+    hex::decode(alloc, digits(alloc, text)?).or(Err(AllocError))
+}

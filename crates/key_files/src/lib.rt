@@ -1,0 +1,16 @@
+//! Key files: what is read is what the file denotes, raw or hex, and what is written is the text,
+//! or a counted front of it.
+#![tactic(auto)]
+
+mod fault;
+mod hex_text;
+mod read;
+mod write;
+
+pub use fault::{FileFault, HexWriteFault, WriteFault};
+pub use hex_text::decode_hex;
+pub use read::{MAX_FILE, read_hex, read_raw};
+pub use write::{write_hex, write_raw};
+
+#[cfg(test)]
+mod tests;

@@ -1,0 +1,64 @@
+//! Files that are read whole.
+ghost use Rattle.std.specs.Prelude.{◌≡◌, ◌<◌, ◌≤◌, length, take, IfOk, IfErr};
+ghost use Rattle.std.specs.Io.KnownBytes.{Consumes, IsAtEnd, Keeps};
+ghost use Rattle.key_files.specs.Meaning.{raw_meaning, hex_meaning};
+ghost use Rattle.key_files.specs.Reading.{ReadsAs, answer_of};
+
+use crate::fault::FileFault;
+use crate::hex_text::decode_hex;
+use std::alloc::Global;
+use std::io::Read;
+
+/// The most bytes that a file of the command may have.
+pub const MAX_FILE: usize = 65_536;
+
+// How many bytes one read may give.
+const CHUNK: usize = 4_096;
+
+/// The bytes of a file, up to the end of input: a read of no bytes into a buffer that is not empty.
+///
+/// At most `limit + 1` bytes are taken from the reader, and none is put back. Read comes where a
+/// read answers any error, an interrupted one too, and Memory where a growth was refused, each as it
+/// is met; TooLong where `limit + 1` bytes came.
+pub fn read_raw<R: Read>(alloc: Global, reader: &mut R, limit: usize) -> Result<Vec<u8>, FileFault>
+    requires { limit < usize.MAX }
+    ensures { ReadsAs raw_meaning limit (R.remaining reader.old) (R.remaining reader.new) (answer_of result) }
+{
+    let mut bytes = Vec::new(alloc);
+    let mut chunk = [0; CHUNK];
+    loop {
+        let room = (limit + 1 - bytes.len()).min(CHUNK);
+        let count = read_some(reader, &mut chunk[..room])?;
+        if count == 0 {
+            return Ok(bytes);
+        }
+        if count > limit - bytes.len() {
+            return Err(FileFault::TooLong);
+        }
+        bytes.extend_from_slice(&chunk[..count])?;
+    }
+}
+
+// One read into the front of `buf`.
+fn read_some<R: Read>(reader: &mut R, buf: &mut [u8]) -> Result<usize, FileFault>
+    ensures within { IfOk result (λ count. count ≤ length buf.new) }
+    ensures taken { IfOk result (λ count. Consumes (R.remaining reader.old) (R.remaining reader.new)
+        (take count buf.new)) }
+    ensures end { IfOk result (λ count. count ≡ 0 → 0 < length buf.old → IsAtEnd (R.remaining reader.new)) }
+    ensures refused { IfErr result (λ fault. (fault ≡ FileFault.Read)
+        × Keeps (R.remaining reader.old) (R.remaining reader.new)) }
+{
+    reader.read(buf).map_err(|_| FileFault::Read)
+}
+
+/// The bytes that a hex file denotes, as [`decode_hex`] says. `limit` counts the bytes of the file.
+///
+/// The file is read as [`read_raw`] reads it. The first that applies is answered: Read or Memory as
+/// met, TooLong, BadDigit, OddDigits, Memory.
+pub fn read_hex<R: Read>(alloc: Global, reader: &mut R, limit: usize) -> Result<Vec<u8>, FileFault>
+    requires { limit < usize.MAX }
+    ensures { ReadsAs hex_meaning limit (R.remaining reader.old) (R.remaining reader.new) (answer_of result) }
+{
+    let text = read_raw(alloc, reader, limit)?;
+    decode_hex(alloc, &text)
+}
