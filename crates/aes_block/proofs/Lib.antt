@@ -1,0 +1,4 @@
+pub mod CipherSteps
+pub mod Expanding
+pub mod Multiplying
+pub mod Tables

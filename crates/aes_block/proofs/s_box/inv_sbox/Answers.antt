@@ -1,0 +1,13 @@
+use Rattle.std.proofs.Common.{sym, ◌∙◌}
+use Rattle.aes_block.specs.SBoxLaw.{inv_s_box_converse}
+use Rattle.aes_block.proofs.Tables.{inv_s_box_entry}
+use Rattle.aes_block.proofs.s_box.inv_sbox.Goals as goal
+
+pub returns-clause-value : goal.returns-clause-value
+returns-clause-value c = inv_s_box_entry c.args.a c.ranges.a.fits
+
+pub returns-clause-converse : goal.returns-clause-converse
+returns-clause-converse c = λ x h.
+    let entry = inv_s_box_entry c.args.a c.ranges.a.fits in
+    let converse = inv_s_box_converse x c.args.a h c.ranges.a.fits in
+    (λ is. converse.0 (is ∙ entry), λ at. converse.1 at ∙ sym entry)

@@ -1,0 +1,32 @@
+use Rattle.std.proofs.Common.{◌≡◌, inl, inr, ℕ, ◌+◌, ◌*◌, ◌∙◌, List, length, take, ap, sym, subst, arith}
+use Rattle.aes_block.specs.KeyExpansion.{IsKekLength, rounds_of, key_expansion}
+use Rattle.aes_block.specs.KeyExpansionLaw.{key_expansion_only, words_bytes}
+use Rattle.aes_block.specs.Schedule.{key_of}
+use Rattle.aes_block.proofs.Expanding.{key_of_schedule}
+use Rattle.aes_block.proofs.schedule.Aes.new.Goals as goal
+use Rattle.aes_block.proofs.schedule.Aes.new.Goals.{in-16, in-24, in-32}
+
+legal : (c : goal.After-expand) → IsKekLength (length c.args.kek.now)
+legal c = elim c.match-kek.branch [ in-16 w ↦ inl (omega arith) | in-24 w ↦ inr (inl (omega arith)) | in-32 w ↦ inr (inr (omega arith)) ]
+
+rounds : (c : goal.After-expand) → c.match-kek.rounds ≡ rounds_of c.args.kek.now
+rounds c = elim c.match-kek.branch [ in-16 w ↦ omega arith | in-24 w ↦ omega arith | in-32 w ↦ omega arith ]
+
+-- the schedule keeps the key
+kept : (c : goal.After-expand) → key_of c.match-kek.rounds c.expand.result ≡ c.args.kek.now
+kept c =
+    key_of_schedule c.args.kek.now c.expand.result c.match-kek.rounds (legal c) (λ i. (c.type_inv.kek i).fits) (rounds c) c.expand.ensures
+
+pub returns-clause-key : goal.returns-clause-key
+returns-clause-key c = kept c
+
+pub invariant_of-result : goal.invariant_of-result
+invariant_of-result c = record {
+  legal = subst (λ (x : List ℕ). IsKekLength (length x)) (sym (kept c)) (legal c);
+  bytes = words_bytes (λ w. w) _;
+  rounds_is = rounds c ∙ ap rounds_of (sym (kept c));
+  words = ap (λ (r : ℕ). take (4 * (r + 1)) c.expand.result) (rounds c) ∙ c.expand.ensures ∙ ap key_expansion (sym (kept c));
+}
+
+pub returns-clause-schedule : goal.returns-clause-schedule
+returns-clause-schedule c = λ legal w. key_expansion_only c.args.kek.now w legal

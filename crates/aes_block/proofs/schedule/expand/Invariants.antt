@@ -1,0 +1,9 @@
+use Rattle.std.proofs.Common.{◌≡◌, ℕ, ◌<◌, length, slice_index}
+use Rattle.aes_block.specs.KeyExpansion.{key_expansion}
+use Rattle.aes_block.proofs.schedule.expand.Given as goal
+
+abbrev pub invariant-loop-i : goal.invariant-loop-i
+invariant-loop-i l = record {
+  long : length l.schedule ≡ 60;
+  words : (j : ℕ) → j < l.i → slice_index l.schedule j ≡ slice_index (key_expansion l.kek) j;
+}

@@ -1,0 +1,17 @@
+pub mod EveryByte
+pub mod Xor
+pub mod Field
+pub mod FieldLaw
+pub mod SBox
+pub mod SBoxLaw
+pub mod KeyExpansion
+pub mod KeyExpansionLaw
+pub mod Schedule
+pub mod Worked
+pub mod State
+pub mod StateLaw
+pub mod Rounds
+pub mod MixColumnsLaw
+pub mod RoundsLaw
+pub mod Cipher
+pub mod CipherLaw

@@ -1,0 +1,169 @@
+//! The key schedule (FIPS 197, section 5.2).
+
+ghost use Rattle.std.specs.Prelude.{◌≡◌, ◌≤◌, ◌↔◌, List, ℕ, ◌+◌, ◌*◌, ◌/◌, length, take, IsOk, IsErr, IfOk};
+ghost use Rattle.std.specs.List.{AllByRecursion};
+ghost use Rattle.block_pair.specs.Words.{IsByte};
+ghost use Rattle.aes_block.specs.KeyExpansion.{IsKekLength, IsKeyExpansion, key_expansion, round_key, rounds_of, sub_word, temp};
+
+use crate::sbox;
+use byteorder::{BigEndian, ByteOrder};
+use std::error::Error;
+use std::fmt;
+use std::marker::Model;
+
+/// A key's length is not 16, 24 or 32 bytes.
+#[derive(Clone, Copy, Debug, PartialEq, Eq)]
+pub struct BadKekLength;
+
+impl fmt::Display for BadKekLength {
+    fn fmt<W: fmt::Write>(&self, f: &mut fmt::Formatter<W>) -> fmt::Result {
+        write!(f, "key length is not 16, 24 or 32 bytes")
+    }
+}
+
+impl Error for BadKekLength {}
+
+// Rcon[1] to Rcon[10] (FIPS 197, 5.2, table 5).
+static ROUND_CONSTANTS: [u32; 10] = [
+    0x01000000, 0x02000000, 0x04000000, 0x08000000, 0x10000000, 0x20000000, 0x40000000, 0x80000000,
+    0x1b000000, 0x36000000,
+];
+
+// The longest schedule: four words for each of 14 rounds, and four more.
+const MAX_WORDS: usize = 60;
+
+/// AES under one key, with the key's schedule. Contracts see it as the key: a list of 16, 24 or 32
+/// bytes.
+#[derive(Drop)]
+pub struct Aes {
+    // The words past those of the rounds are not used.
+    schedule: [u32; MAX_WORDS],
+    rounds: u8,
+}
+
+impl Model for Aes {
+    ghost use Rattle.std.specs.Prelude.{ℕ, List};
+    ghost use Rattle.aes_block.specs.Schedule.{IsSchedule, key_of};
+
+    ghost Value = { List ℕ };
+
+    ghost view = { λ a. key_of a.rounds a.schedule };
+
+    ghost invariant = { λ a. IsSchedule a.rounds a.schedule };
+}
+
+impl Aes {
+    /// AES under the key-encryption key `kek`. Refused where the key is not of 16, 24 or 32 bytes.
+    pub fn new(kek: &[u8]) -> Result<Aes, BadKekLength>
+        ensures accepted { IsOk result ↔ IsKekLength (length kek.now) }
+        ensures refused { IsErr result ↔ ¬ IsKekLength (length kek.now) }
+        ensures key { IfOk result (λ aes. aes ≡ kek.now) }
+
+        // The key has one key schedule: that of the standard's equations, from which its round keys come.
+        ensures schedule { IsKekLength (length kek.now)
+            → (w : List ℕ) → IsKeyExpansion kek.now w ↔ (w ≡ key_expansion kek.now) }
+    {
+        let rounds = match kek.len() {
+            16 => 10,
+            24 => 12,
+            32 => 14,
+            _ => return Err(BadKekLength),
+        };
+        Ok(Aes {
+            schedule: expand(kek),
+            rounds,
+        })
+    }
+
+    /// How many rounds the cipher has under this key: 10, 12 or 14 (FIPS 197, 5, table 3).
+    pub fn rounds(&self) -> u8
+        ensures legal { IsKekLength (length self.now) }
+        ensures bytes { AllByRecursion IsByte self.now }
+        ensures sixteen { length self.now ≡ 16 → result ≡ 10 }
+        ensures twenty_four { length self.now ≡ 24 → result ≡ 12 }
+        ensures thirty_two { length self.now ≡ 32 → result ≡ 14 }
+        ensures value { result ≡ rounds_of self.now }
+    {
+        self.rounds
+    }
+
+    // The 16 bytes of round key `k`.
+    pub(crate) fn round_key(&self, k: usize) -> [u8; 16]
+        requires { k ≤ rounds_of self.now }
+        ensures { result ≡ round_key self.now k }
+    {
+        let schedule = &self.schedule;
+        let mut key = [0; 16];
+        BigEndian::write_u32_into(&schedule[4 * k..4 * k + 4], &mut key);
+        key
+    }
+}
+
+// The key's words, and each word after them from those before it. The rest are 0.
+fn expand(kek: &[u8]) -> [u32; MAX_WORDS]
+    requires { IsKekLength (length kek.now) }
+    ensures { take (4 * (rounds_of kek.now + 1)) result ≡ key_expansion kek.now }
+{
+    let key_words = kek.len() / 4;
+    let mut schedule = [0; MAX_WORDS];
+    BigEndian::read_u32_into(kek, &mut schedule[..key_words]);
+    for i in key_words..4 * (key_words + 7) {
+        schedule[i] = schedule[i - key_words] ^ temp(key_words, i, schedule[i - 1]);
+    }
+    schedule
+}
+
+// What is xored to the word `key_words` places before place `i`, from the word before it.
+fn temp(key_words: usize, i: usize, word: u32) -> u32
+    requires low { 4 ≤ key_words }
+    requires after_key { key_words ≤ i }
+    requires within { i / key_words ≤ 10 }
+    ensures { result ≡ temp key_words i word }
+{
+    if i % key_words == 0 {
+        sub_word(word.rotate_left(8)) ^ ROUND_CONSTANTS[i / key_words - 1]
+    } else if key_words == 8 && i % 8 == 4 {
+        sub_word(word)
+    } else {
+        word
+    }
+}
+
+// The S-box on each byte of a word.
+fn sub_word(word: u32) -> u32
+    ensures { result ≡ sub_word word }
+{
+    let [a, b, c, d] = word.to_be_bytes();
+    u32::from_be_bytes([sbox(a), sbox(b), sbox(c), sbox(d)])
+}
+
+#[cfg(test)]
+mod tests {
+    use super::expand;
+
+    // FIPS 197's key of 16 bytes.
+    const KEK_16: [u8; 16] = [
+        0x2b, 0x7e, 0x15, 0x16, 0x28, 0xae, 0xd2, 0xa6, 0xab, 0xf7, 0x15, 0x88, 0x09, 0xcf, 0x4f,
+        0x3c,
+    ];
+
+    // The key 00 01 02 .. of 32 bytes.
+    const KEK_32: [u8; 32] = [
+        0x00, 0x01, 0x02, 0x03, 0x04, 0x05, 0x06, 0x07, 0x08, 0x09, 0x0a, 0x0b, 0x0c, 0x0d, 0x0e,
+        0x0f, 0x10, 0x11, 0x12, 0x13, 0x14, 0x15, 0x16, 0x17, 0x18, 0x19, 0x1a, 0x1b, 0x1c, 0x1d,
+        0x1e, 0x1f,
+    ];
+
+    #[test]
+    fn expands_the_standards_key(rt: HostRuntime) {
+        assert_eq!(rt; expand(&KEK_16)[4], 0xa0fafe17);
+    }
+
+    #[test]
+    fn substitutes_the_middle_word_of_long_keys(rt: HostRuntime) {
+        let schedule = expand(&KEK_32);
+        for (i, word) in [(8, 0xa573c29f), (11, 0xa572c09c), (12, 0x1651a8cd)] {
+            assert_eq!(rt; schedule[i], word, "w[{i}]");
+        }
+    }
+}
