@@ -1,0 +1,11 @@
+pub mod Spelling
+pub mod Tapes
+pub mod Stepping
+pub mod Segments
+pub mod Filling
+pub mod FormLengths
+pub mod PlainForm
+pub mod PaddedForm
+pub mod BothForms
+pub mod ThreeChecks
+pub mod KeyLengths

@@ -1,0 +1,10 @@
+pub mod Words
+pub mod Tape
+pub mod Lengths
+pub mod Plain
+pub mod Padded
+pub mod Registers
+pub mod Steps
+pub mod PaddedRegisters
+pub mod Answer
+pub mod Kind

@@ -1,0 +1,77 @@
+//! The forms and kinds of texts, and why a call refuses.
+
+ghost use Rattle.std.specs.Prelude.{◌≡◌};
+ghost use Rattle.key_wrap.specs.declared.faults.UnwrapFault.TheVariants as unwrap_faults;
+ghost use Rattle.key_wrap.specs.declared.faults.WrapFault.TheVariants as wrap_faults;
+
+use std::alloc::AllocError;
+use thiserror::Error;
+
+/// A form of key wrap.
+#[derive(Clone, Copy, Debug, PartialEq, Eq)]
+pub enum Form {
+    /// RFC 3394: key data of whole words.
+    Plain,
+    /// RFC 5649: key data of any length but 0.
+    Padded,
+}
+
+/// Why a wrapping call refuses.
+#[derive(Clone, Copy, Debug, PartialEq, Eq, Error)]
+pub enum WrapFault {
+    /// The key has no legal length.
+    #[error("bad length")]
+    BadLength,
+    /// The text was refused its memory.
+    #[error("out of memory")]
+    Memory,
+}
+
+impl From<AllocError> for WrapFault {
+    ghost from_gives = { λ _ fault. fault ≡ wrap_faults.Memory };
+
+    fn from(_: AllocError) -> WrapFault {
+        WrapFault::Memory
+    }
+}
+
+/// Why an unwrapping call refuses.
+#[derive(Clone, Copy, Debug, PartialEq, Eq, Error)]
+pub enum UnwrapFault {
+    /// The text has no legal length.
+    #[error("bad length")]
+    BadLength,
+    /// The text is no wrapping of any key (RFC 3394, section 2.2.3; RFC 5649, section 3).
+    #[error("integrity check failed")]
+    Integrity,
+    /// The key was refused its memory.
+    #[error("out of memory")]
+    Memory,
+}
+
+impl From<AllocError> for UnwrapFault {
+    ghost from_gives = { λ _ fault. fault ≡ unwrap_faults.Memory };
+
+    fn from(_: AllocError) -> UnwrapFault {
+        UnwrapFault::Memory
+    }
+}
+
+/// The form in which a text is a wrapping, with the length of its key in bytes.
+#[derive(Clone, Copy, Debug, PartialEq, Eq)]
+pub enum Kind {
+    /// The plain wrapping (RFC 3394) of a key of this many bytes.
+    Plain(usize),
+    /// The padded wrapping (RFC 5649) of a key of this many bytes.
+    Padded(usize),
+    /// The wrapping of no key, in either form.
+    Neither,
+}
+
+/// Why `kind` has no answer.
+#[derive(Clone, Copy, Debug, PartialEq, Eq, Error)]
+pub enum KindFault {
+    /// The unwrapped key was refused its memory.
+    #[error("out of memory")]
+    Memory,
+}

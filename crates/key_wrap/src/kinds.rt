@@ -1,0 +1,49 @@
+//! Which form a text is a wrapping in.
+
+ghost use Rattle.std.specs.Prelude.{◌≡◌, ◌⊎◌, ℕ, List, length, Ok, Err, IfOk};
+ghost use Rattle.key_wrap.specs.Lengths.{IsPlainTextLength, IsPaddedTextLength};
+ghost use Rattle.key_wrap.specs.Plain.{Plain};
+ghost use Rattle.key_wrap.specs.Padded.{Padded};
+ghost use Rattle.key_wrap.specs.Answer.{NoKey};
+ghost use Rattle.key_wrap.specs.Kind.{IsKindOf, IsKeyLength};
+
+use crate::faults::{Kind, KindFault, UnwrapFault};
+use crate::padded::unwrap_padded;
+use crate::plain::unwrap;
+use block_pair::BlockPair;
+use std::alloc::Global;
+
+/// What `text` is under the pair: the wrapping of a key in one of the two forms, or in neither.
+///
+/// No text is a wrapping in both forms. `Memory` comes only where the text's length is legal in some form.
+pub fn kind<B: BlockPair>(alloc: Global, pair: &B, text: &[u8]) -> Result<Kind, KindFault>
+    ensures answer { IfOk result (IsKindOf (B.encrypted pair.now) text.now) }
+    ensures plain { (key : List ℕ) → Plain (B.encrypted pair.now) key text.now
+        → IfOk result (λ kind. kind ≡ Kind.Plain (length key)) }
+    ensures padded { (key : List ℕ) → Padded (B.encrypted pair.now) key text.now
+        → IfOk result (λ kind. kind ≡ Kind.Padded (length key)) }
+    ensures neither { NoKey (Plain (B.encrypted pair.now)) text.now
+        → NoKey (Padded (B.encrypted pair.now)) text.now
+        → IfOk result (λ kind. kind ≡ Kind.Neither) }
+    ensures memory { result ≡ Err KindFault.Memory
+        → IsPlainTextLength (length text.now) ⊎ IsPaddedTextLength (length text.now) }
+{
+    if let Some(len) = key_length(unwrap(alloc, pair, text))? {
+        return Ok(Kind::Plain(len));
+    }
+    match key_length(unwrap_padded(alloc, pair, text))? {
+        Some(len) => Ok(Kind::Padded(len)),
+        None => Ok(Kind::Neither),
+    }
+}
+
+/// The length of the key that was unwrapped, and `None` where the text was refused.
+fn key_length(answer: Result<Vec<u8>, UnwrapFault>) -> Result<Option<usize>, KindFault>
+    ensures { IsKeyLength answer result }
+{
+    match answer {
+        Ok(key) => Ok(Some(key.len())),
+        Err(UnwrapFault::BadLength | UnwrapFault::Integrity) => Ok(None),
+        Err(UnwrapFault::Memory) => Err(KindFault::Memory),
+    }
+}

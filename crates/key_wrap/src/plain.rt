@@ -1,0 +1,65 @@
+//! The plain form (RFC 3394, section 2.2).
+
+ghost use Rattle.std.specs.Prelude.{◌≡◌, ◌↔◌, ℕ, List, length, Ok, Err, IfOk, OnOk, IsOkUnless};
+ghost use Rattle.key_wrap.specs.Lengths.{IsPlainKeyLength, IsPlainTextLength};
+ghost use Rattle.key_wrap.specs.Plain.{Plain};
+ghost use Rattle.key_wrap.specs.Padded.{Padded};
+ghost use Rattle.key_wrap.specs.Answer.{UnwrapAnswer};
+
+use crate::buffers::{key_of, registers_of};
+use crate::checks::{DEFAULT_IV, has_default_value};
+use crate::faults::{UnwrapFault, WrapFault};
+use crate::lengths::{key_length_ok, text_length_ok};
+use crate::registers::{unwrap_registers, wrap_registers};
+use block_pair::BlockPair;
+use std::alloc::Global;
+
+/// The plain wrapping of `key` (RFC 3394, section 2.2.1): 8 bytes more than the key.
+///
+/// `BadLength` where `key_length_ok` says no, before any memory is taken; else `Memory` alone.
+pub fn wrap<B: BlockPair>(alloc: Global, pair: &B, key: &[u8]) -> Result<Vec<u8>, WrapFault>
+    ensures bad_length { (result ≡ Err WrapFault.BadLength) ↔ ¬ IsPlainKeyLength (length key.now) }
+    ensures memory { result ≡ Err WrapFault.Memory → IsPlainKeyLength (length key.now) }
+    ensures answer { IfOk result (λ text. Plain (B.encrypted pair.now) key.now text.items) }
+    ensures only_text { IfOk result (λ text.
+        (other : List ℕ) → Plain (B.encrypted pair.now) key.now other → other ≡ text.items) }
+{
+    if !key_length_ok(key.len()) {
+        return Err(WrapFault::BadLength);
+    }
+    let mut text = registers_of(alloc, DEFAULT_IV, key)?;
+    wrap_registers(pair, &mut text);
+    Ok(text)
+}
+
+/// The key whose plain wrapping is `text` (RFC 3394, section 2.2.2): 8 bytes less than the text.
+///
+/// `BadLength` where `text_length_ok` says no, before any memory is taken; then `Memory`; `Integrity` where
+/// the text is the plain wrapping of no key.
+pub fn unwrap<B: BlockPair>(alloc: Global, pair: &B, text: &[u8]) -> Result<Vec<u8>, UnwrapFault>
+    ensures bad_length { (result ≡ Err UnwrapFault.BadLength)
+        ↔ ¬ IsPlainTextLength (length text.now) }
+    ensures answer { UnwrapAnswer IsPlainTextLength (Plain (B.encrypted pair.now)) text.now result }
+
+    // A wrapping is refused for want of memory alone.
+    ensures accepts { (key : List ℕ) → Plain (B.encrypted pair.now) key text.now
+        → IsOkUnless result UnwrapFault.Memory }
+    ensures only_key { IfOk result (λ key.
+        (other : List ℕ) → Plain (B.encrypted pair.now) other text.now → other ≡ key.items) }
+
+    // Wrapping the answer again gives the input.
+    ensures restores { IfOk result (λ key.
+        (other : List ℕ) → Plain (B.encrypted pair.now) key.items other → other ≡ text.now) }
+    ensures other_form { OnOk result (
+        (key : List ℕ) → ¬ Padded (B.encrypted pair.now) key text.now) }
+{
+    if !text_length_ok(text.len()) {
+        return Err(UnwrapFault::BadLength);
+    }
+    let mut buffer = Vec::from_slice(alloc, text)?;
+    unwrap_registers(pair, &mut buffer);
+    if !has_default_value(&buffer) {
+        return Err(UnwrapFault::Integrity);
+    }
+    Ok(key_of(buffer, text.len() - 8))
+}

@@ -1,0 +1,295 @@
+//! Worked answers over the drill block, which anyone can work by hand: At is the register word that goes
+//! in, xored with t, and A(t-1) goes into the last register.
+
+use crate::*;
+use block_pair::SwapHalves;
+use byteorder::{BigEndian, ByteOrder};
+use std::alloc::{AllocError, Global};
+use std::test::Fail;
+
+const IV: u64 = 0xA6A6_A6A6_A6A6_A6A6;
+
+/// The plain text of the key data `DATA`.
+const TEXT: [u64; 3] = [IV, 0x0011_2233_4455_667F, 0x8899_AABB_CCDD_EEFB];
+
+const DATA: [u64; 2] = [0x0011_2233_4455_6677, 0x8899_AABB_CCDD_EEFF];
+
+/// The padded text of the nine bytes 11 22 .. 99.
+const NINE: [u64; 3] = [
+    0xA659_59A6_0000_0009,
+    0x1122_3344_5566_7780,
+    0x9900_0000_0000_0004,
+];
+
+/// The bytes that words spell.
+fn spelled(alloc: Global, words: &[u64]) -> Result<Vec<u8>, AllocError> {
+    let mut bytes = Vec::new(alloc);
+    for word in words {
+        bytes.extend_from_slice(&word.to_be_bytes())?;
+    }
+    Ok(bytes)
+}
+
+fn zeros(alloc: Global, len: usize) -> Result<Vec<u8>, AllocError> {
+    vec![in alloc; 0; len]
+}
+
+#[test]
+fn legal_lengths_are_the_tables(rt: HostRuntime) {
+    for len in [16, 24, 4_096] {
+        assert!(rt; key_length_ok(len), "a plain key of {len} bytes");
+    }
+    for len in [24, 32, 4_104] {
+        assert!(rt; text_length_ok(len), "a plain text of {len} bytes");
+    }
+    for len in [1, 7, 8, 4_096] {
+        assert!(rt; padded_length_ok(len), "a padded key of {len} bytes");
+    }
+    for len in [16, 24, 4_104] {
+        assert!(rt; padded_text_length_ok(len), "a padded text of {len} bytes");
+    }
+}
+
+#[test]
+fn wraps_two_words_and_back(rt: HostRuntime) -> Result<(), Fail> {
+    let alloc = rt.alloc();
+    let key = spelled(alloc, &DATA)?;
+    let text = spelled(alloc, &TEXT)?;
+    assert_eq!(rt; wrap(alloc, &SwapHalves, &key)?.as_slice(), text.as_slice());
+    assert_eq!(rt;
+        unwrap(alloc, &SwapHalves, &text)?.as_slice(),
+        key.as_slice()
+    );
+    Ok(())
+}
+
+#[test]
+fn wraps_zero_words_and_back(rt: HostRuntime) -> Result<(), Fail> {
+    let alloc = rt.alloc();
+    // The bytes of key data, a place in the text and the word there.
+    for (len, from, word) in [
+        (24, 0, 0x12),
+        (24, 8, 0),
+        (24, 16, IV ^ 0x10),
+        (24, 24, 0x11),
+        (344, 0, 0x174),
+        (344, 8, 0x77),
+        (344, 48, 0xA6A6_A6A6_A6A6_A63A),
+        (344, 336, 0x174),
+        (344, 344, 0x174),
+        (4_096, 0, 0x5FB),
+        (4_096, 8, 0xA00),
+        (4_096, 48, 0xA6A6_A6A6_A6A6_A4A7),
+    ] {
+        let key = zeros(alloc, len)?;
+        let text = wrap(alloc, &SwapHalves, &key)?;
+        let tail = text.get(from..).unwrap_or(&[]);
+        assert!(rt; tail.len() >= 8);
+        assert_eq!(rt;
+            BigEndian::read_u64(tail),
+            word,
+            "the word at {from} of {len} zeros"
+        );
+        assert_eq!(rt;
+            unwrap(alloc, &SwapHalves, &text)?.as_slice(),
+            key.as_slice()
+        );
+    }
+    Ok(())
+}
+
+#[test]
+fn refuses_another_initial_value(rt: HostRuntime) -> Result<(), Fail> {
+    let alloc = rt.alloc();
+    let text = spelled(alloc, &[0xA7A6_A6A6_A6A6_A6A6, TEXT[1], TEXT[2]])?;
+    assert_eq!(rt;
+        unwrap(alloc, &SwapHalves, &text).err(),
+        Some(UnwrapFault::Integrity)
+    );
+    Ok(())
+}
+
+#[test]
+fn refuses_plain_lengths(rt: HostRuntime) -> Result<(), Fail> {
+    let alloc = rt.alloc();
+    for len in [8, 15, 4_104] {
+        let key = zeros(alloc, len)?;
+        assert_eq!(rt;
+            wrap(alloc, &SwapHalves, &key).err(),
+            Some(WrapFault::BadLength),
+            "{len} bytes"
+        );
+    }
+    for len in [0, 8, 16, 23, 25, 4_112] {
+        let text = zeros(alloc, len)?;
+        assert_eq!(rt;
+            unwrap(alloc, &SwapHalves, &text).err(),
+            Some(UnwrapFault::BadLength),
+            "{len} bytes"
+        );
+    }
+    Ok(())
+}
+
+#[test]
+fn wraps_padded_and_back(rt: HostRuntime) -> Result<(), Fail> {
+    let alloc = rt.alloc();
+    let rows: [(&[u8], &[u64]); 4] = [
+        (b"ForPasi", &[0x466F_7250_6173_6900, 0xA659_59A6_0000_0007]),
+        (&[0xFF], &[0xFF00_0000_0000_0000, 0xA659_59A6_0000_0001]),
+        (
+            &[0x00, 0x11, 0x22, 0x33, 0x44, 0x55, 0x66, 0x77],
+            &[0x0011_2233_4455_6677, 0xA659_59A6_0000_0008],
+        ),
+        (
+            &[0x11, 0x22, 0x33, 0x44, 0x55, 0x66, 0x77, 0x88, 0x99],
+            &NINE,
+        ),
+    ];
+    for (key, words) in rows {
+        let text = spelled(alloc, words)?;
+        assert_eq!(rt;
+            wrap_padded(alloc, &SwapHalves, key)?.as_slice(),
+            text.as_slice()
+        );
+        assert_eq!(rt; unwrap_padded(alloc, &SwapHalves, &text)?.as_slice(), key);
+    }
+    Ok(())
+}
+
+#[test]
+fn unwraps_padded_whole_words(rt: HostRuntime) -> Result<(), Fail> {
+    let alloc = rt.alloc();
+    let rows: [(&[u64], &[u64]); 2] = [
+        (&[0, 0xA659_59A6_0000_0008], &[0]),
+        (
+            &[0xA659_59A6_0000_0010, NINE[1], NINE[2]],
+            &[0x1122_3344_5566_7788, 0x9900_0000_0000_0000],
+        ),
+    ];
+    for (words, data) in rows {
+        let text = spelled(alloc, words)?;
+        let key = spelled(alloc, data)?;
+        assert_eq!(rt;
+            unwrap_padded(alloc, &SwapHalves, &text)?.as_slice(),
+            key.as_slice()
+        );
+    }
+    Ok(())
+}
+
+#[test]
+fn refuses_what_fails_a_padded_check(rt: HostRuntime) -> Result<(), Fail> {
+    let alloc = rt.alloc();
+    let rows: [(&[u64], &str); 7] = [
+        (&[0, 0xA659_59A6_0000_0000], "length 0"),
+        (&[0, 0xA659_59A6_0000_0009], "length 9 in one word"),
+        (&[0, 0xA659_59A7_0000_0008], "another prefix"),
+        (
+            &[0xA659_59A6_0000_0008, NINE[1], NINE[2]],
+            "length 8 in two words",
+        ),
+        (
+            &[0xA659_59A6_0000_0011, NINE[1], NINE[2]],
+            "length 17 in two words",
+        ),
+        (
+            &[0xA659_59A6_0000_0008, NINE[1], 0x4],
+            "length 8 and a word of zeros",
+        ),
+        (
+            &[NINE[0], NINE[1], 0x9900_0000_0000_0005],
+            "a padding byte 01",
+        ),
+    ];
+    for (words, what) in rows {
+        let text = spelled(alloc, words)?;
+        let answer = unwrap_padded(alloc, &SwapHalves, &text).err();
+        assert_eq!(rt; answer, Some(UnwrapFault::Integrity), "{what}");
+    }
+    Ok(())
+}
+
+#[test]
+fn refuses_padded_lengths(rt: HostRuntime) -> Result<(), Fail> {
+    let alloc = rt.alloc();
+    for (len, text_len) in [(1, 16), (8, 16), (9, 24), (4_096, 4_104)] {
+        let key = zeros(alloc, len)?;
+        assert_eq!(rt;
+            wrap_padded(alloc, &SwapHalves, &key)?.len(),
+            text_len,
+            "{len} bytes"
+        );
+    }
+    for len in [0, 4_097] {
+        let key = zeros(alloc, len)?;
+        let answer = wrap_padded(alloc, &SwapHalves, &key).err();
+        assert_eq!(rt; answer, Some(WrapFault::BadLength), "{len} bytes");
+    }
+    for len in [0, 8, 17] {
+        let text = zeros(alloc, len)?;
+        let answer = unwrap_padded(alloc, &SwapHalves, &text).err();
+        assert_eq!(rt; answer, Some(UnwrapFault::BadLength), "{len} bytes");
+    }
+    Ok(())
+}
+
+#[test]
+fn names_the_kind(rt: HostRuntime) -> Result<(), Fail> {
+    let alloc = rt.alloc();
+    let rows: [(&[u64], Kind); 4] = [
+        (&TEXT, Kind::Plain(16)),
+        (
+            &[0x466F_7250_6173_6900, 0xA659_59A6_0000_0007],
+            Kind::Padded(7),
+        ),
+        (&NINE, Kind::Padded(9)),
+        (&[NINE[0], NINE[1], 0x9900_0000_0000_0005], Kind::Neither),
+    ];
+    for (words, want) in rows {
+        let text = spelled(alloc, words)?;
+        assert_eq!(rt; kind(alloc, &SwapHalves, &text)?, want);
+    }
+    let text = zeros(alloc, 23)?;
+    assert_eq!(rt; kind(alloc, &SwapHalves, &text)?, Kind::Neither);
+    Ok(())
+}
+
+#[test]
+fn refuses_legal_length_of_other_form(rt: HostRuntime) -> Result<(), Fail> {
+    let alloc = rt.alloc();
+    let plain = spelled(alloc, &TEXT)?;
+    let padded = spelled(alloc, &NINE)?;
+    assert_eq!(rt;
+        unwrap_padded(alloc, &SwapHalves, &plain).err(),
+        Some(UnwrapFault::Integrity)
+    );
+    assert_eq!(rt;
+        unwrap(alloc, &SwapHalves, &padded).err(),
+        Some(UnwrapFault::Integrity)
+    );
+    Ok(())
+}
+
+#[test]
+fn faults_print_their_cause(rt: HostRuntime) -> Result<(), Fail> {
+    let alloc = rt.alloc();
+    for (fault, message) in [
+        (UnwrapFault::BadLength, "bad length"),
+        (UnwrapFault::Integrity, "integrity check failed"),
+        (UnwrapFault::Memory, "out of memory"),
+    ] {
+        assert_eq!(rt; format!(in alloc; "{fault}")?.as_str(), message);
+    }
+    for (fault, message) in [
+        (WrapFault::BadLength, "bad length"),
+        (WrapFault::Memory, "out of memory"),
+    ] {
+        assert_eq!(rt; format!(in alloc; "{fault}")?.as_str(), message);
+    }
+    assert_eq!(rt;
+        format!(in alloc; "{}", KindFault::Memory)?.as_str(),
+        "out of memory"
+    );
+    Ok(())
+}
