@@ -1,0 +1,22 @@
+-- The clauses of the calls of key_wrap, gathered into one answer for each form.
+use Rattle.std.proofs.Common.{◌≡◌, ℕ, List, Vec, Result, Ok, Err, IfOk, OnOk}
+use Rattle.std.specs.declared.alloc.Global.{Global}
+use Rattle.key_wrap.specs.declared.faults.Form.{Form}
+use Rattle.key_wrap.specs.declared.faults.UnwrapFault.{UnwrapFault}
+use Rattle.key_wrap.specs.declared.faults.UnwrapFault.TheVariants as unwraps
+use Rattle.key_wrap.specs.Answer.{NoKey, UnwrapAnswer}
+use Rattle.keywrap_cli.specs.declared.convert.Direction.TheVariants.{Unwrap}
+use Rattle.keywrap_cli.specs.Conversion.{Stands, other_form, IsInputLength, ConversionAnswer}
+
+-- what an unwrapping call says, by cases
+pub unwrapped : (form : Form) (E : List ℕ → List ℕ) (text : List ℕ) (r : Result (Vec ℕ Global) UnwrapFault)
+    → UnwrapAnswer (IsInputLength Unwrap form) (Stands form E) text r
+    → IfOk r (λ key. (other : List ℕ) → Stands form E other text → other ≡ key.items)
+    → IfOk r (λ key. (other : List ℕ) → Stands form E key.items other → other ≡ text)
+    → OnOk r (NoKey (Stands (other_form form) E) text)
+    → ConversionAnswer Unwrap form E text r
+unwrapped form E text (Ok key) answer alone restores one =
+    record { stands = answer.1; alone = alone; restores = restores; one_form = one }
+unwrapped form E text (Err unwraps.BadLength) answer alone restores one = answer
+unwrapped form E text (Err unwraps.Integrity) answer alone restores one = answer
+unwrapped form E text (Err unwraps.Memory) answer alone restores one = answer

@@ -1,0 +1,166 @@
+-- A call of a job, from what it answers at each place.
+use Rattle.std.proofs.Common.{◌≡◌, ◌≤◌, ◌+◌, ℕ, List, [], length, Vec, Option, Some, None, Result, Ok, Err, IsOk, refl, subst, inl, inr, arith}
+use Rattle.std.specs.Io.KnownBytes.{Appends, Keeps, Consumes, IsAtEnd}
+use Rattle.aes_block.specs.Cipher.{cipher}
+use Rattle.key_files.specs.declared.fault.FileFault.TheVariants as files
+use Rattle.key_files.specs.declared.read.TheConstants.{MAX_FILE}
+use Rattle.std.specs.declared.alloc.Global.{Global}
+use Rattle.keywrap_cli.specs.Files.{DenotesKek}
+use Rattle.keywrap_cli.specs.Job.{DenoteBoth, EndsInput, EndsKek, IsUnread, LeavesOutput, RunsJob, StopsAtKek, WritesTheKey}
+use Rattle.keywrap_cli.specs.Output.{OutputAnswer, WritesFor}
+use Rattle.keywrap_cli.specs.Places.{KekCase, AnswersKek, InputCase, AnswersInput}
+use Rattle.keywrap_cli.specs.declared.job.Done.{Done}
+use Rattle.keywrap_cli.specs.declared.job.Job.{Job}
+use Rattle.keywrap_cli.specs.declared.job.Job.TheVariants.{Unwrap}
+use Rattle.keywrap_cli.specs.declared.job.JobFault.{JobFault}
+use Rattle.keywrap_cli.specs.declared.job.JobFault.TheVariants.{KekFile, KekLength, InputFile, BadLength, Integrity, Write, Memory}
+use Rattle.keywrap_cli.specs.declared.job.Task.{Task}
+
+-- what is not touched stays, and nothing was taken from it
+untouched : (known : Option (List ℕ)) → Keeps known known
+untouched None = tt
+untouched (Some xs) = refl
+
+nothing_taken : (known : Option (List ℕ)) → Consumes known known []
+nothing_taken None = tt
+nothing_taken (Some xs) = refl
+
+-- what a call answers once a place is reached: which files it has read to their end, and what it has written
+record Reaches (task : Task) (F G : List ℕ) (kek' input' out out' : Option (List ℕ)) (answer : Result Done JobFault) : Type 0 where
+  kek_end : EndsKek answer kek'
+  input_end : EndsInput answer input'
+  leaves : LeavesOutput task F G out out' answer
+
+kek_stops : (task : Task) (F : List ℕ) (left input out : Option (List ℕ)) (fault : JobFault)
+    → KekCase task.kek F left (Err fault) → Reaches task F [] left input out out (Err fault)
+kek_stops task F left input out (KekFile files.Read) h = record { kek_end = tt; input_end = tt; leaves = untouched out }
+kek_stops task F left input out (KekFile files.TooLong) h = record { kek_end = tt; input_end = tt; leaves = (h, untouched out) }
+kek_stops task F left input out (KekFile (files.BadDigit at)) h = record { kek_end = h.1; input_end = tt; leaves = (h.0, untouched out) }
+kek_stops task F left input out (KekFile files.OddDigits) h = record { kek_end = h.1; input_end = tt; leaves = (h.0, untouched out) }
+kek_stops task F left input out (KekFile files.Memory) h = absurd h
+kek_stops task F left input out KekLength h = record { kek_end = h.1; input_end = tt; leaves = (h.0, untouched out) }
+kek_stops task F left input out (InputFile fault) h = absurd h
+kek_stops task F left input out BadLength h = absurd h
+kek_stops task F left input out Integrity h = absurd h
+kek_stops task F left input out (Write written) h = absurd h
+kek_stops task F left input out Memory h = record { kek_end = tt; input_end = tt; leaves = untouched out }
+
+-- the call is refused at the KEK file's place
+pub stopped_at_kek : (task : Task) (kek kek' input out : Option (List ℕ)) (fault : JobFault)
+    → AnswersKek task.kek kek kek' (Err fault) → RunsJob task kek kek' input input out out (Err fault)
+stopped_at_kek task kek kek' input out fault a =
+    let reached = kek_stops task a.taken kek' input out fault a.answers in
+    let unread : IsUnread input input [] = record { nothing = refl; same = untouched input } in
+    record {
+      F = a.taken;
+      G = [];
+      kek_taken = a.stands_after;
+      kek_at_most = a.at_most;
+      input_taken = nothing_taken input;
+      input_at_most = omega arith;
+      kek_end = reached.kek_end;
+      input_end = reached.input_end;
+      in_order = inl unread;
+      unread = λ _. unread;
+      leaves = reached.leaves;
+    }
+
+-- past the KEK file's place
+record Passes (task : Task) (F G : List ℕ) (kek' input' out out' : Option (List ℕ)) (answer : Result Done JobFault) : Type 0 where
+  reaches : Reaches task F G kek' input' out out' answer
+  past : ¬ StopsAtKek answer
+
+input_stops : (task : Task) (F G K : List ℕ) (kek' left out : Option (List ℕ)) (fault : JobFault)
+    → DenotesKek task.kek F K → IsAtEnd kek' → InputCase task.input G left (Err fault)
+    → Passes task F G kek' left out out (Err fault)
+input_stops task F G K kek' left out (KekFile fault) denoted end h = absurd h
+input_stops task F G K kek' left out KekLength denoted end h = absurd h
+input_stops task F G K kek' left out (InputFile files.Read) denoted end h =
+    record { reaches = record { kek_end = end; input_end = tt; leaves = untouched out }; past = λ s. s }
+input_stops task F G K kek' left out (InputFile files.TooLong) denoted end h =
+    record { reaches = record { kek_end = end; input_end = tt; leaves = (((K, denoted), h), untouched out) }; past = λ s. s }
+input_stops task F G K kek' left out (InputFile (files.BadDigit at)) denoted end h =
+    record { reaches = record { kek_end = end; input_end = h.1; leaves = (((K, denoted), h.0), untouched out) }; past = λ s. s }
+input_stops task F G K kek' left out (InputFile files.OddDigits) denoted end h =
+    record { reaches = record { kek_end = end; input_end = h.1; leaves = (((K, denoted), h.0), untouched out) }; past = λ s. s }
+input_stops task F G K kek' left out (InputFile files.Memory) denoted end h = absurd h
+input_stops task F G K kek' left out BadLength denoted end h = absurd h
+input_stops task F G K kek' left out Integrity denoted end h = absurd h
+input_stops task F G K kek' left out (Write written) denoted end h = absurd h
+input_stops task F G K kek' left out Memory denoted end h =
+    record { reaches = record { kek_end = tt; input_end = tt; leaves = untouched out }; past = λ s. s }
+
+output_given : (task : Task) (F G K X : List ℕ) (kek' input' out out' : Option (List ℕ)) (answer : Result Done JobFault)
+    → DenoteBoth task F G K X → IsAtEnd kek' → IsAtEnd input' → OutputAnswer task.job task (cipher K) X out out' answer
+    → Passes task F G kek' input' out out' answer
+output_given task F G K X kek' input' out out' (Ok done) both end end' h =
+    record { reaches = record { kek_end = end; input_end = end'; leaves = (h.0, (K, X, both, h.1), h.2, h.3) }; past = λ s. s }
+output_given task F G K X kek' input' out out' (Err (Write written)) both end end' h =
+    record { reaches = record { kek_end = end; input_end = end'; leaves = (h.0, (K, X, both, h.1), h.2, h.3) }; past = λ s. s }
+output_given task F G K X kek' input' out out' (Err BadLength) both end end' h =
+    record { reaches = record { kek_end = end; input_end = end'; leaves = ((K, X, both, h.0), h.1) }; past = λ s. s }
+output_given task F G K X kek' input' out out' (Err Integrity) both end end' h =
+    record { reaches = record { kek_end = end; input_end = end'; leaves = ((K, X, both, h.0), h.1) }; past = λ s. s }
+output_given task F G K X kek' input' out out' (Err Memory) both end end' h =
+    record { reaches = record { kek_end = tt; input_end = tt; leaves = h }; past = λ s. s }
+output_given task F G K X kek' input' out out' (Err KekLength) both end end' h = absurd h
+output_given task F G K X kek' input' out out' (Err (KekFile fault)) both end end' h = absurd h
+output_given task F G K X kek' input' out out' (Err (InputFile fault)) both end end' h = absurd h
+
+-- the call is answered past the KEK file's place
+passed : (task : Task) (kek kek' input input' out out' : Option (List ℕ)) (F G K : List ℕ) (answer : Result Done JobFault)
+    → Consumes kek kek' F → length F ≤ MAX_FILE + 1 → Consumes input input' G → length G ≤ MAX_FILE + 1
+    → DenotesKek task.kek F K → IsAtEnd kek' → Passes task F G kek' input' out out' answer
+    → RunsJob task kek kek' input input' out out' answer
+passed task kek kek' input input' out out' F G K answer taken most taken' most' denoted end passes = record {
+  F = F;
+  G = G;
+  kek_taken = taken;
+  kek_at_most = most;
+  input_taken = taken';
+  input_at_most = most';
+  kek_end = passes.reaches.kek_end;
+  input_end = passes.reaches.input_end;
+  in_order = inr (record { K = K; kek = denoted; end = end });
+  unread = λ stops. absurd (passes.past stops);
+  leaves = passes.reaches.leaves;
+}
+
+pub stopped_at_input : (task : Task) (kek kek' input input' out : Option (List ℕ)) (K : List ℕ) (fault : JobFault)
+    → AnswersKek task.kek kek kek' (Ok K) → AnswersInput task.input input input' (Err fault)
+    → RunsJob task kek kek' input input' out out (Err fault)
+stopped_at_input task kek kek' input input' out K fault a b =
+    passed task kek kek' input input' out out a.taken b.taken K (Err fault) a.stands_after a.at_most b.stands_after b.at_most
+    a.answers.0 a.answers.1
+    (input_stops task a.taken b.taken K kek' input' out fault a.answers.0 a.answers.1 b.answers)
+
+pub answered : (task : Task) (kek kek' input input' out out' : Option (List ℕ)) (K : List ℕ) (X : Vec ℕ Global) (answer : Result Done JobFault)
+    → AnswersKek task.kek kek kek' (Ok K) → AnswersInput task.input input input' (Ok X)
+    → OutputAnswer task.job task (cipher K) X.items out out' answer
+    → RunsJob task kek kek' input input' out out' answer
+answered task kek kek' input input' out out' K X answer a b h =
+    passed task kek kek' input input' out out' a.taken b.taken K answer a.stands_after a.at_most b.stands_after b.at_most
+    a.answers.0 a.answers.1
+    (output_given task a.taken b.taken K X.items kek' input' out out' answer (record { kek = a.answers.0; input = b.answers.0 })
+    a.answers.1 b.answers.1 h)
+
+-- an unwrapping that is done has written the key
+pub headline_of : (task : Task) (kek kek' input input' out out' : Option (List ℕ)) (answer : Result Done JobFault)
+    → RunsJob task kek kek' input input' out out' answer → task.job ≡ Unwrap → IsOk answer
+    → WritesTheKey task kek kek' input input' out out'
+headline_of task kek kek' input input' out out' (Ok done) run job ok =
+    let answer = run.leaves.1 in
+    let key = subst (λ (j : Job). WritesFor j task (cipher answer.0) answer.1 run.leaves.0) job answer.3 in
+    record {
+      F = run.F;
+      G = run.G;
+      K = answer.0;
+      X = answer.1;
+      key = key.0;
+      kek_taken = run.kek_taken;
+      input_taken = run.input_taken;
+      files = answer.2;
+      the_key = key.1;
+      written = subst (λ (bytes : List ℕ). Appends out out' bytes) key.2 run.leaves.2;
+    }
+headline_of task kek kek' input input' out out' (Err fault) run job ok = cc

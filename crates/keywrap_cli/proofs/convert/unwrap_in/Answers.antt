@@ -1,0 +1,8 @@
+use Rattle.key_wrap.specs.declared.faults.Form.TheVariants as forms
+use Rattle.keywrap_cli.proofs.Conversions.{unwrapped}
+use Rattle.keywrap_cli.proofs.convert.unwrap_in.Goals as goal
+
+pub returns-in-Plain : goal.returns-in-Plain
+returns-in-Plain g c =
+    let e = c.unwrap.ensures in
+    rw c.in-Plain.is (unwrapped forms.Plain _ _ _ e.answer e.only_key e.restores e.other_form)

@@ -1,0 +1,10 @@
+use Rattle.std.proofs.Common.{◌≡◌}
+use Rattle.keywrap_cli.proofs.Reports.{front_of_report}
+use Rattle.keywrap_cli.proofs.vectors.vectors.Goals as goal
+
+pub returns-clause-front : goal.returns-clause-front
+returns-clause-front g c = λ written e.
+    let same : c.in-Err.fault.written ≡ written = cc in
+    let front = c.in-Err.ensures in
+    front_of_report _ _ _ _ _ c.in-Err.fault.written written c.in-Ok.report.all_ok c.in-Ok.ensures same
+    c.as_bytes.ensures.value front.short front.front

@@ -1,0 +1,56 @@
+-- What a drill answers.
+use Rattle.std.specs.Prelude.{◌≡◌, ℕ, List, length, Result, Ok, Err, Vec}
+use Rattle.std.specs.declared.alloc.Global.{Global}
+use Rattle.block_pair.specs.Halves.{swapped_halves}
+use Rattle.key_files.specs.Meaning.{file_meaning, hex_meaning}
+use Rattle.key_files.specs.declared.fault.FileFault.{FileFault}
+use Rattle.key_files.specs.declared.fault.FileFault.TheVariants as files
+use Rattle.key_files.specs.declared.read.TheConstants.{MAX_FILE}
+use Rattle.key_wrap.specs.declared.faults.Form.{Form}
+use Rattle.key_wrap.specs.declared.faults.UnwrapFault.{UnwrapFault}
+use Rattle.key_wrap.specs.declared.faults.UnwrapFault.TheVariants as unwraps
+use Rattle.keywrap_cli.specs.declared.convert.Direction.{Direction}
+use Rattle.keywrap_cli.specs.declared.drill.DrillFault.{DrillFault}
+use Rattle.keywrap_cli.specs.declared.drill.DrillFault.TheVariants.{TooLong, BadDigit, OddDigits, BadLength, Integrity, Memory}
+use Rattle.keywrap_cli.specs.Conversion.{IsAnswer, HasNoAnswer, IsInputLength}
+
+-- what the text of a drill denotes: it is a hex file within the limit
+abbrev pub drill_meaning : List ℕ → Result (List ℕ) FileFault
+drill_meaning text = file_meaning hex_meaning MAX_FILE text
+
+-- the bytes that the text denotes, by cases: Memory comes only in their place
+abbrev pub TextAnswer : List ℕ → Result (Vec ℕ Global) DrillFault → Type 0
+TextAnswer text (Ok X) = drill_meaning text ≡ Ok X.items
+TextAnswer text (Err TooLong) = drill_meaning text ≡ Err files.TooLong
+TextAnswer text (Err (BadDigit at)) = drill_meaning text ≡ Err (files.BadDigit at)
+TextAnswer text (Err OddDigits) = drill_meaning text ≡ Err files.OddDigits
+TextAnswer text (Err BadLength) = ⊥
+TextAnswer text (Err Integrity) = ⊥
+TextAnswer text (Err Memory) = (X : List ℕ) × (drill_meaning text ≡ Ok X)
+
+-- a drill's fault for what a text does not denote, and for a conversion's
+abbrev pub text_fault_of : FileFault → DrillFault
+text_fault_of (files.BadDigit at) = BadDigit at
+text_fault_of files.OddDigits = OddDigits
+text_fault_of files.Read = Memory
+text_fault_of files.TooLong = Memory
+text_fault_of files.Memory = Memory
+
+abbrev pub drill_fault_of : UnwrapFault → DrillFault
+drill_fault_of unwraps.BadLength = BadLength
+drill_fault_of unwraps.Integrity = Integrity
+drill_fault_of unwraps.Memory = Memory
+
+-- The answer over the drill block, by cases. Memory comes only where the text denotes bytes.
+abbrev pub DrillAnswer : Direction → Form → List ℕ → Result (Vec ℕ Global) DrillFault → Type 0
+DrillAnswer direction form text (Ok Y) =
+    (X : List ℕ) × (drill_meaning text ≡ Ok X) × IsAnswer direction form swapped_halves X Y.items
+DrillAnswer direction form text (Err TooLong) = drill_meaning text ≡ Err files.TooLong
+DrillAnswer direction form text (Err (BadDigit at)) = drill_meaning text ≡ Err (files.BadDigit at)
+DrillAnswer direction form text (Err OddDigits) = drill_meaning text ≡ Err files.OddDigits
+DrillAnswer direction form text (Err BadLength) =
+    (X : List ℕ) × (drill_meaning text ≡ Ok X) × ¬ IsInputLength direction form (length X)
+DrillAnswer direction form text (Err Integrity) =
+    (X : List ℕ) × (drill_meaning text ≡ Ok X) × IsInputLength direction form (length X)
+    × HasNoAnswer direction form swapped_halves X
+DrillAnswer direction form text (Err Memory) = (X : List ℕ) × (drill_meaning text ≡ Ok X)

@@ -1,0 +1,8 @@
+pub mod Conversion
+pub mod Drill
+pub mod Files
+pub mod Job
+pub mod Output
+pub mod Places
+pub mod Vectors
+pub mod Writing

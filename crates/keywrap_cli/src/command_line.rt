@@ -1,0 +1,174 @@
+//! The words of the command line, and what they ask for.
+
+use crate::convert::Direction;
+use crate::help::{
+    CHECK_EXAMPLE, DRILL_EXAMPLE, STATUSES, UNWRAP_EXAMPLE, VECTORS_EXAMPLE, WRAP_EXAMPLE,
+};
+use crate::job::{Job, Notation, Task};
+use clap::{Arg, ArgAction, ArgMatches, Command, Error};
+use key_wrap::Form;
+use std::alloc::{AllocError, Global};
+
+/// What a command line asks for.
+#[derive(Drop)]
+pub enum Request<'a> {
+    /// A wrapping or an unwrapping over the drill block, of the bytes that a hex text denotes.
+    Drill {
+        form: Form,
+        direction: Direction,
+        text: &'a str,
+    },
+    /// A job on standard input, under the KEK in a file.
+    Job {
+        task: Task,
+        kek: &'a str,
+    },
+    /// The published vectors.
+    Vectors,
+}
+
+/// Reads the words, of which the first is the program's name.
+pub fn parse<'a>(alloc: Global, words: &'a [String]) -> Result<Request<'a>, Error> {
+    let matches = keywrap(alloc)?.try_get_matches_from(words)?;
+    Ok(match matches.subcommand() {
+        Some(("wrap", found)) => job(Job::Wrap, found),
+        Some(("unwrap", found)) => job(Job::Unwrap, found),
+        Some(("check", found)) => job(Job::Check, found),
+        Some(("drill", found)) => drill(found),
+        _ => Request::Vectors,
+    })
+}
+
+fn job<'a>(job: Job, found: &ArgMatches<'a>) -> Request<'a> {
+    let task = Task {
+        job,
+        form: form_of(found),
+        input: notation(found, "raw"),
+        kek: notation(found, "raw-kek"),
+    };
+    Request::Job {
+        task,
+        kek: text_of(found, "kek"),
+    }
+}
+
+fn drill<'a>(found: &ArgMatches<'a>) -> Request<'a> {
+    let direction = if found.get_flag("unwrap") {
+        Direction::Unwrap
+    } else {
+        Direction::Wrap
+    };
+    Request::Drill {
+        form: form_of(found),
+        direction,
+        text: text_of(found, "hex"),
+    }
+}
+
+fn form_of(found: &ArgMatches<'_>) -> Form {
+    if found.get_flag("padded") {
+        Form::Padded
+    } else {
+        Form::Plain
+    }
+}
+
+fn notation(found: &ArgMatches<'_>, flag: &str) -> Notation {
+    if found.get_flag(flag) {
+        Notation::Raw
+    } else {
+        Notation::Hex
+    }
+}
+
+// The value of an argument that the command requires: a parse without it is refused.
+fn text_of<'a>(found: &ArgMatches<'a>, id: &str) -> &'a str {
+    found.get_str(id).unwrap_or("")
+}
+
+/// The command with its subcommands.
+fn keywrap<'a>(alloc: Global) -> Result<Command<'a>, AllocError> {
+    Command::new(alloc, "keywrap")
+        .version("1.0.0")
+        .about("Wraps and unwraps keys by AES Key Wrap (RFC 3394 and RFC 5649)")
+        .after_help(STATUSES)
+        .subcommand_required(true)
+        .subcommand(wrap_command(alloc)?)?
+        .subcommand(unwrap_command(alloc)?)?
+        .subcommand(check_command(alloc)?)?
+        .subcommand(drill_command(alloc)?)?
+        .subcommand(vectors_command(alloc))
+}
+
+fn wrap_command<'a>(alloc: Global) -> Result<Command<'a>, AllocError> {
+    Command::new(alloc, "wrap")
+        .about("Wraps the key on standard input")
+        .after_long_help(WRAP_EXAMPLE)
+        .arg(kek(alloc))?
+        .arg(padded(alloc))?
+        .arg(raw(alloc))?
+        .arg(raw_kek(alloc))
+}
+
+fn unwrap_command<'a>(alloc: Global) -> Result<Command<'a>, AllocError> {
+    Command::new(alloc, "unwrap")
+        .about("Unwraps the text on standard input")
+        .after_long_help(UNWRAP_EXAMPLE)
+        .arg(kek(alloc))?
+        .arg(padded(alloc))?
+        .arg(raw(alloc))?
+        .arg(raw_kek(alloc))
+}
+
+fn check_command<'a>(alloc: Global) -> Result<Command<'a>, AllocError> {
+    Command::new(alloc, "check")
+        .about("Says what the text on standard input is a wrapping of, without writing the key")
+        .after_long_help(CHECK_EXAMPLE)
+        .arg(kek(alloc))?
+        .arg(flag(alloc, "raw").help("The text is raw bytes, not hex"))?
+        .arg(raw_kek(alloc))
+}
+
+fn drill_command<'a>(alloc: Global) -> Result<Command<'a>, AllocError> {
+    let text = Arg::new(alloc, "hex")
+        .value_name("HEX")
+        .required(true)
+        .help("The key or the text, in hex");
+    let unwrap = flag(alloc, "unwrap").help("Unwraps the text instead of wrapping a key");
+    Command::new(alloc, "drill")
+        .about("Wraps over a block that only exchanges its halves, to be worked by hand")
+        .after_long_help(DRILL_EXAMPLE)
+        .arg(text)?
+        .arg(padded(alloc))?
+        .arg(unwrap)
+}
+
+fn vectors_command<'a>(alloc: Global) -> Command<'a> {
+    Command::new(alloc, "vectors")
+        .about("Answers the vectors of RFC 3394, RFC 5649 and FIPS 197, each ok or failed")
+        .after_long_help(VECTORS_EXAMPLE)
+}
+
+fn kek<'a>(alloc: Global) -> Arg<'a> {
+    Arg::new(alloc, "kek")
+        .long("kek")
+        .value_name("FILE")
+        .required(true)
+        .help("The file with the key-encryption key of 16, 24 or 32 bytes, in hex")
+}
+
+fn padded<'a>(alloc: Global) -> Arg<'a> {
+    flag(alloc, "padded").help("The padded form of RFC 5649, for keys of any length")
+}
+
+fn raw<'a>(alloc: Global) -> Arg<'a> {
+    flag(alloc, "raw").help("Input and output are raw bytes, not hex")
+}
+
+fn raw_kek<'a>(alloc: Global) -> Arg<'a> {
+    flag(alloc, "raw-kek").help("The KEK file is raw bytes, not hex")
+}
+
+fn flag<'a>(alloc: Global, name: &'static str) -> Arg<'a> {
+    Arg::new(alloc, name).long(name).action(ArgAction::SetTrue)
+}

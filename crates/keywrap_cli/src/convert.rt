@@ -1,0 +1,71 @@
+//! Wrapping and unwrapping in a direction and a form.
+
+ghost use Rattle.std.specs.Prelude.{◌≡◌};
+ghost use Rattle.keywrap_cli.specs.Conversion.{ConversionAnswer, WrapAnswer, unwrap_fault_of};
+
+use block_pair::BlockPair;
+use key_wrap::{Form, UnwrapFault, WrapFault, unwrap, unwrap_padded, wrap, wrap_padded};
+use std::alloc::Global;
+
+/// Which way a conversion goes.
+#[derive(Clone, Copy, Debug, PartialEq, Eq)]
+pub enum Direction {
+    /// From a key to its text.
+    Wrap,
+    /// From a text to its key.
+    Unwrap,
+}
+
+/// The text of a key, or the key of a text. A wrapping has the faults of an unwrapping, but for
+/// `Integrity`.
+pub fn convert<B: BlockPair>(
+    alloc: Global,
+    direction: Direction,
+    form: Form,
+    pair: &B,
+    input: &[u8],
+) -> Result<Vec<u8>, UnwrapFault>
+    ensures { ConversionAnswer direction form (B.encrypted pair.now) input.now result }
+{
+    match direction {
+        Direction::Wrap => wrap_in(alloc, form, pair, input).map_err(as_unwrap_fault),
+        Direction::Unwrap => unwrap_in(alloc, form, pair, input),
+    }
+}
+
+fn wrap_in<B: BlockPair>(
+    alloc: Global,
+    form: Form,
+    pair: &B,
+    key: &[u8],
+) -> Result<Vec<u8>, WrapFault>
+    ensures { WrapAnswer form (B.encrypted pair.now) key.now result }
+{
+    match form {
+        Form::Plain => wrap(alloc, pair, key),
+        Form::Padded => wrap_padded(alloc, pair, key),
+    }
+}
+
+fn unwrap_in<B: BlockPair>(
+    alloc: Global,
+    form: Form,
+    pair: &B,
+    text: &[u8],
+) -> Result<Vec<u8>, UnwrapFault>
+    ensures { ConversionAnswer Direction.Unwrap form (B.encrypted pair.now) text.now result }
+{
+    match form {
+        Form::Plain => unwrap(alloc, pair, text),
+        Form::Padded => unwrap_padded(alloc, pair, text),
+    }
+}
+
+fn as_unwrap_fault(fault: WrapFault) -> UnwrapFault
+    ensures { result ≡ unwrap_fault_of fault }
+{
+    match fault {
+        WrapFault::BadLength => UnwrapFault::BadLength,
+        WrapFault::Memory => UnwrapFault::Memory,
+    }
+}

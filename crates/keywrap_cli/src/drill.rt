@@ -1,0 +1,88 @@
+//! The drill: wrapping over a block that only exchanges its halves, so that answers can be worked by hand.
+
+ghost use Rattle.std.specs.Prelude.{◌≡◌, ◌↔◌, ℕ, Err};
+ghost use Rattle.key_files.specs.declared.fault.FileFault.TheVariants as FileFaults;
+ghost use Rattle.keywrap_cli.specs.Drill.{DrillAnswer, TextAnswer, drill_meaning, drill_fault_of, text_fault_of};
+
+use crate::convert::{Direction, convert};
+use block_pair::SwapHalves;
+use key_files::{FileFault, MAX_FILE, decode_hex};
+use key_wrap::{Form, UnwrapFault};
+use std::alloc::Global;
+use thiserror::Error;
+
+/// Why a drill has no answer.
+#[derive(Clone, Copy, Debug, PartialEq, Eq, Error)]
+pub enum DrillFault {
+    /// The text has more than `MAX_FILE` bytes.
+    #[error("input: too long")]
+    TooLong,
+    /// The byte at offset `at` is the first that is neither a hex digit nor a space, tab, CR or LF.
+    #[error("input: no hex digit at byte {at}")]
+    BadDigit { at: usize },
+    /// The number of hex digits is odd.
+    #[error("input: odd number of hex digits")]
+    OddDigits,
+    /// The key or the text has no legal length in this form.
+    #[error("bad length")]
+    BadLength,
+    /// The text is no wrapping in this form.
+    #[error("integrity check failed")]
+    Integrity,
+    /// A growth was refused.
+    #[error("out of memory")]
+    Memory,
+}
+
+/// Wraps or unwraps, over the drill block, the bytes that a hex text denotes.
+///
+/// The first that applies is answered: TooLong (more than `MAX_FILE` bytes of text), BadDigit, OddDigits,
+/// Memory, BadLength, Memory, Integrity. The first three take no memory.
+pub fn drill(
+    alloc: Global,
+    form: Form,
+    direction: Direction,
+    text: &str,
+) -> Result<Vec<u8>, DrillFault>
+    ensures answer { DrillAnswer direction form text.now result }
+    ensures too_long { (result ≡ Err DrillFault.TooLong)
+        ↔ (drill_meaning text.now ≡ Err FileFaults.TooLong) }
+    ensures bad_digit { (at : ℕ) → (result ≡ Err (DrillFault.BadDigit at))
+        ↔ (drill_meaning text.now ≡ Err (FileFaults.BadDigit at)) }
+    ensures odd_digits { (result ≡ Err DrillFault.OddDigits)
+        ↔ (drill_meaning text.now ≡ Err FileFaults.OddDigits) }
+{
+    let input = bytes_of(alloc, text)?;
+    convert(alloc, direction, form, &SwapHalves, &input).map_err(drill_fault)
+}
+
+// The bytes that the text denotes, where it is no longer than a file may be.
+fn bytes_of(alloc: Global, text: &str) -> Result<Vec<u8>, DrillFault>
+    ensures { TextAnswer text.now result }
+{
+    if text.len() > MAX_FILE {
+        return Err(DrillFault::TooLong);
+    }
+    decode_hex(alloc, text.as_bytes()).map_err(text_fault)
+}
+
+// A slice is neither read nor too long.
+fn text_fault(fault: FileFault) -> DrillFault
+    ensures { result ≡ text_fault_of fault }
+{
+    match fault {
+        FileFault::BadDigit { at } => DrillFault::BadDigit { at },
+        FileFault::OddDigits => DrillFault::OddDigits,
+        FileFault::Read | FileFault::TooLong | FileFault::Memory => DrillFault::Memory,
+    }
+}
+
+fn drill_fault(fault: UnwrapFault) -> DrillFault
+    ensures { result ≡ drill_fault_of fault }
+{
+    match fault {
+        UnwrapFault::BadLength => DrillFault::BadLength,
+        UnwrapFault::Integrity => DrillFault::Integrity,
+        UnwrapFault::Memory => DrillFault::Memory,
+    }
+}

@@ -1,0 +1,59 @@
+//! The KEK file and the input of a job.
+
+ghost use Rattle.key_files.specs.Reading.{ReadsAs, answer_of};
+ghost use Rattle.keywrap_cli.specs.Files.{meaning_in};
+ghost use Rattle.keywrap_cli.specs.Places.{AnswersInput, AnswersKek, MakesKek};
+
+use crate::job::{JobFault, Notation};
+use aes_block::Aes;
+use key_files::{FileFault, MAX_FILE, read_hex, read_raw};
+use std::alloc::Global;
+use std::io::Read;
+
+/// AES under the KEK that a file denotes.
+pub fn read_kek<K: Read>(alloc: Global, notation: Notation, kek: &mut K) -> Result<Aes, JobFault>
+    ensures { AnswersKek notation (K.remaining kek.old) (K.remaining kek.new) result }
+{
+    match read_file(alloc, notation, kek) {
+        Ok(bytes) => under_kek(&bytes),
+        Err(FileFault::Memory) => Err(JobFault::Memory),
+        Err(fault) => Err(JobFault::KekFile(fault)),
+    }
+}
+
+fn under_kek(kek: &[u8]) -> Result<Aes, JobFault>
+    ensures { MakesKek kek.now result }
+{
+    match Aes::new(kek) {
+        Ok(aes) => Ok(aes),
+        Err(_) => Err(JobFault::KekLength),
+    }
+}
+
+/// The bytes that an input denotes.
+pub fn read_input<R: Read>(
+    alloc: Global,
+    notation: Notation,
+    input: &mut R,
+) -> Result<Vec<u8>, JobFault>
+    ensures { AnswersInput notation (R.remaining input.old) (R.remaining input.new) result }
+{
+    match read_file(alloc, notation, input) {
+        Ok(bytes) => Ok(bytes),
+        Err(FileFault::Memory) => Err(JobFault::Memory),
+        Err(fault) => Err(JobFault::InputFile(fault)),
+    }
+}
+
+fn read_file<R: Read>(
+    alloc: Global,
+    notation: Notation,
+    reader: &mut R,
+) -> Result<Vec<u8>, FileFault>
+    ensures { ReadsAs (meaning_in notation) MAX_FILE (R.remaining reader.old) (R.remaining reader.new) (answer_of result) }
+{
+    match notation {
+        Notation::Raw => read_raw(alloc, reader, MAX_FILE),
+        Notation::Hex => read_hex(alloc, reader, MAX_FILE),
+    }
+}

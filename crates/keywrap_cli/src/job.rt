@@ -1,0 +1,110 @@
+//! The jobs: what is done with an input under a KEK.
+
+ghost use Rattle.std.specs.Prelude.{◌≡◌, IsOk};
+ghost use Rattle.keywrap_cli.specs.Job.{RunsJob, WritesTheKey};
+
+use crate::files::{read_input, read_kek};
+use crate::output::write_output;
+use key_files::FileFault;
+use key_wrap::Form;
+use std::alloc::Global;
+use std::io::{Read, Write};
+use thiserror::Error;
+
+/// What is done with the input.
+#[derive(Clone, Copy, Debug, PartialEq, Eq)]
+pub enum Job {
+    /// The input is a key, and the output its wrapping.
+    Wrap,
+    /// The input is a text, and the output the key whose wrapping it is.
+    Unwrap,
+    /// The input is a text, and the output a line that says what it is a wrapping of.
+    Check,
+}
+
+/// How a file denotes its bytes.
+#[derive(Clone, Copy, Debug, PartialEq, Eq)]
+pub enum Notation {
+    /// By themselves.
+    Raw,
+    /// By two hex digits each.
+    Hex,
+}
+
+/// A job, with the form of the wrapping and the notations of its files.
+#[derive(Clone, Copy, Debug, PartialEq, Eq)]
+pub struct Task {
+    /// What is done.
+    pub job: Job,
+    /// The form of the wrapping. `Check` looks at both.
+    pub form: Form,
+    /// The notation of the input, and of the output of `Wrap` and `Unwrap`.
+    pub input: Notation,
+    /// The notation of the KEK file.
+    pub kek: Notation,
+}
+
+/// What a job that was not refused did.
+#[derive(Clone, Copy, Debug, PartialEq, Eq)]
+pub enum Done {
+    /// The answer was written.
+    Written,
+    /// The text is no wrapping in either form, and `none` was written.
+    Neither,
+}
+
+/// Why a job has no answer.
+#[derive(Clone, Copy, Debug, PartialEq, Eq, Error)]
+pub enum JobFault {
+    /// The KEK file denotes no bytes.
+    #[error("key file: {0}")]
+    KekFile(FileFault),
+    /// The KEK has not 16, 24 or 32 bytes.
+    #[error("key length is not 16, 24 or 32 bytes")]
+    KekLength,
+    /// The input denotes no bytes.
+    #[error("input: {0}")]
+    InputFile(FileFault),
+    /// The key or the text has no legal length in this form.
+    #[error("bad length")]
+    BadLength,
+    /// The text is no wrapping in this form under this KEK.
+    #[error("integrity check failed")]
+    Integrity,
+    /// The writer took `written` bytes of the output, and no more.
+    #[error("output: refused after {written} bytes")]
+    Write {
+        /// How many bytes of the output went out.
+        written: usize,
+    },
+    /// A growth was refused.
+    #[error("out of memory")]
+    Memory,
+}
+
+/// Runs a job: reads the KEK and the input, and writes the answer in the notation of the input.
+///
+/// The first that applies is answered: KekFile, KekLength, InputFile, BadLength, Memory of the answer,
+/// Integrity, Memory of the hex output or of the check's line, Write. Want of memory at a file is answered as
+/// Memory at that file's place. After a refusal at the KEK's place the input has not been read. Nothing is
+/// written before the whole output is made, and the call does not flush.
+pub fn run_job<K: Read, R: Read, W: Write>(
+    alloc: Global,
+    task: Task,
+    kek: &mut K,
+    input: &mut R,
+    out: &mut W,
+) -> Result<Done, JobFault>
+    ensures run { RunsJob task (K.remaining kek.old) (K.remaining kek.new)
+        (R.remaining input.old) (R.remaining input.new)
+        (W.contents out.old) (W.contents out.new) result }
+
+    // A key is written only for the standard's wrapping of that key and of no other.
+    ensures headline { task.job ≡ Job.Unwrap → IsOk result
+        → WritesTheKey task (K.remaining kek.old) (K.remaining kek.new)
+        (R.remaining input.old) (R.remaining input.new) (W.contents out.old) (W.contents out.new) }
+{
+    let aes = read_kek(alloc, task.kek, kek)?;
+    let bytes = read_input(alloc, task.input, input)?;
+    write_output(alloc, task, &aes, &bytes, out)
+}

@@ -1,0 +1,126 @@
+//! What a job writes.
+
+ghost use Rattle.std.specs.Prelude.{◌≡◌, IfOk, string_bytes};
+ghost use Rattle.keywrap_cli.specs.Files.{printed};
+ghost use Rattle.keywrap_cli.specs.Output.{OutputAnswer, job_fault_of, job_of, kind_line, done_for};
+ghost use Rattle.keywrap_cli.specs.declared.job.Task.{Task};
+ghost use Rattle.keywrap_cli.specs.Writing.{Sends};
+
+use crate::convert::{Direction, convert};
+use crate::job::{Done, Job, JobFault, Notation, Task};
+use block_pair::BlockPair;
+use key_files::{HexWriteFault, write_hex, write_raw};
+use key_wrap::{Kind, UnwrapFault, kind};
+use std::alloc::{AllocError, Global};
+use std::io::Write;
+
+/// Makes the output of a job for the bytes of its input, and then writes it.
+pub fn write_output<B: BlockPair, W: Write>(
+    alloc: Global,
+    task: Task,
+    pair: &B,
+    input: &[u8],
+    out: &mut W,
+) -> Result<Done, JobFault>
+    ensures { OutputAnswer task.job task (B.encrypted pair.now) input.now (W.contents out.old) (W.contents out.new) result }
+{
+    match task.job {
+        Job::Wrap => write_answer(alloc, Direction::Wrap, task, pair, input, out),
+        Job::Unwrap => write_answer(alloc, Direction::Unwrap, task, pair, input, out),
+        Job::Check => write_kind(alloc, pair, input, out),
+    }
+}
+
+fn write_answer<B: BlockPair, W: Write>(
+    alloc: Global,
+    direction: Direction,
+    task: Task,
+    pair: &B,
+    input: &[u8],
+    out: &mut W,
+) -> Result<Done, JobFault>
+    ensures { OutputAnswer (job_of direction) task (B.encrypted pair.now) input.now (W.contents out.old) (W.contents out.new) result }
+{
+    let answer = convert(alloc, direction, task.form, pair, input).map_err(job_fault)?;
+    send(alloc, task.input, &answer, out)?;
+    Ok(Done::Written)
+}
+
+fn job_fault(fault: UnwrapFault) -> JobFault
+    ensures { result ≡ job_fault_of fault }
+{
+    match fault {
+        UnwrapFault::BadLength => JobFault::BadLength,
+        UnwrapFault::Integrity => JobFault::Integrity,
+        UnwrapFault::Memory => JobFault::Memory,
+    }
+}
+
+// Writes bytes in a notation.
+fn send<W: Write>(
+    alloc: Global,
+    notation: Notation,
+    bytes: &[u8],
+    out: &mut W,
+) -> Result<(), JobFault>
+    ensures { Sends (printed notation bytes.now) (W.contents out.old) (W.contents out.new) result }
+{
+    match notation {
+        Notation::Raw => send_raw(bytes, out),
+        Notation::Hex => match write_hex(alloc, out, bytes) {
+            Ok(()) => Ok(()),
+            Err(HexWriteFault::Memory) => Err(JobFault::Memory),
+            Err(HexWriteFault::Write { written }) => Err(JobFault::Write { written }),
+        },
+    }
+}
+
+fn send_raw<W: Write>(bytes: &[u8], out: &mut W) -> Result<(), JobFault>
+    ensures { Sends bytes.now (W.contents out.old) (W.contents out.new) result }
+{
+    match write_raw(out, bytes) {
+        Ok(()) => Ok(()),
+        Err(fault) => Err(JobFault::Write {
+            written: fault.written,
+        }),
+    }
+}
+
+// Writes what a text is a wrapping of. A check has no refusal of its own.
+fn write_kind<B: BlockPair, W: Write>(
+    alloc: Global,
+    pair: &B,
+    text: &[u8],
+    out: &mut W,
+) -> Result<Done, JobFault>
+    ensures { (task : Task) → OutputAnswer Job.Check task (B.encrypted pair.now) text.now (W.contents out.old) (W.contents out.new) result }
+{
+    let Ok(found) = kind(alloc, pair, text) else {
+        return Err(JobFault::Memory);
+    };
+    let Ok(line) = line_of(alloc, found) else {
+        return Err(JobFault::Memory);
+    };
+    send_raw(line.as_bytes(), out)?;
+    Ok(done_of(found))
+}
+
+fn done_of(kind: Kind) -> Done
+    ensures { result ≡ done_for kind }
+{
+    match kind {
+        Kind::Plain(_) | Kind::Padded(_) => Done::Written,
+        Kind::Neither => Done::Neither,
+    }
+}
+
+// The line of a check.
+fn line_of(alloc: Global, kind: Kind) -> Result<String, AllocError>
+    ensures { IfOk result (λ line. string_bytes line ≡ kind_line kind) }
+{
+    match kind {
+        Kind::Plain(len) => format!(in alloc; "plain {len}\n"),
+        Kind::Padded(len) => format!(in alloc; "padded {len}\n"),
+        Kind::Neither => String::from_str(alloc, "none\n"),
+    }
+}

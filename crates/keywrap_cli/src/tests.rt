@@ -1,0 +1,9 @@
+//! Worked rows and published vectors, through the public calls.
+
+mod checks;
+mod doubles;
+mod drills;
+mod faults;
+mod jobs;
+mod standards;
+mod vectors;

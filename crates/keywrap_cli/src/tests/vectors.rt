@@ -1,0 +1,73 @@
+//! The lines of the published vectors, and of tables in which one vector is changed.
+
+use super::doubles::Narrow;
+use crate::vector_table::{VECTORS, Vector};
+use crate::vectors::{VectorsFault, report_on, vectors};
+use std::test::Fail;
+
+const LINES: &str = "\
+rfc3394 4.1 ok
+rfc3394 4.2 ok
+rfc3394 4.3 ok
+rfc3394 4.4 ok
+rfc3394 4.5 ok
+rfc3394 4.6 ok
+rfc5649 20 ok
+rfc5649 7 ok
+fips197 1 ok
+fips197 2 ok
+fips197 3 ok
+fips197 4 ok
+";
+
+#[test]
+fn writes_twelve_lines_that_say_ok(rt: HostRuntime) -> Result<(), Fail> {
+    let mut out = Vec::new(rt.alloc());
+    assert_eq!(rt; vectors(rt.alloc(), &mut out), Ok(true));
+    assert_eq!(rt; out.as_slice(), LINES.as_bytes());
+    assert_eq!(rt; out.len(), 169);
+    Ok(())
+}
+
+// The last byte of one output is changed: its line fails, and the others stay.
+#[test]
+fn ok_without_computing(rt: HostRuntime) -> Result<(), Fail> {
+    for changed in 0..VECTORS.len() {
+        let output = VECTORS[changed].output;
+        let end = output.len().saturating_sub(2);
+        let last = if output.ends_with("00") { "01" } else { "00" };
+        let front = output.get(..end).ok_or("no last byte")?;
+        let other = format!(in rt.alloc(); "{front}{last}")?;
+        let mut table: [Vector; 12] = VECTORS;
+        table[changed].output = other.as_str();
+        let report = report_on(rt.alloc(), &table)?;
+        assert!(rt; !report.all_ok);
+        let failed = report
+            .text
+            .lines()
+            .filter(|line| line.ends_with(" failed"))
+            .count();
+        assert_eq!(rt; failed, 1);
+        let lines = report.text.lines().count();
+        assert_eq!(rt; lines, 12);
+        let line = format!(in rt.alloc(); "{} failed", VECTORS[changed].name)?;
+        assert_eq!(rt; report.text.lines().nth(changed), Some(line.as_str()));
+    }
+    Ok(())
+}
+
+#[test]
+fn counts_the_bytes_of_the_lines_that_went_out(rt: HostRuntime) {
+    for room in [0, 1, 15, 100, 168] {
+        for mut out in [
+            Narrow::failing(rt.alloc(), room),
+            Narrow::full(rt.alloc(), room),
+        ] {
+            assert_eq!(rt;
+                vectors(rt.alloc(), &mut out),
+                Err(VectorsFault::Write { written: room })
+            );
+            assert_eq!(rt; Some(out.out()), LINES.as_bytes().get(..room));
+        }
+    }
+}
