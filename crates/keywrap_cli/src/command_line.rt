@@ -5,6 +5,7 @@ use crate::help::{
     CHECK_EXAMPLE, DRILL_EXAMPLE, STATUSES, UNWRAP_EXAMPLE, VECTORS_EXAMPLE, WRAP_EXAMPLE,
 };
 use crate::job::{Job, Notation, Task};
+use clap::error::ErrorKind;
 use clap::{Arg, ArgAction, ArgMatches, Command, Error};
 use key_wrap::Form;
 use std::alloc::{AllocError, Global};
@@ -37,6 +38,12 @@ pub fn parse<'a>(alloc: Global, words: &'a [String]) -> Result<Request<'a>, Erro
         Some(("drill", found)) => drill(found),
         _ => Request::Vectors,
     })
+}
+
+/// What is wrong with words that are not UTF-8.
+pub fn not_text(alloc: Global) -> Result<Error, AllocError> {
+    let message = "invalid UTF-8 was detected in one or more arguments";
+    keywrap(alloc)?.error(ErrorKind::InvalidValue, message)
 }
 
 fn job<'a>(job: Job, found: &ArgMatches<'a>) -> Request<'a> {
@@ -89,6 +96,7 @@ fn text_of<'a>(found: &ArgMatches<'a>, id: &str) -> &'a str {
 /// The command with its subcommands.
 fn keywrap<'a>(alloc: Global) -> Result<Command<'a>, AllocError> {
     Command::new(alloc, "keywrap")
+        .bin_name("keywrap")?
         .version("1.0.0")
         .about("Wraps and unwraps keys by AES Key Wrap (RFC 3394 and RFC 5649)")
         .after_help(STATUSES)

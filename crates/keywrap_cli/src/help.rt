@@ -10,9 +10,9 @@ Exit status:
   5  the integrity check failed; check found no wrapping; a vector failed
   6  a file or the output could not be opened, read or written
   7  out of memory
-At any status but 0 there is one line on standard error, and nothing is on standard
-output unless the whole answer was right: but check, which writes its line, and
-vectors, whose lines say which one failed.";
+A refusal is one line on standard error. Nothing is written on standard output before
+the whole answer is right. Status 5 without a line comes from check, which wrote none,
+and from vectors, whose lines say which one failed.";
 
 /// An example of `wrap`.
 pub const WRAP_EXAMPLE: &str = "\

@@ -1,6 +1,6 @@
 //! The program: from its words to its exit status.
 
-use crate::command_line::{Request, parse};
+use crate::command_line::{Request, not_text, parse};
 use crate::convert::Direction;
 use crate::drill::drill;
 use crate::fault::{ProgramFault, line_of};
@@ -10,6 +10,7 @@ use clap::Error;
 use clap::error::ErrorKind;
 use key_files::write_hex;
 use key_wrap::Form;
+use std::alloc::AllocError;
 use std::io::{self, Write};
 use std::rt::{Env, Files};
 use std::{env, fs};
@@ -21,15 +22,25 @@ const FAILED: u8 = 5;
 
 /// Runs the program on the words that it was started with, and answers its exit status.
 pub fn run<R: Print + Eprint + Input + AllocGlobal + Files + Env>(rt: &R) -> u8 {
-    let Ok(args) = env::args(rt) else {
-        return refuse(rt, &ProgramFault::Memory);
+    let words = match env::args(rt) {
+        Ok(args) => args.collect::<Vec<String>>(rt.alloc()),
+        Err(error) if error.kind() == io::ErrorKind::OutOfMemory => Err(AllocError),
+        Err(_) => return refuse_words(rt),
     };
-    let Ok(words) = args.collect::<Vec<String>>(rt.alloc()) else {
+    let Ok(words) = words else {
         return refuse(rt, &ProgramFault::Memory);
     };
     match parse(rt.alloc(), words.as_slice()) {
         Ok(wanted) => answer(rt, wanted),
         Err(error) => explain(rt, &error),
+    }
+}
+
+// Refuses words that are no text, as a parse refuses words.
+fn refuse_words<R: Print + Eprint + AllocGlobal>(rt: &R) -> u8 {
+    match not_text(rt.alloc()) {
+        Ok(error) => explain(rt, &error),
+        Err(_) => refuse(rt, &ProgramFault::Memory),
     }
 }
 
