@@ -1,4 +1,4 @@
-//! The registers A | R1 .. Rn in one buffer, through the 6n steps of RFC 3394, section 2.2, in its
+//! The registers A | R[1] .. R[n] in one buffer, through the 6n steps of RFC 3394, section 2.2, in its
 //! shifting form.
 
 ghost use Rattle.std.specs.Prelude.{◌≡◌, ◌%◌, ◌≤◌, length};
@@ -12,7 +12,7 @@ use byteorder::{BigEndian, ByteOrder};
 /// The bytes of a word.
 const WORD: usize = 8;
 
-/// The n + 1 words A | R1 .. Rn in the buffer, an initial value and key data, become the words of their
+/// The n + 1 words A | R[1] .. R[n] in the buffer, an initial value and key data, become the words of their
 /// wrapping (section 2.2.1).
 pub(crate) fn wrap_registers<B: BlockPair>(pair: &B, buffer: &mut [u8])
     requires whole_words { length buffer.old % 8 ≡ 0 }
@@ -37,7 +37,7 @@ pub(crate) fn unwrap_registers<B: BlockPair>(pair: &B, buffer: &mut [u8])
     }
 }
 
-/// Step t: B = E(A | R1), A = MSB(64, B) xor t, the registers move down by one, Rn = LSB(64, B).
+/// Step t: B = E(A | R[1]), A = MSB(64, B) xor t, the registers move down by one, R[n] = LSB(64, B).
 fn wrap_step<B: BlockPair>(pair: &B, t: u64, buffer: &mut [u8])
     requires { 16 ≤ length buffer.old }
     ensures { Step (B.encrypted pair.now) t buffer.old buffer.new }
@@ -46,13 +46,13 @@ fn wrap_step<B: BlockPair>(pair: &B, t: u64, buffer: &mut [u8])
     let r = BigEndian::read_u64(&buffer[WORD..]);
     let (msb, lsb) = encrypt_words(pair, a, r);
     let last = buffer.len() - WORD;
-    // R1 is now at the front and A at the back, where the new words go.
+    // R[1] is now at the front and A at the back, where the new words go.
     buffer.rotate_left(WORD);
     BigEndian::write_u64(buffer, msb ^ t);
     BigEndian::write_u64(&mut buffer[last..], lsb);
 }
 
-/// Step t undone: B = D((A xor t) | Rn), A = MSB(64, B), the registers move up by one, R1 = LSB(64, B).
+/// Step t undone: B = D((A xor t) | R[n]), A = MSB(64, B), the registers move up by one, R[1] = LSB(64, B).
 fn unwrap_step<B: BlockPair>(pair: &B, t: u64, buffer: &mut [u8])
     requires { 16 ≤ length buffer.old }
     ensures { Step (B.encrypted pair.now) t buffer.new buffer.old }
