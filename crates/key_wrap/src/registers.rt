@@ -61,7 +61,7 @@ fn unwrap_step<B: BlockPair>(pair: &B, t: u64, buffer: &mut [u8])
     let a = BigEndian::read_u64(buffer);
     let r = BigEndian::read_u64(&buffer[last..]);
     let (msb, lsb) = decrypt_words(pair, a ^ t, r);
-    // Rn and A are now the first two words, where the new ones go.
+    // R[n] and A are now the first two words, where the new ones go.
     buffer.rotate_right(WORD);
     BigEndian::write_u64(buffer, msb);
     BigEndian::write_u64(&mut buffer[WORD..], lsb);

@@ -272,6 +272,24 @@ fn refuses_legal_length_of_other_form(rt: HostRuntime) -> Result<(), Fail> {
 }
 
 #[test]
+fn gives_up_for_memory_at_no_length(rt: HostRuntime) -> Result<(), Fail> {
+    let alloc = rt.alloc();
+    let bytes = [0x5a; 520];
+    for len in 1..=520 {
+        let key = &bytes[..len];
+        let text = wrap_padded(alloc, &SwapHalves, key)?;
+        assert_eq!(rt; unwrap_padded(alloc, &SwapHalves, &text)?.as_slice(), key);
+        assert_eq!(rt; kind(alloc, &SwapHalves, &text)?, Kind::Padded(len));
+        if key_length_ok(len) {
+            let text = wrap(alloc, &SwapHalves, key)?;
+            assert_eq!(rt; unwrap(alloc, &SwapHalves, &text)?.as_slice(), key);
+            assert_eq!(rt; kind(alloc, &SwapHalves, &text)?, Kind::Plain(len));
+        }
+    }
+    Ok(())
+}
+
+#[test]
 fn faults_print_their_cause(rt: HostRuntime) -> Result<(), Fail> {
     let alloc = rt.alloc();
     for (fault, message) in [

@@ -99,7 +99,7 @@ fn keywrap<'a>(alloc: Global) -> Result<Command<'a>, AllocError> {
         .bin_name("keywrap")?
         .version("1.0.0")
         .about("Wraps and unwraps keys by AES Key Wrap (RFC 3394 and RFC 5649)")
-        .after_help(STATUSES)
+        .after_long_help(STATUSES)
         .subcommand_required(true)
         .subcommand(wrap_command(alloc)?)?
         .subcommand(unwrap_command(alloc)?)?

@@ -113,8 +113,12 @@ fn explain<R: Print + Eprint>(rt: &R, error: &Error) -> u8 {
     if error.kind() == ErrorKind::OutOfMemory {
         return refuse(rt, &ProgramFault::Memory);
     }
-    match error.print(rt) {
-        Ok(()) if error.use_stderr() => REFUSED_WORDS,
+    let printed = error.print(rt);
+    // Nothing is left to do where standard error is closed too.
+    if error.use_stderr() {
+        return REFUSED_WORDS;
+    }
+    match printed {
         Ok(()) => 0,
         Err(_) => refuse(rt, &ProgramFault::Write { written: 0 }),
     }

@@ -231,3 +231,38 @@ fn counts_the_bytes_that_went_out(rt: HostRuntime) -> Result<(), Fail> {
     assert_eq!(rt; done, Ok(Done::Written));
     Ok(())
 }
+
+// Runs a raw job in a form, through readers and a writer of one byte a call.
+fn run_slowly(alloc: Global, job: Job, form: Form, input: &[u8]) -> Result<Narrow, JobFault> {
+    let task = Task {
+        form,
+        ..in_raw(job)
+    };
+    let mut out = Narrow::failing(alloc, MAX_FILE);
+    run_job(
+        alloc,
+        task,
+        &mut Trickle::ending(&RAW_KEK),
+        &mut Trickle::ending(input),
+        &mut out,
+    )?;
+    Ok(out)
+}
+
+#[test]
+fn gives_up_for_memory_or_io_at_no_short_length(rt: HostRuntime) -> Result<(), Fail> {
+    let bytes = [0x5a; 40];
+    for len in 1..=40 {
+        let key = &bytes[..len];
+        for form in [Form::Plain, Form::Padded] {
+            if form == Form::Padded || (len >= 16 && len % 8 == 0) {
+                let text = run_slowly(rt.alloc(), Job::Wrap, form, key)?;
+                let back = run_slowly(rt.alloc(), Job::Unwrap, form, text.out())?;
+                assert_eq!(rt; back.out(), key);
+                let line = run_slowly(rt.alloc(), Job::Check, form, text.out())?;
+                assert_ne!(rt; line.out(), b"none\n".as_slice());
+            }
+        }
+    }
+    Ok(())
+}
