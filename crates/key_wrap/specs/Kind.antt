@@ -5,8 +5,8 @@ use Rattle.key_wrap.specs.declared.faults.KindFault.{KindFault}
 use Rattle.key_wrap.specs.declared.faults.KindFault.TheVariants as kind_faults
 use Rattle.key_wrap.specs.declared.faults.UnwrapFault.{UnwrapFault}
 use Rattle.key_wrap.specs.declared.faults.UnwrapFault.TheVariants.{BadLength, Integrity, Memory}
-use Rattle.key_wrap.specs.declared.faults.Kind.{Kind}
-use Rattle.key_wrap.specs.declared.faults.Kind.TheVariants.{Plain as InPlain, Padded as InPadded, Neither}
+use Rattle.key_wrap.specs.declared.forms.Kind.{Kind}
+use Rattle.key_wrap.specs.declared.forms.Kind.TheVariants.{Plain as InPlain, Padded as InPadded, Neither}
 use Rattle.key_wrap.specs.Plain.{Plain}
 use Rattle.key_wrap.specs.Padded.{Padded}
 use Rattle.key_wrap.specs.Answer.{NoKey}

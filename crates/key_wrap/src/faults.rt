@@ -1,4 +1,4 @@
-//! The forms and kinds of texts, and why a call refuses.
+//! Why a call refuses.
 
 ghost use Rattle.std.specs.Prelude.{◌≡◌};
 ghost use Rattle.key_wrap.specs.declared.faults.UnwrapFault.TheVariants as unwrap_faults;
@@ -6,15 +6,6 @@ ghost use Rattle.key_wrap.specs.declared.faults.WrapFault.TheVariants as wrap_fa
 
 use std::alloc::AllocError;
 use thiserror::Error;
-
-/// A form of key wrap.
-#[derive(Clone, Copy, Debug, PartialEq, Eq)]
-pub enum Form {
-    /// RFC 3394: key data of whole words.
-    Plain,
-    /// RFC 5649: key data of any length but 0.
-    Padded,
-}
 
 /// Why a wrapping call refuses.
 #[derive(Clone, Copy, Debug, PartialEq, Eq, Error)]
@@ -55,17 +46,6 @@ impl From<AllocError> for UnwrapFault {
     fn from(_: AllocError) -> UnwrapFault {
         UnwrapFault::Memory
     }
-}
-
-/// The form in which a text is a wrapping, with the length of its key in bytes.
-#[derive(Clone, Copy, Debug, PartialEq, Eq)]
-pub enum Kind {
-    /// The plain wrapping (RFC 3394) of a key of this many bytes.
-    Plain(usize),
-    /// The padded wrapping (RFC 5649) of a key of this many bytes.
-    Padded(usize),
-    /// The wrapping of no key, in either form.
-    Neither,
 }
 
 /// Why `kind` has no answer.

@@ -7,7 +7,8 @@ ghost use Rattle.key_wrap.specs.Padded.{Padded};
 ghost use Rattle.key_wrap.specs.Answer.{NoKey};
 ghost use Rattle.key_wrap.specs.Kind.{IsKindOf, IsKeyLength};
 
-use crate::faults::{Kind, KindFault, UnwrapFault};
+use crate::faults::{KindFault, UnwrapFault};
+use crate::forms::Kind;
 use crate::padded::unwrap_padded;
 use crate::plain::unwrap;
 use block_pair::BlockPair;

@@ -4,13 +4,15 @@
 mod buffers;
 mod checks;
 mod faults;
+mod forms;
 mod kinds;
 mod lengths;
 mod padded;
 mod plain;
 mod registers;
 
-pub use faults::{Form, Kind, KindFault, UnwrapFault, WrapFault};
+pub use faults::{KindFault, UnwrapFault, WrapFault};
+pub use forms::{Form, Kind};
 pub use kinds::kind;
 pub use lengths::{
     MAX_KEY, key_length_ok, padded_length_ok, padded_text_length_ok, text_length_ok,

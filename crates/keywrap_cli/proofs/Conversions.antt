@@ -1,7 +1,7 @@
 -- The clauses of the calls of key_wrap, gathered into one answer for each form.
 use Rattle.std.proofs.Common.{◌≡◌, ℕ, List, Vec, Result, Ok, Err, IfOk, OnOk}
 use Rattle.std.specs.declared.alloc.Global.{Global}
-use Rattle.key_wrap.specs.declared.faults.Form.{Form}
+use Rattle.key_wrap.specs.declared.forms.Form.{Form}
 use Rattle.key_wrap.specs.declared.faults.UnwrapFault.{UnwrapFault}
 use Rattle.key_wrap.specs.declared.faults.UnwrapFault.TheVariants as unwraps
 use Rattle.key_wrap.specs.Answer.{NoKey, UnwrapAnswer}

@@ -1,9 +1,9 @@
 -- What a job writes, from what its parts answer.
 use Rattle.std.proofs.Common.{◌≡◌, ℕ, List, Vec, Option, Result, Ok, Err, MatchResult, IsErrAnd, refl, subst}
 use Rattle.std.specs.declared.alloc.Global.{Global}
-use Rattle.key_wrap.specs.declared.faults.Form.{Form}
-use Rattle.key_wrap.specs.declared.faults.Kind.{Kind}
-use Rattle.key_wrap.specs.declared.faults.Kind.TheVariants as kinds
+use Rattle.key_wrap.specs.declared.forms.Form.{Form}
+use Rattle.key_wrap.specs.declared.forms.Kind.{Kind}
+use Rattle.key_wrap.specs.declared.forms.Kind.TheVariants as kinds
 use Rattle.key_wrap.specs.declared.faults.UnwrapFault.{UnwrapFault}
 use Rattle.keywrap_cli.specs.Conversion.{IsAnswer, ConversionAnswer}
 use Rattle.keywrap_cli.specs.Files.{printed}

@@ -1,8 +1,8 @@
 -- Wrapping and unwrapping in either form, in the words of key_wrap.
 use Rattle.std.specs.Prelude.{◌≡◌, ℕ, List, length, Result, Ok, Err, Vec}
 use Rattle.std.specs.declared.alloc.Global.{Global}
-use Rattle.key_wrap.specs.declared.faults.Form.{Form}
-use Rattle.key_wrap.specs.declared.faults.Form.TheVariants as forms
+use Rattle.key_wrap.specs.declared.forms.Form.{Form}
+use Rattle.key_wrap.specs.declared.forms.Form.TheVariants as forms
 use Rattle.key_wrap.specs.declared.faults.UnwrapFault.{UnwrapFault}
 use Rattle.key_wrap.specs.declared.faults.UnwrapFault.TheVariants.{BadLength, Integrity, Memory}
 use Rattle.key_wrap.specs.declared.faults.WrapFault.{WrapFault}

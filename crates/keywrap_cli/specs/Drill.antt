@@ -6,7 +6,7 @@ use Rattle.key_files.specs.Meaning.{file_meaning, hex_meaning}
 use Rattle.key_files.specs.declared.fault.FileFault.{FileFault}
 use Rattle.key_files.specs.declared.fault.FileFault.TheVariants as files
 use Rattle.key_files.specs.declared.read.TheConstants.{MAX_FILE}
-use Rattle.key_wrap.specs.declared.faults.Form.{Form}
+use Rattle.key_wrap.specs.declared.forms.Form.{Form}
 use Rattle.key_wrap.specs.declared.faults.UnwrapFault.{UnwrapFault}
 use Rattle.key_wrap.specs.declared.faults.UnwrapFault.TheVariants as unwraps
 use Rattle.keywrap_cli.specs.declared.convert.Direction.{Direction}

@@ -4,9 +4,9 @@ use Rattle.std.specs.Fmt.{decimal}
 use Rattle.std.specs.Io.KnownBytes.{Appends, Keeps}
 use Rattle.key_wrap.specs.Answer.{NoKey}
 use Rattle.key_wrap.specs.Kind.{IsKindOf}
-use Rattle.key_wrap.specs.declared.faults.Form.{Form}
-use Rattle.key_wrap.specs.declared.faults.Kind.{Kind}
-use Rattle.key_wrap.specs.declared.faults.Kind.TheVariants as kinds
+use Rattle.key_wrap.specs.declared.forms.Form.{Form}
+use Rattle.key_wrap.specs.declared.forms.Kind.{Kind}
+use Rattle.key_wrap.specs.declared.forms.Kind.TheVariants as kinds
 use Rattle.keywrap_cli.specs.Conversion.{Stands, IsInputLength, IsTextOf, IsKeyOf}
 use Rattle.keywrap_cli.specs.Files.{printed}
 use Rattle.key_wrap.specs.declared.faults.UnwrapFault.{UnwrapFault}

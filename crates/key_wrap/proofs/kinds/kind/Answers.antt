@@ -2,7 +2,7 @@ use Rattle.std.proofs.Common.{ℕ, List, ap, sym, rules}
 use Rattle.key_wrap.specs.Lengths.{IsPlainTextLength, IsPaddedTextLength}
 use Rattle.key_wrap.specs.Plain.{Plain}
 use Rattle.key_wrap.specs.Padded.{Padded}
-use Rattle.key_wrap.specs.declared.faults.Kind.TheVariants as kinds
+use Rattle.key_wrap.specs.declared.forms.Kind.TheVariants as kinds
 use Rattle.key_wrap.proofs.KeyLengths.{found, not_found}
 use Rattle.key_wrap.proofs.kinds.kind.Goals as goal
 

@@ -1,4 +1,4 @@
-use Rattle.key_wrap.specs.declared.faults.Form.TheVariants as forms
+use Rattle.key_wrap.specs.declared.forms.Form.TheVariants as forms
 use Rattle.keywrap_cli.proofs.Conversions.{unwrapped}
 use Rattle.keywrap_cli.proofs.convert.unwrap_in.Goals as goal
 

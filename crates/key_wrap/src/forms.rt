@@ -1,0 +1,21 @@
+//! The forms of key wrap, and the kinds of texts.
+
+/// A form of key wrap.
+#[derive(Clone, Copy, Debug, PartialEq, Eq)]
+pub enum Form {
+    /// RFC 3394: key data of whole words.
+    Plain,
+    /// RFC 5649: key data of any length but 0.
+    Padded,
+}
+
+/// The form in which a text is a wrapping, with the length of its key in bytes.
+#[derive(Clone, Copy, Debug, PartialEq, Eq)]
+pub enum Kind {
+    /// The plain wrapping (RFC 3394) of a key of this many bytes.
+    Plain(usize),
+    /// The padded wrapping (RFC 5649) of a key of this many bytes.
+    Padded(usize),
+    /// The wrapping of no key, in either form.
+    Neither,
+}
