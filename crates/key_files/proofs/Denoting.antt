@@ -4,7 +4,7 @@ use Rattle.std.specs.Prelude.{◌↔◌, IsErrAnd}
 use Rattle.std.proofs.lemmas.Bool.Decides.{nat_tests}
 use Rattle.key_files.specs.declared.fault.FileFault.{FileFault}
 use Rattle.key_files.specs.declared.fault.FileFault.TheVariants.{TooLong, BadDigit, OddDigits, Memory}
-use Rattle.key_files.specs.Meaning.{file_meaning, hex_meaning, spelled}
+use Rattle.key_files.specs.Meaning.{file_meaning, hex_meaning, digits_meaning}
 use Rattle.key_files.specs.HexText.{first_bad, digits_of, paired}
 
 -- a file within the limit denotes what its bytes do
@@ -35,13 +35,13 @@ unfolding hex_meaning
 hex_meaning-even text h even = rw h (grind (arith, nat_tests))
 
 -- a text is never too long
-spelled-never_long : (bad : Option ℕ) (digits : List ℕ) → spelled bad digits ≢ Err TooLong
-spelled-never_long (Some at) digits h = cc h
-spelled-never_long None digits h = grind (arith, nat_tests)
+digits_meaning-never_long : (bad : Option ℕ) (digits : List ℕ) → digits_meaning bad digits ≢ Err TooLong
+digits_meaning-never_long (Some at) digits h = cc h
+digits_meaning-never_long None digits h = grind (arith, nat_tests)
 
 pub hex_meaning-never_long : (text : List ℕ) → hex_meaning text ≢ Err TooLong
 unfolding hex_meaning
-hex_meaning-never_long text h = spelled-never_long (first_bad text) (digits_of text) h
+hex_meaning-never_long text h = digits_meaning-never_long (first_bad text) (digits_of text) h
 
 -- a refusal that is answered for what it is
 pub refused-by : {X : Type 0} (answer : Result X FileFault) (meaning : Result (List ℕ) FileFault) (found : FileFault) → answer ≡ Err found → meaning ≡ Err found

@@ -8,14 +8,14 @@ use Rattle.key_files.specs.HexText.{first_bad, digits_of, paired}
 abbrev pub raw_meaning : List ℕ → Result (List ℕ) FileFault
 raw_meaning file = Ok file
 
--- what digits spell, where the first bad byte is known
-abbrev pub spelled : Option ℕ → List ℕ → Result (List ℕ) FileFault
-spelled (Some at) digits = Err (BadDigit at)
-spelled None digits = if length digits % 2 == 1 then Err OddDigits else Ok (paired digits)
+-- what a text with these digits denotes, where its first bad byte is known
+abbrev pub digits_meaning : Option ℕ → List ℕ → Result (List ℕ) FileFault
+digits_meaning (Some at) digits = Err (BadDigit at)
+digits_meaning None digits = if length digits % 2 == 1 then Err OddDigits else Ok (paired digits)
 
 -- a hex text denotes the bytes that its digits spell: it has no bad byte, and an even number of digits
 unfoldable pub hex_meaning : List ℕ → Result (List ℕ) FileFault
-hex_meaning text = spelled (first_bad text) (digits_of text)
+hex_meaning text = digits_meaning (first_bad text) (digits_of text)
 
 -- what a file denotes in a notation, where it may have `limit` bytes
 unfoldable pub file_meaning : (List ℕ → Result (List ℕ) FileFault) → ℕ → List ℕ → Result (List ℕ) FileFault

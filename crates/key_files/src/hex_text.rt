@@ -1,11 +1,12 @@
 //! The hex notation.
+
 ghost use Rattle.std.specs.Prelude.{◌≡◌, ◌≢◌, ◌↔◌, length, IsOk, IfOk, Err, Ok};
 ghost use Rattle.key_files.specs.HexText.{digits_of, first_bad, is_skipped, paired};
 ghost use Rattle.key_files.specs.Meaning.{hex_meaning};
 ghost use Rattle.key_files.specs.declared.fault.FileFault.{FileFault};
 
 use crate::fault::FileFault;
-use std::alloc::{AllocError, Global};
+use std::alloc::{AllocError, Allocator, Global};
 
 /// The bytes that the hex text `text` denotes: its digits, of either case, in order and in pairs.
 /// Space, tab, CR and LF may stand anywhere.
@@ -16,6 +17,19 @@ pub fn decode_hex(alloc: Global, text: &[u8]) -> Result<Vec<u8>, FileFault>
     ensures refused { (fault : FileFault) → fault ≢ FileFault.Memory
         → (result ≡ Err fault) ↔ (hex_meaning text.now ≡ Err fault) }
     // Memory stands in the place of bytes, and never of a refusal.
+    ensures memory { result ≡ Err FileFault.Memory → IsOk (hex_meaning text.now) }
+{
+    decode_hex_in(alloc, text)
+}
+
+// `decode_hex` on any allocator, so that a test can refuse each growth.
+pub(crate) fn decode_hex_in<A: Allocator + Copy>(
+    alloc: A,
+    text: &[u8],
+) -> Result<Vec<u8, A>, FileFault>
+    ensures bytes { IfOk result (λ v. hex_meaning text.now ≡ Ok v.items) }
+    ensures refused { (fault : FileFault) → fault ≢ FileFault.Memory
+        → (result ≡ Err fault) ↔ (hex_meaning text.now ≡ Err fault) }
     ensures memory { result ≡ Err FileFault.Memory → IsOk (hex_meaning text.now) }
 {
     if let Some(at) = first_bad(text) {
@@ -47,7 +61,7 @@ fn digit_count(text: &[u8]) -> usize
     text.iter().filter(|c| c.is_ascii_hexdigit()).count()
 }
 
-fn digits(alloc: Global, text: &[u8]) -> Result<Vec<u8>, AllocError>
+fn digits<A: Allocator>(alloc: A, text: &[u8]) -> Result<Vec<u8, A>, AllocError>
     ensures { IfOk result (λ v. v.items ≡ digits_of text.now) }
 {
     text.iter()
@@ -57,7 +71,7 @@ fn digits(alloc: Global, text: &[u8]) -> Result<Vec<u8>, AllocError>
 }
 
 // An even number of digits is refused for memory alone.
-fn decode_digits(alloc: Global, text: &[u8]) -> Result<Vec<u8>, AllocError>
+fn decode_digits<A: Allocator + Copy>(alloc: A, text: &[u8]) -> Result<Vec<u8, A>, AllocError>
     ensures { IfOk result (λ v. v.items ≡ paired (digits_of text.now)) }
 {
     hex::decode(alloc, digits(alloc, text)?).or(Err(AllocError))

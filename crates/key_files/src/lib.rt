@@ -1,5 +1,6 @@
 //! Key files: what is read is what the file denotes, raw or hex, and what is written is the text,
 //! or a counted front of it.
+
 #![tactic(auto)]
 
 mod fault;

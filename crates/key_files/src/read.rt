@@ -1,16 +1,22 @@
 //! Files that are read whole.
+
 ghost use Rattle.std.specs.Prelude.{◌≡◌, ◌<◌, ◌≤◌, length, take, IfOk, IfErr};
 ghost use Rattle.std.specs.Io.KnownBytes.{Consumes, IsAtEnd, Keeps};
 ghost use Rattle.key_files.specs.Meaning.{raw_meaning, hex_meaning};
 ghost use Rattle.key_files.specs.Reading.{ReadsAs, answer_of};
 
 use crate::fault::FileFault;
-use crate::hex_text::decode_hex;
-use std::alloc::Global;
+use crate::hex_text::decode_hex_in;
+use std::alloc::{Allocator, Global};
 use std::io::Read;
 
 /// The most bytes that a file of the command may have.
 pub const MAX_FILE: usize = 65_536;
+
+// A law: whoever cites the constant has not said its value, which a definition writes.
+fn max_file_value()
+    ensures { MAX_FILE ≡ 65536 }
+{}
 
 // How many bytes one read may give.
 const CHUNK: usize = 4_096;
@@ -21,6 +27,18 @@ const CHUNK: usize = 4_096;
 /// read answers any error, an interrupted one too, and Memory where a growth was refused, each as it
 /// is met; TooLong where `limit + 1` bytes came.
 pub fn read_raw<R: Read>(alloc: Global, reader: &mut R, limit: usize) -> Result<Vec<u8>, FileFault>
+    requires { limit < usize.MAX }
+    ensures { ReadsAs raw_meaning limit (R.remaining reader.old) (R.remaining reader.new) (answer_of result) }
+{
+    read_raw_in(alloc, reader, limit)
+}
+
+// `read_raw` on any allocator, so that a test can refuse each growth.
+pub(crate) fn read_raw_in<A: Allocator, R: Read>(
+    alloc: A,
+    reader: &mut R,
+    limit: usize,
+) -> Result<Vec<u8, A>, FileFault>
     requires { limit < usize.MAX }
     ensures { ReadsAs raw_meaning limit (R.remaining reader.old) (R.remaining reader.new) (answer_of result) }
 {
@@ -59,6 +77,18 @@ pub fn read_hex<R: Read>(alloc: Global, reader: &mut R, limit: usize) -> Result<
     requires { limit < usize.MAX }
     ensures { ReadsAs hex_meaning limit (R.remaining reader.old) (R.remaining reader.new) (answer_of result) }
 {
-    let text = read_raw(alloc, reader, limit)?;
-    decode_hex(alloc, &text)
+    read_hex_in(alloc, reader, limit)
+}
+
+// `read_hex` on any allocator.
+pub(crate) fn read_hex_in<A: Allocator + Copy, R: Read>(
+    alloc: A,
+    reader: &mut R,
+    limit: usize,
+) -> Result<Vec<u8, A>, FileFault>
+    requires { limit < usize.MAX }
+    ensures { ReadsAs hex_meaning limit (R.remaining reader.old) (R.remaining reader.new) (answer_of result) }
+{
+    let text = read_raw_in(alloc, reader, limit)?;
+    decode_hex_in(alloc, &text)
 }

@@ -1,11 +1,12 @@
 //! Texts that are written whole, or up to a counted byte.
+
 ghost use Rattle.std.specs.Prelude.{◌≡◌, ◌<◌, ℕ, length, take, OnOk, IfErr, Ok, Err};
 ghost use Rattle.std.specs.Io.KnownBytes.{Appends, Keeps};
 ghost use Rattle.key_files.specs.HexText.{hex_line};
 ghost use Rattle.key_files.specs.Meaning.{hex_meaning};
 
 use crate::fault::{HexWriteFault, WriteFault};
-use std::alloc::Global;
+use std::alloc::{Allocator, Global};
 use std::io::Write;
 
 /// Writes the bytes, and does not flush.
@@ -39,8 +40,25 @@ pub fn write_hex<W: Write>(alloc: Global, writer: &mut W, bytes: &[u8]) -> Resul
         → Appends (W.contents writer.old) (W.contents writer.new) (take written (hex_line bytes.now)) }
     ensures short { (written : ℕ) → result ≡ Err (HexWriteFault.Write written)
         → written < length (hex_line bytes.now) }
-    // The line denotes the bytes.
+    // A law for callers, of the definitions alone: the line denotes the bytes.
     ensures read_back { hex_meaning (hex_line bytes.now) ≡ Ok bytes.now }
+{
+    write_hex_in(alloc, writer, bytes)
+}
+
+// `write_hex` on any allocator, so that a test can refuse each growth.
+pub(crate) fn write_hex_in<A: Allocator, W: Write>(
+    alloc: A,
+    writer: &mut W,
+    bytes: &[u8],
+) -> Result<(), HexWriteFault>
+    ensures whole { OnOk result (Appends (W.contents writer.old) (W.contents writer.new) (hex_line bytes.now)) }
+    ensures untouched { result ≡ Err HexWriteFault.Memory
+        → Keeps (W.contents writer.old) (W.contents writer.new) }
+    ensures front { (written : ℕ) → result ≡ Err (HexWriteFault.Write written)
+        → Appends (W.contents writer.old) (W.contents writer.new) (take written (hex_line bytes.now)) }
+    ensures short { (written : ℕ) → result ≡ Err (HexWriteFault.Write written)
+        → written < length (hex_line bytes.now) }
 {
     let mut line = hex::encode(alloc, bytes)?;
     line.push('\n')?;

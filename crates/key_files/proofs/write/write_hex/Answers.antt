@@ -1,14 +1,5 @@
 use Rattle.key_files.proofs.ReadBack.{hex_meaning-hex_line}
 use Rattle.key_files.proofs.write.write_hex.Goals as goal
 
-pub returns-in_err-line-clause-read_back : goal.returns-in_err-line-clause-read_back
-returns-in_err-line-clause-read_back g c = hex_meaning-hex_line c.args.bytes.now (λ k. (c.type_inv.bytes k).fits)
-
-pub returns-in_err-push-clause-read_back : goal.returns-in_err-push-clause-read_back
-returns-in_err-push-clause-read_back g c = hex_meaning-hex_line c.args.bytes.now (λ k. (c.type_inv.bytes k).fits)
-
-pub returns-in_err-write_raw-clause-read_back : goal.returns-in_err-write_raw-clause-read_back
-returns-in_err-write_raw-clause-read_back g c = hex_meaning-hex_line c.args.bytes.now (λ k. (c.type_inv.bytes k).fits)
-
 pub returns-clause-read_back : goal.returns-clause-read_back
 returns-clause-read_back g c = hex_meaning-hex_line c.args.bytes.now (λ k. (c.type_inv.bytes k).fits)

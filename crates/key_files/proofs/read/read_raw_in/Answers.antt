@@ -3,7 +3,7 @@ use Rattle.std.proofs.KnownBytes.{Consumes-trans}
 use Rattle.std.proofs.lemmas.List.{length-take}
 use Rattle.key_files.specs.Meaning.{raw_meaning}
 use Rattle.key_files.proofs.Whole.{Consumes-none, ReadsAs-long, ReadsAs-memory, ReadsAs-raw}
-use Rattle.key_files.proofs.read.read_raw.Goals as goal
+use Rattle.key_files.proofs.read.read_raw_in.Goals as goal
 
 pub returns-then-count-eq0 : goal.returns-then-count-eq0
 returns-then-count-eq0 g c =

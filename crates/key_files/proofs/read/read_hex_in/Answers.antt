@@ -1,6 +1,6 @@
 use Rattle.key_files.specs.Meaning.{hex_meaning}
 use Rattle.key_files.proofs.Whole.{ReadsAs-hex, ReadsAs-failed}
-use Rattle.key_files.proofs.read.read_hex.Goals as goal
+use Rattle.key_files.proofs.read.read_hex_in.Goals as goal
 
 pub returns-in_err-text : goal.returns-in_err-text
 returns-in_err-text g c =
@@ -9,5 +9,5 @@ returns-in_err-text g c =
 pub returns : goal.returns
 returns g c =
     let same = c.deref.ensures.value in
-    let decoded = c.decode_hex.ensures in
-    ReadsAs-hex c.args.limit _ _ c.in_ok-text.text.items c.decode_hex.result c.in_ok-text.ensures (rw same at decoded.bytes) (rw same at decoded.refused)
+    let decoded = c.decode_hex_in.ensures in
+    ReadsAs-hex c.args.limit _ _ c.in_ok-text.text.items c.decode_hex_in.result c.in_ok-text.ensures (rw same at decoded.bytes) (rw same at decoded.refused)
