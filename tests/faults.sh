@@ -35,10 +35,16 @@ echo "$vector_lines" >lines
 drilled_zeros 512 >drilled512
 echo >>drilled512
 long=$(zeros 4096)
+mkdir folder home temporary
+mkfifo pipe
+# What the program could leave behind comes beside these, or in one of the two folders.
+export HOME=$room/home TMPDIR=$room/temporary
+touch help help.wrap version out err wanted.out wanted.err full sums found
+cksum ./*.hex ./*.raw >sums
+find . | sort >found
 "$keywrap" --help >help
 "$keywrap" wrap --help >help.wrap
 "$keywrap" --version >version
-mkdir folder home temporary
 
 # each FUNCTION: calls FUNCTION NAME STATUS ANSWER LINE INPUT ARGUMENT.. for each command, and for a
 # refusal of each kind. ANSWER and INPUT are files; an INPUT of - is one that is not read.
@@ -89,13 +95,6 @@ in_pieces() {
         sleep 0.003
     done
 }
-
-# What the program could leave behind stands in this folder, or in one of these two.
-export HOME=$room/home TMPDIR=$room/temporary
-touch out err wanted.out wanted.err full found
-mkfifo pipe
-cksum ./*.hex ./*.raw >sums
-find . | sort >found
 
 ### KEK files that are no plain file
 

@@ -176,7 +176,7 @@ is_answered() {
 # is_right: the run left what its status allows.
 is_right() {
     case $status in
-    0) [ ! -s err ] ;;
+    0) [ -s out ] && [ ! -s err ] && [ "$(head -c 5 out | tr -d '\0')" != none ] ;;
     2) [ ! -s out ] && [ "$(head -c 7 err)" = 'error: ' ] ;;
     5) is_refused || is_answered ;;
     [3467]) is_refused ;;
@@ -184,13 +184,20 @@ is_right() {
     esac
 }
 
+# run_line INPUT: runs the program on $words for at most a second.
+run_line() {
+    { timeout -s KILL 1 "$program" "${words[@]}" <"$1" >out 2>err; } 2>/dev/null
+    status=$?
+}
+
 echo "$lines random command lines of the seed $seed"
 declare -A ended_with=()
 for ((number = 1; number <= lines; number++)); do
     random_line
     pick "${inputs[@]}"
-    timeout -s KILL 1 "$program" "${words[@]}" <"$picked" >out 2>err
-    status=$?
+    run_line "$picked"
+    # A machine with much else to do can hold up a run by more than a second: once, and not twice.
+    [ $status != 137 ] || run_line "$picked"
     ended_with[$status]=$((${ended_with[$status]:-0} + 1))
     problem=''
     is_right || problem="status $status, output $(shown out), error $(shown err)"
