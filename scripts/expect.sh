@@ -1,5 +1,5 @@
-# shellcheck shell=bash
-# What the rows of tests/command.sh are written in: each call runs the command $keywrap in
+# shellcheck shell=bash disable=SC2154
+# What the rows of the scripts in tests/ are written in: each call runs the command $keywrap in
 # the current folder, compares what it did, and counts one row.
 
 passed=0 failed=0
@@ -31,20 +31,26 @@ shown() {
     echo "'$(head -c 120 "$1" | tr '\n' '|' | tr -cd '[:print:]')'"
 }
 
+# ended NAME STATUS ANSWER LINE: the run that wrote `out` and `err` and ended with $status ended with
+# this status, and wrote exactly what the file ANSWER holds, and LINE (nothing, where that is empty).
+ended() {
+    local problem=''
+    printf '%s' "${4:+$4
+}" >wanted.err
+    [ "$status" = "$2" ] || problem="status $status, not $2"
+    cmp -s out "$3" || problem="$problem; output $(shown out), not $(shown "$3")"
+    cmp -s err wanted.err || problem="$problem; error $(shown err), not $(shown wanted.err)"
+    verdict "$1" "$problem"
+}
+
 # answers NAME STATUS OUTPUT LINE ARGUMENT..: the command ends with this status, and writes
 # exactly OUTPUT (as printf's format) and LINE (nothing, where that is empty).
 answers() {
-    local name=$1 wanted=$2 output=$3 line=$4 problem='' to=${to:-out} status
-    shift 4
+    local to=${to:-out} status
     # shellcheck disable=SC2059
-    printf "$output" >wanted.out
-    printf '%s' "${line:+$line
-}" >wanted.err
-    ran "$@"
-    [ "$status" = "$wanted" ] || problem="status $status, not $wanted"
-    cmp -s out wanted.out || problem="$problem; output $(shown out), not $(shown wanted.out)"
-    cmp -s err wanted.err || problem="$problem; error $(shown err), not $(shown wanted.err)"
-    verdict "$name" "$problem"
+    printf "$3" >wanted.out
+    ran "${@:5}"
+    ended "$1" "$2" wanted.out "$4"
 }
 
 # prints NAME OUTPUT ARGUMENT..: the command is done, and writes exactly OUTPUT.
@@ -52,6 +58,29 @@ prints() { answers "$1" 0 "$2" '' "${@:3}"; }
 
 # refuses NAME STATUS MESSAGE ARGUMENT..: the command writes nothing but the fault's line.
 refuses() { answers "$1" "$2" '' "keywrap: $3" "${@:4}"; }
+
+# stops NAME WHOLE BYTES ARGUMENT..: the command has the file WHOLE to write into a file that takes
+# BYTES bytes and no more. It writes so many, and refuses; or, where they are all, ends with $done or 0.
+stops() {
+    local blocks before line status wanted
+    line="keywrap: output: refused after $3 bytes" wanted=6
+    if [ "$3" -ge "$(wc -c <"$2")" ]; then
+        line='' wanted=${done:-0}
+    fi
+    # The system counts the room in blocks: what is before the BYTES bytes fills up a block.
+    blocks=$(($3 / 1024 + 1))
+    before=$((1024 * blocks - $3))
+    head -c $before /dev/zero >full
+    (
+        ulimit -f $blocks
+        trap '' XFSZ
+        exec "$keywrap" "${@:4}" >>full 2>err
+    )
+    status=$?
+    tail -c +$((before + 1)) full >out
+    head -c "$3" "$2" >wanted.out
+    ended "$1, output full after $3 bytes" "$wanted" wanted.out "$line"
+}
 
 # refuses_words ARGUMENT..: the command line is refused.
 refuses_words() {
@@ -61,6 +90,19 @@ refuses_words() {
     [ ! -s out ] || problem="$problem; output $(shown out)"
     grep -q '^error: ' err || problem="$problem; error $(shown err)"
     verdict "refuses the words '$*'" "$problem"
+}
+
+# spares_input NAME STATUS MESSAGE ARGUMENT..: the command refuses before it takes a byte of its
+# input, so that a command after it gets the whole.
+spares_input() {
+    local status
+    seq 1000 >left
+    {
+        "$keywrap" "${@:4}" 2>err
+        status=$?
+        cat
+    } <left >out
+    ended "$1, input untouched" "$2" left "keywrap: $3"
 }
 
 # explains PHRASES ARGUMENT..: the command prints a text with each of the PHRASES, which `|` parts.

@@ -6,39 +6,18 @@
 # usage: tests/command.sh        (KEYWRAP=PATH tries another program, as an installed one)
 
 set -u
-root=$(cd "$(dirname "${BASH_SOURCE[0]}")/.." && pwd)
-keywrap=${KEYWRAP:-$root/keywrap}
-room=$(mktemp -d) || exit 1
-trap 'rm -rf "$room"' EXIT
-cd "$room" || exit 1
-exec </dev/null
+# shellcheck source=scripts/program.sh
+. "${BASH_SOURCE[0]%/*}/../scripts/program.sh"
 # shellcheck source=scripts/expect.sh
 . "$root/scripts/expect.sh"
-
-if ! "$keywrap" --version >/dev/null; then
-    echo "0 passed, 1 failed"
-    exit 1
-fi
+# shellcheck source=scripts/answers.sh
+. "$root/scripts/answers.sh"
+keywrap=$launcher
 
 ### The drill block
 
-# drilled_zeros N: the wrapping of N words 00. As E(A | R) = R | A, the word At is the xor of t,
-# t - (N + 1), t - 2(N + 1) and so on, and of the initial value where N + 1 divides t.
-# C0 is A at 6N, and C1 to CN are A at 5N to 6N - 1.
-drilled_zeros() {
-    local n=$1 t s a
-    for t in $((6 * n)) $(seq $((5 * n)) $((6 * n - 1))); do
-        a=$((t % (n + 1) ? 0 : 0xa6a6a6a6a6a6a6a6))
-        for ((s = t; s > 0; s -= n + 1)); do ((a ^= s)); done
-        printf '%016x' "$a"
-    done
-}
-
-d16=00112233445566778899aabbccddeeff
-drilled=a6a6a6a6a6a6a6a6001122334455667f8899aabbccddeefb
 drilled24=00000000000000120000000000000000a6a6a6a6a6a6a6b60000000000000011
 drilled9=a65959a60000000911223344556677809900000000000004
-key7=466f7250617369
 prints 'drill of two words' "$drilled\n" drill $d16
 prints 'drill back of two words' "$d16\n" drill --unwrap $drilled
 prints 'drill of three words' "$drilled24\n" drill "$(zeros 24)"
@@ -58,27 +37,17 @@ for text in 0000000000000000a65959a600000000 0000000000000000a65959a600000009 \
     0000000000000000a65959a700000008 a65959a60000000811223344556677809900000000000004 \
     a65959a60000001111223344556677809900000000000004 \
     a65959a60000000811223344556677800000000000000004 "${drilled9%04}05"; do
-    refuses "drill back, padded, of $text" 5 'integrity check failed' drill --padded --unwrap "$text"
+    refuses "drill back, padded, of $text" 5 "$integrity" drill --padded --unwrap "$text"
 done
-refuses 'drill back of a changed byte' 5 'integrity check failed' drill --unwrap a7${drilled#a6}
-refuses 'drill of nothing' 4 'bad length' drill ''
+refuses 'drill back of a changed byte' 5 "$integrity" drill --unwrap a7${drilled#a6}
+refuses 'drill of nothing' 4 "$bad_length" drill ''
 refuses 'drill of a bad digit' 6 'input: no hex digit at byte 1' drill 0g
 refuses 'drill of an odd number of digits' 6 'input: odd number of hex digits' drill 001
 refuses 'drill of 65,538 bytes of text' 6 'input: too long' drill "$(zeros 32769)"
 
 ### The vectors of RFC 3394, section 4, and RFC 5649, section 6, in hex
 
-kek=000102030405060708090a0b0c0d0e0f101112131415161718191a1b1c1d1e1f
-for size in 16 24 32; do
-    echo "${kek:0:2*size}" >kek$size.hex
-done
-echo 5840df6e29b02af1ab493b705bf16ea1ae8338f4dcc176a8 >kek5649.hex
-d24=${d16}0001020304050607
-d32=${d16}000102030405060708090a0b0c0d0e0f
-key20=c37b7e6492584340bed12207808941155068f738
-text16=1fa68b0a8112b447aef34bd8fb5a7b829d3e862371d2cfe5
-text20=138bdeaa9b8fa7fc61f97742e72248ee5ae6ae5360d1ae6a5f54f373fa543b6a
-text7=afbeb0f07dfbf5419200f2ccb50bb24f
+kek_files
 
 # both_ways NAME KEK KEY TEXT [FLAG]
 both_ways() {
@@ -103,7 +72,6 @@ prints 'wraps spaced digits in either case' "$text16\n" \
 
 ### Raw, and through pipes
 
-bytes "${kek:0:32}" >kek16.raw
 bytes $d16 >key.raw
 bytes $text16 >text.raw
 prints 'wraps raw' "$(raw $text16)" wrap --raw --raw-kek --kek kek16.raw <key.raw
@@ -135,7 +103,6 @@ bytes "$(zeros 17)" >kek17.raw
 printf '0001020304050607 0809ag' >digit.hex
 printf '000102 03040506070809 0a0b0c0d0e0f0' >odd.hex
 zeros 32769 >long.hex
-kek_length='key length is not 16, 24 or 32 bytes'
 refuses 'a KEK of 15 bytes' 3 "$kek_length" wrap --kek kek15.hex <<<$d16
 refuses 'a raw KEK of 17 bytes' 3 "$kek_length" unwrap --raw-kek --kek kek17.raw <<<$text16
 refuses 'an empty KEK, an input of 15 bytes' 3 "$kek_length" wrap --kek empty < <(zeros 15)
@@ -147,6 +114,14 @@ refuses 'an odd KEK' 6 'key file: odd number of hex digits' wrap --kek odd.hex <
 refuses 'a KEK file that is too long' 6 'key file: too long' unwrap --kek long.hex <<<$d16
 refuses 'a KEK file without end' 6 'key file: too long' wrap --raw-kek --kek /dev/zero <<<$d16
 
+# The KEK file is opened and read before the input is touched.
+for job in wrap unwrap check; do
+    spares_input "$job, no KEK file" 6 'key file: cannot be opened' $job --kek missing
+    spares_input "$job, a folder as KEK file" 6 'key file: cannot be read' $job --kek folder
+    spares_input "$job, a KEK of 15 bytes" 3 "$kek_length" $job --kek kek15.hex
+    spares_input "$job, a KEK file that is too long" 6 'key file: too long' $job --kek long.hex
+done
+
 ### Refusals: the input
 
 refuses 'a bad digit' 6 'input: no hex digit at byte 1' wrap --kek kek16.hex <<<0g
@@ -155,15 +130,15 @@ refuses 'an input that is too long' 6 'input: too long' wrap --kek kek16.hex <lo
 refuses 'an input without end' 6 'input: too long' check --raw --kek kek16.hex </dev/zero
 refuses 'a folder as input' 6 'input: cannot be read' wrap --kek kek16.hex <folder
 # Nothing comes from a closed standard input: a text without digits.
-refuses 'wrap, input closed' 4 'bad length' wrap --kek kek16.hex <&-
-refuses 'unwrap, input closed' 4 'bad length' unwrap --kek kek16.hex <&-
+refuses 'wrap, input closed' 4 "$bad_length" wrap --kek kek16.hex <&-
+refuses 'unwrap, input closed' 4 "$bad_length" unwrap --kek kek16.hex <&-
 refuses 'no KEK file, input closed' 6 'key file: cannot be opened' wrap --kek missing <&-
 
 # refuses_sizes COMMAND BYTES..: keys or texts of these lengths.
 refuses_sizes() {
     for size in "${@:2}"; do
         # shellcheck disable=SC2086
-        refuses "$1 of $size bytes" 4 'bad length' $1 --kek kek16.hex < <(zeros "$size")
+        refuses "$1 of $size bytes" 4 "$bad_length" $1 --kek kek16.hex < <(zeros "$size")
     done
 }
 refuses_sizes wrap 0 8 15 17 4104
@@ -171,12 +146,72 @@ refuses_sizes unwrap 0 8 16 23 25 4112
 refuses_sizes 'wrap --padded' 0 4097
 refuses_sizes 'unwrap --padded' 0 8 17 4112
 
-integrity='integrity check failed'
 refuses 'a wrong byte' 5 "$integrity" unwrap --kek kek16.hex <<<"0f${text16#1f}"
 refuses 'a wrong byte, raw' 5 "$integrity" unwrap --raw --kek kek16.hex < <(bytes "${text16%e5}e4")
 refuses 'another KEK' 5 "$integrity" unwrap --kek kek24.hex <<<$text16
 refuses 'a padded wrapping as plain' 5 "$integrity" unwrap --kek kek5649.hex <<<$text20
 refuses 'a plain wrapping as padded' 5 "$integrity" unwrap --padded --kek kek16.hex <<<$text16
+
+### Files of 65,536 bytes, and of one more
+
+# spaced TEXT BYTES: the text, and spaces up to a length.
+spaced() { printf "%-$2s" "$1"; }
+spaced "${kek:0:32}" 65536 >most.hex
+spaced "${kek:0:32}" 65537 >more.hex
+zeros 32768 >digits.hex
+head -c 65536 /dev/zero >most.raw
+head -c 65537 /dev/zero >more.raw
+prints 'a KEK file of 65,536 bytes' "$text16\n" wrap --kek most.hex <<<$d16
+prints 'both files of 65,536 bytes' "$text16\n" wrap --kek most.hex < <(spaced $d16 65536)
+prints 'unwraps a file of 65,536 bytes' "$d16\n" unwrap --kek most.hex < <(spaced $text16 65536)
+prints 'checks a file of 65,536 bytes' 'plain 16\n' check --kek most.hex < <(spaced $text16 65536)
+refuses 'a KEK file of 65,537 bytes' 6 'key file: too long' wrap --kek more.hex <<<$d16
+refuses 'a KEK file of 65,536 digits' 3 "$kek_length" wrap --kek digits.hex <<<$d16
+refuses 'a raw KEK file of 65,536 bytes' 3 "$kek_length" wrap --raw-kek --kek most.raw <<<$d16
+refuses 'a raw KEK file of 65,537 bytes' 6 'key file: too long' wrap --raw-kek --kek more.raw <<<$d16
+for job in wrap unwrap; do
+    refuses "$job of 65,536 digits" 4 "$bad_length" $job --kek kek16.hex <digits.hex
+    refuses "$job of 65,536 raw bytes" 4 "$bad_length" $job --raw --kek kek16.hex <most.raw
+done
+answers 'checks 65,536 digits' 5 'none\n' '' check --kek kek16.hex <digits.hex
+answers 'checks 65,536 raw bytes' 5 'none\n' '' check --raw --kek kek16.hex <most.raw
+for job in wrap unwrap check; do
+    refuses "$job of 65,537 bytes" 6 'input: too long' $job --kek kek16.hex < <(spaced $text16 65537)
+    refuses "$job of 65,537 raw bytes" 6 'input: too long' $job --raw --kek kek16.hex <more.raw
+done
+
+### Refusals: memory
+
+# limited KILOBYTES ARGUMENT..: runs the program with this address space.
+limited() {
+    (
+        ulimit -c 0
+        ulimit -v "$1"
+        exec "$program" "${@:2}"
+    )
+}
+
+# least: the least address space, in steps of 16 kilobytes, in which the system can start the
+# program. Some of the last step may be left to it, which is less than a heap takes.
+least() {
+    local kilobytes
+    for ((kilobytes = 1024; kilobytes < 65536; kilobytes += 16)); do
+        limited $kilobytes --version >/dev/null
+        case $? in 0 | 7) break ;; esac
+    done
+    echo $kilobytes
+}
+
+start=$(least 2>/dev/null)
+starved() { limited "$start" "$@"; }
+keywrap=starved
+refuses 'no memory, wrap' 7 "$memory" wrap --kek kek16.hex <<<$d16
+refuses 'no memory, unwrap' 7 "$memory" unwrap --kek kek16.hex <<<$text16
+refuses 'no memory, check' 7 "$memory" check --kek kek16.hex <<<$text16
+refuses 'no memory, drill' 7 "$memory" drill $d16
+refuses 'no memory, vectors' 7 "$memory" vectors
+refuses 'no memory, help' 7 "$memory" --help
+keywrap=$launcher
 
 ### Refusals: the output
 
@@ -195,12 +230,18 @@ for to in closed unread /dev/full; do
 done
 unset to
 
-# A file that may not grow beyond 1,024 bytes takes so many.
-printf '#!/usr/bin/env bash\nulimit -f 1; trap "" XFSZ; exec "%s" "$@"\n' "$keywrap" >limited
-chmod +x limited
-keywrap=./limited answers 'drill, output full after 1,024 bytes' 6 \
-    "$(drilled_zeros 512 | head -c 1024)" 'keywrap: output: refused after 1024 bytes' \
-    drill "$(zeros 4096)"
+# What went out is counted, of an answer, of the vectors and of the help.
+drilled_zeros 512 >drilled512
+echo >>drilled512
+echo "$vector_lines" >lines
+"$keywrap" --help >help
+stops 'drill of 512 words' drilled512 1024 drill "$(zeros 4096)"
+for taken in 0 1 100 168 169; do
+    stops 'vectors' lines $taken vectors
+done
+for taken in 1 1000 1024; do
+    stops 'help' help $taken --help
+done
 
 # A closed standard error takes nothing from the status.
 printf '#!/bin/sh\nexec "%s" "$@" 2>&-\n' "$keywrap" >mute
@@ -219,8 +260,7 @@ answers 'checks a wrong byte' 5 'none\n' '' check --kek kek16.hex <<<"0f${text16
 answers 'checks 23 bytes' 5 'none\n' '' check --kek kek16.hex <<<"${text16%e5}"
 answers 'checks nothing' 5 'none\n' '' check --kek kek16.hex
 
-names=(rfc3394\ 4.{1,2,3,4,5,6} 'rfc5649 20' 'rfc5649 7' fips197\ {1,2,3,4})
-prints 'the twelve vectors' "$(printf '%s ok\\n' "${names[@]}")" vectors
+prints 'the twelve vectors' "$vector_lines\n" vectors
 
 ### The command line
 
@@ -235,7 +275,18 @@ refuses_words drill
 refuses_words drill 00 11
 refuses_words vectors all
 refuses_words drill $'\xff'
-explains 'Usage: keywrap <COMMAND>|wrap|unwrap|check|drill|vectors|Exit status' --help
+explains 'Usage: keywrap <COMMAND>|wrap|unwrap|check|drill|vectors' --help
+statuses='  0  done
+  2  the command line was refused
+  3  the KEK has not 16, 24 or 32 bytes
+  4  the key or the text has no legal length in this form
+  5  the integrity check failed; check found no wrapping; a vector failed
+  6  a file or the output could not be opened, read or written
+  7  out of memory'
+explains 'Exit status:' --help
+problem=''
+grep '^  [0-9]  ' out | cmp -s - <(echo "$statuses") || problem='the lines are others'
+verdict 'the help has the seven statuses' "$problem"
 explains 'Usage: keywrap <COMMAND>|wrap|unwrap|check|drill|vectors' -h
 explains "Usage: keywrap wrap|--kek|--padded|--raw|--raw-kek|$d16|$text16" wrap --help
 explains "Usage: keywrap unwrap|--kek|--padded|--raw|--raw-kek|$d16|$text16" unwrap --help
@@ -258,5 +309,4 @@ if [ -z "${KEYWRAP:-}" ]; then
         PATH="$PWD/bin" bin/keywrap drill $d16
 fi
 
-echo "$passed passed, $failed failed"
-[ $failed = 0 ]
+finish

@@ -1,0 +1,352 @@
+#!/usr/bin/env bash
+# Runs the built program under faults of the system: KEK files that are pipes, inputs that come
+# in pieces, outputs that take some bytes and no more, streams that are closed. Each run has to
+# end with the status and the line of README's table, never with a wrong answer, with no more
+# than a counted front of the answer out, and with no file left behind.
+#
+# usage: tests/faults.sh        (KEYWRAP=PATH tries another program, as an installed one)
+
+set -u
+# shellcheck source=scripts/program.sh
+. "${BASH_SOURCE[0]%/*}/../scripts/program.sh"
+# shellcheck source=scripts/expect.sh
+. "$root/scripts/expect.sh"
+# shellcheck source=scripts/answers.sh
+. "$root/scripts/answers.sh"
+keywrap=$program
+
+### The commands, their inputs and their answers
+
+kek_files
+: >nothing
+echo none >none
+echo $d16 >key.hex
+bytes $d16 >key.raw
+echo $key7 >key7.hex
+echo $text16 >text.hex
+bytes $text16 >text.raw
+echo $text7 >text7.hex
+echo 0f${text16#1f} >wrong.hex
+echo 0g >digit.hex
+echo 012 >odd.hex
+echo plain 16 >plain16
+echo $drilled >drilled
+echo "$vector_lines" >lines
+drilled_zeros 512 >drilled512
+echo >>drilled512
+long=$(zeros 4096)
+mkdir folder home temporary
+mkfifo pipe
+# What the program could leave behind comes beside these, or in one of the two folders.
+export HOME=$room/home TMPDIR=$room/temporary
+touch help help.wrap version out err wanted.out wanted.err full sums found
+cksum ./*.hex ./*.raw >sums
+find . | sort >found
+"$keywrap" --help >help
+"$keywrap" wrap --help >help.wrap
+"$keywrap" --version >version
+
+# each FUNCTION: calls FUNCTION NAME STATUS ANSWER LINE INPUT ARGUMENT.. for each command, and for a
+# refusal of each kind. ANSWER and INPUT are files; an INPUT of - is one that is not read.
+each() {
+    answered "$1"
+    "$1" 'no KEK file' 6 nothing 'keywrap: key file: cannot be opened' - wrap --kek missing
+    "$1" 'a folder as KEK file' 6 nothing 'keywrap: key file: cannot be read' - check --kek folder
+    "$1" 'an empty KEK' 3 nothing "keywrap: $kek_length" - unwrap --kek nothing
+    "$1" 'a bad digit' 6 nothing 'keywrap: input: no hex digit at byte 1' digit.hex wrap --kek kek16.hex
+    "$1" 'odd digits' 6 nothing 'keywrap: input: odd number of hex digits' odd.hex wrap --kek kek16.hex
+    "$1" 'a key of 7 bytes' 4 nothing "keywrap: $bad_length" key7.hex wrap --kek kek16.hex
+    "$1" 'a wrong byte' 5 nothing "keywrap: $integrity" wrong.hex unwrap --kek kek16.hex
+    "$1" 'drill of nothing' 4 nothing "keywrap: $bad_length" - drill ''
+}
+
+# answered FUNCTION: the same for the commands alone.
+answered() {
+    jobs "$1"
+    "$1" 'drill' 0 drilled '' - drill $d16
+    "$1" 'drill back' 0 key.hex '' - drill --unwrap $drilled
+    "$1" 'vectors' 0 lines '' - vectors
+    "$1" 'help' 0 help '' - --help
+    "$1" 'help of wrap' 0 help.wrap '' - wrap --help
+    "$1" 'version' 0 version '' - --version
+}
+
+# jobs FUNCTION: the same for the commands that read a KEK.
+jobs() {
+    "$1" 'wrap' 0 text.hex '' key.hex wrap --kek kek16.hex
+    "$1" 'raw wrap' 0 text.raw '' key.raw wrap --raw --raw-kek --kek kek16.raw
+    "$1" 'padded wrap' 0 text7.hex '' key7.hex wrap --padded --kek kek5649.hex
+    "$1" 'unwrap' 0 key.hex '' text.hex unwrap --kek kek16.hex
+    "$1" 'raw unwrap' 0 key.raw '' text.raw unwrap --raw --raw-kek --kek kek16.raw
+    "$1" 'padded unwrap' 0 key7.hex '' text7.hex unwrap --padded --kek kek5649.hex
+    "$1" 'check' 0 plain16 '' text.hex check --kek kek16.hex
+    "$1" 'check of a wrong byte' 5 none '' wrong.hex check --kek kek16.hex
+}
+
+# file_of INPUT: the file that stands for an input.
+file_of() { if [ "$1" = - ]; then echo /dev/null; else echo "$1"; fi; }
+
+# in_pieces FILE SIZE: writes a file in pieces, with a pause after each.
+in_pieces() {
+    local at bytes
+    bytes=$(wc -c <"$1")
+    for ((at = 0; at < bytes; at += $2)); do
+        tail -c +$((at + 1)) "$1" | head -c "$2"
+        sleep 0.003
+    done
+}
+
+### KEK files that are no plain file
+
+# with_kek NAME STATUS ANSWER LINE INPUT JOB FLAG.. --kek KEK: the KEK comes in other ways.
+with_kek() {
+    local kek=${*: -1} flags=("${@:6:$#-6}")
+    "$keywrap" "${flags[@]}" <(cat "$kek") <"$5" >out 2>err
+    status=$?
+    ended "$1, the KEK in a process substitution" "$2" "$3" "$4"
+    "$keywrap" "${flags[@]}" <(in_pieces "$kek" 5) <"$5" >out 2>err
+    status=$?
+    ended "$1, the KEK in pieces" "$2" "$3" "$4"
+    "$keywrap" "${flags[@]}" <(in_pieces "$kek" 5) < <(in_pieces "$5" 5) >out 2>err
+    status=$?
+    ended "$1, the KEK and the input in pieces" "$2" "$3" "$4"
+    "$keywrap" "${flags[@]}" /dev/fd/7 7<"$kek" <"$5" >out 2>err
+    status=$?
+    ended "$1, the KEK in /dev/fd" "$2" "$3" "$4"
+    timeout 10 cp "$kek" pipe &
+    "$keywrap" "${flags[@]}" pipe <"$5" >out 2>err
+    status=$?
+    wait $!
+    ended "$1, the KEK in a named pipe" "$2" "$3" "$4"
+    # The KEK takes the whole of the pipe, and nothing is left as input.
+    case $6 in
+    check) set -- "$1" 5 none '' ;;
+    *) set -- "$1" 4 nothing "keywrap: $bad_length" ;;
+    esac
+    "$keywrap" "${flags[@]}" /dev/stdin < <(cat "$kek") >out 2>err
+    status=$?
+    ended "$1, the KEK on standard input" "$2" "$3" "$4"
+}
+jobs with_kek
+
+ln -s loop loop
+ln -s kek16.hex link
+prints 'the KEK behind a link' "$text16\n" wrap --kek link <key.hex
+refuses 'an empty pipe as KEK' 3 "$kek_length" wrap --kek <(:)
+refuses 'half a KEK in a pipe' 3 "$kek_length" wrap --kek <(head -c 10 kek16.hex)
+refuses 'an endless pipe as KEK' 6 'key file: too long' wrap --kek <(yes 00)
+refuses 'an endless raw pipe as KEK' 6 'key file: too long' wrap --raw-kek --kek <(yes 00)
+refuses 'no bytes as KEK' 3 "$kek_length" wrap --kek /dev/null
+refuses 'a KEK that can not be read' 6 'key file: cannot be read' wrap --kek /proc/self/mem
+for name in '' - loop link/ kek16.hex/kek "$(zeros 2500)" /dev/fd/7 $'a\nb'; do
+    refuses "'${name:0:20}' as KEK file" 6 'key file: cannot be opened' wrap --kek "$name"
+done
+rm loop link
+
+### Inputs in pieces, and inputs that fail
+
+# with_input NAME STATUS ANSWER LINE INPUT ARGUMENT..: the input comes in other ways.
+with_input() {
+    local size
+    for size in 1 7 1000; do
+        "$keywrap" "${@:6}" < <(in_pieces "$5" $size) >out 2>err
+        status=$?
+        ended "$1, an input in pieces of $size" "$2" "$3" "$4"
+    done
+    # A program that was stopped while it waited goes on.
+    exec 8<>pipe
+    "$keywrap" "${@:6}" <pipe >out 2>err 8<&- &
+    sleep 0.01
+    kill -STOP $!
+    cat "$5" >&8
+    kill -CONT $!
+    exec 8<&-
+    wait $!
+    status=$?
+    ended "$1, stopped on the way" "$2" "$3" "$4"
+    # No byte is there, and none can be waited for: an error of the read, also after some bytes.
+    exec 8<>pipe
+    { dd iflag=nonblock count=0 status=none && "$keywrap" "${@:6}"; } <pipe >out 2>err
+    status=$?
+    ended "$1, an input that fails" 6 nothing 'keywrap: input: cannot be read'
+    head -c 5 "$5" >&8
+    { dd iflag=nonblock count=0 status=none && "$keywrap" "${@:6}"; } <pipe >out 2>err
+    status=$?
+    ended "$1, an input that fails after 5 bytes" 6 nothing 'keywrap: input: cannot be read'
+    exec 8<&-
+    "$keywrap" "${@:6}" <folder >out 2>err
+    status=$?
+    ended "$1, a folder as input" 6 nothing 'keywrap: input: cannot be read'
+    "$keywrap" "${@:6}" 0>full >out 2>err
+    status=$?
+    ended "$1, an input to write to" 6 nothing 'keywrap: input: cannot be read'
+}
+jobs with_input
+head -c 65536 /dev/zero >most.raw
+answers 'checks 65,536 bytes in pieces' 5 'none\n' '' check --raw --kek kek16.hex \
+    < <(in_pieces most.raw 4097)
+refuses 'an endless input' 6 'input: too long' unwrap --kek kek16.hex < <(yes 00)
+rm most.raw
+
+### Outputs that take some bytes and no more
+
+# stops_each NAME STATUS ANSWER LINE INPUT ARGUMENT..: the output is full after each count of bytes.
+stops_each() {
+    local bytes size done=$2
+    size=$(wc -c <"$3")
+    for ((bytes = 0; bytes <= size; bytes += size < 200 ? 1 : 97)); do
+        stops "$1" "$3" $bytes "${@:6}" <"$(file_of "$5")"
+    done
+}
+answered stops_each
+for taken in 1024 4095 4096 4097 8192 8208 8209; do
+    stops 'drill of 512 words' drilled512 $taken drill "$long"
+done
+
+# filled: a pipe without room, on descriptor 8.
+filled() {
+    exec 8<>pipe
+    dd if=/dev/zero of=pipe oflag=nonblock bs=4096 status=none 2>/dev/null
+}
+
+# without_room NAME STATUS ANSWER LINE INPUT ARGUMENT..: a pipe has no room, and can't be waited for.
+without_room() {
+    filled
+    { dd oflag=nonblock count=0 status=none && "$keywrap" "${@:6}"; } \
+        <"$(file_of "$5")" >pipe 2>err 8<&-
+    status=$?
+    : >out
+    ended "$1, a pipe without room" 6 nothing 'keywrap: output: refused after 0 bytes'
+    exec 8<&-
+}
+answered without_room
+
+filled
+filling=$(dd iflag=nonblock bs=4096 status=none <&8 2>/dev/null | wc -c)
+filled
+head -c 4096 <&8 >/dev/null
+{ dd oflag=nonblock count=0 status=none && "$keywrap" drill "$long"; } >pipe 2>err 8<&-
+status=$?
+head -c "$filling" <&8 | tail -c 4096 >out
+exec 8<&-
+head -c 4096 drilled512 >wanted.out
+ended 'a pipe with room for 4096 bytes' 6 wanted.out 'keywrap: output: refused after 4096 bytes'
+
+### Readers that go away, with SIGPIPE ignored and not
+
+ignoring() (
+    trap '' PIPE
+    exec "$program" "$@"
+)
+defaulting() { env --default-signal=PIPE "$program" "$@"; }
+
+# unread NAME STATUS ANSWER LINE INPUT ARGUMENT..: no one reads the pipe that the answer goes to.
+unread() {
+    local line='keywrap: output: refused after 0 bytes'
+    "$keywrap" "${@:6}" <"$(file_of "$5")" >&9 2>err
+    status=$?
+    : >out
+    if [ -s "$3" ]; then set -- "$1" 6 nothing "$line"; fi
+    ended "$1, no reader, $keywrap SIGPIPE" "$2" "$3" "$4"
+}
+
+# is_counted NAME WHOLE: a run whose reader went away is done, or says how much was taken.
+is_counted() {
+    local problem='' taken size
+    size=$(wc -c <"$2")
+    taken=$(sed -n 's/^keywrap: output: refused after \([0-9]*\) bytes$/\1/p' err)
+    case $status in
+    0) [ ! -s err ] || problem="error $(shown err)" ;;
+    6) [ "${taken:-$size}" -lt "$size" ] || problem="error $(shown err)" ;;
+    *) problem="status $status" ;;
+    esac
+    cmp -s out <(head -c "$(wc -c <out)" "$2") || problem="$problem; output $(shown out)"
+    verdict "$1, $keywrap SIGPIPE" "$problem"
+}
+
+for keywrap in ignoring defaulting; do
+    exec 8<>pipe
+    exec 9>pipe 8<&-
+    each unread
+    for taken in 0 1 100 4096 8208; do
+        "$keywrap" drill "$long" 2>err | head -c $taken >out
+        status=${PIPESTATUS[0]}
+        is_counted "a reader of $taken bytes" drilled512
+        "$keywrap" vectors 2>err | head -c $taken >out
+        status=${PIPESTATUS[0]}
+        is_counted "a reader of $taken bytes of vectors" lines
+    done
+    # The program waits for room: some comes, and then the reader goes.
+    filled
+    "$keywrap" drill "$long" >&9 2>err 8<&- &
+    head -c 4096 <&8 >/dev/null
+    sleep 0.05
+    exec 9>&- 8<&-
+    wait $!
+    status=$?
+    : >out
+    is_counted 'a reader that goes while the program waits' drilled512
+    problem=''
+    [ $status = 6 ] || problem="status $status, not 6"
+    verdict "a reader that goes is seen, $keywrap SIGPIPE" "$problem"
+done
+keywrap=$program
+
+### A full device, and closed streams
+
+# with_full_device NAME STATUS ANSWER LINE INPUT ARGUMENT..: the answer, or its line, has no room.
+with_full_device() {
+    : >out
+    "$keywrap" "${@:6}" <"$(file_of "$5")" 2>/dev/full >out
+    status=$?
+    : >err
+    ended "$1, a full device for the line" "$2" "$3" ''
+    "$keywrap" "${@:6}" <"$(file_of "$5")" >/dev/full 2>err
+    status=$?
+    : >out
+    if [ -s "$3" ]; then
+        set -- "$1" 6 nothing 'keywrap: output: refused after 0 bytes'
+    fi
+    ended "$1, a full device" "$2" nothing "$4"
+}
+each with_full_device
+
+# with_closed NAME STATUS ANSWER LINE INPUT ARGUMENT..: with standard input, output and error closed,
+# in each combination. From a closed input nothing comes, and a closed error takes no line.
+with_closed() {
+    local streams wanted answer line
+    for streams in '' 0 1 2 01 02 12 012; do
+        wanted=$2 answer=$3 line=$4
+        case $streams,$5,$6 in
+        *,-,* | [!0]*) ;;
+        *,check) wanted=5 answer=none line='' ;;
+        *) wanted=4 answer=nothing line="keywrap: $bad_length" ;;
+        esac
+        case $streams in
+        *1*) if [ -s "$answer" ]; then
+            wanted=6 answer=nothing line='keywrap: output: refused after 0 bytes'
+        fi ;;
+        esac
+        case $streams in
+        *2*) line='' ;;
+        esac
+        (
+            case $streams in *0*) exec <&- ;; esac
+            case $streams in *1*) exec >&- ;; esac
+            case $streams in *2*) exec 2>&- ;; esac
+            exec "$keywrap" "${@:6}"
+        ) <"$(file_of "$5")" >out 2>err
+        status=$?
+        ended "$1, closed: ${streams:-none}" "$wanted" "$answer" "$line"
+    done
+}
+each with_closed
+
+### Nothing else was touched
+
+problem=''
+cksum ./*.hex ./*.raw | cmp -s - sums || problem='a file was changed'
+find . | sort | cmp -s - found || problem="$problem; files: $(find . | sort | diff found - | tr '\n' ' ')"
+verdict 'no file is changed, and none is left' "$problem"
+
+finish

@@ -1,0 +1,210 @@
+#!/usr/bin/env bash
+# Runs the built program on random command lines, over good and bad files: words drawn from
+# commands, flags, values, names of files, garbage and bytes that are not UTF-8. Each run has to
+# end within a second, never by a signal, with a status of README's table, and with no more on
+# standard output and standard error than that status allows.
+#
+# usage: tests/random_words.sh [N [SEED]]        500 command lines, if not said; the same for
+# the same seed. KEYWRAP=PATH tries another program, as an installed one.
+
+set -u
+lines=${1:-500}
+seed=${2:-3394}
+case $lines$seed in
+*[!0-9]*)
+    echo "usage: ${0##*/} [N [SEED]]" >&2
+    exit 2
+    ;;
+esac
+# shellcheck source=scripts/program.sh
+. "${BASH_SOURCE[0]%/*}/../scripts/program.sh"
+# shellcheck source=scripts/expect.sh
+. "$root/scripts/expect.sh"
+# shellcheck source=scripts/answers.sh
+. "$root/scripts/answers.sh"
+
+### Random numbers, the same in each bash
+
+state=$seed
+# draw N: sets $drawn to a number below N.
+draw() {
+    state=$((state * 6364136223846793005 + 1442695040888963407))
+    drawn=$(((state >> 33 & 0x7fffffff) % $1))
+}
+for _ in 1 2 3; do draw 1; done
+
+# pick WORD..: sets $picked to one of the words.
+pick() {
+    draw $#
+    shift "$drawn"
+    picked=$1
+}
+
+### Files, good and bad
+
+mkdir folder
+kek_files
+echo $d16 >key.hex
+bytes $d16 >key.raw
+echo $text16 >text.hex
+bytes $text16 >text.raw
+echo $text20 >text20.hex
+echo $key7 >key7.hex
+echo 0f${text16#1f} >wrong.hex
+echo 0g >digit.hex
+echo 012 >odd.hex
+: >empty
+head -c 65537 /dev/zero >long
+head -c 65536 /dev/zero >most
+zeros 4096 >largest.hex
+printf ' \t\r\n' >blank
+printf '\xef\xbb\xbf00' >mark
+printf '%s' "${kek:0:32}" >$'name\xff'
+ln -s kek16.hex link
+ln -s loop loop
+files=(kek16.hex kek24.hex kek32.hex kek5649.hex kek16.raw key.hex key.raw text.hex text.raw text20.hex
+    key7.hex wrong.hex digit.hex odd.hex empty long most largest.hex blank mark folder link loop missing
+    $'name\xff' ./kek16.hex kek16.hex/ '' . .. /dev/null /dev/zero /dev/full /dev/stdin /proc/self/mem)
+inputs=(key.hex key.raw text.hex text.raw text20.hex key7.hex wrong.hex digit.hex odd.hex empty long most
+    largest.hex blank mark folder /dev/null /dev/zero)
+
+### Words
+
+commands=(wrap unwrap check drill vectors help)
+flags=(--kek --padded --raw --raw-kek --unwrap --help -h --version -V -- - --kek=kek16.hex --kek= --raw=1
+    --no-raw --ra --KEK -k -rh -hV --kek=$'\xff' --iv --secret)
+values=("$d16" "$drilled" "${drilled^^}" "$key7" "$text16" "$(zeros 9)" '' 0 0g 012 00 ' 00 11 ' $'00\n11' é
+    "$(zeros 4096)" "$(zeros 4097)" "$(zeros 32769)")
+garbage=(rewind WRAP wrap= '=wrap' 'wrap --kek' '*' "\$HOME" '%s%n' -1 --1 --- '--=x' $'\xff' $'--\xff'
+    $'\xc3' $'\xed\xa0\x80' $'\xf4\x90\x80\x80' $'a\xff\xfeb' $'\x01\x1b[31m' $'\n' "$(zeros 3000)")
+
+# random_word: sets $picked to any word.
+random_word() {
+    draw 10
+    case $drawn in
+    0 | 1) pick "${commands[@]}" ;;
+    2 | 3 | 4) pick "${flags[@]}" ;;
+    5 | 6) pick "${files[@]}" ;;
+    7 | 8) pick "${values[@]}" ;;
+    *) pick "${garbage[@]}" ;;
+    esac
+}
+
+# random_line: sets $words to a command line: any words, or those of a command that may be right,
+# of which one word may be left out or changed.
+random_line() {
+    local count
+    draw 4
+    if [ "$drawn" = 0 ]; then
+        draw 8
+        count=$drawn words=()
+        while ((count--)); do
+            random_word
+            words+=("$picked")
+        done
+        return
+    fi
+    likely_line
+    draw 4
+    [ "$drawn" = 0 ] || return
+    draw ${#words[@]}
+    count=$drawn
+    draw 2
+    if [ "$drawn" = 0 ]; then
+        unset "words[count]"
+    else
+        random_word
+        words[count]=$picked
+    fi
+}
+
+# likely_line: sets $words to a command with flags and values of its own.
+likely_line() {
+    local flag
+    pick wrap unwrap check drill vectors
+    words=("$picked")
+    case $picked in
+    drill)
+        pick "${values[@]}"
+        words+=("$picked")
+        own=(--padded --unwrap)
+        ;;
+    vectors) own=(--help) ;;
+    *)
+        draw 2
+        if [ "$drawn" = 0 ]; then picked=kek16.hex; else pick "${files[@]}"; fi
+        words+=(--kek "$picked")
+        own=(--padded --raw --raw-kek)
+        ;;
+    esac
+    for flag in "${own[@]}"; do
+        draw 3
+        [ "$drawn" != 0 ] || words+=("$flag")
+    done
+}
+
+### Runs
+
+# The whole line of a refusal, for each status.
+file='(key file|input)'
+declare -A refusal=(
+    [3]="$kek_length"
+    [4]="$bad_length"
+    [5]="$integrity"
+    [6]="$file: (cannot be read|too long|odd number of hex digits|no hex digit at byte [0-9]+)"
+    [7]="$memory"
+)
+refusal[6]="(key file: cannot be opened|${refusal[6]})"
+
+# is_refused: nothing but the one line of the status came.
+is_refused() {
+    local all
+    mapfile -n 2 -t all <err
+    [ ! -s out ] && [ ${#all[@]} = 1 ] && [[ ${all[0]} =~ ^"keywrap: "${refusal[$status]}$ ]]
+}
+
+# is_answered: a check found nothing, or a vector failed, which the answer says.
+is_answered() {
+    [ ! -s err ] || return
+    case ${words[0]} in
+    check) [ "$(<out)" = none ] ;;
+    vectors) grep -q ' failed$' out ;;
+    *) false ;;
+    esac
+}
+
+# is_right: the run left what its status allows.
+is_right() {
+    case $status in
+    0) [ -s out ] && [ ! -s err ] && [ "$(head -c 5 out | tr -d '\0')" != none ] ;;
+    2) [ ! -s out ] && [ "$(head -c 7 err)" = 'error: ' ] ;;
+    5) is_refused || is_answered ;;
+    [3467]) is_refused ;;
+    *) false ;;
+    esac
+}
+
+# run_line INPUT: runs the program on $words for at most a second.
+run_line() {
+    { timeout -s KILL 1 "$program" "${words[@]}" <"$1" >out 2>err; } 2>/dev/null
+    status=$?
+}
+
+echo "$lines random command lines of the seed $seed"
+declare -A ended_with=()
+for ((number = 1; number <= lines; number++)); do
+    random_line
+    pick "${inputs[@]}"
+    run_line "$picked"
+    # A machine with much else to do can hold up a run by more than a second: once, and not twice.
+    [ $status != 137 ] || run_line "$picked"
+    ended_with[$status]=$((${ended_with[$status]:-0} + 1))
+    problem=''
+    is_right || problem="status $status, output $(shown out), error $(shown err)"
+    verdict "line $number of the seed $seed: $(printf ' %.60q' "${words[@]}") <$picked" "$problem"
+done
+for status in "${!ended_with[@]}"; do
+    echo "status $status: ${ended_with[$status]}"
+done | sort
+
+finish
