@@ -3,10 +3,11 @@
 #![tactic(auto)]
 
 mod cipher;
+mod columns;
 pub mod field;
 mod s_box;
 mod schedule;
-mod state;
+mod word_tables;
 
 pub use s_box::{inv_sbox, sbox};
 pub use schedule::{Aes, BadKekLength};

@@ -3,6 +3,7 @@
 ghost use Rattle.std.specs.Prelude.{◌≡◌, ◌≤◌, ◌↔◌, List, ℕ, ◌+◌, ◌*◌, ◌/◌, length, take, IsOk, IsErr, IfOk};
 ghost use Rattle.std.specs.List.{AllByRecursion};
 ghost use Rattle.block_pair.specs.Words.{IsByte};
+ghost use Rattle.aes_block.specs.Columns.{block_of};
 ghost use Rattle.aes_block.specs.KeyExpansion.{IsKekLength, IsKeyExpansion, key_expansion, round_key, rounds_of, sub_word, temp};
 
 use crate::sbox;
@@ -87,15 +88,18 @@ impl Aes {
         self.rounds
     }
 
-    // The 16 bytes of round key `k`.
-    pub(crate) fn round_key(&self, k: usize) -> [u8; 16]
+    // Round key `k`: its four columns.
+    pub(crate) fn round_key(&self, k: usize) -> [u32; 4]
         requires { k ≤ rounds_of self.now }
-        ensures { result ≡ round_key self.now k }
+        ensures { block_of result ≡ round_key self.now k }
     {
-        let schedule = &self.schedule;
-        let mut key = [0; 16];
-        BigEndian::write_u32_into(&schedule[4 * k..4 * k + 4], &mut key);
-        key
+        let words = &self.schedule;
+        [
+            words[4 * k],
+            words[4 * k + 1],
+            words[4 * k + 2],
+            words[4 * k + 3],
+        ]
     }
 }
 
