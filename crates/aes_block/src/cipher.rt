@@ -4,7 +4,8 @@
 //! columns in which ShiftRows, or its inverse, finds the column's rows.
 
 ghost use Rattle.std.specs.Prelude.{◌≡◌};
-ghost use Rattle.aes_block.specs.Rounds.{add_round_key, inv_mix_columns, inv_shift_rows, inv_sub_bytes};
+ghost use Rattle.aes_block.specs.Rounds.{add_round_key};
+ghost use Rattle.aes_block.specs.Rounds.{inv_mix_columns, inv_shift_rows, inv_sub_bytes};
 ghost use Rattle.aes_block.specs.Cipher.{round, last_round, cipher, inv_cipher};
 ghost use Rattle.aes_block.specs.CipherLaw.{cipher_inverse};
 ghost use Rattle.aes_block.specs.Columns.{block_of};
@@ -25,7 +26,7 @@ impl BlockPair for Aes {
         let last = self.rounds() as usize;
         let mut state = add_round_key(self.round_key(0), columns_of(&b));
         for k in 1..last {
-            // An array that a call takes is not assigned from that call.
+            // An array is not assigned from a call that takes it.
             let next = round(self.round_key(k), state);
             state = next;
         }
@@ -37,6 +38,7 @@ impl BlockPair for Aes {
         let last = self.rounds() as usize;
         let mut state = add_round_key(self.round_key(last), columns_of(&b));
         for k in (1..last).rev() {
+            // As in `enc`.
             let next = inv_round(self.round_key(k), state);
             state = next;
         }
@@ -86,8 +88,8 @@ fn last_round(round_key: [u32; 4], state: [u32; 4]) -> [u32; 4]
 // A round of the inverse cipher, in the order of section 5.3: InvShiftRows, InvSubBytes,
 // AddRoundKey, InvMixColumns.
 fn inv_round(round_key: [u32; 4], state: [u32; 4]) -> [u32; 4]
-    ensures { block_of result
-        ≡ inv_mix_columns (add_round_key (block_of round_key) (inv_sub_bytes (inv_shift_rows (block_of state)))) }
+    ensures { let substituted = inv_sub_bytes (inv_shift_rows (block_of state)) in
+        block_of result ≡ inv_mix_columns (add_round_key (block_of round_key) substituted) }
 {
     let [a, b, c, d] = state;
     let [key_a, key_b, key_c, key_d] = round_key;

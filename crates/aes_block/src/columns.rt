@@ -2,13 +2,16 @@
 //! 5.3), by the word tables.
 
 ghost use Rattle.std.specs.Prelude.{◌≡◌, length};
-ghost use Rattle.aes_block.specs.Columns.{block_of, diagonal, inv_last_column, inv_round_column, last_column, round_column};
+ghost use Rattle.aes_block.specs.Columns.{block_of, diagonal};
+ghost use Rattle.aes_block.specs.Columns.{inv_last_column, inv_round_column};
+ghost use Rattle.aes_block.specs.Columns.{last_column, round_column};
 
 use crate::word_tables::{inv_mixed, mixed_sbox};
 use crate::{inv_sbox, sbox};
 use byteorder::{BigEndian, ByteOrder};
 
-// The columns of a block.
+// The columns of a block, lent as a slice: of an array by value a proof doesn't know that all of its
+// 16 elements are bytes.
 pub(crate) fn columns_of(block: &[u8]) -> [u32; 4]
     requires { length block.now ≡ 16 }
     ensures { block_of result ≡ block.now }

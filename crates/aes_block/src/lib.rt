@@ -1,5 +1,6 @@
-//! AES (FIPS 197), proved: its field, its S-boxes, its key schedule, and the cipher with its inverse,
-//! as a block pair.
+//! AES (FIPS 197), proved: its field, its S-boxes, its key schedule, and the cipher with its
+//! inverse, as a block pair.
+
 #![tactic(auto)]
 
 mod cipher;
