@@ -2,11 +2,13 @@
 use Rattle.std.proofs.Common.{◌≡◌, ◌≢◌, ℕ, ◌+◌, ◌-◌, ◌*◌, ◌/◌, ◌%◌, ◌^◌, ◌<◌, ◌≤◌, bit_xor, w32, zero, suc, List, [], ◌∷◌, ◌++◌, length, get_or, take, drop, slice_index, refl, sym, ap, ap₂, ◌∙◌, arith, eq-eqb, ne_eqb, add-zero, lit<, drop-cons, length-drop, length-take, take-append-drop}
 use Rattle.std.specs.Int.{rotate_left, to_be_bytes}
 use Rattle.std.specs.List.{flat_map}
-use Rattle.std.proofs.lemmas.List.{ext_get_or, get_or-drop, get_or-take, length-take-le}
+use Rattle.std.proofs.lemmas.List.{ext_get_or, get_or-drop, get_or-take, length-take-le, take_all}
 use Rattle.std.proofs.lemmas.Nat.{or_shifted, be_bytes_4}
 use Rattle.byteorder.specs.Endian.{big_number, big_bytes}
 use Rattle.aes_block.specs.KeyExpansionLaw.{key_expansion_is, legal_words}
+use Rattle.aes_block.specs.Columns.{block_of}
 use Rattle.aes_block.specs.Schedule.{key_of}
+use Rattle.aes_block.proofs.ColumnWords.{joined}
 use Rattle.aes_block.specs.KeyExpansion.{IsKekLength, key_words, rounds_of, key_word, key_expansion, round_key, rot_word, sub_word, round_constants, temp}
 
 -- RotWord is a rotation by one byte
@@ -76,14 +78,18 @@ schedule_long K s legal words =
     let whole = ap length words ∙ (key_expansion_is K legal).count in
     omega (arith, length-take (4 * (rounds_of K + 1)) s, whole)
 
--- the bytes of the four words that stand at round key k
-pub written_key : (K s : List ℕ) (k : ℕ) → IsKekLength (length K) → take (4 * (rounds_of K + 1)) s ≡ key_expansion K → k ≤ rounds_of K
-    → flat_map (big_bytes 4) (take 4 (drop (4 * k) s)) ≡ round_key K k
+-- the four words that stand at round key k
+pub words_key : (K s : List ℕ) (k : ℕ) → IsKekLength (length K) → take (4 * (rounds_of K + 1)) s ≡ key_expansion K → k ≤ rounds_of K
+    → block_of (slice_index s (4 * k) ∷ slice_index s (4 * k + 1) ∷ slice_index s (4 * k + 2) ∷ slice_index s (4 * k + 3) ∷ []) ≡ round_key K k
 unfolding round_key
-written_key K s k legal words h =
-    let long = schedule_long K s legal words in
+words_key K s k legal words h =
     let at = λ (c : ℕ) (hc : c < 4). word_at (4 * (rounds_of K + 1)) (4 * k + c) s (key_expansion K) words (omega arith) in
-    rw (four_words s (4 * k) (omega arith), at 0 (lit< tt), at 1 (lit< tt), at 2 (lit< tt), at 3 (lit< tt)) refl
+    let first : 4 * k ≡ 4 * k + 0 = omega arith in
+    joined _ _ _ _ _ _ _ _
+    (ap (to_be_bytes w32) (ap (slice_index s) first ∙ at 0 (lit< tt)))
+    (ap (to_be_bytes w32) (at 1 (lit< tt)))
+    (ap (to_be_bytes w32) (at 2 (lit< tt)))
+    (ap (to_be_bytes w32) (at 3 (lit< tt)))
 
 -- the words of a key past its first four bytes
 key_word-drop : (K : List ℕ) (i : ℕ) → key_word K (suc i) ≡ key_word (drop 4 K) i
@@ -122,6 +128,12 @@ bytes_of_words (suc n) (w ∷ ws) K hw hk bytes same =
     bytes_of_words n ws (drop 4 K) (omega arith) long (λ i. rw (get_or-drop 4 K i 0) (bytes (4 + i)))
     (λ i h. same (suc i) (omega arith) ∙ key_word-drop K i) in
     ap₂ (λ (xs ys : List ℕ). xs ++ ys) first rest ∙ take-append-drop 4 K
+
+-- four words are the columns of the block that they are read from
+pub read_columns : (s b : List ℕ) → length s ≡ 4 → length b ≡ 16 → ((i : ℕ) → slice_index b i < 256)
+    → ((i : ℕ) → i < 4 → slice_index s i ≡ key_word b i) → block_of s ≡ b
+read_columns s b hs hb bytes same =
+    sym (ap (flat_map (to_be_bytes w32)) (sym (take_all 4 s (omega arith)) ∙ four_words s 0 (omega arith))) ∙ bytes_of_words 4 s b hs hb bytes same
 
 -- a schedule that begins with the key expansion of K keeps K
 pub key_of_schedule : (K s : List ℕ) (rounds : ℕ) → IsKekLength (length K) → ((i : ℕ) → slice_index K i < 256)

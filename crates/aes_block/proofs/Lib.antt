@@ -1,4 +1,6 @@
 pub mod CipherSteps
+pub mod ColumnRounds
+pub mod ColumnWords
 pub mod Expanding
 pub mod Multiplying
 pub mod Tables

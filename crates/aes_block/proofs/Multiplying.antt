@@ -27,7 +27,7 @@ product-zero a = product-xor_right a 0 0 ∙ xor_self (product a 0)
 
 -- the product with the polynomial x, as the code computes it
 shifted : ℕ → ℕ
-shifted a = if bit_and a 0x80 == 0 then a * 2 % 256 else bit_xor (a * 2 % 256) 0x1b
+shifted a = if bit_and a 0x80 == 0 then a * 2 % 256 else bit_xor (a * 2 % 256) 0x1B
 
 shifted_test : ℕ → Bool
 shifted_test a = shifted a == product a 2
@@ -41,7 +41,7 @@ unfolding shifted shifted_test
 shifted_low a h low =
     rw low at (eqb-true (shifted a) _ (passes_at 256 shifted_test a h shifted_passes))
 
-pub shifted_high : (a : ℕ) → IsByte a → bit_and a 0x80 ≢ 0 → bit_xor (a * 2 % 256) 0x1b ≡ product a 2
+pub shifted_high : (a : ℕ) → IsByte a → bit_and a 0x80 ≢ 0 → bit_xor (a * 2 % 256) 0x1B ≡ product a 2
 unfolding shifted shifted_test
 shifted_high a h high =
     let test = ne_eqb (bit_and a 0x80) 0 high in

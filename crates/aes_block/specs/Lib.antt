@@ -11,6 +11,7 @@ pub mod Worked
 pub mod State
 pub mod StateLaw
 pub mod Rounds
+pub mod Columns
 pub mod MixColumnsLaw
 pub mod RoundsLaw
 pub mod Cipher

@@ -36,7 +36,7 @@ sum_of_four_same : (f g : ℕ → ℕ) → ((k : ℕ) → k < 4 → f k ≡ g k)
 sum_of_four_same f g h =
     ap₂ bit_xor (ap₂ bit_xor (ap₂ bit_xor (h 0 (omega arith)) (h 1 (omega arith))) (h 2 (omega arith))) (h 3 (omega arith))
 
-sum_of_four_byte : (f : ℕ → ℕ) → ((k : ℕ) → IsByte (f k)) → IsByte (sum_of_four f)
+pub sum_of_four_byte : (f : ℕ → ℕ) → ((k : ℕ) → IsByte (f k)) → IsByte (sum_of_four f)
 sum_of_four_byte f h = xor_byte _ _ (xor_byte _ _ (xor_byte _ _ (h 0) (h 1)) (h 2)) (h 3)
 
 product-sum_of_four : (a : ℕ) (f : ℕ → ℕ) → product a (sum_of_four f) ≡ sum_of_four (λ k. product a (f k))

@@ -1,14 +1,19 @@
 //! The cipher and the inverse cipher (FIPS 197, sections 5.1 and 5.3): AES as a block pair.
+//!
+//! The state is four words, its columns. A round makes each column of the next state from the four
+//! columns in which ShiftRows, or its inverse, finds the column's rows.
 
 ghost use Rattle.std.specs.Prelude.{◌≡◌};
-ghost use Rattle.aes_block.specs.Cipher.{round, last_round, inv_round, inv_last_round, cipher, inv_cipher};
+ghost use Rattle.aes_block.specs.Rounds.{add_round_key};
+ghost use Rattle.aes_block.specs.Rounds.{inv_mix_columns, inv_shift_rows, inv_sub_bytes};
+ghost use Rattle.aes_block.specs.Cipher.{round, last_round, cipher, inv_cipher};
 ghost use Rattle.aes_block.specs.CipherLaw.{cipher_inverse};
+ghost use Rattle.aes_block.specs.Columns.{block_of};
 
-use crate::schedule::Aes;
-use crate::state::{
-    add_round_key, inv_mix_columns, inv_shift_rows, inv_sub_bytes, mix_columns, shift_rows,
-    sub_bytes,
+use crate::columns::{
+    block_of, columns_of, inv_last_column, inv_round_column, last_column, round_column,
 };
+use crate::schedule::Aes;
 use block_pair::BlockPair;
 
 impl BlockPair for Aes {
@@ -19,54 +24,96 @@ impl BlockPair for Aes {
     // Cipher (FIPS 197, 5.1).
     fn enc(&self, b: [u8; 16]) -> [u8; 16] {
         let last = self.rounds() as usize;
-        let mut state = add_round_key(self.round_key(0), b);
+        let mut state = add_round_key(self.round_key(0), columns_of(&b));
         for k in 1..last {
+            // An array is not assigned from a call that takes it.
             let next = round(self.round_key(k), state);
             state = next;
         }
-        last_round(self.round_key(last), state)
+        block_of(last_round(self.round_key(last), state))
     }
 
     // InvCipher (FIPS 197, 5.3).
     fn dec(&self, b: [u8; 16]) -> [u8; 16] {
         let last = self.rounds() as usize;
-        let mut state = inv_last_round(self.round_key(last), b);
+        let mut state = add_round_key(self.round_key(last), columns_of(&b));
         for k in (1..last).rev() {
-            let previous = inv_round(self.round_key(k), state);
-            state = previous;
+            // As in `enc`.
+            let next = inv_round(self.round_key(k), state);
+            state = next;
         }
-        add_round_key(self.round_key(0), state)
+        block_of(inv_last_round(self.round_key(0), state))
     }
 
     ghost lawful = { cipher_inverse };
 }
 
-// A round, with its round key.
-fn round(round_key: [u8; 16], state: [u8; 16]) -> [u8; 16]
-    ensures { result ≡ round round_key state }
+// AddRoundKey (FIPS 197, 5.1.4).
+fn add_round_key(round_key: [u32; 4], state: [u32; 4]) -> [u32; 4]
+    ensures { block_of result ≡ add_round_key (block_of round_key) (block_of state) }
 {
-    add_round_key(round_key, mix_columns(shift_rows(sub_bytes(state))))
+    let [a, b, c, d] = state;
+    let [key_a, key_b, key_c, key_d] = round_key;
+    [a ^ key_a, b ^ key_b, c ^ key_c, d ^ key_d]
+}
+
+// A round, with its round key.
+fn round(round_key: [u32; 4], state: [u32; 4]) -> [u32; 4]
+    ensures { block_of result ≡ round (block_of round_key) (block_of state) }
+{
+    let [a, b, c, d] = state;
+    let [key_a, key_b, key_c, key_d] = round_key;
+    [
+        round_column([a, b, c, d], key_a),
+        round_column([b, c, d, a], key_b),
+        round_column([c, d, a, b], key_c),
+        round_column([d, a, b, c], key_d),
+    ]
 }
 
 // The last round, which does not mix the columns.
-fn last_round(round_key: [u8; 16], state: [u8; 16]) -> [u8; 16]
-    ensures { result ≡ last_round round_key state }
+fn last_round(round_key: [u32; 4], state: [u32; 4]) -> [u32; 4]
+    ensures { block_of result ≡ last_round (block_of round_key) (block_of state) }
 {
-    add_round_key(round_key, shift_rows(sub_bytes(state)))
+    let [a, b, c, d] = state;
+    let [key_a, key_b, key_c, key_d] = round_key;
+    [
+        last_column([a, b, c, d], key_a),
+        last_column([b, c, d, a], key_b),
+        last_column([c, d, a, b], key_c),
+        last_column([d, a, b, c], key_d),
+    ]
 }
 
-// Undoes a round.
-fn inv_round(round_key: [u8; 16], state: [u8; 16]) -> [u8; 16]
-    ensures { result ≡ inv_round round_key state }
+// A round of the inverse cipher, in the order of section 5.3: InvShiftRows, InvSubBytes,
+// AddRoundKey, InvMixColumns.
+fn inv_round(round_key: [u32; 4], state: [u32; 4]) -> [u32; 4]
+    ensures { let substituted = inv_sub_bytes (inv_shift_rows (block_of state)) in
+        block_of result ≡ inv_mix_columns (add_round_key (block_of round_key) substituted) }
 {
-    inv_sub_bytes(inv_shift_rows(inv_mix_columns(add_round_key(round_key, state))))
+    let [a, b, c, d] = state;
+    let [key_a, key_b, key_c, key_d] = round_key;
+    [
+        inv_round_column([a, d, c, b], key_a),
+        inv_round_column([b, a, d, c], key_b),
+        inv_round_column([c, b, a, d], key_c),
+        inv_round_column([d, c, b, a], key_d),
+    ]
 }
 
-// Undoes the last round.
-fn inv_last_round(round_key: [u8; 16], state: [u8; 16]) -> [u8; 16]
-    ensures { result ≡ inv_last_round round_key state }
+// The last round of the inverse cipher, which does not mix the columns.
+fn inv_last_round(round_key: [u32; 4], state: [u32; 4]) -> [u32; 4]
+    ensures { block_of result
+        ≡ add_round_key (block_of round_key) (inv_sub_bytes (inv_shift_rows (block_of state))) }
 {
-    inv_sub_bytes(inv_shift_rows(add_round_key(round_key, state)))
+    let [a, b, c, d] = state;
+    let [key_a, key_b, key_c, key_d] = round_key;
+    [
+        inv_last_column([a, d, c, b], key_a),
+        inv_last_column([b, a, d, c], key_b),
+        inv_last_column([c, b, a, d], key_c),
+        inv_last_column([d, c, b, a], key_d),
+    ]
 }
 
 #[cfg(test)]

@@ -7,6 +7,8 @@ ghost use Rattle.aes_block.specs.Field.{DistributesOverXor, IsFieldProduct, inve
 pub fn mul(a: u8, b: u8) -> u8
     ensures only_product { (p : ℕ) → IsFieldProduct a b p ↔ (p ≡ result) }
     ensures value { result ≡ product a b }
+
+    // A law for callers, on the definition alone.
     ensures distributes { DistributesOverXor product }
 {
     let mut sum = 0;
@@ -27,7 +29,7 @@ fn x_times(a: u8) -> u8
     if a & 0x80 == 0 {
         a << 1
     } else {
-        (a << 1) ^ 0x1b
+        (a << 1) ^ 0x1B
     }
 }
 

@@ -1,12 +1,14 @@
-//! AES (FIPS 197), proved: its field, its S-boxes, its key schedule, and the cipher with its inverse,
-//! as a block pair.
+//! AES (FIPS 197), proved: its field, its S-boxes, its key schedule, and the cipher with its
+//! inverse, as a block pair.
+
 #![tactic(auto)]
 
 mod cipher;
+mod columns;
 pub mod field;
 mod s_box;
 mod schedule;
-mod state;
+mod word_tables;
 
 pub use s_box::{inv_sbox, sbox};
 pub use schedule::{Aes, BadKekLength};

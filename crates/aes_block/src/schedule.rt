@@ -1,9 +1,12 @@
 //! The key schedule (FIPS 197, section 5.2).
 
-ghost use Rattle.std.specs.Prelude.{◌≡◌, ◌≤◌, ◌↔◌, List, ℕ, ◌+◌, ◌*◌, ◌/◌, length, take, IsOk, IsErr, IfOk};
+ghost use Rattle.std.specs.Prelude.{◌≡◌, ◌≤◌, ◌↔◌, List, ℕ, ◌+◌, ◌*◌, ◌/◌, length, take};
+ghost use Rattle.std.specs.Prelude.{IsOk, IsErr, IfOk};
 ghost use Rattle.std.specs.List.{AllByRecursion};
 ghost use Rattle.block_pair.specs.Words.{IsByte};
-ghost use Rattle.aes_block.specs.KeyExpansion.{IsKekLength, IsKeyExpansion, key_expansion, round_key, rounds_of, sub_word, temp};
+ghost use Rattle.aes_block.specs.Columns.{block_of};
+ghost use Rattle.aes_block.specs.KeyExpansion.{IsKekLength, IsKeyExpansion, key_expansion};
+ghost use Rattle.aes_block.specs.KeyExpansion.{round_key, rounds_of, sub_word, temp};
 
 use crate::sbox;
 use byteorder::{BigEndian, ByteOrder};
@@ -25,8 +28,16 @@ impl Error for BadKekLength {}
 
 // Rcon[1] to Rcon[10] (FIPS 197, 5.2, table 5).
 static ROUND_CONSTANTS: [u32; 10] = [
-    0x01000000, 0x02000000, 0x04000000, 0x08000000, 0x10000000, 0x20000000, 0x40000000, 0x80000000,
-    0x1b000000, 0x36000000,
+    0x0100_0000,
+    0x0200_0000,
+    0x0400_0000,
+    0x0800_0000,
+    0x1000_0000,
+    0x2000_0000,
+    0x4000_0000,
+    0x8000_0000,
+    0x1B00_0000,
+    0x3600_0000,
 ];
 
 // The longest schedule: four words for each of 14 rounds, and four more.
@@ -59,7 +70,8 @@ impl Aes {
         ensures refused { IsErr result ↔ ¬ IsKekLength (length kek.now) }
         ensures key { IfOk result (λ aes. aes ≡ kek.now) }
 
-        // The key has one key schedule: that of the standard's equations, from which its round keys come.
+        // A law for callers, on definitions alone: the key has one key schedule, that of the
+        // standard's equations, from which its round keys come.
         ensures schedule { IsKekLength (length kek.now)
             → (w : List ℕ) → IsKeyExpansion kek.now w ↔ (w ≡ key_expansion kek.now) }
     {
@@ -87,15 +99,18 @@ impl Aes {
         self.rounds
     }
 
-    // The 16 bytes of round key `k`.
-    pub(crate) fn round_key(&self, k: usize) -> [u8; 16]
+    // Round key `k`: its four columns.
+    pub(crate) fn round_key(&self, k: usize) -> [u32; 4]
         requires { k ≤ rounds_of self.now }
-        ensures { result ≡ round_key self.now k }
+        ensures { block_of result ≡ round_key self.now k }
     {
-        let schedule = &self.schedule;
-        let mut key = [0; 16];
-        BigEndian::write_u32_into(&schedule[4 * k..4 * k + 4], &mut key);
-        key
+        let words = &self.schedule;
+        [
+            words[4 * k],
+            words[4 * k + 1],
+            words[4 * k + 2],
+            words[4 * k + 3],
+        ]
     }
 }
 
@@ -143,26 +158,26 @@ mod tests {
 
     // FIPS 197's key of 16 bytes.
     const KEK_16: [u8; 16] = [
-        0x2b, 0x7e, 0x15, 0x16, 0x28, 0xae, 0xd2, 0xa6, 0xab, 0xf7, 0x15, 0x88, 0x09, 0xcf, 0x4f,
-        0x3c,
+        0x2B, 0x7E, 0x15, 0x16, 0x28, 0xAE, 0xD2, 0xA6, 0xAB, 0xF7, 0x15, 0x88, 0x09, 0xCF, 0x4F,
+        0x3C,
     ];
 
     // The key 00 01 02 .. of 32 bytes.
     const KEK_32: [u8; 32] = [
-        0x00, 0x01, 0x02, 0x03, 0x04, 0x05, 0x06, 0x07, 0x08, 0x09, 0x0a, 0x0b, 0x0c, 0x0d, 0x0e,
-        0x0f, 0x10, 0x11, 0x12, 0x13, 0x14, 0x15, 0x16, 0x17, 0x18, 0x19, 0x1a, 0x1b, 0x1c, 0x1d,
-        0x1e, 0x1f,
+        0x00, 0x01, 0x02, 0x03, 0x04, 0x05, 0x06, 0x07, 0x08, 0x09, 0x0A, 0x0B, 0x0C, 0x0D, 0x0E,
+        0x0F, 0x10, 0x11, 0x12, 0x13, 0x14, 0x15, 0x16, 0x17, 0x18, 0x19, 0x1A, 0x1B, 0x1C, 0x1D,
+        0x1E, 0x1F,
     ];
 
     #[test]
     fn expands_the_standards_key(rt: HostRuntime) {
-        assert_eq!(rt; expand(&KEK_16)[4], 0xa0fafe17);
+        assert_eq!(rt; expand(&KEK_16)[4], 0xA0FA_FE17);
     }
 
     #[test]
     fn substitutes_the_middle_word_of_long_keys(rt: HostRuntime) {
         let schedule = expand(&KEK_32);
-        for (i, word) in [(8, 0xa573c29f), (11, 0xa572c09c), (12, 0x1651a8cd)] {
+        for (i, word) in [(8, 0xA573_C29F), (11, 0xA572_C09C), (12, 0x1651_A8CD)] {
             assert_eq!(rt; schedule[i], word, "w[{i}]");
         }
     }

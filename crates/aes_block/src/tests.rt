@@ -1,3 +1,5 @@
+//! The standard's worked bytes, keys and lengths, by the code and by the definitions.
+
 ghost use Rattle.std.specs.Prelude.{◌≡◌, slice_index};
 ghost use Rattle.std.specs.List.{range_with_len};
 ghost use Rattle.aes_block.specs.Field.{inverse, product};
@@ -10,7 +12,7 @@ use std::test::Fail;
 
 #[test]
 fn multiplies_the_standards_bytes(rt: HostRuntime) {
-    for (a, b, product) in [(0x57, 0x83, 0xc1), (0x57, 0x13, 0xfe)] {
+    for (a, b, product) in [(0x57, 0x83, 0xC1), (0x57, 0x13, 0xFE)] {
         assert_eq!(rt; field::mul(a, b), product, "{a:02x} times {b:02x}");
     }
 }
@@ -18,26 +20,27 @@ fn multiplies_the_standards_bytes(rt: HostRuntime) {
 #[test]
 fn inverts_zero_and_the_standards_byte(rt: HostRuntime) {
     assert_eq!(rt; field::inverse(0x00), 0x00);
-    assert_eq!(rt; field::inverse(0x53), 0xca);
+    assert_eq!(rt; field::inverse(0x53), 0xCA);
 }
 
 #[test]
 fn substitutes_the_standards_bytes(rt: HostRuntime) {
     assert_eq!(rt; sbox(0x00), 0x63);
-    assert_eq!(rt; sbox(0x53), 0xed);
-    assert_eq!(rt; inv_sbox(0xed), 0x53);
+    assert_eq!(rt; sbox(0x53), 0xED);
+    assert_eq!(rt; inv_sbox(0xED), 0x53);
 }
 
-// What the definitions themselves say of the standard's bytes, of its key of 16 bytes and of the key
-// 00 01 02 .. of 32 bytes: the checker computes it.
+// What the definitions themselves say of the standard's bytes, of its key of 16 bytes and of the
+// key 00 01 02 .. of 32 bytes: the checker computes it.
 fn computes_the_definitions()
-    ensures products { (product 0x57 0x83 ≡ 0xc1) × (product 0x57 0x13 ≡ 0xfe) }
-    ensures inverses { (inverse 0x00 ≡ 0x00) × (inverse 0x53 ≡ 0xca) }
-    ensures s_boxes { (s_box 0x00 ≡ 0x63) × (s_box 0x53 ≡ 0xed) × (inv_s_box 0xed ≡ 0x53) }
+    ensures products { (product 0x57 0x83 ≡ 0xC1) × (product 0x57 0x13 ≡ 0xFE) }
+    ensures inverses { (inverse 0x00 ≡ 0x00) × (inverse 0x53 ≡ 0xCA) }
+    ensures s_boxes { (s_box 0x00 ≡ 0x63) × (s_box 0x53 ≡ 0xED) × (inv_s_box 0xED ≡ 0x53) }
     ensures words { let w = key_expansion standard_key in
-        (slice_index w 4 ≡ 0xa0fafe17) × (slice_index w 43 ≡ 0xb6630ca6) }
+        (slice_index w 4 ≡ 0xA0FA_FE17) × (slice_index w 43 ≡ 0xB663_0CA6) }
     ensures long_words { let w = key_expansion (range_with_len 0 32) in
-        (slice_index w 8 ≡ 0xa573c29f) × (slice_index w 11 ≡ 0xa572c09c) × (slice_index w 12 ≡ 0x1651a8cd) }
+        (slice_index w 8 ≡ 0xA573_C29F) × (slice_index w 11 ≡ 0xA572_C09C)
+        × (slice_index w 12 ≡ 0x1651_A8CD) }
 {}
 
 #[test]

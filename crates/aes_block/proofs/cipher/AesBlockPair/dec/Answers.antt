@@ -1,21 +1,33 @@
-use Rattle.std.proofs.Common.{◌-◌, ap, ap₂, sym, arith, ◌∙◌}
-use Rattle.aes_block.specs.Rounds.{add_round_key}
-use Rattle.aes_block.specs.Cipher.{inv_last_round, inv_rounds, inv_round}
+use Rattle.std.proofs.Common.{ℕ, List, ◌-◌, ap, ap₂, sym, arith, ◌∙◌}
+use Rattle.aes_block.specs.Rounds.{add_round_key, inv_mix_columns, inv_shift_rows, inv_sub_bytes}
+use Rattle.aes_block.specs.Cipher.{inv_rounds}
+use Rattle.aes_block.specs.Columns.{block_of}
 use Rattle.aes_block.proofs.CipherSteps.{inv_rounds-more, inv_rounds-none, inv_cipher-key}
 use Rattle.aes_block.proofs.cipher.AesBlockPair.dec.Goals as goal
 
+-- the steps with which a round of the definition ends
+ends : List ℕ → List ℕ
+ends s = inv_sub_bytes (inv_shift_rows s)
+
 pub loop-k-init : goal.loop-k-init
+unfolding ends
 loop-k-init c =
-    ap (inv_rounds c.args.self.now (c.rounds-last.result - 1)) (c.inv_last_round-state.ensures ∙ ap (λ k. inv_last_round k c.args.b) c.round_key.ensures)
+    ap (λ s. inv_rounds c.args.self.now (c.rounds-last.result - 1) (ends s)) (c.add_round_key-state.ensures ∙ ap₂ add_round_key c.round_key.ensures c.columns_of.ensures)
 
 pub loop-k-preserved : goal.loop-k-preserved
+unfolding ends
 loop-k-preserved c =
-    ap (inv_rounds c.args.self.now (c.loop-k.k - 1 - 1)) (c.inv_round-previous.ensures ∙ ap (λ k. inv_round k c.loop-k.state) c.round_key-in-loop-k.ensures)
-    ∙ sym (inv_rounds-more c.args.self.now (c.loop-k.k - 1) c.loop-k.state (omega arith))
+    let before = ends (block_of c.loop-k.state) in
+    ap (λ s. inv_rounds c.args.self.now (c.loop-k.k - 1 - 1) (ends s))
+    (c.inv_round-next.ensures ∙ ap (λ key. inv_mix_columns (add_round_key key before)) c.round_key-in-loop-k.ensures)
+    ∙ sym (inv_rounds-more c.args.self.now (c.loop-k.k - 1) before (omega arith))
     ∙ c.loop-k.invariant
 
 pub returns : goal.returns
+unfolding ends
 returns c =
-    c.add_round_key.ensures
-    ∙ ap₂ add_round_key c.round_key-2.ensures (sym (inv_rounds-none c.args.self.now (c.loop-k.k - 1) c.loop-k.state (omega arith)) ∙ c.loop-k.invariant)
+    let before = ends (block_of c.loop-k.state) in
+    c.block_of.ensures
+    ∙ c.inv_last_round.ensures
+    ∙ ap₂ add_round_key c.round_key-2.ensures (sym (inv_rounds-none c.args.self.now (c.loop-k.k - 1) before (omega arith)) ∙ c.loop-k.invariant)
     ∙ rw c.rounds-last.ensures.value (sym (inv_cipher-key c.args.self.now c.args.b c.rounds-last.ensures.legal c.rounds-last.ensures.bytes))

@@ -1,7 +1,11 @@
+-- The state stands before the InvShiftRows and InvSubBytes of round k - 1, which the definition counts to round k.
 use Rattle.std.proofs.Common.{◌≡◌, ◌-◌}
 use Rattle.aes_block.specs.KeyExpansion.{round_key}
+use Rattle.aes_block.specs.Rounds.{inv_shift_rows, inv_sub_bytes}
 use Rattle.aes_block.specs.Cipher.{inv_last_round, inv_rounds}
+use Rattle.aes_block.specs.Columns.{block_of}
 use Rattle.aes_block.proofs.cipher.AesBlockPair.dec.Given as goal
 
 abbrev pub invariant-loop-k : goal.invariant-loop-k
-invariant-loop-k l = inv_rounds l.self (l.k - 1) l.state ≡ inv_rounds l.self (l.last - 1) (inv_last_round (round_key l.self l.last) l.fn.b)
+invariant-loop-k l =
+    inv_rounds l.self (l.k - 1) (inv_sub_bytes (inv_shift_rows (block_of l.state))) ≡ inv_rounds l.self (l.last - 1) (inv_last_round (round_key l.self l.last) l.fn.b)

@@ -6,7 +6,7 @@ use Rattle.aes_block.proofs.cipher.AesBlockPair.enc.Goals as goal
 
 pub loop-k-init : goal.loop-k-init
 unfolding rounds
-loop-k-init c = c.add_round_key-state.ensures ∙ ap (λ k. add_round_key k c.args.b) c.round_key.ensures
+loop-k-init c = c.add_round_key-state.ensures ∙ ap₂ add_round_key c.round_key.ensures c.columns_of.ensures
 
 pub loop-k-preserved : goal.loop-k-preserved
 loop-k-preserved c =
@@ -17,6 +17,7 @@ loop-k-preserved c =
 pub returns : goal.returns
 returns c =
     let all : c.loop-k.k ≡ c.rounds-last.result = omega arith in
-    c.last_round.ensures
+    c.block_of.ensures
+    ∙ c.last_round.ensures
     ∙ ap₂ last_round c.round_key-2.ensures c.loop-k.invariant
     ∙ rw (all, c.rounds-last.ensures.value) (sym (cipher-key c.args.self.now c.args.b c.rounds-last.ensures.legal c.rounds-last.ensures.bytes))

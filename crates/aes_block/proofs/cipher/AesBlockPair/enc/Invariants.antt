@@ -2,7 +2,8 @@ use Rattle.std.proofs.Common.{◌≡◌, ◌-◌}
 use Rattle.aes_block.specs.KeyExpansion.{round_key}
 use Rattle.aes_block.specs.Rounds.{add_round_key}
 use Rattle.aes_block.specs.Cipher.{rounds}
+use Rattle.aes_block.specs.Columns.{block_of}
 use Rattle.aes_block.proofs.cipher.AesBlockPair.enc.Given as goal
 
 abbrev pub invariant-loop-k : goal.invariant-loop-k
-invariant-loop-k l = l.state ≡ rounds l.self (l.k - 1) (add_round_key (round_key l.self 0) l.fn.b)
+invariant-loop-k l = block_of l.state ≡ rounds l.self (l.k - 1) (add_round_key (round_key l.self 0) l.fn.b)

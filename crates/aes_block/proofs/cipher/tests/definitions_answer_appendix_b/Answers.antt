@@ -7,9 +7,13 @@ use Rattle.aes_block.specs.Cipher.{cipher, inv_cipher, inv_rounds, is_key, round
 use Rattle.aes_block.proofs.cipher.tests.definitions_answer_appendix_b.Goals as goal
 
 pub returns-clause-cipher : goal.returns-clause-cipher
-unfolding cipher inv_cipher is_key rounds inv_rounds sub_bytes inv_sub_bytes shift_rows inv_shift_rows multiplied add_round_key s_box inv_s_box s_boxes number_with_bits inverse product remainder polynomial_product round_key key_expansion first_words next_word temp sub_word rot_word
+unfolding cipher inv_cipher is_key rounds inv_rounds sub_bytes inv_sub_bytes shift_rows inv_shift_rows multiplied add_round_key
+    s_box inv_s_box s_boxes number_with_bits inverse product remainder polynomial_product
+    round_key key_expansion first_words next_word temp sub_word rot_word
 returns-clause-cipher c = refl
 
 pub returns-clause-inv_cipher : goal.returns-clause-inv_cipher
-unfolding cipher inv_cipher is_key rounds inv_rounds sub_bytes inv_sub_bytes shift_rows inv_shift_rows multiplied add_round_key s_box inv_s_box s_boxes number_with_bits inverse product remainder polynomial_product round_key key_expansion first_words next_word temp sub_word rot_word
+unfolding cipher inv_cipher is_key rounds inv_rounds sub_bytes inv_sub_bytes shift_rows inv_shift_rows multiplied add_round_key
+    s_box inv_s_box s_boxes number_with_bits inverse product remainder polynomial_product
+    round_key key_expansion first_words next_word temp sub_word rot_word
 returns-clause-inv_cipher c = refl

@@ -1,0 +1,13 @@
+use Rattle.std.proofs.Common.{arith}
+use Rattle.aes_block.specs.Rounds.{add_round_key}
+use Rattle.aes_block.proofs.ColumnWords.{joined, sum_bytes}
+use Rattle.aes_block.proofs.cipher.add_round_key.Goals as goal
+
+pub returns : goal.returns
+unfolding add_round_key
+returns c =
+    joined _ _ _ _ _ _ _ _
+    (sum_bytes _ _ (omega arith) (omega arith))
+    (sum_bytes _ _ (omega arith) (omega arith))
+    (sum_bytes _ _ (omega arith) (omega arith))
+    (sum_bytes _ _ (omega arith) (omega arith))

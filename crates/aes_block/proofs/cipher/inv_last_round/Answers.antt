@@ -1,0 +1,16 @@
+use Rattle.std.proofs.Common.{slice_index, arith}
+use Rattle.aes_block.specs.Rounds.{inv_sub_bytes, inv_shift_rows, add_round_key}
+use Rattle.aes_block.proofs.ColumnWords.{joined}
+use Rattle.aes_block.proofs.ColumnRounds.{from, inv_last_bytes}
+use Rattle.aes_block.proofs.cipher.inv_last_round.Goals as goal
+
+pub returns : goal.returns
+unfolding inv_sub_bytes inv_shift_rows add_round_key
+returns c =
+    let s = c.args.state in
+    let key = slice_index c.args.round_key in
+    joined _ _ _ _ _ _ _ _
+    (inv_last_bytes (from s 0 3 2 1) (key 0) _ (omega arith) c.inv_last_column.ensures)
+    (inv_last_bytes (from s 1 0 3 2) (key 1) _ (omega arith) c.inv_last_column-2.ensures)
+    (inv_last_bytes (from s 2 1 0 3) (key 2) _ (omega arith) c.inv_last_column-3.ensures)
+    (inv_last_bytes (from s 3 2 1 0) (key 3) _ (omega arith) c.inv_last_column-4.ensures)

@@ -1,0 +1,16 @@
+use Rattle.std.proofs.Common.{slice_index, arith}
+use Rattle.aes_block.specs.Rounds.{sub_bytes, shift_rows, add_round_key}
+use Rattle.aes_block.proofs.ColumnWords.{joined}
+use Rattle.aes_block.proofs.ColumnRounds.{from, last_bytes}
+use Rattle.aes_block.proofs.cipher.last_round.Goals as goal
+
+pub returns : goal.returns
+unfolding sub_bytes shift_rows add_round_key
+returns c =
+    let s = c.args.state in
+    let key = slice_index c.args.round_key in
+    joined _ _ _ _ _ _ _ _
+    (last_bytes (from s 0 1 2 3) (key 0) _ (omega arith) c.last_column.ensures)
+    (last_bytes (from s 1 2 3 0) (key 1) _ (omega arith) c.last_column-2.ensures)
+    (last_bytes (from s 2 3 0 1) (key 2) _ (omega arith) c.last_column-3.ensures)
+    (last_bytes (from s 3 0 1 2) (key 3) _ (omega arith) c.last_column-4.ensures)
