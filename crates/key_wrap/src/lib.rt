@@ -11,7 +11,6 @@ mod lengths;
 mod machine;
 mod padded;
 mod plain;
-mod registers;
 mod unwrapping;
 
 pub use faults::{InPlaceFault, KindFault, UnwrapFault, WrapFault};
