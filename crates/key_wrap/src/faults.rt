@@ -3,6 +3,7 @@
 ghost use Rattle.std.specs.Prelude.{◌≡◌};
 ghost use Rattle.key_wrap.specs.declared.faults.UnwrapFault.TheVariants as unwrap_faults;
 ghost use Rattle.key_wrap.specs.declared.faults.WrapFault.TheVariants as wrap_faults;
+ghost use Rattle.key_wrap.specs.Faults.{unwrap_fault};
 
 use std::alloc::AllocError;
 use thiserror::Error;
@@ -40,6 +41,17 @@ pub enum UnwrapFault {
     Memory,
 }
 
+impl From<InPlaceFault> for UnwrapFault {
+    ghost from_gives = { λ fault given. given ≡ unwrap_fault fault };
+
+    fn from(fault: InPlaceFault) -> UnwrapFault {
+        match fault {
+            InPlaceFault::BadLength => UnwrapFault::BadLength,
+            InPlaceFault::Integrity => UnwrapFault::Integrity,
+        }
+    }
+}
+
 impl From<AllocError> for UnwrapFault {
     ghost from_gives = { λ _ fault. fault ≡ unwrap_faults.Memory };
 
@@ -54,4 +66,15 @@ pub enum KindFault {
     /// The unwrapped key was refused its memory.
     #[error("out of memory")]
     Memory,
+}
+
+/// Why a call in the caller's buffers refuses.
+#[derive(Clone, Copy, Debug, PartialEq, Eq, Error)]
+pub enum InPlaceFault {
+    /// A length is not legal, or a buffer has not the length that goes with it.
+    #[error("bad length")]
+    BadLength,
+    /// The text is no wrapping of any key (RFC 3394, section 2.2.3; RFC 5649, section 3).
+    #[error("integrity check failed")]
+    Integrity,
 }
