@@ -2,5 +2,6 @@ pub mod Conversions
 pub mod Drills
 pub mod Jobs
 pub mod Outputs
-pub mod Places
+pub mod Readings
+pub mod Refusals
 pub mod Reports

@@ -3,6 +3,6 @@ pub mod Drill
 pub mod Files
 pub mod Job
 pub mod Output
-pub mod Places
+pub mod Readings
 pub mod Vectors
 pub mod Writing

@@ -10,6 +10,7 @@ mod help;
 mod job;
 mod output;
 mod program;
+mod statuses;
 #[cfg(test)]
 mod tests;
 mod vector_table;
