@@ -5,3 +5,4 @@ pub mod Outputs
 pub mod Readings
 pub mod Refusals
 pub mod Reports
+pub mod RightVectors

@@ -13,6 +13,7 @@ mod program;
 mod statuses;
 #[cfg(test)]
 mod tests;
+mod vector_check;
 mod vector_table;
 mod vectors;
 

@@ -1,5 +1,10 @@
 //! The program: from its words to its exit status.
 
+ghost use Rattle.std.specs.Prelude.{◌≡◌, IfOk};
+ghost use Rattle.std.specs.List.{AllByRecursion};
+ghost use Rattle.keywrap_cli.specs.Published.{published_vectors};
+ghost use Rattle.keywrap_cli.specs.Vectors.{IsRight};
+
 use crate::command_line::{Request, not_text, parse};
 use crate::convert::Direction;
 use crate::drill::drill;
@@ -84,7 +89,12 @@ fn run_task<R: Print + Input + AllocGlobal + Files>(
 }
 
 // The published vectors.
-pub(crate) fn run_vectors<W: Write>(alloc: Global, out: &mut W) -> Result<u8, ProgramFault> {
+pub(crate) fn run_vectors<W: Write>(alloc: Global, out: &mut W) -> Result<u8, ProgramFault>
+    ensures done { IfOk result (λ status.
+        AllByRecursion IsRight published_vectors → status ≡ 0) }
+    ensures failed { IfOk result (λ status.
+        ¬ AllByRecursion IsRight published_vectors → status ≡ 5) }
+{
     if vectors(alloc, out)? {
         flush(out, statuses::DONE)
     } else {
@@ -104,7 +114,9 @@ pub(crate) fn write_help<W: Write>(
 }
 
 // Flushes the output, and answers the status of a call that ended without a fault.
-fn flush<W: Write>(out: &mut W, status: u8) -> Result<u8, ProgramFault> {
+fn flush<W: Write>(out: &mut W, status: u8) -> Result<u8, ProgramFault>
+    ensures { IfOk result (λ answer. answer ≡ status) }
+{
     out.flush().map_err(|_| ProgramFault::Flush)?;
     Ok(status)
 }
