@@ -1,14 +1,15 @@
--- A call of a job, from what it answers at each place.
-use Rattle.std.proofs.Common.{◌≡◌, ◌≤◌, ◌+◌, ℕ, List, [], length, Vec, Option, Some, None, Result, Ok, Err, IsOk, refl, subst, inl, inr, arith}
+-- A call of a job, from what it answers at each of its steps: at the KEK file (`stopped_at_kek`), at the input file
+-- (`stopped_at_input`), or at its output (`answered`). Each goes by the cases of the step's answer.
+use Rattle.std.proofs.Common.{◌≡◌, ◌≢◌, ◌<◌, ◌≤◌, ◌+◌, ◌↔◌, ℕ, List, [], length, Vec, Option, Some, None, Result, Ok, Err, IsOk, refl, sym, ap, subst, inl, inr, arith}
 use Rattle.std.specs.Io.KnownBytes.{Appends, Keeps, Consumes, IsAtEnd}
 use Rattle.aes_block.specs.Cipher.{cipher}
 use Rattle.key_files.specs.declared.fault.FileFault.TheVariants as files
-use Rattle.key_files.specs.declared.read.TheConstants.{MAX_FILE}
 use Rattle.std.specs.declared.alloc.Global.{Global}
 use Rattle.keywrap_cli.specs.Files.{DenotesKek}
-use Rattle.keywrap_cli.specs.Job.{DenoteBoth, EndsInput, EndsKek, IsUnread, LeavesOutput, RunsJob, StopsAtKek, WritesTheKey}
+use Rattle.keywrap_cli.specs.Job.{DenoteBoth, IsInputReadToEnd, IsKekReadToEnd, IsKekRefused, IsUnread, LeavesOutput, RunsJob, WritesTheKey}
+use Rattle.keywrap_cli.proofs.Refusals.{file_refusals}
 use Rattle.keywrap_cli.specs.Output.{OutputAnswer, WritesFor}
-use Rattle.keywrap_cli.specs.Places.{KekCase, AnswersKek, InputCase, AnswersInput}
+use Rattle.keywrap_cli.specs.Readings.{KekAnswer, ReadsKek, InputAnswer, ReadsInput}
 use Rattle.keywrap_cli.specs.declared.job.Done.{Done}
 use Rattle.keywrap_cli.specs.declared.job.Job.{Job}
 use Rattle.keywrap_cli.specs.declared.job.Job.TheVariants.{Unwrap}
@@ -25,14 +26,14 @@ nothing_taken : (known : Option (List ℕ)) → Consumes known known []
 nothing_taken None = tt
 nothing_taken (Some xs) = refl
 
--- what a call answers once a place is reached: which files it has read to their end, and what it has written
+-- what a call leaves that ends at some step: which files it has read to their end, and what it has written
 record Reaches (task : Task) (F G : List ℕ) (kek' input' out out' : Option (List ℕ)) (answer : Result Done JobFault) : Type 0 where
-  kek_end : EndsKek answer kek'
-  input_end : EndsInput answer input'
+  kek_end : IsKekReadToEnd answer kek'
+  input_end : IsInputReadToEnd answer input'
   leaves : LeavesOutput task F G out out' answer
 
 kek_stops : (task : Task) (F : List ℕ) (left input out : Option (List ℕ)) (fault : JobFault)
-    → KekCase task.kek F left (Err fault) → Reaches task F [] left input out out (Err fault)
+    → KekAnswer task.kek F left (Err fault) → Reaches task F [] left input out out (Err fault)
 kek_stops task F left input out (KekFile files.Read) h = record { kek_end = tt; input_end = tt; leaves = untouched out }
 kek_stops task F left input out (KekFile files.TooLong) h = record { kek_end = tt; input_end = tt; leaves = (h, untouched out) }
 kek_stops task F left input out (KekFile (files.BadDigit at)) h = record { kek_end = h.1; input_end = tt; leaves = (h.0, untouched out) }
@@ -45,12 +46,18 @@ kek_stops task F left input out Integrity h = absurd h
 kek_stops task F left input out (Write written) h = absurd h
 kek_stops task F left input out Memory h = record { kek_end = tt; input_end = tt; leaves = untouched out }
 
--- the call is refused at the KEK file's place
+-- a fault is refused alike whatever the answer would have held
+same_refusal : {A B : Type 0} → (fault other : JobFault) (r : Result A JobFault) (s : Result B JobFault)
+    → r ≡ Err fault → s ≡ Err fault → r ≡ Err other → s ≡ Err other
+same_refusal fault other r s is was e = let same : fault ≡ other = cc in cc
+
+-- the call is refused at the KEK file
 pub stopped_at_kek : (task : Task) (kek kek' input out : Option (List ℕ)) (fault : JobFault)
-    → AnswersKek task.kek kek kek' (Err fault) → RunsJob task kek kek' input input out out (Err fault)
+    → ReadsKek task.kek kek kek' (Err fault) → RunsJob task kek kek' input input out out (Err fault)
 stopped_at_kek task kek kek' input out fault a =
     let reached = kek_stops task a.taken kek' input out fault a.answers in
     let unread : IsUnread input input [] = record { nothing = refl; same = untouched input } in
+    let refusals = file_refusals task a.taken [] out out (Err fault) reached.leaves in
     record {
       F = a.taken;
       G = [];
@@ -62,16 +69,28 @@ stopped_at_kek task kek kek' input out fault a =
       input_end = reached.input_end;
       in_order = inl unread;
       unread = λ _. unread;
+      kek_too_long = (
+        λ e. a.too_long.0 (same_refusal fault _ _ _ refl refl e),
+        λ more. same_refusal fault _ _ _ refl refl (a.too_long.1 more),
+      );
+      input_too_long = (
+        λ e. let is : fault ≡ InputFile files.TooLong = cc in
+            absurd (subst (λ (f : JobFault). KekAnswer task.kek a.taken kek' (Err f)) is a.answers),
+        λ more. absurd (omega arith),
+      );
+      kek_refused = refusals.kek;
+      kek_length = refusals.length;
+      input_refused = refusals.input;
       leaves = reached.leaves;
     }
 
--- past the KEK file's place
+-- past the KEK file
 record Passes (task : Task) (F G : List ℕ) (kek' input' out out' : Option (List ℕ)) (answer : Result Done JobFault) : Type 0 where
   reaches : Reaches task F G kek' input' out out' answer
-  past : ¬ StopsAtKek answer
+  past : ¬ IsKekRefused answer
 
 input_stops : (task : Task) (F G K : List ℕ) (kek' left out : Option (List ℕ)) (fault : JobFault)
-    → DenotesKek task.kek F K → IsAtEnd kek' → InputCase task.input G left (Err fault)
+    → DenotesKek task.kek F K → IsAtEnd kek' → InputAnswer task.input G left (Err fault)
     → Passes task F G kek' left out out (Err fault)
 input_stops task F G K kek' left out (KekFile fault) denoted end h = absurd h
 input_stops task F G K kek' left out KekLength denoted end h = absurd h
@@ -107,40 +126,52 @@ output_given task F G K X kek' input' out out' (Err KekLength) both end end' h =
 output_given task F G K X kek' input' out out' (Err (KekFile fault)) both end end' h = absurd h
 output_given task F G K X kek' input' out out' (Err (InputFile fault)) both end end' h = absurd h
 
--- the call is answered past the KEK file's place
-passed : (task : Task) (kek kek' input input' out out' : Option (List ℕ)) (F G K : List ℕ) (answer : Result Done JobFault)
-    → Consumes kek kek' F → length F ≤ MAX_FILE + 1 → Consumes input input' G → length G ≤ MAX_FILE + 1
-    → DenotesKek task.kek F K → IsAtEnd kek' → Passes task F G kek' input' out out' answer
+-- the call is answered past the KEK file, at the end of what it answers for its input
+passed : (task : Task) (kek kek' input input' out out' : Option (List ℕ)) (K : List ℕ)
+    (read : Result (Vec ℕ Global) JobFault) (answer : Result Done JobFault)
+    → (a : ReadsKek task.kek kek kek' (Ok K)) → (b : ReadsInput task.input input input' read)
+    → (answer ≡ Err (InputFile files.TooLong)) ↔ (read ≡ Err (InputFile files.TooLong))
+    → Passes task a.taken b.taken kek' input' out out' answer
     → RunsJob task kek kek' input input' out out' answer
-passed task kek kek' input input' out out' F G K answer taken most taken' most' denoted end passes = record {
-  F = F;
-  G = G;
-  kek_taken = taken;
-  kek_at_most = most;
-  input_taken = taken';
-  input_at_most = most';
-  kek_end = passes.reaches.kek_end;
-  input_end = passes.reaches.input_end;
-  in_order = inr (record { K = K; kek = denoted; end = end });
-  unread = λ stops. absurd (passes.past stops);
-  leaves = passes.reaches.leaves;
-}
+passed task kek kek' input input' out out' K read answer a b same passes =
+    let refusals = file_refusals task a.taken b.taken out out' answer passes.reaches.leaves in
+    record {
+      F = a.taken;
+      G = b.taken;
+      kek_taken = a.stands_after;
+      kek_at_most = a.at_most;
+      input_taken = b.stands_after;
+      input_at_most = b.at_most;
+      kek_end = passes.reaches.kek_end;
+      input_end = passes.reaches.input_end;
+      in_order = inr (record { K = K; kek = a.answers.0; end = a.answers.1 });
+      unread = λ stops. absurd (passes.past stops);
+      kek_too_long = (
+        λ e. absurd (passes.past (subst (λ (r : Result Done JobFault). IsKekRefused r) (sym e) tt)),
+        λ more. let e = a.too_long.1 more in cc,
+      );
+      input_too_long = (λ e. b.too_long.0 (same.0 e), λ more. same.1 (b.too_long.1 more));
+      kek_refused = refusals.kek;
+      kek_length = refusals.length;
+      input_refused = refusals.input;
+      leaves = passes.reaches.leaves;
+    }
 
 pub stopped_at_input : (task : Task) (kek kek' input input' out : Option (List ℕ)) (K : List ℕ) (fault : JobFault)
-    → AnswersKek task.kek kek kek' (Ok K) → AnswersInput task.input input input' (Err fault)
+    → ReadsKek task.kek kek kek' (Ok K) → ReadsInput task.input input input' (Err fault)
     → RunsJob task kek kek' input input' out out (Err fault)
 stopped_at_input task kek kek' input input' out K fault a b =
-    passed task kek kek' input input' out out a.taken b.taken K (Err fault) a.stands_after a.at_most b.stands_after b.at_most
-    a.answers.0 a.answers.1
+    passed task kek kek' input input' out out K (Err fault) (Err fault) a b
+    (λ e. same_refusal fault _ _ _ refl refl e, λ e. same_refusal fault _ _ _ refl refl e)
     (input_stops task a.taken b.taken K kek' input' out fault a.answers.0 a.answers.1 b.answers)
 
 pub answered : (task : Task) (kek kek' input input' out out' : Option (List ℕ)) (K : List ℕ) (X : Vec ℕ Global) (answer : Result Done JobFault)
-    → AnswersKek task.kek kek kek' (Ok K) → AnswersInput task.input input input' (Ok X)
+    → ReadsKek task.kek kek kek' (Ok K) → ReadsInput task.input input input' (Ok X)
     → OutputAnswer task.job task (cipher K) X.items out out' answer
     → RunsJob task kek kek' input input' out out' answer
 answered task kek kek' input input' out out' K X answer a b h =
-    passed task kek kek' input input' out out' a.taken b.taken K answer a.stands_after a.at_most b.stands_after b.at_most
-    a.answers.0 a.answers.1
+    passed task kek kek' input input' out out' K (Ok X) answer a b
+    (λ e. absurd (subst (λ (r : Result Done JobFault). OutputAnswer task.job task (cipher K) X.items out out' r) e h), λ e. cc)
     (output_given task a.taken b.taken K X.items kek' input' out out' answer (record { kek = a.answers.0; input = b.answers.0 })
     a.answers.1 b.answers.1 h)
 

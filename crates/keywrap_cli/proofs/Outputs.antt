@@ -7,7 +7,7 @@ use Rattle.key_wrap.specs.declared.forms.Kind.TheVariants as kinds
 use Rattle.key_wrap.specs.declared.faults.UnwrapFault.{UnwrapFault}
 use Rattle.keywrap_cli.specs.Conversion.{IsAnswer, ConversionAnswer}
 use Rattle.keywrap_cli.specs.Files.{printed}
-use Rattle.keywrap_cli.specs.Output.{WritesFor, OutputAnswer, IsDone, job_fault_of, job_of, kind_line, done_for}
+use Rattle.keywrap_cli.specs.Output.{WritesFor, OutputAnswer, IsDone, job_fault_of, job_of, kind_line, done_of}
 use Rattle.keywrap_cli.specs.Writing.{Sends}
 use Rattle.keywrap_cli.specs.declared.convert.Direction.{Direction}
 use Rattle.keywrap_cli.specs.declared.convert.Direction.TheVariants as directions
@@ -48,7 +48,7 @@ refused_write job task E X output old new (faults.KekFile fault) writes sends = 
 refused_write job task E X output old new (faults.InputFile fault) writes sends = absurd sends
 
 -- a check is done as Neither exactly if its line is `none`
-pub kind_done : (kind : Kind) → IsDone Check (kind_line kind) (done_for kind)
+pub kind_done : (kind : Kind) → IsDone Check (kind_line kind) (done_of kind)
 kind_done (kinds.Plain m) = λ h. let e = h.1 in cc
 kind_done (kinds.Padded m) = λ h. let e = h.1 in cc
 kind_done kinds.Neither = (refl, refl)

@@ -64,6 +64,11 @@ abbrev pub HasNoAnswer : Direction → Form → (List ℕ → List ℕ) → List
 HasNoAnswer Wrap form E X = ⊥
 HasNoAnswer Unwrap form E X = NoKey (Stands form E) X
 
+-- a conversion takes the bytes X to the bytes Y
+abbrev pub Converts : Direction → Form → (List ℕ → List ℕ) → List ℕ → List ℕ → Type 0
+Converts Wrap form E X Y = Stands form E X Y
+Converts Unwrap form E X Y = Stands form E Y X
+
 -- what a conversion of the bytes X answers, by cases
 abbrev pub ConversionAnswer : Direction → Form → (List ℕ → List ℕ) → List ℕ → Result (Vec ℕ Global) UnwrapFault → Type 0
 ConversionAnswer direction form E X (Ok Y) = IsAnswer direction form E X Y.items

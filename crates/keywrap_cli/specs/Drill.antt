@@ -5,7 +5,6 @@ use Rattle.block_pair.specs.Halves.{swapped_halves}
 use Rattle.key_files.specs.Meaning.{file_meaning, hex_meaning}
 use Rattle.key_files.specs.declared.fault.FileFault.{FileFault}
 use Rattle.key_files.specs.declared.fault.FileFault.TheVariants as files
-use Rattle.key_files.specs.declared.read.TheConstants.{MAX_FILE}
 use Rattle.key_wrap.specs.declared.forms.Form.{Form}
 use Rattle.key_wrap.specs.declared.faults.UnwrapFault.{UnwrapFault}
 use Rattle.key_wrap.specs.declared.faults.UnwrapFault.TheVariants as unwraps
@@ -14,9 +13,9 @@ use Rattle.keywrap_cli.specs.declared.drill.DrillFault.{DrillFault}
 use Rattle.keywrap_cli.specs.declared.drill.DrillFault.TheVariants.{TooLong, BadDigit, OddDigits, BadLength, Integrity, Memory}
 use Rattle.keywrap_cli.specs.Conversion.{IsAnswer, HasNoAnswer, IsInputLength}
 
--- what the text of a drill denotes: it is a hex file within the limit
+-- what the text of a drill denotes: it is a hex file of at most 65,536 bytes
 abbrev pub drill_meaning : List ℕ → Result (List ℕ) FileFault
-drill_meaning text = file_meaning hex_meaning MAX_FILE text
+drill_meaning text = file_meaning hex_meaning 65536 text
 
 -- the bytes that the text denotes, by cases: Memory comes only in their place
 abbrev pub TextAnswer : List ℕ → Result (Vec ℕ Global) DrillFault → Type 0

@@ -1,10 +1,12 @@
--- A job's answer, and what a call of it does to its files.
-use Rattle.std.specs.Prelude.{◌≡◌, ◌<◌, ◌≤◌, ◌+◌, ◌⊎◌, ⊤, ℕ, List, [], length, take, Option, Result, Ok, Err}
+-- A job's answer, and what a call of it does to its files. A call goes by steps: it reads the KEK file and takes
+-- its bytes for a KEK, reads the input file, makes the output, and writes it. It is refused at the first step that
+-- fails, and the later ones are not begun.
+use Rattle.std.specs.Prelude.{◌≡◌, ◌<◌, ◌≤◌, ◌+◌, ◌⊎◌, ◌↔◌, ⊤, ℕ, List, [], length, take, Option, Result, Ok, Err}
 use Rattle.std.specs.Io.KnownBytes.{Appends, Keeps, Consumes, IsAtEnd}
 use Rattle.aes_block.specs.Cipher.{cipher}
 use Rattle.aes_block.specs.KeyExpansion.{IsKekLength}
+use Rattle.key_files.specs.declared.fault.FileFault.{FileFault}
 use Rattle.key_files.specs.declared.fault.FileFault.TheVariants as files
-use Rattle.key_files.specs.declared.read.TheConstants.{MAX_FILE}
 use Rattle.keywrap_cli.specs.Conversion.{IsKeyOf}
 use Rattle.keywrap_cli.specs.Files.{Denotes, IsRefused, DenotesKek, printed}
 use Rattle.keywrap_cli.specs.Output.{IsOutput, HasBadLength, HasNoKey, IsDone}
@@ -50,38 +52,49 @@ LeavesOutput task F G old new (Err (KekFile files.Memory)) = ⊥
 LeavesOutput task F G old new (Err (InputFile files.Memory)) = ⊥
 LeavesOutput task F G old new (Err fault) = JobAnswer task F G (Err fault) × Keeps old new
 
--- the call was refused at the KEK file's place
-abbrev pub StopsAtKek : Result Done JobFault → Type 0
-StopsAtKek (Err (KekFile fault)) = ⊤
-StopsAtKek (Err KekLength) = ⊤
-StopsAtKek answer = ⊥
+-- the call was refused for its KEK file, or for the KEK in it
+abbrev pub IsKekRefused : Result Done JobFault → Type 0
+IsKekRefused (Err (KekFile fault)) = ⊤
+IsKekRefused (Err KekLength) = ⊤
+IsKekRefused answer = ⊥
 
 -- the KEK file was read to its end: no refusal stopped it, nor Read, nor perhaps Memory
-abbrev pub EndsKek : Result Done JobFault → Option (List ℕ) → Type 0
-EndsKek (Err (KekFile files.TooLong)) left = ⊤
-EndsKek (Err (KekFile files.Read)) left = ⊤
-EndsKek (Err Memory) left = ⊤
-EndsKek answer left = IsAtEnd left
+abbrev pub IsKekReadToEnd : Result Done JobFault → Option (List ℕ) → Type 0
+IsKekReadToEnd (Err (KekFile files.TooLong)) left = ⊤
+IsKekReadToEnd (Err (KekFile files.Read)) left = ⊤
+IsKekReadToEnd (Err Memory) left = ⊤
+IsKekReadToEnd answer left = IsAtEnd left
 
 -- the input was read to its end
-abbrev pub EndsInput : Result Done JobFault → Option (List ℕ) → Type 0
-EndsInput (Err (KekFile fault)) left = ⊤
-EndsInput (Err KekLength) left = ⊤
-EndsInput (Err (InputFile files.TooLong)) left = ⊤
-EndsInput (Err (InputFile files.Read)) left = ⊤
-EndsInput (Err Memory) left = ⊤
-EndsInput answer left = IsAtEnd left
+abbrev pub IsInputReadToEnd : Result Done JobFault → Option (List ℕ) → Type 0
+IsInputReadToEnd (Err (KekFile fault)) left = ⊤
+IsInputReadToEnd (Err KekLength) left = ⊤
+IsInputReadToEnd (Err (InputFile files.TooLong)) left = ⊤
+IsInputReadToEnd (Err (InputFile files.Read)) left = ⊤
+IsInputReadToEnd (Err Memory) left = ⊤
+IsInputReadToEnd answer left = IsAtEnd left
 
 -- nothing was taken from the input
 pub record IsUnread (old new : Option (List ℕ)) (taken : List ℕ) : Type 0 where
   pub nothing : taken ≡ []
   pub same : Keeps old new
 
--- the KEK's place was passed: its file was read to its end and denotes a KEK
-pub record PassesKek (task : Task) (F : List ℕ) (left : Option (List ℕ)) : Type 0 where
+-- the KEK file was read to its end and denotes a KEK
+pub record IsKekAccepted (task : Task) (F : List ℕ) (left : Option (List ℕ)) : Type 0 where
   pub K : List ℕ
   pub kek : DenotesKek task.kek F K
   pub end : IsAtEnd left
+
+-- the call gave up: a read failed, or a growth was refused
+abbrev pub GivesUp : Result Done JobFault → Type 0
+GivesUp (Err (KekFile files.Read)) = ⊤
+GivesUp (Err (InputFile files.Read)) = ⊤
+GivesUp (Err Memory) = ⊤
+GivesUp answer = ⊥
+
+-- the call was refused for this fault, unless it gave up
+abbrev pub IsRefusedFor : JobFault → Result Done JobFault → Type 0
+IsRefusedFor fault answer = (answer ≡ Err fault) ⊎ GivesUp answer
 
 -- What a call of a job does. Of the KEK file, the input and the writer the record takes what is known before
 -- the call and after it.
@@ -90,15 +103,23 @@ pub record RunsJob (task : Task) (kek kek' input input' out out' : Option (List 
   pub F : List ℕ
   pub G : List ℕ
   pub kek_taken : Consumes kek kek' F
-  pub kek_at_most : length F ≤ MAX_FILE + 1
+  pub kek_at_most : length F ≤ 65536 + 1
   pub input_taken : Consumes input input' G
-  pub input_at_most : length G ≤ MAX_FILE + 1
+  pub input_at_most : length G ≤ 65536 + 1
   -- a file is read to its end, unless it is too long or Read or Memory stops the call
-  pub kek_end : EndsKek answer kek'
-  pub input_end : EndsInput answer input'
-  -- the input is read only once the KEK's place is passed
-  pub in_order : IsUnread input input' G ⊎ PassesKek task F kek'
-  pub unread : StopsAtKek answer → IsUnread input input' G
+  pub kek_end : IsKekReadToEnd answer kek'
+  pub input_end : IsInputReadToEnd answer input'
+  -- the input is read only once the KEK is accepted
+  pub in_order : IsUnread input input' G ⊎ IsKekAccepted task F kek'
+  pub unread : IsKekRefused answer → IsUnread input input' G
+  -- a file is too long exactly where more than 65,536 bytes were taken from it
+  pub kek_too_long : (answer ≡ Err (KekFile files.TooLong)) ↔ (65536 < length F)
+  pub input_too_long : (answer ≡ Err (InputFile files.TooLong)) ↔ (65536 < length G)
+  -- bytes that a step refuses are answered by its refusal, unless the call gives up
+  pub kek_refused : (fault : FileFault) → IsRefused task.kek F fault → IsRefusedFor (KekFile fault) answer
+  pub kek_length : (K : List ℕ) → Denotes task.kek F K → ¬ IsKekLength (length K) → IsRefusedFor KekLength answer
+  pub input_refused : (K : List ℕ) → DenotesKek task.kek F K → (fault : FileFault) → IsRefused task.input G fault
+      → IsRefusedFor (InputFile fault) answer
   -- the answer to what was taken, and what it leaves in the writer
   pub leaves : LeavesOutput task F G out out' answer
 

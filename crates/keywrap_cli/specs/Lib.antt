@@ -3,6 +3,7 @@ pub mod Drill
 pub mod Files
 pub mod Job
 pub mod Output
-pub mod Places
+pub mod Published
+pub mod Readings
 pub mod Vectors
 pub mod Writing

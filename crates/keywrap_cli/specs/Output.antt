@@ -2,6 +2,8 @@
 use Rattle.std.specs.Prelude.{◌≡◌, ◌<◌, ℕ, List, [], ◌∷◌, ◌++◌, length, take, codes, Option, Result, Ok, Err}
 use Rattle.std.specs.Fmt.{decimal}
 use Rattle.std.specs.Io.KnownBytes.{Appends, Keeps}
+use Rattle.key_files.specs.declared.fault.HexWriteFault.{HexWriteFault}
+use Rattle.key_files.specs.declared.fault.HexWriteFault.TheVariants as hex_writes
 use Rattle.key_wrap.specs.Answer.{NoKey}
 use Rattle.key_wrap.specs.Kind.{IsKindOf}
 use Rattle.key_wrap.specs.declared.forms.Form.{Form}
@@ -79,8 +81,13 @@ job_fault_of unwraps.BadLength = BadLength
 job_fault_of unwraps.Integrity = Integrity
 job_fault_of unwraps.Memory = Memory
 
+-- a job's fault for that of a write in hex
+abbrev pub hex_write_fault_of : HexWriteFault → JobFault
+hex_write_fault_of hex_writes.Memory = Memory
+hex_write_fault_of (hex_writes.Write written) = Write written
+
 -- what a check of that kind has done
-abbrev pub done_for : Kind → Done
-done_for (kinds.Plain m) = Written
-done_for (kinds.Padded m) = Written
-done_for kinds.Neither = Neither
+abbrev pub done_of : Kind → Done
+done_of (kinds.Plain m) = Written
+done_of (kinds.Padded m) = Written
+done_of kinds.Neither = Neither

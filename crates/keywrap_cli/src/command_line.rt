@@ -36,7 +36,9 @@ pub fn parse<'a>(alloc: Global, words: &'a [String]) -> Result<Request<'a>, Erro
         Some(("unwrap", found)) => job(Job::Unwrap, found),
         Some(("check", found)) => job(Job::Check, found),
         Some(("drill", found)) => drill(found),
-        _ => Request::Vectors,
+        Some(("vectors", _)) => Request::Vectors,
+        // A command line without a subcommand, or with another, is refused by the parse itself.
+        _ => return Err(not_a_request(alloc)?),
     })
 }
 
@@ -44,6 +46,10 @@ pub fn parse<'a>(alloc: Global, words: &'a [String]) -> Result<Request<'a>, Erro
 pub fn not_text(alloc: Global) -> Result<Error, AllocError> {
     let message = "invalid UTF-8 was detected in one or more arguments";
     keywrap(alloc)?.error(ErrorKind::InvalidValue, message)
+}
+
+fn not_a_request(alloc: Global) -> Result<Error, AllocError> {
+    keywrap(alloc)?.error(ErrorKind::InvalidSubcommand, "unrecognized subcommand")
 }
 
 fn job<'a>(job: Job, found: &ArgMatches<'a>) -> Request<'a> {
@@ -72,6 +78,7 @@ fn drill<'a>(found: &ArgMatches<'a>) -> Request<'a> {
     }
 }
 
+// A flag that the command does not have, as `--padded` of `check`, is not set: a check looks at both forms.
 fn form_of(found: &ArgMatches<'_>) -> Form {
     if found.get_flag("padded") {
         Form::Padded
@@ -88,12 +95,13 @@ fn notation(found: &ArgMatches<'_>, flag: &str) -> Notation {
     }
 }
 
-// The value of an argument that the command requires: a parse without it is refused.
+// The value of an argument that the command requires. A parse without it is refused, so the empty text is
+// never met; it would be no file's name, and no key.
 fn text_of<'a>(found: &ArgMatches<'a>, id: &str) -> &'a str {
     found.get_str(id).unwrap_or("")
 }
 
-/// The command with its subcommands.
+// The command with its subcommands.
 fn keywrap<'a>(alloc: Global) -> Result<Command<'a>, AllocError> {
     Command::new(alloc, "keywrap")
         .bin_name("keywrap")?

@@ -1,7 +1,7 @@
 //! Wrapping and unwrapping in a direction and a form.
 
-ghost use Rattle.std.specs.Prelude.{◌≡◌};
-ghost use Rattle.keywrap_cli.specs.Conversion.{ConversionAnswer, WrapAnswer, unwrap_fault_of};
+ghost use Rattle.std.specs.Prelude.{◌≡◌, ℕ, List, IsOkUnless};
+ghost use Rattle.keywrap_cli.specs.Conversion.{ConversionAnswer, Converts, Stands, WrapAnswer, unwrap_fault_of};
 
 use block_pair::BlockPair;
 use key_wrap::{Form, UnwrapFault, WrapFault, unwrap, unwrap_padded, wrap, wrap_padded};
@@ -25,7 +25,12 @@ pub fn convert<B: BlockPair>(
     pair: &B,
     input: &[u8],
 ) -> Result<Vec<u8>, UnwrapFault>
-    ensures { ConversionAnswer direction form (B.encrypted pair.now) input.now result }
+    ensures answer { ConversionAnswer direction form (B.encrypted pair.now) input.now result }
+
+    // What has an answer is refused for want of memory alone.
+    ensures accepts { (output : List ℕ)
+        → Converts direction form (B.encrypted pair.now) input.now output
+        → IsOkUnless result UnwrapFault.Memory }
 {
     match direction {
         Direction::Wrap => wrap_in(alloc, form, pair, input).map_err(as_unwrap_fault),
@@ -53,7 +58,9 @@ fn unwrap_in<B: BlockPair>(
     pair: &B,
     text: &[u8],
 ) -> Result<Vec<u8>, UnwrapFault>
-    ensures { ConversionAnswer Direction.Unwrap form (B.encrypted pair.now) text.now result }
+    ensures answer { ConversionAnswer Direction.Unwrap form (B.encrypted pair.now) text.now result }
+    ensures accepts { (key : List ℕ) → Stands form (B.encrypted pair.now) key text.now
+        → IsOkUnless result UnwrapFault.Memory }
 {
     match form {
         Form::Plain => unwrap(alloc, pair, text),

@@ -2,8 +2,10 @@
 
 use crate::drill::DrillFault;
 use crate::job::JobFault;
+use crate::statuses;
 use crate::vectors::VectorsFault;
-use key_files::{FileFault, HexWriteFault};
+use key_files::{HexWriteFault, WriteFault};
+use std::alloc::AllocError;
 use std::fmt;
 use thiserror::Error;
 
@@ -19,7 +21,7 @@ pub enum ProgramFault {
     /// A drill was refused.
     #[error("{0}")]
     Drill(DrillFault),
-    /// The vectors, or the drill's answer, could not be written.
+    /// The help, the vectors or the drill's answer could not be written.
     #[error("output: refused after {written} bytes")]
     Write { written: usize },
     /// Standard output can't be flushed.
@@ -30,14 +32,9 @@ pub enum ProgramFault {
     Memory,
 }
 
-/// A fault's line on standard error.
+/// A fault's line on standard error: the program's name, and the fault's message.
 #[derive(Drop)]
 pub struct Line<'a>(&'a ProgramFault);
-
-/// The line of a fault: the program's name, and the fault's message.
-pub fn line_of(fault: &ProgramFault) -> Line<'_> {
-    Line(fault)
-}
 
 impl fmt::Display for Line<'_> {
     fn fmt<W: fmt::Write>(&self, f: &mut fmt::Formatter<W>) -> fmt::Result {
@@ -47,33 +44,50 @@ impl fmt::Display for Line<'_> {
 }
 
 impl ProgramFault {
+    /// The line on standard error that says the fault.
+    pub fn line(&self) -> Line<'_> {
+        Line(self)
+    }
+
     /// The exit status that says the fault.
     pub fn status(&self) -> u8 {
         match self {
-            ProgramFault::KekOpen | ProgramFault::Write { .. } | ProgramFault::Flush => 6,
+            ProgramFault::KekOpen | ProgramFault::Write { .. } | ProgramFault::Flush => {
+                statuses::INPUT_OUTPUT
+            }
             ProgramFault::Job(fault) => job_status(fault),
             ProgramFault::Drill(fault) => drill_status(fault),
-            ProgramFault::Memory => 7,
+            ProgramFault::Memory => statuses::MEMORY,
         }
     }
 }
 
 fn job_status(fault: &JobFault) -> u8 {
     match fault {
-        JobFault::KekLength => 3,
-        JobFault::BadLength => 4,
-        JobFault::Integrity => 5,
-        JobFault::KekFile(_) | JobFault::InputFile(_) | JobFault::Write { .. } => 6,
-        JobFault::Memory => 7,
+        JobFault::KekLength => statuses::KEK_LENGTH,
+        JobFault::BadLength => statuses::BAD_LENGTH,
+        JobFault::Integrity => statuses::FAILED,
+        JobFault::KekFile(_) | JobFault::InputFile(_) | JobFault::Write { .. } => {
+            statuses::INPUT_OUTPUT
+        }
+        JobFault::Memory => statuses::MEMORY,
     }
 }
 
 fn drill_status(fault: &DrillFault) -> u8 {
     match fault {
-        DrillFault::BadLength => 4,
-        DrillFault::Integrity => 5,
-        DrillFault::TooLong | DrillFault::BadDigit { .. } | DrillFault::OddDigits => 6,
-        DrillFault::Memory => 7,
+        DrillFault::BadLength => statuses::BAD_LENGTH,
+        DrillFault::Integrity => statuses::FAILED,
+        DrillFault::TooLong | DrillFault::BadDigit { .. } | DrillFault::OddDigits => {
+            statuses::INPUT_OUTPUT
+        }
+        DrillFault::Memory => statuses::MEMORY,
+    }
+}
+
+impl From<AllocError> for ProgramFault {
+    fn from(_error: AllocError) -> ProgramFault {
+        ProgramFault::Memory
     }
 }
 
@@ -91,6 +105,14 @@ impl From<HexWriteFault> for ProgramFault {
         match fault {
             HexWriteFault::Memory => ProgramFault::Memory,
             HexWriteFault::Write { written } => ProgramFault::Write { written },
+        }
+    }
+}
+
+impl From<WriteFault> for ProgramFault {
+    fn from(fault: WriteFault) -> ProgramFault {
+        ProgramFault::Write {
+            written: fault.written,
         }
     }
 }

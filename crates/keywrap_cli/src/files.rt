@@ -1,8 +1,9 @@
 //! The KEK file and the input of a job.
 
+ghost use Rattle.std.specs.Prelude.{◌≡◌};
 ghost use Rattle.key_files.specs.Reading.{ReadsAs, answer_of};
 ghost use Rattle.keywrap_cli.specs.Files.{meaning_in};
-ghost use Rattle.keywrap_cli.specs.Places.{AnswersInput, AnswersKek, MakesKek};
+ghost use Rattle.keywrap_cli.specs.Readings.{MakesKek, ReadsInput, ReadsKek, named_fault_of};
 
 use crate::job::{JobFault, Notation};
 use aes_block::Aes;
@@ -12,12 +13,20 @@ use std::io::Read;
 
 /// AES under the KEK that a file denotes.
 pub fn read_kek<K: Read>(alloc: Global, notation: Notation, kek: &mut K) -> Result<Aes, JobFault>
-    ensures { AnswersKek notation (K.remaining kek.old) (K.remaining kek.new) result }
+    ensures { ReadsKek notation (K.remaining kek.old) (K.remaining kek.new) result }
 {
     match read_file(alloc, notation, kek) {
         Ok(bytes) => under_kek(&bytes),
-        Err(FileFault::Memory) => Err(JobFault::Memory),
-        Err(fault) => Err(JobFault::KekFile(fault)),
+        Err(fault) => Err(kek_fault(fault)),
+    }
+}
+
+fn kek_fault(fault: FileFault) -> JobFault
+    ensures { result ≡ named_fault_of (λ f. JobFault.KekFile f) fault }
+{
+    match fault {
+        FileFault::Memory => JobFault::Memory,
+        fault => JobFault::KekFile(fault),
     }
 }
 
@@ -36,12 +45,20 @@ pub fn read_input<R: Read>(
     notation: Notation,
     input: &mut R,
 ) -> Result<Vec<u8>, JobFault>
-    ensures { AnswersInput notation (R.remaining input.old) (R.remaining input.new) result }
+    ensures { ReadsInput notation (R.remaining input.old) (R.remaining input.new) result }
 {
     match read_file(alloc, notation, input) {
         Ok(bytes) => Ok(bytes),
-        Err(FileFault::Memory) => Err(JobFault::Memory),
-        Err(fault) => Err(JobFault::InputFile(fault)),
+        Err(fault) => Err(input_fault(fault)),
+    }
+}
+
+fn input_fault(fault: FileFault) -> JobFault
+    ensures { result ≡ named_fault_of (λ f. JobFault.InputFile f) fault }
+{
+    match fault {
+        FileFault::Memory => JobFault::Memory,
+        fault => JobFault::InputFile(fault),
     }
 }
 
@@ -50,7 +67,8 @@ fn read_file<R: Read>(
     notation: Notation,
     reader: &mut R,
 ) -> Result<Vec<u8>, FileFault>
-    ensures { ReadsAs (meaning_in notation) MAX_FILE (R.remaining reader.old) (R.remaining reader.new) (answer_of result) }
+    ensures { ReadsAs (meaning_in notation) 65536
+        (R.remaining reader.old) (R.remaining reader.new) (answer_of result) }
 {
     match notation {
         Notation::Raw => read_raw(alloc, reader, MAX_FILE),

@@ -10,8 +10,10 @@ mod help;
 mod job;
 mod output;
 mod program;
+mod statuses;
 #[cfg(test)]
 mod tests;
+mod vector_check;
 mod vector_table;
 mod vectors;
 

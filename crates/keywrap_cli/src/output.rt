@@ -2,15 +2,15 @@
 
 ghost use Rattle.std.specs.Prelude.{◌≡◌, IfOk, string_bytes};
 ghost use Rattle.keywrap_cli.specs.Files.{printed};
-ghost use Rattle.keywrap_cli.specs.Output.{OutputAnswer, job_fault_of, job_of, kind_line, done_for};
+ghost use Rattle.keywrap_cli.specs.Output.{OutputAnswer, done_of, hex_write_fault_of, job_fault_of, job_of, kind_line};
 ghost use Rattle.keywrap_cli.specs.declared.job.Task.{Task};
 ghost use Rattle.keywrap_cli.specs.Writing.{Sends};
 
 use crate::convert::{Direction, convert};
 use crate::job::{Done, Job, JobFault, Notation, Task};
 use block_pair::BlockPair;
-use key_files::{HexWriteFault, write_hex, write_raw};
-use key_wrap::{Kind, UnwrapFault, kind};
+use key_files::{HexWriteFault, WriteFault, write_hex, write_raw};
+use key_wrap::{Kind, KindFault, UnwrapFault, kind};
 use std::alloc::{AllocError, Global};
 use std::io::Write;
 
@@ -69,9 +69,17 @@ fn send<W: Write>(
         Notation::Raw => send_raw(bytes, out),
         Notation::Hex => match write_hex(alloc, out, bytes) {
             Ok(()) => Ok(()),
-            Err(HexWriteFault::Memory) => Err(JobFault::Memory),
-            Err(HexWriteFault::Write { written }) => Err(JobFault::Write { written }),
+            Err(fault) => Err(hex_write_fault(fault)),
         },
+    }
+}
+
+fn hex_write_fault(fault: HexWriteFault) -> JobFault
+    ensures { result ≡ hex_write_fault_of fault }
+{
+    match fault {
+        HexWriteFault::Memory => JobFault::Memory,
+        HexWriteFault::Write { written } => JobFault::Write { written },
     }
 }
 
@@ -80,9 +88,15 @@ fn send_raw<W: Write>(bytes: &[u8], out: &mut W) -> Result<(), JobFault>
 {
     match write_raw(out, bytes) {
         Ok(()) => Ok(()),
-        Err(fault) => Err(JobFault::Write {
-            written: fault.written,
-        }),
+        Err(fault) => Err(write_fault(fault)),
+    }
+}
+
+fn write_fault(fault: WriteFault) -> JobFault
+    ensures { result ≡ JobFault.Write fault.written }
+{
+    JobFault::Write {
+        written: fault.written,
     }
 }
 
@@ -95,18 +109,34 @@ fn write_kind<B: BlockPair, W: Write>(
 ) -> Result<Done, JobFault>
     ensures { (task : Task) → OutputAnswer Job.Check task (B.encrypted pair.now) text.now (W.contents out.old) (W.contents out.new) result }
 {
-    let Ok(found) = kind(alloc, pair, text) else {
-        return Err(JobFault::Memory);
+    let found = match kind(alloc, pair, text) {
+        Ok(found) => found,
+        Err(fault) => return Err(kind_fault(fault)),
     };
-    let Ok(line) = line_of(alloc, found) else {
-        return Err(JobFault::Memory);
+    let line = match kind_line(alloc, found) {
+        Ok(line) => line,
+        Err(error) => return Err(line_fault(error)),
     };
     send_raw(line.as_bytes(), out)?;
     Ok(done_of(found))
 }
 
+fn kind_fault(fault: KindFault) -> JobFault
+    ensures { result ≡ JobFault.Memory }
+{
+    match fault {
+        KindFault::Memory => JobFault::Memory,
+    }
+}
+
+fn line_fault(_error: AllocError) -> JobFault
+    ensures { result ≡ JobFault.Memory }
+{
+    JobFault::Memory
+}
+
 fn done_of(kind: Kind) -> Done
-    ensures { result ≡ done_for kind }
+    ensures { result ≡ done_of kind }
 {
     match kind {
         Kind::Plain(_) | Kind::Padded(_) => Done::Written,
@@ -115,7 +145,7 @@ fn done_of(kind: Kind) -> Done
 }
 
 // The line of a check.
-fn line_of(alloc: Global, kind: Kind) -> Result<String, AllocError>
+fn kind_line(alloc: Global, kind: Kind) -> Result<String, AllocError>
     ensures { IfOk result (λ line. string_bytes line ≡ kind_line kind) }
 {
     match kind {

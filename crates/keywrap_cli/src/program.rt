@@ -1,24 +1,25 @@
 //! The program: from its words to its exit status.
 
+ghost use Rattle.std.specs.Prelude.{◌≡◌, IfOk};
+ghost use Rattle.std.specs.List.{AllByRecursion};
+ghost use Rattle.keywrap_cli.specs.Published.{published_vectors};
+ghost use Rattle.keywrap_cli.specs.Vectors.{IsRight};
+
 use crate::command_line::{Request, not_text, parse};
 use crate::convert::Direction;
 use crate::drill::drill;
-use crate::fault::{ProgramFault, line_of};
+use crate::fault::ProgramFault;
 use crate::job::{Done, Task, run_job};
+use crate::statuses;
 use crate::vectors::vectors;
 use clap::Error;
 use clap::error::ErrorKind;
-use key_files::write_hex;
+use key_files::{write_hex, write_raw};
 use key_wrap::Form;
-use std::alloc::AllocError;
+use std::alloc::{AllocError, Global};
 use std::io::{self, Write};
 use std::rt::{Env, Files};
 use std::{env, fs};
-
-// The status of a refused command line, and of a check or a vector that failed.
-const REFUSED_WORDS: u8 = 2;
-
-const FAILED: u8 = 5;
 
 /// Runs the program on the words that it was started with, and answers its exit status.
 pub fn run<R: Print + Eprint + Input + AllocGlobal + Files + Env>(rt: &R) -> u8 {
@@ -46,33 +47,33 @@ fn refuse_words<R: Print + Eprint + AllocGlobal>(rt: &R) -> u8 {
 
 // Answers a request, and says what stood in the way on standard error.
 fn answer<R: Print + Eprint + Input + AllocGlobal + Files>(rt: &R, wanted: Request<'_>) -> u8 {
+    let mut out = io::writer(rt);
     let done = match wanted {
         Request::Drill {
             form,
             direction,
             text,
-        } => run_drill(rt, form, direction, text),
+        } => run_drill(rt.alloc(), form, direction, text, &mut out),
         Request::Job { task, kek } => run_task(rt, task, kek),
-        Request::Vectors => run_vectors(rt),
+        Request::Vectors => run_vectors(rt.alloc(), &mut out),
     };
-    match done {
-        Ok(status) => status,
-        Err(fault) => refuse(rt, &fault),
-    }
+    end(rt, done)
 }
 
-fn run_drill<R: Print + AllocGlobal>(
-    rt: &R,
+// The drill of a text, on one line of hex digits.
+pub(crate) fn run_drill<W: Write>(
+    alloc: Global,
     form: Form,
     direction: Direction,
     text: &str,
+    out: &mut W,
 ) -> Result<u8, ProgramFault> {
-    let bytes = drill(rt.alloc(), form, direction, text).map_err(ProgramFault::Drill)?;
-    let mut out = io::writer(rt);
-    write_hex(rt.alloc(), &mut out, &bytes)?;
-    flush(&mut out, 0)
+    let bytes = drill(alloc, form, direction, text).map_err(ProgramFault::Drill)?;
+    write_hex(alloc, out, &bytes)?;
+    flush(out, statuses::DONE)
 }
 
+// A job on standard input, under the KEK in a file, which is opened before anything is read.
 fn run_task<R: Print + Input + AllocGlobal + Files>(
     rt: &R,
     task: Task,
@@ -82,44 +83,67 @@ fn run_task<R: Print + Input + AllocGlobal + Files>(
     let mut out = io::writer(rt);
     let done = run_job(rt.alloc(), task, &mut kek, &mut rt.reader(), &mut out);
     match done.map_err(ProgramFault::Job)? {
-        Done::Written => flush(&mut out, 0),
-        Done::Neither => flush(&mut out, FAILED),
+        Done::Written => flush(&mut out, statuses::DONE),
+        Done::Neither => flush(&mut out, statuses::FAILED),
     }
 }
 
-fn run_vectors<R: Print + AllocGlobal>(rt: &R) -> Result<u8, ProgramFault> {
-    let mut out = io::writer(rt);
-    if vectors(rt.alloc(), &mut out)? {
-        flush(&mut out, 0)
+// The published vectors.
+pub(crate) fn run_vectors<W: Write>(alloc: Global, out: &mut W) -> Result<u8, ProgramFault>
+    ensures done { IfOk result (λ status.
+        AllByRecursion IsRight published_vectors → status ≡ 0) }
+    ensures failed { IfOk result (λ status.
+        ¬ AllByRecursion IsRight published_vectors → status ≡ 5) }
+{
+    if vectors(alloc, out)? {
+        flush(out, statuses::DONE)
     } else {
-        flush(&mut out, FAILED)
+        flush(out, statuses::FAILED)
     }
+}
+
+// The help or the version. The text is made whole before it is written.
+pub(crate) fn write_help<W: Write>(
+    alloc: Global,
+    help: &Error,
+    out: &mut W,
+) -> Result<u8, ProgramFault> {
+    let text = format!(in alloc; "{help}")?;
+    write_raw(out, text.as_bytes())?;
+    flush(out, statuses::DONE)
 }
 
 // Flushes the output, and answers the status of a call that ended without a fault.
-fn flush<W: Write>(out: &mut W, status: u8) -> Result<u8, ProgramFault> {
+fn flush<W: Write>(out: &mut W, status: u8) -> Result<u8, ProgramFault>
+    ensures { IfOk result (λ answer. answer ≡ status) }
+{
     out.flush().map_err(|_| ProgramFault::Flush)?;
     Ok(status)
 }
 
+// The exit status of a request that was answered or refused.
+fn end<R: Eprint>(rt: &R, done: Result<u8, ProgramFault>) -> u8 {
+    match done {
+        Ok(status) => status,
+        Err(fault) => refuse(rt, &fault),
+    }
+}
+
 // Says what stood in the way. Nothing is left to do where standard error is closed too.
 fn refuse<R: Eprint>(rt: &R, fault: &ProgramFault) -> u8 {
-    let _ = rt.eprintln(line_of(fault));
+    let _ = rt.eprintln(fault.line());
     fault.status()
 }
 
 // Help goes to standard output, and what is wrong with the words to standard error.
-fn explain<R: Print + Eprint>(rt: &R, error: &Error) -> u8 {
+fn explain<R: Print + Eprint + AllocGlobal>(rt: &R, error: &Error) -> u8 {
     if error.kind() == ErrorKind::OutOfMemory {
         return refuse(rt, &ProgramFault::Memory);
     }
-    let printed = error.print(rt);
-    // Nothing is left to do where standard error is closed too.
     if error.use_stderr() {
-        return REFUSED_WORDS;
+        // Nothing is left to do where standard error is closed too.
+        let _ = rt.eprint(error);
+        return statuses::REFUSED_WORDS;
     }
-    match printed {
-        Ok(()) => 0,
-        Err(_) => refuse(rt, &ProgramFault::Write { written: 0 }),
-    }
+    end(rt, write_help(rt.alloc(), error, &mut io::writer(rt)))
 }

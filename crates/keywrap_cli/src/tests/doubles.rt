@@ -3,31 +3,41 @@
 use std::alloc::Global;
 use std::io::{self, Read, Write};
 
-/// Gives one byte a read, then the fault or the end.
+/// Gives some bytes a read, and then fails or ends.
 #[derive(Drop)]
 pub struct Trickle<'a> {
     rest: &'a [u8],
+    // The most bytes that a read gives.
+    size: usize,
     fails: bool,
     reads: usize,
 }
 
 impl<'a> Trickle<'a> {
+    /// One byte a read, and then the end.
     pub fn ending(bytes: &'a [u8]) -> Self {
+        Trickle::in_pieces(bytes, 1)
+    }
+
+    /// One byte a read, and then an error.
+    pub fn failing(bytes: &'a [u8]) -> Self {
+        Trickle {
+            fails: true,
+            ..Trickle::ending(bytes)
+        }
+    }
+
+    /// Up to `size` bytes a read, and then the end.
+    pub fn in_pieces(bytes: &'a [u8], size: usize) -> Self {
         Trickle {
             rest: bytes,
+            size,
             fails: false,
             reads: 0,
         }
     }
 
-    pub fn failing(bytes: &'a [u8]) -> Self {
-        Trickle {
-            rest: bytes,
-            fails: true,
-            reads: 0,
-        }
-    }
-
+    /// Whether no read was made.
     pub fn is_unread(&self) -> bool {
         self.reads == 0
     }
@@ -36,18 +46,13 @@ impl<'a> Trickle<'a> {
 impl Read for Trickle<'_> {
     fn read(&mut self, buf: &mut [u8]) -> io::Result<usize> {
         self.reads = self.reads.saturating_add(1);
-        if buf.is_empty() {
-            return Ok(0);
+        if self.rest.is_empty() && self.fails {
+            return Err(io::Error::from(io::ErrorKind::Interrupted));
         }
-        match self.rest {
-            [first, others @ ..] => {
-                buf[0] = *first;
-                self.rest = others;
-                Ok(1)
-            }
-            [] if self.fails => Err(io::Error::from(io::ErrorKind::Interrupted)),
-            [] => Ok(0),
-        }
+        let count = self.rest.len().min(self.size).min(buf.len());
+        buf[..count].copy_from_slice(&self.rest[..count]);
+        self.rest = &self.rest[count..];
+        Ok(count)
     }
 }
 
@@ -58,10 +63,12 @@ pub struct Endless {
 }
 
 impl Endless {
+    /// A reader of zeros.
     pub fn new() -> Self {
         Endless { given: 0 }
     }
 
+    /// How many bytes were given.
     pub fn given(&self) -> usize {
         self.given
     }
@@ -81,27 +88,38 @@ pub struct Narrow {
     out: Vec<u8>,
     room: usize,
     fails: bool,
+    is_flushed: bool,
 }
 
 impl Narrow {
+    /// Fails once `room` bytes are taken.
     pub fn failing(alloc: Global, room: usize) -> Self {
         Narrow {
             out: Vec::new(alloc),
             room,
             fails: true,
+            is_flushed: false,
         }
     }
 
+    /// Takes none once `room` bytes are taken.
     pub fn full(alloc: Global, room: usize) -> Self {
         Narrow {
             out: Vec::new(alloc),
             room,
             fails: false,
+            is_flushed: false,
         }
     }
 
+    /// What was taken.
     pub fn out(&self) -> &[u8] {
         &self.out
+    }
+
+    /// Whether a flush was asked for.
+    pub fn is_flushed(&self) -> bool {
+        self.is_flushed
     }
 }
 
@@ -117,6 +135,7 @@ impl Write for Narrow {
     }
 
     fn flush(&mut self) -> io::Result<()> {
+        self.is_flushed = true;
         Ok(())
     }
 }

@@ -1,7 +1,7 @@
 //! The lines on standard error and the exit statuses.
 
 use crate::drill::DrillFault;
-use crate::fault::{ProgramFault, line_of};
+use crate::fault::ProgramFault;
 use crate::job::JobFault;
 use key_files::FileFault;
 use std::test::Fail;
@@ -55,10 +55,7 @@ fn says_each_fault_of_a_job(rt: HostRuntime) -> Result<(), Fail> {
     ];
     for (fault, line, status) in rows {
         let fault = ProgramFault::Job(fault);
-        assert_eq!(rt;
-            format!(in rt.alloc(); "{}", line_of(&fault))?.as_str(),
-            line
-        );
+        assert_eq!(rt; format!(in rt.alloc(); "{}", fault.line())?.as_str(), line);
         assert_eq!(rt; fault.status(), status);
     }
     Ok(())
@@ -84,10 +81,7 @@ fn says_each_fault_of_a_drill(rt: HostRuntime) -> Result<(), Fail> {
     ];
     for (fault, line, status) in rows {
         let fault = ProgramFault::Drill(fault);
-        assert_eq!(rt;
-            format!(in rt.alloc(); "{}", line_of(&fault))?.as_str(),
-            line
-        );
+        assert_eq!(rt; format!(in rt.alloc(); "{}", fault.line())?.as_str(), line);
         assert_eq!(rt; fault.status(), status);
     }
     Ok(())
@@ -110,10 +104,7 @@ fn says_each_fault_of_the_program(rt: HostRuntime) -> Result<(), Fail> {
         (ProgramFault::Memory, "keywrap: out of memory", 7),
     ];
     for (fault, line, status) in rows {
-        assert_eq!(rt;
-            format!(in rt.alloc(); "{}", line_of(&fault))?.as_str(),
-            line
-        );
+        assert_eq!(rt; format!(in rt.alloc(); "{}", fault.line())?.as_str(), line);
         assert_eq!(rt; fault.status(), status);
     }
     Ok(())

@@ -1,7 +1,10 @@
-use Rattle.keywrap_cli.proofs.Places.{kek_of_bytes}
+use Rattle.keywrap_cli.proofs.Readings.{kek_of_bytes, kek_of_fault}
 use Rattle.keywrap_cli.proofs.files.read_kek.Goals as goal
 
 pub returns-in-Ok : goal.returns-in-Ok
 returns-in-Ok g c =
     kek_of_bytes c.args.notation _ _ c.in-Ok.bytes.items c.under_kek.result c.in-Ok.ensures
     (rw c.deref.ensures.value at c.under_kek.ensures)
+
+pub returns-in-Err : goal.returns-in-Err
+returns-in-Err g c = rw c.kek_fault.ensures (kek_of_fault c.args.notation _ _ c.in-Err.fault c.in-Err.ensures)

@@ -1,7 +1,8 @@
+use Rattle.keywrap_cli.specs.Vectors.{shown}
 use Rattle.keywrap_cli.proofs.Reports.{report_step}
 use Rattle.keywrap_cli.proofs.vectors.report_on.Goals as goal
 
 pub loop-vector-preserved : goal.loop-vector-preserved
 loop-vector-preserved c =
-    report_step _ c.args.table.now c.loop-vector.vector-index _ (_) _ _ _ c.in_ok-ok.ok c.loop-vector-test.true
-    c.loop-vector.invariant c.in_ok-add_line.ensures.line c.in_ok-add_line.ensures.all
+    report_step shown c.args.table.now c.loop-vector.vector-index _ (_) _ _ _ c.in_ok-ok.ok c.loop-vector-test.true
+    c.loop-vector.invariant c.in_ok-ok.ensures c.in_ok-add_line.ensures.line c.in_ok-add_line.ensures.all

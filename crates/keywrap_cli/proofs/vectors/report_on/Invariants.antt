@@ -1,7 +1,7 @@
 use Rattle.std.proofs.Common.{map, take, string_bytes}
-use Rattle.keywrap_cli.specs.Vectors.{IsReport}
+use Rattle.keywrap_cli.specs.Vectors.{IsReport, shown}
 use Rattle.keywrap_cli.proofs.vectors.report_on.Given as goal
 
 abbrev pub invariant-loop-vector : goal.invariant-loop-vector
 invariant-loop-vector l =
-    IsReport (map (λ v. v.name.now) (take l.vector-index l.table)) (string_bytes l.report.text) l.report.all_ok
+    IsReport (map shown (take l.vector-index l.table)) (string_bytes l.report.text) l.report.all_ok

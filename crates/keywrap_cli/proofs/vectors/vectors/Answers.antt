@@ -1,6 +1,9 @@
 use Rattle.std.proofs.Common.{◌≡◌}
-use Rattle.keywrap_cli.proofs.Reports.{front_of_report}
+use Rattle.keywrap_cli.proofs.Reports.{all_right, front_of_report}
 use Rattle.keywrap_cli.proofs.vectors.vectors.Goals as goal
+
+pub returns-in-Ok-write_raw-clause-all_right : goal.returns-in-Ok-write_raw-clause-all_right
+returns-in-Ok-write_raw-clause-all_right g c = all_right _ _ c.in-Ok.report.all_ok c.in-Ok.ensures
 
 pub returns-clause-front : goal.returns-clause-front
 returns-clause-front g c = λ written e.

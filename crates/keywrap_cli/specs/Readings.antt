@@ -1,0 +1,59 @@
+-- What the first two steps of a job answer: its KEK file is read to a KEK, and its input file to bytes.
+use Rattle.std.specs.Prelude.{◌≡◌, ◌<◌, ◌≤◌, ◌+◌, ◌↔◌, ⊤, ℕ, List, length, Option, Result, Ok, Err, Vec}
+use Rattle.std.specs.Io.KnownBytes.{Consumes, IsAtEnd}
+use Rattle.std.specs.declared.alloc.Global.{Global}
+use Rattle.aes_block.specs.KeyExpansion.{IsKekLength}
+use Rattle.key_files.specs.declared.fault.FileFault.{FileFault}
+use Rattle.key_files.specs.declared.fault.FileFault.TheVariants as files
+use Rattle.keywrap_cli.specs.Files.{Denotes, IsRefused, DenotesKek}
+use Rattle.keywrap_cli.specs.declared.job.JobFault.{JobFault}
+use Rattle.keywrap_cli.specs.declared.job.JobFault.TheVariants.{KekFile, KekLength, InputFile, Memory}
+use Rattle.keywrap_cli.specs.declared.job.Notation.{Notation}
+
+-- the KEK, or why there is none, for the bytes F that were taken, with what is left in the reader
+abbrev pub KekAnswer : Notation → List ℕ → Option (List ℕ) → Result (List ℕ) JobFault → Type 0
+KekAnswer notation F left (Ok K) = DenotesKek notation F K × IsAtEnd left
+KekAnswer notation F left (Err (KekFile files.Read)) = ⊤
+KekAnswer notation F left (Err (KekFile files.TooLong)) = IsRefused notation F files.TooLong
+KekAnswer notation F left (Err (KekFile files.Memory)) = ⊥
+KekAnswer notation F left (Err (KekFile fault)) = IsRefused notation F fault × IsAtEnd left
+KekAnswer notation F left (Err KekLength) = ((K : List ℕ) × Denotes notation F K × ¬ IsKekLength (length K)) × IsAtEnd left
+KekAnswer notation F left (Err Memory) = ⊤
+KekAnswer notation F left (Err fault) = ⊥
+
+-- the KEK that bytes are, or their refusal
+abbrev pub MakesKek : List ℕ → Result (List ℕ) JobFault → Type 0
+MakesKek bytes (Ok K) = (K ≡ bytes) × IsKekLength (length bytes)
+MakesKek bytes (Err KekLength) = ¬ IsKekLength (length bytes)
+MakesKek bytes (Err fault) = ⊥
+
+-- what the call that reads the KEK file takes from it, and answers
+pub record ReadsKek (notation : Notation) (old new : Option (List ℕ)) (answer : Result (List ℕ) JobFault) : Type 0 where
+  pub taken : List ℕ
+  pub stands_after : Consumes old new taken
+  pub at_most : length taken ≤ 65536 + 1
+  pub too_long : (answer ≡ Err (KekFile files.TooLong)) ↔ (65536 < length taken)
+  pub answers : KekAnswer notation taken new answer
+
+-- the input's bytes, or why there are none
+abbrev pub InputAnswer : Notation → List ℕ → Option (List ℕ) → Result (Vec ℕ Global) JobFault → Type 0
+InputAnswer notation G left (Ok X) = Denotes notation G X.items × IsAtEnd left
+InputAnswer notation G left (Err (InputFile files.Read)) = ⊤
+InputAnswer notation G left (Err (InputFile files.TooLong)) = IsRefused notation G files.TooLong
+InputAnswer notation G left (Err (InputFile files.Memory)) = ⊥
+InputAnswer notation G left (Err (InputFile fault)) = IsRefused notation G fault × IsAtEnd left
+InputAnswer notation G left (Err Memory) = ⊤
+InputAnswer notation G left (Err fault) = ⊥
+
+-- what the call that reads the input file takes from it, and answers
+pub record ReadsInput (notation : Notation) (old new : Option (List ℕ)) (answer : Result (Vec ℕ Global) JobFault) : Type 0 where
+  pub taken : List ℕ
+  pub stands_after : Consumes old new taken
+  pub at_most : length taken ≤ 65536 + 1
+  pub too_long : (answer ≡ Err (InputFile files.TooLong)) ↔ (65536 < length taken)
+  pub answers : InputAnswer notation taken new answer
+
+-- a job's fault for a file's: want of memory is the job's own, and any other fault bears the file's name
+abbrev pub named_fault_of : (FileFault → JobFault) → FileFault → JobFault
+named_fault_of name files.Memory = Memory
+named_fault_of name fault = name fault

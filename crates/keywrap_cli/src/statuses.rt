@@ -1,0 +1,22 @@
+//! The exit statuses of the program.
+
+/// The answer was written.
+pub const DONE: u8 = 0;
+
+/// The command line was refused.
+pub const REFUSED_WORDS: u8 = 2;
+
+/// The KEK has not 16, 24 or 32 bytes.
+pub const KEK_LENGTH: u8 = 3;
+
+/// The key or the text has no legal length in its form.
+pub const BAD_LENGTH: u8 = 4;
+
+/// The integrity check failed, a check found no wrapping, or a vector failed.
+pub const FAILED: u8 = 5;
+
+/// A file or the output could not be opened, read or written.
+pub const INPUT_OUTPUT: u8 = 6;
+
+/// A growth was refused.
+pub const MEMORY: u8 = 7;

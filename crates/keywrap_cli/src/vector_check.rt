@@ -1,0 +1,124 @@
+//! Whether a vector is right.
+
+ghost use Rattle.std.specs.Prelude.{◌≡◌, ◌≢◌, ◌↔◌, ℕ, List, length, IfOk, IsTrue, MatchOption, Ok};
+ghost use Rattle.block_pair.specs.Words.{IsBlock};
+ghost use Rattle.key_files.specs.Meaning.{hex_meaning};
+ghost use Rattle.keywrap_cli.specs.Conversion.{Converts, Stands};
+ghost use Rattle.keywrap_cli.specs.Vectors.{IsRight, Takes, shown};
+
+use crate::convert::{Direction, convert};
+use crate::vector_table::{Operation, Vector};
+use aes_block::Aes;
+use block_pair::BlockPair;
+use key_files::{FileFault, decode_hex};
+use key_wrap::{Form, UnwrapFault};
+use std::alloc::{AllocError, Global};
+
+/// Whether a vector's texts denote a KEK, an input and the output to which its operation takes the
+/// input under AES of the KEK. Both directions are computed.
+pub fn is_right(alloc: Global, vector: &Vector<'_>) -> Result<bool, AllocError>
+    ensures { IfOk result (λ right. IsTrue right ↔ IsRight (shown vector.now)) }
+{
+    let Some(key) = bytes_of(alloc, vector.key)? else {
+        return Ok(false);
+    };
+    let Some(input) = bytes_of(alloc, vector.input)? else {
+        return Ok(false);
+    };
+    let Some(output) = bytes_of(alloc, vector.output)? else {
+        return Ok(false);
+    };
+    let Ok(aes) = Aes::new(&key) else {
+        return Ok(false);
+    };
+    takes(alloc, vector.operation, &aes, &input, &output)
+}
+
+// The bytes that a hex text denotes, if it denotes any.
+fn bytes_of(alloc: Global, text: &str) -> Result<Option<Vec<u8>>, AllocError>
+    ensures { IfOk result (λ found. MatchOption found
+        ((bytes : List ℕ) → hex_meaning text.now ≢ Ok bytes)
+        (λ bytes. hex_meaning text.now ≡ Ok bytes.items)) }
+{
+    match decode_hex(alloc, text.as_bytes()) {
+        Ok(bytes) => Ok(Some(bytes)),
+        Err(fault) => match fault {
+            FileFault::Memory => Err(AllocError),
+            _ => Ok(None),
+        },
+    }
+}
+
+// Whether an operation takes the input to the output, and its inverse takes the output back.
+fn takes<B: BlockPair>(
+    alloc: Global,
+    operation: Operation,
+    pair: &B,
+    input: &[u8],
+    output: &[u8],
+) -> Result<bool, AllocError>
+    ensures { IfOk result (λ right. IsTrue right
+        ↔ Takes operation (B.encrypted pair.now) input.now output.now) }
+{
+    match operation {
+        Operation::KeyWrap(form) => wraps(alloc, form, pair, input, output),
+        Operation::Encryption => Ok(encrypts(pair, input, output)),
+    }
+}
+
+fn wraps<B: BlockPair>(
+    alloc: Global,
+    form: Form,
+    pair: &B,
+    key: &[u8],
+    text: &[u8],
+) -> Result<bool, AllocError>
+    ensures { IfOk result (λ right. IsTrue right
+        ↔ Stands form (B.encrypted pair.now) key.now text.now) }
+{
+    let there = converts(alloc, Direction::Wrap, form, pair, key, text)?;
+    let back = converts(alloc, Direction::Unwrap, form, pair, text, key)?;
+    Ok(there && back)
+}
+
+// Whether the conversion of the one answers the other.
+fn converts<B: BlockPair>(
+    alloc: Global,
+    direction: Direction,
+    form: Form,
+    pair: &B,
+    input: &[u8],
+    output: &[u8],
+) -> Result<bool, AllocError>
+    ensures { IfOk result (λ right. IsTrue right
+        ↔ Converts direction form (B.encrypted pair.now) input.now output.now) }
+{
+    match convert(alloc, direction, form, pair, input) {
+        Ok(answer) => Ok(answer.as_slice() == output),
+        Err(UnwrapFault::Memory) => Err(AllocError),
+        Err(UnwrapFault::BadLength | UnwrapFault::Integrity) => Ok(false),
+    }
+}
+
+// Whether the cipher takes one block to the other, and the inverse cipher takes it back.
+fn encrypts<B: BlockPair>(pair: &B, plain: &[u8], encrypted: &[u8]) -> bool
+    ensures { IsTrue result ↔ (IsBlock plain.now × (B.encrypted pair.now plain.now ≡ encrypted.now)) }
+{
+    let Some(plain) = block_of(plain) else {
+        return false;
+    };
+    let there = pair.enc(plain);
+    there.as_slice() == encrypted && pair.dec(there) == plain
+}
+
+fn block_of(bytes: &[u8]) -> Option<[u8; 16]>
+    ensures { MatchOption result (length bytes.now ≢ 16)
+        (λ block. (block ≡ bytes.now) × IsBlock bytes.now) }
+{
+    if bytes.len() != 16 {
+        return None;
+    }
+    let mut block = [0; 16];
+    block.copy_from_slice(bytes);
+    Some(block)
+}
