@@ -3,7 +3,7 @@ use Rattle.std.proofs.Common.{◌≡◌, ◌≢◌, ◌↔◌, ℕ, ◌<◌, ◌
 use Rattle.std.specs.declared.alloc.Global.{Global}
 use Rattle.std.proofs.lemmas.Bool.{lt-ltb, le-ltb}
 use Rattle.key_files.specs.HexText.{first_bad, digits_of}
-use Rattle.key_files.specs.Meaning.{file_meaning, hex_meaning, spelled}
+use Rattle.key_files.specs.Meaning.{file_meaning, hex_meaning, digits_meaning}
 use Rattle.key_files.specs.declared.fault.FileFault.{FileFault}
 use Rattle.key_files.specs.declared.fault.FileFault.TheVariants as files
 use Rattle.key_files.specs.declared.read.TheConstants.{MAX_FILE}
@@ -18,7 +18,7 @@ odd_or_paired false bytes fault other e = cc
 
 -- a text by itself is refused for a bad digit or for odd digits alone
 spelled_faults : (bad : Option ℕ) (digits : List ℕ) (fault : FileFault) → ((at : ℕ) → fault ≢ files.BadDigit at)
-    → fault ≢ files.OddDigits → spelled bad digits ≢ Err fault
+    → fault ≢ files.OddDigits → digits_meaning bad digits ≢ Err fault
 spelled_faults (Some at) digits fault not_bad not_odd e = not_bad at (cc)
 spelled_faults None digits fault not_bad not_odd e = odd_or_paired _ _ fault not_odd e
 
