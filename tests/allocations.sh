@@ -131,21 +131,7 @@ fi
 # one allocation more.
 export GLIBC_TUNABLES=glibc.malloc.mmap_threshold=1:glibc.malloc.mmap_max=1000000
 
-# runs_in KILOBYTES INPUT ARGUMENT..: runs the program with this address space.
-runs_in() {
-    (
-        ulimit -c 0
-        ulimit -v "$1"
-        exec "$program" "${@:3}" <"$2" >out 2>err
-    ) 2>/dev/null
-    status=$?
-}
-
-# The least memory in which the system starts the program.
-for ((start = 1024; start < 65536; start += 4)); do
-    runs_in $start /dev/null --version
-    case $status in 0 | 7) break ;; esac
-done
+read -r kind start <<<"$(least)"
 
 # grows NAME INPUT ARGUMENT..: one row, of runs in ever more memory until one is not refused for it.
 grows() {
@@ -153,11 +139,12 @@ grows() {
     shift 2
     with_memory "$input" "$@"
     for ((kilobytes = start; kilobytes < start + 4096; kilobytes += 4)); do
-        runs_in $kilobytes "$input" "$@"
+        limited "$kind" $kilobytes "$@" <"$input" >out 2>err
+        status=$?
         gave_up || break
     done
     is_answer || problem="$kilobytes kilobytes: status $status, output $(shown out), error $(shown err)"
-    [ $kilobytes -gt $start ] || problem="$problem; no run was refused"
+    [ $kilobytes -gt "$start" ] || problem="$problem; no run was refused"
     verdict "ever more memory for $name" "$problem"
 }
 each grows
