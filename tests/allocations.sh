@@ -62,7 +62,7 @@ compiled() {
 # fails_each NAME STATUS ANSWER LINE INPUT ARGUMENT..: one row, of as many runs as there are
 # allocations, twice.
 fails_each() {
-    local input call from problem='' ended=("$2" "$3" "$4")
+    local input call from problem='' answer=("$2" "$3" "$4")
     input=$(file_of "$5")
     for from in '' +; do
         for ((call = 1; ; call++)); do
@@ -70,10 +70,10 @@ fails_each() {
                 <"$input" >out 2>err 9>met
             status=$?
             [ -s met ] || break
-            gave_up || is_answer "${ended[@]}" ||
+            gave_up || is_answer "${answer[@]}" ||
                 problem="$problem; allocation $call$from: status $status, output $(shown out), error $(shown err)"
         done
-        is_answer "${ended[@]}" || problem="$problem; $((call - 1)) allocations: status $status, not $2"
+        is_answer "${answer[@]}" || problem="$problem; $((call - 1)) allocations: status $status, not $2"
         [ $call -gt 1 ] || problem="$problem; no allocation was met"
     done
     verdict "each of $((call - 1)) allocations of $1" "${problem:0:600}"
