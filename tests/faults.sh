@@ -98,7 +98,9 @@ with_input() {
     done
     # A program that was stopped while it waited goes on.
     exec 8<>pipe
-    "$keywrap" "${@:6}" <pipe >out 2>err 8<&- &
+    exec 7<pipe
+    "$keywrap" "${@:6}" <&7 >out 2>err 7<&- 8<&- &
+    exec 7<&-
     sleep 0.01
     kill -STOP $!
     cat "$5" >&8
