@@ -20,6 +20,32 @@ finish() {
     [ "$failed" = 0 ]
 }
 
+# limited KIND KILOBYTES ARGUMENT..: runs the program with so much memory and no more, of its data
+# (KIND d) or of its whole address space (v).
+limited() (
+    ulimit -c 0
+    ulimit "-$1" "$2"
+    exec "$program" "${@:3}"
+)
+
+# least: the kind and the kilobytes of a limit in which the system can start the program, and no
+# memory is left to it. A system may count only the one kind or the other.
+least() {
+    local kind kilobytes
+    for kind in d v; do
+        for ((kilobytes = 4; kilobytes < 65536; kilobytes += 4)); do
+            limited $kind $kilobytes --version >/dev/null
+            case $? in
+            0) break ;;
+            7)
+                echo $kind $kilobytes
+                return
+                ;;
+            esac
+        done
+    done
+} 2>/dev/null
+
 if ! "$launcher" --version >/dev/null </dev/null; then
     echo "0 passed, 1 failed"
     exit 1

@@ -16,58 +16,21 @@ set -u
 # shellcheck source=scripts/answers.sh
 . "$root/scripts/answers.sh"
 
-kek_files
-zeros 15 >kek15.hex
-echo $d16 >key.hex
-bytes $d16 >key.raw
-echo $text16 >text.hex
-echo 0f${text16#1f} >wrong.hex
-echo 0g >digit.hex
-echo 012 >odd.hex
-head -c 65537 /dev/zero >long
-head -c 65536 /dev/zero | tr '\0' ' ' >blank
-mkdir folder
+# shellcheck source=scripts/commands.sh
+. "$root/scripts/commands.sh"
+explained
 
-# each FUNCTION: calls FUNCTION NAME INPUT ARGUMENT.. for each command, and for a refusal of each kind.
-each() {
-    "$1" 'wrap' key.hex wrap --kek kek16.hex
-    "$1" 'raw wrap' key.raw wrap --raw --raw-kek --kek kek16.raw
-    "$1" 'padded wrap' key.hex wrap --padded --kek kek16.hex
-    "$1" 'unwrap' text.hex unwrap --kek kek16.hex
-    "$1" 'check' text.hex check --kek kek16.hex
-    "$1" 'check of a wrong byte' wrong.hex check --kek kek16.hex
-    "$1" 'drill' /dev/null drill $d16
-    "$1" 'drill back' /dev/null drill --unwrap $drilled
-    "$1" 'vectors' /dev/null vectors
-    "$1" 'help' /dev/null --help
-    "$1" 'help of drill' /dev/null help drill
-    "$1" 'version' /dev/null --version
-    "$1" 'no command' /dev/null
-    "$1" 'a command that is none' /dev/null rewind
-    "$1" 'a flag that is none' /dev/null wrap --kek kek16.hex --secret
-    "$1" 'no KEK' /dev/null wrap
-    "$1" 'words that are no text' /dev/null drill $'\xff'
-    "$1" 'a KEK of 15 bytes' key.hex wrap --kek kek15.hex
-    "$1" 'no KEK file' key.hex wrap --kek missing
-    "$1" 'a folder as KEK file' key.hex wrap --kek folder
-    "$1" 'a KEK file that is too long' key.hex wrap --raw-kek --kek long
-    "$1" 'a bad digit in the KEK' key.hex wrap --kek digit.hex
-    "$1" 'an odd KEK' key.hex wrap --kek odd.hex
-    "$1" 'a folder as input' folder wrap --kek kek16.hex
-    "$1" 'an input that is too long' long wrap --raw --kek kek16.hex
-    "$1" 'a bad digit' digit.hex unwrap --kek kek16.hex
-    "$1" 'an odd number of digits' odd.hex check --kek kek16.hex
-    "$1" 'the longest file, without a digit' blank wrap --kek kek16.hex
-    "$1" 'a wrong byte' wrong.hex unwrap --kek kek16.hex
-    "$1" 'a bad digit of the drill' /dev/null drill 0g
-    "$1" 'a wrong byte of the drill' /dev/null drill --unwrap "0${drilled#a}"
+# worded FUNCTION: calls FUNCTION NAME STATUS ANSWER LINE INPUT ARGUMENT.. for command lines that are
+# refused. LINE is what the parser says where memory is ample.
+worded() {
+    says "$1" 'no command'
+    says "$1" 'a command that is none' rewind
+    says "$1" 'a flag that is none' wrap --kek kek16.hex --secret
+    says "$1" 'no KEK' wrap
+    says "$1" 'a value too many' drill 00 11
+    says "$1" 'words that are no text' drill $'\xff'
 }
-
-# with_memory INPUT ARGUMENT..: what the program does with ample memory, in `answer` and `message`.
-with_memory() {
-    "$program" "${@:2}" <"$1" >answer 2>message
-    wanted=$?
-}
+says() { "$1" "$2" 2 nothing "$("$program" "${@:3}" 2>&1)" - "${@:3}"; }
 
 # gave_up: the run that wrote `out` and `err`, and ended with $status, says that memory is wanting.
 # Nothing is started for it, as a loop over all allocations asks it often.
@@ -76,9 +39,9 @@ gave_up() {
     [ "$status" = 7 ] && [ ! -s out ] && line=$(<err) && [ "$line" = "keywrap: $memory" ]
 }
 
-# is_answer: that run did what the program does with ample memory.
+# is_answer STATUS ANSWER LINE: that run did what the program does with ample memory.
 is_answer() {
-    [ "$status" = "$wanted" ] && cmp -s out answer && cmp -s err message
+    [ "$status" = "$1" ] && cmp -s out "$2" && [ "$(<err)" = "$3" ]
 }
 
 ### Each allocation failing in turn, alone and with all that come after it
@@ -86,7 +49,7 @@ is_answer() {
 # compiled: the library that has an allocation fail, built by the first compiler that is found.
 compiled() {
     local kit compiler
-    kit=$(readlink -f -- "$(command -v rt)")
+    kit=$(readlink -f -- "$(command -v rt)" 2>&1)
     kit=${kit%/bin/rt}/toolchain/bin
     for compiler in cc "$kit/clang -fuse-ld=$kit/ld.lld"; do
         # shellcheck disable=SC2086
@@ -96,32 +59,34 @@ compiled() {
     return 1
 }
 
-# fails_each NAME INPUT ARGUMENT..: one row, of as many runs as there are allocations, twice.
+# fails_each NAME STATUS ANSWER LINE INPUT ARGUMENT..: one row, of as many runs as there are
+# allocations, twice.
 fails_each() {
-    local name=$1 input=$2 call from problem=''
-    shift 2
-    with_memory "$input" "$@"
+    local input call from problem='' answer=("$2" "$3" "$4")
+    input=$(file_of "$5")
     for from in '' +; do
         for ((call = 1; ; call++)); do
-            LD_PRELOAD=./fail_alloc.so FAIL_ALLOC=$call$from "$program" "$@" \
+            LD_PRELOAD=./fail_alloc.so FAIL_ALLOC=$call$from "$program" "${@:6}" \
                 <"$input" >out 2>err 9>met
             status=$?
             [ -s met ] || break
-            gave_up || is_answer ||
+            gave_up || is_answer "${answer[@]}" ||
                 problem="$problem; allocation $call$from: status $status, output $(shown out), error $(shown err)"
         done
-        is_answer || problem="$problem; with $((call - 1)) allocations: status $status, not $wanted"
+        is_answer "${answer[@]}" || problem="$problem; $((call - 1)) allocations: status $status, not $2"
         [ $call -gt 1 ] || problem="$problem; no allocation was met"
     done
-    verdict "each of $((call - 1)) allocations of $name" "${problem:0:600}"
+    verdict "each of $((call - 1)) allocations of $1" "${problem:0:600}"
 }
 
 if compiled; then
     each fails_each
+    worded fails_each
 else
     skipped=0
     counted() { skipped=$((skipped + 1)); }
     each counted
+    worded counted
     echo "$skipped skipped: each allocation failing in turn wants a C compiler (apt-get install gcc)"
 fi
 
@@ -131,35 +96,24 @@ fi
 # one allocation more.
 export GLIBC_TUNABLES=glibc.malloc.mmap_threshold=1:glibc.malloc.mmap_max=1000000
 
-# runs_in KILOBYTES INPUT ARGUMENT..: runs the program with this address space.
-runs_in() {
-    (
-        ulimit -c 0
-        ulimit -v "$1"
-        exec "$program" "${@:3}" <"$2" >out 2>err
-    ) 2>/dev/null
-    status=$?
-}
+read -r kind start <<<"$(least)"
 
-# The least memory in which the system starts the program.
-for ((start = 1024; start < 65536; start += 4)); do
-    runs_in $start /dev/null --version
-    case $status in 0 | 7) break ;; esac
-done
-
-# grows NAME INPUT ARGUMENT..: one row, of runs in ever more memory until one is not refused for it.
+# grows NAME STATUS ANSWER LINE INPUT ARGUMENT..: one row, of runs in ever more memory until one is
+# not refused for it.
 grows() {
-    local name=$1 input=$2 kilobytes problem=''
-    shift 2
-    with_memory "$input" "$@"
+    local input kilobytes problem=''
+    input=$(file_of "$5")
     for ((kilobytes = start; kilobytes < start + 4096; kilobytes += 4)); do
-        runs_in $kilobytes "$input" "$@"
+        limited "$kind" $kilobytes "${@:6}" <"$input" >out 2>err
+        status=$?
         gave_up || break
     done
-    is_answer || problem="$kilobytes kilobytes: status $status, output $(shown out), error $(shown err)"
-    [ $kilobytes -gt $start ] || problem="$problem; no run was refused"
-    verdict "ever more memory for $name" "$problem"
+    is_answer "$2" "$3" "$4" ||
+        problem="$kilobytes kilobytes: status $status, output $(shown out), error $(shown err)"
+    [ $kilobytes -gt "$start" ] || problem="$problem; no run was refused"
+    verdict "ever more memory for $1" "$problem"
 }
 each grows
+worded grows
 
 finish

@@ -182,28 +182,8 @@ done
 
 ### Refusals: memory
 
-# limited KILOBYTES ARGUMENT..: runs the program with this address space.
-limited() {
-    (
-        ulimit -c 0
-        ulimit -v "$1"
-        exec "$program" "${@:2}"
-    )
-}
-
-# least: the least address space, in steps of 16 kilobytes, in which the system can start the
-# program. Some of the last step may be left to it, which is less than a heap takes.
-least() {
-    local kilobytes
-    for ((kilobytes = 1024; kilobytes < 65536; kilobytes += 16)); do
-        limited $kilobytes --version >/dev/null
-        case $? in 0 | 7) break ;; esac
-    done
-    echo $kilobytes
-}
-
-start=$(least 2>/dev/null)
-starved() { limited "$start" "$@"; }
+read -r kind kilobytes <<<"$(least)"
+starved() { limited "$kind" "$kilobytes" "$@"; }
 keywrap=starved
 refuses 'no memory, wrap' 7 "$memory" wrap --kek kek16.hex <<<$d16
 refuses 'no memory, unwrap' 7 "$memory" unwrap --kek kek16.hex <<<$text16

@@ -1,9 +1,10 @@
 /* A malloc and a realloc that fail at one call, for tests/allocations.sh: built as a shared
    library, and named in LD_PRELOAD. FAIL_ALLOC=N has the Nth call fail, and FAIL_ALLOC=N+ each
    call from the Nth on. Where a call fails, a byte goes to descriptor 9.
-   The GNU C library gives out its own functions under the names of __libc_. */
+   The GNU C library gives out its own functions under the names of __libc_. No header is
+   included: the kit's compiler, which has none, is enough. */
 
-#include <stddef.h>
+typedef __SIZE_TYPE__ size_t;
 
 extern void *__libc_malloc(size_t size);
 extern void *__libc_realloc(void *old, size_t size);
@@ -29,6 +30,6 @@ static int fails(void) {
     return fails;
 }
 
-void *malloc(size_t size) { return fails() ? NULL : __libc_malloc(size); }
+void *malloc(size_t size) { return fails() ? 0 : __libc_malloc(size); }
 
-void *realloc(void *old, size_t size) { return fails() ? NULL : __libc_realloc(old, size); }
+void *realloc(void *old, size_t size) { return fails() ? 0 : __libc_realloc(old, size); }

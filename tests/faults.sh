@@ -13,78 +13,21 @@ set -u
 . "$root/scripts/expect.sh"
 # shellcheck source=scripts/answers.sh
 . "$root/scripts/answers.sh"
+# shellcheck source=scripts/commands.sh
+. "$root/scripts/commands.sh"
 keywrap=$program
 
-### The commands, their inputs and their answers
-
-kek_files
-: >nothing
-echo none >none
-echo $d16 >key.hex
-bytes $d16 >key.raw
-echo $key7 >key7.hex
-echo $text16 >text.hex
-bytes $text16 >text.raw
-echo $text7 >text7.hex
-echo 0f${text16#1f} >wrong.hex
-echo 0g >digit.hex
-echo 012 >odd.hex
-echo plain 16 >plain16
-echo $drilled >drilled
-echo "$vector_lines" >lines
+long=$(zeros 4096)
 drilled_zeros 512 >drilled512
 echo >>drilled512
-long=$(zeros 4096)
-mkdir folder home temporary
+mkdir home temporary
 mkfifo pipe
 # What the program could leave behind comes beside these, or in one of the two folders.
 export HOME=$room/home TMPDIR=$room/temporary
 touch help help.wrap version out err wanted.out wanted.err full sums found
 cksum ./*.hex ./*.raw >sums
 find . | sort >found
-"$keywrap" --help >help
-"$keywrap" wrap --help >help.wrap
-"$keywrap" --version >version
-
-# each FUNCTION: calls FUNCTION NAME STATUS ANSWER LINE INPUT ARGUMENT.. for each command, and for a
-# refusal of each kind. ANSWER and INPUT are files; an INPUT of - is one that is not read.
-each() {
-    answered "$1"
-    "$1" 'no KEK file' 6 nothing 'keywrap: key file: cannot be opened' - wrap --kek missing
-    "$1" 'a folder as KEK file' 6 nothing 'keywrap: key file: cannot be read' - check --kek folder
-    "$1" 'an empty KEK' 3 nothing "keywrap: $kek_length" - unwrap --kek nothing
-    "$1" 'a bad digit' 6 nothing 'keywrap: input: no hex digit at byte 1' digit.hex wrap --kek kek16.hex
-    "$1" 'odd digits' 6 nothing 'keywrap: input: odd number of hex digits' odd.hex wrap --kek kek16.hex
-    "$1" 'a key of 7 bytes' 4 nothing "keywrap: $bad_length" key7.hex wrap --kek kek16.hex
-    "$1" 'a wrong byte' 5 nothing "keywrap: $integrity" wrong.hex unwrap --kek kek16.hex
-    "$1" 'drill of nothing' 4 nothing "keywrap: $bad_length" - drill ''
-}
-
-# answered FUNCTION: the same for the commands alone.
-answered() {
-    jobs "$1"
-    "$1" 'drill' 0 drilled '' - drill $d16
-    "$1" 'drill back' 0 key.hex '' - drill --unwrap $drilled
-    "$1" 'vectors' 0 lines '' - vectors
-    "$1" 'help' 0 help '' - --help
-    "$1" 'help of wrap' 0 help.wrap '' - wrap --help
-    "$1" 'version' 0 version '' - --version
-}
-
-# jobs FUNCTION: the same for the commands that read a KEK.
-jobs() {
-    "$1" 'wrap' 0 text.hex '' key.hex wrap --kek kek16.hex
-    "$1" 'raw wrap' 0 text.raw '' key.raw wrap --raw --raw-kek --kek kek16.raw
-    "$1" 'padded wrap' 0 text7.hex '' key7.hex wrap --padded --kek kek5649.hex
-    "$1" 'unwrap' 0 key.hex '' text.hex unwrap --kek kek16.hex
-    "$1" 'raw unwrap' 0 key.raw '' text.raw unwrap --raw --raw-kek --kek kek16.raw
-    "$1" 'padded unwrap' 0 key7.hex '' text7.hex unwrap --padded --kek kek5649.hex
-    "$1" 'check' 0 plain16 '' text.hex check --kek kek16.hex
-    "$1" 'check of a wrong byte' 5 none '' wrong.hex check --kek kek16.hex
-}
-
-# file_of INPUT: the file that stands for an input.
-file_of() { if [ "$1" = - ]; then echo /dev/null; else echo "$1"; fi; }
+explained
 
 # in_pieces FILE SIZE: writes a file in pieces, with a pause after each.
 in_pieces() {
@@ -155,7 +98,9 @@ with_input() {
     done
     # A program that was stopped while it waited goes on.
     exec 8<>pipe
-    "$keywrap" "${@:6}" <pipe >out 2>err 8<&- &
+    exec 7<pipe
+    "$keywrap" "${@:6}" <&7 >out 2>err 7<&- 8<&- &
+    exec 7<&-
     sleep 0.01
     kill -STOP $!
     cat "$5" >&8

@@ -1,0 +1,84 @@
+# shellcheck shell=bash disable=SC2154
+# The commands that the scripts of tests/ put under faults: each with its input and its answer, and a
+# refusal of each kind. Wants scripts/program.sh, scripts/expect.sh and scripts/answers.sh before it.
+
+kek_files
+: >nothing
+echo none >none
+echo "$d16" >key.hex
+bytes "$d16" >key.raw
+echo "$key7" >key7.hex
+echo "$text16" >text.hex
+bytes "$text16" >text.raw
+echo "$text7" >text7.hex
+echo "0f${text16#1f}" >wrong.hex
+echo 0g >digit.hex
+echo 012 >odd.hex
+zeros 15 >kek15.hex
+zeros 32769 >long.hex
+head -c 65536 /dev/zero | tr '\0' ' ' >blank.hex
+echo plain 16 >plain16
+echo "$drilled" >drilled
+echo "$vector_lines" >lines
+mkdir folder
+
+# explained: makes the files of the help and the version, which are the program's own words.
+explained() {
+    "$program" --help >help
+    "$program" wrap --help >help.wrap
+    echo keywrap 1.0.0 >version
+}
+
+# each FUNCTION: calls FUNCTION NAME STATUS ANSWER LINE INPUT ARGUMENT.. for each command, and for a
+# refusal of each kind. ANSWER and INPUT are files; an INPUT of - is one that is not read.
+each() {
+    answered "$1"
+    refused "$1"
+}
+
+# answered FUNCTION: the same for the commands alone.
+answered() {
+    jobs "$1"
+    "$1" 'drill' 0 drilled '' - drill "$d16"
+    "$1" 'drill back' 0 key.hex '' - drill --unwrap "$drilled"
+    "$1" 'vectors' 0 lines '' - vectors
+    "$1" 'help' 0 help '' - --help
+    "$1" 'help of wrap' 0 help.wrap '' - wrap --help
+    "$1" 'version' 0 version '' - --version
+}
+
+# jobs FUNCTION: the same for the commands that read a KEK.
+jobs() {
+    "$1" 'wrap' 0 text.hex '' key.hex wrap --kek kek16.hex
+    "$1" 'raw wrap' 0 text.raw '' key.raw wrap --raw --raw-kek --kek kek16.raw
+    "$1" 'padded wrap' 0 text7.hex '' key7.hex wrap --padded --kek kek5649.hex
+    "$1" 'unwrap' 0 key.hex '' text.hex unwrap --kek kek16.hex
+    "$1" 'raw unwrap' 0 key.raw '' text.raw unwrap --raw --raw-kek --kek kek16.raw
+    "$1" 'padded unwrap' 0 key7.hex '' text7.hex unwrap --padded --kek kek5649.hex
+    "$1" 'check' 0 plain16 '' text.hex check --kek kek16.hex
+    "$1" 'check of a wrong byte' 5 none '' wrong.hex check --kek kek16.hex
+}
+
+# refused FUNCTION: the same for the refusals, each with its line.
+refused() {
+    local file='keywrap: key file:' input='keywrap: input:'
+    "$1" 'no KEK file' 6 nothing "$file cannot be opened" - wrap --kek missing
+    "$1" 'a folder as KEK file' 6 nothing "$file cannot be read" - check --kek folder
+    "$1" 'a KEK file that is too long' 6 nothing "$file too long" - wrap --kek long.hex
+    "$1" 'a bad digit in the KEK' 6 nothing "$file no hex digit at byte 1" - wrap --kek digit.hex
+    "$1" 'an odd KEK' 6 nothing "$file odd number of hex digits" - unwrap --kek odd.hex
+    "$1" 'an empty KEK' 3 nothing "keywrap: $kek_length" - unwrap --kek nothing
+    "$1" 'a KEK of 15 bytes' 3 nothing "keywrap: $kek_length" - wrap --kek kek15.hex
+    "$1" 'an input that is too long' 6 nothing "$input too long" long.hex wrap --kek kek16.hex
+    "$1" 'a bad digit' 6 nothing "$input no hex digit at byte 1" digit.hex unwrap --kek kek16.hex
+    "$1" 'odd digits' 6 nothing "$input odd number of hex digits" odd.hex wrap --kek kek16.hex
+    "$1" 'a key of 7 bytes' 4 nothing "keywrap: $bad_length" key7.hex wrap --kek kek16.hex
+    "$1" 'the longest file, no digits' 4 nothing "keywrap: $bad_length" blank.hex wrap --kek kek16.hex
+    "$1" 'a wrong byte' 5 nothing "keywrap: $integrity" wrong.hex unwrap --kek kek16.hex
+    "$1" 'drill of nothing' 4 nothing "keywrap: $bad_length" - drill ''
+    "$1" 'drill of a bad digit' 6 nothing "$input no hex digit at byte 1" - drill 0g
+    "$1" 'drill of a wrong byte' 5 nothing "keywrap: $integrity" - drill --unwrap "0${drilled#a}"
+}
+
+# file_of INPUT: the file that stands for an input.
+file_of() { if [ "$1" = - ]; then echo /dev/null; else echo "$1"; fi; }
