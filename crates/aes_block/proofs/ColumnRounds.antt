@@ -11,7 +11,7 @@ use Rattle.aes_block.specs.SBoxLaw.{s_box_byte, inv_s_box_byte}
 use Rattle.aes_block.specs.StateLaw.{all_bytes, byte_at}
 use Rattle.aes_block.specs.MixColumnsLaw.{sum_of_four_byte, xor_byte}
 use Rattle.aes_block.specs.Rounds.{sum_of_four, mix_matrix, inv_mix_matrix}
-use Rattle.aes_block.specs.Columns.{column, row, spread, mixed, round_column, last_column, inv_round_column, inv_last_column}
+use Rattle.aes_block.specs.Columns.{row, spread, mixed, round_column, last_column, inv_round_column, inv_last_column}
 use Rattle.aes_block.proofs.ColumnWords.{turned, spread_sum, four, column_bytes, added_bytes, row_byte}
 
 -- four columns of a state, one for each row
