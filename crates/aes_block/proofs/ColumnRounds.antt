@@ -1,7 +1,7 @@
 -- A column after each kind of round, byte by byte.
 -- The word tables' columns, turned and summed, are the matrix times the column; the bytes of that sum with the key are then those of its parts.
 use Rattle.std.proofs.Common.{◌≡◌, ℕ, ◌+◌, ◌*◌, ◌^◌, ◌<◌, bit_xor, w32, List, [], ◌∷◌, refl, ap, ◌∙◌}
-use Rattle.std.specs.Int.{rotate_right, to_be_bytes}
+use Rattle.std.specs.Int.{to_be_bytes}
 use Rattle.std.specs.List.{slice_index}
 use Rattle.block_pair.specs.Words.{IsByte}
 use Rattle.aes_block.specs.Field.{product}
@@ -11,8 +11,8 @@ use Rattle.aes_block.specs.SBoxLaw.{s_box_byte, inv_s_box_byte}
 use Rattle.aes_block.specs.StateLaw.{all_bytes, byte_at}
 use Rattle.aes_block.specs.MixColumnsLaw.{sum_of_four_byte, xor_byte}
 use Rattle.aes_block.specs.Rounds.{sum_of_four, mix_matrix, inv_mix_matrix}
-use Rattle.aes_block.specs.Columns.{column, row, spread, mixed, round_column, last_column, inv_round_column, inv_last_column}
-use Rattle.aes_block.proofs.ColumnWords.{spread_sum, column_bytes, added_bytes, row_byte}
+use Rattle.aes_block.specs.Columns.{row, spread, mixed, round_column, last_column, inv_round_column, inv_last_column}
+use Rattle.aes_block.proofs.ColumnWords.{turned, spread_sum, four, column_bytes, added_bytes, row_byte}
 
 -- four columns of a state, one for each row
 abbrev pub from : List ℕ → ℕ → ℕ → ℕ → ℕ → List ℕ
@@ -41,28 +41,21 @@ mixed_row_byte f h r = sum_of_four_byte _ (λ k. product_byte _ _ (byte_at mix_m
 inv_mixed_row_byte : (f : ℕ → ℕ) → ((k : ℕ) → IsByte (f k)) → (r : ℕ) → IsByte (mixed_row inv_mix_matrix f r)
 inv_mixed_row_byte f h r = sum_of_four_byte _ (λ k. product_byte _ _ (byte_at inv_mix_matrix (4 * r + k) (all_bytes inv_mix_matrix refl)) (h k))
 
--- what the table look-ups of a column come to
-pub looked_up : (f : ℕ → ℕ) → ((k : ℕ) → IsByte (f k))
-    → bit_xor (bit_xor (bit_xor (spread mix_matrix (f 0)) (rotate_right w32 (spread mix_matrix (f 1)) 8)) (rotate_right w32 (spread mix_matrix (f 2)) 16))
-    (rotate_right w32 (spread mix_matrix (f 3)) 24) ≡ mixed mix_matrix f
+-- what the table look-ups of a column come to: the matrix times the column
+pub looked_up : (f : ℕ → ℕ) → ((k : ℕ) → IsByte (f k)) → turned (λ k. spread mix_matrix (f k)) ≡ mixed mix_matrix f
 looked_up f h = spread_sum mix_matrix f (all_bytes mix_matrix refl) h
 
-pub inv_looked_up : (f : ℕ → ℕ) → ((k : ℕ) → IsByte (f k))
-    → bit_xor (bit_xor (bit_xor (spread inv_mix_matrix (f 0)) (rotate_right w32 (spread inv_mix_matrix (f 1)) 8)) (rotate_right w32 (spread inv_mix_matrix (f 2)) 16))
-    (rotate_right w32 (spread inv_mix_matrix (f 3)) 24) ≡ mixed inv_mix_matrix f
+pub inv_looked_up : (f : ℕ → ℕ) → ((k : ℕ) → IsByte (f k)) → turned (λ k. spread inv_mix_matrix (f k)) ≡ mixed inv_mix_matrix f
 inv_looked_up f h = spread_sum inv_mix_matrix f (all_bytes inv_mix_matrix refl) h
 
--- the bytes of the column w
+-- the bytes of a column w after each kind of round
 pub round_bytes : (s : List ℕ) (key w : ℕ) → key < 2 ^ 32 → w ≡ round_column s key
-    → to_be_bytes w32 w
-    ≡ bit_xor (mixed_row mix_matrix (substituted s) 0) (row key 0) ∷ bit_xor (mixed_row mix_matrix (substituted s) 1) (row key 1)
-    ∷ bit_xor (mixed_row mix_matrix (substituted s) 2) (row key 2) ∷ bit_xor (mixed_row mix_matrix (substituted s) 3) (row key 3) ∷ []
+    → to_be_bytes w32 w ≡ four (λ r. bit_xor (mixed_row mix_matrix (substituted s) r) (row key r))
 round_bytes s key w fits e =
     ap (to_be_bytes w32) e ∙ added_bytes (mixed_row mix_matrix (substituted s)) key (mixed_row_byte (substituted s) (substituted_byte s)) fits
 
 pub last_bytes : (s : List ℕ) (key w : ℕ) → key < 2 ^ 32 → w ≡ last_column s key
-    → to_be_bytes w32 w
-    ≡ bit_xor (substituted s 0) (row key 0) ∷ bit_xor (substituted s 1) (row key 1) ∷ bit_xor (substituted s 2) (row key 2) ∷ bit_xor (substituted s 3) (row key 3) ∷ []
+    → to_be_bytes w32 w ≡ four (λ r. bit_xor (substituted s r) (row key r))
 last_bytes s key w fits e = ap (to_be_bytes w32) e ∙ added_bytes (substituted s) key (substituted_byte s) fits
 
 -- the bytes that InvMixColumns takes
@@ -72,15 +65,9 @@ unmixed s key r = bit_xor (inv_substituted s r) (row key r)
 pub unmixed_byte : (s : List ℕ) (key r : ℕ) → IsByte (unmixed s key r)
 unmixed_byte s key r = xor_byte _ _ (inv_substituted_byte s r) (row_byte key r)
 
-pub inv_round_bytes : (s : List ℕ) (key w : ℕ) → w ≡ inv_round_column s key
-    → to_be_bytes w32 w
-    ≡ mixed_row inv_mix_matrix (unmixed s key) 0 ∷ mixed_row inv_mix_matrix (unmixed s key) 1 ∷ mixed_row inv_mix_matrix (unmixed s key) 2
-    ∷ mixed_row inv_mix_matrix (unmixed s key) 3 ∷ []
+pub inv_round_bytes : (s : List ℕ) (key w : ℕ) → w ≡ inv_round_column s key → to_be_bytes w32 w ≡ four (mixed_row inv_mix_matrix (unmixed s key))
 inv_round_bytes s key w e =
     ap (to_be_bytes w32) e ∙ column_bytes (mixed_row inv_mix_matrix (unmixed s key)) (inv_mixed_row_byte (unmixed s key) (unmixed_byte s key))
 
-pub inv_last_bytes : (s : List ℕ) (key w : ℕ) → key < 2 ^ 32 → w ≡ inv_last_column s key
-    → to_be_bytes w32 w
-    ≡ bit_xor (inv_substituted s 0) (row key 0) ∷ bit_xor (inv_substituted s 1) (row key 1) ∷ bit_xor (inv_substituted s 2) (row key 2)
-    ∷ bit_xor (inv_substituted s 3) (row key 3) ∷ []
+pub inv_last_bytes : (s : List ℕ) (key w : ℕ) → key < 2 ^ 32 → w ≡ inv_last_column s key → to_be_bytes w32 w ≡ four (unmixed s key)
 inv_last_bytes s key w fits e = ap (to_be_bytes w32) e ∙ added_bytes (inv_substituted s) key (inv_substituted_byte s) fits

@@ -1,10 +1,13 @@
--- What the key schedule's code computes at each step.
-use Rattle.std.proofs.Common.{◌≡◌, ◌≢◌, ℕ, ◌+◌, ◌-◌, ◌*◌, ◌/◌, ◌%◌, ◌^◌, ◌<◌, ◌≤◌, bit_xor, w32, zero, suc, List, [], ◌∷◌, ◌++◌, length, get_or, take, drop, slice_index, refl, sym, ap, ap₂, ◌∙◌, arith, eq-eqb, ne_eqb, add-zero, lit<, drop-cons, length-drop, length-take, take-append-drop}
+-- What the key schedule's code computes at each step, and what it keeps.
+-- The code's words are compared with the definition's place by place; bytes become words, and words bytes, four at a time.
+use Rattle.std.proofs.Common.{◌≡◌, ◌≢◌, ℕ, ◌+◌, ◌-◌, ◌*◌, ◌/◌, ◌%◌, ◌^◌, ◌<◌, ◌≤◌, bit_xor, w32, zero, suc, List, [], ◌∷◌, ◌++◌, length, get_or, take, drop}
+use Rattle.std.proofs.Common.{slice_index, refl, sym, ap, ap₂, ◌∙◌, arith, eq-eqb, ne_eqb, add-zero, lit<, drop-cons, length-drop, length-take}
+use Rattle.std.proofs.Common.{take-append-drop}
 use Rattle.std.specs.Int.{rotate_left, to_be_bytes}
 use Rattle.std.specs.List.{flat_map}
 use Rattle.std.proofs.lemmas.List.{ext_get_or, get_or-drop, get_or-take, length-take-le, take_all}
 use Rattle.std.proofs.lemmas.Nat.{or_shifted, be_bytes_4}
-use Rattle.byteorder.specs.Endian.{big_number, big_bytes}
+use Rattle.byteorder.specs.Endian.{big_number}
 use Rattle.aes_block.specs.KeyExpansionLaw.{key_expansion_is, legal_words}
 use Rattle.aes_block.specs.Columns.{block_of}
 use Rattle.aes_block.specs.Schedule.{key_of}

@@ -1,5 +1,7 @@
 -- What the product's code computes at each step, and the tests over the bytes that it rests on.
-use Rattle.std.proofs.Common.{◌≡◌, ◌≢◌, ℕ, ◌+◌, ◌*◌, ◌/◌, ◌%◌, ◌^◌, ◌<◌, Bool, true, ◌||◌, ◌==◌, if◌then◌else◌, bit_and, bit_xor, refl, sym, ap, ◌∙◌, arith, eqb-true, ne_eqb, mod-lt, zero-mul, one-mul, pow_pos}
+-- A rule of one byte is computed at all 256; a step with one bit more of b is distributivity over xor.
+use Rattle.std.proofs.Common.{◌≡◌, ◌≢◌, ℕ, ◌+◌, ◌*◌, ◌/◌, ◌%◌, ◌^◌, ◌<◌, Bool, true, ◌||◌, ◌==◌, if◌then◌else◌, bit_and, bit_xor, refl, sym, ap, ◌∙◌, arith}
+use Rattle.std.proofs.Common.{eqb-true, ne_eqb, mod-lt, zero-mul, one-mul, pow_pos}
 use Rattle.std.specs.Int.{bit_at}
 use Rattle.std.specs.Int.Bits.{xor_self, xor_shifted, xor_zero_r}
 use Rattle.std.proofs.lemmas.Nat.{mod-pow-add, xor_comm}

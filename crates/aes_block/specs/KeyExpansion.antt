@@ -1,6 +1,7 @@
 -- The key expansion (FIPS 197, section 5.2). A key K is a list of 16, 24 or 32 bytes. A word here is a number below
 -- 2 ^ 32: four bytes, the first of them the most significant.
-use Rattle.std.specs.Prelude.{◌≡◌, ◌⊎◌, ℕ, zero, suc, ◌+◌, ◌-◌, ◌*◌, ◌/◌, ◌%◌, ◌<◌, ◌≤◌, ◌==◌, ◌&&◌, nat_lt, if◌then◌else◌, bit_xor, List, [], ◌∷◌, ◌++◌, length, map, drop, take, slice_index}
+use Rattle.std.specs.Prelude.{◌≡◌, ◌⊎◌, ℕ, zero, suc, ◌+◌, ◌-◌, ◌*◌, ◌/◌, ◌%◌, ◌<◌, ◌≤◌, ◌==◌, ◌&&◌, nat_lt, if◌then◌else◌, bit_xor, List, [], ◌∷◌, ◌++◌}
+use Rattle.std.specs.Prelude.{length, map, drop, take, slice_index}
 use Rattle.std.specs.Int.{w32, from_be_bytes, to_be_bytes}
 use Rattle.std.specs.List.{flat_map}
 use Rattle.aes_block.specs.SBox.{s_box}

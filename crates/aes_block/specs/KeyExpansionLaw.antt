@@ -1,5 +1,6 @@
 -- The laws of the key expansion: the computed list is one, and the only one; a round key is a block.
-use Rattle.std.proofs.Common.{◌≡◌, inl, inr, ◌↔◌, ℕ, zero, suc, ◌+◌, ◌-◌, ◌*◌, ◌<◌, ◌≤◌, List, [], ◌∷◌, length, slice_index, refl, sym, subst, ◌∙◌, arith, lt-ltb, le-ltb, length-append}
+use Rattle.std.proofs.Common.{◌≡◌, inl, inr, ◌↔◌, ℕ, zero, suc, ◌+◌, ◌-◌, ◌*◌, ◌<◌, ◌≤◌, List, [], ◌∷◌, length, slice_index, refl, sym, subst, ◌∙◌, arith}
+use Rattle.std.proofs.Common.{lt-ltb, le-ltb, length-append}
 use Rattle.std.specs.Int.{w32, to_be_bytes}
 use Rattle.std.specs.List.{AllByRecursion, flat_map}
 use Rattle.std.proofs.lemmas.List.{ext_get_or, get_or_push, get_or_append_left}

@@ -1,3 +1,4 @@
+-- The definitions of AES, and the laws that they keep.
 pub mod EveryByte
 pub mod Xor
 pub mod Field

@@ -7,7 +7,8 @@ use Rattle.aes_block.specs.State.{entry, state}
 use Rattle.aes_block.specs.StateLaw.{all_bytes, entry_byte, state_block, state_is, state-entry, entry-state}
 use Rattle.aes_block.specs.SBox.{s_box, inv_s_box}
 use Rattle.aes_block.specs.SBoxLaw.{s_box_byte, inv_s_box_byte, inv_s_box-s_box, s_box-inv_s_box}
-use Rattle.aes_block.specs.Rounds.{sub_bytes, inv_sub_bytes, shift_rows, inv_shift_rows, mix_columns, inv_mix_columns, mix_matrix, inv_mix_matrix, add_round_key}
+use Rattle.aes_block.specs.Rounds.{sub_bytes, inv_sub_bytes, shift_rows, inv_shift_rows, mix_columns, inv_mix_columns, mix_matrix, inv_mix_matrix}
+use Rattle.aes_block.specs.Rounds.{add_round_key}
 use Rattle.aes_block.specs.MixColumnsLaw.{xor_byte, multiplied_block, multiplied_undone, inv_mix-mix, mix-inv_mix}
 
 -- one function on each entry, and then its inverse

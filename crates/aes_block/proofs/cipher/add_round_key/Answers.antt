@@ -1,3 +1,5 @@
+-- The sum of the four columns is AddRoundKey on the block.
+-- The bytes of each sum come from one lemma; joined, they compute to the definition's block.
 use Rattle.std.proofs.Common.{arith}
 use Rattle.aes_block.specs.Rounds.{add_round_key}
 use Rattle.aes_block.proofs.ColumnWords.{joined, sum_bytes}

@@ -1,3 +1,4 @@
+-- The table look-ups, turned and summed, are MixColumns on the column.
 use Rattle.std.proofs.Common.{ap, bit_xor}
 use Rattle.aes_block.proofs.ColumnRounds.{substituted, substituted_byte, looked_up}
 use Rattle.aes_block.proofs.columns.round_column.Goals as goal

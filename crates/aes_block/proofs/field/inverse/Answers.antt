@@ -1,3 +1,5 @@
+-- The body computes the power 254, and a byte times it is 1.
+-- Each of the thirteen products is the definition's; the two laws are computed over the bytes.
 use Rattle.std.proofs.Common.{ap, ◌∙◌, refl}
 use Rattle.aes_block.specs.Field.{product, inverse}
 use Rattle.aes_block.proofs.Multiplying.{product-inverse, inverse-zero}
@@ -6,7 +8,9 @@ use Rattle.aes_block.proofs.field.inverse.Goals as goal
 pub returns-clause-value : goal.returns-clause-value
 unfolding inverse
 returns-clause-value c =
-    rw (c.mul-6.ensures.value, c.mul-5.ensures.value, c.mul-4.ensures.value, c.mul-3.ensures.value, c.mul-2.ensures.value, c.mul.ensures.value, c.mul-a128.ensures.value, c.mul-a64.ensures.value, c.mul-a32.ensures.value, c.mul-a16.ensures.value, c.mul-a8.ensures.value, c.mul-a4.ensures.value, c.mul-a2.ensures.value) refl
+    rw (c.mul-6.ensures.value, c.mul-5.ensures.value, c.mul-4.ensures.value, c.mul-3.ensures.value, c.mul-2.ensures.value, c.mul.ensures.value)
+    (rw (c.mul-a128.ensures.value, c.mul-a64.ensures.value, c.mul-a32.ensures.value, c.mul-a16.ensures.value)
+    (rw (c.mul-a8.ensures.value, c.mul-a4.ensures.value, c.mul-a2.ensures.value) refl))
 
 pub returns-clause-unit : goal.returns-clause-unit
 returns-clause-unit c = λ nonzero. ap (product c.args.a) (returns-clause-value c) ∙ product-inverse c.args.a c.ranges.a.fits nonzero

@@ -1,3 +1,5 @@
+-- The body computes the field product.
+-- After i steps the sum is the product with the i low bits of b, and the shifted byte is the product with the next power of x.
 use Rattle.std.proofs.Common.{◌≡◌, ◌%◌, ◌∙◌, ap, sym, arith, mod-eq_of_lt}
 use Rattle.aes_block.specs.Field.{product}
 use Rattle.aes_block.specs.FieldLaw.{product_distributes, product_only}

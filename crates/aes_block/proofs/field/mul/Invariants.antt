@@ -1,3 +1,4 @@
+-- The sum is the product with the bits of b below i.
 use Rattle.std.proofs.Common.{◌≡◌, ◌%◌, ◌^◌, ◌<◌}
 use Rattle.aes_block.specs.Field.{product}
 use Rattle.aes_block.proofs.field.mul.Given as goal

@@ -1,3 +1,4 @@
+-- The table's entry is the S-box.
 use Rattle.aes_block.proofs.Tables.{s_box_entry}
 use Rattle.aes_block.proofs.s_box.sbox.Goals as goal
 

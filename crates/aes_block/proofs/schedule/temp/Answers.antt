@@ -1,3 +1,5 @@
+-- What is xored to a word, in the standard's three cases.
+-- The code's branches are the definition's, and a rotation by 8 bits is RotWord.
 use Rattle.std.proofs.Common.{ap, ◌∙◌, bit_xor, slice_index, ◌/◌, ◌-◌, ℕ}
 use Rattle.aes_block.specs.KeyExpansion.{sub_word, round_constants}
 use Rattle.aes_block.proofs.Expanding.{rotated_word, temp_first, temp_middle, temp_short, temp_else}
@@ -18,6 +20,8 @@ returns-then-i-eq4 c =
 pub returns-else-key_words-eq8 : goal.returns-else-key_words-eq8
 returns-else-key_words-eq8 c =
     elim c.else-key_words-eq8.branch [
-      | else-key_words-eq8-via-then-key_words-eq8+else-i-eq4 w ↦ temp_else c.args.key_words c.args.i c.args.word c.if-i-key_words-eq0.false w.if-key_words-eq8.true w.if-i-eq4.false
-      | else-key_words-eq8-via-else-key_words-eq8 w ↦ temp_short c.args.key_words c.args.i c.args.word c.if-i-key_words-eq0.false w.if-key_words-eq8.false
+      | else-key_words-eq8-via-then-key_words-eq8+else-i-eq4 w ↦
+          temp_else c.args.key_words c.args.i c.args.word c.if-i-key_words-eq0.false w.if-key_words-eq8.true w.if-i-eq4.false
+      | else-key_words-eq8-via-else-key_words-eq8 w ↦
+          temp_short c.args.key_words c.args.i c.args.word c.if-i-key_words-eq0.false w.if-key_words-eq8.false
     ]

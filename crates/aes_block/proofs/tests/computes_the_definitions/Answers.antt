@@ -1,3 +1,5 @@
+-- The definitions answer the standard's worked bytes and words.
+-- The checker computes both sides, with every definition opened.
 use Rattle.std.proofs.Common.{refl}
 use Rattle.aes_block.specs.Field.{polynomial_product, remainder, product, inverse}
 use Rattle.aes_block.specs.SBox.{number_with_bits, s_box, s_boxes, inv_s_box}

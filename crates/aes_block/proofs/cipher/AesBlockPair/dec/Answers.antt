@@ -1,3 +1,5 @@
+-- The inverse cipher's body computes the inverse cipher.
+-- The body's rounds begin with InvShiftRows and InvSubBytes, and the definition's end with them: the proof counts the two to the round before.
 use Rattle.std.proofs.Common.{ℕ, List, ◌-◌, ap, ap₂, sym, arith, ◌∙◌}
 use Rattle.aes_block.specs.Rounds.{add_round_key, inv_mix_columns, inv_shift_rows, inv_sub_bytes}
 use Rattle.aes_block.specs.Cipher.{inv_rounds}
@@ -12,7 +14,8 @@ ends s = inv_sub_bytes (inv_shift_rows s)
 pub loop-k-init : goal.loop-k-init
 unfolding ends
 loop-k-init c =
-    ap (λ s. inv_rounds c.args.self.now (c.rounds-last.result - 1) (ends s)) (c.add_round_key-state.ensures ∙ ap₂ add_round_key c.round_key.ensures c.columns_of.ensures)
+    ap (λ s. inv_rounds c.args.self.now (c.rounds-last.result - 1) (ends s))
+    (c.add_round_key-state.ensures ∙ ap₂ add_round_key c.round_key.ensures c.columns_of.ensures)
 
 pub loop-k-preserved : goal.loop-k-preserved
 unfolding ends

@@ -1,4 +1,4 @@
--- The state stands before the InvShiftRows and InvSubBytes of round k - 1, which the definition counts to round k.
+-- What is still to be undone of the state, once InvShiftRows and InvSubBytes of round k are, is what was to be undone of the block at the start.
 use Rattle.std.proofs.Common.{◌≡◌, ◌-◌}
 use Rattle.aes_block.specs.KeyExpansion.{round_key}
 use Rattle.aes_block.specs.Rounds.{inv_shift_rows, inv_sub_bytes}
@@ -8,4 +8,5 @@ use Rattle.aes_block.proofs.cipher.AesBlockPair.dec.Given as goal
 
 abbrev pub invariant-loop-k : goal.invariant-loop-k
 invariant-loop-k l =
-    inv_rounds l.self (l.k - 1) (inv_sub_bytes (inv_shift_rows (block_of l.state))) ≡ inv_rounds l.self (l.last - 1) (inv_last_round (round_key l.self l.last) l.fn.b)
+    inv_rounds l.self (l.k - 1) (inv_sub_bytes (inv_shift_rows (block_of l.state)))
+    ≡ inv_rounds l.self (l.last - 1) (inv_last_round (round_key l.self l.last) l.fn.b)

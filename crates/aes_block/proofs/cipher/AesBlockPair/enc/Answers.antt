@@ -1,4 +1,6 @@
-use Rattle.std.proofs.Common.{◌≡◌, ◌-◌, ◌+◌, ap, ap₂, sym, arith, ◌∙◌}
+-- The cipher's body computes the cipher.
+-- The loop has made the rounds below k; a round more is the definition's next, and the last round closes it.
+use Rattle.std.proofs.Common.{◌≡◌, ◌-◌, ◌+◌, ap₂, sym, arith, ◌∙◌}
 use Rattle.aes_block.specs.Rounds.{add_round_key}
 use Rattle.aes_block.specs.Cipher.{rounds, round, last_round}
 use Rattle.aes_block.proofs.CipherSteps.{rounds-more, cipher-key}

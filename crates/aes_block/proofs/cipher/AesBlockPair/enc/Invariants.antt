@@ -1,3 +1,4 @@
+-- The state is what the rounds below k have made of the block.
 use Rattle.std.proofs.Common.{◌≡◌, ◌-◌}
 use Rattle.aes_block.specs.KeyExpansion.{round_key}
 use Rattle.aes_block.specs.Rounds.{add_round_key}

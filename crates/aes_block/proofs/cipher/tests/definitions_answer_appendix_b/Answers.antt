@@ -1,3 +1,5 @@
+-- The definitions answer the vectors of appendix B.
+-- The checker computes both sides, with every definition opened.
 use Rattle.std.proofs.Common.{refl}
 use Rattle.aes_block.specs.Field.{inverse, polynomial_product, product, remainder}
 use Rattle.aes_block.specs.SBox.{inv_s_box, number_with_bits, s_box, s_boxes}

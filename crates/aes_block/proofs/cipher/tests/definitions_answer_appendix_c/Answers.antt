@@ -1,3 +1,5 @@
+-- The definitions answer the vectors of appendix C.
+-- The checker computes both sides, with every definition opened.
 use Rattle.std.proofs.Common.{refl}
 use Rattle.aes_block.specs.Field.{inverse, polynomial_product, product, remainder}
 use Rattle.aes_block.specs.SBox.{inv_s_box, number_with_bits, s_box, s_boxes}
@@ -7,13 +9,19 @@ use Rattle.aes_block.specs.Cipher.{cipher, inv_cipher, inv_rounds, is_key, round
 use Rattle.aes_block.proofs.cipher.tests.definitions_answer_appendix_c.Goals as goal
 
 pub returns-clause-under_16 : goal.returns-clause-under_16
-unfolding cipher inv_cipher is_key rounds inv_rounds sub_bytes inv_sub_bytes shift_rows inv_shift_rows multiplied add_round_key s_box inv_s_box s_boxes number_with_bits inverse product remainder polynomial_product round_key key_expansion first_words next_word temp sub_word rot_word
+unfolding cipher inv_cipher is_key rounds inv_rounds sub_bytes inv_sub_bytes shift_rows inv_shift_rows multiplied add_round_key
+    s_box inv_s_box s_boxes number_with_bits inverse product remainder polynomial_product
+    round_key key_expansion first_words next_word temp sub_word rot_word
 returns-clause-under_16 c = refl
 
 pub returns-clause-under_24 : goal.returns-clause-under_24
-unfolding cipher inv_cipher is_key rounds inv_rounds sub_bytes inv_sub_bytes shift_rows inv_shift_rows multiplied add_round_key s_box inv_s_box s_boxes number_with_bits inverse product remainder polynomial_product round_key key_expansion first_words next_word temp sub_word rot_word
+unfolding cipher inv_cipher is_key rounds inv_rounds sub_bytes inv_sub_bytes shift_rows inv_shift_rows multiplied add_round_key
+    s_box inv_s_box s_boxes number_with_bits inverse product remainder polynomial_product
+    round_key key_expansion first_words next_word temp sub_word rot_word
 returns-clause-under_24 c = refl
 
 pub returns-clause-under_32 : goal.returns-clause-under_32
-unfolding cipher inv_cipher is_key rounds inv_rounds sub_bytes inv_sub_bytes shift_rows inv_shift_rows multiplied add_round_key s_box inv_s_box s_boxes number_with_bits inverse product remainder polynomial_product round_key key_expansion first_words next_word temp sub_word rot_word
+unfolding cipher inv_cipher is_key rounds inv_rounds sub_bytes inv_sub_bytes shift_rows inv_shift_rows multiplied add_round_key
+    s_box inv_s_box s_boxes number_with_bits inverse product remainder polynomial_product
+    round_key key_expansion first_words next_word temp sub_word rot_word
 returns-clause-under_32 c = refl

@@ -1,3 +1,5 @@
+-- The schedule keeps the key and begins with its key expansion.
+-- Each legal length has its rounds; the key's own words are the first of the schedule, so their bytes are the key.
 use Rattle.std.proofs.Common.{◌≡◌, inl, inr, ℕ, ◌+◌, ◌*◌, ◌∙◌, List, length, take, ap, sym, subst, arith}
 use Rattle.aes_block.specs.KeyExpansion.{IsKekLength, rounds_of, key_expansion}
 use Rattle.aes_block.specs.KeyExpansionLaw.{key_expansion_only, words_bytes}

@@ -1,4 +1,6 @@
-use Rattle.std.proofs.Common.{◌≡◌, ℕ, ◌+◌, ◌*◌, ◌∙◌, List, length, take, ap, sym, subst, arith}
+-- The four words at 4k are round key k.
+-- The invariant says that the schedule begins with the key expansion of the key that it keeps.
+use Rattle.std.proofs.Common.{◌≡◌, ℕ, ◌+◌, ◌*◌, ◌∙◌, List, length, take, ap, sym, subst}
 use Rattle.aes_block.specs.KeyExpansion.{IsKekLength, rounds_of, key_expansion}
 use Rattle.aes_block.specs.Schedule.{key_of}
 use Rattle.aes_block.proofs.Expanding.{words_key}
