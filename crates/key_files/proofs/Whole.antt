@@ -1,6 +1,6 @@
 -- What a call took from a reader, and what it answers for that: one lemma for each way in which a read ends, and those that
 -- carry the answer for a raw file over to a hex file.
-use Rattle.std.proofs.Common.{◌≡◌, ◌≢◌, ◌≤◌, ◌+◌, ℕ, List, [], ◌++◌, length, Option, Result, Ok, Err, IfOk, Vec}
+use Rattle.std.proofs.Common.{◌≡◌, ◌≢◌, ◌≤◌, ◌+◌, ℕ, List, [], length, Option, Result, Ok, Err, IfOk, Vec}
 use Rattle.std.proofs.Common.{arith, refl, sym, ap, subst, ◌∙◌, append-nil, inl, inr}
 use Rattle.std.specs.Prelude.{◌↔◌, IsErrAnd}
 use Rattle.std.specs.Io.KnownBytes.{Consumes, IsAtEnd}
