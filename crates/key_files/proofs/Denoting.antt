@@ -44,17 +44,20 @@ unfolding hex_meaning
 hex_meaning-never_long text h = digits_meaning-never_long (first_bad text) (digits_of text) h
 
 -- a refusal that is answered for what it is
-pub refused-by : {X : Type 0} (answer : Result X FileFault) (meaning : Result (List ℕ) FileFault) (found : FileFault) → answer ≡ Err found → meaning ≡ Err found
+pub refused-by : {X : Type 0} (answer : Result X FileFault) (meaning : Result (List ℕ) FileFault) (found : FileFault)
+    → answer ≡ Err found → meaning ≡ Err found
     → (fault : FileFault) → fault ≢ Memory → (answer ≡ Err fault) ↔ (meaning ≡ Err fault)
 refused-by answer meaning found a m fault other = (λ e. cc, λ e. cc)
 
 -- bytes, where the text denotes bytes
-pub refused-by_none : {X : Type 0} (answer : Result X FileFault) (meaning : Result (List ℕ) FileFault) (x : X) (bytes : List ℕ) → answer ≡ Ok x → meaning ≡ Ok bytes
+pub refused-by_none : {X : Type 0} (answer : Result X FileFault) (meaning : Result (List ℕ) FileFault) (x : X) (bytes : List ℕ)
+    → answer ≡ Ok x → meaning ≡ Ok bytes
     → (fault : FileFault) → fault ≢ Memory → (answer ≡ Err fault) ↔ (meaning ≡ Err fault)
 refused-by_none answer meaning x bytes a m fault other = (λ e. cc, λ e. cc)
 
 -- Memory in the place of bytes
-pub refused-by_memory : {X : Type 0} (answer : Result X FileFault) (meaning : Result (List ℕ) FileFault) (bytes : List ℕ) → answer ≡ Err Memory → meaning ≡ Ok bytes
+pub refused-by_memory : {X : Type 0} (answer : Result X FileFault) (meaning : Result (List ℕ) FileFault) (bytes : List ℕ)
+    → answer ≡ Err Memory → meaning ≡ Ok bytes
     → (fault : FileFault) → fault ≢ Memory → (answer ≡ Err fault) ↔ (meaning ≡ Err fault)
 refused-by_memory answer meaning bytes a m fault other = (λ e. let same : fault ≡ Memory = cc in absurd (other same), λ e. cc)
 

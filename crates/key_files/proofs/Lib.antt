@@ -1,3 +1,4 @@
+-- The lemmas: what digits spell, what a file denotes, what a call took, and the line that is read back.
 mod Denoting
 mod Pairs
 mod ReadBack

@@ -1,5 +1,6 @@
--- Hex output denotes the bytes that it was made of.
-use Rattle.std.proofs.Common.{◌≡◌, ◌≢◌, ◌<◌, ◌+◌, ◌/◌, ◌%◌, ◌||◌, not, true, false, ℕ, List, [], ◌∷◌, ◌++◌, length, slice_index, suc, None, Ok, nat_lt, arith, refl, sym, ap, ◌∙◌}
+-- Hex output denotes the bytes that it was made of: none of its bytes is bad, and its digits are those that `hex` decodes.
+use Rattle.std.proofs.Common.{◌≡◌, ◌≢◌, ◌<◌, ◌+◌, ◌/◌, ◌%◌, ◌||◌, not, true, false, ℕ, List, [], ◌∷◌, ◌++◌, length, slice_index, suc}
+use Rattle.std.proofs.Common.{None, Ok, nat_lt, arith, refl, sym, ap, ◌∙◌}
 use Rattle.std.specs.Char.{digit_value}
 use Rattle.std.specs.List.{position_from}
 use Rattle.std.proofs.lemmas.Bool.Decides.{nat_tests}
@@ -50,4 +51,5 @@ hex_meaning-hex_line bytes h =
     let digits = digits_of-line bytes h in
     let twice = length-encode_with lower_digits bytes in
     let even : length (digits_of (hex_line bytes)) % 2 ≢ 1 = rw digits (omega (arith, twice)) in
-    hex_meaning-even (hex_line bytes) none even ∙ ap Ok (ap paired digits ∙ sym (decode_of-paired (encode_lower bytes) bytes (decode_of-encode_lower bytes h)))
+    let back = sym (decode_of-paired (encode_lower bytes) bytes (decode_of-encode_lower bytes h)) in
+    hex_meaning-even (hex_line bytes) none even ∙ ap Ok (ap paired digits ∙ back)

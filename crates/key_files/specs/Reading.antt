@@ -26,7 +26,8 @@ ReadsToEnd answer left = IsAtEnd left
 
 -- The answer is what the bytes that the call took from the reader denote. `old` is what the reader
 -- had left before the call, and `new` what it has left after it, where it tells.
-pub record ReadsAs (meaning : List ℕ → Result (List ℕ) FileFault) (limit : ℕ) (old new : Option (List ℕ)) (answer : Result (List ℕ) FileFault) : Type 0 where
+pub record ReadsAs (meaning : List ℕ → Result (List ℕ) FileFault) (limit : ℕ) (old new : Option (List ℕ))
+    (answer : Result (List ℕ) FileFault) : Type 0 where
   pub taken : List ℕ
   -- the reader stands after the bytes that were taken
   pub stands_after : Consumes old new taken

@@ -13,7 +13,7 @@ use std::io::Read;
 /// The most bytes that a file of the command may have.
 pub const MAX_FILE: usize = 65_536;
 
-// A law: whoever cites the constant has not said its value, which a definition writes.
+// A law that ties the constant to the number that definitions write.
 fn max_file_value()
     ensures { MAX_FILE ≡ 65536 }
 {}
@@ -24,11 +24,12 @@ const CHUNK: usize = 4_096;
 /// The bytes of a file, up to the end of input: a read of no bytes into a buffer that is not empty.
 ///
 /// At most `limit + 1` bytes are taken from the reader, and none is put back. Read comes where a
-/// read answers any error, an interrupted one too, and Memory where a growth was refused, each as it
-/// is met; TooLong where `limit + 1` bytes came.
+/// read answers any error, an interrupted one too, and Memory where a growth was refused, each as
+/// it is met; TooLong where `limit + 1` bytes came.
 pub fn read_raw<R: Read>(alloc: Global, reader: &mut R, limit: usize) -> Result<Vec<u8>, FileFault>
     requires { limit < usize.MAX }
-    ensures { ReadsAs raw_meaning limit (R.remaining reader.old) (R.remaining reader.new) (answer_of result) }
+    ensures { ReadsAs raw_meaning limit (R.remaining reader.old) (R.remaining reader.new)
+        (answer_of result) }
 {
     read_raw_in(alloc, reader, limit)
 }
@@ -40,7 +41,8 @@ pub(crate) fn read_raw_in<A: Allocator, R: Read>(
     limit: usize,
 ) -> Result<Vec<u8, A>, FileFault>
     requires { limit < usize.MAX }
-    ensures { ReadsAs raw_meaning limit (R.remaining reader.old) (R.remaining reader.new) (answer_of result) }
+    ensures { ReadsAs raw_meaning limit (R.remaining reader.old) (R.remaining reader.new)
+        (answer_of result) }
 {
     let mut bytes = Vec::new(alloc);
     let mut chunk = [0; CHUNK];
@@ -62,7 +64,8 @@ fn read_some<R: Read>(reader: &mut R, buf: &mut [u8]) -> Result<usize, FileFault
     ensures within { IfOk result (λ count. count ≤ length buf.new) }
     ensures taken { IfOk result (λ count. Consumes (R.remaining reader.old) (R.remaining reader.new)
         (take count buf.new)) }
-    ensures end { IfOk result (λ count. count ≡ 0 → 0 < length buf.old → IsAtEnd (R.remaining reader.new)) }
+    ensures end { IfOk result (λ count. count ≡ 0 → 0 < length buf.old
+        → IsAtEnd (R.remaining reader.new)) }
     ensures refused { IfErr result (λ fault. (fault ≡ FileFault.Read)
         × Keeps (R.remaining reader.old) (R.remaining reader.new)) }
 {
@@ -75,7 +78,8 @@ fn read_some<R: Read>(reader: &mut R, buf: &mut [u8]) -> Result<usize, FileFault
 /// met, TooLong, BadDigit, OddDigits, Memory.
 pub fn read_hex<R: Read>(alloc: Global, reader: &mut R, limit: usize) -> Result<Vec<u8>, FileFault>
     requires { limit < usize.MAX }
-    ensures { ReadsAs hex_meaning limit (R.remaining reader.old) (R.remaining reader.new) (answer_of result) }
+    ensures { ReadsAs hex_meaning limit (R.remaining reader.old) (R.remaining reader.new)
+        (answer_of result) }
 {
     read_hex_in(alloc, reader, limit)
 }
@@ -87,7 +91,8 @@ pub(crate) fn read_hex_in<A: Allocator + Copy, R: Read>(
     limit: usize,
 ) -> Result<Vec<u8, A>, FileFault>
     requires { limit < usize.MAX }
-    ensures { ReadsAs hex_meaning limit (R.remaining reader.old) (R.remaining reader.new) (answer_of result) }
+    ensures { ReadsAs hex_meaning limit (R.remaining reader.old) (R.remaining reader.new)
+        (answer_of result) }
 {
     let text = read_raw_in(alloc, reader, limit)?;
     decode_hex_in(alloc, &text)

@@ -11,10 +11,11 @@ use std::io::Write;
 
 /// Writes the bytes, and does not flush.
 ///
-/// A write that answers any error, or takes no byte while some are left, is the fault, which says how
-/// many bytes went out. Nothing is written for an empty slice.
+/// A write that answers any error, or takes no byte while some are left, is the fault, which says
+/// how many bytes went out. Nothing is written for an empty slice.
 pub fn write_raw<W: Write>(writer: &mut W, bytes: &[u8]) -> Result<(), WriteFault>
-    ensures whole { OnOk result (Appends (W.contents writer.old) (W.contents writer.new) bytes.now) }
+    ensures whole { OnOk result (Appends (W.contents writer.old) (W.contents writer.new)
+        bytes.now) }
     ensures front { IfErr result (λ fault. Appends (W.contents writer.old) (W.contents writer.new)
         (take fault.written bytes.now)) }
     ensures short { IfErr result (λ fault. fault.written < length bytes.now) }
@@ -33,11 +34,13 @@ pub fn write_raw<W: Write>(writer: &mut W, bytes: &[u8]) -> Result<(), WriteFaul
 ///
 /// The line is made whole before the first write, so nothing is written at Memory.
 pub fn write_hex<W: Write>(alloc: Global, writer: &mut W, bytes: &[u8]) -> Result<(), HexWriteFault>
-    ensures whole { OnOk result (Appends (W.contents writer.old) (W.contents writer.new) (hex_line bytes.now)) }
+    ensures whole { OnOk result (Appends (W.contents writer.old) (W.contents writer.new)
+        (hex_line bytes.now)) }
     ensures untouched { result ≡ Err HexWriteFault.Memory
         → Keeps (W.contents writer.old) (W.contents writer.new) }
     ensures front { (written : ℕ) → result ≡ Err (HexWriteFault.Write written)
-        → Appends (W.contents writer.old) (W.contents writer.new) (take written (hex_line bytes.now)) }
+        → Appends (W.contents writer.old) (W.contents writer.new)
+        (take written (hex_line bytes.now)) }
     ensures short { (written : ℕ) → result ≡ Err (HexWriteFault.Write written)
         → written < length (hex_line bytes.now) }
     // A law for callers, of the definitions alone: the line denotes the bytes.
@@ -52,11 +55,13 @@ pub(crate) fn write_hex_in<A: Allocator, W: Write>(
     writer: &mut W,
     bytes: &[u8],
 ) -> Result<(), HexWriteFault>
-    ensures whole { OnOk result (Appends (W.contents writer.old) (W.contents writer.new) (hex_line bytes.now)) }
+    ensures whole { OnOk result (Appends (W.contents writer.old) (W.contents writer.new)
+        (hex_line bytes.now)) }
     ensures untouched { result ≡ Err HexWriteFault.Memory
         → Keeps (W.contents writer.old) (W.contents writer.new) }
     ensures front { (written : ℕ) → result ≡ Err (HexWriteFault.Write written)
-        → Appends (W.contents writer.old) (W.contents writer.new) (take written (hex_line bytes.now)) }
+        → Appends (W.contents writer.old) (W.contents writer.new)
+        (take written (hex_line bytes.now)) }
     ensures short { (written : ℕ) → result ≡ Err (HexWriteFault.Write written)
         → written < length (hex_line bytes.now) }
 {

@@ -1,3 +1,4 @@
+-- At each return the text has a bad byte, or none and an odd or an even number of digits, which says what it denotes.
 use Rattle.std.proofs.Common.{◌≡◌, ◌≢◌, ◌%◌, length, refl, sym, ap, ◌∙◌, Ok}
 use Rattle.key_files.specs.HexText.{digits_of}
 use Rattle.key_files.proofs.Denoting.{err_from, hex_meaning-bad, hex_meaning-even, hex_meaning-odd, none_from, refused-by, refused-by_memory, refused-by_none}

@@ -1,13 +1,14 @@
-use Rattle.key_files.specs.Meaning.{hex_meaning}
+-- What the raw file answers is one answer of the hex file: a fault as it is, bytes decoded.
 use Rattle.key_files.proofs.Whole.{ReadsAs-hex, ReadsAs-failed}
 use Rattle.key_files.proofs.read.read_hex_in.Goals as goal
 
 pub returns-in_err-text : goal.returns-in_err-text
 returns-in_err-text g c =
-    ReadsAs-failed hex_meaning c.args.limit _ _ c.from_residual.result c.in_err-text.field-0.0 c.from_residual.ensures.1 c.in_err-text.ensures
+    let answer = c.from_residual in
+    ReadsAs-failed answer.result c.in_err-text.field-0.0 answer.ensures.1 c.in_err-text.ensures
 
 pub returns : goal.returns
 returns g c =
     let same = c.deref.ensures.value in
     let decoded = c.decode_hex_in.ensures in
-    ReadsAs-hex c.args.limit _ _ c.in_ok-text.text.items c.decode_hex_in.result c.in_ok-text.ensures (rw same at decoded.bytes) (rw same at decoded.refused)
+    ReadsAs-hex c.decode_hex_in.result c.in_ok-text.ensures (rw same at decoded.bytes) (rw same at decoded.refused)

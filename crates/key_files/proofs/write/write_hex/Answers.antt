@@ -1,3 +1,4 @@
+-- The law of the definitions, at the slice that was passed.
 use Rattle.key_files.proofs.ReadBack.{hex_meaning-hex_line}
 use Rattle.key_files.proofs.write.write_hex.Goals as goal
 

@@ -1,3 +1,4 @@
+-- What one more write took is appended to what had gone out.
 use Rattle.std.proofs.Common.{◌-◌, ◌≤◌, ◌≡◌, length, take, drop, arith, sym, subst}
 use Rattle.std.specs.Io.KnownBytes.{Appends}
 use Rattle.std.proofs.KnownBytes.{Appends-trans}
