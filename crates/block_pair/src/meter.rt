@@ -36,7 +36,7 @@ impl<'a, B: BlockPair> Meter<'a, B> {
         ensures pair { self.new.pair ≡ self.old.pair }
         ensures count { self.new.count ≡ min u64.MAX (self.old.count + 1) }
     {
-        self.count = self.count.saturating_add(1);
+        self.tick();
         self.pair.enc(b)
     }
 
@@ -46,8 +46,15 @@ impl<'a, B: BlockPair> Meter<'a, B> {
         ensures pair { self.new.pair ≡ self.old.pair }
         ensures count { self.new.count ≡ min u64.MAX (self.old.count + 1) }
     {
-        self.count = self.count.saturating_add(1);
+        self.tick();
         self.pair.dec(b)
+    }
+
+    fn tick(&mut self)
+        ensures pair { self.new.pair ≡ self.old.pair }
+        ensures count { self.new.count ≡ min u64.MAX (self.old.count + 1) }
+    {
+        self.count = self.count.saturating_add(1);
     }
 
     /// How many calls were made. At `u64::MAX` the count stays there.

@@ -69,3 +69,14 @@ pub padded_key_in : (key buffer : List ℕ) → buffer ≡ replicate 8 0 ++ padd
 padded_key_in key buffer held =
     let zeros : List ℕ = replicate (8 * word_count (length key) - length key) 0 in
     ap (key_in (length key)) held ∙ take_at key zeros (length key) refl
+
+-- a key that was copied behind the first word
+pub copied_key : (k : ℕ) (buffer key : List ℕ) → 8 ≤ length buffer → key_in (length key) (put_mid 8 k buffer key) ≡ key
+copied_key k buffer key some =
+    ap (take (length key)) (drop_at (take 8 buffer) (key ++ drop k (drop 8 buffer)) 8 (omega (arith, length-take 8 buffer))) ∙ take_at key (drop k (drop 8 buffer)) (length key) refl
+
+-- a text whose first word was read and whose rest was copied
+pub text_again : (A : ℕ) (text copied : List ℕ) → 8 ≤ length text → word_bytes A ≡ take 8 text → copied ≡ take (length text - 8) (drop 8 text) → word_bytes A ++ copied ≡ text
+text_again A text copied some front copy =
+    let rest : take (length text - 8) (drop 8 text) ≡ drop 8 text = take_all (length text - 8) (drop 8 text) (omega (arith, length-drop 8 text)) in
+    rw (copy, rest, front) (take-append-drop 8 text)

@@ -4,7 +4,7 @@ use Rattle.std.specs.declared.alloc.Global.{Global}
 use Rattle.key_wrap.specs.declared.faults.UnwrapFault.{UnwrapFault}
 use Rattle.key_wrap.specs.declared.faults.UnwrapFault.TheVariants.{BadLength, Integrity, Memory}
 use Rattle.key_wrap.specs.Answer.{NoKey, UnwrapAnswer}
-use Rattle.key_wrap.specs.Kind.{IsKeyLength}
+use Rattle.key_wrap.specs.Kind.{KeyLengthOf}
 
 -- a key of that many bytes stands with the text, each that does has as many, and none does in the other form
 pub record Found (Stands Other : List ℕ → List ℕ → Type 0) (text : List ℕ) (len : ℕ) : Type 0 where
@@ -15,7 +15,7 @@ pub record Found (Stands Other : List ℕ → List ℕ → Type 0) (text : List 
   pub only_form : NoKey Other text
 
 pub found : (Stands Other : List ℕ → List ℕ → Type 0) (IsTextLength : ℕ → Type 0) (text : List ℕ) (answer : Result (Vec ℕ Global) UnwrapFault) (o : Option ℕ) (len : ℕ)
-    → IsKeyLength answer (Ok o) → o ≡ Some len
+    → KeyLengthOf answer (Ok o) → o ≡ Some len
     → UnwrapAnswer IsTextLength Stands text answer
     → IfOk answer (λ key. (other : List ℕ) → Stands other text → other ≡ key.items)
     → OnOk answer (NoKey Other text)
@@ -35,7 +35,7 @@ found Stands Other IsTextLength text (Err Memory) o len h e stands only_key othe
 
 -- no key stands with a text that was refused
 pub not_found : (Stands : List ℕ → List ℕ → Type 0) (text : List ℕ) (answer : Result (Vec ℕ Global) UnwrapFault) (o : Option ℕ)
-    → IsKeyLength answer (Ok o) → ((len : ℕ) → o ≡ Some len → ⊥)
+    → KeyLengthOf answer (Ok o) → ((len : ℕ) → o ≡ Some len → ⊥)
     → ((key : List ℕ) → Stands key text → IsOkUnless answer Memory)
     → NoKey Stands text
 not_found Stands text (Ok key) o h none accepts other k = none (vec_len key) cc

@@ -3,6 +3,7 @@ use Rattle.std.proofs.Common.{◌≡◌, ℕ, ◌-◌, ◌*◌, ◌≤◌, List,
 use Rattle.std.proofs.lemmas.List.{append-nil, take_at}
 use Rattle.block_pair.specs.Pair.{AreInverse}
 use Rattle.block_pair.specs.Words.{IsWord, IsBlock}
+use Rattle.key_wrap.specs.declared.lengths.TheConstants.{MAX_KEY}
 use Rattle.key_wrap.specs.Words.{word_bytes, spelled, joined}
 use Rattle.key_wrap.specs.Tape.{Wraps}
 use Rattle.key_wrap.specs.Lengths.{IsPaddedKeyLength}
@@ -14,7 +15,7 @@ use Rattle.key_wrap.proofs.Spelling.{length-spelled, joined_block, block_words, 
 use Rattle.key_wrap.proofs.Tapes.{wraps_iv, wraps_key, wraps_forward, registers_of, registers_backward}
 use Rattle.key_wrap.proofs.FormLengths.{padded_words_length}
 
-pub aiv_word : (m : ℕ) → m ≤ 4096 → IsWord (aiv m)
+pub aiv_word : (m : ℕ) → m ≤ MAX_KEY → IsWord (aiv m)
 aiv_word m h = omega arith
 
 spelled_two : (a x : ℕ) → spelled (a ∷ x ∷ []) ≡ joined a x

@@ -4,6 +4,7 @@ use Rattle.std.proofs.lemmas.List.{take-append-drop, take_all, drop_at}
 use Rattle.std.proofs.lemmas.List.Elements.{All-replicate}
 use Rattle.std.specs.List.{All}
 use Rattle.block_pair.specs.Words.{IsWord}
+use Rattle.key_wrap.specs.declared.lengths.TheConstants.{MAX_KEY}
 use Rattle.key_wrap.specs.Words.{word_bytes}
 use Rattle.key_wrap.specs.Lengths.{IsPaddedKeyLength}
 use Rattle.key_wrap.specs.Padded.{aiv, padded, word_count}
@@ -21,7 +22,7 @@ zeros (x ∷ xs) h =
     cc (first, rest)
 
 -- registers that pass the checks hold a key of the length that the initial value says
-pub passes_word : (iv len : ℕ) (registers : List ℕ) → length registers % 8 ≡ 0 → 8 ≤ length registers → length registers ≤ 4096 → iv / 2 ^ 32 ≡ 0xA659_59A6 → iv % 2 ^ 32 ≡ len
+pub passes_word : (iv len : ℕ) (registers : List ℕ) → length registers % 8 ≡ 0 → 8 ≤ length registers → length registers ≤ MAX_KEY → iv / 2 ^ 32 ≡ 0xA659_59A6 → iv % 2 ^ 32 ≡ len
     → length registers < len + 8 → len ≤ length registers → All (λ x. x ≡ 0) (drop len registers) → HoldsLength (word_bytes iv ++ registers) len
 passes_word iv len registers whole some most prefix number low high blank =
     let rest : drop 8 (word_bytes iv ++ registers) ≡ registers = drop_at (word_bytes iv) registers 8 (length-word_bytes iv) in

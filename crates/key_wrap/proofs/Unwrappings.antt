@@ -1,5 +1,5 @@
 -- What an unwrapping call that takes no memory promises, from the state in which the machine left the registers.
-use Rattle.std.proofs.Common.{rules, ◌≡◌, ℕ, ◌+◌, List, ◌++◌, length, take, drop, Result, Ok, Err, IsErr, IsErrAnd, Vec, refl, sym, ap, subst, arith, length-append}
+use Rattle.std.proofs.Common.{rules, ◌≡◌, ℕ, ◌+◌, List, ◌++◌, length, take, drop, Result, Ok, Err, IsOk, IsOkUnless, IsErr, IsErrAnd, Vec, refl, sym, ap, subst, arith, length-append}
 use Rattle.std.proofs.lemmas.List.{drop_at}
 use Rattle.std.specs.declared.alloc.Global.{Global}
 use Rattle.block_pair.specs.Pair.{AreInverse}
@@ -104,3 +104,8 @@ pub refused : (Stands : List ℕ → List ℕ → Type 0) (Legal : Type 0) {A : 
 refused Stands Legal key text fault (Ok k) legal a r = let no = r.0 in cc
 refused Stands Legal key text BadLength (Err e) legal a r = absurd (a legal)
 refused Stands Legal key text Integrity (Err e) legal a r = (ap Err r.1, a.1)
+
+-- an answer that is no fault is not one but BadLength
+pub ok_unless : {A : Type 0} (answer : Result A InPlaceFault) → IsOk answer → IsOkUnless answer BadLength
+ok_unless (Ok m) h = tt
+ok_unless (Err e) h = cc

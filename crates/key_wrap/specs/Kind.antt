@@ -18,8 +18,8 @@ IsKindOf E text (InPadded m) = (key : List ℕ) × (length key ≡ m) × Padded 
 IsKindOf E text Neither = NoKey (Plain E) text × NoKey (Padded E) text
 
 -- the length of the key that a call answered, or none where it refused the text, or want of memory
-abbrev pub IsKeyLength : Result (Vec ℕ Global) UnwrapFault → Result (Option ℕ) KindFault → Type 0
-IsKeyLength (Ok key) len = len ≡ Ok (Some (vec_len key))
-IsKeyLength (Err BadLength) len = len ≡ Ok None
-IsKeyLength (Err Integrity) len = len ≡ Ok None
-IsKeyLength (Err Memory) len = len ≡ Err kind_faults.Memory
+abbrev pub KeyLengthOf : Result (Vec ℕ Global) UnwrapFault → Result (Option ℕ) KindFault → Type 0
+KeyLengthOf (Ok key) len = len ≡ Ok (Some (vec_len key))
+KeyLengthOf (Err BadLength) len = len ≡ Ok None
+KeyLengthOf (Err Integrity) len = len ≡ Ok None
+KeyLengthOf (Err Memory) len = len ≡ Err kind_faults.Memory

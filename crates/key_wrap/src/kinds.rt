@@ -5,7 +5,7 @@ ghost use Rattle.key_wrap.specs.Lengths.{IsPlainTextLength, IsPaddedTextLength};
 ghost use Rattle.key_wrap.specs.Plain.{Plain};
 ghost use Rattle.key_wrap.specs.Padded.{Padded};
 ghost use Rattle.key_wrap.specs.Answer.{NoKey};
-ghost use Rattle.key_wrap.specs.Kind.{IsKindOf, IsKeyLength};
+ghost use Rattle.key_wrap.specs.Kind.{IsKindOf, KeyLengthOf};
 
 use crate::faults::{KindFault, UnwrapFault};
 use crate::forms::Kind;
@@ -38,9 +38,9 @@ pub fn kind<B: BlockPair>(alloc: Global, pair: &B, text: &[u8]) -> Result<Kind, 
     }
 }
 
-/// The length of the key that was unwrapped, and `None` where the text was refused.
+// The length of the key that was unwrapped, and `None` where the text was refused.
 fn key_length(answer: Result<Vec<u8>, UnwrapFault>) -> Result<Option<usize>, KindFault>
-    ensures { IsKeyLength answer result }
+    ensures { KeyLengthOf answer result }
 {
     match answer {
         Ok(key) => Ok(Some(key.len())),

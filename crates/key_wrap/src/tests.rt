@@ -1,6 +1,9 @@
 //! Worked answers over the drill block, which anyone can work by hand: At is the register word that goes
 //! in, xored with t, and A(t-1) goes into the last register.
 
+mod in_place;
+mod into;
+mod memory;
 mod padded;
 
 use crate::*;
@@ -171,24 +174,6 @@ fn refuses_legal_length_of_other_form(rt: HostRuntime) -> Result<(), Fail> {
 }
 
 #[test]
-fn gives_up_for_memory_at_no_length(rt: HostRuntime) -> Result<(), Fail> {
-    let alloc = rt.alloc();
-    let bytes = [0x5a; 520];
-    for len in 1..=520 {
-        let key = &bytes[..len];
-        let text = wrap_padded(alloc, &SwapHalves, key)?;
-        assert_eq!(rt; unwrap_padded(alloc, &SwapHalves, &text)?.as_slice(), key);
-        assert_eq!(rt; kind(alloc, &SwapHalves, &text)?, Kind::Padded(len));
-        if key_length_ok(len) {
-            let text = wrap(alloc, &SwapHalves, key)?;
-            assert_eq!(rt; unwrap(alloc, &SwapHalves, &text)?.as_slice(), key);
-            assert_eq!(rt; kind(alloc, &SwapHalves, &text)?, Kind::Plain(len));
-        }
-    }
-    Ok(())
-}
-
-#[test]
 fn faults_print_their_cause(rt: HostRuntime) -> Result<(), Fail> {
     let alloc = rt.alloc();
     for (fault, message) in [
@@ -201,6 +186,12 @@ fn faults_print_their_cause(rt: HostRuntime) -> Result<(), Fail> {
     for (fault, message) in [
         (WrapFault::BadLength, "bad length"),
         (WrapFault::Memory, "out of memory"),
+    ] {
+        assert_eq!(rt; format!(in alloc; "{fault}")?.as_str(), message);
+    }
+    for (fault, message) in [
+        (InPlaceFault::BadLength, "bad length"),
+        (InPlaceFault::Integrity, "integrity check failed"),
     ] {
         assert_eq!(rt; format!(in alloc; "{fault}")?.as_str(), message);
     }
