@@ -1,4 +1,4 @@
--- The clauses of the calls of key_wrap, gathered into one answer for each form.
+-- The clauses of the calls of key_wrap, gathered into one answer for each form, by the cases of an answer.
 use Rattle.std.proofs.Common.{◌≡◌, ℕ, List, Vec, Result, Ok, Err, IfOk, OnOk}
 use Rattle.std.specs.declared.alloc.Global.{Global}
 use Rattle.key_wrap.specs.declared.forms.Form.{Form}

@@ -1,4 +1,5 @@
--- What a job writes, from what its parts answer.
+-- What a job writes, from what its parts answer: the answer of a conversion or the kind's line, in the output's
+-- notation, whole or up to where the writer stopped. Each lemma goes by the cases of an answer.
 use Rattle.std.proofs.Common.{◌≡◌, ℕ, List, Vec, Option, Result, Ok, Err, MatchResult, IsErrAnd, refl, subst}
 use Rattle.std.specs.declared.alloc.Global.{Global}
 use Rattle.key_wrap.specs.declared.forms.Form.{Form}

@@ -73,5 +73,6 @@ Converts Unwrap form E X Y = Stands form E Y X
 abbrev pub ConversionAnswer : Direction → Form → (List ℕ → List ℕ) → List ℕ → Result (Vec ℕ Global) UnwrapFault → Type 0
 ConversionAnswer direction form E X (Ok Y) = IsAnswer direction form E X Y.items
 ConversionAnswer direction form E X (Err BadLength) = ¬ IsInputLength direction form (length X)
-ConversionAnswer direction form E X (Err Integrity) = IsInputLength direction form (length X) × HasNoAnswer direction form E X
+ConversionAnswer direction form E X (Err Integrity) =
+    IsInputLength direction form (length X) × HasNoAnswer direction form E X
 ConversionAnswer direction form E X (Err Memory) = IsInputLength direction form (length X)

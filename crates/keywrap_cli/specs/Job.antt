@@ -43,7 +43,8 @@ abbrev pub LeavesOutput : Task → List ℕ → List ℕ → Option (List ℕ) �
 LeavesOutput task F G old new (Ok done) =
     (output : List ℕ) × JobAnswer task F G (Ok output) × Appends old new output × IsDone task.job output done
 LeavesOutput task F G old new (Err (Write written)) =
-    (output : List ℕ) × JobAnswer task F G (Ok output) × (written < length output) × Appends old new (take written output)
+    (output : List ℕ) × JobAnswer task F G (Ok output) × (written < length output)
+    × Appends old new (take written output)
 LeavesOutput task F G old new (Err (KekFile files.Read)) = Keeps old new
 LeavesOutput task F G old new (Err (InputFile files.Read)) = Keeps old new
 LeavesOutput task F G old new (Err Memory) = Keeps old new
@@ -98,7 +99,8 @@ IsRefusedFor fault answer = (answer ≡ Err fault) ⊎ GivesUp answer
 
 -- What a call of a job does. Of the KEK file, the input and the writer the record takes what is known before
 -- the call and after it.
-pub record RunsJob (task : Task) (kek kek' input input' out out' : Option (List ℕ)) (answer : Result Done JobFault) : Type 0 where
+pub record RunsJob (task : Task) (kek kek' input input' out out' : Option (List ℕ)) (answer : Result Done JobFault)
+    : Type 0 where
   -- what the call took from the two files: at most one byte past the limit
   pub F : List ℕ
   pub G : List ℕ

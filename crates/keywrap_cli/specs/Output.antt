@@ -58,11 +58,13 @@ IsDone job output Neither = (job ≡ Check) × (output ≡ kind_line kinds.Neith
 
 -- What a job leaves in its writer for the bytes X, by cases: the whole output, or the first `written` bytes of
 -- it, or nothing.
-abbrev pub OutputAnswer : Job → Task → (List ℕ → List ℕ) → List ℕ → Option (List ℕ) → Option (List ℕ) → Result Done JobFault → Type 0
+abbrev pub OutputAnswer : Job → Task → (List ℕ → List ℕ) → List ℕ → Option (List ℕ) → Option (List ℕ)
+    → Result Done JobFault → Type 0
 OutputAnswer job task E X old new (Ok done) =
     (output : List ℕ) × WritesFor job task E X output × Appends old new output × IsDone job output done
 OutputAnswer job task E X old new (Err (Write written)) =
-    (output : List ℕ) × WritesFor job task E X output × (written < length output) × Appends old new (take written output)
+    (output : List ℕ) × WritesFor job task E X output × (written < length output)
+    × Appends old new (take written output)
 OutputAnswer job task E X old new (Err BadLength) = HasBadLength job task.form X × Keeps old new
 OutputAnswer job task E X old new (Err Integrity) = HasNoKey job task.form E X × Keeps old new
 OutputAnswer job task E X old new (Err Memory) = Keeps old new

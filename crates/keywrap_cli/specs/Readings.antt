@@ -17,7 +17,8 @@ KekAnswer notation F left (Err (KekFile files.Read)) = ⊤
 KekAnswer notation F left (Err (KekFile files.TooLong)) = IsRefused notation F files.TooLong
 KekAnswer notation F left (Err (KekFile files.Memory)) = ⊥
 KekAnswer notation F left (Err (KekFile fault)) = IsRefused notation F fault × IsAtEnd left
-KekAnswer notation F left (Err KekLength) = ((K : List ℕ) × Denotes notation F K × ¬ IsKekLength (length K)) × IsAtEnd left
+KekAnswer notation F left (Err KekLength) =
+    ((K : List ℕ) × Denotes notation F K × ¬ IsKekLength (length K)) × IsAtEnd left
 KekAnswer notation F left (Err Memory) = ⊤
 KekAnswer notation F left (Err fault) = ⊥
 
@@ -46,7 +47,8 @@ InputAnswer notation G left (Err Memory) = ⊤
 InputAnswer notation G left (Err fault) = ⊥
 
 -- what the call that reads the input file takes from it, and answers
-pub record ReadsInput (notation : Notation) (old new : Option (List ℕ)) (answer : Result (Vec ℕ Global) JobFault) : Type 0 where
+pub record ReadsInput (notation : Notation) (old new : Option (List ℕ)) (answer : Result (Vec ℕ Global) JobFault)
+    : Type 0 where
   pub taken : List ℕ
   pub stands_after : Consumes old new taken
   pub at_most : length taken ≤ 65536 + 1

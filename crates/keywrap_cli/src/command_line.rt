@@ -78,7 +78,8 @@ fn drill<'a>(found: &ArgMatches<'a>) -> Request<'a> {
     }
 }
 
-// A flag that the command does not have, as `--padded` of `check`, is not set: a check looks at both forms.
+// A flag that the command does not have, as `--padded` of `check`, is not set. A check looks at
+// both forms, whichever its task names.
 fn form_of(found: &ArgMatches<'_>) -> Form {
     if found.get_flag("padded") {
         Form::Padded
@@ -95,8 +96,8 @@ fn notation(found: &ArgMatches<'_>, flag: &str) -> Notation {
     }
 }
 
-// The value of an argument that the command requires. A parse without it is refused, so the empty text is
-// never met; it would be no file's name, and no key.
+// The value of an argument that the command requires. A parse without it is refused, so the empty
+// text is never met. It would be refused as well: it is no file's name, and denotes no key.
 fn text_of<'a>(found: &ArgMatches<'a>, id: &str) -> &'a str {
     found.get_str(id).unwrap_or("")
 }

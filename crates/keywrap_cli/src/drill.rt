@@ -1,4 +1,5 @@
-//! The drill: wrapping over a block that only exchanges its halves, so that answers can be worked by hand.
+//! The drill: wrapping over a block that only exchanges its halves, so that answers can be worked
+//! by hand.
 
 ghost use Rattle.std.specs.Prelude.{◌≡◌, ◌↔◌, ℕ, Err};
 ghost use Rattle.key_files.specs.declared.fault.FileFault.TheVariants as FileFaults;
@@ -36,8 +37,8 @@ pub enum DrillFault {
 
 /// Wraps or unwraps, over the drill block, the bytes that a hex text denotes.
 ///
-/// The first that applies is answered: TooLong (more than `MAX_FILE` bytes of text), BadDigit, OddDigits,
-/// Memory, BadLength, Memory, Integrity. The first three take no memory.
+/// The first that applies is answered: TooLong (more than `MAX_FILE` bytes of text), BadDigit,
+/// OddDigits, Memory, BadLength, Memory, Integrity. The first three take no memory.
 pub fn drill(
     alloc: Global,
     form: Form,

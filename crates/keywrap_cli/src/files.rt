@@ -1,43 +1,14 @@
-//! The KEK file and the input of a job.
+//! The files of a job, and its input file.
 
 ghost use Rattle.std.specs.Prelude.{◌≡◌};
 ghost use Rattle.key_files.specs.Reading.{ReadsAs, answer_of};
 ghost use Rattle.keywrap_cli.specs.Files.{meaning_in};
-ghost use Rattle.keywrap_cli.specs.Readings.{MakesKek, ReadsInput, ReadsKek, named_fault_of};
+ghost use Rattle.keywrap_cli.specs.Readings.{ReadsInput, named_fault_of};
 
 use crate::job::{JobFault, Notation};
-use aes_block::Aes;
 use key_files::{FileFault, MAX_FILE, read_hex, read_raw};
 use std::alloc::Global;
 use std::io::Read;
-
-/// AES under the KEK that a file denotes.
-pub fn read_kek<K: Read>(alloc: Global, notation: Notation, kek: &mut K) -> Result<Aes, JobFault>
-    ensures { ReadsKek notation (K.remaining kek.old) (K.remaining kek.new) result }
-{
-    match read_file(alloc, notation, kek) {
-        Ok(bytes) => under_kek(&bytes),
-        Err(fault) => Err(kek_fault(fault)),
-    }
-}
-
-fn kek_fault(fault: FileFault) -> JobFault
-    ensures { result ≡ named_fault_of (λ f. JobFault.KekFile f) fault }
-{
-    match fault {
-        FileFault::Memory => JobFault::Memory,
-        fault => JobFault::KekFile(fault),
-    }
-}
-
-fn under_kek(kek: &[u8]) -> Result<Aes, JobFault>
-    ensures { MakesKek kek.now result }
-{
-    match Aes::new(kek) {
-        Ok(aes) => Ok(aes),
-        Err(_) => Err(JobFault::KekLength),
-    }
-}
 
 /// The bytes that an input denotes.
 pub fn read_input<R: Read>(
@@ -62,7 +33,8 @@ fn input_fault(fault: FileFault) -> JobFault
     }
 }
 
-fn read_file<R: Read>(
+/// The bytes that a file denotes, of at most `MAX_FILE` bytes.
+pub fn read_file<R: Read>(
     alloc: Global,
     notation: Notation,
     reader: &mut R,

@@ -3,7 +3,8 @@
 ghost use Rattle.std.specs.Prelude.{◌≡◌, IsOk};
 ghost use Rattle.keywrap_cli.specs.Job.{RunsJob, WritesTheKey};
 
-use crate::files::{read_input, read_kek};
+use crate::files::read_input;
+use crate::kek_file::read_kek;
 use crate::output::write_output;
 use key_files::FileFault;
 use key_wrap::Form;
@@ -84,10 +85,11 @@ pub enum JobFault {
 
 /// Runs a job: reads the KEK and the input, and writes the answer in the notation of the input.
 ///
-/// The first that applies is answered: KekFile, KekLength, InputFile, BadLength, Memory of the answer,
-/// Integrity, Memory of the hex output or of the check's line, Write. Want of memory at a file is answered as
-/// Memory at that file's place. After a refusal at the KEK's place the input has not been read. Nothing is
-/// written before the whole output is made, and the call does not flush.
+/// The first that applies is answered: KekFile, KekLength, InputFile, BadLength, Memory of the
+/// answer, Integrity, Memory of the hex output or of the check's line, Write. Want of memory
+/// while a file is read is answered as Memory, where that file's fault would be. After a refusal
+/// for the KEK file or the KEK the input has not been read. Nothing is written before the whole
+/// output is made, and the call does not flush.
 pub fn run_job<K: Read, R: Read, W: Write>(
     alloc: Global,
     task: Task,

@@ -8,6 +8,7 @@ mod fault;
 mod files;
 mod help;
 mod job;
+mod kek_file;
 mod output;
 mod program;
 mod statuses;

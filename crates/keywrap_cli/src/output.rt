@@ -22,7 +22,8 @@ pub fn write_output<B: BlockPair, W: Write>(
     input: &[u8],
     out: &mut W,
 ) -> Result<Done, JobFault>
-    ensures { OutputAnswer task.job task (B.encrypted pair.now) input.now (W.contents out.old) (W.contents out.new) result }
+    ensures { OutputAnswer task.job task (B.encrypted pair.now) input.now
+        (W.contents out.old) (W.contents out.new) result }
 {
     match task.job {
         Job::Wrap => write_answer(alloc, Direction::Wrap, task, pair, input, out),
@@ -39,7 +40,8 @@ fn write_answer<B: BlockPair, W: Write>(
     input: &[u8],
     out: &mut W,
 ) -> Result<Done, JobFault>
-    ensures { OutputAnswer (job_of direction) task (B.encrypted pair.now) input.now (W.contents out.old) (W.contents out.new) result }
+    ensures { OutputAnswer (job_of direction) task (B.encrypted pair.now) input.now
+        (W.contents out.old) (W.contents out.new) result }
 {
     let answer = convert(alloc, direction, task.form, pair, input).map_err(job_fault)?;
     send(alloc, task.input, &answer, out)?;
@@ -107,7 +109,8 @@ fn write_kind<B: BlockPair, W: Write>(
     text: &[u8],
     out: &mut W,
 ) -> Result<Done, JobFault>
-    ensures { (task : Task) → OutputAnswer Job.Check task (B.encrypted pair.now) text.now (W.contents out.old) (W.contents out.new) result }
+    ensures { (task : Task) → OutputAnswer Job.Check task (B.encrypted pair.now) text.now
+        (W.contents out.old) (W.contents out.new) result }
 {
     let found = match kind(alloc, pair, text) {
         Ok(found) => found,

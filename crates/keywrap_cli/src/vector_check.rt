@@ -102,7 +102,8 @@ fn converts<B: BlockPair>(
 
 // Whether the cipher takes one block to the other, and the inverse cipher takes it back.
 fn encrypts<B: BlockPair>(pair: &B, plain: &[u8], encrypted: &[u8]) -> bool
-    ensures { IsTrue result ↔ (IsBlock plain.now × (B.encrypted pair.now plain.now ≡ encrypted.now)) }
+    ensures { IsTrue result
+        ↔ (IsBlock plain.now × (B.encrypted pair.now plain.now ≡ encrypted.now)) }
 {
     let Some(plain) = block_of(plain) else {
         return false;

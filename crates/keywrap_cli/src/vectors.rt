@@ -27,17 +27,20 @@ pub enum VectorsFault {
     },
 }
 
-/// Answers each vector in both directions, and writes a line for each: its name, and `ok` where both
-/// directions give the vector's bytes, else `failed`. True where all lines say `ok`.
+/// Answers each vector in both directions, and writes a line for each: its name, and `ok` where
+/// both directions give the vector's bytes, else `failed`. True where all lines say `ok`.
 ///
 /// The lines are made whole before the first write, and the call does not flush.
 pub fn vectors<W: Write>(alloc: Global, out: &mut W) -> Result<bool, VectorsFault>
     ensures report { IfOk result (λ all_ok. (text : List ℕ) × IsReport published_vectors text all_ok
         × Appends (W.contents out.old) (W.contents out.new) text) }
-    ensures all_right { IfOk result (λ all_ok. IsTrue all_ok ↔ AllByRecursion IsRight published_vectors) }
-    ensures untouched { result ≡ Err VectorsFault.Memory → Keeps (W.contents out.old) (W.contents out.new) }
+    ensures all_right { IfOk result (λ all_ok.
+        IsTrue all_ok ↔ AllByRecursion IsRight published_vectors) }
+    ensures untouched { result ≡ Err VectorsFault.Memory
+        → Keeps (W.contents out.old) (W.contents out.new) }
     ensures front { (written : ℕ) → result ≡ Err (VectorsFault.Write written)
-        → (text : List ℕ) × (all_ok : Bool) × IsReport published_vectors text all_ok × (written < length text)
+        → (text : List ℕ) × (all_ok : Bool) × IsReport published_vectors text all_ok
+        × (written < length text)
         × Appends (W.contents out.old) (W.contents out.new) (take written text) }
 {
     let Ok(report) = report_on(alloc, &VECTORS) else {

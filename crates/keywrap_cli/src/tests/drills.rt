@@ -1,5 +1,5 @@
-//! Drills, whose answers follow from the rule of the drill block: At is the register that goes in, xored with
-//! t, and A(t-1) goes into the last register.
+//! Drills, whose answers follow from the rule of the drill block: At is the register that goes in,
+//! xored with t, and A(t-1) goes into the last register.
 
 use crate::convert::Direction;
 use crate::drill::{DrillFault, drill};

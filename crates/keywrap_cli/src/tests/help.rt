@@ -42,7 +42,8 @@ fn says_each_status(rt: HostRuntime) -> Result<(), Fail> {
 #[test]
 fn says_the_largest_key(rt: HostRuntime) -> Result<(), Fail> {
     let line = format!(in rt.alloc();
-        "A plain key has 16 to {MAX_KEY} bytes, a multiple of 8. With --padded it has 1 to {MAX_KEY}."
+        "A plain key has 16 to {MAX_KEY} bytes, a multiple of 8. \
+         With --padded it has 1 to {MAX_KEY}."
     )?;
     assert!(rt; WRAP_EXAMPLE.ends_with(line.as_str()));
     Ok(())

@@ -1,4 +1,5 @@
-//! The vectors of RFC 3394, section 4, and RFC 5649, section 6, through the calls of `key_wrap` over AES.
+//! The vectors of RFC 3394, section 4, and RFC 5649, section 6, through the calls of `key_wrap`
+//! over AES.
 
 use aes_block::Aes;
 use key_files::decode_hex;

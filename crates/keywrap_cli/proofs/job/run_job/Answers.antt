@@ -1,3 +1,4 @@
+-- Each return gives the call's record at the step that the call came to; the headline follows from the record.
 use Rattle.std.proofs.lemmas.Result.{err_from_is_err_and}
 use Rattle.keywrap_cli.proofs.Jobs.{answered, headline_of, stopped_at_input, stopped_at_kek}
 use Rattle.keywrap_cli.proofs.job.run_job.Goals as goal

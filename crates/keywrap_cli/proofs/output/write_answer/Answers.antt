@@ -1,3 +1,4 @@
+-- The answer that was not written whole is the conversion's, and its front is what the writer took.
 use Rattle.std.proofs.Common.{ℕ, List, sym, subst}
 use Rattle.std.proofs.lemmas.Result.{err_from_is_err_and}
 use Rattle.keywrap_cli.specs.Conversion.{IsAnswer}

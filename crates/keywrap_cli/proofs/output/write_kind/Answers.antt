@@ -1,3 +1,4 @@
+-- The line is that of the text's kind, whether it was written whole or not.
 use Rattle.std.proofs.Common.{◌∙◌}
 use Rattle.std.proofs.lemmas.Result.{err_from_is_err_and}
 use Rattle.keywrap_cli.proofs.Outputs.{kind_done, refused_write}

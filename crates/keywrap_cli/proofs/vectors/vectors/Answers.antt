@@ -1,3 +1,4 @@
+-- The table of the program is the published one, by computing; the rest is what the report says of it.
 use Rattle.std.proofs.Common.{◌≡◌}
 use Rattle.keywrap_cli.proofs.Reports.{all_right, front_of_report}
 use Rattle.keywrap_cli.proofs.vectors.vectors.Goals as goal

@@ -1,5 +1,5 @@
 use Rattle.keywrap_cli.proofs.Readings.{kek_of_bytes, kek_of_fault}
-use Rattle.keywrap_cli.proofs.files.read_kek.Goals as goal
+use Rattle.keywrap_cli.proofs.kek_file.read_kek.Goals as goal
 
 pub returns-in-Ok : goal.returns-in-Ok
 returns-in-Ok g c =

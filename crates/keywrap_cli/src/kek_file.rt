@@ -1,0 +1,39 @@
+//! The KEK file of a job.
+
+ghost use Rattle.std.specs.Prelude.{◌≡◌};
+ghost use Rattle.keywrap_cli.specs.Readings.{MakesKek, ReadsKek, named_fault_of};
+
+use crate::files::read_file;
+use crate::job::{JobFault, Notation};
+use aes_block::Aes;
+use key_files::FileFault;
+use std::alloc::Global;
+use std::io::Read;
+
+/// AES under the KEK that a file denotes.
+pub fn read_kek<K: Read>(alloc: Global, notation: Notation, kek: &mut K) -> Result<Aes, JobFault>
+    ensures { ReadsKek notation (K.remaining kek.old) (K.remaining kek.new) result }
+{
+    match read_file(alloc, notation, kek) {
+        Ok(bytes) => under_kek(&bytes),
+        Err(fault) => Err(kek_fault(fault)),
+    }
+}
+
+fn kek_fault(fault: FileFault) -> JobFault
+    ensures { result ≡ named_fault_of (λ f. JobFault.KekFile f) fault }
+{
+    match fault {
+        FileFault::Memory => JobFault::Memory,
+        fault => JobFault::KekFile(fault),
+    }
+}
+
+fn under_kek(kek: &[u8]) -> Result<Aes, JobFault>
+    ensures { MakesKek kek.now result }
+{
+    match Aes::new(kek) {
+        Ok(aes) => Ok(aes),
+        Err(_) => Err(JobFault::KekLength),
+    }
+}
