@@ -42,8 +42,8 @@ enum keywrap_status {
     KEYWRAP_INTEGRITY = 5   /* the text wraps no key under this KEK; only an unwrap answers it */
 };
 
-/* Where the compiler sees them, it warns of a NULL, of an answer that is not looked at, and (GCC) of
- * an overlap and of a buffer that is shorter than its length says. */
+/* Where the compiler sees them, it warns of a NULL, of an answer that is not looked at, and (GCC)
+ * of an overlap and of a buffer that is shorter than its length says. */
 #if defined(__GNUC__)
 #define KEYWRAP_CALL __attribute__((nonnull, nothrow, warn_unused_result))
 #define KEYWRAP_RESTRICT __restrict
@@ -111,8 +111,8 @@ int32_t keywrap_unwrap_padded(const uint8_t *kek, size_t kek_len, const uint8_t 
                               size_t text_len, uint8_t *KEYWRAP_RESTRICT key, size_t room,
                               size_t *KEYWRAP_RESTRICT key_len);
 
-/* Plain, one buffer: text_len, a multiple of 8 from 24 to KEYWRAP_MAX_TEXT, is its whole length, and
- * the key stands at buffer + 8.
+/* Plain, one buffer: text_len, a multiple of 8 from 24 to KEYWRAP_MAX_TEXT, is its whole length,
+ * and the key stands at buffer + 8.
  *
  * keywrap_wrap_in_place turns the key into its wrapping; the first 8 bytes may hold anything:
  *   KEYWRAP_OK          the buffer holds the wrapping
@@ -141,8 +141,8 @@ int32_t keywrap_unwrap_in_place(const uint8_t *kek, size_t kek_len,
  *
  * keywrap_unwrap_padded_in_place turns the wrapping into its key:
  *   text_len  a multiple of 8 from 16 to KEYWRAP_MAX_TEXT
- *   KEYWRAP_OK          8 zeros, the key of *key_len bytes, and zeros, up to 7, to the end; no other
- *                       key has this wrapping
+ *   KEYWRAP_OK          8 zeros, the key of *key_len bytes, and zeros, up to 7, to the end; no
+ *                       other key has this wrapping
  *   KEYWRAP_INTEGRITY   there is none; the buffer is all zeros, and *key_len is 0
  *   any other           the buffer is as it was, and *key_len is 0 */
 KEYWRAP_CALL KEYWRAP_READS(1, 2) KEYWRAP_CHANGES(3, 4)
