@@ -87,15 +87,24 @@ static void lengths(enum form form, size_t kek_len, size_t key_len, size_t text_
     }
 }
 
-/* Every pair of lengths from `first` on, where they are right under each length of KEK. */
-static void pairs_of_lengths(enum form form, size_t first, size_t last) {
-    for (size_t key_len = first; key_len <= last; key_len++)
-        for (size_t text_len = first; text_len <= last + 16; text_len++) {
+/* Every pair of short lengths, where they are right under each length of KEK. */
+static void short_lengths(enum form form) {
+    for (size_t key_len = 0; key_len <= 72; key_len++)
+        for (size_t text_len = 0; text_len <= 88; text_len++) {
             lengths(form, 16, key_len, text_len);
             if (wrap_status(form, 16, key_len, text_len) != 0) continue;
             lengths(form, 24, key_len, text_len);
             lengths(form, 32, key_len, text_len);
         }
+}
+
+/* The longest keys, those that are too long, and texts of lengths about theirs. */
+static void longest_lengths(enum form form) {
+    static const size_t key_lens[] = {KEYWRAP_MAX_KEY - 8, KEYWRAP_MAX_KEY - 1, KEYWRAP_MAX_KEY,
+                                      KEYWRAP_MAX_KEY + 1, KEYWRAP_MAX_KEY + 8};
+    for (size_t i = 0; i < sizeof key_lens / sizeof *key_lens; i++)
+        for (size_t more = 0; more <= 16; more += more == 7 || more == 8 ? 1 : 7)
+            lengths(form, 32, key_lens[i], padded_len(key_lens[i]) + more);
 }
 
 /* KEKs of every length, with right and wrong lengths beside them. */
@@ -163,8 +172,8 @@ int main(void) {
     scatter(scattered, sizeof scattered);
     vectors();
     for (enum form form = PLAIN; form <= PADDED; form++) {
-        pairs_of_lengths(form, 0, 72);
-        pairs_of_lengths(form, KEYWRAP_MAX_KEY - 8, KEYWRAP_MAX_KEY + 8);
+        short_lengths(form);
+        longest_lengths(form);
         kek_lengths(form);
     }
     tampered_texts();
