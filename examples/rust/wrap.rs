@@ -15,7 +15,10 @@ fn plain() -> Result<(), Error> {
     let key: Vec<u8> = (0..16).map(|i| 0x11 * i).collect();
     let text = keywrap::wrap(&kek, &key)?;
     println!("wrap: {}", hex(&text));
-    assert_eq!(hex(&text), "1fa68b0a8112b447aef34bd8fb5a7b829d3e862371d2cfe5");
+    assert_eq!(
+        hex(&text),
+        "1fa68b0a8112b447aef34bd8fb5a7b829d3e862371d2cfe5"
+    );
     assert_eq!(keywrap::unwrap(&kek, &text)?, key);
 
     let mut buffer = [&[0; 8], &key[..]].concat();
@@ -26,7 +29,10 @@ fn plain() -> Result<(), Error> {
     let mut tampered = text.clone();
     tampered[3] ^= 1;
     assert_eq!(keywrap::unwrap(&kek, &tampered), Err(Error::Integrity));
-    assert_eq!(keywrap::unwrap_in_place(&kek, &mut tampered), Err(Error::Integrity));
+    assert_eq!(
+        keywrap::unwrap_in_place(&kek, &mut tampered),
+        Err(Error::Integrity)
+    );
     assert_eq!(tampered, [0; 24]);
     assert_eq!(keywrap::unwrap_padded(&kek, &text), Err(Error::Integrity));
     assert_eq!(keywrap::wrap(&kek[..15], &key), Err(Error::BadKek));
