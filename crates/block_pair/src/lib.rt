@@ -6,8 +6,10 @@ ghost use Rattle.block_pair.specs.Pair.{AreInverse};
 ghost use Rattle.block_pair.specs.Halves.{swapped_halves};
 
 mod halves;
+mod meter;
 
 pub use halves::SwapHalves;
+pub use meter::Meter;
 
 /// A permutation of blocks of 16 bytes and its inverse, as RFC 3394, section 2, uses them: a block
 /// cipher under one key.

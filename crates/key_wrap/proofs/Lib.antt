@@ -2,10 +2,16 @@ pub mod Spelling
 pub mod Tapes
 pub mod Stepping
 pub mod Segments
+pub mod Counting
+pub mod Registering
+pub mod Places
 pub mod Filling
 pub mod FormLengths
 pub mod PlainForm
 pub mod PaddedForm
 pub mod BothForms
 pub mod ThreeChecks
+pub mod WordChecks
+pub mod InPlaceForm
+pub mod Unwrappings
 pub mod KeyLengths

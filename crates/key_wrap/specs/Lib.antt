@@ -8,3 +8,5 @@ pub mod Steps
 pub mod PaddedRegisters
 pub mod Answer
 pub mod Kind
+pub mod Calls
+pub mod InPlace

@@ -1,7 +1,8 @@
 //! The checks of unwrapped registers: the initial value, and in the padded form the padding.
 
-ghost use Rattle.std.specs.Prelude.{◌≡◌, ◌<◌, ◌≤◌, ◌↔◌, ℕ, ◌+◌, ◌%◌, List, length, All, IsTrue, IfSome, IfNone};
+ghost use Rattle.std.specs.Prelude.{◌≡◌, ◌<◌, ◌≤◌, ◌↔◌, ℕ, ◌+◌, ◌%◌, ◌++◌, List, length, All, IsTrue, IfSome, IfNone};
 ghost use Rattle.byteorder.specs.Endian.{big_number};
+ghost use Rattle.key_wrap.specs.Words.{word_bytes};
 ghost use Rattle.key_wrap.specs.Lengths.{IsPaddedKeyLength};
 ghost use Rattle.key_wrap.specs.Plain.{default_iv};
 ghost use Rattle.key_wrap.specs.PaddedRegisters.{Holds, HoldsLength};
@@ -42,6 +43,30 @@ pub(crate) fn checked_length(buffer: &[u8]) -> Option<usize>
         return None;
     }
     if is_zero(&padded[len..]) {
+        Some(len)
+    } else {
+        None
+    }
+}
+
+// The length of the key in the registers under this initial value, where they pass the three checks of
+// RFC 5649, section 3: the prefix, the range of the length, the zero padding.
+pub(crate) fn checked_key_length(iv: u64, registers: &[u8]) -> Option<usize>
+    requires whole_words { length registers.now % 8 ≡ 0 }
+    requires some { 8 ≤ length registers.now }
+    requires at_most { length registers.now ≤ MAX_KEY }
+    ensures passes { IfSome result (λ len. HoldsLength (word_bytes iv ++ registers.now) len) }
+    ensures refuses { IfNone result (
+        (key : List ℕ) → IsPaddedKeyLength (length key) → ¬ Holds (word_bytes iv ++ registers.now) key) }
+{
+    if iv >> 32 != u64::from(AIV_PREFIX) {
+        return None;
+    }
+    let len = (iv & 0xFFFF_FFFF) as usize;
+    if !length_fits(len, registers.len()) {
+        return None;
+    }
+    if is_zero(&registers[len..]) {
         Some(len)
     } else {
         None

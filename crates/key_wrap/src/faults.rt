@@ -55,3 +55,14 @@ pub enum KindFault {
     #[error("out of memory")]
     Memory,
 }
+
+/// Why a call in the caller's buffers refuses.
+#[derive(Clone, Copy, Debug, PartialEq, Eq, Error)]
+pub enum InPlaceFault {
+    /// A length is not legal, or a buffer has not the length that goes with it.
+    #[error("bad length")]
+    BadLength,
+    /// The text is no wrapping of any key (RFC 3394, section 2.2.3; RFC 5649, section 3).
+    #[error("integrity check failed")]
+    Integrity,
+}

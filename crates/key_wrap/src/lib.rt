@@ -5,14 +5,18 @@ mod buffers;
 mod checks;
 mod faults;
 mod forms;
+mod in_place;
 mod kinds;
 mod lengths;
+mod machine;
 mod padded;
 mod plain;
 mod registers;
+mod unwrapping;
 
-pub use faults::{KindFault, UnwrapFault, WrapFault};
+pub use faults::{InPlaceFault, KindFault, UnwrapFault, WrapFault};
 pub use forms::{Form, Kind};
+pub use in_place::{unwrap_in_place, unwrap_padded_in_place, wrap_in_place, wrap_padded_in_place};
 pub use kinds::kind;
 pub use lengths::{
     MAX_KEY, key_length_ok, padded_length_ok, padded_text_length_ok, text_length_ok,

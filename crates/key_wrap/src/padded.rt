@@ -73,7 +73,7 @@ pub fn unwrap_padded<B: BlockPair>(
 }
 
 /// The alternative initial value of a key of `len` bytes (RFC 5649, section 3).
-fn initial_value(len: usize) -> u64
+pub(crate) fn initial_value(len: usize) -> u64
     requires { len ≤ MAX_KEY }
     ensures { result ≡ aiv len }
 {

@@ -1,0 +1,92 @@
+//! A block pair whose calls are counted.
+
+ghost use Rattle.std.specs.Prelude.{◌≡◌, ◌+◌, min};
+
+use crate::BlockPair;
+use std::marker::Model;
+
+/// A block pair that counts its calls. Contracts see it as its pair and its count.
+///
+/// The pair stays the one that the meter was made with, and only through the meter's calls is it used.
+#[derive(Drop)]
+pub struct Meter<'a, B: BlockPair> {
+    pair: &'a B,
+    count: u64,
+}
+
+impl<'a, B: BlockPair> Model for Meter<'a, B> {
+    ghost use Rattle.block_pair.specs.Metered.{Metered};
+
+    ghost Value = { Metered B };
+
+    ghost view = { λ m. record { pair = m.pair.now; count = m.count } };
+}
+
+impl<'a, B: BlockPair> Meter<'a, B> {
+    /// A meter of this pair that stands at 0.
+    pub fn new(pair: &'a B) -> Self
+        ensures { result ≡ record { pair = pair.now; count = 0 } }
+    {
+        Meter { pair, count: 0 }
+    }
+
+    /// Encrypts one block, and counts it.
+    pub fn enc(&mut self, b: [u8; 16]) -> [u8; 16]
+        ensures answer { result ≡ B.encrypted self.old.pair b }
+        ensures pair { self.new.pair ≡ self.old.pair }
+        ensures count { self.new.count ≡ min u64.MAX (self.old.count + 1) }
+    {
+        self.count = self.count.saturating_add(1);
+        self.pair.enc(b)
+    }
+
+    /// Decrypts one block, and counts it.
+    pub fn dec(&mut self, b: [u8; 16]) -> [u8; 16]
+        ensures answer { result ≡ B.decrypted self.old.pair b }
+        ensures pair { self.new.pair ≡ self.old.pair }
+        ensures count { self.new.count ≡ min u64.MAX (self.old.count + 1) }
+    {
+        self.count = self.count.saturating_add(1);
+        self.pair.dec(b)
+    }
+
+    /// How many calls were made. At `u64::MAX` the count stays there.
+    pub fn count(&self) -> u64
+        ensures { result ≡ self.now.count }
+    {
+        self.count
+    }
+}
+
+#[cfg(test)]
+mod tests {
+    use super::*;
+    use crate::SwapHalves;
+    use std::test::Fail;
+
+    #[test]
+    fn answers_as_the_pair_and_counts(rt: HostRuntime) -> Result<(), Fail> {
+        let mut meter = Meter::new(&SwapHalves);
+        assert_eq!(rt; meter.count(), 0);
+        assert_eq!(rt; meter.enc(*b"first 8.second 8"), *b"second 8first 8.");
+        assert_eq!(rt; meter.count(), 1);
+        assert_eq!(rt; meter.dec(*b"second 8first 8."), *b"first 8.second 8");
+        assert_eq!(rt; meter.count(), 2);
+        Ok(())
+    }
+
+    #[test]
+    fn stays_at_the_greatest_count(rt: HostRuntime) -> Result<(), Fail> {
+        let mut meter = Meter {
+            pair: &SwapHalves,
+            count: u64::MAX - 1,
+        };
+        meter.enc([0; 16]);
+        assert_eq!(rt; meter.count(), u64::MAX);
+        meter.dec([0; 16]);
+        assert_eq!(rt; meter.count(), u64::MAX);
+        meter.enc([0; 16]);
+        assert_eq!(rt; meter.count(), u64::MAX);
+        Ok(())
+    }
+}

@@ -1,0 +1,95 @@
+-- What an unwrapping call that takes no memory promises, from the state in which the machine left the registers.
+use Rattle.std.proofs.Common.{rules, ◌≡◌, ℕ, ◌+◌, ◌≤◌, List, ◌++◌, length, take, drop, Result, Ok, Err, refl, sym, ap, subst, ◌∙◌, arith, length-append}
+use Rattle.std.proofs.lemmas.List.{drop_at}
+use Rattle.block_pair.specs.Pair.{AreInverse}
+use Rattle.block_pair.specs.Words.{IsWord}
+use Rattle.key_wrap.specs.declared.faults.InPlaceFault.{InPlaceFault}
+use Rattle.key_wrap.specs.declared.faults.InPlaceFault.TheVariants.{BadLength, Integrity}
+use Rattle.key_wrap.specs.Words.{word_bytes}
+use Rattle.key_wrap.specs.Lengths.{IsPlainTextLength, IsPaddedTextLength, IsPaddedKeyLength}
+use Rattle.key_wrap.specs.Plain.{Plain, default_iv}
+use Rattle.key_wrap.specs.Padded.{Padded}
+use Rattle.key_wrap.specs.Registers.{Registers}
+use Rattle.key_wrap.specs.PaddedRegisters.{PaddedRegisters, Holds, HoldsLength}
+use Rattle.key_wrap.specs.Answer.{NoKey}
+use Rattle.key_wrap.specs.InPlace.{Unwrapping}
+use Rattle.key_wrap.proofs.Spelling.{length-word_bytes, word_front}
+use Rattle.key_wrap.proofs.Tapes.{registers_length, registers_backward}
+use Rattle.key_wrap.proofs.PlainForm.{default_iv_word, plain_registers, registers_plain, plain_only_key, plain_only_text}
+use Rattle.key_wrap.proofs.PaddedForm.{padded_unwrapped, padded_refused}
+use Rattle.key_wrap.proofs.BothForms.{not_both_forms}
+
+-- no key stands with the text
+none_found : {A : Type 0} {Legal : Type 0} {Stands Other : List ℕ → List ℕ → Type 0} {text : List ℕ} {key : A → List ℕ}
+    → Legal → NoKey Stands text → Unwrapping Legal Stands Other text key (Err Integrity)
+none_found legal none = record {
+  bad_length = (λ e. cc, λ bad. absurd (bad legal));
+  unwraps = (legal, none);
+  accepts = λ other k. absurd (none other k);
+  only_key = search rules;
+  restores = search rules;
+  other_form = search rules;
+}
+
+-- the same lengths, said in another way
+pub legally : {A : Type 0} {Legal Legal' : Type 0} {Stands Other : List ℕ → List ℕ → Type 0} {text : List ℕ} {key : A → List ℕ} {answer : Result A InPlaceFault}
+    → Legal → Legal' → Unwrapping Legal Stands Other text key answer → Unwrapping Legal' Stands Other text key answer
+legally {answer = Ok m} legal legal' u = record {
+  bad_length = (λ e. cc, λ bad. absurd (bad legal'));
+  unwraps = (legal', u.unwraps.1);
+  accepts = u.accepts;
+  only_key = u.only_key;
+  restores = u.restores;
+  other_form = u.other_form;
+}
+legally {answer = Err BadLength} legal legal' u = absurd (u.unwraps legal)
+legally {answer = Err Integrity} legal legal' u = none_found legal' u.unwraps.1
+
+-- the registers run back to the default initial value and the key
+pub plain_found : {E D : List ℕ → List ℕ} (key text : List ℕ) → AreInverse E D → IsPlainTextLength (length text) → Registers E (word_bytes default_iv ++ key) text
+    → Unwrapping (IsPlainTextLength (length text)) (Plain E) (Padded E) text (λ (_ : Unit {0}). key) (Ok tt)
+plain_found {E = E} key text inv legal run =
+    let size : length text ≡ 8 + length key = omega (arith, registers_length run, length-append (word_bytes default_iv) key, length-word_bytes default_iv) in
+    let stands : Plain E key text = registers_plain key text (omega arith, omega arith, omega arith) run in
+    record {
+      bad_length = (λ e. cc, λ bad. absurd (bad legal));
+      unwraps = (legal, stands);
+      accepts = search rules;
+      only_key = λ other k. plain_only_key inv stands k;
+      restores = λ other k. plain_only_text stands k;
+      other_form = λ other k. not_both_forms inv stands k;
+    }
+
+-- and where it is another initial value, no key stands with the text
+pub plain_none : {E D : List ℕ → List ℕ} {iv : ℕ} (registers key text : List ℕ) → AreInverse E D → IsPlainTextLength (length text) → IsWord iv → ¬ (iv ≡ default_iv) → Registers E (word_bytes iv ++ registers) text
+    → Unwrapping (IsPlainTextLength (length text)) (Plain E) (Padded E) text (λ (_ : Unit {0}). key) (Err Integrity)
+plain_none {iv = iv} registers key text inv legal word other run =
+    none_found legal (λ k h. other (word_front iv default_iv registers k word default_iv_word (registers_backward inv run (plain_registers h))).0)
+
+-- the registers run back to an initial value and registers that hold a key of len bytes
+pub padded_found : {E D : List ℕ → List ℕ} {len : ℕ} (iv : ℕ) (registers text : List ℕ) → AreInverse E D → IsPaddedTextLength (length text) → PaddedRegisters E (word_bytes iv ++ registers) text → HoldsLength (word_bytes iv ++ registers) len
+    → Unwrapping (IsPaddedTextLength (length text)) (Padded E) (Plain E) text (λ m. take m registers) (Ok len)
+padded_found {len = len} iv registers text inv legal run held =
+    let cut : take len registers ≡ take len (drop 8 (word_bytes iv ++ registers)) = ap (take len) (sym (drop_at (word_bytes iv) registers 8 (length-word_bytes iv))) in
+    let w = padded_unwrapped (word_bytes iv ++ registers) text (take len registers) len inv run refl refl held cut in
+    record {
+      bad_length = (λ e. cc, λ bad. absurd (bad legal));
+      unwraps = (legal, w.0);
+      accepts = search rules;
+      only_key = w.1;
+      restores = w.2;
+      other_form = λ other k. not_both_forms inv k w.0;
+    }
+
+-- and where they hold no key, none stands with the text
+pub padded_none : {E D : List ℕ → List ℕ} (iv : ℕ) (registers : List ℕ) (key : ℕ → List ℕ) (text : List ℕ) → AreInverse E D → IsPaddedTextLength (length text) → PaddedRegisters E (word_bytes iv ++ registers) text
+    → ((other : List ℕ) → IsPaddedKeyLength (length other) → ¬ Holds (word_bytes iv ++ registers) other)
+    → Unwrapping (IsPaddedTextLength (length text)) (Padded E) (Plain E) text key (Err Integrity)
+padded_none iv registers key text inv legal run holds =
+    none_found legal (padded_refused (word_bytes iv ++ registers) text inv run refl refl holds)
+
+-- the text and the key, named in another way
+pub renamed : {A : Type 0} (L : ℕ → Type 0) {Stands Other : List ℕ → List ℕ → Type 0} {text text' : List ℕ} {key key' : A → List ℕ} {answer : Result A InPlaceFault}
+    → text ≡ text' → key ≡ key' → Unwrapping (L (length text)) Stands Other text key answer → Unwrapping (L (length text')) Stands Other text' key' answer
+renamed L {Stands = Stands} {Other = Other} {text' = text'} {key = key} {answer = answer} same own u =
+    subst (λ k. Unwrapping (L (length text')) Stands Other text' k answer) own (subst (λ (t : List ℕ). Unwrapping (L (length t)) Stands Other t key answer) same u)

@@ -1,0 +1,47 @@
+-- The machine was given the text, and leaves the padded key behind eight zeros, or zeros alone.
+use Rattle.std.proofs.Common.{rules, ◌≡◌, ℕ, List, length, take, drop, replicate, All, IfOk, ◌++◌, arith, sym, ap, subst, ◌∙◌}
+use Rattle.std.proofs.lemmas.Result.{IfOk-weaker}
+use Rattle.std.proofs.lemmas.List.Elements.{All-append, All-replicate}
+use Rattle.block_pair.specs.Metered.{counted}
+use Rattle.key_wrap.specs.Calls.{block_calls}
+use Rattle.key_wrap.specs.Words.{word_bytes}
+use Rattle.key_wrap.specs.Lengths.{IsPaddedTextLength}
+use Rattle.key_wrap.specs.Padded.{padded}
+use Rattle.key_wrap.specs.InPlace.{key_in}
+use Rattle.key_wrap.proofs.Spelling.{read_word, each_byte}
+use Rattle.key_wrap.proofs.FormLengths.{padded_text_legal}
+use Rattle.key_wrap.proofs.InPlaceForm.{first_cleared}
+use Rattle.key_wrap.proofs.Unwrappings.{renamed}
+use Rattle.key_wrap.proofs.in_place.unwrap_padded_in_place.Goals as goal
+
+pub returns-then-not-padded_text_length_ok-clause-accepts : goal.returns-then-not-padded_text_length_ok-clause-accepts
+returns-then-not-padded_text_length_ok-clause-accepts g c = λ key h.
+    let inv = g.met.B.BlockPair.lawful c.args.meter.now.pair in
+    let legal = c.padded_text_length_ok.ensures.1 (padded_text_legal inv h) in
+    cc
+
+pub returns : goal.returns
+returns g c =
+    let text : List ℕ = c.args.buf.now in
+    let legal = c.padded_text_length_ok.ensures.0 c.if-not-padded_text_length_ok.false in
+    let front : word_bytes c.read_u64-c0.result ≡ take 8 text = read_word text c.read_u64-c0.result (omega arith) (each_byte text (search rules)) c.read_u64-c0.ensures in
+    let registers : List ℕ = c.unwrap_padded_registers.new.registers in
+    let w = c.unwrap_padded_registers.ensures in
+    let states = first_cleared c.read_u64-c0.result text c.fill.new.self registers (omega arith) front (c.fill.ensures.after (λ y e. e)) (search rules) in
+    let u = renamed IsPaddedTextLength states.given (ap (λ (bs : List ℕ). λ (m : ℕ). key_in m bs) (sym states.left)) w.answer in
+    record {
+      bad_length = u.bad_length;
+      buffer_kept = λ e. absurd (u.bad_length.0 e legal);
+      meter_kept = λ e. absurd (u.bad_length.0 e legal);
+      answer = u.unwraps;
+      accepts = u.accepts;
+      only_key = u.only_key;
+      restores = u.restores;
+      other_form = u.other_form;
+      size = rw states.left w.size;
+      around = IfOk-weaker _ (λ m. registers ≡ padded (take m registers)) _
+          (λ m e. rw states.left (ap (λ (bs : List ℕ). replicate 8 0 ++ bs) e)) w.padding;
+      cleared = λ e. subst (λ (bs : List ℕ). All (λ byte. byte ≡ 0) bs) (sym states.left)
+          (All-append (λ (byte : ℕ). byte ≡ 0) (replicate 8 0) registers (All-replicate (λ (byte : ℕ). byte ≡ 0) 8 0 (search rules)) (w.cleared e));
+      calls = λ _. w.calls ∙ ap (λ (len : ℕ). counted (block_calls len) c.args.meter.now) states.long;
+    }
