@@ -2,5 +2,8 @@
 //! `include/keywrap.h` declares them.
 #![tactic(auto)]
 
-mod in_place;
+mod padded;
+mod padded_in_place;
+mod plain;
+mod plain_in_place;
 mod status;

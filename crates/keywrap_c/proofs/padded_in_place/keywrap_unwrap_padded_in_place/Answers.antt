@@ -6,7 +6,7 @@ use Rattle.key_wrap.specs.Padded.{Padded}
 use Rattle.key_wrap.specs.Answer.{NoKey}
 use Rattle.key_wrap.specs.InPlace.{key_in}
 use Rattle.keywrap_c.specs.Answers.{IsUnwrapping}
-use Rattle.keywrap_c.proofs.in_place.keywrap_unwrap_padded_in_place.Goals as goal
+use Rattle.keywrap_c.proofs.padded_in_place.keywrap_unwrap_padded_in_place.Goals as goal
 
 pub returns-in-Ok-unwrap_padded_in_place-clause-answer : goal.returns-in-Ok-unwrap_padded_in_place-clause-answer
 returns-in-Ok-unwrap_padded_in_place-clause-answer c = λ _.

@@ -4,7 +4,7 @@ use Rattle.key_wrap.specs.Lengths.{IsPlainTextLength}
 use Rattle.key_wrap.specs.Plain.{Plain}
 use Rattle.keywrap_c.specs.Answers.{IsWrapping}
 use Rattle.keywrap_c.proofs.Lengths.{plain_text_length}
-use Rattle.keywrap_c.proofs.in_place.keywrap_wrap_in_place.Goals as goal
+use Rattle.keywrap_c.proofs.plain_in_place.keywrap_wrap_in_place.Goals as goal
 
 pub returns-in-Ok-wrap_in_place-clause-done : goal.returns-in-Ok-wrap_in_place-clause-done
 returns-in-Ok-wrap_in_place-clause-done c =

@@ -4,7 +4,7 @@ use Rattle.key_wrap.specs.Padded.{Padded}
 use Rattle.key_wrap.specs.InPlace.{IsPaddedRoom, key_in}
 use Rattle.keywrap_c.specs.Answers.{IsWrapping}
 use Rattle.keywrap_c.proofs.Lengths.{room-not_refused}
-use Rattle.keywrap_c.proofs.in_place.keywrap_wrap_padded_in_place.Goals as goal
+use Rattle.keywrap_c.proofs.padded_in_place.keywrap_wrap_padded_in_place.Goals as goal
 
 pub returns-in-Ok-wrap_padded_in_place-clause-done : goal.returns-in-Ok-wrap_padded_in_place-clause-done
 returns-in-Ok-wrap_padded_in_place-clause-done c =
