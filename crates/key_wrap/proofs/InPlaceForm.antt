@@ -1,7 +1,7 @@
 -- The parts of the caller's buffer: its first word, and the registers that the machine is lent.
-use Rattle.std.proofs.Common.{◌≡◌, ℕ, ◌+◌, ◌-◌, ◌*◌, ◌≤◌, List, [], ◌∷◌, ◌++◌, length, take, drop, replicate, refl, ap, subst, ◌∙◌, arith, length-append, length-drop, length-take}
+use Rattle.std.proofs.Common.{◌≡◌, ℕ, ◌+◌, ◌-◌, ◌*◌, ◌≤◌, List, [], ◌++◌, length, take, drop, replicate, refl, ap, ◌∙◌, arith, length-append, length-drop, length-take}
 use Rattle.std.proofs.Math.Seq.{take-add}
-use Rattle.std.proofs.lemmas.List.{append_assoc, append-nil, drop_at, drop_all, take_all, take-append-drop}
+use Rattle.std.proofs.lemmas.List.{append_assoc, append-nil, take_at, drop_at, drop_all, take_all, take-append-drop}
 use borrow.Rule.Slice.PartMut.{put_mid}
 use Rattle.block_pair.specs.Words.{IsWord}
 use Rattle.key_wrap.specs.Words.{word_bytes}
@@ -63,3 +63,20 @@ first_cleared A text zeros registers some front blank size =
       long = rw (zero, all) (omega (arith, length-drop 8 text));
       left = rw (zero, none, append-nil registers) refl;
     }
+
+-- the key in a buffer that holds zeros and the padded key
+pub padded_key_in : (key buffer : List ℕ) → buffer ≡ replicate 8 0 ++ padded key → key_in (length key) buffer ≡ key
+padded_key_in key buffer held =
+    let zeros : List ℕ = replicate (8 * word_count (length key) - length key) 0 in
+    ap (key_in (length key)) held ∙ take_at key zeros (length key) refl
+
+-- a key that was copied behind the first word
+pub copied_key : (k : ℕ) (buffer key : List ℕ) → 8 ≤ length buffer → key_in (length key) (put_mid 8 k buffer key) ≡ key
+copied_key k buffer key some =
+    ap (take (length key)) (drop_at (take 8 buffer) (key ++ drop k (drop 8 buffer)) 8 (omega (arith, length-take 8 buffer))) ∙ take_at key (drop k (drop 8 buffer)) (length key) refl
+
+-- a text whose first word was read and whose rest was copied
+pub text_again : (A : ℕ) (text copied : List ℕ) → 8 ≤ length text → word_bytes A ≡ take 8 text → copied ≡ take (length text - 8) (drop 8 text) → word_bytes A ++ copied ≡ text
+text_again A text copied some front copy =
+    let rest : take (length text - 8) (drop 8 text) ≡ drop 8 text = take_all (length text - 8) (drop 8 text) (omega (arith, length-drop 8 text)) in
+    rw (copy, rest, front) (take-append-drop 8 text)

@@ -1,7 +1,5 @@
 pub mod Spelling
 pub mod Tapes
-pub mod Stepping
-pub mod Segments
 pub mod Counting
 pub mod Registering
 pub mod Places
@@ -11,7 +9,6 @@ pub mod PlainForm
 pub mod PaddedForm
 pub mod BothForms
 pub mod ThreeChecks
-pub mod WordChecks
 pub mod InPlaceForm
 pub mod Unwrappings
 pub mod KeyLengths

@@ -33,10 +33,6 @@ one_block {E = E} before after block e =
       text_words = ap E w.bytes ∙ e;
     }
 
-pub one_block_back : {E D : List ℕ → List ℕ} (after before : List ℕ) → AreInverse E D → IsBlock after → before ≡ D after → PaddedRegisters E before after
-one_block_back {E = E} after before inv block e =
-    one_block before after (subst (λ (b : List ℕ). IsBlock b) (sym e) (inv.decrypts after block)) (ap E e ∙ inv.redone after block)
-
 -- for more words the text is the wrapping of RFC 3394
 many_text : {E : List ℕ → List ℕ} (iv : ℕ) (P C : List ℕ) (text : List ℕ) → 2 ≤ length P → spelled C ≡ text → Wraps E iv P C → PaddedText E iv P text
 many_text iv [] C text more e w = (C, e, w)

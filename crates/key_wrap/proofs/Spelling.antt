@@ -1,6 +1,6 @@
 -- Words and the bytes that spell them: what fixes what, and lengths.
 use Rattle.std.proofs.Common.{◌≡◌, ℕ, zero, suc, ◌*◌, ◌%◌, ◌^◌, ◌<◌, ◌≤◌, List, [], ◌∷◌, length, get_or, take, drop, ◌++◌, refl, sym, ap, ◌∙◌, arith, length-append, length-drop, length-take}
-use Rattle.std.proofs.lemmas.List.{append_assoc, drop_at, take-append-drop}
+use Rattle.std.proofs.lemmas.List.{drop_at, take-append-drop}
 use Rattle.std.proofs.lemmas.Nat.{be_bytes_8}
 use Rattle.std.specs.Int.{w64, byte_at, bytes_high_first, from_be_bytes}
 use Rattle.std.specs.List.{AllByRecursion}
@@ -18,10 +18,6 @@ length-word_bytes w = length-bytes_high_first 8 w
 pub length-spelled : (ws : List ℕ) → length (spelled ws) ≡ 8 * length ws
 length-spelled [] = refl
 length-spelled (w ∷ ws) = omega (arith, length-append (word_bytes w) (spelled ws), length-word_bytes w, length-spelled ws)
-
-pub spelled-append : (vs ws : List ℕ) → spelled (vs ++ ws) ≡ spelled vs ++ spelled ws
-spelled-append [] ws = refl
-spelled-append (v ∷ vs) ws = ap (λ (r : List ℕ). word_bytes v ++ r) (spelled-append vs ws) ∙ sym (append_assoc (word_bytes v) (spelled vs) (spelled ws))
 
 -- each byte of a number is a byte
 is_byte_at : (k x : ℕ) → IsByte (byte_at k x)

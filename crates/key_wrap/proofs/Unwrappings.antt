@@ -1,10 +1,14 @@
 -- What an unwrapping call that takes no memory promises, from the state in which the machine left the registers.
-use Rattle.std.proofs.Common.{rules, ◌≡◌, ℕ, ◌+◌, ◌≤◌, List, ◌++◌, length, take, drop, Result, Ok, Err, refl, sym, ap, subst, ◌∙◌, arith, length-append}
+use Rattle.std.proofs.Common.{rules, ◌≡◌, ℕ, ◌+◌, List, ◌++◌, length, take, drop, Result, Ok, Err, IsOk, IsOkUnless, IsErr, IsErrAnd, Vec, refl, sym, ap, subst, arith, length-append}
 use Rattle.std.proofs.lemmas.List.{drop_at}
+use Rattle.std.specs.declared.alloc.Global.{Global}
 use Rattle.block_pair.specs.Pair.{AreInverse}
 use Rattle.block_pair.specs.Words.{IsWord}
 use Rattle.key_wrap.specs.declared.faults.InPlaceFault.{InPlaceFault}
 use Rattle.key_wrap.specs.declared.faults.InPlaceFault.TheVariants.{BadLength, Integrity}
+use Rattle.key_wrap.specs.declared.faults.UnwrapFault.{UnwrapFault}
+use Rattle.key_wrap.specs.declared.faults.UnwrapFault.TheVariants as unwrap_faults
+use Rattle.key_wrap.specs.Faults.{unwrap_fault}
 use Rattle.key_wrap.specs.Words.{word_bytes}
 use Rattle.key_wrap.specs.Lengths.{IsPlainTextLength, IsPaddedTextLength, IsPaddedKeyLength}
 use Rattle.key_wrap.specs.Plain.{Plain, default_iv}
@@ -12,7 +16,7 @@ use Rattle.key_wrap.specs.Padded.{Padded}
 use Rattle.key_wrap.specs.Registers.{Registers}
 use Rattle.key_wrap.specs.PaddedRegisters.{PaddedRegisters, Holds, HoldsLength}
 use Rattle.key_wrap.specs.Answer.{NoKey}
-use Rattle.key_wrap.specs.InPlace.{Unwrapping}
+use Rattle.key_wrap.specs.InPlace.{KeyAnswer, Unwrapping}
 use Rattle.key_wrap.proofs.Spelling.{length-word_bytes, word_front}
 use Rattle.key_wrap.proofs.Tapes.{registers_length, registers_backward}
 use Rattle.key_wrap.proofs.PlainForm.{default_iv_word, plain_registers, registers_plain, plain_only_key, plain_only_text}
@@ -93,3 +97,15 @@ pub renamed : {A : Type 0} (L : ℕ → Type 0) {Stands Other : List ℕ → Lis
     → text ≡ text' → key ≡ key' → Unwrapping (L (length text)) Stands Other text key answer → Unwrapping (L (length text')) Stands Other text' key' answer
 renamed L {Stands = Stands} {Other = Other} {text' = text'} {key = key} {answer = answer} same own u =
     subst (λ k. Unwrapping (L (length text')) Stands Other text' k answer) own (subst (λ (t : List ℕ). Unwrapping (L (length t)) Stands Other t key answer) same u)
+
+-- where the call in the buffer refused a text of a legal length, no key stands with it, and the call that takes memory says so
+pub refused : (Stands : List ℕ → List ℕ → Type 0) (Legal : Type 0) {A : Type 0} (key : A → List ℕ) (text : List ℕ) (fault : InPlaceFault) (answer : Result (Vec ℕ Global) UnwrapFault)
+    → Legal → KeyAnswer Legal Stands text key (Err fault) → IsErr answer × IsErrAnd answer (λ e. e ≡ unwrap_fault fault) → (answer ≡ Err unwrap_faults.Integrity) × NoKey Stands text
+refused Stands Legal key text fault (Ok k) legal a r = let no = r.0 in cc
+refused Stands Legal key text BadLength (Err e) legal a r = absurd (a legal)
+refused Stands Legal key text Integrity (Err e) legal a r = (ap Err r.1, a.1)
+
+-- an answer that is no fault is not one but BadLength
+pub ok_unless : {A : Type 0} (answer : Result A InPlaceFault) → IsOk answer → IsOkUnless answer BadLength
+ok_unless (Ok m) h = tt
+ok_unless (Err e) h = cc

@@ -1,14 +1,22 @@
--- What the calls in the caller's buffers answer. They take no memory.
+-- What the calls in the caller's buffers ask of their lengths, and what they answer. They take no memory.
 use Rattle.std.specs.Prelude.{◌≡◌, ◌↔◌, ℕ, ◌+◌, ◌*◌, List, take, drop, Result, Ok, Err, IsOk, IfOk, OnOk}
 use Rattle.key_wrap.specs.declared.faults.InPlaceFault.{InPlaceFault}
 use Rattle.key_wrap.specs.declared.faults.InPlaceFault.TheVariants.{BadLength, Integrity}
-use Rattle.key_wrap.specs.Lengths.{IsPaddedKeyLength}
+use Rattle.key_wrap.specs.Lengths.{IsPlainKeyLength, IsPaddedKeyLength, IsPaddedTextLength}
 use Rattle.key_wrap.specs.Padded.{word_count}
 use Rattle.key_wrap.specs.Answer.{NoKey}
 
 -- a buffer of so many bytes in which a key of m bytes is wrapped in the padded form: a word and the padded key
 abbrev pub IsPaddedRoom : (m len : ℕ) → Type 0
 IsPaddedRoom m len = IsPaddedKeyLength m × (len ≡ 8 + 8 * word_count m)
+
+-- a buffer for a plain key, of so many bytes, and a text of so many: the text has one word more
+abbrev pub ArePlainLengths : (key text : ℕ) → Type 0
+ArePlainLengths key text = IsPlainKeyLength key × (text ≡ key + 8)
+
+-- a buffer for a padded key, of so many bytes, and a text of so many: the text has one word more
+abbrev pub ArePaddedLengths : (room text : ℕ) → Type 0
+ArePaddedLengths room text = IsPaddedTextLength text × (text ≡ room + 8)
 
 -- the key of m bytes after the first word of a buffer
 abbrev pub key_in : (m : ℕ) (buffer : List ℕ) → List ℕ

@@ -4,9 +4,9 @@ pub mod Lengths
 pub mod Plain
 pub mod Padded
 pub mod Registers
-pub mod Steps
 pub mod PaddedRegisters
 pub mod Answer
 pub mod Kind
 pub mod Calls
 pub mod InPlace
+pub mod Faults

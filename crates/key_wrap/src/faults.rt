@@ -3,6 +3,7 @@
 ghost use Rattle.std.specs.Prelude.{◌≡◌};
 ghost use Rattle.key_wrap.specs.declared.faults.UnwrapFault.TheVariants as unwrap_faults;
 ghost use Rattle.key_wrap.specs.declared.faults.WrapFault.TheVariants as wrap_faults;
+ghost use Rattle.key_wrap.specs.Faults.{unwrap_fault};
 
 use std::alloc::AllocError;
 use thiserror::Error;
@@ -38,6 +39,17 @@ pub enum UnwrapFault {
     /// The key was refused its memory.
     #[error("out of memory")]
     Memory,
+}
+
+impl From<InPlaceFault> for UnwrapFault {
+    ghost from_gives = { λ fault given. given ≡ unwrap_fault fault };
+
+    fn from(fault: InPlaceFault) -> UnwrapFault {
+        match fault {
+            InPlaceFault::BadLength => UnwrapFault::BadLength,
+            InPlaceFault::Integrity => UnwrapFault::Integrity,
+        }
+    }
 }
 
 impl From<AllocError> for UnwrapFault {

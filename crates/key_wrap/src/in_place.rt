@@ -9,11 +9,10 @@ ghost use Rattle.key_wrap.specs.Answer.{NoKey};
 ghost use Rattle.key_wrap.specs.Calls.{block_calls};
 ghost use Rattle.key_wrap.specs.InPlace.{KeyAnswer, IsPaddedRoom, key_in};
 
-use crate::checks::DEFAULT_IV;
+use crate::checks::{DEFAULT_IV, initial_value};
 use crate::faults::InPlaceFault;
 use crate::lengths::{padded_length_ok, padded_text_length_ok, text_length_ok};
 use crate::machine::{wrap_slice, wrap_words};
-use crate::padded::initial_value;
 use crate::unwrapping::{unwrap_padded_registers, unwrap_registers};
 use block_pair::{BlockPair, Meter};
 use byteorder::{BigEndian, ByteOrder};

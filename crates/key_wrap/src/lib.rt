@@ -6,17 +6,18 @@ mod checks;
 mod faults;
 mod forms;
 mod in_place;
+mod into;
 mod kinds;
 mod lengths;
 mod machine;
 mod padded;
 mod plain;
-mod registers;
 mod unwrapping;
 
 pub use faults::{InPlaceFault, KindFault, UnwrapFault, WrapFault};
 pub use forms::{Form, Kind};
 pub use in_place::{unwrap_in_place, unwrap_padded_in_place, wrap_in_place, wrap_padded_in_place};
+pub use into::{unwrap_into, unwrap_padded_into, wrap_into, wrap_padded_into};
 pub use kinds::kind;
 pub use lengths::{
     MAX_KEY, key_length_ok, padded_length_ok, padded_text_length_ok, text_length_ok,

@@ -1,22 +1,17 @@
 //! The padded form (RFC 5649).
 
-ghost use Rattle.std.specs.Prelude.{◌≡◌, ◌≤◌, ◌↔◌, ℕ, ◌+◌, ◌%◌, List, length, Ok, Err, IfOk, OnOk, IsOkUnless};
+ghost use Rattle.std.specs.Prelude.{◌≡◌, ◌↔◌, ℕ, List, length, Ok, Err, IfOk, OnOk, IsOkUnless};
 ghost use Rattle.key_wrap.specs.Lengths.{IsPaddedKeyLength, IsPaddedTextLength};
 ghost use Rattle.key_wrap.specs.Plain.{Plain};
-ghost use Rattle.key_wrap.specs.Padded.{Padded, aiv};
-ghost use Rattle.key_wrap.specs.PaddedRegisters.{PaddedRegisters};
+ghost use Rattle.key_wrap.specs.Padded.{Padded};
 ghost use Rattle.key_wrap.specs.Answer.{UnwrapAnswer};
 
-use crate::buffers::{key_of, registers_of};
-use crate::checks::{AIV_PREFIX, checked_length};
+use crate::buffers::{key_of, room_for};
 use crate::faults::{UnwrapFault, WrapFault};
-use crate::lengths::{MAX_KEY, padded_length_ok, padded_text_length_ok};
-use crate::registers::{unwrap_registers, wrap_registers};
-use block_pair::BlockPair;
+use crate::in_place::{unwrap_padded_in_place, wrap_padded_in_place};
+use crate::lengths::{padded_length_ok, padded_text_length_ok};
+use block_pair::{BlockPair, Meter};
 use std::alloc::Global;
-
-/// The bytes of a block: the initial value and one word of key data.
-const BLOCK: usize = 16;
 
 /// The padded wrapping of `key` (RFC 5649, section 4.1): 8 bytes more than the key and its zero padding.
 ///
@@ -31,8 +26,9 @@ pub fn wrap_padded<B: BlockPair>(alloc: Global, pair: &B, key: &[u8]) -> Result<
     if !padded_length_ok(key.len()) {
         return Err(WrapFault::BadLength);
     }
-    let mut text = registers_of(alloc, initial_value(key.len()), key)?;
-    wrap_words(pair, &mut text);
+    let mut text = room_for(alloc, key)?;
+    // The buffer has the length of the text, so it is not refused.
+    wrap_padded_in_place(&mut Meter::new(pair), &mut text, key.len()).unwrap();
     Ok(text)
 }
 
@@ -65,62 +61,6 @@ pub fn unwrap_padded<B: BlockPair>(
         return Err(UnwrapFault::BadLength);
     }
     let mut buffer = Vec::from_slice(alloc, text)?;
-    unwrap_words(pair, &mut buffer);
-    match checked_length(&buffer) {
-        Some(len) => Ok(key_of(buffer, len)),
-        None => Err(UnwrapFault::Integrity),
-    }
-}
-
-/// The alternative initial value of a key of `len` bytes (RFC 5649, section 3).
-pub(crate) fn initial_value(len: usize) -> u64
-    requires { len ≤ MAX_KEY }
-    ensures { result ≡ aiv len }
-{
-    (u64::from(AIV_PREFIX) << 32) + len as u64
-}
-
-/// The registers become the text (RFC 5649, section 4.1): for one word of key data in one block, with no
-/// steps and no counter, and for more as in RFC 3394.
-fn wrap_words<B: BlockPair>(pair: &B, buffer: &mut [u8])
-    requires whole_words { length buffer.old % 8 ≡ 0 }
-    requires two_words { 16 ≤ length buffer.old }
-    ensures { PaddedRegisters (B.encrypted pair.now) buffer.old buffer.new }
-{
-    if buffer.len() > BLOCK {
-        wrap_registers(pair, buffer);
-    } else {
-        wrap_block(pair, buffer);
-    }
-}
-
-/// The text becomes its registers (RFC 5649, section 4.2).
-fn unwrap_words<B: BlockPair>(pair: &B, buffer: &mut [u8])
-    requires whole_words { length buffer.old % 8 ≡ 0 }
-    requires two_words { 16 ≤ length buffer.old }
-    ensures { PaddedRegisters (B.encrypted pair.now) buffer.new buffer.old }
-{
-    if buffer.len() > BLOCK {
-        unwrap_registers(pair, buffer);
-    } else {
-        unwrap_block(pair, buffer);
-    }
-}
-
-fn wrap_block<B: BlockPair>(pair: &B, buffer: &mut [u8])
-    requires { length buffer.old ≡ BLOCK }
-    ensures { PaddedRegisters (B.encrypted pair.now) buffer.old buffer.new }
-{
-    let mut block = [0; BLOCK];
-    block.copy_from_slice(buffer);
-    buffer.copy_from_slice(&pair.enc(block));
-}
-
-fn unwrap_block<B: BlockPair>(pair: &B, buffer: &mut [u8])
-    requires { length buffer.old ≡ BLOCK }
-    ensures { PaddedRegisters (B.encrypted pair.now) buffer.new buffer.old }
-{
-    let mut block = [0; BLOCK];
-    block.copy_from_slice(buffer);
-    buffer.copy_from_slice(&pair.dec(block));
+    let len = unwrap_padded_in_place(&mut Meter::new(pair), &mut buffer)?;
+    Ok(key_of(buffer, len))
 }

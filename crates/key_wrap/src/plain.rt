@@ -6,12 +6,11 @@ ghost use Rattle.key_wrap.specs.Plain.{Plain};
 ghost use Rattle.key_wrap.specs.Padded.{Padded};
 ghost use Rattle.key_wrap.specs.Answer.{UnwrapAnswer};
 
-use crate::buffers::{key_of, registers_of};
-use crate::checks::{DEFAULT_IV, has_default_value};
+use crate::buffers::{key_of, room_for};
 use crate::faults::{UnwrapFault, WrapFault};
+use crate::in_place::{unwrap_in_place, wrap_in_place};
 use crate::lengths::{key_length_ok, text_length_ok};
-use crate::registers::{unwrap_registers, wrap_registers};
-use block_pair::BlockPair;
+use block_pair::{BlockPair, Meter};
 use std::alloc::Global;
 
 /// The plain wrapping of `key` (RFC 3394, section 2.2.1): 8 bytes more than the key.
@@ -27,8 +26,9 @@ pub fn wrap<B: BlockPair>(alloc: Global, pair: &B, key: &[u8]) -> Result<Vec<u8>
     if !key_length_ok(key.len()) {
         return Err(WrapFault::BadLength);
     }
-    let mut text = registers_of(alloc, DEFAULT_IV, key)?;
-    wrap_registers(pair, &mut text);
+    let mut text = room_for(alloc, key)?;
+    // The buffer has the length of the text, so it is not refused.
+    wrap_in_place(&mut Meter::new(pair), &mut text).unwrap();
     Ok(text)
 }
 
@@ -57,9 +57,6 @@ pub fn unwrap<B: BlockPair>(alloc: Global, pair: &B, text: &[u8]) -> Result<Vec<
         return Err(UnwrapFault::BadLength);
     }
     let mut buffer = Vec::from_slice(alloc, text)?;
-    unwrap_registers(pair, &mut buffer);
-    if !has_default_value(&buffer) {
-        return Err(UnwrapFault::Integrity);
-    }
+    unwrap_in_place(&mut Meter::new(pair), &mut buffer)?;
     Ok(key_of(buffer, text.len() - 8))
 }

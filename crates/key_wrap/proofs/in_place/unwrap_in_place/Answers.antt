@@ -1,5 +1,5 @@
 -- The machine was given the text, and leaves the key behind eight zeros, or zeros alone.
-use Rattle.std.proofs.Common.{rules, ◌≡◌, ℕ, List, length, take, drop, replicate, All, ◌++◌, arith, sym, ap, subst}
+use Rattle.std.proofs.Common.{rules, ◌≡◌, ℕ, List, take, drop, replicate, All, arith, sym, ap, subst}
 use Rattle.std.proofs.lemmas.List.Elements.{All-append, All-replicate}
 use Rattle.key_wrap.specs.Words.{word_bytes}
 use Rattle.key_wrap.specs.Lengths.{IsPlainTextLength}

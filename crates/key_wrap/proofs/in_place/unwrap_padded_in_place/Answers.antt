@@ -1,5 +1,5 @@
 -- The machine was given the text, and leaves the padded key behind eight zeros, or zeros alone.
-use Rattle.std.proofs.Common.{rules, ◌≡◌, ℕ, List, length, take, drop, replicate, All, IfOk, ◌++◌, arith, sym, ap, subst, ◌∙◌}
+use Rattle.std.proofs.Common.{rules, ◌≡◌, ℕ, List, take, replicate, All, ◌++◌, arith, sym, ap, subst, ◌∙◌}
 use Rattle.std.proofs.lemmas.Result.{IfOk-weaker}
 use Rattle.std.proofs.lemmas.List.Elements.{All-append, All-replicate}
 use Rattle.block_pair.specs.Metered.{counted}

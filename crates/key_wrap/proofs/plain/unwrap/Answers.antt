@@ -1,25 +1,51 @@
-use Rattle.std.proofs.Common.{arith, rules, sym, ap, length, take, drop, ◌++◌, ◌∙◌}
-use Rattle.byteorder.specs.Endian.{big_number}
+use Rattle.std.proofs.Common.{rules, ◌≡◌, ℕ, List, length, take, drop, ◌-◌, arith, ap, ◌∙◌, length-drop}
+use Rattle.std.proofs.lemmas.List.{take_all}
+use Rattle.key_wrap.specs.Lengths.{IsPlainTextLength}
+use Rattle.key_wrap.specs.Plain.{Plain}
 use Rattle.key_wrap.proofs.FormLengths.{plain_text_legal}
-use Rattle.key_wrap.proofs.PlainForm.{plain_refused, plain_unwrapped, written_back}
-use Rattle.key_wrap.proofs.BothForms.{not_both_forms}
+use Rattle.key_wrap.proofs.PlainForm.{written_back}
+use Rattle.key_wrap.proofs.Unwrappings.{refused}
 use Rattle.key_wrap.proofs.plain.unwrap.Goals as goal
 
 pub returns-then-not-text_length_ok-clause-accepts : goal.returns-then-not-text_length_ok-clause-accepts
 returns-then-not-text_length_ok-clause-accepts g c = λ key h. let legal = c.text_length_ok.ensures.1 (plain_text_legal h) in cc
 
-pub returns-then-not-has_default_value : goal.returns-then-not-has_default_value
-returns-then-not-has_default_value g c =
-    let inv = g.met.B.BlockPair.lawful c.args.pair.now in
+pub returns-in_err-unwrap_in_place : goal.returns-in_err-unwrap_in_place
+returns-in_err-unwrap_in_place g c =
+    let text : List ℕ = c.args.text.now in
     let legal = c.text_length_ok.ensures.0 c.if-not-text_length_ok.false in
-    let same = written_back c.in_ok-buffer.buffer.len c.unwrap_registers.new.buffer c.in_ok-buffer.buffer.items (omega arith) in
-    let none = plain_refused c.deref.result.now c.args.text.now inv c.unwrap_registers.ensures (c.deref_mut.ensures.value ∙ c.in_ok-buffer.ensures.items) (c.deref.ensures.value ∙ same) (λ e. let held = c.has_default_value.ensures.1 e in cc) in
-    record { bad_length = search rules; answer = (legal, none); accepts = λ key h. absurd (none key h); only_key = search rules; restores = search rules; other_form = search rules }
+    let same : c.deref_mut.result.now ≡ text = c.deref_mut.ensures.value ∙ c.in_ok-buffer.ensures.items in
+    let own = ap (λ m. m.pair) c.new.ensures in
+    let given : List ℕ = c.deref_mut.result.now in
+    let w = refused (Plain (g.B.BlockPair.encrypted c.new.result.pair)) (IsPlainTextLength (length given)) (λ (_ : Unit {0}). drop 8 c.unwrap_in_place.new.buf) given
+    c.in_err-unwrap_in_place.field-0.0 c.from_residual-in_err-unwrap_in_place.result (rw same legal) c.in_err-unwrap_in_place.ensures.answer c.from_residual-in_err-unwrap_in_place.ensures in
+    let none = rw (own, same) at w.1 in
+    record {
+      bad_length = rw w.0 (search rules);
+      answer = rw w.0 (legal, none);
+      accepts = λ key h. absurd (none key h);
+      only_key = rw w.0 (search rules);
+      restores = rw w.0 (search rules);
+      other_form = rw w.0 (search rules);
+    }
 
 pub returns : goal.returns
 returns g c =
-    let inv = g.met.B.BlockPair.lawful c.args.pair.now in
+    let text : List ℕ = c.args.text.now in
     let legal = c.text_length_ok.ensures.0 c.if-not-text_length_ok.false in
-    let same = written_back c.in_ok-buffer.buffer.len c.unwrap_registers.new.buffer c.in_ok-buffer.buffer.items (omega arith) in
-    let w = plain_unwrapped (take c.in_ok-buffer.buffer.len (c.unwrap_registers.new.buffer ++ drop (length c.unwrap_registers.new.buffer) c.in_ok-buffer.buffer.items)) c.args.text.now c.key_of.result.items inv c.unwrap_registers.ensures (c.deref_mut.ensures.value ∙ c.in_ok-buffer.ensures.items) same legal (ap (big_number 8) (sym c.deref.ensures.value) ∙ c.has_default_value.ensures.0 c.if-not-has_default_value.false) c.key_of.ensures in
-    record { bad_length = search rules; answer = (legal, w.0); accepts = search rules; only_key = w.1; restores = w.2; other_form = λ key k. not_both_forms inv w.0 k }
+    let same : c.deref_mut.result.now ≡ text = c.deref_mut.ensures.value ∙ c.in_ok-buffer.ensures.items in
+    let own = ap (λ m. m.pair) c.new.ensures in
+    let new : List ℕ = c.unwrap_in_place.new.buf in
+    let size : length new ≡ length text = search rules in
+    let back = written_back c.in_ok-buffer.buffer.len new c.in_ok-buffer.buffer.items (omega arith) in
+    let key : c.key_of.result.items ≡ drop 8 new =
+    c.key_of.ensures ∙ ap (λ (bs : List ℕ). take (length text - 8) (drop 8 bs)) back ∙ take_all (length text - 8) (drop 8 new) (omega (arith, length-drop 8 new)) in
+    let w = rw (own, same) at c.in_ok-unwrap_in_place.ensures in
+    record {
+      bad_length = search rules;
+      answer = (legal, rw key w.answer.1);
+      accepts = search rules;
+      only_key = rw key w.only_key;
+      restores = rw key w.restores;
+      other_form = w.other_form;
+    }

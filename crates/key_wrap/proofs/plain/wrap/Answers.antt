@@ -1,13 +1,16 @@
-use Rattle.std.proofs.Common.{arith, rules, ◌∙◌}
-use Rattle.key_wrap.proofs.PlainForm.{plain_wrapped, written_back, length-registers}
+-- The buffer holds zeros and the key, so what the call in it promises of the key is what is promised here.
+use Rattle.std.proofs.Common.{rules, ◌≡◌, ℕ, List, drop, replicate, ◌++◌, arith, ap, ◌∙◌}
+use Rattle.std.proofs.lemmas.List.{drop_at}
+use Rattle.key_wrap.proofs.PlainForm.{written_back, padded_whole}
 use Rattle.key_wrap.proofs.plain.wrap.Goals as goal
-
-pub wrap_registers-requires-clause-whole_words : goal.wrap_registers-requires-clause-whole_words
-wrap_registers-requires-clause-whole_words g c =
-    omega (arith, length-registers _ c.args.key.now _ (c.deref_mut.ensures.value ∙ c.in_ok-text.ensures))
 
 pub returns : goal.returns
 returns g c =
+    let key : List ℕ = c.args.key.now in
     let legal = c.key_length_ok.ensures.0 c.if-not-key_length_ok.false in
-    let w = plain_wrapped c.args.key.now c.deref_mut.result.now c.wrap_registers.new.buffer _ legal (c.deref_mut.ensures.value ∙ c.in_ok-text.ensures) c.wrap_registers.ensures (written_back c.in_ok-text.text.len c.wrap_registers.new.buffer c.in_ok-text.text.items (omega arith)) in
-    record { bad_length = search rules; memory = search rules; answer = w.0; only_text = w.1 }
+    let held = c.deref_mut.ensures.value ∙ c.in_ok-text.ensures ∙ ap (λ (bs : List ℕ). replicate 8 0 ++ bs) (padded_whole key legal.0) in
+    let rest : drop 8 c.deref_mut.result.now ≡ key = ap (drop 8) held ∙ drop_at (replicate 8 0) key 8 (search rules) in
+    let back = written_back c.in_ok-text.text.len c.wrap_in_place.new.buf c.in_ok-text.text.items (omega arith) in
+    let own = ap (λ m. m.pair) c.new.ensures in
+    let w = rw (own, rest, c.unwrap.ensures) at c.wrap_in_place.ensures in
+    record { bad_length = search rules; memory = search rules; answer = rw back w.answer; only_text = rw back w.only_text }

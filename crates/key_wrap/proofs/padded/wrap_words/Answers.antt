@@ -1,6 +1,0 @@
-use Rattle.std.proofs.Common.{arith}
-use Rattle.key_wrap.proofs.PaddedForm.{many_registers}
-use Rattle.key_wrap.proofs.padded.wrap_words.Goals as goal
-
-pub returns-then-buffer-gt-BLOCK : goal.returns-then-buffer-gt-BLOCK
-returns-then-buffer-gt-BLOCK g c = many_registers (omega arith) c.wrap_registers.ensures

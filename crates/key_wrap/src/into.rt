@@ -1,0 +1,151 @@
+//! The calls from one of the caller's buffers into another. They take no memory.
+
+ghost use Rattle.std.specs.Prelude.{◌≡◌, ◌↔◌, ℕ, List, length, take, All, Ok, Err, OnOk, IfOk, IsOk, IsOkUnless};
+ghost use Rattle.block_pair.specs.Metered.{counted};
+ghost use Rattle.key_wrap.specs.Plain.{Plain};
+ghost use Rattle.key_wrap.specs.Padded.{Padded, padded};
+ghost use Rattle.key_wrap.specs.Answer.{NoKey};
+ghost use Rattle.key_wrap.specs.Calls.{block_calls};
+ghost use Rattle.key_wrap.specs.InPlace.{KeyAnswer, IsPaddedRoom, ArePlainLengths, ArePaddedLengths};
+
+use crate::faults::InPlaceFault;
+use crate::in_place::{wrap_in_place, wrap_padded_in_place};
+use crate::lengths::{key_length_ok, padded_length_ok, padded_text_length_ok, text_length_ok};
+use crate::unwrapping::{unwrap_padded_registers, unwrap_registers};
+use block_pair::{BlockPair, Meter};
+use byteorder::{BigEndian, ByteOrder};
+
+// The bytes of a word.
+const WORD: usize = 8;
+
+/// The plain wrapping of `key`, into `text` (RFC 3394, section 2.2.1).
+///
+/// `BadLength`, with the text and the meter as they were, where `key_length_ok` says no to the key's length, or
+/// the text has not 8 bytes more than the key.
+pub fn wrap_into<B: BlockPair>(
+    meter: &mut Meter<B>,
+    key: &[u8],
+    text: &mut [u8],
+) -> Result<(), InPlaceFault>
+    ensures bad_length { (result ≡ Err InPlaceFault.BadLength)
+        ↔ ¬ ArePlainLengths (length key.now) (length text.old) }
+    ensures only_fault { IsOkUnless result InPlaceFault.BadLength }
+    ensures text_kept { result ≡ Err InPlaceFault.BadLength → text.new ≡ text.old }
+    ensures meter_kept { result ≡ Err InPlaceFault.BadLength → meter.new ≡ meter.old }
+    ensures answer { OnOk result (Plain (B.encrypted meter.old.pair) key.now text.new) }
+    ensures only_text { OnOk result (
+        (other : List ℕ) → Plain (B.encrypted meter.old.pair) key.now other → other ≡ text.new) }
+    ensures calls { OnOk result (meter.new ≡ counted (block_calls (length text.old)) meter.old) }
+{
+    if !key_length_ok(key.len()) || text.len() != key.len() + WORD {
+        return Err(InPlaceFault::BadLength);
+    }
+    text[WORD..].copy_from_slice(key);
+    wrap_in_place(meter, text)
+}
+
+/// The key whose plain wrapping is `text`, into `key` (RFC 3394, section 2.2.2).
+///
+/// `BadLength`, with the key's buffer and the meter as they were, where `text_length_ok` says no to the text's
+/// length, or the key's buffer has not 8 bytes less; `Integrity` where the text is the plain wrapping of no
+/// key, and then every byte of the key's buffer is zero. The meter counts as many calls then as for a key.
+pub fn unwrap_into<B: BlockPair>(
+    meter: &mut Meter<B>,
+    text: &[u8],
+    key: &mut [u8],
+) -> Result<(), InPlaceFault>
+    ensures bad_length { (result ≡ Err InPlaceFault.BadLength)
+        ↔ ¬ ArePlainLengths (length key.old) (length text.now) }
+    ensures key_kept { result ≡ Err InPlaceFault.BadLength → key.new ≡ key.old }
+    ensures meter_kept { result ≡ Err InPlaceFault.BadLength → meter.new ≡ meter.old }
+    ensures answer { KeyAnswer (ArePlainLengths (length key.old) (length text.now))
+        (Plain (B.encrypted meter.old.pair)) text.now (λ _. key.new) result }
+
+    // A wrapping is refused for its lengths alone.
+    ensures accepts { (wrapped : List ℕ) → Plain (B.encrypted meter.old.pair) wrapped text.now
+        → IsOkUnless result InPlaceFault.BadLength }
+    ensures only_key { OnOk result (
+        (other : List ℕ) → Plain (B.encrypted meter.old.pair) other text.now → other ≡ key.new) }
+
+    // Wrapping the answer again gives the input.
+    ensures restores { OnOk result (
+        (other : List ℕ) → Plain (B.encrypted meter.old.pair) key.new other → other ≡ text.now) }
+    ensures other_form { OnOk result (NoKey (Padded (B.encrypted meter.old.pair)) text.now) }
+    ensures cleared { result ≡ Err InPlaceFault.Integrity → All (λ byte. byte ≡ 0) key.new }
+    ensures calls { ¬ (result ≡ Err InPlaceFault.BadLength)
+        → meter.new ≡ counted (block_calls (length text.now)) meter.old }
+{
+    if !text_length_ok(text.len()) || key.len() != text.len() - WORD {
+        return Err(InPlaceFault::BadLength);
+    }
+    key.copy_from_slice(&text[WORD..]);
+    unwrap_registers(meter, BigEndian::read_u64(text), key)
+}
+
+/// The padded wrapping of `key`, into `text` (RFC 5649, section 4.1).
+///
+/// `BadLength`, with the text and the meter as they were, where `padded_length_ok` says no to the key's length,
+/// or the text has not 8 bytes more than that rounded up to a multiple of 8.
+pub fn wrap_padded_into<B: BlockPair>(
+    meter: &mut Meter<B>,
+    key: &[u8],
+    text: &mut [u8],
+) -> Result<(), InPlaceFault>
+    ensures bad_length { (result ≡ Err InPlaceFault.BadLength)
+        ↔ ¬ IsPaddedRoom (length key.now) (length text.old) }
+    ensures only_fault { IsOkUnless result InPlaceFault.BadLength }
+    ensures text_kept { result ≡ Err InPlaceFault.BadLength → text.new ≡ text.old }
+    ensures meter_kept { result ≡ Err InPlaceFault.BadLength → meter.new ≡ meter.old }
+    ensures answer { OnOk result (Padded (B.encrypted meter.old.pair) key.now text.new) }
+    ensures only_text { OnOk result (
+        (other : List ℕ) → Padded (B.encrypted meter.old.pair) key.now other → other ≡ text.new) }
+    ensures calls { OnOk result (meter.new ≡ counted (block_calls (length text.old)) meter.old) }
+{
+    let m = key.len();
+    if !padded_length_ok(m) || text.len() != WORD + m.next_multiple_of(WORD) {
+        return Err(InPlaceFault::BadLength);
+    }
+    text[WORD..WORD + m].copy_from_slice(key);
+    wrap_padded_in_place(meter, text, m)
+}
+
+/// The key whose padded wrapping is `text`, into `key` (RFC 5649, section 4.2): of as many bytes as the answer
+/// says, and zero bytes to the end of the buffer.
+///
+/// `BadLength`, with the key's buffer and the meter as they were, where `padded_text_length_ok` says no to the
+/// text's length, or the key's buffer has not 8 bytes less; `Integrity` where the text is the padded wrapping of
+/// no key, and then every byte of the key's buffer is zero. The meter counts as many calls then as for a key.
+pub fn unwrap_padded_into<B: BlockPair>(
+    meter: &mut Meter<B>,
+    text: &[u8],
+    key: &mut [u8],
+) -> Result<usize, InPlaceFault>
+    ensures bad_length { (result ≡ Err InPlaceFault.BadLength)
+        ↔ ¬ ArePaddedLengths (length key.old) (length text.now) }
+    ensures key_kept { result ≡ Err InPlaceFault.BadLength → key.new ≡ key.old }
+    ensures meter_kept { result ≡ Err InPlaceFault.BadLength → meter.new ≡ meter.old }
+    ensures answer { KeyAnswer (ArePaddedLengths (length key.old) (length text.now))
+        (Padded (B.encrypted meter.old.pair)) text.now (λ m. take m key.new) result }
+
+    // A wrapping is refused for its lengths alone.
+    ensures accepts { (wrapped : List ℕ) → Padded (B.encrypted meter.old.pair) wrapped text.now
+        → IsOkUnless result InPlaceFault.BadLength }
+    ensures only_key { IfOk result (λ m.
+        (other : List ℕ) → Padded (B.encrypted meter.old.pair) other text.now → other ≡ take m key.new) }
+
+    // Wrapping the answer again gives the input.
+    ensures restores { IfOk result (λ m.
+        (other : List ℕ) → Padded (B.encrypted meter.old.pair) (take m key.new) other → other ≡ text.now) }
+    ensures other_form { OnOk result (NoKey (Plain (B.encrypted meter.old.pair)) text.now) }
+    ensures size { IfOk result (λ m. length (take m key.new) ≡ m) }
+    ensures behind { IfOk result (λ m. key.new ≡ padded (take m key.new)) }
+    ensures cleared { result ≡ Err InPlaceFault.Integrity → All (λ byte. byte ≡ 0) key.new }
+    ensures calls { ¬ (result ≡ Err InPlaceFault.BadLength)
+        → meter.new ≡ counted (block_calls (length text.now)) meter.old }
+{
+    if !padded_text_length_ok(text.len()) || key.len() != text.len() - WORD {
+        return Err(InPlaceFault::BadLength);
+    }
+    key.copy_from_slice(&text[WORD..]);
+    unwrap_padded_registers(meter, BigEndian::read_u64(text), key)
+}
