@@ -1,10 +1,9 @@
 -- The lengths of buffers, from what a call that is done says of them: that it did not refuse them.
-use Rattle.std.proofs.Common.{ℕ, List, length, drop, arith, length-drop, ◌+◌, ◌-◌, ◌*◌, ◌≤◌, ◌%◌, ◌≡◌}
+use Rattle.std.proofs.Common.{ℕ, List, length, drop, arith, length-drop, ◌≤◌, ◌%◌, ◌≡◌}
 use Rattle.std.proofs.Math.Decide.{dec_le}
 use Rattle.std.proofs.Math.Logic.{by_cases}
 use Rattle.key_wrap.specs.declared.lengths.TheConstants.{MAX_KEY}
 use Rattle.key_wrap.specs.Lengths.{IsPlainKeyLength, IsPlainTextLength}
-use Rattle.key_wrap.specs.Padded.{word_count}
 use Rattle.key_wrap.specs.InPlace.{IsPaddedRoom, ArePlainLengths}
 
 -- a buffer whose key has a legal length behind the first word

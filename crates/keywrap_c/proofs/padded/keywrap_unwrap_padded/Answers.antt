@@ -1,4 +1,4 @@
-use Rattle.std.proofs.Common.{rules, ◌≡◌, ℕ, List, length, take, ap, ◌∙◌, subst, sym, refl}
+use Rattle.std.proofs.Common.{rules, ◌≡◌, ℕ, List, take, ap, ◌∙◌, subst, sym}
 use Rattle.aes_block.specs.Cipher.{cipher}
 use Rattle.key_wrap.specs.Plain.{Plain}
 use Rattle.key_wrap.specs.Padded.{Padded}
@@ -23,7 +23,7 @@ returns-in-Err-Integrity-clause-integrity c =
     let under : c.new-2.result.pair ≡ c.args.kek.now = ap (λ m. m.pair) c.new-2.ensures ∙ c.in-Ok.ensures.key in
     let told = rw c.in-Err-Integrity.field-0-is at c.in-Err-Integrity.ensures.answer in
     let no_key : NoKey (Padded (cipher c.args.kek.now)) c.args.text.now =
-        subst (λ (K : List ℕ). NoKey (Padded (cipher K)) c.args.text.now) under told.1 in
+    subst (λ (K : List ℕ). NoKey (Padded (cipher K)) c.args.text.now) under told.1 in
     search rules
 
 pub returns-in-Err-Integrity-clause-accepts : goal.returns-in-Err-Integrity-clause-accepts

@@ -1,6 +1,5 @@
-use Rattle.std.proofs.Common.{rules, ◌≡◌, ℕ, List, length, ap, ◌∙◌, subst, refl}
+use Rattle.std.proofs.Common.{◌≡◌, ℕ, List, length, ap, ◌∙◌, subst, refl}
 use Rattle.aes_block.specs.Cipher.{cipher}
-use Rattle.key_wrap.specs.Plain.{Plain}
 use Rattle.key_wrap.specs.Padded.{Padded}
 use Rattle.key_wrap.specs.InPlace.{IsPaddedRoom}
 use Rattle.keywrap_c.specs.Answers.{IsWrapping}
@@ -11,7 +10,7 @@ pub returns-in-Ok-wrap_padded_into-clause-done : goal.returns-in-Ok-wrap_padded_
 returns-in-Ok-wrap_padded_into-clause-done c =
     let refused = c.in-Ok-wrap_padded_into.ensures.bad_length in
     let lengths : IsPaddedRoom (length c.args.key.now) (length c.args.text.now) =
-        room-not_refused (length c.args.key.now) (length c.args.text.now) (λ no. let wrong = refused.1 no in cc) in
+    room-not_refused (length c.args.key.now) (length c.args.text.now) (λ no. let wrong = refused.1 no in cc) in
     (λ _. (c.in-Ok.ensures.accepted.0 refl, lengths), λ _. refl)
 
 pub returns-in-Ok-wrap_padded_into-clause-answer : goal.returns-in-Ok-wrap_padded_into-clause-answer

@@ -1,6 +1,5 @@
-use Rattle.std.proofs.Common.{rules, ◌≡◌, ℕ, List, length, drop, ap, ◌∙◌, subst, sym, true, false}
+use Rattle.std.proofs.Common.{rules, ◌≡◌, ℕ, List, ap, ◌∙◌, subst, sym, true, false}
 use Rattle.aes_block.specs.Cipher.{cipher}
-use Rattle.key_wrap.specs.Lengths.{IsPlainTextLength}
 use Rattle.key_wrap.specs.Plain.{Plain}
 use Rattle.key_wrap.specs.Padded.{Padded}
 use Rattle.key_wrap.specs.Answer.{NoKey}
@@ -19,7 +18,7 @@ pub returns-in-Err-BadLength-clause-accepts : goal.returns-in-Err-BadLength-clau
 returns-in-Err-BadLength-clause-accepts c = λ key _ stands.
     let under : c.new-2.result.pair ≡ c.args.kek.now = ap (λ m. m.pair) c.new-2.ensures ∙ c.in-Ok.ensures.key in
     let accepted : false ≡ true =
-        c.in-Err-BadLength.ensures.accepts key (subst (λ (K : List ℕ). Padded (cipher K) key c.args.buffer.now) (sym under) stands) in
+    c.in-Err-BadLength.ensures.accepts key (subst (λ (K : List ℕ). Padded (cipher K) key c.args.buffer.now) (sym under) stands) in
     cc
 
 pub returns-in-Err-Integrity-clause-integrity : goal.returns-in-Err-Integrity-clause-integrity
@@ -27,12 +26,12 @@ returns-in-Err-Integrity-clause-integrity c =
     let under : c.new-2.result.pair ≡ c.args.kek.now = ap (λ m. m.pair) c.new-2.ensures ∙ c.in-Ok.ensures.key in
     let told = rw c.in-Err-Integrity.field-0-is at c.in-Err-Integrity.ensures.answer in
     let no_key : NoKey (Padded (cipher c.args.kek.now)) c.args.buffer.now =
-        subst (λ (K : List ℕ). NoKey (Padded (cipher K)) c.args.buffer.now) under told.1 in
+    subst (λ (K : List ℕ). NoKey (Padded (cipher K)) c.args.buffer.now) under told.1 in
     search rules
 
 pub returns-in-Err-Integrity-clause-accepts : goal.returns-in-Err-Integrity-clause-accepts
 returns-in-Err-Integrity-clause-accepts c = λ key _ stands.
     let under : c.new-2.result.pair ≡ c.args.kek.now = ap (λ m. m.pair) c.new-2.ensures ∙ c.in-Ok.ensures.key in
     let accepted : false ≡ true =
-        c.in-Err-Integrity.ensures.accepts key (subst (λ (K : List ℕ). Padded (cipher K) key c.args.buffer.now) (sym under) stands) in
+    c.in-Err-Integrity.ensures.accepts key (subst (λ (K : List ℕ). Padded (cipher K) key c.args.buffer.now) (sym under) stands) in
     cc

@@ -1,4 +1,4 @@
-use Rattle.std.proofs.Common.{rules, ◌≡◌, ℕ, List, length, ap, ◌∙◌, subst, refl}
+use Rattle.std.proofs.Common.{◌≡◌, ℕ, List, length, ap, ◌∙◌, subst, refl}
 use Rattle.aes_block.specs.Cipher.{cipher}
 use Rattle.key_wrap.specs.Padded.{Padded}
 use Rattle.key_wrap.specs.InPlace.{IsPaddedRoom, key_in}
@@ -10,7 +10,7 @@ pub returns-in-Ok-wrap_padded_in_place-clause-done : goal.returns-in-Ok-wrap_pad
 returns-in-Ok-wrap_padded_in_place-clause-done c =
     let refused = c.in-Ok-wrap_padded_in_place.ensures.bad_length in
     let room : IsPaddedRoom c.args.key_len (length c.args.buffer.now) =
-        room-not_refused c.args.key_len (length c.args.buffer.now) (λ no. let wrong = refused.1 no in cc) in
+    room-not_refused c.args.key_len (length c.args.buffer.now) (λ no. let wrong = refused.1 no in cc) in
     (λ _. (c.in-Ok.ensures.accepted.0 refl, room), λ _. refl)
 
 pub returns-in-Ok-wrap_padded_in_place-clause-answer : goal.returns-in-Ok-wrap_padded_in_place-clause-answer

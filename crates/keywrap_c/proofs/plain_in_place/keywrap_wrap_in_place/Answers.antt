@@ -1,4 +1,4 @@
-use Rattle.std.proofs.Common.{rules, ◌≡◌, ℕ, List, length, drop, ap, ◌∙◌, subst, refl}
+use Rattle.std.proofs.Common.{◌≡◌, ℕ, List, length, drop, ap, ◌∙◌, subst, refl}
 use Rattle.aes_block.specs.Cipher.{cipher}
 use Rattle.key_wrap.specs.Lengths.{IsPlainTextLength}
 use Rattle.key_wrap.specs.Plain.{Plain}
@@ -9,7 +9,7 @@ use Rattle.keywrap_c.proofs.plain_in_place.keywrap_wrap_in_place.Goals as goal
 pub returns-in-Ok-wrap_in_place-clause-done : goal.returns-in-Ok-wrap_in_place-clause-done
 returns-in-Ok-wrap_in_place-clause-done c =
     let legal : IsPlainTextLength (length c.args.buffer.now) =
-        plain_text_length c.args.buffer.now c.in-Ok-wrap_in_place.ensures.answer.legal in
+    plain_text_length c.args.buffer.now c.in-Ok-wrap_in_place.ensures.answer.legal in
     (λ _. (c.in-Ok.ensures.accepted.0 refl, legal), λ _. refl)
 
 pub returns-in-Ok-wrap_in_place-clause-answer : goal.returns-in-Ok-wrap_in_place-clause-answer
