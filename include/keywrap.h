@@ -11,7 +11,7 @@
  *
  * The caller's part, which nothing checks:
  *   - A pointer and the length after it belong together: it points to so many bytes, and is not
- *     NULL, not even at length 0.
+ *     NULL, not even at length 0 (malloc(0) may be).
  *   - What a call writes overlaps none of its other arguments. With an overlap the calls of two
  *     buffers can answer KEYWRAP_OK and a wrong text. To wrap a key where it stands, call the
  *     _in_place ones.
@@ -26,12 +26,14 @@
 #include <stddef.h>
 #include <stdint.h>
 
-/* Lengths, in bytes. Each is a constant expression where its argument is one. */
-#define KEYWRAP_MAX_KEY 4096                                           /* the longest key */
-#define KEYWRAP_MAX_TEXT (KEYWRAP_MAX_KEY + 8)                         /* the longest text */
-#define KEYWRAP_TEXT_LEN(key_len) ((key_len) + 8)                      /* of a plain wrapping */
-#define KEYWRAP_PADDED_TEXT_LEN(key_len) (((key_len) + 7) / 8 * 8 + 8) /* of a padded one */
-#define KEYWRAP_ROOM(text_len) ((text_len) - 8)                        /* what an unwrap fills */
+/* Lengths, in bytes: of the longest key and the longest text, of a key's plain and padded wrapping,
+ * and of the buffer that an unwrap of a text fills, in either form (0 where the text is too short
+ * for any). Each is a constant expression where its argument is one. */
+#define KEYWRAP_MAX_KEY 4096
+#define KEYWRAP_MAX_TEXT (KEYWRAP_MAX_KEY + 8)
+#define KEYWRAP_TEXT_LEN(key_len) ((key_len) + 8)
+#define KEYWRAP_PADDED_TEXT_LEN(key_len) (((key_len) + 7) / 8 * 8 + 8)
+#define KEYWRAP_ROOM(text_len) ((text_len) < 8 ? 0 : (text_len) - 8)
 
 /* What each call answers: where several refusals apply, the first of them. The causes of
  * KEYWRAP_BAD_KEK and KEYWRAP_BAD_LENGTH are in the lengths alone, and no buffer is written. */
