@@ -66,8 +66,9 @@ uninstall: uninstall-library
 	rm -f '$(DESTDIR)$(PREFIX)/bin/keywrap'
 
 uninstall-library:
-	cd '$(DESTDIR)$(PREFIX)' && rm -f lib/libkeywrap.a lib/$(soname) lib/libkeywrap.so \
-	    lib/pkgconfig/keywrap.pc include/keywrap.h
+	rm -f '$(DESTDIR)$(PREFIX)/lib/libkeywrap.a' '$(DESTDIR)$(PREFIX)/lib/$(soname)' \
+	    '$(DESTDIR)$(PREFIX)/lib/libkeywrap.so' '$(DESTDIR)$(PREFIX)/include/keywrap.h' \
+	    '$(DESTDIR)$(PREFIX)/lib/pkgconfig/keywrap.pc'
 
 bench: build library
 	bench/wrap '$(LIBRARY)/libkeywrap.a'

@@ -119,30 +119,39 @@ static void print_row(const struct row *row) {
     printf("\n");
 }
 
-/* How many per cent the block calls' times are apart, from one of the lengths on. */
-static double spread(const struct row group[], int from, int p) {
-    double least = 1e18, most = 0;
+/* The least and the greatest time of a block call, from one of the lengths on. */
+struct range {
+    double least, most;
+};
+
+static struct range times(const struct row group[], int from, int p) {
+    struct range range = {1e18, 0};
     for (int i = from; i < LEN_COUNT; i++) {
         double time = a_block(group + i, p);
-        if (time < least) least = time;
-        if (time > most) most = time;
+        if (time < range.least) range.least = time;
+        if (time > range.most) range.most = time;
     }
-    return 100 * (most / least - 1);
+    return range;
 }
 
-/* What a call takes beside its blocks: the schedule, the copy and the call itself. It is what a
- * call at 16 bytes takes beyond its 12 blocks, at the time of a block with the longest key. */
+static void print_spread(const struct row group[], int from, int p) {
+    struct range range = times(group, from, p);
+    double apart = 100 * (range.most / range.least - 1);
+    printf("; from %zu bytes on %s, %.0f %% apart", LENS[from], apart <= 10 ? "flat" : "not flat",
+           apart);
+}
+
+/* What a call takes beside its blocks, at the least time of a block: the schedule, the copy and the
+ * call itself. */
 static void print_parts(const struct row group[]) {
-    printf(
-        "     beside the blocks, of a call at 16 bytes; block calls' times apart from 32 bytes on,"
-        " from 256 on\n");
     for (int p = 0; p < PEER_COUNT; p++) {
-        double block = a_block(group + LEN_COUNT - 1, p);
-        double beside = group[0].best[p] - block * (double)blocks(group[0].len);
-        double from_32 = spread(group, 1, p), from_256 = spread(group, 2, p);
-        printf("     %-8s %6.0f ns (%.0f %%); %3.0f %% (%s), %3.0f %% (%s)\n", PEERS[p].name,
-               beside, 100 * beside / group[0].best[p], from_32,
-               from_32 <= 10 ? "flat" : "not flat", from_256, from_256 <= 10 ? "flat" : "not flat");
+        double block = times(group, 0, p).least;
+        double beside = group->best[p] - block * (double)blocks(group->len);
+        printf("     %-8s beside its blocks %4.0f ns, %2.0f %% of a call at 16 bytes",
+               PEERS[p].name, beside, 100 * beside / group->best[p]);
+        print_spread(group, 1, p);
+        print_spread(group, 2, p);
+        printf("\n");
     }
 }
 
