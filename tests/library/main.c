@@ -165,6 +165,17 @@ static void paddings(void) {
         }
 }
 
+/* Texts whose padding is a whole word of zeros, or more. */
+static void long_paddings(void) {
+    for (size_t len = 8; len <= 32; len += 8)
+        for (size_t key_len = 0; key_len <= len - 8; key_len++) {
+            uint8_t words[32] = {0};
+            memcpy(words, key, key_len);
+            wrap_words(kek, 16, AIV_PREFIX | key_len, words, len, text);
+            refuses(PADDED, kek, 16, len + 8);
+        }
+}
+
 int main(void) {
     one_table_start();
     scatter(kek, sizeof kek);
@@ -179,6 +190,7 @@ int main(void) {
     tampered_texts();
     initial_values();
     paddings();
+    long_paddings();
     printf("%u passed, %u failed\n", passed, failed);
     return failed != 0;
 }
