@@ -1,0 +1,107 @@
+/* peers.c: the plain wrap by this library, by OpenSSL and nettle where they are there, and by the
+ * same algorithm in C. */
+
+#define OPENSSL_SUPPRESS_DEPRECATED
+
+#include "peers.h"
+
+#include <keywrap.h>
+
+#include "one_table.h"
+
+#ifdef HAVE_OPENSSL
+#include <openssl/aes.h>
+#endif
+#ifdef HAVE_NETTLE
+#include <nettle/aes.h>
+#include <nettle/nist-keywrap.h>
+#endif
+
+static int wrap_ours(const uint8_t *kek, size_t kek_len, const uint8_t *key, size_t len,
+                     uint8_t *text) {
+    return keywrap_wrap(kek, kek_len, key, len, text, KEYWRAP_TEXT_LEN(len)) == KEYWRAP_OK;
+}
+
+static int unwrap_ours(const uint8_t *kek, size_t kek_len, const uint8_t *text, size_t len,
+                       uint8_t *key) {
+    return keywrap_unwrap(kek, kek_len, text, KEYWRAP_TEXT_LEN(len), key, len) == KEYWRAP_OK;
+}
+
+#ifdef HAVE_OPENSSL
+static int wrap_openssl(const uint8_t *kek, size_t kek_len, const uint8_t *key, size_t len,
+                        uint8_t *text) {
+    AES_KEY keys;
+    return AES_set_encrypt_key(kek, (int)kek_len * 8, &keys) == 0
+           && AES_wrap_key(&keys, NULL, text, key, (unsigned)len) == (int)len + 8;
+}
+
+static int unwrap_openssl(const uint8_t *kek, size_t kek_len, const uint8_t *text, size_t len,
+                          uint8_t *key) {
+    AES_KEY keys;
+    return AES_set_decrypt_key(kek, (int)kek_len * 8, &keys) == 0
+           && AES_unwrap_key(&keys, NULL, key, text, (unsigned)len + 8) == (int)len;
+}
+#endif
+
+#ifdef HAVE_NETTLE
+static const uint8_t INITIAL_VALUE[8] = {0xA6, 0xA6, 0xA6, 0xA6, 0xA6, 0xA6, 0xA6, 0xA6};
+
+static int wrap_nettle(const uint8_t *kek, size_t kek_len, const uint8_t *key, size_t len,
+                       uint8_t *text) {
+    if (kek_len == 16) {
+        struct aes128_ctx keys;
+        aes128_set_encrypt_key(&keys, kek);
+        nist_keywrap16(&keys, (nettle_cipher_func *)aes128_encrypt, INITIAL_VALUE, len + 8, text,
+                       key);
+    } else {
+        struct aes256_ctx keys;
+        aes256_set_encrypt_key(&keys, kek);
+        nist_keywrap16(&keys, (nettle_cipher_func *)aes256_encrypt, INITIAL_VALUE, len + 8, text,
+                       key);
+    }
+    return 1;
+}
+
+static int unwrap_nettle(const uint8_t *kek, size_t kek_len, const uint8_t *text, size_t len,
+                         uint8_t *key) {
+    if (kek_len == 16) {
+        struct aes128_ctx keys;
+        aes128_set_decrypt_key(&keys, kek);
+        return nist_keyunwrap16(&keys, (nettle_cipher_func *)aes128_decrypt, INITIAL_VALUE, len,
+                                key, text);
+    } else {
+        struct aes256_ctx keys;
+        aes256_set_decrypt_key(&keys, kek);
+        return nist_keyunwrap16(&keys, (nettle_cipher_func *)aes256_decrypt, INITIAL_VALUE, len,
+                                key, text);
+    }
+}
+#endif
+
+static int wrap_one_table(const uint8_t *kek, size_t kek_len, const uint8_t *key, size_t len,
+                          uint8_t *text) {
+    struct one_table keys;
+    one_table_schedule(&keys, kek, kek_len);
+    one_table_wrap(&keys, 0xA6A6A6A6A6A6A6A6u, key, len, text);
+    return 1;
+}
+
+static int unwrap_one_table(const uint8_t *kek, size_t kek_len, const uint8_t *text, size_t len,
+                            uint8_t *key) {
+    struct one_table keys;
+    one_table_schedule(&keys, kek, kek_len);
+    return one_table_unwrap(&keys, text, key, len) == 0xA6A6A6A6A6A6A6A6u;
+}
+
+const struct peer PEERS[] = {
+    {"keywrap", wrap_ours, unwrap_ours},
+#ifdef HAVE_OPENSSL
+    {"openssl", wrap_openssl, unwrap_openssl},
+#endif
+#ifdef HAVE_NETTLE
+    {"nettle", wrap_nettle, unwrap_nettle},
+#endif
+    {"C", wrap_one_table, unwrap_one_table},
+};
+
+const int PEER_COUNT = sizeof PEERS / sizeof *PEERS;

@@ -1,0 +1,2 @@
+-- Lemmas that several exports share.
+pub mod Lengths

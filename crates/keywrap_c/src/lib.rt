@@ -1,0 +1,12 @@
+//! The key wrap for C: eight calls over the caller's own buffers, without memory and without state.
+//! `include/keywrap.h` declares them.
+#![tactic(auto)]
+
+mod padded;
+mod padded_in_place;
+mod plain;
+mod plain_in_place;
+mod status;
+
+#[cfg(test)]
+mod tests;

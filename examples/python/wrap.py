@@ -1,0 +1,40 @@
+"""The calls of keywrap.py on vectors of RFC 3394 and RFC 5649, and their exceptions."""
+
+import keywrap
+
+kek = bytes(range(16))
+key = bytes.fromhex("00112233445566778899aabbccddeeff")
+
+text = keywrap.wrap(kek, key)
+print("wrap:", text.hex())
+assert text.hex() == "1fa68b0a8112b447aef34bd8fb5a7b829d3e862371d2cfe5"
+
+assert keywrap.unwrap(kek, text) == key
+print("unwrap:", keywrap.unwrap(kek, text).hex())
+
+kek_5649 = bytes.fromhex("5840df6e29b02af1ab493b705bf16ea1ae8338f4dcc176a8")
+short = keywrap.wrap_padded(kek_5649, b"ForPasi")
+print("wrap, padded:", short.hex())
+assert short.hex() == "afbeb0f07dfbf5419200f2ccb50bb24f"
+assert keywrap.unwrap_padded(kek_5649, short) == b"ForPasi"
+
+
+def refused(exception, call, *arguments):
+    """The call raises this very exception."""
+    try:
+        call(*arguments)
+    except keywrap.KeywrapError as error:
+        assert type(error) is exception, error
+        print(f"{call.__name__} of {len(arguments[1])} bytes: {error}")
+    else:
+        raise AssertionError(f"{call.__name__} of {len(arguments[1])} bytes was not refused")
+
+
+tampered = text[:3] + bytes([text[3] ^ 1]) + text[4:]
+refused(keywrap.IntegrityError, keywrap.unwrap, kek, tampered)
+refused(keywrap.IntegrityError, keywrap.unwrap_padded, kek, text)
+refused(keywrap.BadKek, keywrap.wrap, kek[:15], key)
+refused(keywrap.BadLength, keywrap.wrap, kek, key[:15])
+refused(keywrap.BadLength, keywrap.unwrap, kek, b"")
+refused(keywrap.BadLength, keywrap.wrap_padded, kek, b"")
+refused(keywrap.BadLength, keywrap.unwrap_padded, kek, text[:-1])

@@ -1,0 +1,123 @@
+//! AES Key Wrap, plain (RFC 3394) and padded (RFC 5649), by the C library libkeywrap: a safe face
+//! of its calls. The lengths come from the slices, and a `&mut` overlaps nothing, so the caller's
+//! part of the C interface is kept by the types.
+
+use std::fmt;
+
+/// A refusal.
+#[derive(Debug, Clone, Copy, PartialEq, Eq)]
+pub enum Error {
+    /// The KEK has not 16, 24 or 32 bytes.
+    BadKek,
+    /// The key or the text has no length that this form takes.
+    BadLength,
+    /// The text wraps no key under this KEK.
+    Integrity,
+}
+
+impl fmt::Display for Error {
+    fn fmt(&self, f: &mut fmt::Formatter<'_>) -> fmt::Result {
+        f.write_str(match self {
+            Error::BadKek => "the KEK has not 16, 24 or 32 bytes",
+            Error::BadLength => "bad length",
+            Error::Integrity => "the integrity check failed",
+        })
+    }
+}
+
+impl std::error::Error for Error {}
+
+type Bytes = *const u8;
+type Buffer = *mut u8;
+// The KEK, what is given, and what is filled, each with its length.
+type Call = unsafe extern "C" fn(Bytes, usize, Bytes, usize, Buffer, usize) -> i32;
+
+#[link(name = "keywrap")]
+#[rustfmt::skip]
+extern "C" {
+    fn keywrap_wrap(k: Bytes, n: usize, key: Bytes, m: usize, text: Buffer, len: usize) -> i32;
+    fn keywrap_unwrap(k: Bytes, n: usize, text: Bytes, len: usize, key: Buffer, m: usize) -> i32;
+    fn keywrap_wrap_padded(k: Bytes, n: usize, key: Bytes, m: usize, text: Buffer, len: usize)
+        -> i32;
+    fn keywrap_unwrap_padded(k: Bytes, n: usize, text: Bytes, len: usize, key: Buffer, room: usize,
+        m: *mut usize) -> i32;
+    fn keywrap_wrap_in_place(k: Bytes, n: usize, buffer: Buffer, len: usize) -> i32;
+    fn keywrap_unwrap_in_place(k: Bytes, n: usize, buffer: Buffer, len: usize) -> i32;
+    fn keywrap_wrap_padded_in_place(k: Bytes, n: usize, buffer: Buffer, len: usize, m: usize)
+        -> i32;
+    fn keywrap_unwrap_padded_in_place(k: Bytes, n: usize, buffer: Buffer, len: usize,
+        m: *mut usize) -> i32;
+}
+
+fn answer(status: i32) -> Result<(), Error> {
+    match status {
+        0 => Ok(()),
+        3 => Err(Error::BadKek),
+        4 => Err(Error::BadLength),
+        _ => Err(Error::Integrity),
+    }
+}
+
+// SAFETY, of each call below: a pointer comes with the length of its own slice, is not null even
+// where the slice is empty, and what is written is borrowed by `&mut`, so that nothing overlaps it
+// and no other thread touches it.
+
+fn filled(call: Call, kek: &[u8], given: &[u8], len: usize) -> Result<Vec<u8>, Error> {
+    let mut out = vec![0; len];
+    let (k, g, o) = (kek.as_ptr(), given.as_ptr(), out.as_mut_ptr());
+    answer(unsafe { call(k, kek.len(), g, given.len(), o, len) })?;
+    Ok(out)
+}
+
+/// The plain wrapping of a key of 16, 24, 32 .. bytes.
+pub fn wrap(kek: &[u8], key: &[u8]) -> Result<Vec<u8>, Error> {
+    filled(keywrap_wrap, kek, key, key.len() + 8)
+}
+
+/// The key whose plain wrapping the text is.
+pub fn unwrap(kek: &[u8], text: &[u8]) -> Result<Vec<u8>, Error> {
+    filled(keywrap_unwrap, kek, text, text.len().saturating_sub(8))
+}
+
+/// The padded wrapping of a key of 1 byte and more.
+pub fn wrap_padded(kek: &[u8], key: &[u8]) -> Result<Vec<u8>, Error> {
+    filled(keywrap_wrap_padded, kek, key, key.len().div_ceil(8) * 8 + 8)
+}
+
+/// The key whose padded wrapping the text is.
+pub fn unwrap_padded(kek: &[u8], text: &[u8]) -> Result<Vec<u8>, Error> {
+    let mut key = vec![0; text.len().saturating_sub(8)];
+    let mut len = 0;
+    let (k, t, o) = (kek.as_ptr(), text.as_ptr(), key.as_mut_ptr());
+    answer(unsafe { keywrap_unwrap_padded(k, kek.len(), t, text.len(), o, key.len(), &mut len) })?;
+    key.truncate(len);
+    Ok(key)
+}
+
+/// Turns the key behind the first 8 bytes of the buffer into its plain wrapping, the whole buffer.
+pub fn wrap_in_place(kek: &[u8], buffer: &mut [u8]) -> Result<(), Error> {
+    let (k, b) = (kek.as_ptr(), buffer.as_mut_ptr());
+    answer(unsafe { keywrap_wrap_in_place(k, kek.len(), b, buffer.len()) })
+}
+
+/// Turns a plain wrapping into its key, and gives it; at `Integrity` the buffer is all zeros.
+pub fn unwrap_in_place<'a>(kek: &[u8], buffer: &'a mut [u8]) -> Result<&'a mut [u8], Error> {
+    let (k, b) = (kek.as_ptr(), buffer.as_mut_ptr());
+    answer(unsafe { keywrap_unwrap_in_place(k, kek.len(), b, buffer.len()) })?;
+    Ok(&mut buffer[8..])
+}
+
+/// Turns the key of `key_len` bytes behind the first 8 of the buffer into its padded wrapping, the
+/// whole buffer.
+pub fn wrap_padded_in_place(kek: &[u8], buffer: &mut [u8], key_len: usize) -> Result<(), Error> {
+    let (k, b) = (kek.as_ptr(), buffer.as_mut_ptr());
+    answer(unsafe { keywrap_wrap_padded_in_place(k, kek.len(), b, buffer.len(), key_len) })
+}
+
+/// Turns a padded wrapping into its key, and gives it; at `Integrity` the buffer is all zeros.
+pub fn unwrap_padded_in_place<'a>(kek: &[u8], buffer: &'a mut [u8]) -> Result<&'a mut [u8], Error> {
+    let mut len = 0;
+    let (k, b) = (kek.as_ptr(), buffer.as_mut_ptr());
+    answer(unsafe { keywrap_unwrap_padded_in_place(k, kek.len(), b, buffer.len(), &mut len) })?;
+    Ok(&mut buffer[8..8 + len])
+}

@@ -1,0 +1,66 @@
+//! The calls of keywrap.rs on vectors of RFC 3394 and RFC 5649, and their errors.
+//!
+//!     rustc --edition 2021 wrap.rs $(pkg-config --libs-only-L keywrap)
+
+mod keywrap;
+
+use keywrap::Error;
+
+fn hex(bytes: &[u8]) -> String {
+    bytes.iter().map(|byte| format!("{byte:02x}")).collect()
+}
+
+fn plain() -> Result<(), Error> {
+    let kek: Vec<u8> = (0..16).collect();
+    let key: Vec<u8> = (0..16).map(|i| 0x11 * i).collect();
+    let text = keywrap::wrap(&kek, &key)?;
+    println!("wrap: {}", hex(&text));
+    assert_eq!(
+        hex(&text),
+        "1fa68b0a8112b447aef34bd8fb5a7b829d3e862371d2cfe5"
+    );
+    assert_eq!(keywrap::unwrap(&kek, &text)?, key);
+
+    let mut buffer = [&[0; 8], &key[..]].concat();
+    keywrap::wrap_in_place(&kek, &mut buffer)?;
+    assert_eq!(buffer, text);
+    assert_eq!(keywrap::unwrap_in_place(&kek, &mut buffer)?, key);
+
+    let mut tampered = text.clone();
+    tampered[3] ^= 1;
+    assert_eq!(keywrap::unwrap(&kek, &tampered), Err(Error::Integrity));
+    assert_eq!(
+        keywrap::unwrap_in_place(&kek, &mut tampered),
+        Err(Error::Integrity)
+    );
+    assert_eq!(tampered, [0; 24]);
+    assert_eq!(keywrap::unwrap_padded(&kek, &text), Err(Error::Integrity));
+    assert_eq!(keywrap::wrap(&kek[..15], &key), Err(Error::BadKek));
+    assert_eq!(keywrap::wrap(&kek, &[]), Err(Error::BadLength));
+    assert_eq!(keywrap::unwrap(&kek, &[]), Err(Error::BadLength));
+    Ok(())
+}
+
+fn padded() -> Result<(), Error> {
+    let kek = [
+        0x58, 0x40, 0xdf, 0x6e, 0x29, 0xb0, 0x2a, 0xf1, 0xab, 0x49, 0x3b, 0x70, 0x5b, 0xf1, 0x6e,
+        0xa1, 0xae, 0x83, 0x38, 0xf4, 0xdc, 0xc1, 0x76, 0xa8,
+    ];
+    let key = b"ForPasi";
+    let text = keywrap::wrap_padded(&kek, key)?;
+    println!("wrap, padded: {}", hex(&text));
+    assert_eq!(hex(&text), "afbeb0f07dfbf5419200f2ccb50bb24f");
+    assert_eq!(keywrap::unwrap_padded(&kek, &text)?, key);
+
+    let mut buffer = [&[0; 8], &key[..], &[1]].concat();
+    keywrap::wrap_padded_in_place(&kek, &mut buffer, key.len())?;
+    assert_eq!(buffer, text);
+    assert_eq!(keywrap::unwrap_padded_in_place(&kek, &mut buffer)?, key);
+    assert_eq!(keywrap::wrap_padded(&kek, &[]), Err(Error::BadLength));
+    Ok(())
+}
+
+fn main() -> Result<(), Error> {
+    plain()?;
+    padded()
+}

@@ -1,0 +1,170 @@
+/* keywrap.h: AES Key Wrap, plain (RFC 3394) and padded (RFC 5649), by AES-128, AES-192 and AES-256.
+ *
+ * A key-encryption key (KEK) of 16, 24 or 32 bytes turns a key into a text that is 8 bytes longer,
+ * or up to 15 where it is padded. Unwrapping gives the key back, or tells that the text wraps no
+ * key under this KEK.
+ *
+ *     uint8_t text[KEYWRAP_TEXT_LEN(sizeof key)];
+ *     if (keywrap_wrap(kek, sizeof kek, key, sizeof key, text, sizeof text) != KEYWRAP_OK) ..
+ *
+ * The calls take no memory, keep no state and call nothing back. Any thread may make them.
+ *
+ * The caller's part, which nothing checks:
+ *   - A pointer and the length after it belong together: it points to so many bytes, and is not
+ *     NULL, not even at length 0 (malloc(0) may be).
+ *   - What a call writes overlaps none of its other arguments. With an overlap the calls of two
+ *     buffers can answer KEYWRAP_OK and a wrong text. To wrap a key where it stands, call the
+ *     _in_place ones.
+ *   - While a call runs, no other thread writes what it reads, or touches what it writes.
+ *
+ * Nothing is claimed of timing, nor of copies of keys that a call leaves in registers or on the
+ * stack. */
+
+#ifndef KEYWRAP_H
+#define KEYWRAP_H
+
+#include <stddef.h>
+#include <stdint.h>
+
+/* Lengths, in bytes: of the longest key and the longest text, of a key's plain and padded wrapping,
+ * and of the buffer that an unwrap of a text fills, in either form (0 where the text is too short
+ * for any). Each is a constant expression where its argument is one. */
+#define KEYWRAP_MAX_KEY 4096
+#define KEYWRAP_MAX_TEXT (KEYWRAP_MAX_KEY + 8)
+#define KEYWRAP_TEXT_LEN(key_len) ((key_len) + 8)
+#define KEYWRAP_PADDED_TEXT_LEN(key_len) (((key_len) + 7) / 8 * 8 + 8)
+#define KEYWRAP_ROOM(text_len) ((text_len) < 8 ? 0 : (text_len) - 8)
+
+/* What each call answers: where several refusals apply, the first of them. The causes of
+ * KEYWRAP_BAD_KEK and KEYWRAP_BAD_LENGTH are in the lengths alone, and no buffer is written. */
+enum keywrap_status {
+    KEYWRAP_OK = 0,
+    KEYWRAP_BAD_KEK = 3,    /* the KEK has not 16, 24 or 32 bytes */
+    KEYWRAP_BAD_LENGTH = 4, /* a length is not one that the call takes */
+    KEYWRAP_INTEGRITY = 5   /* the text wraps no key under this KEK; only an unwrap answers it */
+};
+
+/* Where the compiler sees them, it warns of a NULL, of an answer that is not looked at, and (GCC)
+ * of an overlap and of a buffer that is shorter than its length says. */
+#if defined(__GNUC__)
+#define KEYWRAP_CALL __attribute__((nonnull, nothrow, warn_unused_result))
+#define KEYWRAP_RESTRICT __restrict
+#elif defined(__STDC_VERSION__) && __STDC_VERSION__ >= 199901L
+#define KEYWRAP_CALL
+#define KEYWRAP_RESTRICT restrict
+#else
+#define KEYWRAP_CALL
+#define KEYWRAP_RESTRICT
+#endif
+#if defined(__GNUC__) && !defined(__clang__) && __GNUC__ >= 10
+#define KEYWRAP_READS(pointer, length) __attribute__((access(read_only, pointer, length)))
+#define KEYWRAP_WRITES(pointer, length) __attribute__((access(write_only, pointer, length)))
+#define KEYWRAP_CHANGES(pointer, length) __attribute__((access(read_write, pointer, length)))
+#else
+#define KEYWRAP_READS(pointer, length)
+#define KEYWRAP_WRITES(pointer, length)
+#define KEYWRAP_CHANGES(pointer, length)
+#endif
+
+#ifdef __cplusplus
+extern "C" {
+#endif
+
+/* Plain, two buffers: key_len is a multiple of 8 from 16 to KEYWRAP_MAX_KEY, and text_len is
+ * KEYWRAP_TEXT_LEN(key_len).
+ *
+ * keywrap_wrap makes the wrapping of the key:
+ *   KEYWRAP_OK          text holds it
+ *   any other           text is as it was
+ *
+ * keywrap_unwrap finds the key whose wrapping the text is:
+ *   KEYWRAP_OK          key holds it; no other key has this wrapping
+ *   KEYWRAP_INTEGRITY   there is none; key is all zeros
+ *   any other           key is as it was */
+KEYWRAP_CALL KEYWRAP_READS(1, 2) KEYWRAP_READS(3, 4) KEYWRAP_WRITES(5, 6)
+int32_t keywrap_wrap(const uint8_t *kek, size_t kek_len, const uint8_t *key, size_t key_len,
+                     uint8_t *KEYWRAP_RESTRICT text, size_t text_len);
+
+KEYWRAP_CALL KEYWRAP_READS(1, 2) KEYWRAP_READS(3, 4) KEYWRAP_WRITES(5, 6)
+int32_t keywrap_unwrap(const uint8_t *kek, size_t kek_len, const uint8_t *text, size_t text_len,
+                       uint8_t *KEYWRAP_RESTRICT key, size_t key_len);
+
+/* Padded, two buffers.
+ *
+ * keywrap_wrap_padded makes the wrapping of the key:
+ *   key_len   1 to KEYWRAP_MAX_KEY
+ *   text_len  KEYWRAP_PADDED_TEXT_LEN(key_len)
+ *   KEYWRAP_OK          text holds it
+ *   any other           text is as it was
+ *
+ * keywrap_unwrap_padded finds the key whose wrapping the text is:
+ *   text_len  a multiple of 8 from 16 to KEYWRAP_MAX_TEXT
+ *   room      KEYWRAP_ROOM(text_len), the size of the buffer at key
+ *   KEYWRAP_OK          the first *key_len bytes at key are the key, and zeros, up to 7, stand
+ *                       behind it; no other key has this wrapping
+ *   KEYWRAP_INTEGRITY   there is none; the room at key is all zeros, and *key_len is 0
+ *   any other           the room at key is as it was, and *key_len is 0 */
+KEYWRAP_CALL KEYWRAP_READS(1, 2) KEYWRAP_READS(3, 4) KEYWRAP_WRITES(5, 6)
+int32_t keywrap_wrap_padded(const uint8_t *kek, size_t kek_len, const uint8_t *key, size_t key_len,
+                            uint8_t *KEYWRAP_RESTRICT text, size_t text_len);
+
+KEYWRAP_CALL KEYWRAP_READS(1, 2) KEYWRAP_READS(3, 4) KEYWRAP_WRITES(5, 6)
+int32_t keywrap_unwrap_padded(const uint8_t *kek, size_t kek_len, const uint8_t *text,
+                              size_t text_len, uint8_t *KEYWRAP_RESTRICT key, size_t room,
+                              size_t *KEYWRAP_RESTRICT key_len);
+
+/* Plain, one buffer: text_len, a multiple of 8 from 24 to KEYWRAP_MAX_TEXT, is its whole length,
+ * and the key stands at buffer + 8.
+ *
+ * keywrap_wrap_in_place turns the key into its wrapping; the first 8 bytes may hold anything:
+ *   KEYWRAP_OK          the buffer holds the wrapping
+ *   any other           the buffer is as it was
+ *
+ * keywrap_unwrap_in_place turns the wrapping into its key:
+ *   KEYWRAP_OK          8 zeros, then the key; no other key has this wrapping
+ *   KEYWRAP_INTEGRITY   there is none; the buffer is all zeros: to keep the text, copy it first
+ *   any other           the buffer is as it was */
+KEYWRAP_CALL KEYWRAP_READS(1, 2) KEYWRAP_CHANGES(3, 4)
+int32_t keywrap_wrap_in_place(const uint8_t *kek, size_t kek_len,
+                              uint8_t *KEYWRAP_RESTRICT buffer, size_t text_len);
+
+KEYWRAP_CALL KEYWRAP_READS(1, 2) KEYWRAP_CHANGES(3, 4)
+int32_t keywrap_unwrap_in_place(const uint8_t *kek, size_t kek_len,
+                                uint8_t *KEYWRAP_RESTRICT buffer, size_t text_len);
+
+/* Padded, one buffer: text_len is its whole length, and the key stands at buffer + 8.
+ *
+ * keywrap_wrap_padded_in_place turns the key into its wrapping; the first 8 bytes, and those behind
+ * the key, may hold anything:
+ *   key_len   1 to KEYWRAP_MAX_KEY
+ *   text_len  KEYWRAP_PADDED_TEXT_LEN(key_len)
+ *   KEYWRAP_OK          the buffer holds the wrapping
+ *   any other           the buffer is as it was
+ *
+ * keywrap_unwrap_padded_in_place turns the wrapping into its key:
+ *   text_len  a multiple of 8 from 16 to KEYWRAP_MAX_TEXT
+ *   KEYWRAP_OK          8 zeros, the key of *key_len bytes, and zeros, up to 7, to the end; no
+ *                       other key has this wrapping
+ *   KEYWRAP_INTEGRITY   there is none; the buffer is all zeros, and *key_len is 0
+ *   any other           the buffer is as it was, and *key_len is 0 */
+KEYWRAP_CALL KEYWRAP_READS(1, 2) KEYWRAP_CHANGES(3, 4)
+int32_t keywrap_wrap_padded_in_place(const uint8_t *kek, size_t kek_len,
+                                     uint8_t *KEYWRAP_RESTRICT buffer, size_t text_len,
+                                     size_t key_len);
+
+KEYWRAP_CALL KEYWRAP_READS(1, 2) KEYWRAP_CHANGES(3, 4)
+int32_t keywrap_unwrap_padded_in_place(const uint8_t *kek, size_t kek_len,
+                                       uint8_t *KEYWRAP_RESTRICT buffer, size_t text_len,
+                                       size_t *KEYWRAP_RESTRICT key_len);
+
+#ifdef __cplusplus
+}
+#endif
+
+#undef KEYWRAP_CALL
+#undef KEYWRAP_RESTRICT
+#undef KEYWRAP_READS
+#undef KEYWRAP_WRITES
+#undef KEYWRAP_CHANGES
+
+#endif

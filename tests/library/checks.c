@@ -1,0 +1,184 @@
+/* checks.c: what is due follows from the rules of the lengths, and from another AES
+ * (bench/one_table.c) over the loop of RFC 3394. Every buffer that a call writes stands between
+ * bytes that it may not write, at a place of another alignment each time. */
+
+#include "checks.h"
+
+#include <stdio.h>
+#include <string.h>
+
+#include "one_table.h"
+
+enum { SIDE = 64, SIDE_BYTE = 0xC5, OLD_BYTE = 0x5A };
+
+unsigned passed, failed;
+
+struct buffer {
+    uint8_t room[SIDE + 8 + LONGEST + SIDE];
+    uint8_t old[LONGEST];
+    uint8_t *bytes;
+    size_t len;
+};
+
+static struct buffer kek_buffer, buffer;
+
+void count(int right, const char *what, enum form form, enum place place, size_t kek_len,
+           size_t in_len, size_t out_len) {
+    if (right) {
+        passed++;
+    } else if (++failed <= 20) {
+        printf("FAILED: %s, %s, %s, a KEK of %zu bytes, %zu bytes into %zu\n", what,
+               form == PLAIN ? "plain" : "padded", place == IN_PLACE ? "in place" : "two buffers",
+               kek_len, in_len, out_len);
+    }
+}
+
+static uint8_t *frame(struct buffer *b, size_t len) {
+    static size_t turn;
+    b->bytes = b->room + SIDE + turn++ % 8;
+    b->len = len;
+    memset(b->room, SIDE_BYTE, (size_t)(b->bytes - b->room) + len + SIDE);
+    memset(b->bytes, OLD_BYTE, len);
+    return b->bytes;
+}
+
+static void keep(struct buffer *b) {
+    memcpy(b->old, b->bytes, b->len);
+}
+
+static int is_kept(const struct buffer *b) {
+    return !memcmp(b->bytes, b->old, b->len);
+}
+
+static int sides_stand(const struct buffer *b) {
+    for (const uint8_t *p = b->room; p < b->bytes; p++)
+        if (*p != SIDE_BYTE) return 0;
+    for (size_t i = 0; i < SIDE; i++)
+        if (b->bytes[b->len + i] != SIDE_BYTE) return 0;
+    return 1;
+}
+
+static int are_zeros(const uint8_t *bytes, size_t len) {
+    while (len > 0 && bytes[len - 1] == 0) len--;
+    return len == 0;
+}
+
+static int legal_kek(size_t len) {
+    return len == 16 || len == 24 || len == 32;
+}
+
+static int legal_key(enum form form, size_t len) {
+    if (len > KEYWRAP_MAX_KEY) return 0;
+    return form == PLAIN ? len % 8 == 0 && len >= 16 : len >= 1;
+}
+
+size_t padded_len(size_t key_len) {
+    while (key_len % 8 != 0) key_len++;
+    return key_len;
+}
+
+int32_t wrap_status(enum form form, size_t kek_len, size_t key_len, size_t text_len) {
+    if (!legal_kek(kek_len)) return 3;
+    return legal_key(form, key_len) && text_len == padded_len(key_len) + 8 ? 0 : 4;
+}
+
+static int32_t unwrap_status(enum form form, size_t kek_len, size_t text_len, size_t room,
+                             const uint8_t *key) {
+    if (!legal_kek(kek_len)) return 3;
+    if (room % 8 != 0 || !legal_key(form, room) || text_len != room + 8) return 4;
+    return key == NULL ? 5 : 0;
+}
+
+void wrap_words(const uint8_t *kek, size_t kek_len, uint64_t a, const uint8_t *words, size_t len,
+                uint8_t *text) {
+    struct one_table keys;
+    one_table_schedule(&keys, kek, kek_len);
+    if (len > 8) {
+        one_table_wrap(&keys, a, words, len, text);
+    } else {
+        uint64_t word = load_word(words);
+        one_table_encrypt(&keys, &a, &word);
+        store_word(text, a);
+        store_word(text + 8, word);
+    }
+}
+
+void wrap_key(enum form form, const uint8_t *kek, size_t kek_len, const uint8_t *key,
+              size_t key_len, uint8_t *text) {
+    static uint8_t words[LONGEST];
+    memset(words, 0, padded_len(key_len));
+    memcpy(words, key, key_len);
+    wrap_words(kek, kek_len, form == PLAIN ? DEFAULT_VALUE : AIV_PREFIX | key_len, words,
+               padded_len(key_len), text);
+}
+
+static int32_t wrap(enum form form, enum place place, const uint8_t *kek, size_t kek_len,
+                    const uint8_t *key, size_t key_len, uint8_t *text, size_t text_len) {
+    if (form == PLAIN)
+        return place == IN_PLACE ? keywrap_wrap_in_place(kek, kek_len, text, text_len)
+                                 : keywrap_wrap(kek, kek_len, key, key_len, text, text_len);
+    return place == IN_PLACE ? keywrap_wrap_padded_in_place(kek, kek_len, text, text_len, key_len)
+                             : keywrap_wrap_padded(kek, kek_len, key, key_len, text, text_len);
+}
+
+void wraps(enum form form, enum place place, const uint8_t *kek, size_t kek_len, const uint8_t *key,
+           size_t key_len, size_t text_len) {
+    static uint8_t wanted[LONGEST];
+    uint8_t *k = frame(&kek_buffer, kek_len), *text = frame(&buffer, text_len);
+    size_t behind = text_len < 8 ? 0 : text_len - 8;
+    int32_t status, due;
+    if (form == PLAIN && place == IN_PLACE) key_len = behind;
+    if (place == IN_PLACE && behind > 0) memcpy(text + 8, key, key_len < behind ? key_len : behind);
+    memcpy(k, kek, kek_len);
+    keep(&kek_buffer);
+    keep(&buffer);
+    status = wrap(form, place, k, kek_len, key, key_len, text, text_len);
+    due = wrap_status(form, kek_len, key_len, text_len);
+    if (due == 0) wrap_key(form, kek, kek_len, key, key_len, wanted);
+    count(status == due && sides_stand(&buffer) && is_kept(&kek_buffer)
+              && (due == 0 ? !memcmp(text, wanted, text_len) : is_kept(&buffer)),
+          "wrap", form, place, kek_len, key_len, text_len);
+}
+
+static int32_t unwrap(enum form form, enum place place, const uint8_t *kek, size_t kek_len,
+                      const uint8_t *text, size_t text_len, uint8_t *out, size_t room,
+                      size_t *key_len) {
+    if (form == PLAIN)
+        return place == IN_PLACE ? keywrap_unwrap_in_place(kek, kek_len, out, text_len)
+                                 : keywrap_unwrap(kek, kek_len, text, text_len, out, room);
+    return place == IN_PLACE
+               ? keywrap_unwrap_padded_in_place(kek, kek_len, out, text_len, key_len)
+               : keywrap_unwrap_padded(kek, kek_len, text, text_len, out, room, key_len);
+}
+
+/* What a buffer holds after an unwrap that answered this status: `head` zeros, the key, zeros. */
+static int holds(const struct buffer *b, int32_t status, size_t head, const uint8_t *key,
+                 size_t key_len) {
+    const uint8_t *found = b->bytes + head;
+    if (status == 3 || status == 4) return is_kept(b);
+    if (status == 5) return are_zeros(b->bytes, b->len);
+    return are_zeros(b->bytes, head) && !memcmp(found, key, key_len)
+           && are_zeros(found + key_len, b->len - head - key_len);
+}
+
+void unwraps(enum form form, enum place place, const uint8_t *kek, size_t kek_len,
+             const uint8_t *text, size_t text_len, size_t room, const uint8_t *key,
+             size_t key_len) {
+    uint8_t *k = frame(&kek_buffer, kek_len);
+    uint8_t *out = frame(&buffer, place == IN_PLACE ? text_len : room);
+    size_t answered = SIZE_MAX;
+    int32_t status, due;
+    if (place == IN_PLACE) {
+        room = text_len < 8 ? 0 : text_len - 8;
+        memcpy(out, text, text_len);
+    }
+    memcpy(k, kek, kek_len);
+    keep(&kek_buffer);
+    keep(&buffer);
+    status = unwrap(form, place, k, kek_len, text, text_len, out, room, &answered);
+    due = unwrap_status(form, kek_len, text_len, room, key);
+    count(status == due && sides_stand(&buffer) && is_kept(&kek_buffer)
+              && holds(&buffer, due, place == IN_PLACE ? 8 : 0, key, key_len)
+              && (form == PLAIN || answered == (due == 0 ? key_len : 0)),
+          "unwrap", form, place, kek_len, text_len, room);
+}

@@ -1,0 +1,196 @@
+/* main.c: makes every call of the C library through its header: the vectors of RFC 3394 and RFC
+ * 5649, every pair of short lengths and the longest, KEKs of every length, tampered texts, and
+ * texts from other initial values. Its last line is 'N passed, M failed'. */
+
+#include <stdio.h>
+#include <string.h>
+
+#include "checks.h"
+#include "one_table.h"
+
+static uint8_t kek[64], key[LONGEST], text[LONGEST], scattered[LONGEST];
+
+/* KEK, key and text: six plain, two padded. */
+static const char *const VECTORS[][3] = {
+    {"000102030405060708090a0b0c0d0e0f", "00112233445566778899aabbccddeeff",
+     "1fa68b0a8112b447aef34bd8fb5a7b829d3e862371d2cfe5"},
+    {"000102030405060708090a0b0c0d0e0f1011121314151617", "00112233445566778899aabbccddeeff",
+     "96778b25ae6ca435f92b5b97c050aed2468ab8a17ad84e5d"},
+    {"000102030405060708090a0b0c0d0e0f101112131415161718191a1b1c1d1e1f",
+     "00112233445566778899aabbccddeeff", "64e8c3f9ce0f5ba263e9777905818a2a93c8191e7d6e8ae7"},
+    {"000102030405060708090a0b0c0d0e0f1011121314151617",
+     "00112233445566778899aabbccddeeff0001020304050607",
+     "031d33264e15d33268f24ec260743edce1c6c7ddee725a936ba814915c6762d2"},
+    {"000102030405060708090a0b0c0d0e0f101112131415161718191a1b1c1d1e1f",
+     "00112233445566778899aabbccddeeff0001020304050607",
+     "a8f9bc1612c68b3ff6e6f4fbe30e71e4769c8b80a32cb8958cd5d17d6b254da1"},
+    {"000102030405060708090a0b0c0d0e0f101112131415161718191a1b1c1d1e1f",
+     "00112233445566778899aabbccddeeff000102030405060708090a0b0c0d0e0f",
+     "28c9f404c4b810f4cbccb35cfb87f8263f5786e2d80ed326cbc7f0e71a99f43bfb988b9b7a02dd21"},
+    {"5840df6e29b02af1ab493b705bf16ea1ae8338f4dcc176a8", "c37b7e6492584340bed12207808941155068f738",
+     "138bdeaa9b8fa7fc61f97742e72248ee5ae6ae5360d1ae6a5f54f373fa543b6a"},
+    {"5840df6e29b02af1ab493b705bf16ea1ae8338f4dcc176a8", "466f7250617369",
+     "afbeb0f07dfbf5419200f2ccb50bb24f"},
+};
+
+static size_t from_hex(const char *digits, uint8_t *bytes) {
+    size_t len = strlen(digits) / 2;
+    for (size_t i = 0; i < len; i++) {
+        unsigned byte = 0;
+        if (sscanf(digits + 2 * i, "%2x", &byte) != 1) return 0;
+        bytes[i] = (uint8_t)byte;
+    }
+    return len;
+}
+
+/* Bytes without a pattern. */
+static void scatter(uint8_t *bytes, size_t len) {
+    static uint64_t state = 88172645463325252u;
+    for (size_t i = 0; i < len; i++) {
+        state ^= state << 13, state ^= state >> 7, state ^= state << 17;
+        bytes[i] = (uint8_t)(state >> 32);
+    }
+}
+
+static void refuses(enum form form, const uint8_t *k, size_t kek_len, size_t text_len) {
+    for (enum place place = TWO_BUFFERS; place <= IN_PLACE; place++)
+        unwraps(form, place, k, kek_len, text, text_len, text_len - 8, NULL, 0);
+}
+
+/* The texts of `wraps` are the other AES's: so these are compared with the vectors too. */
+static void vectors(void) {
+    uint8_t vector_kek[32], vector_key[32], other[40];
+    for (size_t i = 0; i < sizeof VECTORS / sizeof *VECTORS; i++) {
+        size_t kek_len = from_hex(VECTORS[i][0], vector_kek);
+        size_t key_len = from_hex(VECTORS[i][1], vector_key);
+        size_t text_len = from_hex(VECTORS[i][2], text);
+        enum form form = i < 6 ? PLAIN : PADDED;
+        wrap_key(form, vector_kek, kek_len, vector_key, key_len, other);
+        for (enum place place = TWO_BUFFERS; place <= IN_PLACE; place++) {
+            count(!memcmp(text, other, text_len), "vector", form, place, kek_len, key_len,
+                  text_len);
+            wraps(form, place, vector_kek, kek_len, vector_key, key_len, text_len);
+            unwraps(form, place, vector_kek, kek_len, text, text_len, text_len - 8, vector_key,
+                    key_len);
+        }
+    }
+}
+
+/* A key of this length and a text of that one, in each call. */
+static void lengths(enum form form, size_t kek_len, size_t key_len, size_t text_len) {
+    int done = wrap_status(form, kek_len, key_len, text_len) == 0;
+    if (done) wrap_key(form, kek, kek_len, key, key_len, text);
+    for (enum place place = TWO_BUFFERS; place <= IN_PLACE; place++) {
+        wraps(form, place, kek, kek_len, key, key_len, text_len);
+        unwraps(form, place, kek, kek_len, scattered, text_len, key_len, NULL, 0);
+        if (done) unwraps(form, place, kek, kek_len, text, text_len, text_len - 8, key, key_len);
+    }
+}
+
+/* Every pair of short lengths, where they are right under each length of KEK. */
+static void short_lengths(enum form form) {
+    for (size_t key_len = 0; key_len <= 72; key_len++)
+        for (size_t text_len = 0; text_len <= 88; text_len++) {
+            lengths(form, 16, key_len, text_len);
+            if (wrap_status(form, 16, key_len, text_len) != 0) continue;
+            lengths(form, 24, key_len, text_len);
+            lengths(form, 32, key_len, text_len);
+        }
+}
+
+/* The longest keys, those that are too long, and texts of lengths about theirs. */
+static void longest_lengths(enum form form) {
+    static const size_t key_lens[] = {KEYWRAP_MAX_KEY - 8, KEYWRAP_MAX_KEY - 1, KEYWRAP_MAX_KEY,
+                                      KEYWRAP_MAX_KEY + 1, KEYWRAP_MAX_KEY + 8};
+    for (size_t i = 0; i < sizeof key_lens / sizeof *key_lens; i++)
+        for (size_t more = 0; more <= 16; more += more == 7 || more == 8 ? 1 : 7)
+            lengths(form, 32, key_lens[i], padded_len(key_lens[i]) + more);
+}
+
+/* KEKs of every length, with right and wrong lengths beside them. */
+static void kek_lengths(enum form form) {
+    for (size_t kek_len = 0; kek_len <= 40; kek_len++)
+        for (size_t key_len = 0; key_len <= 24; key_len++) lengths(form, kek_len, key_len, 32);
+}
+
+/* Texts with one bit changed, and the right text under another KEK and as one of the other form. */
+static void tampered(enum form form, size_t kek_len, size_t key_len) {
+    size_t text_len = padded_len(key_len) + 8;
+    wrap_key(form, kek, kek_len, key, key_len, text);
+    for (size_t i = 0; i < 2 * text_len; i++) {
+        uint8_t bit = i % 2 ? 0x80 : 0x01;
+        text[i / 2] ^= bit;
+        refuses(form, kek, kek_len, text_len);
+        text[i / 2] ^= bit;
+    }
+    refuses(form, kek + 1, kek_len, text_len);
+    if (text_len > 16) refuses(form == PLAIN ? PADDED : PLAIN, kek, kek_len, text_len);
+}
+
+static void tampered_texts(void) {
+    for (size_t kek_len = 16; kek_len <= 32; kek_len += 8) {
+        for (size_t key_len = 16; key_len <= 72; key_len += 8) tampered(PLAIN, kek_len, key_len);
+        for (size_t key_len = 1; key_len <= 72; key_len += 5) tampered(PADDED, kek_len, key_len);
+    }
+}
+
+/* Texts that wrap words from no initial value of the form, or from an AIV of another length. */
+static void initial_values(void) {
+    static const uint64_t plain[] = {0, 0xA6A6A6A6A6A6A6A7u, 0x26A6A6A6A6A6A6A6u, AIV_PREFIX + 24};
+    static const uint64_t padded[] = {0, DEFAULT_VALUE, 0xA65959A700000014u, 0x265959A600000014u};
+    static const uint64_t lengths_of_20[] = {0, 15, 16, 25, 32, 0x114, 0x01000014, 0x80000014};
+    uint8_t words[24] = {0};
+    memcpy(words, key, 20);
+    for (size_t i = 0; i < sizeof plain / sizeof *plain; i++) {
+        wrap_words(kek, 16, plain[i], key, 24, text);
+        refuses(PLAIN, kek, 16, 32);
+        wrap_words(kek, 16, padded[i], words, 24, text);
+        refuses(PADDED, kek, 16, 32);
+    }
+    for (size_t i = 0; i < sizeof lengths_of_20 / sizeof *lengths_of_20; i++) {
+        wrap_words(kek, 16, AIV_PREFIX | lengths_of_20[i], words, 24, text);
+        refuses(PADDED, kek, 16, 32);
+    }
+}
+
+/* Texts whose padding, of seven bytes, is not all zeros. */
+static void paddings(void) {
+    for (size_t len = 8; len <= 24; len += 8)
+        for (size_t at = len - 7; at < len; at++) {
+            uint8_t words[24] = {0};
+            memcpy(words, key, len - 7);
+            words[at] = 1;
+            wrap_words(kek, 16, AIV_PREFIX | (len - 7), words, len, text);
+            refuses(PADDED, kek, 16, len + 8);
+        }
+}
+
+/* Texts whose padding is a whole word of zeros, or more. */
+static void long_paddings(void) {
+    for (size_t len = 8; len <= 32; len += 8)
+        for (size_t key_len = 0; key_len <= len - 8; key_len++) {
+            uint8_t words[32] = {0};
+            memcpy(words, key, key_len);
+            wrap_words(kek, 16, AIV_PREFIX | key_len, words, len, text);
+            refuses(PADDED, kek, 16, len + 8);
+        }
+}
+
+int main(void) {
+    one_table_start();
+    scatter(kek, sizeof kek);
+    scatter(key, sizeof key);
+    scatter(scattered, sizeof scattered);
+    vectors();
+    for (enum form form = PLAIN; form <= PADDED; form++) {
+        short_lengths(form);
+        longest_lengths(form);
+        kek_lengths(form);
+    }
+    tampered_texts();
+    initial_values();
+    paddings();
+    long_paddings();
+    printf("%u passed, %u failed\n", passed, failed);
+    return failed != 0;
+}
