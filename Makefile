@@ -47,6 +47,9 @@ library: $(LIBRARY)/libkeywrap.a $(LIBRARY)/$(soname)
 test:
 	rt ci
 	tests/command.sh
+	tests/faults.sh
+	tests/allocations.sh
+	tests/random_words.sh
 	tests/library.sh
 
 install: build install-library
