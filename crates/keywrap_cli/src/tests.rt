@@ -4,6 +4,7 @@ mod checks;
 mod doubles;
 mod drills;
 mod faults;
+mod hostile;
 mod jobs;
 mod standards;
 mod vectors;

@@ -3,51 +3,55 @@
 use std::alloc::Global;
 use std::io::{self, Read, Write};
 
-/// Gives one byte a read, then the fault or the end.
+/// Gives so many bytes a read, and then the end or a fault.
 #[derive(Drop)]
 pub struct Trickle<'a> {
     rest: &'a [u8],
+    size: usize,
     fails: bool,
-    reads: usize,
+    is_unread: bool,
 }
 
 impl<'a> Trickle<'a> {
+    /// One byte a read, and then the end.
     pub fn ending(bytes: &'a [u8]) -> Self {
+        Trickle::in_pieces(bytes, 1)
+    }
+
+    /// One byte a read, and then an error.
+    pub fn failing(bytes: &'a [u8]) -> Self {
         Trickle {
-            rest: bytes,
-            fails: false,
-            reads: 0,
+            fails: true,
+            ..Trickle::in_pieces(bytes, 1)
         }
     }
 
-    pub fn failing(bytes: &'a [u8]) -> Self {
+    /// Up to `size` bytes a read, and then the end.
+    pub fn in_pieces(bytes: &'a [u8], size: usize) -> Self {
         Trickle {
             rest: bytes,
-            fails: true,
-            reads: 0,
+            size,
+            fails: false,
+            is_unread: true,
         }
     }
 
     pub fn is_unread(&self) -> bool {
-        self.reads == 0
+        self.is_unread
     }
 }
 
 impl Read for Trickle<'_> {
     fn read(&mut self, buf: &mut [u8]) -> io::Result<usize> {
-        self.reads = self.reads.saturating_add(1);
-        if buf.is_empty() {
-            return Ok(0);
+        self.is_unread = false;
+        if self.rest.is_empty() && self.fails {
+            return Err(io::Error::from(io::ErrorKind::Interrupted));
         }
-        match self.rest {
-            [first, others @ ..] => {
-                buf[0] = *first;
-                self.rest = others;
-                Ok(1)
-            }
-            [] if self.fails => Err(io::Error::from(io::ErrorKind::Interrupted)),
-            [] => Ok(0),
-        }
+        let count = self.rest.len().min(self.size).min(buf.len());
+        let (front, rest) = self.rest.split_at(count);
+        buf[..count].copy_from_slice(front);
+        self.rest = rest;
+        Ok(count)
     }
 }
 
@@ -81,27 +85,34 @@ pub struct Narrow {
     out: Vec<u8>,
     room: usize,
     fails: bool,
+    is_flushed: bool,
 }
 
 impl Narrow {
+    /// Fails after `room` bytes.
     pub fn failing(alloc: Global, room: usize) -> Self {
         Narrow {
             out: Vec::new(alloc),
             room,
             fails: true,
+            is_flushed: false,
         }
     }
 
+    /// Takes none after `room` bytes.
     pub fn full(alloc: Global, room: usize) -> Self {
         Narrow {
-            out: Vec::new(alloc),
-            room,
             fails: false,
+            ..Narrow::failing(alloc, room)
         }
     }
 
     pub fn out(&self) -> &[u8] {
         &self.out
+    }
+
+    pub fn is_flushed(&self) -> bool {
+        self.is_flushed
     }
 }
 
@@ -117,6 +128,7 @@ impl Write for Narrow {
     }
 
     fn flush(&mut self) -> io::Result<()> {
+        self.is_flushed = true;
         Ok(())
     }
 }
