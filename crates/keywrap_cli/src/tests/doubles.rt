@@ -3,14 +3,14 @@
 use std::alloc::Global;
 use std::io::{self, Read, Write};
 
-/// Gives some bytes a read, and then fails or ends.
+/// Gives so many bytes a read, and then the end or a fault.
 #[derive(Drop)]
 pub struct Trickle<'a> {
     rest: &'a [u8],
     // The most bytes that a read gives.
     size: usize,
     fails: bool,
-    reads: usize,
+    is_unread: bool,
 }
 
 impl<'a> Trickle<'a> {
@@ -23,7 +23,7 @@ impl<'a> Trickle<'a> {
     pub fn failing(bytes: &'a [u8]) -> Self {
         Trickle {
             fails: true,
-            ..Trickle::ending(bytes)
+            ..Trickle::in_pieces(bytes, 1)
         }
     }
 
@@ -33,25 +33,26 @@ impl<'a> Trickle<'a> {
             rest: bytes,
             size,
             fails: false,
-            reads: 0,
+            is_unread: true,
         }
     }
 
     /// Whether no read was made.
     pub fn is_unread(&self) -> bool {
-        self.reads == 0
+        self.is_unread
     }
 }
 
 impl Read for Trickle<'_> {
     fn read(&mut self, buf: &mut [u8]) -> io::Result<usize> {
-        self.reads = self.reads.saturating_add(1);
+        self.is_unread = false;
         if self.rest.is_empty() && self.fails {
             return Err(io::Error::from(io::ErrorKind::Interrupted));
         }
         let count = self.rest.len().min(self.size).min(buf.len());
-        buf[..count].copy_from_slice(&self.rest[..count]);
-        self.rest = &self.rest[count..];
+        let (front, rest) = self.rest.split_at(count);
+        buf[..count].copy_from_slice(front);
+        self.rest = rest;
         Ok(count)
     }
 }
@@ -92,7 +93,7 @@ pub struct Narrow {
 }
 
 impl Narrow {
-    /// Fails once `room` bytes are taken.
+    /// Fails after `room` bytes.
     pub fn failing(alloc: Global, room: usize) -> Self {
         Narrow {
             out: Vec::new(alloc),
@@ -102,13 +103,11 @@ impl Narrow {
         }
     }
 
-    /// Takes none once `room` bytes are taken.
+    /// Takes none after `room` bytes.
     pub fn full(alloc: Global, room: usize) -> Self {
         Narrow {
-            out: Vec::new(alloc),
-            room,
             fails: false,
-            is_flushed: false,
+            ..Narrow::failing(alloc, room)
         }
     }
 

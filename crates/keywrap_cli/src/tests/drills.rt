@@ -1,8 +1,10 @@
 //! Drills, whose answers follow from the rule of the drill block: At is the register that goes in,
 //! xored with t, and A(t-1) goes into the last register.
 
+use super::doubles::Narrow;
 use crate::convert::Direction;
 use crate::drill::{DrillFault, drill};
+use crate::program::run_drill;
 use key_wrap::Form;
 use std::alloc::{AllocError, Global};
 use std::test::Fail;
@@ -165,5 +167,27 @@ fn refuses_in_order(rt: HostRuntime) -> Result<(), Fail> {
         let found = drill(rt.alloc(), form, direction, text);
         assert_eq!(rt; found.err(), Some(fault), "{form:?} {direction:?}");
     }
+    Ok(())
+}
+
+#[test]
+fn counts_the_bytes_of_a_drill_that_went_out(rt: HostRuntime) -> Result<(), Fail> {
+    let key = "00112233445566778899aabbccddeeff";
+    let line: &[u8] = b"a6a6a6a6a6a6a6a6001122334455667f8899aabbccddeefb\n";
+    for room in 0..line.len() {
+        let mut out = Narrow::failing(rt.alloc(), room);
+        let done = run_drill(rt.alloc(), Form::Plain, Direction::Wrap, key, &mut out);
+        let fault = done.err().ok_or("no fault")?;
+        let said = format!(in rt.alloc(); "{}", fault.line())?;
+        let wanted = format!(in rt.alloc(); "keywrap: output: refused after {room} bytes")?;
+        assert_eq!(rt; said.as_str(), wanted.as_str());
+        assert_eq!(rt; out.out(), &line[..room]);
+        assert!(rt; !out.is_flushed());
+    }
+    let mut out = Narrow::failing(rt.alloc(), line.len());
+    let done = run_drill(rt.alloc(), Form::Plain, Direction::Wrap, key, &mut out);
+    assert_eq!(rt; done.ok(), Some(0));
+    assert_eq!(rt; out.out(), line);
+    assert!(rt; out.is_flushed());
     Ok(())
 }

@@ -1,6 +1,6 @@
 //! Jobs over files in memory, readers of one byte a read, and writers that stop.
 
-use super::doubles::{Endless, Narrow, Trickle};
+use super::doubles::{Endless, Trickle};
 use crate::job::{Done, Job, JobFault, Notation, Task, run_job};
 use key_files::{FileFault, MAX_FILE};
 use key_wrap::Form;
@@ -165,104 +165,4 @@ fn leaves_the_input_unread_where_the_kek_is_refused(rt: HostRuntime) {
     assert_eq!(rt; done, Err(JobFault::KekFile(FileFault::TooLong)));
     assert_eq!(rt; kek.given(), MAX_FILE + 1);
     assert!(rt; input.is_unread());
-}
-
-#[test]
-fn answers_a_read_that_fails(rt: HostRuntime) {
-    let mut out = Vec::new(rt.alloc());
-    let mut input = Trickle::ending(KEY);
-    let done = run_job(
-        rt.alloc(),
-        in_hex(Job::Wrap),
-        &mut Trickle::failing(b"0001"),
-        &mut input,
-        &mut out,
-    );
-    assert_eq!(rt; done, Err(JobFault::KekFile(FileFault::Read)));
-    assert!(rt; input.is_unread());
-    // a fault of the reader comes before what its bytes denote
-    let done = run_job(
-        rt.alloc(),
-        in_hex(Job::Wrap),
-        &mut Trickle::ending(KEK),
-        &mut Trickle::failing(b"zz"),
-        &mut out,
-    );
-    assert_eq!(rt; done, Err(JobFault::InputFile(FileFault::Read)));
-    let mut endless = Endless::new();
-    let done = run_job(
-        rt.alloc(),
-        in_hex(Job::Wrap),
-        &mut Trickle::ending(KEK),
-        &mut endless,
-        &mut out,
-    );
-    assert_eq!(rt; done, Err(JobFault::InputFile(FileFault::TooLong)));
-    assert_eq!(rt; endless.given(), MAX_FILE + 1);
-    assert_eq!(rt; out.as_slice(), [].as_slice());
-}
-
-#[test]
-fn counts_the_bytes_that_went_out(rt: HostRuntime) -> Result<(), Fail> {
-    for room in 0..TEXT_LINE.len() {
-        for mut out in [
-            Narrow::failing(rt.alloc(), room),
-            Narrow::full(rt.alloc(), room),
-        ] {
-            let done = run_job(
-                rt.alloc(),
-                in_hex(Job::Wrap),
-                &mut Trickle::ending(KEK),
-                &mut Trickle::ending(KEY),
-                &mut out,
-            );
-            assert_eq!(rt; done, Err(JobFault::Write { written: room }));
-            assert_eq!(rt; out.out(), &TEXT_LINE[..room]);
-        }
-    }
-    let mut out = Narrow::full(rt.alloc(), TEXT_LINE.len());
-    let done = run_job(
-        rt.alloc(),
-        in_hex(Job::Wrap),
-        &mut Trickle::ending(KEK),
-        &mut Trickle::ending(KEY),
-        &mut out,
-    );
-    assert_eq!(rt; done, Ok(Done::Written));
-    Ok(())
-}
-
-// Runs a raw job in a form, through readers and a writer of one byte a call.
-fn run_slowly(alloc: Global, job: Job, form: Form, input: &[u8]) -> Result<Narrow, JobFault> {
-    let task = Task {
-        form,
-        ..in_raw(job)
-    };
-    let mut out = Narrow::failing(alloc, MAX_FILE);
-    run_job(
-        alloc,
-        task,
-        &mut Trickle::ending(&RAW_KEK),
-        &mut Trickle::ending(input),
-        &mut out,
-    )?;
-    Ok(out)
-}
-
-#[test]
-fn gives_up_for_memory_or_io_at_no_short_length(rt: HostRuntime) -> Result<(), Fail> {
-    let bytes = [0x5a; 40];
-    for len in 1..=40 {
-        let key = &bytes[..len];
-        for form in [Form::Plain, Form::Padded] {
-            if form == Form::Padded || (len >= 16 && len % 8 == 0) {
-                let text = run_slowly(rt.alloc(), Job::Wrap, form, key)?;
-                let back = run_slowly(rt.alloc(), Job::Unwrap, form, text.out())?;
-                assert_eq!(rt; back.out(), key);
-                let line = run_slowly(rt.alloc(), Job::Check, form, text.out())?;
-                assert_ne!(rt; line.out(), b"none\n".as_slice());
-            }
-        }
-    }
-    Ok(())
 }
