@@ -9,7 +9,7 @@ use std::test::Fail;
 // The first byte and the step of zeros, of ff and of counting bytes.
 const CONTENTS: [(u8, u8); 3] = [(0, 0), (0xff, 0), (0, 1)];
 
-// Lengths past 520, where each multiple of 8 and its neighbours would take too long.
+// Some lengths past 520, to the longest file.
 const LONG: [usize; 9] = [
     1_000, 1_024, 2_048, 4_096, 4_097, 16_384, 16_385, 32_768, MAX_FILE,
 ];
