@@ -7,7 +7,8 @@ use std::marker::Model;
 
 /// A block pair that counts its calls. Contracts see it as its pair and its count.
 ///
-/// The pair stays the one that the meter was made with, and only through the meter's calls is it used.
+/// The pair stays the one that the meter was made with, and only through the meter's calls is it
+/// used.
 #[derive(Drop)]
 pub struct Meter<'a, B: BlockPair> {
     pair: &'a B,

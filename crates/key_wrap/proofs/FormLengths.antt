@@ -20,7 +20,11 @@ plain_text_legal h = let e = plain_text_length h in (omega arith, omega arith, o
 -- the padded key fills its words
 pub length-padded : (key : List ℕ) → length (padded key) ≡ 8 * word_count (length key)
 length-padded key =
-    omega (arith, length-append key (replicate (8 * word_count (length key) - length key) 0), length-replicate {A = ℕ} (8 * word_count (length key) - length key) 0)
+    omega (
+      arith,
+      length-append key (replicate (8 * word_count (length key) - length key) 0),
+      length-replicate {A = ℕ} (8 * word_count (length key) - length key) 0,
+    )
 
 -- a padded text is a word longer than its words of key data
 pub padded_words_length : {E D : List ℕ → List ℕ} (iv : ℕ) (P text : List ℕ) → AreInverse E D → PaddedText E iv P text → length text ≡ 8 * length P + 8

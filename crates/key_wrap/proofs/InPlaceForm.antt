@@ -1,5 +1,6 @@
 -- The parts of the caller's buffer: its first word, and the registers that the machine is lent.
-use Rattle.std.proofs.Common.{◌≡◌, ℕ, ◌+◌, ◌-◌, ◌*◌, ◌≤◌, List, [], ◌++◌, length, take, drop, replicate, refl, ap, ◌∙◌, arith, length-append, length-drop, length-take}
+use Rattle.std.proofs.Common.{◌≡◌, ℕ, ◌+◌, ◌-◌, ◌*◌, ◌≤◌, List, [], ◌++◌, length, take, drop, replicate, refl, ap, ◌∙◌, arith, length-append, length-drop}
+use Rattle.std.proofs.Common.{length-take}
 use Rattle.std.proofs.Math.Seq.{take-add}
 use Rattle.std.proofs.lemmas.List.{append_assoc, append-nil, take_at, drop_at, drop_all, take_all, take-append-drop}
 use borrow.Rule.Slice.PartMut.{put_mid}
@@ -13,7 +14,8 @@ use Rattle.key_wrap.proofs.PaddedForm.{aiv_word}
 use Rattle.key_wrap.proofs.Spelling.{length-word_bytes, word_front}
 
 -- what the machine leaves in its part of the buffer
-pub registers_now : (buf registers : List ℕ) → 8 ≤ length buf → length registers ≡ length buf - 8 → drop 8 (put_mid 8 (length buf - 8) buf registers) ≡ registers
+pub registers_now : (buf registers : List ℕ) → 8 ≤ length buf → length registers ≡ length buf - 8
+    → drop 8 (put_mid 8 (length buf - 8) buf registers) ≡ registers
 registers_now buf registers some size =
     let past : drop (length buf - 8) (drop 8 buf) ≡ [] = drop_all (length buf - 8) (drop 8 buf) (omega (arith, length-drop 8 buf)) in
     drop_at (take 8 buf) (registers ++ drop (length buf - 8) (drop 8 buf)) 8 (omega (arith, length-take 8 buf)) ∙ rw past (append-nil registers)
@@ -24,7 +26,8 @@ held_rest iv len registers word held =
     let rest : drop 8 (word_bytes iv ++ registers) ≡ registers = drop_at (word_bytes iv) registers 8 (length-word_bytes iv) in
     let key : List ℕ = take len (drop 8 (word_bytes iv ++ registers)) in
     let legal : IsPaddedKeyLength (length key) = rw held.size held.legal in
-    (word_front iv (aiv (length key)) registers (padded key) word (aiv_word (length key) legal.1) held.holds).1 ∙ ap (λ (bs : List ℕ). padded (take len bs)) rest
+    (word_front iv (aiv (length key)) registers (padded key) word (aiv_word (length key) legal.1) held.holds).1
+    ∙ ap (λ (bs : List ℕ). padded (take len bs)) rest
 
 -- room for a padded key, with its padding written
 pub padded_room : (m : ℕ) (old zeroed : List ℕ) → IsPaddedRoom m (length old) → zeroed ≡ replicate (length (take (length old - (8 + m)) (drop (8 + m) old))) 0
@@ -34,10 +37,12 @@ padded_room m old zeroed room blank =
     let size : length (key_in m old) ≡ m = omega (arith, length-take m (drop 8 old), length-drop 8 old, room.1) in
     let count : length (take (length old - (8 + m)) (drop (8 + m) old)) ≡ 8 * word_count (length (key_in m old)) - length (key_in m old) =
     rw size (omega (arith, length-take (length old - (8 + m)) (drop (8 + m) old), length-drop (8 + m) old, room.1)) in
-    let none : drop (length old - (8 + m)) (drop (8 + m) old) ≡ [] = drop_all (length old - (8 + m)) (drop (8 + m) old) (omega (arith, length-drop (8 + m) old)) in
+    let none : drop (length old - (8 + m)) (drop (8 + m) old) ≡ [] =
+    drop_all (length old - (8 + m)) (drop (8 + m) old) (omega (arith, length-drop (8 + m) old)) in
     let front : take (8 + m) old ≡ take 8 old ++ key_in m old = take-add 8 m old in
     let zeros : List ℕ = replicate (8 * word_count (length (key_in m old)) - length (key_in m old)) 0 in
-    let written : zeroed ++ drop (length old - (8 + m)) (drop (8 + m) old) ≡ zeros = rw none (append-nil zeroed ∙ blank ∙ ap (λ (n : ℕ). replicate n 0) count) in
+    let written : zeroed ++ drop (length old - (8 + m)) (drop (8 + m) old) ≡ zeros =
+    rw none (append-nil zeroed ∙ blank ∙ ap (λ (n : ℕ). replicate n 0) count) in
     let shape : put_mid (8 + m) (length old - (8 + m)) old zeroed ≡ take 8 old ++ (key_in m old ++ zeros) =
     rw (front, written) (append_assoc (take 8 old) (key_in m old) zeros) in
     ap (drop 8) shape ∙ drop_at (take 8 old) (key_in m old ++ zeros) 8 (omega (arith, length-take 8 old, room.1))
@@ -49,7 +54,8 @@ pub record FirstCleared (A : ℕ) (text zeros registers : List ℕ) : Type 0 whe
   pub long : 8 + length (take (length (zeros ++ drop 8 text) - 8) (drop 8 (zeros ++ drop 8 text))) ≡ length text
   pub left : put_mid 8 (length (zeros ++ drop 8 text) - 8) (zeros ++ drop 8 text) registers ≡ replicate 8 0 ++ registers
 
-pub first_cleared : (A : ℕ) (text zeros registers : List ℕ) → 8 ≤ length text → word_bytes A ≡ take 8 text → zeros ≡ replicate (length (take 8 text)) 0 → length registers ≡ length text - 8
+pub first_cleared : (A : ℕ) (text zeros registers : List ℕ) → 8 ≤ length text → word_bytes A ≡ take 8 text → zeros ≡ replicate (length (take 8 text)) 0
+    → length registers ≡ length text - 8
     → FirstCleared A text zeros registers
 first_cleared A text zeros registers some front blank size =
     let eight : length (take 8 text) ≡ 8 = omega (arith, length-take 8 text) in
@@ -73,10 +79,12 @@ padded_key_in key buffer held =
 -- a key that was copied behind the first word
 pub copied_key : (k : ℕ) (buffer key : List ℕ) → 8 ≤ length buffer → key_in (length key) (put_mid 8 k buffer key) ≡ key
 copied_key k buffer key some =
-    ap (take (length key)) (drop_at (take 8 buffer) (key ++ drop k (drop 8 buffer)) 8 (omega (arith, length-take 8 buffer))) ∙ take_at key (drop k (drop 8 buffer)) (length key) refl
+    ap (take (length key)) (drop_at (take 8 buffer) (key ++ drop k (drop 8 buffer)) 8 (omega (arith, length-take 8 buffer)))
+    ∙ take_at key (drop k (drop 8 buffer)) (length key) refl
 
 -- a text whose first word was read and whose rest was copied
-pub text_again : (A : ℕ) (text copied : List ℕ) → 8 ≤ length text → word_bytes A ≡ take 8 text → copied ≡ take (length text - 8) (drop 8 text) → word_bytes A ++ copied ≡ text
+pub text_again : (A : ℕ) (text copied : List ℕ) → 8 ≤ length text → word_bytes A ≡ take 8 text → copied ≡ take (length text - 8) (drop 8 text)
+    → word_bytes A ++ copied ≡ text
 text_again A text copied some front copy =
     let rest : take (length text - 8) (drop 8 text) ≡ drop 8 text = take_all (length text - 8) (drop 8 text) (omega (arith, length-drop 8 text)) in
     rw (copy, rest, front) (take-append-drop 8 text)

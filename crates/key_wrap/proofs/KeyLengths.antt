@@ -14,7 +14,8 @@ pub record Found (Stands Other : List ℕ → List ℕ → Type 0) (text : List 
   pub sizes : (key : List ℕ) → Stands key text → length key ≡ len
   pub only_form : NoKey Other text
 
-pub found : (Stands Other : List ℕ → List ℕ → Type 0) (IsTextLength : ℕ → Type 0) (text : List ℕ) (answer : Result (Vec ℕ Global) UnwrapFault) (o : Option ℕ) (len : ℕ)
+pub found : (Stands Other : List ℕ → List ℕ → Type 0) (IsTextLength : ℕ → Type 0) (text : List ℕ) (answer : Result (Vec ℕ Global) UnwrapFault) (o : Option ℕ)
+    (len : ℕ)
     → KeyLengthOf answer (Ok o) → o ≡ Some len
     → UnwrapAnswer IsTextLength Stands text answer
     → IfOk answer (λ key. (other : List ℕ) → Stands other text → other ≡ key.items)

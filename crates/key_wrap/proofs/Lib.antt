@@ -1,3 +1,4 @@
+-- The lemmas, from words and tapes up to the two forms.
 pub mod Spelling
 pub mod Tapes
 pub mod Counting

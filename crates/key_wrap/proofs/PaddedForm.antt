@@ -58,23 +58,28 @@ text_same E iv [] text other h k = sym h.1 ∙ ap spelled (wraps_forward h.2 k.2
 text_same E iv (p ∷ []) text other h k = sym h ∙ k
 text_same E iv (p ∷ q ∷ P) text other h k = sym h.1 ∙ ap spelled (wraps_forward h.2 k.2) ∙ k.1
 
-pub padded_registers_forward : {E : List ℕ → List ℕ} {before after other : List ℕ} → PaddedRegisters E before after → PaddedRegisters E before other → after ≡ other
+pub padded_registers_forward : {E : List ℕ → List ℕ} {before after other : List ℕ} → PaddedRegisters E before after → PaddedRegisters E before other
+    → after ≡ other
 padded_registers_forward {E = E} {after = after} {other = other} h k =
     let same : h.iv ∷ h.P ≡ k.iv ∷ k.P = spelled_same (h.iv ∷ h.P) (k.iv ∷ k.P) (h.word, h.words) (k.word, k.words) (h.key_words ∙ sym k.key_words) in
     let iv : k.iv ≡ h.iv = cc in
     let P : k.P ≡ h.P = cc in
-    text_same E h.iv h.P after other h.text_words (subst (λ (v : ℕ). PaddedText E v h.P other) iv (subst (λ (Q : List ℕ). PaddedText E k.iv Q other) P k.text_words))
+    text_same E h.iv h.P after other h.text_words (subst (λ (v : ℕ). PaddedText E v h.P other) iv
+    (subst (λ (Q : List ℕ). PaddedText E k.iv Q other) P k.text_words))
 
 -- the registers of a wrapping by RFC 3394 are fixed by their text
-wraps_words : {E D : List ℕ → List ℕ} (iv iv' : ℕ) (P P' C C' text : List ℕ) → AreInverse E D → spelled C ≡ text → Wraps E iv P C → spelled C' ≡ text → Wraps E iv' P' C' → spelled (iv ∷ P) ≡ spelled (iv' ∷ P')
+wraps_words : {E D : List ℕ → List ℕ} (iv iv' : ℕ) (P P' C C' text : List ℕ) → AreInverse E D → spelled C ≡ text → Wraps E iv P C → spelled C' ≡ text
+    → Wraps E iv' P' C' → spelled (iv ∷ P) ≡ spelled (iv' ∷ P')
 wraps_words {E = E} iv iv' P P' C C' text inv e w e' w' =
     registers_backward inv (registers_of w) (subst (λ (t : List ℕ). Registers E (spelled (iv' ∷ P')) t) (e' ∙ sym e) (registers_of w'))
 
 -- a text has one run of words
-words_same : {E D : List ℕ → List ℕ} (iv iv' : ℕ) (P P' text : List ℕ) → AreInverse E D → length P ≡ length P' → PaddedText E iv P text → PaddedText E iv' P' text → spelled (iv ∷ P) ≡ spelled (iv' ∷ P')
+words_same : {E D : List ℕ → List ℕ} (iv iv' : ℕ) (P P' text : List ℕ) → AreInverse E D → length P ≡ length P' → PaddedText E iv P text
+    → PaddedText E iv' P' text → spelled (iv ∷ P) ≡ spelled (iv' ∷ P')
 words_same iv iv' [] [] text inv size h k = wraps_words iv iv' [] [] h.0 k.0 text inv h.1 h.2 k.1 k.2
 words_same {D = D} iv iv' (p ∷ []) (p' ∷ []) text inv size h k =
-    let block : joined iv p ≡ joined iv' p' = sym (inv.undone (joined iv p) (joined_block iv p)) ∙ ap D (h ∙ sym k) ∙ inv.undone (joined iv' p') (joined_block iv' p') in
+    let block : joined iv p ≡ joined iv' p' = sym (inv.undone (joined iv p) (joined_block iv p)) ∙ ap D (h ∙ sym k)
+    ∙ inv.undone (joined iv' p') (joined_block iv' p') in
     spelled_two iv p ∙ block ∙ sym (spelled_two iv' p')
 words_same iv iv' (p ∷ q ∷ P) (p' ∷ q' ∷ P') text inv size h k =
     wraps_words iv iv' (p ∷ q ∷ P) (p' ∷ q' ∷ P') h.0 k.0 text inv h.1 h.2 k.1 k.2
@@ -83,9 +88,14 @@ words_same iv iv' (p ∷ P) [] text inv size h k = absurd (omega arith)
 words_same iv iv' (p ∷ []) (p' ∷ q' ∷ P') text inv size h k = absurd (omega arith)
 words_same iv iv' (p ∷ q ∷ P) (p' ∷ []) text inv size h k = absurd (omega arith)
 
-pub padded_registers_backward : {E D : List ℕ → List ℕ} {before other after : List ℕ} → AreInverse E D → PaddedRegisters E before after → PaddedRegisters E other after → before ≡ other
+pub padded_registers_backward : {E D : List ℕ → List ℕ} {before other after : List ℕ} → AreInverse E D → PaddedRegisters E before after
+    → PaddedRegisters E other after → before ≡ other
 padded_registers_backward {after = after} inv h k =
-    let size : length h.P ≡ length k.P = omega (arith, padded_words_length h.iv h.P after inv h.text_words, padded_words_length k.iv k.P after inv k.text_words) in
+    let size : length h.P ≡ length k.P = omega (
+      arith,
+      padded_words_length h.iv h.P after inv h.text_words,
+      padded_words_length k.iv k.P after inv k.text_words,
+    ) in
     sym h.key_words ∙ words_same h.iv k.iv h.P k.P after inv size h.text_words k.text_words ∙ k.key_words
 
 -- a padded wrapping is a run of the registers from the key's initial value and the padded key
@@ -99,7 +109,8 @@ padded_registers {key = key} h = record {
   text_words = h.text_words;
 }
 
-pub registers_padded : {E : List ℕ → List ℕ} (key before text : List ℕ) → IsPaddedKeyLength (length key) → Holds before key → PaddedRegisters E before text → Padded E key text
+pub registers_padded : {E : List ℕ → List ℕ} (key before text : List ℕ) → IsPaddedKeyLength (length key) → Holds before key → PaddedRegisters E before text
+    → Padded E key text
 registers_padded {E = E} key before text legal holds r =
     let front = word_front r.iv (aiv (length key)) (spelled r.P) (padded key) r.word (aiv_word (length key) legal.1) (r.key_words ∙ holds) in
     record {
@@ -114,26 +125,31 @@ pub padded_only_text : {E : List ℕ → List ℕ} {key text other : List ℕ} �
 padded_only_text h k = padded_registers_forward (padded_registers k) (padded_registers h)
 
 -- the registers hold one key
-pub held_key : (buffer key other : List ℕ) → IsPaddedKeyLength (length key) → IsPaddedKeyLength (length other) → Holds buffer key → Holds buffer other → other ≡ key
+pub held_key : (buffer key other : List ℕ) → IsPaddedKeyLength (length key) → IsPaddedKeyLength (length other) → Holds buffer key → Holds buffer other
+    → other ≡ key
 held_key buffer key other legal legal' h k =
-    let front = word_front (aiv (length other)) (aiv (length key)) (padded other) (padded key) (aiv_word (length other) legal'.1) (aiv_word (length key) legal.1) (sym k ∙ h) in
+    let front = word_front (aiv (length other)) (aiv (length key)) (padded other) (padded key) (aiv_word (length other) legal'.1)
+    (aiv_word (length key) legal.1) (sym k ∙ h) in
     let size : length other ≡ length key = omega (arith, front.0) in
     let zeros : List ℕ → List ℕ = λ xs. replicate (8 * word_count (length xs) - length xs) 0 in
     sym (take_at other (zeros other) (length other) refl) ∙ ap (take (length other)) front.1 ∙ take_at key (zeros key) (length other) (sym size)
 
 pub padded_only_key : {E D : List ℕ → List ℕ} {key other text : List ℕ} → AreInverse E D → Padded E key text → Padded E other text → other ≡ key
 padded_only_key {key = key} {other = other} inv h k =
-    held_key (word_bytes (aiv (length key)) ++ padded key) key other h.legal k.legal refl (padded_registers_backward inv (padded_registers h) (padded_registers k))
+    held_key (word_bytes (aiv (length key)) ++ padded key) key other h.legal k.legal refl
+    (padded_registers_backward inv (padded_registers h) (padded_registers k))
 
 -- the registers that run from the key's initial value and the padded key end in the key's one padded text
-pub padded_wrapped : {E : List ℕ → List ℕ} (key before after text : List ℕ) → IsPaddedKeyLength (length key) → Holds before key → PaddedRegisters E before after → text ≡ after
+pub padded_wrapped : {E : List ℕ → List ℕ} (key before after text : List ℕ) → IsPaddedKeyLength (length key) → Holds before key
+    → PaddedRegisters E before after → text ≡ after
     → Padded E key text × ((other : List ℕ) → Padded E key other → other ≡ text)
 padded_wrapped {E = E} key before after text legal holds run ends =
     let h : Padded E key text = rw ends (registers_padded key before after legal holds run) in
     (h, λ other k. padded_only_text h k)
 
 -- the buffer that the registers run back to holds the key, and no other key stands with the text
-pub padded_unwrapped : {E D : List ℕ → List ℕ} {buffer after : List ℕ} (read text key : List ℕ) (len : ℕ) → AreInverse E D → PaddedRegisters E buffer after → after ≡ text → read ≡ buffer → HoldsLength read len → key ≡ take len (drop 8 read)
+pub padded_unwrapped : {E D : List ℕ → List ℕ} {buffer after : List ℕ} (read text key : List ℕ) (len : ℕ) → AreInverse E D → PaddedRegisters E buffer after
+    → after ≡ text → read ≡ buffer → HoldsLength read len → key ≡ take len (drop 8 read)
     → Padded E key text × ((other : List ℕ) → Padded E other text → other ≡ key) × ((other : List ℕ) → Padded E key other → other ≡ text)
 padded_unwrapped {E = E} read text key len inv back ends same held cut =
     let run : PaddedRegisters E read text = rw (same, ← ends) back in
@@ -142,7 +158,8 @@ padded_unwrapped {E = E} read text key len inv back ends same held cut =
     (h, λ other k. padded_only_key inv h k, λ other k. padded_only_text h k)
 
 -- and where it holds no key, none stands with the text
-pub padded_refused : {E D : List ℕ → List ℕ} {buffer after : List ℕ} (read text : List ℕ) → AreInverse E D → PaddedRegisters E buffer after → after ≡ text → read ≡ buffer → ((key : List ℕ) → IsPaddedKeyLength (length key) → ¬ Holds read key) → NoKey (Padded E) text
+pub padded_refused : {E D : List ℕ → List ℕ} {buffer after : List ℕ} (read text : List ℕ) → AreInverse E D → PaddedRegisters E buffer after → after ≡ text
+    → read ≡ buffer → ((key : List ℕ) → IsPaddedKeyLength (length key) → ¬ Holds read key) → NoKey (Padded E) text
 padded_refused {E = E} read text inv back ends same none key h =
     let run : PaddedRegisters E read text = rw (same, ← ends) back in
     none key h.legal (padded_registers_backward inv run (padded_registers h))

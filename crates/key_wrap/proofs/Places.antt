@@ -1,6 +1,7 @@
 -- Where the words of a tape lie in the registers: after t steps each register holds the word, among places t to
 -- t + n - 1, whose place is the register's number modulo n (places and registers counted from 0).
-use Rattle.std.proofs.Common.{◌≡◌, ◌≢◌, ℕ, ◌+◌, ◌-◌, ◌*◌, ◌/◌, ◌%◌, ◌≤◌, ◌<◌, List, [], ◌∷◌, ◌++◌, length, take, drop, set, replicate, bit_xor, refl, sym, ap, subst, ◌∙◌, arith, inl, inr, length-append, length-drop, length-take, length-set, get_or-set_other, get_or-set_same}
+use Rattle.std.proofs.Common.{◌≡◌, ◌≢◌, ℕ, ◌+◌, ◌-◌, ◌*◌, ◌/◌, ◌%◌, ◌≤◌, ◌<◌, List, [], ◌∷◌, ◌++◌, length, take, drop, set, replicate, bit_xor, refl, sym, ap}
+use Rattle.std.proofs.Common.{subst, ◌∙◌, arith, inl, inr, length-append, length-drop, length-take, length-set, get_or-set_other, get_or-set_same}
 use Rattle.std.proofs.lemmas.Bool.{cases_lt}
 use Rattle.std.proofs.lemmas.List.{length-replicate, get_or-append_right, get_or_append_left, get_or-take, get_or-drop, ext_get_or}
 use Rattle.std.proofs.Math.Seq.{get_or-append_seam}
@@ -108,7 +109,8 @@ abbrev pub register_of : (i : ℕ) (registers : List ℕ) → List ℕ
 register_of i registers = take 8 (drop (8 * i) registers)
 
 -- the register that is written next holds the word at place t, and the one that was written last that at n + t
-after_reads : {n t p A : ℕ} {x a registers : List ℕ} → 0 < n → t ≤ p → p < t + n → After n t x a A registers → register_of (p % n) registers ≡ word_bytes (at x p)
+after_reads : {n t p A : ℕ} {x a registers : List ℕ} → 0 < n → t ≤ p → p < t + n → After n t x a A registers
+    → register_of (p % n) registers ≡ word_bytes (at x p)
 after_reads {n = n} {p = p} some from below h =
     let inside : p % n < length h.R = omega (arith, mod-lt p some, h.size) in
     ap (λ (bs : List ℕ). register_of (p % n) bs) (sym h.bytes) ∙ register_bytes h.R (p % n) inside ∙ ap word_bytes (h.lie p from below)
@@ -182,7 +184,8 @@ part_before {n = n} {t = t} w v {x = x} {a = a} some inside word_w word_v one h 
     }
 
 -- one more step after the last
-pub run_next : {E : List ℕ → List ℕ} {n s t A A' v : ℕ} {before after : List ℕ} (register : List ℕ) → 0 < n → s ≤ t → t < 6 * n → IsWord v → length register ≡ 8 → AllByRecursion IsByte register
+pub run_next : {E : List ℕ → List ℕ} {n s t A A' v : ℕ} {before after : List ℕ} (register : List ℕ) → 0 < n → s ≤ t → t < 6 * n → IsWord v
+    → length register ≡ 8 → AllByRecursion IsByte register
     → E (word_bytes A' ++ register_of (t % n) after) ≡ word_bytes (bit_xor v (t + 1)) ++ register
     → Run E n s t A before A' after → Run E n s (t + 1) A before v (with_register (t % n) after register)
 run_next {E = E} {n = n} {s = s} {t = t} {A = A} {A' = A'} {v = v} {before = before} {after = after} register some from inside word_v eight bytes step h =
@@ -201,7 +204,8 @@ run_next {E = E} {n = n} {s = s} {t = t} {A = A} {A' = A'} {v = v} {before = bef
     }
 
 -- one more step before the first
-pub run_before : {E : List ℕ → List ℕ} {n t e A A' v : ℕ} {before after : List ℕ} (register : List ℕ) → 0 < n → t < e → t < 6 * n → IsWord v → length register ≡ 8 → AllByRecursion IsByte register
+pub run_before : {E : List ℕ → List ℕ} {n t e A A' v : ℕ} {before after : List ℕ} (register : List ℕ) → 0 < n → t < e → t < 6 * n → IsWord v
+    → length register ≡ 8 → AllByRecursion IsByte register
     → E (word_bytes v ++ register) ≡ word_bytes (bit_xor A (t + 1)) ++ register_of (t % n) before
     → Run E n (t + 1) e A before A' after → Run E n t e v (with_register (t % n) before register) A' after
 run_before {E = E} {n = n} {t = t} {e = e} {A = A} {A' = A'} {v = v} {before = before} {after = after} register some to inside word_v eight bytes step h =
@@ -268,7 +272,8 @@ run_none E n j A registers passes word_A size bytes =
     }
 
 -- all the steps
-pub run_all : {E : List ℕ → List ℕ} {n A A' : ℕ} {before after : List ℕ} → Run E n 0 (6 * n) A before A' after → Registers E (word_bytes A ++ before) (word_bytes A' ++ after)
+pub run_all : {E : List ℕ → List ℕ} {n A A' : ℕ} {before after : List ℕ} → Run E n 0 (6 * n) A before A' after
+    → Registers E (word_bytes A ++ before) (word_bytes A' ++ after)
 run_all {E = E} {n = n} {A = A} {A' = A'} {before = before} {after = after} h =
     let P : List ℕ = h.start.R in
     let C : List ℕ = h.end.R in
@@ -302,7 +307,8 @@ run_all {E = E} {n = n} {A = A} {A' = A'} {before = before} {after = after} h =
         tape = subst (λ (m : ℕ). Tape E m h.x h.a) (sym h.start.size) tape;
         initial = h.start.value;
         key = ap (λ (m : ℕ). take m h.x) h.start.size ∙ key;
-        text = ap (λ (m : ℕ). at h.a (6 * m) ∷ drop (6 * m) h.x) h.start.size ∙ ap (λ (v : ℕ). v ∷ drop (6 * n) h.x) h.end.value ∙ ap (λ (ws : List ℕ). A' ∷ ws) text;
+        text = ap (λ (m : ℕ). at h.a (6 * m) ∷ drop (6 * m) h.x) h.start.size ∙ ap (λ (v : ℕ). v ∷ drop (6 * n) h.x) h.end.value
+            ∙ ap (λ (ws : List ℕ). A' ∷ ws) text;
       };
     }
 
@@ -311,7 +317,8 @@ each_parts P [] ys hs = (tt, hs)
 each_parts P (x ∷ xs) ys hs = let rest = each_parts P xs ys hs.1 in ((hs.0, rest.0), rest.1)
 
 part_bytes : (m k : ℕ) (now register : List ℕ) → AllByRecursion IsByte (put_mid m k now register) → AllByRecursion IsByte register
-part_bytes m k now register bytes = (each_parts IsByte register (drop k (drop m now)) (each_parts IsByte (take m now) (register ++ drop k (drop m now)) bytes).1).0
+part_bytes m k now register bytes = (each_parts IsByte register (drop k (drop m now))
+    (each_parts IsByte (take m now) (register ++ drop k (drop m now)) bytes).1).0
 
 pub below_all : (n j i : ℕ) → i < n → j < 6 → n * j + i < 6 * n
 below_all n j i inside pass = let passes : j + 1 ≤ 6 = omega arith in omega (arith, mul-le-mul_left n passes)

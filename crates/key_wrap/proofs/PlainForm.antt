@@ -19,7 +19,8 @@ plain_registers {E = E} {key = key} {text = text} h =
     subst (λ (t : List ℕ). Registers E (word_bytes default_iv ++ key) t) h.text_words
     (subst (λ (k : List ℕ). Registers E (word_bytes default_iv ++ k) (spelled h.C)) h.key_words (registers_of h.wraps))
 
-pub registers_plain : {E : List ℕ → List ℕ} (key text : List ℕ) → IsPlainKeyLength (length key) → Registers E (word_bytes default_iv ++ key) text → Plain E key text
+pub registers_plain : {E : List ℕ → List ℕ} (key text : List ℕ) → IsPlainKeyLength (length key) → Registers E (word_bytes default_iv ++ key) text
+    → Plain E key text
 registers_plain key text legal r =
     let w = wraps_of default_iv key text default_iv_word r in
     record { legal = legal; P = w.P; C = w.C; key_words = w.key_words; text_words = w.text_words; wraps = w.wraps }

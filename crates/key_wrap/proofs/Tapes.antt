@@ -1,5 +1,6 @@
 -- What a tape fixes: E read forward fixes it from its front, and D read backward fixes it from its back.
-use Rattle.std.proofs.Common.{◌≡◌, ℕ, zero, suc, ◌+◌, ◌-◌, ◌*◌, ◌%◌, ◌^◌, ◌<◌, ◌≤◌, List, ◌∷◌, length, take, drop, ◌++◌, bit_xor, refl, sym, ap, subst, ◌∙◌, arith, inl, inr, length-drop}
+use Rattle.std.proofs.Common.{◌≡◌, ℕ, zero, suc, ◌+◌, ◌-◌, ◌*◌, ◌%◌, ◌^◌, ◌<◌, ◌≤◌, List, ◌∷◌, length, take, drop, ◌++◌, bit_xor, refl, sym, ap, subst, ◌∙◌}
+use Rattle.std.proofs.Common.{arith, inl, inr, length-drop}
 use Rattle.std.proofs.lemmas.Bool.{cases_lt}
 use Rattle.std.proofs.lemmas.List.{get_or-take, get_or-drop, ext_get_or}
 use Rattle.std.specs.Int.Bits.{xor_mod, xor_assoc, xor_self, xor_zero_r}
@@ -139,7 +140,8 @@ wraps_backward {E = E} {D = D} {P = P} {P' = P'} law w w' =
     (sym (get_or-drop (6 * n) w.x (i - 6 * n) 0) ∙ ap (λ (ws : List ℕ). at ws (i - 6 * n)) rests ∙ get_or-drop (6 * n) w'.x (i - 6 * n) 0) in
     let start : SameFrom n (6 * n) w.x w.a w'.x w'.a = record { value = value; registers = λ i h below. back i h } in
     let all = same_backward E D n w.x w.a w'.x w'.a w.tape tape' law start (6 * n) 0 (omega arith) in
-    let same : w.x ≡ w'.x = ext_get_or 0 w.x w'.x (w.tape.length_x ∙ sym tape'.length_x) (λ i h. all.registers i (omega arith) (omega (arith, w.tape.length_x))) in (
+    let same : w.x ≡ w'.x = ext_get_or 0 w.x w'.x (w.tape.length_x ∙ sym tape'.length_x)
+    (λ i h. all.registers i (omega arith) (omega (arith, w.tape.length_x))) in (
       sym w.initial ∙ all.value ∙ w'.initial,
       sym w.key ∙ ap (take n) same ∙ subst (λ (m : ℕ). take m w'.x ≡ P') sizes w'.key,
     )
@@ -175,14 +177,16 @@ registers_length r =
 -- the bytes before fix the bytes after
 pub registers_forward : {E : List ℕ → List ℕ} {before after after' : List ℕ} → Registers E before after → Registers E before after' → after ≡ after'
 registers_forward {E = E} r s =
-    let same = spelled_same (r.iv ∷ r.P) (s.iv ∷ s.P) (wraps_iv r.wraps, wraps_key r.wraps) (wraps_iv s.wraps, wraps_key s.wraps) (r.key_words ∙ sym s.key_words) in
+    let same = spelled_same (r.iv ∷ r.P) (s.iv ∷ s.P) (wraps_iv r.wraps, wraps_key r.wraps) (wraps_iv s.wraps, wraps_key s.wraps)
+    (r.key_words ∙ sym s.key_words) in
     let v : s.iv ≡ r.iv = cc same in
     let P : s.P ≡ r.P = cc same in
     let moved : Wraps E r.iv r.P s.C = subst (λ (u : ℕ). Wraps E u r.P s.C) v (subst (λ (ws : List ℕ). Wraps E s.iv ws s.C) P s.wraps) in
     sym r.text_words ∙ ap spelled (wraps_forward r.wraps moved) ∙ s.text_words
 
 -- the bytes after fix the bytes before
-pub registers_backward : {E D : List ℕ → List ℕ} {before before' after : List ℕ} → AreInverse E D → Registers E before after → Registers E before' after → before ≡ before'
+pub registers_backward : {E D : List ℕ → List ℕ} {before before' after : List ℕ} → AreInverse E D → Registers E before after → Registers E before' after
+    → before ≡ before'
 registers_backward {E = E} {D = D} law r s =
     let same : s.C ≡ r.C = spelled_same s.C r.C (wraps_text s.wraps) (wraps_text r.wraps) (s.text_words ∙ sym r.text_words) in
     let moved : Wraps E s.iv s.P r.C = subst (λ (ws : List ℕ). Wraps E s.iv s.P ws) same s.wraps in

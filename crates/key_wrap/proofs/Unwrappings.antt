@@ -1,5 +1,6 @@
 -- What an unwrapping call that takes no memory promises, from the state in which the machine left the registers.
-use Rattle.std.proofs.Common.{rules, ◌≡◌, ℕ, ◌+◌, List, ◌++◌, length, take, drop, Result, Ok, Err, IsOk, IsOkUnless, IsErr, IsErrAnd, Vec, refl, sym, ap, subst, arith, length-append}
+use Rattle.std.proofs.Common.{rules, ◌≡◌, ℕ, ◌+◌, List, ◌++◌, length, take, drop, Result, Ok, Err, IsOk, IsOkUnless, IsErr, IsErrAnd, Vec, refl, sym, ap, subst}
+use Rattle.std.proofs.Common.{arith, length-append}
 use Rattle.std.proofs.lemmas.List.{drop_at}
 use Rattle.std.specs.declared.alloc.Global.{Global}
 use Rattle.block_pair.specs.Pair.{AreInverse}
@@ -50,7 +51,8 @@ legally {answer = Err BadLength} legal legal' u = absurd (u.unwraps legal)
 legally {answer = Err Integrity} legal legal' u = none_found legal' u.unwraps.1
 
 -- the registers run back to the default initial value and the key
-pub plain_found : {E D : List ℕ → List ℕ} (key text : List ℕ) → AreInverse E D → IsPlainTextLength (length text) → Registers E (word_bytes default_iv ++ key) text
+pub plain_found : {E D : List ℕ → List ℕ} (key text : List ℕ) → AreInverse E D → IsPlainTextLength (length text)
+    → Registers E (word_bytes default_iv ++ key) text
     → Unwrapping (IsPlainTextLength (length text)) (Plain E) (Padded E) text (λ (_ : Unit {0}). key) (Ok tt)
 plain_found {E = E} key text inv legal run =
     let size : length text ≡ 8 + length key = omega (arith, registers_length run, length-append (word_bytes default_iv) key, length-word_bytes default_iv) in
@@ -65,16 +67,19 @@ plain_found {E = E} key text inv legal run =
     }
 
 -- and where it is another initial value, no key stands with the text
-pub plain_none : {E D : List ℕ → List ℕ} {iv : ℕ} (registers key text : List ℕ) → AreInverse E D → IsPlainTextLength (length text) → IsWord iv → ¬ (iv ≡ default_iv) → Registers E (word_bytes iv ++ registers) text
+pub plain_none : {E D : List ℕ → List ℕ} {iv : ℕ} (registers key text : List ℕ) → AreInverse E D → IsPlainTextLength (length text) → IsWord iv
+    → ¬ (iv ≡ default_iv) → Registers E (word_bytes iv ++ registers) text
     → Unwrapping (IsPlainTextLength (length text)) (Plain E) (Padded E) text (λ (_ : Unit {0}). key) (Err Integrity)
 plain_none {iv = iv} registers key text inv legal word other run =
     none_found legal (λ k h. other (word_front iv default_iv registers k word default_iv_word (registers_backward inv run (plain_registers h))).0)
 
 -- the registers run back to an initial value and registers that hold a key of len bytes
-pub padded_found : {E D : List ℕ → List ℕ} {len : ℕ} (iv : ℕ) (registers text : List ℕ) → AreInverse E D → IsPaddedTextLength (length text) → PaddedRegisters E (word_bytes iv ++ registers) text → HoldsLength (word_bytes iv ++ registers) len
+pub padded_found : {E D : List ℕ → List ℕ} {len : ℕ} (iv : ℕ) (registers text : List ℕ) → AreInverse E D → IsPaddedTextLength (length text)
+    → PaddedRegisters E (word_bytes iv ++ registers) text → HoldsLength (word_bytes iv ++ registers) len
     → Unwrapping (IsPaddedTextLength (length text)) (Padded E) (Plain E) text (λ m. take m registers) (Ok len)
 padded_found {len = len} iv registers text inv legal run held =
-    let cut : take len registers ≡ take len (drop 8 (word_bytes iv ++ registers)) = ap (take len) (sym (drop_at (word_bytes iv) registers 8 (length-word_bytes iv))) in
+    let cut : take len registers ≡ take len (drop 8 (word_bytes iv ++ registers)) =
+    ap (take len) (sym (drop_at (word_bytes iv) registers 8 (length-word_bytes iv))) in
     let w = padded_unwrapped (word_bytes iv ++ registers) text (take len registers) len inv run refl refl held cut in
     record {
       bad_length = (λ e. cc, λ bad. absurd (bad legal));
@@ -86,21 +91,26 @@ padded_found {len = len} iv registers text inv legal run held =
     }
 
 -- and where they hold no key, none stands with the text
-pub padded_none : {E D : List ℕ → List ℕ} (iv : ℕ) (registers : List ℕ) (key : ℕ → List ℕ) (text : List ℕ) → AreInverse E D → IsPaddedTextLength (length text) → PaddedRegisters E (word_bytes iv ++ registers) text
+pub padded_none : {E D : List ℕ → List ℕ} (iv : ℕ) (registers : List ℕ) (key : ℕ → List ℕ) (text : List ℕ) → AreInverse E D → IsPaddedTextLength (length text)
+    → PaddedRegisters E (word_bytes iv ++ registers) text
     → ((other : List ℕ) → IsPaddedKeyLength (length other) → ¬ Holds (word_bytes iv ++ registers) other)
     → Unwrapping (IsPaddedTextLength (length text)) (Padded E) (Plain E) text key (Err Integrity)
 padded_none iv registers key text inv legal run holds =
     none_found legal (padded_refused (word_bytes iv ++ registers) text inv run refl refl holds)
 
 -- the text and the key, named in another way
-pub renamed : {A : Type 0} (L : ℕ → Type 0) {Stands Other : List ℕ → List ℕ → Type 0} {text text' : List ℕ} {key key' : A → List ℕ} {answer : Result A InPlaceFault}
+pub renamed : {A : Type 0} (L : ℕ → Type 0) {Stands Other : List ℕ → List ℕ → Type 0} {text text' : List ℕ} {key key' : A → List ℕ}
+    {answer : Result A InPlaceFault}
     → text ≡ text' → key ≡ key' → Unwrapping (L (length text)) Stands Other text key answer → Unwrapping (L (length text')) Stands Other text' key' answer
 renamed L {Stands = Stands} {Other = Other} {text' = text'} {key = key} {answer = answer} same own u =
-    subst (λ k. Unwrapping (L (length text')) Stands Other text' k answer) own (subst (λ (t : List ℕ). Unwrapping (L (length t)) Stands Other t key answer) same u)
+    subst (λ k. Unwrapping (L (length text')) Stands Other text' k answer) own
+    (subst (λ (t : List ℕ). Unwrapping (L (length t)) Stands Other t key answer) same u)
 
 -- where the call in the buffer refused a text of a legal length, no key stands with it, and the call that takes memory says so
-pub refused : (Stands : List ℕ → List ℕ → Type 0) (Legal : Type 0) {A : Type 0} (key : A → List ℕ) (text : List ℕ) (fault : InPlaceFault) (answer : Result (Vec ℕ Global) UnwrapFault)
-    → Legal → KeyAnswer Legal Stands text key (Err fault) → IsErr answer × IsErrAnd answer (λ e. e ≡ unwrap_fault fault) → (answer ≡ Err unwrap_faults.Integrity) × NoKey Stands text
+pub refused : (Stands : List ℕ → List ℕ → Type 0) (Legal : Type 0) {A : Type 0} (key : A → List ℕ) (text : List ℕ) (fault : InPlaceFault)
+    (answer : Result (Vec ℕ Global) UnwrapFault)
+    → Legal → KeyAnswer Legal Stands text key (Err fault) → IsErr answer × IsErrAnd answer (λ e. e ≡ unwrap_fault fault)
+    → (answer ≡ Err unwrap_faults.Integrity) × NoKey Stands text
 refused Stands Legal key text fault (Ok k) legal a r = let no = r.0 in cc
 refused Stands Legal key text BadLength (Err e) legal a r = absurd (a legal)
 refused Stands Legal key text Integrity (Err e) legal a r = (ap Err r.1, a.1)

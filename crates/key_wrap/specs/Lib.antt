@@ -1,3 +1,4 @@
+-- The definitions, from words and tapes up to what the calls answer.
 pub mod Words
 pub mod Tape
 pub mod Lengths

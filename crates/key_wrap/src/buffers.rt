@@ -1,13 +1,15 @@
-//! The one buffer of a call that takes memory: room for the text, and in the end the text or the key.
+//! The one buffer of a call that takes memory: room for the text, and in the end the text or the
+//! key.
 
-ghost use Rattle.std.specs.Prelude.{◌≡◌, ◌+◌, ◌≤◌, ◌++◌, length, take, drop, replicate, vec_len, IfOk};
+ghost use Rattle.std.specs.Prelude.{◌≡◌, ◌+◌, ◌≤◌, ◌++◌, length, take, drop, replicate, vec_len};
+ghost use Rattle.std.specs.Prelude.{IfOk};
 ghost use Rattle.key_wrap.specs.Padded.{padded};
 
 use crate::lengths::MAX_KEY;
 use std::alloc::{AllocError, Global};
 
-// Room for the first word of the text, the key and its zero padding (none where the key fills its words). Takes
-// its memory in one growth.
+// Room for the first word of the text, the key and its zero padding (none where the key fills its
+// words). Takes its memory in one growth.
 pub(crate) fn room_for(alloc: Global, key: &[u8]) -> Result<Vec<u8>, AllocError>
     requires { length key.now ≤ MAX_KEY }
     ensures { IfOk result (λ buffer. buffer.items ≡ replicate 8 0 ++ padded key.now) }

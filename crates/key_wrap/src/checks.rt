@@ -1,6 +1,7 @@
 //! The initial values, and the checks of an unwrapped one: in the padded form of the padding too.
 
-ghost use Rattle.std.specs.Prelude.{◌≡◌, ◌<◌, ◌≤◌, ◌↔◌, ℕ, ◌+◌, ◌%◌, ◌++◌, List, length, All, IsTrue, IfSome, IfNone};
+ghost use Rattle.std.specs.Prelude.{◌≡◌, ◌<◌, ◌≤◌, ◌↔◌, ℕ, ◌+◌, ◌%◌, ◌++◌, List, length, All};
+ghost use Rattle.std.specs.Prelude.{IsTrue, IfSome, IfNone};
 ghost use Rattle.key_wrap.specs.Words.{word_bytes};
 ghost use Rattle.key_wrap.specs.Lengths.{IsPaddedKeyLength};
 ghost use Rattle.key_wrap.specs.Padded.{aiv};
@@ -22,15 +23,16 @@ pub(crate) fn initial_value(len: usize) -> u64
     (u64::from(AIV_PREFIX) << 32) + len as u64
 }
 
-// The length of the key in the registers under this initial value, where they pass the three checks of
-// RFC 5649, section 3: the prefix, the range of the length, the zero padding.
+// The length of the key in the registers under this initial value, where they pass the three checks
+// of RFC 5649, section 3: the prefix, the range of the length, the zero padding.
 pub(crate) fn checked_key_length(iv: u64, registers: &[u8]) -> Option<usize>
     requires whole_words { length registers.now % 8 ≡ 0 }
     requires some { 8 ≤ length registers.now }
     requires at_most { length registers.now ≤ MAX_KEY }
     ensures passes { IfSome result (λ len. HoldsLength (word_bytes iv ++ registers.now) len) }
     ensures refuses { IfNone result (
-        (key : List ℕ) → IsPaddedKeyLength (length key) → ¬ Holds (word_bytes iv ++ registers.now) key) }
+        (key : List ℕ) → IsPaddedKeyLength (length key)
+        → ¬ Holds (word_bytes iv ++ registers.now) key) }
 {
     if iv >> 32 != u64::from(AIV_PREFIX) {
         return None;

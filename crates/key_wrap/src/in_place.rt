@@ -1,6 +1,7 @@
 //! The calls in the caller's buffer. They take no memory.
 
-ghost use Rattle.std.specs.Prelude.{◌≡◌, ◌↔◌, ◌++◌, ℕ, List, length, take, drop, replicate, All, Ok, Err, OnOk, IfOk, IsOk, IsOkUnless};
+ghost use Rattle.std.specs.Prelude.{◌≡◌, ◌↔◌, ◌++◌, ℕ, List, length, take, drop, replicate, All};
+ghost use Rattle.std.specs.Prelude.{Ok, Err, OnOk, IfOk, IsOk, IsOkUnless};
 ghost use Rattle.block_pair.specs.Metered.{counted};
 ghost use Rattle.key_wrap.specs.Lengths.{IsPlainTextLength, IsPaddedTextLength};
 ghost use Rattle.key_wrap.specs.Plain.{Plain};
@@ -20,19 +21,21 @@ use byteorder::{BigEndian, ByteOrder};
 // The bytes of a word.
 const WORD: usize = 8;
 
-/// The key after the first 8 bytes of the buffer, which are ignored, becomes its plain wrapping, the whole
-/// buffer (RFC 3394, section 2.2.1).
+/// The key after the first 8 bytes of the buffer, which are ignored, becomes its plain wrapping,
+/// the whole buffer (RFC 3394, section 2.2.1).
 ///
-/// `BadLength`, with the buffer and the meter as they were, where `text_length_ok` says no to the buffer's
-/// length.
+/// `BadLength`, with the buffer and the meter as they were, where `text_length_ok` says no to the
+/// buffer's length.
 pub fn wrap_in_place<B: BlockPair>(meter: &mut Meter<B>, buf: &mut [u8]) -> Result<(), InPlaceFault>
-    ensures bad_length { (result ≡ Err InPlaceFault.BadLength) ↔ ¬ IsPlainTextLength (length buf.old) }
+    ensures bad_length { (result ≡ Err InPlaceFault.BadLength)
+        ↔ ¬ IsPlainTextLength (length buf.old) }
     ensures only_fault { IsOkUnless result InPlaceFault.BadLength }
     ensures buffer_kept { result ≡ Err InPlaceFault.BadLength → buf.new ≡ buf.old }
     ensures meter_kept { result ≡ Err InPlaceFault.BadLength → meter.new ≡ meter.old }
     ensures answer { OnOk result (Plain (B.encrypted meter.old.pair) (drop 8 buf.old) buf.new) }
     ensures only_text { OnOk result (
-        (other : List ℕ) → Plain (B.encrypted meter.old.pair) (drop 8 buf.old) other → other ≡ buf.new) }
+        (other : List ℕ) → Plain (B.encrypted meter.old.pair) (drop 8 buf.old) other
+        → other ≡ buf.new) }
     ensures calls { OnOk result (meter.new ≡ counted (block_calls (length buf.old)) meter.old) }
 {
     if !text_length_ok(buf.len()) {
@@ -45,27 +48,32 @@ pub fn wrap_in_place<B: BlockPair>(meter: &mut Meter<B>, buf: &mut [u8]) -> Resu
 
 /// The plain text in the buffer becomes 8 zero bytes and its key (RFC 3394, section 2.2.2).
 ///
-/// `BadLength`, with the buffer and the meter as they were, where `text_length_ok` says no to the buffer's
-/// length; `Integrity` where the text is the plain wrapping of no key, and then every byte of the buffer is
-/// zero. The meter counts as many calls then as for a key.
+/// `BadLength`, with the buffer and the meter as they were, where `text_length_ok` says no to the
+/// buffer's length; `Integrity` where the text is the plain wrapping of no key, and then every byte
+/// of the buffer is zero. The meter counts as many calls then as for a key.
 pub fn unwrap_in_place<B: BlockPair>(
     meter: &mut Meter<B>,
     buf: &mut [u8],
 ) -> Result<(), InPlaceFault>
-    ensures bad_length { (result ≡ Err InPlaceFault.BadLength) ↔ ¬ IsPlainTextLength (length buf.old) }
+    ensures bad_length { (result ≡ Err InPlaceFault.BadLength)
+        ↔ ¬ IsPlainTextLength (length buf.old) }
     ensures buffer_kept { result ≡ Err InPlaceFault.BadLength → buf.new ≡ buf.old }
     ensures meter_kept { result ≡ Err InPlaceFault.BadLength → meter.new ≡ meter.old }
-    ensures answer { KeyAnswer (IsPlainTextLength (length buf.old)) (Plain (B.encrypted meter.old.pair))
+    ensures answer { KeyAnswer (IsPlainTextLength (length buf.old))
+        (Plain (B.encrypted meter.old.pair))
         buf.old (λ _. drop 8 buf.new) result }
 
     // A wrapping is not refused.
-    ensures accepts { (key : List ℕ) → Plain (B.encrypted meter.old.pair) key buf.old → IsOk result }
+    ensures accepts { (key : List ℕ) → Plain (B.encrypted meter.old.pair) key buf.old
+        → IsOk result }
     ensures only_key { OnOk result (
-        (other : List ℕ) → Plain (B.encrypted meter.old.pair) other buf.old → other ≡ drop 8 buf.new) }
+        (other : List ℕ) → Plain (B.encrypted meter.old.pair) other buf.old
+        → other ≡ drop 8 buf.new) }
 
     // Wrapping the answer again gives the input.
     ensures restores { OnOk result (
-        (other : List ℕ) → Plain (B.encrypted meter.old.pair) (drop 8 buf.new) other → other ≡ buf.old) }
+        (other : List ℕ) → Plain (B.encrypted meter.old.pair) (drop 8 buf.new) other
+        → other ≡ buf.old) }
     ensures other_form { OnOk result (NoKey (Padded (B.encrypted meter.old.pair)) buf.old) }
     ensures first_word { OnOk result (take 8 buf.new ≡ replicate 8 0) }
     ensures cleared { result ≡ Err InPlaceFault.Integrity → All (λ byte. byte ≡ 0) buf.new }
@@ -80,11 +88,12 @@ pub fn unwrap_in_place<B: BlockPair>(
     unwrap_registers(meter, c0, &mut buf[WORD..])
 }
 
-/// The key of `m` bytes after the first 8 bytes of the buffer, which are ignored as what follows it is, becomes
-/// its padded wrapping, the whole buffer (RFC 5649, section 4.1).
+/// The key of `m` bytes after the first 8 bytes of the buffer, which are ignored as what follows it
+/// is, becomes its padded wrapping, the whole buffer (RFC 5649, section 4.1).
 ///
-/// `BadLength`, with the buffer and the meter as they were, where `padded_length_ok` says no to `m`, or the
-/// buffer has not the length of the text: 8 bytes more than `m` rounded up to a multiple of 8.
+/// `BadLength`, with the buffer and the meter as they were, where `padded_length_ok` says no to
+/// `m`, or the buffer has not the length of the text: 8 bytes more than `m` rounded up to a
+/// multiple of 8.
 pub fn wrap_padded_in_place<B: BlockPair>(
     meter: &mut Meter<B>,
     buf: &mut [u8],
@@ -96,7 +105,8 @@ pub fn wrap_padded_in_place<B: BlockPair>(
     ensures meter_kept { result ≡ Err InPlaceFault.BadLength → meter.new ≡ meter.old }
     ensures answer { OnOk result (Padded (B.encrypted meter.old.pair) (key_in m buf.old) buf.new) }
     ensures only_text { OnOk result (
-        (other : List ℕ) → Padded (B.encrypted meter.old.pair) (key_in m buf.old) other → other ≡ buf.new) }
+        (other : List ℕ) → Padded (B.encrypted meter.old.pair) (key_in m buf.old) other
+        → other ≡ buf.new) }
     ensures calls { OnOk result (meter.new ≡ counted (block_calls (length buf.old)) meter.old) }
 {
     if !padded_length_ok(m) || buf.len() != WORD + m.next_multiple_of(WORD) {
@@ -108,30 +118,35 @@ pub fn wrap_padded_in_place<B: BlockPair>(
     Ok(())
 }
 
-/// The padded text in the buffer becomes 8 zero bytes, its key, of as many bytes as the answer says, and zero
-/// bytes to the end (RFC 5649, section 4.2).
+/// The padded text in the buffer becomes 8 zero bytes, its key, of as many bytes as the answer
+/// says, and zero bytes to the end (RFC 5649, section 4.2).
 ///
-/// `BadLength`, with the buffer and the meter as they were, where `padded_text_length_ok` says no to the
-/// buffer's length; `Integrity` where the text is the padded wrapping of no key, and then every byte of the
-/// buffer is zero. The meter counts as many calls then as for a key.
+/// `BadLength`, with the buffer and the meter as they were, where `padded_text_length_ok` says no
+/// to the buffer's length; `Integrity` where the text is the padded wrapping of no key, and then
+/// every byte of the buffer is zero. The meter counts as many calls then as for a key.
 pub fn unwrap_padded_in_place<B: BlockPair>(
     meter: &mut Meter<B>,
     buf: &mut [u8],
 ) -> Result<usize, InPlaceFault>
-    ensures bad_length { (result ≡ Err InPlaceFault.BadLength) ↔ ¬ IsPaddedTextLength (length buf.old) }
+    ensures bad_length { (result ≡ Err InPlaceFault.BadLength)
+        ↔ ¬ IsPaddedTextLength (length buf.old) }
     ensures buffer_kept { result ≡ Err InPlaceFault.BadLength → buf.new ≡ buf.old }
     ensures meter_kept { result ≡ Err InPlaceFault.BadLength → meter.new ≡ meter.old }
-    ensures answer { KeyAnswer (IsPaddedTextLength (length buf.old)) (Padded (B.encrypted meter.old.pair))
+    ensures answer { KeyAnswer (IsPaddedTextLength (length buf.old))
+        (Padded (B.encrypted meter.old.pair))
         buf.old (λ m. key_in m buf.new) result }
 
     // A wrapping is not refused.
-    ensures accepts { (key : List ℕ) → Padded (B.encrypted meter.old.pair) key buf.old → IsOk result }
+    ensures accepts { (key : List ℕ) → Padded (B.encrypted meter.old.pair) key buf.old
+        → IsOk result }
     ensures only_key { IfOk result (λ m.
-        (other : List ℕ) → Padded (B.encrypted meter.old.pair) other buf.old → other ≡ key_in m buf.new) }
+        (other : List ℕ) → Padded (B.encrypted meter.old.pair) other buf.old
+        → other ≡ key_in m buf.new) }
 
     // Wrapping the answer again gives the input.
     ensures restores { IfOk result (λ m.
-        (other : List ℕ) → Padded (B.encrypted meter.old.pair) (key_in m buf.new) other → other ≡ buf.old) }
+        (other : List ℕ) → Padded (B.encrypted meter.old.pair) (key_in m buf.new) other
+        → other ≡ buf.old) }
     ensures other_form { OnOk result (NoKey (Plain (B.encrypted meter.old.pair)) buf.old) }
     ensures size { IfOk result (λ m. length (key_in m buf.new) ≡ m) }
     ensures around { IfOk result (λ m. buf.new ≡ replicate 8 0 ++ padded (key_in m buf.new)) }

@@ -1,12 +1,14 @@
 //! The calls from one of the caller's buffers into another. They take no memory.
 
-ghost use Rattle.std.specs.Prelude.{◌≡◌, ◌↔◌, ℕ, List, length, take, All, Ok, Err, OnOk, IfOk, IsOk, IsOkUnless};
+ghost use Rattle.std.specs.Prelude.{◌≡◌, ◌↔◌, ℕ, List, length, take, All, Ok, Err, OnOk, IfOk};
+ghost use Rattle.std.specs.Prelude.{IsOk, IsOkUnless};
 ghost use Rattle.block_pair.specs.Metered.{counted};
 ghost use Rattle.key_wrap.specs.Plain.{Plain};
 ghost use Rattle.key_wrap.specs.Padded.{Padded, padded};
 ghost use Rattle.key_wrap.specs.Answer.{NoKey};
 ghost use Rattle.key_wrap.specs.Calls.{block_calls};
-ghost use Rattle.key_wrap.specs.InPlace.{KeyAnswer, IsPaddedRoom, ArePlainLengths, ArePaddedLengths};
+ghost use Rattle.key_wrap.specs.InPlace.{KeyAnswer, IsPaddedRoom, ArePlainLengths};
+ghost use Rattle.key_wrap.specs.InPlace.{ArePaddedLengths};
 
 use crate::faults::InPlaceFault;
 use crate::in_place::{wrap_in_place, wrap_padded_in_place};
@@ -20,8 +22,8 @@ const WORD: usize = 8;
 
 /// The plain wrapping of `key`, into `text` (RFC 3394, section 2.2.1).
 ///
-/// `BadLength`, with the text and the meter as they were, where `key_length_ok` says no to the key's length, or
-/// the text has not 8 bytes more than the key.
+/// `BadLength`, with the text and the meter as they were, where `key_length_ok` says no to the
+/// key's length, or the text has not 8 bytes more than the key.
 pub fn wrap_into<B: BlockPair>(
     meter: &mut Meter<B>,
     key: &[u8],
@@ -46,9 +48,10 @@ pub fn wrap_into<B: BlockPair>(
 
 /// The key whose plain wrapping is `text`, into `key` (RFC 3394, section 2.2.2).
 ///
-/// `BadLength`, with the key's buffer and the meter as they were, where `text_length_ok` says no to the text's
-/// length, or the key's buffer has not 8 bytes less; `Integrity` where the text is the plain wrapping of no
-/// key, and then every byte of the key's buffer is zero. The meter counts as many calls then as for a key.
+/// `BadLength`, with the key's buffer and the meter as they were, where `text_length_ok` says no to
+/// the text's length, or the key's buffer has not 8 bytes less; `Integrity` where the text is the
+/// plain wrapping of no key, and then every byte of the key's buffer is zero. The meter counts as
+/// many calls then as for a key.
 pub fn unwrap_into<B: BlockPair>(
     meter: &mut Meter<B>,
     text: &[u8],
@@ -84,8 +87,8 @@ pub fn unwrap_into<B: BlockPair>(
 
 /// The padded wrapping of `key`, into `text` (RFC 5649, section 4.1).
 ///
-/// `BadLength`, with the text and the meter as they were, where `padded_length_ok` says no to the key's length,
-/// or the text has not 8 bytes more than that rounded up to a multiple of 8.
+/// `BadLength`, with the text and the meter as they were, where `padded_length_ok` says no to the
+/// key's length, or the text has not 8 bytes more than that rounded up to a multiple of 8.
 pub fn wrap_padded_into<B: BlockPair>(
     meter: &mut Meter<B>,
     key: &[u8],
@@ -109,12 +112,13 @@ pub fn wrap_padded_into<B: BlockPair>(
     wrap_padded_in_place(meter, text, m)
 }
 
-/// The key whose padded wrapping is `text`, into `key` (RFC 5649, section 4.2): of as many bytes as the answer
-/// says, and zero bytes to the end of the buffer.
+/// The key whose padded wrapping is `text`, into `key` (RFC 5649, section 4.2): of as many bytes as
+/// the answer says, and zero bytes to the end of the buffer.
 ///
-/// `BadLength`, with the key's buffer and the meter as they were, where `padded_text_length_ok` says no to the
-/// text's length, or the key's buffer has not 8 bytes less; `Integrity` where the text is the padded wrapping of
-/// no key, and then every byte of the key's buffer is zero. The meter counts as many calls then as for a key.
+/// `BadLength`, with the key's buffer and the meter as they were, where `padded_text_length_ok`
+/// says no to the text's length, or the key's buffer has not 8 bytes less; `Integrity` where the
+/// text is the padded wrapping of no key, and then every byte of the key's buffer is zero. The
+/// meter counts as many calls then as for a key.
 pub fn unwrap_padded_into<B: BlockPair>(
     meter: &mut Meter<B>,
     text: &[u8],
@@ -131,11 +135,13 @@ pub fn unwrap_padded_into<B: BlockPair>(
     ensures accepts { (wrapped : List ℕ) → Padded (B.encrypted meter.old.pair) wrapped text.now
         → IsOkUnless result InPlaceFault.BadLength }
     ensures only_key { IfOk result (λ m.
-        (other : List ℕ) → Padded (B.encrypted meter.old.pair) other text.now → other ≡ take m key.new) }
+        (other : List ℕ) → Padded (B.encrypted meter.old.pair) other text.now
+        → other ≡ take m key.new) }
 
     // Wrapping the answer again gives the input.
     ensures restores { IfOk result (λ m.
-        (other : List ℕ) → Padded (B.encrypted meter.old.pair) (take m key.new) other → other ≡ text.now) }
+        (other : List ℕ) → Padded (B.encrypted meter.old.pair) (take m key.new) other
+        → other ≡ text.now) }
     ensures other_form { OnOk result (NoKey (Plain (B.encrypted meter.old.pair)) text.now) }
     ensures size { IfOk result (λ m. length (take m key.new) ≡ m) }
     ensures behind { IfOk result (λ m. key.new ≡ padded (take m key.new)) }

@@ -16,7 +16,8 @@ use std::alloc::Global;
 
 /// What `text` is under the pair: the wrapping of a key in one of the two forms, or in neither.
 ///
-/// No text is a wrapping in both forms. `Memory` comes only where the text's length is legal in some form.
+/// No text is a wrapping in both forms. `Memory` comes only where the text's length is legal in
+/// some form.
 pub fn kind<B: BlockPair>(alloc: Global, pair: &B, text: &[u8]) -> Result<Kind, KindFault>
     ensures answer { IfOk result (IsKindOf (B.encrypted pair.now) text.now) }
     ensures plain { (key : List ℕ) → Plain (B.encrypted pair.now) key text.now

@@ -1,13 +1,14 @@
 //! The lengths of keys and texts that are wrapped and unwrapped.
 
 ghost use Rattle.std.specs.Prelude.{◌↔◌, IsTrue};
-ghost use Rattle.key_wrap.specs.Lengths.{IsPlainKeyLength, IsPlainTextLength, IsPaddedKeyLength, IsPaddedTextLength};
+ghost use Rattle.key_wrap.specs.Lengths.{IsPlainKeyLength, IsPlainTextLength, IsPaddedKeyLength};
+ghost use Rattle.key_wrap.specs.Lengths.{IsPaddedTextLength};
 
 /// The most bytes of key data, in both forms. The standards allow more.
 pub const MAX_KEY: usize = 4096;
 
-/// Whether a key of `len` bytes has a plain wrapping (RFC 3394, section 2.2): a multiple of 8 from 16 to
-/// `MAX_KEY`.
+/// Whether a key of `len` bytes has a plain wrapping (RFC 3394, section 2.2): a multiple of 8 from
+/// 16 to `MAX_KEY`.
 pub fn key_length_ok(len: usize) -> bool
     ensures { IsTrue result ↔ IsPlainKeyLength len }
 {
@@ -28,7 +29,8 @@ pub fn padded_length_ok(len: usize) -> bool
     1 <= len && len <= MAX_KEY
 }
 
-/// Whether a text of `len` bytes can be a padded wrapping: a multiple of 8 from 16 to `MAX_KEY + 8`.
+/// Whether a text of `len` bytes can be a padded wrapping: a multiple of 8 from 16 to `MAX_KEY +
+/// 8`.
 pub fn padded_text_length_ok(len: usize) -> bool
     ensures { IsTrue result ↔ IsPaddedTextLength len }
 {

@@ -1,5 +1,5 @@
-//! The machine of RFC 3394, section 2.2, in its indexed form: A as a word, and the registers R[1] .. R[n]
-//! in a slice, where they stay.
+//! The machine of RFC 3394, section 2.2, in its indexed form: A as a word, and the registers R[1]
+//! .. R[n] in a slice, where they stay.
 
 ghost use Rattle.std.specs.Prelude.{◌≡◌, ◌+◌, ◌*◌, ◌/◌, ◌%◌, ◌≤◌, ◌++◌, length, bit_xor};
 ghost use Rattle.block_pair.specs.Metered.{counted};
@@ -34,7 +34,8 @@ pub(crate) fn wrap_slice<B: BlockPair>(meter: &mut Meter<B>, iv: u64, registers:
     a
 }
 
-// C1 .. Cn in the registers become the key data, and the answer is the initial value (section 2.2.2).
+// C1 .. Cn in the registers become the key data, and the answer is the initial value (section
+// 2.2.2).
 pub(crate) fn unwrap_slice<B: BlockPair>(meter: &mut Meter<B>, c0: u64, registers: &mut [u8]) -> u64
     requires whole_words { length registers.old % 8 ≡ 0 }
     requires some { 8 ≤ length registers.old }

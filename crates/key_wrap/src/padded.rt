@@ -13,7 +13,8 @@ use crate::lengths::{padded_length_ok, padded_text_length_ok};
 use block_pair::{BlockPair, Meter};
 use std::alloc::Global;
 
-/// The padded wrapping of `key` (RFC 5649, section 4.1): 8 bytes more than the key and its zero padding.
+/// The padded wrapping of `key` (RFC 5649, section 4.1): 8 bytes more than the key and its zero
+/// padding.
 ///
 /// `BadLength` where `padded_length_ok` says no, before any memory is taken; else `Memory` alone.
 pub fn wrap_padded<B: BlockPair>(alloc: Global, pair: &B, key: &[u8]) -> Result<Vec<u8>, WrapFault>
@@ -34,8 +35,8 @@ pub fn wrap_padded<B: BlockPair>(alloc: Global, pair: &B, key: &[u8]) -> Result<
 
 /// The key whose padded wrapping is `text` (RFC 5649, section 4.2).
 ///
-/// `BadLength` where `padded_text_length_ok` says no, before any memory is taken; then `Memory`; `Integrity`
-/// where the text is the padded wrapping of no key.
+/// `BadLength` where `padded_text_length_ok` says no, before any memory is taken; then `Memory`;
+/// `Integrity` where the text is the padded wrapping of no key.
 pub fn unwrap_padded<B: BlockPair>(
     alloc: Global,
     pair: &B,

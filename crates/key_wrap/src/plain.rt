@@ -34,8 +34,8 @@ pub fn wrap<B: BlockPair>(alloc: Global, pair: &B, key: &[u8]) -> Result<Vec<u8>
 
 /// The key whose plain wrapping is `text` (RFC 3394, section 2.2.2): 8 bytes less than the text.
 ///
-/// `BadLength` where `text_length_ok` says no, before any memory is taken; then `Memory`; `Integrity` where
-/// the text is the plain wrapping of no key.
+/// `BadLength` where `text_length_ok` says no, before any memory is taken; then `Memory`;
+/// `Integrity` where the text is the plain wrapping of no key.
 pub fn unwrap<B: BlockPair>(alloc: Global, pair: &B, text: &[u8]) -> Result<Vec<u8>, UnwrapFault>
     ensures bad_length { (result ≡ Err UnwrapFault.BadLength)
         ↔ ¬ IsPlainTextLength (length text.now) }

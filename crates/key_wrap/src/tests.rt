@@ -1,5 +1,5 @@
-//! Worked answers over the drill block, which anyone can work by hand: At is the register word that goes
-//! in, xored with t, and A(t-1) goes into the last register.
+//! Worked answers over the drill block, which anyone can work by hand: At is the register word that
+//! goes in, xored with t, and A(t-1) goes into the last register.
 
 mod in_place;
 mod into;
@@ -14,19 +14,19 @@ use std::test::Fail;
 
 const IV: u64 = 0xA6A6_A6A6_A6A6_A6A6;
 
-/// The plain text of the key data `DATA`.
+// The plain text of the key data `DATA`.
 const TEXT: [u64; 3] = [IV, 0x0011_2233_4455_667F, 0x8899_AABB_CCDD_EEFB];
 
 const DATA: [u64; 2] = [0x0011_2233_4455_6677, 0x8899_AABB_CCDD_EEFF];
 
-/// The padded text of the nine bytes 11 22 .. 99.
+// The padded text of the nine bytes 11 22 .. 99.
 const NINE: [u64; 3] = [
     0xA659_59A6_0000_0009,
     0x1122_3344_5566_7780,
     0x9900_0000_0000_0004,
 ];
 
-/// The bytes that words spell.
+// The bytes that words spell.
 fn spelled(alloc: Global, words: &[u64]) -> Result<Vec<u8>, AllocError> {
     let mut bytes = Vec::new(alloc);
     for word in words {

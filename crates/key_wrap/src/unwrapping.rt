@@ -1,4 +1,5 @@
-//! The checked unwrapping of the registers, wherever they lie: in a buffer behind C0, or in one of their own.
+//! The checked unwrapping of the registers, wherever they lie: in a buffer behind C0, or in one of
+//! their own.
 
 ghost use Rattle.std.specs.Prelude.{◌≡◌, ◌+◌, ◌++◌, length, take, All, Err, IfOk};
 ghost use Rattle.block_pair.specs.Metered.{counted};
@@ -14,8 +15,8 @@ use crate::faults::InPlaceFault;
 use crate::machine::{unwrap_slice, unwrap_words};
 use block_pair::{BlockPair, Meter};
 
-// C1 .. Cn in the registers become the key whose plain wrapping they are with C0 (RFC 3394, section 2.2.2),
-// and zeros where there is none.
+// C1 .. Cn in the registers become the key whose plain wrapping they are with C0 (RFC 3394, section
+// 2.2.2), and zeros where there is none.
 pub(crate) fn unwrap_registers<B: BlockPair>(
     meter: &mut Meter<B>,
     c0: u64,
@@ -35,8 +36,9 @@ pub(crate) fn unwrap_registers<B: BlockPair>(
     Err(InPlaceFault::Integrity)
 }
 
-// C1 .. Cn in the registers become the key whose padded wrapping they are with C0 (RFC 5649, section 4.2), of
-// as many bytes as the answer says, and its padding; and zeros where there is none.
+// C1 .. Cn in the registers become the key whose padded wrapping they are with C0 (RFC 5649,
+// section 4.2), of as many bytes as the answer says, and its padding; and zeros where there is
+// none.
 pub(crate) fn unwrap_padded_registers<B: BlockPair>(
     meter: &mut Meter<B>,
     c0: u64,

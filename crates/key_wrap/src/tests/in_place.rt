@@ -6,7 +6,7 @@ use block_pair::{Meter, SwapHalves};
 use byteorder::{BigEndian, ByteOrder};
 use std::test::Fail;
 
-/// Three words as bytes.
+// Three words as bytes.
 pub(crate) fn three(words: [u64; 3]) -> [u8; 24] {
     let mut bytes = [0; 24];
     BigEndian::write_u64(&mut bytes, words[0]);

@@ -71,9 +71,22 @@ fn keeps_the_other_buffer_at_a_bad_length(rt: HostRuntime) -> Result<(), Fail> {
     let mut out = given;
     let mut meter = Meter::new(&SwapHalves);
     // The lengths of a key and of a text.
-    for (m, len) in [(8, 16), (15, 24), (16, 23), (16, 25), (24, 24), (4_104, 4_112)] {
-        assert_eq!(rt; wrap_into(&mut meter, &given[..m], &mut out[..len]), BAD_LENGTH);
-        assert_eq!(rt; unwrap_into(&mut meter, &given[..len], &mut out[..m]), BAD_LENGTH);
+    for (m, len) in [
+        (8, 16),
+        (15, 24),
+        (16, 23),
+        (16, 25),
+        (24, 24),
+        (4_104, 4_112),
+    ] {
+        assert_eq!(rt;
+            wrap_into(&mut meter, &given[..m], &mut out[..len]),
+            BAD_LENGTH
+        );
+        assert_eq!(rt;
+            unwrap_into(&mut meter, &given[..len], &mut out[..m]),
+            BAD_LENGTH
+        );
     }
     for (m, len) in [(0, 8), (0, 16), (8, 24), (9, 16), (9, 32), (4_097, 4_112)] {
         let answer = wrap_padded_into(&mut meter, &given[..m], &mut out[..len]);
@@ -81,7 +94,11 @@ fn keeps_the_other_buffer_at_a_bad_length(rt: HostRuntime) -> Result<(), Fail> {
     }
     for (m, len) in [(0, 8), (7, 16), (9, 16), (9, 17), (16, 16), (4_104, 4_112)] {
         let answer = unwrap_padded_into(&mut meter, &given[..len], &mut out[..m]);
-        assert_eq!(rt; answer, Err(InPlaceFault::BadLength), "{len} bytes into {m}");
+        assert_eq!(rt;
+            answer,
+            Err(InPlaceFault::BadLength),
+            "{len} bytes into {m}"
+        );
     }
     assert_eq!(rt; out.as_slice(), given.as_slice());
     assert_eq!(rt; meter.count(), 0);

@@ -1,4 +1,9 @@
-//! Memory: no call gives up for it at any length or content, and each takes it once, before the first block.
+//! Memory: no call gives up for it at any length or content, and each takes it once, before the
+//! first block.
+
+ghost use Rattle.std.specs.Prelude.{◌≤◌};
+ghost use Rattle.block_pair.specs.Halves.{swapped_halves};
+ghost use Rattle.block_pair.specs.HalvesLaw.{swap_halves_lawful};
 
 use super::in_place::three;
 use super::{DATA, NINE, TEXT};
@@ -9,14 +14,10 @@ use std::cell::Cell;
 use std::process::Abort;
 use std::test::Fail;
 
-ghost use Rattle.std.specs.Prelude.{◌≤◌};
-ghost use Rattle.block_pair.specs.Halves.{swapped_halves};
-ghost use Rattle.block_pair.specs.HalvesLaw.{swap_halves_lawful};
-
-/// The most words of a key.
+// The most words of a key.
 const WORDS: usize = MAX_KEY / 8;
 
-/// Zeros, ones and counting bytes.
+// Zeros, ones and counting bytes.
 fn contents() -> [[u8; MAX_KEY]; 3] {
     let mut counting = [0; MAX_KEY];
     for (i, byte) in counting.iter_mut().enumerate() {
@@ -25,7 +26,7 @@ fn contents() -> [[u8; MAX_KEY]; 3] {
     [[0; MAX_KEY], [0xFF; MAX_KEY], counting]
 }
 
-/// Wraps the key in each form that it has, unwraps it again and asks for its kind.
+// Wraps the key in each form that it has, unwraps it again and asks for its kind.
 fn goes_there_and_back(rt: &impl Abort, alloc: Global, key: &[u8]) -> Result<(), Fail> {
     let len = key.len();
     let text = wrap_padded(alloc, &SwapHalves, key)?;
@@ -39,7 +40,8 @@ fn goes_there_and_back(rt: &impl Abort, alloc: Global, key: &[u8]) -> Result<(),
     Ok(())
 }
 
-/// Wraps keys of each number of words in the padded form, `less` bytes short, and unwraps them again.
+// Wraps keys of each number of words in the padded form, `less` bytes short, and unwraps them
+// again.
 fn goes_padded(rt: &impl Abort, alloc: Global, less: usize) -> Result<(), Fail>
     requires { less ≤ 7 }
 {
@@ -103,12 +105,15 @@ fn names_the_kind_at_each_length(rt: HostRuntime) -> Result<(), Fail> {
     for words in 2..=WORDS {
         let key = &contents[words % 3][..8 * words];
         let text = wrap(rt.alloc(), &SwapHalves, key)?;
-        assert_eq!(rt; kind(rt.alloc(), &SwapHalves, &text)?, Kind::Plain(8 * words));
+        assert_eq!(rt;
+            kind(rt.alloc(), &SwapHalves, &text)?,
+            Kind::Plain(8 * words)
+        );
     }
     Ok(())
 }
 
-/// The drill block, and how many blocks it was given.
+// The drill block, and how many blocks it was given.
 #[derive(Drop)]
 struct Tally {
     blocks: Cell<u64>,
@@ -121,7 +126,7 @@ impl Tally {
         }
     }
 
-    /// The blocks since it was last asked.
+    // The blocks since it was last asked.
     fn take(&self) -> u64 {
         self.blocks.replace(0)
     }
@@ -149,7 +154,8 @@ impl BlockPair for Tally {
     ghost lawful = { λ _. swap_halves_lawful };
 }
 
-/// The buffer of an answer is the one that was taken at first, with the text's length as its capacity.
+// The buffer of an answer is the one that was taken at first, with the text's length as its
+// capacity.
 #[test]
 fn takes_memory_once(rt: HostRuntime) -> Result<(), Fail> {
     let alloc = rt.alloc();
@@ -160,20 +166,29 @@ fn takes_memory_once(rt: HostRuntime) -> Result<(), Fail> {
         assert_eq!(rt; unwrap(alloc, &SwapHalves, &text)?.capacity(), len + 8);
         let text = wrap_padded(alloc, &SwapHalves, key)?;
         assert_eq!(rt; text.capacity(), len + 8);
-        assert_eq!(rt; unwrap_padded(alloc, &SwapHalves, &text)?.capacity(), len + 8);
+        assert_eq!(rt;
+            unwrap_padded(alloc, &SwapHalves, &text)?.capacity(),
+            len + 8
+        );
     }
     Ok(())
 }
 
-/// With `rt try --test --fail-alloc N` the Nth of the four calls is refused its memory, and no other: each takes
-/// it once. A refused call has given its pair no block.
+// With `rt try --test --fail-alloc N` the Nth of the four calls is refused its memory, and no
+// other: each takes it once. A refused call has given its pair no block.
 #[test]
 fn takes_memory_before_the_first_block(rt: HostRuntime) -> Result<(), Fail> {
     let alloc = rt.alloc();
     let tally = Tally::new();
     let data = three([0, DATA[0], DATA[1]]);
-    assert_eq!(rt; wrap(alloc, &tally, &data[1..]).err(), Some(WrapFault::BadLength));
-    assert_eq!(rt; unwrap(alloc, &tally, &data[1..]).err(), Some(UnwrapFault::BadLength));
+    assert_eq!(rt;
+        wrap(alloc, &tally, &data[1..]).err(),
+        Some(WrapFault::BadLength)
+    );
+    assert_eq!(rt;
+        unwrap(alloc, &tally, &data[1..]).err(),
+        Some(UnwrapFault::BadLength)
+    );
     assert_eq!(rt; tally.take(), 0);
     let wraps = wrap(alloc, &tally, &data[8..]).err();
     assert_eq!(rt; tally.take(), if wraps.is_none() { 12 } else { 0 });

@@ -16,7 +16,8 @@ pub returns : goal.returns
 returns g c =
     let text : List ℕ = c.args.buf.now in
     let legal = c.text_length_ok.ensures.0 c.if-not-text_length_ok.false in
-    let front : word_bytes c.read_u64-c0.result ≡ take 8 text = read_word text c.read_u64-c0.result (omega arith) (each_byte text (search rules)) c.read_u64-c0.ensures in
+    let front : word_bytes c.read_u64-c0.result ≡ take 8 text =
+    read_word text c.read_u64-c0.result (omega arith) (each_byte text (search rules)) c.read_u64-c0.ensures in
     let key : List ℕ = c.unwrap_registers.new.registers in
     let states = first_cleared c.read_u64-c0.result text c.fill.new.self key (omega arith) front (c.fill.ensures.after (λ y e. e)) (search rules) in
     let u = renamed IsPlainTextLength states.given (ap (λ (bs : List ℕ). λ (_ : Unit {0}). drop 8 bs) (sym states.left)) c.unwrap_registers.ensures.answer in
@@ -31,6 +32,7 @@ returns g c =
       other_form = u.other_form;
       first_word = search rules;
       cleared = λ e. subst (λ (bs : List ℕ). All (λ byte. byte ≡ 0) bs) (sym states.left)
-          (All-append (λ (byte : ℕ). byte ≡ 0) (replicate 8 0) key (All-replicate (λ (byte : ℕ). byte ≡ 0) 8 0 (search rules)) (c.unwrap_registers.ensures.cleared e));
+          (All-append (λ (byte : ℕ). byte ≡ 0) (replicate 8 0) key (All-replicate (λ (byte : ℕ). byte ≡ 0) 8 0 (search rules))
+          (c.unwrap_registers.ensures.cleared e));
       calls = search rules;
     }

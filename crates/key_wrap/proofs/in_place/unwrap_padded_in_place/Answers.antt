@@ -24,7 +24,8 @@ pub returns : goal.returns
 returns g c =
     let text : List ℕ = c.args.buf.now in
     let legal = c.padded_text_length_ok.ensures.0 c.if-not-padded_text_length_ok.false in
-    let front : word_bytes c.read_u64-c0.result ≡ take 8 text = read_word text c.read_u64-c0.result (omega arith) (each_byte text (search rules)) c.read_u64-c0.ensures in
+    let front : word_bytes c.read_u64-c0.result ≡ take 8 text =
+    read_word text c.read_u64-c0.result (omega arith) (each_byte text (search rules)) c.read_u64-c0.ensures in
     let registers : List ℕ = c.unwrap_padded_registers.new.registers in
     let w = c.unwrap_padded_registers.ensures in
     let states = first_cleared c.read_u64-c0.result text c.fill.new.self registers (omega arith) front (c.fill.ensures.after (λ y e. e)) (search rules) in

@@ -1,3 +1,4 @@
+-- The machine runs from the initial value and the key behind the first word, and C0 is written before it.
 use Rattle.std.proofs.Common.{rules, ◌≡◌, ℕ, List, length, take, drop, ◌++◌, ◌-◌, arith, ap, ◌∙◌, length-drop}
 use Rattle.std.proofs.lemmas.List.{take_all}
 use borrow.Rule.Slice.PartMut.{put_mid}
@@ -15,7 +16,8 @@ returns g c =
     let old : List ℕ = c.args.buf.now in
     let legal = c.text_length_ok.ensures.0 c.if-not-text_length_ok.false in
     let all : take (length old - 8) (drop 8 old) ≡ drop 8 old = take_all (length old - 8) (drop 8 old) (omega (arith, length-drop 8 old)) in
-    let rest : drop 8 (put_mid 8 (length old - 8) old c.wrap_slice-c0.new.registers) ≡ c.wrap_slice-c0.new.registers = registers_now old c.wrap_slice-c0.new.registers (omega arith) (search rules) in
+    let rest : drop 8 (put_mid 8 (length old - 8) old c.wrap_slice-c0.new.registers) ≡ c.wrap_slice-c0.new.registers =
+    registers_now old c.wrap_slice-c0.new.registers (omega arith) (search rules) in
     let text : c.write_u64.new.buf ≡ word_bytes c.wrap_slice-c0.result ++ c.wrap_slice-c0.new.registers =
     c.write_u64.ensures ∙ ap (λ (bs : List ℕ). word_bytes c.wrap_slice-c0.result ++ bs) rest in
     let run : Registers E (word_bytes default_iv ++ drop 8 old) c.write_u64.new.buf = rw (text, ← all) c.wrap_slice-c0.ensures.wrapped in

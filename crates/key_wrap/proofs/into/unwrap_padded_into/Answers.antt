@@ -19,7 +19,8 @@ returns g c =
     let front : word_bytes A ≡ take 8 text = read_word text A (omega arith) (each_byte text (search rules)) c.read_u64.ensures in
     let whole = text_again A text c.copy_from_slice.new.self (omega arith) front c.copy_from_slice.ensures.after in
     let w = c.unwrap_padded_registers.ensures in
-    let size : 8 + length c.copy_from_slice.new.self ≡ length text = omega (arith, ap length whole, length-append (word_bytes A) c.copy_from_slice.new.self, length-word_bytes A) in
+    let size : 8 + length c.copy_from_slice.new.self ≡ length text =
+    omega (arith, ap length whole, length-append (word_bytes A) c.copy_from_slice.new.self, length-word_bytes A) in
     let u = legally legal lengths (renamed IsPaddedTextLength whole refl w.answer) in
     record {
       bad_length = u.bad_length;

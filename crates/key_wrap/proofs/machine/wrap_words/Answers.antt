@@ -1,3 +1,4 @@
+-- More words than one are wrapped by the steps; one word is the one block, where xor with 0 changes nothing.
 use Rattle.std.proofs.Common.{rules, ℕ, List, ◌++◌, arith, length-append, ap, ◌∙◌}
 use Rattle.std.specs.Int.Bits.{xor_zero_r}
 use Rattle.key_wrap.specs.Words.{word_bytes}

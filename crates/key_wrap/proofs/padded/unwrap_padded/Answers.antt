@@ -1,3 +1,4 @@
+-- The buffer holds the text, so what the call in it promises of the text is what is promised here.
 use Rattle.std.proofs.Common.{rules, ◌≡◌, ℕ, List, length, arith, ap, ◌∙◌}
 use Rattle.key_wrap.specs.Lengths.{IsPaddedTextLength}
 use Rattle.key_wrap.specs.Padded.{Padded}
@@ -20,7 +21,8 @@ returns-in_err-len g c =
     let same : c.deref_mut.result.now ≡ text = c.deref_mut.ensures.value ∙ c.in_ok-buffer.ensures.items in
     let own = ap (λ m. m.pair) c.new.ensures in
     let given : List ℕ = c.deref_mut.result.now in
-    let w = refused (Padded (g.B.BlockPair.encrypted c.new.result.pair)) (IsPaddedTextLength (length given)) (λ (m : ℕ). key_in m c.unwrap_padded_in_place.new.buf) given
+    let w = refused (Padded (g.B.BlockPair.encrypted c.new.result.pair)) (IsPaddedTextLength (length given))
+    (λ (m : ℕ). key_in m c.unwrap_padded_in_place.new.buf) given
     c.in_err-len.field-0.0 c.from_residual-in_err-len.result (rw same legal) c.in_err-len.ensures.answer c.from_residual-in_err-len.ensures in
     let none = rw (own, same) at w.1 in
     record {

@@ -1,3 +1,4 @@
+-- The buffer holds the text, so what the call in it promises of the text is what is promised here.
 use Rattle.std.proofs.Common.{rules, ◌≡◌, ℕ, List, length, take, drop, ◌-◌, arith, ap, ◌∙◌, length-drop}
 use Rattle.std.proofs.lemmas.List.{take_all}
 use Rattle.key_wrap.specs.Lengths.{IsPlainTextLength}
@@ -17,8 +18,10 @@ returns-in_err-unwrap_in_place g c =
     let same : c.deref_mut.result.now ≡ text = c.deref_mut.ensures.value ∙ c.in_ok-buffer.ensures.items in
     let own = ap (λ m. m.pair) c.new.ensures in
     let given : List ℕ = c.deref_mut.result.now in
-    let w = refused (Plain (g.B.BlockPair.encrypted c.new.result.pair)) (IsPlainTextLength (length given)) (λ (_ : Unit {0}). drop 8 c.unwrap_in_place.new.buf) given
-    c.in_err-unwrap_in_place.field-0.0 c.from_residual-in_err-unwrap_in_place.result (rw same legal) c.in_err-unwrap_in_place.ensures.answer c.from_residual-in_err-unwrap_in_place.ensures in
+    let w = refused (Plain (g.B.BlockPair.encrypted c.new.result.pair)) (IsPlainTextLength (length given)) (λ (_ : Unit {0}). drop 8 c.unwrap_in_place.new.buf)
+    given
+    c.in_err-unwrap_in_place.field-0.0 c.from_residual-in_err-unwrap_in_place.result (rw same legal) c.in_err-unwrap_in_place.ensures.answer
+    c.from_residual-in_err-unwrap_in_place.ensures in
     let none = rw (own, same) at w.1 in
     record {
       bad_length = rw w.0 (search rules);
@@ -39,7 +42,8 @@ returns g c =
     let size : length new ≡ length text = search rules in
     let back = written_back c.in_ok-buffer.buffer.len new c.in_ok-buffer.buffer.items (omega arith) in
     let key : c.key_of.result.items ≡ drop 8 new =
-    c.key_of.ensures ∙ ap (λ (bs : List ℕ). take (length text - 8) (drop 8 bs)) back ∙ take_all (length text - 8) (drop 8 new) (omega (arith, length-drop 8 new)) in
+    c.key_of.ensures ∙ ap (λ (bs : List ℕ). take (length text - 8) (drop 8 bs)) back
+    ∙ take_all (length text - 8) (drop 8 new) (omega (arith, length-drop 8 new)) in
     let w = rw (own, same) at c.in_ok-unwrap_in_place.ensures in
     record {
       bad_length = search rules;

@@ -1,3 +1,4 @@
+-- The machine ran back to an initial value and registers; the key stands with the text where they hold one.
 use Rattle.std.proofs.Common.{rules, ◌≡◌, ℕ, List, length, take, drop, ◌+◌, ◌++◌, arith, length-append, ap}
 use Rattle.std.proofs.lemmas.List.{drop_at}
 use Rattle.key_wrap.specs.Words.{word_bytes}
@@ -10,9 +11,11 @@ use Rattle.key_wrap.proofs.unwrapping.unwrap_padded_registers.Goals as goal
 pub returns-in-Some-clause-answer : goal.returns-in-Some-clause-answer
 returns-in-Some-clause-answer g c =
     let text : List ℕ = word_bytes c.args.c0 ++ c.args.registers.now in
-    let size : length text ≡ 8 + length c.args.registers.now = omega (arith, length-append (word_bytes c.args.c0) c.args.registers.now, length-word_bytes c.args.c0) in
+    let size : length text ≡ 8 + length c.args.registers.now =
+    omega (arith, length-append (word_bytes c.args.c0) c.args.registers.now, length-word_bytes c.args.c0) in
     let legal : IsPaddedTextLength (length text) = rw size c.requires in
-    padded_found c.unwrap_words-iv.result c.unwrap_words-iv.new.registers text (g.met.B.BlockPair.lawful c.args.meter.now.pair) legal c.unwrap_words-iv.ensures.wrapped c.in-Some.ensures.passes
+    padded_found c.unwrap_words-iv.result c.unwrap_words-iv.new.registers text (g.met.B.BlockPair.lawful c.args.meter.now.pair) legal
+    c.unwrap_words-iv.ensures.wrapped c.in-Some.ensures.passes
 
 pub returns-in-Some-clause-size : goal.returns-in-Some-clause-size
 returns-in-Some-clause-size g c =
@@ -28,6 +31,8 @@ returns-in-Some-clause-padding g c =
 pub returns-clause-answer : goal.returns-clause-answer
 returns-clause-answer g c =
     let text : List ℕ = word_bytes c.args.c0 ++ c.args.registers.now in
-    let size : length text ≡ 8 + length c.args.registers.now = omega (arith, length-append (word_bytes c.args.c0) c.args.registers.now, length-word_bytes c.args.c0) in
+    let size : length text ≡ 8 + length c.args.registers.now =
+    omega (arith, length-append (word_bytes c.args.c0) c.args.registers.now, length-word_bytes c.args.c0) in
     let legal : IsPaddedTextLength (length text) = rw size c.requires in
-    padded_none c.unwrap_words-iv.result c.unwrap_words-iv.new.registers _ text (g.met.B.BlockPair.lawful c.args.meter.now.pair) legal c.unwrap_words-iv.ensures.wrapped c.in_default.ensures.refuses
+    padded_none c.unwrap_words-iv.result c.unwrap_words-iv.new.registers _ text (g.met.B.BlockPair.lawful c.args.meter.now.pair) legal
+    c.unwrap_words-iv.ensures.wrapped c.in_default.ensures.refuses

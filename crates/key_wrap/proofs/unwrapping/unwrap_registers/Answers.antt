@@ -1,3 +1,4 @@
+-- The machine ran back to an initial value and registers; the key stands with the text where it is the default.
 use Rattle.std.proofs.Common.{rules, ◌≡◌, ℕ, List, length, ◌+◌, ◌++◌, arith, length-append, subst}
 use Rattle.key_wrap.specs.Words.{word_bytes}
 use Rattle.key_wrap.specs.Lengths.{IsPlainTextLength}
@@ -11,7 +12,8 @@ returns-then-unwrap_slice-clause-answer g c =
     let E = g.B.BlockPair.encrypted c.args.meter.now.pair in
     let text : List ℕ = word_bytes c.args.c0 ++ c.args.registers.now in
     let key : List ℕ = c.unwrap_slice.new.registers in
-    let size : length text ≡ 8 + length c.args.registers.now = omega (arith, length-append (word_bytes c.args.c0) c.args.registers.now, length-word_bytes c.args.c0) in
+    let size : length text ≡ 8 + length c.args.registers.now =
+    omega (arith, length-append (word_bytes c.args.c0) c.args.registers.now, length-word_bytes c.args.c0) in
     let legal : IsPlainTextLength (length text) = rw size c.requires in
     plain_found key text (g.met.B.BlockPair.lawful c.args.meter.now.pair) legal
     (subst (λ (iv : ℕ). Registers E (word_bytes iv ++ key) text) c.if-unwrap_slice.true c.unwrap_slice.ensures.wrapped)
@@ -19,6 +21,8 @@ returns-then-unwrap_slice-clause-answer g c =
 pub returns-clause-answer : goal.returns-clause-answer
 returns-clause-answer g c =
     let text : List ℕ = word_bytes c.args.c0 ++ c.args.registers.now in
-    let size : length text ≡ 8 + length c.args.registers.now = omega (arith, length-append (word_bytes c.args.c0) c.args.registers.now, length-word_bytes c.args.c0) in
+    let size : length text ≡ 8 + length c.args.registers.now =
+    omega (arith, length-append (word_bytes c.args.c0) c.args.registers.now, length-word_bytes c.args.c0) in
     let legal : IsPlainTextLength (length text) = rw size c.requires in
-    plain_none c.unwrap_slice.new.registers _ text (g.met.B.BlockPair.lawful c.args.meter.now.pair) legal (search rules) c.if-unwrap_slice.false c.unwrap_slice.ensures.wrapped
+    plain_none c.unwrap_slice.new.registers _ text (g.met.B.BlockPair.lawful c.args.meter.now.pair) legal (search rules) c.if-unwrap_slice.false
+    c.unwrap_slice.ensures.wrapped
