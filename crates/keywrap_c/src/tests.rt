@@ -53,8 +53,8 @@ fn wraps_plain_in_place_and_back(rt: HostRuntime) -> Result<(), Fail> {
     assert_eq!(rt; keywrap_wrap_in_place(&KEK, &mut buffer), DONE);
     assert_eq!(rt; buffer, TEXT);
     assert_eq!(rt; keywrap_unwrap_in_place(&KEK, &mut buffer), DONE);
-    assert_eq!(rt; &buffer[..8], &[0; 8]);
-    assert_eq!(rt; &buffer[8..], &KEY);
+    assert_eq!(rt; &buffer[..8], [0; 8].as_slice());
+    assert_eq!(rt; &buffer[8..], KEY.as_slice());
     assert_eq!(rt; keywrap_unwrap_in_place(&KEK, &mut buffer), INTEGRITY);
     assert_eq!(rt; buffer, [0; 24]);
     Ok(())
