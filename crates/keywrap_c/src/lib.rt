@@ -7,6 +7,5 @@ mod padded_in_place;
 mod plain;
 mod plain_in_place;
 mod status;
-
 #[cfg(test)]
 mod tests;

@@ -7,7 +7,8 @@ ghost use Rattle.key_wrap.specs.Plain.{Plain};
 ghost use Rattle.key_wrap.specs.Padded.{Padded, padded};
 ghost use Rattle.key_wrap.specs.Answer.{NoKey};
 ghost use Rattle.key_wrap.specs.InPlace.{IsPaddedRoom, ArePaddedLengths};
-ghost use Rattle.keywrap_c.specs.Status.{IsDone, IsBadKek, IsBadLength, IsIntegrity, IsWrapStatus, IsUnwrapStatus};
+ghost use Rattle.keywrap_c.specs.Status.{IsDone, IsBadKek, IsBadLength, IsIntegrity};
+ghost use Rattle.keywrap_c.specs.Status.{IsWrapStatus, IsUnwrapStatus};
 ghost use Rattle.keywrap_c.specs.Answers.{IsWrapping, IsUnwrapping};
 
 use crate::status::{BAD_KEK, BAD_LENGTH, DONE, INTEGRITY};
@@ -36,8 +37,9 @@ pub extern "C" fn keywrap_wrap_padded(kek: &[u8], key: &[u8], text: &mut [u8]) -
     }
 }
 
-/// The key whose padded wrapping under `kek` is `text`, into the first `*key_len` bytes of `key`, with zero bytes
-/// behind it (RFC 5649, section 4.2); at `INTEGRITY` every byte of `key` is zero. `*key_len` is 0 at each refusal.
+/// The key whose padded wrapping under `kek` is `text`, into the first `*key_len` bytes of `key`,
+/// with zero bytes behind it (RFC 5649, section 4.2); at `INTEGRITY` every byte of `key` is zero.
+/// `*key_len` is 0 at each refusal.
 #[unsafe(no_mangle)]
 pub extern "C" fn keywrap_unwrap_padded(
     kek: &[u8],
@@ -52,7 +54,8 @@ pub extern "C" fn keywrap_unwrap_padded(
     ensures done { IsDone result
         → IsKekLength (length kek.now) × ArePaddedLengths (length key.old) (length text.now) }
     ensures integrity { IsIntegrity result ↔ (IsKekLength (length kek.now)
-        × ArePaddedLengths (length key.old) (length text.now) × NoKey (Padded (cipher kek.now)) text.now) }
+        × ArePaddedLengths (length key.old) (length text.now)
+        × NoKey (Padded (cipher kek.now)) text.now) }
     ensures kept_at_bad_kek { IsBadKek result → key.new ≡ key.old }
     ensures kept_at_bad_length { IsBadLength result → key.new ≡ key.old }
     ensures cleared { IsIntegrity result → All (λ byte. byte ≡ 0) key.new }

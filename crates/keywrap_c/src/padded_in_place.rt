@@ -8,7 +8,8 @@ ghost use Rattle.key_wrap.specs.Plain.{Plain};
 ghost use Rattle.key_wrap.specs.Padded.{Padded, padded};
 ghost use Rattle.key_wrap.specs.Answer.{NoKey};
 ghost use Rattle.key_wrap.specs.InPlace.{IsPaddedRoom, key_in};
-ghost use Rattle.keywrap_c.specs.Status.{IsDone, IsBadKek, IsBadLength, IsIntegrity, IsWrapStatus, IsUnwrapStatus};
+ghost use Rattle.keywrap_c.specs.Status.{IsDone, IsBadKek, IsBadLength, IsIntegrity};
+ghost use Rattle.keywrap_c.specs.Status.{IsWrapStatus, IsUnwrapStatus};
 ghost use Rattle.keywrap_c.specs.Answers.{IsWrapping, IsUnwrapping};
 
 use crate::status::{BAD_KEK, BAD_LENGTH, DONE, INTEGRITY};
@@ -16,8 +17,9 @@ use aes_block::Aes;
 use block_pair::Meter;
 use key_wrap::{InPlaceFault, unwrap_padded_in_place, wrap_padded_in_place};
 
-/// The key of `key_len` bytes behind the first 8 bytes of `buffer`, which are ignored as what follows it is, becomes
-/// its padded wrapping under `kek`, the whole buffer (RFC 5649, section 4.1).
+/// The key of `key_len` bytes behind the first 8 bytes of `buffer`, which are ignored as what
+/// follows it is, becomes its padded wrapping under `kek`, the whole buffer (RFC 5649, section
+/// 4.1).
 #[unsafe(no_mangle)]
 pub extern "C" fn keywrap_wrap_padded_in_place(kek: &[u8], buffer: &mut [u8], key_len: usize) -> i32
     ensures statuses { IsWrapStatus result }
@@ -39,8 +41,9 @@ pub extern "C" fn keywrap_wrap_padded_in_place(kek: &[u8], buffer: &mut [u8], ke
     }
 }
 
-/// The padded text in `buffer` becomes 8 zero bytes, its key under `kek`, of `*key_len` bytes, and zero bytes to the
-/// end (RFC 5649, section 4.2); at `INTEGRITY` every byte of the buffer is zero. `*key_len` is 0 at each refusal.
+/// The padded text in `buffer` becomes 8 zero bytes, its key under `kek`, of `*key_len` bytes, and
+/// zero bytes to the end (RFC 5649, section 4.2); at `INTEGRITY` every byte of the buffer is zero.
+/// `*key_len` is 0 at each refusal.
 #[unsafe(no_mangle)]
 pub extern "C" fn keywrap_unwrap_padded_in_place(
     kek: &[u8],
@@ -51,22 +54,23 @@ pub extern "C" fn keywrap_unwrap_padded_in_place(
     ensures bad_kek { IsBadKek result ↔ ¬ IsKekLength (length kek.now) }
     ensures bad_length { IsBadLength result
         ↔ (IsKekLength (length kek.now) × ¬ IsPaddedTextLength (length buffer.old)) }
-    ensures done { IsDone result → IsKekLength (length kek.now) × IsPaddedTextLength (length buffer.old) }
+    ensures done { IsDone result
+        → IsKekLength (length kek.now) × IsPaddedTextLength (length buffer.old) }
     ensures integrity { IsIntegrity result ↔ (IsKekLength (length kek.now)
         × IsPaddedTextLength (length buffer.old) × NoKey (Padded (cipher kek.now)) buffer.old) }
     ensures kept_at_bad_kek { IsBadKek result → buffer.new ≡ buffer.old }
     ensures kept_at_bad_length { IsBadLength result → buffer.new ≡ buffer.old }
     ensures cleared { IsIntegrity result → All (λ byte. byte ≡ 0) buffer.new }
     ensures no_key { ¬ IsDone result → key_len.new ≡ 0 }
-    ensures answer { IsDone result → IsUnwrapping
-        (Padded (cipher kek.now)) (Plain (cipher kek.now)) buffer.old (key_in key_len.new buffer.new) }
+    ensures answer { IsDone result → IsUnwrapping (Padded (cipher kek.now)) (Plain (cipher kek.now))
+        buffer.old (key_in key_len.new buffer.new) }
     ensures size { IsDone result → length (key_in key_len.new buffer.new) ≡ key_len.new }
     ensures around { IsDone result
         → buffer.new ≡ replicate 8 0 ++ padded (key_in key_len.new buffer.new) }
 
     // A wrapping is not refused.
-    ensures accepts { (key : List ℕ) → IsKekLength (length kek.now) → Padded (cipher kek.now) key buffer.old
-        → IsDone result }
+    ensures accepts { (key : List ℕ) → IsKekLength (length kek.now)
+        → Padded (cipher kek.now) key buffer.old → IsDone result }
 {
     *key_len = 0;
     let Ok(aes) = Aes::new(kek) else {

@@ -7,7 +7,8 @@ ghost use Rattle.key_wrap.specs.Plain.{Plain};
 ghost use Rattle.key_wrap.specs.Padded.{Padded};
 ghost use Rattle.key_wrap.specs.Answer.{NoKey};
 ghost use Rattle.key_wrap.specs.InPlace.{ArePlainLengths};
-ghost use Rattle.keywrap_c.specs.Status.{IsDone, IsBadKek, IsBadLength, IsIntegrity, IsWrapStatus, IsUnwrapStatus};
+ghost use Rattle.keywrap_c.specs.Status.{IsDone, IsBadKek, IsBadLength, IsIntegrity};
+ghost use Rattle.keywrap_c.specs.Status.{IsWrapStatus, IsUnwrapStatus};
 ghost use Rattle.keywrap_c.specs.Answers.{IsWrapping, IsUnwrapping};
 
 use crate::status::{BAD_KEK, BAD_LENGTH, DONE, INTEGRITY};
@@ -36,8 +37,8 @@ pub extern "C" fn keywrap_wrap(kek: &[u8], key: &[u8], text: &mut [u8]) -> i32
     }
 }
 
-/// The key whose plain wrapping under `kek` is `text`, into `key` (RFC 3394, section 2.2.2); at `INTEGRITY` every
-/// byte there is zero.
+/// The key whose plain wrapping under `kek` is `text`, into `key` (RFC 3394, section 2.2.2); at
+/// `INTEGRITY` every byte there is zero.
 #[unsafe(no_mangle)]
 pub extern "C" fn keywrap_unwrap(kek: &[u8], text: &[u8], key: &mut [u8]) -> i32
     ensures statuses { IsUnwrapStatus result }
@@ -47,7 +48,8 @@ pub extern "C" fn keywrap_unwrap(kek: &[u8], text: &[u8], key: &mut [u8]) -> i32
     ensures done { IsDone result
         → IsKekLength (length kek.now) × ArePlainLengths (length key.old) (length text.now) }
     ensures integrity { IsIntegrity result ↔ (IsKekLength (length kek.now)
-        × ArePlainLengths (length key.old) (length text.now) × NoKey (Plain (cipher kek.now)) text.now) }
+        × ArePlainLengths (length key.old) (length text.now)
+        × NoKey (Plain (cipher kek.now)) text.now) }
     ensures kept_at_bad_kek { IsBadKek result → key.new ≡ key.old }
     ensures kept_at_bad_length { IsBadLength result → key.new ≡ key.old }
     ensures cleared { IsIntegrity result → All (λ byte. byte ≡ 0) key.new }

@@ -1,3 +1,5 @@
+-- What the call of key_wrap ensures, said of the KEK: the pair in its meter is AES under the KEK (`under`). A refusal of
+-- a wrapping would contradict it.
 use Rattle.std.proofs.Common.{rules, ◌≡◌, ℕ, List, take, ap, ◌∙◌, subst, sym}
 use Rattle.aes_block.specs.Cipher.{cipher}
 use Rattle.key_wrap.specs.Plain.{Plain}
@@ -10,7 +12,8 @@ pub returns-in-Ok-unwrap_padded_into-clause-answer : goal.returns-in-Ok-unwrap_p
 returns-in-Ok-unwrap_padded_into-clause-answer c = λ _.
     let under : c.new-2.result.pair ≡ c.args.kek.now = ap (λ m. m.pair) c.new-2.ensures ∙ c.in-Ok.ensures.key in
     let told = c.in-Ok-unwrap_padded_into.ensures in
-    subst (λ (K : List ℕ). IsUnwrapping (Padded (cipher K)) (Plain (cipher K)) c.args.text.now (take c.in-Ok-unwrap_padded_into.m c.unwrap_padded_into.new.key)) under
+    let key = take c.in-Ok-unwrap_padded_into.m c.unwrap_padded_into.new.key in
+    subst (λ (K : List ℕ). IsUnwrapping (Padded (cipher K)) (Plain (cipher K)) c.args.text.now key) under
     (record { stands = told.answer.1; only_key = told.only_key; restores = told.restores; other_form = told.other_form })
 
 pub returns-in-Err-BadLength-clause-accepts : goal.returns-in-Err-BadLength-clause-accepts

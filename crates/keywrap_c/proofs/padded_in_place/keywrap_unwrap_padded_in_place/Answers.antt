@@ -1,3 +1,5 @@
+-- What the call of key_wrap ensures, said of the KEK: the pair in its meter is AES under the KEK (`under`). A refusal of
+-- a wrapping would contradict it.
 use Rattle.std.proofs.Common.{rules, ◌≡◌, ℕ, List, ap, ◌∙◌, subst, sym, true, false}
 use Rattle.aes_block.specs.Cipher.{cipher}
 use Rattle.key_wrap.specs.Plain.{Plain}
@@ -11,7 +13,8 @@ pub returns-in-Ok-unwrap_padded_in_place-clause-answer : goal.returns-in-Ok-unwr
 returns-in-Ok-unwrap_padded_in_place-clause-answer c = λ _.
     let under : c.new-2.result.pair ≡ c.args.kek.now = ap (λ m. m.pair) c.new-2.ensures ∙ c.in-Ok.ensures.key in
     let told = c.in-Ok-unwrap_padded_in_place.ensures in
-    subst (λ (K : List ℕ). IsUnwrapping (Padded (cipher K)) (Plain (cipher K)) c.args.buffer.now (key_in c.in-Ok-unwrap_padded_in_place.m c.unwrap_padded_in_place.new.buf)) under
+    let key = key_in c.in-Ok-unwrap_padded_in_place.m c.unwrap_padded_in_place.new.buf in
+    subst (λ (K : List ℕ). IsUnwrapping (Padded (cipher K)) (Plain (cipher K)) c.args.buffer.now key) under
     (record { stands = told.answer.1; only_key = told.only_key; restores = told.restores; other_form = told.other_form })
 
 pub returns-in-Err-BadLength-clause-accepts : goal.returns-in-Err-BadLength-clause-accepts

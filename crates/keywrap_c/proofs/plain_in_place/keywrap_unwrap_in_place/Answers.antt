@@ -1,3 +1,5 @@
+-- What the call of key_wrap ensures, said of the KEK: the pair in its meter is AES under the KEK (`under`). A refusal of
+-- a wrapping would contradict it.
 use Rattle.std.proofs.Common.{rules, ◌≡◌, ℕ, List, drop, ap, ◌∙◌, subst, sym, true, false}
 use Rattle.aes_block.specs.Cipher.{cipher}
 use Rattle.key_wrap.specs.Plain.{Plain}

@@ -1,3 +1,5 @@
+-- What the call of key_wrap ensures, said of the KEK: the pair in its meter is AES under the KEK (`under`). Lengths that
+-- are not refused are right.
 use Rattle.std.proofs.Common.{◌≡◌, ℕ, List, length, drop, ap, ◌∙◌, subst, refl}
 use Rattle.aes_block.specs.Cipher.{cipher}
 use Rattle.key_wrap.specs.Lengths.{IsPlainTextLength}
