@@ -116,6 +116,9 @@ const ROWS: [(Form, &str, &str); 8] = [
 // Of how many bits one is changed in turn. A job takes AES, whose bodies are slow where tests run.
 const BITS_APART: usize = 29;
 
+// The longest text has 40 bytes.
+const MOST_BITS: usize = 320;
+
 // What a raw job writes.
 fn run(alloc: Global, job: Job, form: Form, kek: &[u8], input: &[u8]) -> Result<Vec<u8>, JobFault> {
     let task = Task {
@@ -174,21 +177,20 @@ fn refuses_or_restores_where_one_bit_is_changed(rt: HostRuntime) -> Result<(), F
     for (form, kek, text) in ROWS {
         let kek = decode_hex(rt.alloc(), kek.as_bytes())?;
         let text = decode_hex(rt.alloc(), text.as_bytes())?;
-        for place in 0..8 * text.len() / BITS_APART {
-            let bit = place * BITS_APART;
-            let other = with_bit_changed(rt.alloc(), &text, bit)?;
-            assert!(rt;
-                is_refused_or_restored(rt.alloc(), form, &kek, &other),
-                "text, bit {bit}"
-            );
-        }
-        for place in 0..8 * kek.len() / BITS_APART {
-            let bit = place * BITS_APART;
-            let other = with_bit_changed(rt.alloc(), &kek, bit)?;
-            assert!(rt;
-                is_refused_or_restored(rt.alloc(), form, &other, &text),
-                "KEK, bit {bit}"
-            );
+        for bit in 0..MOST_BITS {
+            if bit % BITS_APART != 0 {
+                continue;
+            }
+            if bit / 8 < text.len() {
+                let other = with_bit_changed(rt.alloc(), &text, bit)?;
+                let right = is_refused_or_restored(rt.alloc(), form, &kek, &other);
+                assert!(rt; right, "text, bit {bit}");
+            }
+            if bit / 8 < kek.len() {
+                let other = with_bit_changed(rt.alloc(), &kek, bit)?;
+                let right = is_refused_or_restored(rt.alloc(), form, &other, &text);
+                assert!(rt; right, "KEK, bit {bit}");
+            }
         }
     }
     Ok(())
