@@ -10,7 +10,7 @@ mod writes;
 
 use super::doubles::Trickle;
 use crate::job::{Job, JobFault, Notation, Task, run_job};
-use crate::vector_table::{Operation, VECTORS};
+use crate::vector_table::VECTORS;
 use key_files::decode_hex;
 use key_wrap::Form;
 use std::alloc::{AllocError, Global};
@@ -141,18 +141,28 @@ struct Wrapping {
     text: Vec<u8>,
 }
 
-/// The eight wrappings of RFC 3394, section 4, and RFC 5649, section 6.
+/// The forms of the vectors of RFC 3394, section 4, and RFC 5649, section 6, the first of the table.
+const FORMS: [Form; 8] = [
+    Form::Plain,
+    Form::Plain,
+    Form::Plain,
+    Form::Plain,
+    Form::Plain,
+    Form::Plain,
+    Form::Padded,
+    Form::Padded,
+];
+
+/// Their wrappings.
 fn published(alloc: Global) -> Result<Vec<Wrapping>, Fail> {
     let mut found = Vec::new(alloc);
-    for vector in VECTORS {
-        if let Operation::KeyWrap(form) = vector.operation {
-            found.push(Wrapping {
-                form,
-                kek: decode_hex(alloc, vector.key.as_bytes())?,
-                key: decode_hex(alloc, vector.input.as_bytes())?,
-                text: decode_hex(alloc, vector.output.as_bytes())?,
-            })?;
-        }
+    for (vector, form) in VECTORS.iter().zip(FORMS) {
+        found.push(Wrapping {
+            form,
+            kek: decode_hex(alloc, vector.key.as_bytes())?,
+            key: decode_hex(alloc, vector.input.as_bytes())?,
+            text: decode_hex(alloc, vector.output.as_bytes())?,
+        })?;
     }
     Ok(found)
 }

@@ -78,22 +78,6 @@ fn says_failed_where_a_text_is_changed(rt: HostRuntime) -> Result<(), Fail> {
 }
 
 #[test]
-fn counts_the_bytes_of_the_lines_that_went_out(rt: HostRuntime) {
-    for room in [0, 1, 15, 100, 168] {
-        for mut out in [
-            Narrow::failing(rt.alloc(), room),
-            Narrow::full(rt.alloc(), room),
-        ] {
-            assert_eq!(rt;
-                vectors(rt.alloc(), &mut out),
-                Err(VectorsFault::Write { written: room })
-            );
-            assert_eq!(rt; Some(out.out()), LINES.as_bytes().get(..room));
-        }
-    }
-}
-
-#[test]
 fn ends_with_the_status_of_the_lines(rt: HostRuntime) -> Result<(), Fail> {
     let mut out = Narrow::full(rt.alloc(), LINES.len());
     assert_eq!(rt; run_vectors(rt.alloc(), &mut out).ok(), Some(0));

@@ -54,7 +54,7 @@ fn each_changed_bit_is_refused_or_changes_the_key(rt: HostRuntime) -> Result<(),
 fn drill_each_changed_bit(rt: &impl Abort, alloc: Global, drilled: Drilled) -> Result<(), Fail> {
     let key = decode_hex(alloc, drilled.key.as_bytes())?;
     let text = decode_hex(alloc, drilled.text.as_bytes())?;
-    for bit in 0..8 * text.len() {
+    for bit in 0..text.len().saturating_mul(8) {
         let changed = with_bit_changed(alloc, &text, bit)?;
         let digits = hex::encode(alloc, &changed)?;
         let answer = drill(alloc, drilled.form, Direction::Unwrap, &digits);
@@ -79,7 +79,7 @@ fn each_changed_bit_clears_the_buffer_or_changes_the_key(rt: HostRuntime) -> Res
 fn unwrap_each_changed_bit(rt: &impl Abort, alloc: Global, drilled: Drilled) -> Result<(), Fail> {
     let key = decode_hex(alloc, drilled.key.as_bytes())?;
     let text = decode_hex(alloc, drilled.text.as_bytes())?;
-    for bit in 0..8 * text.len() {
+    for bit in 0..text.len().saturating_mul(8) {
         let mut buf = with_bit_changed(alloc, &text, bit)?;
         let mut meter = Meter::new(&SwapHalves);
         let answer = unwrap_buffer(drilled.form, &mut meter, &mut buf);

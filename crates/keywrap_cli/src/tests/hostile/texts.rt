@@ -27,14 +27,14 @@ fn is_refused_or_the_text(rt: &impl Abort, alloc: Global, form: Form, kek: &[u8]
 #[test]
 fn refuses_each_proper_prefix_of_a_text(rt: HostRuntime) -> Result<(), Fail> {
     let alloc = rt.alloc();
-    let mut legal = 0;
+    let mut legal: usize = 0;
     let published = published(alloc)?;
     assert_eq!(rt; published.len(), 8);
     for wrapped in &published {
         for len in 0..wrapped.text.len() {
             let prefix = &wrapped.text[..len];
             if is_legal(wrapped.form, len) {
-                legal += 1;
+                legal = legal.saturating_add(1);
                 is_refused_or_the_text(&rt, alloc, wrapped.form, &wrapped.kek, prefix);
             } else {
                 let answer = unwrapped(alloc, wrapped.form, &wrapped.kek, prefix);
@@ -59,12 +59,12 @@ fn is_legal(form: Form, len: usize) -> bool {
 #[test]
 fn refuses_each_changed_bit_of_a_text(rt: HostRuntime) -> Result<(), Fail> {
     let alloc = rt.alloc();
-    let mut bits = 0;
+    let mut bits: usize = 0;
     for wrapped in published(alloc)? {
-        for bit in 0..8 * wrapped.text.len() {
+        for bit in 0..wrapped.text.len().saturating_mul(8) {
             let text = with_bit_changed(alloc, &wrapped.text, bit)?;
             is_refused_or_the_text(&rt, alloc, wrapped.form, &wrapped.kek, &text);
-            bits += 1;
+            bits = bits.saturating_add(1);
         }
     }
     assert_eq!(rt; bits, 1_792);
@@ -74,12 +74,12 @@ fn refuses_each_changed_bit_of_a_text(rt: HostRuntime) -> Result<(), Fail> {
 #[test]
 fn refuses_each_changed_bit_of_a_kek(rt: HostRuntime) -> Result<(), Fail> {
     let alloc = rt.alloc();
-    let mut bits = 0;
+    let mut bits: usize = 0;
     for wrapped in published(alloc)? {
-        for bit in 0..8 * wrapped.kek.len() {
+        for bit in 0..wrapped.kek.len().saturating_mul(8) {
             let kek = with_bit_changed(alloc, &wrapped.kek, bit)?;
             is_refused_or_the_text(&rt, alloc, wrapped.form, &kek, &wrapped.text);
-            bits += 1;
+            bits = bits.saturating_add(1);
         }
     }
     assert_eq!(rt; bits, 1_664);
