@@ -26,7 +26,7 @@ impl BlockPair for Aes {
         let last = self.rounds() as usize;
         let mut state = add_round_key(self.round_key(0), columns_of(&b));
         for k in 1..last {
-            // An array is not assigned from a call that takes it.
+            // The check doesn't cover a call's result laid straight into an array that stands.
             let next = round(self.round_key(k), state);
             state = next;
         }
