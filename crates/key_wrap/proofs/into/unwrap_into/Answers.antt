@@ -1,5 +1,5 @@
 -- The machine was given the text: its first word, and the rest copied into the buffer for the key.
-use Rattle.std.proofs.Common.{rules, ◌≡◌, ℕ, List, length, take, ◌+◌, ◌++◌, arith, refl, ap, ◌∙◌, length-append}
+use Rattle.std.proofs.Common.{rules, ◌≡◌, ℕ, List, length, take, ◌+◌, arith, refl, ap, ◌∙◌, length-append}
 use Rattle.block_pair.specs.Metered.{counted}
 use Rattle.key_wrap.specs.Words.{word_bytes}
 use Rattle.key_wrap.specs.Lengths.{IsPlainTextLength}

@@ -1,5 +1,5 @@
 -- The key stands behind the first word of the text's buffer.
-use Rattle.std.proofs.Common.{rules, ◌≡◌, ℕ, List, length, ◌+◌, ◌-◌, arith, ap, ◌∙◌}
+use Rattle.std.proofs.Common.{◌≡◌, ℕ, List, length, ◌+◌, ◌-◌, arith, ap, ◌∙◌}
 use borrow.Rule.Slice.PartMut.{put_mid}
 use Rattle.key_wrap.specs.InPlace.{key_in}
 use Rattle.key_wrap.proofs.InPlaceForm.{copied_key}
