@@ -85,7 +85,9 @@ pub(crate) fn unwrap_words<B: BlockPair>(meter: &mut Meter<B>, c0: u64, register
     }
 }
 
-// Step t on its register: B = E(A | R), A = MSB(64, B) xor t, R = LSB(64, B).
+// Step t on its register: B = E(A | R), A = MSB(64, B) xor t, R = LSB(64, B). Inlined, since a call of
+// its own copies the block through memory once more.
+#[inline(always)]
 fn wrap_register<B: BlockPair>(meter: &mut Meter<B>, t: u64, a: u64, register: &mut [u8]) -> u64
     requires { length register.old ≡ WORD }
     ensures step { B.encrypted meter.old.pair (word_bytes a ++ register.old)
@@ -97,7 +99,8 @@ fn wrap_register<B: BlockPair>(meter: &mut Meter<B>, t: u64, a: u64, register: &
     BigEndian::read_u64(&block) ^ t
 }
 
-// Step t undone on its register: B = D((A xor t) | R), A = MSB(64, B), R = LSB(64, B).
+// Step t undone on its register: B = D((A xor t) | R), A = MSB(64, B), R = LSB(64, B). Inlined too.
+#[inline(always)]
 fn unwrap_register<B: BlockPair>(meter: &mut Meter<B>, t: u64, a: u64, register: &mut [u8]) -> u64
     requires { length register.old ≡ WORD }
     ensures step { B.encrypted meter.old.pair (word_bytes result ++ register.new)

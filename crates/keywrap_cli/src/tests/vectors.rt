@@ -3,7 +3,7 @@
 use super::doubles::Narrow;
 use crate::program::run_vectors;
 use crate::vector_table::{VECTORS, Vector};
-use crate::vectors::{VectorsFault, report_on, vectors};
+use crate::vectors::{report_on, vectors};
 use std::alloc::Global;
 use std::test::Fail;
 
