@@ -4,6 +4,7 @@ pub mod Tapes
 pub mod Counting
 pub mod Registering
 pub mod Places
+pub mod Passes
 pub mod Filling
 pub mod FormLengths
 pub mod PlainForm
