@@ -1,6 +1,6 @@
 -- A call of a job, from what it answers at each of its steps: at the KEK file (`stopped_at_kek`), at the input file
 -- (`stopped_at_input`), or at its output (`answered`). Each goes by the cases of the step's answer.
-use Rattle.std.proofs.Common.{◌≡◌, ◌≢◌, ◌<◌, ◌≤◌, ◌+◌, ◌↔◌, ℕ, List, [], length, Vec, Option, Some, None, Result, Ok, Err, IsOk, refl, sym, ap, subst, inl, inr, arith}
+use Rattle.std.proofs.Common.{◌≡◌, ◌↔◌, ℕ, List, [], length, Vec, Option, Some, None, Result, Ok, Err, IsOk, refl, sym, ap, subst, inl, inr, arith}
 use Rattle.std.specs.Io.KnownBytes.{Appends, Keeps, Consumes, IsAtEnd}
 use Rattle.aes_block.specs.Cipher.{cipher}
 use Rattle.key_files.specs.declared.fault.FileFault.TheVariants as files

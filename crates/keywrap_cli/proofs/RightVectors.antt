@@ -1,5 +1,5 @@
 -- Whether a vector is right, from the bytes that its texts denote: they denote no others.
-use Rattle.std.proofs.Common.{◌≡◌, ◌↔◌, ℕ, Bool, IsTrue, List, length, Result, Ok, Err, IfOk, sym, subst}
+use Rattle.std.proofs.Common.{◌≡◌, ◌↔◌, ℕ, Bool, IsTrue, List, length, Result, Ok, Err, IfOk, sym}
 use Rattle.std.specs.declared.alloc.AllocError.{AllocError}
 use Rattle.aes_block.specs.Cipher.{cipher}
 use Rattle.aes_block.specs.KeyExpansion.{IsKekLength}

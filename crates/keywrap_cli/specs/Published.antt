@@ -1,7 +1,7 @@
 -- The published vectors, as their standards print them: RFC 3394, sections 4.1 to 4.6; RFC 5649, section 6; FIPS 197,
 -- appendix B and appendix C, sections C.1 to C.3.
 use Prim.Native.String.{String}
-use Rattle.std.specs.Prelude.{List, [], ◌∷◌, ℕ, codes}
+use Rattle.std.specs.Prelude.{List, [], ◌∷◌, codes}
 use Rattle.key_wrap.specs.declared.forms.Form.TheVariants.{Plain, Padded}
 use Rattle.keywrap_cli.specs.declared.vector_table.Operation.{Operation}
 use Rattle.keywrap_cli.specs.declared.vector_table.Operation.TheVariants.{KeyWrap, Encryption}
