@@ -10,8 +10,8 @@ use crate::word_tables::{inv_mixed, mixed_sbox};
 use crate::{inv_sbox, sbox};
 use byteorder::{BigEndian, ByteOrder};
 
-// The columns of a block, lent as a slice: of an array by value a proof doesn't know that all of its
-// 16 elements are bytes.
+// The columns of a block, lent as a slice: of an array by value a proof doesn't know that all of
+// its 16 elements are bytes.
 pub(crate) fn columns_of(block: &[u8]) -> [u32; 4]
     requires { length block.now ≡ 16 }
     ensures { block_of result ≡ block.now }

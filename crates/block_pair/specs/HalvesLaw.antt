@@ -18,7 +18,8 @@ halves_block : (b : List ℕ) → IsBlock b → IsBlock (swapped_halves b)
 halves_block b h = record {
   sixteen =
       let parts : length (drop 8 b ++ take 8 b) ≡ length (drop 8 b) + length (take 8 b) = length-append _ _ in
-      let whole : length (take 8 b) + length (drop 8 b) ≡ 16 = omega (arith, length-append (take 8 b) (drop 8 b), ap length (take-append-drop 8 b), h.sixteen) in
+      let whole : length (take 8 b) + length (drop 8 b) ≡ 16 =
+      omega (arith, length-append (take 8 b) (drop 8 b), ap length (take-append-drop 8 b), h.sixteen) in
       omega arith;
   bytes = each_append IsByte (drop 8 b) (take 8 b) (each_drop IsByte 8 b h.bytes) (each_take IsByte 8 b h.bytes);
 }

@@ -27,7 +27,7 @@ impl BlockPair for SwapHalves {
     ghost lawful = { λ _. swap_halves_lawful };
 }
 
-/// Exchanges bytes 0 to 7 with bytes 8 to 15.
+// Exchanges bytes 0 to 7 with bytes 8 to 15.
 fn swap_halves(mut b: [u8; 16]) -> [u8; 16]
     ensures { result ≡ swapped_halves b }
 {
@@ -40,7 +40,7 @@ mod tests {
     use super::*;
     use std::test::Fail;
 
-    /// Encrypts and then decrypts through the bound alone.
+    // Encrypts and then decrypts through the bound alone.
     fn there_and_back<B: BlockPair>(pair: &B, block: [u8; 16]) -> ([u8; 16], [u8; 16]) {
         (pair.enc(block), pair.dec(pair.enc(block)))
     }

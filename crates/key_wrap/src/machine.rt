@@ -85,8 +85,8 @@ pub(crate) fn unwrap_words<B: BlockPair>(meter: &mut Meter<B>, c0: u64, register
     }
 }
 
-// Step t on its register: B = E(A | R), A = MSB(64, B) xor t, R = LSB(64, B). Inlined, since a call of
-// its own copies the block through memory once more.
+// Step t on its register: B = E(A | R), A = MSB(64, B) xor t, R = LSB(64, B). Inlined, since a call
+// of its own copies the block through memory once more.
 #[inline(always)]
 fn wrap_register<B: BlockPair>(meter: &mut Meter<B>, t: u64, a: u64, register: &mut [u8]) -> u64
     requires { length register.old ≡ WORD }

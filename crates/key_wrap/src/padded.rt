@@ -44,7 +44,8 @@ pub fn unwrap_padded<B: BlockPair>(
 ) -> Result<Vec<u8>, UnwrapFault>
     ensures bad_length { (result ≡ Err UnwrapFault.BadLength)
         ↔ ¬ IsPaddedTextLength (length text.now) }
-    ensures answer { UnwrapAnswer IsPaddedTextLength (Padded (B.encrypted pair.now)) text.now result }
+    ensures answer { UnwrapAnswer IsPaddedTextLength (Padded (B.encrypted pair.now))
+        text.now result }
 
     // A wrapping is refused for want of memory alone.
     ensures accepts { (key : List ℕ) → Padded (B.encrypted pair.now) key text.now

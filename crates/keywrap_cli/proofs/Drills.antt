@@ -1,6 +1,7 @@
 -- What the text of a drill denotes: within the limit, what its digits do, and a text by itself is refused for its
 -- digits alone. So the decoding's answer is the text's, by cases.
-use Rattle.std.proofs.Common.{◌≡◌, ◌≢◌, ◌↔◌, ℕ, ◌<◌, ◌≤◌, List, length, Vec, Bool, true, false, Option, Some, None, Result, Ok, Err, IfOk, IsOk, MatchResult, IsErrAnd, refl, sym, ◌∙◌, ap, subst, cond}
+use Rattle.std.proofs.Common.{◌≡◌, ◌≢◌, ◌↔◌, ℕ, ◌<◌, ◌≤◌, List, length, Vec, Bool, true, false, Option, Some, None, Result, Ok, Err, IfOk, IsOk, MatchResult}
+use Rattle.std.proofs.Common.{IsErrAnd, refl, sym, ◌∙◌, ap, subst, cond}
 use Rattle.std.specs.declared.alloc.Global.{Global}
 use Rattle.std.proofs.lemmas.Bool.{lt-ltb, le-ltb}
 use Rattle.key_files.specs.HexText.{first_bad, digits_of}

@@ -1,7 +1,8 @@
 -- A report grows by a line at a time: each of its parts for one vector more, and then the report itself.
 use Rattle.std.specs.Io.KnownBytes.{Appends}
 use Rattle.std.specs.List.{AllByRecursion}
-use Rattle.std.proofs.Common.{◌≡◌, ◌+◌, ◌<◌, ◌&&◌, ◌↔◌, ℕ, Option, subst, take, map, get_or, Bool, true, false, IsTrue, List, [], ◌∷◌, ◌++◌, length, refl, sym, ap, ◌∙◌, append_assoc, arith, length-append}
+use Rattle.std.proofs.Common.{◌≡◌, ◌+◌, ◌<◌, ◌&&◌, ◌↔◌, ℕ, Option, subst, take, map, get_or, Bool, true, false, IsTrue, List, [], ◌∷◌, ◌++◌, length, refl, sym}
+use Rattle.std.proofs.Common.{ap, ◌∙◌, append_assoc, arith, length-append}
 use Rattle.std.proofs.lemmas.List.{append-nil, map-append, take_more}
 use Rattle.keywrap_cli.specs.Vectors.{AreVerdicts, IsReport, IsRight, TestVector, lines_of, verdict, all_true}
 

@@ -3,7 +3,8 @@
 
 ghost use Rattle.std.specs.Prelude.{◌≡◌, ◌↔◌, ℕ, Err};
 ghost use Rattle.key_files.specs.declared.fault.FileFault.TheVariants as FileFaults;
-ghost use Rattle.keywrap_cli.specs.Drill.{DrillAnswer, TextAnswer, drill_meaning, drill_fault_of, text_fault_of};
+ghost use Rattle.keywrap_cli.specs.Drill.{DrillAnswer, TextAnswer, drill_meaning, drill_fault_of};
+ghost use Rattle.keywrap_cli.specs.Drill.{text_fault_of};
 
 use crate::convert::{Direction, convert};
 use block_pair::SwapHalves;

@@ -2,7 +2,8 @@
 
 ghost use Rattle.std.specs.Prelude.{◌≡◌, IfOk, string_bytes};
 ghost use Rattle.keywrap_cli.specs.Files.{printed};
-ghost use Rattle.keywrap_cli.specs.Output.{OutputAnswer, done_of, hex_write_fault_of, job_fault_of, job_of, kind_line};
+ghost use Rattle.keywrap_cli.specs.Output.{OutputAnswer, done_of, hex_write_fault_of, job_fault_of};
+ghost use Rattle.keywrap_cli.specs.Output.{job_of, kind_line};
 ghost use Rattle.keywrap_cli.specs.declared.job.Task.{Task};
 ghost use Rattle.keywrap_cli.specs.Writing.{Sends};
 

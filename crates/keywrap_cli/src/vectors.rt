@@ -1,6 +1,7 @@
 //! The published vectors of RFC 3394, RFC 5649 and FIPS 197.
 
-ghost use Rattle.std.specs.Prelude.{◌≡◌, ◌<◌, ◌↔◌, Bool, List, ℕ, length, take, map, IfOk, Err, IsTrue, string_bytes};
+ghost use Rattle.std.specs.Prelude.{◌≡◌, ◌<◌, ◌↔◌, Bool, List, ℕ, length, take, map, IfOk, Err};
+ghost use Rattle.std.specs.Prelude.{IsTrue, string_bytes};
 ghost use Rattle.std.specs.List.{AllByRecursion};
 ghost use Rattle.std.specs.Io.KnownBytes.{Appends, Keeps};
 ghost use Rattle.keywrap_cli.specs.Published.{published_vectors};

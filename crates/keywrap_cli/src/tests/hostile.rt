@@ -1,5 +1,5 @@
-//! Hostile readers, writers and texts: Memory, Read and Write come only with cause, and a changed text is
-//! refused or is the text of what was answered.
+//! Hostile readers, writers and texts: Memory, Read and Write come only with cause, and a changed
+//! text is refused or is the text of what was answered.
 
 mod ample;
 mod in_place;
@@ -34,7 +34,7 @@ const RAW_TEXT: &[u8] = &[
 
 const LINE: &[u8] = b"plain 16\n";
 
-/// A job with its files and its output.
+// A job with its files and its output.
 #[derive(Clone, Copy)]
 struct Case {
     task: Task,
@@ -43,7 +43,7 @@ struct Case {
     output: &'static [u8],
 }
 
-/// The vector of RFC 3394, section 4.1, in each job, in hex and raw.
+// The vector of RFC 3394, section 4.1, in each job, in hex and raw.
 fn cases() -> [Case; 6] {
     [
         in_hex(Job::Wrap, HEX_KEY, HEX_TEXT),
@@ -73,7 +73,7 @@ fn in_raw(job: Job, input: &'static [u8], output: &'static [u8]) -> Case {
     }
 }
 
-/// A job on files of one notation.
+// A job on files of one notation.
 fn task(job: Job, form: Form, notation: Notation) -> Task {
     Task {
         job,
@@ -83,7 +83,7 @@ fn task(job: Job, form: Form, notation: Notation) -> Task {
     }
 }
 
-/// Takes up to `size` bytes a write.
+// Takes up to `size` bytes a write.
 #[derive(Drop)]
 struct Pieces {
     out: Vec<u8>,
@@ -102,7 +102,7 @@ impl Write for Pieces {
     }
 }
 
-/// The output of a job through readers and a writer of up to `size` bytes a call.
+// The output of a job through readers and a writer of up to `size` bytes a call.
 fn output_in_pieces(
     alloc: Global,
     task: Task,
@@ -118,12 +118,12 @@ fn output_in_pieces(
     Ok(pieces.out)
 }
 
-/// The output of a job over whole files.
+// The output of a job over whole files.
 fn output_of(alloc: Global, task: Task, kek: &[u8], input: &[u8]) -> Result<Vec<u8>, JobFault> {
     output_in_pieces(alloc, task, kek, input, usize::MAX)
 }
 
-/// The bytes with one bit changed. Bit 0 is the first byte's most significant.
+// The bytes with one bit changed. Bit 0 is the first byte's most significant.
 fn with_bit_changed(alloc: Global, bytes: &[u8], bit: usize) -> Result<Vec<u8>, AllocError> {
     let mut changed = bytes.to_vec(alloc)?;
     if let Some(byte) = changed.get_mut(bit / 8) {
@@ -132,7 +132,7 @@ fn with_bit_changed(alloc: Global, bytes: &[u8], bit: usize) -> Result<Vec<u8>, 
     Ok(changed)
 }
 
-/// A published wrapping.
+// A published wrapping.
 #[derive(Drop)]
 struct Wrapping {
     form: Form,
@@ -141,7 +141,8 @@ struct Wrapping {
     text: Vec<u8>,
 }
 
-/// The forms of the vectors of RFC 3394, section 4, and RFC 5649, section 6, the first of the table.
+// The forms of the vectors of RFC 3394, section 4, and RFC 5649, section 6, the first of the
+// table.
 const FORMS: [Form; 8] = [
     Form::Plain,
     Form::Plain,
@@ -153,7 +154,7 @@ const FORMS: [Form; 8] = [
     Form::Padded,
 ];
 
-/// Their wrappings.
+// Their wrappings.
 fn published(alloc: Global) -> Result<Vec<Wrapping>, Fail> {
     let mut found = Vec::new(alloc);
     for (vector, form) in VECTORS.iter().zip(FORMS) {
@@ -167,7 +168,7 @@ fn published(alloc: Global) -> Result<Vec<Wrapping>, Fail> {
     Ok(found)
 }
 
-/// Whether a key may have so many bytes, as RFC 3394 and RFC 5649 say up to 4,096 bytes.
+// Whether a key may have so many bytes, as RFC 3394 and RFC 5649 say up to 4,096 bytes.
 fn is_key_length(form: Form, len: usize) -> bool {
     match form {
         Form::Plain => len >= 16 && len % 8 == 0,

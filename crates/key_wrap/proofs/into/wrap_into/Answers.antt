@@ -1,3 +1,4 @@
+-- The wrapping is the machine's, on the registers in the text's buffer: the key copied there is the key given.
 use Rattle.std.proofs.Common.{rules, ◌≡◌, ℕ, List, length, drop, ◌-◌, arith, ◌∙◌}
 use borrow.Rule.Slice.PartMut.{put_mid}
 use Rattle.key_wrap.proofs.InPlaceForm.{registers_now}

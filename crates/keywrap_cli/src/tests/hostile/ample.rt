@@ -72,7 +72,8 @@ fn gives_up_for_io_at_no_length_of_a_job(rt: HostRuntime) -> Result<(), Fail> {
     Ok(())
 }
 
-// The three jobs in both forms and notations, through readers and writers of up to `size` bytes a call.
+// The three jobs in both forms and notations, through readers and writers of up to `size` bytes a
+// call.
 fn run_and_back(rt: &impl Abort, alloc: Global, key: &[u8], size: usize) -> Result<(), Fail> {
     for form in FORMS {
         for notation in [Notation::Hex, Notation::Raw] {

@@ -1,5 +1,5 @@
-//! Wrapping and unwrapping in a buffer over AES: what the buffer holds and how many block calls were made, also
-//! where the text is refused.
+//! Wrapping and unwrapping in a buffer over AES: what the buffer holds and how many block calls
+//! were made, also where the text is refused.
 
 use super::{Wrapping, published, with_bit_changed};
 use aes_block::Aes;
@@ -109,7 +109,8 @@ fn clears_the_buffer_at_each_changed_bit(rt: HostRuntime) -> Result<(), Fail> {
     Ok(())
 }
 
-// Says that a text is refused and cleared, or is the wrapping of the key that it becomes, by as many block calls.
+// Says that a text is refused and cleared, or is the wrapping of the key that it becomes, by as
+// many block calls.
 fn is_cleared_or_the_text(
     rt: &impl Abort,
     alloc: Global,

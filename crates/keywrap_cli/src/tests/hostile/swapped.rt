@@ -1,5 +1,5 @@
-//! Texts over the drill block with one bit changed. The block only exchanges its halves, so each bit of a text
-//! is a bit of the key or of what is checked.
+//! Texts over the drill block with one bit changed. The block only exchanges its halves, so each
+//! bit of a text is a bit of the key or of what is checked.
 
 use super::in_place::{room_for, unwrap_buffer};
 use super::with_bit_changed;
@@ -12,8 +12,8 @@ use std::alloc::Global;
 use std::process::Abort;
 use std::test::Fail;
 
-// A key and its text, of whose bits those from `from` up to `to` are the key's, and the block calls of one
-// unwrapping.
+// A key and its text, of whose bits those from `from` up to `to` are the key's, and the block calls
+// of one unwrapping.
 #[derive(Clone, Copy)]
 struct Drilled {
     form: Form,

@@ -1,5 +1,5 @@
-//! The eight texts of RFC 3394, section 4, and RFC 5649, section 6, cut short and with one bit changed: each is
-//! refused, or is the wrapping of the key that is answered.
+//! The eight texts of RFC 3394, section 4, and RFC 5649, section 6, cut short and with one bit
+//! changed: each is refused, or is the wrapping of the key that is answered.
 
 use super::{output_of, published, task, with_bit_changed};
 use crate::job::{Job, JobFault, Notation};
