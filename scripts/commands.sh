@@ -19,6 +19,7 @@ zeros 32769 >long.hex
 head -c 65536 /dev/zero | tr '\0' ' ' >blank.hex
 echo plain 16 >plain16
 echo "$drilled" >drilled
+echo 466f725061736900a65959a600000007 >drilled7
 echo "$vector_lines" >lines
 mkdir folder
 
@@ -40,6 +41,7 @@ each() {
 answered() {
     jobs "$1"
     "$1" 'drill' 0 drilled '' - drill "$d16"
+    "$1" 'padded drill' 0 drilled7 '' - drill --padded "$key7"
     "$1" 'drill back' 0 key.hex '' - drill --unwrap "$drilled"
     "$1" 'vectors' 0 lines '' - vectors
     "$1" 'help' 0 help '' - --help
@@ -56,6 +58,7 @@ jobs() {
     "$1" 'raw unwrap' 0 key.raw '' text.raw unwrap --raw --raw-kek --kek kek16.raw
     "$1" 'padded unwrap' 0 key7.hex '' text7.hex unwrap --padded --kek kek5649.hex
     "$1" 'check' 0 plain16 '' text.hex check --kek kek16.hex
+    "$1" 'raw check' 0 plain16 '' text.raw check --raw --raw-kek --kek kek16.raw
     "$1" 'check of a wrong byte' 5 none '' wrong.hex check --kek kek16.hex
 }
 
