@@ -11,11 +11,11 @@ use std::alloc::{Allocator, Global};
 use std::io::Read;
 
 /// The most bytes that a file of the command may have.
-pub const MAX_FILE: usize = 65_536;
+pub const MAX_FILE: usize = 4_194_304;
 
 // A law that ties the constant to the number that definitions write.
 fn max_file_value()
-    ensures { MAX_FILE ≡ 65536 }
+    ensures { MAX_FILE ≡ 4194304 }
 {}
 
 // How many bytes one read may give.

@@ -57,8 +57,8 @@ fn says_each_fault(rt: HostRuntime) -> Result<(), Fail> {
         (FileFault::Read, "cannot be read"),
         (FileFault::TooLong, "too long"),
         (
-            FileFault::BadDigit { at: 65_535 },
-            "no hex digit at byte 65535",
+            FileFault::BadDigit { at: 4_194_303 },
+            "no hex digit at byte 4194303",
         ),
         (FileFault::OddDigits, "odd number of hex digits"),
         (FileFault::Memory, "out of memory"),

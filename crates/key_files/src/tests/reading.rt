@@ -50,7 +50,7 @@ fn reads_hex_files_about_the_limit(rt: HostRuntime) -> Result<(), Fail> {
     let mut digits = stepping(rt.alloc(), b'5', 0, MAX_FILE - 1)?;
     reads_hex(&rt, &digits, Err(FileFault::OddDigits));
     digits.push(b'g')?;
-    reads_hex(&rt, &digits, Err(FileFault::BadDigit { at: 65_535 }));
+    reads_hex(&rt, &digits, Err(FileFault::BadDigit { at: 4_194_303 }));
     digits.pop();
     digits.push(b'5')?;
     reads_hex(&rt, &digits, Ok(&bytes));
