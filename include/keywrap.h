@@ -2,9 +2,10 @@
  *
  * A key-encryption key (KEK) of 16, 24 or 32 bytes turns a key into a text that is 8 bytes longer,
  * or up to 15 where it is padded. Unwrapping gives the key back, or tells that the text wraps no
- * key under this KEK.
+ * key under this KEK. Plain keys have 16, 24, 32 .. bytes, padded ones any length from 1 on. A text
+ * is unwrapped in the form in which it was wrapped: in the other it is refused.
  *
- *     uint8_t text[KEYWRAP_TEXT_LEN(sizeof key)];
+ *     uint8_t kek[32] = .., key[16] = .., text[KEYWRAP_TEXT_LEN(sizeof key)];
  *     if (keywrap_wrap(kek, sizeof kek, key, sizeof key, text, sizeof text) != KEYWRAP_OK) ..
  *
  * The calls take no memory, keep no state and call nothing back. Any thread may make them.
@@ -28,7 +29,7 @@
 
 /* Lengths, in bytes: of the longest key and the longest text, of a key's plain and padded wrapping,
  * and of the buffer that an unwrap of a text fills, in either form (0 where the text is too short
- * for any). Each is a constant expression where its argument is one. */
+ * for any). Each is a constant expression where its argument is one, which it may read twice. */
 #define KEYWRAP_MAX_KEY 4096
 #define KEYWRAP_MAX_TEXT (KEYWRAP_MAX_KEY + 8)
 #define KEYWRAP_TEXT_LEN(key_len) ((key_len) + 8)

@@ -81,7 +81,7 @@ pub fn unwrap(kek: &[u8], text: &[u8]) -> Result<Vec<u8>, Error> {
 
 /// The padded wrapping of a key of 1 byte and more.
 pub fn wrap_padded(kek: &[u8], key: &[u8]) -> Result<Vec<u8>, Error> {
-    filled(keywrap_wrap_padded, kek, key, key.len().div_ceil(8) * 8 + 8)
+    filled(keywrap_wrap_padded, kek, key, ((key.len() + 7) & !7) + 8)
 }
 
 /// The key whose padded wrapping the text is.
