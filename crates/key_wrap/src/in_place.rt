@@ -4,7 +4,7 @@ ghost use Rattle.std.specs.Prelude.{◌≡◌, ◌↔◌, ◌++◌, ℕ, List, l
 ghost use Rattle.std.specs.Prelude.{Ok, Err, OnOk, IfOk, IsOk, IsOkUnless};
 ghost use Rattle.block_pair.specs.Metered.{counted};
 ghost use Rattle.key_wrap.specs.Lengths.{IsPlainTextLength, IsPaddedTextLength};
-ghost use Rattle.key_wrap.specs.Plain.{Plain};
+ghost use Rattle.key_wrap.specs.Plain.{Plain, default_iv};
 ghost use Rattle.key_wrap.specs.Padded.{Padded, padded};
 ghost use Rattle.key_wrap.specs.Answer.{NoKey};
 ghost use Rattle.key_wrap.specs.Calls.{block_calls};
@@ -32,9 +32,10 @@ pub fn wrap_in_place<B: BlockPair>(meter: &mut Meter<B>, buf: &mut [u8]) -> Resu
     ensures only_fault { IsOkUnless result InPlaceFault.BadLength }
     ensures buffer_kept { result ≡ Err InPlaceFault.BadLength → buf.new ≡ buf.old }
     ensures meter_kept { result ≡ Err InPlaceFault.BadLength → meter.new ≡ meter.old }
-    ensures answer { OnOk result (Plain (B.encrypted meter.old.pair) (drop 8 buf.old) buf.new) }
+    ensures answer { OnOk result (
+        Plain (B.encrypted meter.old.pair) default_iv (drop 8 buf.old) buf.new) }
     ensures only_text { OnOk result (
-        (other : List ℕ) → Plain (B.encrypted meter.old.pair) (drop 8 buf.old) other
+        (other : List ℕ) → Plain (B.encrypted meter.old.pair) default_iv (drop 8 buf.old) other
         → other ≡ buf.new) }
     ensures calls { OnOk result (meter.new ≡ counted (block_calls (length buf.old)) meter.old) }
 {
@@ -60,19 +61,19 @@ pub fn unwrap_in_place<B: BlockPair>(
     ensures buffer_kept { result ≡ Err InPlaceFault.BadLength → buf.new ≡ buf.old }
     ensures meter_kept { result ≡ Err InPlaceFault.BadLength → meter.new ≡ meter.old }
     ensures answer { KeyAnswer (IsPlainTextLength (length buf.old))
-        (Plain (B.encrypted meter.old.pair))
+        (Plain (B.encrypted meter.old.pair) default_iv)
         buf.old (λ _. drop 8 buf.new) result }
 
     // A wrapping is not refused.
-    ensures accepts { (key : List ℕ) → Plain (B.encrypted meter.old.pair) key buf.old
+    ensures accepts { (key : List ℕ) → Plain (B.encrypted meter.old.pair) default_iv key buf.old
         → IsOk result }
     ensures only_key { OnOk result (
-        (other : List ℕ) → Plain (B.encrypted meter.old.pair) other buf.old
+        (other : List ℕ) → Plain (B.encrypted meter.old.pair) default_iv other buf.old
         → other ≡ drop 8 buf.new) }
 
     // Wrapping the answer again gives the input.
     ensures restores { OnOk result (
-        (other : List ℕ) → Plain (B.encrypted meter.old.pair) (drop 8 buf.new) other
+        (other : List ℕ) → Plain (B.encrypted meter.old.pair) default_iv (drop 8 buf.new) other
         → other ≡ buf.old) }
     ensures other_form { OnOk result (NoKey (Padded (B.encrypted meter.old.pair)) buf.old) }
     ensures first_word { OnOk result (take 8 buf.new ≡ replicate 8 0) }
@@ -85,7 +86,7 @@ pub fn unwrap_in_place<B: BlockPair>(
     }
     let c0 = BigEndian::read_u64(buf);
     buf[..WORD].fill(0);
-    unwrap_registers(meter, c0, &mut buf[WORD..])
+    unwrap_registers(meter, DEFAULT_IV, c0, &mut buf[WORD..])
 }
 
 /// The key of `m` bytes after the first 8 bytes of the buffer, which are ignored as what follows it
@@ -147,7 +148,8 @@ pub fn unwrap_padded_in_place<B: BlockPair>(
     ensures restores { IfOk result (λ m.
         (other : List ℕ) → Padded (B.encrypted meter.old.pair) (key_in m buf.new) other
         → other ≡ buf.old) }
-    ensures other_form { OnOk result (NoKey (Plain (B.encrypted meter.old.pair)) buf.old) }
+    ensures other_form { OnOk result (
+        NoKey (Plain (B.encrypted meter.old.pair) default_iv) buf.old) }
     ensures size { IfOk result (λ m. length (key_in m buf.new) ≡ m) }
     ensures around { IfOk result (λ m. buf.new ≡ replicate 8 0 ++ padded (key_in m buf.new)) }
     ensures cleared { result ≡ Err InPlaceFault.Integrity → All (λ byte. byte ≡ 0) buf.new }

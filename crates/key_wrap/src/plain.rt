@@ -2,7 +2,7 @@
 
 ghost use Rattle.std.specs.Prelude.{◌≡◌, ◌↔◌, ℕ, List, length, Ok, Err, IfOk, OnOk, IsOkUnless};
 ghost use Rattle.key_wrap.specs.Lengths.{IsPlainKeyLength, IsPlainTextLength};
-ghost use Rattle.key_wrap.specs.Plain.{Plain};
+ghost use Rattle.key_wrap.specs.Plain.{Plain, default_iv};
 ghost use Rattle.key_wrap.specs.Padded.{Padded};
 ghost use Rattle.key_wrap.specs.Answer.{UnwrapAnswer};
 
@@ -19,9 +19,11 @@ use std::alloc::Global;
 pub fn wrap<B: BlockPair>(alloc: Global, pair: &B, key: &[u8]) -> Result<Vec<u8>, WrapFault>
     ensures bad_length { (result ≡ Err WrapFault.BadLength) ↔ ¬ IsPlainKeyLength (length key.now) }
     ensures memory { result ≡ Err WrapFault.Memory → IsPlainKeyLength (length key.now) }
-    ensures answer { IfOk result (λ text. Plain (B.encrypted pair.now) key.now text.items) }
+    ensures answer { IfOk result (λ text.
+        Plain (B.encrypted pair.now) default_iv key.now text.items) }
     ensures only_text { IfOk result (λ text.
-        (other : List ℕ) → Plain (B.encrypted pair.now) key.now other → other ≡ text.items) }
+        (other : List ℕ) → Plain (B.encrypted pair.now) default_iv key.now other
+        → other ≡ text.items) }
 {
     if !key_length_ok(key.len()) {
         return Err(WrapFault::BadLength);
@@ -39,17 +41,20 @@ pub fn wrap<B: BlockPair>(alloc: Global, pair: &B, key: &[u8]) -> Result<Vec<u8>
 pub fn unwrap<B: BlockPair>(alloc: Global, pair: &B, text: &[u8]) -> Result<Vec<u8>, UnwrapFault>
     ensures bad_length { (result ≡ Err UnwrapFault.BadLength)
         ↔ ¬ IsPlainTextLength (length text.now) }
-    ensures answer { UnwrapAnswer IsPlainTextLength (Plain (B.encrypted pair.now)) text.now result }
+    ensures answer { UnwrapAnswer IsPlainTextLength (Plain (B.encrypted pair.now) default_iv)
+        text.now result }
 
     // A wrapping is refused for want of memory alone.
-    ensures accepts { (key : List ℕ) → Plain (B.encrypted pair.now) key text.now
+    ensures accepts { (key : List ℕ) → Plain (B.encrypted pair.now) default_iv key text.now
         → IsOkUnless result UnwrapFault.Memory }
     ensures only_key { IfOk result (λ key.
-        (other : List ℕ) → Plain (B.encrypted pair.now) other text.now → other ≡ key.items) }
+        (other : List ℕ) → Plain (B.encrypted pair.now) default_iv other text.now
+        → other ≡ key.items) }
 
     // Wrapping the answer again gives the input.
     ensures restores { IfOk result (λ key.
-        (other : List ℕ) → Plain (B.encrypted pair.now) key.items other → other ≡ text.now) }
+        (other : List ℕ) → Plain (B.encrypted pair.now) default_iv key.items other
+        → other ≡ text.now) }
     ensures other_form { OnOk result (
         (key : List ℕ) → ¬ Padded (B.encrypted pair.now) key text.now) }
 {

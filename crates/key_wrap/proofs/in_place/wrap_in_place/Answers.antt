@@ -1,5 +1,5 @@
 -- The machine runs from the initial value and the key behind the first word, and C0 is written before it.
-use Rattle.std.proofs.Common.{rules, ◌≡◌, ℕ, List, length, take, drop, ◌++◌, ◌-◌, arith, ap, ◌∙◌, length-drop}
+use Rattle.std.proofs.Common.{rules, ◌≡◌, ℕ, List, length, take, drop, ◌++◌, ◌-◌, arith, ap, lit<, ◌∙◌, length-drop}
 use Rattle.std.proofs.lemmas.List.{take_all}
 use borrow.Rule.Slice.PartMut.{put_mid}
 use Rattle.key_wrap.specs.Words.{word_bytes}
@@ -21,8 +21,8 @@ returns g c =
     let text : c.write_u64.new.buf ≡ word_bytes c.wrap_slice-c0.result ++ c.wrap_slice-c0.new.registers =
     c.write_u64.ensures ∙ ap (λ (bs : List ℕ). word_bytes c.wrap_slice-c0.result ++ bs) rest in
     let run : Registers E (word_bytes default_iv ++ drop 8 old) c.write_u64.new.buf = rw (text, ← all) c.wrap_slice-c0.ensures.wrapped in
-    let stands : Plain E (drop 8 old) c.write_u64.new.buf =
-    registers_plain (drop 8 old) c.write_u64.new.buf (let l = length-drop 8 old in (omega arith, omega arith, omega arith)) run in
+    let stands : Plain E default_iv (drop 8 old) c.write_u64.new.buf =
+    registers_plain default_iv (drop 8 old) c.write_u64.new.buf (lit< tt) (let l = length-drop 8 old in (omega arith, omega arith, omega arith)) run in
     record {
       bad_length = search rules;
       only_fault = search rules;

@@ -2,7 +2,7 @@
 use Rattle.std.proofs.Common.{rules, ◌≡◌, ℕ, List, length, take, drop, ◌-◌, arith, ap, ◌∙◌, length-drop}
 use Rattle.std.proofs.lemmas.List.{take_all}
 use Rattle.key_wrap.specs.Lengths.{IsPlainTextLength}
-use Rattle.key_wrap.specs.Plain.{Plain}
+use Rattle.key_wrap.specs.Plain.{Plain, default_iv}
 use Rattle.key_wrap.proofs.FormLengths.{plain_text_legal}
 use Rattle.key_wrap.proofs.PlainForm.{written_back}
 use Rattle.key_wrap.proofs.Unwrappings.{refused}
@@ -18,7 +18,7 @@ returns-in_err-unwrap_in_place g c =
     let same : c.deref_mut.result.now ≡ text = c.deref_mut.ensures.value ∙ c.in_ok-buffer.ensures.items in
     let own = ap (λ m. m.pair) c.new.ensures in
     let given : List ℕ = c.deref_mut.result.now in
-    let w = refused (Plain (g.B.BlockPair.encrypted c.new.result.pair)) (IsPlainTextLength (length given)) (λ (_ : Unit {0}). drop 8 c.unwrap_in_place.new.buf)
+    let w = refused (Plain (g.B.BlockPair.encrypted c.new.result.pair) default_iv) (IsPlainTextLength (length given)) (λ (_ : Unit {0}). drop 8 c.unwrap_in_place.new.buf)
     given
     c.in_err-unwrap_in_place.field-0.0 c.from_residual-in_err-unwrap_in_place.result (rw same legal) c.in_err-unwrap_in_place.ensures.answer
     c.from_residual-in_err-unwrap_in_place.ensures in
