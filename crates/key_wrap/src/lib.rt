@@ -6,6 +6,7 @@ mod checks;
 mod faults;
 mod forms;
 mod in_place;
+mod initial_value;
 mod into;
 mod kinds;
 mod lengths;
@@ -14,9 +15,10 @@ mod padded;
 mod plain;
 mod unwrapping;
 
-pub use faults::{InPlaceFault, KindFault, UnwrapFault, WrapFault};
+pub use faults::{InPlaceFault, KindFault, ReservedIv, UnwrapFault, WrapFault};
 pub use forms::{Form, Kind};
 pub use in_place::{unwrap_in_place, unwrap_padded_in_place, wrap_in_place, wrap_padded_in_place};
+pub use initial_value::InitialValue;
 pub use into::{unwrap_into, unwrap_padded_into, wrap_into, wrap_padded_into};
 pub use kinds::kind;
 pub use lengths::{
