@@ -42,9 +42,19 @@ pub fn wrap_in_place<B: BlockPair>(meter: &mut Meter<B>, buf: &mut [u8]) -> Resu
     if !text_length_ok(buf.len()) {
         return Err(InPlaceFault::BadLength);
     }
-    let c0 = wrap_slice(meter, DEFAULT_IV, &mut buf[WORD..]);
-    BigEndian::write_u64(buf, c0);
+    wrap_buffer(meter, DEFAULT_IV, buf);
     Ok(())
+}
+
+// The key after the first 8 bytes of the buffer becomes its plain wrapping under this initial
+// value, the whole buffer.
+pub(crate) fn wrap_buffer<B: BlockPair>(meter: &mut Meter<B>, iv: u64, buf: &mut [u8])
+    requires { IsPlainTextLength (length buf.old) }
+    ensures answer { Plain (B.encrypted meter.old.pair) iv (drop 8 buf.old) buf.new }
+    ensures calls { meter.new ≡ counted (block_calls (length buf.old)) meter.old }
+{
+    let c0 = wrap_slice(meter, iv, &mut buf[WORD..]);
+    BigEndian::write_u64(buf, c0);
 }
 
 /// The plain text in the buffer becomes 8 zero bytes and its key (RFC 3394, section 2.2.2).

@@ -10,11 +10,12 @@ ghost use Rattle.key_wrap.specs.Calls.{block_calls};
 ghost use Rattle.key_wrap.specs.InPlace.{KeyAnswer, IsPaddedRoom, ArePlainLengths};
 ghost use Rattle.key_wrap.specs.InPlace.{ArePaddedLengths};
 
-use crate::checks::DEFAULT_IV;
 use crate::faults::InPlaceFault;
-use crate::in_place::{wrap_in_place, wrap_padded_in_place};
-use crate::lengths::{key_length_ok, padded_length_ok, padded_text_length_ok, text_length_ok};
-use crate::unwrapping::{unwrap_padded_registers, unwrap_registers};
+use crate::in_place::wrap_padded_in_place;
+use crate::initial_value::InitialValue;
+use crate::into_with::{unwrap_into_with, wrap_into_with};
+use crate::lengths::{padded_length_ok, padded_text_length_ok};
+use crate::unwrapping::unwrap_padded_registers;
 use block_pair::{BlockPair, Meter};
 use byteorder::{BigEndian, ByteOrder};
 
@@ -41,11 +42,7 @@ pub fn wrap_into<B: BlockPair>(
         → other ≡ text.new) }
     ensures calls { OnOk result (meter.new ≡ counted (block_calls (length text.old)) meter.old) }
 {
-    if !key_length_ok(key.len()) || text.len() != key.len() + WORD {
-        return Err(InPlaceFault::BadLength);
-    }
-    text[WORD..].copy_from_slice(key);
-    wrap_in_place(meter, text)
+    wrap_into_with(meter, &InitialValue::default(), key, text)
 }
 
 /// The key whose plain wrapping is `text`, into `key` (RFC 3394, section 2.2.2).
@@ -83,11 +80,7 @@ pub fn unwrap_into<B: BlockPair>(
     ensures calls { ¬ (result ≡ Err InPlaceFault.BadLength)
         → meter.new ≡ counted (block_calls (length text.now)) meter.old }
 {
-    if !text_length_ok(text.len()) || key.len() != text.len() - WORD {
-        return Err(InPlaceFault::BadLength);
-    }
-    key.copy_from_slice(&text[WORD..]);
-    unwrap_registers(meter, DEFAULT_IV, BigEndian::read_u64(text), key)
+    unwrap_into_with(meter, &InitialValue::default(), text, key)
 }
 
 /// The padded wrapping of `key`, into `text` (RFC 5649, section 4.1).

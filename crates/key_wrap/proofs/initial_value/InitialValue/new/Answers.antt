@@ -1,7 +1,6 @@
 -- The word that was read spells the bytes.
-use Rattle.std.proofs.Common.{rules, ◌≡◌, ℕ, List, length, take, arith, ◌∙◌}
+use Rattle.std.proofs.Common.{rules, ℕ, List, arith, ◌∙◌}
 use Rattle.std.proofs.lemmas.List.{take_all}
-use Rattle.key_wrap.specs.Words.{word_bytes}
 use Rattle.key_wrap.proofs.Spelling.{read_word, each_byte}
 use Rattle.key_wrap.proofs.initial_value.InitialValue.new.Goals as goal
 
