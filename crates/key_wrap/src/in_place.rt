@@ -4,11 +4,11 @@ ghost use Rattle.std.specs.Prelude.{◌≡◌, ◌↔◌, ◌++◌, ℕ, List, l
 ghost use Rattle.std.specs.Prelude.{Ok, Err, OnOk, IfOk, IsOk, IsOkUnless};
 ghost use Rattle.block_pair.specs.Metered.{counted};
 ghost use Rattle.key_wrap.specs.Lengths.{IsPlainTextLength, IsPaddedTextLength};
-ghost use Rattle.key_wrap.specs.Plain.{Plain, default_iv};
+ghost use Rattle.key_wrap.specs.Plain.{Plain, IsReserved, default_iv};
 ghost use Rattle.key_wrap.specs.Padded.{Padded, padded};
 ghost use Rattle.key_wrap.specs.Answer.{NoKey};
 ghost use Rattle.key_wrap.specs.Calls.{block_calls};
-ghost use Rattle.key_wrap.specs.InPlace.{KeyAnswer, IsPaddedRoom, key_in};
+ghost use Rattle.key_wrap.specs.InPlace.{KeyAnswer, Unwrapping, IsPaddedRoom, key_in};
 
 use crate::checks::{DEFAULT_IV, initial_value};
 use crate::faults::InPlaceFault;
@@ -94,9 +94,28 @@ pub fn unwrap_in_place<B: BlockPair>(
     if !text_length_ok(buf.len()) {
         return Err(InPlaceFault::BadLength);
     }
+    unwrap_buffer(meter, DEFAULT_IV, buf)
+}
+
+// The plain text in the buffer becomes 8 zero bytes and the key whose wrapping under this initial
+// value it is, and zeros where there is none.
+pub(crate) fn unwrap_buffer<B: BlockPair>(
+    meter: &mut Meter<B>,
+    iv: u64,
+    buf: &mut [u8],
+) -> Result<(), InPlaceFault>
+    requires length { IsPlainTextLength (length buf.old) }
+    requires free { ¬ IsReserved iv }
+    ensures answer { Unwrapping (IsPlainTextLength (length buf.old))
+        (Plain (B.encrypted meter.old.pair) iv) (Padded (B.encrypted meter.old.pair))
+        buf.old (λ _. drop 8 buf.new) result }
+    ensures first_word { OnOk result (take 8 buf.new ≡ replicate 8 0) }
+    ensures cleared { result ≡ Err InPlaceFault.Integrity → All (λ byte. byte ≡ 0) buf.new }
+    ensures calls { meter.new ≡ counted (block_calls (length buf.old)) meter.old }
+{
     let c0 = BigEndian::read_u64(buf);
     buf[..WORD].fill(0);
-    unwrap_registers(meter, DEFAULT_IV, c0, &mut buf[WORD..])
+    unwrap_registers(meter, iv, c0, &mut buf[WORD..])
 }
 
 /// The key of `m` bytes after the first 8 bytes of the buffer, which are ignored as what follows it
