@@ -27,7 +27,7 @@ pub use lengths::{
     MAX_KEY, key_length_ok, padded_length_ok, padded_text_length_ok, text_length_ok,
 };
 pub use padded::{unwrap_padded, wrap_padded};
-pub use plain::{unwrap, wrap};
+pub use plain::{unwrap, unwrap_with, wrap, wrap_with};
 
 #[cfg(test)]
 mod tests;
