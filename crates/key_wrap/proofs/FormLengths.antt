@@ -10,11 +10,11 @@ use Rattle.key_wrap.proofs.Spelling.{length-spelled, joined_block}
 use Rattle.key_wrap.proofs.Tapes.{wraps_length}
 
 -- a plain text is a word longer than its key
-pub plain_text_length : {E : List ℕ → List ℕ} {key text : List ℕ} → Plain E key text → length text ≡ length key + 8
+pub plain_text_length : {E : List ℕ → List ℕ} {iv : ℕ} {key text : List ℕ} → Plain E iv key text → length text ≡ length key + 8
 plain_text_length h =
     omega (arith, ap length h.key_words, ap length h.text_words, length-spelled h.P, length-spelled h.C, wraps_length h.wraps)
 
-pub plain_text_legal : {E : List ℕ → List ℕ} {key text : List ℕ} → Plain E key text → IsPlainTextLength (length text)
+pub plain_text_legal : {E : List ℕ → List ℕ} {iv : ℕ} {key text : List ℕ} → Plain E iv key text → IsPlainTextLength (length text)
 plain_text_legal h = let e = plain_text_length h in (omega arith, omega arith, omega arith)
 
 -- the padded key fills its words

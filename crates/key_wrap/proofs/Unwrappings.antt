@@ -12,15 +12,15 @@ use Rattle.key_wrap.specs.declared.faults.UnwrapFault.TheVariants as unwrap_faul
 use Rattle.key_wrap.specs.Faults.{unwrap_fault}
 use Rattle.key_wrap.specs.Words.{word_bytes}
 use Rattle.key_wrap.specs.Lengths.{IsPlainTextLength, IsPaddedTextLength, IsPaddedKeyLength}
-use Rattle.key_wrap.specs.Plain.{Plain, default_iv}
+use Rattle.key_wrap.specs.Plain.{Plain, IsReserved, default_iv}
 use Rattle.key_wrap.specs.Padded.{Padded}
 use Rattle.key_wrap.specs.Registers.{Registers}
 use Rattle.key_wrap.specs.PaddedRegisters.{PaddedRegisters, Holds, HoldsLength}
 use Rattle.key_wrap.specs.Answer.{NoKey}
 use Rattle.key_wrap.specs.InPlace.{KeyAnswer, Unwrapping}
 use Rattle.key_wrap.proofs.Spelling.{length-word_bytes, word_front}
-use Rattle.key_wrap.proofs.Tapes.{registers_length, registers_backward}
-use Rattle.key_wrap.proofs.PlainForm.{default_iv_word, plain_registers, registers_plain, plain_only_key, plain_only_text}
+use Rattle.key_wrap.proofs.Tapes.{wraps_iv, registers_length, registers_backward}
+use Rattle.key_wrap.proofs.PlainForm.{default_free, plain_registers, registers_plain, plain_only_key, plain_only_text}
 use Rattle.key_wrap.proofs.PaddedForm.{padded_unwrapped, padded_refused}
 use Rattle.key_wrap.proofs.BothForms.{not_both_forms}
 
@@ -50,33 +50,33 @@ legally {answer = Ok m} legal legal' u = record {
 legally {answer = Err BadLength} legal legal' u = absurd (u.unwraps legal)
 legally {answer = Err Integrity} legal legal' u = none_found legal' u.unwraps.1
 
--- the registers run back to the default initial value and the key
-pub plain_found : {E D : List ℕ → List ℕ} (key text : List ℕ) → AreInverse E D → IsPlainTextLength (length text)
-    → Registers E (word_bytes default_iv ++ key) text
-    → Unwrapping (IsPlainTextLength (length text)) (Plain E) (Padded E) text (λ (_ : Unit {0}). key) (Ok tt)
-plain_found {E = E} key text inv legal run =
-    let size : length text ≡ 8 + length key = omega (arith, registers_length run, length-append (word_bytes default_iv) key, length-word_bytes default_iv) in
-    let stands : Plain E key text = registers_plain key text (omega arith, omega arith, omega arith) run in
+-- the registers run back to the initial value and the key
+pub plain_found : {E D : List ℕ → List ℕ} (iv : ℕ) (key text : List ℕ) → AreInverse E D → IsWord iv → ¬ IsReserved iv → IsPlainTextLength (length text)
+    → Registers E (word_bytes iv ++ key) text
+    → Unwrapping (IsPlainTextLength (length text)) (Plain E iv) (Padded E) text (λ (_ : Unit {0}). key) (Ok tt)
+plain_found {E = E} iv key text inv word free legal run =
+    let size : length text ≡ 8 + length key = omega (arith, registers_length run, length-append (word_bytes iv) key, length-word_bytes iv) in
+    let stands : Plain E iv key text = registers_plain iv key text word (omega arith, omega arith, omega arith) run in
     record {
       bad_length = (λ e. cc, λ bad. absurd (bad legal));
       unwraps = (legal, stands);
       accepts = search rules;
       only_key = λ other k. plain_only_key inv stands k;
       restores = λ other k. plain_only_text stands k;
-      other_form = λ other k. not_both_forms inv stands k;
+      other_form = λ other k. not_both_forms inv free stands k;
     }
 
--- and where it is another initial value, no key stands with the text
-pub plain_none : {E D : List ℕ → List ℕ} {iv : ℕ} (registers key text : List ℕ) → AreInverse E D → IsPlainTextLength (length text) → IsWord iv
-    → ¬ (iv ≡ default_iv) → Registers E (word_bytes iv ++ registers) text
-    → Unwrapping (IsPlainTextLength (length text)) (Plain E) (Padded E) text (λ (_ : Unit {0}). key) (Err Integrity)
-plain_none {iv = iv} registers key text inv legal word other run =
-    none_found legal (λ k h. other (word_front iv default_iv registers k word default_iv_word (registers_backward inv run (plain_registers h))).0)
+-- and where they run back to another initial value, no key stands with the text
+pub plain_none : {E D : List ℕ → List ℕ} {found : ℕ} (iv : ℕ) (registers key text : List ℕ) → AreInverse E D → IsPlainTextLength (length text) → IsWord found
+    → ¬ (found ≡ iv) → Registers E (word_bytes found ++ registers) text
+    → Unwrapping (IsPlainTextLength (length text)) (Plain E iv) (Padded E) text (λ (_ : Unit {0}). key) (Err Integrity)
+plain_none {found = found} iv registers key text inv legal word other run =
+    none_found legal (λ k h. other (word_front found iv registers k word (wraps_iv h.wraps) (registers_backward inv run (plain_registers h))).0)
 
 -- the registers run back to an initial value and registers that hold a key of len bytes
 pub padded_found : {E D : List ℕ → List ℕ} {len : ℕ} (iv : ℕ) (registers text : List ℕ) → AreInverse E D → IsPaddedTextLength (length text)
     → PaddedRegisters E (word_bytes iv ++ registers) text → HoldsLength (word_bytes iv ++ registers) len
-    → Unwrapping (IsPaddedTextLength (length text)) (Padded E) (Plain E) text (λ m. take m registers) (Ok len)
+    → Unwrapping (IsPaddedTextLength (length text)) (Padded E) (Plain E default_iv) text (λ m. take m registers) (Ok len)
 padded_found {len = len} iv registers text inv legal run held =
     let cut : take len registers ≡ take len (drop 8 (word_bytes iv ++ registers)) =
     ap (take len) (sym (drop_at (word_bytes iv) registers 8 (length-word_bytes iv))) in
@@ -87,14 +87,14 @@ padded_found {len = len} iv registers text inv legal run held =
       accepts = search rules;
       only_key = w.1;
       restores = w.2;
-      other_form = λ other k. not_both_forms inv k w.0;
+      other_form = λ other k. not_both_forms inv default_free k w.0;
     }
 
 -- and where they hold no key, none stands with the text
 pub padded_none : {E D : List ℕ → List ℕ} (iv : ℕ) (registers : List ℕ) (key : ℕ → List ℕ) (text : List ℕ) → AreInverse E D → IsPaddedTextLength (length text)
     → PaddedRegisters E (word_bytes iv ++ registers) text
     → ((other : List ℕ) → IsPaddedKeyLength (length other) → ¬ Holds (word_bytes iv ++ registers) other)
-    → Unwrapping (IsPaddedTextLength (length text)) (Padded E) (Plain E) text key (Err Integrity)
+    → Unwrapping (IsPaddedTextLength (length text)) (Padded E) (Plain E default_iv) text key (Err Integrity)
 padded_none iv registers key text inv legal run holds =
     none_found legal (padded_refused (word_bytes iv ++ registers) text inv run refl refl holds)
 

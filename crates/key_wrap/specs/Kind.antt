@@ -7,15 +7,16 @@ use Rattle.key_wrap.specs.declared.faults.UnwrapFault.{UnwrapFault}
 use Rattle.key_wrap.specs.declared.faults.UnwrapFault.TheVariants.{BadLength, Integrity, Memory}
 use Rattle.key_wrap.specs.declared.forms.Kind.{Kind}
 use Rattle.key_wrap.specs.declared.forms.Kind.TheVariants.{Plain as InPlain, Padded as InPadded, Neither}
-use Rattle.key_wrap.specs.Plain.{Plain}
+use Rattle.key_wrap.specs.Plain.{Plain, default_iv}
 use Rattle.key_wrap.specs.Padded.{Padded}
 use Rattle.key_wrap.specs.Answer.{NoKey}
 
--- some key of that many bytes stands with the text in that form, or no key does in either
+-- some key of that many bytes stands with the text in that form, the plain one under the default initial value, or no
+-- key does in either
 abbrev pub IsKindOf : (List ℕ → List ℕ) → List ℕ → Kind → Type 0
-IsKindOf E text (InPlain m) = (key : List ℕ) × (length key ≡ m) × Plain E key text
+IsKindOf E text (InPlain m) = (key : List ℕ) × (length key ≡ m) × Plain E default_iv key text
 IsKindOf E text (InPadded m) = (key : List ℕ) × (length key ≡ m) × Padded E key text
-IsKindOf E text Neither = NoKey (Plain E) text × NoKey (Padded E) text
+IsKindOf E text Neither = NoKey (Plain E default_iv) text × NoKey (Padded E) text
 
 -- the length of the key that a call answered, or none where it refused the text, or want of memory
 abbrev pub KeyLengthOf : Result (Vec ℕ Global) UnwrapFault → Result (Option ℕ) KindFault → Type 0

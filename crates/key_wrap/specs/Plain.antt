@@ -1,5 +1,5 @@
 -- The plain form (RFC 3394, section 2.2).
-use Rattle.std.specs.Prelude.{◌≡◌, ℕ, List, length}
+use Rattle.std.specs.Prelude.{◌≡◌, ℕ, ◌/◌, ◌^◌, List, length}
 use Rattle.key_wrap.specs.Words.{spelled}
 use Rattle.key_wrap.specs.Tape.{Wraps}
 use Rattle.key_wrap.specs.Lengths.{IsPlainKeyLength}
@@ -8,11 +8,16 @@ use Rattle.key_wrap.specs.Lengths.{IsPlainKeyLength}
 abbrev pub default_iv : ℕ
 default_iv = 0xA6A6_A6A6_A6A6_A6A6
 
--- the text is the plain wrapping of the key: their words stand in the wrapping with the default initial value
-pub record Plain (E : List ℕ → List ℕ) (key text : List ℕ) : Type 0 where
+-- the first four bytes are A65959A6, the first of the alternative initial value (RFC 5649, section 3): such values
+-- are left to the padded form, so that no text is a wrapping in both forms
+abbrev pub IsReserved : ℕ → Type 0
+IsReserved iv = iv / 2 ^ 32 ≡ 0xA659_59A6
+
+-- the text is the plain wrapping of the key under this initial value: their words stand in the wrapping with it
+pub record Plain (E : List ℕ → List ℕ) (iv : ℕ) (key text : List ℕ) : Type 0 where
   pub legal : IsPlainKeyLength (length key)
   pub P : List ℕ
   pub C : List ℕ
   pub key_words : spelled P ≡ key
   pub text_words : spelled C ≡ text
-  pub wraps : Wraps E default_iv P C
+  pub wraps : Wraps E iv P C

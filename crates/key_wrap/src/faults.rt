@@ -78,3 +78,9 @@ pub enum InPlaceFault {
     #[error("integrity check failed")]
     Integrity,
 }
+
+/// The first four bytes of an initial value are A65959A6, as in the padded form (RFC 5649, section
+/// 3).
+#[derive(Clone, Copy, Debug, PartialEq, Eq, Error)]
+#[error("initial value is reserved for the padded form")]
+pub struct ReservedIv;

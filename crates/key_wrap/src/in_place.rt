@@ -4,11 +4,11 @@ ghost use Rattle.std.specs.Prelude.{◌≡◌, ◌↔◌, ◌++◌, ℕ, List, l
 ghost use Rattle.std.specs.Prelude.{Ok, Err, OnOk, IfOk, IsOk, IsOkUnless};
 ghost use Rattle.block_pair.specs.Metered.{counted};
 ghost use Rattle.key_wrap.specs.Lengths.{IsPlainTextLength, IsPaddedTextLength};
-ghost use Rattle.key_wrap.specs.Plain.{Plain};
+ghost use Rattle.key_wrap.specs.Plain.{Plain, IsReserved, default_iv};
 ghost use Rattle.key_wrap.specs.Padded.{Padded, padded};
 ghost use Rattle.key_wrap.specs.Answer.{NoKey};
 ghost use Rattle.key_wrap.specs.Calls.{block_calls};
-ghost use Rattle.key_wrap.specs.InPlace.{KeyAnswer, IsPaddedRoom, key_in};
+ghost use Rattle.key_wrap.specs.InPlace.{KeyAnswer, Unwrapping, IsPaddedRoom, key_in};
 
 use crate::checks::{DEFAULT_IV, initial_value};
 use crate::faults::InPlaceFault;
@@ -32,18 +32,29 @@ pub fn wrap_in_place<B: BlockPair>(meter: &mut Meter<B>, buf: &mut [u8]) -> Resu
     ensures only_fault { IsOkUnless result InPlaceFault.BadLength }
     ensures buffer_kept { result ≡ Err InPlaceFault.BadLength → buf.new ≡ buf.old }
     ensures meter_kept { result ≡ Err InPlaceFault.BadLength → meter.new ≡ meter.old }
-    ensures answer { OnOk result (Plain (B.encrypted meter.old.pair) (drop 8 buf.old) buf.new) }
+    ensures answer { OnOk result (
+        Plain (B.encrypted meter.old.pair) default_iv (drop 8 buf.old) buf.new) }
     ensures only_text { OnOk result (
-        (other : List ℕ) → Plain (B.encrypted meter.old.pair) (drop 8 buf.old) other
+        (other : List ℕ) → Plain (B.encrypted meter.old.pair) default_iv (drop 8 buf.old) other
         → other ≡ buf.new) }
     ensures calls { OnOk result (meter.new ≡ counted (block_calls (length buf.old)) meter.old) }
 {
     if !text_length_ok(buf.len()) {
         return Err(InPlaceFault::BadLength);
     }
-    let c0 = wrap_slice(meter, DEFAULT_IV, &mut buf[WORD..]);
-    BigEndian::write_u64(buf, c0);
+    wrap_buffer(meter, DEFAULT_IV, buf);
     Ok(())
+}
+
+// The key after the first 8 bytes of the buffer becomes its plain wrapping under this initial
+// value, the whole buffer.
+pub(crate) fn wrap_buffer<B: BlockPair>(meter: &mut Meter<B>, iv: u64, buf: &mut [u8])
+    requires { IsPlainTextLength (length buf.old) }
+    ensures answer { Plain (B.encrypted meter.old.pair) iv (drop 8 buf.old) buf.new }
+    ensures calls { meter.new ≡ counted (block_calls (length buf.old)) meter.old }
+{
+    let c0 = wrap_slice(meter, iv, &mut buf[WORD..]);
+    BigEndian::write_u64(buf, c0);
 }
 
 /// The plain text in the buffer becomes 8 zero bytes and its key (RFC 3394, section 2.2.2).
@@ -60,19 +71,19 @@ pub fn unwrap_in_place<B: BlockPair>(
     ensures buffer_kept { result ≡ Err InPlaceFault.BadLength → buf.new ≡ buf.old }
     ensures meter_kept { result ≡ Err InPlaceFault.BadLength → meter.new ≡ meter.old }
     ensures answer { KeyAnswer (IsPlainTextLength (length buf.old))
-        (Plain (B.encrypted meter.old.pair))
+        (Plain (B.encrypted meter.old.pair) default_iv)
         buf.old (λ _. drop 8 buf.new) result }
 
     // A wrapping is not refused.
-    ensures accepts { (key : List ℕ) → Plain (B.encrypted meter.old.pair) key buf.old
+    ensures accepts { (key : List ℕ) → Plain (B.encrypted meter.old.pair) default_iv key buf.old
         → IsOk result }
     ensures only_key { OnOk result (
-        (other : List ℕ) → Plain (B.encrypted meter.old.pair) other buf.old
+        (other : List ℕ) → Plain (B.encrypted meter.old.pair) default_iv other buf.old
         → other ≡ drop 8 buf.new) }
 
     // Wrapping the answer again gives the input.
     ensures restores { OnOk result (
-        (other : List ℕ) → Plain (B.encrypted meter.old.pair) (drop 8 buf.new) other
+        (other : List ℕ) → Plain (B.encrypted meter.old.pair) default_iv (drop 8 buf.new) other
         → other ≡ buf.old) }
     ensures other_form { OnOk result (NoKey (Padded (B.encrypted meter.old.pair)) buf.old) }
     ensures first_word { OnOk result (take 8 buf.new ≡ replicate 8 0) }
@@ -83,9 +94,28 @@ pub fn unwrap_in_place<B: BlockPair>(
     if !text_length_ok(buf.len()) {
         return Err(InPlaceFault::BadLength);
     }
+    unwrap_buffer(meter, DEFAULT_IV, buf)
+}
+
+// The plain text in the buffer becomes 8 zero bytes and the key whose wrapping under this initial
+// value it is, and zeros where there is none.
+pub(crate) fn unwrap_buffer<B: BlockPair>(
+    meter: &mut Meter<B>,
+    iv: u64,
+    buf: &mut [u8],
+) -> Result<(), InPlaceFault>
+    requires length { IsPlainTextLength (length buf.old) }
+    requires free { ¬ IsReserved iv }
+    ensures answer { Unwrapping (IsPlainTextLength (length buf.old))
+        (Plain (B.encrypted meter.old.pair) iv) (Padded (B.encrypted meter.old.pair))
+        buf.old (λ _. drop 8 buf.new) result }
+    ensures first_word { OnOk result (take 8 buf.new ≡ replicate 8 0) }
+    ensures cleared { result ≡ Err InPlaceFault.Integrity → All (λ byte. byte ≡ 0) buf.new }
+    ensures calls { meter.new ≡ counted (block_calls (length buf.old)) meter.old }
+{
     let c0 = BigEndian::read_u64(buf);
     buf[..WORD].fill(0);
-    unwrap_registers(meter, c0, &mut buf[WORD..])
+    unwrap_registers(meter, iv, c0, &mut buf[WORD..])
 }
 
 /// The key of `m` bytes after the first 8 bytes of the buffer, which are ignored as what follows it
@@ -147,7 +177,8 @@ pub fn unwrap_padded_in_place<B: BlockPair>(
     ensures restores { IfOk result (λ m.
         (other : List ℕ) → Padded (B.encrypted meter.old.pair) (key_in m buf.new) other
         → other ≡ buf.old) }
-    ensures other_form { OnOk result (NoKey (Plain (B.encrypted meter.old.pair)) buf.old) }
+    ensures other_form { OnOk result (
+        NoKey (Plain (B.encrypted meter.old.pair) default_iv) buf.old) }
     ensures size { IfOk result (λ m. length (key_in m buf.new) ≡ m) }
     ensures around { IfOk result (λ m. buf.new ≡ replicate 8 0 ++ padded (key_in m buf.new)) }
     ensures cleared { result ≡ Err InPlaceFault.Integrity → All (λ byte. byte ≡ 0) buf.new }

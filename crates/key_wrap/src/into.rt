@@ -3,7 +3,7 @@
 ghost use Rattle.std.specs.Prelude.{◌≡◌, ◌↔◌, ℕ, List, length, take, All, Ok, Err, OnOk, IfOk};
 ghost use Rattle.std.specs.Prelude.{IsOk, IsOkUnless};
 ghost use Rattle.block_pair.specs.Metered.{counted};
-ghost use Rattle.key_wrap.specs.Plain.{Plain};
+ghost use Rattle.key_wrap.specs.Plain.{Plain, default_iv};
 ghost use Rattle.key_wrap.specs.Padded.{Padded, padded};
 ghost use Rattle.key_wrap.specs.Answer.{NoKey};
 ghost use Rattle.key_wrap.specs.Calls.{block_calls};
@@ -11,9 +11,11 @@ ghost use Rattle.key_wrap.specs.InPlace.{KeyAnswer, IsPaddedRoom, ArePlainLength
 ghost use Rattle.key_wrap.specs.InPlace.{ArePaddedLengths};
 
 use crate::faults::InPlaceFault;
-use crate::in_place::{wrap_in_place, wrap_padded_in_place};
-use crate::lengths::{key_length_ok, padded_length_ok, padded_text_length_ok, text_length_ok};
-use crate::unwrapping::{unwrap_padded_registers, unwrap_registers};
+use crate::in_place::wrap_padded_in_place;
+use crate::initial_value::InitialValue;
+use crate::into_with::{unwrap_into_with, wrap_into_with};
+use crate::lengths::{padded_length_ok, padded_text_length_ok};
+use crate::unwrapping::unwrap_padded_registers;
 use block_pair::{BlockPair, Meter};
 use byteorder::{BigEndian, ByteOrder};
 
@@ -34,16 +36,13 @@ pub fn wrap_into<B: BlockPair>(
     ensures only_fault { IsOkUnless result InPlaceFault.BadLength }
     ensures text_kept { result ≡ Err InPlaceFault.BadLength → text.new ≡ text.old }
     ensures meter_kept { result ≡ Err InPlaceFault.BadLength → meter.new ≡ meter.old }
-    ensures answer { OnOk result (Plain (B.encrypted meter.old.pair) key.now text.new) }
+    ensures answer { OnOk result (Plain (B.encrypted meter.old.pair) default_iv key.now text.new) }
     ensures only_text { OnOk result (
-        (other : List ℕ) → Plain (B.encrypted meter.old.pair) key.now other → other ≡ text.new) }
+        (other : List ℕ) → Plain (B.encrypted meter.old.pair) default_iv key.now other
+        → other ≡ text.new) }
     ensures calls { OnOk result (meter.new ≡ counted (block_calls (length text.old)) meter.old) }
 {
-    if !key_length_ok(key.len()) || text.len() != key.len() + WORD {
-        return Err(InPlaceFault::BadLength);
-    }
-    text[WORD..].copy_from_slice(key);
-    wrap_in_place(meter, text)
+    wrap_into_with(meter, &InitialValue::default(), key, text)
 }
 
 /// The key whose plain wrapping is `text`, into `key` (RFC 3394, section 2.2.2).
@@ -62,27 +61,26 @@ pub fn unwrap_into<B: BlockPair>(
     ensures key_kept { result ≡ Err InPlaceFault.BadLength → key.new ≡ key.old }
     ensures meter_kept { result ≡ Err InPlaceFault.BadLength → meter.new ≡ meter.old }
     ensures answer { KeyAnswer (ArePlainLengths (length key.old) (length text.now))
-        (Plain (B.encrypted meter.old.pair)) text.now (λ _. key.new) result }
+        (Plain (B.encrypted meter.old.pair) default_iv) text.now (λ _. key.new) result }
 
     // A wrapping is refused for its lengths alone.
-    ensures accepts { (wrapped : List ℕ) → Plain (B.encrypted meter.old.pair) wrapped text.now
+    ensures accepts { (wrapped : List ℕ)
+        → Plain (B.encrypted meter.old.pair) default_iv wrapped text.now
         → IsOkUnless result InPlaceFault.BadLength }
     ensures only_key { OnOk result (
-        (other : List ℕ) → Plain (B.encrypted meter.old.pair) other text.now → other ≡ key.new) }
+        (other : List ℕ) → Plain (B.encrypted meter.old.pair) default_iv other text.now
+        → other ≡ key.new) }
 
     // Wrapping the answer again gives the input.
     ensures restores { OnOk result (
-        (other : List ℕ) → Plain (B.encrypted meter.old.pair) key.new other → other ≡ text.now) }
+        (other : List ℕ) → Plain (B.encrypted meter.old.pair) default_iv key.new other
+        → other ≡ text.now) }
     ensures other_form { OnOk result (NoKey (Padded (B.encrypted meter.old.pair)) text.now) }
     ensures cleared { result ≡ Err InPlaceFault.Integrity → All (λ byte. byte ≡ 0) key.new }
     ensures calls { ¬ (result ≡ Err InPlaceFault.BadLength)
         → meter.new ≡ counted (block_calls (length text.now)) meter.old }
 {
-    if !text_length_ok(text.len()) || key.len() != text.len() - WORD {
-        return Err(InPlaceFault::BadLength);
-    }
-    key.copy_from_slice(&text[WORD..]);
-    unwrap_registers(meter, BigEndian::read_u64(text), key)
+    unwrap_into_with(meter, &InitialValue::default(), text, key)
 }
 
 /// The padded wrapping of `key`, into `text` (RFC 5649, section 4.1).
@@ -142,7 +140,8 @@ pub fn unwrap_padded_into<B: BlockPair>(
     ensures restores { IfOk result (λ m.
         (other : List ℕ) → Padded (B.encrypted meter.old.pair) (take m key.new) other
         → other ≡ text.now) }
-    ensures other_form { OnOk result (NoKey (Plain (B.encrypted meter.old.pair)) text.now) }
+    ensures other_form { OnOk result (
+        NoKey (Plain (B.encrypted meter.old.pair) default_iv) text.now) }
     ensures size { IfOk result (λ m. length (take m key.new) ≡ m) }
     ensures behind { IfOk result (λ m. key.new ≡ padded (take m key.new)) }
     ensures cleared { result ≡ Err InPlaceFault.Integrity → All (λ byte. byte ≡ 0) key.new }

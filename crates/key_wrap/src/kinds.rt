@@ -2,7 +2,7 @@
 
 ghost use Rattle.std.specs.Prelude.{◌≡◌, ◌⊎◌, ℕ, List, length, Ok, Err, IfOk};
 ghost use Rattle.key_wrap.specs.Lengths.{IsPlainTextLength, IsPaddedTextLength};
-ghost use Rattle.key_wrap.specs.Plain.{Plain};
+ghost use Rattle.key_wrap.specs.Plain.{Plain, default_iv};
 ghost use Rattle.key_wrap.specs.Padded.{Padded};
 ghost use Rattle.key_wrap.specs.Answer.{NoKey};
 ghost use Rattle.key_wrap.specs.Kind.{IsKindOf, KeyLengthOf};
@@ -20,11 +20,11 @@ use std::alloc::Global;
 /// some form.
 pub fn kind<B: BlockPair>(alloc: Global, pair: &B, text: &[u8]) -> Result<Kind, KindFault>
     ensures answer { IfOk result (IsKindOf (B.encrypted pair.now) text.now) }
-    ensures plain { (key : List ℕ) → Plain (B.encrypted pair.now) key text.now
+    ensures plain { (key : List ℕ) → Plain (B.encrypted pair.now) default_iv key text.now
         → IfOk result (λ kind. kind ≡ Kind.Plain (length key)) }
     ensures padded { (key : List ℕ) → Padded (B.encrypted pair.now) key text.now
         → IfOk result (λ kind. kind ≡ Kind.Padded (length key)) }
-    ensures neither { NoKey (Plain (B.encrypted pair.now)) text.now
+    ensures neither { NoKey (Plain (B.encrypted pair.now) default_iv) text.now
         → NoKey (Padded (B.encrypted pair.now)) text.now
         → IfOk result (λ kind. kind ≡ Kind.Neither) }
     ensures memory { result ≡ Err KindFault.Memory

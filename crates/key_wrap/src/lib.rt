@@ -6,7 +6,9 @@ mod checks;
 mod faults;
 mod forms;
 mod in_place;
+mod initial_value;
 mod into;
+mod into_with;
 mod kinds;
 mod lengths;
 mod machine;
@@ -14,16 +16,18 @@ mod padded;
 mod plain;
 mod unwrapping;
 
-pub use faults::{InPlaceFault, KindFault, UnwrapFault, WrapFault};
+pub use faults::{InPlaceFault, KindFault, ReservedIv, UnwrapFault, WrapFault};
 pub use forms::{Form, Kind};
 pub use in_place::{unwrap_in_place, unwrap_padded_in_place, wrap_in_place, wrap_padded_in_place};
+pub use initial_value::InitialValue;
 pub use into::{unwrap_into, unwrap_padded_into, wrap_into, wrap_padded_into};
+pub use into_with::{unwrap_into_with, wrap_into_with};
 pub use kinds::kind;
 pub use lengths::{
     MAX_KEY, key_length_ok, padded_length_ok, padded_text_length_ok, text_length_ok,
 };
 pub use padded::{unwrap_padded, wrap_padded};
-pub use plain::{unwrap, wrap};
+pub use plain::{unwrap, unwrap_with, wrap, wrap_with};
 
 #[cfg(test)]
 mod tests;

@@ -2,7 +2,7 @@
 
 ghost use Rattle.std.specs.Prelude.{◌≡◌, ◌↔◌, ℕ, List, length, Ok, Err, IfOk, OnOk, IsOkUnless};
 ghost use Rattle.key_wrap.specs.Lengths.{IsPaddedKeyLength, IsPaddedTextLength};
-ghost use Rattle.key_wrap.specs.Plain.{Plain};
+ghost use Rattle.key_wrap.specs.Plain.{Plain, default_iv};
 ghost use Rattle.key_wrap.specs.Padded.{Padded};
 ghost use Rattle.key_wrap.specs.Answer.{UnwrapAnswer};
 
@@ -57,7 +57,7 @@ pub fn unwrap_padded<B: BlockPair>(
     ensures restores { IfOk result (λ key.
         (other : List ℕ) → Padded (B.encrypted pair.now) key.items other → other ≡ text.now) }
     ensures other_form { OnOk result (
-        (key : List ℕ) → ¬ Plain (B.encrypted pair.now) key text.now) }
+        (key : List ℕ) → ¬ Plain (B.encrypted pair.now) default_iv key text.now) }
 {
     if !padded_text_length_ok(text.len()) {
         return Err(UnwrapFault::BadLength);

@@ -2,13 +2,14 @@
 
 ghost use Rattle.std.specs.Prelude.{◌≡◌, ◌↔◌, ℕ, List, length, Ok, Err, IfOk, OnOk, IsOkUnless};
 ghost use Rattle.key_wrap.specs.Lengths.{IsPlainKeyLength, IsPlainTextLength};
-ghost use Rattle.key_wrap.specs.Plain.{Plain};
+ghost use Rattle.key_wrap.specs.Plain.{Plain, default_iv};
 ghost use Rattle.key_wrap.specs.Padded.{Padded};
 ghost use Rattle.key_wrap.specs.Answer.{UnwrapAnswer};
 
 use crate::buffers::{key_of, room_for};
 use crate::faults::{UnwrapFault, WrapFault};
-use crate::in_place::{unwrap_in_place, wrap_in_place};
+use crate::in_place::{unwrap_buffer, wrap_buffer};
+use crate::initial_value::InitialValue;
 use crate::lengths::{key_length_ok, text_length_ok};
 use block_pair::{BlockPair, Meter};
 use std::alloc::Global;
@@ -19,16 +20,38 @@ use std::alloc::Global;
 pub fn wrap<B: BlockPair>(alloc: Global, pair: &B, key: &[u8]) -> Result<Vec<u8>, WrapFault>
     ensures bad_length { (result ≡ Err WrapFault.BadLength) ↔ ¬ IsPlainKeyLength (length key.now) }
     ensures memory { result ≡ Err WrapFault.Memory → IsPlainKeyLength (length key.now) }
-    ensures answer { IfOk result (λ text. Plain (B.encrypted pair.now) key.now text.items) }
+    ensures answer { IfOk result (λ text.
+        Plain (B.encrypted pair.now) default_iv key.now text.items) }
     ensures only_text { IfOk result (λ text.
-        (other : List ℕ) → Plain (B.encrypted pair.now) key.now other → other ≡ text.items) }
+        (other : List ℕ) → Plain (B.encrypted pair.now) default_iv key.now other
+        → other ≡ text.items) }
+{
+    wrap_with(alloc, pair, &InitialValue::default(), key)
+}
+
+/// The plain wrapping of `key` under this initial value (RFC 3394, sections 2.2.1 and 2.2.3.2): 8
+/// bytes more than the key.
+///
+/// `BadLength` where `key_length_ok` says no, before any memory is taken; else `Memory` alone.
+pub fn wrap_with<B: BlockPair>(
+    alloc: Global,
+    pair: &B,
+    iv: &InitialValue,
+    key: &[u8],
+) -> Result<Vec<u8>, WrapFault>
+    ensures bad_length { (result ≡ Err WrapFault.BadLength) ↔ ¬ IsPlainKeyLength (length key.now) }
+    ensures memory { result ≡ Err WrapFault.Memory → IsPlainKeyLength (length key.now) }
+    ensures answer { IfOk result (λ text.
+        Plain (B.encrypted pair.now) iv.now key.now text.items) }
+    ensures only_text { IfOk result (λ text.
+        (other : List ℕ) → Plain (B.encrypted pair.now) iv.now key.now other
+        → other ≡ text.items) }
 {
     if !key_length_ok(key.len()) {
         return Err(WrapFault::BadLength);
     }
     let mut text = room_for(alloc, key)?;
-    // The buffer has the length of the text, so it is not refused.
-    wrap_in_place(&mut Meter::new(pair), &mut text).unwrap();
+    wrap_buffer(&mut Meter::new(pair), iv.word(), &mut text);
     Ok(text)
 }
 
@@ -39,17 +62,53 @@ pub fn wrap<B: BlockPair>(alloc: Global, pair: &B, key: &[u8]) -> Result<Vec<u8>
 pub fn unwrap<B: BlockPair>(alloc: Global, pair: &B, text: &[u8]) -> Result<Vec<u8>, UnwrapFault>
     ensures bad_length { (result ≡ Err UnwrapFault.BadLength)
         ↔ ¬ IsPlainTextLength (length text.now) }
-    ensures answer { UnwrapAnswer IsPlainTextLength (Plain (B.encrypted pair.now)) text.now result }
+    ensures answer { UnwrapAnswer IsPlainTextLength (Plain (B.encrypted pair.now) default_iv)
+        text.now result }
 
     // A wrapping is refused for want of memory alone.
-    ensures accepts { (key : List ℕ) → Plain (B.encrypted pair.now) key text.now
+    ensures accepts { (key : List ℕ) → Plain (B.encrypted pair.now) default_iv key text.now
         → IsOkUnless result UnwrapFault.Memory }
     ensures only_key { IfOk result (λ key.
-        (other : List ℕ) → Plain (B.encrypted pair.now) other text.now → other ≡ key.items) }
+        (other : List ℕ) → Plain (B.encrypted pair.now) default_iv other text.now
+        → other ≡ key.items) }
 
     // Wrapping the answer again gives the input.
     ensures restores { IfOk result (λ key.
-        (other : List ℕ) → Plain (B.encrypted pair.now) key.items other → other ≡ text.now) }
+        (other : List ℕ) → Plain (B.encrypted pair.now) default_iv key.items other
+        → other ≡ text.now) }
+    ensures other_form { OnOk result (
+        (key : List ℕ) → ¬ Padded (B.encrypted pair.now) key text.now) }
+{
+    unwrap_with(alloc, pair, &InitialValue::default(), text)
+}
+
+/// The key whose plain wrapping under this initial value is `text` (RFC 3394, sections 2.2.2 and
+/// 2.2.3.2): 8 bytes less than the text.
+///
+/// `BadLength` where `text_length_ok` says no, before any memory is taken; then `Memory`;
+/// `Integrity` where the text is the plain wrapping of no key under this initial value.
+pub fn unwrap_with<B: BlockPair>(
+    alloc: Global,
+    pair: &B,
+    iv: &InitialValue,
+    text: &[u8],
+) -> Result<Vec<u8>, UnwrapFault>
+    ensures bad_length { (result ≡ Err UnwrapFault.BadLength)
+        ↔ ¬ IsPlainTextLength (length text.now) }
+    ensures answer { UnwrapAnswer IsPlainTextLength (Plain (B.encrypted pair.now) iv.now)
+        text.now result }
+
+    // A wrapping is refused for want of memory alone.
+    ensures accepts { (key : List ℕ) → Plain (B.encrypted pair.now) iv.now key text.now
+        → IsOkUnless result UnwrapFault.Memory }
+    ensures only_key { IfOk result (λ key.
+        (other : List ℕ) → Plain (B.encrypted pair.now) iv.now other text.now
+        → other ≡ key.items) }
+
+    // Wrapping the answer again gives the input.
+    ensures restores { IfOk result (λ key.
+        (other : List ℕ) → Plain (B.encrypted pair.now) iv.now key.items other
+        → other ≡ text.now) }
     ensures other_form { OnOk result (
         (key : List ℕ) → ¬ Padded (B.encrypted pair.now) key text.now) }
 {
@@ -57,6 +116,6 @@ pub fn unwrap<B: BlockPair>(alloc: Global, pair: &B, text: &[u8]) -> Result<Vec<
         return Err(UnwrapFault::BadLength);
     }
     let mut buffer = Vec::from_slice(alloc, text)?;
-    unwrap_in_place(&mut Meter::new(pair), &mut buffer)?;
+    unwrap_buffer(&mut Meter::new(pair), iv.word(), &mut buffer)?;
     Ok(key_of(buffer, text.len() - 8))
 }

@@ -2,6 +2,7 @@
 //! goes in, xored with t, and A(t-1) goes into the last register.
 
 mod in_place;
+mod initial_values;
 mod into;
 mod memory;
 mod padded;

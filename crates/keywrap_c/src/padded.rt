@@ -3,7 +3,7 @@
 ghost use Rattle.std.specs.Prelude.{◌≡◌, ◌↔◌, ℕ, List, length, take, All};
 ghost use Rattle.aes_block.specs.Cipher.{cipher};
 ghost use Rattle.aes_block.specs.KeyExpansion.{IsKekLength};
-ghost use Rattle.key_wrap.specs.Plain.{Plain};
+ghost use Rattle.key_wrap.specs.Plain.{Plain, default_iv};
 ghost use Rattle.key_wrap.specs.Padded.{Padded, padded};
 ghost use Rattle.key_wrap.specs.Answer.{NoKey};
 ghost use Rattle.key_wrap.specs.InPlace.{IsPaddedRoom, ArePaddedLengths};
@@ -61,7 +61,8 @@ pub extern "C" fn keywrap_unwrap_padded(
     ensures cleared { IsIntegrity result → All (λ byte. byte ≡ 0) key.new }
     ensures no_key { ¬ IsDone result → key_len.new ≡ 0 }
     ensures answer { IsDone result → IsUnwrapping
-        (Padded (cipher kek.now)) (Plain (cipher kek.now)) text.now (take key_len.new key.new) }
+        (Padded (cipher kek.now)) (Plain (cipher kek.now) default_iv)
+        text.now (take key_len.new key.new) }
     ensures size { IsDone result → length (take key_len.new key.new) ≡ key_len.new }
     ensures behind { IsDone result → key.new ≡ padded (take key_len.new key.new) }
 

@@ -4,7 +4,7 @@ ghost use Rattle.std.specs.Prelude.{◌≡◌, ◌↔◌, ◌++◌, ℕ, List, l
 ghost use Rattle.aes_block.specs.Cipher.{cipher};
 ghost use Rattle.aes_block.specs.KeyExpansion.{IsKekLength};
 ghost use Rattle.key_wrap.specs.Lengths.{IsPaddedTextLength};
-ghost use Rattle.key_wrap.specs.Plain.{Plain};
+ghost use Rattle.key_wrap.specs.Plain.{Plain, default_iv};
 ghost use Rattle.key_wrap.specs.Padded.{Padded, padded};
 ghost use Rattle.key_wrap.specs.Answer.{NoKey};
 ghost use Rattle.key_wrap.specs.InPlace.{IsPaddedRoom, key_in};
@@ -62,7 +62,8 @@ pub extern "C" fn keywrap_unwrap_padded_in_place(
     ensures kept_at_bad_length { IsBadLength result → buffer.new ≡ buffer.old }
     ensures cleared { IsIntegrity result → All (λ byte. byte ≡ 0) buffer.new }
     ensures no_key { ¬ IsDone result → key_len.new ≡ 0 }
-    ensures answer { IsDone result → IsUnwrapping (Padded (cipher kek.now)) (Plain (cipher kek.now))
+    ensures answer { IsDone result
+        → IsUnwrapping (Padded (cipher kek.now)) (Plain (cipher kek.now) default_iv)
         buffer.old (key_in key_len.new buffer.new) }
     ensures size { IsDone result → length (key_in key_len.new buffer.new) ≡ key_len.new }
     ensures around { IsDone result

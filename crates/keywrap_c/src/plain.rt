@@ -3,7 +3,7 @@
 ghost use Rattle.std.specs.Prelude.{◌≡◌, ◌↔◌, ℕ, List, length, All};
 ghost use Rattle.aes_block.specs.Cipher.{cipher};
 ghost use Rattle.aes_block.specs.KeyExpansion.{IsKekLength};
-ghost use Rattle.key_wrap.specs.Plain.{Plain};
+ghost use Rattle.key_wrap.specs.Plain.{Plain, default_iv};
 ghost use Rattle.key_wrap.specs.Padded.{Padded};
 ghost use Rattle.key_wrap.specs.Answer.{NoKey};
 ghost use Rattle.key_wrap.specs.InPlace.{ArePlainLengths};
@@ -26,7 +26,8 @@ pub extern "C" fn keywrap_wrap(kek: &[u8], key: &[u8], text: &mut [u8]) -> i32
     ensures done { IsDone result
         ↔ (IsKekLength (length kek.now) × ArePlainLengths (length key.now) (length text.old)) }
     ensures kept { ¬ IsDone result → text.new ≡ text.old }
-    ensures answer { IsDone result → IsWrapping (Plain (cipher kek.now)) key.now text.new }
+    ensures answer { IsDone result
+        → IsWrapping (Plain (cipher kek.now) default_iv) key.now text.new }
 {
     let Ok(aes) = Aes::new(kek) else {
         return BAD_KEK;
@@ -49,17 +50,18 @@ pub extern "C" fn keywrap_unwrap(kek: &[u8], text: &[u8], key: &mut [u8]) -> i32
         → IsKekLength (length kek.now) × ArePlainLengths (length key.old) (length text.now) }
     ensures integrity { IsIntegrity result ↔ (IsKekLength (length kek.now)
         × ArePlainLengths (length key.old) (length text.now)
-        × NoKey (Plain (cipher kek.now)) text.now) }
+        × NoKey (Plain (cipher kek.now) default_iv) text.now) }
     ensures kept_at_bad_kek { IsBadKek result → key.new ≡ key.old }
     ensures kept_at_bad_length { IsBadLength result → key.new ≡ key.old }
     ensures cleared { IsIntegrity result → All (λ byte. byte ≡ 0) key.new }
     ensures answer { IsDone result
-        → IsUnwrapping (Plain (cipher kek.now)) (Padded (cipher kek.now)) text.now key.new }
+        → IsUnwrapping (Plain (cipher kek.now) default_iv) (Padded (cipher kek.now))
+        text.now key.new }
 
     // A wrapping is refused for its lengths alone.
     ensures accepts { (other : List ℕ) → IsKekLength (length kek.now)
         → ArePlainLengths (length key.old) (length text.now)
-        → Plain (cipher kek.now) other text.now → IsDone result }
+        → Plain (cipher kek.now) default_iv other text.now → IsDone result }
 {
     let Ok(aes) = Aes::new(kek) else {
         return BAD_KEK;

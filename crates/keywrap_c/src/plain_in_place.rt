@@ -4,7 +4,7 @@ ghost use Rattle.std.specs.Prelude.{◌≡◌, ◌↔◌, ℕ, List, length, dro
 ghost use Rattle.aes_block.specs.Cipher.{cipher};
 ghost use Rattle.aes_block.specs.KeyExpansion.{IsKekLength};
 ghost use Rattle.key_wrap.specs.Lengths.{IsPlainTextLength};
-ghost use Rattle.key_wrap.specs.Plain.{Plain};
+ghost use Rattle.key_wrap.specs.Plain.{Plain, default_iv};
 ghost use Rattle.key_wrap.specs.Padded.{Padded};
 ghost use Rattle.key_wrap.specs.Answer.{NoKey};
 ghost use Rattle.keywrap_c.specs.Status.{IsDone, IsBadKek, IsBadLength, IsIntegrity};
@@ -28,7 +28,7 @@ pub extern "C" fn keywrap_wrap_in_place(kek: &[u8], buffer: &mut [u8]) -> i32
         ↔ (IsKekLength (length kek.now) × IsPlainTextLength (length buffer.old)) }
     ensures kept { ¬ IsDone result → buffer.new ≡ buffer.old }
     ensures answer { IsDone result
-        → IsWrapping (Plain (cipher kek.now)) (drop 8 buffer.old) buffer.new }
+        → IsWrapping (Plain (cipher kek.now) default_iv) (drop 8 buffer.old) buffer.new }
 {
     let Ok(aes) = Aes::new(kek) else {
         return BAD_KEK;
@@ -50,17 +50,19 @@ pub extern "C" fn keywrap_unwrap_in_place(kek: &[u8], buffer: &mut [u8]) -> i32
     ensures done { IsDone result
         → IsKekLength (length kek.now) × IsPlainTextLength (length buffer.old) }
     ensures integrity { IsIntegrity result ↔ (IsKekLength (length kek.now)
-        × IsPlainTextLength (length buffer.old) × NoKey (Plain (cipher kek.now)) buffer.old) }
+        × IsPlainTextLength (length buffer.old)
+        × NoKey (Plain (cipher kek.now) default_iv) buffer.old) }
     ensures kept_at_bad_kek { IsBadKek result → buffer.new ≡ buffer.old }
     ensures kept_at_bad_length { IsBadLength result → buffer.new ≡ buffer.old }
     ensures cleared { IsIntegrity result → All (λ byte. byte ≡ 0) buffer.new }
-    ensures answer { IsDone result → IsUnwrapping (Plain (cipher kek.now)) (Padded (cipher kek.now))
+    ensures answer { IsDone result
+        → IsUnwrapping (Plain (cipher kek.now) default_iv) (Padded (cipher kek.now))
         buffer.old (drop 8 buffer.new) }
     ensures first_word { IsDone result → take 8 buffer.new ≡ replicate 8 0 }
 
     // A wrapping is not refused.
     ensures accepts { (key : List ℕ) → IsKekLength (length kek.now)
-        → Plain (cipher kek.now) key buffer.old → IsDone result }
+        → Plain (cipher kek.now) default_iv key buffer.old → IsDone result }
 {
     let Ok(aes) = Aes::new(kek) else {
         return BAD_KEK;

@@ -10,13 +10,13 @@ use Rattle.key_wrap.specs.declared.faults.WrapFault.TheVariants as wraps
 use Rattle.key_wrap.specs.Answer.{NoKey}
 use Rattle.key_wrap.specs.Lengths.{IsPlainKeyLength, IsPlainTextLength, IsPaddedKeyLength, IsPaddedTextLength}
 use Rattle.key_wrap.specs.Padded.{Padded}
-use Rattle.key_wrap.specs.Plain.{Plain}
+use Rattle.key_wrap.specs.Plain.{Plain, default_iv}
 use Rattle.keywrap_cli.specs.declared.convert.Direction.{Direction}
 use Rattle.keywrap_cli.specs.declared.convert.Direction.TheVariants.{Wrap, Unwrap}
 
 -- the text is the wrapping of the key in this form under E
 abbrev pub Stands : Form → (List ℕ → List ℕ) → List ℕ → List ℕ → Type 0
-Stands forms.Plain E key text = Plain E key text
+Stands forms.Plain E key text = Plain E default_iv key text
 Stands forms.Padded E key text = Padded E key text
 
 abbrev pub other_form : Form → Form

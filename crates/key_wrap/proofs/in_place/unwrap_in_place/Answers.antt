@@ -1,12 +1,5 @@
--- The machine was given the text, and leaves the key behind eight zeros, or zeros alone.
-use Rattle.std.proofs.Common.{rules, ◌≡◌, ℕ, List, take, drop, replicate, All, arith, sym, ap, subst}
-use Rattle.std.proofs.lemmas.List.Elements.{All-append, All-replicate}
-use Rattle.key_wrap.specs.Words.{word_bytes}
-use Rattle.key_wrap.specs.Lengths.{IsPlainTextLength}
-use Rattle.key_wrap.proofs.Spelling.{read_word, each_byte}
+-- A text of a legal length is not refused for it, and a wrapping has one.
 use Rattle.key_wrap.proofs.FormLengths.{plain_text_legal}
-use Rattle.key_wrap.proofs.InPlaceForm.{first_cleared}
-use Rattle.key_wrap.proofs.Unwrappings.{renamed}
 use Rattle.key_wrap.proofs.in_place.unwrap_in_place.Goals as goal
 
 pub returns-then-not-text_length_ok-clause-accepts : goal.returns-then-not-text_length_ok-clause-accepts
@@ -14,13 +7,9 @@ returns-then-not-text_length_ok-clause-accepts g c = λ key h. let legal = c.tex
 
 pub returns : goal.returns
 returns g c =
-    let text : List ℕ = c.args.buf.now in
     let legal = c.text_length_ok.ensures.0 c.if-not-text_length_ok.false in
-    let front : word_bytes c.read_u64-c0.result ≡ take 8 text =
-    read_word text c.read_u64-c0.result (omega arith) (each_byte text (search rules)) c.read_u64-c0.ensures in
-    let key : List ℕ = c.unwrap_registers.new.registers in
-    let states = first_cleared c.read_u64-c0.result text c.fill.new.self key (omega arith) front (c.fill.ensures.after (λ y e. e)) (search rules) in
-    let u = renamed IsPlainTextLength states.given (ap (λ (bs : List ℕ). λ (_ : Unit {0}). drop 8 bs) (sym states.left)) c.unwrap_registers.ensures.answer in
+    let w = c.unwrap_buffer.ensures in
+    let u = w.answer in
     record {
       bad_length = u.bad_length;
       buffer_kept = λ e. absurd (u.bad_length.0 e legal);
@@ -30,9 +19,7 @@ returns g c =
       only_key = u.only_key;
       restores = u.restores;
       other_form = u.other_form;
-      first_word = search rules;
-      cleared = λ e. subst (λ (bs : List ℕ). All (λ byte. byte ≡ 0) bs) (sym states.left)
-          (All-append (λ (byte : ℕ). byte ≡ 0) (replicate 8 0) key (All-replicate (λ (byte : ℕ). byte ≡ 0) 8 0 (search rules))
-          (c.unwrap_registers.ensures.cleared e));
-      calls = search rules;
+      first_word = w.first_word;
+      cleared = w.cleared;
+      calls = λ _. w.calls;
     }

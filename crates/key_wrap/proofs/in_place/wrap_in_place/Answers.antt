@@ -1,34 +1,6 @@
--- The machine runs from the initial value and the key behind the first word, and C0 is written before it.
-use Rattle.std.proofs.Common.{rules, ◌≡◌, ℕ, List, length, take, drop, ◌++◌, ◌-◌, arith, ap, ◌∙◌, length-drop}
-use Rattle.std.proofs.lemmas.List.{take_all}
-use borrow.Rule.Slice.PartMut.{put_mid}
-use Rattle.key_wrap.specs.Words.{word_bytes}
-use Rattle.key_wrap.specs.Plain.{Plain, default_iv}
-use Rattle.key_wrap.specs.Registers.{Registers}
-use Rattle.key_wrap.proofs.PlainForm.{registers_plain, plain_only_text}
-use Rattle.key_wrap.proofs.InPlaceForm.{registers_now}
+-- The key has one text.
+use Rattle.key_wrap.proofs.PlainForm.{plain_only_text}
 use Rattle.key_wrap.proofs.in_place.wrap_in_place.Goals as goal
 
-pub returns : goal.returns
-unfolding word_bytes
-returns g c =
-    let E = g.B.BlockPair.encrypted c.args.meter.now.pair in
-    let old : List ℕ = c.args.buf.now in
-    let legal = c.text_length_ok.ensures.0 c.if-not-text_length_ok.false in
-    let all : take (length old - 8) (drop 8 old) ≡ drop 8 old = take_all (length old - 8) (drop 8 old) (omega (arith, length-drop 8 old)) in
-    let rest : drop 8 (put_mid 8 (length old - 8) old c.wrap_slice-c0.new.registers) ≡ c.wrap_slice-c0.new.registers =
-    registers_now old c.wrap_slice-c0.new.registers (omega arith) (search rules) in
-    let text : c.write_u64.new.buf ≡ word_bytes c.wrap_slice-c0.result ++ c.wrap_slice-c0.new.registers =
-    c.write_u64.ensures ∙ ap (λ (bs : List ℕ). word_bytes c.wrap_slice-c0.result ++ bs) rest in
-    let run : Registers E (word_bytes default_iv ++ drop 8 old) c.write_u64.new.buf = rw (text, ← all) c.wrap_slice-c0.ensures.wrapped in
-    let stands : Plain E (drop 8 old) c.write_u64.new.buf =
-    registers_plain (drop 8 old) c.write_u64.new.buf (let l = length-drop 8 old in (omega arith, omega arith, omega arith)) run in
-    record {
-      bad_length = search rules;
-      only_fault = search rules;
-      buffer_kept = search rules;
-      meter_kept = search rules;
-      answer = stands;
-      only_text = λ other k. plain_only_text stands k;
-      calls = search rules;
-    }
+pub returns-clause-only_text : goal.returns-clause-only_text
+returns-clause-only_text g c = λ other k. plain_only_text c.wrap_buffer.ensures.answer k

@@ -2,7 +2,7 @@
 -- a wrapping would contradict it.
 use Rattle.std.proofs.Common.{rules, ◌≡◌, ℕ, List, ap, ◌∙◌, subst, sym, true, false}
 use Rattle.aes_block.specs.Cipher.{cipher}
-use Rattle.key_wrap.specs.Plain.{Plain}
+use Rattle.key_wrap.specs.Plain.{Plain, default_iv}
 use Rattle.key_wrap.specs.Padded.{Padded}
 use Rattle.key_wrap.specs.Answer.{NoKey}
 use Rattle.key_wrap.specs.InPlace.{key_in}
@@ -14,7 +14,7 @@ returns-in-Ok-unwrap_padded_in_place-clause-answer c = λ _.
     let under : c.new-2.result.pair ≡ c.args.kek.now = ap (λ m. m.pair) c.new-2.ensures ∙ c.in-Ok.ensures.key in
     let told = c.in-Ok-unwrap_padded_in_place.ensures in
     let key = key_in c.in-Ok-unwrap_padded_in_place.m c.unwrap_padded_in_place.new.buf in
-    subst (λ (K : List ℕ). IsUnwrapping (Padded (cipher K)) (Plain (cipher K)) c.args.buffer.now key) under
+    subst (λ (K : List ℕ). IsUnwrapping (Padded (cipher K)) (Plain (cipher K) default_iv) c.args.buffer.now key) under
     (record { stands = told.answer.1; only_key = told.only_key; restores = told.restores; other_form = told.other_form })
 
 pub returns-in-Err-BadLength-clause-accepts : goal.returns-in-Err-BadLength-clause-accepts

@@ -2,7 +2,7 @@
 -- are not refused are right.
 use Rattle.std.proofs.Common.{◌≡◌, ℕ, List, length, ap, ◌∙◌, subst, refl}
 use Rattle.aes_block.specs.Cipher.{cipher}
-use Rattle.key_wrap.specs.Plain.{Plain}
+use Rattle.key_wrap.specs.Plain.{Plain, default_iv}
 use Rattle.key_wrap.specs.InPlace.{ArePlainLengths}
 use Rattle.keywrap_c.specs.Answers.{IsWrapping}
 use Rattle.keywrap_c.proofs.Lengths.{plain_lengths-not_refused}
@@ -19,5 +19,5 @@ pub returns-in-Ok-wrap_into-clause-answer : goal.returns-in-Ok-wrap_into-clause-
 returns-in-Ok-wrap_into-clause-answer c = λ _.
     let under : c.new-2.result.pair ≡ c.args.kek.now = ap (λ m. m.pair) c.new-2.ensures ∙ c.in-Ok.ensures.key in
     let told = c.in-Ok-wrap_into.ensures in
-    subst (λ (K : List ℕ). IsWrapping (Plain (cipher K)) c.args.key.now c.wrap_into.new.text) under
+    subst (λ (K : List ℕ). IsWrapping (Plain (cipher K) default_iv) c.args.key.now c.wrap_into.new.text) under
     (record { stands = told.answer; only_text = told.only_text })

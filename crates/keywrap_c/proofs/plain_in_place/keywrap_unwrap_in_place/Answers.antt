@@ -2,7 +2,7 @@
 -- a wrapping would contradict it.
 use Rattle.std.proofs.Common.{rules, ◌≡◌, ℕ, List, drop, ap, ◌∙◌, subst, sym, true, false}
 use Rattle.aes_block.specs.Cipher.{cipher}
-use Rattle.key_wrap.specs.Plain.{Plain}
+use Rattle.key_wrap.specs.Plain.{Plain, default_iv}
 use Rattle.key_wrap.specs.Padded.{Padded}
 use Rattle.key_wrap.specs.Answer.{NoKey}
 use Rattle.keywrap_c.specs.Answers.{IsUnwrapping}
@@ -12,27 +12,27 @@ pub returns-in-Ok-unwrap_in_place-clause-answer : goal.returns-in-Ok-unwrap_in_p
 returns-in-Ok-unwrap_in_place-clause-answer c = λ _.
     let under : c.new-2.result.pair ≡ c.args.kek.now = ap (λ m. m.pair) c.new-2.ensures ∙ c.in-Ok.ensures.key in
     let told = c.in-Ok-unwrap_in_place.ensures in
-    subst (λ (K : List ℕ). IsUnwrapping (Plain (cipher K)) (Padded (cipher K)) c.args.buffer.now (drop 8 c.unwrap_in_place.new.buf)) under
+    subst (λ (K : List ℕ). IsUnwrapping (Plain (cipher K) default_iv) (Padded (cipher K)) c.args.buffer.now (drop 8 c.unwrap_in_place.new.buf)) under
     (record { stands = told.answer.1; only_key = told.only_key; restores = told.restores; other_form = told.other_form })
 
 pub returns-in-Err-BadLength-clause-accepts : goal.returns-in-Err-BadLength-clause-accepts
 returns-in-Err-BadLength-clause-accepts c = λ key _ stands.
     let under : c.new-2.result.pair ≡ c.args.kek.now = ap (λ m. m.pair) c.new-2.ensures ∙ c.in-Ok.ensures.key in
     let accepted : false ≡ true =
-    c.in-Err-BadLength.ensures.accepts key (subst (λ (K : List ℕ). Plain (cipher K) key c.args.buffer.now) (sym under) stands) in
+    c.in-Err-BadLength.ensures.accepts key (subst (λ (K : List ℕ). Plain (cipher K) default_iv key c.args.buffer.now) (sym under) stands) in
     cc
 
 pub returns-in-Err-Integrity-clause-integrity : goal.returns-in-Err-Integrity-clause-integrity
 returns-in-Err-Integrity-clause-integrity c =
     let under : c.new-2.result.pair ≡ c.args.kek.now = ap (λ m. m.pair) c.new-2.ensures ∙ c.in-Ok.ensures.key in
     let told = rw c.in-Err-Integrity.field-0-is at c.in-Err-Integrity.ensures.answer in
-    let no_key : NoKey (Plain (cipher c.args.kek.now)) c.args.buffer.now =
-    subst (λ (K : List ℕ). NoKey (Plain (cipher K)) c.args.buffer.now) under told.1 in
+    let no_key : NoKey (Plain (cipher c.args.kek.now) default_iv) c.args.buffer.now =
+    subst (λ (K : List ℕ). NoKey (Plain (cipher K) default_iv) c.args.buffer.now) under told.1 in
     search rules
 
 pub returns-in-Err-Integrity-clause-accepts : goal.returns-in-Err-Integrity-clause-accepts
 returns-in-Err-Integrity-clause-accepts c = λ key _ stands.
     let under : c.new-2.result.pair ≡ c.args.kek.now = ap (λ m. m.pair) c.new-2.ensures ∙ c.in-Ok.ensures.key in
     let accepted : false ≡ true =
-    c.in-Err-Integrity.ensures.accepts key (subst (λ (K : List ℕ). Plain (cipher K) key c.args.buffer.now) (sym under) stands) in
+    c.in-Err-Integrity.ensures.accepts key (subst (λ (K : List ℕ). Plain (cipher K) default_iv key c.args.buffer.now) (sym under) stands) in
     cc

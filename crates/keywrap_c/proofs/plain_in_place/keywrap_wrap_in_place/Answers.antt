@@ -3,7 +3,7 @@
 use Rattle.std.proofs.Common.{◌≡◌, ℕ, List, length, drop, ap, ◌∙◌, subst, refl}
 use Rattle.aes_block.specs.Cipher.{cipher}
 use Rattle.key_wrap.specs.Lengths.{IsPlainTextLength}
-use Rattle.key_wrap.specs.Plain.{Plain}
+use Rattle.key_wrap.specs.Plain.{Plain, default_iv}
 use Rattle.keywrap_c.specs.Answers.{IsWrapping}
 use Rattle.keywrap_c.proofs.Lengths.{plain_text_length}
 use Rattle.keywrap_c.proofs.plain_in_place.keywrap_wrap_in_place.Goals as goal
@@ -17,5 +17,5 @@ returns-in-Ok-wrap_in_place-clause-done c =
 pub returns-in-Ok-wrap_in_place-clause-answer : goal.returns-in-Ok-wrap_in_place-clause-answer
 returns-in-Ok-wrap_in_place-clause-answer c = λ _.
     let under : c.new-2.result.pair ≡ c.args.kek.now = ap (λ m. m.pair) c.new-2.ensures ∙ c.in-Ok.ensures.key in
-    subst (λ (K : List ℕ). IsWrapping (Plain (cipher K)) (drop 8 c.args.buffer.now) c.wrap_in_place.new.buf) under
+    subst (λ (K : List ℕ). IsWrapping (Plain (cipher K) default_iv) (drop 8 c.args.buffer.now) c.wrap_in_place.new.buf) under
     (record { stands = c.in-Ok-wrap_in_place.ensures.answer; only_text = c.in-Ok-wrap_in_place.ensures.only_text })

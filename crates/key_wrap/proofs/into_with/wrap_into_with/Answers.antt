@@ -1,0 +1,24 @@
+-- The key stands behind the first word of the text's buffer, and it has one text.
+use Rattle.std.proofs.Common.{rules, ◌≡◌, ℕ, List, length, drop, ◌-◌, arith, ◌∙◌}
+use borrow.Rule.Slice.PartMut.{put_mid}
+use Rattle.key_wrap.specs.Plain.{Plain}
+use Rattle.key_wrap.proofs.PlainForm.{plain_only_text}
+use Rattle.key_wrap.proofs.InPlaceForm.{registers_now}
+use Rattle.key_wrap.proofs.into_with.wrap_into_with.Goals as goal
+
+pub returns : goal.returns
+returns g c =
+    let E = g.B.BlockPair.encrypted c.args.meter.now.pair in
+    let text : List ℕ = c.args.text.now in
+    let held : drop 8 (put_mid 8 (length text - 8) text c.copy_from_slice.new.self) ≡ c.args.key.now =
+    registers_now text c.copy_from_slice.new.self (omega arith) (search rules) ∙ c.copy_from_slice.ensures.after in
+    let stands : Plain E c.args.iv.now c.args.key.now c.wrap_buffer.new.buf = rw (held, c.word.ensures.value) at c.wrap_buffer.ensures.answer in
+    record {
+      bad_length = search rules;
+      only_fault = search rules;
+      text_kept = search rules;
+      meter_kept = search rules;
+      answer = stands;
+      only_text = λ other k. plain_only_text stands k;
+      calls = search rules;
+    }

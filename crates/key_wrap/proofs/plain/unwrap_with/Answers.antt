@@ -1,0 +1,55 @@
+-- The buffer holds the text, so what the call in it promises of the text is what is promised here.
+use Rattle.std.proofs.Common.{rules, ◌≡◌, ℕ, List, length, take, drop, ◌-◌, arith, ap, ◌∙◌, length-drop}
+use Rattle.std.proofs.lemmas.List.{take_all}
+use Rattle.key_wrap.specs.Lengths.{IsPlainTextLength}
+use Rattle.key_wrap.specs.Plain.{Plain}
+use Rattle.key_wrap.proofs.FormLengths.{plain_text_legal}
+use Rattle.key_wrap.proofs.PlainForm.{written_back}
+use Rattle.key_wrap.proofs.Unwrappings.{refused}
+use Rattle.key_wrap.proofs.plain.unwrap_with.Goals as goal
+
+pub returns-then-not-text_length_ok-clause-accepts : goal.returns-then-not-text_length_ok-clause-accepts
+returns-then-not-text_length_ok-clause-accepts g c = λ key h. let legal = c.text_length_ok.ensures.1 (plain_text_legal h) in cc
+
+pub returns-in_err-unwrap_buffer : goal.returns-in_err-unwrap_buffer
+returns-in_err-unwrap_buffer g c =
+    let text : List ℕ = c.args.text.now in
+    let legal = c.text_length_ok.ensures.0 c.if-not-text_length_ok.false in
+    let same : c.deref_mut.result.now ≡ text = c.deref_mut.ensures.value ∙ c.in_ok-buffer.ensures.items in
+    let own = ap (λ m. m.pair) c.new.ensures in
+    let given : List ℕ = c.deref_mut.result.now in
+    let w = refused (Plain (g.B.BlockPair.encrypted c.new.result.pair) c.word.result) (IsPlainTextLength (length given))
+    (λ (_ : Unit {0}). drop 8 c.unwrap_buffer.new.buf) given c.in_err-unwrap_buffer.field-0.0 c.from_residual-in_err-unwrap_buffer.result (rw same legal)
+    c.in_err-unwrap_buffer.ensures.answer.unwraps
+    c.from_residual-in_err-unwrap_buffer.ensures in
+    let none = rw (own, same, c.word.ensures.value) at w.1 in
+    record {
+      bad_length = rw w.0 (search rules);
+      answer = rw w.0 (legal, none);
+      accepts = λ key h. absurd (none key h);
+      only_key = rw w.0 (search rules);
+      restores = rw w.0 (search rules);
+      other_form = rw w.0 (search rules);
+    }
+
+pub returns : goal.returns
+returns g c =
+    let text : List ℕ = c.args.text.now in
+    let legal = c.text_length_ok.ensures.0 c.if-not-text_length_ok.false in
+    let same : c.deref_mut.result.now ≡ text = c.deref_mut.ensures.value ∙ c.in_ok-buffer.ensures.items in
+    let own = ap (λ m. m.pair) c.new.ensures in
+    let new : List ℕ = c.unwrap_buffer.new.buf in
+    let size : length new ≡ length text = search rules in
+    let back = written_back c.in_ok-buffer.buffer.len new c.in_ok-buffer.buffer.items (omega arith) in
+    let key : c.key_of.result.items ≡ drop 8 new =
+    c.key_of.ensures ∙ ap (λ (bs : List ℕ). take (length text - 8) (drop 8 bs)) back
+    ∙ take_all (length text - 8) (drop 8 new) (omega (arith, length-drop 8 new)) in
+    let w = rw (own, same, c.word.ensures.value) at c.in_ok-unwrap_buffer.ensures.answer in
+    record {
+      bad_length = search rules;
+      answer = (legal, rw key w.unwraps.1);
+      accepts = search rules;
+      only_key = rw key w.only_key;
+      restores = rw key w.restores;
+      other_form = w.other_form;
+    }
