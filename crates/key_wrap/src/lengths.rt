@@ -5,7 +5,7 @@ ghost use Rattle.key_wrap.specs.Lengths.{IsPlainKeyLength, IsPlainTextLength, Is
 ghost use Rattle.key_wrap.specs.Lengths.{IsPaddedTextLength};
 
 /// The most bytes of key data, in both forms. The standards allow more.
-pub const MAX_KEY: usize = 4096;
+pub const MAX_KEY: usize = 1_048_576;
 
 /// Whether a key of `len` bytes has a plain wrapping (RFC 3394, section 2.2): a multiple of 8 from
 /// 16 to `MAX_KEY`.

@@ -8,6 +8,7 @@ ghost use Rattle.key_wrap.specs.Registers.{Registers};
 ghost use Rattle.key_wrap.specs.PaddedRegisters.{PaddedRegisters};
 ghost use Rattle.key_wrap.specs.Calls.{block_calls};
 
+use crate::lengths::MAX_KEY;
 use block_pair::{BlockPair, Meter};
 use byteorder::{BigEndian, ByteOrder};
 
@@ -18,6 +19,7 @@ const WORD: usize = 8;
 pub(crate) fn wrap_slice<B: BlockPair>(meter: &mut Meter<B>, iv: u64, registers: &mut [u8]) -> u64
     requires whole_words { length registers.old % 8 ≡ 0 }
     requires some { 8 ≤ length registers.old }
+    requires within { length registers.old ≤ MAX_KEY }
     ensures wrapped { Registers (B.encrypted meter.old.pair)
         (word_bytes iv ++ registers.old) (word_bytes result ++ registers.new) }
     ensures meter { meter.new ≡ counted (6 * (length registers.old / 8)) meter.old }
@@ -39,6 +41,7 @@ pub(crate) fn wrap_slice<B: BlockPair>(meter: &mut Meter<B>, iv: u64, registers:
 pub(crate) fn unwrap_slice<B: BlockPair>(meter: &mut Meter<B>, c0: u64, registers: &mut [u8]) -> u64
     requires whole_words { length registers.old % 8 ≡ 0 }
     requires some { 8 ≤ length registers.old }
+    requires within { length registers.old ≤ MAX_KEY }
     ensures wrapped { Registers (B.encrypted meter.old.pair)
         (word_bytes result ++ registers.new) (word_bytes c0 ++ registers.old) }
     ensures meter { meter.new ≡ counted (6 * (length registers.old / 8)) meter.old }
@@ -59,6 +62,7 @@ pub(crate) fn unwrap_slice<B: BlockPair>(meter: &mut Meter<B>, c0: u64, register
 pub(crate) fn wrap_words<B: BlockPair>(meter: &mut Meter<B>, iv: u64, registers: &mut [u8]) -> u64
     requires whole_words { length registers.old % 8 ≡ 0 }
     requires some { 8 ≤ length registers.old }
+    requires within { length registers.old ≤ MAX_KEY }
     ensures wrapped { PaddedRegisters (B.encrypted meter.old.pair)
         (word_bytes iv ++ registers.old) (word_bytes result ++ registers.new) }
     ensures meter { meter.new ≡ counted (block_calls (8 + length registers.old)) meter.old }
@@ -74,6 +78,7 @@ pub(crate) fn wrap_words<B: BlockPair>(meter: &mut Meter<B>, iv: u64, registers:
 pub(crate) fn unwrap_words<B: BlockPair>(meter: &mut Meter<B>, c0: u64, registers: &mut [u8]) -> u64
     requires whole_words { length registers.old % 8 ≡ 0 }
     requires some { 8 ≤ length registers.old }
+    requires within { length registers.old ≤ MAX_KEY }
     ensures wrapped { PaddedRegisters (B.encrypted meter.old.pair)
         (word_bytes result ++ registers.new) (word_bytes c0 ++ registers.old) }
     ensures meter { meter.new ≡ counted (block_calls (8 + length registers.old)) meter.old }

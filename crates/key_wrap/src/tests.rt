@@ -39,20 +39,34 @@ fn zeros(alloc: Global, len: usize) -> Result<Vec<u8>, AllocError> {
     vec![in alloc; 0; len]
 }
 
+// So many bytes 5A.
+fn filled(alloc: Global, len: usize) -> Result<Vec<u8>, AllocError> {
+    vec![in alloc; 0x5A; len]
+}
+
+// The word that begins at a place, or 0 behind the end.
+fn word_at(bytes: &[u8], from: usize) -> u64 {
+    match bytes.get(from..) {
+        Some(tail) if tail.len() >= 8 => BigEndian::read_u64(tail),
+        _ => 0,
+    }
+}
+
 #[test]
 fn legal_lengths_are_the_tables(rt: HostRuntime) {
-    for len in [16, 24, 4_096] {
+    for len in [16, 24, 1_048_576] {
         assert!(rt; key_length_ok(len), "a plain key of {len} bytes");
     }
-    for len in [24, 32, 4_104] {
+    for len in [24, 32, 1_048_584] {
         assert!(rt; text_length_ok(len), "a plain text of {len} bytes");
     }
-    for len in [1, 7, 8, 4_096] {
+    for len in [1, 7, 8, 1_048_576] {
         assert!(rt; padded_length_ok(len), "a padded key of {len} bytes");
     }
-    for len in [16, 24, 4_104] {
+    for len in [16, 24, 1_048_584] {
         assert!(rt; padded_text_length_ok(len), "a padded text of {len} bytes");
     }
+    assert!(rt; !text_length_ok(1_048_592));
 }
 
 #[test]
@@ -88,10 +102,8 @@ fn wraps_zero_words_and_back(rt: HostRuntime) -> Result<(), Fail> {
     ] {
         let key = zeros(alloc, len)?;
         let text = wrap(alloc, &SwapHalves, &key)?;
-        let tail = text.get(from..).unwrap_or(&[]);
-        assert!(rt; tail.len() >= 8);
         assert_eq!(rt;
-            BigEndian::read_u64(tail),
+            word_at(&text, from),
             word,
             "the word at {from} of {len} zeros"
         );
@@ -100,6 +112,21 @@ fn wraps_zero_words_and_back(rt: HostRuntime) -> Result<(), Fail> {
             key.as_slice()
         );
     }
+    Ok(())
+}
+
+// Places in the text of the largest key, of zeros, and the words there.
+const LARGEST: [(usize, u64); 3] = [(0, 0x5_FFFB), (8, 0xA_0000), (48, 0xA6A6_A6A6_A6A4_A6A7)];
+
+#[test]
+fn wraps_the_largest_key_and_back(rt: HostRuntime) -> Result<(), Fail> {
+    let alloc = rt.alloc();
+    let key = zeros(alloc, 1_048_576)?;
+    let text = wrap(alloc, &SwapHalves, &key)?;
+    for (from, word) in LARGEST {
+        assert_eq!(rt; word_at(&text, from), word, "the word at {from}");
+    }
+    assert!(rt; unwrap(alloc, &SwapHalves, &text)?.as_slice() == key.as_slice());
     Ok(())
 }
 
@@ -117,7 +144,7 @@ fn refuses_another_initial_value(rt: HostRuntime) -> Result<(), Fail> {
 #[test]
 fn refuses_plain_lengths(rt: HostRuntime) -> Result<(), Fail> {
     let alloc = rt.alloc();
-    for len in [8, 15, 4_104] {
+    for len in [8, 15, 1_048_584] {
         let key = zeros(alloc, len)?;
         assert_eq!(rt;
             wrap(alloc, &SwapHalves, &key).err(),
@@ -125,7 +152,7 @@ fn refuses_plain_lengths(rt: HostRuntime) -> Result<(), Fail> {
             "{len} bytes"
         );
     }
-    for len in [0, 8, 16, 23, 25, 4_112] {
+    for len in [0, 8, 16, 23, 25, 1_048_592] {
         let text = zeros(alloc, len)?;
         assert_eq!(rt;
             unwrap(alloc, &SwapHalves, &text).err(),

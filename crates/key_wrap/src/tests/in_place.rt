@@ -1,6 +1,6 @@
 //! The calls in the caller's buffer, over the drill block.
 
-use super::{DATA, NINE, TEXT};
+use super::{DATA, LARGEST, NINE, TEXT, filled, word_at, zeros};
 use crate::*;
 use block_pair::{Meter, SwapHalves};
 use byteorder::{BigEndian, ByteOrder};
@@ -72,25 +72,49 @@ fn clears_a_refused_padded_text(rt: HostRuntime) -> Result<(), Fail> {
 }
 
 #[test]
-fn keeps_the_buffer_at_a_bad_length(rt: HostRuntime) -> Result<(), Fail> {
-    let bytes = [0x5A; 4_120];
+fn wraps_the_largest_key_in_place(rt: HostRuntime) -> Result<(), Fail> {
+    let given = zeros(rt.alloc(), 1_048_584)?;
+    let mut buffer = zeros(rt.alloc(), 1_048_584)?;
     let mut meter = Meter::new(&SwapHalves);
-    let mut buffer = bytes;
-    for m in [0, 9, usize::MAX] {
-        let answer = wrap_padded_in_place(&mut meter, &mut buffer[..16], m);
-        assert_eq!(rt; answer, Err(InPlaceFault::BadLength), "{m} bytes in 16");
+    assert_eq!(rt; wrap_in_place(&mut meter, &mut buffer), Ok(()));
+    assert_eq!(rt; meter.count(), 786_432);
+    for (from, word) in LARGEST {
+        assert_eq!(rt; word_at(&buffer, from), word, "the word at {from}");
     }
-    for len in [0, 8, 16, 23, 25, 4_112] {
-        let answer = wrap_in_place(&mut meter, &mut buffer[..len]);
+    assert_eq!(rt; unwrap_in_place(&mut meter, &mut buffer), Ok(()));
+    assert_eq!(rt; meter.count(), 1_572_864);
+    assert!(rt; buffer.as_slice() == given.as_slice());
+    Ok(())
+}
+
+// Lengths that no call takes.
+#[test]
+fn keeps_the_buffer_at_a_bad_length(rt: HostRuntime) -> Result<(), Fail> {
+    let mut meter = Meter::new(&SwapHalves);
+    for len in [0, 8, 17, 23, 25, 1_048_592] {
+        let given = filled(rt.alloc(), len)?;
+        let mut buffer = filled(rt.alloc(), len)?;
+        let answer = wrap_in_place(&mut meter, &mut buffer);
         assert_eq!(rt; answer, Err(InPlaceFault::BadLength), "{len} bytes");
-        let answer = unwrap_in_place(&mut meter, &mut buffer[..len]);
+        let answer = unwrap_in_place(&mut meter, &mut buffer);
         assert_eq!(rt; answer, Err(InPlaceFault::BadLength), "{len} bytes");
+        let answer = wrap_padded_in_place(&mut meter, &mut buffer, 1_048_577);
+        assert_eq!(rt; answer, Err(InPlaceFault::BadLength), "{len} bytes");
+        let answer = unwrap_padded_in_place(&mut meter, &mut buffer);
+        assert_eq!(rt; answer, Err(InPlaceFault::BadLength), "{len} bytes");
+        assert!(rt; buffer.as_slice() == given.as_slice());
     }
-    for len in [0, 8, 17, 4_112] {
-        let answer = unwrap_padded_in_place(&mut meter, &mut buffer[..len]);
-        assert_eq!(rt; answer, Err(InPlaceFault::BadLength), "{len} bytes");
-    }
-    assert_eq!(rt; buffer.as_slice(), bytes.as_slice());
     assert_eq!(rt; meter.count(), 0);
     Ok(())
+}
+
+#[test]
+fn refuses_a_key_of_another_length_than_its_buffer(rt: HostRuntime) {
+    let mut meter = Meter::new(&SwapHalves);
+    let mut buffer = [0x5A; 16];
+    for m in [0, 9, usize::MAX] {
+        let answer = wrap_padded_in_place(&mut meter, &mut buffer, m);
+        assert_eq!(rt; answer, Err(InPlaceFault::BadLength), "{m} bytes in 16");
+    }
+    assert_eq!(rt; buffer, [0x5A; 16]);
 }

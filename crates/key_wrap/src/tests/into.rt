@@ -1,7 +1,7 @@
 //! The calls from one of the caller's buffers into another, over the drill block.
 
 use super::in_place::three;
-use super::{DATA, NINE, TEXT};
+use super::{DATA, NINE, TEXT, filled};
 use crate::*;
 use block_pair::{Meter, SwapHalves};
 use std::test::Fail;
@@ -65,42 +65,42 @@ fn wraps_and_unwraps_one_padded_word_into_a_buffer(rt: HostRuntime) -> Result<()
     Ok(())
 }
 
+// The lengths of a key and of a text that go together in no call.
 #[test]
 fn keeps_the_other_buffer_at_a_bad_length(rt: HostRuntime) -> Result<(), Fail> {
-    let given = [0x5A; 4_120];
-    let mut out = given;
     let mut meter = Meter::new(&SwapHalves);
-    // The lengths of a key and of a text.
     for (m, len) in [
-        (8, 16),
-        (15, 24),
+        (0, 8),
+        (0, 16),
+        (8, 24),
+        (9, 16),
+        (9, 17),
+        (9, 32),
         (16, 23),
         (16, 25),
         (24, 24),
-        (4_104, 4_112),
+        (1_048_577, 1_048_592),
+        (1_048_584, 1_048_592),
     ] {
+        let (key, text) = (filled(rt.alloc(), m)?, filled(rt.alloc(), len)?);
+        let (mut new_key, mut new_text) = (filled(rt.alloc(), m)?, filled(rt.alloc(), len)?);
+        let wraps = wrap_into(&mut meter, &key, &mut new_text);
+        let unwraps = unwrap_into(&mut meter, &text, &mut new_key);
+        let pads = wrap_padded_into(&mut meter, &key, &mut new_text);
+        let unpads = unwrap_padded_into(&mut meter, &text, &mut new_key);
         assert_eq!(rt;
-            wrap_into(&mut meter, &given[..m], &mut out[..len]),
-            BAD_LENGTH
+            (wraps, unwraps),
+            (BAD_LENGTH, BAD_LENGTH),
+            "{m} and {len} bytes"
         );
         assert_eq!(rt;
-            unwrap_into(&mut meter, &given[..len], &mut out[..m]),
-            BAD_LENGTH
+            (pads, unpads.err()),
+            (BAD_LENGTH, BAD_LENGTH.err()),
+            "{m} and {len} bytes"
         );
+        assert!(rt; new_key.as_slice() == key.as_slice());
+        assert!(rt; new_text.as_slice() == text.as_slice());
     }
-    for (m, len) in [(0, 8), (0, 16), (8, 24), (9, 16), (9, 32), (4_097, 4_112)] {
-        let answer = wrap_padded_into(&mut meter, &given[..m], &mut out[..len]);
-        assert_eq!(rt; answer, BAD_LENGTH, "{m} bytes into {len}");
-    }
-    for (m, len) in [(0, 8), (7, 16), (9, 16), (9, 17), (16, 16), (4_104, 4_112)] {
-        let answer = unwrap_padded_into(&mut meter, &given[..len], &mut out[..m]);
-        assert_eq!(rt;
-            answer,
-            Err(InPlaceFault::BadLength),
-            "{len} bytes into {m}"
-        );
-    }
-    assert_eq!(rt; out.as_slice(), given.as_slice());
     assert_eq!(rt; meter.count(), 0);
     Ok(())
 }

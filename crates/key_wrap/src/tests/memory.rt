@@ -1,115 +1,101 @@
 //! Memory: no call gives up for it at any length or content, and each takes it once, before the
 //! first block.
 
-ghost use Rattle.std.specs.Prelude.{◌≤◌};
 ghost use Rattle.block_pair.specs.Halves.{swapped_halves};
 ghost use Rattle.block_pair.specs.HalvesLaw.{swap_halves_lawful};
 
 use super::in_place::three;
-use super::{DATA, NINE, TEXT};
+use super::{DATA, NINE, TEXT, filled};
 use crate::*;
-use block_pair::{BlockPair, SwapHalves};
-use std::alloc::Global;
+use block_pair::{BlockPair, Meter, SwapHalves};
+use std::alloc::{AllocError, Global};
 use std::cell::Cell;
 use std::process::Abort;
 use std::test::Fail;
 
-// The most words of a key.
-const WORDS: usize = MAX_KEY / 8;
-
-// Zeros, ones and counting bytes.
-fn contents() -> [[u8; MAX_KEY]; 3] {
-    let mut counting = [0; MAX_KEY];
-    for (i, byte) in counting.iter_mut().enumerate() {
-        *byte = (i % 256) as u8;
-    }
-    [[0; MAX_KEY], [0xFF; MAX_KEY], counting]
+// What the keys hold.
+#[derive(Clone, Copy)]
+enum Content {
+    Zeros,
+    Ones,
+    Counting,
+    Random,
 }
 
-// Wraps the key in each form that it has, unwraps it again and asks for its kind.
-fn goes_there_and_back(rt: &impl Abort, alloc: Global, key: &[u8]) -> Result<(), Fail> {
+// A pseudo-random byte is the upper one of a number that starts at 1 and is multiplied by the one
+// and increased by the other before each byte.
+const MULTIPLIER: u64 = 6_364_136_223_846_793_005;
+
+const INCREMENT: u64 = 1_442_695_040_888_963_407;
+
+// The largest key of this content, of which the others are the front.
+fn key_of(alloc: Global, content: Content) -> Result<Vec<u8>, AllocError> {
+    let mut key = Vec::new(alloc);
+    let mut x = 1u64;
+    for i in 0..MAX_KEY {
+        x = x.wrapping_mul(MULTIPLIER).wrapping_add(INCREMENT);
+        key.push(match content {
+            Content::Zeros => 0,
+            Content::Ones => 0xFF,
+            Content::Counting => (i % 256) as u8,
+            Content::Random => (x >> 56) as u8,
+        })?;
+    }
+    Ok(key)
+}
+
+// Wraps the key in the padded form and unwraps it again, also in place, and asks for its kind.
+fn goes_padded(rt: &impl Abort, alloc: Global, key: &[u8]) -> Result<(), Fail> {
     let len = key.len();
-    let text = wrap_padded(alloc, &SwapHalves, key)?;
-    assert_eq!(rt; unwrap_padded(alloc, &SwapHalves, &text)?.as_slice(), key);
+    let mut text = wrap_padded(alloc, &SwapHalves, key)?;
+    assert!(rt;
+        unwrap_padded(alloc, &SwapHalves, &text)?.as_slice() == key,
+        "{len} bytes"
+    );
     assert_eq!(rt; kind(alloc, &SwapHalves, &text)?, Kind::Padded(len));
-    if key_length_ok(len) {
-        let text = wrap(alloc, &SwapHalves, key)?;
-        assert_eq!(rt; unwrap(alloc, &SwapHalves, &text)?.as_slice(), key);
-        assert_eq!(rt; kind(alloc, &SwapHalves, &text)?, Kind::Plain(len));
-    }
+    let given = Vec::from_slice(alloc, &text)?;
+    let mut meter = Meter::new(&SwapHalves);
+    assert_eq!(rt; unwrap_padded_in_place(&mut meter, &mut text), Ok(len));
+    assert_eq!(rt; wrap_padded_in_place(&mut meter, &mut text, len), Ok(()));
+    assert!(rt; text.as_slice() == given.as_slice(), "{len} bytes in place");
     Ok(())
 }
 
-// Wraps keys of each number of words in the padded form, `less` bytes short, and unwraps them
-// again.
-fn goes_padded(rt: &impl Abort, alloc: Global, less: usize) -> Result<(), Fail>
-    requires { less ≤ 7 }
-{
-    let contents = contents();
-    for words in 1..=WORDS {
-        let key = &contents[words % 3][..8 * words - less];
-        let text = wrap_padded(alloc, &SwapHalves, key)?;
-        assert_eq!(rt; unwrap_padded(alloc, &SwapHalves, &text)?.as_slice(), key);
-    }
+// The same in the plain form.
+fn goes_plain(rt: &impl Abort, alloc: Global, key: &[u8]) -> Result<(), Fail> {
+    let len = key.len();
+    let mut text = wrap(alloc, &SwapHalves, key)?;
+    assert!(rt;
+        unwrap(alloc, &SwapHalves, &text)?.as_slice() == key,
+        "{len} bytes"
+    );
+    assert_eq!(rt; kind(alloc, &SwapHalves, &text)?, Kind::Plain(len));
+    let given = Vec::from_slice(alloc, &text)?;
+    let mut meter = Meter::new(&SwapHalves);
+    assert_eq!(rt; unwrap_in_place(&mut meter, &mut text), Ok(()));
+    assert_eq!(rt; wrap_in_place(&mut meter, &mut text), Ok(()));
+    assert!(rt; text.as_slice() == given.as_slice(), "{len} bytes in place");
     Ok(())
 }
 
+// Every length to 4,105 bytes, and the largest.
 #[test]
-fn gives_up_for_memory_at_no_length(rt: HostRuntime) -> Result<(), Fail> {
-    let contents = contents();
-    for len in 1..=520 {
-        goes_there_and_back(&rt, rt.alloc(), &contents[len % 3][..len])?;
-    }
-    Ok(())
-}
-
-#[test]
-fn gives_up_for_memory_at_no_content(rt: HostRuntime) -> Result<(), Fail> {
-    for content in contents() {
-        for len in [1, 8, 16, 24, 1_000, MAX_KEY] {
-            let key = content.get(..len).unwrap_or(&[]);
-            goes_there_and_back(&rt, rt.alloc(), key)?;
+fn gives_up_for_memory_at_no_length_or_content(rt: HostRuntime) -> Result<(), Fail> {
+    let alloc = rt.alloc();
+    for content in [
+        Content::Zeros,
+        Content::Ones,
+        Content::Counting,
+        Content::Random,
+    ] {
+        let largest = key_of(alloc, content)?;
+        for len in (1..=4_105).chain(MAX_KEY..=MAX_KEY) {
+            let key = largest.get(..len).unwrap_or(&[]);
+            goes_padded(&rt, alloc, key)?;
+            if key_length_ok(len) {
+                goes_plain(&rt, alloc, key)?;
+            }
         }
-    }
-    Ok(())
-}
-
-#[test]
-fn gives_up_for_memory_at_no_plain_length(rt: HostRuntime) -> Result<(), Fail> {
-    let contents = contents();
-    for words in 2..=WORDS {
-        let key = &contents[words % 3][..8 * words];
-        let text = wrap(rt.alloc(), &SwapHalves, key)?;
-        assert_eq!(rt; unwrap(rt.alloc(), &SwapHalves, &text)?.as_slice(), key);
-    }
-    Ok(())
-}
-
-#[test]
-fn gives_up_for_memory_at_no_padded_length(rt: HostRuntime) -> Result<(), Fail> {
-    goes_padded(&rt, rt.alloc(), 0)
-}
-
-#[test]
-fn gives_up_for_memory_at_no_padded_length_a_byte_short(rt: HostRuntime) -> Result<(), Fail> {
-    goes_padded(&rt, rt.alloc(), 1)
-}
-
-#[test]
-fn gives_up_for_memory_at_no_padded_length_of_a_byte_more(rt: HostRuntime) -> Result<(), Fail> {
-    goes_padded(&rt, rt.alloc(), 7)
-}
-
-#[test]
-fn names_the_kind_at_each_length(rt: HostRuntime) -> Result<(), Fail> {
-    let contents = contents();
-    for words in 2..=WORDS {
-        let key = &contents[words % 3][..8 * words];
-        let text = wrap(rt.alloc(), &SwapHalves, key)?;
-        assert_eq!(rt;
-            kind(rt.alloc(), &SwapHalves, &text)?,
-            Kind::Plain(8 * words)
-        );
     }
     Ok(())
 }
@@ -160,8 +146,8 @@ impl BlockPair for Tally {
 #[test]
 fn takes_memory_once(rt: HostRuntime) -> Result<(), Fail> {
     let alloc = rt.alloc();
-    for len in [16, 24, 520, MAX_KEY] {
-        let key = &contents()[2][..len];
+    for len in [16, 24, 520, 4_096] {
+        let key = &filled(alloc, len)?;
         let text = wrap(alloc, &SwapHalves, key)?;
         assert_eq!(rt; text.capacity(), len + 8);
         assert_eq!(rt; unwrap(alloc, &SwapHalves, &text)?.capacity(), len + 8);

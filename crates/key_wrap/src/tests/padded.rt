@@ -87,7 +87,14 @@ fn refuses_what_fails_a_padded_check(rt: HostRuntime) -> Result<(), Fail> {
 #[test]
 fn refuses_padded_lengths(rt: HostRuntime) -> Result<(), Fail> {
     let alloc = rt.alloc();
-    for (len, text_len) in [(1, 16), (8, 16), (9, 24), (4_096, 4_104)] {
+    for (len, text_len) in [
+        (1, 16),
+        (8, 16),
+        (9, 24),
+        (4_096, 4_104),
+        (4_097, 4_112),
+        (1_048_576, 1_048_584),
+    ] {
         let key = zeros(alloc, len)?;
         assert_eq!(rt;
             wrap_padded(alloc, &SwapHalves, &key)?.len(),
@@ -95,12 +102,12 @@ fn refuses_padded_lengths(rt: HostRuntime) -> Result<(), Fail> {
             "{len} bytes"
         );
     }
-    for len in [0, 4_097] {
+    for len in [0, 1_048_577] {
         let key = zeros(alloc, len)?;
         let answer = wrap_padded(alloc, &SwapHalves, &key).err();
         assert_eq!(rt; answer, Some(WrapFault::BadLength), "{len} bytes");
     }
-    for len in [0, 8, 17] {
+    for len in [0, 8, 17, 1_048_592] {
         let text = zeros(alloc, len)?;
         let answer = unwrap_padded(alloc, &SwapHalves, &text).err();
         assert_eq!(rt; answer, Some(UnwrapFault::BadLength), "{len} bytes");
