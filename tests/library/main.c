@@ -116,16 +116,15 @@ static void short_lengths(enum form form) {
         }
 }
 
-/* Keys about the longest with texts about theirs. The first pair alone is right for both forms, the
- * second for the padded one. */
+/* The longest keys, and longer ones, with texts about theirs: the first pair is right in the padded
+ * form alone, and the second in both. */
 static void longest_lengths(enum form form) {
     enum { MAX = KEYWRAP_MAX_KEY };
     static const size_t lens[][2] = {
-        {MAX, MAX + 8},     {MAX - 1, MAX + 8}, {MAX, MAX + 7},
-        {MAX, MAX + 9},     {MAX, MAX + 16},    {MAX + 1, MAX + 8},
-        {MAX + 1, MAX + 9}, {MAX + 1, MAX + 16}, {MAX + 8, MAX + 16},
+        {MAX - 1, MAX + 8}, {MAX, MAX + 8},     {MAX, MAX + 7},      {MAX, MAX + 9},
+        {MAX, MAX + 16},    {MAX + 1, MAX + 9}, {MAX + 1, MAX + 16}, {MAX + 8, MAX + 16},
     };
-    for (size_t i = 0; i < sizeof lens / sizeof *lens; i++)
+    for (size_t i = form == PADDED ? 0 : 1; i < sizeof lens / sizeof *lens; i++)
         lengths(form, 16, lens[i][0], lens[i][1]);
 }
 
