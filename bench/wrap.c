@@ -1,7 +1,8 @@
 /* wrap.c: how long the library takes to wrap and to unwrap, beside its peers (peers.c), each with
  * its key schedule. First all must answer the same bytes. Then they take turns at every length, for
- * many short rounds, and the best time of each counts, by the processor time of this thread: so a
- * busy machine troubles all alike. bench/wrap compiles and runs it. */
+ * many short rounds (in only some of them where a call is long), and the best time of each counts,
+ * by the processor time of this thread: so a busy machine troubles all alike. bench/wrap compiles
+ * and runs it. */
 
 #define _POSIX_C_SOURCE 200809L
 
@@ -19,13 +20,15 @@ enum direction { WRAP, UNWRAP };
 static const size_t LENS[] = {16, 32, 256, 4096, KEYWRAP_MAX_KEY};
 enum { LEN_COUNT = KEYWRAP_MAX_KEY > 4096 ? 5 : 4 };
 
-enum { ROUNDS_AT_LEAST = 5, TURN_NS = 300000 };
+enum { ROUNDS_AT_LEAST = 5, TURN_NS = 300000, LONG_NS = 3000000 };
 static const double ALL_NS = 20e9;
 
-/* One row of the answer: what is timed, how often in a turn, and the best time of a call. */
+/* One row of the answer: what is timed, in one of how many rounds, how often in a turn, and the
+ * best time of a call. */
 struct row {
     enum direction direction;
     size_t kek_len, len;
+    unsigned every;
     unsigned calls[PEERS_AT_MOST];
     double best[PEERS_AT_MOST];
 };
@@ -86,6 +89,7 @@ static int start(struct row *row) {
         row->best[p] = turn(row, p, 1);
         row->calls[p] = (unsigned)(TURN_NS / row->best[p]) + 1;
     }
+    row->every = (unsigned)(row->best[0] / LONG_NS) + 1;
     return 1;
 }
 
@@ -180,7 +184,8 @@ int main(void) {
         if (!start(rows + r)) return 1;
     }
     for (begun = now(); rounds < ROUNDS_AT_LEAST || now() - begun < ALL_NS; rounds++)
-        for (int r = 0; r < ROW_COUNT; r++) take_turns(rows + r);
+        for (int r = 0; r < ROW_COUNT; r++)
+            if (rounds % rows[r].every == 0) take_turns(rows + r);
     print_all(rounds);
     return 0;
 }

@@ -27,10 +27,11 @@
 #include <stddef.h>
 #include <stdint.h>
 
-/* Lengths, in bytes: of the longest key and the longest text, of a key's plain and padded wrapping,
- * and of the buffer that an unwrap of a text fills, in either form (0 where the text is too short
- * for any). Each is a constant expression where its argument is one, which it may read twice. */
-#define KEYWRAP_MAX_KEY 4096
+/* Lengths, in bytes: of the longest key and the longest text (a thread's stack may be shorter), of
+ * a key's plain and padded wrapping, and of the buffer that an unwrap of a text fills, in either
+ * form (0 where the text is too short for any). Each is a constant expression where its argument is
+ * one, which it may read twice. */
+#define KEYWRAP_MAX_KEY 1048576
 #define KEYWRAP_MAX_TEXT (KEYWRAP_MAX_KEY + 8)
 #define KEYWRAP_TEXT_LEN(key_len) ((key_len) + 8)
 #define KEYWRAP_PADDED_TEXT_LEN(key_len) (((key_len) + 7) / 8 * 8 + 8)

@@ -78,15 +78,16 @@ size_t padded_len(size_t key_len) {
 }
 
 int32_t wrap_status(enum form form, size_t kek_len, size_t key_len, size_t text_len) {
-    if (!legal_kek(kek_len)) return 3;
-    return legal_key(form, key_len) && text_len == padded_len(key_len) + 8 ? 0 : 4;
+    if (!legal_kek(kek_len)) return KEYWRAP_BAD_KEK;
+    return legal_key(form, key_len) && text_len == padded_len(key_len) + 8 ? KEYWRAP_OK
+                                                                           : KEYWRAP_BAD_LENGTH;
 }
 
 static int32_t unwrap_status(enum form form, size_t kek_len, size_t text_len, size_t room,
                              const uint8_t *key) {
-    if (!legal_kek(kek_len)) return 3;
-    if (room % 8 != 0 || !legal_key(form, room) || text_len != room + 8) return 4;
-    return key == NULL ? 5 : 0;
+    if (!legal_kek(kek_len)) return KEYWRAP_BAD_KEK;
+    if (room % 8 != 0 || !legal_key(form, room) || text_len != room + 8) return KEYWRAP_BAD_LENGTH;
+    return key == NULL ? KEYWRAP_INTEGRITY : KEYWRAP_OK;
 }
 
 void wrap_words(const uint8_t *kek, size_t kek_len, uint64_t a, const uint8_t *words, size_t len,
@@ -134,9 +135,9 @@ void wraps(enum form form, enum place place, const uint8_t *kek, size_t kek_len,
     keep(&buffer);
     status = wrap(form, place, k, kek_len, key, key_len, text, text_len);
     due = wrap_status(form, kek_len, key_len, text_len);
-    if (due == 0) wrap_key(form, kek, kek_len, key, key_len, wanted);
+    if (due == KEYWRAP_OK) wrap_key(form, kek, kek_len, key, key_len, wanted);
     count(status == due && sides_stand(&buffer) && is_kept(&kek_buffer)
-              && (due == 0 ? !memcmp(text, wanted, text_len) : is_kept(&buffer)),
+              && (due == KEYWRAP_OK ? !memcmp(text, wanted, text_len) : is_kept(&buffer)),
           "wrap", form, place, kek_len, key_len, text_len);
 }
 
@@ -155,8 +156,8 @@ static int32_t unwrap(enum form form, enum place place, const uint8_t *kek, size
 static int holds(const struct buffer *b, int32_t status, size_t head, const uint8_t *key,
                  size_t key_len) {
     const uint8_t *found = b->bytes + head;
-    if (status == 3 || status == 4) return is_kept(b);
-    if (status == 5) return are_zeros(b->bytes, b->len);
+    if (status == KEYWRAP_BAD_KEK || status == KEYWRAP_BAD_LENGTH) return is_kept(b);
+    if (status == KEYWRAP_INTEGRITY) return are_zeros(b->bytes, b->len);
     return are_zeros(b->bytes, head) && !memcmp(found, key, key_len)
            && are_zeros(found + key_len, b->len - head - key_len);
 }
@@ -179,6 +180,6 @@ void unwraps(enum form form, enum place place, const uint8_t *kek, size_t kek_le
     due = unwrap_status(form, kek_len, text_len, room, key);
     count(status == due && sides_stand(&buffer) && is_kept(&kek_buffer)
               && holds(&buffer, due, place == IN_PLACE ? 8 : 0, key, key_len)
-              && (form == PLAIN || answered == (due == 0 ? key_len : 0)),
+              && (form == PLAIN || answered == (due == KEYWRAP_OK ? key_len : 0)),
           "unwrap", form, place, kek_len, text_len, room);
 }

@@ -76,10 +76,28 @@ static void vectors(void) {
     }
 }
 
+/* The header's macros give the lengths that go together. */
+static void macros(enum form form, size_t key_len, size_t text_len) {
+    size_t len = form == PLAIN ? KEYWRAP_TEXT_LEN(key_len) : KEYWRAP_PADDED_TEXT_LEN(key_len);
+    count(len == text_len && KEYWRAP_ROOM(text_len) == padded_len(key_len), "the header's lengths",
+          form, TWO_BUFFERS, 0, key_len, text_len);
+}
+
+/* What they say of texts that are too short, and of the longest. */
+static void macros_at_ends(void) {
+    for (size_t len = 0; len < 8; len++)
+        count(KEYWRAP_ROOM(len) == 0, "the room of a short text", PLAIN, TWO_BUFFERS, 0, len, 0);
+    count(KEYWRAP_MAX_TEXT == KEYWRAP_MAX_KEY + 8, "the longest text", PLAIN, TWO_BUFFERS, 0,
+          KEYWRAP_MAX_KEY, KEYWRAP_MAX_TEXT);
+}
+
 /* A key of this length and a text of that one, in each call. */
 static void lengths(enum form form, size_t kek_len, size_t key_len, size_t text_len) {
-    int done = wrap_status(form, kek_len, key_len, text_len) == 0;
-    if (done) wrap_key(form, kek, kek_len, key, key_len, text);
+    int done = wrap_status(form, kek_len, key_len, text_len) == KEYWRAP_OK;
+    if (done) {
+        macros(form, key_len, text_len);
+        wrap_key(form, kek, kek_len, key, key_len, text);
+    }
     for (enum place place = TWO_BUFFERS; place <= IN_PLACE; place++) {
         wraps(form, place, kek, kek_len, key, key_len, text_len);
         unwraps(form, place, kek, kek_len, scattered, text_len, key_len, NULL, 0);
@@ -92,19 +110,22 @@ static void short_lengths(enum form form) {
     for (size_t key_len = 0; key_len <= 72; key_len++)
         for (size_t text_len = 0; text_len <= 88; text_len++) {
             lengths(form, 16, key_len, text_len);
-            if (wrap_status(form, 16, key_len, text_len) != 0) continue;
+            if (wrap_status(form, 16, key_len, text_len) != KEYWRAP_OK) continue;
             lengths(form, 24, key_len, text_len);
             lengths(form, 32, key_len, text_len);
         }
 }
 
-/* The longest keys, those that are too long, and texts of lengths about theirs. */
+/* The longest keys, and longer ones, with texts about theirs: the first pair is right in the padded
+ * form alone, and the second in both. */
 static void longest_lengths(enum form form) {
-    static const size_t key_lens[] = {KEYWRAP_MAX_KEY - 8, KEYWRAP_MAX_KEY - 1, KEYWRAP_MAX_KEY,
-                                      KEYWRAP_MAX_KEY + 1, KEYWRAP_MAX_KEY + 8};
-    for (size_t i = 0; i < sizeof key_lens / sizeof *key_lens; i++)
-        for (size_t more = 0; more <= 16; more += more == 7 || more == 8 ? 1 : 7)
-            lengths(form, 32, key_lens[i], padded_len(key_lens[i]) + more);
+    enum { MAX = KEYWRAP_MAX_KEY };
+    static const size_t lens[][2] = {
+        {MAX - 1, MAX + 8}, {MAX, MAX + 8},     {MAX, MAX + 7},      {MAX, MAX + 9},
+        {MAX, MAX + 16},    {MAX + 1, MAX + 9}, {MAX + 1, MAX + 16}, {MAX + 8, MAX + 16},
+    };
+    for (size_t i = form == PADDED ? 0 : 1; i < sizeof lens / sizeof *lens; i++)
+        lengths(form, 16, lens[i][0], lens[i][1]);
 }
 
 /* KEKs of every length, with right and wrong lengths beside them. */
@@ -182,6 +203,7 @@ int main(void) {
     scatter(key, sizeof key);
     scatter(scattered, sizeof scattered);
     vectors();
+    macros_at_ends();
     for (enum form form = PLAIN; form <= PADDED; form++) {
         short_lengths(form);
         longest_lengths(form);
