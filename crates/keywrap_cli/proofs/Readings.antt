@@ -33,7 +33,7 @@ input_name = record { apart = λ fault other e. cc; not_memory = λ fault e. cc 
 
 -- a fault of the KEK file, by cases
 kek_fault_answer : (notation : Notation) (old new : Option (List ℕ)) (fault : FileFault)
-    → (reads : ReadsAs (meaning_in notation) 65536 old new (Err fault))
+    → (reads : ReadsAs (meaning_in notation) 4194304 old new (Err fault))
     → KekAnswer notation reads.taken new (Err (named_fault_of (λ f. KekFile f) fault))
 kek_fault_answer notation old new files.Read reads = tt
 kek_fault_answer notation old new files.TooLong reads = reads.means
@@ -43,7 +43,7 @@ kek_fault_answer notation old new files.Memory reads = tt
 
 -- the KEK file denotes no bytes, or could not be read
 pub kek_of_fault : (notation : Notation) (old new : Option (List ℕ)) (fault : FileFault)
-    → ReadsAs (meaning_in notation) 65536 old new (Err fault)
+    → ReadsAs (meaning_in notation) 4194304 old new (Err fault)
     → ReadsKek notation old new (Err (named_fault_of (λ f. KekFile f) fault))
 kek_of_fault notation old new fault reads =
     let same = too_long_named (λ f. KekFile f) kek_name fault in
@@ -60,7 +60,7 @@ kek_of_fault notation old new fault reads =
 
 -- the KEK that bytes are, or the refusal of their length
 kek_of_made : (notation : Notation) (old new : Option (List ℕ)) (bytes : List ℕ) (answer : Result (List ℕ) JobFault)
-    (reads : ReadsAs (meaning_in notation) 65536 old new (Ok bytes)) → MakesKek bytes answer
+    (reads : ReadsAs (meaning_in notation) 4194304 old new (Ok bytes)) → MakesKek bytes answer
     → KekAnswer notation reads.taken new answer
 kek_of_made notation old new bytes (Ok K) reads made =
     subst (λ (k : List ℕ). KekAnswer notation reads.taken new (Ok k)) (sym made.0)
@@ -75,7 +75,7 @@ kek_of_made notation old new bytes (Err Memory) reads made = absurd made
 
 -- the KEK file denotes bytes, and they are a KEK or of no legal length
 pub kek_of_bytes : (notation : Notation) (old new : Option (List ℕ)) (bytes : List ℕ) (answer : Result (List ℕ) JobFault)
-    → ReadsAs (meaning_in notation) 65536 old new (Ok bytes) → MakesKek bytes answer → ReadsKek notation old new answer
+    → ReadsAs (meaning_in notation) 4194304 old new (Ok bytes) → MakesKek bytes answer → ReadsKek notation old new answer
 kek_of_bytes notation old new bytes answer reads made = record {
   taken = reads.taken;
   stands_after = reads.stands_after;
@@ -89,7 +89,7 @@ kek_of_bytes notation old new bytes answer reads made = record {
 
 -- a fault of the input file, by cases
 input_fault_answer : (notation : Notation) (old new : Option (List ℕ)) (fault : FileFault)
-    → (reads : ReadsAs (meaning_in notation) 65536 old new (Err fault))
+    → (reads : ReadsAs (meaning_in notation) 4194304 old new (Err fault))
     → InputAnswer notation reads.taken new (Err (named_fault_of (λ f. InputFile f) fault))
 input_fault_answer notation old new files.Read reads = tt
 input_fault_answer notation old new files.TooLong reads = reads.means
@@ -99,7 +99,7 @@ input_fault_answer notation old new files.Memory reads = tt
 
 -- the input file denotes no bytes, or could not be read
 pub input_of_fault : (notation : Notation) (old new : Option (List ℕ)) (fault : FileFault)
-    → ReadsAs (meaning_in notation) 65536 old new (Err fault)
+    → ReadsAs (meaning_in notation) 4194304 old new (Err fault)
     → ReadsInput notation old new (Err (named_fault_of (λ f. InputFile f) fault))
 input_of_fault notation old new fault reads =
     let same = too_long_named (λ f. InputFile f) input_name fault in
@@ -116,7 +116,7 @@ input_of_fault notation old new fault reads =
 
 -- the input file denotes bytes
 pub input_of_bytes : (notation : Notation) (old new : Option (List ℕ)) (bytes : Vec ℕ Global)
-    → ReadsAs (meaning_in notation) 65536 old new (Ok bytes.items) → ReadsInput notation old new (Ok bytes)
+    → ReadsAs (meaning_in notation) 4194304 old new (Ok bytes.items) → ReadsInput notation old new (Ok bytes)
 input_of_bytes notation old new bytes reads = record {
   taken = reads.taken;
   stands_after = reads.stands_after;

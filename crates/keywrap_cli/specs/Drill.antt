@@ -13,9 +13,9 @@ use Rattle.keywrap_cli.specs.declared.drill.DrillFault.{DrillFault}
 use Rattle.keywrap_cli.specs.declared.drill.DrillFault.TheVariants.{TooLong, BadDigit, OddDigits, BadLength, Integrity, Memory}
 use Rattle.keywrap_cli.specs.Conversion.{IsAnswer, HasNoAnswer, IsInputLength}
 
--- what the text of a drill denotes: it is a hex file of at most 65,536 bytes
+-- what the text of a drill denotes: it is a hex file of at most 4,194,304 bytes
 abbrev pub drill_meaning : List ℕ → Result (List ℕ) FileFault
-drill_meaning text = file_meaning hex_meaning 65536 text
+drill_meaning text = file_meaning hex_meaning 4194304 text
 
 -- the bytes that the text denotes, by cases: Memory comes only in their place
 abbrev pub TextAnswer : List ℕ → Result (Vec ℕ Global) DrillFault → Type 0

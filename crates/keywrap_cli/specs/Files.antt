@@ -1,4 +1,4 @@
--- What the two files of a job denote, of at most 65,536 bytes each, and what is written.
+-- What the two files of a job denote, of at most 4,194,304 bytes each, and what is written.
 use Rattle.std.specs.Prelude.{◌≡◌, ℕ, List, length, Result, Ok, Err}
 use Rattle.aes_block.specs.KeyExpansion.{IsKekLength}
 use Rattle.key_files.specs.HexText.{hex_line}
@@ -13,11 +13,11 @@ meaning_in Hex file = hex_meaning file
 
 -- the file denotes these bytes, within the limit
 abbrev pub Denotes : Notation → List ℕ → List ℕ → Type 0
-Denotes notation file bytes = file_meaning (meaning_in notation) 65536 file ≡ Ok bytes
+Denotes notation file bytes = file_meaning (meaning_in notation) 4194304 file ≡ Ok bytes
 
 -- the file denotes no bytes, for this fault
 abbrev pub IsRefused : Notation → List ℕ → FileFault → Type 0
-IsRefused notation file fault = file_meaning (meaning_in notation) 65536 file ≡ Err fault
+IsRefused notation file fault = file_meaning (meaning_in notation) 4194304 file ≡ Err fault
 
 -- the file denotes a KEK of legal length
 pub record DenotesKek (notation : Notation) (file K : List ℕ) : Type 0 where

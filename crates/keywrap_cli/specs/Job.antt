@@ -105,18 +105,18 @@ pub record RunsJob (task : Task) (kek kek' input input' out out' : Option (List 
   pub F : List ℕ
   pub G : List ℕ
   pub kek_taken : Consumes kek kek' F
-  pub kek_at_most : length F ≤ 65536 + 1
+  pub kek_at_most : length F ≤ 4194304 + 1
   pub input_taken : Consumes input input' G
-  pub input_at_most : length G ≤ 65536 + 1
+  pub input_at_most : length G ≤ 4194304 + 1
   -- a file is read to its end, unless it is too long or Read or Memory stops the call
   pub kek_end : IsKekReadToEnd answer kek'
   pub input_end : IsInputReadToEnd answer input'
   -- the input is read only once the KEK is accepted
   pub in_order : IsUnread input input' G ⊎ IsKekAccepted task F kek'
   pub unread : IsKekRefused answer → IsUnread input input' G
-  -- a file is too long exactly where more than 65,536 bytes were taken from it
-  pub kek_too_long : (answer ≡ Err (KekFile files.TooLong)) ↔ (65536 < length F)
-  pub input_too_long : (answer ≡ Err (InputFile files.TooLong)) ↔ (65536 < length G)
+  -- a file is too long exactly where more than 4,194,304 bytes were taken from it
+  pub kek_too_long : (answer ≡ Err (KekFile files.TooLong)) ↔ (4194304 < length F)
+  pub input_too_long : (answer ≡ Err (InputFile files.TooLong)) ↔ (4194304 < length G)
   -- bytes that a step refuses are answered by its refusal, unless the call gives up
   pub kek_refused : (fault : FileFault) → IsRefused task.kek F fault → IsRefusedFor (KekFile fault) answer
   pub kek_length : (K : List ℕ) → Denotes task.kek F K → ¬ IsKekLength (length K) → IsRefusedFor KekLength answer

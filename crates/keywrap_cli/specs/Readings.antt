@@ -32,8 +32,8 @@ MakesKek bytes (Err fault) = ⊥
 pub record ReadsKek (notation : Notation) (old new : Option (List ℕ)) (answer : Result (List ℕ) JobFault) : Type 0 where
   pub taken : List ℕ
   pub stands_after : Consumes old new taken
-  pub at_most : length taken ≤ 65536 + 1
-  pub too_long : (answer ≡ Err (KekFile files.TooLong)) ↔ (65536 < length taken)
+  pub at_most : length taken ≤ 4194304 + 1
+  pub too_long : (answer ≡ Err (KekFile files.TooLong)) ↔ (4194304 < length taken)
   pub answers : KekAnswer notation taken new answer
 
 -- the input's bytes, or why there are none
@@ -51,8 +51,8 @@ pub record ReadsInput (notation : Notation) (old new : Option (List ℕ)) (answe
     : Type 0 where
   pub taken : List ℕ
   pub stands_after : Consumes old new taken
-  pub at_most : length taken ≤ 65536 + 1
-  pub too_long : (answer ≡ Err (InputFile files.TooLong)) ↔ (65536 < length taken)
+  pub at_most : length taken ≤ 4194304 + 1
+  pub too_long : (answer ≡ Err (InputFile files.TooLong)) ↔ (4194304 < length taken)
   pub answers : InputAnswer notation taken new answer
 
 -- a job's fault for a file's: want of memory is the job's own, and any other fault bears the file's name

@@ -39,7 +39,7 @@ pub fn read_file<R: Read>(
     notation: Notation,
     reader: &mut R,
 ) -> Result<Vec<u8>, FileFault>
-    ensures { ReadsAs (meaning_in notation) 65536
+    ensures { ReadsAs (meaning_in notation) 4194304
         (R.remaining reader.old) (R.remaining reader.new) (answer_of result) }
 {
     match notation {

@@ -23,7 +23,8 @@ Example, with the first vector of RFC 3394:
   $ echo 00112233445566778899aabbccddeeff | keywrap wrap --kek kek.hex
   1fa68b0a8112b447aef34bd8fb5a7b829d3e862371d2cfe5
 
-A plain key has 16 to 4096 bytes, a multiple of 8. With --padded it has 1 to 4096.";
+A plain key has 16 to 1048576 bytes, a multiple of 8. With --padded it has 1 to 1048576.
+A file has at most 4194304 bytes.";
 
 /// An example of `unwrap`.
 pub const UNWRAP_EXAMPLE: &str = "\

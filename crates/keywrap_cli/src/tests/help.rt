@@ -6,6 +6,7 @@ use crate::help::{STATUSES, WRAP_EXAMPLE};
 use crate::program::write_help;
 use crate::statuses;
 use clap::Error;
+use key_files::MAX_FILE;
 use key_wrap::MAX_KEY;
 use std::alloc::Global;
 use std::test::Fail;
@@ -40,10 +41,10 @@ fn says_each_status(rt: HostRuntime) -> Result<(), Fail> {
 }
 
 #[test]
-fn says_the_largest_key(rt: HostRuntime) -> Result<(), Fail> {
+fn says_the_limits(rt: HostRuntime) -> Result<(), Fail> {
     let line = format!(in rt.alloc();
         "A plain key has 16 to {MAX_KEY} bytes, a multiple of 8. \
-         With --padded it has 1 to {MAX_KEY}."
+         With --padded it has 1 to {MAX_KEY}.\nA file has at most {MAX_FILE} bytes."
     )?;
     assert!(rt; WRAP_EXAMPLE.ends_with(line.as_str()));
     Ok(())
