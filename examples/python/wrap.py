@@ -17,6 +17,7 @@ short = keywrap.wrap_padded(kek_5649, b"ForPasi")
 print("wrap, padded:", short.hex())
 assert short.hex() == "afbeb0f07dfbf5419200f2ccb50bb24f"
 assert keywrap.unwrap_padded(kek_5649, short) == b"ForPasi"
+assert keywrap.unwrap_padded(kek, keywrap.wrap_padded(kek, key)) == key
 
 
 def refused(exception, call, *arguments):

@@ -51,6 +51,8 @@ fn padded() -> Result<(), Error> {
     println!("wrap, padded: {}", hex(&text));
     assert_eq!(hex(&text), "afbeb0f07dfbf5419200f2ccb50bb24f");
     assert_eq!(keywrap::unwrap_padded(&kek, &text)?, key);
+    let whole = keywrap::wrap_padded(&kek, &[7; 16])?;
+    assert_eq!(keywrap::unwrap_padded(&kek, &whole)?, [7; 16]);
 
     let mut buffer = [&[0; 8], &key[..], &[1]].concat();
     keywrap::wrap_padded_in_place(&kek, &mut buffer, key.len())?;

@@ -1,7 +1,7 @@
 //! Initial values other than the default, over the drill block.
 
 use super::in_place::three;
-use super::{DATA, TEXT, spelled};
+use super::{DATA, TEXT, filled, spelled};
 use crate::*;
 use block_pair::{Meter, SwapHalves};
 use std::test::Fail;
@@ -77,5 +77,21 @@ fn wraps_under_another_initial_value_into_a_buffer(rt: HostRuntime) -> Result<()
     );
     assert_eq!(rt; key, [0; 16]);
     assert_eq!(rt; meter.count(), 36);
+    Ok(())
+}
+
+// Each legal length to 520 bytes, and a few beyond.
+#[test]
+fn gives_up_for_memory_at_no_length_under_another_value(rt: HostRuntime) -> Result<(), Fail> {
+    let alloc = rt.alloc();
+    let iv = InitialValue::new(OTHER)?;
+    for len in (1..=520).chain(4_096..=4_104) {
+        if key_length_ok(len) {
+            let key = filled(alloc, len)?;
+            let text = wrap_with(alloc, &SwapHalves, &iv, &key)?;
+            let again = unwrap_with(alloc, &SwapHalves, &iv, &text)?;
+            assert!(rt; again.as_slice() == key.as_slice(), "{len} bytes");
+        }
+    }
     Ok(())
 }
