@@ -5,18 +5,19 @@ use Rattle.key_wrap.specs.declared.forms.Form.{Form}
 use Rattle.key_wrap.specs.declared.faults.UnwrapFault.{UnwrapFault}
 use Rattle.key_wrap.specs.declared.faults.UnwrapFault.TheVariants as unwraps
 use Rattle.key_wrap.specs.Answer.{NoKey, UnwrapAnswer}
+use Rattle.key_wrap.specs.Plain.{default_iv}
 use Rattle.keywrap_cli.specs.declared.convert.Direction.TheVariants.{Unwrap}
 use Rattle.keywrap_cli.specs.Conversion.{Stands, other_form, IsInputLength, ConversionAnswer}
 
 -- what an unwrapping call says, by cases
-pub unwrapped : (form : Form) (E : List ℕ → List ℕ) (text : List ℕ) (r : Result (Vec ℕ Global) UnwrapFault)
-    → UnwrapAnswer (IsInputLength Unwrap form) (Stands form E) text r
-    → IfOk r (λ key. (other : List ℕ) → Stands form E other text → other ≡ key.items)
-    → IfOk r (λ key. (other : List ℕ) → Stands form E key.items other → other ≡ text)
-    → OnOk r (NoKey (Stands (other_form form) E) text)
-    → ConversionAnswer Unwrap form E text r
-unwrapped form E text (Ok key) answer alone restores one =
+pub unwrapped : (form : Form) (iv : ℕ) (E : List ℕ → List ℕ) (text : List ℕ) (r : Result (Vec ℕ Global) UnwrapFault)
+    → UnwrapAnswer (IsInputLength Unwrap form) (Stands form iv E) text r
+    → IfOk r (λ key. (other : List ℕ) → Stands form iv E other text → other ≡ key.items)
+    → IfOk r (λ key. (other : List ℕ) → Stands form iv E key.items other → other ≡ text)
+    → OnOk r (NoKey (Stands (other_form form) default_iv E) text)
+    → ConversionAnswer Unwrap form iv E text r
+unwrapped form iv E text (Ok key) answer alone restores one =
     record { stands = answer.1; alone = alone; restores = restores; one_form = one }
-unwrapped form E text (Err unwraps.BadLength) answer alone restores one = answer
-unwrapped form E text (Err unwraps.Integrity) answer alone restores one = answer
-unwrapped form E text (Err unwraps.Memory) answer alone restores one = answer
+unwrapped form iv E text (Err unwraps.BadLength) answer alone restores one = answer
+unwrapped form iv E text (Err unwraps.Integrity) answer alone restores one = answer
+unwrapped form iv E text (Err unwraps.Memory) answer alone restores one = answer

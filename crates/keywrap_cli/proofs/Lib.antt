@@ -1,5 +1,6 @@
 pub mod Conversions
 pub mod Drills
+pub mod InitialValues
 pub mod Jobs
 pub mod Outputs
 pub mod Readings

@@ -19,34 +19,34 @@ use Rattle.keywrap_cli.specs.declared.job.JobFault.TheVariants as faults
 use Rattle.keywrap_cli.specs.declared.job.Task.{Task}
 
 -- a conversion's answer is the one answer, also behind a change of its fault
-pub converted : (direction : Direction) (form : Form) (E : List ℕ → List ℕ) (X : List ℕ)
+pub converted : (direction : Direction) (form : Form) (iv : ℕ) (E : List ℕ → List ℕ) (X : List ℕ)
     (r : Result (Vec ℕ Global) UnwrapFault) (s : Result (Vec ℕ Global) JobFault) (answer : Vec ℕ Global)
-    → s ≡ Ok answer → ConversionAnswer direction form E X r
+    → s ≡ Ok answer → ConversionAnswer direction form iv E X r
     → MatchResult r (λ x. s ≡ Ok x) (λ e. IsErrAnd s (λ f. f ≡ job_fault_of e))
-    → IsAnswer direction form E X answer.items
-converted direction form E X (Ok x) s answer was answers same =
+    → IsAnswer direction form iv E X answer.items
+converted direction form iv E X (Ok x) s answer was answers same =
     let e : x ≡ answer = cc in
-    subst (λ (y : Vec ℕ Global). IsAnswer direction form E X y.items) e answers
-converted direction form E X (Err fault) s answer was answers same =
+    subst (λ (y : Vec ℕ Global). IsAnswer direction form iv E X y.items) e answers
+converted direction form iv E X (Err fault) s answer was answers same =
     absurd (subst (λ (t : Result (Vec ℕ Global) JobFault). IsErrAnd t (λ f. f ≡ job_fault_of fault)) was same)
 
 -- the answer of a conversion is what its job writes
-pub answer_written : (direction : Direction) (task : Task) (E : List ℕ → List ℕ) (X Y : List ℕ)
-    → IsAnswer direction task.form E X Y → WritesFor (job_of direction) task E X (printed task.input Y)
-answer_written directions.Wrap task E X Y answer = (Y, answer, refl)
-answer_written directions.Unwrap task E X Y answer = (Y, answer, refl)
+pub answer_written : (direction : Direction) (iv : ℕ) (task : Task) (E : List ℕ → List ℕ) (X Y : List ℕ)
+    → IsAnswer direction task.form iv E X Y → WritesFor (job_of direction) iv task E X (printed task.input Y)
+answer_written directions.Wrap iv task E X Y answer = (Y, answer, refl)
+answer_written directions.Unwrap iv task E X Y answer = (Y, answer, refl)
 
 -- an output that is not sent whole
-pub refused_write : (job : Job) (task : Task) (E : List ℕ → List ℕ) (X output : List ℕ) (old new : Option (List ℕ))
-    (fault : JobFault) → WritesFor job task E X output → Sends {T = Unit {0}} output old new (Err fault)
-    → OutputAnswer job task E X old new (Err fault)
-refused_write job task E X output old new (faults.Write written) writes sends = (output, writes, sends.0, sends.1)
-refused_write job task E X output old new faults.Memory writes sends = sends
-refused_write job task E X output old new faults.BadLength writes sends = absurd sends
-refused_write job task E X output old new faults.Integrity writes sends = absurd sends
-refused_write job task E X output old new faults.KekLength writes sends = absurd sends
-refused_write job task E X output old new (faults.KekFile fault) writes sends = absurd sends
-refused_write job task E X output old new (faults.InputFile fault) writes sends = absurd sends
+pub refused_write : (job : Job) (iv : ℕ) (task : Task) (E : List ℕ → List ℕ) (X output : List ℕ) (old new : Option (List ℕ))
+    (fault : JobFault) → WritesFor job iv task E X output → Sends {T = Unit {0}} output old new (Err fault)
+    → OutputAnswer job iv task E X old new (Err fault)
+refused_write job iv task E X output old new (faults.Write written) writes sends = (output, writes, sends.0, sends.1)
+refused_write job iv task E X output old new faults.Memory writes sends = sends
+refused_write job iv task E X output old new faults.BadLength writes sends = absurd sends
+refused_write job iv task E X output old new faults.Integrity writes sends = absurd sends
+refused_write job iv task E X output old new faults.KekLength writes sends = absurd sends
+refused_write job iv task E X output old new (faults.KekFile fault) writes sends = absurd sends
+refused_write job iv task E X output old new (faults.InputFile fault) writes sends = absurd sends
 
 -- a check is done as Neither exactly if its line is `none`
 pub kind_done : (kind : Kind) → IsDone Check (kind_line kind) (done_of kind)

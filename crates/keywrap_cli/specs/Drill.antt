@@ -5,6 +5,7 @@ use Rattle.block_pair.specs.Halves.{swapped_halves}
 use Rattle.key_files.specs.Meaning.{file_meaning, hex_meaning}
 use Rattle.key_files.specs.declared.fault.FileFault.{FileFault}
 use Rattle.key_files.specs.declared.fault.FileFault.TheVariants as files
+use Rattle.key_wrap.specs.Plain.{default_iv}
 use Rattle.key_wrap.specs.declared.forms.Form.{Form}
 use Rattle.key_wrap.specs.declared.faults.UnwrapFault.{UnwrapFault}
 use Rattle.key_wrap.specs.declared.faults.UnwrapFault.TheVariants as unwraps
@@ -40,10 +41,11 @@ drill_fault_of unwraps.BadLength = BadLength
 drill_fault_of unwraps.Integrity = Integrity
 drill_fault_of unwraps.Memory = Memory
 
--- The answer over the drill block, by cases. Memory comes only where the text denotes bytes.
+-- The answer over the drill block, by cases, under the default initial value. Memory comes only where the text
+-- denotes bytes.
 abbrev pub DrillAnswer : Direction → Form → List ℕ → Result (Vec ℕ Global) DrillFault → Type 0
 DrillAnswer direction form text (Ok Y) =
-    (X : List ℕ) × (drill_meaning text ≡ Ok X) × IsAnswer direction form swapped_halves X Y.items
+    (X : List ℕ) × (drill_meaning text ≡ Ok X) × IsAnswer direction form default_iv swapped_halves X Y.items
 DrillAnswer direction form text (Err TooLong) = drill_meaning text ≡ Err files.TooLong
 DrillAnswer direction form text (Err (BadDigit at)) = drill_meaning text ≡ Err (files.BadDigit at)
 DrillAnswer direction form text (Err OddDigits) = drill_meaning text ≡ Err files.OddDigits
@@ -51,5 +53,5 @@ DrillAnswer direction form text (Err BadLength) =
     (X : List ℕ) × (drill_meaning text ≡ Ok X) × ¬ IsInputLength direction form (length X)
 DrillAnswer direction form text (Err Integrity) =
     (X : List ℕ) × (drill_meaning text ≡ Ok X) × IsInputLength direction form (length X)
-    × HasNoAnswer direction form swapped_halves X
+    × HasNoAnswer direction form default_iv swapped_halves X
 DrillAnswer direction form text (Err Memory) = (X : List ℕ) × (drill_meaning text ≡ Ok X)

@@ -1,18 +1,22 @@
 -- A job's answer, and what a call of it does to its files. A call goes by steps: it reads the KEK file and takes
 -- its bytes for a KEK, reads the input file, makes the output, and writes it. It is refused at the first step that
--- fails, and the later ones are not begun.
+-- fails, and the later ones are not begun. The plain form has the initial value `iv`.
 use Rattle.std.specs.Prelude.{◌≡◌, ◌<◌, ◌≤◌, ◌+◌, ◌⊎◌, ◌↔◌, ⊤, ℕ, List, [], length, take, Option, Result, Ok, Err}
 use Rattle.std.specs.Io.KnownBytes.{Appends, Keeps, Consumes, IsAtEnd}
 use Rattle.aes_block.specs.Cipher.{cipher}
 use Rattle.aes_block.specs.KeyExpansion.{IsKekLength}
 use Rattle.key_files.specs.declared.fault.FileFault.{FileFault}
 use Rattle.key_files.specs.declared.fault.FileFault.TheVariants as files
+use Rattle.key_wrap.specs.Plain.{default_iv}
+use Rattle.key_wrap.specs.declared.forms.Form.TheVariants.{Plain}
 use Rattle.keywrap_cli.specs.Conversion.{IsKeyOf}
 use Rattle.keywrap_cli.specs.Files.{Denotes, IsRefused, DenotesKek, printed}
-use Rattle.keywrap_cli.specs.Output.{IsOutput, HasBadLength, HasNoKey, IsDone}
+use Rattle.keywrap_cli.specs.Output.{IsOutput, HasBadLength, HasNoKey, IsDone, job_of}
+use Rattle.keywrap_cli.specs.declared.convert.Direction.{Direction}
 use Rattle.keywrap_cli.specs.declared.job.Done.{Done}
 use Rattle.keywrap_cli.specs.declared.job.JobFault.{JobFault}
 use Rattle.keywrap_cli.specs.declared.job.JobFault.TheVariants.{KekFile, KekLength, InputFile, BadLength, Integrity, Write, Memory}
+use Rattle.keywrap_cli.specs.declared.job.Notation.{Notation}
 use Rattle.keywrap_cli.specs.declared.job.Task.{Task}
 
 -- the KEK file F denotes the KEK K, and the input file G the bytes X
@@ -23,35 +27,35 @@ pub record DenoteBoth (task : Task) (F G K X : List ℕ) : Type 0 where
 -- A job's answer to the KEK file F and the input file G, each whole or up to one byte past the limit: the first
 -- that applies of a KEK file that denotes no bytes, a KEK of another length than 16, 24 and 32 bytes, an input
 -- file that denotes no bytes, and for its bytes X under AES of the KEK: a bad length, no key, or the output.
-abbrev pub JobAnswer : Task → List ℕ → List ℕ → Result (List ℕ) JobFault → Type 0
-JobAnswer task F G (Err (KekFile fault)) = IsRefused task.kek F fault
-JobAnswer task F G (Err KekLength) = (K : List ℕ) × Denotes task.kek F K × ¬ IsKekLength (length K)
-JobAnswer task F G (Err (InputFile fault)) =
+abbrev pub JobAnswer : ℕ → Task → List ℕ → List ℕ → Result (List ℕ) JobFault → Type 0
+JobAnswer iv task F G (Err (KekFile fault)) = IsRefused task.kek F fault
+JobAnswer iv task F G (Err KekLength) = (K : List ℕ) × Denotes task.kek F K × ¬ IsKekLength (length K)
+JobAnswer iv task F G (Err (InputFile fault)) =
     ((K : List ℕ) × DenotesKek task.kek F K) × IsRefused task.input G fault
-JobAnswer task F G (Err BadLength) =
+JobAnswer iv task F G (Err BadLength) =
     (K : List ℕ) × (X : List ℕ) × DenoteBoth task F G K X × HasBadLength task.job task.form X
-JobAnswer task F G (Err Integrity) =
-    (K : List ℕ) × (X : List ℕ) × DenoteBoth task F G K X × HasNoKey task.job task.form (cipher K) X
-JobAnswer task F G (Ok output) =
-    (K : List ℕ) × (X : List ℕ) × DenoteBoth task F G K X × IsOutput task (cipher K) X output
-JobAnswer task F G (Err (Write written)) = ⊥
-JobAnswer task F G (Err Memory) = ⊥
+JobAnswer iv task F G (Err Integrity) =
+    (K : List ℕ) × (X : List ℕ) × DenoteBoth task F G K X × HasNoKey task.job task.form iv (cipher K) X
+JobAnswer iv task F G (Ok output) =
+    (K : List ℕ) × (X : List ℕ) × DenoteBoth task F G K X × IsOutput iv task (cipher K) X output
+JobAnswer iv task F G (Err (Write written)) = ⊥
+JobAnswer iv task F G (Err Memory) = ⊥
 
 -- What a call leaves in its writer: the whole output of its answer, or the first `written` bytes of it, or
 -- nothing, where it answers a refusal. Beside these only Read and Memory come.
-abbrev pub LeavesOutput : Task → List ℕ → List ℕ → Option (List ℕ) → Option (List ℕ) → Result Done JobFault → Type 0
-LeavesOutput task F G old new (Ok done) =
-    (output : List ℕ) × JobAnswer task F G (Ok output) × Appends old new output × IsDone task.job output done
-LeavesOutput task F G old new (Err (Write written)) =
-    (output : List ℕ) × JobAnswer task F G (Ok output) × (written < length output)
+abbrev pub LeavesOutput : ℕ → Task → List ℕ → List ℕ → Option (List ℕ) → Option (List ℕ) → Result Done JobFault → Type 0
+LeavesOutput iv task F G old new (Ok done) =
+    (output : List ℕ) × JobAnswer iv task F G (Ok output) × Appends old new output × IsDone task.job output done
+LeavesOutput iv task F G old new (Err (Write written)) =
+    (output : List ℕ) × JobAnswer iv task F G (Ok output) × (written < length output)
     × Appends old new (take written output)
-LeavesOutput task F G old new (Err (KekFile files.Read)) = Keeps old new
-LeavesOutput task F G old new (Err (InputFile files.Read)) = Keeps old new
-LeavesOutput task F G old new (Err Memory) = Keeps old new
+LeavesOutput iv task F G old new (Err (KekFile files.Read)) = Keeps old new
+LeavesOutput iv task F G old new (Err (InputFile files.Read)) = Keeps old new
+LeavesOutput iv task F G old new (Err Memory) = Keeps old new
 -- want of memory is never answered as a file's fault
-LeavesOutput task F G old new (Err (KekFile files.Memory)) = ⊥
-LeavesOutput task F G old new (Err (InputFile files.Memory)) = ⊥
-LeavesOutput task F G old new (Err fault) = JobAnswer task F G (Err fault) × Keeps old new
+LeavesOutput iv task F G old new (Err (KekFile files.Memory)) = ⊥
+LeavesOutput iv task F G old new (Err (InputFile files.Memory)) = ⊥
+LeavesOutput iv task F G old new (Err fault) = JobAnswer iv task F G (Err fault) × Keeps old new
 
 -- the call was refused for its KEK file, or for the KEK in it
 abbrev pub IsKekRefused : Result Done JobFault → Type 0
@@ -97,10 +101,10 @@ GivesUp answer = ⊥
 abbrev pub IsRefusedFor : JobFault → Result Done JobFault → Type 0
 IsRefusedFor fault answer = (answer ≡ Err fault) ⊎ GivesUp answer
 
--- What a call of a job does. Of the KEK file, the input and the writer the record takes what is known before
--- the call and after it.
-pub record RunsJob (task : Task) (kek kek' input input' out out' : Option (List ℕ)) (answer : Result Done JobFault)
-    : Type 0 where
+-- What a call of a job does under an initial value. Of the KEK file, the input and the writer the record takes
+-- what is known before the call and after it.
+pub record RunsJobWith (iv : ℕ) (task : Task) (kek kek' input input' out out' : Option (List ℕ))
+    (answer : Result Done JobFault) : Type 0 where
   -- what the call took from the two files: at most one byte past the limit
   pub F : List ℕ
   pub G : List ℕ
@@ -123,12 +127,17 @@ pub record RunsJob (task : Task) (kek kek' input input' out out' : Option (List 
   pub input_refused : (K : List ℕ) → DenotesKek task.kek F K → (fault : FileFault) → IsRefused task.input G fault
       → IsRefusedFor (InputFile fault) answer
   -- the answer to what was taken, and what it leaves in the writer
-  pub leaves : LeavesOutput task F G out out' answer
+  pub leaves : LeavesOutput iv task F G out out' answer
+
+-- what a call of a job does under the default initial value
+abbrev pub RunsJob : Task → Option (List ℕ) → Option (List ℕ) → Option (List ℕ) → Option (List ℕ) → Option (List ℕ)
+    → Option (List ℕ) → Result Done JobFault → Type 0
+RunsJob task kek kek' input input' out out' answer = RunsJobWith default_iv task kek kek' input input' out out' answer
 
 -- The headline, of the bytes that a call took and wrote. The input was the wrapping, under AES of the KEK, of the
 -- key that was written: that key alone has this wrapping, the key has no other, and no key has it in the other
 -- form. So wrapping the written key again restores the input.
-pub record WritesTheKey (task : Task) (kek kek' input input' out out' : Option (List ℕ)) : Type 0 where
+pub record WritesTheKeyWith (iv : ℕ) (task : Task) (kek kek' input input' out out' : Option (List ℕ)) : Type 0 where
   pub F : List ℕ
   pub G : List ℕ
   pub K : List ℕ
@@ -137,5 +146,14 @@ pub record WritesTheKey (task : Task) (kek kek' input input' out out' : Option (
   pub kek_taken : Consumes kek kek' F
   pub input_taken : Consumes input input' G
   pub files : DenoteBoth task F G K X
-  pub the_key : IsKeyOf task.form (cipher K) X key
+  pub the_key : IsKeyOf task.form iv (cipher K) X key
   pub written : Appends out out' (printed task.input key)
+
+-- the headline under the default initial value
+abbrev pub WritesTheKey : Task → Option (List ℕ) → Option (List ℕ) → Option (List ℕ) → Option (List ℕ)
+    → Option (List ℕ) → Option (List ℕ) → Type 0
+WritesTheKey task kek kek' input input' out out' = WritesTheKeyWith default_iv task kek kek' input input' out out'
+
+-- the job in the plain form, with the notations of the input and of the KEK file
+abbrev pub plain_task : Direction → Notation → Notation → Task
+plain_task direction input kek = record { job = job_of direction; form = Plain; input = input; kek = kek }

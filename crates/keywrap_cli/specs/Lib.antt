@@ -1,6 +1,7 @@
 pub mod Conversion
 pub mod Drill
 pub mod Files
+pub mod InitialValue
 pub mod Job
 pub mod Output
 pub mod Published

@@ -1,4 +1,4 @@
--- What a job writes for its input, under E.
+-- What a job writes for its input, under E and, in the plain form, the initial value `iv`.
 use Rattle.std.specs.Prelude.{◌≡◌, ◌<◌, ℕ, List, [], ◌∷◌, ◌++◌, length, take, codes, Option, Result, Ok, Err}
 use Rattle.std.specs.Fmt.{decimal}
 use Rattle.std.specs.Io.KnownBytes.{Appends, Keeps}
@@ -30,14 +30,16 @@ kind_line (kinds.Padded m) = codes "padded " ++ decimal m ++ 10 ∷ []
 kind_line kinds.Neither = codes "none\n"
 
 -- what a job in a form writes for the bytes X: the text of the key, the key of the text, or the line that says
--- what the text is a wrapping of
-abbrev pub WritesFor : Job → Task → (List ℕ → List ℕ) → List ℕ → List ℕ → Type 0
-WritesFor Wrap task E X output = (text : List ℕ) × IsTextOf task.form E X text × (output ≡ printed task.input text)
-WritesFor Unwrap task E X output = (key : List ℕ) × IsKeyOf task.form E X key × (output ≡ printed task.input key)
-WritesFor Check task E X output = (kind : Kind) × IsKindOf E X kind × (output ≡ kind_line kind)
+-- what the text is a wrapping of; a check looks at the default value alone
+abbrev pub WritesFor : Job → ℕ → Task → (List ℕ → List ℕ) → List ℕ → List ℕ → Type 0
+WritesFor Wrap iv task E X output =
+    (text : List ℕ) × IsTextOf task.form iv E X text × (output ≡ printed task.input text)
+WritesFor Unwrap iv task E X output =
+    (key : List ℕ) × IsKeyOf task.form iv E X key × (output ≡ printed task.input key)
+WritesFor Check iv task E X output = (kind : Kind) × IsKindOf E X kind × (output ≡ kind_line kind)
 
-abbrev pub IsOutput : Task → (List ℕ → List ℕ) → List ℕ → List ℕ → Type 0
-IsOutput task E X output = WritesFor task.job task E X output
+abbrev pub IsOutput : ℕ → Task → (List ℕ → List ℕ) → List ℕ → List ℕ → Type 0
+IsOutput iv task E X output = WritesFor task.job iv task E X output
 
 -- the bytes X have no legal length for the job; a check asks for none
 abbrev pub HasBadLength : Job → Form → List ℕ → Type 0
@@ -46,10 +48,10 @@ HasBadLength Unwrap form X = ¬ IsInputLength directions.Unwrap form (length X)
 HasBadLength Check form X = ⊥
 
 -- the bytes X have a legal length, and no key stands with them; only an unwrapping is refused for that
-abbrev pub HasNoKey : Job → Form → (List ℕ → List ℕ) → List ℕ → Type 0
-HasNoKey Wrap form E X = ⊥
-HasNoKey Unwrap form E X = IsInputLength directions.Unwrap form (length X) × NoKey (Stands form E) X
-HasNoKey Check form E X = ⊥
+abbrev pub HasNoKey : Job → Form → ℕ → (List ℕ → List ℕ) → List ℕ → Type 0
+HasNoKey Wrap form iv E X = ⊥
+HasNoKey Unwrap form iv E X = IsInputLength directions.Unwrap form (length X) × NoKey (Stands form iv E) X
+HasNoKey Check form iv E X = ⊥
 
 -- a job is done as Neither exactly if it is a check that wrote `none`
 abbrev pub IsDone : Job → List ℕ → Done → Type 0
@@ -58,19 +60,19 @@ IsDone job output Neither = (job ≡ Check) × (output ≡ kind_line kinds.Neith
 
 -- What a job leaves in its writer for the bytes X, by cases: the whole output, or the first `written` bytes of
 -- it, or nothing.
-abbrev pub OutputAnswer : Job → Task → (List ℕ → List ℕ) → List ℕ → Option (List ℕ) → Option (List ℕ)
+abbrev pub OutputAnswer : Job → ℕ → Task → (List ℕ → List ℕ) → List ℕ → Option (List ℕ) → Option (List ℕ)
     → Result Done JobFault → Type 0
-OutputAnswer job task E X old new (Ok done) =
-    (output : List ℕ) × WritesFor job task E X output × Appends old new output × IsDone job output done
-OutputAnswer job task E X old new (Err (Write written)) =
-    (output : List ℕ) × WritesFor job task E X output × (written < length output)
+OutputAnswer job iv task E X old new (Ok done) =
+    (output : List ℕ) × WritesFor job iv task E X output × Appends old new output × IsDone job output done
+OutputAnswer job iv task E X old new (Err (Write written)) =
+    (output : List ℕ) × WritesFor job iv task E X output × (written < length output)
     × Appends old new (take written output)
-OutputAnswer job task E X old new (Err BadLength) = HasBadLength job task.form X × Keeps old new
-OutputAnswer job task E X old new (Err Integrity) = HasNoKey job task.form E X × Keeps old new
-OutputAnswer job task E X old new (Err Memory) = Keeps old new
-OutputAnswer job task E X old new (Err KekLength) = ⊥
-OutputAnswer job task E X old new (Err (KekFile fault)) = ⊥
-OutputAnswer job task E X old new (Err (InputFile fault)) = ⊥
+OutputAnswer job iv task E X old new (Err BadLength) = HasBadLength job task.form X × Keeps old new
+OutputAnswer job iv task E X old new (Err Integrity) = HasNoKey job task.form iv E X × Keeps old new
+OutputAnswer job iv task E X old new (Err Memory) = Keeps old new
+OutputAnswer job iv task E X old new (Err KekLength) = ⊥
+OutputAnswer job iv task E X old new (Err (KekFile fault)) = ⊥
+OutputAnswer job iv task E X old new (Err (InputFile fault)) = ⊥
 
 -- the job that goes in a direction
 abbrev pub job_of : Direction → Job

@@ -4,6 +4,7 @@ use Rattle.aes_block.specs.Cipher.{cipher}
 use Rattle.aes_block.specs.KeyExpansion.{IsKekLength}
 use Rattle.block_pair.specs.Words.{IsBlock}
 use Rattle.key_files.specs.Meaning.{hex_meaning}
+use Rattle.key_wrap.specs.Plain.{default_iv}
 use Rattle.keywrap_cli.specs.Conversion.{Stands}
 use Rattle.keywrap_cli.specs.declared.vector_table.Operation.{Operation}
 use Rattle.keywrap_cli.specs.declared.vector_table.Operation.TheVariants.{KeyWrap, Encryption}
@@ -29,7 +30,7 @@ shown v = record {
 
 -- the operation takes the input to the output, under E
 abbrev pub Takes : Operation → (List ℕ → List ℕ) → List ℕ → List ℕ → Type 0
-Takes (KeyWrap form) E input output = Stands form E input output
+Takes (KeyWrap form) E input output = Stands form default_iv E input output
 Takes Encryption E input output = IsBlock input × (E input ≡ output)
 
 -- a vector is right: its texts denote a KEK of legal length, an input, and the output to which its operation takes

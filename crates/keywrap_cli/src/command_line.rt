@@ -4,7 +4,7 @@ use crate::convert::Direction;
 use crate::help::{
     CHECK_EXAMPLE, DRILL_EXAMPLE, STATUSES, UNWRAP_EXAMPLE, VECTORS_EXAMPLE, WRAP_EXAMPLE,
 };
-use crate::job::{Job, Notation, Task};
+use crate::job::{Job, Notation, Task, job_of};
 use clap::error::ErrorKind;
 use clap::{Arg, ArgAction, ArgMatches, Command, Error};
 use key_wrap::Form;
@@ -24,6 +24,15 @@ pub enum Request<'a> {
         task: Task,
         kek: &'a str,
     },
+    /// A plain wrapping or unwrapping of standard input, under the KEK in a file and the initial
+    /// value of a hex text.
+    JobWith {
+        iv: &'a str,
+        direction: Direction,
+        input_notation: Notation,
+        kek_notation: Notation,
+        kek: &'a str,
+    },
     /// The published vectors.
     Vectors,
 }
@@ -32,8 +41,8 @@ pub enum Request<'a> {
 pub fn parse<'a>(alloc: Global, words: &'a [String]) -> Result<Request<'a>, Error> {
     let matches = keywrap(alloc)?.try_get_matches_from(words)?;
     Ok(match matches.subcommand() {
-        Some(("wrap", found)) => job(Job::Wrap, found),
-        Some(("unwrap", found)) => job(Job::Unwrap, found),
+        Some(("wrap", found)) => conversion(Direction::Wrap, found),
+        Some(("unwrap", found)) => conversion(Direction::Unwrap, found),
         Some(("check", found)) => job(Job::Check, found),
         Some(("drill", found)) => drill(found),
         Some(("vectors", _)) => Request::Vectors,
@@ -50,6 +59,19 @@ pub fn not_text(alloc: Global) -> Result<Error, AllocError> {
 
 fn not_a_request(alloc: Global) -> Result<Error, AllocError> {
     keywrap(alloc)?.error(ErrorKind::InvalidSubcommand, "unrecognized subcommand")
+}
+
+fn conversion<'a>(direction: Direction, found: &ArgMatches<'a>) -> Request<'a> {
+    match found.get_str("iv") {
+        Some(iv) => Request::JobWith {
+            iv,
+            direction,
+            input_notation: notation(found, "raw"),
+            kek_notation: notation(found, "raw-kek"),
+            kek: text_of(found, "kek"),
+        },
+        None => job(job_of(direction), found),
+    }
 }
 
 fn job<'a>(job: Job, found: &ArgMatches<'a>) -> Request<'a> {
@@ -123,6 +145,7 @@ fn wrap_command<'a>(alloc: Global) -> Result<Command<'a>, AllocError> {
         .after_long_help(WRAP_EXAMPLE)
         .arg(kek(alloc))?
         .arg(padded(alloc))?
+        .arg(iv(alloc)?)?
         .arg(raw(alloc))?
         .arg(raw_kek(alloc))
 }
@@ -133,6 +156,7 @@ fn unwrap_command<'a>(alloc: Global) -> Result<Command<'a>, AllocError> {
         .after_long_help(UNWRAP_EXAMPLE)
         .arg(kek(alloc))?
         .arg(padded(alloc))?
+        .arg(iv(alloc)?)?
         .arg(raw(alloc))?
         .arg(raw_kek(alloc))
 }
@@ -176,6 +200,17 @@ fn kek<'a>(alloc: Global) -> Arg<'a> {
 
 fn padded<'a>(alloc: Global) -> Arg<'a> {
     flag(alloc, "padded").help("The padded form of RFC 5649, for keys of any length")
+}
+
+// The padded form has an initial value of its own.
+fn iv<'a>(alloc: Global) -> Result<Arg<'a>, AllocError> {
+    Arg::new(alloc, "iv")
+        .long("iv")
+        .value_name("HEX")
+        .help(
+            "Another initial value that both ends agreed on, 16 hex digits; else the default is right",
+        )
+        .conflicts_with("padded")
 }
 
 fn raw<'a>(alloc: Global) -> Arg<'a> {

@@ -5,7 +5,9 @@ ghost use Rattle.keywrap_cli.specs.Conversion.{ConversionAnswer, Converts, Stand
 ghost use Rattle.keywrap_cli.specs.Conversion.{unwrap_fault_of};
 
 use block_pair::BlockPair;
-use key_wrap::{Form, UnwrapFault, WrapFault, unwrap, unwrap_padded, wrap, wrap_padded};
+use key_wrap::{
+    Form, InitialValue, UnwrapFault, WrapFault, unwrap_padded, unwrap_with, wrap_padded, wrap_with,
+};
 use std::alloc::Global;
 
 /// Which way a conversion goes.
@@ -17,38 +19,41 @@ pub enum Direction {
     Unwrap,
 }
 
-/// The text of a key, or the key of a text. A wrapping has the faults of an unwrapping, but for
-/// `Integrity`.
+/// The text of a key, or the key of a text. The plain form has this initial value. A wrapping has
+/// the faults of an unwrapping, but for `Integrity`.
 pub fn convert<B: BlockPair>(
     alloc: Global,
     direction: Direction,
     form: Form,
+    iv: &InitialValue,
     pair: &B,
     input: &[u8],
 ) -> Result<Vec<u8>, UnwrapFault>
-    ensures answer { ConversionAnswer direction form (B.encrypted pair.now) input.now result }
+    ensures answer { ConversionAnswer direction form iv.now (B.encrypted pair.now) input.now
+        result }
 
     // What has an answer is refused for want of memory alone.
     ensures accepts { (output : List ℕ)
-        → Converts direction form (B.encrypted pair.now) input.now output
+        → Converts direction form iv.now (B.encrypted pair.now) input.now output
         → IsOkUnless result UnwrapFault.Memory }
 {
     match direction {
-        Direction::Wrap => wrap_in(alloc, form, pair, input).map_err(as_unwrap_fault),
-        Direction::Unwrap => unwrap_in(alloc, form, pair, input),
+        Direction::Wrap => wrap_in(alloc, form, iv, pair, input).map_err(as_unwrap_fault),
+        Direction::Unwrap => unwrap_in(alloc, form, iv, pair, input),
     }
 }
 
 fn wrap_in<B: BlockPair>(
     alloc: Global,
     form: Form,
+    iv: &InitialValue,
     pair: &B,
     key: &[u8],
 ) -> Result<Vec<u8>, WrapFault>
-    ensures { WrapAnswer form (B.encrypted pair.now) key.now result }
+    ensures { WrapAnswer form iv.now (B.encrypted pair.now) key.now result }
 {
     match form {
-        Form::Plain => wrap(alloc, pair, key),
+        Form::Plain => wrap_with(alloc, pair, iv, key),
         Form::Padded => wrap_padded(alloc, pair, key),
     }
 }
@@ -56,15 +61,17 @@ fn wrap_in<B: BlockPair>(
 fn unwrap_in<B: BlockPair>(
     alloc: Global,
     form: Form,
+    iv: &InitialValue,
     pair: &B,
     text: &[u8],
 ) -> Result<Vec<u8>, UnwrapFault>
-    ensures answer { ConversionAnswer Direction.Unwrap form (B.encrypted pair.now) text.now result }
-    ensures accepts { (key : List ℕ) → Stands form (B.encrypted pair.now) key text.now
+    ensures answer { ConversionAnswer Direction.Unwrap form iv.now (B.encrypted pair.now) text.now
+        result }
+    ensures accepts { (key : List ℕ) → Stands form iv.now (B.encrypted pair.now) key text.now
         → IsOkUnless result UnwrapFault.Memory }
 {
     match form {
-        Form::Plain => unwrap(alloc, pair, text),
+        Form::Plain => unwrap_with(alloc, pair, iv, text),
         Form::Padded => unwrap_padded(alloc, pair, text),
     }
 }

@@ -9,7 +9,7 @@ ghost use Rattle.keywrap_cli.specs.Drill.{text_fault_of};
 use crate::convert::{Direction, convert};
 use block_pair::SwapHalves;
 use key_files::{FileFault, MAX_FILE, decode_hex};
-use key_wrap::{Form, UnwrapFault};
+use key_wrap::{Form, InitialValue, UnwrapFault};
 use std::alloc::Global;
 use thiserror::Error;
 
@@ -55,7 +55,8 @@ pub fn drill(
         ↔ (drill_meaning text.now ≡ Err FileFaults.OddDigits) }
 {
     let input = bytes_of(alloc, text)?;
-    convert(alloc, direction, form, &SwapHalves, &input).map_err(drill_fault)
+    let iv = InitialValue::default();
+    convert(alloc, direction, form, &iv, &SwapHalves, &input).map_err(drill_fault)
 }
 
 // The bytes that the text denotes, where it is no longer than a file may be.

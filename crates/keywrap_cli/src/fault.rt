@@ -1,6 +1,7 @@
 //! Why the program ends without its answer: the line on standard error and the exit status.
 
 use crate::drill::DrillFault;
+use crate::initial_value::IvFault;
 use crate::job::JobFault;
 use crate::statuses;
 use crate::vectors::VectorsFault;
@@ -12,6 +13,9 @@ use thiserror::Error;
 /// What the program stops at, after its command line.
 #[derive(Debug, Drop, Error)]
 pub enum ProgramFault {
+    /// The text of `--iv` was refused.
+    #[error("{0}")]
+    Iv(IvFault),
     /// The KEK file can't be opened.
     #[error("key file: cannot be opened")]
     KekOpen,
@@ -52,6 +56,7 @@ impl ProgramFault {
     /// The exit status that says the fault.
     pub fn status(&self) -> u8 {
         match self {
+            ProgramFault::Iv(_) => statuses::REFUSED_WORDS,
             ProgramFault::KekOpen | ProgramFault::Write { .. } | ProgramFault::Flush => {
                 statuses::INPUT_OUTPUT
             }

@@ -1,13 +1,16 @@
 //! The jobs: what is done with an input under a KEK.
 
 ghost use Rattle.std.specs.Prelude.{◌≡◌, IsOk};
-ghost use Rattle.keywrap_cli.specs.Job.{RunsJob, WritesTheKey};
+ghost use Rattle.keywrap_cli.specs.Job.{RunsJob, RunsJobWith, WritesTheKey, WritesTheKeyWith};
+ghost use Rattle.keywrap_cli.specs.Job.{plain_task};
+ghost use Rattle.keywrap_cli.specs.Output.{job_of};
 
+use crate::convert::Direction;
 use crate::files::read_input;
 use crate::kek_file::read_kek;
 use crate::output::write_output;
 use key_files::FileFault;
-use key_wrap::Form;
+use key_wrap::{Form, InitialValue};
 use std::alloc::Global;
 use std::io::{Read, Write};
 use thiserror::Error;
@@ -106,7 +109,67 @@ pub fn run_job<K: Read, R: Read, W: Write>(
         → WritesTheKey task (K.remaining kek.old) (K.remaining kek.new)
         (R.remaining input.old) (R.remaining input.new) (W.contents out.old) (W.contents out.new) }
 {
+    run(alloc, &InitialValue::default(), task, kek, input, out)
+}
+
+/// `run_job` for a plain wrapping or unwrapping under this initial value: what it answers, and what
+/// it does to its files.
+pub fn run_with<K: Read, R: Read, W: Write>(
+    alloc: Global,
+    iv: &InitialValue,
+    direction: Direction,
+    input_notation: Notation,
+    kek_notation: Notation,
+    kek: &mut K,
+    input: &mut R,
+    out: &mut W,
+) -> Result<Done, JobFault>
+    ensures run { RunsJobWith iv.now (plain_task direction input_notation kek_notation)
+        (K.remaining kek.old) (K.remaining kek.new) (R.remaining input.old) (R.remaining input.new)
+        (W.contents out.old) (W.contents out.new) result }
+
+    // A key is written only for the wrapping, under this value, of that key and of no other.
+    ensures headline { direction ≡ Direction.Unwrap → IsOk result
+        → WritesTheKeyWith iv.now (plain_task direction input_notation kek_notation)
+        (K.remaining kek.old) (K.remaining kek.new) (R.remaining input.old) (R.remaining input.new)
+        (W.contents out.old) (W.contents out.new) }
+{
+    let task = Task {
+        job: job_of(direction),
+        form: Form::Plain,
+        input: input_notation,
+        kek: kek_notation,
+    };
+    run(alloc, iv, task, kek, input, out)
+}
+
+/// The job that goes in a direction.
+pub fn job_of(direction: Direction) -> Job
+    ensures { result ≡ job_of direction }
+{
+    match direction {
+        Direction::Wrap => Job::Wrap,
+        Direction::Unwrap => Job::Unwrap,
+    }
+}
+
+// A job, with the initial value of the plain form.
+fn run<K: Read, R: Read, W: Write>(
+    alloc: Global,
+    iv: &InitialValue,
+    task: Task,
+    kek: &mut K,
+    input: &mut R,
+    out: &mut W,
+) -> Result<Done, JobFault>
+    ensures run { RunsJobWith iv.now task (K.remaining kek.old) (K.remaining kek.new)
+        (R.remaining input.old) (R.remaining input.new)
+        (W.contents out.old) (W.contents out.new) result }
+    ensures headline { task.job ≡ Job.Unwrap → IsOk result
+        → WritesTheKeyWith iv.now task (K.remaining kek.old) (K.remaining kek.new)
+        (R.remaining input.old) (R.remaining input.new) (W.contents out.old) (W.contents out.new) }
+{
     let aes = read_kek(alloc, task.kek, kek)?;
     let bytes = read_input(alloc, task.input, input)?;
-    write_output(alloc, task, &aes, &bytes, out)
+    write_output(alloc, iv, task, &aes, &bytes, out)
 }

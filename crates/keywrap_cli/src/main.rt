@@ -7,6 +7,7 @@ mod drill;
 mod fault;
 mod files;
 mod help;
+mod initial_value;
 mod job;
 mod kek_file;
 mod output;

@@ -1,6 +1,6 @@
 //! What a job writes.
 
-ghost use Rattle.std.specs.Prelude.{◌≡◌, IfOk, string_bytes};
+ghost use Rattle.std.specs.Prelude.{◌≡◌, ℕ, IfOk, string_bytes};
 ghost use Rattle.keywrap_cli.specs.Files.{printed};
 ghost use Rattle.keywrap_cli.specs.Output.{OutputAnswer, done_of, hex_write_fault_of, job_fault_of};
 ghost use Rattle.keywrap_cli.specs.Output.{job_of, kind_line};
@@ -11,24 +11,26 @@ use crate::convert::{Direction, convert};
 use crate::job::{Done, Job, JobFault, Notation, Task};
 use block_pair::BlockPair;
 use key_files::{HexWriteFault, WriteFault, write_hex, write_raw};
-use key_wrap::{Kind, KindFault, UnwrapFault, kind};
+use key_wrap::{InitialValue, Kind, KindFault, UnwrapFault, kind};
 use std::alloc::{AllocError, Global};
 use std::io::Write;
 
-/// Makes the output of a job for the bytes of its input, and then writes it.
+/// Makes the output of a job for the bytes of its input, and then writes it. The plain form has this
+/// initial value; a check looks at the default.
 pub fn write_output<B: BlockPair, W: Write>(
     alloc: Global,
+    iv: &InitialValue,
     task: Task,
     pair: &B,
     input: &[u8],
     out: &mut W,
 ) -> Result<Done, JobFault>
-    ensures { OutputAnswer task.job task (B.encrypted pair.now) input.now
+    ensures { OutputAnswer task.job iv.now task (B.encrypted pair.now) input.now
         (W.contents out.old) (W.contents out.new) result }
 {
     match task.job {
-        Job::Wrap => write_answer(alloc, Direction::Wrap, task, pair, input, out),
-        Job::Unwrap => write_answer(alloc, Direction::Unwrap, task, pair, input, out),
+        Job::Wrap => write_answer(alloc, Direction::Wrap, iv, task, pair, input, out),
+        Job::Unwrap => write_answer(alloc, Direction::Unwrap, iv, task, pair, input, out),
         Job::Check => write_kind(alloc, pair, input, out),
     }
 }
@@ -36,15 +38,16 @@ pub fn write_output<B: BlockPair, W: Write>(
 fn write_answer<B: BlockPair, W: Write>(
     alloc: Global,
     direction: Direction,
+    iv: &InitialValue,
     task: Task,
     pair: &B,
     input: &[u8],
     out: &mut W,
 ) -> Result<Done, JobFault>
-    ensures { OutputAnswer (job_of direction) task (B.encrypted pair.now) input.now
+    ensures { OutputAnswer (job_of direction) iv.now task (B.encrypted pair.now) input.now
         (W.contents out.old) (W.contents out.new) result }
 {
-    let answer = convert(alloc, direction, task.form, pair, input).map_err(job_fault)?;
+    let answer = convert(alloc, direction, task.form, iv, pair, input).map_err(job_fault)?;
     send(alloc, task.input, &answer, out)?;
     Ok(Done::Written)
 }
@@ -110,7 +113,8 @@ fn write_kind<B: BlockPair, W: Write>(
     text: &[u8],
     out: &mut W,
 ) -> Result<Done, JobFault>
-    ensures { (task : Task) → OutputAnswer Job.Check task (B.encrypted pair.now) text.now
+    ensures { (iv : ℕ) (task : Task)
+        → OutputAnswer Job.Check iv task (B.encrypted pair.now) text.now
         (W.contents out.old) (W.contents out.new) result }
 {
     let found = match kind(alloc, pair, text) {

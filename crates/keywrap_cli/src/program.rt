@@ -9,7 +9,8 @@ use crate::command_line::{Request, not_text, parse};
 use crate::convert::Direction;
 use crate::drill::drill;
 use crate::fault::ProgramFault;
-use crate::job::{Done, Task, run_job};
+use crate::initial_value::parse_iv;
+use crate::job::{Done, JobFault, Notation, Task, run_job, run_with};
 use crate::statuses;
 use crate::vectors::vectors;
 use clap::Error;
@@ -55,6 +56,13 @@ fn answer<R: Print + Eprint + Input + AllocGlobal + Files>(rt: &R, wanted: Reque
             text,
         } => run_drill(rt.alloc(), form, direction, text, &mut out),
         Request::Job { task, kek } => run_task(rt, task, kek),
+        Request::JobWith {
+            iv,
+            direction,
+            input_notation,
+            kek_notation,
+            kek,
+        } => run_task_with(rt, iv, direction, input_notation, kek_notation, kek),
         Request::Vectors => run_vectors(rt.alloc(), &mut out),
     };
     end(rt, done)
@@ -82,9 +90,39 @@ fn run_task<R: Print + Input + AllocGlobal + Files>(
     let mut kek = fs::open(rt, kek).map_err(|_| ProgramFault::KekOpen)?;
     let mut out = io::writer(rt);
     let done = run_job(rt.alloc(), task, &mut kek, &mut rt.reader(), &mut out);
+    flush_job(done, &mut out)
+}
+
+// The same under the initial value of a text, which is looked at before the KEK file is opened.
+fn run_task_with<R: Print + Input + AllocGlobal + Files>(
+    rt: &R,
+    iv: &str,
+    direction: Direction,
+    input_notation: Notation,
+    kek_notation: Notation,
+    kek: &str,
+) -> Result<u8, ProgramFault> {
+    let iv = parse_iv(iv).map_err(ProgramFault::Iv)?;
+    let mut kek = fs::open(rt, kek).map_err(|_| ProgramFault::KekOpen)?;
+    let mut out = io::writer(rt);
+    let done = run_with(
+        rt.alloc(),
+        &iv,
+        direction,
+        input_notation,
+        kek_notation,
+        &mut kek,
+        &mut rt.reader(),
+        &mut out,
+    );
+    flush_job(done, &mut out)
+}
+
+// Flushes what a job wrote, and answers its status.
+fn flush_job<W: Write>(done: Result<Done, JobFault>, out: &mut W) -> Result<u8, ProgramFault> {
     match done.map_err(ProgramFault::Job)? {
-        Done::Written => flush(&mut out, statuses::DONE),
-        Done::Neither => flush(&mut out, statuses::FAILED),
+        Done::Written => flush(out, statuses::DONE),
+        Done::Neither => flush(out, statuses::FAILED),
     }
 }
 

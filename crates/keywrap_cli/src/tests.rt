@@ -6,6 +6,7 @@ mod drills;
 mod faults;
 mod help;
 mod hostile;
+mod initial_values;
 mod jobs;
 mod limits;
 mod standards;

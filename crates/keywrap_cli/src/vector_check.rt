@@ -3,6 +3,7 @@
 ghost use Rattle.std.specs.Prelude.{◌≡◌, ◌≢◌, ◌↔◌, ℕ, List, length, IfOk, IsTrue, MatchOption, Ok};
 ghost use Rattle.block_pair.specs.Words.{IsBlock};
 ghost use Rattle.key_files.specs.Meaning.{hex_meaning};
+ghost use Rattle.key_wrap.specs.Plain.{default_iv};
 ghost use Rattle.keywrap_cli.specs.Conversion.{Converts, Stands};
 ghost use Rattle.keywrap_cli.specs.Vectors.{IsRight, Takes, shown};
 
@@ -11,7 +12,7 @@ use crate::vector_table::{Operation, Vector};
 use aes_block::Aes;
 use block_pair::BlockPair;
 use key_files::{FileFault, decode_hex};
-use key_wrap::{Form, UnwrapFault};
+use key_wrap::{Form, InitialValue, UnwrapFault};
 use std::alloc::{AllocError, Global};
 
 /// Whether a vector's texts denote a KEK, an input and the output to which its operation takes the
@@ -74,7 +75,7 @@ fn wraps<B: BlockPair>(
     text: &[u8],
 ) -> Result<bool, AllocError>
     ensures { IfOk result (λ right. IsTrue right
-        ↔ Stands form (B.encrypted pair.now) key.now text.now) }
+        ↔ Stands form default_iv (B.encrypted pair.now) key.now text.now) }
 {
     let there = converts(alloc, Direction::Wrap, form, pair, key, text)?;
     let back = converts(alloc, Direction::Unwrap, form, pair, text, key)?;
@@ -91,9 +92,16 @@ fn converts<B: BlockPair>(
     output: &[u8],
 ) -> Result<bool, AllocError>
     ensures { IfOk result (λ right. IsTrue right
-        ↔ Converts direction form (B.encrypted pair.now) input.now output.now) }
+        ↔ Converts direction form default_iv (B.encrypted pair.now) input.now output.now) }
 {
-    match convert(alloc, direction, form, pair, input) {
+    match convert(
+        alloc,
+        direction,
+        form,
+        &InitialValue::default(),
+        pair,
+        input,
+    ) {
         Ok(answer) => Ok(answer.as_slice() == output),
         Err(UnwrapFault::Memory) => Err(AllocError),
         Err(UnwrapFault::BadLength | UnwrapFault::Integrity) => Ok(false),

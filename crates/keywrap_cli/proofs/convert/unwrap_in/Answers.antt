@@ -4,5 +4,5 @@ use Rattle.keywrap_cli.proofs.convert.unwrap_in.Goals as goal
 
 pub returns-in-Plain-clause-answer : goal.returns-in-Plain-clause-answer
 returns-in-Plain-clause-answer g c =
-    let e = c.unwrap.ensures in
-    rw c.in-Plain.is (unwrapped forms.Plain _ _ _ e.answer e.only_key e.restores e.other_form)
+    let e = c.unwrap_with.ensures in
+    rw c.in-Plain.is (unwrapped forms.Plain _ _ _ _ e.answer e.only_key e.restores e.other_form)

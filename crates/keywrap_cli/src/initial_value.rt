@@ -1,0 +1,39 @@
+//! The initial value that a text names.
+
+ghost use Rattle.std.specs.Prelude.{◌≡◌, ◌↔◌, ℕ, Ok, Err};
+ghost use Rattle.key_wrap.specs.Plain.{IsReserved};
+ghost use Rattle.keywrap_cli.specs.InitialValue.{DenotesIv, IsSixteenDigits};
+
+use key_wrap::InitialValue;
+use thiserror::Error;
+
+/// Why a text names no initial value.
+#[derive(Clone, Copy, Debug, PartialEq, Eq, Error)]
+pub enum IvFault {
+    /// The text is not 16 hex digits.
+    #[error("--iv is not 16 hex digits")]
+    NotSixteenDigits,
+    /// The value begins as that of the padded form (RFC 5649, section 3).
+    #[error("--iv is reserved for the padded form")]
+    Reserved,
+}
+
+/// The initial value of 16 hex digits of either case, the most significant digit first.
+///
+/// The first that applies is answered: NotSixteenDigits (a space is no digit), Reserved. No memory
+/// is taken.
+pub fn parse_iv(text: &str) -> Result<InitialValue, IvFault>
+    ensures value { (iv : ℕ) → (result ≡ Ok iv) ↔ (DenotesIv text.now iv × ¬ IsReserved iv) }
+    ensures not_digits { (result ≡ Err IvFault.NotSixteenDigits) ↔ ¬ IsSixteenDigits text.now }
+    ensures reserved { (result ≡ Err IvFault.Reserved)
+        ↔ ((iv : ℕ) × DenotesIv text.now iv × IsReserved iv) }
+{
+    let mut bytes = [0; 8];
+    if hex::decode_to_slice(text, &mut bytes).is_err() {
+        return Err(IvFault::NotSixteenDigits);
+    }
+    match InitialValue::new(bytes) {
+        Ok(iv) => Ok(iv),
+        Err(_) => Err(IvFault::Reserved),
+    }
+}
