@@ -1,6 +1,5 @@
 -- What the length of an unwrapped key says of the call that answered.
 use Rattle.std.proofs.Common.{◌≡◌, ℕ, List, length, Option, Some, Result, Ok, Err, Vec, vec_len, IfOk, OnOk, IsOkUnless, ap, arith}
-use Rattle.std.specs.declared.alloc.Global.{Global}
 use Rattle.key_wrap.specs.declared.faults.UnwrapFault.{UnwrapFault}
 use Rattle.key_wrap.specs.declared.faults.UnwrapFault.TheVariants.{BadLength, Integrity, Memory}
 use Rattle.key_wrap.specs.Answer.{NoKey, UnwrapAnswer}
@@ -14,8 +13,8 @@ pub record Found (Stands Other : List ℕ → List ℕ → Type 0) (text : List 
   pub sizes : (key : List ℕ) → Stands key text → length key ≡ len
   pub only_form : NoKey Other text
 
-pub found : (Stands Other : List ℕ → List ℕ → Type 0) (IsTextLength : ℕ → Type 0) (text : List ℕ) (answer : Result (Vec ℕ Global) UnwrapFault) (o : Option ℕ)
-    (len : ℕ)
+pub found : {Z : Type 0} (Stands Other : List ℕ → List ℕ → Type 0) (IsTextLength : ℕ → Type 0) (text : List ℕ)
+    (answer : Result (Vec ℕ Z) UnwrapFault) (o : Option ℕ) (len : ℕ)
     → KeyLengthOf answer (Ok o) → o ≡ Some len
     → UnwrapAnswer IsTextLength Stands text answer
     → IfOk answer (λ key. (other : List ℕ) → Stands other text → other ≡ key.items)
@@ -35,7 +34,7 @@ found Stands Other IsTextLength text (Err Integrity) o len h e stands only_key o
 found Stands Other IsTextLength text (Err Memory) o len h e stands only_key other_form = cc
 
 -- no key stands with a text that was refused
-pub not_found : (Stands : List ℕ → List ℕ → Type 0) (text : List ℕ) (answer : Result (Vec ℕ Global) UnwrapFault) (o : Option ℕ)
+pub not_found : {Z : Type 0} (Stands : List ℕ → List ℕ → Type 0) (text : List ℕ) (answer : Result (Vec ℕ Z) UnwrapFault) (o : Option ℕ)
     → KeyLengthOf answer (Ok o) → ((len : ℕ) → o ≡ Some len → ⊥)
     → ((key : List ℕ) → Stands key text → IsOkUnless answer Memory)
     → NoKey Stands text

@@ -2,7 +2,6 @@
 use Rattle.std.proofs.Common.{rules, ◌≡◌, ℕ, ◌+◌, List, ◌++◌, length, take, drop, Result, Ok, Err, IsOk, IsOkUnless, IsErr, IsErrAnd, Vec, refl, sym, ap, subst}
 use Rattle.std.proofs.Common.{arith, length-append}
 use Rattle.std.proofs.lemmas.List.{drop_at}
-use Rattle.std.specs.declared.alloc.Global.{Global}
 use Rattle.block_pair.specs.Pair.{AreInverse}
 use Rattle.block_pair.specs.Words.{IsWord}
 use Rattle.key_wrap.specs.declared.faults.InPlaceFault.{InPlaceFault}
@@ -107,8 +106,8 @@ renamed L {Stands = Stands} {Other = Other} {text' = text'} {key = key} {answer 
     (subst (λ (t : List ℕ). Unwrapping (L (length t)) Stands Other t key answer) same u)
 
 -- where the call in the buffer refused a text of a legal length, no key stands with it, and the call that takes memory says so
-pub refused : (Stands : List ℕ → List ℕ → Type 0) (Legal : Type 0) {A : Type 0} (key : A → List ℕ) (text : List ℕ) (fault : InPlaceFault)
-    (answer : Result (Vec ℕ Global) UnwrapFault)
+pub refused : {Z : Type 0} (Stands : List ℕ → List ℕ → Type 0) (Legal : Type 0) {A : Type 0} (key : A → List ℕ) (text : List ℕ) (fault : InPlaceFault)
+    (answer : Result (Vec ℕ Z) UnwrapFault)
     → Legal → KeyAnswer Legal Stands text key (Err fault) → IsErr answer × IsErrAnd answer (λ e. e ≡ unwrap_fault fault)
     → (answer ≡ Err unwrap_faults.Integrity) × NoKey Stands text
 refused Stands Legal key text fault (Ok k) legal a r = let no = r.0 in cc

@@ -1,6 +1,5 @@
 -- The kind of a text.
 use Rattle.std.specs.Prelude.{◌≡◌, ℕ, List, length, Option, None, Some, Result, Ok, Err, Vec, vec_len}
-use Rattle.std.specs.declared.alloc.Global.{Global}
 use Rattle.key_wrap.specs.declared.faults.KindFault.{KindFault}
 use Rattle.key_wrap.specs.declared.faults.KindFault.TheVariants as kind_faults
 use Rattle.key_wrap.specs.declared.faults.UnwrapFault.{UnwrapFault}
@@ -19,7 +18,7 @@ IsKindOf E text (InPadded m) = (key : List ℕ) × (length key ≡ m) × Padded 
 IsKindOf E text Neither = NoKey (Plain E default_iv) text × NoKey (Padded E) text
 
 -- the length of the key that a call answered, or none where it refused the text, or want of memory
-abbrev pub KeyLengthOf : Result (Vec ℕ Global) UnwrapFault → Result (Option ℕ) KindFault → Type 0
+abbrev pub KeyLengthOf : {Z : Type 0} → Result (Vec ℕ Z) UnwrapFault → Result (Option ℕ) KindFault → Type 0
 KeyLengthOf (Ok key) len = len ≡ Ok (Some (vec_len key))
 KeyLengthOf (Err BadLength) len = len ≡ Ok None
 KeyLengthOf (Err Integrity) len = len ≡ Ok None

@@ -6,11 +6,11 @@ ghost use Rattle.std.specs.Prelude.{IfOk};
 ghost use Rattle.key_wrap.specs.Padded.{padded};
 
 use crate::lengths::MAX_KEY;
-use std::alloc::{AllocError, Global};
+use std::alloc::{AllocError, Allocator};
 
 // Room for the first word of the text, the key and its zero padding (none where the key fills its
 // words). Takes its memory in one growth.
-pub(crate) fn room_for(alloc: Global, key: &[u8]) -> Result<Vec<u8>, AllocError>
+pub(crate) fn room_for<A: Allocator>(alloc: A, key: &[u8]) -> Result<Vec<u8, A>, AllocError>
     requires { length key.now ≤ MAX_KEY }
     ensures { IfOk result (λ buffer. buffer.items ≡ replicate 8 0 ++ padded key.now) }
 {
@@ -24,7 +24,7 @@ pub(crate) fn room_for(alloc: Global, key: &[u8]) -> Result<Vec<u8>, AllocError>
 }
 
 // The first `len` bytes of key data behind the first word, cut out of the same buffer.
-pub(crate) fn key_of(mut buffer: Vec<u8>, len: usize) -> Vec<u8>
+pub(crate) fn key_of<A: Allocator>(mut buffer: Vec<u8, A>, len: usize) -> Vec<u8, A>
     requires { 8 + len ≤ vec_len buffer }
     ensures { result.items ≡ take len (drop 8 buffer.items) }
 {

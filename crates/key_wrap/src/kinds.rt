@@ -9,10 +9,11 @@ ghost use Rattle.key_wrap.specs.Kind.{IsKindOf, KeyLengthOf};
 
 use crate::faults::{KindFault, UnwrapFault};
 use crate::forms::Kind;
-use crate::padded::unwrap_padded;
-use crate::plain::unwrap;
+use crate::initial_value::InitialValue;
+use crate::padded::unwrap_padded_in;
+use crate::plain::unwrap_in;
 use block_pair::BlockPair;
-use std::alloc::Global;
+use std::alloc::{Allocator, Global};
 
 /// What `text` is under the pair: the wrapping of a key in one of the two forms, or in neither.
 ///
@@ -30,17 +31,39 @@ pub fn kind<B: BlockPair>(alloc: Global, pair: &B, text: &[u8]) -> Result<Kind, 
     ensures memory { result ≡ Err KindFault.Memory
         → IsPlainTextLength (length text.now) ⊎ IsPaddedTextLength (length text.now) }
 {
-    if let Some(len) = key_length(unwrap(alloc, pair, text))? {
+    kind_in(alloc, pair, text)
+}
+
+// `kind` on any allocator, for the same.
+pub(crate) fn kind_in<A: Allocator + Copy, B: BlockPair>(
+    alloc: A,
+    pair: &B,
+    text: &[u8],
+) -> Result<Kind, KindFault>
+    ensures answer { IfOk result (IsKindOf (B.encrypted pair.now) text.now) }
+    ensures plain { (key : List ℕ) → Plain (B.encrypted pair.now) default_iv key text.now
+        → IfOk result (λ kind. kind ≡ Kind.Plain (length key)) }
+    ensures padded { (key : List ℕ) → Padded (B.encrypted pair.now) key text.now
+        → IfOk result (λ kind. kind ≡ Kind.Padded (length key)) }
+    ensures neither { NoKey (Plain (B.encrypted pair.now) default_iv) text.now
+        → NoKey (Padded (B.encrypted pair.now)) text.now
+        → IfOk result (λ kind. kind ≡ Kind.Neither) }
+    ensures memory { result ≡ Err KindFault.Memory
+        → IsPlainTextLength (length text.now) ⊎ IsPaddedTextLength (length text.now) }
+{
+    if let Some(len) = key_length(unwrap_in(alloc, pair, &InitialValue::default(), text))? {
         return Ok(Kind::Plain(len));
     }
-    match key_length(unwrap_padded(alloc, pair, text))? {
+    match key_length(unwrap_padded_in(alloc, pair, text))? {
         Some(len) => Ok(Kind::Padded(len)),
         None => Ok(Kind::Neither),
     }
 }
 
 // The length of the key that was unwrapped, and `None` where the text was refused.
-fn key_length(answer: Result<Vec<u8>, UnwrapFault>) -> Result<Option<usize>, KindFault>
+fn key_length<A: Allocator>(
+    answer: Result<Vec<u8, A>, UnwrapFault>,
+) -> Result<Option<usize>, KindFault>
     ensures { KeyLengthOf answer result }
 {
     match answer {

@@ -11,13 +11,28 @@ use crate::faults::{UnwrapFault, WrapFault};
 use crate::in_place::{unwrap_padded_in_place, wrap_padded_in_place};
 use crate::lengths::{padded_length_ok, padded_text_length_ok};
 use block_pair::{BlockPair, Meter};
-use std::alloc::Global;
+use std::alloc::{Allocator, Global};
 
 /// The padded wrapping of `key` (RFC 5649, section 4.1): 8 bytes more than the key and its zero
 /// padding.
 ///
 /// `BadLength` where `padded_length_ok` says no, before any memory is taken; else `Memory` alone.
 pub fn wrap_padded<B: BlockPair>(alloc: Global, pair: &B, key: &[u8]) -> Result<Vec<u8>, WrapFault>
+    ensures bad_length { (result ≡ Err WrapFault.BadLength) ↔ ¬ IsPaddedKeyLength (length key.now) }
+    ensures memory { result ≡ Err WrapFault.Memory → IsPaddedKeyLength (length key.now) }
+    ensures answer { IfOk result (λ text. Padded (B.encrypted pair.now) key.now text.items) }
+    ensures only_text { IfOk result (λ text.
+        (other : List ℕ) → Padded (B.encrypted pair.now) key.now other → other ≡ text.items) }
+{
+    wrap_padded_in(alloc, pair, key)
+}
+
+// `wrap_padded` on any allocator, so that a test can refuse its growth.
+pub(crate) fn wrap_padded_in<A: Allocator, B: BlockPair>(
+    alloc: A,
+    pair: &B,
+    key: &[u8],
+) -> Result<Vec<u8, A>, WrapFault>
     ensures bad_length { (result ≡ Err WrapFault.BadLength) ↔ ¬ IsPaddedKeyLength (length key.now) }
     ensures memory { result ≡ Err WrapFault.Memory → IsPaddedKeyLength (length key.now) }
     ensures answer { IfOk result (λ text. Padded (B.encrypted pair.now) key.now text.items) }
@@ -42,6 +57,32 @@ pub fn unwrap_padded<B: BlockPair>(
     pair: &B,
     text: &[u8],
 ) -> Result<Vec<u8>, UnwrapFault>
+    ensures bad_length { (result ≡ Err UnwrapFault.BadLength)
+        ↔ ¬ IsPaddedTextLength (length text.now) }
+    ensures answer { UnwrapAnswer IsPaddedTextLength (Padded (B.encrypted pair.now))
+        text.now result }
+
+    // A wrapping is refused for want of memory alone.
+    ensures accepts { (key : List ℕ) → Padded (B.encrypted pair.now) key text.now
+        → IsOkUnless result UnwrapFault.Memory }
+    ensures only_key { IfOk result (λ key.
+        (other : List ℕ) → Padded (B.encrypted pair.now) other text.now → other ≡ key.items) }
+
+    // Wrapping the answer again gives the input.
+    ensures restores { IfOk result (λ key.
+        (other : List ℕ) → Padded (B.encrypted pair.now) key.items other → other ≡ text.now) }
+    ensures other_form { OnOk result (
+        (key : List ℕ) → ¬ Plain (B.encrypted pair.now) default_iv key text.now) }
+{
+    unwrap_padded_in(alloc, pair, text)
+}
+
+// `unwrap_padded` on any allocator, so that a test can refuse its growth.
+pub(crate) fn unwrap_padded_in<A: Allocator, B: BlockPair>(
+    alloc: A,
+    pair: &B,
+    text: &[u8],
+) -> Result<Vec<u8, A>, UnwrapFault>
     ensures bad_length { (result ≡ Err UnwrapFault.BadLength)
         ↔ ¬ IsPaddedTextLength (length text.now) }
     ensures answer { UnwrapAnswer IsPaddedTextLength (Padded (B.encrypted pair.now))

@@ -12,7 +12,7 @@ use crate::in_place::{unwrap_buffer, wrap_buffer};
 use crate::initial_value::InitialValue;
 use crate::lengths::{key_length_ok, text_length_ok};
 use block_pair::{BlockPair, Meter};
-use std::alloc::Global;
+use std::alloc::{Allocator, Global};
 
 /// The plain wrapping of `key` (RFC 3394, section 2.2.1): 8 bytes more than the key.
 ///
@@ -26,7 +26,7 @@ pub fn wrap<B: BlockPair>(alloc: Global, pair: &B, key: &[u8]) -> Result<Vec<u8>
         (other : List ℕ) → Plain (B.encrypted pair.now) default_iv key.now other
         → other ≡ text.items) }
 {
-    wrap_with(alloc, pair, &InitialValue::default(), key)
+    wrap_in(alloc, pair, &InitialValue::default(), key)
 }
 
 /// The plain wrapping of `key` under this initial value (RFC 3394, sections 2.2.1 and 2.2.3.2): 8
@@ -41,8 +41,24 @@ pub fn wrap_with<B: BlockPair>(
 ) -> Result<Vec<u8>, WrapFault>
     ensures bad_length { (result ≡ Err WrapFault.BadLength) ↔ ¬ IsPlainKeyLength (length key.now) }
     ensures memory { result ≡ Err WrapFault.Memory → IsPlainKeyLength (length key.now) }
-    ensures answer { IfOk result (λ text.
-        Plain (B.encrypted pair.now) iv.now key.now text.items) }
+    ensures answer { IfOk result (λ text. Plain (B.encrypted pair.now) iv.now key.now text.items) }
+    ensures only_text { IfOk result (λ text.
+        (other : List ℕ) → Plain (B.encrypted pair.now) iv.now key.now other
+        → other ≡ text.items) }
+{
+    wrap_in(alloc, pair, iv, key)
+}
+
+// `wrap_with` on any allocator, so that a test can refuse its growth.
+pub(crate) fn wrap_in<A: Allocator, B: BlockPair>(
+    alloc: A,
+    pair: &B,
+    iv: &InitialValue,
+    key: &[u8],
+) -> Result<Vec<u8, A>, WrapFault>
+    ensures bad_length { (result ≡ Err WrapFault.BadLength) ↔ ¬ IsPlainKeyLength (length key.now) }
+    ensures memory { result ≡ Err WrapFault.Memory → IsPlainKeyLength (length key.now) }
+    ensures answer { IfOk result (λ text. Plain (B.encrypted pair.now) iv.now key.now text.items) }
     ensures only_text { IfOk result (λ text.
         (other : List ℕ) → Plain (B.encrypted pair.now) iv.now key.now other
         → other ≡ text.items) }
@@ -79,7 +95,7 @@ pub fn unwrap<B: BlockPair>(alloc: Global, pair: &B, text: &[u8]) -> Result<Vec<
     ensures other_form { OnOk result (
         (key : List ℕ) → ¬ Padded (B.encrypted pair.now) key text.now) }
 {
-    unwrap_with(alloc, pair, &InitialValue::default(), text)
+    unwrap_in(alloc, pair, &InitialValue::default(), text)
 }
 
 /// The key whose plain wrapping under this initial value is `text` (RFC 3394, sections 2.2.2 and
@@ -93,6 +109,35 @@ pub fn unwrap_with<B: BlockPair>(
     iv: &InitialValue,
     text: &[u8],
 ) -> Result<Vec<u8>, UnwrapFault>
+    ensures bad_length { (result ≡ Err UnwrapFault.BadLength)
+        ↔ ¬ IsPlainTextLength (length text.now) }
+    ensures answer { UnwrapAnswer IsPlainTextLength (Plain (B.encrypted pair.now) iv.now)
+        text.now result }
+
+    // A wrapping is refused for want of memory alone.
+    ensures accepts { (key : List ℕ) → Plain (B.encrypted pair.now) iv.now key text.now
+        → IsOkUnless result UnwrapFault.Memory }
+    ensures only_key { IfOk result (λ key.
+        (other : List ℕ) → Plain (B.encrypted pair.now) iv.now other text.now
+        → other ≡ key.items) }
+
+    // Wrapping the answer again gives the input.
+    ensures restores { IfOk result (λ key.
+        (other : List ℕ) → Plain (B.encrypted pair.now) iv.now key.items other
+        → other ≡ text.now) }
+    ensures other_form { OnOk result (
+        (key : List ℕ) → ¬ Padded (B.encrypted pair.now) key text.now) }
+{
+    unwrap_in(alloc, pair, iv, text)
+}
+
+// `unwrap_with` on any allocator, so that a test can refuse its growth.
+pub(crate) fn unwrap_in<A: Allocator, B: BlockPair>(
+    alloc: A,
+    pair: &B,
+    iv: &InitialValue,
+    text: &[u8],
+) -> Result<Vec<u8, A>, UnwrapFault>
     ensures bad_length { (result ≡ Err UnwrapFault.BadLength)
         ↔ ¬ IsPlainTextLength (length text.now) }
     ensures answer { UnwrapAnswer IsPlainTextLength (Plain (B.encrypted pair.now) iv.now)

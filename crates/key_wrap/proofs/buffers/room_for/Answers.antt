@@ -4,7 +4,7 @@ use Rattle.key_wrap.proofs.Filling.{cleared_word, filled}
 use Rattle.key_wrap.proofs.buffers.room_for.Goals as goal
 
 pub returns : goal.returns
-returns c =
+returns g c =
     let next = c.next_multiple_of-len.ensures in
     let word = rw c.unwrap.ensures at c.resize.ensures.items in
     let key = rw c.unwrap-2.ensures at c.extend_from_slice.ensures.items in

@@ -2,13 +2,13 @@
 use Rattle.key_wrap.proofs.plain.unwrap.Goals as goal
 
 pub returns-clause-answer : goal.returns-clause-answer
-returns-clause-answer g c = rw c.default.ensures at c.unwrap_with.ensures.answer
+returns-clause-answer g c = rw c.default.ensures at c.unwrap_in.ensures.answer
 
 pub returns-clause-accepts : goal.returns-clause-accepts
-returns-clause-accepts g c = rw c.default.ensures at c.unwrap_with.ensures.accepts
+returns-clause-accepts g c = rw c.default.ensures at c.unwrap_in.ensures.accepts
 
 pub returns-clause-only_key : goal.returns-clause-only_key
-returns-clause-only_key g c = rw c.default.ensures at c.unwrap_with.ensures.only_key
+returns-clause-only_key g c = rw c.default.ensures at c.unwrap_in.ensures.only_key
 
 pub returns-clause-restores : goal.returns-clause-restores
-returns-clause-restores g c = rw c.default.ensures at c.unwrap_with.ensures.restores
+returns-clause-restores g c = rw c.default.ensures at c.unwrap_in.ensures.restores

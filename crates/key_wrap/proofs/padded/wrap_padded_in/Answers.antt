@@ -3,7 +3,7 @@ use Rattle.std.proofs.Common.{rules, ◌≡◌, ℕ, List, replicate, ◌++◌, 
 use Rattle.key_wrap.specs.Padded.{padded}
 use Rattle.key_wrap.proofs.PlainForm.{written_back}
 use Rattle.key_wrap.proofs.InPlaceForm.{padded_key_in}
-use Rattle.key_wrap.proofs.padded.wrap_padded.Goals as goal
+use Rattle.key_wrap.proofs.padded.wrap_padded_in.Goals as goal
 
 pub returns : goal.returns
 returns g c =

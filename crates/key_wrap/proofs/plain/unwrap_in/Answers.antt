@@ -6,7 +6,7 @@ use Rattle.key_wrap.specs.Plain.{Plain}
 use Rattle.key_wrap.proofs.FormLengths.{plain_text_legal}
 use Rattle.key_wrap.proofs.PlainForm.{written_back}
 use Rattle.key_wrap.proofs.Unwrappings.{refused}
-use Rattle.key_wrap.proofs.plain.unwrap_with.Goals as goal
+use Rattle.key_wrap.proofs.plain.unwrap_in.Goals as goal
 
 pub returns-then-not-text_length_ok-clause-accepts : goal.returns-then-not-text_length_ok-clause-accepts
 returns-then-not-text_length_ok-clause-accepts g c = λ key h. let legal = c.text_length_ok.ensures.1 (plain_text_legal h) in cc

@@ -6,7 +6,7 @@ use Rattle.key_wrap.specs.InPlace.{key_in}
 use Rattle.key_wrap.proofs.FormLengths.{padded_text_legal}
 use Rattle.key_wrap.proofs.PlainForm.{written_back}
 use Rattle.key_wrap.proofs.Unwrappings.{refused}
-use Rattle.key_wrap.proofs.padded.unwrap_padded.Goals as goal
+use Rattle.key_wrap.proofs.padded.unwrap_padded_in.Goals as goal
 
 pub returns-then-not-padded_text_length_ok-clause-accepts : goal.returns-then-not-padded_text_length_ok-clause-accepts
 returns-then-not-padded_text_length_ok-clause-accepts g c = λ key h.

@@ -3,7 +3,7 @@ use Rattle.std.proofs.Common.{rules, ◌≡◌, ℕ, List, drop, replicate, ◌+
 use Rattle.std.proofs.lemmas.List.{drop_at}
 use Rattle.key_wrap.specs.Plain.{Plain}
 use Rattle.key_wrap.proofs.PlainForm.{written_back, padded_whole, plain_only_text}
-use Rattle.key_wrap.proofs.plain.wrap_with.Goals as goal
+use Rattle.key_wrap.proofs.plain.wrap_in.Goals as goal
 
 pub returns : goal.returns
 returns g c =
