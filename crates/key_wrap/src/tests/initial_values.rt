@@ -1,19 +1,21 @@
 //! Initial values other than the default, over the drill block.
 
-use super::in_place::three;
-use super::{DATA, TEXT, filled, spelled};
 use crate::*;
 use block_pair::{Meter, SwapHalves};
 use std::test::Fail;
 
-const OTHER: [u8; 8] = *b"\x01\x23\x45\x67\x89\xAB\xCD\xEF";
+/// One that both ends may agree on.
+pub const OTHER: [u8; 8] = *b"\x01\x23\x45\x67\x89\xAB\xCD\xEF";
 
-// The plain text of the key data `DATA` under this initial value.
-const OTHER_TEXT: [u64; 3] = [
-    0x0123_4567_89AB_CDEF,
-    0x0011_2233_4455_667F,
-    0x8899_AABB_CCDD_EEFB,
-];
+const KEY: [u8; 16] = *b"\x00\x11\x22\x33\x44\x55\x66\x77\x88\x99\xAA\xBB\xCC\xDD\xEE\xFF";
+
+// The plain text of the key under this value.
+const TEXT: [u8; 24] = *b"\x01\x23\x45\x67\x89\xAB\xCD\xEF\
+    \x00\x11\x22\x33\x44\x55\x66\x7F\x88\x99\xAA\xBB\xCC\xDD\xEE\xFB";
+
+// And under the default.
+const DEFAULT_TEXT: [u8; 24] = *b"\xA6\xA6\xA6\xA6\xA6\xA6\xA6\xA6\
+    \x00\x11\x22\x33\x44\x55\x66\x7F\x88\x99\xAA\xBB\xCC\xDD\xEE\xFB";
 
 #[test]
 fn leaves_reserved_values_to_the_padded_form(rt: HostRuntime) -> Result<(), Fail> {
@@ -34,64 +36,43 @@ fn leaves_reserved_values_to_the_padded_form(rt: HostRuntime) -> Result<(), Fail
 fn wraps_under_another_initial_value_and_back(rt: HostRuntime) -> Result<(), Fail> {
     let alloc = rt.alloc();
     let iv = InitialValue::new(OTHER)?;
-    let key = spelled(alloc, &DATA)?;
-    let text = spelled(alloc, &OTHER_TEXT)?;
-    assert_eq!(rt;
-        wrap_with(alloc, &SwapHalves, &iv, &key)?.as_slice(),
-        text.as_slice()
-    );
-    assert_eq!(rt;
-        unwrap_with(alloc, &SwapHalves, &iv, &text)?.as_slice(),
-        key.as_slice()
-    );
-    assert_eq!(rt;
-        unwrap(alloc, &SwapHalves, &text).err(),
-        Some(UnwrapFault::Integrity)
-    );
-    assert_eq!(rt;
-        unwrap_with(alloc, &SwapHalves, &iv, &spelled(alloc, &TEXT)?).err(),
-        Some(UnwrapFault::Integrity)
-    );
+    let text = wrap_with(alloc, &SwapHalves, &iv, &KEY)?;
+    assert!(rt; text.as_slice() == TEXT.as_slice());
+    let key = unwrap_with(alloc, &SwapHalves, &iv, &TEXT)?;
+    assert!(rt; key.as_slice() == KEY.as_slice());
+    let refused = Some(UnwrapFault::Integrity);
+    assert!(rt; unwrap(alloc, &SwapHalves, &TEXT).err() == refused);
+    assert!(rt; unwrap_with(alloc, &SwapHalves, &iv, &DEFAULT_TEXT).err() == refused);
     Ok(())
 }
 
 #[test]
 fn wraps_under_another_initial_value_into_a_buffer(rt: HostRuntime) -> Result<(), Fail> {
     let iv = InitialValue::new(OTHER)?;
-    let data = three([0, DATA[0], DATA[1]]);
     let mut meter = Meter::new(&SwapHalves);
     let mut text = [0x5A; 24];
-    assert_eq!(rt;
-        wrap_into_with(&mut meter, &iv, &data[8..], &mut text),
-        Ok(())
-    );
-    assert_eq!(rt; text, three(OTHER_TEXT));
-    assert_eq!(rt; meter.count(), 12);
+    assert!(rt; wrap_into_with(&mut meter, &iv, &KEY, &mut text) == Ok(()));
+    assert!(rt; text == TEXT && meter.count() == 12);
     let mut key = [0x5A; 16];
-    assert_eq!(rt; unwrap_into_with(&mut meter, &iv, &text, &mut key), Ok(()));
-    assert_eq!(rt; key.as_slice(), &data[8..]);
-    assert_eq!(rt; meter.count(), 24);
-    assert_eq!(rt;
-        unwrap_into(&mut meter, &text, &mut key),
-        Err(InPlaceFault::Integrity)
-    );
-    assert_eq!(rt; key, [0; 16]);
-    assert_eq!(rt; meter.count(), 36);
+    assert!(rt; unwrap_into_with(&mut meter, &iv, &text, &mut key) == Ok(()));
+    assert!(rt; key == KEY && meter.count() == 24);
+    let refused = Err(InPlaceFault::Integrity);
+    assert!(rt; unwrap_into(&mut meter, &text, &mut key) == refused);
+    assert!(rt; key == [0; 16] && meter.count() == 36);
     Ok(())
 }
 
-// Each legal length to 520 bytes, and a few beyond.
+// Each legal length to 520 bytes, and the largest.
 #[test]
 fn gives_up_for_memory_at_no_length_under_another_value(rt: HostRuntime) -> Result<(), Fail> {
     let alloc = rt.alloc();
     let iv = InitialValue::new(OTHER)?;
-    for len in (1..=520).chain(4_096..=4_104) {
-        if key_length_ok(len) {
-            let key = filled(alloc, len)?;
-            let text = wrap_with(alloc, &SwapHalves, &iv, &key)?;
-            let again = unwrap_with(alloc, &SwapHalves, &iv, &text)?;
-            assert!(rt; again.as_slice() == key.as_slice(), "{len} bytes");
-        }
+    let key = vec![in alloc; 0x5A; MAX_KEY]?;
+    for len in (16..=520).step_by(8).chain([MAX_KEY]) {
+        let key = key.get(..len).unwrap_or(&[]);
+        let text = wrap_with(alloc, &SwapHalves, &iv, key)?;
+        let again = unwrap_with(alloc, &SwapHalves, &iv, &text)?;
+        assert!(rt; again.as_slice() == key, "{len} bytes");
     }
     Ok(())
 }

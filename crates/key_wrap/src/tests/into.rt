@@ -1,106 +1,112 @@
 //! The calls from one of the caller's buffers into another, over the drill block.
 
-use super::in_place::three;
-use super::{DATA, NINE, TEXT, filled};
+use super::{UNWORKED, WORKED, spelled};
 use crate::*;
 use block_pair::{Meter, SwapHalves};
 use std::test::Fail;
 
-const BAD_LENGTH: Result<(), InPlaceFault> = Err(InPlaceFault::BadLength);
+fn wrap_there(
+    meter: &mut Meter<SwapHalves>,
+    form: Form,
+    key: &[u8],
+    text: &mut [u8],
+) -> Result<(), InPlaceFault> {
+    match form {
+        Form::Plain => wrap_into(meter, key, text),
+        Form::Padded => wrap_padded_into(meter, key, text),
+    }
+}
+
+// The answer is the bytes of the key.
+fn unwrap_there(
+    meter: &mut Meter<SwapHalves>,
+    form: Form,
+    text: &[u8],
+    key: &mut [u8],
+) -> Result<usize, InPlaceFault> {
+    match form {
+        Form::Plain => {
+            unwrap_into(meter, text, key)?;
+            Ok(key.len())
+        }
+        Form::Padded => unwrap_padded_into(meter, text, key),
+    }
+}
 
 #[test]
 fn wraps_and_unwraps_into_a_buffer(rt: HostRuntime) -> Result<(), Fail> {
-    let data = three([0, DATA[0], DATA[1]]);
-    let mut meter = Meter::new(&SwapHalves);
-    let mut text = [0x5A; 24];
-    assert_eq!(rt; wrap_into(&mut meter, &data[8..], &mut text), Ok(()));
-    assert_eq!(rt; text, three(TEXT));
-    assert_eq!(rt; meter.count(), 12);
-    let mut key = [0x5A; 16];
-    assert_eq!(rt; unwrap_into(&mut meter, &text, &mut key), Ok(()));
-    assert_eq!(rt; key.as_slice(), &data[8..]);
-    assert_eq!(rt; meter.count(), 24);
-    text[0] = 0xA7;
-    assert_eq!(rt;
-        unwrap_into(&mut meter, &text, &mut key),
-        Err(InPlaceFault::Integrity)
-    );
-    assert_eq!(rt; key, [0; 16]);
-    assert_eq!(rt; meter.count(), 36);
+    for (form, key, words, calls) in WORKED {
+        let mut meter = Meter::new(&SwapHalves);
+        let want = spelled(rt.alloc(), words)?;
+        let mut text = vec![in rt.alloc(); 0x5A; want.len()]?;
+        let wraps = wrap_there(&mut meter, form, key, &mut text);
+        assert!(rt;
+            wraps == Ok(()) && text == want,
+            "wraps {} bytes",
+            key.len()
+        );
+        assert!(rt; meter.count() == calls, "{} bytes", key.len());
+        let room = key.len().next_multiple_of(8);
+        let mut out = vec![in rt.alloc(); 0x5A; room]?;
+        let unwraps = unwrap_there(&mut meter, form, &text, &mut out);
+        let mut padded = Vec::from_slice(rt.alloc(), key)?;
+        padded.resize(room, 0)?;
+        assert!(rt;
+            unwraps == Ok(key.len()) && out == padded,
+            "unwraps {} bytes",
+            key.len()
+        );
+        assert!(rt; meter.count() == 2 * calls, "{} bytes", key.len());
+    }
     Ok(())
 }
 
 #[test]
-fn wraps_and_unwraps_padded_into_a_buffer(rt: HostRuntime) -> Result<(), Fail> {
-    let nine = *b"\x11\x22\x33\x44\x55\x66\x77\x88\x99";
-    let mut meter = Meter::new(&SwapHalves);
-    let mut text = [0x5A; 24];
-    assert_eq!(rt; wrap_padded_into(&mut meter, &nine, &mut text), Ok(()));
-    assert_eq!(rt; text, three(NINE));
-    assert_eq!(rt; meter.count(), 12);
-    let mut key = [0x5A; 16];
-    assert_eq!(rt; unwrap_padded_into(&mut meter, &text, &mut key), Ok(9));
-    assert_eq!(rt; key, *b"\x11\x22\x33\x44\x55\x66\x77\x88\x99\0\0\0\0\0\0\0");
-    assert_eq!(rt; meter.count(), 24);
-    text[23] = 5;
-    assert_eq!(rt;
-        unwrap_padded_into(&mut meter, &text, &mut key),
-        Err(InPlaceFault::Integrity)
-    );
-    assert_eq!(rt; key, [0; 16]);
-    assert_eq!(rt; meter.count(), 36);
+fn clears_the_key_of_a_refused_text(rt: HostRuntime) -> Result<(), Fail> {
+    for (form, words, what) in UNWORKED {
+        let mut meter = Meter::new(&SwapHalves);
+        let text = spelled(rt.alloc(), words)?;
+        let room = text.len().saturating_sub(8);
+        let mut key = vec![in rt.alloc(); 0x5A; room]?;
+        let answer = unwrap_there(&mut meter, form, &text, &mut key);
+        assert!(rt; answer == Err(InPlaceFault::Integrity), "{what}");
+        assert!(rt; key == vec![in rt.alloc(); 0; room]?, "{what}");
+    }
     Ok(())
 }
 
-#[test]
-fn wraps_and_unwraps_one_padded_word_into_a_buffer(rt: HostRuntime) -> Result<(), Fail> {
-    let mut meter = Meter::new(&SwapHalves);
-    let mut text = [0x5A; 16];
-    assert_eq!(rt; wrap_padded_into(&mut meter, b"ForPasi", &mut text), Ok(()));
-    assert_eq!(rt; text, *b"ForPasi\x00\xA6\x59\x59\xA6\x00\x00\x00\x07");
-    let mut key = [0x5A; 8];
-    assert_eq!(rt; unwrap_padded_into(&mut meter, &text, &mut key), Ok(7));
-    assert_eq!(rt; key, *b"ForPasi\x00");
-    assert_eq!(rt; meter.count(), 2);
-    Ok(())
-}
-
-// The lengths of a key and of a text that go together in no call.
 #[test]
 fn keeps_the_other_buffer_at_a_bad_length(rt: HostRuntime) -> Result<(), Fail> {
     let mut meter = Meter::new(&SwapHalves);
-    for (m, len) in [
-        (0, 8),
-        (0, 16),
-        (8, 24),
-        (9, 16),
-        (9, 17),
-        (9, 32),
-        (16, 23),
-        (16, 25),
-        (24, 24),
-        (1_048_577, 1_048_592),
-        (1_048_584, 1_048_592),
+    // The bytes of a key and of a text, which do not go together.
+    for (form, m, len) in [
+        (Form::Plain, 8, 16),
+        (Form::Plain, 15, 24),
+        (Form::Plain, 16, 23),
+        (Form::Plain, 16, 25),
+        (Form::Plain, 24, 24),
+        (Form::Plain, 1_048_584, 1_048_592),
+        (Form::Padded, 0, 8),
+        (Form::Padded, 0, 16),
+        (Form::Padded, 9, 16),
+        (Form::Padded, 9, 32),
+        (Form::Padded, 1_048_577, 1_048_592),
     ] {
-        let (key, text) = (filled(rt.alloc(), m)?, filled(rt.alloc(), len)?);
-        let (mut new_key, mut new_text) = (filled(rt.alloc(), m)?, filled(rt.alloc(), len)?);
-        let wraps = wrap_into(&mut meter, &key, &mut new_text);
-        let unwraps = unwrap_into(&mut meter, &text, &mut new_key);
-        let pads = wrap_padded_into(&mut meter, &key, &mut new_text);
-        let unpads = unwrap_padded_into(&mut meter, &text, &mut new_key);
-        assert_eq!(rt;
-            (wraps, unwraps),
-            (BAD_LENGTH, BAD_LENGTH),
-            "{m} and {len} bytes"
+        let given = vec![in rt.alloc(); 0x5A; len]?;
+        let key = vec![in rt.alloc(); 0x5A; m]?;
+        let mut text = vec![in rt.alloc(); 0x5A; len]?;
+        let mut out = vec![in rt.alloc(); 0x5A; m]?;
+        let wraps = wrap_there(&mut meter, form, &key, &mut text);
+        assert!(rt;
+            wraps == Err(InPlaceFault::BadLength) && text == given,
+            "{m} into {len}"
         );
-        assert_eq!(rt;
-            (pads, unpads.err()),
-            (BAD_LENGTH, BAD_LENGTH.err()),
-            "{m} and {len} bytes"
+        let unwraps = unwrap_there(&mut meter, form, &text, &mut out);
+        assert!(rt;
+            unwraps == Err(InPlaceFault::BadLength) && out == key,
+            "{len} into {m}"
         );
-        assert!(rt; new_key.as_slice() == key.as_slice());
-        assert!(rt; new_text.as_slice() == text.as_slice());
     }
-    assert_eq!(rt; meter.count(), 0);
+    assert!(rt; meter.count() == 0);
     Ok(())
 }

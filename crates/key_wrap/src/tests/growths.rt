@@ -1,0 +1,116 @@
+//! Heaps of every size: a call takes its memory once, for a buffer of the text's length, and before
+//! the first block. A refused one answers Memory and has given its pair no block.
+
+use super::doubles::Tally;
+use super::initial_values::OTHER;
+use crate::kinds::kind_in;
+use crate::padded::{unwrap_padded_in, wrap_padded_in};
+use crate::plain::{unwrap_in, wrap_in};
+use crate::*;
+use block_pair::SwapHalves;
+use linked_list_allocator::LocalHeap;
+use std::test::Fail;
+
+// A heap's least block.
+const STEP: usize = 16;
+
+// A key in both forms, with its text, of whole blocks of a heap, and the block calls for it.
+const KEY: usize = 520;
+
+const TEXT: usize = 528;
+
+const BLOCKS: u64 = 390;
+
+#[test]
+fn wraps_after_one_growth(rt: HostRuntime) -> Result<(), Fail> {
+    let key = vec![in rt.alloc(); 0x5A; KEY]?;
+    let iv = InitialValue::new(OTHER)?;
+    let tally = Tally::new();
+    for size in (0..=TEXT).step_by(STEP) {
+        let heap = LocalHeap::new(rt.alloc(), size)?;
+        let (fault, blocks) = if size < TEXT {
+            (Some(WrapFault::Memory), 0)
+        } else {
+            (None, BLOCKS)
+        };
+        let answer = wrap_in(&heap, &tally, &iv, &key).err();
+        assert!(rt;
+            answer == fault && tally.take() == blocks,
+            "a heap of {size} bytes"
+        );
+        let answer = wrap_padded_in(&heap, &tally, &key).err();
+        assert!(rt;
+            answer == fault && tally.take() == blocks,
+            "a heap of {size} bytes, padded"
+        );
+    }
+    Ok(())
+}
+
+#[test]
+fn unwraps_after_one_growth(rt: HostRuntime) -> Result<(), Fail> {
+    let key = vec![in rt.alloc(); 0x5A; KEY]?;
+    let iv = InitialValue::new(OTHER)?;
+    let plain = wrap_with(rt.alloc(), &SwapHalves, &iv, &key)?;
+    let padded = wrap_padded(rt.alloc(), &SwapHalves, &key)?;
+    let tally = Tally::new();
+    for size in (0..=TEXT).step_by(STEP) {
+        let heap = LocalHeap::new(rt.alloc(), size)?;
+        let (fault, blocks) = if size < TEXT {
+            (Some(UnwrapFault::Memory), 0)
+        } else {
+            (None, BLOCKS)
+        };
+        let answer = unwrap_in(&heap, &tally, &iv, &plain).err();
+        assert!(rt;
+            answer == fault && tally.take() == blocks,
+            "a heap of {size} bytes"
+        );
+        let answer = unwrap_padded_in(&heap, &tally, &padded).err();
+        assert!(rt;
+            answer == fault && tally.take() == blocks,
+            "a heap of {size} bytes, padded"
+        );
+    }
+    Ok(())
+}
+
+// It unwraps in the plain form, and where that is refused in the padded form, in the same memory.
+#[test]
+fn names_the_kind_after_its_growths(rt: HostRuntime) -> Result<(), Fail> {
+    let key = vec![in rt.alloc(); 0x5A; KEY]?;
+    let plain = wrap(rt.alloc(), &SwapHalves, &key)?;
+    let padded = wrap_padded(rt.alloc(), &SwapHalves, &key)?;
+    let tally = Tally::new();
+    for size in (0..TEXT).step_by(STEP) {
+        let heap = LocalHeap::new(rt.alloc(), size)?;
+        let plain_kind = kind_in(&heap, &tally, &plain);
+        let padded_kind = kind_in(&heap, &tally, &padded);
+        assert!(rt;
+            plain_kind == Err(KindFault::Memory) && padded_kind == plain_kind,
+            "{size} bytes"
+        );
+        assert!(rt; tally.take() == 0, "{size} bytes");
+    }
+    let heap = LocalHeap::new(rt.alloc(), TEXT)?;
+    assert!(rt; kind_in(&heap, &tally, &plain) == Ok(Kind::Plain(KEY)));
+    assert!(rt; tally.take() == BLOCKS);
+    assert!(rt; kind_in(&heap, &tally, &padded) == Ok(Kind::Padded(KEY)));
+    assert!(rt; tally.take() == 2 * BLOCKS);
+    Ok(())
+}
+
+#[test]
+fn takes_no_memory_at_an_illegal_length(rt: HostRuntime) -> Result<(), Fail> {
+    let heap = LocalHeap::new(rt.alloc(), 0)?;
+    let iv = InitialValue::default();
+    let tally = Tally::new();
+    let bytes = [0x5A; 25];
+    assert!(rt; wrap_in(&heap, &tally, &iv, &bytes).err() == Some(WrapFault::BadLength));
+    assert!(rt; unwrap_in(&heap, &tally, &iv, &bytes).err() == Some(UnwrapFault::BadLength));
+    assert!(rt; wrap_padded_in(&heap, &tally, &[]).err() == Some(WrapFault::BadLength));
+    assert!(rt; unwrap_padded_in(&heap, &tally, &bytes).err() == Some(UnwrapFault::BadLength));
+    assert!(rt; kind_in(&heap, &tally, &bytes) == Ok(Kind::Neither));
+    assert!(rt; tally.take() == 0);
+    Ok(())
+}
