@@ -15,8 +15,8 @@ echo "0f${text16#1f}" >wrong.hex
 echo 0g >digit.hex
 echo 012 >odd.hex
 zeros 15 >kek15.hex
-zeros 32769 >long.hex
-head -c 65536 /dev/zero | tr '\0' ' ' >blank.hex
+zeros 2097153 >long.hex
+head -c 4194304 /dev/zero | tr '\0' ' ' >blank.hex
 echo plain 16 >plain16
 echo "$drilled" >drilled
 echo 466f725061736900a65959a600000007 >drilled7

@@ -2,13 +2,22 @@
 # Runs the built program with each of its allocations failing in turn, for each command and for
 # a refusal of each kind, the reading of the command line included. Each run has to end with
 # status 7, `keywrap: out of memory` and nothing on standard output, or with the answer that it
-# has with ample memory. Then it runs the same in ever more memory, from where it starts at all.
+# has with ample memory. Then it runs, in the same way, the tests refuses_each_growth_.. of the test
+# program: they say of each call that it answers Memory and has written nothing, or answers all. Last
+# it runs the commands in ever more memory, from where the program starts at all.
 #
-# usage: tests/allocations.sh        (KEYWRAP=PATH tries another program, as an installed one)
+# usage: tests/allocations.sh        (KEYWRAP=PATH tries another program, as an installed one, and
+#                                     TESTS=PATH another test program)
 #
-# The first part wants a C compiler, cc or the clang of the kit beside rt, and is skipped without.
+# The first two parts want a C compiler, cc or the clang of the kit beside rt, and the second also the
+# test program that `rt test` and `rt ci` leave; they are skipped without.
 
 set -u
+# The test program, from the folder that this was started in.
+case ${TESTS:-} in
+'' | /*) ;;
+*) TESTS=$PWD/$TESTS ;;
+esac
 # shellcheck source=scripts/program.sh
 . "${BASH_SOURCE[0]%/*}/../scripts/program.sh"
 # shellcheck source=scripts/expect.sh
@@ -79,15 +88,52 @@ fails_each() {
     verdict "each of $((call - 1)) allocations of $1" "${problem:0:600}"
 }
 
+skipped=0
+counted() { skipped=$((skipped + 1)); }
+has_compiler=true
 if compiled; then
     each fails_each
     worded fails_each
 else
-    skipped=0
-    counted() { skipped=$((skipped + 1)); }
+    has_compiler=false
     each counted
     worded counted
+    counted
     echo "$skipped skipped: each allocation failing in turn wants a C compiler (apt-get install gcc)"
+fi
+
+### Each growth of a call refused in turn, alone and with all that come after it
+
+# holds_at_each TEST: one row, of as many runs of a test as there are allocations, twice. The test
+# fails where a call answers anything but Memory, or all that it answers with ample memory, and
+# where a call that answers Memory has written something.
+holds_at_each() {
+    local call from problem=''
+    for from in '' +; do
+        for ((call = 1; ; call++)); do
+            LD_PRELOAD=./fail_alloc.so FAIL_ALLOC=$call$from "$tests" "$1" >out 2>err 9>met
+            status=$?
+            [ -s met ] || break
+            [ "$status" = 0 ] ||
+                problem="$problem; allocation $call$from: status $status, error $(shown err)"
+        done
+        [ "$status" = 0 ] || problem="$problem; $((call - 1)) allocations: status $status, error $(shown err)"
+        [ $call -gt 1 ] || problem="$problem; no allocation was met"
+    done
+    verdict "each of $((call - 1)) growths of $1" "${problem:0:600}"
+}
+
+tests=${TESTS:-$root/crates/keywrap_cli/out/keywrap_cli_tests}
+if ! $has_compiler; then
+    :
+elif [ ! -x "$tests" ]; then
+    echo "1 skipped: each growth of a call refused in turn wants the test program (rt test in crates/keywrap_cli)"
+else
+    growths=$("$tests" --list | sed -n 's/^\(.*::refuses_each_growth_.*\): test$/\1/p')
+    [ -n "$growths" ] || verdict 'each growth of a call' "no test refuses_each_growth_.. in $tests"
+    for test in $growths; do
+        holds_at_each "$test"
+    done
 fi
 
 ### Ever more memory

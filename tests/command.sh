@@ -43,7 +43,6 @@ refuses 'drill back of a changed byte' 5 "$integrity" drill --unwrap a7${drilled
 refuses 'drill of nothing' 4 "$bad_length" drill ''
 refuses 'drill of a bad digit' 6 'input: no hex digit at byte 1' drill 0g
 refuses 'drill of an odd number of digits' 6 'input: odd number of hex digits' drill 001
-refuses 'drill of 65,538 bytes of text' 6 'input: too long' drill "$(zeros 32769)"
 
 ### The vectors of RFC 3394, section 4, and RFC 5649, section 6, in hex
 
@@ -81,18 +80,26 @@ prints 'wraps hex under a raw KEK' "$text16\n" wrap --raw-kek --kek kek16.raw <<
 prints 'wraps raw, padded' "$(raw $text7)" wrap --padded --raw --kek kek5649.hex < <(bytes $key7)
 prints 'unwraps raw, padded' "$(raw $key7)" unwrap --padded --raw --kek kek5649.hex < <(bytes $text7)
 
-# goes_round BYTES [FLAG]
+# goes_round BYTES [FLAG]: a random key is wrapped and unwrapped, raw and in hex.
 goes_round() {
     local problem=''
-    head -c "$1" /dev/zero | tr '\0' k >long.raw
+    head -c "$1" /dev/urandom >long.raw
     "$keywrap" wrap --raw --kek kek32.hex "${@:2}" <long.raw |
         "$keywrap" unwrap --raw --kek kek32.hex "${@:2}" >back.raw
-    cmp -s back.raw long.raw || problem='the key is another'
+    cmp -s back.raw long.raw || problem='the raw key is another'
+    # The digits stand apart in this file, on many lines.
+    od -An -v -tx1 <long.raw >long.digits
+    "$keywrap" wrap --kek kek32.hex "${@:2}" <long.digits |
+        "$keywrap" unwrap --kek kek32.hex "${@:2}" >back.hex
+    cmp -s back.hex <(tr -d ' \n' <long.digits; echo) || problem="$problem; the key in hex is another"
     verdict "wraps and unwraps $*" "$problem"
 }
 goes_round 4096
 goes_round 4096 --padded
-goes_round 4095 --padded
+goes_round 4097 --padded
+goes_round 1048576
+goes_round 1048576 --padded
+goes_round 1048575 --padded
 
 ### Refusals: the KEK file, which is read before the input
 
@@ -102,7 +109,7 @@ bytes "$(zeros 17)" >kek17.raw
 : >empty
 printf '0001020304050607 0809ag' >digit.hex
 printf '000102 03040506070809 0a0b0c0d0e0f0' >odd.hex
-zeros 32769 >long.hex
+zeros 2097153 >long.hex
 refuses 'a KEK of 15 bytes' 3 "$kek_length" wrap --kek kek15.hex <<<$d16
 refuses 'a raw KEK of 17 bytes' 3 "$kek_length" unwrap --raw-kek --kek kek17.raw <<<$text16
 refuses 'an empty KEK, an input of 15 bytes' 3 "$kek_length" wrap --kek empty < <(zeros 15)
@@ -141,10 +148,10 @@ refuses_sizes() {
         refuses "$1 of $size bytes" 4 "$bad_length" $1 --kek kek16.hex < <(zeros "$size")
     done
 }
-refuses_sizes wrap 0 8 15 17 4104
-refuses_sizes unwrap 0 8 16 23 25 4112
-refuses_sizes 'wrap --padded' 0 4097
-refuses_sizes 'unwrap --padded' 0 8 17 4112
+refuses_sizes wrap 0 8 15 17 1048584
+refuses_sizes unwrap 0 8 16 23 25 1048592
+refuses_sizes 'wrap --padded' 0 1048577
+refuses_sizes 'unwrap --padded' 0 8 17 1048592
 
 refuses 'a wrong byte' 5 "$integrity" unwrap --kek kek16.hex <<<"0f${text16#1f}"
 refuses 'a wrong byte, raw' 5 "$integrity" unwrap --raw --kek kek16.hex < <(bytes "${text16%e5}e4")
@@ -152,32 +159,32 @@ refuses 'another KEK' 5 "$integrity" unwrap --kek kek24.hex <<<$text16
 refuses 'a padded wrapping as plain' 5 "$integrity" unwrap --kek kek5649.hex <<<$text20
 refuses 'a plain wrapping as padded' 5 "$integrity" unwrap --padded --kek kek16.hex <<<$text16
 
-### Files of 65,536 bytes, and of one more
+### Files of 4,194,304 bytes, and of one more
 
 # spaced TEXT BYTES: the text, and spaces up to a length.
 spaced() { printf "%-$2s" "$1"; }
-spaced "${kek:0:32}" 65536 >most.hex
-spaced "${kek:0:32}" 65537 >more.hex
-zeros 32768 >digits.hex
-head -c 65536 /dev/zero >most.raw
-head -c 65537 /dev/zero >more.raw
-prints 'a KEK file of 65,536 bytes' "$text16\n" wrap --kek most.hex <<<$d16
-prints 'both files of 65,536 bytes' "$text16\n" wrap --kek most.hex < <(spaced $d16 65536)
-prints 'unwraps a file of 65,536 bytes' "$d16\n" unwrap --kek most.hex < <(spaced $text16 65536)
-prints 'checks a file of 65,536 bytes' 'plain 16\n' check --kek most.hex < <(spaced $text16 65536)
-refuses 'a KEK file of 65,537 bytes' 6 'key file: too long' wrap --kek more.hex <<<$d16
-refuses 'a KEK file of 65,536 digits' 3 "$kek_length" wrap --kek digits.hex <<<$d16
-refuses 'a raw KEK file of 65,536 bytes' 3 "$kek_length" wrap --raw-kek --kek most.raw <<<$d16
-refuses 'a raw KEK file of 65,537 bytes' 6 'key file: too long' wrap --raw-kek --kek more.raw <<<$d16
+spaced "${kek:0:32}" 4194304 >most.hex
+spaced "${kek:0:32}" 4194305 >more.hex
+zeros 2097152 >digits.hex
+head -c 4194304 /dev/zero >most.raw
+head -c 4194305 /dev/zero >more.raw
+prints 'a KEK file of 4,194,304 bytes' "$text16\n" wrap --kek most.hex <<<$d16
+prints 'both files of 4,194,304 bytes' "$text16\n" wrap --kek most.hex < <(spaced $d16 4194304)
+prints 'unwraps a file of 4,194,304 bytes' "$d16\n" unwrap --kek most.hex < <(spaced $text16 4194304)
+prints 'checks a file of 4,194,304 bytes' 'plain 16\n' check --kek most.hex < <(spaced $text16 4194304)
+refuses 'a KEK file of 4,194,305 bytes' 6 'key file: too long' wrap --kek more.hex <<<$d16
+refuses 'a KEK file of 4,194,304 digits' 3 "$kek_length" wrap --kek digits.hex <<<$d16
+refuses 'a raw KEK file of 4,194,304 bytes' 3 "$kek_length" wrap --raw-kek --kek most.raw <<<$d16
+refuses 'a raw KEK file of 4,194,305 bytes' 6 'key file: too long' wrap --raw-kek --kek more.raw <<<$d16
 for job in wrap unwrap; do
-    refuses "$job of 65,536 digits" 4 "$bad_length" $job --kek kek16.hex <digits.hex
-    refuses "$job of 65,536 raw bytes" 4 "$bad_length" $job --raw --kek kek16.hex <most.raw
+    refuses "$job of 4,194,304 digits" 4 "$bad_length" $job --kek kek16.hex <digits.hex
+    refuses "$job of 4,194,304 raw bytes" 4 "$bad_length" $job --raw --kek kek16.hex <most.raw
 done
-answers 'checks 65,536 digits' 5 'none\n' '' check --kek kek16.hex <digits.hex
-answers 'checks 65,536 raw bytes' 5 'none\n' '' check --raw --kek kek16.hex <most.raw
+answers 'checks 4,194,304 digits' 5 'none\n' '' check --kek kek16.hex <digits.hex
+answers 'checks 4,194,304 raw bytes' 5 'none\n' '' check --raw --kek kek16.hex <most.raw
 for job in wrap unwrap check; do
-    refuses "$job of 65,537 bytes" 6 'input: too long' $job --kek kek16.hex < <(spaced $text16 65537)
-    refuses "$job of 65,537 raw bytes" 6 'input: too long' $job --raw --kek kek16.hex <more.raw
+    refuses "$job of 4,194,305 bytes" 6 'input: too long' $job --kek kek16.hex < <(spaced $text16 4194305)
+    refuses "$job of 4,194,305 raw bytes" 6 'input: too long' $job --raw --kek kek16.hex <more.raw
 done
 
 ### Refusals: memory

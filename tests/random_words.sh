@@ -54,9 +54,9 @@ echo 0f${text16#1f} >wrong.hex
 echo 0g >digit.hex
 echo 012 >odd.hex
 : >empty
-head -c 65537 /dev/zero >long
-head -c 65536 /dev/zero >most
-zeros 4096 >largest.hex
+head -c 4194305 /dev/zero >long
+head -c 4194304 /dev/zero >most
+zeros 1048576 >largest.hex
 printf ' \t\r\n' >blank
 printf '\xef\xbb\xbf00' >mark
 printf '%s' "${kek:0:32}" >$'name\xff'

@@ -1,5 +1,6 @@
-//! Readers and writers of the tests, which stop, fail or never end.
+//! Readers and writers of the tests, which stop, fail or never end, and jobs run over them.
 
+use crate::job::{Done, JobFault, Task, run_job};
 use std::alloc::Global;
 use std::io::{self, Read, Write};
 
@@ -83,31 +84,43 @@ impl Read for Endless {
     }
 }
 
-/// Takes so many bytes, one a write, and then fails or takes none.
+/// Takes so many bytes, in pieces, and then fails or takes none.
 #[derive(Drop)]
 pub struct Narrow {
     out: Vec<u8>,
     room: usize,
+    // The most bytes that a write takes.
+    size: usize,
     fails: bool,
     is_flushed: bool,
 }
 
 impl Narrow {
-    /// Fails after `room` bytes.
+    /// Takes one byte a write, and fails after `room` bytes.
     pub fn failing(alloc: Global, room: usize) -> Self {
         Narrow {
-            out: Vec::new(alloc),
             room,
             fails: true,
-            is_flushed: false,
+            ..Narrow::in_pieces(alloc, 1)
         }
     }
 
-    /// Takes none after `room` bytes.
+    /// Takes one byte a write, and none after `room` bytes.
     pub fn full(alloc: Global, room: usize) -> Self {
         Narrow {
+            room,
+            ..Narrow::in_pieces(alloc, 1)
+        }
+    }
+
+    /// Takes up to `size` bytes a write, without end.
+    pub fn in_pieces(alloc: Global, size: usize) -> Self {
+        Narrow {
+            out: Vec::new(alloc),
+            room: usize::MAX,
+            size,
             fails: false,
-            ..Narrow::failing(alloc, room)
+            is_flushed: false,
         }
     }
 
@@ -127,7 +140,7 @@ impl Write for Narrow {
         if self.room == 0 && self.fails {
             return Err(io::Error::from(io::ErrorKind::Interrupted));
         }
-        let count = buf.len().min(self.room).min(1);
+        let count = buf.len().min(self.room).min(self.size);
         self.out.extend_from_slice(&buf[..count])?;
         self.room -= count;
         Ok(count)
@@ -137,4 +150,19 @@ impl Write for Narrow {
         self.is_flushed = true;
         Ok(())
     }
+}
+
+/// Runs a job over files and an output of up to `size` bytes a call, and answers what it wrote.
+pub fn run_in_pieces(
+    alloc: Global,
+    task: Task,
+    kek: &[u8],
+    input: &[u8],
+    size: usize,
+) -> (Result<Done, JobFault>, Vec<u8>) {
+    let mut kek = Trickle::in_pieces(kek, size);
+    let mut input = Trickle::in_pieces(input, size);
+    let mut out = Narrow::in_pieces(alloc, size);
+    let done = run_job(alloc, task, &mut kek, &mut input, &mut out);
+    (done, out.out)
 }

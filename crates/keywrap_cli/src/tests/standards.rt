@@ -11,7 +11,7 @@ fn bytes(alloc: Global, digits: &str) -> Result<Vec<u8>, Fail> {
     Ok(decode_hex(alloc, digits.as_bytes())?)
 }
 
-const PLAIN_ROWS: [(&str, &str, &str); 6] = [
+static PLAIN_ROWS: [(&str, &str, &str); 6] = [
     (
         "000102030405060708090a0b0c0d0e0f",
         "00112233445566778899aabbccddeeff",
@@ -46,41 +46,34 @@ const PLAIN_ROWS: [(&str, &str, &str); 6] = [
 
 #[test]
 fn wraps_and_unwraps_the_vectors_of_rfc_3394(rt: HostRuntime) -> Result<(), Fail> {
-    for (kek, key, text) in PLAIN_ROWS {
+    for (kek, key, text) in &PLAIN_ROWS {
         let aes = Aes::new(&bytes(rt.alloc(), kek)?)?;
         let key = bytes(rt.alloc(), key)?;
         let text = bytes(rt.alloc(), text)?;
-        assert_eq!(rt; wrap(rt.alloc(), &aes, &key)?.as_slice(), text.as_slice());
-        assert_eq!(rt; unwrap(rt.alloc(), &aes, &text)?.as_slice(), key.as_slice());
+        assert!(rt; wrap(rt.alloc(), &aes, &key)? == text);
+        assert!(rt; unwrap(rt.alloc(), &aes, &text)? == key);
     }
     Ok(())
 }
 
+const KEK_RFC5649: &str = "5840df6e29b02af1ab493b705bf16ea1ae8338f4dcc176a8";
+
+static PADDED_ROWS: [(&str, &str); 2] = [
+    (
+        "c37b7e6492584340bed12207808941155068f738",
+        "138bdeaa9b8fa7fc61f97742e72248ee5ae6ae5360d1ae6a5f54f373fa543b6a",
+    ),
+    ("466f7250617369", "afbeb0f07dfbf5419200f2ccb50bb24f"),
+];
+
 #[test]
 fn wraps_and_unwraps_the_vectors_of_rfc_5649(rt: HostRuntime) -> Result<(), Fail> {
-    let kek = bytes(
-        rt.alloc(),
-        "5840df6e29b02af1ab493b705bf16ea1ae8338f4dcc176a8",
-    )?;
-    let aes = Aes::new(&kek)?;
-    let rows = [
-        (
-            "c37b7e6492584340bed12207808941155068f738",
-            "138bdeaa9b8fa7fc61f97742e72248ee5ae6ae5360d1ae6a5f54f373fa543b6a",
-        ),
-        ("466f7250617369", "afbeb0f07dfbf5419200f2ccb50bb24f"),
-    ];
-    for (key, text) in rows {
+    let aes = Aes::new(&bytes(rt.alloc(), KEK_RFC5649)?)?;
+    for (key, text) in &PADDED_ROWS {
         let key = bytes(rt.alloc(), key)?;
         let text = bytes(rt.alloc(), text)?;
-        assert_eq!(rt;
-            wrap_padded(rt.alloc(), &aes, &key)?.as_slice(),
-            text.as_slice()
-        );
-        assert_eq!(rt;
-            unwrap_padded(rt.alloc(), &aes, &text)?.as_slice(),
-            key.as_slice()
-        );
+        assert!(rt; wrap_padded(rt.alloc(), &aes, &key)? == text);
+        assert!(rt; unwrap_padded(rt.alloc(), &aes, &text)? == key);
     }
     Ok(())
 }

@@ -1,51 +1,73 @@
 //! With ample memory, and files and outputs that can be read and written, no call gives up.
 
-use super::{HEX_KEK, RAW_KEK, is_key_length, output_in_pieces, task};
+use super::super::doubles::run_in_pieces;
+use super::super::jobs::{HEX_KEK, HEX_WRAP, RAW_KEK, RAW_WRAP};
 use crate::convert::Direction;
 use crate::drill::drill;
-use crate::job::{Job, Notation};
-use key_wrap::Form;
+use crate::job::{Done, Job, Task};
+use key_wrap::{Form, MAX_KEY};
 use std::alloc::{AllocError, Global};
 use std::process::Abort;
 use std::test::Fail;
 
-const FORMS: [Form; 2] = [Form::Plain, Form::Padded];
-
-// 4,096 bytes that count.
-fn counting(alloc: Global) -> Result<Vec<u8>, AllocError> {
-    let mut bytes = Vec::new(alloc);
-    for _ in 0..16 {
-        bytes.extend(0..=255)?;
+// The byte of a content at a place: of zeros, of ff, of bytes that count and of pseudo-random ones.
+fn byte_of(content: usize, at: usize) -> u8 {
+    match content {
+        0 => 0,
+        1 => 0xFF,
+        2 => (at % 256) as u8,
+        _ => at.wrapping_mul(at | 0x9E37_79B9_7F4A_7C15).to_be_bytes()[0],
     }
-    Ok(bytes)
+}
+
+// A key of the most bytes.
+fn key_of(alloc: Global, content: usize) -> Result<Vec<u8>, AllocError> {
+    let mut key = Vec::new(alloc);
+    for at in 0..MAX_KEY {
+        key.push(byte_of(content, at))?;
+    }
+    Ok(key)
+}
+
+// Whether keys of so many bytes are tried: each length to 520 of every content, then words and
+// their neighbours of one content each, and the largest.
+fn is_tried(content: usize, len: usize) -> bool {
+    match len {
+        ..=520 => true,
+        ..=4_105 => matches!(len % 8, 0 | 1 | 7) && len / 8 % 4 == content,
+        _ => len == MAX_KEY && content == 3,
+    }
+}
+
+// Whether a key may have so many bytes, as RFC 3394 and RFC 5649 say up to the largest.
+fn is_key_length(form: Form, len: usize) -> bool {
+    match form {
+        Form::Plain => len >= 16 && len % 8 == 0,
+        Form::Padded => len >= 1,
+    }
 }
 
 #[test]
 fn gives_up_for_memory_at_no_length_of_a_drill(rt: HostRuntime) -> Result<(), Fail> {
-    for key in [[0; 520], [0xFF; 520]] {
-        for len in 1..=520 {
-            drill_and_back(&rt, rt.alloc(), &key[..len])?;
-        }
-    }
-    let key = counting(rt.alloc())?;
-    assert_eq!(rt; key.len(), 4_096);
-    for len in 1..=4_096 {
-        // Each length up to 520, and those beside whole words.
-        if len <= 520 || matches!(len % 8, 0 | 1 | 7) {
-            drill_and_back(&rt, rt.alloc(), &key[..len])?;
+    for content in 0..4 {
+        let key = key_of(rt.alloc(), content)?;
+        for len in 1..=key.len() {
+            if is_tried(content, len) {
+                drill_and_back(&rt, rt.alloc(), &key[..len])?;
+            }
         }
     }
     Ok(())
 }
 
 fn drill_and_back(rt: &impl Abort, alloc: Global, key: &[u8]) -> Result<(), Fail> {
-    for form in FORMS {
+    for form in [Form::Plain, Form::Padded] {
         if is_key_length(form, key.len()) {
             let digits = hex::encode(alloc, key)?;
             let text = drill(alloc, form, Direction::Wrap, &digits)?;
             let digits = hex::encode(alloc, &text)?;
             let back = drill(alloc, form, Direction::Unwrap, &digits)?;
-            assert_eq!(rt; back.as_slice(), key, "{form:?}, {} bytes", key.len());
+            assert!(rt; back.as_slice() == key, "{form:?}, {} bytes", key.len());
         }
     }
     Ok(())
@@ -53,73 +75,61 @@ fn drill_and_back(rt: &impl Abort, alloc: Global, key: &[u8]) -> Result<(), Fail
 
 #[test]
 fn gives_up_for_memory_at_no_length_of_a_job(rt: HostRuntime) -> Result<(), Fail> {
-    for key in [[0; 4_096], [0xFF; 4_096]] {
-        for len in (1..=520).chain([4_095, 4_096]) {
-            let key = key.get(..len).ok_or("a short key")?;
-            run_and_back(&rt, rt.alloc(), key, usize::MAX)?;
-        }
-    }
-    Ok(())
+    run_each_length(&rt, rt.alloc(), usize::MAX)
 }
 
 #[test]
 fn gives_up_for_io_at_no_length_of_a_job(rt: HostRuntime) -> Result<(), Fail> {
-    let key = counting(rt.alloc())?;
-    for len in (1..=520).chain([4_095, 4_096]) {
-        let key = key.get(..len).ok_or("a short key")?;
-        run_and_back(&rt, rt.alloc(), key, 1)?;
-    }
-    Ok(())
+    run_each_length(&rt, rt.alloc(), 1)
 }
 
-// The three jobs in both forms and notations, through readers and writers of up to `size` bytes a
-// call.
-fn run_and_back(rt: &impl Abort, alloc: Global, key: &[u8], size: usize) -> Result<(), Fail> {
-    for form in FORMS {
-        for notation in [Notation::Hex, Notation::Raw] {
-            if is_key_length(form, key.len()) {
-                run_in_notation(rt, alloc, form, notation, key, size)?;
+// The three jobs on keys of each length, through readers and writers of up to `size` bytes a call.
+fn run_each_length(rt: &impl Abort, alloc: Global, size: usize) -> Result<(), Fail> {
+    for content in 0..4 {
+        let key = key_of(alloc, content)?;
+        for len in 1..=key.len() {
+            if is_tried(content, len) {
+                run_and_back(rt, alloc, &key[..len], size)?;
             }
         }
     }
     Ok(())
 }
 
-fn run_in_notation(
-    rt: &impl Abort,
-    alloc: Global,
-    form: Form,
-    notation: Notation,
-    key: &[u8],
-    size: usize,
-) -> Result<(), Fail> {
-    let kek = match notation {
-        Notation::Hex => HEX_KEK,
-        Notation::Raw => RAW_KEK,
-    };
-    let name = match form {
-        Form::Plain => "plain",
-        Form::Padded => "padded",
-    };
-    let input = printed(alloc, notation, key)?;
-    let wrap = task(Job::Wrap, form, notation);
-    let unwrap = task(Job::Unwrap, form, notation);
-    let check = task(Job::Check, form, notation);
-    let text = output_in_pieces(alloc, wrap, kek, &input, size)?;
-    let back = output_in_pieces(alloc, unwrap, kek, &text, size)?;
-    assert_eq!(rt; back.as_slice(), input.as_slice(), "{} bytes", key.len());
-    let found = output_in_pieces(alloc, check, kek, &text, size)?;
-    let line = format!(in alloc; "{name} {}\n", key.len())?;
-    assert_eq!(rt; found.as_slice(), line.as_bytes());
+fn run_and_back(rt: &impl Abort, alloc: Global, key: &[u8], size: usize) -> Result<(), Fail> {
+    for form in [Form::Plain, Form::Padded] {
+        if is_key_length(form, key.len()) {
+            let raw = Task { form, ..RAW_WRAP };
+            run_in_notation(rt, alloc, raw, RAW_KEK, key, size);
+            let hex = Task { form, ..HEX_WRAP };
+            let mut digits = hex::encode(alloc, key)?;
+            digits.push('\n')?;
+            run_in_notation(rt, alloc, hex, HEX_KEK, digits.as_bytes(), size);
+        }
+    }
     Ok(())
 }
 
-// The bytes of a file that denotes these bytes.
-fn printed(alloc: Global, notation: Notation, bytes: &[u8]) -> Result<Vec<u8>, AllocError> {
-    if notation == Notation::Raw {
-        return bytes.to_vec(alloc);
-    }
-    let mut line = hex::encode(alloc, bytes)?;
-    line.push('\n')?;
-    line.as_bytes().to_vec(alloc)
+// Wraps an input, unwraps the text again and checks it.
+fn run_in_notation(
+    rt: &impl Abort,
+    alloc: Global,
+    task: Task,
+    kek: &[u8],
+    input: &[u8],
+    size: usize,
+) {
+    let (_, text) = run_in_pieces(alloc, task, kek, input, size);
+    let unwrap = Task {
+        job: Job::Unwrap,
+        ..task
+    };
+    let (_, back) = run_in_pieces(alloc, unwrap, kek, &text, size);
+    assert!(rt; back.as_slice() == input, "{task:?}, {} bytes", input.len());
+    let check = Task {
+        job: Job::Check,
+        ..task
+    };
+    let (done, _) = run_in_pieces(alloc, check, kek, &text, size);
+    assert_eq!(rt; done, Ok(Done::Written), "{task:?}, {} bytes", input.len());
 }
