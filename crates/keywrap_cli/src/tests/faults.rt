@@ -2,6 +2,7 @@
 
 use crate::drill::DrillFault;
 use crate::fault::ProgramFault;
+use crate::initial_value::IvFault;
 use crate::job::JobFault;
 use key_files::FileFault;
 use std::test::Fail;
@@ -90,6 +91,16 @@ fn says_each_fault_of_a_drill(rt: HostRuntime) -> Result<(), Fail> {
 #[test]
 fn says_each_fault_of_the_program(rt: HostRuntime) -> Result<(), Fail> {
     let rows = [
+        (
+            ProgramFault::Iv(IvFault::NotSixteenDigits),
+            "keywrap: --iv is not 16 hex digits",
+            2,
+        ),
+        (
+            ProgramFault::Iv(IvFault::Reserved),
+            "keywrap: --iv is reserved for the padded form",
+            2,
+        ),
         (
             ProgramFault::KekOpen,
             "keywrap: key file: cannot be opened",
