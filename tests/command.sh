@@ -65,6 +65,15 @@ both_ways 'RFC 3394 4.6' kek32.hex $d32 \
 both_ways 'RFC 5649, 20 octets' kek5649.hex $key20 $text20 --padded
 both_ways 'RFC 5649, 7 octets' kek5649.hex $key7 $text7 --padded
 
+# Under an initial value that both ends agreed on: OpenSSL's answer for 4.1, and both ways.
+iv=0123456789abcdef
+text_iv=a0f76f4b09e1f2191b8d94da2ca57adfd45ee9732992a98f
+both_ways 'under another value' kek16.hex $d16 $text_iv --iv $iv
+both_ways 'under the default value' kek16.hex $d16 $text16 --iv A6A6a6a6A6A6a6a6
+refuses 'RFC 3394 4.1 under another value' 5 "$integrity" unwrap --iv $iv --kek kek16.hex <<<$text16
+prints 'wraps raw under another value' "$(raw $text_iv)" \
+    wrap --raw --raw-kek --iv $iv --kek kek16.raw < <(bytes $d16)
+
 printf '00 01 02 03\t04 05 06 07\r\n\n08090A0b0c0D0e0F\r\n' >spaced.hex
 prints 'wraps spaced digits in either case' "$text16\n" \
     wrap --kek spaced.hex < <(printf '0011 2233 4455 6677\n8899 AABB CCDD EEFF\n')
@@ -127,6 +136,18 @@ for job in wrap unwrap check; do
     spares_input "$job, a folder as KEK file" 6 'key file: cannot be read' $job --kek folder
     spares_input "$job, a KEK of 15 bytes" 3 "$kek_length" $job --kek kek15.hex
     spares_input "$job, a KEK file that is too long" 6 'key file: too long' $job --kek long.hex
+done
+
+# The value of --iv is looked at first.
+no_iv='--iv is not 16 hex digits'
+for job in wrap unwrap; do
+    for text in '' ${iv%f} ${iv}0 ${iv%f}g " $iv" a65959a60000001; do
+        spares_input "$job --iv '$text', no KEK file" 2 "$no_iv" $job --iv "$text" --kek missing
+    done
+    spares_input "$job, a reserved value, no KEK file" 2 '--iv is reserved for the padded form' \
+        $job --iv a65959a600000010 --kek missing
+    spares_input "$job under a value, no KEK file" 6 'key file: cannot be opened' \
+        $job --iv a65959a700000010 --kek missing
 done
 
 ### Refusals: the input
@@ -258,6 +279,11 @@ refuses_words wrap --kek
 refuses_words unwrap --kek kek16.hex --secret
 refuses_words unwrap --kek kek16.hex text.raw
 refuses_words check --kek kek16.hex --padded
+refuses_words check --kek kek16.hex --iv $iv
+refuses_words wrap --kek kek16.hex --padded --iv $iv
+refuses_words unwrap --kek kek16.hex --iv $iv --padded
+refuses_words wrap --kek kek16.hex --iv
+refuses_words wrap --kek kek16.hex --iv $iv --iv $iv
 refuses_words drill
 refuses_words drill 00 11
 refuses_words vectors all
@@ -275,8 +301,8 @@ problem=''
 grep '^  [0-9]  ' out | cmp -s - <(echo "$statuses") || problem='the lines are others'
 verdict 'the help has the seven statuses' "$problem"
 explains 'Usage: keywrap <COMMAND>|wrap|unwrap|check|drill|vectors' -h
-explains "Usage: keywrap wrap|--kek|--padded|--raw|--raw-kek|$d16|$text16" wrap --help
-explains "Usage: keywrap unwrap|--kek|--padded|--raw|--raw-kek|$d16|$text16" unwrap --help
+explains "Usage: keywrap wrap|--kek|--padded|--iv <HEX>|--raw|--raw-kek|$d16|$text16" wrap --help
+explains "Usage: keywrap unwrap|--kek|--padded|--iv <HEX>|--raw|--raw-kek|$d16|$text16" unwrap --help
 explains "Usage: keywrap check|--kek|--raw|--raw-kek|$text16|plain 16" check --help
 explains "Usage: keywrap drill|--padded|--unwrap|$d16|$drilled" drill --help
 explains 'Usage: keywrap vectors|rfc3394 4.1 ok' vectors --help

@@ -61,6 +61,7 @@ fn not_a_request(alloc: Global) -> Result<Error, AllocError> {
     keywrap(alloc)?.error(ErrorKind::InvalidSubcommand, "unrecognized subcommand")
 }
 
+// A wrapping or an unwrapping, under an initial value where one is given.
 fn conversion<'a>(direction: Direction, found: &ArgMatches<'a>) -> Request<'a> {
     match found.get_str("iv") {
         Some(iv) => Request::JobWith {
@@ -207,9 +208,7 @@ fn iv<'a>(alloc: Global) -> Result<Arg<'a>, AllocError> {
     Arg::new(alloc, "iv")
         .long("iv")
         .value_name("HEX")
-        .help(
-            "Another initial value that both ends agreed on, 16 hex digits; else the default is right",
-        )
+        .help("An initial value that both ends agreed on, 16 hex digits; else the default is right")
         .conflicts_with("padded")
 }
 

@@ -10,7 +10,8 @@ Exit status:
   5  the integrity check failed; check found no wrapping; a vector failed
   6  a file or the output could not be opened, read or written
   7  out of memory
-A refusal is one line on standard error, and of the command line a message with the usage.
+A refusal is one line on standard error, and of the command line a message with the usage (of
+what --iv says, one line).
 wrap, unwrap, check and drill write nothing on standard output before their whole answer is
 right; vectors writes its lines, those that say failed too, once all are made. Status 5
 without a line comes from check, which wrote none, and from vectors, whose lines say which

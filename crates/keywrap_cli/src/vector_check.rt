@@ -94,14 +94,8 @@ fn converts<B: BlockPair>(
     ensures { IfOk result (λ right. IsTrue right
         ↔ Converts direction form default_iv (B.encrypted pair.now) input.now output.now) }
 {
-    match convert(
-        alloc,
-        direction,
-        form,
-        &InitialValue::default(),
-        pair,
-        input,
-    ) {
+    let iv = InitialValue::default();
+    match convert(alloc, direction, form, &iv, pair, input) {
         Ok(answer) => Ok(answer.as_slice() == output),
         Err(UnwrapFault::Memory) => Err(AllocError),
         Err(UnwrapFault::BadLength | UnwrapFault::Integrity) => Ok(false),

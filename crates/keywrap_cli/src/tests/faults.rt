@@ -2,11 +2,12 @@
 
 use crate::drill::DrillFault;
 use crate::fault::ProgramFault;
+use crate::initial_value::IvFault;
 use crate::job::JobFault;
 use key_files::FileFault;
 use std::test::Fail;
 
-static FAULTS: [(ProgramFault, &str, u8); 21] = [
+static FAULTS: [(ProgramFault, &str, u8); 23] = [
     (
         ProgramFault::Job(JobFault::KekLength),
         "keywrap: key length is not 16, 24 or 32 bytes",
@@ -61,6 +62,16 @@ static FAULTS: [(ProgramFault, &str, u8); 21] = [
         ProgramFault::Job(JobFault::Memory),
         "keywrap: out of memory",
         7,
+    ),
+    (
+        ProgramFault::Iv(IvFault::NotSixteenDigits),
+        "keywrap: --iv is not 16 hex digits",
+        2,
+    ),
+    (
+        ProgramFault::Iv(IvFault::Reserved),
+        "keywrap: --iv is reserved for the padded form",
+        2,
     ),
     (
         ProgramFault::Drill(DrillFault::BadLength),

@@ -14,6 +14,9 @@ const KEY_LINE: &[u8] = b"00112233445566778899aabbccddeeff\n";
 // RFC 3394, section 4.1.
 const TEXT_LINE: &[u8] = b"1fa68b0a8112b447aef34bd8fb5a7b829d3e862371d2cfe5\n";
 
+// The same key data under the initial value 0123456789abcdef, as OpenSSL wraps it.
+const OTHER_LINE: &[u8] = b"a0f76f4b09e1f2191b8d94da2ca57adfd45ee9732992a98f\n";
+
 #[test]
 fn reads_sixteen_digits_and_nothing_else(rt: HostRuntime) {
     let no_digits = Err(IvFault::NotSixteenDigits);
@@ -57,6 +60,13 @@ fn wraps_and_unwraps_under_a_value(rt: HostRuntime) -> Result<(), Fail> {
             TEXT_LINE,
             Ok(Done::Written),
             KEY_LINE,
+        ),
+        (
+            other,
+            Direction::Wrap,
+            KEY_LINE,
+            Ok(Done::Written),
+            OTHER_LINE,
         ),
         (
             other,
