@@ -5,6 +5,10 @@ use Rattle.std.specs.Prelude.{◌≡◌, ◌⊎◌, ℤ, pos}
 abbrev pub IsDone : ℤ → Type 0
 IsDone status = status ≡ pos 0
 
+-- the initial value is refused for its length, or is reserved for the padded form
+abbrev pub IsBadIv : ℤ → Type 0
+IsBadIv status = status ≡ pos 2
+
 -- the key-encryption key (KEK) is refused for its length
 abbrev pub IsBadKek : ℤ → Type 0
 IsBadKek status = status ≡ pos 3
@@ -24,3 +28,11 @@ IsWrapStatus status = IsDone status ⊎ (IsBadKek status ⊎ IsBadLength status)
 -- all that an unwrapping call answers
 abbrev pub IsUnwrapStatus : ℤ → Type 0
 IsUnwrapStatus status = IsWrapStatus status ⊎ IsIntegrity status
+
+-- all that a wrapping call under an agreed initial value answers
+abbrev pub IsWrapWithStatus : ℤ → Type 0
+IsWrapWithStatus status = IsBadIv status ⊎ IsWrapStatus status
+
+-- all that an unwrapping call under an agreed initial value answers
+abbrev pub IsUnwrapWithStatus : ℤ → Type 0
+IsUnwrapWithStatus status = IsBadIv status ⊎ IsUnwrapStatus status

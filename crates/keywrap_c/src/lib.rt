@@ -1,4 +1,4 @@
-//! The key wrap for C: eight calls over the caller's own buffers, without memory and without state.
+//! The key wrap for C: ten calls over the caller's own buffers, without memory and without state.
 //! `include/keywrap.h` declares them.
 #![tactic(auto)]
 
@@ -6,6 +6,7 @@ mod padded;
 mod padded_in_place;
 mod plain;
 mod plain_in_place;
+mod plain_with;
 mod status;
 #[cfg(test)]
 mod tests;

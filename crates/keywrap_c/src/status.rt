@@ -3,6 +3,9 @@
 /// Done.
 pub const DONE: i32 = 0;
 
+/// The initial value has not 8 bytes, or is reserved for the padded form.
+pub const BAD_IV: i32 = 2;
+
 /// The key-encryption key (KEK) has not 16, 24 or 32 bytes.
 pub const BAD_KEK: i32 = 3;
 

@@ -1,10 +1,12 @@
-//! Each call on a vector of RFC 3394 (section 4.2) or RFC 5649 (section 6), and the refusals.
+//! Each call on a vector of RFC 3394 (section 4.2) or RFC 5649 (section 6), and the refusals; under
+//! another initial value on OpenSSL's text.
 
 use crate::padded::{keywrap_unwrap_padded, keywrap_wrap_padded};
 use crate::padded_in_place::{keywrap_unwrap_padded_in_place, keywrap_wrap_padded_in_place};
 use crate::plain::{keywrap_unwrap, keywrap_wrap};
 use crate::plain_in_place::{keywrap_unwrap_in_place, keywrap_wrap_in_place};
-use crate::status::{BAD_KEK, BAD_LENGTH, DONE, INTEGRITY};
+use crate::plain_with::{keywrap_unwrap_with, keywrap_wrap_with};
+use crate::status::{BAD_IV, BAD_KEK, BAD_LENGTH, DONE, INTEGRITY};
 use std::test::Fail;
 
 const KEK: [u8; 24] = [
@@ -18,6 +20,18 @@ const KEY: [u8; 16] = [
 const TEXT: [u8; 24] = [
     0x96, 0x77, 0x8B, 0x25, 0xAE, 0x6C, 0xA4, 0x35, 0xF9, 0x2B, 0x5B, 0x97, 0xC0, 0x50, 0xAE, 0xD2,
     0x46, 0x8A, 0xB8, 0xA1, 0x7A, 0xD8, 0x4E, 0x5D,
+];
+
+const DEFAULT_IV: [u8; 8] = [0xA6; 8];
+
+const IV: [u8; 8] = [0x01, 0x23, 0x45, 0x67, 0x89, 0xAB, 0xCD, 0xEF];
+
+const RESERVED_IV: [u8; 8] = [0xA6, 0x59, 0x59, 0xA6, 0xFF, 0xFF, 0xFF, 0xFF];
+
+// The text of `KEY` under `IV`, by openssl enc -id-aes192-wrap.
+const IV_TEXT: [u8; 24] = [
+    0x5F, 0xAE, 0xDB, 0x3A, 0xD2, 0x8B, 0x49, 0x8F, 0x36, 0xC1, 0xAF, 0xC3, 0x61, 0x86, 0x17, 0x82,
+    0xE0, 0x4E, 0x13, 0x47, 0x98, 0x79, 0x11, 0x45,
 ];
 
 const PADDED_KEK: [u8; 24] = [
@@ -43,6 +57,35 @@ fn wraps_plain_and_back(rt: HostRuntime) -> Result<(), Fail> {
     text[3] ^= 1;
     assert_eq!(rt; keywrap_unwrap(&KEK, &text, &mut key), INTEGRITY);
     assert_eq!(rt; key, [0; 16]);
+    Ok(())
+}
+
+#[test]
+fn wraps_under_agreed_values_and_back(rt: HostRuntime) -> Result<(), Fail> {
+    let mut text = [1; 24];
+    let mut key = [1; 16];
+    for (iv, want) in [(&DEFAULT_IV, &TEXT), (&IV, &IV_TEXT)] {
+        assert_eq!(rt; keywrap_wrap_with(&KEK, iv, &KEY, &mut text), DONE);
+        assert_eq!(rt; &text, want);
+        assert_eq!(rt; keywrap_unwrap_with(&KEK, iv, want, &mut key), DONE);
+        assert_eq!(rt; key, KEY);
+    }
+    assert_eq!(rt; keywrap_unwrap(&KEK, &text, &mut key), INTEGRITY);
+    assert_eq!(rt; key, [0; 16]);
+    Ok(())
+}
+
+#[test]
+fn refuses_initial_values(rt: HostRuntime) -> Result<(), Fail> {
+    let mut text = TEXT;
+    let mut key = KEY;
+    let long = [0xA6; 9];
+    for iv in [&RESERVED_IV[..], &IV[..7], &long, &[]] {
+        assert_eq!(rt; keywrap_wrap_with(&[], iv, &KEY, &mut text), BAD_IV);
+        assert_eq!(rt; keywrap_unwrap_with(&[], iv, &TEXT, &mut key), BAD_IV);
+    }
+    assert_eq!(rt; text, TEXT);
+    assert_eq!(rt; key, KEY);
     Ok(())
 }
 
