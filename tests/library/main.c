@@ -207,6 +207,7 @@ static void lengths_with(const struct value *iv, size_t kek_len, size_t key_len,
     refuses_from(word ^ 1, iv, kek_len, key_len);
     refuses_from(word ^ (uint64_t)1 << 32, iv, kek_len, key_len);
     refuses_from(word ^ (uint64_t)1 << 63, iv, kek_len, key_len);
+    if (word != DEFAULT_VALUE) refuses_from(DEFAULT_VALUE, iv, kek_len, key_len);
 }
 
 /* Each value under KEKs, with keys and with texts of right and wrong lengths. */
