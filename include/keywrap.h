@@ -3,7 +3,8 @@
  * A key-encryption key (KEK) of 16, 24 or 32 bytes turns a key into a text that is 8 bytes longer,
  * or up to 15 where it is padded. Unwrapping gives the key back, or tells that the text wraps no
  * key under this KEK. Plain keys have 16, 24, 32 .. bytes, padded ones any length from 1 on. A text
- * is unwrapped in the form in which it was wrapped: in the other it is refused.
+ * is unwrapped in the form in which it was wrapped: in the other it is refused. The plain form has
+ * the default initial value of RFC 3394; the _with calls take one that both ends agreed on.
  *
  *     uint8_t kek[32] = .., key[16] = .., text[KEYWRAP_TEXT_LEN(sizeof key)];
  *     if (keywrap_wrap(kek, sizeof kek, key, sizeof key, text, sizeof text) != KEYWRAP_OK) ..
@@ -38,9 +39,11 @@
 #define KEYWRAP_ROOM(text_len) ((text_len) < 8 ? 0 : (text_len) - 8)
 
 /* What each call answers: where several refusals apply, the first of them. The causes of
- * KEYWRAP_BAD_KEK and KEYWRAP_BAD_LENGTH are in the lengths alone, and no buffer is written. */
+ * KEYWRAP_BAD_KEK and KEYWRAP_BAD_LENGTH are in the lengths alone. At these and at KEYWRAP_BAD_IV
+ * no buffer is written. */
 enum keywrap_status {
     KEYWRAP_OK = 0,
+    KEYWRAP_BAD_IV = 2,     /* the initial value is refused; only a _with call answers it */
     KEYWRAP_BAD_KEK = 3,    /* the KEK has not 16, 24 or 32 bytes */
     KEYWRAP_BAD_LENGTH = 4, /* a length is not one that the call takes */
     KEYWRAP_INTEGRITY = 5   /* the text wraps no key under this KEK; only an unwrap answers it */
@@ -90,6 +93,30 @@ int32_t keywrap_wrap(const uint8_t *kek, size_t kek_len, const uint8_t *key, siz
 KEYWRAP_CALL KEYWRAP_READS(1, 2) KEYWRAP_READS(3, 4) KEYWRAP_WRITES(5, 6)
 int32_t keywrap_unwrap(const uint8_t *kek, size_t kek_len, const uint8_t *text, size_t text_len,
                        uint8_t *KEYWRAP_RESTRICT key, size_t key_len);
+
+/* Plain, two buffers, under the 8 bytes at iv, an initial value that both ends agreed on (RFC 3394,
+ * 2.2.3.2): the lengths are those above, and so are the answers for a6 a6 a6 a6 a6 a6 a6 a6.
+ *   iv_len    8
+ *   KEYWRAP_BAD_IV      iv_len is not 8, or the first four bytes are a6 59 59 a6: such values are
+ *                       left to the padded form
+ *
+ * keywrap_wrap_with makes the wrapping of the key:
+ *   KEYWRAP_OK          text holds it
+ *   any other           text is as it was
+ *
+ * keywrap_unwrap_with finds the key whose wrapping under this value the text is:
+ *   KEYWRAP_OK          key holds it; no other key has this wrapping
+ *   KEYWRAP_INTEGRITY   there is none; key is all zeros
+ *   any other           key is as it was */
+KEYWRAP_CALL KEYWRAP_READS(1, 2) KEYWRAP_READS(3, 4) KEYWRAP_READS(5, 6) KEYWRAP_WRITES(7, 8)
+int32_t keywrap_wrap_with(const uint8_t *kek, size_t kek_len, const uint8_t *iv, size_t iv_len,
+                          const uint8_t *key, size_t key_len, uint8_t *KEYWRAP_RESTRICT text,
+                          size_t text_len);
+
+KEYWRAP_CALL KEYWRAP_READS(1, 2) KEYWRAP_READS(3, 4) KEYWRAP_READS(5, 6) KEYWRAP_WRITES(7, 8)
+int32_t keywrap_unwrap_with(const uint8_t *kek, size_t kek_len, const uint8_t *iv, size_t iv_len,
+                            const uint8_t *text, size_t text_len, uint8_t *KEYWRAP_RESTRICT key,
+                            size_t key_len);
 
 /* Padded, two buffers.
  *

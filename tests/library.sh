@@ -110,7 +110,8 @@ fi
 row 'the other AES: compiles' cc -std=c99 -O2 "${strict[@]}" -c "$root/bench/one_table.c" -o one_table.o
 calls=("$root"/tests/library/*.c one_table.o)
 names="keywrap_unwrap keywrap_unwrap_in_place keywrap_unwrap_padded keywrap_unwrap_padded_in_place \
-keywrap_wrap keywrap_wrap_in_place keywrap_wrap_padded keywrap_wrap_padded_in_place "
+keywrap_unwrap_with keywrap_wrap keywrap_wrap_in_place keywrap_wrap_padded keywrap_wrap_padded_in_place \
+keywrap_wrap_with "
 
 # shows NM_OPTION.. FILE: the names that the file shows are those of the header, and no others.
 shows() { [ "$(nm "$@" --defined-only | awk 'NF == 3 { print $3 }' | sort | tr '\n' ' ')" = "$names" ]; }

@@ -1,15 +1,21 @@
 """AES Key Wrap, plain (RFC 3394) and padded (RFC 5649), by the C library libkeywrap.
 
-Keys, texts and key-encryption keys (KEKs) are bytes. The library is the one that the system
-finds as libkeywrap.so.0, or the file that the environment's KEYWRAP_LIBRARY names.
+Keys, texts and key-encryption keys (KEKs) are bytes. The plain calls take an initial value of 8
+bytes where both ends agreed on one; else they have the default of RFC 3394. The library is the one
+that the system finds as libkeywrap.so.0, or the file that the environment's KEYWRAP_LIBRARY names.
 """
 
 import ctypes
 import os
+from typing import Optional
 
 
 class KeywrapError(Exception):
     """A refusal; nothing of a key is given out."""
+
+
+class BadValue(KeywrapError, ValueError):
+    """The initial value has not 8 bytes, or is reserved for the padded form."""
 
 
 class BadKek(KeywrapError, ValueError):
@@ -24,7 +30,7 @@ class IntegrityError(KeywrapError):
     """The text wraps no key under this KEK."""
 
 
-_REFUSALS = {3: BadKek, 4: BadLength, 5: IntegrityError}
+_REFUSALS = {2: BadValue, 3: BadKek, 4: BadLength, 5: IntegrityError}
 
 _library = ctypes.CDLL(os.environ.get("KEYWRAP_LIBRARY", "libkeywrap.so.0"))
 
@@ -33,46 +39,55 @@ _BYTES = (ctypes.c_char_p, ctypes.c_size_t)
 _BUFFER = (ctypes.POINTER(ctypes.c_char), ctypes.c_size_t)
 
 
-def _function(name, *more):
+def _function(name, *more, given=_BYTES + _BYTES):
     function = getattr(_library, name)
-    function.argtypes = _BYTES + _BYTES + _BUFFER + more
+    function.argtypes = given + _BUFFER + more
     function.restype = ctypes.c_int32
     return function
 
 
 _wrap = _function("keywrap_wrap")
 _unwrap = _function("keywrap_unwrap")
+_wrap_with = _function("keywrap_wrap_with", given=_BYTES * 3)
+_unwrap_with = _function("keywrap_unwrap_with", given=_BYTES * 3)
 _wrap_padded = _function("keywrap_wrap_padded")
 _unwrap_padded = _function("keywrap_unwrap_padded", ctypes.POINTER(ctypes.c_size_t))
 
 
-def _filled(function, kek, given, length, *more):
-    """What the function makes of two bytes objects, in a buffer of this length."""
+def _filled(function, given, length, *more):
+    """What the function makes of these bytes objects, in a buffer of this length."""
     buffer = ctypes.create_string_buffer(length)
-    status = function(kek, len(kek), given, len(given), buffer, length, *more)
+    sized = [word for item in given for word in (item, len(item))]
+    status = function(*sized, buffer, length, *more)
     if status != 0:
         refusal = _REFUSALS.get(status, KeywrapError)
         raise refusal(refusal.__doc__)
     return buffer.raw
 
 
-def wrap(kek: bytes, key: bytes) -> bytes:
+def wrap(kek: bytes, key: bytes, iv: Optional[bytes] = None) -> bytes:
     """The plain wrapping of a key of 16, 24, 32 .. bytes."""
-    return _filled(_wrap, kek, key, len(key) + 8)
+    length = len(key) + 8
+    if iv is None:
+        return _filled(_wrap, (kek, key), length)
+    return _filled(_wrap_with, (kek, iv, key), length)
 
 
-def unwrap(kek: bytes, text: bytes) -> bytes:
+def unwrap(kek: bytes, text: bytes, iv: Optional[bytes] = None) -> bytes:
     """The key whose plain wrapping the text is."""
-    return _filled(_unwrap, kek, text, max(len(text) - 8, 0))
+    length = max(len(text) - 8, 0)
+    if iv is None:
+        return _filled(_unwrap, (kek, text), length)
+    return _filled(_unwrap_with, (kek, iv, text), length)
 
 
 def wrap_padded(kek: bytes, key: bytes) -> bytes:
     """The padded wrapping of a key of 1 byte and more."""
-    return _filled(_wrap_padded, kek, key, (len(key) + 7) // 8 * 8 + 8)
+    return _filled(_wrap_padded, (kek, key), (len(key) + 7) // 8 * 8 + 8)
 
 
 def unwrap_padded(kek: bytes, text: bytes) -> bytes:
     """The key whose padded wrapping the text is."""
     length = ctypes.c_size_t()
     room = max(len(text) - 8, 0)
-    return _filled(_unwrap_padded, kek, text, room, ctypes.byref(length))[: length.value]
+    return _filled(_unwrap_padded, (kek, text), room, ctypes.byref(length))[: length.value]

@@ -19,6 +19,13 @@ assert short.hex() == "afbeb0f07dfbf5419200f2ccb50bb24f"
 assert keywrap.unwrap_padded(kek_5649, short) == b"ForPasi"
 assert keywrap.unwrap_padded(kek, keywrap.wrap_padded(kek, key)) == key
 
+iv = bytes.fromhex("0123456789abcdef")
+agreed = keywrap.wrap(bytes(range(24)), key, iv)
+print("wrap under", iv.hex() + ":", agreed.hex())
+assert agreed.hex() == "5faedb3ad28b498f36c1afc361861782e04e134798791145"
+assert keywrap.unwrap(bytes(range(24)), agreed, iv) == key
+assert keywrap.wrap(kek, key, b"\xa6" * 8) == text
+
 
 def refused(exception, call, *arguments):
     """The call raises this very exception."""
@@ -34,6 +41,9 @@ def refused(exception, call, *arguments):
 tampered = text[:3] + bytes([text[3] ^ 1]) + text[4:]
 refused(keywrap.IntegrityError, keywrap.unwrap, kek, tampered)
 refused(keywrap.IntegrityError, keywrap.unwrap_padded, kek, text)
+refused(keywrap.IntegrityError, keywrap.unwrap, kek, text, iv)
+refused(keywrap.BadValue, keywrap.wrap, kek, key, iv[:7])
+refused(keywrap.BadValue, keywrap.unwrap, kek, text, b"\xa6\x59\x59\xa6" + iv[4:])
 refused(keywrap.BadKek, keywrap.wrap, kek[:15], key)
 refused(keywrap.BadLength, keywrap.wrap, kek, key[:15])
 refused(keywrap.BadLength, keywrap.unwrap, kek, b"")

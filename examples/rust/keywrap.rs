@@ -7,6 +7,8 @@ use std::fmt;
 /// A refusal.
 #[derive(Debug, Clone, Copy, PartialEq, Eq)]
 pub enum Error {
+    /// The initial value is reserved for the padded form: it begins with a6 59 59 a6.
+    BadValue,
     /// The KEK has not 16, 24 or 32 bytes.
     BadKek,
     /// The key or the text has no length that this form takes.
@@ -18,6 +20,7 @@ pub enum Error {
 impl fmt::Display for Error {
     fn fmt(&self, f: &mut fmt::Formatter<'_>) -> fmt::Result {
         f.write_str(match self {
+            Error::BadValue => "the initial value is reserved for the padded form",
             Error::BadKek => "the KEK has not 16, 24 or 32 bytes",
             Error::BadLength => "bad length",
             Error::Integrity => "the integrity check failed",
@@ -37,6 +40,10 @@ type Call = unsafe extern "C" fn(Bytes, usize, Bytes, usize, Buffer, usize) -> i
 extern "C" {
     fn keywrap_wrap(k: Bytes, n: usize, key: Bytes, m: usize, text: Buffer, len: usize) -> i32;
     fn keywrap_unwrap(k: Bytes, n: usize, text: Bytes, len: usize, key: Buffer, m: usize) -> i32;
+    fn keywrap_wrap_with(k: Bytes, n: usize, iv: Bytes, v: usize, key: Bytes, m: usize,
+        text: Buffer, len: usize) -> i32;
+    fn keywrap_unwrap_with(k: Bytes, n: usize, iv: Bytes, v: usize, text: Bytes, len: usize,
+        key: Buffer, m: usize) -> i32;
     fn keywrap_wrap_padded(k: Bytes, n: usize, key: Bytes, m: usize, text: Buffer, len: usize)
         -> i32;
     fn keywrap_unwrap_padded(k: Bytes, n: usize, text: Bytes, len: usize, key: Buffer, room: usize,
@@ -52,6 +59,7 @@ extern "C" {
 fn answer(status: i32) -> Result<(), Error> {
     match status {
         0 => Ok(()),
+        2 => Err(Error::BadValue),
         3 => Err(Error::BadKek),
         4 => Err(Error::BadLength),
         _ => Err(Error::Integrity),
@@ -77,6 +85,23 @@ pub fn wrap(kek: &[u8], key: &[u8]) -> Result<Vec<u8>, Error> {
 /// The key whose plain wrapping the text is.
 pub fn unwrap(kek: &[u8], text: &[u8]) -> Result<Vec<u8>, Error> {
     filled(keywrap_unwrap, kek, text, text.len().saturating_sub(8))
+}
+
+/// The plain wrapping of a key of 16, 24, 32 .. bytes, under an initial value that both ends agreed
+/// on.
+pub fn wrap_with(kek: &[u8], iv: &[u8; 8], key: &[u8]) -> Result<Vec<u8>, Error> {
+    let mut text = vec![0; key.len() + 8];
+    let (k, v, g, o) = (kek.as_ptr(), iv.as_ptr(), key.as_ptr(), text.as_mut_ptr());
+    answer(unsafe { keywrap_wrap_with(k, kek.len(), v, 8, g, key.len(), o, text.len()) })?;
+    Ok(text)
+}
+
+/// The key whose plain wrapping under this initial value the text is.
+pub fn unwrap_with(kek: &[u8], iv: &[u8; 8], text: &[u8]) -> Result<Vec<u8>, Error> {
+    let mut key = vec![0; text.len().saturating_sub(8)];
+    let (k, v, t, o) = (kek.as_ptr(), iv.as_ptr(), text.as_ptr(), key.as_mut_ptr());
+    answer(unsafe { keywrap_unwrap_with(k, kek.len(), v, 8, t, text.len(), o, key.len()) })?;
+    Ok(key)
 }
 
 /// The padded wrapping of a key of 1 byte and more.

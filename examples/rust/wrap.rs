@@ -41,6 +41,34 @@ fn plain() -> Result<(), Error> {
     Ok(())
 }
 
+fn agreed() -> Result<(), Error> {
+    let kek: Vec<u8> = (0..24).collect();
+    let key: Vec<u8> = (0..16).map(|i| 0x11 * i).collect();
+    let iv = [0x01, 0x23, 0x45, 0x67, 0x89, 0xab, 0xcd, 0xef];
+    let text = keywrap::wrap_with(&kek, &iv, &key)?;
+    println!("wrap under a value: {}", hex(&text));
+    assert_eq!(
+        hex(&text),
+        "5faedb3ad28b498f36c1afc361861782e04e134798791145"
+    );
+    assert_eq!(keywrap::unwrap_with(&kek, &iv, &text)?, key);
+    assert_eq!(keywrap::unwrap(&kek, &text), Err(Error::Integrity));
+    assert_eq!(
+        keywrap::wrap_with(&kek, &[0xa6; 8], &key),
+        keywrap::wrap(&kek, &key)
+    );
+    let reserved = [0xa6, 0x59, 0x59, 0xa6, 0, 0, 0, 16];
+    assert_eq!(
+        keywrap::wrap_with(&kek, &reserved, &key),
+        Err(Error::BadValue)
+    );
+    assert_eq!(
+        keywrap::unwrap_with(&kek, &reserved, &text),
+        Err(Error::BadValue)
+    );
+    Ok(())
+}
+
 fn padded() -> Result<(), Error> {
     let kek = [
         0x58, 0x40, 0xdf, 0x6e, 0x29, 0xb0, 0x2a, 0xf1, 0xab, 0x49, 0x3b, 0x70, 0x5b, 0xf1, 0x6e,
@@ -64,5 +92,6 @@ fn padded() -> Result<(), Error> {
 
 fn main() -> Result<(), Error> {
     plain()?;
+    agreed()?;
     padded()
 }

@@ -20,7 +20,7 @@ struct buffer {
     size_t len;
 };
 
-static struct buffer kek_buffer, buffer;
+static struct buffer kek_buffer, iv_buffer, buffer;
 
 void count(int right, const char *what, enum form form, enum place place, size_t kek_len,
            size_t in_len, size_t out_len) {
@@ -65,6 +65,10 @@ static int are_zeros(const uint8_t *bytes, size_t len) {
 
 static int legal_kek(size_t len) {
     return len == 16 || len == 24 || len == 32;
+}
+
+static int legal_value(const struct value *iv) {
+    return iv->len == 8 && load_word(iv->bytes) >> 32 != AIV_PREFIX >> 32;
 }
 
 static int legal_key(enum form form, size_t len) {
@@ -156,7 +160,7 @@ static int32_t unwrap(enum form form, enum place place, const uint8_t *kek, size
 static int holds(const struct buffer *b, int32_t status, size_t head, const uint8_t *key,
                  size_t key_len) {
     const uint8_t *found = b->bytes + head;
-    if (status == KEYWRAP_BAD_KEK || status == KEYWRAP_BAD_LENGTH) return is_kept(b);
+    if (status != KEYWRAP_OK && status != KEYWRAP_INTEGRITY) return is_kept(b);
     if (status == KEYWRAP_INTEGRITY) return are_zeros(b->bytes, b->len);
     return are_zeros(b->bytes, head) && !memcmp(found, key, key_len)
            && are_zeros(found + key_len, b->len - head - key_len);
@@ -182,4 +186,45 @@ void unwraps(enum form form, enum place place, const uint8_t *kek, size_t kek_le
               && holds(&buffer, due, place == IN_PLACE ? 8 : 0, key, key_len)
               && (form == PLAIN || answered == (due == KEYWRAP_OK ? key_len : 0)),
           "unwrap", form, place, kek_len, text_len, room);
+}
+
+/* The KEK and the initial value in buffers of their own. */
+static void give(const struct value *iv, const uint8_t *kek, size_t kek_len) {
+    memcpy(frame(&kek_buffer, kek_len), kek, kek_len);
+    memcpy(frame(&iv_buffer, iv->len), iv->bytes, iv->len);
+    keep(&kek_buffer);
+    keep(&iv_buffer);
+    keep(&buffer);
+}
+
+static int stand(void) {
+    return sides_stand(&buffer) && is_kept(&kek_buffer) && is_kept(&iv_buffer);
+}
+
+void wraps_with(const struct value *iv, const uint8_t *kek, size_t kek_len, const uint8_t *key,
+                size_t key_len, size_t text_len) {
+    static uint8_t wanted[LONGEST];
+    uint8_t *text = frame(&buffer, text_len);
+    int32_t due = legal_value(iv) ? wrap_status(PLAIN, kek_len, key_len, text_len) : KEYWRAP_BAD_IV;
+    int32_t status;
+    give(iv, kek, kek_len);
+    status = keywrap_wrap_with(kek_buffer.bytes, kek_len, iv_buffer.bytes, iv->len, key, key_len,
+                               text, text_len);
+    if (due == KEYWRAP_OK) wrap_words(kek, kek_len, load_word(iv->bytes), key, key_len, wanted);
+    count(status == due && stand()
+              && (due == KEYWRAP_OK ? !memcmp(text, wanted, text_len) : is_kept(&buffer)),
+          "wrap under a value", PLAIN, TWO_BUFFERS, kek_len, key_len, text_len);
+}
+
+void unwraps_with(const struct value *iv, const uint8_t *kek, size_t kek_len, const uint8_t *text,
+                  size_t text_len, size_t room, const uint8_t *key) {
+    uint8_t *out = frame(&buffer, room);
+    int32_t due = legal_value(iv) ? unwrap_status(PLAIN, kek_len, text_len, room, key)
+                                  : KEYWRAP_BAD_IV;
+    int32_t status;
+    give(iv, kek, kek_len);
+    status = keywrap_unwrap_with(kek_buffer.bytes, kek_len, iv_buffer.bytes, iv->len, text,
+                                 text_len, out, room);
+    count(status == due && stand() && holds(&buffer, due, 0, key, room), "unwrap under a value",
+          PLAIN, TWO_BUFFERS, kek_len, text_len, room);
 }

@@ -17,6 +17,12 @@ enum { LONGEST = KEYWRAP_MAX_TEXT + 64 };
 #define DEFAULT_VALUE 0xA6A6A6A6A6A6A6A6u
 #define AIV_PREFIX 0xA65959A600000000u
 
+/* An initial value that a caller gives: so many bytes. */
+struct value {
+    uint8_t bytes[16];
+    size_t len;
+};
+
 extern unsigned passed, failed;
 
 /* Counts a check, and prints the first that fail. */
@@ -47,5 +53,11 @@ void wraps(enum form form, enum place place, const uint8_t *kek, size_t kek_len,
  * place the text's length tells the room. */
 void unwraps(enum form form, enum place place, const uint8_t *kek, size_t kek_len,
              const uint8_t *text, size_t text_len, size_t room, const uint8_t *key, size_t key_len);
+
+/* The same of the plain calls of two buffers under the initial value. */
+void wraps_with(const struct value *iv, const uint8_t *kek, size_t kek_len, const uint8_t *key,
+                size_t key_len, size_t text_len);
+void unwraps_with(const struct value *iv, const uint8_t *kek, size_t kek_len, const uint8_t *text,
+                  size_t text_len, size_t room, const uint8_t *key);
 
 #endif

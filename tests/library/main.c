@@ -1,6 +1,7 @@
 /* main.c: makes every call of the C library through its header: the vectors of RFC 3394 and RFC
- * 5649, every pair of short lengths and the longest, KEKs of every length, tampered texts, and
- * texts from other initial values. Its last line is 'N passed, M failed'. */
+ * 5649, every pair of short lengths and the longest, KEKs of every length, tampered texts, texts
+ * from other initial values, and initial values that are taken or refused. Its last line is 'N
+ * passed, M failed'. */
 
 #include <stdio.h>
 #include <string.h>
@@ -31,6 +32,21 @@ static const char *const VECTORS[][3] = {
      "138bdeaa9b8fa7fc61f97742e72248ee5ae6ae5360d1ae6a5f54f373fa543b6a"},
     {"5840df6e29b02af1ab493b705bf16ea1ae8338f4dcc176a8", "466f7250617369",
      "afbeb0f07dfbf5419200f2ccb50bb24f"},
+};
+
+/* Initial values, as digits: three that are taken, the last of them next to the reserved ones; two
+ * that are reserved; and three of other lengths. */
+static const char *const VALUES[] = {
+    "a6a6a6a6a6a6a6a6", "0123456789abcdef", "a65959a700000010", "a65959a600000010",
+    "a65959a6ffffffff", "a6a6a6a6a6a6a6", "a6a6a6a6a6a6a6a6a6", "",
+};
+
+/* KEK, initial value, key and text: by openssl enc -id-aes192-wrap -iv .. */
+static const char *const UNDER_A_VALUE[] = {
+    "000102030405060708090a0b0c0d0e0f1011121314151617",
+    "0123456789abcdef",
+    "00112233445566778899aabbccddeeff",
+    "5faedb3ad28b498f36c1afc361861782e04e134798791145",
 };
 
 static size_t from_hex(const char *digits, uint8_t *bytes) {
@@ -174,6 +190,56 @@ static void initial_values(void) {
     }
 }
 
+/* The unwrap under a value refuses a text from this other one. */
+static void refuses_from(uint64_t other, const struct value *iv, size_t kek_len, size_t key_len) {
+    wrap_words(kek, kek_len, other, key, key_len, text);
+    unwraps_with(iv, kek, kek_len, text, key_len + 8, key_len, NULL);
+}
+
+/* The calls under a value, of these lengths. */
+static void lengths_with(const struct value *iv, size_t kek_len, size_t key_len, size_t text_len) {
+    uint64_t word = iv->len == 8 ? load_word(iv->bytes) : 0;
+    wraps_with(iv, kek, kek_len, key, key_len, text_len);
+    unwraps_with(iv, kek, kek_len, scattered, text_len, key_len, NULL);
+    if (wrap_status(PLAIN, kek_len, key_len, text_len) != KEYWRAP_OK) return;
+    wrap_words(kek, kek_len, word, key, key_len, text);
+    unwraps_with(iv, kek, kek_len, text, text_len, key_len, key);
+    refuses_from(word ^ 1, iv, kek_len, key_len);
+    refuses_from(word ^ (uint64_t)1 << 32, iv, kek_len, key_len);
+    refuses_from(word ^ (uint64_t)1 << 63, iv, kek_len, key_len);
+    if (word != DEFAULT_VALUE) refuses_from(DEFAULT_VALUE, iv, kek_len, key_len);
+}
+
+/* Each value under KEKs, with keys and with texts of right and wrong lengths. */
+static void agreed_values(void) {
+    struct value iv;
+    for (size_t i = 0; i < sizeof VALUES / sizeof *VALUES; i++) {
+        iv.len = from_hex(VALUES[i], iv.bytes);
+        for (size_t kek_len = 0; kek_len <= 40; kek_len += 8)
+            for (size_t key_len = 0; key_len <= 48; key_len += 4)
+                for (size_t text_len = key_len; text_len <= key_len + 16; text_len += 4)
+                    lengths_with(&iv, kek_len, key_len, text_len);
+    }
+}
+
+/* OpenSSL's text, which the calls without a value refuse; and the longest. */
+static void under_a_value(void) {
+    uint8_t vector_kek[24], vector_key[16], vector_text[24];
+    struct value iv;
+    size_t kek_len = from_hex(UNDER_A_VALUE[0], vector_kek);
+    iv.len = from_hex(UNDER_A_VALUE[1], iv.bytes);
+    from_hex(UNDER_A_VALUE[2], vector_key);
+    from_hex(UNDER_A_VALUE[3], vector_text);
+    wrap_words(vector_kek, kek_len, load_word(iv.bytes), vector_key, 16, text);
+    count(!memcmp(text, vector_text, 24), "vector under a value", PLAIN, TWO_BUFFERS, kek_len, 16,
+          24);
+    wraps_with(&iv, vector_kek, kek_len, vector_key, 16, 24);
+    unwraps_with(&iv, vector_kek, kek_len, vector_text, 24, 16, vector_key);
+    unwraps(PLAIN, TWO_BUFFERS, vector_kek, kek_len, vector_text, 24, 16, NULL, 0);
+    lengths_with(&iv, 16, KEYWRAP_MAX_KEY, KEYWRAP_MAX_TEXT);
+    lengths_with(&iv, 16, KEYWRAP_MAX_KEY + 8, KEYWRAP_MAX_TEXT + 8);
+}
+
 /* Texts whose padding, of seven bytes, is not all zeros. */
 static void paddings(void) {
     for (size_t len = 8; len <= 24; len += 8)
@@ -211,6 +277,8 @@ int main(void) {
     }
     tampered_texts();
     initial_values();
+    under_a_value();
+    agreed_values();
     paddings();
     long_paddings();
     printf("%u passed, %u failed\n", passed, failed);
