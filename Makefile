@@ -63,8 +63,8 @@ install-library: library
 	install -m 755 '$(LIBRARY)/$(soname)' '$(DESTDIR)$(PREFIX)/lib/$(soname)'
 	ln -sf $(soname) '$(DESTDIR)$(PREFIX)/lib/libkeywrap.so'
 	install -m 644 include/keywrap.h '$(DESTDIR)$(PREFIX)/include/keywrap.h'
-	sed 's|@PREFIX@|$(PREFIX)|' include/keywrap.pc.in >'$(LIBRARY)/keywrap.pc'
-	install -m 644 '$(LIBRARY)/keywrap.pc' '$(DESTDIR)$(PREFIX)/lib/pkgconfig/keywrap.pc'
+	install -m 644 include/keywrap.pc.in '$(DESTDIR)$(PREFIX)/lib/pkgconfig/keywrap.pc'
+	sed -i 's|@PREFIX@|$(PREFIX)|' '$(DESTDIR)$(PREFIX)/lib/pkgconfig/keywrap.pc'
 
 uninstall: uninstall-library
 	rm -f '$(DESTDIR)$(PREFIX)/bin/keywrap'

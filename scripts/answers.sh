@@ -12,6 +12,9 @@ key7=466f7250617369
 text16=1fa68b0a8112b447aef34bd8fb5a7b829d3e862371d2cfe5
 text20=138bdeaa9b8fa7fc61f97742e72248ee5ae6ae5360d1ae6a5f54f373fa543b6a
 text7=afbeb0f07dfbf5419200f2ccb50bb24f
+# The key data d16 under kek16 and another initial value, as OpenSSL wraps it.
+iv=0123456789abcdef
+text_iv=a0f76f4b09e1f2191b8d94da2ca57adfd45ee9732992a98f
 drilled=a6a6a6a6a6a6a6a6001122334455667f8899aabbccddeefb
 vector_lines=$(printf '%s ok\n' rfc3394\ 4.{1,2,3,4,5,6} 'rfc5649 20' 'rfc5649 7' fips197\ {1,2,3,4})
 

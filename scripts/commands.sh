@@ -11,6 +11,7 @@ echo "$key7" >key7.hex
 echo "$text16" >text.hex
 bytes "$text16" >text.raw
 echo "$text7" >text7.hex
+echo "$text_iv" >agreed.hex
 echo "0f${text16#1f}" >wrong.hex
 echo 0g >digit.hex
 echo 012 >odd.hex
@@ -57,6 +58,8 @@ jobs() {
     "$1" 'unwrap' 0 key.hex '' text.hex unwrap --kek kek16.hex
     "$1" 'raw unwrap' 0 key.raw '' text.raw unwrap --raw --raw-kek --kek kek16.raw
     "$1" 'padded unwrap' 0 key7.hex '' text7.hex unwrap --padded --kek kek5649.hex
+    "$1" 'wrap under a value' 0 agreed.hex '' key.hex wrap --iv "$iv" --kek kek16.hex
+    "$1" 'unwrap under a value' 0 key.hex '' agreed.hex unwrap --iv "$iv" --kek kek16.hex
     "$1" 'check' 0 plain16 '' text.hex check --kek kek16.hex
     "$1" 'raw check' 0 plain16 '' text.raw check --raw --raw-kek --kek kek16.raw
     "$1" 'check of a wrong byte' 5 none '' wrong.hex check --kek kek16.hex
@@ -65,6 +68,9 @@ jobs() {
 # refused FUNCTION: the same for the refusals, each with its line.
 refused() {
     local file='keywrap: key file:' input='keywrap: input:'
+    local reserved='keywrap: --iv is reserved for the padded form'
+    "$1" 'a value of 15 digits' 2 nothing 'keywrap: --iv is not 16 hex digits' - wrap --iv "${iv%f}" --kek kek16.hex
+    "$1" 'a reserved value' 2 nothing "$reserved" - unwrap --iv a65959a600000010 --kek kek16.hex
     "$1" 'no KEK file' 6 nothing "$file cannot be opened" - wrap --kek missing
     "$1" 'a folder as KEK file' 6 nothing "$file cannot be read" - check --kek folder
     "$1" 'a KEK file that is too long' 6 nothing "$file too long" - wrap --kek long.hex

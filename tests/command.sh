@@ -66,8 +66,6 @@ both_ways 'RFC 5649, 20 octets' kek5649.hex $key20 $text20 --padded
 both_ways 'RFC 5649, 7 octets' kek5649.hex $key7 $text7 --padded
 
 # Under an initial value that both ends agreed on: OpenSSL's answer for 4.1, and both ways.
-iv=0123456789abcdef
-text_iv=a0f76f4b09e1f2191b8d94da2ca57adfd45ee9732992a98f
 both_ways 'under another value' kek16.hex $d16 $text_iv --iv $iv
 both_ways 'under the default value' kek16.hex $d16 $text16 --iv A6A6a6a6A6A6a6a6
 refuses 'RFC 3394 4.1 under another value' 5 "$integrity" unwrap --iv $iv --kek kek16.hex <<<$text16

@@ -188,6 +188,56 @@ if has rustc rustc 'the Rust example'; then
     LD_LIBRARY_PATH='' runs_example 'the Rust example, static' $rfc3394_41 "${rust[@]}"
 fi
 
+### Under an agreed initial value, against the command
+
+cat >agreed.c <<'END'
+#include <keywrap.h>
+#include <stdio.h>
+#include <string.h>
+
+/* Wraps the key 00 01 .. 0f under the KEK 00 01 .. 0f and the value of 16 digits, prints the text,
+ * and unwraps it again. */
+int main(int argc, char **argv) {
+    uint8_t kek[16], iv[8], text[24], key[16];
+    for (unsigned i = 0; i < sizeof kek; i++)
+        kek[i] = (uint8_t)i;
+    for (unsigned i = 0; i < sizeof iv; i++) {
+        unsigned byte;
+        if (argc != 2 || sscanf(argv[1] + 2 * i, "%2x", &byte) != 1)
+            return 64;
+        iv[i] = (uint8_t)byte;
+    }
+    int32_t status = keywrap_wrap_with(kek, 16, iv, sizeof iv, kek, 16, text, sizeof text);
+    if (status != KEYWRAP_OK)
+        return status;
+    for (unsigned i = 0; i < sizeof text; i++)
+        printf("%02x", text[i]);
+    putchar('\n');
+    status = keywrap_unwrap_with(kek, 16, iv, sizeof iv, text, sizeof text, key, sizeof key);
+    return status != KEYWRAP_OK ? status : memcmp(key, kek, sizeof key) ? 65 : 0;
+}
+END
+
+# agrees VALUE: the library and the command end alike and say the same under this value.
+agrees() {
+    local found wanted
+    found=$(./agreed "$1"; echo "status $?")
+    wanted=$("$program" wrap --iv "$1" --kek kek.hex <key.hex 2>agreed.log; echo "status $?")
+    [ "$found" = "$wanted" ] || { printf '%s\n' "library: $found" "command: $wanted"; false; }
+}
+
+program=${KEYWRAP:-$root/crates/keywrap_cli/out/keywrap_cli}
+if [ -x "$program" ]; then
+    echo 000102030405060708090a0b0c0d0e0f | tee kek.hex >key.hex
+    row 'the caller under a value: builds' cc -std=c99 "${strict[@]}" agreed.c "${flags[@]}" -o agreed
+    for value in a6a6a6a6a6a6a6a6 0123456789abcdef a65959a700000010 a65959a600000010 a65959a6ffffffff; do
+        row "the value $value in the library and in the command" agrees $value
+    done
+else
+    skipped=$((skipped + 1))
+    echo "SKIPPED: the library against the command: no $program (./keywrap --version builds it)"
+fi
+
 row 'make uninstall-library' in_library uninstall-library PREFIX="$prefix"
 row 'nothing is left of it' test -z "$(find "$prefix" ! -type d)"
 row 'no link stands in the tree' test -z "$(find "$root" -name 'libkeywrap*' -type l)"

@@ -73,8 +73,8 @@ inputs=(key.hex key.raw text.hex text.raw text20.hex key7.hex wrong.hex digit.he
 commands=(wrap unwrap check drill vectors help)
 flags=(--kek --padded --raw --raw-kek --unwrap --help -h --version -V -- - --kek=kek16.hex --kek= --raw=1
     --no-raw --ra --KEK -k -rh -hV --kek=$'\xff' --iv --secret)
-values=("$d16" "$drilled" "${drilled^^}" "$key7" "$text16" "$(zeros 9)" '' 0 0g 012 00 ' 00 11 ' $'00\n11' é
-    "$(zeros 4096)" "$(zeros 4097)" "$(zeros 32769)")
+values=("$iv" "${iv^^}" a65959a600000010 "$d16" "$drilled" "${drilled^^}" "$key7" "$text16" "$(zeros 9)" '' 0 0g 012
+    00 ' 00 11 ' $'00\n11' é "$(zeros 4096)" "$(zeros 4097)" "$(zeros 32769)")
 garbage=(rewind WRAP wrap= '=wrap' 'wrap --kek' '*' "\$HOME" '%s%n' -1 --1 --- '--=x' $'\xff' $'--\xff'
     $'\xc3' $'\xed\xa0\x80' $'\xf4\x90\x80\x80' $'a\xff\xfeb' $'\x01\x1b[31m' $'\n' "$(zeros 3000)")
 

@@ -7,6 +7,7 @@ mod memory;
 mod reads;
 mod swapped;
 mod texts;
+mod values;
 mod writes;
 
 use crate::vector_table::{Operation, VECTORS};

@@ -62,3 +62,22 @@ fn gives_up_for_memory_or_io_at_no_size_of_a_write(rt: HostRuntime) {
         assert_eq!(rt; out.out(), LINES.as_bytes());
     }
 }
+
+#[test]
+fn gives_up_for_memory_or_io_at_no_size_of_a_write_of_a_job(rt: HostRuntime) {
+    for case in &CASES {
+        write_in_pieces(&rt, rt.alloc(), case);
+    }
+}
+
+// The flush is left to the caller.
+fn write_in_pieces(rt: &impl Abort, alloc: Global, case: &Case) {
+    for size in [1, 7, usize::MAX] {
+        let mut kek = case.kek;
+        let mut input = case.input;
+        let mut out = Narrow::in_pieces(alloc, size);
+        let done = run_job(alloc, case.task, &mut kek, &mut input, &mut out);
+        assert!(rt; done == Ok(Done::Written) && !out.is_flushed());
+        assert!(rt; out.out() == case.output);
+    }
+}

@@ -1,0 +1,165 @@
+//! Jobs under an initial value that was handed in: each growth, each read and each write failing in
+//! turn, and none that gives up without a cause.
+
+use super::super::doubles::{Narrow, Trickle};
+use super::super::jobs::{HEX_KEK, HEX_KEY};
+use crate::convert::Direction;
+use crate::job::{Done, JobFault, Notation, run_with};
+use key_files::FileFault;
+use key_wrap::InitialValue;
+use std::alloc::Global;
+use std::io::{Read, Write};
+use std::test::Fail;
+
+const OTHER: [u8; 8] = *b"\x01\x23\x45\x67\x89\xAB\xCD\xEF";
+
+// The wrapping of the key under this value, as OpenSSL answers it.
+const HEX_TEXT: &[u8] = b"a0f76f4b09e1f2191b8d94da2ca57adfd45ee9732992a98f\n";
+
+// Each direction with its input and its output.
+static DIRECTIONS: [(Direction, &[u8], &[u8]); 2] = [
+    (Direction::Wrap, HEX_KEY, HEX_TEXT),
+    (Direction::Unwrap, HEX_TEXT, HEX_KEY),
+];
+
+// A job in hex under a value.
+fn run_under<K: Read, R: Read, W: Write>(
+    alloc: Global,
+    iv: &InitialValue,
+    direction: Direction,
+    kek: &mut K,
+    input: &mut R,
+    out: &mut W,
+) -> Result<Done, JobFault> {
+    run_with(
+        alloc,
+        iv,
+        direction,
+        Notation::Hex,
+        Notation::Hex,
+        kek,
+        input,
+        out,
+    )
+}
+
+#[test]
+fn refuses_each_growth_of_a_job_under_a_value(rt: HostRuntime) -> Result<(), Fail> {
+    let iv = InitialValue::new(OTHER)?;
+    for (direction, input, output) in &DIRECTIONS {
+        let mut room = [0; 64];
+        // A writer that takes no memory. It shrinks by what it takes.
+        let mut free = room.as_mut_slice();
+        let mut kek = HEX_KEK;
+        let mut input = *input;
+        let done = run_under(rt.alloc(), &iv, *direction, &mut kek, &mut input, &mut free);
+        let written = 64_usize.saturating_sub(free.len());
+        if done == Err(JobFault::Memory) {
+            assert!(rt; written == 0);
+        } else {
+            assert!(rt; done == Ok(Done::Written));
+            assert!(rt; room.get(..written) == Some(*output));
+        }
+    }
+    Ok(())
+}
+
+#[test]
+fn answers_each_read_of_the_kek_that_fails_under_a_value(rt: HostRuntime) -> Result<(), Fail> {
+    let iv = InitialValue::new(OTHER)?;
+    for len in 0..=HEX_KEK.len() {
+        let mut kek = Trickle::failing(&HEX_KEK[..len]);
+        let mut input = Trickle::ending(HEX_KEY);
+        let mut out = Vec::new(rt.alloc());
+        let done = run_under(
+            rt.alloc(),
+            &iv,
+            Direction::Wrap,
+            &mut kek,
+            &mut input,
+            &mut out,
+        );
+        assert!(rt; done == Err(JobFault::KekFile(FileFault::Read)));
+        assert!(rt; input.is_unread() && out.is_empty());
+    }
+    Ok(())
+}
+
+#[test]
+fn answers_each_read_of_the_input_that_fails_under_a_value(rt: HostRuntime) -> Result<(), Fail> {
+    let iv = InitialValue::new(OTHER)?;
+    for len in 0..=HEX_TEXT.len() {
+        let mut kek = HEX_KEK;
+        let mut input = Trickle::failing(&HEX_TEXT[..len]);
+        let mut out = Vec::new(rt.alloc());
+        let done = run_under(
+            rt.alloc(),
+            &iv,
+            Direction::Unwrap,
+            &mut kek,
+            &mut input,
+            &mut out,
+        );
+        assert!(rt; done == Err(JobFault::InputFile(FileFault::Read)) && out.is_empty());
+    }
+    Ok(())
+}
+
+#[test]
+fn counts_what_went_out_at_each_write_that_fails_under_a_value(
+    rt: HostRuntime,
+) -> Result<(), Fail> {
+    let iv = InitialValue::new(OTHER)?;
+    for room in 0..HEX_TEXT.len() {
+        let mut kek = HEX_KEK;
+        let mut input = HEX_KEY;
+        let mut out = Narrow::failing(rt.alloc(), room);
+        let done = run_under(
+            rt.alloc(),
+            &iv,
+            Direction::Wrap,
+            &mut kek,
+            &mut input,
+            &mut out,
+        );
+        assert!(rt; done == Err(JobFault::Write { written: room }));
+        assert!(rt; Some(out.out()) == HEX_TEXT.get(..room));
+    }
+    Ok(())
+}
+
+// Keys of 2 to 65 words, a byte a read and a byte a write.
+#[test]
+fn gives_up_for_memory_or_io_at_no_length_under_a_value(rt: HostRuntime) -> Result<(), Fail> {
+    let iv = InitialValue::new(OTHER)?;
+    let digits = vec![in rt.alloc(); b'5'; 1_040]?;
+    for words in 2..=65 {
+        let key = digits.get(..16 * words);
+        let mut kek = HEX_KEK;
+        let mut input = Trickle::ending(key.unwrap_or(&[]));
+        let mut text = Narrow::in_pieces(rt.alloc(), 1);
+        let done = run_under(
+            rt.alloc(),
+            &iv,
+            Direction::Wrap,
+            &mut kek,
+            &mut input,
+            &mut text,
+        );
+        assert!(rt; done == Ok(Done::Written), "{words} words");
+        let mut kek = HEX_KEK;
+        let mut input = Trickle::ending(text.out());
+        let mut back = Narrow::in_pieces(rt.alloc(), 1);
+        let done = run_under(
+            rt.alloc(),
+            &iv,
+            Direction::Unwrap,
+            &mut kek,
+            &mut input,
+            &mut back,
+        );
+        assert!(rt; done == Ok(Done::Written), "{words} words");
+        assert!(rt; back.out().get(..16 * words) == key, "{words} words");
+    }
+    Ok(())
+}
