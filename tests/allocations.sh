@@ -2,18 +2,18 @@
 # Runs the built program with each of its allocations failing in turn, for each command and for
 # a refusal of each kind, the reading of the command line included. Each run has to end with
 # status 7, `keywrap: out of memory` and nothing on standard output, or with the answer that it
-# has with ample memory. Then it runs, in the same way, the tests refuses_each_growth_.. of the test
-# program: they say of each call that it answers Memory and has written nothing, or answers all. Last
+# has with ample memory. Then it runs, in the same way, the tests refuses_each_growth_.. of two
+# crates: they say of each call that it answers Memory and has written nothing, or answers all. Last
 # it runs the commands in ever more memory, from where the program starts at all.
 #
 # usage: tests/allocations.sh        (KEYWRAP=PATH tries another program, as an installed one, and
-#                                     TESTS=PATH another test program)
+#                                     TESTS=PATH a folder of crates with other test programs)
 #
 # The first two parts want a C compiler, cc or the clang of the kit beside rt, and the second also the
-# test program that `rt test` and `rt ci` leave; they are skipped without.
+# test programs that `rt test` and `rt ci` leave; they are skipped without.
 
 set -u
-# The test program, from the folder that this was started in.
+# Where the test programs are, from the folder that this was started in.
 case ${TESTS:-} in
 '' | /*) ;;
 *) TESTS=$PWD/$TESTS ;;
@@ -104,14 +104,15 @@ fi
 
 ### Each growth of a call refused in turn, alone and with all that come after it
 
-# holds_at_each TEST: one row, of as many runs of a test as there are allocations, twice. The test
-# fails where a call answers anything but Memory, or all that it answers with ample memory, and
-# where a call that answers Memory has written something.
+# holds_at_each PROGRAM TEST [COUNT]: one row, of as many runs of a test as there are allocations,
+# twice. The test fails where a call answers anything but Memory, or all that it answers with ample
+# memory, and where a call that answers Memory has written something, or given its pair a block. COUNT
+# is how many allocations there are to be.
 holds_at_each() {
     local call from problem=''
     for from in '' +; do
         for ((call = 1; ; call++)); do
-            LD_PRELOAD=./fail_alloc.so FAIL_ALLOC=$call$from "$tests" "$1" >out 2>err 9>met
+            LD_PRELOAD=./fail_alloc.so FAIL_ALLOC=$call$from "$1" "$2" >out 2>err 9>met
             status=$?
             [ -s met ] || break
             [ "$status" = 0 ] ||
@@ -119,21 +120,29 @@ holds_at_each() {
         done
         [ "$status" = 0 ] || problem="$problem; $((call - 1)) allocations: status $status, error $(shown err)"
         [ $call -gt 1 ] || problem="$problem; no allocation was met"
+        [ $((call - 1)) = "${3:-$((call - 1))}" ] || problem="$problem; $((call - 1)) allocations, not $3"
     done
-    verdict "each of $((call - 1)) growths of $1" "${problem:0:600}"
+    verdict "each of $((call - 1)) growths of $2" "${problem:0:600}"
 }
 
-tests=${TESTS:-$root/crates/keywrap_cli/out/keywrap_cli_tests}
-if ! $has_compiler; then
-    :
-elif [ ! -x "$tests" ]; then
-    echo "1 skipped: each growth of a call refused in turn wants the test program (rt test in crates/keywrap_cli)"
-else
+# holds_in CRATE [COUNT]: the same for each test of a crate that is named for it.
+holds_in() {
+    local tests="${TESTS:-$root/crates}/$1/out/$1_tests" growths test
+    if [ ! -x "$tests" ]; then
+        echo "1 skipped: each growth of a call refused in turn wants $tests (rt test in crates/$1)"
+        return
+    fi
     growths=$("$tests" --list | sed -n 's/^\(.*::refuses_each_growth_.*\): test$/\1/p')
     [ -n "$growths" ] || verdict 'each growth of a call' "no test refuses_each_growth_.. in $tests"
     for test in $growths; do
-        holds_at_each "$test"
+        holds_at_each "$tests" "$test" "${@:2}"
     done
+}
+
+if $has_compiler; then
+    # Four calls, and one growth in each.
+    holds_in key_wrap 4
+    holds_in keywrap_cli
 fi
 
 ### Ever more memory

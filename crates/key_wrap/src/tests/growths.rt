@@ -114,3 +114,28 @@ fn takes_no_memory_at_an_illegal_length(rt: HostRuntime) -> Result<(), Fail> {
     assert!(rt; tally.take() == 0);
     Ok(())
 }
+
+// The key data and its texts, plain and padded.
+const DATA: [u8; 16] = *b"\x00\x11\x22\x33\x44\x55\x66\x77\x88\x99\xAA\xBB\xCC\xDD\xEE\xFF";
+
+const PLAIN: [u8; 24] = *b"\xA6\xA6\xA6\xA6\xA6\xA6\xA6\xA6\
+    \x00\x11\x22\x33\x44\x55\x66\x7F\x88\x99\xAA\xBB\xCC\xDD\xEE\xFB";
+
+const PADDED: [u8; 24] = *b"\xA6\x59\x59\xA6\x00\x00\x00\x10\
+    \x00\x11\x22\x33\x44\x55\x66\x7F\x88\x99\xAA\xBB\xCC\xDD\xEE\xFB";
+
+// tests/allocations.sh refuses each allocation of this test in turn, and counts them: four.
+#[test]
+fn refuses_each_growth_of_four_calls(rt: HostRuntime) {
+    let alloc = rt.alloc();
+    let tally = Tally::new();
+    assert!(rt; wrap(alloc, &tally, &PLAIN[1..]).is_err() && unwrap(alloc, &tally, &DATA).is_err());
+    let refused = wrap(alloc, &tally, &DATA).err() == Some(WrapFault::Memory);
+    assert!(rt; tally.take() == if refused { 0 } else { 12 });
+    let refused = unwrap(alloc, &tally, &PLAIN).err() == Some(UnwrapFault::Memory);
+    assert!(rt; tally.take() == if refused { 0 } else { 12 });
+    let refused = wrap_padded(alloc, &tally, &DATA).err() == Some(WrapFault::Memory);
+    assert!(rt; tally.take() == if refused { 0 } else { 12 });
+    let refused = unwrap_padded(alloc, &tally, &PADDED).err() == Some(UnwrapFault::Memory);
+    assert!(rt; tally.take() == if refused { 0 } else { 12 });
+}
