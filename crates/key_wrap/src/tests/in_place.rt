@@ -123,3 +123,36 @@ fn keeps_the_buffer_at_a_bad_length(rt: HostRuntime) -> Result<(), Fail> {
     assert!(rt; meter.count() == 0);
     Ok(())
 }
+
+#[test]
+fn counts_from_call_to_call(rt: HostRuntime) {
+    let mut meter = Meter::new(&SwapHalves);
+    let given = *b"\xFF\xFF\xFF\xFF\xFF\xFF\xFF\xFFForPasi\xEE";
+    let mut buffer = given;
+    for m in [0, 9, usize::MAX] {
+        let answer = wrap_padded_in_place(&mut meter, &mut buffer, m);
+        assert!(rt; answer == Err(InPlaceFault::BadLength), "{m} bytes");
+    }
+    assert!(rt; buffer == given && meter.count() == 0);
+    assert!(rt; wrap_padded_in_place(&mut meter, &mut buffer, 7) == Ok(()));
+    assert!(rt; buffer == *b"ForPasi\0\xA6\x59\x59\xA6\0\0\0\x07" && meter.count() == 1);
+    assert!(rt; unwrap_padded_in_place(&mut meter, &mut buffer) == Ok(7));
+    assert!(rt; buffer == *b"\0\0\0\0\0\0\0\0ForPasi\0" && meter.count() == 2);
+    let mut refused = *b"\xA6\x59\x59\xA6\0\0\0\x09\
+        \x11\x22\x33\x44\x55\x66\x77\x80\x99\0\0\0\0\0\0\x05";
+    let answer = unwrap_padded_in_place(&mut meter, &mut refused);
+    assert!(rt; answer == Err(InPlaceFault::Integrity) && refused == [0; 24]);
+    assert!(rt; meter.count() == 14);
+}
+
+#[test]
+fn refuses_a_cleared_buffer_again(rt: HostRuntime) {
+    let mut meter = Meter::new(&SwapHalves);
+    let mut buffer = *b"\xA7\xA6\xA6\xA6\xA6\xA6\xA6\xA6\
+        \x00\x11\x22\x33\x44\x55\x66\x7F\x88\x99\xAA\xBB\xCC\xDD\xEE\xFB";
+    for count in [12, 24] {
+        let answer = unwrap_in_place(&mut meter, &mut buffer);
+        assert!(rt; answer == Err(InPlaceFault::Integrity) && buffer == [0; 24]);
+        assert!(rt; meter.count() == count);
+    }
+}

@@ -12,26 +12,42 @@ use std::alloc::{AllocError, Global};
 use std::process::Abort;
 use std::test::Fail;
 
+// The block calls of wrapping each published key.
+static CALLS: [u64; 8] = [12, 12, 12, 18, 18, 24, 18, 1];
+
 #[test]
 fn wraps_and_unwraps_in_place_and_counts(rt: HostRuntime) -> Result<(), Fail> {
-    for wrapping in published(rt.alloc())? {
-        wrap_and_unwrap(&rt, rt.alloc(), &wrapping)?;
+    let published = published(rt.alloc())?;
+    assert!(rt; published.len() == CALLS.len());
+    for (wrapping, calls) in published.iter().zip(&CALLS) {
+        wrap_and_unwrap(&rt, rt.alloc(), wrapping, *calls)?;
     }
     Ok(())
 }
 
-fn wrap_and_unwrap(rt: &impl Abort, alloc: Global, wrapping: &Wrapping) -> Result<(), Fail> {
+// There and back in one buffer over one meter.
+fn wrap_and_unwrap(
+    rt: &impl Abort,
+    alloc: Global,
+    wrapping: &Wrapping,
+    calls: u64,
+) -> Result<(), Fail> {
     let aes = Aes::new(&wrapping.kek)?;
     let mut meter = Meter::new(&aes);
+    let len = wrapping.key.len();
     let mut buf = room_for(alloc, &wrapping.key, 0xFF)?;
     match wrapping.form {
         Form::Plain => wrap_in_place(&mut meter, &mut buf)?,
-        Form::Padded => wrap_padded_in_place(&mut meter, &mut buf, wrapping.key.len())?,
+        Form::Padded => wrap_padded_in_place(&mut meter, &mut buf, len)?,
     }
-    assert!(rt; buf == wrapping.text);
-    assert!(rt; meter.count() == calls_for(&wrapping.text));
-    let key = Some(wrapping.key.as_slice());
-    unwraps_to(rt, alloc, wrapping.form, &aes, &wrapping.text, key)
+    assert!(rt; buf == wrapping.text && meter.count() == calls);
+    let found = match wrapping.form {
+        Form::Plain => unwrap_in_place(&mut meter, &mut buf).map(|()| len)?,
+        Form::Padded => unwrap_padded_in_place(&mut meter, &mut buf)?,
+    };
+    assert!(rt; found == len && buf == room_for(alloc, &wrapping.key, 0)?);
+    assert!(rt; meter.count() == calls.saturating_mul(2));
+    Ok(())
 }
 
 // The block calls of one wrapping or unwrapping: six for each word of the key, and one for a padded
