@@ -6,9 +6,10 @@ use super::super::jobs::{HEX_KEK, HEX_KEY};
 use crate::convert::Direction;
 use crate::job::{Done, JobFault, Notation, run_with};
 use key_files::FileFault;
-use key_wrap::InitialValue;
+use key_wrap::{InitialValue, MAX_KEY};
 use std::alloc::Global;
 use std::io::{Read, Write};
+use std::process::Abort;
 use std::test::Fail;
 
 const OTHER: [u8; 8] = *b"\x01\x23\x45\x67\x89\xAB\xCD\xEF";
@@ -128,38 +129,58 @@ fn counts_what_went_out_at_each_write_that_fails_under_a_value(
     Ok(())
 }
 
-// Keys of 2 to 65 words, a byte a read and a byte a write.
+// Keys of every length to 520 bytes, some beyond and the largest, a byte a read and a byte a write,
+// raw and in hex.
 #[test]
 fn gives_up_for_memory_or_io_at_no_length_under_a_value(rt: HostRuntime) -> Result<(), Fail> {
     let iv = InitialValue::new(OTHER)?;
-    let digits = vec![in rt.alloc(); b'5'; 1_040]?;
-    for words in 2..=65 {
-        let key = digits.get(..16 * words);
-        let mut kek = HEX_KEK;
-        let mut input = Trickle::ending(key.unwrap_or(&[]));
-        let mut text = Narrow::in_pieces(rt.alloc(), 1);
-        let done = run_under(
-            rt.alloc(),
-            &iv,
-            Direction::Wrap,
-            &mut kek,
-            &mut input,
-            &mut text,
-        );
-        assert!(rt; done == Ok(Done::Written), "{words} words");
-        let mut kek = HEX_KEK;
-        let mut input = Trickle::ending(text.out());
-        let mut back = Narrow::in_pieces(rt.alloc(), 1);
-        let done = run_under(
-            rt.alloc(),
-            &iv,
-            Direction::Unwrap,
-            &mut kek,
-            &mut input,
-            &mut back,
-        );
-        assert!(rt; done == Ok(Done::Written), "{words} words");
-        assert!(rt; back.out().get(..16 * words) == key, "{words} words");
+    let bytes = vec![in rt.alloc(); b'5'; 2 * MAX_KEY]?;
+    for words in (2..=65).chain([512, 513, MAX_KEY / 8]) {
+        let raw = bytes.get(..words.saturating_mul(8)).unwrap_or(&[]);
+        there_and_back(&rt, rt.alloc(), &iv, Notation::Raw, raw);
+        let hex = bytes.get(..words.saturating_mul(16)).unwrap_or(&[]);
+        there_and_back(&rt, rt.alloc(), &iv, Notation::Hex, hex);
     }
     Ok(())
+}
+
+// Wraps an input and unwraps the text again.
+fn there_and_back(
+    rt: &impl Abort,
+    alloc: Global,
+    iv: &InitialValue,
+    notation: Notation,
+    input: &[u8],
+) {
+    let mut kek = Trickle::ending(HEX_KEK);
+    let mut key = Trickle::ending(input);
+    let mut text = Narrow::in_pieces(alloc, 1);
+    let wrap = Direction::Wrap;
+    let done = run_with(
+        alloc,
+        iv,
+        wrap,
+        notation,
+        Notation::Hex,
+        &mut kek,
+        &mut key,
+        &mut text,
+    );
+    assert!(rt; done == Ok(Done::Written));
+    let mut kek = Trickle::ending(HEX_KEK);
+    let mut wrapped = Trickle::ending(text.out());
+    let mut back = Narrow::in_pieces(alloc, 1);
+    let unwrap = Direction::Unwrap;
+    let done = run_with(
+        alloc,
+        iv,
+        unwrap,
+        notation,
+        Notation::Hex,
+        &mut kek,
+        &mut wrapped,
+        &mut back,
+    );
+    assert!(rt; done == Ok(Done::Written));
+    assert!(rt; back.out().get(..input.len()) == Some(input));
 }
