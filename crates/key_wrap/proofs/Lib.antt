@@ -14,3 +14,4 @@ pub mod ThreeChecks
 pub mod InPlaceForm
 pub mod Unwrappings
 pub mod KeyLengths
+pub mod Rewraps

@@ -11,3 +11,5 @@ pub mod Kind
 pub mod Calls
 pub mod InPlace
 pub mod Faults
+pub mod Forms
+pub mod Rewrap

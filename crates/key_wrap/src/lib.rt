@@ -14,6 +14,8 @@ mod lengths;
 mod machine;
 mod padded;
 mod plain;
+mod rewrapping;
+mod rewrapping_in_place;
 mod unwrapping;
 
 pub use faults::{InPlaceFault, KindFault, ReservedIv, UnwrapFault, WrapFault};
@@ -28,6 +30,8 @@ pub use lengths::{
 };
 pub use padded::{unwrap_padded, wrap_padded};
 pub use plain::{unwrap, unwrap_with, wrap, wrap_with};
+pub use rewrapping::rewrap;
+pub use rewrapping_in_place::rewrap_in_place;
 
 #[cfg(test)]
 mod tests;

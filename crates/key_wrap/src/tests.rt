@@ -7,6 +7,7 @@ mod in_place;
 mod initial_values;
 mod into;
 mod memory;
+mod rewraps;
 
 use crate::*;
 use block_pair::SwapHalves;

@@ -6,6 +6,7 @@ use super::initial_values::OTHER;
 use crate::kinds::kind_in;
 use crate::padded::{unwrap_padded_in, wrap_padded_in};
 use crate::plain::{unwrap_in, wrap_in};
+use crate::rewrapping::rewrap_in;
 use crate::*;
 use block_pair::SwapHalves;
 use linked_list_allocator::LocalHeap;
@@ -75,6 +76,29 @@ fn unwraps_after_one_growth(rt: HostRuntime) -> Result<(), Fail> {
     Ok(())
 }
 
+// The old pair and the new are given their blocks in the one buffer.
+#[test]
+fn rewraps_after_one_growth(rt: HostRuntime) -> Result<(), Fail> {
+    let key = vec![in rt.alloc(); 0x5A; KEY]?;
+    let plain = wrap(rt.alloc(), &SwapHalves, &key)?;
+    let (old, new) = (Tally::new(), Tally::new());
+    for size in (0..=TEXT).step_by(STEP) {
+        let heap = LocalHeap::new(rt.alloc(), size)?;
+        let (fault, blocks) = if size < TEXT {
+            (Some(UnwrapFault::Memory), 0)
+        } else {
+            (None, BLOCKS)
+        };
+        let answer = rewrap_in(&heap, &old, Form::Plain, &new, Form::Padded, &plain).err();
+        assert!(rt; answer == fault, "a heap of {size} bytes");
+        assert!(rt;
+            old.take() == blocks && new.take() == blocks,
+            "a heap of {size} bytes"
+        );
+    }
+    Ok(())
+}
+
 // It unwraps in the plain form, and where that is refused in the padded form, in the same memory.
 #[test]
 fn names_the_kind_after_its_growths(rt: HostRuntime) -> Result<(), Fail> {
@@ -111,6 +135,8 @@ fn takes_no_memory_at_an_illegal_length(rt: HostRuntime) -> Result<(), Fail> {
     assert!(rt; wrap_padded_in(&heap, &tally, &[]).err() == Some(WrapFault::BadLength));
     assert!(rt; unwrap_padded_in(&heap, &tally, &bytes).err() == Some(UnwrapFault::BadLength));
     assert!(rt; kind_in(&heap, &tally, &bytes) == Ok(Kind::Neither));
+    let answer = rewrap_in(&heap, &tally, Form::Plain, &tally, Form::Plain, &bytes).err();
+    assert!(rt; answer == Some(UnwrapFault::BadLength));
     assert!(rt; tally.take() == 0);
     Ok(())
 }
@@ -124,9 +150,9 @@ const PLAIN: [u8; 24] = *b"\xA6\xA6\xA6\xA6\xA6\xA6\xA6\xA6\
 const PADDED: [u8; 24] = *b"\xA6\x59\x59\xA6\x00\x00\x00\x10\
     \x00\x11\x22\x33\x44\x55\x66\x7F\x88\x99\xAA\xBB\xCC\xDD\xEE\xFB";
 
-// tests/allocations.sh refuses each allocation of this test in turn, and counts them: four.
+// tests/allocations.sh refuses each allocation of this test in turn, and counts them: five.
 #[test]
-fn refuses_each_growth_of_four_calls(rt: HostRuntime) {
+fn refuses_each_growth_of_five_calls(rt: HostRuntime) {
     let alloc = rt.alloc();
     let tally = Tally::new();
     assert!(rt; wrap(alloc, &tally, &PLAIN[1..]).is_err() && unwrap(alloc, &tally, &DATA).is_err());
@@ -138,4 +164,7 @@ fn refuses_each_growth_of_four_calls(rt: HostRuntime) {
     assert!(rt; tally.take() == if refused { 0 } else { 12 });
     let refused = unwrap_padded(alloc, &tally, &PADDED).err() == Some(UnwrapFault::Memory);
     assert!(rt; tally.take() == if refused { 0 } else { 12 });
+    let answer = rewrap(alloc, &tally, Form::Plain, &tally, Form::Padded, &PLAIN).err();
+    let refused = answer == Some(UnwrapFault::Memory);
+    assert!(rt; tally.take() == if refused { 0 } else { 24 });
 }

@@ -62,13 +62,13 @@ fn wraps_under_another_initial_value_into_a_buffer(rt: HostRuntime) -> Result<()
     Ok(())
 }
 
-// Each legal length to 520 bytes, and the largest.
+// Each legal length to 4,104 bytes, and the largest.
 #[test]
 fn gives_up_for_memory_at_no_length_under_another_value(rt: HostRuntime) -> Result<(), Fail> {
     let alloc = rt.alloc();
     let iv = InitialValue::new(OTHER)?;
     let key = vec![in alloc; 0x5A; MAX_KEY]?;
-    for len in (16..=520).step_by(8).chain([MAX_KEY]) {
+    for len in (16..=4_104).step_by(8).chain([MAX_KEY]) {
         let key = key.get(..len).unwrap_or(&[]);
         let text = wrap_with(alloc, &SwapHalves, &iv, key)?;
         let again = unwrap_with(alloc, &SwapHalves, &iv, &text)?;

@@ -75,6 +75,34 @@ fn goes_in_its_forms(rt: &impl Abort, alloc: Global, key: &[u8]) -> Result<(), F
     goes_there_and_back(rt, alloc, Form::Padded, key)
 }
 
+// Rewraps the key's text from each form that it has to each.
+fn rewraps_in_its_forms(rt: &impl Abort, alloc: Global, key: &[u8]) -> Result<(), Fail> {
+    let forms: &[Form] = if key_length_ok(key.len()) {
+        &[Form::Padded, Form::Plain]
+    } else {
+        &[Form::Padded]
+    };
+    for old in forms {
+        let text = wrapped(alloc, *old, key)?;
+        for new in forms {
+            let answer = rewrap(alloc, &SwapHalves, *old, &SwapHalves, *new, &text)?;
+            assert!(rt; answer == wrapped(alloc, *new, key)?, "{} bytes", key.len());
+        }
+    }
+    Ok(())
+}
+
+#[test]
+fn gives_up_for_memory_at_no_length_of_a_rewrapping(rt: HostRuntime) -> Result<(), Fail> {
+    let key = largest(rt.alloc(), Content::Random)?;
+    for len in 1..=4_105 {
+        if len <= 520 || (len + 1) % 8 <= 2 {
+            rewraps_in_its_forms(&rt, rt.alloc(), key.get(..len).unwrap_or(&[]))?;
+        }
+    }
+    rewraps_in_its_forms(&rt, rt.alloc(), &key)
+}
+
 // Every length to 520 bytes, every multiple of 8 with its neighbours to 4,105, and the largest.
 #[test]
 fn gives_up_for_memory_at_no_length_or_content(rt: HostRuntime) -> Result<(), Fail> {

@@ -29,7 +29,8 @@ returns g c =
     let registers : List ℕ = c.unwrap_padded_registers.new.registers in
     let w = c.unwrap_padded_registers.ensures in
     let states = first_cleared c.read_u64-c0.result text c.fill.new.self registers (omega arith) front (c.fill.ensures.after (λ y e. e)) (search rules) in
-    let u = renamed IsPaddedTextLength states.given (ap (λ (bs : List ℕ). λ (m : ℕ). key_in m bs) (sym states.left)) w.answer in
+    let u = renamed IsPaddedTextLength {key = λ (m : ℕ). take m registers} states.given
+    (ap (λ (bs : List ℕ). λ (m : ℕ). key_in m bs) (sym states.left)) w.answer in
     record {
       bad_length = u.bad_length;
       buffer_kept = λ e. absurd (u.bad_length.0 e legal);

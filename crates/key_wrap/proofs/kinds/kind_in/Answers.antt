@@ -11,7 +11,8 @@ pub returns-in-Some : goal.returns-in-Some
 returns-in-Some g c =
     let E : List ℕ → List ℕ = g.B.BlockPair.encrypted c.args.pair.now in
     let a = rw c.default.ensures at c.unwrap_in.ensures in
-    let w = found (Plain E default_iv) (Padded E) IsPlainTextLength c.args.text.now c.unwrap_in.result c.in_ok-len.field-0 c.in-Some.len c.in_ok-len.ensures c.in-Some.is
+    let w = found (Plain E default_iv) (Padded E) IsPlainTextLength c.args.text.now c.unwrap_in.result c.in_ok-len.field-0 c.in-Some.len c.in_ok-len.ensures
+    c.in-Some.is
     a.answer a.only_key a.other_form in
     record {
       answer = (w.key, w.size, w.stands);
@@ -25,8 +26,8 @@ pub returns-in-Some-2 : goal.returns-in-Some-2
 returns-in-Some-2 g c =
     let E : List ℕ → List ℕ = g.B.BlockPair.encrypted c.args.pair.now in
     let a = c.unwrap_padded_in.ensures in
-    let w = found (Padded E) (Plain E default_iv) IsPaddedTextLength c.args.text.now c.unwrap_padded_in.result c.in_ok-len-2.field-0 c.in-Some-2.len c.in_ok-len-2.ensures
-    c.in-Some-2.is a.answer a.only_key a.other_form in
+    let w = found (Padded E) (Plain E default_iv) IsPaddedTextLength c.args.text.now c.unwrap_padded_in.result c.in_ok-len-2.field-0
+    c.in-Some-2.len c.in_ok-len-2.ensures c.in-Some-2.is a.answer a.only_key a.other_form in
     record {
       answer = (w.key, w.size, w.stands);
       plain = λ key h. absurd (w.only_form key h);
@@ -38,7 +39,8 @@ returns-in-Some-2 g c =
 pub returns-in-None : goal.returns-in-None
 returns-in-None g c =
     let E : List ℕ → List ℕ = g.B.BlockPair.encrypted c.args.pair.now in
-    let no_plain = not_found (Plain E default_iv) c.args.text.now c.unwrap_in.result c.in_ok-len.field-0 c.in_ok-len.ensures c.in_default.not-Some (rw c.default.ensures at c.unwrap_in.ensures.accepts) in
+    let no_plain = not_found (Plain E default_iv) c.args.text.now c.unwrap_in.result c.in_ok-len.field-0 c.in_ok-len.ensures
+    c.in_default.not-Some (rw c.default.ensures at c.unwrap_in.ensures.accepts) in
     let no_padded = not_found (Padded E) c.args.text.now c.unwrap_padded_in.result c.in_ok-len-2.field-0 c.in_ok-len-2.ensures
     (λ len e. let none = c.in-None.is in cc) c.unwrap_padded_in.ensures.accepts in
     record {

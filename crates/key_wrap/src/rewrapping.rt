@@ -1,0 +1,113 @@
+//! Rewrapping from one pair and form to another, with one growth.
+
+ghost use Rattle.std.specs.Prelude.{◌≡◌, ◌↔◌, ◌⊎◌, ℕ, List, length, Err, IfOk};
+ghost use Rattle.std.specs.Prelude.{IsOkUnless, IsTrue};
+ghost use Rattle.key_wrap.specs.Forms.{StandsIn, IsKeyLength, IsTextLength};
+ghost use Rattle.key_wrap.specs.Rewrap.{AreWrappings, HasBadKey, RewrapAnswer};
+
+use crate::faults::UnwrapFault;
+use crate::forms::Form;
+use crate::lengths::{padded_text_length_ok, text_length_ok};
+use crate::rewrapping_in_place::rewrap_in_place;
+use block_pair::{BlockPair, Meter};
+use std::alloc::{Allocator, Global};
+
+/// The wrapping, in the new form under the new pair, of the one key whose wrapping in the old form
+/// under the old pair is `text`: as many bytes as the text. The text is unwrapped in the buffer of
+/// the answer, and wrapped there again.
+///
+/// `BadLength` where the text has no legal length in the old form, before any memory is taken; then
+/// `Memory`, before the first block call; `Integrity` where the text is no old wrapping;
+/// `BadLength` where its key has no legal length in the new form (only from padded to plain).
+pub fn rewrap<O: BlockPair, N: BlockPair>(
+    alloc: Global,
+    old: &O,
+    old_form: Form,
+    new: &N,
+    new_form: Form,
+    text: &[u8],
+) -> Result<Vec<u8>, UnwrapFault>
+    ensures answer { RewrapAnswer old_form (O.encrypted old.now) new_form (N.encrypted new.now)
+        text.now result }
+    ensures text_length { ¬ IsTextLength old_form (length text.now)
+        → result ≡ Err UnwrapFault.BadLength }
+    ensures key_length { HasBadKey old_form (O.encrypted old.now) new_form text.now
+        → (result ≡ Err UnwrapFault.BadLength) ⊎ (result ≡ Err UnwrapFault.Memory) }
+
+    // A wrapping whose key has a legal length in the new form is refused for want of memory alone.
+    ensures accepts { (key : List ℕ) → StandsIn old_form (O.encrypted old.now) key text.now
+        → IsKeyLength new_form (length key) → IsOkUnless result UnwrapFault.Memory }
+    ensures memory { result ≡ Err UnwrapFault.Memory → IsTextLength old_form (length text.now) }
+    ensures only_answer { IfOk result (λ answer. (other : List ℕ)
+        → AreWrappings old_form (O.encrypted old.now) new_form (N.encrypted new.now) text.now other
+        → other ≡ answer.items) }
+
+    // The text is the wrapping of one key alone.
+    ensures only_key { IfOk result (λ answer. (key other : List ℕ)
+        → StandsIn old_form (O.encrypted old.now) key text.now
+        → StandsIn old_form (O.encrypted old.now) other text.now → other ≡ key) }
+
+    // Unwrapping the answer gives exactly the old key.
+    ensures same_key { IfOk result (λ answer. (key : List ℕ)
+        → StandsIn new_form (N.encrypted new.now) key answer.items
+        ↔ StandsIn old_form (O.encrypted old.now) key text.now) }
+
+    // Rewrapping back gives the old text.
+    ensures restores { IfOk result (λ answer. (other : List ℕ)
+        → AreWrappings new_form (N.encrypted new.now) old_form (O.encrypted old.now)
+        answer.items other → other ≡ text.now) }
+    ensures size { IfOk result (λ answer. length answer.items ≡ length text.now) }
+{
+    rewrap_in(alloc, old, old_form, new, new_form, text)
+}
+
+// `rewrap` on any allocator, so that a test can refuse its growth.
+pub(crate) fn rewrap_in<A: Allocator, O: BlockPair, N: BlockPair>(
+    alloc: A,
+    old: &O,
+    old_form: Form,
+    new: &N,
+    new_form: Form,
+    text: &[u8],
+) -> Result<Vec<u8, A>, UnwrapFault>
+    ensures answer { RewrapAnswer old_form (O.encrypted old.now) new_form (N.encrypted new.now)
+        text.now result }
+    ensures text_length { ¬ IsTextLength old_form (length text.now)
+        → result ≡ Err UnwrapFault.BadLength }
+    ensures key_length { HasBadKey old_form (O.encrypted old.now) new_form text.now
+        → (result ≡ Err UnwrapFault.BadLength) ⊎ (result ≡ Err UnwrapFault.Memory) }
+    ensures accepts { (key : List ℕ) → StandsIn old_form (O.encrypted old.now) key text.now
+        → IsKeyLength new_form (length key) → IsOkUnless result UnwrapFault.Memory }
+    ensures memory { result ≡ Err UnwrapFault.Memory → IsTextLength old_form (length text.now) }
+    ensures only_answer { IfOk result (λ answer. (other : List ℕ)
+        → AreWrappings old_form (O.encrypted old.now) new_form (N.encrypted new.now) text.now other
+        → other ≡ answer.items) }
+    ensures only_key { IfOk result (λ answer. (key other : List ℕ)
+        → StandsIn old_form (O.encrypted old.now) key text.now
+        → StandsIn old_form (O.encrypted old.now) other text.now → other ≡ key) }
+    ensures same_key { IfOk result (λ answer. (key : List ℕ)
+        → StandsIn new_form (N.encrypted new.now) key answer.items
+        ↔ StandsIn old_form (O.encrypted old.now) key text.now) }
+    ensures restores { IfOk result (λ answer. (other : List ℕ)
+        → AreWrappings new_form (N.encrypted new.now) old_form (O.encrypted old.now)
+        answer.items other → other ≡ text.now) }
+    ensures size { IfOk result (λ answer. length answer.items ≡ length text.now) }
+{
+    if !text_length_in(old_form, text.len()) {
+        return Err(UnwrapFault::BadLength);
+    }
+    let mut buffer = Vec::from_slice(alloc, text)?;
+    let (mut unwraps, mut wraps) = (Meter::new(old), Meter::new(new));
+    rewrap_in_place(&mut unwraps, old_form, &mut wraps, new_form, &mut buffer)?;
+    Ok(buffer)
+}
+
+// Whether a text of `len` bytes can be a wrapping in this form.
+fn text_length_in(form: Form, len: usize) -> bool
+    ensures { IsTrue result ↔ IsTextLength form len }
+{
+    match form {
+        Form::Plain => text_length_ok(len),
+        Form::Padded => padded_text_length_ok(len),
+    }
+}
