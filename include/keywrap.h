@@ -4,7 +4,8 @@
  * or up to 15 where it is padded. Unwrapping gives the key back, or tells that the text wraps no
  * key under this KEK. Plain keys have 16, 24, 32 .. bytes, padded ones any length from 1 on. A text
  * is unwrapped in the form in which it was wrapped: in the other it is refused. The plain form has
- * the default initial value of RFC 3394; the _with calls take one that both ends agreed on.
+ * the default initial value of RFC 3394; the _with calls take one that both ends agreed on. A
+ * rewrap takes a text from one KEK to another.
  *
  *     uint8_t kek[32] = .., key[16] = .., text[KEYWRAP_TEXT_LEN(sizeof key)];
  *     if (keywrap_wrap(kek, sizeof kek, key, sizeof key, text, sizeof text) != KEYWRAP_OK) ..
@@ -39,15 +40,21 @@
 #define KEYWRAP_ROOM(text_len) ((text_len) < 8 ? 0 : (text_len) - 8)
 
 /* What each call answers: where several refusals apply, the first of them. The causes of
- * KEYWRAP_BAD_KEK and KEYWRAP_BAD_LENGTH are in the lengths alone. At these and at KEYWRAP_BAD_IV
- * no buffer is written. */
+ * KEYWRAP_BAD_KEK and KEYWRAP_BAD_LENGTH are in the lengths alone, and at these and at
+ * KEYWRAP_BAD_IV no buffer is written; but keywrap_rewrap_in_place, at the end of this file, has
+ * more causes of KEYWRAP_BAD_LENGTH, after one of which its buffer is all zeros. */
 enum keywrap_status {
     KEYWRAP_OK = 0,
     KEYWRAP_BAD_IV = 2,     /* the initial value is refused; only a _with call answers it */
     KEYWRAP_BAD_KEK = 3,    /* the KEK has not 16, 24 or 32 bytes */
     KEYWRAP_BAD_LENGTH = 4, /* a length is not one that the call takes */
-    KEYWRAP_INTEGRITY = 5   /* the text wraps no key under this KEK; only an unwrap answers it */
+    KEYWRAP_INTEGRITY = 5   /* the text wraps no key under this KEK; an unwrap or rewrap only */
 };
+
+/* The flags of keywrap_rewrap_in_place: the text that is given, and the one that is wanted, are in
+ * the padded form; without its flag each is in the plain one. */
+#define KEYWRAP_OLD_PADDED 1u
+#define KEYWRAP_NEW_PADDED 2u
 
 /* Where the compiler sees them, it warns of a NULL, of an answer that is not looked at, and (GCC)
  * of an overlap and of a buffer that is shorter than its length says. */
@@ -185,6 +192,27 @@ KEYWRAP_CALL KEYWRAP_READS(1, 2) KEYWRAP_CHANGES(3, 4)
 int32_t keywrap_unwrap_padded_in_place(const uint8_t *kek, size_t kek_len,
                                        uint8_t *KEYWRAP_RESTRICT buffer, size_t text_len,
                                        size_t *KEYWRAP_RESTRICT key_len);
+
+/* From one KEK to another, one buffer: text_len is its whole length. The new text is as long as the
+ * old one, in either form, and the key is never given out: it stands in the buffer only while the
+ * call runs.
+ *
+ * keywrap_rewrap_in_place turns a wrapping under old_kek into the wrapping of the same key under
+ * new_kek:
+ *   text_len  a multiple of 8 from 24, with KEYWRAP_OLD_PADDED from 16, to KEYWRAP_MAX_TEXT
+ *   forms     0, or the flags KEYWRAP_OLD_PADDED, KEYWRAP_NEW_PADDED or both, and no other bit
+ *   KEYWRAP_OK          the buffer holds the new wrapping; unwrapping it under new_kek gives the
+ *                       key that the old one gave
+ *   KEYWRAP_BAD_KEK     one of the KEKs is refused; the buffer is as it was
+ *   KEYWRAP_BAD_LENGTH  forms or text_len is refused, and the buffer is as it was; or, with
+ *                       KEYWRAP_OLD_PADDED alone, the text wraps a key that is not a multiple of
+ *                       8 bytes from 16 on, and the buffer is all zeros
+ *   KEYWRAP_INTEGRITY   the text wraps no key under old_kek; the buffer is all zeros
+ * To keep the text after a refusal, copy it first. */
+KEYWRAP_CALL KEYWRAP_READS(1, 2) KEYWRAP_READS(3, 4) KEYWRAP_CHANGES(5, 6)
+int32_t keywrap_rewrap_in_place(const uint8_t *old_kek, size_t old_kek_len, const uint8_t *new_kek,
+                                size_t new_kek_len, uint8_t *KEYWRAP_RESTRICT buffer,
+                                size_t text_len, uint32_t forms);
 
 #ifdef __cplusplus
 }

@@ -98,9 +98,11 @@ warns() {
 warns "${compilers[*]}" unused-result 'keywrap_wrap(k, 16, p, 16, p + 16, 24); return 0;'
 warns "${compilers[*]}" nonnull 'return keywrap_unwrap(k, 16, p, 24, NULL, 16);'
 warns "${compilers[*]}" nonnull 'return keywrap_unwrap_padded_in_place(k, 16, p, 24, NULL);'
+warns "${compilers[*]}" nonnull 'return keywrap_rewrap_in_place(k, 16, NULL, 16, p, 24, 0);'
 if [ "${compilers[0]}" = gcc ]; then
     warns gcc restrict 'return keywrap_wrap(k, 16, p, 16, p, 24);'
     warns gcc restrict 'return keywrap_unwrap_in_place(p, 16, p, 24);'
+    warns gcc restrict 'return keywrap_rewrap_in_place(k, 16, p, 16, p, 24, 0);'
     warns gcc stringop-overflow 'uint8_t t[16]; return keywrap_wrap(k, 16, p, 16, t, 24) + t[0];'
 fi
 
@@ -109,9 +111,9 @@ fi
 # The other AES is built once, and without the sanitizers.
 row 'the other AES: compiles' cc -std=c99 -O2 "${strict[@]}" -c "$root/bench/one_table.c" -o one_table.o
 calls=("$root"/tests/library/*.c one_table.o)
-names="keywrap_unwrap keywrap_unwrap_in_place keywrap_unwrap_padded keywrap_unwrap_padded_in_place \
-keywrap_unwrap_with keywrap_wrap keywrap_wrap_in_place keywrap_wrap_padded keywrap_wrap_padded_in_place \
-keywrap_wrap_with "
+names="keywrap_rewrap_in_place keywrap_unwrap keywrap_unwrap_in_place keywrap_unwrap_padded \
+keywrap_unwrap_padded_in_place keywrap_unwrap_with keywrap_wrap keywrap_wrap_in_place keywrap_wrap_padded \
+keywrap_wrap_padded_in_place keywrap_wrap_with "
 
 # shows NM_OPTION.. FILE: the names that the file shows are those of the header, and no others.
 shows() { [ "$(nm "$@" --defined-only | awk 'NF == 3 { print $3 }' | sort | tr '\n' ' ')" = "$names" ]; }

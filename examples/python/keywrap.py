@@ -52,17 +52,25 @@ _wrap_with = _function("keywrap_wrap_with", given=_BYTES * 3)
 _unwrap_with = _function("keywrap_unwrap_with", given=_BYTES * 3)
 _wrap_padded = _function("keywrap_wrap_padded")
 _unwrap_padded = _function("keywrap_unwrap_padded", ctypes.POINTER(ctypes.c_size_t))
+_rewrap_in_place = _function("keywrap_rewrap_in_place", ctypes.c_uint32)
+
+_OLD_PADDED = 1
+_NEW_PADDED = 2
 
 
-def _filled(function, given, length, *more):
-    """What the function makes of these bytes objects, in a buffer of this length."""
-    buffer = ctypes.create_string_buffer(length)
+def _changed(function, given, buffer, *more):
+    """What the function makes of the buffer and these bytes objects."""
     sized = [word for item in given for word in (item, len(item))]
-    status = function(*sized, buffer, length, *more)
+    status = function(*sized, buffer, len(buffer), *more)
     if status != 0:
         refusal = _REFUSALS.get(status, KeywrapError)
         raise refusal(refusal.__doc__)
     return buffer.raw
+
+
+def _filled(function, given, length, *more):
+    """What the function makes of these bytes objects, in a buffer of this length."""
+    return _changed(function, given, ctypes.create_string_buffer(length), *more)
 
 
 def wrap(kek: bytes, key: bytes, iv: Optional[bytes] = None) -> bytes:
@@ -91,3 +99,16 @@ def unwrap_padded(kek: bytes, text: bytes) -> bytes:
     length = ctypes.c_size_t()
     room = max(len(text) - 8, 0)
     return _filled(_unwrap_padded, (kek, text), room, ctypes.byref(length))[: length.value]
+
+
+def rewrap(
+    old_kek: bytes,
+    new_kek: bytes,
+    text: bytes,
+    old_padded: bool = False,
+    new_padded: bool = False,
+) -> bytes:
+    """The wrapping under the new KEK of the key whose wrapping under the old one the text is."""
+    buffer = ctypes.create_string_buffer(text, len(text))
+    forms = (_OLD_PADDED if old_padded else 0) | (_NEW_PADDED if new_padded else 0)
+    return _changed(_rewrap_in_place, (old_kek, new_kek), buffer, forms)

@@ -26,16 +26,26 @@ assert agreed.hex() == "5faedb3ad28b498f36c1afc361861782e04e134798791145"
 assert keywrap.unwrap(bytes(range(24)), agreed, iv) == key
 assert keywrap.wrap(kek, key, b"\xa6" * 8) == text
 
+kek_32 = bytes(range(32))
+rotated = keywrap.rewrap(kek, kek_32, text)
+print("rewrap:", rotated.hex())
+assert rotated.hex() == "64e8c3f9ce0f5ba263e9777905818a2a93c8191e7d6e8ae7"
+assert keywrap.rewrap(kek_32, kek, rotated) == text
+padded = keywrap.rewrap(kek, kek_32, text, new_padded=True)
+assert padded.hex() == "afc860015ffe2d75bedf43c444fe58f4ad9d89c4ec71e23b"
+assert keywrap.rewrap(kek_32, kek, padded, old_padded=True) == text
+
 
 def refused(exception, call, *arguments):
     """The call raises this very exception."""
+    sizes = ", ".join(str(len(item)) for item in arguments)
     try:
         call(*arguments)
     except keywrap.KeywrapError as error:
         assert type(error) is exception, error
-        print(f"{call.__name__} of {len(arguments[1])} bytes: {error}")
+        print(f"{call.__name__} of {sizes} bytes: {error}")
     else:
-        raise AssertionError(f"{call.__name__} of {len(arguments[1])} bytes was not refused")
+        raise AssertionError(f"{call.__name__} of {sizes} bytes was not refused")
 
 
 tampered = text[:3] + bytes([text[3] ^ 1]) + text[4:]
@@ -49,3 +59,7 @@ refused(keywrap.BadLength, keywrap.wrap, kek, key[:15])
 refused(keywrap.BadLength, keywrap.unwrap, kek, b"")
 refused(keywrap.BadLength, keywrap.wrap_padded, kek, b"")
 refused(keywrap.BadLength, keywrap.unwrap_padded, kek, text[:-1])
+refused(keywrap.IntegrityError, keywrap.rewrap, kek, kek_32, tampered)
+refused(keywrap.BadKek, keywrap.rewrap, kek, kek[:15], text)
+refused(keywrap.BadLength, keywrap.rewrap, kek, kek_32, text[:-1])
+refused(keywrap.BadLength, keywrap.rewrap, kek, kek_32, b"")

@@ -54,6 +54,8 @@ extern "C" {
         -> i32;
     fn keywrap_unwrap_padded_in_place(k: Bytes, n: usize, buffer: Buffer, len: usize,
         m: *mut usize) -> i32;
+    fn keywrap_rewrap_in_place(old: Bytes, n: usize, new: Bytes, m: usize, buffer: Buffer,
+        len: usize, forms: u32) -> i32;
 }
 
 fn answer(status: i32) -> Result<(), Error> {
@@ -145,4 +147,41 @@ pub fn unwrap_padded_in_place<'a>(kek: &[u8], buffer: &'a mut [u8]) -> Result<&'
     let (k, b) = (kek.as_ptr(), buffer.as_mut_ptr());
     answer(unsafe { keywrap_unwrap_padded_in_place(k, kek.len(), b, buffer.len(), &mut len) })?;
     Ok(&mut buffer[8..8 + len])
+}
+
+const OLD_PADDED: u32 = 1;
+const NEW_PADDED: u32 = 2;
+
+/// The form of a text.
+#[derive(Clone, Copy, Debug, PartialEq, Eq)]
+pub enum Form {
+    /// RFC 3394.
+    Plain,
+    /// RFC 5649.
+    Padded,
+}
+
+impl Form {
+    fn flag(self, padded: u32) -> u32 {
+        match self {
+            Form::Plain => 0,
+            Form::Padded => padded,
+        }
+    }
+}
+
+/// Turns the text in the buffer, a wrapping under the old KEK, into the wrapping of the same key
+/// under the new one; at `Integrity`, and where the new form takes no key of this length, the
+/// buffer is all zeros.
+pub fn rewrap_in_place(
+    old_kek: &[u8],
+    old_form: Form,
+    new_kek: &[u8],
+    new_form: Form,
+    buffer: &mut [u8],
+) -> Result<(), Error> {
+    let (k, m) = (old_kek.as_ptr(), new_kek.as_ptr());
+    let (b, len) = (buffer.as_mut_ptr(), buffer.len());
+    let forms = old_form.flag(OLD_PADDED) | new_form.flag(NEW_PADDED);
+    answer(unsafe { keywrap_rewrap_in_place(k, old_kek.len(), m, new_kek.len(), b, len, forms) })
 }

@@ -4,7 +4,7 @@
 
 mod keywrap;
 
-use keywrap::Error;
+use keywrap::{Error, Form};
 
 fn hex(bytes: &[u8]) -> String {
     bytes.iter().map(|byte| format!("{byte:02x}")).collect()
@@ -90,8 +90,43 @@ fn padded() -> Result<(), Error> {
     Ok(())
 }
 
+fn rewrapped() -> Result<(), Error> {
+    let old_kek: Vec<u8> = (0..16).collect();
+    let new_kek: Vec<u8> = (0..32).collect();
+    let key: Vec<u8> = (0..16).map(|i| 0x11 * i).collect();
+    let text = keywrap::wrap(&old_kek, &key)?;
+
+    let mut buffer = text.clone();
+    keywrap::rewrap_in_place(&old_kek, Form::Plain, &new_kek, Form::Plain, &mut buffer)?;
+    println!("rewrap: {}", hex(&buffer));
+    assert_eq!(
+        hex(&buffer),
+        "64e8c3f9ce0f5ba263e9777905818a2a93c8191e7d6e8ae7"
+    );
+    keywrap::rewrap_in_place(&new_kek, Form::Plain, &old_kek, Form::Padded, &mut buffer)?;
+    assert_eq!(
+        hex(&buffer),
+        "2cef0c9e30de26016c230cb78bc60d51b1fe083ba0c79cd5"
+    );
+    keywrap::rewrap_in_place(&old_kek, Form::Padded, &old_kek, Form::Plain, &mut buffer)?;
+    assert_eq!(buffer, text);
+
+    let rewrap = |new_kek: &[u8], buffer: &mut [u8]| {
+        keywrap::rewrap_in_place(&old_kek, Form::Plain, new_kek, Form::Plain, buffer)
+    };
+    assert_eq!(rewrap(&[], &mut buffer), Err(Error::BadKek));
+    assert_eq!(rewrap(&new_kek, &mut []), Err(Error::BadLength));
+    assert_eq!(rewrap(&new_kek, &mut buffer[..23]), Err(Error::BadLength));
+    assert_eq!(buffer, text);
+    buffer[3] ^= 1;
+    assert_eq!(rewrap(&new_kek, &mut buffer), Err(Error::Integrity));
+    assert_eq!(buffer, [0; 24]);
+    Ok(())
+}
+
 fn main() -> Result<(), Error> {
     plain()?;
     agreed()?;
-    padded()
+    padded()?;
+    rewrapped()
 }

@@ -1,7 +1,7 @@
 /* main.c: makes every call of the C library through its header: the vectors of RFC 3394 and RFC
  * 5649, every pair of short lengths and the longest, KEKs of every length, tampered texts, texts
- * from other initial values, and initial values that are taken or refused. Its last line is 'N
- * passed, M failed'. */
+ * from other initial values, initial values that are taken or refused, and texts that go from one
+ * KEK and form to another. Its last line is 'N passed, M failed'. */
 
 #include <stdio.h>
 #include <string.h>
@@ -47,6 +47,54 @@ static const char *const UNDER_A_VALUE[] = {
     "0123456789abcdef",
     "00112233445566778899aabbccddeeff",
     "5faedb3ad28b498f36c1afc361861782e04e134798791145",
+};
+
+#define KEK16 "000102030405060708090a0b0c0d0e0f"
+#define KEK32 KEK16 "101112131415161718191a1b1c1d1e1f"
+#define KEK_5649 "5840df6e29b02af1ab493b705bf16ea1ae8338f4dcc176a8"
+#define TEXT_41 "1fa68b0a8112b447aef34bd8fb5a7b829d3e862371d2cfe5"
+#define TEXT_43 "64e8c3f9ce0f5ba263e9777905818a2a93c8191e7d6e8ae7"
+#define TEXT_OF_20 "138bdeaa9b8fa7fc61f97742e72248ee5ae6ae5360d1ae6a5f54f373fa543b6a"
+#define ZEROS_16 "00000000000000000000000000000000"
+#define ZEROS_24 ZEROS_16 "0000000000000000"
+
+/* The key of TEXT_41 and TEXT_43, padded: by openssl enc -id-aes128-wrap-pad and
+ * -id-aes256-wrap-pad. */
+#define PADDED_41 "2cef0c9e30de26016c230cb78bc60d51b1fe083ba0c79cd5"
+#define PADDED_43 "afc860015ffe2d75bedf43c444fe58f4ad9d89c4ec71e23b"
+
+/* The old KEK, the new one, the flags, the text, the status, and what the buffer holds then. */
+static const struct {
+    const char *old_kek, *new_kek;
+    uint32_t flags;
+    const char *text;
+    int32_t status;
+    const char *left;
+} REWRAPPED[] = {
+    {KEK16, KEK32, 0, TEXT_41, KEYWRAP_OK, TEXT_43},
+    {KEK32, KEK16, 0, TEXT_43, KEYWRAP_OK, TEXT_41},
+    {KEK16, KEK16, 0, TEXT_41, KEYWRAP_OK, TEXT_41},
+    {KEK16, KEK32, KEYWRAP_NEW_PADDED, TEXT_41, KEYWRAP_OK, PADDED_43},
+    {KEK32, KEK16, KEYWRAP_OLD_PADDED, PADDED_43, KEYWRAP_OK, TEXT_41},
+    {KEK16, KEK32, KEYWRAP_OLD_PADDED | KEYWRAP_NEW_PADDED, PADDED_41, KEYWRAP_OK, PADDED_43},
+    {KEK_5649, KEK_5649, 3, TEXT_OF_20, KEYWRAP_OK, TEXT_OF_20},
+    {KEK_5649, KEK16, 1, TEXT_OF_20, KEYWRAP_BAD_LENGTH, ZEROS_16 ZEROS_16},
+    {KEK_5649, KEK16, 1, "afbeb0f07dfbf5419200f2ccb50bb24f", KEYWRAP_BAD_LENGTH, ZEROS_16},
+    {KEK16, KEK32, 0, "1fa68b0b8112b447aef34bd8fb5a7b829d3e862371d2cfe5", KEYWRAP_INTEGRITY,
+     ZEROS_24},
+    {KEK32, KEK16, 0, TEXT_41, KEYWRAP_INTEGRITY, ZEROS_24},
+    {KEK16, KEK32, 1, TEXT_41, KEYWRAP_INTEGRITY, ZEROS_24},
+    {KEK16, KEK32, 2, PADDED_41, KEYWRAP_INTEGRITY, ZEROS_24},
+    {KEK16, KEK32, 0, "1fa68b0a8112b447aef34bd8fb5a7b829d3e862371d2cf", KEYWRAP_BAD_LENGTH,
+     "1fa68b0a8112b447aef34bd8fb5a7b829d3e862371d2cf"},
+    {KEK16, KEK32, 0, "1fa68b0a8112b447aef34bd8fb5a7b82", KEYWRAP_BAD_LENGTH,
+     "1fa68b0a8112b447aef34bd8fb5a7b82"},
+    {KEK16, KEK32, 4, TEXT_41, KEYWRAP_BAD_LENGTH, TEXT_41},
+    {KEK16, KEK32, 0x80000000u, TEXT_41, KEYWRAP_BAD_LENGTH, TEXT_41},
+    {KEK16, KEK32, UINT32_MAX, TEXT_41, KEYWRAP_BAD_LENGTH, TEXT_41},
+    {"000102030405060708090a0b0c0d0e", KEK32, 0, TEXT_41, KEYWRAP_BAD_KEK, TEXT_41},
+    {KEK16, "000102030405060708090a0b0c0d0e", 4, TEXT_41, KEYWRAP_BAD_KEK, TEXT_41},
+    {"", "", 4, "", KEYWRAP_BAD_KEK, ""},
 };
 
 static size_t from_hex(const char *digits, uint8_t *bytes) {
@@ -263,6 +311,82 @@ static void long_paddings(void) {
         }
 }
 
+/* The rows, whose texts are the standards' and OpenSSL's. */
+static void rewrapped_vectors(void) {
+    uint8_t old_kek[32], new_kek[32], buffer[32], left[32];
+    for (size_t i = 0; i < sizeof REWRAPPED / sizeof *REWRAPPED; i++) {
+        size_t old_len = from_hex(REWRAPPED[i].old_kek, old_kek);
+        size_t new_len = from_hex(REWRAPPED[i].new_kek, new_kek);
+        size_t len = from_hex(REWRAPPED[i].text, buffer);
+        int32_t status;
+        from_hex(REWRAPPED[i].left, left);
+        status = keywrap_rewrap_in_place(old_kek, old_len, new_kek, new_len, buffer, len,
+                                         REWRAPPED[i].flags);
+        count(status == REWRAPPED[i].status && !memcmp(buffer, left, len), "rewrap of a vector",
+              REWRAPPED[i].flags & KEYWRAP_OLD_PADDED ? PADDED : PLAIN, IN_PLACE, old_len, len, i);
+    }
+}
+
+/* The text of a key of this length, where the old form has one. */
+static void rewraps_key(uint32_t flags, size_t old_len, size_t new_len, size_t key_len) {
+    struct kek old_kek = {kek, old_len}, new_kek = {kek + 20, new_len};
+    enum form old_form = flags & KEYWRAP_OLD_PADDED ? PADDED : PLAIN;
+    size_t text_len = padded_len(key_len) + 8;
+    if (wrap_status(old_form, old_len, key_len, text_len) != KEYWRAP_OK) return;
+    wrap_key(old_form, kek, old_len, key, key_len, text);
+    rewraps(flags, &old_kek, &new_kek, text, text_len, key, key_len);
+}
+
+/* This many bytes that are no text. */
+static void rewraps_scattered(uint32_t flags, size_t old_len, size_t new_len, size_t len) {
+    struct kek old_kek = {kek, old_len}, new_kek = {kek + 20, new_len};
+    rewraps(flags, &old_kek, &new_kek, scattered, len, NULL, 0);
+}
+
+/* Every pair of forms and flags of other bits: keys and texts of short lengths, the longest, and
+ * longer ones; and KEKs of every length. */
+static void rewraps_of_lengths(void) {
+    static const uint32_t flags[] = {0, 1, 2, 3, 4, 5, 7, 8, 0x80000000u};
+    for (size_t i = 0; i < sizeof flags / sizeof *flags; i++) {
+        for (size_t len = 0; len <= 88; len++)
+            for (size_t kek_len = 16; kek_len <= 32; kek_len += 8) {
+                rewraps_key(flags[i], kek_len, 48 - kek_len, len);
+                rewraps_scattered(flags[i], kek_len, 48 - kek_len, len);
+            }
+        for (size_t old_len = 0; old_len <= 40; old_len++)
+            for (size_t new_len = 0; new_len <= 40; new_len++) {
+                rewraps_key(flags[i], old_len, new_len, 16);
+                rewraps_scattered(flags[i], old_len, new_len, 24);
+            }
+        rewraps_key(flags[i], 16, 32, KEYWRAP_MAX_KEY);
+        rewraps_scattered(flags[i], 16, 32, KEYWRAP_MAX_TEXT + 8);
+    }
+}
+
+/* Texts with one bit changed, and the right text under another KEK or as one of the other form. */
+static void rewraps_tampered(uint32_t flags, size_t key_len) {
+    struct kek old_kek = {kek, 16}, new_kek = {kek + 20, 32}, other = {kek + 1, 16};
+    enum form old_form = flags & KEYWRAP_OLD_PADDED ? PADDED : PLAIN;
+    size_t text_len = padded_len(key_len) + 8;
+    wrap_key(old_form, kek, 16, key, key_len, text);
+    for (size_t i = 0; i < 8 * text_len; i++) {
+        uint8_t bit = (uint8_t)(1u << i % 8);
+        text[i / 8] ^= bit;
+        rewraps(flags, &old_kek, &new_kek, text, text_len, NULL, 0);
+        text[i / 8] ^= bit;
+    }
+    rewraps(flags, &other, &new_kek, text, text_len, NULL, 0);
+    rewraps(flags, &new_kek, &old_kek, text, text_len, NULL, 0);
+    rewraps(flags ^ KEYWRAP_OLD_PADDED, &old_kek, &new_kek, text, text_len, NULL, 0);
+}
+
+static void rewraps_of_tampered_texts(void) {
+    for (uint32_t flags = 0; flags < 4; flags++)
+        for (size_t key_len = 16; key_len <= 48; key_len += 8) rewraps_tampered(flags, key_len);
+    rewraps_tampered(KEYWRAP_OLD_PADDED, 20);
+    rewraps_tampered(KEYWRAP_OLD_PADDED | KEYWRAP_NEW_PADDED, 7);
+}
+
 int main(void) {
     one_table_start();
     scatter(kek, sizeof kek);
@@ -281,6 +405,9 @@ int main(void) {
     agreed_values();
     paddings();
     long_paddings();
+    rewrapped_vectors();
+    rewraps_of_lengths();
+    rewraps_of_tampered_texts();
     printf("%u passed, %u failed\n", passed, failed);
     return failed != 0;
 }

@@ -1,8 +1,11 @@
 -- The lengths of buffers, from what a call that is done says of them: that it did not refuse them.
-use Rattle.std.proofs.Common.{ℕ, List, length, drop, arith, length-drop, ◌≤◌, ◌%◌, ◌≡◌}
+use Rattle.std.proofs.Common.{ℕ, List, length, drop, arith, length-drop, ◌+◌, ◌≤◌, ◌%◌, ◌≡◌}
 use Rattle.std.proofs.Math.Decide.{dec_le}
 use Rattle.std.proofs.Math.Logic.{by_cases}
 use Rattle.key_wrap.specs.declared.lengths.TheConstants.{MAX_KEY}
+use Rattle.key_wrap.specs.declared.forms.Form.{Form}
+use Rattle.key_wrap.specs.declared.forms.Form.TheVariants as forms
+use Rattle.key_wrap.specs.Forms.{IsTextLength}
 use Rattle.key_wrap.specs.Lengths.{IsPlainKeyLength, IsPlainTextLength}
 use Rattle.key_wrap.specs.InPlace.{IsPaddedRoom, ArePlainLengths}
 
@@ -37,3 +40,16 @@ room-not_refused m len kept =
     let least : 1 ≤ m = ≤-not_refused _ _ (λ no. kept (λ it. no it.0.0)) in
     let most : m ≤ MAX_KEY = ≤-not_refused _ _ (λ no. kept (λ it. no it.0.1)) in
     ((least, most), ≡-not_refused _ _ (λ no. kept (λ it. no it.1)))
+
+-- a text's length that is not refused in the form
+pub text_length-not_refused : (form : Form) (len : ℕ) → ¬ (¬ IsTextLength form len) → IsTextLength form len
+text_length-not_refused forms.Plain len kept =
+    let whole : len % 8 ≡ 0 = ≡-not_refused _ _ (λ no. kept (λ they. no they.0)) in
+    let least : 24 ≤ len = ≤-not_refused _ _ (λ no. kept (λ they. no they.1)) in
+    let most : len ≤ MAX_KEY + 8 = ≤-not_refused _ _ (λ no. kept (λ they. no they.2)) in
+    (whole, least, most)
+text_length-not_refused forms.Padded len kept =
+    let whole : len % 8 ≡ 0 = ≡-not_refused _ _ (λ no. kept (λ they. no they.0)) in
+    let least : 16 ≤ len = ≤-not_refused _ _ (λ no. kept (λ they. no they.1)) in
+    let most : len ≤ MAX_KEY + 8 = ≤-not_refused _ _ (λ no. kept (λ they. no they.2)) in
+    (whole, least, most)

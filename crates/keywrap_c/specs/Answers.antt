@@ -1,6 +1,9 @@
 -- What a call that is done leaves in the buffers, in the form in which these keys stand with these texts.
-use Rattle.std.specs.Prelude.{◌≡◌, ℕ, List}
+use Rattle.std.specs.Prelude.{◌≡◌, ◌↔◌, ℕ, List}
+use Rattle.key_wrap.specs.declared.forms.Form.{Form}
 use Rattle.key_wrap.specs.Answer.{NoKey}
+use Rattle.key_wrap.specs.Forms.{StandsIn}
+use Rattle.key_wrap.specs.Rewrap.{AreWrappings}
 
 -- the text stands with the key, and no other text does
 pub record IsWrapping (Stands : List ℕ → List ℕ → Type 0) (key text : List ℕ) : Type 0 where
@@ -14,3 +17,14 @@ pub record IsUnwrapping (Stands Other : List ℕ → List ℕ → Type 0) (text 
   pub only_key : (other : List ℕ) → Stands other text → other ≡ key
   pub restores : (other : List ℕ) → Stands key other → other ≡ text
   pub other_form : NoKey Other text
+
+-- one key stands with both, with the text in the old form under E and with the answer in the new form under F; no other
+-- key stands with the text, and no other answer has this; unwrapping the answer gives exactly the text's key; and
+-- rewrapping back gives the text
+pub record IsRewrapping (old : Form) (E : List ℕ → List ℕ) (new : Form) (F : List ℕ → List ℕ) (text answer : List ℕ)
+    : Type 0 where
+  pub one_key : AreWrappings old E new F text answer
+  pub only_key : (key other : List ℕ) → StandsIn old E key text → StandsIn old E other text → other ≡ key
+  pub only_answer : (other : List ℕ) → AreWrappings old E new F text other → other ≡ answer
+  pub same_key : (key : List ℕ) → StandsIn new F key answer ↔ StandsIn old E key text
+  pub restores : (other : List ℕ) → AreWrappings new F old E answer other → other ≡ text

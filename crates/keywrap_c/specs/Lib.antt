@@ -2,3 +2,4 @@
 pub mod Status
 pub mod Answers
 pub mod AgreedValue
+pub mod Forms

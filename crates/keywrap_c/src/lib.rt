@@ -1,5 +1,5 @@
-//! The key wrap for C: ten calls over the caller's own buffers, without memory and without state.
-//! `include/keywrap.h` declares them.
+//! The key wrap for C: eleven calls over the caller's own buffers, without memory and without
+//! state. `include/keywrap.h` declares them.
 #![tactic(auto)]
 
 mod padded;
@@ -7,6 +7,7 @@ mod padded_in_place;
 mod plain;
 mod plain_in_place;
 mod plain_with;
+mod rewrapping;
 mod status;
 #[cfg(test)]
 mod tests;

@@ -1,11 +1,12 @@
-//! Each call on a vector of RFC 3394 (section 4.2) or RFC 5649 (section 6), and the refusals; under
-//! another initial value on OpenSSL's text.
+//! Each call on a vector of RFC 3394 (section 4) or RFC 5649 (section 6), and the refusals; under
+//! another initial value, and from one form to the other, on OpenSSL's texts.
 
 use crate::padded::{keywrap_unwrap_padded, keywrap_wrap_padded};
 use crate::padded_in_place::{keywrap_unwrap_padded_in_place, keywrap_wrap_padded_in_place};
 use crate::plain::{keywrap_unwrap, keywrap_wrap};
 use crate::plain_in_place::{keywrap_unwrap_in_place, keywrap_wrap_in_place};
 use crate::plain_with::{keywrap_unwrap_with, keywrap_wrap_with};
+use crate::rewrapping::keywrap_rewrap_in_place;
 use crate::status::{BAD_IV, BAD_KEK, BAD_LENGTH, DONE, INTEGRITY};
 use std::test::Fail;
 
@@ -148,5 +149,98 @@ fn wraps_padded_in_place_and_back(rt: HostRuntime) -> Result<(), Fail> {
     assert_eq!(rt; status, INTEGRITY);
     assert_eq!(rt; buffer, [0; 16]);
     assert_eq!(rt; key_len, 0);
+    Ok(())
+}
+
+const KEK_16: [u8; 16] = [0, 1, 2, 3, 4, 5, 6, 7, 8, 9, 10, 11, 12, 13, 14, 15];
+
+const KEK_32: [u8; 32] = [
+    0, 1, 2, 3, 4, 5, 6, 7, 8, 9, 10, 11, 12, 13, 14, 15, 16, 17, 18, 19, 20, 21, 22, 23, 24, 25,
+    26, 27, 28, 29, 30, 31,
+];
+
+// The texts of `KEY`, plain under `KEK_16` and `KEK_32` (RFC 3394, sections 4.1 and 4.3).
+const TEXT_16: [u8; 24] = [
+    0x1F, 0xA6, 0x8B, 0x0A, 0x81, 0x12, 0xB4, 0x47, 0xAE, 0xF3, 0x4B, 0xD8, 0xFB, 0x5A, 0x7B, 0x82,
+    0x9D, 0x3E, 0x86, 0x23, 0x71, 0xD2, 0xCF, 0xE5,
+];
+
+const TEXT_32: [u8; 24] = [
+    0x64, 0xE8, 0xC3, 0xF9, 0xCE, 0x0F, 0x5B, 0xA2, 0x63, 0xE9, 0x77, 0x79, 0x05, 0x81, 0x8A, 0x2A,
+    0x93, 0xC8, 0x19, 0x1E, 0x7D, 0x6E, 0x8A, 0xE7,
+];
+
+// The texts of `KEY`, padded, by openssl enc -id-aes128-wrap-pad and -id-aes256-wrap-pad.
+const PADDED_TEXT_16: [u8; 24] = [
+    0x2C, 0xEF, 0x0C, 0x9E, 0x30, 0xDE, 0x26, 0x01, 0x6C, 0x23, 0x0C, 0xB7, 0x8B, 0xC6, 0x0D, 0x51,
+    0xB1, 0xFE, 0x08, 0x3B, 0xA0, 0xC7, 0x9C, 0xD5,
+];
+
+const PADDED_TEXT_32: [u8; 24] = [
+    0xAF, 0xC8, 0x60, 0x01, 0x5F, 0xFE, 0x2D, 0x75, 0xBE, 0xDF, 0x43, 0xC4, 0x44, 0xFE, 0x58, 0xF4,
+    0xAD, 0x9D, 0x89, 0xC4, 0xEC, 0x71, 0xE2, 0x3B,
+];
+
+// The padded text of the key of 20 bytes under `PADDED_KEK` (RFC 5649, section 6).
+const TEXT_OF_20: [u8; 32] = [
+    0x13, 0x8B, 0xDE, 0xAA, 0x9B, 0x8F, 0xA7, 0xFC, 0x61, 0xF9, 0x77, 0x42, 0xE7, 0x22, 0x48, 0xEE,
+    0x5A, 0xE6, 0xAE, 0x53, 0x60, 0xD1, 0xAE, 0x6A, 0x5F, 0x54, 0xF3, 0x73, 0xFA, 0x54, 0x3B, 0x6A,
+];
+
+#[test]
+fn rewraps_between_forms_and_back(rt: HostRuntime) -> Result<(), Fail> {
+    for (forms, back, text, want) in [
+        (0, 0, &TEXT_16, &TEXT_32),
+        (1, 2, &PADDED_TEXT_16, &TEXT_32),
+        (2, 1, &TEXT_16, &PADDED_TEXT_32),
+        (3, 3, &PADDED_TEXT_16, &PADDED_TEXT_32),
+    ] {
+        let mut buffer = *text;
+        let there = keywrap_rewrap_in_place(&KEK_16, &KEK_32, &mut buffer, forms);
+        assert!(rt; there == DONE);
+        assert!(rt; buffer == *want);
+        let again = keywrap_rewrap_in_place(&KEK_32, &KEK_16, &mut buffer, back);
+        assert!(rt; again == DONE);
+        assert!(rt; buffer == *text);
+    }
+    Ok(())
+}
+
+#[test]
+fn keeps_the_text_at_bad_lengths_and_flags(rt: HostRuntime) -> Result<(), Fail> {
+    let mut buffer = TEXT_16;
+    for flags in [4, 7, 0x8000_0000, u32::MAX] {
+        let status = keywrap_rewrap_in_place(&KEK_16, &KEK_32, &mut buffer, flags);
+        assert!(rt; status == BAD_LENGTH);
+        let old = keywrap_rewrap_in_place(&KEK_16[..15], &KEK_32, &mut buffer, flags);
+        assert!(rt; old == BAD_KEK);
+        let new = keywrap_rewrap_in_place(&KEK_16, &KEK_32[..15], &mut buffer, flags & 3);
+        assert!(rt; new == BAD_KEK);
+        let short = keywrap_rewrap_in_place(&KEK_16, &KEK_32, &mut buffer[..23], flags & 3);
+        assert!(rt; short == BAD_LENGTH);
+    }
+    assert!(rt; buffer == TEXT_16);
+    Ok(())
+}
+
+#[test]
+fn clears_the_buffer_of_a_key_of_20_bytes(rt: HostRuntime) -> Result<(), Fail> {
+    let mut buffer = TEXT_OF_20;
+    let both = keywrap_rewrap_in_place(&PADDED_KEK, &PADDED_KEK, &mut buffer, 3);
+    assert!(rt; both == DONE);
+    assert!(rt; buffer == TEXT_OF_20);
+    let plain = keywrap_rewrap_in_place(&PADDED_KEK, &KEK_16, &mut buffer, 1);
+    assert!(rt; plain == BAD_LENGTH);
+    assert!(rt; buffer == [0; 32]);
+    Ok(())
+}
+
+#[test]
+fn clears_the_buffer_of_a_damaged_text(rt: HostRuntime) -> Result<(), Fail> {
+    let mut buffer = TEXT_16;
+    buffer[3] ^= 1;
+    let status = keywrap_rewrap_in_place(&KEK_16, &KEK_32, &mut buffer, 0);
+    assert!(rt; status == INTEGRITY);
+    assert!(rt; buffer == [0; 24]);
     Ok(())
 }
