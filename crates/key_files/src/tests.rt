@@ -13,74 +13,76 @@ mod lengths;
 mod reading;
 mod writing;
 
-// An answer with its bytes as a slice.
-fn seen<A: Allocator>(answer: &Result<Vec<u8, A>, FileFault>) -> Result<&[u8], FileFault> {
+// How a file shows its bytes.
+#[derive(Clone, Copy)]
+enum Notation {
+    Raw,
+    Hex,
+}
+
+// Whether an answer is these bytes, or this fault.
+fn is_answer<A: Allocator>(
+    answer: Result<Vec<u8, A>, FileFault>,
+    want: Result<&[u8], FileFault>,
+) -> bool {
     match answer {
-        Ok(bytes) => Ok(bytes.as_slice()),
-        Err(fault) => Err(*fault),
+        Ok(bytes) => want == Ok(bytes.as_slice()),
+        Err(fault) => want == Err(fault),
     }
 }
 
-// So many bytes, of which the first is given and each other is the one before it and the step.
-fn stepping(alloc: Global, first: u8, step: u8, len: usize) -> Result<Vec<u8>, AllocError> {
+// The first byte; each other is the one before it times the second number and the third.
+const COUNTING: [u8; 3] = [0, 1, 1];
+
+// So many bytes of a content.
+fn filled(alloc: Global, content: [u8; 3], len: usize) -> Result<Vec<u8>, AllocError> {
+    let [mut byte, factor, step] = content;
     let mut bytes = Vec::new(alloc);
-    let mut byte = first;
     for _ in 0..len {
         bytes.push(byte)?;
-        byte = byte.wrapping_add(step);
+        byte = byte.wrapping_mul(factor).wrapping_add(step);
     }
     Ok(bytes)
 }
 
+static TEXTS: [(&[u8], Result<&[u8], FileFault>); 9] = [
+    (b"0aFF", Ok(&[0x0a, 0xff])),
+    (b"0 g", Err(FileFault::BadDigit { at: 2 })),
+    (b"012", Err(FileFault::OddDigits)),
+    (b"", Ok(&[])),
+    (b" \t\r\n", Ok(&[])),
+    (b"0", Err(FileFault::OddDigits)),
+    (b"\xef\xbb\xbf00", Err(FileFault::BadDigit { at: 0 })),
+    (b"0\x000", Err(FileFault::BadDigit { at: 1 })),
+    (b"0:0", Err(FileFault::BadDigit { at: 1 })),
+];
+
 #[test]
 fn decodes_hex_texts(rt: HostRuntime) {
-    let rows: [(&[u8], Result<&[u8], FileFault>); 9] = [
-        (b"0aFF", Ok(&[0x0a, 0xff])),
-        (b"0 g", Err(FileFault::BadDigit { at: 2 })),
-        (b"012", Err(FileFault::OddDigits)),
-        (b"", Ok(&[])),
-        (b" \t\r\n", Ok(&[])),
-        (b"0", Err(FileFault::OddDigits)),
-        (b"\xef\xbb\xbf00", Err(FileFault::BadDigit { at: 0 })),
-        (b"0\x000", Err(FileFault::BadDigit { at: 1 })),
-        (b"0:0", Err(FileFault::BadDigit { at: 1 })),
-    ];
-    for (text, want) in rows {
+    for (text, want) in &TEXTS {
         let answer = decode_hex(rt.alloc(), text);
-        assert_eq!(rt; seen(&answer), want, "{text:?}");
+        assert!(rt; is_answer(answer, *want), "{text:?}");
     }
 }
 
 #[test]
 fn says_each_fault(rt: HostRuntime) -> Result<(), Fail> {
-    let rows = [
-        (FileFault::Read, "cannot be read"),
-        (FileFault::TooLong, "too long"),
-        (
-            FileFault::BadDigit { at: 4_194_303 },
-            "no hex digit at byte 4194303",
-        ),
-        (FileFault::OddDigits, "odd number of hex digits"),
-        (FileFault::Memory, "out of memory"),
-    ];
-    for (fault, want) in rows {
-        let text = format!(in rt.alloc(); "{fault}")?;
-        assert_eq!(rt; text.as_str(), want);
-    }
-    let refused = WriteFault { written: 10 };
-    let text = format!(in rt.alloc(); "{refused}")?;
-    assert_eq!(rt; text.as_str(), "refused after 10 bytes");
-    let rows = [
-        (HexWriteFault::Memory, "out of memory"),
-        (
-            HexWriteFault::Write { written: 10 },
-            "refused after 10 bytes",
-        ),
-    ];
-    for (fault, want) in rows {
-        let text = format!(in rt.alloc(); "{fault}")?;
-        assert_eq!(rt; text.as_str(), want);
-    }
+    let lines = format!(in rt.alloc();
+        "{}; {}; {}; {}; {}; {}; {}; {}",
+        FileFault::Read,
+        FileFault::TooLong,
+        FileFault::BadDigit { at: 4_194_303 },
+        FileFault::OddDigits,
+        FileFault::Memory,
+        WriteFault { written: 10 },
+        HexWriteFault::Memory,
+        HexWriteFault::Write { written: 10 }
+    )?;
+    assert!(rt;
+        lines.as_str()
+            == "cannot be read; too long; no hex digit at byte 4194303; odd number of hex digits; \
+                out of memory; refused after 10 bytes; out of memory; refused after 10 bytes"
+    );
     Ok(())
 }
 

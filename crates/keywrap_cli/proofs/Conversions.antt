@@ -5,9 +5,10 @@ use Rattle.key_wrap.specs.declared.forms.Form.{Form}
 use Rattle.key_wrap.specs.declared.faults.UnwrapFault.{UnwrapFault}
 use Rattle.key_wrap.specs.declared.faults.UnwrapFault.TheVariants as unwraps
 use Rattle.key_wrap.specs.Answer.{NoKey, UnwrapAnswer}
+use Rattle.key_wrap.specs.Forms.{Stands}
 use Rattle.key_wrap.specs.Plain.{default_iv}
 use Rattle.keywrap_cli.specs.declared.convert.Direction.TheVariants.{Unwrap}
-use Rattle.keywrap_cli.specs.Conversion.{Stands, other_form, IsInputLength, ConversionAnswer}
+use Rattle.keywrap_cli.specs.Conversion.{other_form, IsInputLength, ConversionAnswer}
 
 -- what an unwrapping call says, by cases
 pub unwrapped : (form : Form) (iv : ℕ) (E : List ℕ → List ℕ) (text : List ℕ) (r : Result (Vec ℕ Global) UnwrapFault)

@@ -14,15 +14,15 @@ use Rattle.keywrap_cli.specs.declared.job.Done.{Done}
 use Rattle.keywrap_cli.specs.declared.job.Job.{Job}
 use Rattle.keywrap_cli.specs.declared.job.Job.TheVariants.{Unwrap}
 use Rattle.keywrap_cli.specs.declared.job.JobFault.{JobFault}
-use Rattle.keywrap_cli.specs.declared.job.JobFault.TheVariants.{KekFile, KekLength, InputFile, BadLength, Integrity, Write, Memory}
+use Rattle.keywrap_cli.specs.declared.job.JobFault.TheVariants.{KekFile, KekLength, NewKekFile, NewKekLength, InputFile, BadLength, Integrity, Write, Memory}
 use Rattle.keywrap_cli.specs.declared.job.Task.{Task}
 
 -- what is not touched stays, and nothing was taken from it
-untouched : (known : Option (List ℕ)) → Keeps known known
+pub untouched : (known : Option (List ℕ)) → Keeps known known
 untouched None = tt
 untouched (Some xs) = refl
 
-nothing_taken : (known : Option (List ℕ)) → Consumes known known []
+pub nothing_taken : (known : Option (List ℕ)) → Consumes known known []
 nothing_taken None = tt
 nothing_taken (Some xs) = refl
 
@@ -41,13 +41,15 @@ kek_stops iv task F left input out (KekFile files.OddDigits) h = record { kek_en
 kek_stops iv task F left input out (KekFile files.Memory) h = absurd h
 kek_stops iv task F left input out KekLength h = record { kek_end = h.1; input_end = tt; leaves = (h.0, untouched out) }
 kek_stops iv task F left input out (InputFile fault) h = absurd h
+kek_stops iv task F left input out (NewKekFile fault) h = absurd h
+kek_stops iv task F left input out NewKekLength h = absurd h
 kek_stops iv task F left input out BadLength h = absurd h
 kek_stops iv task F left input out Integrity h = absurd h
 kek_stops iv task F left input out (Write written) h = absurd h
 kek_stops iv task F left input out Memory h = record { kek_end = tt; input_end = tt; leaves = untouched out }
 
 -- a fault is refused alike whatever the answer would have held
-same_refusal : {A B : Type 0} → (fault other : JobFault) (r : Result A JobFault) (s : Result B JobFault)
+pub same_refusal : {A B : Type 0} → (fault other : JobFault) (r : Result A JobFault) (s : Result B JobFault)
     → r ≡ Err fault → s ≡ Err fault → r ≡ Err other → s ≡ Err other
 same_refusal fault other r s is was e = let same : fault ≡ other = cc in cc
 
@@ -94,6 +96,8 @@ input_stops : (iv : ℕ) (task : Task) (F G K : List ℕ) (kek' left out : Optio
     → Passes iv task F G kek' left out out (Err fault)
 input_stops iv task F G K kek' left out (KekFile fault) denoted end h = absurd h
 input_stops iv task F G K kek' left out KekLength denoted end h = absurd h
+input_stops iv task F G K kek' left out (NewKekFile fault) denoted end h = absurd h
+input_stops iv task F G K kek' left out NewKekLength denoted end h = absurd h
 input_stops iv task F G K kek' left out (InputFile files.Read) denoted end h =
     record { reaches = record { kek_end = end; input_end = tt; leaves = untouched out }; past = λ s. s }
 input_stops iv task F G K kek' left out (InputFile files.TooLong) denoted end h =
@@ -125,6 +129,8 @@ output_given iv task F G K X kek' input' out out' (Err Memory) both end end' h =
 output_given iv task F G K X kek' input' out out' (Err KekLength) both end end' h = absurd h
 output_given iv task F G K X kek' input' out out' (Err (KekFile fault)) both end end' h = absurd h
 output_given iv task F G K X kek' input' out out' (Err (InputFile fault)) both end end' h = absurd h
+output_given iv task F G K X kek' input' out out' (Err (NewKekFile fault)) both end end' h = absurd h
+output_given iv task F G K X kek' input' out out' (Err NewKekLength) both end end' h = absurd h
 
 -- the call is answered past the KEK file, at the end of what it answers for its input
 passed : (iv : ℕ) (task : Task) (kek kek' input input' out out' : Option (List ℕ)) (K : List ℕ)

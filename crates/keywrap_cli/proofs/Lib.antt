@@ -5,5 +5,7 @@ pub mod Jobs
 pub mod Outputs
 pub mod Readings
 pub mod Refusals
+pub mod RewrapRefusals
+pub mod Rewraps
 pub mod Reports
 pub mod RightVectors

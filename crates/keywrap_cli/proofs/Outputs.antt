@@ -47,6 +47,8 @@ refused_write job iv task E X output old new faults.Integrity writes sends = abs
 refused_write job iv task E X output old new faults.KekLength writes sends = absurd sends
 refused_write job iv task E X output old new (faults.KekFile fault) writes sends = absurd sends
 refused_write job iv task E X output old new (faults.InputFile fault) writes sends = absurd sends
+refused_write job iv task E X output old new (faults.NewKekFile fault) writes sends = absurd sends
+refused_write job iv task E X output old new faults.NewKekLength writes sends = absurd sends
 
 -- a check is done as Neither exactly if its line is `none`
 pub kind_done : (kind : Kind) → IsDone Check (kind_line kind) (done_of kind)

@@ -6,9 +6,9 @@ use Rattle.key_files.specs.Reading.{ReadsAs}
 use Rattle.key_files.specs.declared.fault.FileFault.{FileFault}
 use Rattle.key_files.specs.declared.fault.FileFault.TheVariants as files
 use Rattle.keywrap_cli.specs.Files.{meaning_in}
-use Rattle.keywrap_cli.specs.Readings.{ReadsKek, KekAnswer, MakesKek, ReadsInput, InputAnswer, named_fault_of}
+use Rattle.keywrap_cli.specs.Readings.{ReadsKek, KekAnswer, MakesKek, ReadsInput, InputAnswer, ReadsNewKek, named_fault_of, new_kek_fault_of}
 use Rattle.keywrap_cli.specs.declared.job.JobFault.{JobFault}
-use Rattle.keywrap_cli.specs.declared.job.JobFault.TheVariants.{KekFile, KekLength, InputFile, BadLength, Integrity, Write, Memory}
+use Rattle.keywrap_cli.specs.declared.job.JobFault.TheVariants.{KekFile, KekLength, NewKekFile, NewKekLength, InputFile, BadLength, Integrity, Write, Memory}
 use Rattle.keywrap_cli.specs.declared.job.Notation.{Notation}
 
 -- a way to name a file's fault that tells the faults apart, and names none as want of memory
@@ -68,6 +68,8 @@ kek_of_made notation old new bytes (Ok K) reads made =
 kek_of_made notation old new bytes (Err KekLength) reads made = ((bytes, reads.means, made), reads.to_end)
 kek_of_made notation old new bytes (Err (KekFile fault)) reads made = absurd made
 kek_of_made notation old new bytes (Err (InputFile fault)) reads made = absurd made
+kek_of_made notation old new bytes (Err (NewKekFile fault)) reads made = absurd made
+kek_of_made notation old new bytes (Err NewKekLength) reads made = absurd made
 kek_of_made notation old new bytes (Err BadLength) reads made = absurd made
 kek_of_made notation old new bytes (Err Integrity) reads made = absurd made
 kek_of_made notation old new bytes (Err (Write written)) reads made = absurd made
@@ -124,3 +126,12 @@ input_of_bytes notation old new bytes reads = record {
   too_long = (λ e. (cc), λ more. let e = reads.too_long.1 more in cc);
   answers = (reads.means, reads.to_end);
 }
+
+-- the answer to the new KEK's file is that of reading a KEK, by another name
+pub new_kek_found : (notation : Notation) (old new : Option (List ℕ)) (K : List ℕ)
+    → ReadsKek notation old new (Ok K) → ReadsNewKek notation old new (Ok K)
+new_kek_found notation old new K reads = (Ok K, reads, refl)
+
+pub new_kek_refused : (notation : Notation) (old new : Option (List ℕ)) (fault : JobFault)
+    → ReadsKek notation old new (Err fault) → ReadsNewKek notation old new (Err (new_kek_fault_of fault))
+new_kek_refused notation old new fault reads = (Err fault, reads, refl)

@@ -8,7 +8,7 @@ use Rattle.keywrap_cli.specs.Files.{Denotes, DenotesKek, IsRefused}
 use Rattle.keywrap_cli.specs.Job.{GivesUp, IsRefusedFor, JobAnswer, LeavesOutput}
 use Rattle.keywrap_cli.specs.declared.job.Done.{Done}
 use Rattle.keywrap_cli.specs.declared.job.JobFault.{JobFault}
-use Rattle.keywrap_cli.specs.declared.job.JobFault.TheVariants.{KekFile, KekLength, InputFile, BadLength, Integrity, Write, Memory}
+use Rattle.keywrap_cli.specs.declared.job.JobFault.TheVariants.{KekFile, KekLength, NewKekFile, NewKekLength, InputFile, BadLength, Integrity, Write, Memory}
 use Rattle.keywrap_cli.specs.declared.job.Notation.{Notation}
 use Rattle.keywrap_cli.specs.declared.job.Task.{Task}
 
@@ -39,6 +39,8 @@ answers_job iv task F G old new (Err (InputFile files.TooLong)) h = inr (refused
 answers_job iv task F G old new (Err (InputFile (files.BadDigit at))) h = inr (refused iv task F G (InputFile (files.BadDigit at)) h.0)
 answers_job iv task F G old new (Err (InputFile files.OddDigits)) h = inr (refused iv task F G (InputFile files.OddDigits) h.0)
 answers_job iv task F G old new (Err (InputFile files.Memory)) h = absurd h
+answers_job iv task F G old new (Err (NewKekFile fault)) h = absurd h
+answers_job iv task F G old new (Err NewKekLength) h = absurd h
 answers_job iv task F G old new (Err KekLength) h = inr (refused iv task F G KekLength h.0)
 answers_job iv task F G old new (Err BadLength) h = inr (refused iv task F G BadLength h.0)
 answers_job iv task F G old new (Err Integrity) h = inr (refused iv task F G Integrity h.0)
@@ -55,9 +57,11 @@ kek_file_first iv task F G (Err Integrity) h fault wrong = let e = h.2.kek.denot
 kek_file_first iv task F G (Ok output) h fault wrong = let e = h.2.kek.denoted in cc
 kek_file_first iv task F G (Err (Write written)) h fault wrong = absurd h
 kek_file_first iv task F G (Err Memory) h fault wrong = absurd h
+kek_file_first iv task F G (Err (NewKekFile other)) h fault wrong = absurd h
+kek_file_first iv task F G (Err NewKekLength) h fault wrong = absurd h
 
 -- a file that denotes a KEK denotes nothing of another length
-one_kek : (notation : Notation) (F K other : List ℕ) → DenotesKek notation F K → Denotes notation F other → IsKekLength (length other)
+pub one_kek : (notation : Notation) (F K other : List ℕ) → DenotesKek notation F K → Denotes notation F other → IsKekLength (length other)
 one_kek notation F K other kek e =
     let denoted = kek.denoted in
     let same : K ≡ other = cc in
@@ -74,6 +78,8 @@ kek_length_first iv task F G (Err Integrity) h K e wrong = absurd (wrong (one_ke
 kek_length_first iv task F G (Ok output) h K e wrong = absurd (wrong (one_kek task.kek F h.0 K h.2.kek e))
 kek_length_first iv task F G (Err (Write written)) h K e wrong = absurd h
 kek_length_first iv task F G (Err Memory) h K e wrong = absurd h
+kek_length_first iv task F G (Err (NewKekFile other)) h K e wrong = absurd h
+kek_length_first iv task F G (Err NewKekLength) h K e wrong = absurd h
 
 -- behind a KEK, an input file that denotes no bytes has one answer
 input_file_first : (iv : ℕ) (task : Task) (F G : List ℕ) (r : Result (List ℕ) JobFault) → JobAnswer iv task F G r
@@ -87,6 +93,8 @@ input_file_first iv task F G (Err Integrity) h K kek fault wrong = let e = h.2.i
 input_file_first iv task F G (Ok output) h K kek fault wrong = let e = h.2.input in cc
 input_file_first iv task F G (Err (Write written)) h K kek fault wrong = absurd h
 input_file_first iv task F G (Err Memory) h K kek fault wrong = absurd h
+input_file_first iv task F G (Err (NewKekFile other)) h K kek fault wrong = absurd h
+input_file_first iv task F G (Err NewKekLength) h K kek fault wrong = absurd h
 
 -- what has one answer of the job is refused for it, unless the call gives up
 refused_for : (iv : ℕ) (task : Task) (F G : List ℕ) (answer : Result Done JobFault) (fault : JobFault)

@@ -9,16 +9,10 @@ use Rattle.key_wrap.specs.declared.faults.UnwrapFault.TheVariants.{BadLength, In
 use Rattle.key_wrap.specs.declared.faults.WrapFault.{WrapFault}
 use Rattle.key_wrap.specs.declared.faults.WrapFault.TheVariants as wraps
 use Rattle.key_wrap.specs.Answer.{NoKey}
-use Rattle.key_wrap.specs.Lengths.{IsPlainKeyLength, IsPlainTextLength, IsPaddedKeyLength, IsPaddedTextLength}
-use Rattle.key_wrap.specs.Padded.{Padded}
-use Rattle.key_wrap.specs.Plain.{Plain, default_iv}
+use Rattle.key_wrap.specs.Forms.{Stands, IsKeyLength, IsTextLength}
+use Rattle.key_wrap.specs.Plain.{default_iv}
 use Rattle.keywrap_cli.specs.declared.convert.Direction.{Direction}
 use Rattle.keywrap_cli.specs.declared.convert.Direction.TheVariants.{Wrap, Unwrap}
-
--- the text is the wrapping of the key in this form under E
-abbrev pub Stands : Form → ℕ → (List ℕ → List ℕ) → List ℕ → List ℕ → Type 0
-Stands forms.Plain iv E key text = Plain E iv key text
-Stands forms.Padded iv E key text = Padded E key text
 
 abbrev pub other_form : Form → Form
 other_form forms.Plain = forms.Padded
@@ -26,10 +20,8 @@ other_form forms.Padded = forms.Plain
 
 -- the legal lengths of what is wrapped or unwrapped in this form
 abbrev pub IsInputLength : Direction → Form → ℕ → Type 0
-IsInputLength Wrap forms.Plain len = IsPlainKeyLength len
-IsInputLength Wrap forms.Padded len = IsPaddedKeyLength len
-IsInputLength Unwrap forms.Plain len = IsPlainTextLength len
-IsInputLength Unwrap forms.Padded len = IsPaddedTextLength len
+IsInputLength Wrap form len = IsKeyLength form len
+IsInputLength Unwrap form len = IsTextLength form len
 
 -- the text is the wrapping of the key, and no other text is
 pub record IsTextOf (form : Form) (iv : ℕ) (E : List ℕ → List ℕ) (key text : List ℕ) : Type 0 where

@@ -15,7 +15,7 @@ use Rattle.keywrap_cli.specs.Output.{IsOutput, HasBadLength, HasNoKey, IsDone, j
 use Rattle.keywrap_cli.specs.declared.convert.Direction.{Direction}
 use Rattle.keywrap_cli.specs.declared.job.Done.{Done}
 use Rattle.keywrap_cli.specs.declared.job.JobFault.{JobFault}
-use Rattle.keywrap_cli.specs.declared.job.JobFault.TheVariants.{KekFile, KekLength, InputFile, BadLength, Integrity, Write, Memory}
+use Rattle.keywrap_cli.specs.declared.job.JobFault.TheVariants.{KekFile, KekLength, NewKekFile, NewKekLength, InputFile, BadLength, Integrity, Write, Memory}
 use Rattle.keywrap_cli.specs.declared.job.Notation.{Notation}
 use Rattle.keywrap_cli.specs.declared.job.Task.{Task}
 
@@ -40,6 +40,8 @@ JobAnswer iv task F G (Ok output) =
     (K : List ℕ) × (X : List ℕ) × DenoteBoth task F G K X × IsOutput iv task (cipher K) X output
 JobAnswer iv task F G (Err (Write written)) = ⊥
 JobAnswer iv task F G (Err Memory) = ⊥
+JobAnswer iv task F G (Err (NewKekFile fault)) = ⊥
+JobAnswer iv task F G (Err NewKekLength) = ⊥
 
 -- What a call leaves in its writer: the whole output of its answer, or the first `written` bytes of it, or
 -- nothing, where it answers a refusal. Beside these only Read and Memory come.
@@ -55,6 +57,9 @@ LeavesOutput iv task F G old new (Err Memory) = Keeps old new
 -- want of memory is never answered as a file's fault
 LeavesOutput iv task F G old new (Err (KekFile files.Memory)) = ⊥
 LeavesOutput iv task F G old new (Err (InputFile files.Memory)) = ⊥
+-- nor are the faults of a new KEK answered, which a rewrapping alone has
+LeavesOutput iv task F G old new (Err (NewKekFile fault)) = ⊥
+LeavesOutput iv task F G old new (Err NewKekLength) = ⊥
 LeavesOutput iv task F G old new (Err fault) = JobAnswer iv task F G (Err fault) × Keeps old new
 
 -- the call was refused for its KEK file, or for the KEK in it
@@ -85,14 +90,15 @@ pub record IsUnread (old new : Option (List ℕ)) (taken : List ℕ) : Type 0 wh
   pub same : Keeps old new
 
 -- the KEK file was read to its end and denotes a KEK
-pub record IsKekAccepted (task : Task) (F : List ℕ) (left : Option (List ℕ)) : Type 0 where
+pub record IsKekAccepted (notation : Notation) (F : List ℕ) (left : Option (List ℕ)) : Type 0 where
   pub K : List ℕ
-  pub kek : DenotesKek task.kek F K
+  pub kek : DenotesKek notation F K
   pub end : IsAtEnd left
 
 -- the call gave up: a read failed, or a growth was refused
 abbrev pub GivesUp : Result Done JobFault → Type 0
 GivesUp (Err (KekFile files.Read)) = ⊤
+GivesUp (Err (NewKekFile files.Read)) = ⊤
 GivesUp (Err (InputFile files.Read)) = ⊤
 GivesUp (Err Memory) = ⊤
 GivesUp answer = ⊥
@@ -116,7 +122,7 @@ pub record RunsJobWith (iv : ℕ) (task : Task) (kek kek' input input' out out' 
   pub kek_end : IsKekReadToEnd answer kek'
   pub input_end : IsInputReadToEnd answer input'
   -- the input is read only once the KEK is accepted
-  pub in_order : IsUnread input input' G ⊎ IsKekAccepted task F kek'
+  pub in_order : IsUnread input input' G ⊎ IsKekAccepted task.kek F kek'
   pub unread : IsKekRefused answer → IsUnread input input' G
   -- a file is too long exactly where more than 4,194,304 bytes were taken from it
   pub kek_too_long : (answer ≡ Err (KekFile files.TooLong)) ↔ (4194304 < length F)

@@ -6,5 +6,6 @@ pub mod Job
 pub mod Output
 pub mod Published
 pub mod Readings
+pub mod Rewrapping
 pub mod Vectors
 pub mod Writing

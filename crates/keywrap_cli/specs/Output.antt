@@ -9,7 +9,8 @@ use Rattle.key_wrap.specs.Kind.{IsKindOf}
 use Rattle.key_wrap.specs.declared.forms.Form.{Form}
 use Rattle.key_wrap.specs.declared.forms.Kind.{Kind}
 use Rattle.key_wrap.specs.declared.forms.Kind.TheVariants as kinds
-use Rattle.keywrap_cli.specs.Conversion.{Stands, IsInputLength, IsTextOf, IsKeyOf}
+use Rattle.key_wrap.specs.Forms.{Stands}
+use Rattle.keywrap_cli.specs.Conversion.{IsInputLength, IsTextOf, IsKeyOf}
 use Rattle.keywrap_cli.specs.Files.{printed}
 use Rattle.key_wrap.specs.declared.faults.UnwrapFault.{UnwrapFault}
 use Rattle.key_wrap.specs.declared.faults.UnwrapFault.TheVariants as unwraps
@@ -20,7 +21,7 @@ use Rattle.keywrap_cli.specs.declared.job.Done.TheVariants.{Written, Neither}
 use Rattle.keywrap_cli.specs.declared.job.Job.{Job}
 use Rattle.keywrap_cli.specs.declared.job.Job.TheVariants.{Wrap, Unwrap, Check}
 use Rattle.keywrap_cli.specs.declared.job.JobFault.{JobFault}
-use Rattle.keywrap_cli.specs.declared.job.JobFault.TheVariants.{KekFile, KekLength, InputFile, BadLength, Integrity, Write, Memory}
+use Rattle.keywrap_cli.specs.declared.job.JobFault.TheVariants.{KekFile, KekLength, NewKekFile, NewKekLength, InputFile, BadLength, Integrity, Write, Memory}
 use Rattle.keywrap_cli.specs.declared.job.Task.{Task}
 
 -- the line of a check: the form and the key's length in decimal
@@ -73,6 +74,8 @@ OutputAnswer job iv task E X old new (Err Memory) = Keeps old new
 OutputAnswer job iv task E X old new (Err KekLength) = ⊥
 OutputAnswer job iv task E X old new (Err (KekFile fault)) = ⊥
 OutputAnswer job iv task E X old new (Err (InputFile fault)) = ⊥
+OutputAnswer job iv task E X old new (Err (NewKekFile fault)) = ⊥
+OutputAnswer job iv task E X old new (Err NewKekLength) = ⊥
 
 -- the job that goes in a direction
 abbrev pub job_of : Direction → Job

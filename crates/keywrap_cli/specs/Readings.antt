@@ -7,7 +7,7 @@ use Rattle.key_files.specs.declared.fault.FileFault.{FileFault}
 use Rattle.key_files.specs.declared.fault.FileFault.TheVariants as files
 use Rattle.keywrap_cli.specs.Files.{Denotes, IsRefused, DenotesKek}
 use Rattle.keywrap_cli.specs.declared.job.JobFault.{JobFault}
-use Rattle.keywrap_cli.specs.declared.job.JobFault.TheVariants.{KekFile, KekLength, InputFile, Memory}
+use Rattle.keywrap_cli.specs.declared.job.JobFault.TheVariants.{KekFile, KekLength, NewKekFile, NewKekLength, InputFile, Memory}
 use Rattle.keywrap_cli.specs.declared.job.Notation.{Notation}
 
 -- the KEK, or why there is none, for the bytes F that were taken, with what is left in the reader
@@ -35,6 +35,22 @@ pub record ReadsKek (notation : Notation) (old new : Option (List ℕ)) (answer 
   pub at_most : length taken ≤ 4194304 + 1
   pub too_long : (answer ≡ Err (KekFile files.TooLong)) ↔ (4194304 < length taken)
   pub answers : KekAnswer notation taken new answer
+
+-- a fault of a KEK, named as that of the new one
+abbrev pub new_kek_fault_of : JobFault → JobFault
+new_kek_fault_of (KekFile fault) = NewKekFile fault
+new_kek_fault_of KekLength = NewKekLength
+new_kek_fault_of fault = fault
+
+-- an answer to the new KEK's file: its faults are named as those of the new KEK
+abbrev pub IsNamedNew : Result (List ℕ) JobFault → Result (List ℕ) JobFault → Type 0
+IsNamedNew (Ok K) answer = answer ≡ Ok K
+IsNamedNew (Err fault) answer = answer ≡ Err (new_kek_fault_of fault)
+
+-- what the call that reads the new KEK's file takes from it, and answers: all as for the old one, but for the names
+abbrev pub ReadsNewKek : Notation → Option (List ℕ) → Option (List ℕ) → Result (List ℕ) JobFault → Type 0
+ReadsNewKek notation old new answer =
+    (found : Result (List ℕ) JobFault) × ReadsKek notation old new found × IsNamedNew found answer
 
 -- the input's bytes, or why there are none
 abbrev pub InputAnswer : Notation → List ℕ → Option (List ℕ) → Result (Vec ℕ Global) JobFault → Type 0

@@ -4,8 +4,8 @@ use Rattle.aes_block.specs.Cipher.{cipher}
 use Rattle.aes_block.specs.KeyExpansion.{IsKekLength}
 use Rattle.block_pair.specs.Words.{IsBlock}
 use Rattle.key_files.specs.Meaning.{hex_meaning}
+use Rattle.key_wrap.specs.Forms.{Stands}
 use Rattle.key_wrap.specs.Plain.{default_iv}
-use Rattle.keywrap_cli.specs.Conversion.{Stands}
 use Rattle.keywrap_cli.specs.declared.vector_table.Operation.{Operation}
 use Rattle.keywrap_cli.specs.declared.vector_table.Operation.TheVariants.{KeyWrap, Encryption}
 use Rattle.keywrap_cli.specs.declared.vector_table.Vector.{Vector}

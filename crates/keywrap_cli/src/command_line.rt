@@ -2,7 +2,8 @@
 
 use crate::convert::Direction;
 use crate::help::{
-    CHECK_EXAMPLE, DRILL_EXAMPLE, STATUSES, UNWRAP_EXAMPLE, VECTORS_EXAMPLE, WRAP_EXAMPLE,
+    CHECK_EXAMPLE, DRILL_EXAMPLE, REWRAP_EXAMPLE, STATUSES, UNWRAP_EXAMPLE, VECTORS_EXAMPLE,
+    WRAP_EXAMPLE,
 };
 use crate::job::{Job, Notation, Task, job_of};
 use clap::error::ErrorKind;
@@ -33,6 +34,15 @@ pub enum Request<'a> {
         kek_notation: Notation,
         kek: &'a str,
     },
+    /// A rewrapping of standard input, from the KEK in a file to the KEK in another.
+    Rewrap {
+        old_form: Form,
+        new_form: Form,
+        input_notation: Notation,
+        kek_notation: Notation,
+        kek: &'a str,
+        new_kek: &'a str,
+    },
     /// The published vectors.
     Vectors,
 }
@@ -43,6 +53,7 @@ pub fn parse<'a>(alloc: Global, words: &'a [String]) -> Result<Request<'a>, Erro
     Ok(match matches.subcommand() {
         Some(("wrap", found)) => conversion(Direction::Wrap, found),
         Some(("unwrap", found)) => conversion(Direction::Unwrap, found),
+        Some(("rewrap", found)) => rewrap(found),
         Some(("check", found)) => job(Job::Check, found),
         Some(("drill", found)) => drill(found),
         Some(("vectors", _)) => Request::Vectors,
@@ -78,13 +89,24 @@ fn conversion<'a>(direction: Direction, found: &ArgMatches<'a>) -> Request<'a> {
 fn job<'a>(job: Job, found: &ArgMatches<'a>) -> Request<'a> {
     let task = Task {
         job,
-        form: form_of(found),
+        form: form_of(found, "padded"),
         input: notation(found, "raw"),
         kek: notation(found, "raw-kek"),
     };
     Request::Job {
         task,
         kek: text_of(found, "kek"),
+    }
+}
+
+fn rewrap<'a>(found: &ArgMatches<'a>) -> Request<'a> {
+    Request::Rewrap {
+        old_form: form_of(found, "padded"),
+        new_form: form_of(found, "new-padded"),
+        input_notation: notation(found, "raw"),
+        kek_notation: notation(found, "raw-kek"),
+        kek: text_of(found, "kek"),
+        new_kek: text_of(found, "new-kek"),
     }
 }
 
@@ -95,7 +117,7 @@ fn drill<'a>(found: &ArgMatches<'a>) -> Request<'a> {
         Direction::Wrap
     };
     Request::Drill {
-        form: form_of(found),
+        form: form_of(found, "padded"),
         direction,
         text: text_of(found, "hex"),
     }
@@ -103,8 +125,8 @@ fn drill<'a>(found: &ArgMatches<'a>) -> Request<'a> {
 
 // A flag that the command does not have, as `--padded` of `check`, is not set. A check looks at
 // both forms, whichever its task names.
-fn form_of(found: &ArgMatches<'_>) -> Form {
-    if found.get_flag("padded") {
+fn form_of(found: &ArgMatches<'_>, flag: &str) -> Form {
+    if found.get_flag(flag) {
         Form::Padded
     } else {
         Form::Plain
@@ -135,15 +157,29 @@ fn keywrap<'a>(alloc: Global) -> Result<Command<'a>, AllocError> {
         .subcommand_required(true)
         .subcommand(wrap_command(alloc)?)?
         .subcommand(unwrap_command(alloc)?)?
+        .subcommand(rewrap_command(alloc)?)?
         .subcommand(check_command(alloc)?)?
         .subcommand(drill_command(alloc)?)?
         .subcommand(vectors_command(alloc))
 }
 
 fn wrap_command<'a>(alloc: Global) -> Result<Command<'a>, AllocError> {
-    Command::new(alloc, "wrap")
+    let command = Command::new(alloc, "wrap")
         .about("Wraps the key on standard input")
-        .after_long_help(WRAP_EXAMPLE)
+        .after_long_help(WRAP_EXAMPLE);
+    conversion_command(alloc, command)
+}
+
+fn unwrap_command<'a>(alloc: Global) -> Result<Command<'a>, AllocError> {
+    let command = Command::new(alloc, "unwrap")
+        .about("Unwraps the text on standard input")
+        .after_long_help(UNWRAP_EXAMPLE);
+    conversion_command(alloc, command)
+}
+
+// The arguments of a wrapping or an unwrapping.
+fn conversion_command<'a>(alloc: Global, command: Command<'a>) -> Result<Command<'a>, AllocError> {
+    command
         .arg(kek(alloc))?
         .arg(padded(alloc))?
         .arg(iv(alloc)?)?
@@ -151,15 +187,16 @@ fn wrap_command<'a>(alloc: Global) -> Result<Command<'a>, AllocError> {
         .arg(raw_kek(alloc))
 }
 
-fn unwrap_command<'a>(alloc: Global) -> Result<Command<'a>, AllocError> {
-    Command::new(alloc, "unwrap")
-        .about("Unwraps the text on standard input")
-        .after_long_help(UNWRAP_EXAMPLE)
+fn rewrap_command<'a>(alloc: Global) -> Result<Command<'a>, AllocError> {
+    Command::new(alloc, "rewrap")
+        .about("Wraps the key of the text on standard input under another KEK, without writing it")
+        .after_long_help(REWRAP_EXAMPLE)
         .arg(kek(alloc))?
-        .arg(padded(alloc))?
-        .arg(iv(alloc)?)?
+        .arg(new_kek(alloc))?
+        .arg(flag(alloc, "padded").help("The text has the padded form of RFC 5649"))?
+        .arg(flag(alloc, "new-padded").help("The new text gets the padded form of RFC 5649"))?
         .arg(raw(alloc))?
-        .arg(raw_kek(alloc))
+        .arg(flag(alloc, "raw-kek").help("Both KEK files are raw bytes, not hex"))
 }
 
 fn check_command<'a>(alloc: Global) -> Result<Command<'a>, AllocError> {
@@ -197,6 +234,14 @@ fn kek<'a>(alloc: Global) -> Arg<'a> {
         .value_name("FILE")
         .required(true)
         .help("The file with the key-encryption key of 16, 24 or 32 bytes, in hex")
+}
+
+fn new_kek<'a>(alloc: Global) -> Arg<'a> {
+    Arg::new(alloc, "new-kek")
+        .long("new-kek")
+        .value_name("FILE")
+        .required(true)
+        .help("The file with the KEK of the new text, in hex")
 }
 
 fn padded<'a>(alloc: Global) -> Arg<'a> {

@@ -1,7 +1,8 @@
 //! Wrapping and unwrapping in a direction and a form.
 
 ghost use Rattle.std.specs.Prelude.{◌≡◌, ℕ, List, IsOkUnless};
-ghost use Rattle.keywrap_cli.specs.Conversion.{ConversionAnswer, Converts, Stands, WrapAnswer};
+ghost use Rattle.key_wrap.specs.Forms.{Stands};
+ghost use Rattle.keywrap_cli.specs.Conversion.{ConversionAnswer, Converts, WrapAnswer};
 ghost use Rattle.keywrap_cli.specs.Conversion.{unwrap_fault_of};
 
 use block_pair::BlockPair;

@@ -19,6 +19,9 @@ pub enum ProgramFault {
     /// The KEK file can't be opened.
     #[error("key file: cannot be opened")]
     KekOpen,
+    /// The file of the new KEK can't be opened.
+    #[error("new key file: cannot be opened")]
+    NewKekOpen,
     /// A job was refused.
     #[error("{0}")]
     Job(JobFault),
@@ -57,9 +60,10 @@ impl ProgramFault {
     pub fn status(&self) -> u8 {
         match self {
             ProgramFault::Iv(_) => statuses::REFUSED_WORDS,
-            ProgramFault::KekOpen | ProgramFault::Write { .. } | ProgramFault::Flush => {
-                statuses::INPUT_OUTPUT
-            }
+            ProgramFault::KekOpen
+            | ProgramFault::NewKekOpen
+            | ProgramFault::Write { .. }
+            | ProgramFault::Flush => statuses::INPUT_OUTPUT,
             ProgramFault::Job(fault) => job_status(fault),
             ProgramFault::Drill(fault) => drill_status(fault),
             ProgramFault::Memory => statuses::MEMORY,
@@ -69,12 +73,13 @@ impl ProgramFault {
 
 fn job_status(fault: &JobFault) -> u8 {
     match fault {
-        JobFault::KekLength => statuses::KEK_LENGTH,
+        JobFault::KekLength | JobFault::NewKekLength => statuses::KEK_LENGTH,
         JobFault::BadLength => statuses::BAD_LENGTH,
         JobFault::Integrity => statuses::FAILED,
-        JobFault::KekFile(_) | JobFault::InputFile(_) | JobFault::Write { .. } => {
-            statuses::INPUT_OUTPUT
-        }
+        JobFault::KekFile(_)
+        | JobFault::NewKekFile(_)
+        | JobFault::InputFile(_)
+        | JobFault::Write { .. } => statuses::INPUT_OUTPUT,
         JobFault::Memory => statuses::MEMORY,
     }
 }

@@ -5,17 +5,17 @@ pub const STATUSES: &str = "\
 Exit status:
   0  done
   2  the command line was refused
-  3  the KEK has not 16, 24 or 32 bytes
+  3  a KEK has not 16, 24 or 32 bytes
   4  the key or the text has no legal length in this form
   5  the integrity check failed; check found no wrapping; a vector failed
   6  a file or the output could not be opened, read or written
   7  out of memory
 A refusal is one line on standard error, and of the command line a message with the usage (of
 what --iv says, one line).
-wrap, unwrap, check and drill write nothing on standard output before their whole answer is
-right; vectors writes its lines, those that say failed too, once all are made. Status 5
-without a line comes from check, which wrote none, and from vectors, whose lines say which
-one failed.";
+wrap, unwrap, rewrap, check and drill write nothing on standard output before their whole
+answer is right; vectors writes its lines, those that say failed too, once all are made.
+Status 5 without a line comes from check, which wrote none, and from vectors, whose lines say
+which one failed.";
 
 /// An example of `wrap`.
 pub const WRAP_EXAMPLE: &str = "\
@@ -35,6 +35,18 @@ Example, with the first vector of RFC 3394:
   00112233445566778899aabbccddeeff
 
 A text that is no wrapping under this KEK is refused with status 5, and no byte is written.";
+
+/// An example of `rewrap`.
+pub const REWRAP_EXAMPLE: &str = "\
+Example, with the first and the third vector of RFC 3394:
+  $ echo 000102030405060708090a0b0c0d0e0f > kek.hex
+  $ echo 000102030405060708090a0b0c0d0e0f101112131415161718191a1b1c1d1e1f > new.hex
+  $ echo 1fa68b0a8112b447aef34bd8fb5a7b829d3e862371d2cfe5 > text.hex
+  $ keywrap rewrap --kek kek.hex --new-kek new.hex < text.hex
+  64e8c3f9ce0f5ba263e9777905818a2a93c8191e7d6e8ae7
+
+The new text is as long as the old one. The key itself is not written. From --padded to the
+plain form only a key of 16 bytes or more, a multiple of 8, can go; another is status 4.";
 
 /// An example of `check`.
 pub const CHECK_EXAMPLE: &str = "\

@@ -66,6 +66,12 @@ pub enum JobFault {
     /// The KEK has not 16, 24 or 32 bytes.
     #[error("key length is not 16, 24 or 32 bytes")]
     KekLength,
+    /// The file of the new KEK denotes no bytes. Only `run_rewrap` answers this.
+    #[error("new key file: {0}")]
+    NewKekFile(FileFault),
+    /// The new KEK has not 16, 24 or 32 bytes. Only `run_rewrap` answers this.
+    #[error("new key length is not 16, 24 or 32 bytes")]
+    NewKekLength,
     /// The input denotes no bytes.
     #[error("input: {0}")]
     InputFile(FileFault),

@@ -12,6 +12,7 @@ mod job;
 mod kek_file;
 mod output;
 mod program;
+mod rewrap;
 mod statuses;
 #[cfg(test)]
 mod tests;

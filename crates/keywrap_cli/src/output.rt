@@ -15,8 +15,8 @@ use key_wrap::{InitialValue, Kind, KindFault, UnwrapFault, kind};
 use std::alloc::{AllocError, Global};
 use std::io::Write;
 
-/// Makes the output of a job for the bytes of its input, and then writes it. The plain form has this
-/// initial value; a check looks at the default.
+/// Makes the output of a job for the bytes of its input, and then writes it. The plain form has
+/// this initial value; a check looks at the default.
 pub fn write_output<B: BlockPair, W: Write>(
     alloc: Global,
     iv: &InitialValue,
@@ -52,7 +52,8 @@ fn write_answer<B: BlockPair, W: Write>(
     Ok(Done::Written)
 }
 
-fn job_fault(fault: UnwrapFault) -> JobFault
+/// The fault of a job for that of a call of `key_wrap`.
+pub fn job_fault(fault: UnwrapFault) -> JobFault
     ensures { result ≡ job_fault_of fault }
 {
     match fault {
@@ -62,8 +63,8 @@ fn job_fault(fault: UnwrapFault) -> JobFault
     }
 }
 
-// Writes bytes in a notation.
-fn send<W: Write>(
+/// Writes bytes in a notation.
+pub fn send<W: Write>(
     alloc: Global,
     notation: Notation,
     bytes: &[u8],

@@ -11,6 +11,7 @@ use crate::drill::drill;
 use crate::fault::ProgramFault;
 use crate::initial_value::parse_iv;
 use crate::job::{Done, JobFault, Notation, Task, run_job, run_with};
+use crate::rewrap::run_rewrap;
 use crate::statuses;
 use crate::vectors::vectors;
 use clap::Error;
@@ -63,6 +64,22 @@ fn answer<R: Print + Eprint + Input + AllocGlobal + Files>(rt: &R, wanted: Reque
             kek_notation,
             kek,
         } => run_task_with(rt, iv, direction, input_notation, kek_notation, kek),
+        Request::Rewrap {
+            old_form,
+            new_form,
+            input_notation,
+            kek_notation,
+            kek,
+            new_kek,
+        } => rewrap_input(
+            rt,
+            old_form,
+            new_form,
+            input_notation,
+            kek_notation,
+            kek,
+            new_kek,
+        ),
         Request::Vectors => run_vectors(rt.alloc(), &mut out),
     };
     end(rt, done)
@@ -112,6 +129,33 @@ fn run_task_with<R: Print + Input + AllocGlobal + Files>(
         input_notation,
         kek_notation,
         &mut kek,
+        &mut rt.reader(),
+        &mut out,
+    );
+    flush_job(done, &mut out)
+}
+
+// A rewrapping of standard input. Both KEK files are opened before anything is read.
+fn rewrap_input<R: Print + Input + AllocGlobal + Files>(
+    rt: &R,
+    old_form: Form,
+    new_form: Form,
+    input_notation: Notation,
+    kek_notation: Notation,
+    kek: &str,
+    new_kek: &str,
+) -> Result<u8, ProgramFault> {
+    let mut kek = fs::open(rt, kek).map_err(|_| ProgramFault::KekOpen)?;
+    let mut new_kek = fs::open(rt, new_kek).map_err(|_| ProgramFault::NewKekOpen)?;
+    let mut out = io::writer(rt);
+    let done = run_rewrap(
+        rt.alloc(),
+        old_form,
+        new_form,
+        input_notation,
+        kek_notation,
+        &mut kek,
+        &mut new_kek,
         &mut rt.reader(),
         &mut out,
     );

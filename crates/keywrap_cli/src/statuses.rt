@@ -6,7 +6,7 @@ pub const DONE: u8 = 0;
 /// The command line was refused, or the value of `--iv`.
 pub const REFUSED_WORDS: u8 = 2;
 
-/// The KEK has not 16, 24 or 32 bytes.
+/// A KEK has not 16, 24 or 32 bytes.
 pub const KEK_LENGTH: u8 = 3;
 
 /// The key or the text has no legal length in its form.

@@ -9,5 +9,6 @@ mod hostile;
 mod initial_values;
 mod jobs;
 mod limits;
+mod rewraps;
 mod standards;
 mod vectors;

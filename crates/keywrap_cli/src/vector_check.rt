@@ -4,7 +4,8 @@ ghost use Rattle.std.specs.Prelude.{◌≡◌, ◌≢◌, ◌↔◌, ℕ, List, 
 ghost use Rattle.block_pair.specs.Words.{IsBlock};
 ghost use Rattle.key_files.specs.Meaning.{hex_meaning};
 ghost use Rattle.key_wrap.specs.Plain.{default_iv};
-ghost use Rattle.keywrap_cli.specs.Conversion.{Converts, Stands};
+ghost use Rattle.key_wrap.specs.Forms.{Stands};
+ghost use Rattle.keywrap_cli.specs.Conversion.{Converts};
 ghost use Rattle.keywrap_cli.specs.Vectors.{IsRight, Takes, shown};
 
 use crate::convert::{Direction, convert};

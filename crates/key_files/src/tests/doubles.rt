@@ -9,22 +9,15 @@ pub struct Trickle<'a> {
     rest: &'a [u8],
     size: usize,
     fails: bool,
-    reads: usize,
+    is_unread: bool,
 }
 
 impl<'a> Trickle<'a> {
-    /// One byte a read, then the end.
-    pub fn ending(bytes: &'a [u8]) -> Self {
-        Trickle::in_pieces(bytes, 1)
-    }
-
     /// One byte a read, then an error.
     pub fn failing(bytes: &'a [u8]) -> Self {
         Trickle {
-            rest: bytes,
-            size: 1,
             fails: true,
-            reads: 0,
+            ..Trickle::in_pieces(bytes, 1)
         }
     }
 
@@ -34,22 +27,23 @@ impl<'a> Trickle<'a> {
             rest: bytes,
             size,
             fails: false,
-            reads: 0,
+            is_unread: true,
         }
     }
 
     pub fn is_unread(&self) -> bool {
-        self.reads == 0
+        self.is_unread
     }
 
-    pub fn rest(&self) -> &'a [u8] {
-        self.rest
+    /// How many bytes were not given.
+    pub fn left(&self) -> usize {
+        self.rest.len()
     }
 }
 
 impl Read for Trickle<'_> {
     fn read(&mut self, buf: &mut [u8]) -> io::Result<usize> {
-        self.reads = self.reads.saturating_add(1);
+        self.is_unread = false;
         if self.rest.is_empty() && self.fails {
             return Err(io::Error::from(io::ErrorKind::Interrupted));
         }
@@ -98,25 +92,24 @@ pub struct Narrow {
 impl Narrow {
     /// Takes `room` bytes, one a write, and then fails.
     pub fn failing(alloc: Global, room: usize) -> Self {
-        Narrow::new(alloc, room, 1, true)
+        Narrow::in_pieces(alloc, room, 1)
     }
 
     /// Takes `room` bytes, one a write, and then none.
     pub fn full(alloc: Global, room: usize) -> Self {
-        Narrow::new(alloc, room, 1, false)
+        Narrow {
+            fails: false,
+            ..Narrow::in_pieces(alloc, room, 1)
+        }
     }
 
     /// Takes `room` bytes, up to `size` a write, and then fails.
     pub fn in_pieces(alloc: Global, room: usize, size: usize) -> Self {
-        Narrow::new(alloc, room, size, true)
-    }
-
-    fn new(alloc: Global, room: usize, size: usize, fails: bool) -> Self {
         Narrow {
             out: Vec::new(alloc),
             room,
             size,
-            fails,
+            fails: true,
             is_flushed: false,
         }
     }

@@ -1,64 +1,84 @@
 //! Bytes and lines by writers that take them whole or in pieces, fail or fill up.
 
+use super::Notation;
 use super::doubles::Narrow;
-use crate::{HexWriteFault, WriteFault, write_hex, write_raw};
+use crate::{HexWriteFault, write_hex, write_raw};
+use std::alloc::Global;
 use std::process::Abort;
 
 // The wrapping of RFC 3394, section 4.1.
-const TEXT: [u8; 24] = [
-    0x1f, 0xa6, 0x8b, 0x0a, 0x81, 0x12, 0xb4, 0x47, 0xae, 0xf3, 0x4b, 0xd8, 0xfb, 0x5a, 0x7b, 0x82,
-    0x9d, 0x3e, 0x86, 0x23, 0x71, 0xd2, 0xcf, 0xe5,
-];
+const TEXT: &[u8] = b"\x1f\xa6\x8b\x0a\x81\x12\xb4\x47\xae\xf3\x4b\xd8\xfb\x5a\x7b\x82\
+    \x9d\x3e\x86\x23\x71\xd2\xcf\xe5";
 
 const LINE: &[u8] = b"1fa68b0a8112b447aef34bd8fb5a7b829d3e862371d2cfe5\n";
 
-// The first `room` bytes go out, and the fault counts them.
-fn stops_after<R: Abort + AllocGlobal>(rt: &R, room: usize, writers: [Narrow; 2]) {
-    let [mut raw, mut hex] = writers;
-    let answer = write_raw(&mut raw, LINE);
-    assert_eq!(rt; answer, Err(WriteFault { written: room }));
-    assert_eq!(rt; Some(raw.out()), LINE.get(..room));
-    let answer = write_hex(rt.alloc(), &mut hex, &TEXT);
-    assert_eq!(rt; answer, Err(HexWriteFault::Write { written: room }));
-    assert_eq!(rt; Some(hex.out()), LINE.get(..room));
+// The call that writes a notation.
+fn write(
+    alloc: Global,
+    notation: Notation,
+    out: &mut Narrow,
+    bytes: &[u8],
+) -> Result<(), HexWriteFault> {
+    match notation {
+        Notation::Raw => Ok(write_raw(out, bytes)?),
+        Notation::Hex => write_hex(alloc, out, bytes),
+    }
+}
+
+// Says that bytes go out as this file, or as its first `room` bytes, which the fault counts. The
+// flush is left to the caller.
+pub(super) fn writes(
+    rt: &impl Abort,
+    alloc: Global,
+    notation: Notation,
+    bytes: &[u8],
+    file: &[u8],
+    mut out: Narrow,
+    room: usize,
+) {
+    let answer = write(alloc, notation, &mut out, bytes);
+    let want = if room < file.len() {
+        Err(HexWriteFault::Write { written: room })
+    } else {
+        Ok(())
+    };
+    assert!(rt; answer == want, "{room} of {} bytes", file.len());
+    assert!(rt; Some(out.out()) == file.get(..room) && !out.is_flushed());
+}
+
+// The line as raw bytes, and the text as a line.
+fn writes_line(rt: &impl Abort, alloc: Global, room: usize, raw: Narrow, hex: Narrow) {
+    writes(rt, alloc, Notation::Raw, LINE, LINE, raw, room);
+    writes(rt, alloc, Notation::Hex, TEXT, LINE, hex, room);
 }
 
 #[test]
 fn each_refused_write_is_counted(rt: HostRuntime) {
     let alloc = rt.alloc();
     for room in 0..LINE.len() {
-        stops_after(
-            &rt,
-            room,
-            [Narrow::failing(alloc, room), Narrow::failing(alloc, room)],
-        );
-        stops_after(
-            &rt,
-            room,
-            [Narrow::full(alloc, room), Narrow::full(alloc, room)],
-        );
+        let (raw, hex) = (Narrow::failing(alloc, room), Narrow::failing(alloc, room));
+        writes_line(&rt, alloc, room, raw, hex);
+        let (raw, hex) = (Narrow::full(alloc, room), Narrow::full(alloc, room));
+        writes_line(&rt, alloc, room, raw, hex);
     }
 }
 
 #[test]
 fn writes_in_pieces(rt: HostRuntime) {
+    let alloc = rt.alloc();
+    let room = LINE.len();
     for size in [1, 7, usize::MAX] {
-        let mut raw = Narrow::in_pieces(rt.alloc(), LINE.len(), size);
-        assert_eq!(rt; write_raw(&mut raw, LINE), Ok(()));
-        assert_eq!(rt; raw.out(), LINE, "{size} bytes a write");
-        let mut hex = Narrow::in_pieces(rt.alloc(), LINE.len(), size);
-        assert_eq!(rt; write_hex(rt.alloc(), &mut hex, &TEXT), Ok(()));
-        assert_eq!(rt; hex.out(), LINE, "{size} bytes a write");
-        assert!(rt; !raw.is_flushed() && !hex.is_flushed());
+        let raw = Narrow::in_pieces(alloc, room, size);
+        let hex = Narrow::in_pieces(alloc, room, size);
+        writes_line(&rt, alloc, room, raw, hex);
     }
 }
 
 #[test]
 fn writes_no_bytes(rt: HostRuntime) {
     // No write is made of no bytes, so none is refused.
-    let mut raw = Narrow::failing(rt.alloc(), 0);
-    assert_eq!(rt; write_raw(&mut raw, &[]), Ok(()));
-    let mut hex = Narrow::failing(rt.alloc(), 1);
-    assert_eq!(rt; write_hex(rt.alloc(), &mut hex, &[]), Ok(()));
-    assert_eq!(rt; hex.out(), b"\n".as_slice());
+    let raw = Narrow::failing(rt.alloc(), 0);
+    writes(&rt, rt.alloc(), Notation::Raw, &[], &[], raw, 0);
+    let hex = Narrow::failing(rt.alloc(), 1);
+    writes(&rt, rt.alloc(), Notation::Hex, &[], b"\n", hex, 1);
 }

@@ -7,10 +7,15 @@ use crate::job::JobFault;
 use key_files::FileFault;
 use std::test::Fail;
 
-static FAULTS: [(ProgramFault, &str, u8); 23] = [
+static FAULTS: [(ProgramFault, &str, u8); 28] = [
     (
         ProgramFault::Job(JobFault::KekLength),
         "keywrap: key length is not 16, 24 or 32 bytes",
+        3,
+    ),
+    (
+        ProgramFault::Job(JobFault::NewKekLength),
+        "keywrap: new key length is not 16, 24 or 32 bytes",
         3,
     ),
     (
@@ -36,6 +41,21 @@ static FAULTS: [(ProgramFault, &str, u8); 23] = [
     (
         ProgramFault::Job(JobFault::KekFile(FileFault::OddDigits)),
         "keywrap: key file: odd number of hex digits",
+        6,
+    ),
+    (
+        ProgramFault::Job(JobFault::NewKekFile(FileFault::Read)),
+        "keywrap: new key file: cannot be read",
+        6,
+    ),
+    (
+        ProgramFault::Job(JobFault::NewKekFile(FileFault::TooLong)),
+        "keywrap: new key file: too long",
+        6,
+    ),
+    (
+        ProgramFault::Job(JobFault::NewKekFile(FileFault::BadDigit { at: 1 })),
+        "keywrap: new key file: no hex digit at byte 1",
         6,
     ),
     (
@@ -106,6 +126,11 @@ static FAULTS: [(ProgramFault, &str, u8); 23] = [
     (
         ProgramFault::KekOpen,
         "keywrap: key file: cannot be opened",
+        6,
+    ),
+    (
+        ProgramFault::NewKekOpen,
+        "keywrap: new key file: cannot be opened",
         6,
     ),
     (

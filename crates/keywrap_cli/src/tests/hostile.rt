@@ -5,6 +5,7 @@ mod ample;
 mod in_place;
 mod memory;
 mod reads;
+mod rewraps;
 mod swapped;
 mod texts;
 mod values;

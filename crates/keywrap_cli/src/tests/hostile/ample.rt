@@ -2,6 +2,7 @@
 
 use super::super::doubles::run_in_pieces;
 use super::super::jobs::{HEX_KEK, HEX_WRAP, RAW_KEK, RAW_WRAP};
+use super::reads::answers;
 use crate::convert::Direction;
 use crate::drill::drill;
 use crate::job::{Done, Job, Task};
@@ -21,7 +22,7 @@ fn byte_of(content: usize, at: usize) -> u8 {
 }
 
 // A key of the most bytes.
-fn key_of(alloc: Global, content: usize) -> Result<Vec<u8>, AllocError> {
+pub(super) fn key_of(alloc: Global, content: usize) -> Result<Vec<u8>, AllocError> {
     let mut key = Vec::new(alloc);
     for at in 0..MAX_KEY {
         key.push(byte_of(content, at))?;
@@ -31,7 +32,7 @@ fn key_of(alloc: Global, content: usize) -> Result<Vec<u8>, AllocError> {
 
 // Whether keys of so many bytes are tried: each length to 520 of every content, then words and
 // their neighbours of one content each, and the largest.
-fn is_tried(content: usize, len: usize) -> bool {
+pub(super) fn is_tried(content: usize, len: usize) -> bool {
     match len {
         ..=520 => true,
         ..=4_105 => matches!(len % 8, 0 | 1 | 7) && len / 8 % 4 == content,
@@ -40,7 +41,7 @@ fn is_tried(content: usize, len: usize) -> bool {
 }
 
 // Whether a key may have so many bytes, as RFC 3394 and RFC 5649 say up to the largest.
-fn is_key_length(form: Form, len: usize) -> bool {
+pub(super) fn is_key_length(form: Form, len: usize) -> bool {
     match form {
         Form::Plain => len >= 16 && len % 8 == 0,
         Form::Padded => len >= 1,
@@ -63,14 +64,22 @@ fn gives_up_for_memory_at_no_length_of_a_drill(rt: HostRuntime) -> Result<(), Fa
 fn drill_and_back(rt: &impl Abort, alloc: Global, key: &[u8]) -> Result<(), Fail> {
     for form in [Form::Plain, Form::Padded] {
         if is_key_length(form, key.len()) {
-            let digits = hex::encode(alloc, key)?;
-            let text = drill(alloc, form, Direction::Wrap, &digits)?;
-            let digits = hex::encode(alloc, &text)?;
-            let back = drill(alloc, form, Direction::Unwrap, &digits)?;
+            let text = drill_bytes(alloc, form, Direction::Wrap, key)?;
+            let back = drill_bytes(alloc, form, Direction::Unwrap, &text)?;
             assert!(rt; back.as_slice() == key, "{form:?}, {} bytes", key.len());
         }
     }
     Ok(())
+}
+
+fn drill_bytes(
+    alloc: Global,
+    form: Form,
+    direction: Direction,
+    bytes: &[u8],
+) -> Result<Vec<u8>, Fail> {
+    let digits = hex::encode(alloc, bytes)?;
+    Ok(drill(alloc, form, direction, &digits)?)
 }
 
 #[test]
@@ -124,12 +133,16 @@ fn run_in_notation(
         job: Job::Unwrap,
         ..task
     };
-    let (_, back) = run_in_pieces(alloc, unwrap, kek, &text, size);
-    assert!(rt; back.as_slice() == input, "{task:?}, {} bytes", input.len());
+    let done = Ok(Done::Written);
+    answers(rt, alloc, unwrap, [kek, &text], size, done, input);
     let check = Task {
         job: Job::Check,
         ..task
     };
     let (done, _) = run_in_pieces(alloc, check, kek, &text, size);
-    assert_eq!(rt; done, Ok(Done::Written), "{task:?}, {} bytes", input.len());
+    assert!(rt;
+        done == Ok(Done::Written),
+        "{task:?}, {} bytes",
+        input.len()
+    );
 }

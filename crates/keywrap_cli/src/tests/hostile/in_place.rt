@@ -34,20 +34,41 @@ fn wrap_and_unwrap(
 ) -> Result<(), Fail> {
     let aes = Aes::new(&wrapping.kek)?;
     let mut meter = Meter::new(&aes);
-    let len = wrapping.key.len();
-    let mut buf = room_for(alloc, &wrapping.key, 0xFF)?;
-    match wrapping.form {
-        Form::Plain => wrap_in_place(&mut meter, &mut buf)?,
-        Form::Padded => wrap_padded_in_place(&mut meter, &mut buf, len)?,
-    }
-    assert!(rt; buf == wrapping.text && meter.count() == calls);
-    let found = match wrapping.form {
-        Form::Plain => unwrap_in_place(&mut meter, &mut buf).map(|()| len)?,
-        Form::Padded => unwrap_padded_in_place(&mut meter, &mut buf)?,
-    };
-    assert!(rt; found == len && buf == room_for(alloc, &wrapping.key, 0)?);
+    let (key, text) = (wrapping.key.as_slice(), wrapping.text.as_slice());
+    let mut buf = room_for(alloc, key, 0xFF, text.len())?;
+    let wraps = wrap_here(&mut meter, wrapping.form, &mut buf, key.len());
+    assert!(rt; wraps == Ok(()) && buf.as_slice() == text && meter.count() == calls);
+    let unwraps = unwrap_here(&mut meter, wrapping.form, &mut buf);
+    assert!(rt; unwraps == Ok(key.len()) && buf == room_for(alloc, key, 0, text.len())?);
     assert!(rt; meter.count() == calls.saturating_mul(2));
     Ok(())
+}
+
+fn wrap_here<B: BlockPair>(
+    meter: &mut Meter<B>,
+    form: Form,
+    buf: &mut [u8],
+    len: usize,
+) -> Result<(), InPlaceFault> {
+    match form {
+        Form::Plain => wrap_in_place(meter, buf),
+        Form::Padded => wrap_padded_in_place(meter, buf, len),
+    }
+}
+
+// Answers the bytes of the key.
+fn unwrap_here<B: BlockPair>(
+    meter: &mut Meter<B>,
+    form: Form,
+    buf: &mut [u8],
+) -> Result<usize, InPlaceFault> {
+    match form {
+        Form::Plain => {
+            unwrap_in_place(meter, buf)?;
+            Ok(buf.len().saturating_sub(8))
+        }
+        Form::Padded => unwrap_padded_in_place(meter, buf),
+    }
 }
 
 // The block calls of one wrapping or unwrapping: six for each word of the key, and one for a padded
@@ -59,14 +80,11 @@ fn calls_for(text: &[u8]) -> u64 {
     }
 }
 
-// The key after 8 bytes `other`, and followed by as many as make whole words.
-fn room_for(alloc: Global, key: &[u8], other: u8) -> Result<Vec<u8>, AllocError> {
+// So many bytes `other`, with the key behind the first 8.
+fn room_for(alloc: Global, key: &[u8], other: u8, len: usize) -> Result<Vec<u8>, AllocError> {
     let mut buf = vec![in alloc; other; 8]?;
     buf.extend_from_slice(key)?;
-    buf.resize(
-        key.len().div_ceil(8).saturating_mul(8).saturating_add(8),
-        other,
-    )?;
+    buf.resize(len, other)?;
     Ok(buf)
 }
 
@@ -82,15 +100,16 @@ pub(super) fn unwraps_to<B: BlockPair>(
 ) -> Result<(), Fail> {
     let mut meter = Meter::new(pair);
     let mut buf = text.to_vec(alloc)?;
-    let answer = match form {
-        Form::Plain => unwrap_in_place(&mut meter, &mut buf).map(|()| buf.len().saturating_sub(8)),
-        Form::Padded => unwrap_padded_in_place(&mut meter, &mut buf),
+    let answer = unwrap_here(&mut meter, form, &mut buf);
+    let wanted = match key {
+        Some(key) => Ok(key.len()),
+        None => Err(InPlaceFault::Integrity),
     };
-    assert!(rt; meter.count() == calls_for(text));
-    let (wanted, held) = match key {
-        Some(key) => (Ok(key.len()), room_for(alloc, key, 0)?),
-        None => (Err(InPlaceFault::Integrity), vec![in alloc; 0; text.len()]?),
-    };
-    assert!(rt; answer == wanted && buf == held, "{text:?}");
+    assert!(rt;
+        answer == wanted && meter.count() == calls_for(text),
+        "{text:?}"
+    );
+    let held = room_for(alloc, key.unwrap_or(&[]), 0, text.len())?;
+    assert!(rt; buf == held, "{text:?}");
     Ok(())
 }

@@ -30,8 +30,7 @@ fn run_in_room(rt: &impl Abort, alloc: Global, case: &Case) {
     if done == Err(JobFault::Memory) {
         assert!(rt; written == 0);
     } else {
-        assert!(rt; done == Ok(Done::Written));
-        assert!(rt; room.get(..written) == Some(case.output));
+        assert!(rt; done == Ok(Done::Written) && room.get(..written) == Some(case.output));
     }
 }
 
@@ -60,10 +59,21 @@ static DRILLS: [(Form, Direction, &str, &[u8]); 4] = [
 #[test]
 fn refuses_each_growth_of_a_drill(rt: HostRuntime) {
     for (form, direction, text, wanted) in &DRILLS {
-        match drill(rt.alloc(), *form, *direction, text) {
-            Ok(found) => assert!(rt; found.as_slice() == *wanted),
-            Err(fault) => assert!(rt; fault == DrillFault::Memory),
-        }
+        drill_in_room(&rt, rt.alloc(), *form, *direction, text, wanted);
+    }
+}
+
+fn drill_in_room(
+    rt: &impl Abort,
+    alloc: Global,
+    form: Form,
+    direction: Direction,
+    text: &str,
+    wanted: &[u8],
+) {
+    match drill(alloc, form, direction, text) {
+        Ok(found) => assert!(rt; found.as_slice() == wanted),
+        Err(fault) => assert!(rt; fault == DrillFault::Memory),
     }
 }
 

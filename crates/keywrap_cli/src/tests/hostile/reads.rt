@@ -96,9 +96,26 @@ fn take_blanks(rt: &impl Abort, alloc: Global, form: Form, blanks: &[u8]) {
             form,
             ..HEX_WRAP
         };
-        let (done, out) = run_in_pieces(alloc, task, blanks, HEX_KEY, 1);
-        assert!(rt; done == Err(JobFault::KekLength) && out.is_empty());
-        let (done, out) = run_in_pieces(alloc, task, HEX_KEK, blanks, 1);
-        assert!(rt; done == *wanted && out.as_slice() == *output);
+        let refused = Err(JobFault::KekLength);
+        answers(rt, alloc, task, [blanks, HEX_KEY], 1, refused, &[]);
+        answers(rt, alloc, task, [HEX_KEK, blanks], 1, *wanted, output);
     }
+}
+
+// Says that a job over files of up to `size` bytes a read answers this, and writes these bytes.
+pub(super) fn answers(
+    rt: &impl Abort,
+    alloc: Global,
+    task: Task,
+    [kek, input]: [&[u8]; 2],
+    size: usize,
+    wanted: Result<Done, JobFault>,
+    output: &[u8],
+) {
+    let (done, out) = run_in_pieces(alloc, task, kek, input, size);
+    assert!(rt;
+        done == wanted && out.as_slice() == output,
+        "{task:?}, {} bytes",
+        input.len()
+    );
 }

@@ -12,29 +12,33 @@ use std::alloc::Global;
 use std::process::Abort;
 use std::test::Fail;
 
+// The proper prefixes of each text that have a legal length.
+static LEGAL: [&[usize]; 8] = [&[], &[], &[], &[24], &[24], &[24, 32], &[16, 24], &[]];
+
 #[test]
 fn refuses_each_proper_prefix_of_a_text(rt: HostRuntime) -> Result<(), Fail> {
-    for wrapping in published(rt.alloc())? {
-        for len in 0..wrapping.text.len() {
-            let text = &wrapping.text[..len];
-            let fault = if is_legal(wrapping.form, len) {
-                JobFault::Integrity
-            } else {
-                JobFault::BadLength
-            };
-            is_refused(&rt, rt.alloc(), wrapping.form, &wrapping.kek, text, fault);
-        }
+    let published = published(rt.alloc())?;
+    assert!(rt; published.len() == LEGAL.len());
+    for (wrapping, legal) in published.iter().zip(&LEGAL) {
+        refuse_each_prefix(&rt, rt.alloc(), wrapping, legal);
     }
     Ok(())
 }
 
-// Whether a text may have so many bytes, as both standards say.
-fn is_legal(form: Form, len: usize) -> bool {
-    let least = match form {
-        Form::Plain => 24,
-        Form::Padded => 16,
-    };
-    len >= least && len % 8 == 0
+// Each is refused, for its length or, at exactly these lengths, for its bytes.
+fn refuse_each_prefix(rt: &impl Abort, alloc: Global, wrapping: &Wrapping, legal: &[usize]) {
+    let mut met: usize = 0;
+    for len in 0..wrapping.text.len() {
+        let fault = if legal.contains(&len) {
+            met = met.saturating_add(1);
+            JobFault::Integrity
+        } else {
+            JobFault::BadLength
+        };
+        let text = &wrapping.text[..len];
+        is_refused(rt, alloc, wrapping.form, &wrapping.kek, text, fault);
+    }
+    assert!(rt; met == legal.len(), "{met} prefixes of a legal length");
 }
 
 // Says that a job refuses a text and writes nothing.

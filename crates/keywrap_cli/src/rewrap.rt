@@ -1,0 +1,82 @@
+//! Rewrapping: from one KEK to another, with no key written.
+
+ghost use Rattle.std.specs.Prelude.{IsOk};
+ghost use Rattle.keywrap_cli.specs.Rewrapping.{NewTextAnswer, RunsRewrap, WritesTheNewText};
+ghost use Rattle.keywrap_cli.specs.Rewrapping.{rewrapping};
+
+use crate::files::read_input;
+use crate::job::{Done, JobFault, Notation};
+use crate::kek_file::{read_kek, read_new_kek};
+use crate::output::{job_fault, send};
+use block_pair::BlockPair;
+use key_wrap::{Form, rewrap};
+use std::alloc::Global;
+use std::io::{Read, Write};
+
+/// Reads the old KEK, the new KEK and a text that is a wrapping under the old one, and writes the
+/// wrapping of the same key under the new one, in the notation of the input. The key itself is
+/// never written.
+///
+/// The first that applies is answered: KekFile, KekLength, NewKekFile, NewKekLength, InputFile,
+/// BadLength of the text, Memory, Integrity, BadLength of the key, Memory of the hex output, Write.
+/// Want of memory while a file is read is answered as Memory, where that file's fault would be. A
+/// file is read only after what comes before it has passed. Nothing is written before the whole
+/// output is made, and the call does not flush.
+pub fn run_rewrap<K: Read, N: Read, R: Read, W: Write>(
+    alloc: Global,
+    old_form: Form,
+    new_form: Form,
+    input_notation: Notation,
+    kek_notation: Notation,
+    old_kek: &mut K,
+    new_kek: &mut N,
+    input: &mut R,
+    out: &mut W,
+) -> Result<Done, JobFault>
+    ensures run { RunsRewrap (rewrapping old_form new_form input_notation kek_notation)
+        (K.remaining old_kek.old) (K.remaining old_kek.new)
+        (N.remaining new_kek.old) (N.remaining new_kek.new)
+        (R.remaining input.old) (R.remaining input.new)
+        (W.contents out.old) (W.contents out.new) result }
+
+    // What is written wraps exactly the key that the input was the wrapping of.
+    ensures headline { IsOk result
+        → WritesTheNewText (rewrapping old_form new_form input_notation kek_notation)
+        (K.remaining old_kek.old) (K.remaining old_kek.new)
+        (N.remaining new_kek.old) (N.remaining new_kek.new)
+        (R.remaining input.old) (R.remaining input.new)
+        (W.contents out.old) (W.contents out.new) }
+{
+    let old = read_kek(alloc, kek_notation, old_kek)?;
+    let new = read_new_kek(alloc, kek_notation, new_kek)?;
+    let text = read_input(alloc, input_notation, input)?;
+    write_rewrapped(
+        alloc,
+        old_form,
+        new_form,
+        input_notation,
+        &old,
+        &new,
+        &text,
+        out,
+    )
+}
+
+// Makes the new text whole, and then writes it.
+fn write_rewrapped<O: BlockPair, N: BlockPair, W: Write>(
+    alloc: Global,
+    old_form: Form,
+    new_form: Form,
+    notation: Notation,
+    old: &O,
+    new: &N,
+    text: &[u8],
+    out: &mut W,
+) -> Result<Done, JobFault>
+    ensures { NewTextAnswer old_form (O.encrypted old.now) new_form (N.encrypted new.now) notation
+        text.now (W.contents out.old) (W.contents out.new) result }
+{
+    let answer = rewrap(alloc, old, old_form, new, new_form, text).map_err(job_fault)?;
+    send(alloc, notation, &answer, out)?;
+    Ok(Done::Written)
+}
