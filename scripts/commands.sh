@@ -12,6 +12,10 @@ echo "$text16" >text.hex
 bytes "$text16" >text.raw
 echo "$text7" >text7.hex
 echo "$text_iv" >agreed.hex
+echo "$text32" >text32.hex
+echo "$padded16" >padded.hex
+bytes "$padded16" >padded.raw
+echo "$padded7" >padded7.hex
 echo "0f${text16#1f}" >wrong.hex
 echo 0g >digit.hex
 echo 012 >odd.hex
@@ -28,7 +32,7 @@ mkdir folder
 explained() {
     "$program" --help >help
     "$program" wrap --help >help.wrap
-    echo keywrap 1.0.0 >version
+    echo "keywrap $version" >version
 }
 
 # each FUNCTION: calls FUNCTION NAME STATUS ANSWER LINE INPUT ARGUMENT.. for each command, and for a
@@ -62,6 +66,12 @@ jobs() {
     "$1" 'unwrap under a value' 0 key.hex '' agreed.hex unwrap --iv "$iv" --kek kek16.hex
     "$1" 'check' 0 plain16 '' text.hex check --kek kek16.hex
     "$1" 'raw check' 0 plain16 '' text.raw check --raw --raw-kek --kek kek16.raw
+    "$1" 'rewrap, the old KEK last' 0 text32.hex '' text.hex rewrap --new-kek kek32.hex --kek kek16.hex
+    "$1" 'rewrap, the new KEK last' 0 text32.hex '' text.hex rewrap --kek kek16.hex --new-kek kek32.hex
+    "$1" 'raw rewrap to padded' 0 padded.raw '' text.raw \
+        rewrap --raw --raw-kek --new-padded --new-kek kek16.raw --kek kek16.raw
+    "$1" 'padded rewrap' 0 padded7.hex '' text7.hex \
+        rewrap --padded --new-padded --kek kek5649.hex --new-kek kek16.hex
     "$1" 'check of a wrong byte' 5 none '' wrong.hex check --kek kek16.hex
 }
 
@@ -78,6 +88,7 @@ refused() {
     "$1" 'an odd KEK' 6 nothing "$file odd number of hex digits" - unwrap --kek odd.hex
     "$1" 'an empty KEK' 3 nothing "keywrap: $kek_length" - unwrap --kek nothing
     "$1" 'a KEK of 15 bytes' 3 nothing "keywrap: $kek_length" - wrap --kek kek15.hex
+    rewrap_refused "$1"
     "$1" 'an input that is too long' 6 nothing "$input too long" long.hex wrap --kek kek16.hex
     "$1" 'a bad digit' 6 nothing "$input no hex digit at byte 1" digit.hex unwrap --kek kek16.hex
     "$1" 'odd digits' 6 nothing "$input odd number of hex digits" odd.hex wrap --kek kek16.hex
@@ -87,6 +98,20 @@ refused() {
     "$1" 'drill of nothing' 4 nothing "keywrap: $bad_length" - drill ''
     "$1" 'drill of a bad digit' 6 nothing "$input no hex digit at byte 1" - drill 0g
     "$1" 'drill of a wrong byte' 5 nothing "keywrap: $integrity" - drill --unwrap "0${drilled#a}"
+}
+
+# rewrap_refused FUNCTION: the same for the refusals that rewrap alone has.
+rewrap_refused() {
+    local new='keywrap: new key file:' from=(rewrap --kek kek16.hex)
+    "$1" 'no new KEK file' 6 nothing "$new cannot be opened" - "${from[@]}" --new-kek missing
+    "$1" 'a folder as new KEK file' 6 nothing "$new cannot be read" - "${from[@]}" --new-kek folder
+    "$1" 'a new KEK file that is too long' 6 nothing "$new too long" - "${from[@]}" --new-kek long.hex
+    "$1" 'a bad digit in the new KEK' 6 nothing "$new no hex digit at byte 1" - "${from[@]}" --new-kek digit.hex
+    "$1" 'an odd new KEK' 6 nothing "$new odd number of hex digits" - "${from[@]}" --new-kek odd.hex
+    "$1" 'a new KEK of 15 bytes' 3 nothing "keywrap: $new_kek_length" - "${from[@]}" --new-kek kek15.hex
+    "$1" 'rewrap of a wrong byte' 5 nothing "keywrap: $integrity" wrong.hex "${from[@]}" --new-kek kek32.hex
+    "$1" 'rewrap of 7 bytes to plain' 4 nothing "keywrap: $bad_length" text7.hex \
+        rewrap --padded --kek kek5649.hex --new-kek kek32.hex
 }
 
 # file_of INPUT: the file that stands for an input.

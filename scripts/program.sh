@@ -4,7 +4,8 @@
 #
 # $root is the repository, $launcher the command as a user starts it, and $program the built
 # program itself, which starts faster and alone: a fault of the system that a row makes meets no
-# shell before it. KEYWRAP=PATH tries another program in the place of both.
+# shell before it. KEYWRAP=PATH tries another program in the place of both. $version is the one that
+# the sources name.
 
 root=$(cd "$(dirname "${BASH_SOURCE[0]}")/.." && pwd)
 case ${KEYWRAP:-} in
@@ -13,6 +14,7 @@ case ${KEYWRAP:-} in
 esac
 launcher=${KEYWRAP:-$root/keywrap}
 program=${KEYWRAP:-$root/crates/keywrap_cli/out/keywrap_cli}
+version=$(make -s --no-print-directory -C "$root" version)
 
 # finish: the last line, and the status of the script.
 finish() {

@@ -29,6 +29,35 @@ esac
 . "$root/scripts/commands.sh"
 explained
 
+# beside COMMAND..: runs a part of the rows beside the others, in a folder of its own that has the files
+# of this one.
+parts=0
+beside() {
+    parts=$((parts + 1))
+    mkdir part.$parts
+    find . -mindepth 1 -maxdepth 1 ! -name 'part.*' -exec cp -a {} part.$parts/ \;
+    (
+        cd part.$parts || exit
+        # shellcheck disable=SC2030
+        passed=0 failed=0
+        "$@"
+        echo "$passed $failed" >../part.$parts.rows
+    ) >part.$parts.lines 2>&1 &
+}
+
+# gathered: waits for the parts, shows what they said, and counts their rows. One without a count of
+# them failed.
+gathered() {
+    local part rows
+    wait
+    for ((part = 1; part <= parts; part++)); do
+        cat part.$part.lines
+        read -ra rows <part.$part.rows || rows=(0 1)
+        # shellcheck disable=SC2031
+        passed=$((passed + rows[0])) failed=$((failed + rows[1]))
+    done
+}
+
 # worded FUNCTION: calls FUNCTION NAME STATUS ANSWER LINE INPUT ARGUMENT.. for command lines that are
 # refused. LINE is what the parser says where memory is ample.
 worded() {
@@ -92,8 +121,8 @@ skipped=0
 counted() { skipped=$((skipped + 1)); }
 has_compiler=true
 if compiled; then
-    each fails_each
-    worded fails_each
+    beside each fails_each
+    beside worded fails_each
 else
     has_compiler=false
     each counted
@@ -140,25 +169,19 @@ holds_in() {
 }
 
 if $has_compiler; then
-    # Four calls, and one growth in each.
-    holds_in key_wrap 4
-    holds_in keywrap_cli
+    # Five calls, and one growth in each.
+    beside holds_in key_wrap 5
+    beside holds_in keywrap_cli
 fi
 
 ### Ever more memory
-
-# The C library takes pages of their own for each allocation, so that each step of a page allows
-# one allocation more.
-export GLIBC_TUNABLES=glibc.malloc.mmap_threshold=1:glibc.malloc.mmap_max=1000000
-
-read -r kind start <<<"$(least)"
 
 # grows NAME STATUS ANSWER LINE INPUT ARGUMENT..: one row, of runs in ever more memory until one is
 # not refused for it.
 grows() {
     local input kilobytes problem=''
     input=$(file_of "$5")
-    for ((kilobytes = start; kilobytes < start + 4096; kilobytes += 4)); do
+    for ((kilobytes = start; kilobytes < start + 8192; kilobytes += 4)); do
         limited "$kind" $kilobytes "${@:6}" <"$input" >out 2>err
         status=$?
         gave_up || break
@@ -168,7 +191,16 @@ grows() {
     [ $kilobytes -gt "$start" ] || problem="$problem; no run was refused"
     verdict "ever more memory for $1" "$problem"
 }
-each grows
-worded grows
+# grown ROWS: the rows, where the C library takes pages of their own for each allocation, so that each
+# step of a page allows one allocation more.
+grown() {
+    local kind start
+    export GLIBC_TUNABLES=glibc.malloc.mmap_threshold=1:glibc.malloc.mmap_max=1000000
+    read -r kind start <<<"$(least)"
+    "$1" grows
+}
+beside grown each
+beside grown worded
 
+gathered
 finish

@@ -206,6 +206,135 @@ for job in wrap unwrap check; do
     refuses "$job of 4,194,305 raw bytes" 6 'input: too long' $job --raw --kek kek16.hex <more.raw
 done
 
+### rewrap, from one KEK to another
+
+# rewraps NAME KEK NEW-KEK TEXT NEW-TEXT [FLAG]
+rewraps() { prints "rewraps $1" "$5\n" rewrap --kek "$2" --new-kek "$3" "${@:6}" <<<"$4"; }
+rewraps '4.1 to 4.3' kek16.hex kek32.hex $text16 $text32
+rewraps '4.3 to 4.1' kek32.hex kek16.hex $text32 $text16
+rewraps 'from a KEK to itself' kek16.hex kek16.hex $text16 $text16
+rewraps 'plain to padded' kek16.hex kek16.hex $text16 $padded16 --new-padded
+rewraps 'padded to plain' kek16.hex kek16.hex $padded16 $text16 --padded
+rewraps 'plain to padded under another KEK' kek32.hex kek16.hex $text32 $padded16 --new-padded
+rewraps 'padded to plain under another KEK' kek16.hex kek32.hex $padded16 $text32 --padded
+rewraps 'padded to padded, 7 bytes' kek5649.hex kek16.hex $text7 $padded7 --padded --new-padded
+rewraps 'padded to padded back, 7 bytes' kek16.hex kek5649.hex $padded7 $text7 --padded --new-padded
+rewraps 'padded to itself, 20 bytes' kek5649.hex kek5649.hex $text20 $text20 --padded --new-padded
+rewraps 'a text in capitals' kek16.hex kek32.hex "${text16^^}" $text32
+
+bytes "$kek" >kek32.raw
+bytes $text32 >text32.raw
+prints 'rewraps raw' "$(raw $text32)" rewrap --raw --kek kek16.hex --new-kek kek32.hex <text.raw
+prints 'rewraps raw under raw KEKs' "$(raw $text32)" \
+    rewrap --raw --raw-kek --kek kek16.raw --new-kek kek32.raw <text.raw
+prints 'rewraps hex under raw KEKs' "$text16\n" \
+    rewrap --raw-kek --kek kek32.raw --new-kek kek16.raw <<<$text32
+prints 'rewraps raw, to padded' "$(raw $padded16)" \
+    rewrap --raw --new-padded --kek kek32.hex --new-kek kek16.hex <text32.raw
+# --raw-kek is of both files: one in hex has too many bytes.
+refuses 'a raw KEK and one in hex' 3 "$new_kek_length" rewrap --raw-kek --kek kek16.raw --new-kek kek16.hex
+refuses 'a KEK in hex and a raw one' 3 "$kek_length" rewrap --raw-kek --kek kek16.hex --new-kek kek16.raw
+prints 'a new KEK file of 4,194,304 bytes' "$text16\n" rewrap --kek kek32.hex --new-kek most.hex <<<$text32
+refuses 'a new KEK file of 4,194,305 bytes' 6 'new key file: too long' \
+    rewrap --kek kek32.hex --new-kek more.hex <<<$text32
+
+# rewraps_long BYTES WRAP-FLAG REWRAP-FLAG UNWRAP-FLAG: a random key, raw; each flag in words of its own.
+rewraps_long() {
+    local problem=''
+    head -c "$1" /dev/urandom >long.raw
+    # shellcheck disable=SC2086
+    "$keywrap" wrap --raw --kek kek16.hex $2 <long.raw |
+        "$keywrap" rewrap --raw --kek kek16.hex --new-kek kek32.hex $3 |
+        "$keywrap" unwrap --raw --kek kek32.hex $4 >back.raw
+    cmp -s back.raw long.raw || problem='the key is another'
+    verdict "rewraps $1 bytes $3" "$problem"
+}
+rewraps_long 1048576 '' '' ''
+rewraps_long 1048576 '' --new-padded --padded
+rewraps_long 1048576 --padded --padded ''
+rewraps_long 1048575 --padded '--padded --new-padded' --padded
+
+### Refusals: rewrap
+
+# The old KEK is opened, then the new one; then they are read in this order, and then the input.
+rewraps_from=(rewrap --kek kek16.hex)
+rewraps_to=(rewrap --new-kek kek32.hex)
+spares_input 'rewrap, no KEK file' 6 'key file: cannot be opened' "${rewraps_to[@]}" --kek missing
+spares_input 'rewrap, a folder as KEK file' 6 'key file: cannot be read' "${rewraps_to[@]}" --kek folder
+spares_input 'rewrap, a KEK of 15 bytes' 3 "$kek_length" "${rewraps_to[@]}" --kek kek15.hex
+spares_input 'rewrap, an odd KEK' 6 'key file: odd number of hex digits' "${rewraps_to[@]}" --kek odd.hex
+spares_input 'rewrap, no new KEK file' 6 'new key file: cannot be opened' "${rewraps_from[@]}" --new-kek missing
+spares_input 'rewrap, a folder as new KEK file' 6 'new key file: cannot be read' \
+    "${rewraps_from[@]}" --new-kek folder
+spares_input 'rewrap, a new KEK of 15 bytes' 3 "$new_kek_length" "${rewraps_from[@]}" --new-kek kek15.hex
+spares_input 'rewrap, a raw new KEK of 17 bytes' 3 "$new_kek_length" \
+    rewrap --raw-kek --kek kek16.raw --new-kek kek17.raw
+spares_input 'rewrap, an empty new KEK' 3 "$new_kek_length" "${rewraps_from[@]}" --new-kek empty
+spares_input 'rewrap, a bad digit in the new KEK' 6 'new key file: no hex digit at byte 22' \
+    "${rewraps_from[@]}" --new-kek digit.hex
+spares_input 'rewrap, an odd new KEK' 6 'new key file: odd number of hex digits' \
+    "${rewraps_from[@]}" --new-kek odd.hex
+spares_input 'rewrap, a new KEK file that is too long' 6 'new key file: too long' \
+    "${rewraps_from[@]}" --new-kek long.hex
+
+rewraps_both=(rewrap --kek kek16.hex --new-kek kek32.hex)
+refuses 'rewrap of a bad digit' 6 'input: no hex digit at byte 1' "${rewraps_both[@]}" <<<0g
+refuses 'rewrap of an odd number of digits' 6 'input: odd number of hex digits' "${rewraps_both[@]}" <<<012
+refuses 'rewrap of an input that is too long' 6 'input: too long' "${rewraps_both[@]}" <long.hex
+refuses 'rewrap of a folder' 6 'input: cannot be read' "${rewraps_both[@]}" <folder
+refuses 'rewrap, input closed' 4 "$bad_length" "${rewraps_both[@]}" <&-
+refuses_sizes 'rewrap --new-kek kek32.hex' 0 8 16 23 25 1048592
+refuses_sizes 'rewrap --new-kek kek32.hex --new-padded' 0 8 16 23 25 1048592
+refuses_sizes 'rewrap --new-kek kek32.hex --padded' 0 8 17 23 1048592
+refuses 'rewrap of a wrong byte' 5 "$integrity" "${rewraps_both[@]}" <<<"0f${text16#1f}"
+refuses 'rewrap of a wrong byte to padded' 5 "$integrity" "${rewraps_both[@]}" --new-padded <<<"0f${text16#1f}"
+refuses 'rewrap, the KEKs exchanged' 5 "$integrity" rewrap --kek kek32.hex --new-kek kek16.hex <<<$text16
+refuses 'rewrap of a padded wrapping as plain' 5 "$integrity" "${rewraps_both[@]}" <<<$padded16
+refuses 'rewrap of a plain wrapping as padded' 5 "$integrity" "${rewraps_both[@]}" --padded <<<$text16
+refuses 'rewrap of 20 bytes to plain' 4 "$bad_length" \
+    rewrap --padded --kek kek5649.hex --new-kek kek32.hex <<<$text20
+refuses 'rewrap of 7 bytes to plain' 4 "$bad_length" \
+    rewrap --padded --kek kek5649.hex --new-kek kek32.hex <<<$text7
+
+# Two and more causes at once, of each file and of the output: the first is answered. A cause is its
+# place in the order, what brings it about, its status and its line; at 99 nothing is wrong. The text is
+# in the padded form, and the new one in the plain form.
+old_causes=('99 kek16.hex' '1 missing 6 key file: cannot be opened'
+    '3 digit.hex 6 key file: no hex digit at byte 22' "4 kek15.hex 3 $kek_length")
+new_causes=('99 kek32.hex' '2 missing 6 new key file: cannot be opened'
+    '5 digit.hex 6 new key file: no hex digit at byte 22' "6 kek15.hex 3 $new_kek_length")
+input_causes=("99 $padded16" '7 0g 6 input: no hex digit at byte 1' "8 ${padded16%d5} 4 $bad_length"
+    "9 ${padded16%d5}d4 5 $integrity" "10 $padded7 4 $bad_length")
+output_causes=('99 out' '11 /dev/full 6 output: refused after 0 bytes')
+
+# first_cause CAUSE..: sets $place, $wanted and $line to those of the first.
+first_cause() {
+    local cause at status message
+    place=99 wanted=0 line=''
+    for cause in "$@"; do
+        read -r at _ status message <<<"$cause"
+        [ "$at" -ge "$place" ] || place=$at wanted=$status line="keywrap: $message"
+    done
+}
+
+# word CAUSE: what brings it about.
+word() { cut -d ' ' -f 2 <<<"$1"; }
+for old in "${old_causes[@]}"; do
+    for new in "${new_causes[@]}"; do
+        for input in "${input_causes[@]}"; do
+            for output in "${output_causes[@]}"; do
+                first_cause "$old" "$new" "$input" "$output"
+                answer=''
+                [ "$place" != 99 ] || answer="$text32\n"
+                to=$(word "$output") answers "rewrap of $(word "$input") from $(word "$old") to $(word "$new")" \
+                    "$wanted" "$answer" "$line" \
+                    rewrap --padded --kek "$(word "$old")" --new-kek "$(word "$new")" <<<"$(word "$input")"
+            done
+        done
+    done
+done
+unset to
+
 ### Refusals: memory
 
 read -r kind kilobytes <<<"$(least)"
@@ -213,6 +342,7 @@ starved() { limited "$kind" "$kilobytes" "$@"; }
 keywrap=starved
 refuses 'no memory, wrap' 7 "$memory" wrap --kek kek16.hex <<<$d16
 refuses 'no memory, unwrap' 7 "$memory" unwrap --kek kek16.hex <<<$text16
+refuses 'no memory, rewrap' 7 "$memory" rewrap --kek kek16.hex --new-kek kek32.hex <<<$text16
 refuses 'no memory, check' 7 "$memory" check --kek kek16.hex <<<$text16
 refuses 'no memory, drill' 7 "$memory" drill $d16
 refuses 'no memory, vectors' 7 "$memory" vectors
@@ -229,10 +359,12 @@ for to in closed unread /dev/full; do
     refuses "drill, output $to" 6 "$refused" drill $d16
     refuses "wrap, output $to" 6 "$refused" wrap --kek kek16.hex <<<$d16
     refuses "unwrap, output $to" 6 "$refused" unwrap --raw --kek kek16.hex <text.raw
+    refuses "rewrap, output $to" 6 "$refused" "${rewraps_both[@]}" <<<$text16
     refuses "check, output $to" 6 "$refused" check --kek kek16.hex <<<$text16
     refuses "vectors, output $to" 6 "$refused" vectors
     refuses "help, output $to" 6 "$refused" --help
     refuses "another KEK, output $to" 5 "$integrity" unwrap --kek kek24.hex <<<$text16
+    refuses "rewrap from another KEK, output $to" 5 "$integrity" rewrap --kek kek24.hex --new-kek kek16.hex <<<$text16
 done
 unset to
 
@@ -241,6 +373,10 @@ drilled_zeros 512 >drilled512
 echo >>drilled512
 echo "$vector_lines" >lines
 "$keywrap" --help >help
+echo $text32 >text32.hex
+for taken in 0 1 10 48 49; do
+    stops 'rewrap' text32.hex $taken "${rewraps_both[@]}" <<<$text16
+done
 stops 'drill of 512 words' drilled512 1024 drill "$(zeros 4096)"
 for taken in 0 1 100 168 169; do
     stops 'vectors' lines $taken vectors
@@ -268,6 +404,61 @@ answers 'checks nothing' 5 'none\n' '' check --kek kek16.hex
 
 prints 'the twelve vectors' "$vector_lines\n" vectors
 
+### Rotating a KEK, by the lines that README shows
+
+mkdir rotation rotation/wrapped
+sed -n '/^## Rotating/,/^## From/s/^    //p' "$root/README.md" | sed -n '1,/^done)$/p' >rotation/rotate
+problem=''
+[ "$(wc -l <rotation/rotate)" = 5 ] || problem="$(wc -l <rotation/rotate) lines, not 5"
+verdict 'README rotates in five lines' "$problem"
+ln -s "$keywrap" rotation/keywrap
+cp kek16.hex rotation/kek.hex
+cp kek32.hex rotation/new-kek.hex
+echo $text16 >'rotation/wrapped/1 a key'
+echo "0f${text16#1f}" >'rotation/wrapped/2 damaged'
+echo $text16 >'rotation/wrapped/3'
+(umask 077; echo $text32 >rewrapped)
+
+# rotates NAME STATUS LINE FILE..: the lines end so, the old files stay as they are, and the new ones are
+# FILEs, each right and of its owner alone.
+rotates() {
+    local problem='' file new
+    (cd rotation && cksum wrapped/* >../old.sums && sh rotate >../out 2>../err)
+    [ $? = "$2" ] || problem="another status than $2"
+    printf '%s' "${3:+$3
+}" | cmp -s - err || problem="$problem; error $(shown err)"
+    [ ! -s out ] || problem="$problem; output $(shown out)"
+    (cd rotation && cksum wrapped/*) | cmp -s - old.sums || problem="$problem; an old file is changed"
+    new=$(cd rotation/rewrapped && shopt -s nullglob && printf '%s|' *)
+    [ "$new" = "$(printf '%s|' "${@:4}")" ] || problem="$problem; files $new"
+    for file in "${@:4}"; do
+        cmp -s "rotation/rewrapped/$file" rewrapped || problem="$problem; $file is wrong"
+        [ "$(stat -c %a "rotation/rewrapped/$file")" = 600 ] || problem="$problem; $file is open to others"
+    done
+    verdict "$1" "$problem"
+}
+mv rotation/new-kek.hex new-kek.hex
+rotates 'the rotation makes nothing without the new KEK' 6 'keywrap: new key file: cannot be opened'
+mv new-kek.hex rotation/new-kek.hex
+rotates 'the rotation stops at a damaged key' 5 "keywrap: $integrity" '1 a key'
+touch -d '2020-01-01' 'rotation/rewrapped/1 a key'
+echo $text16 >'rotation/wrapped/2 damaged'
+# As after a crash: half a text is there, in a file that is none of the new ones.
+echo ${text32:0:20} >'rotation/rewrapped/.2 damaged.part'
+rotates 'the rotation goes on, once the key is mended' 0 '' '1 a key' '2 damaged' 3
+problem=''
+[ "$(stat -c %Y 'rotation/rewrapped/1 a key')" = "$(date -d 2020-01-01 +%s)" ] || problem='it was written again'
+verdict 'the rotation leaves a new file as it is' "$problem"
+problem=''
+[ -z "$(find rotation/rewrapped -name '.*.part')" ] || problem='a part of a file is left'
+verdict 'the rotation leaves nothing else' "$problem"
+problem=''
+sed -n '/^## Rotating/,/^## From/s/^    //p' "$root/README.md" | grep '^for new in' >rotation/look
+(cd rotation && sh look >../out 2>../err)
+printf 'plain 16\n%.0s' 1 2 3 | cmp -s out - || problem="output $(shown out)"
+verdict 'each new file answers to the new KEK, by the line that README shows' "$problem"
+rotates 'the rotation has nothing left to do' 0 '' '1 a key' '2 damaged' 3
+
 ### The command line
 
 refuses_words
@@ -278,6 +469,14 @@ refuses_words unwrap --kek kek16.hex --secret
 refuses_words unwrap --kek kek16.hex text.raw
 refuses_words check --kek kek16.hex --padded
 refuses_words check --kek kek16.hex --iv $iv
+refuses_words rewrap --kek kek16.hex
+refuses_words rewrap --new-kek kek32.hex
+refuses_words rewrap --kek kek16.hex --new-kek
+refuses_words rewrap --kek kek16.hex --new-kek kek32.hex --new-kek kek32.hex
+refuses_words rewrap --kek kek16.hex --new-kek kek32.hex --iv $iv
+refuses_words rewrap --kek kek16.hex --new-kek kek32.hex text.raw
+refuses_words wrap --kek kek16.hex --new-kek kek32.hex
+refuses_words wrap --kek kek16.hex --new-padded
 refuses_words wrap --kek kek16.hex --padded --iv $iv
 refuses_words unwrap --kek kek16.hex --iv $iv --padded
 refuses_words wrap --kek kek16.hex --iv
@@ -286,10 +485,10 @@ refuses_words drill
 refuses_words drill 00 11
 refuses_words vectors all
 refuses_words drill $'\xff'
-explains 'Usage: keywrap <COMMAND>|wrap|unwrap|check|drill|vectors' --help
+explains 'Usage: keywrap <COMMAND>|wrap|unwrap|rewrap|check|drill|vectors' --help
 statuses='  0  done
   2  the command line was refused
-  3  the KEK has not 16, 24 or 32 bytes
+  3  a KEK has not 16, 24 or 32 bytes
   4  the key or the text has no legal length in this form
   5  the integrity check failed; check found no wrapping; a vector failed
   6  a file or the output could not be opened, read or written
@@ -298,13 +497,14 @@ explains 'Exit status:' --help
 problem=''
 grep '^  [0-9]  ' out | cmp -s - <(echo "$statuses") || problem='the lines are others'
 verdict 'the help has the seven statuses' "$problem"
-explains 'Usage: keywrap <COMMAND>|wrap|unwrap|check|drill|vectors' -h
+explains 'Usage: keywrap <COMMAND>|wrap|unwrap|rewrap|check|drill|vectors' -h
 explains "Usage: keywrap wrap|--kek|--padded|--iv <HEX>|--raw|--raw-kek|$d16|$text16" wrap --help
 explains "Usage: keywrap unwrap|--kek|--padded|--iv <HEX>|--raw|--raw-kek|$d16|$text16" unwrap --help
+explains "Usage: keywrap rewrap|--kek|--new-kek|--padded|--new-padded|--raw|--raw-kek|$text16|$text32" rewrap --help
 explains "Usage: keywrap check|--kek|--raw|--raw-kek|$text16|plain 16" check --help
 explains "Usage: keywrap drill|--padded|--unwrap|$d16|$drilled" drill --help
 explains 'Usage: keywrap vectors|rfc3394 4.1 ok' vectors --help
-prints 'the version' 'keywrap 1.0.0\n' --version
+prints 'the version' "keywrap $version\n" --version
 
 ### The launcher
 

@@ -72,17 +72,65 @@ with_kek() {
 }
 jobs with_kek
 
+### Both KEK files of rewrap
+
+# with_keks ARGUMENT..: 4.1's text goes from kek16 to kek32, whose files come in other ways.
+with_keks() { prints "rewrap $*" "$text32\n" rewrap "$@" <text.hex; }
+with_keks --kek <(cat kek16.hex) --new-kek <(cat kek32.hex)
+with_keks --new-kek <(in_pieces kek32.hex 5) --kek <(in_pieces kek16.hex 7)
+with_keks --kek /dev/fd/7 --new-kek /dev/fd/6 7<kek16.hex 6<kek32.hex
+with_keks --kek /dev/fd/7 --new-kek kek32.hex 7< <(in_pieces kek16.hex 5)
+with_keks --kek kek16.hex --new-kek /dev/fd/7 7< <(in_pieces kek32.hex 5)
+prints 'rewrap, both KEKs and the input in pieces' "$text32\n" \
+    rewrap --kek <(in_pieces kek16.hex 5) --new-kek <(in_pieces kek32.hex 5) < <(in_pieces text.hex 5)
+# Both pipes are opened before either is read: the old KEK comes last.
+mkfifo pipe.new
+{
+    exec 7>pipe 6>pipe.new
+    cat kek32.hex >&6
+    exec 6>&-
+    cat kek16.hex >&7
+} &
+with_keks --kek pipe --new-kek pipe.new
+wait $!
+rm pipe.new
+# One pipe has one KEK: the old one takes the whole of it.
+refuses 'both KEKs in one pipe' 3 "$new_kek_length" \
+    rewrap --kek /dev/fd/7 --new-kek /dev/fd/7 7< <(cat kek16.hex) <text.hex
+
+# spares_pipe NAME STATUS MESSAGE ARGUMENT..: rewrap refuses the old KEK before it takes a byte of the new
+# one, of the pipe /dev/fd/7.
+spares_pipe() {
+    local status
+    {
+        "$keywrap" "${@:4}" --new-kek /dev/fd/7 <text.hex 2>err
+        status=$?
+        cat <&7
+    } >out 7< <(cat kek32.hex)
+    ended "$1, the new KEK untouched" "$2" kek32.hex "keywrap: $3"
+}
+spares_pipe 'no KEK file' 6 'key file: cannot be opened' rewrap --kek missing
+spares_pipe 'a folder as KEK file' 6 'key file: cannot be read' rewrap --kek folder
+spares_pipe 'a bad digit in the KEK' 6 'key file: no hex digit at byte 1' rewrap --kek digit.hex
+spares_pipe 'a KEK of 15 bytes' 3 "$kek_length" rewrap --kek kek15.hex
+
+### KEK files that can not be opened or read
+
 ln -s loop loop
 ln -s kek16.hex link
 prints 'the KEK behind a link' "$text16\n" wrap --kek link <key.hex
 refuses 'an empty pipe as KEK' 3 "$kek_length" wrap --kek <(:)
 refuses 'half a KEK in a pipe' 3 "$kek_length" wrap --kek <(head -c 10 kek16.hex)
 refuses 'an endless pipe as KEK' 6 'key file: too long' wrap --kek <(yes 00)
+refuses 'an endless pipe as new KEK' 6 'new key file: too long' rewrap --kek kek16.hex --new-kek <(yes 00)
+refuses 'an empty pipe as new KEK' 3 "$new_kek_length" rewrap --kek kek16.hex --new-kek <(:)
 refuses 'an endless raw pipe as KEK' 6 'key file: too long' wrap --raw-kek --kek <(yes 00)
 refuses 'no bytes as KEK' 3 "$kek_length" wrap --kek /dev/null
 refuses 'a KEK that can not be read' 6 'key file: cannot be read' wrap --kek /proc/self/mem
 for name in '' - loop link/ kek16.hex/kek "$(zeros 2500)" /dev/fd/7 $'a\nb'; do
     refuses "'${name:0:20}' as KEK file" 6 'key file: cannot be opened' wrap --kek "$name"
+    refuses "'${name:0:20}' as new KEK file" 6 'new key file: cannot be opened' \
+        rewrap --kek kek16.hex --new-kek "$name"
 done
 rm loop link
 

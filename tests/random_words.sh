@@ -70,9 +70,9 @@ inputs=(key.hex key.raw text.hex text.raw text20.hex key7.hex wrong.hex digit.he
 
 ### Words
 
-commands=(wrap unwrap check drill vectors help)
+commands=(wrap unwrap rewrap check drill vectors help)
 flags=(--kek --padded --raw --raw-kek --unwrap --help -h --version -V -- - --kek=kek16.hex --kek= --raw=1
-    --no-raw --ra --KEK -k -rh -hV --kek=$'\xff' --iv --secret)
+    --no-raw --ra --KEK -k -rh -hV --kek=$'\xff' --iv --secret --new-kek --new-padded --new-kek=kek32.hex --new)
 values=("$iv" "${iv^^}" a65959a600000010 "$d16" "$drilled" "${drilled^^}" "$key7" "$text16" "$(zeros 9)" '' 0 0g 012
     00 ' 00 11 ' $'00\n11' é "$(zeros 4096)" "$(zeros 4097)" "$(zeros 32769)")
 garbage=(rewind WRAP wrap= '=wrap' 'wrap --kek' '*' "\$HOME" '%s%n' -1 --1 --- '--=x' $'\xff' $'--\xff'
@@ -118,12 +118,24 @@ random_line() {
     fi
 }
 
+# likely_kek FLAG FILE: adds a flag with this file or another.
+likely_kek() {
+    draw 2
+    if [ "$drawn" = 0 ]; then picked=$2; else pick "${files[@]}"; fi
+    words+=("$1" "$picked")
+}
+
 # likely_line: sets $words to a command with flags and values of its own.
 likely_line() {
     local flag
-    pick wrap unwrap check drill vectors
+    pick wrap unwrap rewrap check drill vectors
     words=("$picked")
     case $picked in
+    rewrap)
+        likely_kek --kek kek16.hex
+        likely_kek --new-kek kek32.hex
+        own=(--padded --new-padded --raw --raw-kek)
+        ;;
     drill)
         pick "${values[@]}"
         words+=("$picked")
@@ -131,9 +143,7 @@ likely_line() {
         ;;
     vectors) own=(--help) ;;
     *)
-        draw 2
-        if [ "$drawn" = 0 ]; then picked=kek16.hex; else pick "${files[@]}"; fi
-        words+=(--kek "$picked")
+        likely_kek --kek kek16.hex
         own=(--padded --raw --raw-kek)
         ;;
     esac
@@ -146,15 +156,15 @@ likely_line() {
 ### Runs
 
 # The whole line of a refusal, for each status.
-file='(key file|input)'
+file='((new )?key file|input)'
 declare -A refusal=(
-    [3]="$kek_length"
+    [3]="(new )?$kek_length"
     [4]="$bad_length"
     [5]="$integrity"
     [6]="$file: (cannot be read|too long|odd number of hex digits|no hex digit at byte [0-9]+)"
     [7]="$memory"
 )
-refusal[6]="(key file: cannot be opened|${refusal[6]})"
+refusal[6]="((new )?key file: cannot be opened|${refusal[6]})"
 
 # is_refused: nothing but the one line of the status came.
 is_refused() {

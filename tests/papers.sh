@@ -1,0 +1,285 @@
+#!/usr/bin/env bash
+# Holds the manual page and the completions against the program's help, both ways, so that none
+# falls behind; runs the page's examples; and tries make install, make uninstall and make dist, on a
+# program that is built. A part whose tool is not there is skipped, with a line that says what to
+# install.
+#
+# usage: tests/papers.sh        (KEYWRAP=PATH tries another program)
+
+set -u
+# shellcheck source=scripts/program.sh
+. "${BASH_SOURCE[0]%/*}/../scripts/program.sh"
+# shellcheck source=scripts/expect.sh
+. "$root/scripts/expect.sh"
+skipped=0
+page=$root/man/keywrap.1
+
+# row NAME COMMAND..: counts a command that must succeed, and shows what it wrote where it did not.
+row() {
+    local problem=''
+    "${@:2}" >row.log 2>&1 || problem=$(printf 'it failed\n' && head -n 20 row.log)
+    verdict "$1" "$problem"
+}
+
+# same NAME LINES LINES: both name the same, in whatever order.
+same() {
+    local problem
+    problem=$(diff <(echo "$2" | sort -u) <(echo "$3" | sort -u) | sed -n 's/^</only the first has/p; s/^>/only the second has/p')
+    verdict "$1" "$problem"
+}
+
+# has TOOL PACKAGE PART: whether the tool is there; else the part is skipped.
+has() {
+    command -v "$1" >/dev/null && return
+    skipped=$((skipped + 1))
+    echo "SKIPPED: $3: no $1 (apt-get install $2)"
+    return 1
+}
+
+### What the help says
+
+# options_of WORD..: the options that the help of a command names; of no words, those without a command.
+options_of() {
+    "$program" "$@" --help 2>/dev/null | sed -nE 's/^ +((-[A-Za-z], )?--[a-z-]+)( <[A-Z]+>)?$/\1/p' | sed 's/, /\n/'
+}
+commands=$("$program" --help | sed -n '/^Commands:/,/^$/s/^  \([a-z]*\) .*/\1/p')
+options=$(options_of; for command in $commands; do options_of "$command"; done)
+options=$(echo "$options" | sort -u)
+
+row 'the help names the commands' test "$(echo "$commands" | wc -l)" -ge 6
+row 'the help names the options' test "$(echo "$options" | wc -l)" -ge 9
+
+### The manual page
+
+# section NAME: the lines of a section of the page.
+section() { sed -n "/^\.Sh $1\$/,/^\.Sh /p" "$page"; }
+
+# named LINES: the options that lines of the page name.
+named() { grep -oE 'Fl (-[a-z-]+|[A-Za-z])\>' <<<"$1" | sed 's/^Fl /-/'; }
+
+items=$(sed -n '/^\.Ss Options/,/^\.El/s/^\.It //p' "$page")
+same 'help and page: the commands' "$commands" "$(sed -n '/^\.Ss Commands/,/^\.El/s/^\.It Cm //p' "$page")"
+same 'help and page: the commands of the synopsis' "$commands" "$(section SYNOPSIS | sed -n 's/^\.Cm //p')"
+same 'help and page: the options' "$options" "$(named "$items")"
+same 'help and page: the options in the text' "$options" "$(named "$(cat "$page")")"
+for command in $commands; do
+    synopsis=$(section SYNOPSIS | sed -n "/^\.Cm $command\$/,/^\.Nm/p")
+    same "help and page: the synopsis of $command" "$(options_of "$command" | grep -vx -e -h -e --help)" \
+        "$(named "$synopsis")"
+done
+same 'help and page: the statuses' "$("$program" --help | grep -oE '^  [0-9]+  ')" \
+    "$(section 'EXIT STATUS' | sed -nE 's/^\.It ([0-9]+)$/  \1  /p')"
+
+if has mandoc mandoc "the page's form"; then
+    # Whether the pages that it refers to are on this machine is no matter of its form.
+    mandoc -T lint "$page" 2>&1 | grep -v -e 'mandoc\.db' -e 'referenced manual not found' >lint.out
+    row 'mandoc -T lint finds nothing' diff /dev/null lint.out
+fi
+
+# transcript: runs the examples of the page, and writes each with what it wrote.
+transcript() {
+    local line
+    PATH=$PWD/bin:$PATH
+    while IFS= read -r line; do
+        [[ $line = '$ '* ]] || continue
+        echo "$line"
+        eval "${line#??}" 2>&1
+    done
+}
+mkdir bin examples
+ln -s "$program" bin/keywrap
+section EXAMPLES | sed -n '/^\.Bd/,/^\.Ed/p' | grep -v '^\.' >wanted.examples
+(cd examples && PATH=$room/bin:$PATH && transcript <../wanted.examples) >examples.out
+row 'the examples of the page' diff wanted.examples examples.out
+row 'the page has examples of each command that reads' test "$(grep -oE 'keywrap (wrap|unwrap|rewrap|check|drill)' \
+    wanted.examples | sort -u | wc -l)" = 5
+
+### The completions
+
+completions=$root/completions
+# What the files say, where their shells are not there too.
+words() { grep -v '^ *#' "$1" | grep -oE -e '--[a-z-]+'; }
+same 'help and bash: the options of the text' "$(grep -e -- <<<"$options")" "$(words "$completions/keywrap.bash")"
+same 'help and zsh: the options of the text' "$(grep -e -- <<<"$options")" "$(words "$completions/_keywrap")"
+same 'help and fish: the options of the text' "$(grep -e -- <<<"$options")" \
+    "$(grep '^complete' "$completions/keywrap.fish" | grep -oE -e ' -l [a-z-]+' | sed 's/ -l /--/')"
+
+# offers_SHELL LINE: what the shell offers behind a line, in the folder `files`.
+offers_bash() (
+    cd files || exit
+    # shellcheck source=completions/keywrap.bash
+    . "$completions/keywrap.bash"
+    complete -p keywrap >/dev/null || exit
+    # shellcheck disable=SC2034
+    read -ra COMP_WORDS <<<"$1"
+    [[ $1 = *' ' ]] && COMP_WORDS+=('')
+    COMP_CWORD=$((${#COMP_WORDS[@]} - 1)) COMPREPLY=()
+    _keywrap keywrap "${COMP_WORDS[COMP_CWORD]}" "${COMP_WORDS[COMP_CWORD - 1]}"
+    printf '%s\n' "${COMPREPLY[@]}"
+)
+
+offers_fish() (
+    cd files || exit
+    # shellcheck disable=SC2016
+    HOME=$room fish --no-config -c 'source $argv[1]; complete -C $argv[2]' "$completions/keywrap.fish" "$1" |
+        cut -f 1
+)
+
+# zsh completes on a terminal alone, where each offer passes through compadd.
+cat >setup.zsh <<'ZSH'
+PS1= PS2= RPS1=
+fpath=($completions $fpath)
+autoload -Uz compinit; compinit -u -D
+compadd() {
+    if [[ ${@[1,(i)(-|--)]} == *-(O|A|D)\ * ]]; then builtin compadd "$@"; return; fi
+    local -a hits; local hit
+    builtin compadd -A hits "$@"
+    for hit in $hits; do print -r -- "offered: $hit"; done
+}
+begin() { print }
+finish() { print "no more"; exit }
+compprefuncs=(begin) comppostfuncs=(finish)
+zstyle ":completion:*" insert-tab false
+bindkey "^I" complete-word
+ZSH
+cat >offers.zsh <<'ZSH'
+zmodload zsh/zpty
+zpty child zsh -f -i
+zpty -w child ". ../setup.zsh; print ready''"
+while zpty -r child line; do [[ $line = *ready[$'\r\n']* ]] && break; done
+zpty -w -n child "$1"$'\t'
+while zpty -r child line; do
+    print -r -- "${line%%[$'\r\n']#}"
+    [[ $line = *'no more'* ]] && break
+done
+zpty -d child
+ZSH
+offers_zsh() (
+    cd files || exit
+    HOME=$room TERM=dumb completions=$completions timeout 30 zsh -f ../offers.zsh "$1" |
+        tr -d '\r' | sed -n 's/^offered: //p'
+)
+
+# offered SHELL LINE: what it offers, with names of files as they stand in the folder.
+offered() { "offers_$1" "$2" | sed 's/\\//g; s|/$||'; }
+
+# completes SHELL: the shell offers what the help names, and names of files where one is wanted.
+completes() {
+    local shell=$1 command
+    same "$shell: the commands" "$commands" "$(offered "$shell" 'keywrap ')"
+    same "$shell: the options without a command" "$(options_of)" "$(offered "$shell" 'keywrap -')"
+    for command in $commands; do
+        same "$shell: the options of $command" "$(options_of "$command")" "$(offered "$shell" "keywrap $command -")"
+    done
+    same "$shell: the commands of help" "$commands" "$(offered "$shell" 'keywrap help ')"
+    same "$shell: a part of a word" $'--raw\n--raw-kek' "$(offered "$shell" 'keywrap unwrap --kek b.hex --r')"
+    same "$shell: files after --kek" "$(ls files)" "$(offered "$shell" 'keywrap wrap --raw --kek ')"
+    same "$shell: files after --new-kek" "$(ls files)" "$(offered "$shell" 'keywrap rewrap --kek b.hex --new-kek ')"
+    same "$shell: a part of a file's name" b.hex "$(offered "$shell" 'keywrap check --kek b')"
+    same "$shell: nothing after --iv" '' "$(offered "$shell" 'keywrap wrap --iv ')"
+    same "$shell: nothing for the HEX of drill" '' "$(offered "$shell" 'keywrap drill ' | grep -v '^-')"
+    same "$shell: nothing after the HEX of drill" '' "$(offered "$shell" 'keywrap drill 00 ' | grep -v '^-')"
+    same "$shell: nothing after vectors" '' "$(offered "$shell" 'keywrap vectors ' | grep -v '^-')"
+}
+
+mkdir files files/folder
+touch 'files/a key' files/b.hex
+completes bash
+same 'bash: no option twice' '--raw-kek' "$(offered bash 'keywrap check --raw --kek=b.hex --r')"
+same 'bash: files after --kek=' "$(ls files)" "$(offered bash 'keywrap wrap --kek = ')"
+if has zsh zsh 'the completion for zsh'; then
+    row 'zsh -n' zsh -n "$completions/_keywrap"
+    completes zsh
+fi
+if has fish fish 'the completion for fish'; then
+    row 'fish --no-execute' fish --no-execute "$completions/keywrap.fish"
+    completes fish
+fi
+
+### The version
+
+row 'the version is one of three numbers' grep -qxE '[0-9]+\.[0-9]+\.[0-9]+' <<<"$version"
+prints_version() { [ "$("$program" --version)" = "keywrap $version" ]; }
+row 'the program and the Makefile name one version' prints_version
+places=$(grep -rlIF --exclude-dir=.git --exclude-dir=out -e "$version" "$root")
+row 'the version stands in one place' test "$places" = "$root/crates/keywrap_cli/src/command_line.rt"
+
+### make install, make uninstall
+
+# An archive that stands for that of the exports: tests/library.sh tries the real one.
+made() { make -s --no-print-directory -o build -C "$root" "$@" PROGRAM="$program" LIBRARY="$room/library" ARCHIVE="$room/library.a"; }
+command_files='755 bin/keywrap
+644 share/bash-completion/completions/keywrap
+644 share/fish/vendor_completions.d/keywrap.fish
+644 share/man/man1/keywrap.1
+644 share/zsh/site-functions/_keywrap'
+library_files='644 include/keywrap.h
+644 lib/libkeywrap.a
+777 lib/libkeywrap.so
+755 lib/libkeywrap.so.0
+644 lib/pkgconfig/keywrap.pc'
+# files_of FOLDER: what lies below it, with the modes.
+files_of() { find "$1" ! -type d -printf '%m %P\n'; }
+
+# A file that is there already, in a folder of another's.
+mkdir -p "stage to/opt/share/man/man1"
+echo other >"stage to/opt/share/man/man1/other.1"
+stage="$room/stage to"
+row 'make install-command' made install-command DESTDIR="$stage" PREFIX=/opt
+same 'what make install-command installs' "$command_files"$'\n644 share/man/man1/other.1' "$(files_of "$stage/opt")"
+row 'the installed program is the program' cmp "$program" "$stage/opt/bin/keywrap"
+row 'the installed page is the page' cmp "$page" "$stage/opt/share/man/man1/keywrap.1"
+row 'make uninstall-command' made uninstall-command DESTDIR="$stage" PREFIX=/opt
+same 'make uninstall-command leaves what is not its own' '644 opt/share/man/man1/other.1' "$(files_of "$stage")"
+if has cc gcc 'make install with the C library'; then
+    echo 'int keywrap_wrap(void) { return 0; }' >library.c
+    row 'an archive to install' cc -fPIC -c library.c -o library.o
+    row 'an archive to install' ar rc library.a library.o
+    row 'make install' made install DESTDIR="$stage" PREFIX=/usr
+    same 'what make install installs' "$command_files"$'\n'"$library_files" "$(files_of "$stage/usr")"
+    row 'keywrap.pc names the version' grep -qx "Version: $version" "$stage/usr/lib/pkgconfig/keywrap.pc"
+    row 'make uninstall' made uninstall DESTDIR="$stage" PREFIX=/usr
+    same 'make uninstall leaves nothing' '' "$(files_of "$stage/usr")"
+fi
+
+### make dist
+
+name=keywrap-$version-x86_64-linux
+# dist FOLDER: packs into a folder.
+dist() { made dist DIST="$room/$1"; }
+row 'make dist' dist first
+row 'its checksum' env -C first sha256sum -c "$name.tar.gz.sha256"
+same 'what it makes' "$name.tar.gz"$'\n'"$name.tar.gz.sha256" "$(ls first)"
+row 'it unpacks' tar -xpzf "first/$name.tar.gz"
+same 'what it packs' "$command_files"$'\n644 README' "$(files_of "$name")"
+row 'the packed program is the program' cmp "$program" "$name/bin/keywrap"
+row 'the packed README names the version' grep -q "^keywrap $version:" "$name/README"
+packs_of_root() { tar -tvzf "first/$name.tar.gz" >listed && ! grep -v ' 0/0 ' listed; }
+row 'the packed files have no owner of this machine' packs_of_root
+row 'make dist, later and by another umask' sh -c 'umask 077; sleep 1; "$@"' sh make -s -o build -C "$root" dist \
+    PROGRAM="$program" DIST="$room/second"
+row 'make dist makes the same archive again' cmp "first/$name.tar.gz" "second/$name.tar.gz"
+
+# What the README says that the program needs, and a folder that holds nothing else.
+needs() { ldd "$name/bin/keywrap" | sed -E 's/ \(0x.*//; s/.* => //; s/^\t//'; }
+same 'the program needs the C library alone' $'ld-linux-x86-64.so.2\nlibc.so.6\nlinux-vdso.so.1' \
+    "$(needs | sed 's|.*/||')"
+newest=$(grep -aoE 'GLIBC_2\.[0-9]+' "$name/bin/keywrap" | sort -Vu | tail -n 1)
+row "the README names the C library's version" grep -qF "glibc ${newest#GLIBC_} or newer" "$name/README"
+for file in $(needs | grep ^/); do
+    install -D "$file" "alone$file"
+done
+install -D "$name/bin/keywrap" alone/bin/keywrap
+runs_alone() {
+    [ "$(env -i "$(command -v unshare)" -r "$(command -v chroot)" alone /bin/keywrap drill \
+        00112233445566778899aabbccddeeff)" = a6a6a6a6a6a6a6a6001122334455667f8899aabbccddeefb ]
+}
+if unshare -r true 2>/dev/null; then
+    row 'the program with nothing around it' runs_alone
+else
+    skipped=$((skipped + 1))
+    echo 'SKIPPED: the program with nothing around it: unshare -r is not allowed here'
+fi
+
+echo "$passed passed, $failed failed, $skipped skipped"
+[ "$failed" = 0 ]

@@ -1,0 +1,57 @@
+#!/usr/bin/env bash
+# Runs each recipe of docs/RECIPES.md as it stands there, in a folder of its own, and compares what
+# comes back with what stands there.
+#
+# usage: tests/recipes.sh        (KEYWRAP=PATH tries another program, as an installed one)
+#
+# A recipe that wants a tool which is not here is skipped, with a line that says so.
+
+set -u
+# shellcheck source=scripts/program.sh
+. "${BASH_SOURCE[0]%/*}/../scripts/program.sh"
+# shellcheck source=scripts/expect.sh
+. "$root/scripts/expect.sh"
+
+recipes=$root/docs/RECIPES.md
+mkdir bin
+ln -s "$launcher" bin/keywrap
+PATH=$PWD/bin:$PATH
+
+# wants SCRIPT: the tools that a recipe calls and this machine has not.
+wants() {
+    local tool
+    for tool in openssl xxd base64 xargs; do
+        if grep -qw -e "$tool" "$1" && ! command -v $tool >/dev/null; then
+            echo "$tool"
+        fi
+    done
+    if grep -q -e 'wrap-pad\|cipher-pad' "$1" && ! openssl enc -list 2>&1 | grep -q id-aes256-wrap-pad; then
+        echo "an openssl with id-aes256-wrap-pad"
+    fi
+}
+
+# follows NAME SCRIPT ANSWER: the lines of SCRIPT, in an empty folder, write ANSWER and end well.
+follows() {
+    local problem='' wanting
+    wanting=$(wants "$2" | paste -sd ' ')
+    if [ -n "$wanting" ]; then
+        echo "1 skipped: the recipe '$1' wants $wanting"
+        return
+    fi
+    mkdir here
+    (cd here && bash -u ../"$2" >../out 2>&1) || problem="status $?"
+    diff out "$3" >difference || problem="$problem; lines $(shown difference)"
+    rm -rf here
+    verdict "the recipe '$1'" "$problem"
+}
+
+# Of each section: its name, the lines that are typed, and those that come back.
+awk '/^## / { name = substr($0, 4); n++; print name >("name." n); printf "" >("script." n); printf "" >("answer." n) }
+    n && sub(/^    (  )?/, "") { if (sub(/^[$>] /, "")) print >("script." n); else print >("answer." n) }' "$recipes"
+for ((n = 1; ; n++)); do
+    [ -f name.$n ] || break
+    follows "$(<name.$n)" script.$n answer.$n
+done
+[ $n -gt 1 ] || verdict 'the recipes' "none in $recipes"
+
+finish
