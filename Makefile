@@ -4,7 +4,12 @@ PREFIX ?= /usr/local
 DESTDIR ?=
 CC ?= cc
 
-program = crates/keywrap_cli/out/keywrap_cli
+# The program as it was built, which `make build` makes.
+PROGRAM ?= crates/keywrap_cli/out/keywrap_cli
+# The version stands in one place, where the program has it from.
+version = $(shell sed -n 's/^ *\.version("\(.*\)")$$/\1/p' crates/keywrap_cli/src/command_line.rt)
+# Where `make dist` puts its archive; in a folder that is never committed.
+DIST ?= out
 # Where the C library is put together; in a folder that is never committed.
 LIBRARY ?= out/library
 # What the C library is made of: the archive that rt builds of the exports.
@@ -14,17 +19,34 @@ soname = libkeywrap.so.0
 crates = block_pair aes_block key_wrap keywrap_c
 sources = $(shell find crates.txt $(foreach c,$(crates),$(wildcard crates/$(c)/src crates/$(c)/specs crates/$(c)/proofs)))
 
-.PHONY: help build library test install uninstall install-library uninstall-library bench clean
+bin = $(DESTDIR)$(PREFIX)/bin
+lib = $(DESTDIR)$(PREFIX)/lib
+include = $(DESTDIR)$(PREFIX)/include
+share = $(DESTDIR)$(PREFIX)/share
+man = $(share)/man/man1
+for_bash = $(share)/bash-completion/completions
+for_zsh = $(share)/zsh/site-functions
+for_fish = $(share)/fish/vendor_completions.d
+
+.PHONY: help version build library test install uninstall install-command uninstall-command \
+    install-library uninstall-library dist bench clean
 
 help:
 	@echo 'make build              proves and builds the program, where that is not done'
 	@echo 'make library            proves and builds the C library, as $(LIBRARY)/libkeywrap.a and $(soname)'
 	@echo 'make test               runs the gate, rt ci, and then the built command and the C library as a user does'
-	@echo 'make install            installs the program as $$(DESTDIR)$$(PREFIX)/bin/keywrap, and the C library'
-	@echo 'make install-library    installs the C library alone: in lib, include and lib/pkgconfig'
-	@echo 'make uninstall          removes what make install put there'
+	@echo 'make install            installs the two below, under $$(DESTDIR)$$(PREFIX)'
+	@echo 'make install-command    installs the program, its manual page, and completions for bash, zsh and fish'
+	@echo 'make install-library    installs the C library: in lib, include and lib/pkgconfig'
+	@echo 'make uninstall          removes what make install put there (uninstall-command, uninstall-library: theirs)'
+	@echo 'make dist               packs what make install-command installs, for machines without the kit, as'
+	@echo '                        $(DIST)/keywrap-$(version)-x86_64-linux.tar.gz, with its SHA-256'
+	@echo 'make version            writes the version'
 	@echo 'make bench              how long a wrap takes, beside OpenSSL, nettle and C'
 	@echo 'make clean              removes what was built'
+
+version:
+	@echo '$(version)'
 
 build:
 	@./keywrap --version >/dev/null
@@ -50,33 +72,47 @@ test:
 	tests/faults.sh
 	tests/allocations.sh
 	tests/random_words.sh
+	tests/recipes.sh
 	tests/library.sh
+	tests/launcher.sh
+	tests/papers.sh
 
-install: build install-library
-	install -d '$(DESTDIR)$(PREFIX)/bin'
-	install -m 755 $(program) '$(DESTDIR)$(PREFIX)/bin/keywrap'
+install: install-command install-library
+
+uninstall: uninstall-command uninstall-library
+
+install-command: build
+	install -d '$(bin)' '$(man)' '$(for_bash)' '$(for_zsh)' '$(for_fish)'
+	install -m 755 '$(PROGRAM)' '$(bin)/keywrap'
+	install -m 644 man/keywrap.1 '$(man)/keywrap.1'
+	install -m 644 completions/keywrap.bash '$(for_bash)/keywrap'
+	install -m 644 completions/_keywrap '$(for_zsh)/_keywrap'
+	install -m 644 completions/keywrap.fish '$(for_fish)/keywrap.fish'
+
+uninstall-command:
+	rm -f '$(bin)/keywrap' '$(man)/keywrap.1' '$(for_bash)/keywrap' '$(for_zsh)/_keywrap' \
+	    '$(for_fish)/keywrap.fish'
 
 # The link without a number is for the linker; it stands there alone, never in this folder.
 install-library: library
-	install -d '$(DESTDIR)$(PREFIX)/lib/pkgconfig' '$(DESTDIR)$(PREFIX)/include'
-	install -m 644 '$(LIBRARY)/libkeywrap.a' '$(DESTDIR)$(PREFIX)/lib/libkeywrap.a'
-	install -m 755 '$(LIBRARY)/$(soname)' '$(DESTDIR)$(PREFIX)/lib/$(soname)'
-	ln -sf $(soname) '$(DESTDIR)$(PREFIX)/lib/libkeywrap.so'
-	install -m 644 include/keywrap.h '$(DESTDIR)$(PREFIX)/include/keywrap.h'
-	install -m 644 include/keywrap.pc.in '$(DESTDIR)$(PREFIX)/lib/pkgconfig/keywrap.pc'
-	sed -i 's|@PREFIX@|$(PREFIX)|' '$(DESTDIR)$(PREFIX)/lib/pkgconfig/keywrap.pc'
-
-uninstall: uninstall-library
-	rm -f '$(DESTDIR)$(PREFIX)/bin/keywrap'
+	install -d '$(lib)/pkgconfig' '$(include)'
+	install -m 644 '$(LIBRARY)/libkeywrap.a' '$(lib)/libkeywrap.a'
+	install -m 755 '$(LIBRARY)/$(soname)' '$(lib)/$(soname)'
+	ln -sf $(soname) '$(lib)/libkeywrap.so'
+	install -m 644 include/keywrap.h '$(include)/keywrap.h'
+	install -m 644 include/keywrap.pc.in '$(lib)/pkgconfig/keywrap.pc'
+	sed -i 's|@PREFIX@|$(PREFIX)|; s|@VERSION@|$(version)|' '$(lib)/pkgconfig/keywrap.pc'
 
 uninstall-library:
-	rm -f '$(DESTDIR)$(PREFIX)/lib/libkeywrap.a' '$(DESTDIR)$(PREFIX)/lib/$(soname)' \
-	    '$(DESTDIR)$(PREFIX)/lib/libkeywrap.so' '$(DESTDIR)$(PREFIX)/include/keywrap.h' \
-	    '$(DESTDIR)$(PREFIX)/lib/pkgconfig/keywrap.pc'
+	rm -f '$(lib)/libkeywrap.a' '$(lib)/$(soname)' '$(lib)/libkeywrap.so' '$(include)/keywrap.h' \
+	    '$(lib)/pkgconfig/keywrap.pc'
+
+dist: build
+	scripts/dist.sh '$(PROGRAM)' '$(version)' '$(DIST)'
 
 bench: build library
 	bench/wrap '$(LIBRARY)/libkeywrap.a'
-	bench/startup $(program)
+	bench/startup '$(PROGRAM)'
 
 clean:
 	rm -rf crates/*/out out

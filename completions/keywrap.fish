@@ -1,0 +1,30 @@
+# Completion of keywrap for fish: the commands, the options of each, and file names after --kek and
+# --new-kek.
+
+function __keywrap_is
+    set -l words (commandline -opc)
+    test (count $words) -gt 1; and contains -- $words[2] $argv
+end
+
+complete -c keywrap -f
+complete -c keywrap -s h -l help -d 'Show the help' -n 'not __keywrap_is help'
+complete -c keywrap -s V -l version -d 'Show the version' -n __fish_use_subcommand
+
+complete -c keywrap -n __fish_use_subcommand -a wrap -d 'Wrap the key on standard input'
+complete -c keywrap -n __fish_use_subcommand -a unwrap -d 'Unwrap the wrapped key on standard input'
+complete -c keywrap -n __fish_use_subcommand -a rewrap -d 'Wrap the key of a wrapped key under another KEK'
+complete -c keywrap -n __fish_use_subcommand -a check -d 'Say what a wrapped key is, without the key'
+complete -c keywrap -n __fish_use_subcommand -a drill -d 'Wrap over a block that only exchanges its halves'
+complete -c keywrap -n __fish_use_subcommand -a vectors -d 'Answer the published vectors'
+complete -c keywrap -n __fish_use_subcommand -a help -d 'Show the help, or that of a command'
+complete -c keywrap -n '__keywrap_is help; and test (count (commandline -opc)) = 2' \
+    -a 'wrap unwrap rewrap check drill vectors help'
+
+complete -c keywrap -n '__keywrap_is wrap unwrap rewrap check' -l kek -rF -d 'The KEK'
+complete -c keywrap -n '__keywrap_is rewrap' -l new-kek -rF -d 'The KEK of the new wrapped key'
+complete -c keywrap -n '__keywrap_is wrap unwrap rewrap drill' -l padded -d 'The padded form of RFC 5649'
+complete -c keywrap -n '__keywrap_is rewrap' -l new-padded -d 'Write the padded form of RFC 5649'
+complete -c keywrap -n '__keywrap_is wrap unwrap' -l iv -x -d 'An initial value that both ends agreed on'
+complete -c keywrap -n '__keywrap_is wrap unwrap rewrap check' -l raw -d 'Input and output are raw bytes, not hex'
+complete -c keywrap -n '__keywrap_is wrap unwrap rewrap check' -l raw-kek -d 'Each KEK file is raw bytes, not hex'
+complete -c keywrap -n '__keywrap_is drill' -l unwrap -d 'Unwrap in the place of wrapping'
