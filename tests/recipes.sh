@@ -1,6 +1,6 @@
 #!/usr/bin/env bash
 # Runs each recipe of docs/RECIPES.md as it stands there, in a folder of its own, and compares what
-# comes back with what stands there.
+# comes back with what stands there; and so the README's lines on keys in files.
 #
 # usage: tests/recipes.sh        (KEYWRAP=PATH tries another program, as an installed one)
 #
@@ -53,5 +53,13 @@ for ((n = 1; ; n++)); do
     follows "$(<name.$n)" script.$n answer.$n
 done
 [ $n -gt 1 ] || verdict 'the recipes' "none in $recipes"
+
+# The README's, of its beginning and of 'Before you trust a file', in one folder.
+sed -n '1,/^## What it needs/p; /^## Before you trust/,/^## Rotating/p' "$root/README.md" |
+    sed -n 's/^    //p' >lines
+sed -n 's/^[$] //p' lines | sed 's|\./keywrap|keywrap|' >script
+grep -v '^[$] ' lines >answer
+[ -s script ] || verdict 'the README' 'it has no such lines'
+follows 'the README, keys in files' script answer
 
 finish
