@@ -1,8 +1,8 @@
 #!/usr/bin/env bash
 # Holds the manual page and the completions against the program's help, both ways, so that none
-# falls behind; runs the page's examples; and tries make install, make uninstall and make dist, on a
-# program that is built. A part whose tool is not there is skipped, with a line that says what to
-# install.
+# falls behind; runs the page's examples; tries make install, make uninstall and make dist, on a
+# program that is built; and holds docs/LIBRARY.md against the crate that it shows. A part whose tool
+# is not there is skipped, with a line that says what to install.
 #
 # usage: tests/papers.sh        (KEYWRAP=PATH tries another program)
 
@@ -280,6 +280,29 @@ else
     skipped=$((skipped + 1))
     echo 'SKIPPED: the program with nothing around it: unshare -r is not allowed here'
 fi
+
+### The page for Rattle, docs/LIBRARY.md
+
+rattle=$root/docs/LIBRARY.md
+
+# in_example FILE: its lines stand together, as they are, in a file of the crate that the page shows.
+in_example() {
+    local source
+    for source in "$root"/crates/example_caller/{src,specs}/*; do
+        [[ $'\n'$(<"$source")$'\n' = *$'\n'"$(<"$1")"$'\n'* ]] && return
+    done
+    echo "no file of the crate example_caller has the lines:" && cat "$1"
+    return 1
+}
+
+awk '/^```/ { inside = !inside; if (inside) name = "block." ++n; next } inside { print > name }' "$rattle"
+blocks=(block.*)
+row 'docs/LIBRARY.md has its blocks' test ${#blocks[@]} -ge 8
+for block in "${blocks[@]}"; do
+    row "docs/LIBRARY.md: $block is of the example" in_example "$block"
+done
+same 'docs/LIBRARY.md and crates.txt' "$(sed -n '/^    block_pair:/,/^$/s/^    //p' "$rattle")" \
+    "$(grep -E '^(block_pair|aes_block|key_wrap|example_caller):' "$root/crates.txt")"
 
 echo "$passed passed, $failed failed, $skipped skipped"
 [ "$failed" = 0 ]

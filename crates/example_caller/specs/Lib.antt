@@ -1,0 +1,2 @@
+pub mod ReversalLaw
+pub mod Storing
