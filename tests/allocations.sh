@@ -84,19 +84,6 @@ is_answer() {
 
 ### Each allocation failing in turn, alone and with all that come after it
 
-# compiled: the library that has an allocation fail, built by the first compiler that is found.
-compiled() {
-    local kit compiler
-    kit=$(readlink -f -- "$(command -v rt)" 2>&1)
-    kit=${kit%/bin/rt}/toolchain/bin
-    for compiler in cc "$kit/clang -fuse-ld=$kit/ld.lld"; do
-        # shellcheck disable=SC2086
-        $compiler -O1 -shared -fPIC -nostdlib -ffreestanding -o fail_alloc.so \
-            "$root/tests/fail_alloc.c" 2>>compilers && return
-    done
-    return 1
-}
-
 # fails_each NAME STATUS ANSWER LINE INPUT ARGUMENT..: one row, of as many runs as there are
 # allocations, twice.
 fails_each() {
@@ -120,7 +107,7 @@ fails_each() {
 skipped=0
 counted() { skipped=$((skipped + 1)); }
 has_compiler=true
-if compiled; then
+if compiled fail_alloc; then
     beside each fails_each
     beside worded fails_each
 else
