@@ -26,11 +26,12 @@ fi
 mkfifo typed
 exec 8<>typed
 
-# types TEXT: once the program says that it waits, and has ended or a minute is over, types a text (as
-# printf's format).
+# types TEXT: once the program says that it waits, or a minute is over, types a text (as printf's format);
+# where $ahead is set, at once. Where the program has ended, types nothing.
 types() {
     local tries
     for ((tries = 0; tries < 1200; tries++)); do
+        [ -z "${ahead:-}" ] || break
         [ ! -e ended ] || return 0
         grep -q 'waiting for' err && break
         sleep 0.05
@@ -57,7 +58,7 @@ END_OF_LINE
     wait
     status=$(cat status)
     rm -f status
-    tr -d '\r' <shown.raw >screen
+    tr -d '\r\b' <shown.raw | sed 's/\^D//' >screen
 }
 
 # told NAME STATUS SCREEN OUT ERR: the line ended so, the terminal showed SCREEN, and the files `out` and
@@ -148,6 +149,11 @@ verdict 'what is in it then' "$(cmp file text.hex 2>&1)"
 waits 'nothing from a terminal' 4 '' "$waiting ${in_hex}keywrap: $bad_length\n" '\004' wrap --kek kek16.hex
 waits 'a KEK of 15 bytes, which is read after that' 3 '' "$waiting ${in_hex}keywrap: $kek_length\n" '\004' \
     wrap --kek kek15.hex
+# With standard output and standard error closed the file of --output has the descriptor of standard error.
+# shellcheck disable=SC2016
+ahead=yes on_terminal '"$program" wrap --kek kek16.hex --output file >&- 2>&-' "$d16\n\004"
+told 'wrap into a file, output and error closed' 0 "$d16\n" '' ''
+verdict 'nothing but the answer is in it' "$(cmp file text.hex 2>&1)"
 # Nothing is waited for where the files can't be opened, or the input is a file.
 waits 'no KEK file' 6 '' 'keywrap: key file: cannot be opened\n' '' wrap --kek missing
 waits 'no new KEK file' 6 '' 'keywrap: new key file: cannot be opened\n' '' \
