@@ -1,5 +1,5 @@
-# Completion of keywrap for fish: the commands, the options of each, and file names after --kek and
-# --new-kek.
+# Completion of keywrap for fish: the commands, the options of each, and file names after those that
+# take one.
 
 function __keywrap_is
     set -l words (commandline -opc)
@@ -8,10 +8,10 @@ end
 
 complete -c keywrap -f
 complete -c keywrap -s h -l help -d 'Show the help' -n 'not __keywrap_is help'
-complete -c keywrap -s V -l version -d 'Show the version' -n __fish_use_subcommand
+complete -c keywrap -s V -l version -d 'Show the version' -n 'not __keywrap_is help'
 
-complete -c keywrap -n __fish_use_subcommand -a wrap -d 'Wrap the key on standard input'
-complete -c keywrap -n __fish_use_subcommand -a unwrap -d 'Unwrap the wrapped key on standard input'
+complete -c keywrap -n __fish_use_subcommand -a wrap -d 'Wrap a key'
+complete -c keywrap -n __fish_use_subcommand -a unwrap -d 'Unwrap a wrapped key'
 complete -c keywrap -n __fish_use_subcommand -a rewrap -d 'Wrap the key of a wrapped key under another KEK'
 complete -c keywrap -n __fish_use_subcommand -a check -d 'Say what a wrapped key is, without the key'
 complete -c keywrap -n __fish_use_subcommand -a drill -d 'Wrap over a block that only exchanges its halves'
@@ -27,4 +27,8 @@ complete -c keywrap -n '__keywrap_is rewrap' -l new-padded -d 'Write the padded 
 complete -c keywrap -n '__keywrap_is wrap unwrap' -l iv -x -d 'An initial value that both ends agreed on'
 complete -c keywrap -n '__keywrap_is wrap unwrap rewrap check' -l raw -d 'Input and output are raw bytes, not hex'
 complete -c keywrap -n '__keywrap_is wrap unwrap rewrap check' -l raw-kek -d 'Each KEK file is raw bytes, not hex'
+complete -c keywrap -n '__keywrap_is wrap unwrap rewrap check' -s i -l input -rF \
+    -d 'The input, in the place of standard input'
+complete -c keywrap -n '__keywrap_is wrap unwrap rewrap check' -s o -l output -rF \
+    -d 'The file for the answer, written whole'
 complete -c keywrap -n '__keywrap_is drill' -l unwrap -d 'Unwrap in the place of wrapping'

@@ -26,7 +26,8 @@ echo plain 16 >plain16
 echo "$drilled" >drilled
 echo 466f725061736900a65959a600000007 >drilled7
 echo "$vector_lines" >lines
-mkdir folder
+echo old >old
+mkdir folder to
 
 # explained: makes the files of the help and the version, which are the program's own words.
 explained() {
@@ -40,11 +41,17 @@ explained() {
 each() {
     answered "$1"
     refused "$1"
+    "$1" 'no input file' 6 nothing 'keywrap: input: cannot be opened' - wrap --kek kek16.hex --input missing
+    "$1" 'a folder as input file' 6 nothing 'keywrap: input: cannot be read' - check --kek kek16.hex --input folder
 }
 
 # answered FUNCTION: the same for the commands alone.
 answered() {
     jobs "$1"
+    "$1" 'wrap of a file' 0 text.hex '' - wrap --kek kek16.hex --input key.hex
+    "$1" 'raw rewrap of a file' 0 padded.raw '' - \
+        rewrap --raw --raw-kek --new-padded --new-kek kek16.raw --kek kek16.raw -i text.raw
+    "$1" 'check of a file' 0 plain16 '' - check --kek kek16.hex -i text.hex
     "$1" 'drill' 0 drilled '' - drill "$d16"
     "$1" 'padded drill' 0 drilled7 '' - drill --padded "$key7"
     "$1" 'drill back' 0 key.hex '' - drill --unwrap "$drilled"
@@ -112,6 +119,32 @@ rewrap_refused() {
     "$1" 'rewrap of a wrong byte' 5 nothing "keywrap: $integrity" wrong.hex "${from[@]}" --new-kek kek32.hex
     "$1" 'rewrap of 7 bytes to plain' 4 nothing "keywrap: $bad_length" text7.hex \
         rewrap --padded --kek kek5649.hex --new-kek kek32.hex
+}
+
+# filed FUNCTION: the same for commands with a file for the answer, to/file, which holds what the file `old`
+# holds. ANSWER is what to/file holds then, and nothing goes to standard output.
+filed() {
+    local output='keywrap: output: cannot be opened' into=(--output to/file)
+    "$1" 'wrap into a file' 0 text.hex '' key.hex wrap --kek kek16.hex "${into[@]}"
+    "$1" 'raw wrap into a file' 0 text.raw '' - wrap --raw --raw-kek --kek kek16.raw -i key.raw "${into[@]}"
+    "$1" 'wrap under a value into a file' 0 agreed.hex '' key.hex wrap --iv "$iv" --kek kek16.hex "${into[@]}"
+    "$1" 'unwrap into a file' 0 key.hex '' - unwrap --kek kek16.hex -i text.hex "${into[@]}"
+    "$1" 'padded unwrap into a file' 0 key7.hex '' text7.hex unwrap --padded --kek kek5649.hex "${into[@]}"
+    "$1" 'rewrap into a file' 0 text32.hex '' - \
+        rewrap --kek kek16.hex --new-kek kek32.hex -i text.hex "${into[@]}"
+    "$1" 'check into a file' 0 plain16 '' text.hex check --kek kek16.hex "${into[@]}"
+    "$1" 'check of a wrong byte into a file' 5 none '' - check --kek kek16.hex -i wrong.hex "${into[@]}"
+    "$1" 'a wrong byte, no file' 5 old "keywrap: $integrity" - unwrap --kek kek16.hex -i wrong.hex "${into[@]}"
+    "$1" 'a KEK of 15 bytes, no file' 3 old "keywrap: $kek_length" - wrap --kek kek15.hex "${into[@]}"
+    "$1" 'a new KEK of 15 bytes, no file' 3 old "keywrap: $new_kek_length" - \
+        rewrap --kek kek16.hex --new-kek kek15.hex "${into[@]}"
+    "$1" 'a key of 7 bytes, no file' 4 old "keywrap: $bad_length" - wrap --kek kek16.hex -i key7.hex "${into[@]}"
+    "$1" 'no input, no file' 6 old 'keywrap: input: cannot be opened' - \
+        wrap --kek kek16.hex -i missing "${into[@]}"
+    "$1" 'a bad digit, no file' 6 old 'keywrap: input: no hex digit at byte 1' - \
+        wrap --kek kek16.hex -i digit.hex "${into[@]}"
+    "$1" 'a folder as output' 6 old "$output" - wrap --kek kek16.hex --output folder
+    "$1" 'the KEK file as output' 6 old "$output" - wrap --kek kek16.hex --output kek16.hex
 }
 
 # file_of INPUT: the file that stands for an input.

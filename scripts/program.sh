@@ -48,6 +48,20 @@ least() {
     done
 } 2>/dev/null
 
+# compiled NAME: the library NAME.so of tests/NAME.c, built by the first compiler that is found: cc, or the
+# clang of the kit beside rt. The program runs over it where LD_PRELOAD names it.
+compiled() {
+    local kit compiler
+    kit=$(readlink -f -- "$(command -v rt)" 2>&1)
+    kit=${kit%/bin/rt}/toolchain/bin
+    for compiler in cc "$kit/clang -fuse-ld=$kit/ld.lld"; do
+        # shellcheck disable=SC2086
+        $compiler -O1 -shared -fPIC -nostdlib -ffreestanding -o "$1.so" "$root/tests/$1.c" \
+            2>>compilers && return
+    done
+    return 1
+}
+
 if ! "$launcher" --version >/dev/null </dev/null; then
     echo "0 passed, 1 failed"
     exit 1

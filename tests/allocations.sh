@@ -2,8 +2,8 @@
 # Runs the built program with each of its allocations failing in turn, for each command and for
 # a refusal of each kind, the reading of the command line included. Each run has to end with
 # status 7, `keywrap: out of memory` and nothing on standard output, or with the answer that it
-# has with ample memory. Then it runs, in the same way, the tests refuses_each_growth_.. of two
-# crates: they say of each call that it answers Memory and has written nothing, or answers all. Last
+# has with ample memory; and the file of --output is as it was, or holds that answer, with nothing beside
+# it. Then it runs, in the same way, the tests refuses_each_growth_.. of two crates: they say of each call that it answers Memory and has written nothing, or answers all. Last
 # it runs the commands in ever more memory, from where the program starts at all.
 #
 # usage: tests/allocations.sh        (KEYWRAP=PATH tries another program, as an installed one, and
@@ -70,32 +70,29 @@ worded() {
 }
 says() { "$1" "$2" 2 nothing "$("$program" "${@:3}" 2>&1)" - "${@:3}"; }
 
-# gave_up: the run that wrote `out` and `err`, and ended with $status, says that memory is wanting.
-# Nothing is started for it, as a loop over all allocations asks it often.
+# gave_up: the run that wrote `out` and `err`, and ended with $status, says that memory is wanting, and the
+# file of --output is as it was. Nothing is started for it, as a loop over all allocations asks it often.
 gave_up() {
     local line
-    [ "$status" = 7 ] && [ ! -s out ] && line=$(<err) && [ "$line" = "keywrap: $memory" ]
+    [ "$status" = 7 ] && [ ! -s out ] && line=$(<err) && [ "$line" = "keywrap: $memory" ] && is_alone &&
+        line=$(<to/file) && [ "$line" = old ]
 }
 
-# is_answer STATUS ANSWER LINE: that run did what the program does with ample memory.
+# is_alone: nothing is beside the file of --output.
+is_alone() {
+    local all=(to/* to/.[!.]*)
+    [ "${all[*]}" = 'to/file to/.[!.]*' ]
+}
+
+# is_answer STATUS ANSWER LINE: that run did what the program does with ample memory. The answer is in
+# $answer_in, which is the file of --output or standard output.
+answer_in=out
 is_answer() {
-    [ "$status" = "$1" ] && cmp -s out "$2" && [ "$(<err)" = "$3" ]
+    [ "$status" = "$1" ] && cmp -s "$answer_in" "$2" && [ "$(<err)" = "$3" ] && is_alone &&
+        { [ "$answer_in" = out ] || [ ! -s out ]; }
 }
 
 ### Each allocation failing in turn, alone and with all that come after it
-
-# compiled: the library that has an allocation fail, built by the first compiler that is found.
-compiled() {
-    local kit compiler
-    kit=$(readlink -f -- "$(command -v rt)" 2>&1)
-    kit=${kit%/bin/rt}/toolchain/bin
-    for compiler in cc "$kit/clang -fuse-ld=$kit/ld.lld"; do
-        # shellcheck disable=SC2086
-        $compiler -O1 -shared -fPIC -nostdlib -ffreestanding -o fail_alloc.so \
-            "$root/tests/fail_alloc.c" 2>>compilers && return
-    done
-    return 1
-}
 
 # fails_each NAME STATUS ANSWER LINE INPUT ARGUMENT..: one row, of as many runs as there are
 # allocations, twice.
@@ -104,6 +101,7 @@ fails_each() {
     input=$(file_of "$5")
     for from in '' +; do
         for ((call = 1; ; call++)); do
+            echo old >to/file
             LD_PRELOAD=./fail_alloc.so FAIL_ALLOC=$call$from "$program" "${@:6}" \
                 <"$input" >out 2>err 9>met
             status=$?
@@ -117,15 +115,21 @@ fails_each() {
     verdict "each of $((call - 1)) allocations of $1" "${problem:0:600}"
 }
 
+# fails_each_into, grows_into: the same, where the answer goes into the file of --output.
+fails_each_into() { answer_in=to/file fails_each "$@"; }
+grows_into() { answer_in=to/file grows "$@"; }
+
 skipped=0
 counted() { skipped=$((skipped + 1)); }
 has_compiler=true
-if compiled; then
+if compiled fail_alloc; then
     beside each fails_each
+    beside filed fails_each_into
     beside worded fails_each
 else
     has_compiler=false
     each counted
+    filed counted
     worded counted
     counted
     echo "$skipped skipped: each allocation failing in turn wants a C compiler (apt-get install gcc)"
@@ -182,6 +186,7 @@ grows() {
     local input kilobytes problem=''
     input=$(file_of "$5")
     for ((kilobytes = start; kilobytes < start + 8192; kilobytes += 4)); do
+        echo old >to/file
         limited "$kind" $kilobytes "${@:6}" <"$input" >out 2>err
         status=$?
         gave_up || break
@@ -191,15 +196,16 @@ grows() {
     [ $kilobytes -gt "$start" ] || problem="$problem; no run was refused"
     verdict "ever more memory for $1" "$problem"
 }
-# grown ROWS: the rows, where the C library takes pages of their own for each allocation, so that each
+# grown ROWS [FUNCTION]: the rows, where the C library takes pages of their own for each allocation, so that each
 # step of a page allows one allocation more.
 grown() {
     local kind start
     export GLIBC_TUNABLES=glibc.malloc.mmap_threshold=1:glibc.malloc.mmap_max=1000000
     read -r kind start <<<"$(least)"
-    "$1" grows
+    "$1" "${2:-grows}"
 }
 beside grown each
+beside grown filed grows_into
 beside grown worded
 
 gathered

@@ -461,7 +461,6 @@ rotates 'the rotation has nothing left to do' 0 '' '1 a key' '2 damaged' 3
 
 ### The command line
 
-refuses_words
 refuses_words rewind
 refuses_words wrap
 refuses_words wrap --kek
@@ -485,11 +484,41 @@ refuses_words drill
 refuses_words drill 00 11
 refuses_words vectors all
 refuses_words drill $'\xff'
+
+# guesses TIP ARGUMENT..: the command line is refused, with a tip on what may have been meant.
+guesses() {
+    refuses_words "${@:2}"
+    verdict "a tip for '${*:2}'" "$(grep -qxF -e "  tip: $1" err || shown err)"
+}
+files_tip='files are named by options: --kek FILE, --input FILE, --output FILE'
+commands_tip='the first word is wrap, unwrap, rewrap, check, drill or vectors'
+drill_tip='drill takes one word of hex digits and no KEK; wrap takes --kek FILE'
+for job in wrap unwrap rewrap check; do
+    guesses "$files_tip" $job kek16.hex
+    guesses "$files_tip" $job --kek kek16.hex key.hex
+done
+guesses "$commands_tip" kek16.hex
+guesses "$commands_tip" rewind
+guesses "$drill_tip" drill --kek kek16.hex $d16
+guesses "$drill_tip" drill $d16 --kek kek16.hex
+
+# Without a word the commands are shown, where a message on refused words goes.
+keywrap_alone() {
+    local problem='' to=out status
+    ran
+    [ "$status" = 2 ] || problem="status $status, not 2"
+    [ ! -s out ] || problem="$problem; output $(shown out)"
+    mv err alone
+    ran -h
+    cmp -s alone out || problem="$problem; error $(shown alone), not $(shown out)"
+    verdict 'without a word the commands are shown' "$problem"
+}
+keywrap_alone
 explains 'Usage: keywrap <COMMAND>|wrap|unwrap|rewrap|check|drill|vectors' --help
 statuses='  0  done
   2  the command line was refused
   3  a KEK has not 16, 24 or 32 bytes
-  4  the key or the text has no legal length in this form
+  4  the key or the wrapped key has no legal length in this form
   5  the integrity check failed; check found no wrapping; a vector failed
   6  a file or the output could not be opened, read or written
   7  out of memory'
@@ -498,13 +527,22 @@ problem=''
 grep '^  [0-9]  ' out | cmp -s - <(echo "$statuses") || problem='the lines are others'
 verdict 'the help has the seven statuses' "$problem"
 explains 'Usage: keywrap <COMMAND>|wrap|unwrap|rewrap|check|drill|vectors' -h
-explains "Usage: keywrap wrap|--kek|--padded|--iv <HEX>|--raw|--raw-kek|$d16|$text16" wrap --help
-explains "Usage: keywrap unwrap|--kek|--padded|--iv <HEX>|--raw|--raw-kek|$d16|$text16" unwrap --help
-explains "Usage: keywrap rewrap|--kek|--new-kek|--padded|--new-padded|--raw|--raw-kek|$text16|$text32" rewrap --help
-explains "Usage: keywrap check|--kek|--raw|--raw-kek|$text16|plain 16" check --help
+files='-i, --input <FILE>|-o, --output <FILE>'
+usage='[OPTIONS] --kek <FILE>'
+explains "Usage: keywrap wrap $usage < KEY > WRAPPED|--padded|--iv <HEX>|--raw|--raw-kek|$files|$d16|$text16" \
+    wrap --help
+explains "Usage: keywrap unwrap $usage < WRAPPED > KEY|--padded|--iv <HEX>|--raw|--raw-kek|$files|$d16|$text16" \
+    unwrap --help
+explains "Usage: keywrap rewrap $usage --new-kek <FILE> < WRAPPED > REWRAPPED|$files|$text16|$text32" rewrap --help
+explains '--padded|--new-padded|--raw|--raw-kek' rewrap --help
+explains "Usage: keywrap check $usage < WRAPPED|--raw|--raw-kek|$files|$text16|plain 16" check --help
 explains "Usage: keywrap drill|--padded|--unwrap|$d16|$drilled" drill --help
 explains 'Usage: keywrap vectors|rfc3394 4.1 ok' vectors --help
 prints 'the version' "keywrap $version\n" --version
+for job in wrap unwrap rewrap check drill vectors; do
+    prints "the version, after $job" "keywrap $version\n" $job --version
+    prints "the version in short, after $job" "keywrap $version\n" $job -V
+done
 
 ### The launcher
 

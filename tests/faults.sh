@@ -335,6 +335,87 @@ with_closed() {
 }
 each with_closed
 
+### The file of --output
+
+# into NAME STATUS ANSWER LINE: the run that wrote `out` and `err` and ended with $status ended so, wrote
+# nothing to standard output, and left the file of --output with what ANSWER holds, and nothing beside it.
+into() {
+    local problem='' all=(to/*)
+    ended "$1" "$2" nothing "$4"
+    cmp -s to/file "$3" || problem="the file holds $(shown to/file), not $(shown "$3")"
+    [ "${all[*]}" = to/file ] || problem="$problem; files ${all[*]}"
+    verdict "$1, the file" "$problem"
+    cp old to/file
+}
+
+# with_file NAME STATUS ANSWER LINE INPUT ARGUMENT..: what is wrong with the streams is no matter of the file.
+with_file() {
+    local streams wanted answer line input
+    input=$(file_of "$5")
+    "$keywrap" "${@:6}" < <(in_pieces "$input" 7) >out 2>err
+    status=$?
+    into "$1, an input in pieces" "${@:2:3}"
+    : >out
+    "$keywrap" "${@:6}" <"$input" >/dev/full 2>err
+    status=$?
+    into "$1, a full device as standard output" "${@:2:3}"
+    "$keywrap" "${@:6}" <"$input" >out 2>/dev/full
+    status=$?
+    : >err
+    into "$1, a full device for the line" "$2" "$3" ''
+    exec 8<>pipe
+    exec 9>pipe 8<&-
+    "$keywrap" "${@:6}" <"$input" >&9 2>err
+    status=$?
+    exec 9>&-
+    into "$1, no reader" "${@:2:3}"
+    # From a closed input nothing comes.
+    for streams in 0 1 2 01 02 12 012; do
+        wanted=$2 answer=$3 line=$4
+        case $streams,$5,$6 in
+        *,-,* | [!0]*) ;;
+        *,check*) wanted=5 answer=none line='' ;;
+        *) wanted=4 answer=old line="keywrap: $bad_length" ;;
+        esac
+        # No input is read where there is no KEK, and none where there is no output.
+        case $2,$3 in [36],old) wanted=$2 answer=$3 line=$4 ;; esac
+        case $streams in *2*) line='' ;; esac
+        (
+            case $streams in *0*) exec <&- ;; esac
+            case $streams in *1*) exec >&- ;; esac
+            case $streams in *2*) exec 2>&- ;; esac
+            exec "$keywrap" "${@:6}"
+        ) <"$input" >out 2>err
+        status=$?
+        into "$1, closed: $streams" "$wanted" "$answer" "$line"
+    done
+}
+cp old to/file
+filed with_file
+rm to/file
+
+# in_file NAME STATUS ANSWER LINE INPUT ARGUMENT..: the input is no plain file, and standard input is another.
+in_file() {
+    "$keywrap" "${@:6}" --input <(in_pieces "$5" 7) <wrong.hex >out 2>err
+    status=$?
+    ended "$1, an input file in pieces" "$2" "$3" "$4"
+    "$keywrap" "${@:6}" --input /dev/fd/7 7<"$5" <wrong.hex >out 2>err
+    status=$?
+    ended "$1, an input file in /dev/fd" "$2" "$3" "$4"
+    timeout 10 cp "$5" pipe &
+    "$keywrap" "${@:6}" --input pipe <wrong.hex >out 2>err
+    status=$?
+    wait $!
+    ended "$1, a named pipe as input file" "$2" "$3" "$4"
+    "$keywrap" "${@:6}" --input "$5" <&- >out 2>err
+    status=$?
+    ended "$1, an input file, standard input closed" "$2" "$3" "$4"
+}
+jobs in_file
+refuses 'an endless pipe as input file' 6 'input: too long' unwrap --kek kek16.hex --input <(yes 00)
+prints 'the KEK and the input file in one pipe each' "$text16\n" \
+    wrap --kek <(in_pieces kek16.hex 5) --input <(in_pieces key.hex 5)
+
 ### Nothing else was touched
 
 problem=''

@@ -48,6 +48,10 @@ options=$(echo "$options" | sort -u)
 
 row 'the help names the commands' test "$(echo "$commands" | wc -l)" -ge 6
 row 'the help names the options' test "$(echo "$options" | wc -l)" -ge 9
+for command in wrap unwrap rewrap check; do
+    row "the help names the files of $command" grep -qxz -e $'.*\n-i\n--input\n.*-o\n--output\n.*' \
+        <(options_of "$command")
+done
 
 ### The manual page
 
@@ -64,7 +68,8 @@ same 'help and page: the options' "$options" "$(named "$items")"
 same 'help and page: the options in the text' "$options" "$(named "$(cat "$page")")"
 for command in $commands; do
     synopsis=$(section SYNOPSIS | sed -n "/^\.Cm $command\$/,/^\.Nm/p")
-    same "help and page: the synopsis of $command" "$(options_of "$command" | grep -vx -e -h -e --help)" \
+    same "help and page: the synopsis of $command" \
+        "$(options_of "$command" | grep -vx -e -h -e --help -e -V -e --version)" \
         "$(named "$synopsis")"
 done
 same 'help and page: the statuses' "$("$program" --help | grep -oE '^  [0-9]+  ')" \
@@ -165,7 +170,7 @@ offered() { "offers_$1" "$2" | sed 's/\\//g; s|/$||'; }
 
 # completes SHELL: the shell offers what the help names, and names of files where one is wanted.
 completes() {
-    local shell=$1 command
+    local shell=$1 command line
     same "$shell: the commands" "$commands" "$(offered "$shell" 'keywrap ')"
     same "$shell: the options without a command" "$(options_of)" "$(offered "$shell" 'keywrap -')"
     for command in $commands; do
@@ -175,7 +180,13 @@ completes() {
     same "$shell: a part of a word" $'--raw\n--raw-kek' "$(offered "$shell" 'keywrap unwrap --kek b.hex --r')"
     same "$shell: files after --kek" "$(ls files)" "$(offered "$shell" 'keywrap wrap --raw --kek ')"
     same "$shell: files after --new-kek" "$(ls files)" "$(offered "$shell" 'keywrap rewrap --kek b.hex --new-kek ')"
+    for line in 'wrap -i' 'wrap --output' 'unwrap --input' 'unwrap -o' 'rewrap --raw -i' 'rewrap --output' \
+        'check --kek b.hex --input' 'check -i b.hex -o'; do
+        same "$shell: files after $line" "$(ls files)" "$(offered "$shell" "keywrap $line ")"
+    done
     same "$shell: a part of a file's name" b.hex "$(offered "$shell" 'keywrap check --kek b')"
+    same "$shell: a part of the output's name" b.hex "$(offered "$shell" 'keywrap wrap --kek b.hex --output b')"
+    same "$shell: what begins with --in" --input "$(offered "$shell" 'keywrap check --kek b.hex --in')"
     same "$shell: nothing after --iv" '' "$(offered "$shell" 'keywrap wrap --iv ')"
     same "$shell: nothing for the HEX of drill" '' "$(offered "$shell" 'keywrap drill ' | grep -v '^-')"
     same "$shell: nothing after the HEX of drill" '' "$(offered "$shell" 'keywrap drill 00 ' | grep -v '^-')"
@@ -187,6 +198,11 @@ touch 'files/a key' files/b.hex
 completes bash
 same 'bash: no option twice' '--raw-kek' "$(offered bash 'keywrap check --raw --kek=b.hex --r')"
 same 'bash: files after --kek=' "$(ls files)" "$(offered bash 'keywrap wrap --kek = ')"
+same 'bash: files after --output=' "$(ls files)" "$(offered bash 'keywrap wrap --output = ')"
+same 'bash: neither -o nor --output twice' $'-i\n--input' \
+    "$(offered bash 'keywrap check --kek b.hex -o c.hex -' | grep -x -e -i -e --input -e -o -e --output)"
+same 'bash: neither -i nor --input twice' $'-o\n--output' \
+    "$(offered bash 'keywrap check --kek b.hex --input c.hex -' | grep -x -e -i -e --input -e -o -e --output)"
 if has zsh zsh 'the completion for zsh'; then
     row 'zsh -n' zsh -n "$completions/_keywrap"
     completes zsh

@@ -1,8 +1,9 @@
 #!/usr/bin/env bash
 # Runs the built program on random command lines, over good and bad files: words drawn from
 # commands, flags, values, names of files, garbage and bytes that are not UTF-8. Each run has to
-# end within a second, never by a signal, with a status of README's table, and with no more on
-# standard output and standard error than that status allows.
+# end within ten seconds, never by a signal, with a status of README's table, and with no more on
+# standard output and standard error than that status allows. Only an answer changes a file: one, which is
+# the answer, for its owner alone.
 #
 # usage: tests/random_words.sh [N [SEED]]        500 command lines, if not said; the same for
 # the same seed. KEYWRAP=PATH tries another program, as an installed one.
@@ -42,6 +43,8 @@ pick() {
 
 ### Files, good and bad
 
+mkdir files
+cd files || exit 1
 mkdir folder
 kek_files
 echo $d16 >key.hex
@@ -67,12 +70,21 @@ files=(kek16.hex kek24.hex kek32.hex kek5649.hex kek16.raw key.hex key.raw text.
     $'name\xff' ./kek16.hex kek16.hex/ '' . .. /dev/null /dev/zero /dev/full /dev/stdin /proc/self/mem)
 inputs=(key.hex key.raw text.hex text.raw text20.hex key7.hex wrong.hex digit.hex odd.hex empty long most
     largest.hex blank mark folder /dev/null /dev/zero)
+outputs=(file new 'a key' ./file folder/file folder/../file file.part0 key.hex text.hex kek16.hex link loop folder
+    missing/file empty - -x)
+echo old >file
+echo part >new.part0
+ln kek16.hex kek16.link
+cd ..
+# The lines are run in a copy of the files, `here`, and standard input is of the files themselves.
+cp -a files here
 
 ### Words
 
 commands=(wrap unwrap rewrap check drill vectors help)
 flags=(--kek --padded --raw --raw-kek --unwrap --help -h --version -V -- - --kek=kek16.hex --kek= --raw=1
-    --no-raw --ra --KEK -k -rh -hV --kek=$'\xff' --iv --secret --new-kek --new-padded --new-kek=kek32.hex --new)
+    --no-raw --ra --KEK -k -rh -hV --kek=$'\xff' --iv --secret --new-kek --new-padded --new-kek=kek32.hex --new
+    -i --input -o --output --input=key.hex --output=file --output= --input= -ikey.hex -ofile -io -o=file --out)
 values=("$iv" "${iv^^}" a65959a600000010 "$d16" "$drilled" "${drilled^^}" "$key7" "$text16" "$(zeros 9)" '' 0 0g 012
     00 ' 00 11 ' $'00\n11' é "$(zeros 4096)" "$(zeros 4097)" "$(zeros 32769)")
 garbage=(rewind WRAP wrap= '=wrap' 'wrap --kek' '*' "\$HOME" '%s%n' -1 --1 --- '--=x' $'\xff' $'--\xff'
@@ -151,6 +163,28 @@ likely_line() {
         draw 3
         [ "$drawn" != 0 ] || words+=("$flag")
     done
+    case ${words[0]} in
+    drill | vectors) ;;
+    *) likely_files ;;
+    esac
+}
+
+# likely_files: adds the files for input and output to some of the command lines.
+likely_files() {
+    draw 3
+    if [ "$drawn" = 0 ]; then
+        pick -i --input
+        words+=("$picked")
+        pick "${inputs[@]}"
+        words+=("$picked")
+    fi
+    draw 2
+    if [ "$drawn" = 0 ]; then
+        pick -o --output
+        words+=("$picked")
+        pick "${outputs[@]}"
+        words+=("$picked")
+    fi
 }
 
 ### Runs
@@ -164,7 +198,7 @@ declare -A refusal=(
     [6]="$file: (cannot be read|too long|odd number of hex digits|no hex digit at byte [0-9]+)"
     [7]="$memory"
 )
-refusal[6]="((new )?key file: cannot be opened|${refusal[6]})"
+refusal[6]="(((new )?key file|input|output): cannot be opened|${refusal[6]})"
 
 # is_refused: nothing but the one line of the status came.
 is_refused() {
@@ -177,40 +211,85 @@ is_refused() {
 is_answered() {
     [ ! -s err ] || return
     case ${words[0]} in
-    check) [ "$(<out)" = none ] ;;
+    check) [ "$(<"$answer")" = none ] ;;
     vectors) grep -q ' failed$' out ;;
     *) false ;;
     esac
 }
 
-# is_right: the run left what its status allows.
+# is_usage: what is wrong with the words, or for none the commands.
+is_usage() {
+    case $(head -n 1 err | tr -d '\0') in
+    'error: '*) ;;
+    'Wraps and unwraps keys '*) [ ${#words[@]} = 0 ] ;;
+    *) false ;;
+    esac
+}
+
+# is_right: the run left what its status allows. The answer is in the file $answer.
 is_right() {
     case $status in
-    0) [ -s out ] && [ ! -s err ] && [ "$(head -c 5 out | tr -d '\0')" != none ] ;;
-    2) [ ! -s out ] && [ "$(head -c 7 err)" = 'error: ' ] ;;
+    0) [ -s "$answer" ] && [ ! -s err ] && [ "$(head -c 5 "$answer" | tr -d '\0')" != none ] ;;
+    2) [ ! -s out ] && is_usage ;;
     5) is_refused || is_answered ;;
     [3467]) is_refused ;;
     *) false ;;
     esac
 }
 
-# run_line INPUT: runs the program on $words for at most a second.
+# listed: all that is in the folder `here`, a line each, which ends in its name.
+listed() {
+    find here -mindepth 1 \( -type d -printf 'd %i %m %p\0' -o -printf '%y %i %s %T@ %l %m %p\0' \) |
+        tr '\n\0' '?\n' | sort
+}
+
+# is_kept: the run changed nothing in its folder; or it answered, into one file for its owner alone, and wrote
+# nothing to standard output. Sets $answer to where the answer is.
+is_kept() {
+    local new
+    answer=out
+    listed >after
+    ! cmp -s before after || return 0
+    new=$(comm -13 before after)
+    answer=${new##* 600 }
+    [ -f "$answer" ] && [ ! -s out ] && [ "$(wc -l <<<"$new")" = 1 ] || return
+    case $status in 0) ;; 5) [ "${words[0]}" = check ] ;; *) false ;; esac || return
+    # Nothing went, but what had the name before.
+    [ "$(comm -23 before after | sed 's/.* here/here/')" = "$answer" ] || [ -z "$(comm -23 before after)" ]
+}
+
+# restored: the files as they were before the first run.
+restored() {
+    rm -rf here
+    cp -a files here
+    listed >before
+}
+
+# run_line INPUT: runs the program on $words for at most ten seconds.
 run_line() {
-    { timeout -s KILL 1 "$program" "${words[@]}" <"$1" >out 2>err; } 2>/dev/null
+    local input=$1
+    [ "${1:0:1}" = / ] || input=files/$1
+    { timeout -s KILL 10 env -C here "$program" "${words[@]}" <"$input" >out 2>err; } 2>/dev/null
     status=$?
 }
 
 echo "$lines random command lines of the seed $seed"
 declare -A ended_with=()
+listed >before
 for ((number = 1; number <= lines; number++)); do
     random_line
     pick "${inputs[@]}"
     run_line "$picked"
-    # A machine with much else to do can hold up a run by more than a second: once, and not twice.
-    [ $status != 137 ] || run_line "$picked"
+    # A machine with much else to do can hold up a run: once, and not twice.
+    if [ $status = 137 ]; then
+        restored
+        run_line "$picked"
+    fi
     ended_with[$status]=$((${ended_with[$status]:-0} + 1))
     problem=''
-    is_right || problem="status $status, output $(shown out), error $(shown err)"
+    is_kept || problem="files: $(diff before after | tr '\n' ' '); "
+    is_right || problem="${problem}status $status, output $(shown out), error $(shown err)"
+    cmp -s before after || restored
     verdict "line $number of the seed $seed: $(printf ' %.60q' "${words[@]}") <$picked" "$problem"
 done
 for status in "${!ended_with[@]}"; do
