@@ -419,8 +419,8 @@ echo "0f${text16#1f}" >'rotation/wrapped/2 damaged'
 echo $text16 >'rotation/wrapped/3'
 (umask 077; echo $text32 >rewrapped)
 
-# rotates NAME STATUS LINE FILE..: the lines end so, the old files stay as they are, and the new ones are
-# FILEs, each right and of its owner alone.
+# rotates NAME STATUS LINE FILE..: the lines end so, the old files stay as they are, and the new ones, but
+# for what a crash left, are FILEs, each right and of its owner alone.
 rotates() {
     local problem='' file new
     (cd rotation && cksum wrapped/* >../old.sums && sh rotate >../out 2>../err)
@@ -429,7 +429,7 @@ rotates() {
 }" | cmp -s - err || problem="$problem; error $(shown err)"
     [ ! -s out ] || problem="$problem; output $(shown out)"
     (cd rotation && cksum wrapped/*) | cmp -s - old.sums || problem="$problem; an old file is changed"
-    new=$(cd rotation/rewrapped && shopt -s nullglob && printf '%s|' *)
+    new=$(find rotation/rewrapped -type f ! -name '*.part0' -printf '%f\n' | sort | tr '\n' '|')
     [ "$new" = "$(printf '%s|' "${@:4}")" ] || problem="$problem; files $new"
     for file in "${@:4}"; do
         cmp -s "rotation/rewrapped/$file" rewrapped || problem="$problem; $file is wrong"
@@ -444,14 +444,15 @@ rotates 'the rotation stops at a damaged key' 5 "keywrap: $integrity" '1 a key'
 touch -d '2020-01-01' 'rotation/rewrapped/1 a key'
 echo $text16 >'rotation/wrapped/2 damaged'
 # As after a crash: half a text is there, in a file that is none of the new ones.
-echo ${text32:0:20} >'rotation/rewrapped/.2 damaged.part'
+echo ${text32:0:20} >'rotation/rewrapped/2 damaged.part0'
 rotates 'the rotation goes on, once the key is mended' 0 '' '1 a key' '2 damaged' 3
 problem=''
 [ "$(stat -c %Y 'rotation/rewrapped/1 a key')" = "$(date -d 2020-01-01 +%s)" ] || problem='it was written again'
 verdict 'the rotation leaves a new file as it is' "$problem"
 problem=''
-[ -z "$(find rotation/rewrapped -name '.*.part')" ] || problem='a part of a file is left'
-verdict 'the rotation leaves nothing else' "$problem"
+[ "$(find rotation/rewrapped -name '*.part*')" = 'rotation/rewrapped/2 damaged.part0' ] || problem='other parts are there'
+[ "$(cat rotation/rewrapped/*.part0)" = ${text32:0:20} ] || problem="$problem; it is changed"
+verdict 'the rotation leaves what a crash left, and no other part' "$problem"
 problem=''
 sed -n '/^## Rotating/,/^## From/s/^    //p' "$root/README.md" | grep '^for new in' >rotation/look
 (cd rotation && sh look >../out 2>../err)
