@@ -408,9 +408,8 @@ prints 'the twelve vectors' "$vector_lines\n" vectors
 
 mkdir rotation rotation/wrapped
 sed -n '/^## Rotating/,/^## From/s/^    //p' "$root/README.md" | sed -n '1,/^done)$/p' >rotation/rotate
-problem=''
-[ "$(wc -l <rotation/rotate)" = 5 ] || problem="$(wc -l <rotation/rotate) lines, not 5"
-verdict 'README rotates in five lines' "$problem"
+lines=$(wc -l <rotation/rotate)
+verdict 'README rotates in five lines or fewer' "$([ "$lines" -ge 1 ] && [ "$lines" -le 5 ] || echo "$lines lines")"
 ln -s "$keywrap" rotation/keywrap
 cp kek16.hex rotation/kek.hex
 cp kek32.hex rotation/new-kek.hex
@@ -443,15 +442,20 @@ mv new-kek.hex rotation/new-kek.hex
 rotates 'the rotation stops at a damaged key' 5 "keywrap: $integrity" '1 a key'
 touch -d '2020-01-01' 'rotation/rewrapped/1 a key'
 echo $text16 >'rotation/wrapped/2 damaged'
-# As after a crash: half a text is there, in a file that is none of the new ones.
-echo ${text32:0:20} >'rotation/rewrapped/.2 damaged.part'
 rotates 'the rotation goes on, once the key is mended' 0 '' '1 a key' '2 damaged' 3
 problem=''
 [ "$(stat -c %Y 'rotation/rewrapped/1 a key')" = "$(date -d 2020-01-01 +%s)" ] || problem='it was written again'
 verdict 'the rotation leaves a new file as it is' "$problem"
-problem=''
-[ -z "$(find rotation/rewrapped -name '.*.part')" ] || problem='a part of a file is left'
-verdict 'the rotation leaves nothing else' "$problem"
+verdict 'the rotation leaves nothing else' "$(find rotation/rewrapped -name '*.part*')"
+# As after a crash: half a text is there, beside the new files, where keywrap makes them or these lines do.
+rm 'rotation/rewrapped/2 damaged'
+left='.2 damaged.part'
+if grep -q -e --output rotation/rotate; then left='2 damaged.part0'; fi
+(umask 077; echo ${text32:0:20} >"rotation/rewrapped/$left")
+(cd rotation && sh rotate >../out 2>../err)
+problem=$(cmp 'rotation/rewrapped/2 damaged' rewrapped 2>&1)
+verdict 'the rotation goes on after a crash' "$problem$(cat out err)"
+rm -f "rotation/rewrapped/$left"
 problem=''
 sed -n '/^## Rotating/,/^## From/s/^    //p' "$root/README.md" | grep '^for new in' >rotation/look
 (cd rotation && sh look >../out 2>../err)
