@@ -99,6 +99,7 @@ is_answer() {
 fails_each() {
     local input call from problem='' answer=("$2" "$3" "$4")
     input=$(file_of "$5")
+    rm -f to/*
     for from in '' +; do
         for ((call = 1; ; call++)); do
             echo old >to/file
@@ -185,6 +186,7 @@ fi
 grows() {
     local input kilobytes problem=''
     input=$(file_of "$5")
+    rm -f to/*
     for ((kilobytes = start; kilobytes < start + 8192; kilobytes += 4)); do
         echo old >to/file
         limited "$kind" $kilobytes "${@:6}" <"$input" >out 2>err

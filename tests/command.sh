@@ -408,9 +408,8 @@ prints 'the twelve vectors' "$vector_lines\n" vectors
 
 mkdir rotation rotation/wrapped
 sed -n '/^## Rotating/,/^## From/s/^    //p' "$root/README.md" | sed -n '1,/^done)$/p' >rotation/rotate
-problem=''
-[ "$(wc -l <rotation/rotate)" = 5 ] || problem="$(wc -l <rotation/rotate) lines, not 5"
-verdict 'README rotates in five lines' "$problem"
+lines=$(wc -l <rotation/rotate)
+verdict 'README rotates in five lines or fewer' "$([ "$lines" -ge 1 ] && [ "$lines" -le 5 ] || echo "$lines lines")"
 ln -s "$keywrap" rotation/keywrap
 cp kek16.hex rotation/kek.hex
 cp kek32.hex rotation/new-kek.hex

@@ -47,6 +47,12 @@ state() {
     find to -mindepth 1 "$@" \( -printf '%P %y %m %i %l\n' -type f -exec cksum {} + -o -true \) 2>&1 | sort
 }
 
+# told NAME PROBLEM: counts a row, and prints the start of its problem on one line.
+told() {
+    local problem=${2//$'\n'/ }
+    verdict "$1" "${problem:0:600}"
+}
+
 # quiet STATUS LINE: what is wrong with a run that wrote `out` and `err`, and ended with $status: it ended
 # with STATUS and wrote nothing but LINE (nothing, where that is empty) to standard error.
 quiet() {
@@ -74,7 +80,7 @@ lands() {
     after=$(state ! -path "$4")
     problem=$(quiet "$2" '' && is_new "$4" "$3")
     [ "$before" = "$after" ] || problem="$problem beside it: $after, not $before"
-    verdict "$1" "${problem//$'\n'/ }"
+    told "$1" "$problem"
 }
 
 # keeps NAME STATUS LINE ARGUMENT..: the command is refused with this status and this line, writes nothing
@@ -86,7 +92,7 @@ keeps() {
     after=$(state)
     problem=$(quiet "$2" "$3")
     [ "$before" = "$after" ] || problem="$problem in the folder: $after, not $before"
-    verdict "$1" "${problem//$'\n'/ }"
+    told "$1" "$problem"
 }
 
 ### Each command
@@ -433,7 +439,7 @@ interrupted() {
     [ "$(state ! -name file.part0)" = "$before" ] || problem="$problem in the folder: $(state), not $before"
     [ ! -e to/file.part0 ] || [ "$(stat -c '%a %s' to/file.part0)" = '600 0' ] ||
         problem="$problem the new file is $(stat -c '%a %s' to/file.part0)"
-    verdict "$1 while it waits ${*:2}" "${problem//$'\n'/ }"
+    told "$1 while it waits ${*:2}" "$problem"
     lands "the run after $1 ${*:2}" 0 text.hex to/file wrap --kek kek16.hex -i key.hex -o to/file
 }
 for signal in KILL INT TERM HUP; do
@@ -450,7 +456,7 @@ goes_on() {
     problem=$(quiet "$2" "$3")
     kinds=$(find to -mindepth 1 -printf '%P %y\n' | sort | paste -sd ' ')
     [ "$kinds" = "$4" ] || problem="$problem in the folder: $kinds, not $4"
-    verdict "$1" "${problem//$'\n'/ }"
+    told "$1" "$problem"
 }
 flush_fault='keywrap: output: cannot be flushed'
 fresh old
