@@ -222,6 +222,7 @@ is_ended INT 130 'begins key_wrap: lib' key_files key_wrap
 is_ended QUIT 131 'begins key_wrap: lib' key_files key_wrap
 holds=keywrap_cli
 is_ended TERM 143 'begins keywrap_cli: run -- --version' keywrap_cli
+is_ended INT 130 'begins keywrap_cli: run -- --version' keywrap_cli
 unset holds
 
 ### On a terminal
@@ -281,24 +282,17 @@ verdict 'a line fits on a terminal' "$(grep -o 'keywrap: [0-9]* s[^'$'\033'']*' 
 rewritten
 told 'the first use on a terminal' 5 $'h i\n' "$starts"
 
-refused=keywrap_cli on_terminal '' 'not proved' j
+refused=block_pair on_terminal '' 'not proved' j
 rewritten
 bare
-wanted=$(refusal keywrap_cli)
-told 'what is not proved, on a terminal' 70 '' "$(grep -v '^logic=' <<<"${wanted%.}")
-"
+wanted=$(refusal block_pair)
+told 'what is not proved, on a terminal' 70 '' "${wanted%.}"
 
-export holds='key_wrap key_files keywrap_cli'
+export holds='key_wrap key_files'
 on_terminal '\003' 'key_wrap 3 of 82 functions, key_files' k
 rewritten
-told 'Ctrl-C beside key_files' 130 '' "$starts"
-verdict 'Ctrl-C ends both' "$(printf 'ended key_%s\n' files wrap | diff - <(grep '^ended' notes | sort))"
-holds=keywrap_cli
-on_terminal '\003' 'keywrap_cli 3 of 151' l
-rewritten
 told 'Ctrl-C' 130 '' "$starts"
-verdict 'Ctrl-C ends rt' "$(echo 'ended keywrap_cli' | diff - <(grep '^ended' notes))"
-verdict 'Ctrl-C leaves no program' "$([ ! -e "$built" ] || echo 'it is there')"
+verdict 'Ctrl-C ends what is at work' "$(printf 'ended key_%s\n' files wrap | diff - <(grep '^ended' notes | sort))"
 unset holds
 
 anew
