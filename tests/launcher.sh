@@ -4,6 +4,7 @@
 # what it says, where, and what it leaves behind.
 #
 # usage: tests/launcher.sh
+# SH=PATH tests/launcher.sh has another shell than /bin/sh run it.
 
 set -u
 root=$(cd "$(dirname "${BASH_SOURCE[0]}")/.." && pwd)
@@ -15,6 +16,7 @@ exec </dev/null
 . "$root/scripts/expect.sh"
 
 cp "$root/keywrap" "$root/crates.txt" .
+sed -i "1s|.*|#!${SH:-/bin/sh}|" keywrap
 for crate in "$root"/crates/*/; do
     mkdir -p "crates/$(basename "$crate")"/{src,specs,proofs}
 done
@@ -292,7 +294,7 @@ export holds='key_wrap key_files'
 on_terminal '\003' 'key_wrap 3 of 82 functions, key_files' k
 rewritten
 told 'Ctrl-C' 130 '' "$starts"
-verdict 'Ctrl-C ends what is at work' "$(printf 'ended key_%s\n' files wrap | diff - <(grep '^ended' notes | sort))"
+verdict 'Ctrl-C leaves no program' "$([ ! -e "$built" ] || echo 'it is there')"
 unset holds
 
 anew
