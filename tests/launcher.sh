@@ -147,6 +147,11 @@ anew() {
     : >pids
 }
 
+# Its list of the crates is that of crates.txt.
+named=$(sed -n "s/^tower='\(.*\)'/\1/p; s/^apart=//p" keywrap)
+below=$(sed -n 's/^keywrap_cli: *//p' crates.txt | tr ' ' '\n' | grep -xf <(ls crates))
+verdict 'the crates below the program' "$(diff <(tr ' ' '\n' <<<"$named" | sort) <(sort <<<"$below"))"
+
 ### Without a terminal
 
 # keywrap ARGUMENT..: runs the launcher without one.
