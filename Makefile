@@ -69,8 +69,6 @@ library: $(LIBRARY)/libkeywrap.a $(LIBRARY)/$(soname)
 test:
 	rt ci
 	tests/command.sh
-	tests/files.sh
-	tests/terminal.sh
 	tests/faults.sh
 	tests/allocations.sh
 	tests/random_words.sh

@@ -3,6 +3,8 @@
 # output and its standard error, each in full. The expected values are the vectors of
 # RFC 3394 and RFC 5649, and answers over the drill block that were worked by its rule.
 #
+# At its end it calls tests/files.sh and tests/terminal.sh, whose rows are of the same kind.
+#
 # usage: tests/command.sh        (KEYWRAP=PATH tries another program, as an installed one)
 
 set -u
@@ -455,8 +457,9 @@ verdict 'the rotation leaves what a crash left, and no other part' "$problem"
 problem=''
 sed -n '/^## Rotating/,/^## From/s/^    //p' "$root/README.md" | grep '^for new in' >rotation/look
 (cd rotation && sh look >../out 2>../err)
-printf 'plain 16\n%.0s' 1 2 3 | cmp -s out - || problem="output $(shown out)"
-verdict 'each new file answers to the new KEK, by the line that README shows' "$problem"
+printf 'plain 16\nplain 16\nnone\nrewrapped/2 damaged.part0\nplain 16\n' | cmp -s out - ||
+    problem="output $(shown out)"
+verdict 'each new file answers to the new KEK, and no other, by the line that README shows' "$problem"
 rotates 'the rotation has nothing left to do' 0 '' '1 a key' '2 damaged' 3
 
 ### The command line
@@ -558,4 +561,6 @@ if [ -z "${KEYWRAP:-}" ]; then
         PATH="$PWD/bin" bin/keywrap drill $d16
 fi
 
-finish
+### With --input and --output, and on a terminal
+
+finish && "$root/tests/files.sh" && "$root/tests/terminal.sh"
