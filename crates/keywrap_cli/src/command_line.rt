@@ -190,7 +190,9 @@ fn rewrap_command<'a>(alloc: Global) -> Result<Command<'a>, AllocError> {
         .arg(flag(alloc, "padded").help("The wrapped key has the padded form of RFC 5649"))?
         .arg(flag(alloc, "new-padded").help("The new one gets the padded form of RFC 5649"))?
         .arg(raw(alloc))?
-        .arg(flag(alloc, "raw-kek").help("Both KEK files are raw bytes, not hex"))
+        .arg(flag(alloc, "raw-kek").help(
+            "Both KEK files are raw bytes, not hex; every byte counts",
+        ))
 }
 
 fn check_command<'a>(alloc: Global) -> Result<Command<'a>, AllocError> {
@@ -200,7 +202,7 @@ fn check_command<'a>(alloc: Global) -> Result<Command<'a>, AllocError> {
         .after_long_help(CHECK_EXAMPLE)
         .arg(kek(alloc))?;
     with_files(alloc, command)?
-        .arg(flag(alloc, "raw").help("The wrapped key is raw bytes, not hex"))?
+        .arg(flag(alloc, "raw").help("The wrapped key is raw bytes, not hex; every byte counts"))?
         .arg(raw_kek(alloc))
 }
 
@@ -225,9 +227,11 @@ fn drill_command<'a>(alloc: Global) -> Result<Command<'a>, AllocError> {
 
 fn vectors_command<'a>(alloc: Global) -> Result<Command<'a>, AllocError> {
     let command = named(alloc, "vectors")?;
-    Ok(command
-        .about("Answers the vectors of RFC 3394, RFC 5649 and FIPS 197, each ok or failed")
-        .after_long_help(VECTORS_EXAMPLE))
+    Ok(
+        command
+            .about("Answers the vectors of RFC 3394, RFC 5649 and FIPS 197, each ok or failed")
+            .after_long_help(VECTORS_EXAMPLE),
+    )
 }
 
 fn kek<'a>(alloc: Global) -> Arg<'a> {
@@ -264,7 +268,7 @@ fn output<'a>(alloc: Global) -> Arg<'a> {
 }
 
 fn padded<'a>(alloc: Global) -> Arg<'a> {
-    flag(alloc, "padded").help("The padded form of RFC 5649, for keys of any length")
+    flag(alloc, "padded").help("The padded form of RFC 5649 (KWP), for keys of any length")
 }
 
 // The padded form has an initial value of its own.
@@ -272,16 +276,16 @@ fn iv<'a>(alloc: Global) -> Result<Arg<'a>, AllocError> {
     Arg::new(alloc, "iv")
         .long("iv")
         .value_name("HEX")
-        .help("An initial value that both ends agreed on, 16 hex digits; else the default is right")
+        .help("16 hex digits that both ends agreed on as initial value, if they did")
         .conflicts_with("padded")
 }
 
 fn raw<'a>(alloc: Global) -> Arg<'a> {
-    flag(alloc, "raw").help("Input and output are raw bytes, not hex")
+    flag(alloc, "raw").help("Input and output are raw bytes, not hex; every byte counts")
 }
 
 fn raw_kek<'a>(alloc: Global) -> Arg<'a> {
-    flag(alloc, "raw-kek").help("The KEK file is raw bytes, not hex")
+    flag(alloc, "raw-kek").help("The KEK file is raw bytes, not hex; every byte counts")
 }
 
 fn flag<'a>(alloc: Global, name: &'static str) -> Arg<'a> {

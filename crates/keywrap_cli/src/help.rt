@@ -16,33 +16,34 @@ pub const CHECK_USAGE: &str = "keywrap check [OPTIONS] --kek <FILE> < WRAPPED";
 
 /// What `--output` does.
 pub const OUTPUT_HELP: &str = "\
-Writes FILE, not standard output. FILE is replaced only by the whole answer: after a
-refusal it is as it was";
+Writes FILE, not standard output. FILE is replaced only by the whole answer, and stays as
+it is after a refusal. It may be the file of --input, but no KEK file, folder, device or link";
 
 /// What hex may hold, what each exit status says, and what to try.
 pub const NOTES: &str = "\
-Hex has its digits in pairs, of either case; spaces, tabs and line ends may stand anywhere. It has
-no 0x, no colons and no base64: decode that with base64 -d, and use --raw. With --raw and --raw-kek
-every byte counts, a newline at the end too.
+Hex: two digits a byte, of either case; spaces, tabs and line ends may stand anywhere. No 0x, no
+colons, no base64: decode that with base64 -d, and use --raw. With --raw and --raw-kek every byte
+counts, a newline at the end too.
 
 Exit status:
   0  done
   2  the command line was refused
   3  a KEK has not 16, 24 or 32 bytes
-     In hex it has 32, 48 or 64 digits. A raw KEK file wants --raw-kek.
+     In hex that is 32, 48 or 64 digits. A KEK file of raw bytes wants --raw-kek.
   4  the key or the wrapped key has no legal length in this form
-     In the plain form a key has 16 bytes or more, a multiple of 8, and its wrapped key 8 more.
-     A key of another length wants --padded; raw bytes want --raw.
+     A plain key has 16 bytes or more, a multiple of 8, and its wrapped key has 8 more. A key of
+     another length wants --padded.
   5  the integrity check failed; check found no wrapping; a vector failed
-     It was wrapped under another KEK, in the other form or with an --iv, or it is damaged.
-     keywrap check says which form fits the KEK.
+     It has another KEK, the other form or an --iv, or it is damaged. keywrap check says which
+     form fits the KEK.
   6  a file or the output could not be opened, read or written
-     The line names it. A bad digit's byte counts from 0, from the start of the file.
+     The line names it, and the first byte that is no hex digit, counted from 0 at the start of
+     the file. Raw bytes want --raw.
   7  out of memory
      The files may be right: try again with more memory.
 
-A refusal is one line on standard error, and of the command line a message with the usage (of
-what --iv says and of raw bytes on a terminal, one line).
+A refusal is one line on standard error; a refused command line is a message with the usage, and
+one line where the value of --iv or raw bytes to a terminal are the cause.
 wrap, unwrap, rewrap, check and drill write nothing before their whole answer is right; vectors
 writes its lines, those that say failed too, once all are made.
 Status 5 without a line comes from check, which wrote none, and from vectors, whose lines say

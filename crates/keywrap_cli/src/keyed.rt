@@ -16,7 +16,10 @@ use std::rt::Files;
 #[derive(Drop)]
 pub enum Keyed<K> {
     /// A job.
-    Job { task: Task, kek: K },
+    Job {
+        task: Task,
+        kek: K,
+    },
     /// A plain wrapping or unwrapping under an initial value.
     JobWith {
         iv: InitialValue,

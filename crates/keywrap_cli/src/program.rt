@@ -19,8 +19,8 @@ use clap::error::ErrorKind;
 use key_files::{write_hex, write_raw};
 use key_wrap::Form;
 use std::alloc::{AllocError, Global};
-use std::io::{self, Write};
 use std::env;
+use std::io::{self, Write};
 use std::rt::{Env, Files};
 
 /// Runs the program on the words that it was started with, and answers its exit status.
