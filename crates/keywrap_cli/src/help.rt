@@ -17,7 +17,7 @@ pub const CHECK_USAGE: &str = "keywrap check [OPTIONS] --kek <FILE> < WRAPPED";
 /// What `--output` does.
 pub const OUTPUT_HELP: &str = "\
 Writes FILE, not standard output. FILE is replaced only by the whole answer, and stays as
-it is after a refusal. It may be the file of --input, but no KEK file, folder, device or link";
+it is after a refusal. It may be the file of --input; no KEK file, folder, device or link";
 
 /// What hex may hold, what each exit status says, and what to try.
 pub const NOTES: &str = "\

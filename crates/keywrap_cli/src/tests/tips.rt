@@ -35,7 +35,7 @@ static TIPS: [(&str, &str); 19] = [
     ("drill --kek kek.hex 00", DRILL),
     ("drill 00 11", DRILL),
     (
-        "rapp",
+        "wrapp",
         "some similar subcommands exist: 'rewrap', 'unwrap', 'wrap'",
     ),
     ("wrap --key kek.hex", "a similar argument exists: '--kek'"),
