@@ -6,7 +6,7 @@ use crate::help::{
     UNWRAP_EXAMPLE, UNWRAP_USAGE, VECTORS_EXAMPLE, WRAP_EXAMPLE, WRAP_USAGE,
 };
 use crate::job::{Job, Notation, Task, job_of};
-use crate::request::{Places, Request, Work};
+use crate::request::{Conversion, Places, Request, Rewrapping, Work};
 use clap::error::ErrorKind;
 use clap::{Arg, ArgAction, ArgMatches, Command, Error};
 use key_wrap::Form;
@@ -41,13 +41,12 @@ fn not_a_request(alloc: Global) -> Result<Error, AllocError> {
 fn conversion<'a>(direction: Direction, found: &ArgMatches<'a>) -> Request<'a> {
     match found.get_str("iv") {
         Some(iv) => {
-            let work = Work::JobWith {
-                iv,
+            let task = Conversion {
                 direction,
-                input_notation: notation(found, "raw"),
-                kek_notation: notation(found, "raw-kek"),
+                input: notation(found, "raw"),
+                kek: notation(found, "raw-kek"),
             };
-            Request::Work(work, places(found))
+            Request::Work(Work::Convert { iv, task }, places(found))
         }
         None => job(job_of(direction), found),
     }
@@ -64,14 +63,14 @@ fn job<'a>(job: Job, found: &ArgMatches<'a>) -> Request<'a> {
 }
 
 fn rewrap<'a>(found: &ArgMatches<'a>) -> Request<'a> {
-    let work = Work::Rewrap {
+    let task = Rewrapping {
         old_form: form_of(found, "padded"),
         new_form: form_of(found, "new-padded"),
-        input_notation: notation(found, "raw"),
-        kek_notation: notation(found, "raw-kek"),
-        new_kek: text_of(found, "new-kek"),
+        input: notation(found, "raw"),
+        kek: notation(found, "raw-kek"),
     };
-    Request::Work(work, places(found))
+    let new_kek = text_of(found, "new-kek");
+    Request::Work(Work::Rewrap { task, new_kek }, places(found))
 }
 
 fn places<'a>(found: &ArgMatches<'a>) -> Places<'a> {

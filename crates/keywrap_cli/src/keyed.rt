@@ -1,11 +1,10 @@
 //! What is done with an input, once the KEK files are open.
 
-use crate::convert::Direction;
 use crate::fault::ProgramFault;
-use crate::job::{Done, JobFault, Notation, Task, run_job, run_with};
-use crate::request::Work;
+use crate::job::{Done, JobFault, Task, run_job, run_with};
+use crate::request::{Conversion, Rewrapping, Work};
 use crate::rewrap::run_rewrap;
-use key_wrap::{Form, InitialValue};
+use key_wrap::InitialValue;
 use std::alloc::Global;
 use std::fs::{self, Metadata, OpenFile};
 use std::io::{self, Read, Write};
@@ -20,20 +19,15 @@ pub enum Keyed<K> {
         task: Task,
         kek: K,
     },
-    /// A plain wrapping or unwrapping under an initial value.
-    JobWith {
+    /// A conversion under an initial value.
+    Convert {
         iv: InitialValue,
-        direction: Direction,
-        input_notation: Notation,
-        kek_notation: Notation,
+        task: Conversion,
         kek: K,
     },
     /// A rewrapping.
     Rewrap {
-        old_form: Form,
-        new_form: Form,
-        input_notation: Notation,
-        kek_notation: Notation,
+        task: Rewrapping,
         kek: K,
         new_kek: K,
     },
@@ -50,34 +44,10 @@ pub fn open_keks<R: Files>(
     let kek = fs::open(rt, kek).map_err(|_| ProgramFault::KekOpen)?;
     match work {
         Work::Job(task) => Ok(Keyed::Job { task, kek }),
-        Work::JobWith {
-            iv: _,
-            direction,
-            input_notation,
-            kek_notation,
-        } => Ok(Keyed::JobWith {
-            iv,
-            direction,
-            input_notation,
-            kek_notation,
-            kek,
-        }),
-        Work::Rewrap {
-            old_form,
-            new_form,
-            input_notation,
-            kek_notation,
-            new_kek,
-        } => {
+        Work::Convert { task, .. } => Ok(Keyed::Convert { iv, task, kek }),
+        Work::Rewrap { task, new_kek } => {
             let new_kek = fs::open(rt, new_kek).map_err(|_| ProgramFault::NewKekOpen)?;
-            Ok(Keyed::Rewrap {
-                old_form,
-                new_form,
-                input_notation,
-                kek_notation,
-                kek,
-                new_kek,
-            })
+            Ok(Keyed::Rewrap { task, kek, new_kek })
         }
     }
 }
@@ -92,35 +62,16 @@ impl<K: Read> Keyed<K> {
     ) -> Result<Done, JobFault> {
         match self {
             Keyed::Job { task, kek } => run_job(alloc, *task, kek, input, out),
-            Keyed::JobWith {
-                iv,
-                direction,
-                input_notation,
-                kek_notation,
-                kek,
-            } => run_with(
+            Keyed::Convert { iv, task, kek } => {
+                let direction = task.direction;
+                run_with(alloc, iv, direction, task.input, task.kek, kek, input, out)
+            }
+            Keyed::Rewrap { task, kek, new_kek } => run_rewrap(
                 alloc,
-                iv,
-                *direction,
-                *input_notation,
-                *kek_notation,
-                kek,
-                input,
-                out,
-            ),
-            Keyed::Rewrap {
-                old_form,
-                new_form,
-                input_notation,
-                kek_notation,
-                kek,
-                new_kek,
-            } => run_rewrap(
-                alloc,
-                *old_form,
-                *new_form,
-                *input_notation,
-                *kek_notation,
+                task.old_form,
+                task.new_form,
+                task.input,
+                task.kek,
                 kek,
                 new_kek,
                 input,
@@ -134,7 +85,7 @@ impl<K: OpenFile> Keyed<K> {
     /// Whether a file is one of the KEK files, under whatever name.
     pub fn is_kek(&self, file: &Metadata) -> io::Result<bool> {
         match self {
-            Keyed::Job { kek, .. } | Keyed::JobWith { kek, .. } => is_same(kek, file),
+            Keyed::Job { kek, .. } | Keyed::Convert { kek, .. } => is_same(kek, file),
             Keyed::Rewrap { kek, new_kek, .. } => {
                 Ok(is_same(kek, file)? || is_same(new_kek, file)?)
             }

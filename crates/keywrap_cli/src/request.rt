@@ -26,21 +26,34 @@ pub enum Request<'a> {
 pub enum Work<'a> {
     /// A job.
     Job(Task),
-    /// A plain wrapping or unwrapping under the initial value of a hex text.
-    JobWith {
-        iv: &'a str,
-        direction: Direction,
-        input_notation: Notation,
-        kek_notation: Notation,
-    },
+    /// A conversion under the initial value of a hex text.
+    Convert { iv: &'a str, task: Conversion },
     /// A rewrapping, to the KEK in another file.
-    Rewrap {
-        old_form: Form,
-        new_form: Form,
-        input_notation: Notation,
-        kek_notation: Notation,
-        new_kek: &'a str,
-    },
+    Rewrap { task: Rewrapping, new_kek: &'a str },
+}
+
+/// A plain wrapping or unwrapping under an initial value, with the notations of its files.
+#[derive(Clone, Copy)]
+pub struct Conversion {
+    /// Which way it goes.
+    pub direction: Direction,
+    /// The notation of the input and of the output.
+    pub input: Notation,
+    /// The notation of the KEK file.
+    pub kek: Notation,
+}
+
+/// A rewrapping, with the forms of both texts and the notations of its files.
+#[derive(Clone, Copy)]
+pub struct Rewrapping {
+    /// The form of the text.
+    pub old_form: Form,
+    /// The form of the new text.
+    pub new_form: Form,
+    /// The notation of the input and of the output.
+    pub input: Notation,
+    /// The notation of both KEK files.
+    pub kek: Notation,
 }
 
 /// The files of a job.
@@ -58,24 +71,20 @@ impl Work<'_> {
     /// The initial value of the text of `--iv`; the default where there is none.
     pub fn initial_value(&self) -> Result<InitialValue, ProgramFault> {
         match self {
-            Work::JobWith { iv, .. } => parse_iv(iv).map_err(ProgramFault::Iv),
+            Work::Convert { iv, .. } => parse_iv(iv).map_err(ProgramFault::Iv),
             Work::Job(_) | Work::Rewrap { .. } => Ok(InitialValue::default()),
         }
     }
 
     /// Whether the answer is raw bytes. A check answers with a line.
     pub fn writes_raw(&self) -> bool {
-        match self {
-            Work::Job(task) => task.job != Job::Check && task.input == Notation::Raw,
-            Work::JobWith { input_notation, .. } | Work::Rewrap { input_notation, .. } => {
-                *input_notation == Notation::Raw
-            }
-        }
+        !matches!(self, Work::Job(task) if task.job == Job::Check)
+            && self.notation() == Notation::Raw
     }
 
     /// What is said while standard input, a terminal, is waited for.
     pub fn waiting(&self) -> &'static str {
-        match (self.takes_key(), self.input_notation()) {
+        match (self.takes_key(), self.notation()) {
             (true, Notation::Hex) => WAITING_FOR_KEY,
             (true, Notation::Raw) => WAITING_FOR_RAW_KEY,
             (false, Notation::Hex) => WAITING_FOR_WRAPPED_KEY,
@@ -87,17 +96,17 @@ impl Work<'_> {
     fn takes_key(&self) -> bool {
         match self {
             Work::Job(task) => task.job == Job::Wrap,
-            Work::JobWith { direction, .. } => *direction == Direction::Wrap,
+            Work::Convert { task, .. } => task.direction == Direction::Wrap,
             Work::Rewrap { .. } => false,
         }
     }
 
-    fn input_notation(&self) -> Notation {
+    // The notation of the input.
+    fn notation(&self) -> Notation {
         match self {
             Work::Job(task) => task.input,
-            Work::JobWith { input_notation, .. } | Work::Rewrap { input_notation, .. } => {
-                *input_notation
-            }
+            Work::Convert { task, .. } => task.input,
+            Work::Rewrap { task, .. } => task.input,
         }
     }
 }

@@ -3,7 +3,7 @@
 use crate::command_line::parse;
 use crate::convert::Direction;
 use crate::job::{Job, Notation};
-use crate::request::{Places, Request, Work};
+use crate::request::{Conversion, Places, Request, Work};
 use key_wrap::Form;
 use std::alloc::{AllocError, Global};
 use std::process::Abort;

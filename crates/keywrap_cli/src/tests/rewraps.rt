@@ -5,7 +5,7 @@ use super::doubles::{Narrow, Trickle};
 use super::jobs::{HEX_KEK, HEX_TEXT, RAW_KEK, RAW_TEXT};
 use crate::command_line::parse;
 use crate::job::{Done, JobFault, Notation};
-use crate::request::{Places, Request, Work};
+use crate::request::{Places, Request, Rewrapping, Work};
 use crate::rewrap::run_rewrap;
 use key_files::FileFault;
 use key_wrap::Form;
@@ -354,10 +354,12 @@ fn reads_the_words_of_a_rewrapping(rt: HostRuntime) -> Result<(), Fail> {
             parse(rt.alloc(), words.as_slice()),
             Ok(Request::Work(
                 Work::Rewrap {
-                    old_form: Form::Plain,
-                    new_form: Form::Padded,
-                    input_notation: Notation::Hex,
-                    kek_notation: Notation::Raw,
+                    task: Rewrapping {
+                        old_form: Form::Plain,
+                        new_form: Form::Padded,
+                        input: Notation::Hex,
+                        kek: Notation::Raw,
+                    },
                     new_kek: "new.hex",
                 },
                 Places {
