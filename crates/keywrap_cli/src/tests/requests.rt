@@ -148,11 +148,13 @@ fn keeps_the_job_beside_the_files(rt: HostRuntime) -> Result<(), Fail> {
     assert!(rt;
         matches!(
             work,
-            Work::JobWith {
+            Work::Convert {
                 iv: "0",
-                direction: Direction::Unwrap,
-                input_notation: Notation::Hex,
-                kek_notation: Notation::Raw,
+                task: Conversion {
+                    direction: Direction::Unwrap,
+                    input: Notation::Hex,
+                    kek: Notation::Raw,
+                },
             }
         )
     );
