@@ -22,6 +22,15 @@ pub enum ProgramFault {
     /// The file of the new KEK can't be opened.
     #[error("new key file: cannot be opened")]
     NewKekOpen,
+    /// The file of the input can't be opened.
+    #[error("input: cannot be opened")]
+    InputOpen,
+    /// The file of the output can't be made, or may not be replaced.
+    #[error("output: cannot be opened")]
+    OutputOpen,
+    /// Raw bytes would go to a terminal.
+    #[error("output: raw bytes do not go to a terminal; redirect it or use --output")]
+    RawToTerminal,
     /// A job was refused.
     #[error("{0}")]
     Job(JobFault),
@@ -31,7 +40,7 @@ pub enum ProgramFault {
     /// The help, the vectors or the drill's answer could not be written.
     #[error("output: refused after {written} bytes")]
     Write { written: usize },
-    /// Standard output can't be flushed.
+    /// Standard output can't be flushed, or the new file not be put in its place.
     #[error("output: cannot be flushed")]
     Flush,
     /// A growth was refused.
@@ -59,9 +68,11 @@ impl ProgramFault {
     /// The exit status that says the fault.
     pub fn status(&self) -> u8 {
         match self {
-            ProgramFault::Iv(_) => statuses::REFUSED_WORDS,
+            ProgramFault::Iv(_) | ProgramFault::RawToTerminal => statuses::REFUSED_WORDS,
             ProgramFault::KekOpen
             | ProgramFault::NewKekOpen
+            | ProgramFault::InputOpen
+            | ProgramFault::OutputOpen
             | ProgramFault::Write { .. }
             | ProgramFault::Flush => statuses::INPUT_OUTPUT,
             ProgramFault::Job(fault) => job_status(fault),

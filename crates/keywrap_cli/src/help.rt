@@ -1,19 +1,51 @@
-//! The longer texts of the help: a worked example a subcommand, and the exit statuses.
+//! The longer texts of the help: the usage lines, a worked example a subcommand, what hex may hold,
+//! and the exit statuses.
 
-/// What each exit status says.
-pub const STATUSES: &str = "\
+/// The usage of `wrap`.
+pub const WRAP_USAGE: &str = "keywrap wrap [OPTIONS] --kek <FILE> < KEY > WRAPPED";
+
+/// The usage of `unwrap`.
+pub const UNWRAP_USAGE: &str = "keywrap unwrap [OPTIONS] --kek <FILE> < WRAPPED > KEY";
+
+/// The usage of `rewrap`.
+pub const REWRAP_USAGE: &str =
+    "keywrap rewrap [OPTIONS] --kek <FILE> --new-kek <FILE> < WRAPPED > REWRAPPED";
+
+/// The usage of `check`.
+pub const CHECK_USAGE: &str = "keywrap check [OPTIONS] --kek <FILE> < WRAPPED";
+
+/// What `--output` does.
+pub const OUTPUT_HELP: &str = "\
+Writes FILE, not standard output. FILE is replaced only by the whole answer, and stays as
+it is after a refusal. It may be the file of --input; no KEK file, folder, device or link";
+
+/// What hex may hold, what each exit status says, and what to try.
+pub const NOTES: &str = "\
+Hex: two digits a byte, of either case; spaces, tabs and line ends may stand anywhere. No 0x, no
+colons, no base64: decode that with base64 -d, and use --raw. With --raw and --raw-kek every byte
+counts, a newline at the end too.
+
 Exit status:
   0  done
   2  the command line was refused
   3  a KEK has not 16, 24 or 32 bytes
-  4  the key or the text has no legal length in this form
+     In hex that is 32, 48 or 64 digits. A KEK file of raw bytes wants --raw-kek.
+  4  the key or the wrapped key has no legal length in this form
+     A plain key has 16 bytes or more, a multiple of 8, and its wrapped key has 8 more. A key of
+     another length wants --padded.
   5  the integrity check failed; check found no wrapping; a vector failed
+     It has another KEK, the other form or an --iv, or it is damaged. keywrap check says which
+     form fits the KEK.
   6  a file or the output could not be opened, read or written
+     The line names it, and the first byte that is no hex digit, counted from 0 at the start of
+     the file. Raw bytes want --raw.
   7  out of memory
-A refusal is one line on standard error, and of the command line a message with the usage (of
-what --iv says, one line).
-wrap, unwrap, rewrap, check and drill write nothing on standard output before their whole
-answer is right; vectors writes its lines, those that say failed too, once all are made.
+     The files may be right: try again with more memory.
+
+A refusal is one line on standard error; a refused command line is a message with the usage, and
+one line where the value of --iv or raw bytes to a terminal are the cause.
+wrap, unwrap, rewrap, check and drill write nothing before their whole answer is right; vectors
+writes its lines, those that say failed too, once all are made.
 Status 5 without a line comes from check, which wrote none, and from vectors, whose lines say
 which one failed.";
 
@@ -23,7 +55,10 @@ Example, with the first vector of RFC 3394:
   $ echo 000102030405060708090a0b0c0d0e0f > kek.hex
   $ echo 00112233445566778899aabbccddeeff | keywrap wrap --kek kek.hex
   1fa68b0a8112b447aef34bd8fb5a7b829d3e862371d2cfe5
+From file to file:
+  $ keywrap wrap --kek kek.hex --input key.hex --output wrapped.hex
 
+What hex may hold, and what each exit status says: keywrap --help.
 A plain key has 16 to 1048576 bytes, a multiple of 8. With --padded it has 1 to 1048576.
 A file has at most 4194304 bytes.";
 
@@ -33,20 +68,25 @@ Example, with the first vector of RFC 3394:
   $ echo 000102030405060708090a0b0c0d0e0f > kek.hex
   $ echo 1fa68b0a8112b447aef34bd8fb5a7b829d3e862371d2cfe5 | keywrap unwrap --kek kek.hex
   00112233445566778899aabbccddeeff
+From file to file:
+  $ keywrap unwrap --kek kek.hex --input wrapped.hex --output key.hex
 
-A text that is no wrapping under this KEK is refused with status 5, and no byte is written.";
+What hex may hold, and what each exit status says: keywrap --help.
+What is no wrapping under this KEK and in this form is refused with status 5, and no byte is
+written. keywrap check says which form fits the KEK.";
 
 /// An example of `rewrap`.
 pub const REWRAP_EXAMPLE: &str = "\
 Example, with the first and the third vector of RFC 3394:
   $ echo 000102030405060708090a0b0c0d0e0f > kek.hex
   $ echo 000102030405060708090a0b0c0d0e0f101112131415161718191a1b1c1d1e1f > new.hex
-  $ echo 1fa68b0a8112b447aef34bd8fb5a7b829d3e862371d2cfe5 > text.hex
-  $ keywrap rewrap --kek kek.hex --new-kek new.hex < text.hex
+  $ echo 1fa68b0a8112b447aef34bd8fb5a7b829d3e862371d2cfe5 > wrapped.hex
+  $ keywrap rewrap --kek kek.hex --new-kek new.hex < wrapped.hex
   64e8c3f9ce0f5ba263e9777905818a2a93c8191e7d6e8ae7
 
-The new text is as long as the old one. The key itself is not written. From --padded to the
-plain form only a key of 16 bytes or more, a multiple of 8, can go; another is status 4.";
+What hex may hold, and what each exit status says: keywrap --help.
+The new wrapped key is as long as the old one. The key itself is not written. From --padded to
+the plain form only a key of 16 bytes or more, a multiple of 8, can go; another is status 4.";
 
 /// An example of `check`.
 pub const CHECK_EXAMPLE: &str = "\
@@ -55,7 +95,9 @@ Example, with the first vector of RFC 3394:
   $ echo 1fa68b0a8112b447aef34bd8fb5a7b829d3e862371d2cfe5 | keywrap check --kek kek.hex
   plain 16
 
-The line is `plain N` or `padded N`, with the length of the key in bytes, or `none` (status 5).";
+The line is `plain N` or `padded N`, with the length of the key in bytes, or `none` (status 5):
+it was wrapped under another KEK or with an --iv, or it is damaged.
+What hex may hold, and what each exit status says: keywrap --help.";
 
 /// An example of `drill`.
 pub const DRILL_EXAMPLE: &str = "\

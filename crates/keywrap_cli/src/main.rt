@@ -10,18 +10,29 @@ mod help;
 mod initial_value;
 mod job;
 mod kek_file;
+mod keyed;
 mod output;
+mod output_file;
 mod program;
+mod request;
 mod rewrap;
 mod statuses;
 #[cfg(test)]
 mod tests;
+mod tips;
 mod vector_check;
 mod vector_table;
 mod vectors;
+mod work;
 
+use std::io::IsTerminal;
 use std::process::ExitCode;
+use work::Terminals;
 
 fn main(rt: HostRuntime) -> ExitCode {
-    ExitCode::from(program::run(&rt))
+    let terminals = Terminals {
+        input: rt.stdin().is_terminal(),
+        output: rt.stdout().is_terminal(),
+    };
+    ExitCode::from(program::run(&rt, terminals))
 }

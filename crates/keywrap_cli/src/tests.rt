@@ -9,6 +9,8 @@ mod hostile;
 mod initial_values;
 mod jobs;
 mod limits;
+mod requests;
 mod rewraps;
 mod standards;
+mod tips;
 mod vectors;

@@ -7,7 +7,7 @@ use crate::job::JobFault;
 use key_files::FileFault;
 use std::test::Fail;
 
-static FAULTS: [(ProgramFault, &str, u8); 28] = [
+static FAULTS: [(ProgramFault, &str, u8); 31] = [
     (
         ProgramFault::Job(JobFault::KekLength),
         "keywrap: key length is not 16, 24 or 32 bytes",
@@ -131,6 +131,21 @@ static FAULTS: [(ProgramFault, &str, u8); 28] = [
     (
         ProgramFault::NewKekOpen,
         "keywrap: new key file: cannot be opened",
+        6,
+    ),
+    (
+        ProgramFault::RawToTerminal,
+        "keywrap: output: raw bytes do not go to a terminal; redirect it or use --output",
+        2,
+    ),
+    (
+        ProgramFault::InputOpen,
+        "keywrap: input: cannot be opened",
+        6,
+    ),
+    (
+        ProgramFault::OutputOpen,
+        "keywrap: output: cannot be opened",
         6,
     ),
     (

@@ -1,9 +1,10 @@
-//! The help: its counted write, and its numbers against the constants that they stand for.
+//! The help: its counted write, its numbers against the constants that they stand for, and its
+//! usage lines.
 
 use super::doubles::Narrow;
 use crate::command_line::parse;
 use crate::fault::ProgramFault;
-use crate::help::{STATUSES, WRAP_EXAMPLE};
+use crate::help::{CHECK_USAGE, NOTES, REWRAP_USAGE, UNWRAP_USAGE, WRAP_EXAMPLE, WRAP_USAGE};
 use crate::program::write_help;
 use crate::statuses;
 use clap::Error;
@@ -18,7 +19,7 @@ static LINES: [(u8, &str); 7] = [
     (statuses::KEK_LENGTH, "a KEK has not 16, 24 or 32 bytes"),
     (
         statuses::BAD_LENGTH,
-        "the key or the text has no legal length in this form",
+        "the key or the wrapped key has no legal length in this form",
     ),
     (
         statuses::FAILED,
@@ -31,14 +32,20 @@ static LINES: [(u8, &str); 7] = [
     (statuses::MEMORY, "out of memory"),
 ];
 
+// A line of a status begins with it; the lines on what to try stand below, further in.
 #[test]
 fn says_each_status(rt: HostRuntime) -> Result<(), Fail> {
-    let mut lines = STATUSES.lines();
-    assert_eq!(rt; lines.next(), Some("Exit status:"));
-    for (status, meaning) in &LINES {
-        let line = format!(in rt.alloc(); "  {status}  {meaning}")?;
-        assert_eq!(rt; lines.next(), Some(line.as_str()));
+    let (_, statuses) = NOTES.split_once("\nExit status:\n").ok_or("no statuses")?;
+    let mut wanted = LINES.iter();
+    for line in statuses.lines().take_while(|line| !line.is_empty()) {
+        if line.starts_with("     ") {
+            continue;
+        }
+        let (status, meaning) = wanted.next().ok_or("one more line")?;
+        let expected = format!(in rt.alloc(); "  {status}  {meaning}")?;
+        assert_eq!(rt; line, expected.as_str());
     }
+    assert!(rt; wanted.next().is_none());
     Ok(())
 }
 
@@ -52,17 +59,53 @@ fn says_the_limits(rt: HostRuntime) -> Result<(), Fail> {
     Ok(())
 }
 
-fn asked_help(alloc: Global) -> Result<Error, Fail> {
-    let mut words = Vec::new(alloc);
-    for word in ["keywrap", "--help"] {
-        words.push(String::from_str(alloc, word)?)?;
+fn help_of(alloc: Global, words: &[&str]) -> Result<Error, Fail> {
+    let mut line = Vec::new(alloc);
+    for word in words {
+        line.push(String::from_str(alloc, word)?)?;
     }
-    Ok(parse(alloc, words.as_slice()).err().ok_or("no help")?)
+    Ok(parse(alloc, line.as_slice()).err().ok_or("no help")?)
+}
+
+// The usage is written out, so it must name the options that the command requires.
+#[test]
+fn shows_where_input_and_output_go(rt: HostRuntime) -> Result<(), Fail> {
+    for (command, usage) in [
+        ("wrap", WRAP_USAGE),
+        ("unwrap", UNWRAP_USAGE),
+        ("rewrap", REWRAP_USAGE),
+        ("check", CHECK_USAGE),
+    ] {
+        let line = format!(in rt.alloc(); "\nUsage: {usage}\n")?;
+        let start = format!(in rt.alloc(); "keywrap {command} [OPTIONS] --kek <FILE> ")?;
+        assert!(rt; usage.starts_with(start.as_str()));
+        for word in ["-h", "--help"] {
+            let help = help_of(rt.alloc(), &["keywrap", command, word])?;
+            let text = format!(in rt.alloc(); "{help}")?;
+            assert!(rt; text.contains(line.as_str()), "{text}");
+        }
+    }
+    Ok(())
+}
+
+#[test]
+fn tells_the_version_after_a_command(rt: HostRuntime) -> Result<(), Fail> {
+    let version = help_of(rt.alloc(), &["keywrap", "--version"])?;
+    let version = format!(in rt.alloc(); "{version}")?;
+    assert!(rt; version.starts_with("keywrap "));
+    for command in ["wrap", "unwrap", "rewrap", "check", "drill", "vectors"] {
+        for word in ["-V", "--version"] {
+            let told = help_of(rt.alloc(), &["keywrap", command, word])?;
+            let told = format!(in rt.alloc(); "{told}")?;
+            assert_eq!(rt; told.as_str(), version.as_str());
+        }
+    }
+    Ok(())
 }
 
 #[test]
 fn counts_the_bytes_of_the_help_that_went_out(rt: HostRuntime) -> Result<(), Fail> {
-    let help = asked_help(rt.alloc())?;
+    let help = help_of(rt.alloc(), &["keywrap", "--help"])?;
     let mut whole = Vec::new(rt.alloc());
     assert_eq!(rt; write_help(rt.alloc(), &help, &mut whole).ok(), Some(0));
     assert!(rt; whole.len() > 1024);

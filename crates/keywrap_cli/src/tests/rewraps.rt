@@ -3,8 +3,9 @@
 
 use super::doubles::{Narrow, Trickle};
 use super::jobs::{HEX_KEK, HEX_TEXT, RAW_KEK, RAW_TEXT};
-use crate::command_line::{Request, parse};
+use crate::command_line::parse;
 use crate::job::{Done, JobFault, Notation};
+use crate::request::{Places, Request, Rewrapping, Work};
 use crate::rewrap::run_rewrap;
 use key_files::FileFault;
 use key_wrap::Form;
@@ -351,14 +352,22 @@ fn reads_the_words_of_a_rewrapping(rt: HostRuntime) -> Result<(), Fail> {
     assert!(rt;
         matches!(
             parse(rt.alloc(), words.as_slice()),
-            Ok(Request::Rewrap {
-                old_form: Form::Plain,
-                new_form: Form::Padded,
-                input_notation: Notation::Hex,
-                kek_notation: Notation::Raw,
-                kek: "old.hex",
-                new_kek: "new.hex",
-            })
+            Ok(Request::Work(
+                Work::Rewrap {
+                    task: Rewrapping {
+                        old_form: Form::Plain,
+                        new_form: Form::Padded,
+                        input: Notation::Hex,
+                        kek: Notation::Raw,
+                    },
+                    new_kek: "new.hex",
+                },
+                Places {
+                    kek: "old.hex",
+                    input: None,
+                    output: None,
+                },
+            ))
         )
     );
     Ok(())

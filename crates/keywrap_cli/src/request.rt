@@ -1,0 +1,124 @@
+//! What a command line asks for.
+
+use crate::convert::Direction;
+use crate::fault::ProgramFault;
+use crate::initial_value::parse_iv;
+use crate::job::{Job, Notation, Task};
+use key_wrap::{Form, InitialValue};
+
+/// What a command line asks for.
+#[derive(Drop)]
+pub enum Request<'a> {
+    /// A wrapping or an unwrapping over the drill block, of the bytes that a hex text denotes.
+    Drill {
+        form: Form,
+        direction: Direction,
+        text: &'a str,
+    },
+    /// What is done with an input under a KEK, and the files that it is done with.
+    Work(Work<'a>, Places<'a>),
+    /// The published vectors.
+    Vectors,
+}
+
+/// What is done with an input under a KEK.
+#[derive(Clone, Copy)]
+pub enum Work<'a> {
+    /// A job.
+    Job(Task),
+    /// A conversion under the initial value of a hex text.
+    Convert { iv: &'a str, task: Conversion },
+    /// A rewrapping, to the KEK in another file.
+    Rewrap { task: Rewrapping, new_kek: &'a str },
+}
+
+/// A plain wrapping or unwrapping under an initial value, with the notations of its files.
+#[derive(Clone, Copy)]
+pub struct Conversion {
+    /// Which way it goes.
+    pub direction: Direction,
+    /// The notation of the input and of the output.
+    pub input: Notation,
+    /// The notation of the KEK file.
+    pub kek: Notation,
+}
+
+/// A rewrapping, with the forms of both texts and the notations of its files.
+#[derive(Clone, Copy)]
+pub struct Rewrapping {
+    /// The form of the text.
+    pub old_form: Form,
+    /// The form of the new text.
+    pub new_form: Form,
+    /// The notation of the input and of the output.
+    pub input: Notation,
+    /// The notation of both KEK files.
+    pub kek: Notation,
+}
+
+/// The files of a job.
+#[derive(Clone, Copy)]
+pub struct Places<'a> {
+    /// The file of the KEK.
+    pub kek: &'a str,
+    /// The file of the input, if it is not standard input.
+    pub input: Option<&'a str>,
+    /// The file that the answer goes into, if that is not standard output.
+    pub output: Option<&'a str>,
+}
+
+impl Work<'_> {
+    /// The initial value of the text of `--iv`; the default where there is none.
+    pub fn initial_value(&self) -> Result<InitialValue, ProgramFault> {
+        match self {
+            Work::Convert { iv, .. } => parse_iv(iv).map_err(ProgramFault::Iv),
+            Work::Job(_) | Work::Rewrap { .. } => Ok(InitialValue::default()),
+        }
+    }
+
+    /// Whether the answer is raw bytes. A check answers with a line.
+    pub fn writes_raw(&self) -> bool {
+        !matches!(self, Work::Job(task) if task.job == Job::Check)
+            && self.notation() == Notation::Raw
+    }
+
+    /// What is said while standard input, a terminal, is waited for.
+    pub fn waiting(&self) -> &'static str {
+        match (self.takes_key(), self.notation()) {
+            (true, Notation::Hex) => WAITING_FOR_KEY,
+            (true, Notation::Raw) => WAITING_FOR_RAW_KEY,
+            (false, Notation::Hex) => WAITING_FOR_WRAPPED_KEY,
+            (false, Notation::Raw) => WAITING_FOR_RAW_WRAPPED_KEY,
+        }
+    }
+
+    // Whether the input is a key; else it is a wrapped key.
+    fn takes_key(&self) -> bool {
+        match self {
+            Work::Job(task) => task.job == Job::Wrap,
+            Work::Convert { task, .. } => task.direction == Direction::Wrap,
+            Work::Rewrap { .. } => false,
+        }
+    }
+
+    // The notation of the input.
+    fn notation(&self) -> Notation {
+        match self {
+            Work::Job(task) => task.input,
+            Work::Convert { task, .. } => task.input,
+            Work::Rewrap { task, .. } => task.input,
+        }
+    }
+}
+
+const WAITING_FOR_KEY: &str =
+    "keywrap: waiting for the key in hex on standard input; Ctrl-D ends it";
+
+const WAITING_FOR_RAW_KEY: &str =
+    "keywrap: waiting for the key as raw bytes on standard input; Ctrl-D ends it";
+
+const WAITING_FOR_WRAPPED_KEY: &str =
+    "keywrap: waiting for the wrapped key in hex on standard input; Ctrl-D ends it";
+
+const WAITING_FOR_RAW_WRAPPED_KEY: &str =
+    "keywrap: waiting for the wrapped key as raw bytes on standard input; Ctrl-D ends it";

@@ -1,0 +1,93 @@
+//! The tips on words that were refused: one at most, each in the place of clap's own.
+
+use crate::command_line::parse;
+use crate::tips::message;
+use std::alloc::Global;
+use std::test::Fail;
+
+// The message on a line of words, which spaces part.
+fn message_on(alloc: Global, line: &str) -> Result<String, Fail> {
+    let mut words = Vec::new(alloc);
+    words.push(String::from_str(alloc, "keywrap")?)?;
+    for word in line.split(' ') {
+        words.push(String::from_str(alloc, word)?)?;
+    }
+    let error = parse(alloc, words.as_slice()).err().ok_or("not refused")?;
+    Ok(message(alloc, words.as_slice(), &error)?)
+}
+
+const FILES: &str = "files are named by options: --kek FILE, --input FILE, --output FILE";
+
+const COMMANDS: &str = "the first word is wrap, unwrap, rewrap, check, drill or vectors";
+
+const DRILL: &str = "drill takes one word of hex digits and no KEK; wrap takes --kek FILE";
+
+// A line, and the tip on it; the empty tip stands for none.
+static TIPS: [(&str, &str); 19] = [
+    ("wrap kek.hex", FILES),
+    ("unwrap --kek kek.hex key.hex", FILES),
+    ("rewrap -k kek.hex", FILES),
+    ("check --raw wrapped.hex", FILES),
+    ("kek.hex", COMMANDS),
+    ("encrypt --kek kek.hex", COMMANDS),
+    ("help kek.hex", COMMANDS),
+    ("--kek kek.hex", COMMANDS),
+    ("drill --kek kek.hex 00", DRILL),
+    ("drill 00 11", DRILL),
+    (
+        "wrapp",
+        "some similar subcommands exist: 'rewrap', 'unwrap', 'wrap'",
+    ),
+    ("wrap --key kek.hex", "a similar argument exists: '--kek'"),
+    ("wrap --in kek.hex", "a similar argument exists: '--input'"),
+    ("--kek kek.hex wrap", "'wrap --kek' exists"),
+    (
+        "-- wrap",
+        "subcommand 'wrap' exists; to use it, remove the '--' before it",
+    ),
+    ("check --kek kek.hex --padded", ""),
+    ("wrap", ""),
+    ("wrap --kek", ""),
+    ("vectors all", ""),
+];
+
+#[test]
+fn gives_one_tip_before_the_usage(rt: HostRuntime) -> Result<(), Fail> {
+    for (line, tip) in &TIPS {
+        let text = message_on(rt.alloc(), line)?;
+        assert!(rt; text.starts_with("error: "), "{text}");
+        let wanted = if tip.is_empty() { 0 } else { 1 };
+        assert_eq!(rt; text.matches("  tip: ").count(), wanted, "{text}");
+        let whole = format!(in rt.alloc(); "\n\n  tip: {tip}\n\nUsage: keywrap ")?;
+        assert_eq!(rt; text.contains(whole.as_str()), !tip.is_empty(), "{text}");
+    }
+    Ok(())
+}
+
+#[test]
+fn keeps_what_clap_says(rt: HostRuntime) -> Result<(), Fail> {
+    let text = message_on(rt.alloc(), "drill --kek kek.hex 00")?;
+    let wanted = format!(in rt.alloc();
+        "error: unexpected argument '--kek' found\n\n  tip: {DRILL}\n\n\
+        Usage: keywrap drill [OPTIONS] <HEX>\n\nFor more information, try '--help'.\n"
+    )?;
+    assert_eq!(rt; text.as_str(), wanted.as_str());
+    Ok(())
+}
+
+#[test]
+fn shows_the_commands_where_no_word_is_given(rt: HostRuntime) -> Result<(), Fail> {
+    let mut words = Vec::new(rt.alloc());
+    words.push(String::from_str(rt.alloc(), "keywrap")?)?;
+    let error = parse(rt.alloc(), words.as_slice())
+        .err()
+        .ok_or("not refused")?;
+    assert!(rt; error.use_stderr());
+    let text = message(rt.alloc(), words.as_slice(), &error)?;
+    for command in ["wrap", "unwrap", "rewrap", "check", "drill", "vectors"] {
+        let line = format!(in rt.alloc(); "\n  {command} ")?;
+        assert!(rt; text.contains(line.as_str()), "{text}");
+    }
+    assert!(rt; !text.contains("tip: "), "{text}");
+    Ok(())
+}
