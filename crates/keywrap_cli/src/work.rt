@@ -77,8 +77,9 @@ fn run_into<R: Eprint + AllocGlobal + Files, I: Read>(
     name: &str,
     waiting: Option<&str>,
 ) -> Result<u8, ProgramFault> {
-    let mut new = create(rt, name, keyed)?;
+    // Before the new file is there, which stands in the place of a closed standard error.
     announce(rt, waiting);
+    let mut new = create(rt, name, keyed)?;
     match keyed.run(rt.alloc(), input, &mut new.file) {
         Ok(done) => {
             new.finish(rt)?;
