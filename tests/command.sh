@@ -430,8 +430,8 @@ rotates() {
 }" | cmp -s - err || problem="$problem; error $(shown err)"
     [ ! -s out ] || problem="$problem; output $(shown out)"
     (cd rotation && cksum wrapped/*) | cmp -s - old.sums || problem="$problem; an old file is changed"
-    new=$(find rotation/rewrapped -type f ! -name '*.part0' -printf '%f\n' | sort | tr '\n' '|')
-    [ "$new" = "$(printf '%s|' "${@:4}")" ] || problem="$problem; files $new"
+    new=$(find rotation/rewrapped -type f ! -name '*.part0' -printf '%f\n' | LC_ALL=C sort)
+    [ "$new" = "$(printf '%s\n' "${@:4}")" ] || problem="$problem; files $new"
     for file in "${@:4}"; do
         cmp -s "rotation/rewrapped/$file" rewrapped || problem="$problem; $file is wrong"
         [ "$(stat -c %a "rotation/rewrapped/$file")" = 600 ] || problem="$problem; $file is open to others"
