@@ -33,6 +33,9 @@ pub fn run_work<R: Print + Eprint + Input + AllocGlobal + Files>(
     if terminals.output && places.output.is_none() && work.writes_raw() {
         return Err(ProgramFault::RawToTerminal);
     }
+    // A standard stream that is closed is taken by one of these, and not by a file that is read or
+    // written below. From it nothing comes, and it takes nothing.
+    let _standard = (open_nothing(rt), open_nothing(rt), open_nothing(rt));
     let mut keyed = open_keks(rt, work, iv, places.kek)?;
     match places.input {
         Some(name) => {
@@ -48,6 +51,10 @@ pub fn run_work<R: Print + Eprint + Input + AllocGlobal + Files>(
             run_from(rt, &mut keyed, &mut rt.reader(), places.output, waiting)
         }
     }
+}
+
+fn open_nothing<R: Files>(rt: &R) -> io::Result<R::File> {
+    fs::open(rt, "/dev/null")
 }
 
 // Does it with an input that is open, and says first what is waited for, if anything is.
@@ -77,9 +84,8 @@ fn run_into<R: Eprint + AllocGlobal + Files, I: Read>(
     name: &str,
     waiting: Option<&str>,
 ) -> Result<u8, ProgramFault> {
-    // Before the new file is there, which stands in the place of a closed standard error.
-    announce(rt, waiting);
     let mut new = create(rt, name, keyed)?;
+    announce(rt, waiting);
     match keyed.run(rt.alloc(), input, &mut new.file) {
         Ok(done) => {
             new.finish(rt)?;
