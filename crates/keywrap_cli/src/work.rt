@@ -33,9 +33,6 @@ pub fn run_work<R: Print + Eprint + Input + AllocGlobal + Files>(
     if terminals.output && places.output.is_none() && work.writes_raw() {
         return Err(ProgramFault::RawToTerminal);
     }
-    // A standard stream that is closed is taken by one of these, and not by a file that is read or
-    // written below. From it nothing comes, and it takes nothing.
-    let _standard = (open_nothing(rt), open_nothing(rt), open_nothing(rt));
     let mut keyed = open_keks(rt, work, iv, places.kek)?;
     match places.input {
         Some(name) => {
@@ -51,10 +48,6 @@ pub fn run_work<R: Print + Eprint + Input + AllocGlobal + Files>(
             run_from(rt, &mut keyed, &mut rt.reader(), places.output, waiting)
         }
     }
-}
-
-fn open_nothing<R: Files>(rt: &R) -> io::Result<R::File> {
-    fs::open(rt, "/dev/null")
 }
 
 // Does it with an input that is open, and says first what is waited for, if anything is.
