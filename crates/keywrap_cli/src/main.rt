@@ -25,14 +25,15 @@ mod vector_table;
 mod vectors;
 mod work;
 
-use std::io::IsTerminal;
+use std::io::{IsTerminal, Write};
 use std::process::ExitCode;
 use work::Terminals;
 
 fn main(rt: HostRuntime) -> ExitCode {
     let terminals = Terminals {
-        input: rt.stdin().is_terminal(),
         output: rt.stdout().is_terminal(),
+        // A write of no bytes is refused where standard error is closed.
+        input: rt.stdin().is_terminal() && rt.stderr().write(&[]).is_ok(),
     };
     ExitCode::from(program::run(&rt, terminals))
 }

@@ -10,13 +10,14 @@ use std::fs;
 use std::io::{self, Read, Write};
 use std::rt::Files;
 
-/// Which of the standard streams are terminals.
+/// Which of the standard streams are terminals, as the program starts.
 #[derive(Clone, Copy)]
 pub struct Terminals {
-    /// Standard input.
-    pub input: bool,
     /// Standard output.
     pub output: bool,
+    /// Standard input, while standard error is open. Where that is closed, the new file may get its
+    /// descriptor, and a line on what is waited for would go into the file.
+    pub input: bool,
 }
 
 /// Does what is asked with these files, and answers the exit status.
