@@ -126,3 +126,17 @@ bytes() { printf "$(raw "$1")"; }
 
 # zeros N: N bytes 00, in hex.
 zeros() { head -c $((2 * $1)) /dev/zero | tr '\0' 0; }
+
+# first_cause CAUSE..: sets $place, $wanted and $line to those of the first. A cause is a line: its place
+# in the order, the word that brings it about, the status and the message.
+first_cause() {
+    local cause at status message
+    place=99 wanted=0 line=''
+    for cause in "$@"; do
+        read -r at _ status message <<<"$cause"
+        [ "$at" -ge "$place" ] || place=$at wanted=$status line="keywrap: $message"
+    done
+}
+
+# word CAUSE: what brings it about.
+word() { cut -d ' ' -f 2 <<<"$1"; }

@@ -309,18 +309,6 @@ input_causes=("99 $padded16" '7 0g 6 input: no hex digit at byte 1' "8 ${padded1
     "9 ${padded16%d5}d4 5 $integrity" "10 $padded7 4 $bad_length")
 output_causes=('99 out' '11 /dev/full 6 output: refused after 0 bytes')
 
-# first_cause CAUSE..: sets $place, $wanted and $line to those of the first.
-first_cause() {
-    local cause at status message
-    place=99 wanted=0 line=''
-    for cause in "$@"; do
-        read -r at _ status message <<<"$cause"
-        [ "$at" -ge "$place" ] || place=$at wanted=$status line="keywrap: $message"
-    done
-}
-
-# word CAUSE: what brings it about.
-word() { cut -d ' ' -f 2 <<<"$1"; }
 for old in "${old_causes[@]}"; do
     for new in "${new_causes[@]}"; do
         for input in "${input_causes[@]}"; do

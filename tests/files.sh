@@ -569,25 +569,12 @@ values=("99 $iv" '1 0 2 --iv is not 16 hex digits')
 rewrap_inputs=('99 text.hex' "${input_causes[@]}" "9 wrong.hex 5 $integrity")
 unwrap_inputs=('99 agreed.hex' "${input_causes[@]}" "9 text.hex 5 $integrity")
 
-# first_of CAUSE..: sets $place, $wanted and $line to those of the first.
-first_of() {
-    local cause at status message
-    place=99 wanted=0 line=''
-    for cause in "$@"; do
-        read -r at _ status message <<<"$cause"
-        [ "$at" -ge "$place" ] || place=$at wanted=$status line="keywrap: $message"
-    done
-}
-
-# word CAUSE: what brings it about.
-word() { cut -d ' ' -f 2 <<<"$1"; }
-
 # in_order ANSWER JOB FLAG OTHER KEK INPUT OUTPUT: of these four causes, where OTHER is that of the flag's
 # value, the first is answered, or there is none.
 in_order() {
     local words
     words=("$2" "$3" "$(word "$4")" --kek "$(word "$5")" -o "$(word "$7")" -i "$(word "$6")")
-    first_of "${@:4}"
+    first_cause "${@:4}"
     if [ "$place" = 99 ]; then
         lands "in order: ${words[*]}" 0 "$1" to/file "${words[@]}"
     else
