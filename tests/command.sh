@@ -427,9 +427,11 @@ rotates() {
     verdict "$1" "$problem"
 }
 mv rotation/new-kek.hex new-kek.hex
-rotates 'the rotation makes nothing without the new KEK' 6 'keywrap: new key file: cannot be opened'
+rotates 'the rotation makes nothing without the new KEK' 6 'keywrap: new key file: cannot be opened
+stopped at wrapped/1 a key'
 mv new-kek.hex rotation/new-kek.hex
-rotates 'the rotation stops at a damaged key' 5 "keywrap: $integrity" '1 a key'
+rotates 'the rotation stops at a damaged key' 5 "keywrap: $integrity
+stopped at wrapped/2 damaged" '1 a key'
 touch -d '2020-01-01' 'rotation/rewrapped/1 a key'
 echo $text16 >'rotation/wrapped/2 damaged'
 # As after a crash: half a text is there, in a file that is none of the new ones.
@@ -443,11 +445,16 @@ problem=''
 [ "$(cat rotation/rewrapped/*.part0)" = ${text32:0:20} ] || problem="$problem; it is changed"
 verdict 'the rotation leaves what a crash left, and no other part' "$problem"
 problem=''
-sed -n '/^## Rotating/,/^## From/s/^    //p' "$root/README.md" | grep '^for new in' >rotation/look
+sed -n '/^## Rotating/,/^## From/s/^    //p' "$root/README.md" | grep '^for old in' >rotation/look
 (cd rotation && sh look >../out 2>../err)
-printf 'plain 16\nplain 16\nnone\nrewrapped/2 damaged.part0\nplain 16\n' | cmp -s out - ||
-    problem="output $(shown out)"
-verdict 'each new file answers to the new KEK, and no other, by the line that README shows' "$problem"
+printf 'plain 16\n%.0s' 1 2 3 | cmp -s - out || problem="output $(shown out)"
+echo ${text32%e7}e8 >rotation/rewrapped/3
+mv 'rotation/rewrapped/1 a key' 1
+(cd rotation && sh look >../out 2>../err)
+printf 'wrapped/1 a key\nplain 16\nnone\nwrapped/3\n' | cmp -s - out || problem="$problem; output $(shown out)"
+mv 1 'rotation/rewrapped/1 a key'
+cp -p rewrapped rotation/rewrapped/3
+verdict 'each old file has a new one under the new KEK, or is named, by the line that README shows' "$problem"
 rotates 'the rotation has nothing left to do' 0 '' '1 a key' '2 damaged' 3
 
 ### The command line

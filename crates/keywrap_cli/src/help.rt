@@ -51,7 +51,7 @@ which one failed.";
 
 /// An example of `wrap`.
 pub const WRAP_EXAMPLE: &str = "\
-Example, with the first vector of RFC 3394:
+Example, in an empty folder, with the first vector of RFC 3394:
   $ echo 000102030405060708090a0b0c0d0e0f > kek.hex
   $ echo 00112233445566778899aabbccddeeff | keywrap wrap --kek kek.hex
   1fa68b0a8112b447aef34bd8fb5a7b829d3e862371d2cfe5
@@ -64,7 +64,7 @@ A file has at most 4194304 bytes.";
 
 /// An example of `unwrap`.
 pub const UNWRAP_EXAMPLE: &str = "\
-Example, with the first vector of RFC 3394:
+Example, in an empty folder, with the first vector of RFC 3394:
   $ echo 000102030405060708090a0b0c0d0e0f > kek.hex
   $ echo 1fa68b0a8112b447aef34bd8fb5a7b829d3e862371d2cfe5 | keywrap unwrap --kek kek.hex
   00112233445566778899aabbccddeeff
@@ -77,7 +77,7 @@ written. keywrap check says which form fits the KEK.";
 
 /// An example of `rewrap`.
 pub const REWRAP_EXAMPLE: &str = "\
-Example, with the first and the third vector of RFC 3394:
+Example, in an empty folder, with the first and the third vector of RFC 3394:
   $ echo 000102030405060708090a0b0c0d0e0f > kek.hex
   $ echo 000102030405060708090a0b0c0d0e0f101112131415161718191a1b1c1d1e1f > new.hex
   $ echo 1fa68b0a8112b447aef34bd8fb5a7b829d3e862371d2cfe5 > wrapped.hex
@@ -90,7 +90,7 @@ the plain form only a key of 16 bytes or more, a multiple of 8, can go; another 
 
 /// An example of `check`.
 pub const CHECK_EXAMPLE: &str = "\
-Example, with the first vector of RFC 3394:
+Example, in an empty folder, with the first vector of RFC 3394:
   $ echo 000102030405060708090a0b0c0d0e0f > kek.hex
   $ echo 1fa68b0a8112b447aef34bd8fb5a7b829d3e862371d2cfe5 | keywrap check --kek kek.hex
   plain 16
