@@ -485,6 +485,14 @@ begins
 rm to/file.part0
 goes_on 'the new file goes away' 6 "$flush_fault" 'file f'
 verdict 'the file stays where the new one goes away' "$(echo old | cmp - to/file 2>&1)"
+# Another file has the name of the new one: that of a run which began once it was removed.
+fresh old
+begins
+rm to/file.part0
+echo other >to/file.part0
+goes_on 'another file has the name' 6 "$flush_fault" 'file f file.part0 f'
+verdict 'the file stays where another has the name' "$(echo old | cmp - to/file 2>&1)"
+verdict 'the file that has the name stays' "$(echo other | cmp - to/file.part0 2>&1)"
 
 ### A sync and a rename that fail
 

@@ -93,7 +93,8 @@ impl<K: OpenFile> Keyed<K> {
     }
 }
 
-fn is_same<F: OpenFile>(open: &F, file: &Metadata) -> io::Result<bool> {
+/// Whether a file is the one that is open.
+pub fn is_same<F: OpenFile>(open: &F, file: &Metadata) -> io::Result<bool> {
     let open = open.metadata()?;
     Ok(open.dev() == file.dev() && open.ino() == file.ino())
 }

@@ -1,7 +1,7 @@
 //! The file of `--output`: written whole beside the old one, and then put in its place.
 
 use crate::fault::ProgramFault;
-use crate::keyed::Keyed;
+use crate::keyed::{Keyed, is_same};
 use std::alloc::{AllocError, Global};
 use std::fs::{self, OpenFile, OpenOptions};
 use std::io;
@@ -67,15 +67,29 @@ fn open_new<R: Files>(rt: &R, name: &str) -> io::Result<R::File> {
 impl<F: OpenFile + Drop> OutputFile<'_, F> {
     /// Puts the new file, which is whole, in its place.
     pub fn finish<R: Files>(self, rt: &R) -> Result<(), ProgramFault> {
-        if self.file.sync_all().is_ok() && fs::rename(rt, self.part.as_str(), self.name).is_ok() {
+        if self.file.sync_all().is_ok()
+            && self.has_its_name(rt)
+            && fs::rename(rt, self.part.as_str(), self.name).is_ok()
+        {
             return Ok(());
         }
         self.give_up(rt);
         Err(ProgramFault::Flush)
     }
 
+    // Whether the new file still has the name that it was made under: where someone removed it,
+    // that of another run may have it now.
+    fn has_its_name<R: Files>(&self, rt: &R) -> bool {
+        match rt.symlink_metadata(self.part.as_str()) {
+            Ok(there) => matches!(is_same(&self.file, &there), Ok(true)),
+            Err(_) => false,
+        }
+    }
+
     /// Removes the new file, as far as that can be done.
     pub fn give_up<R: Files>(self, rt: &R) {
-        let _ = fs::remove_file(rt, self.part.as_str());
+        if self.has_its_name(rt) {
+            let _ = fs::remove_file(rt, self.part.as_str());
+        }
     }
 }
