@@ -2,9 +2,10 @@
 # Runs the built program with each of its allocations failing in turn, for each command and for
 # a refusal of each kind, the reading of the command line included. Each run has to end with
 # status 7, `keywrap: out of memory` and nothing on standard output, or with the answer that it
-# has with ample memory; and the file of --output is as it was, or holds that answer, with nothing beside
-# it. Then it runs, in the same way, the tests refuses_each_growth_.. of two crates: they say of each call that it answers Memory and has written nothing, or answers all. Last
-# it runs the commands in ever more memory, from where the program starts at all.
+# has with ample memory; and the file of --output is as it was, or holds that answer, with nothing
+# beside it. Then it runs, in the same way, the tests refuses_each_growth_.. of two crates: they say
+# of each call that it answers Memory and has written nothing, or answers all. Last it runs the
+# commands in ever more memory, from where the program starts at all.
 #
 # usage: tests/allocations.sh        (KEYWRAP=PATH tries another program, as an installed one, and
 #                                     TESTS=PATH a folder of crates with other test programs)

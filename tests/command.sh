@@ -441,7 +441,8 @@ problem=''
 [ "$(stat -c %Y 'rotation/rewrapped/1 a key')" = "$(date -d 2020-01-01 +%s)" ] || problem='it was written again'
 verdict 'the rotation leaves a new file as it is' "$problem"
 problem=''
-[ "$(find rotation/rewrapped -name '*.part*')" = 'rotation/rewrapped/2 damaged.part0' ] || problem='other parts are there'
+[ "$(find rotation/rewrapped -name '*.part*')" = 'rotation/rewrapped/2 damaged.part0' ] ||
+    problem='other parts are there'
 [ "$(cat rotation/rewrapped/*.part0)" = ${text32:0:20} ] || problem="$problem; it is changed"
 verdict 'the rotation leaves what a crash left, and no other part' "$problem"
 problem=''

@@ -24,7 +24,8 @@ row() {
 # same NAME LINES LINES: both name the same, in whatever order.
 same() {
     local problem
-    problem=$(diff <(echo "$2" | sort -u) <(echo "$3" | sort -u) | sed -n 's/^</only the first has/p; s/^>/only the second has/p')
+    problem=$(diff <(echo "$2" | sort -u) <(echo "$3" | sort -u) |
+        sed -n 's/^</only the first has/p; s/^>/only the second has/p')
     verdict "$1" "$problem"
 }
 
@@ -223,7 +224,10 @@ row 'the version stands in one place' test "$places" = "$root/crates/keywrap_cli
 ### make install, make uninstall
 
 # An archive that stands for that of the exports: tests/library.sh tries the real one.
-made() { make -s --no-print-directory -o build -C "$root" "$@" PROGRAM="$program" LIBRARY="$room/library" ARCHIVE="$room/library.a"; }
+made() {
+    make -s --no-print-directory -o build -C "$root" "$@" PROGRAM="$program" \
+        LIBRARY="$room/library" ARCHIVE="$room/library.a"
+}
 command_files='755 bin/keywrap
 644 share/bash-completion/completions/keywrap
 644 share/fish/vendor_completions.d/keywrap.fish

@@ -110,7 +110,8 @@ shows 'rewrap to a terminal' 0 "$text32\n" '' rewrap --kek kek16.hex --new-kek k
 shows 'a raw check to a terminal' 0 'plain 16\n' '' check --raw --kek kek16.hex '<text.raw'
 shows 'the file of --output' 0 '' '' wrap --raw --kek kek16.hex --output file '<key.raw'
 verdict 'what is in it' "$(cmp file text.raw 2>&1)"
-shows 'raw bytes through a pipe' 0 "$text16\n" '' wrap --raw --kek kek16.hex '<key.raw | od -An -v -tx1 | tr -d " \n"; echo'
+shows 'raw bytes through a pipe' 0 "$text16\n" '' \
+    wrap --raw --kek kek16.hex '<key.raw | od -An -v -tx1 | tr -d " \n"; echo'
 shows 'raw bytes into a file' 0 '' '' wrap --raw --kek kek16.hex '<key.raw >file'
 verdict 'what is in that' "$(cmp file text.raw 2>&1)"
 shows 'a refusal' 5 '' "keywrap: $integrity\n" unwrap --kek kek16.hex '<wrong.hex'
