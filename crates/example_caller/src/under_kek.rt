@@ -1,4 +1,4 @@
-//! Wrapping and unwrapping under AES, with every refusal.
+//! Wrapping and unwrapping under AES, with a fault for each refusal.
 
 ghost use Rattle.std.specs.Prelude.{◌≡◌, length, IfOk, IsOkUnless, MatchOption};
 ghost use Rattle.aes_block.specs.Cipher.{cipher};
@@ -37,7 +37,7 @@ pub fn wrap_under(alloc: Global, kek: &[u8], key: &[u8]) -> Result<Vec<u8>, Refu
     wrap(alloc, &aes, key).map_err(Refusal::Wrap)
 }
 
-/// The key whose text under the KEK `kek` this is, or `None` where it is the text of no key.
+/// A key whose text under the KEK `kek` this is, or `None` where it is the text of no key.
 pub fn unwrap_under(alloc: Global, kek: &[u8], text: &[u8]) -> Result<Option<Vec<u8>>, Refusal>
     ensures answer { IfOk result (λ found. IsKekLength (length kek.now) × MatchOption found
         (NoKey (Plain (cipher kek.now) default_iv) text.now)

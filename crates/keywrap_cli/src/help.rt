@@ -17,7 +17,7 @@ pub const CHECK_USAGE: &str = "keywrap check [OPTIONS] --kek <FILE> < WRAPPED";
 /// What `--output` does.
 pub const OUTPUT_HELP: &str = "\
 Writes FILE, not standard output. FILE is replaced only by the whole answer, and stays as
-it is after a refusal. It may be the file of --input; no KEK file, folder, device or link";
+it is after a refusal. It may be the file of --input; no KEK file, folder, device, pipe or link";
 
 /// What hex may hold, what each exit status says, and what to try.
 pub const NOTES: &str = "\
@@ -72,8 +72,8 @@ From file to file:
   $ keywrap unwrap --kek kek.hex --input wrapped.hex --output key.hex
 
 What hex may hold, and what each exit status says: keywrap --help.
-What is no wrapping under this KEK and in this form is refused with status 5, and no byte is
-written. keywrap check says which form fits the KEK.";
+A wrapped key of a legal length that is no wrapping under this KEK and in this form is refused
+with status 5, and no byte is written. keywrap check says which form fits the KEK.";
 
 /// An example of `rewrap`.
 pub const REWRAP_EXAMPLE: &str = "\

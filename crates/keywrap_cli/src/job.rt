@@ -98,7 +98,7 @@ pub enum JobFault {
 /// answer, Integrity, Memory of the hex output or of the check's line, Write. Want of memory
 /// while a file is read is answered as Memory, where that file's fault would be. After a refusal
 /// for the KEK file or the KEK the input has not been read. Nothing is written before the whole
-/// output is made, and the call does not flush.
+/// output is made, and the call does not flush. No contract says where Memory stands: tests do.
 pub fn run_job<K: Read, R: Read, W: Write>(
     alloc: Global,
     task: Task,

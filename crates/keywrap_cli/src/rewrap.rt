@@ -21,7 +21,7 @@ use std::io::{Read, Write};
 /// BadLength of the text, Memory, Integrity, BadLength of the key, Memory of the hex output, Write.
 /// Want of memory while a file is read is answered as Memory, where that file's fault would be. A
 /// file is read only after what comes before it has passed. Nothing is written before the whole
-/// output is made, and the call does not flush.
+/// output is made, and the call does not flush. No contract says where Memory stands: tests do.
 pub fn run_rewrap<K: Read, N: Read, R: Read, W: Write>(
     alloc: Global,
     old_form: Form,

@@ -3,7 +3,7 @@
 /// The answer was written.
 pub const DONE: u8 = 0;
 
-/// The command line was refused, or the value of `--iv`.
+/// The command line was refused, or the value of `--iv`, or raw bytes would go to a terminal.
 pub const REFUSED_WORDS: u8 = 2;
 
 /// A KEK has not 16, 24 or 32 bytes.

@@ -17,7 +17,7 @@ use key_wrap::{Form, InitialValue, UnwrapFault};
 use std::alloc::{AllocError, Global};
 
 /// Whether a vector's texts denote a KEK, an input and the output to which its operation takes the
-/// input under AES of the KEK. Both directions are computed.
+/// input under AES of the KEK.
 pub fn is_right(alloc: Global, vector: &Vector<'_>) -> Result<bool, AllocError>
     ensures { IfOk result (λ right. IsTrue right ↔ IsRight (shown vector.now)) }
 {

@@ -28,8 +28,8 @@ pub enum VectorsFault {
     },
 }
 
-/// Answers each vector in both directions, and writes a line for each: its name, and `ok` where
-/// both directions give the vector's bytes, else `failed`. True where all lines say `ok`.
+/// Writes a line for each vector: its name, and `ok` where it is right, else `failed`. True where
+/// all lines say `ok`.
 ///
 /// The lines are made whole before the first write, and the call does not flush.
 pub fn vectors<W: Write>(alloc: Global, out: &mut W) -> Result<bool, VectorsFault>

@@ -23,7 +23,8 @@ pub struct Terminals {
 /// Does what is asked with these files, and answers the exit status.
 ///
 /// The first that applies is answered: Iv, RawToTerminal, KekOpen, NewKekOpen, InputOpen, Memory of
-/// the new file's name or OutputOpen, then what the call says, and Flush.
+/// the new file's name or OutputOpen, then what the call says, and Flush. No contract says so:
+/// `tests/files.sh` and `tests/terminal.sh` do.
 pub fn run_work<R: Print + Eprint + Input + AllocGlobal + Files>(
     rt: &R,
     work: Work<'_>,
