@@ -66,7 +66,5 @@ if ! "$launcher" --version >/dev/null </dev/null; then
     echo "0 passed, 1 failed"
     exit 1
 fi
-room=$(mktemp -d) || exit 1
-trap 'rm -rf "$room"' EXIT
-cd "$room" || exit 1
-exec </dev/null
+# shellcheck source=scripts/room.sh
+. "$root/scripts/room.sh"

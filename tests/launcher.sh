@@ -5,11 +5,8 @@
 # usage: tests/launcher.sh
 
 set -u
-root=$(cd "$(dirname "${BASH_SOURCE[0]}")/.." && pwd)
-room=$(mktemp -d) || exit 1
-trap 'rm -rf "$room"' EXIT
-cd "$room" || exit 1
-exec </dev/null
+# shellcheck source=scripts/room.sh
+. "${BASH_SOURCE[0]%/*}/../scripts/room.sh"
 # shellcheck source=scripts/expect.sh
 . "$root/scripts/expect.sh"
 

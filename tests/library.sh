@@ -6,11 +6,8 @@
 # usage: tests/library.sh        (KEYWRAP_ARCHIVES='PATH ..' tries archives that were built before)
 
 set -u
-root=$(cd "$(dirname "${BASH_SOURCE[0]}")/.." && pwd)
-room=$(mktemp -d) || exit 1
-trap 'rm -rf "$room"' EXIT
-cd "$room" || exit 1
-exec </dev/null
+# shellcheck source=scripts/room.sh
+. "${BASH_SOURCE[0]%/*}/../scripts/room.sh"
 
 passed=0 failed=0 skipped=0
 

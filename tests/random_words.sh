@@ -165,26 +165,21 @@ likely_line() {
     done
     case ${words[0]} in
     drill | vectors) ;;
-    *) likely_files ;;
+    *)
+        likely 3 -i --input "${inputs[@]}"
+        likely 2 -o --output "${outputs[@]}"
+        ;;
     esac
 }
 
-# likely_files: adds the files for input and output to some of the command lines.
-likely_files() {
-    draw 3
-    if [ "$drawn" = 0 ]; then
-        pick -i --input
-        words+=("$picked")
-        pick "${inputs[@]}"
-        words+=("$picked")
-    fi
-    draw 2
-    if [ "$drawn" = 0 ]; then
-        pick -o --output
-        words+=("$picked")
-        pick "${outputs[@]}"
-        words+=("$picked")
-    fi
+# likely N SHORT LONG FILE..: adds the option, with one of the files, to one of N command lines.
+likely() {
+    draw "$1"
+    [ "$drawn" = 0 ] || return 0
+    pick "$2" "$3"
+    words+=("$picked")
+    pick "${@:4}"
+    words+=("$picked")
 }
 
 ### Runs
