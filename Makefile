@@ -7,7 +7,7 @@ CC ?= cc
 # The program as it was built, which `make build` makes.
 PROGRAM ?= crates/keywrap_cli/out/keywrap_cli
 # The version stands in one place, where the program has it from.
-version = $(shell sed -n 's/^ *\.version("\(.*\)")$$/\1/p' crates/keywrap_cli/src/command_line.rt)
+version = $(shell sed -n 's/^ *\.version("\(.*\)")$$/\1/p' crates/keywrap_cli/src/commands.rt)
 # Where `make dist` puts its archive; in a folder that is never committed.
 DIST ?= out
 # Where the C library is put together; in a folder that is never committed.

@@ -219,7 +219,7 @@ row 'the version is one of three numbers' grep -qxE '[0-9]+\.[0-9]+\.[0-9]+' <<<
 prints_version() { [ "$("$program" --version)" = "keywrap $version" ]; }
 row 'the program and the Makefile name one version' prints_version
 places=$(grep -rlIF --exclude-dir=.git --exclude-dir=out -e "$version" "$root")
-row 'the version stands in one place' test "$places" = "$root/crates/keywrap_cli/src/command_line.rt"
+row 'the version stands in one place' test "$places" = "$root/crates/keywrap_cli/src/commands.rt"
 
 ### make install, make uninstall
 

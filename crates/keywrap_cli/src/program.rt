@@ -56,15 +56,14 @@ fn answer<R: Print + Eprint + Input + AllocGlobal + Files>(
     wanted: Request<'_>,
     terminals: Terminals,
 ) -> u8 {
-    let mut out = io::writer(rt);
     let done = match wanted {
         Request::Drill {
             form,
             direction,
             text,
-        } => run_drill(rt.alloc(), form, direction, text, &mut out),
+        } => run_drill(rt.alloc(), form, direction, text, &mut io::writer(rt)),
         Request::Work(work, places) => run_work(rt, work, places, terminals),
-        Request::Vectors => run_vectors(rt.alloc(), &mut out),
+        Request::Vectors => run_vectors(rt.alloc(), &mut io::writer(rt)),
     };
     end(rt, done)
 }

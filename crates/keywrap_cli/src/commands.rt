@@ -1,0 +1,263 @@
+//! The commands and their arguments, as the command line takes them and the help shows them.
+
+use crate::help::{
+    CHECK_EXAMPLE, CHECK_USAGE, DRILL_EXAMPLE, NOTES, OUTPUT_HELP, REWRAP_EXAMPLE, REWRAP_USAGE,
+    UNWRAP_EXAMPLE, UNWRAP_USAGE, VECTORS_EXAMPLE, WRAP_EXAMPLE, WRAP_USAGE,
+};
+use clap::{Arg, ArgAction, Command};
+use std::alloc::{AllocError, Global};
+
+// A subcommand.
+#[derive(Clone, Copy)]
+struct Subcommand<'a> {
+    name: &'a str,
+    about: &'a str,
+    // The usage line, where clap's own would not say where the input comes from.
+    usage: Option<&'a str>,
+    // What its help ends with.
+    example: &'a str,
+    arguments: &'a [Argument<'a>],
+}
+
+// An argument of a subcommand.
+#[derive(Clone, Copy)]
+struct Argument<'a> {
+    name: &'a str,
+    kind: Kind<'a>,
+    short: Option<char>,
+    help: &'a str,
+    // What `--help` says, where `-h` says less.
+    long_help: Option<&'a str>,
+    // An argument that does not go with it.
+    conflicts: Option<&'a str>,
+}
+
+// How an argument is given. A value has a name in the help.
+#[derive(Clone, Copy)]
+enum Kind<'a> {
+    // An option without a value.
+    Flag,
+    // An option with a value.
+    Optional(&'a str),
+    // An option with a value, which must be given.
+    Required(&'a str),
+    // A word of its own, which must be given.
+    Word(&'a str),
+}
+
+const FLAG: Argument<'static> = Argument {
+    name: "",
+    kind: Kind::Flag,
+    short: None,
+    help: "",
+    long_help: None,
+    conflicts: None,
+};
+
+const KEK: Argument<'static> = Argument {
+    name: "kek",
+    kind: Kind::Required("FILE"),
+    help: "The file with the key-encryption key of 16, 24 or 32 bytes, in hex",
+    ..FLAG
+};
+
+const NEW_KEK: Argument<'static> = Argument {
+    name: "new-kek",
+    kind: Kind::Required("FILE"),
+    help: "The file with the KEK of the new wrapped key, in hex",
+    ..FLAG
+};
+
+const INPUT: Argument<'static> = Argument {
+    name: "input",
+    kind: Kind::Optional("FILE"),
+    short: Some('i'),
+    help: "Reads FILE, not standard input",
+    ..FLAG
+};
+
+const OUTPUT: Argument<'static> = Argument {
+    name: "output",
+    kind: Kind::Optional("FILE"),
+    short: Some('o'),
+    help: "Writes FILE, not standard output",
+    long_help: Some(OUTPUT_HELP),
+    ..FLAG
+};
+
+const PADDED: Argument<'static> = Argument {
+    name: "padded",
+    help: "The padded form of RFC 5649 (KWP), for keys of any length",
+    ..FLAG
+};
+
+const OLD_PADDED: Argument<'static> = Argument {
+    name: "padded",
+    help: "The wrapped key has the padded form of RFC 5649",
+    ..FLAG
+};
+
+const NEW_PADDED: Argument<'static> = Argument {
+    name: "new-padded",
+    help: "The new one gets the padded form of RFC 5649",
+    ..FLAG
+};
+
+// The padded form has an initial value of its own.
+const IV: Argument<'static> = Argument {
+    name: "iv",
+    kind: Kind::Optional("HEX"),
+    help: "16 hex digits that both ends agreed on as initial value, if they did",
+    conflicts: Some("padded"),
+    ..FLAG
+};
+
+const RAW: Argument<'static> = Argument {
+    name: "raw",
+    help: "Input and output are raw bytes, not hex; every byte counts",
+    ..FLAG
+};
+
+const RAW_WRAPPED: Argument<'static> = Argument {
+    name: "raw",
+    help: "The wrapped key is raw bytes, not hex; every byte counts",
+    ..FLAG
+};
+
+const RAW_KEK: Argument<'static> = Argument {
+    name: "raw-kek",
+    help: "The KEK file is raw bytes, not hex; every byte counts",
+    ..FLAG
+};
+
+const RAW_KEKS: Argument<'static> = Argument {
+    name: "raw-kek",
+    help: "Both KEK files are raw bytes, not hex; every byte counts",
+    ..FLAG
+};
+
+const HEX: Argument<'static> = Argument {
+    name: "hex",
+    kind: Kind::Word("HEX"),
+    help: "The key or the wrapped key, in hex",
+    ..FLAG
+};
+
+const UNWRAP: Argument<'static> = Argument {
+    name: "unwrap",
+    help: "Unwraps a wrapped key instead of wrapping a key",
+    ..FLAG
+};
+
+const SUBCOMMANDS: [Subcommand<'static>; 6] = [
+    Subcommand {
+        name: "wrap",
+        about: "Wraps a key",
+        usage: Some(WRAP_USAGE),
+        example: WRAP_EXAMPLE,
+        arguments: &[KEK, INPUT, OUTPUT, PADDED, IV, RAW, RAW_KEK],
+    },
+    Subcommand {
+        name: "unwrap",
+        about: "Unwraps a wrapped key",
+        usage: Some(UNWRAP_USAGE),
+        example: UNWRAP_EXAMPLE,
+        arguments: &[KEK, INPUT, OUTPUT, PADDED, IV, RAW, RAW_KEK],
+    },
+    Subcommand {
+        name: "rewrap",
+        about: "Wraps the key of a wrapped key under another KEK, without writing the key",
+        usage: Some(REWRAP_USAGE),
+        example: REWRAP_EXAMPLE,
+        arguments: &[
+            KEK, NEW_KEK, INPUT, OUTPUT, OLD_PADDED, NEW_PADDED, RAW, RAW_KEKS,
+        ],
+    },
+    Subcommand {
+        name: "check",
+        about: "Says in which form a wrapped key fits the KEK, without writing the key",
+        usage: Some(CHECK_USAGE),
+        example: CHECK_EXAMPLE,
+        arguments: &[KEK, INPUT, OUTPUT, RAW_WRAPPED, RAW_KEK],
+    },
+    Subcommand {
+        name: "drill",
+        about: "Wraps over a block that only exchanges its halves, to be worked by hand",
+        usage: None,
+        example: DRILL_EXAMPLE,
+        arguments: &[HEX, PADDED, UNWRAP],
+    },
+    Subcommand {
+        name: "vectors",
+        about: "Answers the vectors of RFC 3394, RFC 5649 and FIPS 197, each ok or failed",
+        usage: None,
+        example: VECTORS_EXAMPLE,
+        arguments: &[],
+    },
+];
+
+/// The command with its subcommands.
+pub fn keywrap<'a>(alloc: Global) -> Result<Command<'a>, AllocError> {
+    let mut command = bare(alloc)?;
+    for wanted in &SUBCOMMANDS {
+        command = command.subcommand(with_arguments(alloc, *wanted)?)?;
+    }
+    Ok(command)
+}
+
+fn bare<'a>(alloc: Global) -> Result<Command<'a>, AllocError> {
+    let command = Command::new(alloc, "keywrap")
+        .version("1.0.0")
+        .propagate_version(true)
+        .about("Wraps and unwraps keys by AES Key Wrap (RFC 3394 and RFC 5649)")
+        .after_long_help(NOTES)
+        .arg_required_else_help(true)
+        .subcommand_required(true);
+    command.bin_name("keywrap")
+}
+
+fn with_arguments<'a>(alloc: Global, wanted: Subcommand<'a>) -> Result<Command<'a>, AllocError> {
+    let mut command = named(alloc, wanted)?;
+    for it in wanted.arguments {
+        command = command.arg(arg(alloc, *it)?)?;
+    }
+    Ok(command)
+}
+
+// The subcommand without its arguments. Its `--version` says what the program's does.
+fn named<'a>(alloc: Global, wanted: Subcommand<'a>) -> Result<Command<'a>, AllocError> {
+    let command = Command::new(alloc, wanted.name)
+        .about(wanted.about)
+        .after_long_help(wanted.example);
+    let command = match wanted.usage {
+        Some(usage) => command.override_usage(usage),
+        None => command,
+    };
+    command.display_name("keywrap")
+}
+
+fn arg<'a>(alloc: Global, wanted: Argument<'a>) -> Result<Arg<'a>, AllocError> {
+    let arg = with_kind(Arg::new(alloc, wanted.name).help(wanted.help), wanted);
+    let arg = match wanted.short {
+        Some(short) => arg.short(short),
+        None => arg,
+    };
+    let arg = match wanted.long_help {
+        Some(help) => arg.long_help(help),
+        None => arg,
+    };
+    match wanted.conflicts {
+        Some(other) => arg.conflicts_with(other),
+        None => Ok(arg),
+    }
+}
+
+// The argument, given as its kind is.
+fn with_kind<'a>(arg: Arg<'a>, wanted: Argument<'a>) -> Arg<'a> {
+    match wanted.kind {
+        Kind::Flag => arg.long(wanted.name).action(ArgAction::SetTrue),
+        Kind::Optional(value) => arg.long(wanted.name).value_name(value),
+        Kind::Required(value) => arg.long(wanted.name).value_name(value).required(true),
+        Kind::Word(value) => arg.value_name(value).required(true),
+    }
+}
