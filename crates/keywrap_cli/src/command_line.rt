@@ -19,7 +19,11 @@ pub fn parse<'a>(alloc: Global, words: &'a [String]) -> Result<Request<'a>, Erro
     match wanted {
         Some(wanted) => Ok(wanted),
         // A command line without a subcommand, or with another, is refused by the parse itself.
-        None => Err(refusal(alloc, ErrorKind::InvalidSubcommand, "unrecognized subcommand")?),
+        None => Err(refusal(
+            alloc,
+            ErrorKind::InvalidSubcommand,
+            "unrecognized subcommand",
+        )?),
     }
 }
 

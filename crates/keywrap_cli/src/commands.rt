@@ -237,7 +237,7 @@ fn named<'a>(alloc: Global, wanted: Subcommand<'a>) -> Result<Command<'a>, Alloc
 }
 
 fn arg<'a>(alloc: Global, wanted: Argument<'a>) -> Result<Arg<'a>, AllocError> {
-    let arg = with_kind(Arg::new(alloc, wanted.name).help(wanted.help), wanted);
+    let arg = of_kind(Arg::new(alloc, wanted.name).help(wanted.help), wanted);
     let arg = match wanted.short {
         Some(short) => arg.short(short),
         None => arg,
@@ -253,11 +253,17 @@ fn arg<'a>(alloc: Global, wanted: Argument<'a>) -> Result<Arg<'a>, AllocError> {
 }
 
 // The argument, given as its kind is.
-fn with_kind<'a>(arg: Arg<'a>, wanted: Argument<'a>) -> Arg<'a> {
+fn of_kind<'a>(arg: Arg<'a>, wanted: Argument<'a>) -> Arg<'a> {
+    let arg = match wanted.kind {
+        Kind::Flag => arg.action(ArgAction::SetTrue),
+        Kind::Optional(value) | Kind::Required(value) | Kind::Word(value) => arg.value_name(value),
+    };
+    let arg = match wanted.kind {
+        Kind::Flag | Kind::Optional(_) | Kind::Required(_) => arg.long(wanted.name),
+        Kind::Word(_) => arg,
+    };
     match wanted.kind {
-        Kind::Flag => arg.long(wanted.name).action(ArgAction::SetTrue),
-        Kind::Optional(value) => arg.long(wanted.name).value_name(value),
-        Kind::Required(value) => arg.long(wanted.name).value_name(value).required(true),
-        Kind::Word(value) => arg.value_name(value).required(true),
+        Kind::Required(_) | Kind::Word(_) => arg.required(true),
+        Kind::Flag | Kind::Optional(_) => arg,
     }
 }
