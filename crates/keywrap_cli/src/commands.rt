@@ -45,6 +45,7 @@ enum Kind<'a> {
     Word(&'a str),
 }
 
+// What the arguments below fill in where they say nothing.
 const FLAG: Argument<'static> = Argument {
     name: "",
     kind: Kind::Flag,
