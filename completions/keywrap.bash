@@ -1,6 +1,7 @@
 # shellcheck shell=bash
 # Completion of keywrap for bash: the commands, the options of each, and file names after those that
-# take one. An option that stands already is not offered again, in neither of its forms.
+# take one. An option that stands already is not offered again, in neither of its forms, and of --padded
+# and --iv only one.
 
 _keywrap() {
     local word=${COMP_WORDS[COMP_CWORD]} before=${COMP_WORDS[COMP_CWORD - 1]} command='' options='' at
@@ -35,6 +36,10 @@ _keywrap() {
         case ${COMP_WORDS[at]} in
         -i | --input) options=${options/ -i --input / } ;;
         -o | --output) options=${options/ -o --output / } ;;
+        --padded | --iv)
+            options=${options/ --padded / }
+            options=${options/ --iv / }
+            ;;
         *) options=${options/ ${COMP_WORDS[at]} / } ;;
         esac
     done

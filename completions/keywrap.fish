@@ -6,6 +6,10 @@ function __keywrap_is
     test (count $words) -gt 1; and contains -- $words[2] $argv
 end
 
+function __keywrap_lacks
+    not contains -- $argv (commandline -opc)
+end
+
 complete -c keywrap -f
 complete -c keywrap -s h -l help -d 'Show the help' -n 'not __keywrap_is help'
 complete -c keywrap -s V -l version -d 'Show the version' -n 'not __keywrap_is help'
@@ -22,9 +26,11 @@ complete -c keywrap -n '__keywrap_is help; and test (count (commandline -opc)) =
 
 complete -c keywrap -n '__keywrap_is wrap unwrap rewrap check' -l kek -rF -d 'The KEK'
 complete -c keywrap -n '__keywrap_is rewrap' -l new-kek -rF -d 'The KEK of the new wrapped key'
-complete -c keywrap -n '__keywrap_is wrap unwrap rewrap drill' -l padded -d 'The padded form of RFC 5649'
+complete -c keywrap -n '__keywrap_is wrap unwrap rewrap drill; and __keywrap_lacks --iv' -l padded \
+    -d 'The padded form of RFC 5649'
 complete -c keywrap -n '__keywrap_is rewrap' -l new-padded -d 'Write the padded form of RFC 5649'
-complete -c keywrap -n '__keywrap_is wrap unwrap' -l iv -x -d 'An initial value that both ends agreed on'
+complete -c keywrap -n '__keywrap_is wrap unwrap; and __keywrap_lacks --padded' -l iv -x \
+    -d 'An initial value that both ends agreed on'
 complete -c keywrap -n '__keywrap_is wrap unwrap rewrap check' -l raw -d 'Input and output are raw bytes, not hex'
 complete -c keywrap -n '__keywrap_is wrap unwrap rewrap check' -l raw-kek -d 'Each KEK file is raw bytes, not hex'
 complete -c keywrap -n '__keywrap_is wrap unwrap rewrap check' -s i -l input -rF \

@@ -189,6 +189,8 @@ completes() {
     same "$shell: a part of the output's name" b.hex "$(offered "$shell" 'keywrap wrap --kek b.hex --output b')"
     same "$shell: what begins with --in" --input "$(offered "$shell" 'keywrap check --kek b.hex --in')"
     same "$shell: nothing after --iv" '' "$(offered "$shell" 'keywrap wrap --iv ')"
+    same "$shell: no --iv beside --padded" '' "$(offered "$shell" 'keywrap wrap --padded --i' | grep -- --iv)"
+    same "$shell: no --padded beside --iv" '' "$(offered "$shell" 'keywrap unwrap --iv 00 --p')"
     same "$shell: nothing for the HEX of drill" '' "$(offered "$shell" 'keywrap drill ' | grep -v '^-')"
     same "$shell: nothing after the HEX of drill" '' "$(offered "$shell" 'keywrap drill 00 ' | grep -v '^-')"
     same "$shell: nothing after vectors" '' "$(offered "$shell" 'keywrap vectors ' | grep -v '^-')"
