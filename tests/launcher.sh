@@ -97,8 +97,10 @@ key_files)
 aes_block)
     keeps block_pair
     [ -z "${place:-}" ] || grep -vxe 'block_pair:' -e 'aes_block: block_pair byteorder' ../../crates.txt >>"$room/notes"
+    [ -z "${meanwhile:-}" ] || mkdir -p "$room/crates/aes_block/out"
+    [ -z "${meanwhile:-}" ] || echo aes_block >"$room/crates/aes_block/out/kept"
     checks 30
-    shown '2 of 5 crates proved: aes_block 3 of 30 functions, key_wrap'
+    shown '2 of 5 crates proved: key_wrap 3 of 82 functions, aes_block'
     ;;
 keywrap_cli)
     keeps block_pair aes_block key_wrap key_files
@@ -179,10 +181,8 @@ anew() {
 
 # Its list of the crates is that of crates.txt.
 below=$(sed -n 's/^keywrap_cli: *//p' crates.txt | tr ' ' '\n' | grep -xf <(ls crates) | sort)
-for list in below '[a-z]*_lane'; do
-    named=$(sed -n "s/^$list='\(.*\)'/\1/p" keywrap | tr ' ' '\n' | sort)
-    verdict "the crates below the program, $list" "$(diff <(echo "$named") <(echo "$below"))"
-done
+named=$(sed -n "s/^[a-z]*_lane='\(.*\)'/\1/p" keywrap | tr ' ' '\n' | sort)
+verdict 'the crates below the program' "$(diff <(echo "$named") <(echo "$below"))"
 
 ### Without a terminal
 
@@ -199,7 +199,7 @@ did 'two lanes, and then the program' "$(lanes)" "$(program)"
 keywrap again
 told 'the second use' 5 $'again\n' ''
 verdict 'nothing is proved a second time' "$(cat notes)"
-turns=("$(lib block_pair)" "$(lib aes_block)" "$(lib key_wrap)" "$(lib key_files)" "$(program)")
+turns=("$(lib block_pair)" "$(lib key_wrap)" "$(lib key_files)" "$(lib aes_block)" "$(program)")
 touch crates/key_wrap/specs/Tape.antt
 in_turn=yes keywrap d
 told 'a newer definition' 5 $'d\n' "$starts"
@@ -213,6 +213,15 @@ for machine in processors=1 processors=2 free=8388607 left=1048575; do
     told "the first use, $machine" 5 $'e\n' "$starts"
     did "one crate after another, $machine" "${turns[@]}"
 done
+
+# Where another rt worked in the crate's place meanwhile, what that keeps stays.
+anew
+meanwhile=yes keywrap g
+told 'another rt beside it' 5 $'g\n' "$starts"
+did 'another rt beside it: two lanes' "$(lanes)" "$(program)"
+kept=$(cd crates && find aes_block/out/* keywrap_cli/out/* | sort)
+verdict 'another rt beside it: nothing else is left' \
+    "$(diff <(printf '%s\n' aes_block/out/kept keywrap_cli/out/kept keywrap_cli/out/keywrap_cli) - <<<"$kept")"
 
 # is_refused CRATE NOTE..: it is not proved, after what was done; what was at work beside it was ended.
 is_refused() {
@@ -310,7 +319,7 @@ cat >wanted.lines <<'END_OF_LINES'
 keywrap: N s, 0 of 5 crates proved: block_pair waits for another rt, key_files
 keywrap: N s, 0 of 5 crates proved: block_pair 3 of 9 functions, key_files
 keywrap: N s, 1 of 5 crates proved: key_wrap 3 of 82 functions, key_files
-keywrap: N s, 2 of 5 crates proved: aes_block 3 of 30 functions, key_wrap
+keywrap: N s, 2 of 5 crates proved: key_wrap 3 of 82 functions, aes_block
 keywrap: N s, 3 of 5 crates proved: key_wrap 3 of 82 functions
 keywrap: N s, 4 of 5 crates proved: keywrap_cli 3 of 151 functions
 keywrap: N s, 5 of 5 crates proved: compiling the program
