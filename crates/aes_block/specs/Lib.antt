@@ -8,7 +8,6 @@ pub mod SBoxLaw
 pub mod KeyExpansion
 pub mod KeyExpansionLaw
 pub mod Schedule
-pub mod Worked
 pub mod State
 pub mod StateLaw
 pub mod Rounds

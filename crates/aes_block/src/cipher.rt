@@ -115,6 +115,3 @@ fn inv_last_round(round_key: [u32; 4], state: [u32; 4]) -> [u32; 4]
         inv_last_column([d, c, b, a], key_d),
     ]
 }
-
-#[cfg(test)]
-mod tests;

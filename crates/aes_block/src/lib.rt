@@ -1,5 +1,15 @@
 //! AES (FIPS 197), proved: its field, its S-boxes, its key schedule, and the cipher with its
 //! inverse, as a block pair.
+//!
+//! ```rust
+//! use aes_block::{Aes, BadKekLength};
+//! use block_pair::BlockPair;
+//!
+//! fn deciphers_again(kek: &[u8; 32], block: [u8; 16]) -> Result<bool, BadKekLength> {
+//!     let aes = Aes::new(kek)?;
+//!     Ok(aes.dec(aes.enc(block)) == block)
+//! }
+//! ```
 
 #![tactic(auto)]
 

@@ -64,7 +64,7 @@ impl Model for Aes {
 }
 
 impl Aes {
-    /// AES under the key-encryption key `kek`. Refused where the key is not of 16, 24 or 32 bytes.
+    /// AES under the key-encryption key `kek`, which must be 16, 24 or 32 bytes.
     pub fn new(kek: &[u8]) -> Result<Aes, BadKekLength>
         ensures accepted { IsOk result ↔ IsKekLength (length kek.now) }
         ensures refused { IsErr result ↔ ¬ IsKekLength (length kek.now) }
@@ -150,35 +150,4 @@ fn sub_word(word: u32) -> u32
 {
     let [a, b, c, d] = word.to_be_bytes();
     u32::from_be_bytes([sbox(a), sbox(b), sbox(c), sbox(d)])
-}
-
-#[cfg(test)]
-mod tests {
-    use super::expand;
-
-    // FIPS 197's key of 16 bytes.
-    const KEK_16: [u8; 16] = [
-        0x2B, 0x7E, 0x15, 0x16, 0x28, 0xAE, 0xD2, 0xA6, 0xAB, 0xF7, 0x15, 0x88, 0x09, 0xCF, 0x4F,
-        0x3C,
-    ];
-
-    // The key 00 01 02 .. of 32 bytes.
-    const KEK_32: [u8; 32] = [
-        0x00, 0x01, 0x02, 0x03, 0x04, 0x05, 0x06, 0x07, 0x08, 0x09, 0x0A, 0x0B, 0x0C, 0x0D, 0x0E,
-        0x0F, 0x10, 0x11, 0x12, 0x13, 0x14, 0x15, 0x16, 0x17, 0x18, 0x19, 0x1A, 0x1B, 0x1C, 0x1D,
-        0x1E, 0x1F,
-    ];
-
-    #[test]
-    fn expands_the_standards_key(rt: HostRuntime) {
-        assert_eq!(rt; expand(&KEK_16)[4], 0xA0FA_FE17);
-    }
-
-    #[test]
-    fn substitutes_the_middle_word_of_long_keys(rt: HostRuntime) {
-        let schedule = expand(&KEK_32);
-        for (i, word) in [(8, 0xA573_C29F), (11, 0xA572_C09C), (12, 0x1651_A8CD)] {
-            assert_eq!(rt; schedule[i], word, "w[{i}]");
-        }
-    }
 }

@@ -92,22 +92,3 @@ static INV_MIXED: [u32; 256] = [
     0xD731DCCA, 0xD938D1C1, 0xCB23C6DC, 0xC52ACBD7, 0xEF15E8E6, 0xE11CE5ED, 0xF307F2F0, 0xFD0EFFFB,
     0xA779B492, 0xA970B999, 0xBB6BAE84, 0xB562A38F, 0x9F5D80BE, 0x91548DB5, 0x834F9AA8, 0x8D4697A3,
 ];
-
-#[cfg(test)]
-mod tests {
-    use super::*;
-
-    #[test]
-    fn mixes_single_bytes(rt: HostRuntime) {
-        for (a, column) in [
-            (0x00, 0xC663_63A5),
-            (0x01, 0xF87C_7C84),
-            (0x53, 0xC1ED_ED2C),
-        ] {
-            assert_eq!(rt; mixed_sbox(a), column, "of {a:02x}");
-        }
-        for (a, column) in [(0x01, 0x0E09_0D0B), (0x02, 0x1C12_1A16)] {
-            assert_eq!(rt; inv_mixed(a), column, "of {a:02x}");
-        }
-    }
-}

@@ -1,9 +1,11 @@
 -- Files within their limit and past it, and which faults a hex text has.
-use Rattle.std.proofs.Common.{◌≡◌, ◌≢◌, ◌<◌, ◌≤◌, ◌%◌, ℕ, List, length, Option, Some, None, Result, Ok, Err, arith, refl, ap}
+use Rattle.std.proofs.Common.{◌≡◌, ◌≢◌, ◌<◌, ◌≤◌, ◌%◌, ℕ, List, length, Option, Some, None, Result, Ok, Err, arith, refl, sym, ap, subst}
 use Rattle.std.specs.Prelude.{◌↔◌, IsErrAnd}
 use Rattle.std.proofs.lemmas.Bool.Decides.{nat_tests}
 use Rattle.key_files.specs.declared.fault.FileFault.{FileFault}
 use Rattle.key_files.specs.declared.fault.FileFault.TheVariants.{TooLong, BadDigit, OddDigits, Memory}
+use Rattle.std.specs.declared.vec.Vec.{Vec}
+use Rattle.key_files.specs.Decoding.{DecodesHex}
 use Rattle.key_files.specs.Meaning.{file_meaning, hex_meaning, digits_meaning}
 use Rattle.key_files.specs.HexText.{first_bad, digits_of, paired}
 
@@ -43,24 +45,6 @@ pub hex_meaning-never_long : (text : List ℕ) → hex_meaning text ≢ Err TooL
 unfolding hex_meaning
 hex_meaning-never_long text h = digits_meaning-never_long (first_bad text) (digits_of text) h
 
--- a refusal that is answered for what it is
-pub refused-by : {X : Type 0} (answer : Result X FileFault) (meaning : Result (List ℕ) FileFault) (found : FileFault)
-    → answer ≡ Err found → meaning ≡ Err found
-    → (fault : FileFault) → fault ≢ Memory → (answer ≡ Err fault) ↔ (meaning ≡ Err fault)
-refused-by answer meaning found a m fault other = (λ e. cc, λ e. cc)
-
--- bytes, where the text denotes bytes
-pub refused-by_none : {X : Type 0} (answer : Result X FileFault) (meaning : Result (List ℕ) FileFault) (x : X) (bytes : List ℕ)
-    → answer ≡ Ok x → meaning ≡ Ok bytes
-    → (fault : FileFault) → fault ≢ Memory → (answer ≡ Err fault) ↔ (meaning ≡ Err fault)
-refused-by_none answer meaning x bytes a m fault other = (λ e. cc, λ e. cc)
-
--- Memory in the place of bytes
-pub refused-by_memory : {X : Type 0} (answer : Result X FileFault) (meaning : Result (List ℕ) FileFault) (bytes : List ℕ)
-    → answer ≡ Err Memory → meaning ≡ Ok bytes
-    → (fault : FileFault) → fault ≢ Memory → (answer ≡ Err fault) ↔ (meaning ≡ Err fault)
-refused-by_memory answer meaning bytes a m fault other = (λ e. let same : fault ≡ Memory = cc in absurd (other same), λ e. cc)
-
 -- no first bad byte was found
 pub none_from : (found : Option ℕ) → ((at : ℕ) → found ≢ Some at) → found ≡ None
 none_from None h = refl
@@ -70,3 +54,28 @@ none_from (Some at) h = absurd (h at refl)
 pub err_from : {X : Type 0} (answer : Result X FileFault) (fault : FileFault) → IsErrAnd answer (λ e. e ≡ fault) → answer ≡ Err fault
 err_from (Ok x) fault is = absurd is
 err_from (Err e) fault is = ap Err is
+
+-- what a text denotes no bytes for
+pub DecodesHex-refused : {Z : Type 0} (text : List ℕ) (found : FileFault) → found ≢ Memory → hex_meaning text ≡ Err found → DecodesHex {Z = Z} text (Err found)
+DecodesHex-refused text found other m = record {
+  bytes = tt;
+  refused = λ fault _. (λ e. cc, λ e. cc);
+  memory = λ e. let same : found ≡ Memory = cc in absurd (other same);
+}
+
+-- Memory in the place of bytes
+pub DecodesHex-memory : {Z : Type 0} (text : List ℕ) (answer : Result (Vec ℕ Z) FileFault) (bytes : List ℕ)
+    → IsErrAnd answer (λ e. e ≡ Memory) → hex_meaning text ≡ Ok bytes → DecodesHex text answer
+DecodesHex-memory {Z} text answer bytes is m = subst (DecodesHex {Z = Z} text) (sym (err_from answer Memory is)) record {
+  bytes = tt;
+  refused = λ fault other. (λ e. let same : fault ≡ Memory = cc in absurd (other same), λ e. cc);
+  memory = λ _. rw m refl;
+}
+
+-- bytes, where the text denotes bytes
+pub DecodesHex-bytes : {Z : Type 0} (text : List ℕ) (v : Vec ℕ Z) → hex_meaning text ≡ Ok v.items → DecodesHex text (Ok v)
+DecodesHex-bytes text v m = record {
+  bytes = m;
+  refused = λ fault _. (λ e. cc, λ e. cc);
+  memory = λ e. cc;
+}

@@ -1,6 +1,7 @@
 //! The hex notation.
 
 ghost use Rattle.std.specs.Prelude.{◌≡◌, ◌≢◌, ◌↔◌, length, IsOk, IfOk, Err, Ok};
+ghost use Rattle.key_files.specs.Decoding.{DecodesHex};
 ghost use Rattle.key_files.specs.HexText.{digits_of, first_bad, is_skipped, paired};
 ghost use Rattle.key_files.specs.Meaning.{hex_meaning};
 ghost use Rattle.key_files.specs.declared.fault.FileFault.{FileFault};
@@ -27,10 +28,7 @@ pub(crate) fn decode_hex_in<A: Allocator + Copy>(
     alloc: A,
     text: &[u8],
 ) -> Result<Vec<u8, A>, FileFault>
-    ensures bytes { IfOk result (λ v. hex_meaning text.now ≡ Ok v.items) }
-    ensures refused { (fault : FileFault) → fault ≢ FileFault.Memory
-        → (result ≡ Err fault) ↔ (hex_meaning text.now ≡ Err fault) }
-    ensures memory { result ≡ Err FileFault.Memory → IsOk (hex_meaning text.now) }
+    ensures { DecodesHex text.now result }
 {
     if let Some(at) = first_bad(text) {
         return Err(FileFault::BadDigit { at });

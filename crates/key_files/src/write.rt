@@ -4,6 +4,7 @@ ghost use Rattle.std.specs.Prelude.{◌≡◌, ◌<◌, ℕ, length, take, OnOk,
 ghost use Rattle.std.specs.Io.KnownBytes.{Appends, Keeps};
 ghost use Rattle.key_files.specs.HexText.{hex_line};
 ghost use Rattle.key_files.specs.Meaning.{hex_meaning};
+ghost use Rattle.key_files.specs.Writing.{WritesHex};
 
 use crate::fault::{HexWriteFault, WriteFault};
 use std::alloc::{Allocator, Global};
@@ -55,15 +56,7 @@ pub(crate) fn write_hex_in<A: Allocator, W: Write>(
     writer: &mut W,
     bytes: &[u8],
 ) -> Result<(), HexWriteFault>
-    ensures whole { OnOk result (Appends (W.contents writer.old) (W.contents writer.new)
-        (hex_line bytes.now)) }
-    ensures untouched { result ≡ Err HexWriteFault.Memory
-        → Keeps (W.contents writer.old) (W.contents writer.new) }
-    ensures front { (written : ℕ) → result ≡ Err (HexWriteFault.Write written)
-        → Appends (W.contents writer.old) (W.contents writer.new)
-        (take written (hex_line bytes.now)) }
-    ensures short { (written : ℕ) → result ≡ Err (HexWriteFault.Write written)
-        → written < length (hex_line bytes.now) }
+    ensures { WritesHex (W.contents writer.old) (W.contents writer.new) bytes.now result }
 {
     let mut line = hex::encode(alloc, bytes)?;
     line.push('\n')?;

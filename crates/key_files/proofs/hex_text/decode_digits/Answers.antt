@@ -1,4 +1,4 @@
--- What `hex` decodes of the digits, or want of memory.
+-- What `hex` decodes of the digits, or Memory.
 use Rattle.key_files.proofs.Pairs.{result_or-paired}
 use Rattle.key_files.proofs.hex_text.decode_digits.Goals as goal
 

@@ -1,0 +1,13 @@
+-- What a call that writes bytes as a line of hex digits leaves in the writer, and answers.
+use Rattle.std.specs.Prelude.{◌≡◌, ℕ, ◌<◌, List, length, take, Option, Result, Err, OnOk}
+use Rattle.std.specs.Io.KnownBytes.{Appends, Keeps}
+use Rattle.key_files.specs.HexText.{hex_line}
+use Rattle.key_files.specs.declared.fault.HexWriteFault.{HexWriteFault}
+use Rattle.key_files.specs.declared.fault.HexWriteFault.TheVariants.{Memory, Write}
+
+-- the line stands whole in the writer, or a counted front of it; none of it at Memory
+pub record WritesHex (old new : Option (List ℕ)) (bytes : List ℕ) (answer : Result Unit HexWriteFault) : Type 0 where
+  pub whole : OnOk answer (Appends old new (hex_line bytes))
+  pub untouched : answer ≡ Err Memory → Keeps old new
+  pub front : (written : ℕ) → answer ≡ Err (Write written) → Appends old new (take written (hex_line bytes))
+  pub short : (written : ℕ) → answer ≡ Err (Write written) → written < length (hex_line bytes)
