@@ -19,15 +19,15 @@ case ${TESTS:-} in
 '' | /*) ;;
 *) TESTS=$PWD/$TESTS ;;
 esac
-# shellcheck source=scripts/program.sh
-. "${BASH_SOURCE[0]%/*}/../scripts/program.sh"
-# shellcheck source=scripts/expect.sh
-. "$root/scripts/expect.sh"
-# shellcheck source=scripts/answers.sh
-. "$root/scripts/answers.sh"
+# shellcheck source=tests/lib/program.sh
+. "${BASH_SOURCE[0]%/*}/lib/program.sh"
+# shellcheck source=tests/lib/expect.sh
+. "$root/tests/lib/expect.sh"
+# shellcheck source=tests/lib/answers.sh
+. "$root/tests/lib/answers.sh"
 
-# shellcheck source=scripts/commands.sh
-. "$root/scripts/commands.sh"
+# shellcheck source=tests/lib/commands.sh
+. "$root/tests/lib/commands.sh"
 explained
 
 # beside COMMAND..: runs a part of the rows beside the others, in a folder of its own that has the files

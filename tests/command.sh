@@ -8,12 +8,12 @@
 # usage: tests/command.sh        (KEYWRAP=PATH tries another program, as an installed one)
 
 set -u
-# shellcheck source=scripts/program.sh
-. "${BASH_SOURCE[0]%/*}/../scripts/program.sh"
-# shellcheck source=scripts/expect.sh
-. "$root/scripts/expect.sh"
-# shellcheck source=scripts/answers.sh
-. "$root/scripts/answers.sh"
+# shellcheck source=tests/lib/program.sh
+. "${BASH_SOURCE[0]%/*}/lib/program.sh"
+# shellcheck source=tests/lib/expect.sh
+. "$root/tests/lib/expect.sh"
+# shellcheck source=tests/lib/answers.sh
+. "$root/tests/lib/answers.sh"
 keywrap=$launcher
 
 ### The drill block

@@ -9,14 +9,14 @@
 # is skipped without, with a line that says so.
 
 set -u
-# shellcheck source=scripts/program.sh
-. "${BASH_SOURCE[0]%/*}/../scripts/program.sh"
-# shellcheck source=scripts/expect.sh
-. "$root/scripts/expect.sh"
-# shellcheck source=scripts/answers.sh
-. "$root/scripts/answers.sh"
-# shellcheck source=scripts/commands.sh
-. "$root/scripts/commands.sh"
+# shellcheck source=tests/lib/program.sh
+. "${BASH_SOURCE[0]%/*}/lib/program.sh"
+# shellcheck source=tests/lib/expect.sh
+. "$root/tests/lib/expect.sh"
+# shellcheck source=tests/lib/answers.sh
+. "$root/tests/lib/answers.sh"
+# shellcheck source=tests/lib/commands.sh
+. "$root/tests/lib/commands.sh"
 skipped=0
 umask 022
 not_opened='keywrap: output: cannot be opened'

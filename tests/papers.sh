@@ -7,10 +7,10 @@
 # usage: tests/papers.sh        (KEYWRAP=PATH tries another program)
 
 set -u
-# shellcheck source=scripts/program.sh
-. "${BASH_SOURCE[0]%/*}/../scripts/program.sh"
-# shellcheck source=scripts/expect.sh
-. "$root/scripts/expect.sh"
+# shellcheck source=tests/lib/program.sh
+. "${BASH_SOURCE[0]%/*}/lib/program.sh"
+# shellcheck source=tests/lib/expect.sh
+. "$root/tests/lib/expect.sh"
 skipped=0
 page=$root/man/keywrap.1
 

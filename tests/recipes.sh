@@ -7,10 +7,10 @@
 # A recipe that wants a tool which is not here is skipped, with a line that says so.
 
 set -u
-# shellcheck source=scripts/program.sh
-. "${BASH_SOURCE[0]%/*}/../scripts/program.sh"
-# shellcheck source=scripts/expect.sh
-. "$root/scripts/expect.sh"
+# shellcheck source=tests/lib/program.sh
+. "${BASH_SOURCE[0]%/*}/lib/program.sh"
+# shellcheck source=tests/lib/expect.sh
+. "$root/tests/lib/expect.sh"
 
 recipes=$root/docs/RECIPES.md
 mkdir bin
