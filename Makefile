@@ -7,7 +7,7 @@ CC ?= cc
 # The program as it was built, which `make build` makes.
 PROGRAM ?= crates/keywrap_cli/out/keywrap_cli
 # The version stands in one place, where the program has it from.
-version = $(shell sed -n 's/^ *\.version("\(.*\)")$$/\1/p' crates/keywrap_cli/src/commands.rt)
+version = $(shell sed -n 's/^ *\.version("\(.*\)")$$/\1/p' crates/*/src/*.rt)
 # Where `make dist` puts its archive; in a folder that is never committed.
 DIST ?= out
 # Where the C library is put together; in a folder that is never committed.
@@ -17,7 +17,7 @@ ARCHIVE ?= crates/keywrap_c/out/libkeywrap_c.a
 
 soname = libkeywrap.so.0
 crates = block_pair aes_block key_wrap keywrap_c
-sources = $(shell find crates.txt $(foreach c,$(crates),$(wildcard crates/$(c)/src crates/$(c)/specs crates/$(c)/proofs)))
+sources = $(shell find crates.txt $(foreach c,$(crates),$(wildcard crates/$(c)/src crates/$(c)/specs crates/$(c)/proofs)) -type f)
 
 bin = $(DESTDIR)$(PREFIX)/bin
 lib = $(DESTDIR)$(PREFIX)/lib
@@ -51,14 +51,17 @@ version:
 build:
 	@./keywrap --version >/dev/null
 
-# rt leaves the archive's time as it was where nothing changed; a source that is changed while it
-# works is newer than the copy.
-$(LIBRARY)/libkeywrap.a: $(sources)
-	install -d '$(LIBRARY)'
-	@touch '$(LIBRARY)/begun'
-	[ '$(ARCHIVE)' != crates/keywrap_c/out/libkeywrap_c.a ] || (cd crates/keywrap_c && rt lib)
-	install -m 644 '$(ARCHIVE)' '$@'
-	@touch -r '$(LIBRARY)/begun' '$@' && rm '$(LIBRARY)/begun'
+# Built where that is not done, or where one of the files that it is made of has another content than then:
+# what comes out of an archive keeps its old time. A source that is changed while rt works is no longer what
+# was written down before.
+made_of = $(if $(filter crates/%,$(ARCHIVE)),$(sources),'$(ARCHIVE)') include/keywrap.map
+.PHONY: always
+$(LIBRARY)/libkeywrap.a: always
+	@b2sum --check --status '$(LIBRARY)/built_from' 2>/dev/null || { set -ex; install -d '$(LIBRARY)'; \
+	    b2sum $(made_of) >'$(LIBRARY)/begun'; \
+	    [ '$(ARCHIVE)' != crates/keywrap_c/out/libkeywrap_c.a ] || (cd crates/keywrap_c && rt lib); \
+	    install -m 644 '$(ARCHIVE)' '$@'; \
+	    b2sum '$@' >>'$(LIBRARY)/begun'; mv '$(LIBRARY)/begun' '$(LIBRARY)/built_from'; }
 
 $(LIBRARY)/$(soname): $(LIBRARY)/libkeywrap.a include/keywrap.map
 	$(CC) -shared -o '$@' -Wl,--whole-archive '$<' -Wl,--no-whole-archive -Wl,-soname,$(soname) \
@@ -68,14 +71,7 @@ library: $(LIBRARY)/libkeywrap.a $(LIBRARY)/$(soname)
 
 test:
 	rt ci
-	tests/command.sh
-	tests/faults.sh
-	tests/allocations.sh
-	tests/random_words.sh
-	tests/recipes.sh
-	tests/library.sh
-	tests/launcher.sh
-	tests/papers.sh
+	scripts/tests.sh
 
 install: install-command install-library
 

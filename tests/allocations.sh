@@ -10,7 +10,7 @@
 # usage: tests/allocations.sh        (KEYWRAP=PATH tries another program, as an installed one, and
 #                                     TESTS=PATH a folder of crates with other test programs)
 #
-# The first two parts want a C compiler, cc or the clang of the kit beside rt, and the second also the
+# The first two parts need a C compiler, cc or the clang of the kit beside rt, and the second also the
 # test programs that `rt test` and `rt ci` leave; they are skipped without.
 
 set -u
@@ -19,15 +19,15 @@ case ${TESTS:-} in
 '' | /*) ;;
 *) TESTS=$PWD/$TESTS ;;
 esac
-# shellcheck source=scripts/program.sh
-. "${BASH_SOURCE[0]%/*}/../scripts/program.sh"
-# shellcheck source=scripts/expect.sh
-. "$root/scripts/expect.sh"
-# shellcheck source=scripts/answers.sh
-. "$root/scripts/answers.sh"
+# shellcheck source=tests/lib/program.sh
+. "${BASH_SOURCE[0]%/*}/lib/program.sh"
+# shellcheck source=tests/lib/expect.sh
+. "$root/tests/lib/expect.sh"
+# shellcheck source=tests/lib/answers.sh
+. "$root/tests/lib/answers.sh"
 
-# shellcheck source=scripts/commands.sh
-. "$root/scripts/commands.sh"
+# shellcheck source=tests/lib/commands.sh
+. "$root/tests/lib/commands.sh"
 explained
 
 # beside COMMAND..: runs a part of the rows beside the others, in a folder of its own that has the files
@@ -40,9 +40,9 @@ beside() {
     (
         cd part.$parts || exit
         # shellcheck disable=SC2030
-        passed=0 failed=0
+        passed=0 failed=0 skipped=0
         "$@"
-        echo "$passed $failed" >../part.$parts.rows
+        echo "$passed $failed $skipped" >../part.$parts.rows
     ) >part.$parts.lines 2>&1 &
 }
 
@@ -53,9 +53,9 @@ gathered() {
     wait
     for ((part = 1; part <= parts; part++)); do
         cat part.$part.lines
-        read -ra rows <part.$part.rows || rows=(0 1)
+        read -ra rows <part.$part.rows || rows=(0 1 0)
         # shellcheck disable=SC2031
-        passed=$((passed + rows[0])) failed=$((failed + rows[1]))
+        passed=$((passed + rows[0])) failed=$((failed + rows[1])) skipped=$((skipped + rows[2]))
     done
 }
 
@@ -71,9 +71,9 @@ worded() {
 }
 says() { "$1" "$2" 2 nothing "$("$program" "${@:3}" 2>&1)" - "${@:3}"; }
 
-# gave_up: the run that wrote `out` and `err`, and ended with $status, says that memory is wanting, and the
+# out_of_memory: the run that wrote `out` and `err`, and ended with $status, says that memory ran out, and the
 # file of --output is as it was. Nothing is started for it, as a loop over all allocations asks it often.
-gave_up() {
+out_of_memory() {
     local line
     [ "$status" = 7 ] && [ ! -s out ] && line=$(<err) && [ "$line" = "keywrap: $memory" ] && is_alone &&
         line=$(<to/file) && [ "$line" = old ]
@@ -108,7 +108,7 @@ fails_each() {
                 <"$input" >out 2>err 9>met
             status=$?
             [ -s met ] || break
-            gave_up || is_answer "${answer[@]}" ||
+            out_of_memory || is_answer "${answer[@]}" ||
                 problem="$problem; allocation $call$from: status $status, output $(shown out), error $(shown err)"
         done
         is_answer "${answer[@]}" || problem="$problem; $((call - 1)) allocations: status $status, not $2"
@@ -121,8 +121,6 @@ fails_each() {
 fails_each_into() { answer_in=to/file fails_each "$@"; }
 grows_into() { answer_in=to/file grows "$@"; }
 
-skipped=0
-counted() { skipped=$((skipped + 1)); }
 has_compiler=true
 if compiled fail_alloc; then
     beside each fails_each
@@ -130,11 +128,7 @@ if compiled fail_alloc; then
     beside worded fails_each
 else
     has_compiler=false
-    each counted
-    filed counted
-    worded counted
-    counted
-    echo "$skipped skipped: each allocation failing in turn wants a C compiler (apt-get install gcc)"
+    skip 'each allocation failing in turn' 'no C compiler' gcc
 fi
 
 ### Each growth of a call refused in turn, alone and with all that come after it
@@ -164,7 +158,7 @@ holds_at_each() {
 holds_in() {
     local tests="${TESTS:-$root/crates}/$1/out/$1_tests" growths test
     if [ ! -x "$tests" ]; then
-        echo "1 skipped: each growth of a call refused in turn wants $tests (rt test in crates/$1)"
+        skip "each growth of a call of $1 refused in turn" "no $tests (rt test in crates/$1 makes it)"
         return
     fi
     growths=$("$tests" --list | sed -n 's/^\(.*::refuses_each_growth_.*\): test$/\1/p')
@@ -192,7 +186,7 @@ grows() {
         echo old >to/file
         limited "$kind" $kilobytes "${@:6}" <"$input" >out 2>err
         status=$?
-        gave_up || break
+        out_of_memory || break
     done
     is_answer "$2" "$3" "$4" ||
         problem="$kilobytes kilobytes: status $status, output $(shown out), error $(shown err)"

@@ -3,17 +3,15 @@
 # output and its standard error, each in full. The expected values are the vectors of
 # RFC 3394 and RFC 5649, and answers over the drill block that were worked by its rule.
 #
-# At its end it calls tests/files.sh and tests/terminal.sh, whose rows are of the same kind.
-#
 # usage: tests/command.sh        (KEYWRAP=PATH tries another program, as an installed one)
 
 set -u
-# shellcheck source=scripts/program.sh
-. "${BASH_SOURCE[0]%/*}/../scripts/program.sh"
-# shellcheck source=scripts/expect.sh
-. "$root/scripts/expect.sh"
-# shellcheck source=scripts/answers.sh
-. "$root/scripts/answers.sh"
+# shellcheck source=tests/lib/program.sh
+. "${BASH_SOURCE[0]%/*}/lib/program.sh"
+# shellcheck source=tests/lib/expect.sh
+. "$root/tests/lib/expect.sh"
+# shellcheck source=tests/lib/answers.sh
+. "$root/tests/lib/answers.sh"
 keywrap=$launcher
 
 ### The drill block
@@ -71,8 +69,17 @@ both_ways 'RFC 5649, 7 octets' kek5649.hex $key7 $text7 --padded
 both_ways 'under another value' kek16.hex $d16 $text_iv --iv $iv
 both_ways 'under the default value' kek16.hex $d16 $text16 --iv A6A6a6a6A6A6a6a6
 refuses 'RFC 3394 4.1 under another value' 5 "$integrity" unwrap --iv $iv --kek kek16.hex <<<$text16
-prints 'wraps raw under another value' "$(raw $text_iv)" \
-    wrap --raw --raw-kek --iv $iv --kek kek16.raw < <(bytes $d16)
+# --raw and --raw-kek are each of their own files, with --iv too.
+bytes $d16 >key.raw
+bytes $text_iv >text_iv.raw
+prints 'wraps raw under another value' "$(raw $text_iv)" wrap --raw --raw-kek --iv $iv --kek kek16.raw <key.raw
+prints 'unwraps raw under another value' "$(raw $d16)" \
+    unwrap --raw --raw-kek --iv $iv --kek kek16.raw <text_iv.raw
+prints 'wraps raw under a value and a KEK in hex' "$(raw $text_iv)" wrap --raw --iv $iv --kek kek16.hex <key.raw
+prints 'unwraps raw under a value and a KEK in hex' "$(raw $d16)" \
+    unwrap --raw --iv $iv --kek kek16.hex <text_iv.raw
+prints 'wraps hex under a value and a raw KEK' "$text_iv\n" wrap --raw-kek --iv $iv --kek kek16.raw <<<$d16
+prints 'unwraps hex under a value and a raw KEK' "$d16\n" unwrap --raw-kek --iv $iv --kek kek16.raw <<<$text_iv
 
 printf '00 01 02 03\t04 05 06 07\r\n\n08090A0b0c0D0e0F\r\n' >spaced.hex
 prints 'wraps spaced digits in either case' "$text16\n" \
@@ -80,7 +87,6 @@ prints 'wraps spaced digits in either case' "$text16\n" \
 
 ### Raw, and through pipes
 
-bytes $d16 >key.raw
 bytes $text16 >text.raw
 prints 'wraps raw' "$(raw $text16)" wrap --raw --raw-kek --kek kek16.raw <key.raw
 prints 'unwraps raw' "$(raw $d16)" unwrap --raw --raw-kek --kek kek16.raw <text.raw
@@ -394,70 +400,6 @@ answers 'checks nothing' 5 'none\n' '' check --kek kek16.hex
 
 prints 'the twelve vectors' "$vector_lines\n" vectors
 
-### Rotating a KEK, by the lines that README shows
-
-mkdir rotation rotation/wrapped
-sed -n '/^## Rotating/,/^## From/s/^    //p' "$root/README.md" | sed -n '1,/^done)$/p' >rotation/rotate
-lines=$(wc -l <rotation/rotate)
-verdict 'README rotates in five lines or fewer' "$([ "$lines" -ge 1 ] && [ "$lines" -le 5 ] || echo "$lines lines")"
-ln -s "$keywrap" rotation/keywrap
-cp kek16.hex rotation/kek.hex
-cp kek32.hex rotation/new-kek.hex
-echo $text16 >'rotation/wrapped/1 a key'
-echo "0f${text16#1f}" >'rotation/wrapped/2 damaged'
-echo $text16 >'rotation/wrapped/3'
-(umask 077; echo $text32 >rewrapped)
-
-# rotates NAME STATUS LINE FILE..: the lines end so, the old files stay as they are, and the new ones, but
-# for what a crash left, are FILEs, each right and of its owner alone.
-rotates() {
-    local problem='' file new
-    (cd rotation && cksum wrapped/* >../old.sums && sh rotate >../out 2>../err)
-    [ $? = "$2" ] || problem="another status than $2"
-    printf '%s' "${3:+$3
-}" | cmp -s - err || problem="$problem; error $(shown err)"
-    [ ! -s out ] || problem="$problem; output $(shown out)"
-    (cd rotation && cksum wrapped/*) | cmp -s - old.sums || problem="$problem; an old file is changed"
-    new=$(find rotation/rewrapped -type f ! -name '*.part0' -printf '%f\n' | LC_ALL=C sort)
-    [ "$new" = "$(printf '%s\n' "${@:4}")" ] || problem="$problem; files $new"
-    for file in "${@:4}"; do
-        cmp -s "rotation/rewrapped/$file" rewrapped || problem="$problem; $file is wrong"
-        [ "$(stat -c %a "rotation/rewrapped/$file")" = 600 ] || problem="$problem; $file is open to others"
-    done
-    verdict "$1" "$problem"
-}
-mv rotation/new-kek.hex new-kek.hex
-rotates 'the rotation makes nothing without the new KEK' 6 'keywrap: new key file: cannot be opened
-stopped at wrapped/1 a key'
-mv new-kek.hex rotation/new-kek.hex
-rotates 'the rotation stops at a damaged key' 5 "keywrap: $integrity
-stopped at wrapped/2 damaged" '1 a key'
-touch -d '2020-01-01' 'rotation/rewrapped/1 a key'
-echo $text16 >'rotation/wrapped/2 damaged'
-# As after a crash: half a text is there, in a file that is none of the new ones.
-echo ${text32:0:20} >'rotation/rewrapped/2 damaged.part0'
-rotates 'the rotation goes on, once the key is mended' 0 '' '1 a key' '2 damaged' 3
-problem=''
-[ "$(stat -c %Y 'rotation/rewrapped/1 a key')" = "$(date -d 2020-01-01 +%s)" ] || problem='it was written again'
-verdict 'the rotation leaves a new file as it is' "$problem"
-problem=''
-[ "$(find rotation/rewrapped -name '*.part*')" = 'rotation/rewrapped/2 damaged.part0' ] ||
-    problem='other parts are there'
-[ "$(cat rotation/rewrapped/*.part0)" = ${text32:0:20} ] || problem="$problem; it is changed"
-verdict 'the rotation leaves what a crash left, and no other part' "$problem"
-problem=''
-sed -n '/^## Rotating/,/^## From/s/^    //p' "$root/README.md" | grep '^for old in' >rotation/look
-(cd rotation && sh look >../out 2>../err)
-printf 'plain 16\n%.0s' 1 2 3 | cmp -s - out || problem="output $(shown out)"
-echo ${text32%e7}e8 >rotation/rewrapped/3
-mv 'rotation/rewrapped/1 a key' 1
-(cd rotation && sh look >../out 2>../err)
-printf 'wrapped/1 a key\nplain 16\nnone\nwrapped/3\n' | cmp -s - out || problem="$problem; output $(shown out)"
-mv 1 'rotation/rewrapped/1 a key'
-cp -p rewrapped rotation/rewrapped/3
-verdict 'each old file has a new one under the new KEK, or is named, by the line that README shows' "$problem"
-rotates 'the rotation has nothing left to do' 0 '' '1 a key' '2 damaged' 3
-
 ### The command line
 
 refuses_words rewind
@@ -543,20 +485,4 @@ for job in wrap unwrap rewrap check drill vectors; do
     prints "the version in short, after $job" "keywrap $version\n" $job -V
 done
 
-### The launcher
-
-if [ -z "${KEYWRAP:-}" ]; then
-    mkdir bin far
-    ln -s "$keywrap" far/link
-    ln -s "$(command -v readlink)" bin/readlink
-    cp "$keywrap" bin/keywrap
-    keywrap=far/link prints 'through a link, a file of this folder' "$text16\n" \
-        wrap --kek ./kek16.hex <<<$d16
-    keywrap="env" answers 'without a build and without rt' 70 '' \
-        'keywrap: not built yet, and rt, which proves and builds it, is not on the PATH' \
-        PATH="$PWD/bin" bin/keywrap drill $d16
-fi
-
-### With --input and --output, and on a terminal
-
-finish && "$root/tests/files.sh" && "$root/tests/terminal.sh"
+finish

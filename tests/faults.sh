@@ -7,14 +7,14 @@
 # usage: tests/faults.sh        (KEYWRAP=PATH tries another program, as an installed one)
 
 set -u
-# shellcheck source=scripts/program.sh
-. "${BASH_SOURCE[0]%/*}/../scripts/program.sh"
-# shellcheck source=scripts/expect.sh
-. "$root/scripts/expect.sh"
-# shellcheck source=scripts/answers.sh
-. "$root/scripts/answers.sh"
-# shellcheck source=scripts/commands.sh
-. "$root/scripts/commands.sh"
+# shellcheck source=tests/lib/program.sh
+. "${BASH_SOURCE[0]%/*}/lib/program.sh"
+# shellcheck source=tests/lib/expect.sh
+. "$root/tests/lib/expect.sh"
+# shellcheck source=tests/lib/answers.sh
+. "$root/tests/lib/answers.sh"
+# shellcheck source=tests/lib/commands.sh
+. "$root/tests/lib/commands.sh"
 keywrap=$program
 
 long=$(zeros 4096)
@@ -337,9 +337,9 @@ each with_closed
 
 ### The file of --output
 
-# into NAME STATUS ANSWER LINE: the run that wrote `out` and `err` and ended with $status ended so, wrote
+# filed_as NAME STATUS ANSWER LINE: the run that wrote `out` and `err` and ended with $status ended so, wrote
 # nothing to standard output, and left the file of --output with what ANSWER holds, and nothing beside it.
-into() {
+filed_as() {
     local problem='' all=(to/*)
     ended "$1" "$2" nothing "$4"
     cmp -s to/file "$3" || problem="the file holds $(shown to/file), not $(shown "$3")"
@@ -354,21 +354,21 @@ with_file() {
     input=$(file_of "$5")
     "$keywrap" "${@:6}" < <(in_pieces "$input" 7) >out 2>err
     status=$?
-    into "$1, an input in pieces" "${@:2:3}"
+    filed_as "$1, an input in pieces" "${@:2:3}"
     : >out
     "$keywrap" "${@:6}" <"$input" >/dev/full 2>err
     status=$?
-    into "$1, a full device as standard output" "${@:2:3}"
+    filed_as "$1, a full device as standard output" "${@:2:3}"
     "$keywrap" "${@:6}" <"$input" >out 2>/dev/full
     status=$?
     : >err
-    into "$1, a full device for the line" "$2" "$3" ''
+    filed_as "$1, a full device for the line" "$2" "$3" ''
     exec 8<>pipe
     exec 9>pipe 8<&-
     "$keywrap" "${@:6}" <"$input" >&9 2>err
     status=$?
     exec 9>&-
-    into "$1, no reader" "${@:2:3}"
+    filed_as "$1, no reader" "${@:2:3}"
     # From a closed input nothing comes.
     for streams in 0 1 2 01 02 12 012; do
         wanted=$2 answer=$3 line=$4
@@ -387,7 +387,7 @@ with_file() {
             exec "$keywrap" "${@:6}"
         ) <"$input" >out 2>err
         status=$?
-        into "$1, closed: $streams" "$wanted" "$answer" "$line"
+        filed_as "$1, closed: $streams" "$wanted" "$answer" "$line"
     done
 }
 cp old to/file

@@ -5,19 +5,18 @@
 #
 # usage: tests/files.sh        (KEYWRAP=PATH tries another program, as an installed one)
 #
-# The rows on a sync that fails want a C compiler, and some others a tool or a right of the system; each
-# is skipped without, with a line that says so.
+# The rows on calls of the system that fail need a C compiler, and some others a tool or a right of the
+# system; each is skipped without.
 
 set -u
-# shellcheck source=scripts/program.sh
-. "${BASH_SOURCE[0]%/*}/../scripts/program.sh"
-# shellcheck source=scripts/expect.sh
-. "$root/scripts/expect.sh"
-# shellcheck source=scripts/answers.sh
-. "$root/scripts/answers.sh"
-# shellcheck source=scripts/commands.sh
-. "$root/scripts/commands.sh"
-skipped=0
+# shellcheck source=tests/lib/program.sh
+. "${BASH_SOURCE[0]%/*}/lib/program.sh"
+# shellcheck source=tests/lib/expect.sh
+. "$root/tests/lib/expect.sh"
+# shellcheck source=tests/lib/answers.sh
+. "$root/tests/lib/answers.sh"
+# shellcheck source=tests/lib/commands.sh
+. "$root/tests/lib/commands.sh"
 umask 022
 not_opened='keywrap: output: cannot be opened'
 mkfifo pipe
@@ -27,12 +26,6 @@ cksum "${inputs[@]}" >sums
 # bounded ARGUMENT..: the program, which ends by itself: 60 seconds are for a program that waits for ever.
 bounded() { timeout 60 "$program" "$@"; }
 keywrap=bounded
-
-# skip NAME WHY: a row that can't be run here.
-skip() {
-    skipped=$((skipped + 1))
-    echo "SKIPPED: $1: $2"
-}
 
 # fresh [TEXT]: an empty folder `to`, or one where `file` holds a line.
 fresh() {
@@ -45,12 +38,6 @@ fresh() {
 # finds the tests true.
 state() {
     find to -mindepth 1 "$@" \( -printf '%P %y %m %i %l\n' -type f -exec cksum {} + -o -true \) 2>&1 | sort
-}
-
-# told NAME PROBLEM: counts a row, and prints the start of its problem on one line.
-told() {
-    local problem=${2//$'\n'/ }
-    verdict "$1" "${problem:0:600}"
 }
 
 # quiet STATUS LINE: what is wrong with a run that wrote `out` and `err`, and ended with $status: it ended
@@ -80,7 +67,7 @@ lands() {
     after=$(state ! -path "$4")
     problem=$(quiet "$2" '' && is_new "$4" "$3")
     [ "$before" = "$after" ] || problem="$problem beside it: $after, not $before"
-    told "$1" "$problem"
+    verdict "$1" "$problem"
 }
 
 # keeps NAME STATUS LINE ARGUMENT..: the command is refused with this status and this line, writes nothing
@@ -92,7 +79,7 @@ keeps() {
     after=$(state)
     problem=$(quiet "$2" "$3")
     [ "$before" = "$after" ] || problem="$problem in the folder: $after, not $before"
-    told "$1" "$problem"
+    verdict "$1" "$problem"
 }
 
 ### Each command
@@ -308,7 +295,7 @@ fresh old
 chmod 555 to
 if ! obeys_modes; then
     rm -f to/new
-    skip 'folders that can not be written' 'setpriv takes no right away (apt-get install util-linux)'
+    skip 'folders that can not be written' 'setpriv takes no right away' util-linux
 else
     keywrap=unprivileged no_output 'a new file in a folder that can not be written' to/new
     keywrap=unprivileged no_output 'a file in a folder that can not be written' to/file
@@ -400,23 +387,13 @@ lands 'the KEK file has the name of a new file' 0 text.hex to/file wrap --kek to
 
 ### Runs that wait
 
-# appears FILE: waits until the file is there, for a minute at most.
-appears() {
-    local tries
-    for ((tries = 0; tries < 1200; tries++)); do
-        [ ! -e "$1" ] || return 0
-        sleep 0.05
-    done
-    return 1
-}
-
 # begins ARGUMENT..: starts a run over to/file that waits for its input, which is what goes to descriptor
 # 8, and waits until the new file is there.
 begins() {
     exec 8<>pipe
     env --default-signal=INT,TERM,HUP "$program" wrap --kek kek16.hex "$@" -o to/file <pipe >out 2>err 8<&- &
     running=$!
-    appears to/file.part0
+    until_true test -e to/file.part0
 }
 
 # ends: waits for that run, and sets its $status.
@@ -439,7 +416,7 @@ interrupted() {
     [ "$(state ! -name file.part0)" = "$before" ] || problem="$problem in the folder: $(state), not $before"
     [ ! -e to/file.part0 ] || [ "$(stat -c '%a %s' to/file.part0)" = '600 0' ] ||
         problem="$problem the new file is $(stat -c '%a %s' to/file.part0)"
-    told "$1 while it waits ${*:2}" "$problem"
+    verdict "$1 while it waits ${*:2}" "$problem"
     lands "the run after $1 ${*:2}" 0 text.hex to/file wrap --kek kek16.hex -i key.hex -o to/file
 }
 for signal in KILL INT TERM HUP; do
@@ -456,7 +433,7 @@ goes_on() {
     problem=$(quiet "$2" "$3")
     kinds=$(find to -mindepth 1 -printf '%P %y\n' | sort | paste -sd ' ')
     [ "$kinds" = "$4" ] || problem="$problem in the folder: $kinds, not $4"
-    told "$1" "$problem"
+    verdict "$1" "$problem"
 }
 flush_fault='keywrap: output: cannot be flushed'
 fresh old
@@ -498,7 +475,7 @@ verdict 'the file that has the name stays' "$(echo other | cmp - to/file.part0 2
 
 # preloaded ARGUMENT..: the program over an fsync and a rename that write their names to the file `met`,
 # of which the one fails that $FAIL_CALL names.
-preloaded() { LD_PRELOAD=$PWD/fail_sync.so timeout 60 "$program" "$@" 9>>met; }
+preloaded() { LD_PRELOAD=$PWD/fail_call.so timeout 60 "$program" "$@" 9>>met; }
 
 # syncs NAME STATUS ANSWER LINE INPUT ARGUMENT..: the new file is on the disk before it gets its name, and
 # where either fails nothing is changed.
@@ -515,12 +492,12 @@ syncs() {
     done
     rm met
 }
-if compiled fail_sync; then
+if compiled fail_call; then
     keywrap=preloaded
     jobs syncs
     keywrap=bounded
 else
-    skip 'a sync and a rename that fail' 'no C compiler (apt-get install gcc)'
+    skip 'a sync and a rename that fail' 'no C compiler' gcc
 fi
 
 ### The input
@@ -629,5 +606,4 @@ problem=$(cksum "${inputs[@]}" | diff sums -)
 problem=$problem$(find . ! -path './to/*' -name '*.part*')
 verdict 'no other file is changed, and none is left' "$problem"
 
-echo "$passed passed, $failed failed, $skipped skipped"
-[ "$failed" = 0 ]
+finish

@@ -1,356 +1,303 @@
 #!/usr/bin/env bash
-# Runs the launcher keywrap while nothing is built yet, over stand-ins for rt, which writes such logs
-# and proves nothing, and for what tells of the machine: what the launcher starts and in which order,
-# what it says, where, and what it leaves behind.
+# Runs the launcher keywrap and the Makefile over a stand-in for rt, which proves nothing and notes what it
+# is called for: what is built, in which order, and when again; what is said, where; what is left behind.
 #
 # usage: tests/launcher.sh
-# SH=PATH tests/launcher.sh has another shell than /bin/sh run it.
+# SH=PATH tests/launcher.sh has another shell than /bin/sh run the launcher.
 
 set -u
-# shellcheck source=scripts/room.sh
-. "${BASH_SOURCE[0]%/*}/../scripts/room.sh"
-# shellcheck source=scripts/expect.sh
-. "$root/scripts/expect.sh"
+# shellcheck source=tests/lib/room.sh
+. "${BASH_SOURCE[0]%/*}/lib/room.sh"
+# shellcheck source=tests/lib/expect.sh
+. "$root/tests/lib/expect.sh"
 
-cp "$root/keywrap" "$root/crates.txt" .
+cp -R "$root"/{keywrap,Makefile,man,completions,include,scripts} .
 sed -i "1s|.*|#!${SH:-/bin/sh}|" keywrap
-for crate in "$root"/crates/*/; do
-    mkdir -p "crates/$(basename "$crate")"/{src,specs,proofs}
+cat >crates.txt <<'END_OF_CRATES'
+# A tree of this form.
+block_pair:
+aes_block: block_pair byteorder
+key_wrap: block_pair
+keywrap_c staticlib: block_pair aes_block key_wrap
+keywrap_cli: block_pair aes_block key_wrap clap
+END_OF_CRATES
+for crate in block_pair aes_block key_wrap keywrap_c keywrap_cli; do
+    mkdir -p crates/$crate/{src/part,specs,proofs/part/of}
+    for file in src/lib.rt src/part/other.rt specs/Lib.antt proofs/Lib.antt proofs/part/of/Answers.antt; do
+        echo first >crates/$crate/$file
+    done
 done
+echo '    .version("1.2.3")' >crates/keywrap_cli/src/commands.rt
 mkdir bin tmp
 export room PATH=$room/bin:$PATH TMPDIR=$room/tmp TERM=xterm
-built=$room/crates/keywrap_cli/out/keywrap_cli
+built=crates/keywrap_cli/out/keywrap_cli
 
-# The machine has 4 processors, and 16 GiB and 1 GiB of the disk that are free, where a row says nothing else.
-cat >bin/nproc <<'END_OF_NPROC'
-#!/bin/sh
-echo "${processors:-4}"
-END_OF_NPROC
-cat >bin/awk <<'END_OF_AWK'
-#!/bin/sh
-cat >/dev/null
-echo "${free:-16777216}"
-END_OF_AWK
-cat >bin/df <<'END_OF_DF'
-#!/bin/sh
-printf 'Filesystem 1024-blocks Used Available Capacity Mounted\n/dev/sda 9 9 %s 50%% /\n' "${left:-1048576}"
-END_OF_DF
-
-# The stand-in notes that it begins, that it ends, and that it was ended. It waits for the others, and
-# for what the terminal is to show, where `screen` is its file; after 60 seconds it waits no more.
+# The stand-in for rt. $refused, $held and $edited name the crate that it refuses, where it waits to be ended,
+# and of which it changes a source; where `screen` is its file, it waits for what the terminal is to show.
 cat >bin/rt <<'END_OF_RT'
 #!/bin/bash
 crate=${PWD##*/}
 note() { echo "$*" >>"$room/notes"; }
 trap 'note "ended $crate"; exit 143' TERM
 echo $$ >>"$room/pids"
-case $PWD in
-"$TMPDIR"/*) place=' in a copy' ;;
-esac
-note "begins $crate${place:-}: $*"
+note "$crate: $*"
+. "$room/until.sh"
+on_screen() { [ -z "${screen:-}" ] || until_true grep -qF -e "s, $1" "$screen"; }
 
-# until_is COMMAND..: waits until it is so.
-until_is() {
-    local tries
-    for ((tries = 0; tries < 600; tries++)); do
-        ! "$@" || return
-        sleep 0.1
-    done
-    note "never: $*"
-}
-noted() { [ "${in_turn:-}" ] || until_is grep -qxF -e "$1" "$room/notes"; }
-shown() { [ -z "${screen:-}" ] || until_is grep -qF -e "s, $1" "$screen"; }
-
-# checks FUNCTIONS: writes the log of a check.
-checks() {
-    echo "rt: chose --jobs 4 for $crate"
-    echo "so far: 0 of $1 functions checked; the verdict comes last"
-    echo "so far: 3 of $1 functions checked"
-}
-# keeps CRATE..: nothing is kept of them but what a proof of them left.
-keeps() {
-    local each
-    for each in "$@"; do
-        [ "$(cat "../$each/out/kept")" = "$each" ] || note "$each is not kept"
-    done
-}
-
-case $crate in
-block_pair)
-    noted 'begins key_files: lib --jobs 2'
-    echo "rt: waiting for another rt to finish in $PWD"
-    shown '0 of 5 crates proved: block_pair waits for another rt, key_files'
-    checks 9
-    shown '0 of 5 crates proved: block_pair 3 of 9 functions, key_files'
-    ;;
-key_wrap)
-    keeps block_pair
-    checks 82
-    shown '1 of 5 crates proved: key_wrap 3 of 82 functions, key_files'
-    [ "${refused:-}" != key_wrap ] || noted 'begins aes_block in a copy: lib --jobs 2'
-    ;;
-key_files)
-    noted 'begins key_wrap: lib --jobs 2'
-    checks 39
-    shown '1 of 5 crates proved: key_wrap 3 of 82 functions, key_files'
-    ;;
-aes_block)
-    keeps block_pair
-    [ -z "${place:-}" ] || grep -vxe 'block_pair:' -e 'aes_block: block_pair byteorder' ../../crates.txt >>"$room/notes"
-    [ -z "${meanwhile:-}" ] || mkdir -p "$room/crates/aes_block/out"
-    [ -z "${meanwhile:-}" ] || echo aes_block >"$room/crates/aes_block/out/kept"
-    checks 30
-    shown '2 of 5 crates proved: key_wrap 3 of 82 functions, aes_block'
-    ;;
-keywrap_cli)
-    keeps block_pair aes_block key_wrap key_files
-    checks 151
-    shown '4 of 5 crates proved: keywrap_cli 3 of 151 functions'
-    ;;
-esac
-case " ${holds:-} " in
-*" $crate "*) until_is false ;;
-esac
+echo "rt: waiting for another rt to finish in $PWD"
+on_screen "${crates_done:=$(grep -c 'ends' "$room/notes")} of 4 crates proved: $crate waits for another rt"
+echo "rt: chose --jobs 4 for $crate"
+echo 'so far: 0 of 9 functions checked; the verdict comes last'
+echo 'so far: 3 of 9 functions checked'
+on_screen "$crates_done of 4 crates proved: $crate 3 of 9 functions"
+[ "${held:-}" != "$crate" ] || until_true false
+[ "${edited:-}" != "$crate" ] || echo other >>src/lib.rt
 if [ "${refused:-}" = "$crate" ]; then
     echo "fn $crate::plain::wrap: not proved"
-    note "refuses $crate"
     exit 1
 fi
-if [ "$crate" = key_wrap ]; then
-    noted 'ends aes_block'
-    shown '3 of 5 crates proved: key_wrap 3 of 82 functions'
-fi
-echo "logic=proved functions=3"
 mkdir -p out
-echo "$crate" >out/kept
-if [ "$crate" = keywrap_cli ]; then
-    shown '5 of 5 crates proved: compiling the program'
-    printf '#!/bin/sh\necho "$*"\n[ "$1" = --version ] || exit 5\n' >out/keywrap_cli
+case $crate in
+keywrap_c) echo 'int keywrap_wrap(void) { return 0; }' | cc -x c -fPIC -c - -o one.o && ar rc out/libkeywrap_c.a one.o ;;
+keywrap_cli)
+    printf '#!/bin/sh\necho "%s, of process $$: $*"\n[ "$1" = --version ] || exit 5\n' "$(paste -sd ' ' src/lib.rt)" \
+        >out/keywrap_cli
     chmod +x out/keywrap_cli
-    out/keywrap_cli --version
-fi
+    ;;
+esac
 note "ends $crate"
 END_OF_RT
-chmod +x bin/*
+chmod +x bin/rt
+declare -f until_true >until.sh
 
-# told NAME STATUS ANSWER LINES: the run that ended with $status and wrote `out` and `err` did so, where
-# the folder of the logs in `err` stands as LOGS; it left nothing, and no rt at work.
-told() {
+# ended NAME STATUS ANSWER LINES: the run that ended with $status and wrote `out` and `err` did so, where the
+# folder of the logs in `err` stands as LOGS; it left nothing in the folder for temporary files, and no rt.
+ended() {
+    local problem='' pid
     printf '%s' "$3" >wanted.out
     printf '%s' "$4" >wanted.err
     sed -i 's/(logs: .*)/(logs: LOGS)/' err
-    local problem='' pid
     [ "$status" = "$2" ] || problem="status $status, not $2"
-    cmp -s out wanted.out || problem="$problem; output $(shown out), not $(shown wanted.out)"
-    cmp -s err wanted.err || problem="$problem; error $(shown err), not $(shown wanted.err)"
+    cmp -s out wanted.out || problem="$problem; output $(<out), not $3"
+    cmp -s err wanted.err || problem="$problem; error $(<err), not $4"
     [ -z "$(ls tmp)" ] || problem="$problem; it left $(ls tmp)"
     while read -r pid; do
         ! kill -0 "$pid" 2>/dev/null || problem="$problem; an rt is still at work"
     done <pids
     verdict "$1" "$problem"
 }
-# did NAME NOTE..: the stand-ins noted these, in this order. key_files begins at any time.
-did() {
-    printf '%s\n' "${@:2}" >wanted.notes
-    verdict "$1" "$(grep -vxF "begins key_files: $two" notes | diff - wanted.notes)"
-}
-lib() { printf '%s\n' "begins $1: lib" "ends $1"; }
-# The two lanes, as the stand-ins wait for one another.
-lanes() {
-    printf '%s\n' "begins block_pair: $two" 'ends block_pair' "begins key_wrap: $two" 'ends key_files' \
-        "begins aes_block in a copy: $two" 'ends aes_block' 'ends key_wrap'
-}
-two='lib --jobs 2'
-program() { printf '%s\n' 'begins keywrap_cli: run -- --version' 'ends keywrap_cli'; }
-starts='keywrap: proving and building the program, several minutes the first time (logs: LOGS)
-'
-# refusal CRATE: what is said where it is not proved, with that crate's log.
-refusal() {
-    printf '%sfn %s::plain::wrap: not proved\nkeywrap: the build failed\n.' "$starts" "$1"
-}
-# bare: takes the lines of the log that each crate has out of `err`.
-bare() {
-    grep -v -e '^rt: ' -e '^so far' err >said
-    mv said err
-}
-anew() {
-    rm -rf crates/*/out
+# noted NAME NOTE..: the stand-in noted these, in this order.
+noted() { verdict "$1" "$(diff <(cat notes) <([ $# = 1 ] || printf '%s\n' "${@:2}"))"; }
+# launch ARGUMENT..: runs the launcher.
+launch() {
     : >notes
     : >pids
-}
-
-# Its list of the crates is that of crates.txt.
-below=$(sed -n 's/^keywrap_cli: *//p' crates.txt | tr ' ' '\n' | grep -xf <(ls crates) | sort)
-named=$(sed -n "s/^[a-z]*_lane='\(.*\)'/\1/p" keywrap | tr ' ' '\n' | sort)
-verdict 'the crates below the program' "$(diff <(echo "$named") <(echo "$below"))"
-
-### Without a terminal
-
-# keywrap ARGUMENT..: runs the launcher without one.
-keywrap() {
-    ./keywrap "$@" >out 2>err
+    ./keywrap "$@" >out 2>err &
+    process=$!
+    wait $process
     status=$?
 }
-anew
-keywrap a 'b c'
-told 'the first use' 5 $'a b c\n' "$starts"
-did 'two lanes, and then the program' "$(lanes)" "$(program)"
-: >notes
-keywrap again
-told 'the second use' 5 $'again\n' ''
-verdict 'nothing is proved a second time' "$(cat notes)"
-turns=("$(lib block_pair)" "$(lib key_wrap)" "$(lib key_files)" "$(lib aes_block)" "$(program)")
-touch crates/key_wrap/specs/Tape.antt
-in_turn=yes keywrap d
-told 'a newer definition' 5 $'d\n' "$starts"
-did 'one crate after another, where something is kept' "${turns[@]}"
+anew() { rm -rf crates/*/out; }
+steps=('block_pair: lib' 'ends block_pair' 'aes_block: lib' 'ends aes_block' 'key_wrap: lib' 'ends key_wrap'
+    'keywrap_cli: run -- --version' 'ends keywrap_cli')
+starts='keywrap: proving and building the program, several minutes the first time (logs: LOGS)
+'
 
-for machine in processors=1 processors=2 free=8388607 left=1048575; do
-    anew
-    export "${machine?}" in_turn=yes
-    keywrap e
-    unset "${machine%=*}" in_turn
-    told "the first use, $machine" 5 $'e\n' "$starts"
-    did "one crate after another, $machine" "${turns[@]}"
+### When it is built
+
+launch a 'b c'
+ended 'the first use' 5 "first, of process $process: a b c"$'\n' "$starts"
+noted 'the crates of crates.txt one after another, and then the program' "${steps[@]}"
+launch again
+ended 'the second use' 5 "first, of process $process: again"$'\n' ''
+noted 'nothing is proved a second time'
+find . -name '*.rt' -exec touch {} +
+launch
+noted 'nothing is proved where only times are others'
+
+# builds_after NAME COMMAND..: after this the next run builds, and the one behind it does not. The sources
+# are old, as what comes out of an archive is.
+builds_after() {
+    row "$1" "${@:2}"
+    find crates.txt crates/*/src crates/*/specs crates/*/proofs -exec touch -d 2020-01-01 {} +
+    launch
+    noted "built again: $1" "${steps[@]}"
+    launch
+    noted "built once: $1"
+}
+append() { echo other >>"$1"; }
+for file in crates.txt crates/block_pair/src/lib.rt crates/key_wrap/src/part/other.rt \
+    crates/aes_block/specs/Lib.antt crates/keywrap_cli/proofs/Lib.antt crates/key_wrap/proofs/part/of/Answers.antt; do
+    builds_after "$file is another" append $file
 done
-
-# Where another rt worked in the crate's place meanwhile, what that keeps stays.
+builds_after 'a file is gone' rm crates/block_pair/proofs/Lib.antt
+builds_after 'a folder is gone' rm -r crates/block_pair/proofs
+builds_after 'the program is gone' rm $built
+builds_after 'the program is none' chmod -x $built
+builds_after 'another rt built it since' touch -d tomorrow $built
+edited=aes_block launch
+noted 'a source that is changed during the build'
 anew
-meanwhile=yes keywrap g
-told 'another rt beside it' 5 $'g\n' "$starts"
-did 'another rt beside it: two lanes' "$(lanes)" "$(program)"
-kept=$(cd crates && find aes_block/out/* keywrap_cli/out/* | sort)
-verdict 'another rt beside it: nothing else is left' \
-    "$(diff <(printf '%s\n' aes_block/out/kept keywrap_cli/out/kept keywrap_cli/out/keywrap_cli) - <<<"$kept")"
+edited=block_pair launch
+launch
+noted 'a source that is changed while it is built' "${steps[@]}"
 
-# is_refused CRATE NOTE..: it is not proved, after what was done; what was at work beside it was ended.
-is_refused() {
-    anew
-    refused=$1 keywrap f
-    bare
-    wanted=$(refusal "$1")
-    told "$1 is not proved" 70 '' "${wanted%.}"
-    did "$1 is not proved: what was done" "${@:2}"
-    verdict "$1 is not proved, and nothing is built" "$([ ! -e "$built" ] || echo 'it is there')"
-    [ "$1" != aes_block ] ||
-        verdict "$1 is not proved, and not kept" "$([ ! -e crates/aes_block/out ] || echo 'it is there')"
-}
-mapfile -t steps < <(lanes)
-is_refused block_pair "${steps[0]}" 'refuses block_pair' 'ended key_files'
-is_refused key_files "${steps[@]:0:3}" 'refuses key_files' 'ended key_wrap'
-is_refused aes_block "${steps[@]:0:5}" 'refuses aes_block' 'ended key_wrap'
-holds=aes_block is_refused key_wrap "${steps[@]:0:5}" 'refuses key_wrap' 'ended aes_block'
-is_refused keywrap_cli "$(lanes)" 'begins keywrap_cli: run -- --version' 'refuses keywrap_cli'
+### From where
 
-# until_noted NOTE: a stand-in has noted it, within 60 seconds.
-until_noted() {
-    local tries
-    for ((tries = 0; tries < 600; tries++)); do
-        ! grep -qxF "$1" notes || return
-        sleep 0.1
-    done
-}
-# is_ended SIGNAL STATUS NOTE ENDED..: where it comes after NOTE, what is at work then is ended. Signals
-# that this script ignores are ignored by what it starts, unless env has them as they are by default.
-is_ended() {
+mkdir far
+ln -s ../keywrap far/link
+(cd far && ./link b) >out 2>err
+verdict 'through a link' "$(grep -vx '.*: b' out; cat err)"
+(cd far && PATH=$room:$PATH keywrap c) >out 2>err
+verdict 'from the PATH' "$(grep -vx '.*: c' out; cat err)"
+sh keywrap d >out 2>err
+verdict 'as a file of sh' "$(grep -vx '.*: d' out; cat err)"
+
+### What is refused
+
+for crate in block_pair aes_block key_wrap keywrap_cli; do
     anew
-    env --default-signal ./keywrap g >out 2>err &
-    until_noted "$3"
+    refused=$crate launch
+    ended "$crate is not proved" 70 '' "${starts}rt: waiting for another rt to finish in $room/crates/$crate
+rt: chose --jobs 4 for $crate
+so far: 0 of 9 functions checked; the verdict comes last
+so far: 3 of 9 functions checked
+fn $crate::plain::wrap: not proved
+keywrap: the build failed
+"
+    verdict "$crate is not proved: nothing comes after it" "$(tail -n 1 notes | grep -v "^$crate: ")"
+    launch
+    noted "$crate is proved later" "${steps[@]}"
+done
+anew
+TMPDIR=$room/missing launch
+ended 'no folder for the logs' 70 '' 'mktemp: failed to create directory via template '"'$room/missing/tmp.XXXXXXXXXX'"': No such file or directory
+keywrap: no folder for the build'"'"'s logs
+'
+noted 'no folder for the logs: nothing is proved'
+PATH=/usr/bin:/bin launch
+[ -x /usr/bin/rt ] || [ -x /bin/rt ] || ended 'no rt' 70 '' \
+    'keywrap: not built yet, and rt, which proves and builds it, is not on the PATH
+'
+
+# interrupted SIGNAL STATUS CRATE: where it comes while the crate is proved, rt is ended, and then the launcher
+# by it. Signals that this script ignores are ignored by what it starts, unless env has them by default.
+interrupted() {
+    anew
+    : >notes
+    : >pids
+    held=$3 env --default-signal ./keywrap g >out 2>err &
+    until_true grep -q "^$3: " notes
     kill -s "$1" $!
     { wait $!; } 2>/dev/null
     status=$?
-    told "$1 after '$3'" "$2" '' "$starts"
-    verdict "$1 after '$3' ends what is at work" \
-        "$(printf 'ended %s\n' "${@:4}" | diff - <(grep '^ended' notes | sort))"
-    verdict "$1 after '$3' leaves no program" "$([ ! -e "$built" ] || echo 'it is there')"
+    ended "$1 in $3" "$2" '' "$starts"
+    verdict "$1 in $3 ends rt" "$(tail -n 1 notes | grep -vx "ended $3")"
+    verdict "$1 in $3 leaves no program" "$(ls $built ${built%/*}/built_from* 2>/dev/null)"
 }
-export holds='key_wrap key_files'
 for signal in TERM=143 HUP=129 INT=130 QUIT=131; do
-    is_ended "${signal%=*}" "${signal#*=}" "begins key_wrap: $two" key_files key_wrap
+    interrupted "${signal%=*}" "${signal#*=}" block_pair
 done
-holds='key_wrap aes_block'
-is_ended TERM 143 "begins aes_block in a copy: $two" aes_block key_wrap
-is_ended INT 130 "begins aes_block in a copy: $two" aes_block key_wrap
-holds=keywrap_cli
-is_ended TERM 143 'begins keywrap_cli: run -- --version' keywrap_cli
-is_ended INT 130 'begins keywrap_cli: run -- --version' keywrap_cli
-unset holds
+interrupted TERM 143 keywrap_cli
+interrupted INT 130 keywrap_cli
 
 ### On a terminal
 
-if ! command -v script >/dev/null; then
-    echo 'SKIPPED: the launcher on a terminal: no script (apt-get install bsdutils)'
-    echo "$passed passed, $failed failed, 1 skipped"
-    [ $failed = 0 ]
-    exit
-fi
-
-# shows TEXT: the terminal shows it, within 60 seconds.
-shows() {
-    local tries
-    for ((tries = 0; tries < 600; tries++)); do
-        ! grep -q "$1" screen || return
-        sleep 0.1
-    done
-}
-
-# on_terminal KEYS TEXT ARGUMENT..: runs the launcher on a terminal, where KEYS are pressed once TEXT is
-# shown. What is shown comes as the file `screen`.
-on_terminal() {
+# on_screen LINE [KEYS TEXT]: runs a line of sh on a terminal, where KEYS are pressed once TEXT is shown. What
+# is shown comes as the file `screen`, and from the launcher's first line on as `err`.
+on_screen() {
     anew
+    : >notes
+    : >pids
     : >screen
-    export screen=$room/screen
     {
-        shows "$2"
-        printf '%b' "$1"
+        [ $# = 1 ] || { until_true grep -qF "$3" screen && printf '%b' "$2"; }
         # The terminal closes with its input.
-        shows COMMAND_EXIT_CODE
-    } | SHELL=/bin/sh timeout 240 script -qefc "exec env --default-signal ./keywrap ${*:3} >out" screen >/dev/null
+        until_true grep -q COMMAND_EXIT_CODE screen
+    } | SHELL=/bin/sh timeout 240 script -qefc "$1" screen >/dev/null
     status=${PIPESTATUS[1]}
-    unset screen
     sed -n '/^keywrap: proving/,$p' screen | sed '/^Script done/d' | tr -d '\r' >err
 }
+# The last of the lines that took one another's place on the terminal.
+rewritten() { sed -i 's/.*\x1b\[K//; /^$/d' err; }
 
-# rewritten: the last line that the terminal shows of those that took one another's place.
-rewritten() { sed 's/.*\x1b\[K//; /^$/d' err >left && mv left err; }
+if has script bsdutils 'the launcher on a terminal'; then
+    export screen=$room/screen
+    on_screen 'exec env --default-signal ./keywrap h >out'
+    for crate in '0 of 4 crates proved: block_pair' '1 of 4 crates proved: aes_block' \
+        '2 of 4 crates proved: key_wrap' '3 of 4 crates proved: keywrap_cli'; do
+        echo "keywrap: N s, $crate waits for another rt"
+        echo "keywrap: N s, $crate 3 of 9 functions"
+    done >wanted.lines
+    verdict 'how far it is' "$(grep -o 'keywrap: [0-9]* s[^'$'\033'']*' err | sed 's/[0-9]* s/N s/' |
+        grep -xFf wanted.lines | uniq | diff - wanted.lines)"
+    seconds=$(grep -o 'keywrap: [0-9]* s' err | tr -dc '0-9\n')
+    verdict 'the seconds go up' "$(diff <(echo "$seconds" | sort -n) <(echo "$seconds"))"
+    rewritten
+    ended 'the first use on a terminal' 5 "$(<out)"$'\n' "$starts"
+    held=key_wrap on_screen 'exec env --default-signal ./keywrap k >out' '\003' 'key_wrap 3 of 9 functions'
+    rewritten
+    ended 'Ctrl-C' 130 '' "$starts"
+    unset screen
+    TERM=dumb on_screen './keywrap m >out'
+    sed -i '/^$/d' err
+    ended 'a terminal that cannot rewrite a line' 5 "$(<out)"$'\n' "$starts"
+fi
 
-on_terminal '' '5 of 5' h i
-cat >wanted.lines <<'END_OF_LINES'
-keywrap: N s, 0 of 5 crates proved: block_pair waits for another rt, key_files
-keywrap: N s, 0 of 5 crates proved: block_pair 3 of 9 functions, key_files
-keywrap: N s, 1 of 5 crates proved: key_wrap 3 of 82 functions, key_files
-keywrap: N s, 2 of 5 crates proved: key_wrap 3 of 82 functions, aes_block
-keywrap: N s, 3 of 5 crates proved: key_wrap 3 of 82 functions
-keywrap: N s, 4 of 5 crates proved: keywrap_cli 3 of 151 functions
-keywrap: N s, 5 of 5 crates proved: compiling the program
-END_OF_LINES
-# Between these, crates stand there for a moment without their functions.
-verdict 'how far it is' "$(grep -o 'keywrap: [0-9]* s[^'$'\033'']*' err | sed 's/[0-9]* s/N s/' |
-    grep -xFf wanted.lines | uniq | diff - wanted.lines)"
-seconds=$(grep -o 'keywrap: [0-9]* s' err | tr -dc '0-9\n')
-verdict 'the seconds go up' "$(diff <(echo "$seconds" | sort -n) <(echo "$seconds"))"
-verdict 'a line fits on a terminal' "$(grep -o 'keywrap: [0-9]* s[^'$'\033'']*' err | grep '.\{80\}')"
-rewritten
-told 'the first use on a terminal' 5 $'h i\n' "$starts"
+### make build, install, dist and library
 
-refused=block_pair on_terminal '' 'not proved' j
-rewritten
-bare
-wanted=$(refusal block_pair)
-told 'what is not proved, on a terminal' 70 '' "${wanted%.}"
+# as_built COMMAND..: what it writes has the sources as they are now.
+as_built() { "$@" --version | grep -qF "$(paste -sd ' ' crates/keywrap_cli/src/lib.rt), of"; }
+in_archive() {
+    tar -xzf dist/keywrap-1.2.3-x86_64-linux.tar.gz -C tmp && as_built tmp/keywrap-1.2.3-x86_64-linux/bin/keywrap &&
+        rm -r tmp/keywrap-*
+}
+while read -r target check; do
+    append crates/keywrap_cli/src/lib.rt
+    touch -d 2020-01-01 crates/keywrap_cli/src/lib.rt
+    : >notes
+    row "make $target" make -s "$target" DIST=dist DESTDIR="$room/to" PREFIX=
+    noted "make $target builds what is another" "${steps[@]}"
+    # shellcheck disable=SC2086
+    row "make $target takes what is built" $check
+done <<END_OF_TARGETS
+build as_built $built
+install-command as_built to/bin/keywrap
+dist in_archive
+END_OF_TARGETS
 
-export holds='key_wrap key_files'
-on_terminal '\003' 'key_wrap 3 of 82 functions, key_files' k
-rewritten
-told 'Ctrl-C' 130 '' "$starts"
-verdict 'Ctrl-C leaves no program' "$([ ! -e "$built" ] || echo 'it is there')"
-unset holds
+# library NAME NOTE..: make library calls rt for these.
+library() {
+    : >notes
+    row "make library: $1" make -s library LIBRARY=library
+    noted "make library: $1, what is built" "${@:2}"
+}
+if has cc gcc 'make library'; then
+    lib=('keywrap_c: lib' 'ends keywrap_c')
+    library 'the first' "${lib[@]}"
+    library 'the second'
+    for file in crates.txt include/keywrap.map crates/{block_pair,aes_block,key_wrap,keywrap_c}/{src/part/other.rt,specs/Lib.antt} \
+        crates/{aes_block,key_wrap}/proofs/part/of/Answers.antt; do
+        [ "$file" = include/keywrap.map ] || append "$file"
+        [ "$file" != include/keywrap.map ] || sed -i '1i /* another */' "$file"
+        touch -d 2020-01-01 "$file"
+        library "$file is another" "${lib[@]}"
+    done
+    row 'the shared object is linked again' test library/libkeywrap.so* -nt include/keywrap.map
+    rm crates/key_wrap/specs/Lib.antt
+    library 'a file is gone' "${lib[@]}"
+    rm library/libkeywrap.a
+    library 'the archive is gone' "${lib[@]}"
+    append crates/aes_block/src/lib.rt
+    edited=keywrap_c library 'a source is changed meanwhile' "${lib[@]}"
+    library 'a source was changed meanwhile' "${lib[@]}"
+    library 'and then none'
+    append crates/aes_block/src/lib.rt
+    verdict 'make library ends with rt' "$(! refused=keywrap_c make -s library LIBRARY=library >row.log 2>&1 || echo 'it went on')"
+    library 'and is built later' "${lib[@]}"
+fi
+# The Makefile's list has each crate of this repository below the C library.
+same 'the crates of make library' "$(sed -n 's/^crates = //p' Makefile | tr ' ' '\n')" \
+    "$(sed -n 's/^keywrap_c staticlib: /keywrap_c /p' "$root/crates.txt" | tr ' ' '\n' | grep -xFf <(ls "$root/crates"))"
 
-anew
-TERM=dumb SHELL=/bin/sh script -qefc './keywrap m >out' screen >/dev/null
-status=$?
-sed -n '/^keywrap: proving/,$p' screen | sed '/^Script done/d' | tr -d '\r' | sed '/^$/d' >err
-told 'a terminal that cannot rewrite a line' 5 $'m\n' "$starts"
-
-echo "$passed passed, $failed failed, 0 skipped"
-[ $failed = 0 ]
+finish

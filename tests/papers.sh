@@ -7,35 +7,11 @@
 # usage: tests/papers.sh        (KEYWRAP=PATH tries another program)
 
 set -u
-# shellcheck source=scripts/program.sh
-. "${BASH_SOURCE[0]%/*}/../scripts/program.sh"
-# shellcheck source=scripts/expect.sh
-. "$root/scripts/expect.sh"
-skipped=0
+# shellcheck source=tests/lib/program.sh
+. "${BASH_SOURCE[0]%/*}/lib/program.sh"
+# shellcheck source=tests/lib/expect.sh
+. "$root/tests/lib/expect.sh"
 page=$root/man/keywrap.1
-
-# row NAME COMMAND..: counts a command that must succeed, and shows what it wrote where it did not.
-row() {
-    local problem=''
-    "${@:2}" >row.log 2>&1 || problem=$(printf 'it failed\n' && head -n 20 row.log)
-    verdict "$1" "$problem"
-}
-
-# same NAME LINES LINES: both name the same, in whatever order.
-same() {
-    local problem
-    problem=$(diff <(echo "$2" | sort -u) <(echo "$3" | sort -u) |
-        sed -n 's/^</only the first has/p; s/^>/only the second has/p')
-    verdict "$1" "$problem"
-}
-
-# has TOOL PACKAGE PART: whether the tool is there; else the part is skipped.
-has() {
-    command -v "$1" >/dev/null && return
-    skipped=$((skipped + 1))
-    echo "SKIPPED: $3: no $1 (apt-get install $2)"
-    return 1
-}
 
 ### What the help says
 
@@ -59,19 +35,19 @@ done
 # section NAME: the lines of a section of the page.
 section() { sed -n "/^\.Sh $1\$/,/^\.Sh /p" "$page"; }
 
-# named LINES: the options that lines of the page name.
-named() { grep -oE 'Fl (-[a-z-]+|[A-Za-z])\>' <<<"$1" | sed 's/^Fl /-/'; }
+# options_in LINES: the options that lines of the page name.
+options_in() { grep -oE 'Fl (-[a-z-]+|[A-Za-z])\>' <<<"$1" | sed 's/^Fl /-/'; }
 
 items=$(sed -n '/^\.Ss Options/,/^\.El/s/^\.It //p' "$page")
 same 'help and page: the commands' "$commands" "$(sed -n '/^\.Ss Commands/,/^\.El/s/^\.It Cm //p' "$page")"
 same 'help and page: the commands of the synopsis' "$commands" "$(section SYNOPSIS | sed -n 's/^\.Cm //p')"
-same 'help and page: the options' "$options" "$(named "$items")"
-same 'help and page: the options in the text' "$options" "$(named "$(cat "$page")")"
+same 'help and page: the options' "$options" "$(options_in "$items")"
+same 'help and page: the options in the text' "$options" "$(options_in "$(cat "$page")")"
 for command in $commands; do
     synopsis=$(section SYNOPSIS | sed -n "/^\.Cm $command\$/,/^\.Nm/p")
     same "help and page: the synopsis of $command" \
         "$(options_of "$command" | grep -vx -e -h -e --help -e -V -e --version)" \
-        "$(named "$synopsis")"
+        "$(options_in "$synopsis")"
 done
 same 'help and page: the statuses' "$("$program" --help | grep -oE '^  [0-9]+  ')" \
     "$(section 'EXIT STATUS' | sed -nE 's/^\.It ([0-9]+)$/  \1  /p')"
@@ -299,8 +275,7 @@ runs_alone() {
 if unshare -r true 2>/dev/null; then
     row 'the program with nothing around it' runs_alone
 else
-    skipped=$((skipped + 1))
-    echo 'SKIPPED: the program with nothing around it: unshare -r is not allowed here'
+    skip 'the program with nothing around it' 'unshare -r is not allowed here'
 fi
 
 ### The page for Rattle, docs/LIBRARY.md
@@ -326,5 +301,4 @@ done
 same 'docs/LIBRARY.md and crates.txt' "$(sed -n '/^    block_pair:/,/^$/s/^    //p' "$rattle")" \
     "$(grep -E '^(block_pair|aes_block|key_wrap|example_caller):' "$root/crates.txt")"
 
-echo "$passed passed, $failed failed, $skipped skipped"
-[ "$failed" = 0 ]
+finish

@@ -17,20 +17,20 @@ case $lines$seed in
     exit 2
     ;;
 esac
-# shellcheck source=scripts/program.sh
-. "${BASH_SOURCE[0]%/*}/../scripts/program.sh"
-# shellcheck source=scripts/expect.sh
-. "$root/scripts/expect.sh"
-# shellcheck source=scripts/answers.sh
-. "$root/scripts/answers.sh"
+# shellcheck source=tests/lib/program.sh
+. "${BASH_SOURCE[0]%/*}/lib/program.sh"
+# shellcheck source=tests/lib/expect.sh
+. "$root/tests/lib/expect.sh"
+# shellcheck source=tests/lib/answers.sh
+. "$root/tests/lib/answers.sh"
 
 ### Random numbers, the same in each bash
 
-state=$seed
+random=$seed
 # draw N: sets $drawn to a number below N.
 draw() {
-    state=$((state * 6364136223846793005 + 1442695040888963407))
-    drawn=$(((state >> 33 & 0x7fffffff) % $1))
+    random=$((random * 6364136223846793005 + 1442695040888963407))
+    drawn=$(((random >> 33 & 0x7fffffff) % $1))
 }
 for _ in 1 2 3; do draw 1; done
 
@@ -195,8 +195,8 @@ declare -A refusal=(
 )
 refusal[6]="(((new )?key file|input|output): cannot be opened|${refusal[6]})"
 
-# is_refused: nothing but the one line of the status came.
-is_refused() {
+# has_one_line: nothing but the one line of the status came.
+has_one_line() {
     local all
     mapfile -n 2 -t all <err
     [ ! -s out ] && [ ${#all[@]} = 1 ] && [[ ${all[0]} =~ ^"keywrap: "${refusal[$status]}$ ]]
@@ -226,8 +226,8 @@ is_right() {
     case $status in
     0) [ -s "$answer" ] && [ ! -s err ] && [ "$(head -c 5 "$answer" | tr -d '\0')" != none ] ;;
     2) [ ! -s out ] && is_usage ;;
-    5) is_refused || is_answered ;;
-    [3467]) is_refused ;;
+    5) has_one_line || is_answered ;;
+    [3467]) has_one_line ;;
     *) false ;;
     esac
 }

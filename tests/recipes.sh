@@ -4,21 +4,21 @@
 #
 # usage: tests/recipes.sh        (KEYWRAP=PATH tries another program, as an installed one)
 #
-# A recipe that wants a tool which is not here is skipped, with a line that says so.
+# A recipe whose tool is not here is skipped.
 
 set -u
-# shellcheck source=scripts/program.sh
-. "${BASH_SOURCE[0]%/*}/../scripts/program.sh"
-# shellcheck source=scripts/expect.sh
-. "$root/scripts/expect.sh"
+# shellcheck source=tests/lib/program.sh
+. "${BASH_SOURCE[0]%/*}/lib/program.sh"
+# shellcheck source=tests/lib/expect.sh
+. "$root/tests/lib/expect.sh"
 
 recipes=$root/docs/RECIPES.md
 mkdir bin
 ln -s "$launcher" bin/keywrap
 PATH=$PWD/bin:$PATH
 
-# wants SCRIPT: the tools that a recipe calls and this machine has not.
-wants() {
+# missing_tools SCRIPT: the tools that a recipe calls and this machine has not.
+missing_tools() {
     local tool
     for tool in openssl xxd base64 xargs; do
         if grep -qw -e "$tool" "$1" && ! command -v $tool >/dev/null; then
@@ -32,10 +32,10 @@ wants() {
 
 # follows NAME SCRIPT ANSWER: the lines of SCRIPT, in an empty folder, write ANSWER and end well.
 follows() {
-    local problem='' wanting
-    wanting=$(wants "$2" | paste -sd ' ')
-    if [ -n "$wanting" ]; then
-        echo "1 skipped: the recipe '$1' wants $wanting"
+    local problem='' missing
+    missing=$(missing_tools "$2" | paste -sd ' ')
+    if [ -n "$missing" ]; then
+        skip "the recipe '$1'" "no $missing" "$(sed 's/an openssl with .*/openssl/; s/base64/coreutils/; s/xargs/findutils/' <<<"$missing")"
         return
     fi
     mkdir here
@@ -54,9 +54,8 @@ for ((n = 1; ; n++)); do
 done
 [ $n -gt 1 ] || verdict 'the recipes' "none in $recipes"
 
-# The README's, of its beginning and of 'Before you trust a file', in one folder.
-sed -n '1,/^## What it needs/p; /^## Before you trust/,/^## Rotating/p' "$root/README.md" |
-    sed -n 's/^    //p' >lines
+# The README's, up to its second heading, in one folder.
+sed -n '1,/^## /s/^    //p' "$root/README.md" >lines
 sed -n 's/^[$] //p' lines | sed 's|\./keywrap|keywrap|' >script
 grep -v '^[$] ' lines >answer
 [ -s script ] || verdict 'the README' 'it has no such lines'

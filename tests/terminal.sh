@@ -7,19 +7,19 @@
 # A terminal is made by `script`; without it nothing is run, and a line says so.
 
 set -u
-# shellcheck source=scripts/program.sh
-. "${BASH_SOURCE[0]%/*}/../scripts/program.sh"
-# shellcheck source=scripts/expect.sh
-. "$root/scripts/expect.sh"
-# shellcheck source=scripts/answers.sh
-. "$root/scripts/answers.sh"
-# shellcheck source=scripts/commands.sh
-. "$root/scripts/commands.sh"
+# shellcheck source=tests/lib/program.sh
+. "${BASH_SOURCE[0]%/*}/lib/program.sh"
+# shellcheck source=tests/lib/expect.sh
+. "$root/tests/lib/expect.sh"
+# shellcheck source=tests/lib/answers.sh
+. "$root/tests/lib/answers.sh"
+# shellcheck source=tests/lib/commands.sh
+. "$root/tests/lib/commands.sh"
 
 if [ "$(script -qec 'echo here' /dev/null 2>&1 | tr -d '\r')" != here ]; then
-    echo 'SKIPPED: the program on a terminal: no script (apt-get install bsdutils), or it makes no terminal'
-    echo "$passed passed, $failed failed, 1 skipped"
-    exit 0
+    skip 'the program on a terminal' 'no script, or it makes no terminal' bsdutils
+    finish
+    exit
 fi
 
 # What is typed, in a pipe that never ends: the terminal stays until the program has ended.
@@ -61,9 +61,9 @@ END_OF_LINE
     tr -d '\r\b' <shown.raw | sed 's/\^D//' >screen
 }
 
-# told NAME STATUS SCREEN OUT ERR: the line ended so, the terminal showed SCREEN, and the files `out` and
+# displays NAME STATUS SCREEN OUT ERR: the line ended so, the terminal showed SCREEN, and the files `out` and
 # `err` hold OUT and ERR, which are printf's formats.
-told() {
+displays() {
     local problem='' file
     # shellcheck disable=SC2059
     printf "$3" >wanted.screen
@@ -87,7 +87,7 @@ export program
 shows() {
     : >out
     on_terminal "\"\$program\" ${*:5} 2>err"
-    told "$1" "$2" "$3" '' "$4"
+    displays "$1" "$2" "$3" '' "$4"
 }
 for words in 'wrap --raw' 'wrap --raw --raw-kek' 'wrap --padded --raw' "wrap --iv $iv --raw" 'unwrap --raw' \
     'rewrap --raw --new-kek kek32.hex' 'rewrap --raw --new-kek missing'; do
@@ -102,7 +102,7 @@ shows 'a value that is none, before raw bytes' 2 '' 'keywrap: --iv is not 16 hex
 seq 1000 >left
 # shellcheck disable=SC2016
 on_terminal '{ "$program" wrap --raw --kek kek16.hex; cat; } <left 2>err'
-told 'raw, input untouched' 0 "$(printf '%s\\n' {1..1000})" '' "$raw_line"
+displays 'raw, input untouched' 0 "$(printf '%s\\n' {1..1000})" '' "$raw_line"
 shows 'hex to a terminal' 0 "$text16\n" '' wrap --kek kek16.hex '<key.hex'
 shows 'hex to a terminal, a raw KEK' 0 "$text16\n" '' wrap --raw-kek --kek kek16.raw '<key.hex'
 shows 'unwrap to a terminal' 0 "$d16\n" '' unwrap --kek kek16.hex --input text.hex
@@ -125,7 +125,7 @@ waits() {
     on_terminal "\"\$program\" ${*:6} >out 2>err" "$5"
     # The terminal shows what is typed.
     : >screen
-    told "$1" "$2" '' "$3" "$4"
+    displays "$1" "$2" '' "$3" "$4"
 }
 in_hex='in hex on standard input; Ctrl-D ends it\n'
 in_raw='as raw bytes on standard input; Ctrl-D ends it\n'
@@ -153,7 +153,7 @@ waits 'a KEK of 15 bytes, which is read after that' 3 '' "$waiting ${in_hex}keyw
 # With standard output and standard error closed the file of --output has the descriptor of standard error.
 # shellcheck disable=SC2016
 ahead=yes on_terminal '"$program" wrap --kek kek16.hex --output file >&- 2>&-' "$d16\n\004"
-told 'wrap into a file, output and error closed' 0 "$d16\n" '' ''
+displays 'wrap into a file, output and error closed' 0 "$d16\n" '' ''
 verdict 'nothing but the answer is in it' "$(cmp file text.hex 2>&1)"
 # Nothing is waited for where the files can't be opened, or the input is a file.
 waits 'no KEK file' 6 '' 'keywrap: key file: cannot be opened\n' '' wrap --kek missing

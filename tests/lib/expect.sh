@@ -1,17 +1,61 @@
 # shellcheck shell=bash disable=SC2154
-# What the rows of the scripts in tests/ are written in: each call runs the command $keywrap in
-# the current folder, compares what it did, and counts one row.
+# What the rows of the scripts in tests/ are written in. Each row is counted, and prints a line where it
+# fails or can't be run here; `finish` is the last call of a script. The calls from `ran` on run the
+# command $keywrap in the current folder, and compare what it did.
 
-passed=0 failed=0
+passed=0 failed=0 skipped=0
 
-# verdict NAME PROBLEM: counts a row, and prints its line where there is a problem.
+# verdict NAME PROBLEM: counts a row, and prints the start of the problem where there is one.
 verdict() {
+    local problem=${2//$'\n'/ }
     if [ -z "$2" ]; then
         passed=$((passed + 1))
     else
         failed=$((failed + 1))
-        echo "FAILED: $1: $2"
+        echo "FAILED: $1: ${problem:0:600}"
     fi
+}
+
+# skip NAME WHY [PACKAGE]: a row, or a part of several, that can't be run here, and what to install.
+skip() {
+    skipped=$((skipped + 1))
+    echo "SKIPPED: $1: $2${3:+ (apt-get install $3)}"
+}
+
+# has TOOL PACKAGE PART: whether the tool is there; else the part is skipped.
+has() {
+    command -v "$1" >/dev/null && return
+    skip "$3" "no $1" "$2"
+    return 1
+}
+
+# finish: the last line, and the status of the script.
+finish() {
+    echo "$passed passed, $failed failed, $skipped skipped"
+    [ "$failed" = 0 ]
+}
+
+# row NAME COMMAND..: the command must succeed; what it wrote is shown where it does not.
+row() {
+    local problem=''
+    "${@:2}" >row.log 2>&1 || problem="it failed: $(head -n 20 row.log)"
+    verdict "$1" "$problem"
+}
+
+# same NAME LINES LINES: both have the same lines, in whatever order.
+same() {
+    verdict "$1" "$(diff <(echo "$2" | sort -u) <(echo "$3" | sort -u) |
+        sed -n 's/^</only the first has/p; s/^>/only the second has/p')"
+}
+
+# until_true COMMAND..: waits until the command is true, for 60 seconds at most.
+until_true() {
+    local tries
+    for ((tries = 0; tries < 1200; tries++)); do
+        ! "$@" || return 0
+        sleep 0.05
+    done
+    return 1
 }
 
 # ran ARGUMENT..: runs the command on this call's standard input. Its standard output is the

@@ -2,7 +2,7 @@
 # How a script of tests/ begins. Sourced, it goes to an empty folder, $room, that is removed at the end,
 # and reads from nowhere. $root is the repository.
 
-root=$(cd "$(dirname "${BASH_SOURCE[0]}")/.." && pwd)
+root=$(cd "$(dirname "${BASH_SOURCE[0]}")/../.." && pwd)
 room=$(mktemp -d) || exit 1
 trap 'rm -rf "$room"' EXIT
 cd "$room" || exit 1

@@ -7,7 +7,7 @@
 # shell before it. KEYWRAP=PATH tries another program in the place of both. $version is the one that
 # the sources name.
 
-root=$(cd "$(dirname "${BASH_SOURCE[0]}")/.." && pwd)
+root=$(cd "$(dirname "${BASH_SOURCE[0]}")/../.." && pwd)
 case ${KEYWRAP:-} in
 '' | /*) ;;
 *) KEYWRAP=$PWD/$KEYWRAP ;;
@@ -15,12 +15,6 @@ esac
 launcher=${KEYWRAP:-$root/keywrap}
 program=${KEYWRAP:-$root/crates/keywrap_cli/out/keywrap_cli}
 version=$(make -s --no-print-directory -C "$root" version)
-
-# finish: the last line, and the status of the script.
-finish() {
-    echo "$passed passed, $failed failed"
-    [ "$failed" = 0 ]
-}
 
 # limited KIND KILOBYTES ARGUMENT..: runs the program with so much memory and no more, of its data
 # (KIND d) or of its whole address space (v).
@@ -63,8 +57,8 @@ compiled() {
 }
 
 if ! "$launcher" --version >/dev/null </dev/null; then
-    echo "0 passed, 1 failed"
+    echo "0 passed, 1 failed, 0 skipped"
     exit 1
 fi
-# shellcheck source=scripts/room.sh
-. "$root/scripts/room.sh"
+# shellcheck source=tests/lib/room.sh
+. "$root/tests/lib/room.sh"

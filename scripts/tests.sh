@@ -1,0 +1,49 @@
+#!/usr/bin/env bash
+# Runs the scripts tests/*.sh side by side, shows what each wrote, and ends with one line of what passed,
+# failed and was skipped in all of them; before it stands what to install, so that nothing is skipped.
+# Each script stands alone, and ends with such a line of its own: a new one needs no line here.
+#
+# usage: scripts/tests.sh [NAME..]        the scripts tests/NAME.sh; all of them, if none is named
+
+set -u
+cd "$(dirname "${BASH_SOURCE[0]}")/.." || exit
+logs=$(mktemp -d) || exit
+trap 'rm -rf "$logs"' EXIT
+[ $# -gt 0 ] || set -- tests/*.sh
+scripts=("${@##*/}")
+scripts=("${scripts[@]%.sh}")
+
+# run_script NAME: its lines go to a file, and its status as the last of them.
+run_script() {
+    local began=$SECONDS status
+    bash "tests/$1.sh" </dev/null >"$logs/$1" 2>&1
+    status=$?
+    echo "tests/$1.sh: $((SECONDS - began)) s, status $status" >>"$logs/$1"
+}
+
+# They share the program, which is built before the first of them.
+./keywrap --version || exit
+for script in "${scripts[@]}"; do
+    while [ "$(jobs -pr | wc -l)" -ge "$(nproc)" ]; do wait -n; done
+    run_script "$script" &
+done
+wait
+
+passed=0 failed=0 skipped=0
+for script in "${scripts[@]}"; do
+    echo
+    cat "$logs/$script"
+    # The last two lines are the script's own and its status.
+    if [[ $(tail -n 2 "$logs/$script") =~ ^([0-9]+)\ passed,\ ([0-9]+)\ failed,\ ([0-9]+)\ skipped$'\n'.*\ status\ ([0-9]+)$ ]]; then
+        passed=$((passed + BASH_REMATCH[1])) failed=$((failed + BASH_REMATCH[2])) skipped=$((skipped + BASH_REMATCH[3]))
+        [ "$((BASH_REMATCH[2] == 0))" = "$((BASH_REMATCH[4] == 0))" ] || failed=$((failed + 1))
+    else
+        failed=$((failed + 1))
+        echo "FAILED: tests/$script.sh did not end with what it counted"
+    fi
+done
+echo
+packages=$(sed -n 's/^SKIPPED: .*(apt-get install \(.*\))$/\1/p' "$logs"/* | tr ' ' '\n' | sort -u | paste -sd ' ')
+[ -z "$packages" ] || echo "what was skipped needs: apt-get install $packages (all: tests/packages.txt)"
+echo "$passed passed, $failed failed, $skipped skipped"
+[ "$failed" = 0 ]

@@ -1,0 +1,43 @@
+/* An fsync, a rename and a statx for tests/files.sh, built as a shared library and named in LD_PRELOAD. Each
+   writes its name to descriptor 9, and FAIL_CALL=NAME has each call of that name fail with EIO, FAIL_CALL=NAME:N
+   the Nth alone. No header is included: the kit's compiler, which has none, is enough. */
+
+extern char *getenv(const char *name);
+extern int strncmp(const char *one, const char *other, unsigned long count);
+extern unsigned long strlen(const char *text);
+extern long write(int descriptor, const void *bytes, unsigned long count);
+extern long syscall(long number, ...);
+extern int *__errno_location(void);
+
+enum { EIO = 5, SYS_FSYNC = 74, SYS_RENAME = 82, SYS_STATX = 332 };
+
+static int fails(const char *name, long call) {
+    const char *wish = getenv("FAIL_CALL");
+    unsigned long length = strlen(name);
+    long wanted = 0;
+    (void)!write(9, name, length);
+    (void)!write(9, "\n", 1);
+    if (!wish || strncmp(wish, name, length) != 0)
+        return 0;
+    for (wish += length; *wish; wish++)
+        wanted = *wish == ':' ? 0 : 10 * wanted + (*wish - '0');
+    if (wanted != 0 && wanted != call)
+        return 0;
+    *__errno_location() = EIO;
+    return 1;
+}
+
+int fsync(int descriptor) {
+    static long calls;
+    return fails("fsync", ++calls) ? -1 : (int)syscall(SYS_FSYNC, descriptor);
+}
+
+int rename(const char *from, const char *to) {
+    static long calls;
+    return fails("rename", ++calls) ? -1 : (int)syscall(SYS_RENAME, from, to);
+}
+
+int statx(int folder, const char *path, int flags, unsigned mask, void *found) {
+    static long calls;
+    return fails("statx", ++calls) ? -1 : (int)syscall(SYS_STATX, folder, path, flags, mask, found);
+}
