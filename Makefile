@@ -14,8 +14,12 @@ DIST ?= out
 LIBRARY ?= out/library
 # What the C library is made of: the archive that rt builds of the exports.
 ARCHIVE ?= crates/keywrap_c/out/libkeywrap_c.a
+# What builds the Python package: it needs cffi, setuptools, wheel and build.
+PYTHON ?= python3
 
-soname = libkeywrap.so.0
+soname = libkeywrap.so.1
+shared = $(soname).0.0
+wheel = $(DIST)/keywrap-$(version)-cp39-abi3-linux_x86_64.whl
 crates = block_pair aes_block key_wrap keywrap_c
 sources = $(shell find crates.txt $(foreach c,$(crates),$(wildcard crates/$(c)/src crates/$(c)/specs crates/$(c)/proofs)) -type f)
 
@@ -29,11 +33,12 @@ for_zsh = $(share)/zsh/site-functions
 for_fish = $(share)/fish/vendor_completions.d
 
 .PHONY: help version build library test install uninstall install-command uninstall-command \
-    install-library uninstall-library dist bench clean
+    install-library uninstall-library wheel dist bench clean
 
 help:
 	@echo 'make build              proves and builds the program, where that is not done'
-	@echo 'make library            proves and builds the C library, as $(LIBRARY)/libkeywrap.a and $(soname)'
+	@echo 'make library            proves and builds the C library, as $(LIBRARY)/libkeywrap.a and $(shared)'
+	@echo 'make wheel              builds the Python package, as $(wheel)'
 	@echo 'make test               runs the gate, rt ci, and then the built command and the C library as a user does'
 	@echo 'make install            installs the two below, under $$(DESTDIR)$$(PREFIX)'
 	@echo 'make install-command    installs the program, its manual page, and completions for bash, zsh and fish'
@@ -63,11 +68,21 @@ $(LIBRARY)/libkeywrap.a: always
 	    install -m 644 '$(ARCHIVE)' '$@'; \
 	    b2sum '$@' >>'$(LIBRARY)/begun'; mv '$(LIBRARY)/begun' '$(LIBRARY)/built_from'; }
 
-$(LIBRARY)/$(soname): $(LIBRARY)/libkeywrap.a include/keywrap.map
+# The loader finds it by its soname; a hard link, since no symbolic one stands in this folder.
+$(LIBRARY)/$(shared): $(LIBRARY)/libkeywrap.a include/keywrap.map
 	$(CC) -shared -o '$@' -Wl,--whole-archive '$<' -Wl,--no-whole-archive -Wl,-soname,$(soname) \
 	    -Wl,--version-script,include/keywrap.map -Wl,-z,defs,-z,relro,-z,now
+	ln -f '$@' '$(LIBRARY)/$(soname)'
 
-library: $(LIBRARY)/libkeywrap.a $(LIBRARY)/$(soname)
+library: $(LIBRARY)/libkeywrap.a $(LIBRARY)/$(shared)
+
+# The package is built beside the header and the archive, in a folder of its own.
+wheel: $(LIBRARY)/libkeywrap.a
+	rm -rf '$(LIBRARY)/python'
+	cp -R python '$(LIBRARY)/python'
+	cp include/keywrap.h '$(LIBRARY)/libkeywrap.a' '$(LIBRARY)/python'
+	$(PYTHON) -m build --wheel --no-isolation --outdir '$(abspath $(DIST))' '$(LIBRARY)/python' >'$(LIBRARY)/wheel.log' || \
+	    { cat '$(LIBRARY)/wheel.log'; exit 1; }
 
 test:
 	rt ci
@@ -89,19 +104,20 @@ uninstall-command:
 	rm -f '$(bin)/keywrap' '$(man)/keywrap.1' '$(for_bash)/keywrap' '$(for_zsh)/_keywrap' \
 	    '$(for_fish)/keywrap.fish'
 
-# The link without a number is for the linker; it stands there alone, never in this folder.
+# The links are for the loader and the linker; they stand there alone, never in this folder.
 install-library: library
 	install -d '$(lib)/pkgconfig' '$(include)'
 	install -m 644 '$(LIBRARY)/libkeywrap.a' '$(lib)/libkeywrap.a'
-	install -m 755 '$(LIBRARY)/$(soname)' '$(lib)/$(soname)'
+	install -m 755 '$(LIBRARY)/$(shared)' '$(lib)/$(shared)'
+	ln -sf $(shared) '$(lib)/$(soname)'
 	ln -sf $(soname) '$(lib)/libkeywrap.so'
 	install -m 644 include/keywrap.h '$(include)/keywrap.h'
 	install -m 644 include/keywrap.pc.in '$(lib)/pkgconfig/keywrap.pc'
 	sed -i 's|@PREFIX@|$(PREFIX)|; s|@VERSION@|$(version)|' '$(lib)/pkgconfig/keywrap.pc'
 
 uninstall-library:
-	rm -f '$(lib)/libkeywrap.a' '$(lib)/$(soname)' '$(lib)/libkeywrap.so' '$(include)/keywrap.h' \
-	    '$(lib)/pkgconfig/keywrap.pc'
+	rm -f '$(lib)/libkeywrap.a' '$(lib)/$(shared)' '$(lib)/$(soname)' '$(lib)/libkeywrap.so' \
+	    '$(include)/keywrap.h' '$(lib)/pkgconfig/keywrap.pc'
 
 dist: build
 	scripts/dist.sh '$(PROGRAM)' '$(version)' '$(DIST)'

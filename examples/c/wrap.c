@@ -1,4 +1,4 @@
-/* wrap.c: the four things that a caller does, on vectors of RFC 3394 and RFC 5649.
+/* wrap.c: what a caller does, on vectors of RFC 3394 and RFC 5649.
  *
  *     cc wrap.c $(pkg-config --cflags --libs keywrap) -o wrap */
 
@@ -9,9 +9,11 @@
 static const char *message(int32_t status) {
     switch (status) {
     case KEYWRAP_OK: return "done";
-    case KEYWRAP_BAD_KEK: return "the KEK has not 16, 24 or 32 bytes";
+    case KEYWRAP_BAD_IV: return "the initial value is refused";
+    case KEYWRAP_BAD_KEK: return "the KEK is not 16, 24 or 32 bytes long";
     case KEYWRAP_BAD_LENGTH: return "bad length";
-    default: return "the integrity check failed";
+    case KEYWRAP_INTEGRITY: return "the integrity check failed";
+    default: return "unknown status";
     }
 }
 
@@ -22,34 +24,49 @@ static void print(const char *what, int32_t status, const uint8_t *bytes, size_t
     printf("\n");
 }
 
-/* A text of its own for the key, and a buffer of its own for what is unwrapped. */
+/* A buffer of its own for the wrapped key, and one for what is unwrapped. */
 static int two_buffers(const uint8_t *kek, size_t kek_len, const uint8_t key[16]) {
-    uint8_t text[KEYWRAP_TEXT_LEN(16)], back[16];
-    int32_t status = keywrap_wrap(kek, kek_len, key, 16, text, sizeof text);
-    print("wrap", status, text, sizeof text);
+    uint8_t wrapped[KEYWRAP_TEXT_LEN(16)], back[16];
+    int32_t status = keywrap_wrap(kek, kek_len, key, 16, wrapped, sizeof wrapped);
+    print("wrap", status, wrapped, sizeof wrapped);
     if (status != KEYWRAP_OK) return 0;
 
-    status = keywrap_unwrap(kek, kek_len, text, sizeof text, back, sizeof back);
+    status = keywrap_unwrap(kek, kek_len, wrapped, sizeof wrapped, back, sizeof back);
     print("unwrap", status, back, sizeof back);
     if (status != KEYWRAP_OK || memcmp(back, key, sizeof back) != 0) return 0;
 
-    text[3] ^= 1;
-    status = keywrap_unwrap(kek, kek_len, text, sizeof text, back, sizeof back);
-    print("unwrap a tampered text", status, back, sizeof back);
+    wrapped[3] ^= 1;
+    status = keywrap_unwrap(kek, kek_len, wrapped, sizeof wrapped, back, sizeof back);
+    print("unwrap a damaged wrapped key", status, back, sizeof back);
     return status == KEYWRAP_INTEGRITY; /* and `back` is all zeros */
 }
 
 /* A key of any length, whose padding an unwrap takes off. */
 static int padded(const uint8_t *kek, size_t kek_len, const uint8_t key[7]) {
-    uint8_t text[KEYWRAP_PADDED_TEXT_LEN(7)], back[KEYWRAP_ROOM(sizeof text)];
+    uint8_t wrapped[KEYWRAP_PADDED_TEXT_LEN(7)], back[KEYWRAP_ROOM(sizeof wrapped)];
     size_t key_len;
-    int32_t status = keywrap_wrap_padded(kek, kek_len, key, 7, text, sizeof text);
-    print("wrap, padded", status, text, sizeof text);
+    int32_t status = keywrap_wrap_padded(kek, kek_len, key, 7, wrapped, sizeof wrapped);
+    print("wrap, padded", status, wrapped, sizeof wrapped);
     if (status != KEYWRAP_OK) return 0;
 
-    status = keywrap_unwrap_padded(kek, kek_len, text, sizeof text, back, sizeof back, &key_len);
+    status = keywrap_unwrap_padded(kek, kek_len, wrapped, sizeof wrapped, back, sizeof back,
+                                   &key_len);
     print("unwrap, padded", status, back, key_len);
     return status == KEYWRAP_OK && key_len == 7 && memcmp(back, key, 7) == 0;
+}
+
+/* An initial value that both ends agreed on, and one that is refused. */
+static int agreed(const uint8_t *kek, size_t kek_len, const uint8_t key[16]) {
+    static const uint8_t iv[8] = {0x01, 0x23, 0x45, 0x67, 0x89, 0xAB, 0xCD, 0xEF};
+    static const uint8_t reserved[8] = {0xA6, 0x59, 0x59, 0xA6, 0, 0, 0, 16};
+    uint8_t wrapped[KEYWRAP_TEXT_LEN(16)];
+    int32_t status = keywrap_wrap_with(kek, kek_len, iv, 8, key, 16, wrapped, sizeof wrapped);
+    print("wrap under a value", status, wrapped, sizeof wrapped);
+    if (status != KEYWRAP_OK) return 0;
+
+    status = keywrap_wrap_with(kek, kek_len, reserved, 8, key, 16, wrapped, sizeof wrapped);
+    print("wrap under a reserved value", status, wrapped, sizeof wrapped);
+    return status == KEYWRAP_BAD_IV;
 }
 
 /* One buffer for both: the key stands 8 bytes behind its start. */
@@ -76,7 +93,7 @@ int main(void) {
                                          0xAE, 0x83, 0x38, 0xF4, 0xDC, 0xC1, 0x76, 0xA8};
     static const uint8_t key_5649[7] = {0x46, 0x6F, 0x72, 0x50, 0x61, 0x73, 0x69};
     return two_buffers(kek, sizeof kek, key) && padded(kek_5649, sizeof kek_5649, key_5649)
-                   && in_place(kek, sizeof kek, key)
+                   && agreed(kek, sizeof kek, key) && in_place(kek, sizeof kek, key)
                ? 0
                : 1;
 }

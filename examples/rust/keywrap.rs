@@ -9,11 +9,11 @@ use std::fmt;
 pub enum Error {
     /// The initial value is reserved for the padded form: it begins with a6 59 59 a6.
     BadValue,
-    /// The KEK has not 16, 24 or 32 bytes.
+    /// The KEK is not 16, 24 or 32 bytes long.
     BadKek,
-    /// The key or the text has no length that this form takes.
+    /// The key or the wrapped key has a length that this form does not take.
     BadLength,
-    /// The text wraps no key under this KEK.
+    /// The integrity check failed: no key was wrapped to this under this KEK.
     Integrity,
 }
 
@@ -21,8 +21,8 @@ impl fmt::Display for Error {
     fn fmt(&self, f: &mut fmt::Formatter<'_>) -> fmt::Result {
         f.write_str(match self {
             Error::BadValue => "the initial value is reserved for the padded form",
-            Error::BadKek => "the KEK has not 16, 24 or 32 bytes",
-            Error::BadLength => "bad length",
+            Error::BadKek => "the KEK is not 16, 24 or 32 bytes long",
+            Error::BadLength => "the length is not one that this form takes",
             Error::Integrity => "the integrity check failed",
         })
     }
@@ -38,16 +38,16 @@ type Call = unsafe extern "C" fn(Bytes, usize, Bytes, usize, Buffer, usize) -> i
 #[link(name = "keywrap")]
 #[rustfmt::skip]
 extern "C" {
-    fn keywrap_wrap(k: Bytes, n: usize, key: Bytes, m: usize, text: Buffer, len: usize) -> i32;
-    fn keywrap_unwrap(k: Bytes, n: usize, text: Bytes, len: usize, key: Buffer, m: usize) -> i32;
+    fn keywrap_wrap(k: Bytes, n: usize, key: Bytes, m: usize, wrapped: Buffer, len: usize) -> i32;
+    fn keywrap_unwrap(k: Bytes, n: usize, wrapped: Bytes, len: usize, key: Buffer, m: usize) -> i32;
     fn keywrap_wrap_with(k: Bytes, n: usize, iv: Bytes, v: usize, key: Bytes, m: usize,
-        text: Buffer, len: usize) -> i32;
-    fn keywrap_unwrap_with(k: Bytes, n: usize, iv: Bytes, v: usize, text: Bytes, len: usize,
+        wrapped: Buffer, len: usize) -> i32;
+    fn keywrap_unwrap_with(k: Bytes, n: usize, iv: Bytes, v: usize, wrapped: Bytes, len: usize,
         key: Buffer, m: usize) -> i32;
-    fn keywrap_wrap_padded(k: Bytes, n: usize, key: Bytes, m: usize, text: Buffer, len: usize)
+    fn keywrap_wrap_padded(k: Bytes, n: usize, key: Bytes, m: usize, wrapped: Buffer, len: usize)
         -> i32;
-    fn keywrap_unwrap_padded(k: Bytes, n: usize, text: Bytes, len: usize, key: Buffer, room: usize,
-        m: *mut usize) -> i32;
+    fn keywrap_unwrap_padded(k: Bytes, n: usize, wrapped: Bytes, len: usize, key: Buffer,
+        room: usize, m: *mut usize) -> i32;
     fn keywrap_wrap_in_place(k: Bytes, n: usize, buffer: Buffer, len: usize) -> i32;
     fn keywrap_unwrap_in_place(k: Bytes, n: usize, buffer: Buffer, len: usize) -> i32;
     fn keywrap_wrap_padded_in_place(k: Bytes, n: usize, buffer: Buffer, len: usize, m: usize)
@@ -64,6 +64,7 @@ fn answer(status: i32) -> Result<(), Error> {
         2 => Err(Error::BadValue),
         3 => Err(Error::BadKek),
         4 => Err(Error::BadLength),
+        // 5, or one that this version does not know: no key is given out.
         _ => Err(Error::Integrity),
     }
 }
@@ -79,69 +80,87 @@ fn filled(call: Call, kek: &[u8], given: &[u8], len: usize) -> Result<Vec<u8>, E
     Ok(out)
 }
 
-/// The plain wrapping of a key of 16, 24, 32 .. bytes.
+/// Wraps a key of 16, 24, 32 .. bytes in the plain form.
 pub fn wrap(kek: &[u8], key: &[u8]) -> Result<Vec<u8>, Error> {
     filled(keywrap_wrap, kek, key, key.len() + 8)
 }
 
-/// The key whose plain wrapping the text is.
-pub fn unwrap(kek: &[u8], text: &[u8]) -> Result<Vec<u8>, Error> {
-    filled(keywrap_unwrap, kek, text, text.len().saturating_sub(8))
+/// The key that was wrapped in the plain form.
+pub fn unwrap(kek: &[u8], wrapped: &[u8]) -> Result<Vec<u8>, Error> {
+    filled(
+        keywrap_unwrap,
+        kek,
+        wrapped,
+        wrapped.len().saturating_sub(8),
+    )
 }
 
-/// The plain wrapping of a key of 16, 24, 32 .. bytes, under an initial value that both ends agreed
-/// on.
+/// Wraps a key of 16, 24, 32 .. bytes in the plain form, under an initial value that both ends
+/// agreed on.
 pub fn wrap_with(kek: &[u8], iv: &[u8; 8], key: &[u8]) -> Result<Vec<u8>, Error> {
-    let mut text = vec![0; key.len() + 8];
-    let (k, v, g, o) = (kek.as_ptr(), iv.as_ptr(), key.as_ptr(), text.as_mut_ptr());
-    answer(unsafe { keywrap_wrap_with(k, kek.len(), v, 8, g, key.len(), o, text.len()) })?;
-    Ok(text)
+    let mut wrapped = vec![0; key.len() + 8];
+    let (k, v, g, o) = (
+        kek.as_ptr(),
+        iv.as_ptr(),
+        key.as_ptr(),
+        wrapped.as_mut_ptr(),
+    );
+    answer(unsafe { keywrap_wrap_with(k, kek.len(), v, 8, g, key.len(), o, wrapped.len()) })?;
+    Ok(wrapped)
 }
 
-/// The key whose plain wrapping under this initial value the text is.
-pub fn unwrap_with(kek: &[u8], iv: &[u8; 8], text: &[u8]) -> Result<Vec<u8>, Error> {
-    let mut key = vec![0; text.len().saturating_sub(8)];
-    let (k, v, t, o) = (kek.as_ptr(), iv.as_ptr(), text.as_ptr(), key.as_mut_ptr());
-    answer(unsafe { keywrap_unwrap_with(k, kek.len(), v, 8, t, text.len(), o, key.len()) })?;
+/// The key that was wrapped in the plain form under this initial value.
+pub fn unwrap_with(kek: &[u8], iv: &[u8; 8], wrapped: &[u8]) -> Result<Vec<u8>, Error> {
+    let mut key = vec![0; wrapped.len().saturating_sub(8)];
+    let (k, v, t, o) = (
+        kek.as_ptr(),
+        iv.as_ptr(),
+        wrapped.as_ptr(),
+        key.as_mut_ptr(),
+    );
+    answer(unsafe { keywrap_unwrap_with(k, kek.len(), v, 8, t, wrapped.len(), o, key.len()) })?;
     Ok(key)
 }
 
-/// The padded wrapping of a key of 1 byte and more.
+/// Wraps a key of 1 byte and more in the padded form.
 pub fn wrap_padded(kek: &[u8], key: &[u8]) -> Result<Vec<u8>, Error> {
     filled(keywrap_wrap_padded, kek, key, ((key.len() + 7) & !7) + 8)
 }
 
-/// The key whose padded wrapping the text is.
-pub fn unwrap_padded(kek: &[u8], text: &[u8]) -> Result<Vec<u8>, Error> {
-    let mut key = vec![0; text.len().saturating_sub(8)];
+/// The key that was wrapped in the padded form.
+pub fn unwrap_padded(kek: &[u8], wrapped: &[u8]) -> Result<Vec<u8>, Error> {
+    let mut key = vec![0; wrapped.len().saturating_sub(8)];
     let mut len = 0;
-    let (k, t, o) = (kek.as_ptr(), text.as_ptr(), key.as_mut_ptr());
-    answer(unsafe { keywrap_unwrap_padded(k, kek.len(), t, text.len(), o, key.len(), &mut len) })?;
+    let (k, t, o) = (kek.as_ptr(), wrapped.as_ptr(), key.as_mut_ptr());
+    answer(unsafe {
+        keywrap_unwrap_padded(k, kek.len(), t, wrapped.len(), o, key.len(), &mut len)
+    })?;
     key.truncate(len);
     Ok(key)
 }
 
-/// Turns the key behind the first 8 bytes of the buffer into its plain wrapping, the whole buffer.
+/// Wraps the key behind the first 8 bytes of the buffer in the plain form, into the whole buffer.
 pub fn wrap_in_place(kek: &[u8], buffer: &mut [u8]) -> Result<(), Error> {
     let (k, b) = (kek.as_ptr(), buffer.as_mut_ptr());
     answer(unsafe { keywrap_wrap_in_place(k, kek.len(), b, buffer.len()) })
 }
 
-/// Turns a plain wrapping into its key, and gives it; at `Integrity` the buffer is all zeros.
+/// Unwraps the buffer in the plain form, and gives the key; at `Integrity` the buffer is all zeros.
 pub fn unwrap_in_place<'a>(kek: &[u8], buffer: &'a mut [u8]) -> Result<&'a mut [u8], Error> {
     let (k, b) = (kek.as_ptr(), buffer.as_mut_ptr());
     answer(unsafe { keywrap_unwrap_in_place(k, kek.len(), b, buffer.len()) })?;
     Ok(&mut buffer[8..])
 }
 
-/// Turns the key of `key_len` bytes behind the first 8 of the buffer into its padded wrapping, the
+/// Wraps the key of `key_len` bytes behind the first 8 of the buffer in the padded form, into the
 /// whole buffer.
 pub fn wrap_padded_in_place(kek: &[u8], buffer: &mut [u8], key_len: usize) -> Result<(), Error> {
     let (k, b) = (kek.as_ptr(), buffer.as_mut_ptr());
     answer(unsafe { keywrap_wrap_padded_in_place(k, kek.len(), b, buffer.len(), key_len) })
 }
 
-/// Turns a padded wrapping into its key, and gives it; at `Integrity` the buffer is all zeros.
+/// Unwraps the buffer in the padded form, and gives the key; at `Integrity` the buffer is all
+/// zeros.
 pub fn unwrap_padded_in_place<'a>(kek: &[u8], buffer: &'a mut [u8]) -> Result<&'a mut [u8], Error> {
     let mut len = 0;
     let (k, b) = (kek.as_ptr(), buffer.as_mut_ptr());
@@ -152,7 +171,7 @@ pub fn unwrap_padded_in_place<'a>(kek: &[u8], buffer: &'a mut [u8]) -> Result<&'
 const OLD_PADDED: u32 = 1;
 const NEW_PADDED: u32 = 2;
 
-/// The form of a text.
+/// The form in which a key is wrapped.
 #[derive(Clone, Copy, Debug, PartialEq, Eq)]
 pub enum Form {
     /// RFC 3394.
@@ -170,9 +189,9 @@ impl Form {
     }
 }
 
-/// Turns the text in the buffer, a wrapping under the old KEK, into the wrapping of the same key
-/// under the new one; at `Integrity`, and where the new form takes no key of this length, the
-/// buffer is all zeros.
+/// Turns the key in the buffer, wrapped under the old KEK, into the same key wrapped under the new
+/// one; at `Integrity`, and where the new form takes no key of this length, the buffer is all
+/// zeros.
 pub fn rewrap_in_place(
     old_kek: &[u8],
     old_form: Form,
@@ -184,4 +203,25 @@ pub fn rewrap_in_place(
     let (b, len) = (buffer.as_mut_ptr(), buffer.len());
     let forms = old_form.flag(OLD_PADDED) | new_form.flag(NEW_PADDED);
     answer(unsafe { keywrap_rewrap_in_place(k, old_kek.len(), m, new_kek.len(), b, len, forms) })
+}
+
+#[cfg(test)]
+mod tests {
+    use super::{answer, Error};
+
+    #[test]
+    fn only_status_0_is_done() {
+        for status in (-300..300).chain([i32::MIN, i32::MAX]) {
+            assert_eq!(answer(status).is_ok(), status == 0, "{status}");
+        }
+    }
+
+    #[test]
+    fn says_what_was_refused() {
+        let said = |status: i32| answer(status).unwrap_err().to_string();
+        assert!(said(2).contains("initial value") && answer(2) == Err(Error::BadValue));
+        assert!(said(3).contains("KEK") && answer(3) == Err(Error::BadKek));
+        assert!(said(4).contains("length") && answer(4) == Err(Error::BadLength));
+        assert!(said(5).contains("integrity") && answer(5) == Err(Error::Integrity));
+    }
 }

@@ -13,28 +13,31 @@ fn hex(bytes: &[u8]) -> String {
 fn plain() -> Result<(), Error> {
     let kek: Vec<u8> = (0..16).collect();
     let key: Vec<u8> = (0..16).map(|i| 0x11 * i).collect();
-    let text = keywrap::wrap(&kek, &key)?;
-    println!("wrap: {}", hex(&text));
+    let wrapped = keywrap::wrap(&kek, &key)?;
+    println!("wrap: {}", hex(&wrapped));
     assert_eq!(
-        hex(&text),
+        hex(&wrapped),
         "1fa68b0a8112b447aef34bd8fb5a7b829d3e862371d2cfe5"
     );
-    assert_eq!(keywrap::unwrap(&kek, &text)?, key);
+    assert_eq!(keywrap::unwrap(&kek, &wrapped)?, key);
 
     let mut buffer = [&[0; 8], &key[..]].concat();
     keywrap::wrap_in_place(&kek, &mut buffer)?;
-    assert_eq!(buffer, text);
+    assert_eq!(buffer, wrapped);
     assert_eq!(keywrap::unwrap_in_place(&kek, &mut buffer)?, key);
 
-    let mut tampered = text.clone();
-    tampered[3] ^= 1;
-    assert_eq!(keywrap::unwrap(&kek, &tampered), Err(Error::Integrity));
+    let mut damaged = wrapped.clone();
+    damaged[3] ^= 1;
+    assert_eq!(keywrap::unwrap(&kek, &damaged), Err(Error::Integrity));
     assert_eq!(
-        keywrap::unwrap_in_place(&kek, &mut tampered),
+        keywrap::unwrap_in_place(&kek, &mut damaged),
         Err(Error::Integrity)
     );
-    assert_eq!(tampered, [0; 24]);
-    assert_eq!(keywrap::unwrap_padded(&kek, &text), Err(Error::Integrity));
+    assert_eq!(damaged, [0; 24]);
+    assert_eq!(
+        keywrap::unwrap_padded(&kek, &wrapped),
+        Err(Error::Integrity)
+    );
     assert_eq!(keywrap::wrap(&kek[..15], &key), Err(Error::BadKek));
     assert_eq!(keywrap::wrap(&kek, &[]), Err(Error::BadLength));
     assert_eq!(keywrap::unwrap(&kek, &[]), Err(Error::BadLength));
@@ -45,25 +48,26 @@ fn agreed() -> Result<(), Error> {
     let kek: Vec<u8> = (0..24).collect();
     let key: Vec<u8> = (0..16).map(|i| 0x11 * i).collect();
     let iv = [0x01, 0x23, 0x45, 0x67, 0x89, 0xab, 0xcd, 0xef];
-    let text = keywrap::wrap_with(&kek, &iv, &key)?;
-    println!("wrap under a value: {}", hex(&text));
+    let wrapped = keywrap::wrap_with(&kek, &iv, &key)?;
+    println!("wrap under a value: {}", hex(&wrapped));
     assert_eq!(
-        hex(&text),
+        hex(&wrapped),
         "5faedb3ad28b498f36c1afc361861782e04e134798791145"
     );
-    assert_eq!(keywrap::unwrap_with(&kek, &iv, &text)?, key);
-    assert_eq!(keywrap::unwrap(&kek, &text), Err(Error::Integrity));
+    assert_eq!(keywrap::unwrap_with(&kek, &iv, &wrapped)?, key);
+    assert_eq!(keywrap::unwrap(&kek, &wrapped), Err(Error::Integrity));
     assert_eq!(
         keywrap::wrap_with(&kek, &[0xa6; 8], &key),
         keywrap::wrap(&kek, &key)
     );
+    assert_eq!(keywrap::unwrap_with(&kek, &iv, &[]), Err(Error::BadLength));
     let reserved = [0xa6, 0x59, 0x59, 0xa6, 0, 0, 0, 16];
     assert_eq!(
         keywrap::wrap_with(&kek, &reserved, &key),
         Err(Error::BadValue)
     );
     assert_eq!(
-        keywrap::unwrap_with(&kek, &reserved, &text),
+        keywrap::unwrap_with(&kek, &reserved, &wrapped),
         Err(Error::BadValue)
     );
     Ok(())
@@ -75,18 +79,19 @@ fn padded() -> Result<(), Error> {
         0xa1, 0xae, 0x83, 0x38, 0xf4, 0xdc, 0xc1, 0x76, 0xa8,
     ];
     let key = b"ForPasi";
-    let text = keywrap::wrap_padded(&kek, key)?;
-    println!("wrap, padded: {}", hex(&text));
-    assert_eq!(hex(&text), "afbeb0f07dfbf5419200f2ccb50bb24f");
-    assert_eq!(keywrap::unwrap_padded(&kek, &text)?, key);
+    let wrapped = keywrap::wrap_padded(&kek, key)?;
+    println!("wrap, padded: {}", hex(&wrapped));
+    assert_eq!(hex(&wrapped), "afbeb0f07dfbf5419200f2ccb50bb24f");
+    assert_eq!(keywrap::unwrap_padded(&kek, &wrapped)?, key);
     let whole = keywrap::wrap_padded(&kek, &[7; 16])?;
     assert_eq!(keywrap::unwrap_padded(&kek, &whole)?, [7; 16]);
 
     let mut buffer = [&[0; 8], &key[..], &[1]].concat();
     keywrap::wrap_padded_in_place(&kek, &mut buffer, key.len())?;
-    assert_eq!(buffer, text);
+    assert_eq!(buffer, wrapped);
     assert_eq!(keywrap::unwrap_padded_in_place(&kek, &mut buffer)?, key);
     assert_eq!(keywrap::wrap_padded(&kek, &[]), Err(Error::BadLength));
+    assert_eq!(keywrap::unwrap_padded(&kek, &[]), Err(Error::BadLength));
     Ok(())
 }
 
@@ -94,9 +99,9 @@ fn rewrapped() -> Result<(), Error> {
     let old_kek: Vec<u8> = (0..16).collect();
     let new_kek: Vec<u8> = (0..32).collect();
     let key: Vec<u8> = (0..16).map(|i| 0x11 * i).collect();
-    let text = keywrap::wrap(&old_kek, &key)?;
+    let wrapped = keywrap::wrap(&old_kek, &key)?;
 
-    let mut buffer = text.clone();
+    let mut buffer = wrapped.clone();
     keywrap::rewrap_in_place(&old_kek, Form::Plain, &new_kek, Form::Plain, &mut buffer)?;
     println!("rewrap: {}", hex(&buffer));
     assert_eq!(
@@ -109,7 +114,7 @@ fn rewrapped() -> Result<(), Error> {
         "2cef0c9e30de26016c230cb78bc60d51b1fe083ba0c79cd5"
     );
     keywrap::rewrap_in_place(&old_kek, Form::Padded, &old_kek, Form::Plain, &mut buffer)?;
-    assert_eq!(buffer, text);
+    assert_eq!(buffer, wrapped);
 
     let rewrap = |new_kek: &[u8], buffer: &mut [u8]| {
         keywrap::rewrap_in_place(&old_kek, Form::Plain, new_kek, Form::Plain, buffer)
@@ -117,7 +122,7 @@ fn rewrapped() -> Result<(), Error> {
     assert_eq!(rewrap(&[], &mut buffer), Err(Error::BadKek));
     assert_eq!(rewrap(&new_kek, &mut []), Err(Error::BadLength));
     assert_eq!(rewrap(&new_kek, &mut buffer[..23]), Err(Error::BadLength));
-    assert_eq!(buffer, text);
+    assert_eq!(buffer, wrapped);
     buffer[3] ^= 1;
     assert_eq!(rewrap(&new_kek, &mut buffer), Err(Error::Integrity));
     assert_eq!(buffer, [0; 24]);

@@ -155,6 +155,32 @@ static void macros_at_ends(void) {
           KEYWRAP_MAX_KEY, KEYWRAP_MAX_TEXT);
 }
 
+/* A macro is one operand, and so is its argument. */
+static void macros_in_expressions(void) {
+    volatile size_t zero = 0;
+    const size_t found[][2] = {
+        {2 * KEYWRAP_MAX_TEXT, 2097168},
+        {KEYWRAP_TEXT_LEN(zero ? 16 : 24), 32},
+        {2 * KEYWRAP_TEXT_LEN(16), 48},
+        {KEYWRAP_PADDED_TEXT_LEN(zero ? 9 : 17), 32},
+        {2 * KEYWRAP_PADDED_TEXT_LEN(9), 48},
+        {KEYWRAP_ROOM(zero ? 16 : 24), 16},
+        {2 * KEYWRAP_ROOM(24), 32},
+        {KEYWRAP_ROOM(zero | 7), 0},
+    };
+    for (size_t i = 0; i < sizeof found / sizeof *found; i++)
+        count(found[i][0] == found[i][1], "a macro in an expression", PLAIN, TWO_BUFFERS, 0, i, 0);
+}
+
+/* The library is that of the header. */
+static void version(void) {
+    uint32_t found = keywrap_version();
+    count(found == KEYWRAP_VERSION && found >> 16 == KEYWRAP_VERSION_MAJOR
+              && (found >> 8 & 255) == KEYWRAP_VERSION_MINOR
+              && (found & 255) == KEYWRAP_VERSION_PATCH,
+          "the version", PLAIN, TWO_BUFFERS, 0, found, KEYWRAP_VERSION);
+}
+
 /* A key of this length and a text of that one, in each call. */
 static void lengths(enum form form, size_t kek_len, size_t key_len, size_t text_len) {
     int done = wrap_status(form, kek_len, key_len, text_len) == KEYWRAP_OK;
@@ -394,6 +420,8 @@ int main(void) {
     scatter(scattered, sizeof scattered);
     vectors();
     macros_at_ends();
+    macros_in_expressions();
+    version();
     for (enum form form = PLAIN; form <= PADDED; form++) {
         short_lengths(form);
         longest_lengths(form);

@@ -1,4 +1,4 @@
-//! The key wrap for C: eleven calls over the caller's own buffers, without memory and without
+//! The key wrap for C: calls over the caller's own buffers, without memory and without
 //! state. `include/keywrap.h` declares them.
 #![tactic(auto)]
 
@@ -11,3 +11,4 @@ mod rewrapping;
 mod status;
 #[cfg(test)]
 mod tests;
+mod version;

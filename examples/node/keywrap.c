@@ -1,0 +1,58 @@
+/* keywrap.c: wrap and unwrap for Node, by Node-API.
+ *
+ *     cc -shared -fPIC -I/usr/include/node keywrap.c $(pkg-config --cflags --libs keywrap) \
+ *        -o keywrap.node */
+
+#include <keywrap.h>
+#include <node_api.h>
+#include <stdlib.h>
+
+typedef int32_t call(const uint8_t *, size_t, const uint8_t *, size_t, uint8_t *, size_t);
+
+static uint8_t nothing;
+
+/* The bytes of a Buffer, which may have a NULL where it has none; false where it is no Buffer. */
+static bool take(napi_env env, napi_value value, uint8_t **bytes, size_t *len) {
+    void *data;
+    bool is_buffer = false;
+    if (napi_is_buffer(env, value, &is_buffer) != napi_ok || !is_buffer) return false;
+    if (napi_get_buffer_info(env, value, &data, len) != napi_ok) return false;
+    *bytes = data == NULL ? &nothing : data;
+    return true;
+}
+
+/* The call's answer, of `more` bytes more than what is given, as a Buffer; or its status. */
+static napi_value answer(napi_env env, napi_callback_info info, call *f, ptrdiff_t more) {
+    napi_value given[2], result;
+    uint8_t *kek, *in, *out;
+    size_t count = 2, kek_len, in_len, out_len;
+    void *data;
+    if (napi_get_cb_info(env, info, &count, given, NULL, NULL) != napi_ok || count < 2
+        || !take(env, given[0], &kek, &kek_len) || !take(env, given[1], &in, &in_len)) {
+        napi_throw_type_error(env, NULL, "two Buffers are required");
+        return NULL;
+    }
+    out_len = more > 0 || in_len >= 8 ? in_len + (size_t)more : 0;
+    if (napi_create_buffer(env, out_len, &data, &result) != napi_ok) return NULL;
+    out = data == NULL ? &nothing : data;
+    int32_t status = f(kek, kek_len, in, in_len, out, out_len);
+    if (status != KEYWRAP_OK) napi_create_int32(env, status, &result);
+    return result;
+}
+
+static napi_value wrap(napi_env env, napi_callback_info info) {
+    return answer(env, info, keywrap_wrap, 8);
+}
+
+static napi_value unwrap(napi_env env, napi_callback_info info) {
+    return answer(env, info, keywrap_unwrap, -8);
+}
+
+NAPI_MODULE_INIT() {
+    napi_value f;
+    napi_create_function(env, "wrap", NAPI_AUTO_LENGTH, wrap, NULL, &f);
+    napi_set_named_property(env, exports, "wrap", f);
+    napi_create_function(env, "unwrap", NAPI_AUTO_LENGTH, unwrap, NULL, &f);
+    napi_set_named_property(env, exports, "unwrap", f);
+    return exports;
+}

@@ -1,0 +1,85 @@
+"""The extension keywrap._ffi: the calls of keywrap.h, with libkeywrap.a linked in."""
+
+import re
+from pathlib import Path
+
+from cffi import FFI
+
+HELPERS = """
+int64_t unwrap_padded(const uint8_t *kek, size_t kek_len, const uint8_t *wrapped,
+                      size_t wrapped_len, uint8_t *key, size_t room);
+int32_t rewrap(const uint8_t *old_kek, size_t old_kek_len, const uint8_t *new_kek,
+               size_t new_kek_len, const uint8_t *wrapped, size_t wrapped_len, uint8_t *answer,
+               uint32_t forms);
+int32_t kind(const uint8_t *kek, size_t kek_len, const uint8_t *wrapped, size_t wrapped_len,
+             uint8_t *scratch, size_t room);
+#define IS_PLAIN ...
+#define IS_PADDED ...
+void wipe(uint8_t *bytes, size_t len);
+"""
+
+SOURCE = """
+#include <keywrap.h>
+#include <string.h>
+
+/* The key's length, or the status of the refusal, negated. */
+static int64_t unwrap_padded(const uint8_t *kek, size_t kek_len, const uint8_t *wrapped,
+                             size_t wrapped_len, uint8_t *key, size_t room) {
+    size_t key_len;
+    int32_t status = keywrap_unwrap_padded(kek, kek_len, wrapped, wrapped_len, key, room, &key_len);
+    return status == KEYWRAP_OK ? (int64_t)key_len : -(int64_t)status;
+}
+
+/* The answer is as long as what is wrapped. */
+static int32_t rewrap(const uint8_t *old_kek, size_t old_kek_len, const uint8_t *new_kek,
+                      size_t new_kek_len, const uint8_t *wrapped, size_t wrapped_len,
+                      uint8_t *answer, uint32_t forms) {
+    memcpy(answer, wrapped, wrapped_len);
+    return keywrap_rewrap_in_place(old_kek, old_kek_len, new_kek, new_kek_len, answer, wrapped_len,
+                                   forms);
+}
+
+#define IS_PLAIN -1
+#define IS_PADDED -2
+
+/* IS_PLAIN or IS_PADDED, or the status of the refusal. */
+static int32_t kind(const uint8_t *kek, size_t kek_len, const uint8_t *wrapped, size_t wrapped_len,
+                    uint8_t *scratch, size_t room) {
+    size_t key_len;
+    int32_t status = keywrap_unwrap(kek, kek_len, wrapped, wrapped_len, scratch, room);
+    int32_t form = IS_PLAIN;
+    if (status == KEYWRAP_BAD_LENGTH || status == KEYWRAP_INTEGRITY) {
+        status = keywrap_unwrap_padded(kek, kek_len, wrapped, wrapped_len, scratch, room, &key_len);
+        form = IS_PADDED;
+    }
+    if (status != KEYWRAP_OK) return status;
+    memset(scratch, 0, room);
+    return form;
+}
+
+/* By volatile writes, which no compiler leaves out. */
+static void wipe(uint8_t *bytes, size_t len) {
+    volatile uint8_t *at = bytes;
+    while (len-- > 0) *at++ = 0;
+}
+"""
+
+
+def declarations(header: str) -> str:
+    """The calls, the statuses and the numbers of the header, as cffi reads them."""
+    calls = re.findall(r"^u?int32_t keywrap_\w+\([^;]*\);", header, re.M)
+    statuses = re.findall(r"^enum keywrap_status \{.*?\};", header, re.M | re.S)
+    numbers = [f"#define KEYWRAP_{name} ..." for name in ("MAX_KEY", "MAX_TEXT", "OLD_PADDED", "NEW_PADDED")]
+    return "\n".join([*statuses, *numbers, *calls]).replace("KEYWRAP_RESTRICT ", "")
+
+
+ffi = FFI()
+ffi.cdef(declarations(Path("keywrap.h").read_text(encoding="utf-8")) + HELPERS)
+ffi.set_source(
+    "keywrap._ffi",
+    SOURCE,
+    include_dirs=["."],
+    extra_objects=["libkeywrap.a"],
+    extra_compile_args=["-std=c99"],
+    py_limited_api=True,
+)

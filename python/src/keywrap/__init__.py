@@ -1,0 +1,234 @@
+"""AES Key Wrap (RFC 3394) and AES Key Wrap with Padding (RFC 5649), by a library that is proved.
+
+A key-encryption key (KEK) of 16, 24 or 32 bytes wraps a key: plain, of a multiple of 8 bytes from 16
+on, or padded, of any length from 1 on; both up to 1,048,576 bytes. Any bytes-like object is taken.
+One that is not `bytes` is copied first, and the copy is wiped. While the library computes, other
+threads run.
+"""
+
+from __future__ import annotations
+
+import enum
+from typing import TYPE_CHECKING, Any, Callable, Optional, TypeVar
+
+from . import _refusals
+from ._ffi import ffi as _ffi
+from ._ffi import lib as _lib
+from ._refusals import BadInitialValue, BadKekLength, BadLength, IntegrityFailed, KeywrapError
+
+if TYPE_CHECKING:
+    from _typeshed import ReadableBuffer
+
+__all__ = [
+    "BadInitialValue",
+    "BadKekLength",
+    "BadLength",
+    "IntegrityFailed",
+    "KeywrapError",
+    "Kind",
+    "check",
+    "rewrap",
+    "unwrap",
+    "unwrap_padded",
+    "wrap",
+    "wrap_padded",
+]
+
+for _refusal in (KeywrapError, BadInitialValue, BadKekLength, BadLength, IntegrityFailed):
+    _refusal.__module__ = __name__
+
+_number: int = _lib.keywrap_version()
+__version__ = f"{_number >> 16}.{_number >> 8 & 255}.{_number & 255}"
+
+_wrap = _lib.keywrap_wrap
+_unwrap = _lib.keywrap_unwrap
+_wrap_with = _lib.keywrap_wrap_with
+_unwrap_with = _lib.keywrap_unwrap_with
+_wrap_padded = _lib.keywrap_wrap_padded
+_unwrap_padded = _lib.unwrap_padded
+_rewrap = _lib.rewrap
+_kind = _lib.kind
+_wipe = _lib.wipe
+
+_Answer = TypeVar("_Answer")
+
+
+class Kind(enum.Enum):
+    """The form in which a key was wrapped."""
+
+    PLAIN = "plain"
+    PADDED = "padded"
+
+
+_KINDS = {_lib.IS_PLAIN: Kind.PLAIN, _lib.IS_PADDED: Kind.PADDED}
+
+
+# How the calls below use bytes objects. The library's answer is written into a new one, which nobody
+# else has: so there is no second copy of a key. Only an exact `bytes` is read where it stands, since
+# only its `len` is surely its size.
+
+
+def _copied(given: object) -> bytes:
+    """A new bytes object of what stands in the object's buffer."""
+    try:
+        return bytes(_ffi.buffer(_ffi.from_buffer("uint8_t[]", given)))
+    except (TypeError, ValueError, BufferError):
+        pass
+    raise TypeError(f"a contiguous bytes-like object is required, not {type(given).__name__!r}")
+
+
+def _on_copies(call: Callable[..., _Answer], *given: object, **more: Any) -> _Answer:
+    """The call on copies of what is given, which are wiped; those of 0 and 1 bytes are Python's own."""
+    copies = []
+    try:
+        for item in given:
+            copies.append(_copied(item))
+        return call(*copies, **more)
+    finally:
+        for copy in copies:
+            if len(copy) > 1:
+                _wipe(copy, len(copy))
+
+
+def wrap(kek: ReadableBuffer, key: ReadableBuffer, iv: Optional[ReadableBuffer] = None) -> bytes:
+    """The plain wrapping of a key (RFC 3394, 2.2.1), which is 8 bytes longer.
+
+    The key is a multiple of 8 bytes from 16 to 1,048,576 (`BadLength`), the KEK 16, 24 or 32 bytes
+    (`BadKekLength`). `iv` is an initial value of 8 bytes that both ends agreed on, where it is not the
+    default (RFC 3394, 2.2.3.2): `BadInitialValue` where it is refused.
+    """
+    if iv is not None:
+        return _wrap_under(kek, iv, key)
+    if type(kek) is not bytes or type(key) is not bytes:
+        return _on_copies(wrap, kek, key)
+    length = len(key)
+    wrapped = bytes(length + 8)
+    status = _wrap(kek, len(kek), key, length, wrapped, length + 8)
+    if status:
+        raise _refusals.refusal(status, "the key", length, _refusals.PLAIN_KEYS, kek)
+    return wrapped
+
+
+def unwrap(kek: ReadableBuffer, wrapped: ReadableBuffer, iv: Optional[ReadableBuffer] = None) -> bytes:
+    """The key whose plain wrapping this is (RFC 3394, 2.2.2): `IntegrityFailed` where there is none.
+
+    What is wrapped is a multiple of 8 bytes from 24 to 1,048,584; `kek` and `iv` are those of `wrap`.
+    """
+    if iv is not None:
+        return _unwrap_under(kek, iv, wrapped)
+    if type(kek) is not bytes or type(wrapped) is not bytes:
+        return _on_copies(unwrap, kek, wrapped)
+    length = len(wrapped)
+    room = length - 8 if length > 8 else 0
+    key = bytes(room)
+    status = _unwrap(kek, len(kek), wrapped, length, key, room)
+    if status:
+        raise _refusals.refusal(status, "the wrapped key", length, _refusals.WRAPPED_PLAIN, kek)
+    return key
+
+
+def _wrap_under(kek: ReadableBuffer, iv: ReadableBuffer, key: ReadableBuffer) -> bytes:
+    if type(kek) is not bytes or type(iv) is not bytes or type(key) is not bytes:
+        return _on_copies(_wrap_under, kek, iv, key)
+    length = len(key)
+    wrapped = bytes(length + 8)
+    status = _wrap_with(kek, len(kek), iv, len(iv), key, length, wrapped, length + 8)
+    if status == _lib.KEYWRAP_BAD_IV:
+        raise _refusals.bad_initial_value(iv)
+    if status:
+        raise _refusals.refusal(status, "the key", length, _refusals.PLAIN_KEYS, kek)
+    return wrapped
+
+
+def _unwrap_under(kek: ReadableBuffer, iv: ReadableBuffer, wrapped: ReadableBuffer) -> bytes:
+    if type(kek) is not bytes or type(iv) is not bytes or type(wrapped) is not bytes:
+        return _on_copies(_unwrap_under, kek, iv, wrapped)
+    length = len(wrapped)
+    room = length - 8 if length > 8 else 0
+    key = bytes(room)
+    status = _unwrap_with(kek, len(kek), iv, len(iv), wrapped, length, key, room)
+    if status == _lib.KEYWRAP_BAD_IV:
+        raise _refusals.bad_initial_value(iv)
+    if status:
+        raise _refusals.refusal(status, "the wrapped key", length, _refusals.WRAPPED_PLAIN, kek)
+    return key
+
+
+def wrap_padded(kek: ReadableBuffer, key: ReadableBuffer) -> bytes:
+    """The padded wrapping of a key (RFC 5649, 4.1), 8 bytes longer than the next multiple of 8.
+
+    The key is 1 to 1,048,576 bytes (`BadLength`), the KEK 16, 24 or 32 bytes (`BadKekLength`).
+    """
+    if type(kek) is not bytes or type(key) is not bytes:
+        return _on_copies(wrap_padded, kek, key)
+    length = len(key)
+    room = (length + 15) & ~7
+    wrapped = bytes(room)
+    status = _wrap_padded(kek, len(kek), key, length, wrapped, room)
+    if status:
+        raise _refusals.refusal(status, "the key", length, _refusals.PADDED_KEYS, kek)
+    return wrapped
+
+
+def unwrap_padded(kek: ReadableBuffer, wrapped: ReadableBuffer) -> bytes:
+    """The key whose padded wrapping this is (RFC 5649, 4.2): `IntegrityFailed` where there is none.
+
+    What is wrapped is a multiple of 8 bytes from 16 to 1,048,584; `kek` is that of `wrap_padded`.
+    """
+    if type(kek) is not bytes or type(wrapped) is not bytes:
+        return _on_copies(unwrap_padded, kek, wrapped)
+    length = len(wrapped)
+    room = length - 8 if length > 8 else 0
+    padded = bytes(room)
+    found = _unwrap_padded(kek, len(kek), wrapped, length, padded, room)
+    if found < 0:
+        raise _refusals.refusal(-found, "the wrapped key", length, _refusals.WRAPPED_PADDED, kek)
+    if found == room:
+        return padded
+    key = padded[:found]
+    _wipe(padded, room)
+    return key
+
+
+def rewrap(
+    old_kek: ReadableBuffer,
+    new_kek: ReadableBuffer,
+    wrapped: ReadableBuffer,
+    old_padded: bool = False,
+    new_padded: bool = False,
+) -> bytes:
+    """The wrapping under the new KEK of the key that is wrapped under the old one; as long as it was.
+
+    Each is in the plain form, or padded where the flag says so. `BadLength` where the new form takes no
+    key of this length; the other refusals are those of `unwrap` and `unwrap_padded`.
+    """
+    if type(old_kek) is not bytes or type(new_kek) is not bytes or type(wrapped) is not bytes:
+        return _on_copies(
+            rewrap, old_kek, new_kek, wrapped, old_padded=old_padded, new_padded=new_padded
+        )
+    length = len(wrapped)
+    answer = bytes(max(length, 16))
+    forms = (_lib.KEYWRAP_OLD_PADDED if old_padded else 0) | (
+        _lib.KEYWRAP_NEW_PADDED if new_padded else 0
+    )
+    status = _rewrap(old_kek, len(old_kek), new_kek, len(new_kek), wrapped, length, answer, forms)
+    if status:
+        legal = _refusals.WRAPPED_PADDED if old_padded else _refusals.WRAPPED_PLAIN
+        raise _refusals.of_rewrap(status, length, legal, old_kek, new_kek)
+    return answer
+
+
+def check(kek: ReadableBuffer, wrapped: ReadableBuffer) -> Optional[Kind]:
+    """The form in which a key was wrapped to this under the KEK; `None` where it is no wrapped key.
+
+    The key is not given out. `BadKekLength` is the only refusal.
+    """
+    if type(kek) is not bytes or type(wrapped) is not bytes:
+        return _on_copies(check, kek, wrapped)
+    length = len(wrapped)
+    room = length - 8 if length > 8 else 0
+    scratch = bytes(room)
+    status = _kind(kek, len(kek), wrapped, length, scratch, room)
+    if status == _lib.KEYWRAP_BAD_KEK:
+        raise _refusals.refusal(status, "", 0, "", kek)
+    return _KINDS.get(status)

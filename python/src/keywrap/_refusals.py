@@ -1,0 +1,65 @@
+"""The refusals: one class each, and their messages."""
+
+from __future__ import annotations
+
+from ._ffi import lib
+
+_MAX_KEY: int = lib.KEYWRAP_MAX_KEY
+_MAX_WRAPPED: int = lib.KEYWRAP_MAX_TEXT
+
+#: What the lengths must be, in bytes.
+KEKS = "16, 24 or 32"
+PLAIN_KEYS = f"a multiple of 8 from 16 to {_MAX_KEY}"
+PADDED_KEYS = f"from 1 to {_MAX_KEY}"
+WRAPPED_PLAIN = f"a multiple of 8 from 24 to {_MAX_WRAPPED}"
+WRAPPED_PADDED = f"a multiple of 8 from 16 to {_MAX_WRAPPED}"
+
+
+class KeywrapError(Exception):
+    """A refusal. Nothing of a key is given out."""
+
+
+class BadInitialValue(KeywrapError, ValueError):
+    """The initial value is not 8 bytes long, or begins with a6 59 59 a6 (reserved for RFC 5649)."""
+
+
+class BadKekLength(KeywrapError, ValueError):
+    """The key-encryption key (KEK) is not 16, 24 or 32 bytes long."""
+
+
+class BadLength(KeywrapError, ValueError):
+    """The key or the wrapped key has a length that this form does not take."""
+
+
+class IntegrityFailed(KeywrapError):
+    """The integrity check failed: nothing was wrapped to this under this KEK."""
+
+
+def bad_length(what: str, length: int, legal: str) -> BadLength:
+    """A length that is not legal."""
+    return BadLength(f"{what} is {length} bytes long; it must be {legal} bytes")
+
+
+def refusal(status: int, what: str, length: int, legal: str, *keks: bytes) -> KeywrapError:
+    """What a call on these KEKs refused by its status, where `what` is of that length."""
+    if status == lib.KEYWRAP_BAD_KEK:
+        length = next(len(kek) for kek in keks if len(kek) not in (16, 24, 32))
+        return BadKekLength(f"the KEK is {length} bytes long; it must be {KEKS} bytes")
+    if status == lib.KEYWRAP_BAD_LENGTH:
+        return bad_length(what, length, legal)
+    return IntegrityFailed("the integrity check failed: no wrapped key under this KEK")
+
+
+def bad_initial_value(iv: bytes) -> BadInitialValue:
+    """An initial value that is refused."""
+    if len(iv) != 8:
+        return BadInitialValue(f"the initial value is {len(iv)} bytes long; it must be 8 bytes")
+    return BadInitialValue("the initial value begins with a6 59 59 a6, which RFC 5649 reserves")
+
+
+def of_rewrap(status: int, length: int, legal: str, *keks: bytes) -> KeywrapError:
+    """What a rewrap of this many bytes refused: the last cause is the length of the key in them."""
+    least = 16 if legal == WRAPPED_PADDED else 24
+    if status == lib.KEYWRAP_BAD_LENGTH and length % 8 == 0 and least <= length <= _MAX_WRAPPED:
+        return BadLength(f"the key that is wrapped cannot be plain: it is not {PLAIN_KEYS} bytes long")
+    return refusal(status, "the wrapped key", length, legal, *keks)

@@ -1,0 +1,119 @@
+"""The calls of the package, one by one: vectors of the standards, refusals and their messages."""
+
+import pathlib
+import re
+
+import pytest
+
+import keywrap
+from keywrap import Kind
+
+KEK = bytes(range(16))
+KEK_32 = bytes(range(32))
+KEY = bytes.fromhex("00112233445566778899aabbccddeeff")
+WRAPPED = bytes.fromhex("1fa68b0a8112b447aef34bd8fb5a7b829d3e862371d2cfe5")
+WRAPPED_32 = bytes.fromhex("64e8c3f9ce0f5ba263e9777905818a2a93c8191e7d6e8ae7")
+PADDED_32 = bytes.fromhex("afc860015ffe2d75bedf43c444fe58f4ad9d89c4ec71e23b")
+IV = bytes.fromhex("0123456789abcdef")
+UNDER_IV = bytes.fromhex("5faedb3ad28b498f36c1afc361861782e04e134798791145")
+KEK_5649 = bytes.fromhex("5840df6e29b02af1ab493b705bf16ea1ae8338f4dcc176a8")
+FORPASI = bytes.fromhex("afbeb0f07dfbf5419200f2ccb50bb24f")
+KEY_OF_20 = bytes.fromhex("c37b7e6492584340bed12207808941155068f738")
+PADDED_OF_20 = bytes.fromhex("138bdeaa9b8fa7fc61f97742e72248ee5ae6ae5360d1ae6a5f54f373fa543b6a")
+DAMAGED = bytes([WRAPPED[0] ^ 1]) + WRAPPED[1:]
+
+
+def test_answers_the_standards_vectors():
+    assert keywrap.wrap(KEK, KEY) == WRAPPED
+    assert keywrap.unwrap(KEK, WRAPPED) == KEY
+    assert keywrap.wrap_padded(KEK_5649, b"ForPasi") == FORPASI
+    assert keywrap.unwrap_padded(KEK_5649, FORPASI) == b"ForPasi"
+
+
+def test_takes_an_initial_value():
+    assert keywrap.wrap(bytes(range(24)), KEY, IV) == UNDER_IV
+    assert keywrap.unwrap(bytes(range(24)), UNDER_IV, iv=IV) == KEY
+    assert keywrap.wrap(KEK, KEY, b"\xa6" * 8) == WRAPPED
+
+
+def test_rewraps_between_forms():
+    assert keywrap.rewrap(KEK, KEK_32, WRAPPED) == WRAPPED_32
+    assert keywrap.rewrap(KEK, KEK_32, WRAPPED, new_padded=True) == PADDED_32
+    assert keywrap.rewrap(KEK_32, KEK, PADDED_32, old_padded=True) == WRAPPED
+    assert keywrap.rewrap(KEK_5649, KEK_5649, PADDED_OF_20, True, True) == PADDED_OF_20
+
+
+def test_checks():
+    assert keywrap.check(KEK, WRAPPED) is Kind.PLAIN
+    assert keywrap.check(KEK_32, PADDED_32) is Kind.PADDED
+    assert keywrap.check(KEK_5649, FORPASI) is Kind.PADDED
+    for other in (DAMAGED, WRAPPED[:-1], FORPASI, b"", b"\0"):
+        assert keywrap.check(KEK, other) is None
+    with pytest.raises(keywrap.BadKekLength):
+        keywrap.check(b"", WRAPPED)
+
+
+@pytest.mark.parametrize("given", [bytes, bytearray, memoryview])
+def test_every_call_takes_any_bytes_like_object(given):
+    kek, key, wrapped, iv = (given(item) for item in (KEK, KEY, WRAPPED, IV))
+    assert keywrap.wrap(kek, key) == WRAPPED
+    assert keywrap.unwrap(kek, wrapped) == KEY
+    assert keywrap.unwrap(kek, keywrap.wrap(kek, key, iv), iv) == KEY
+    assert keywrap.unwrap_padded(kek, given(keywrap.wrap_padded(kek, key))) == KEY
+    assert keywrap.rewrap(kek, given(KEK_32), wrapped, new_padded=True) == PADDED_32
+    assert keywrap.check(kek, wrapped) is Kind.PLAIN
+
+
+PLAIN_LENGTHS = "it must be a multiple of 8 from 16 to 1048576 bytes"
+
+
+@pytest.mark.parametrize(
+    "refusal, message, call, given",
+    [
+        ("BadKekLength", "the KEK is 15 bytes long; it must be 16, 24 or 32 bytes", "wrap", (KEK[1:], KEY)),
+        ("BadKekLength", "the KEK is 0 bytes long", "unwrap_padded", (b"", b"")),
+        ("BadKekLength", "the KEK is 33 bytes long", "rewrap", (KEK, KEK_32 + b"0", WRAPPED)),
+        ("BadLength", f"the key is 15 bytes long; {PLAIN_LENGTHS}", "wrap", (KEK, KEY[1:])),
+        ("BadLength", "the key is 1048584 bytes long", "wrap", (KEK, bytes(1048584))),
+        ("BadLength", "the key is 0 bytes long; it must be from 1 to 1048576", "wrap_padded", (KEK, b"")),
+        ("BadLength", "the key is 1048577 bytes long", "wrap_padded", (KEK, bytes(1048577))),
+        ("BadLength", "the wrapped key is 16 bytes long; it must be a multiple of 8 from 24 to 1048584", "unwrap",
+         (KEK, KEY)),
+        ("BadLength", "the wrapped key is 0 bytes long", "unwrap", (KEK, b"")),
+        ("BadLength", "the wrapped key is 9 bytes long", "unwrap", (KEK, KEY[7:], IV)),
+        ("BadLength", "the wrapped key is 0 bytes long; it must be a multiple of 8 from 16 to", "unwrap_padded",
+         (KEK, b"")),
+        ("BadLength", "the wrapped key is 23 bytes long; it must be a multiple of 8 from 24", "rewrap",
+         (KEK, KEK, WRAPPED[1:])),
+        ("BadLength", "the wrapped key is 1 bytes long; it must be a multiple of 8 from 16", "rewrap",
+         (KEK, KEK, b"\0", True)),
+        ("BadLength", "the key that is wrapped cannot be plain", "rewrap", (KEK_5649, KEK, FORPASI, True)),
+        ("BadLength", "the key that is wrapped cannot be plain", "rewrap", (KEK_5649, KEK, PADDED_OF_20, True)),
+        ("BadInitialValue", "the initial value is 0 bytes long; it must be 8 bytes", "wrap", (KEK, KEY, b"")),
+        ("BadInitialValue", "the initial value is 9 bytes long", "unwrap", (KEK, WRAPPED, IV + b"0")),
+        ("BadInitialValue", "begins with a6 59 59 a6", "wrap", (KEK, KEY, b"\xa6\x59\x59\xa6" + IV[4:])),
+        ("IntegrityFailed", "the integrity check failed", "unwrap", (KEK, DAMAGED)),
+        ("IntegrityFailed", "the integrity check failed", "unwrap", (KEK, WRAPPED, IV)),
+        ("IntegrityFailed", "the integrity check failed", "unwrap_padded", (KEK, WRAPPED)),
+        ("IntegrityFailed", "the integrity check failed", "rewrap", (KEK, KEK_32, DAMAGED)),
+    ],
+)
+def test_refuses(refusal, message, call, given):
+    with pytest.raises(keywrap.KeywrapError, match=re.escape(message)) as caught:
+        getattr(keywrap, call)(*given)
+    assert type(caught.value) is getattr(keywrap, refusal)
+
+
+def test_names():
+    assert sorted(keywrap.__all__) == keywrap.__all__
+    assert re.fullmatch(r"\d+\.\d+\.\d+", keywrap.__version__)
+    assert all(hasattr(keywrap, name) for name in keywrap.__all__)
+    assert (pathlib.Path(keywrap.__file__).parent / "py.typed").exists()
+
+
+def test_the_readme_says_what_is_so():
+    """Its prompts, run as they stand there."""
+    doctest = pytest.importorskip("doctest")
+    readme = pathlib.Path(__file__).parents[1] / "README.md"
+    failed, tried = doctest.testfile(str(readme), module_relative=False)
+    assert tried > 3 and failed == 0

@@ -1,0 +1,251 @@
+"""What objects can say of themselves makes no call read or write past them. tests/python.sh runs this
+file under the address sanitizer too."""
+
+import array
+import gc
+import mmap
+import sys
+import threading
+
+import pytest
+
+import keywrap
+from keywrap import pyca
+
+KEK = bytes(range(16))
+KEY = bytes.fromhex("00112233445566778899aabbccddeeff")
+WRAPPED = keywrap.wrap(KEK, KEY)
+
+
+class Liar(bytes):
+    """Says that it is longer than it is."""
+
+    def __len__(self):
+        return 4096
+
+    def __getitem__(self, at):
+        return b"lie"
+
+    def __bytes__(self):
+        return b"lie"
+
+
+class Shrunk(bytes):
+    """Says that it is shorter than it is."""
+
+    def __len__(self):
+        return 0
+
+
+class LyingArray(bytearray):
+    """The same of an object that can change."""
+
+    def __len__(self):
+        return 4096
+
+
+CALLS = [
+    (keywrap.wrap, (KEK, KEY), WRAPPED),
+    (keywrap.wrap, (KEK, KEY, b"\xa6" * 8), WRAPPED),
+    (keywrap.unwrap, (KEK, WRAPPED), KEY),
+    (keywrap.unwrap, (KEK, WRAPPED, b"\xa6" * 8), KEY),
+    (keywrap.wrap_padded, (KEK, KEY), keywrap.wrap_padded(KEK, KEY)),
+    (keywrap.unwrap_padded, (KEK, keywrap.wrap_padded(KEK, KEY)), KEY),
+    (keywrap.rewrap, (KEK, KEK, WRAPPED), WRAPPED),
+    (keywrap.check, (KEK, WRAPPED), keywrap.Kind.PLAIN),
+    (pyca.aes_key_wrap, (KEK, KEY), WRAPPED),
+    (pyca.aes_key_unwrap, (KEK, WRAPPED), KEY),
+    (pyca.aes_key_wrap_with_padding, (KEK, KEY), keywrap.wrap_padded(KEK, KEY)),
+    (pyca.aes_key_unwrap_with_padding, (KEK, keywrap.wrap_padded(KEK, KEY)), KEY),
+]
+
+
+def with_each(given, made):
+    """The arguments, each in turn replaced by what is made of it, and all of them."""
+    for at in range(len(given)):
+        yield (*given[:at], made(given[at]), *given[at + 1 :])
+    yield tuple(made(item) for item in given)
+
+
+TAKEN = {
+    "a subclass that says more": Liar,
+    "a subclass that says less": Shrunk,
+    "a bytearray": bytearray,
+    "a bytearray that says more": LyingArray,
+    "a view": memoryview,
+    "a view of a liar": lambda item: memoryview(Liar(item)),
+    "a read-only view": lambda item: memoryview(bytearray(item)).toreadonly(),
+    "a slice of a view": lambda item: memoryview(b"<" + item + b">")[1:-1],
+    "an array": lambda item: array.array("B", item),
+    "an array of words": lambda item: array.array("Q", item),
+    "a view of words": lambda item: memoryview(array.array("H", item)),
+    "a view of two dimensions": lambda item: memoryview(item).cast("B", [2, len(item) // 2]),
+}
+
+
+@pytest.mark.parametrize("call, given, answer", CALLS)
+@pytest.mark.parametrize("made", TAKEN.values(), ids=TAKEN)
+def test_is_taken_as_its_bytes(call, given, answer, made):
+    for objects in with_each(given, made):
+        assert call(*objects) == answer
+        assert type(call(*objects)) is type(answer)
+
+
+def released(item):
+    view = memoryview(item)
+    view.release()
+    return view
+
+
+class NoBuffer:
+    """Offers all but a buffer."""
+
+    def __len__(self):
+        return 16
+
+    def __getitem__(self, at):
+        return 0
+
+    def __bytes__(self):
+        return KEK
+
+
+REFUSED = {
+    "text": lambda item: item.decode("latin-1"),
+    "a list": list,
+    "a tuple": tuple,
+    "a number": lambda item: 16,
+    "an object of bytes": lambda item: NoBuffer(),
+    "a released view": released,
+    "a view with a step": lambda item: memoryview(bytes(2 * len(item)))[::2],
+    "a view backwards": lambda item: memoryview(item)[::-1],
+}
+
+
+@pytest.mark.parametrize("call, given, answer", CALLS)
+@pytest.mark.parametrize("made", REFUSED.values(), ids=REFUSED)
+def test_is_a_type_error(call, given, answer, made):
+    for objects in with_each(given, made):
+        with pytest.raises(TypeError):
+            call(*objects)
+
+
+@pytest.mark.parametrize("call, given, answer", CALLS)
+def test_none_is_a_type_error_but_as_an_initial_value(call, given, answer):
+    for at in range(min(len(given), 2)):
+        with pytest.raises(TypeError):
+            call(*given[:at], None, *given[at + 1 :])
+
+
+def test_a_liar_of_0_to_2_bytes():
+    for length in range(3):
+        for call in (keywrap.wrap, keywrap.unwrap, keywrap.unwrap_padded):
+            with pytest.raises(keywrap.BadLength, match=f"is {length} bytes long"):
+                call(KEK, Liar(bytes(length)))
+
+
+def test_objects_can_change_and_go_after_a_refusal():
+    """No buffer is held longer than the call, not even by the exception."""
+    key, room = bytearray(15), mmap.mmap(-1, 15)
+    for given in (key, room):
+        try:
+            keywrap.wrap(KEK, given)
+        except keywrap.BadLength:
+            key.clear()
+            room.close()
+            break
+
+
+def test_pythons_own_bytes_stay():
+    """Copies of 0 and 1 bytes are objects that all of Python shares."""
+    for byte in range(256):
+        one = bytearray([byte])
+        assert keywrap.unwrap_padded(KEK, keywrap.wrap_padded(KEK, one)) == bytes([byte])
+        with pytest.raises(keywrap.BadLength):
+            keywrap.rewrap(KEK, KEK, one)
+        assert bytes([byte])[0] == byte
+    assert bytes(bytearray()) == b"" and len(b"") == 0
+
+
+def test_given_objects_are_not_written():
+    kek, wrapped = bytearray(KEK), bytearray(WRAPPED)
+    wrapped[0] ^= 1
+    before = bytes(wrapped)
+    for call in (keywrap.unwrap, keywrap.unwrap_padded, keywrap.check):
+        for given in (wrapped, before):
+            try:
+                call(kek, given)
+            except keywrap.IntegrityFailed:
+                pass
+    with pytest.raises(keywrap.IntegrityFailed):
+        keywrap.rewrap(kek, kek, before)
+    assert kek == KEK and wrapped == before == bytes([WRAPPED[0] ^ 1]) + WRAPPED[1:]
+
+
+def test_eight_threads():
+    """While one computes others do, and each gets its own answer."""
+    wrong = []
+
+    def work(number):
+        kek = bytes([number]) * 32
+        for turn in range(300):
+            key = bytes([number, turn % 256]) * (8 + turn % 50 * 4)
+            wrapped = keywrap.wrap(kek, bytearray(key))
+            if keywrap.unwrap(bytearray(kek), wrapped) != key or keywrap.check(kek, wrapped) is None:
+                wrong.append(number)
+
+    threads = [threading.Thread(target=work, args=[number]) for number in range(8)]
+    for thread in threads:
+        thread.start()
+    for thread in threads:
+        thread.join()
+    assert wrong == []
+
+
+def test_other_threads_run_while_one_computes():
+    """The call is shorter than the time after which Python itself lets others run."""
+    ticks, done = [0], threading.Event()
+
+    def count():
+        while not done.is_set():
+            ticks[0] += 1
+
+    counter = threading.Thread(target=count)
+    interval = sys.getswitchinterval()
+    sys.setswitchinterval(2)
+    try:
+        counter.start()
+        before = ticks[0]
+        keywrap.wrap(KEK, bytes(1048576))
+        after = ticks[0]
+    finally:
+        done.set()
+        sys.setswitchinterval(interval)
+        counter.join()
+    assert after > before
+
+
+def resident():
+    with open("/proc/self/statm", encoding="ascii") as file:
+        return int(file.read().split()[1]) * mmap.PAGESIZE
+
+
+def test_a_million_calls_take_no_memory():
+    padded, damaged, view = keywrap.wrap_padded(KEK, b"seven.."), bytes(24), memoryview(WRAPPED)
+
+    def calls(count):
+        for _ in range(count):
+            keywrap.wrap(KEK, KEY)
+            keywrap.unwrap_padded(KEK, padded)
+            try:
+                keywrap.unwrap(KEK, damaged)
+            except keywrap.IntegrityFailed:
+                pass
+            keywrap.check(KEK, view)
+
+    calls(10_000)
+    gc.collect()
+    before = resident()
+    calls(250_000)
+    gc.collect()
+    assert resident() - before < 1 << 20

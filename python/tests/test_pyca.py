@@ -1,0 +1,87 @@
+"""keywrap.pyca beside cryptography.hazmat.primitives.keywrap: the same answers, the same exceptions."""
+
+import random
+
+import pytest
+
+from keywrap import pyca as ours
+
+theirs = pytest.importorskip(
+    "cryptography.hazmat.primitives.keywrap", reason="apt-get install python3-cryptography"
+)
+
+CALLS = [name for name in ours.__all__ if name != "InvalidUnwrap"]
+KEK_LENGTHS = [0, 1, 15, 16, 17, 23, 24, 25, 31, 32, 33, 40]
+rng = random.Random(20)
+
+
+def ended(module, name, *given):
+    """What a call answered, or the kind of its exception."""
+    try:
+        return getattr(module, name)(*given)
+    except module.InvalidUnwrap:
+        return "InvalidUnwrap"
+    except ValueError:
+        return "ValueError"
+    except TypeError:
+        return "TypeError"
+
+
+def is_ours_alone(name, given):
+    """Where ours refuses what theirs does not, or with another exception."""
+    length = len(given)
+    if name == "aes_key_wrap_with_padding":
+        return length == 0
+    return name == "aes_key_unwrap_with_padding" and length > 16 and length % 8 != 0
+
+
+@pytest.mark.parametrize("name", CALLS)
+def test_kek_lengths_and_lengths(name):
+    for kek_length in KEK_LENGTHS:
+        kek = rng.randbytes(kek_length)
+        for length in range(0, 73):
+            given = rng.randbytes(length)
+            if not is_ours_alone(name, given):
+                assert ended(ours, name, kek, given) == ended(theirs, name, kek, given), (kek_length, length)
+
+
+def test_what_ours_alone_refuses():
+    kek = bytes(16)
+    assert ended(ours, "aes_key_wrap_with_padding", kek, b"") == "ValueError"
+    assert ended(ours, "aes_key_unwrap_with_padding", kek, bytes(17)) == "InvalidUnwrap"
+    assert ended(ours, "aes_key_wrap", kek, bytes(1048584)) == "ValueError"
+    assert ended(ours, "aes_key_wrap_with_padding", kek, bytes(1048577)) == "ValueError"
+    assert ended(ours, "aes_key_unwrap", kek, bytes(1048592)) == "InvalidUnwrap"
+    assert ended(ours, "aes_key_unwrap_with_padding", kek, bytes(1048592)) == "InvalidUnwrap"
+
+
+@pytest.mark.parametrize("padded", ["", "_with_padding"])
+def test_random_keys_and_damaged_ones(padded):
+    wrap, unwrap = "aes_key_wrap" + padded, "aes_key_unwrap" + padded
+    for _ in range(300):
+        kek = rng.randbytes(rng.choice([16, 24, 32]))
+        length = rng.randint(1, 200)
+        key = rng.randbytes(length if padded else 8 + (length + 7) // 8 * 8)
+        wrapped = ended(ours, wrap, kek, key)
+        assert wrapped == ended(theirs, wrap, kek, key)
+        assert ended(ours, unwrap, kek, wrapped) == key == ended(theirs, unwrap, kek, wrapped)
+        damaged = bytearray(wrapped)
+        damaged[rng.randrange(len(wrapped))] ^= 1 << rng.randrange(8)
+        for other in (bytes(damaged), wrapped[8:], wrapped + bytes(8)):
+            assert ended(ours, unwrap, kek, other) == ended(theirs, unwrap, kek, other)
+
+
+@pytest.mark.parametrize("name", CALLS)
+def test_types(name):
+    for given in ((None, bytes(24)), (bytes(16), None), ("k" * 16, bytes(24)), (bytes(16), "k" * 24), (16, bytes(24))):
+        assert ended(ours, name, *given) == ended(theirs, name, *given) == "TypeError"
+
+
+@pytest.mark.parametrize("name", CALLS)
+def test_takes_the_backend_and_names(name):
+    what = "wrapped_key" if "unwrap" in name else "key_to_wrap"
+    wrap = name.replace("unwrap", "wrap")
+    given = getattr(ours, wrap)(bytes(16), bytes(16)) if "unwrap" in name else bytes(16)
+    answer = getattr(theirs, name)(bytes(16), given)
+    assert getattr(ours, name)(wrapping_key=bytes(16), **{what: given}, backend=None) == answer
+    assert getattr(ours, name)(bytes(16), given, object()) == answer

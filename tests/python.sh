@@ -1,0 +1,60 @@
+#!/usr/bin/env bash
+# Builds the Python package as a wheel, installs it in a fresh environment, and runs its tests there, those
+# of hostile objects under the address sanitizer too.
+#
+# usage: tests/python.sh        (KEYWRAP_ARCHIVES='PATH ..': over the first of these, which was built before)
+
+set -u
+# shellcheck source=scripts/room.sh
+. "${BASH_SOURCE[0]%/*}/../scripts/room.sh"
+# shellcheck source=tests/library/rows.sh
+. "$root/tests/library/rows.sh"
+
+needed='python3-cffi python3-setuptools python3-wheel python3-build python3-dev python3-venv python3-pytest'
+if ! has_python cffi,setuptools,wheel,build,venv,pytest; then
+    skip 'the Python package' "no Python with its modules (apt-get install $needed)"
+    finish
+    exit
+fi
+
+archive=${KEYWRAP_ARCHIVES:-crates/keywrap_c/out/libkeywrap_c.a}
+archive=${archive%% *} library=$room/library
+version=$(make -s --no-print-directory -C "$root" version)
+wheel=$room/dist/keywrap-$version-cp39-abi3-linux_x86_64.whl
+row 'make wheel' in_library wheel PYTHON="$python" DIST="$room/dist"
+row 'the wheel, by its name' test -f "$wheel"
+row 'a fresh environment' "$python" -m venv --system-site-packages env
+row 'the wheel, installed' env/bin/pip install --no-index "$wheel" || { finish; exit; }
+export PATH=$room/env/bin:$PATH
+
+# same_version: the package has the version of the program.
+same_version() { writes "keywrap $version" python3 -c 'import keywrap; print("keywrap", keywrap.__version__)'; }
+row 'the version' same_version
+
+# The README's command, as it stands there; its answer is that of OpenSSL.
+command=$(sed -n "s/^    \(python3 -c .*\)/\1/p" "$root/python/README.md")
+row "the README's command" writes b595a1c0afbe7a89ce43807cb3b2ba5737ff5d71d0a35cd7 bash -c "$command"
+
+tests=(python3 -B -m pytest -q -p no:cacheprovider "$root/python/tests")
+row 'the tests' "${tests[@]}"
+sed -n '/SKIPPED/p; $p' "$room/row.log"
+
+# The system's allocator has each object in a block of its own, whose ends the sanitizer watches.
+sanitizer=$(gcc -print-file-name=libasan.so 2>/dev/null)
+if [ -f "$sanitizer" ]; then
+    row 'hostile objects, under the address sanitizer' env PYTHONMALLOC=malloc ASAN_OPTIONS=detect_leaks=0 \
+        LD_PRELOAD="$sanitizer" "${tests[@]}" -k 'test_objects and not million and not thread'
+else
+    skip 'hostile objects under the address sanitizer' 'no libasan (apt-get install gcc)'
+fi
+
+# Where the package's sources lie for mypy: beside a copy, so that it leaves no cache.
+if has_python mypy; then
+    row 'the types' "$python" -m mypy --strict --cache-dir="$room/mypy" --config-file= "$root/python/src/keywrap"
+    printf 'import keywrap\nx: int = keywrap.wrap(b"", b"")\n' >wrong.py
+    row 'the types of a caller' env MYPYPATH="$root/python/src" bash -c \
+        '! '"$python"' -m mypy --strict --cache-dir=/dev/null --config-file= wrong.py >log && grep -q "type \"bytes\"" log'
+else
+    skip 'the types' 'no mypy (apt-get install mypy)'
+fi
+finish
