@@ -42,12 +42,6 @@ abbrev pub IsAnswer : Direction → Form → ℕ → (List ℕ → List ℕ) →
 IsAnswer Wrap form iv E X Y = IsTextOf form iv E X Y
 IsAnswer Unwrap form iv E X Y = IsKeyOf form iv E X Y
 
--- what a wrapping of a key answers, by cases
-abbrev pub WrapAnswer : Form → ℕ → (List ℕ → List ℕ) → List ℕ → Result (Vec ℕ Global) WrapFault → Type 0
-WrapAnswer form iv E key (Ok text) = IsTextOf form iv E key text.items
-WrapAnswer form iv E key (Err wraps.BadLength) = ¬ IsInputLength Wrap form (length key)
-WrapAnswer form iv E key (Err wraps.Memory) = IsInputLength Wrap form (length key)
-
 -- a wrapping's fault among those of an unwrapping
 abbrev pub unwrap_fault_of : WrapFault → UnwrapFault
 unwrap_fault_of wraps.BadLength = BadLength

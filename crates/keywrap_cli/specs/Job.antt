@@ -15,7 +15,7 @@ use Rattle.keywrap_cli.specs.Output.{IsOutput, HasBadLength, HasNoKey, IsDone, j
 use Rattle.keywrap_cli.specs.declared.convert.Direction.{Direction}
 use Rattle.keywrap_cli.specs.declared.job.Done.{Done}
 use Rattle.keywrap_cli.specs.declared.job.JobFault.{JobFault}
-use Rattle.keywrap_cli.specs.declared.job.JobFault.TheVariants.{KekFile, KekLength, NewKekFile, NewKekLength, InputFile, BadLength, Integrity, Write, Memory}
+use Rattle.keywrap_cli.specs.declared.job.JobFault.TheVariants.{KekFile, KekLength, NewKekFile, InputFile, BadLength, Integrity, Write, Memory}
 use Rattle.keywrap_cli.specs.declared.job.Notation.{Notation}
 use Rattle.keywrap_cli.specs.declared.job.Task.{Task}
 
@@ -38,10 +38,7 @@ JobAnswer iv task F G (Err Integrity) =
     (K : List ℕ) × (X : List ℕ) × DenoteBoth task F G K X × HasNoKey task.job task.form iv (cipher K) X
 JobAnswer iv task F G (Ok output) =
     (K : List ℕ) × (X : List ℕ) × DenoteBoth task F G K X × IsOutput iv task (cipher K) X output
-JobAnswer iv task F G (Err (Write written)) = ⊥
-JobAnswer iv task F G (Err Memory) = ⊥
-JobAnswer iv task F G (Err (NewKekFile fault)) = ⊥
-JobAnswer iv task F G (Err NewKekLength) = ⊥
+JobAnswer iv task F G (Err fault) = ⊥
 
 -- What a call leaves in its writer: the whole output of its answer, or the first `written` bytes of it, or
 -- nothing, where it answers a refusal. Beside these only Read and Memory come.
@@ -57,9 +54,6 @@ LeavesOutput iv task F G old new (Err Memory) = Keeps old new
 -- want of memory is never answered as a file's fault
 LeavesOutput iv task F G old new (Err (KekFile files.Memory)) = ⊥
 LeavesOutput iv task F G old new (Err (InputFile files.Memory)) = ⊥
--- nor are the faults of a new KEK answered, which a rewrapping alone has
-LeavesOutput iv task F G old new (Err (NewKekFile fault)) = ⊥
-LeavesOutput iv task F G old new (Err NewKekLength) = ⊥
 LeavesOutput iv task F G old new (Err fault) = JobAnswer iv task F G (Err fault) × Keeps old new
 
 -- the call was refused for its KEK file, or for the KEK in it

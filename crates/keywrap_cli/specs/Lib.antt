@@ -3,6 +3,7 @@ pub mod Drill
 pub mod Files
 pub mod InitialValue
 pub mod Job
+pub mod Keyed
 pub mod Output
 pub mod Published
 pub mod Readings

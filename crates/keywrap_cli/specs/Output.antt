@@ -21,7 +21,7 @@ use Rattle.keywrap_cli.specs.declared.job.Done.TheVariants.{Written, Neither}
 use Rattle.keywrap_cli.specs.declared.job.Job.{Job}
 use Rattle.keywrap_cli.specs.declared.job.Job.TheVariants.{Wrap, Unwrap, Check}
 use Rattle.keywrap_cli.specs.declared.job.JobFault.{JobFault}
-use Rattle.keywrap_cli.specs.declared.job.JobFault.TheVariants.{KekFile, KekLength, NewKekFile, NewKekLength, InputFile, BadLength, Integrity, Write, Memory}
+use Rattle.keywrap_cli.specs.declared.job.JobFault.TheVariants.{BadLength, Integrity, Write, Memory}
 use Rattle.keywrap_cli.specs.declared.job.Task.{Task}
 
 -- the line of a check: the form and the key's length in decimal
@@ -71,11 +71,7 @@ OutputAnswer job iv task E X old new (Err (Write written)) =
 OutputAnswer job iv task E X old new (Err BadLength) = HasBadLength job task.form X × Keeps old new
 OutputAnswer job iv task E X old new (Err Integrity) = HasNoKey job task.form iv E X × Keeps old new
 OutputAnswer job iv task E X old new (Err Memory) = Keeps old new
-OutputAnswer job iv task E X old new (Err KekLength) = ⊥
-OutputAnswer job iv task E X old new (Err (KekFile fault)) = ⊥
-OutputAnswer job iv task E X old new (Err (InputFile fault)) = ⊥
-OutputAnswer job iv task E X old new (Err (NewKekFile fault)) = ⊥
-OutputAnswer job iv task E X old new (Err NewKekLength) = ⊥
+OutputAnswer job iv task E X old new (Err fault) = ⊥
 
 -- the job that goes in a direction
 abbrev pub job_of : Direction → Job

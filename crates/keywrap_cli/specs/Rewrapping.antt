@@ -97,8 +97,7 @@ FilesAnswer task F H G (Err Integrity) =
 FilesAnswer task F H G (Ok output) =
     (K : List ℕ) × (L : List ℕ) × (X : List ℕ) × DenoteAll task F H G K L X
     × IsNewText task.old_form (cipher K) task.new_form (cipher L) task.input X output
-FilesAnswer task F H G (Err (Write written)) = ⊥
-FilesAnswer task F H G (Err Memory) = ⊥
+FilesAnswer task F H G (Err fault) = ⊥
 
 -- What a call leaves in its writer: the whole output of its answer, or the first `written` bytes of it, or nothing,
 -- where it answers a refusal. Beside these only Read and Memory come.

@@ -25,10 +25,10 @@ pub enum DrillFault {
     /// The number of hex digits is odd.
     #[error("input: odd number of hex digits")]
     OddDigits,
-    /// The key or the text has no legal length in this form.
+    /// The key or the wrapped key has no legal length in this form.
     #[error("bad length")]
     BadLength,
-    /// The text is no wrapping in this form.
+    /// The input is no wrapping in this form.
     #[error("integrity check failed")]
     Integrity,
     /// A growth was refused.

@@ -20,9 +20,9 @@ use thiserror::Error;
 pub enum Job {
     /// The input is a key, and the output its wrapping.
     Wrap,
-    /// The input is a text, and the output the key whose wrapping it is.
+    /// The input is a wrapped key, and the output the key.
     Unwrap,
-    /// The input is a text, and the output a line that says what it is a wrapping of.
+    /// The input is a wrapped key, and the output a line that says which form it has.
     Check,
 }
 
@@ -53,7 +53,7 @@ pub struct Task {
 pub enum Done {
     /// The answer was written.
     Written,
-    /// The text is no wrapping in either form, and `none` was written.
+    /// The input is no wrapping in either form, and `none` was written.
     Neither,
 }
 
@@ -63,22 +63,22 @@ pub enum JobFault {
     /// The KEK file denotes no bytes.
     #[error("key file: {0}")]
     KekFile(FileFault),
-    /// The KEK has not 16, 24 or 32 bytes.
+    /// The KEK is not 16, 24 or 32 bytes long.
     #[error("key length is not 16, 24 or 32 bytes")]
     KekLength,
     /// The file of the new KEK denotes no bytes. Only `run_rewrap` answers this.
     #[error("new key file: {0}")]
     NewKekFile(FileFault),
-    /// The new KEK has not 16, 24 or 32 bytes. Only `run_rewrap` answers this.
+    /// The new KEK is not 16, 24 or 32 bytes long. Only `run_rewrap` answers this.
     #[error("new key length is not 16, 24 or 32 bytes")]
     NewKekLength,
     /// The input denotes no bytes.
     #[error("input: {0}")]
     InputFile(FileFault),
-    /// The key or the text has no legal length in this form.
+    /// The key or the wrapped key has no legal length in this form.
     #[error("bad length")]
     BadLength,
-    /// The text is no wrapping in this form under this KEK.
+    /// The input is no wrapping in this form under this KEK.
     #[error("integrity check failed")]
     Integrity,
     /// The writer took `written` bytes of the output, and no more.
@@ -95,9 +95,9 @@ pub enum JobFault {
 /// Runs a job: reads the KEK and the input, and writes the answer in the notation of the input.
 ///
 /// The first that applies is answered: KekFile, KekLength, InputFile, BadLength, Memory of the
-/// answer, Integrity, Memory of the hex output or of the check's line, Write. Want of memory
-/// while a file is read is answered as Memory, where that file's fault would be. After a refusal
-/// for the KEK file or the KEK the input has not been read. Nothing is written before the whole
+/// answer, Integrity, Memory of the hex output or of the check's line, Write. Where memory runs out
+/// while a file is read, Memory is answered where that file's fault would be. After a refusal for
+/// the KEK file or the KEK the input has not been read. Nothing is written before the whole
 /// output is made, and the call does not flush. No contract says where Memory stands: tests do.
 pub fn run_job<K: Read, R: Read, W: Write>(
     alloc: Global,
@@ -159,8 +159,8 @@ pub fn job_of(direction: Direction) -> Job
     }
 }
 
-// A job, with the initial value of the plain form.
-fn run<K: Read, R: Read, W: Write>(
+/// A job, with the initial value of the plain form.
+pub fn run<K: Read, R: Read, W: Write>(
     alloc: Global,
     iv: &InitialValue,
     task: Task,

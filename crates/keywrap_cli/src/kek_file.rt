@@ -6,10 +6,12 @@ ghost use Rattle.keywrap_cli.specs.Readings.{new_kek_fault_of};
 
 use crate::files::read_file;
 use crate::job::{JobFault, Notation};
-use aes_block::Aes;
 use key_files::FileFault;
 use std::alloc::Global;
 use std::io::Read;
+
+/// The block cipher of the program, which is named here alone.
+pub use aes_block::Aes;
 
 /// AES under the KEK that a file denotes.
 pub fn read_kek<K: Read>(alloc: Global, notation: Notation, kek: &mut K) -> Result<Aes, JobFault>

@@ -1,8 +1,10 @@
 //! What is done with an input, once the KEK files are open.
 
+ghost use Rattle.keywrap_cli.specs.Keyed.{RunsKeyed};
+
 use crate::fault::ProgramFault;
-use crate::job::{Done, JobFault, Task, run_job, run_with};
-use crate::request::{Conversion, Rewrapping, Work};
+use crate::job::{Done, JobFault, Task, run};
+use crate::request::{Rewrapping, Work};
 use crate::rewrap::run_rewrap;
 use key_wrap::InitialValue;
 use std::alloc::Global;
@@ -14,15 +16,10 @@ use std::rt::Files;
 /// What is done with an input, with its KEK files.
 #[derive(Drop)]
 pub enum Keyed<K> {
-    /// A job.
+    /// A job, with the initial value of the plain form.
     Job {
-        task: Task,
-        kek: K,
-    },
-    /// A conversion under an initial value.
-    Convert {
         iv: InitialValue,
-        task: Conversion,
+        task: Task,
         kek: K,
     },
     /// A rewrapping.
@@ -43,8 +40,7 @@ pub fn open_keks<R: Files>(
 ) -> Result<Keyed<R::File>, ProgramFault> {
     let kek = fs::open(rt, kek).map_err(|_| ProgramFault::KekOpen)?;
     match work {
-        Work::Job(task) => Ok(Keyed::Job { task, kek }),
-        Work::Convert { task, .. } => Ok(Keyed::Convert { iv, task, kek }),
+        Work::Job { task, .. } => Ok(Keyed::Job { iv, task, kek }),
         Work::Rewrap { task, new_kek } => {
             let new_kek = fs::open(rt, new_kek).map_err(|_| ProgramFault::NewKekOpen)?;
             Ok(Keyed::Rewrap { task, kek, new_kek })
@@ -59,13 +55,14 @@ impl<K: Read> Keyed<K> {
         alloc: Global,
         input: &mut I,
         out: &mut W,
-    ) -> Result<Done, JobFault> {
+    ) -> Result<Done, JobFault>
+        // What the contract of that call says, of the fields.
+        ensures { RunsKeyed K.remaining self.old self.new
+            (I.remaining input.old) (I.remaining input.new)
+            (W.contents out.old) (W.contents out.new) result }
+    {
         match self {
-            Keyed::Job { task, kek } => run_job(alloc, *task, kek, input, out),
-            Keyed::Convert { iv, task, kek } => {
-                let direction = task.direction;
-                run_with(alloc, iv, direction, task.input, task.kek, kek, input, out)
-            }
+            Keyed::Job { iv, task, kek } => run(alloc, iv, *task, kek, input, out),
             Keyed::Rewrap { task, kek, new_kek } => run_rewrap(
                 alloc,
                 task.old_form,
@@ -85,7 +82,7 @@ impl<K: OpenFile> Keyed<K> {
     /// Whether a file is one of the KEK files, under whatever name.
     pub fn is_kek(&self, file: &Metadata) -> io::Result<bool> {
         match self {
-            Keyed::Job { kek, .. } | Keyed::Convert { kek, .. } => is_same(kek, file),
+            Keyed::Job { kek, .. } => is_same(kek, file),
             Keyed::Rewrap { kek, new_kek, .. } => {
                 Ok(is_same(kek, file)? || is_same(new_kek, file)?)
             }

@@ -2,12 +2,10 @@
 #![tactic(auto)]
 
 mod command_line;
-mod commands;
 mod convert;
 mod drill;
 mod fault;
 mod files;
-mod help;
 mod initial_value;
 mod job;
 mod kek_file;
@@ -20,7 +18,6 @@ mod rewrap;
 mod statuses;
 #[cfg(test)]
 mod tests;
-mod tips;
 mod vector_check;
 mod vector_table;
 mod vectors;

@@ -107,7 +107,7 @@ fn write_fault(fault: WriteFault) -> JobFault
     }
 }
 
-// Writes what a text is a wrapping of. A check has no refusal of its own.
+// Writes which form a wrapped key has. A check has no refusal of its own.
 fn write_kind<B: BlockPair, W: Write>(
     alloc: Global,
     pair: &B,

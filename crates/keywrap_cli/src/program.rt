@@ -5,19 +5,17 @@ ghost use Rattle.std.specs.List.{AllByRecursion};
 ghost use Rattle.keywrap_cli.specs.Published.{published_vectors};
 ghost use Rattle.keywrap_cli.specs.Vectors.{IsRight};
 
-use crate::command_line::{not_text, parse};
+use crate::command_line::parse;
 use crate::convert::Direction;
 use crate::drill::drill;
 use crate::fault::ProgramFault;
 use crate::request::Request;
 use crate::statuses;
-use crate::tips::message;
 use crate::vectors::vectors;
 use crate::work::{Terminals, run_work};
-use clap::Error;
-use clap::error::ErrorKind;
 use key_files::{write_hex, write_raw};
 use key_wrap::Form;
+use keywrap_words::{Refusal, not_text};
 use std::alloc::{AllocError, Global};
 use std::env;
 use std::io::{self, Write};
@@ -31,22 +29,14 @@ pub fn run<R: Print + Eprint + Input + AllocGlobal + Files + Env>(
     let words = match env::args(rt) {
         Ok(args) => args.collect::<Vec<String>>(rt.alloc()),
         Err(error) if error.kind() == io::ErrorKind::OutOfMemory => Err(AllocError),
-        Err(_) => return refuse_words(rt),
+        Err(_) => return explain(rt, &not_text(rt.alloc())),
     };
     let Ok(words) = words else {
         return refuse(rt, &ProgramFault::Memory);
     };
     match parse(rt.alloc(), words.as_slice()) {
         Ok(wanted) => answer(rt, wanted, terminals),
-        Err(error) => explain(rt, words.as_slice(), &error),
-    }
-}
-
-// Refuses words that are no text, as a parse refuses words.
-fn refuse_words<R: Print + Eprint + AllocGlobal>(rt: &R) -> u8 {
-    match not_text(rt.alloc()) {
-        Ok(error) => explain(rt, &[], &error),
-        Err(_) => refuse(rt, &ProgramFault::Memory),
+        Err(refusal) => explain(rt, &refusal),
     }
 }
 
@@ -95,13 +85,8 @@ pub(crate) fn run_vectors<W: Write>(alloc: Global, out: &mut W) -> Result<u8, Pr
     }
 }
 
-// The help or the version. The text is made whole before it is written.
-pub(crate) fn write_help<W: Write>(
-    alloc: Global,
-    help: &Error,
-    out: &mut W,
-) -> Result<u8, ProgramFault> {
-    let text = format!(in alloc; "{help}")?;
+// The help or the version.
+pub(crate) fn write_help<W: Write>(text: &str, out: &mut W) -> Result<u8, ProgramFault> {
     write_raw(out, text.as_bytes())?;
     flush(out, statuses::DONE)
 }
@@ -129,19 +114,14 @@ fn refuse<R: Eprint>(rt: &R, fault: &ProgramFault) -> u8 {
 }
 
 // Help goes to standard output, and what is wrong with the words to standard error.
-fn explain<R: Print + Eprint + AllocGlobal>(rt: &R, words: &[String], error: &Error) -> u8 {
-    if error.kind() == ErrorKind::OutOfMemory {
-        return refuse(rt, &ProgramFault::Memory);
-    }
-    if !error.use_stderr() {
-        return end(rt, write_help(rt.alloc(), error, &mut io::writer(rt)));
-    }
-    match message(rt.alloc(), words, error) {
-        Ok(text) => {
+fn explain<R: Print + Eprint>(rt: &R, refusal: &Refusal) -> u8 {
+    match refusal {
+        Refusal::Help(text) => end(rt, write_help(text.as_str(), &mut io::writer(rt))),
+        Refusal::Words(text) => {
             // Nothing is left to do where standard error is closed too.
             let _ = rt.eprint(text.as_str());
             statuses::REFUSED_WORDS
         }
-        Err(_) => refuse(rt, &ProgramFault::Memory),
+        Refusal::Memory => refuse(rt, &ProgramFault::Memory),
     }
 }

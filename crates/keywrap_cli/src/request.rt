@@ -24,31 +24,18 @@ pub enum Request<'a> {
 /// What is done with an input under a KEK.
 #[derive(Clone, Copy)]
 pub enum Work<'a> {
-    /// A job.
-    Job(Task),
-    /// A conversion under the initial value of a hex text.
-    Convert { iv: &'a str, task: Conversion },
+    /// A job. The plain form has the initial value of the text, if there is one.
+    Job { iv: Option<&'a str>, task: Task },
     /// A rewrapping, to the KEK in another file.
     Rewrap { task: Rewrapping, new_kek: &'a str },
 }
 
-/// A plain wrapping or unwrapping under an initial value, with the notations of its files.
-#[derive(Clone, Copy)]
-pub struct Conversion {
-    /// Which way it goes.
-    pub direction: Direction,
-    /// The notation of the input and of the output.
-    pub input: Notation,
-    /// The notation of the KEK file.
-    pub kek: Notation,
-}
-
-/// A rewrapping, with the forms of both texts and the notations of its files.
+/// A rewrapping, with the forms of both wrapped keys and the notations of its files.
 #[derive(Clone, Copy)]
 pub struct Rewrapping {
-    /// The form of the text.
+    /// The form of the wrapped key.
     pub old_form: Form,
-    /// The form of the new text.
+    /// The form of the new wrapped key.
     pub new_form: Form,
     /// The notation of the input and of the output.
     pub input: Notation,
@@ -71,14 +58,14 @@ impl Work<'_> {
     /// The initial value of the text of `--iv`; the default where there is none.
     pub fn initial_value(&self) -> Result<InitialValue, ProgramFault> {
         match self {
-            Work::Convert { iv, .. } => parse_iv(iv).map_err(ProgramFault::Iv),
-            Work::Job(_) | Work::Rewrap { .. } => Ok(InitialValue::default()),
+            Work::Job { iv: Some(iv), .. } => parse_iv(iv).map_err(ProgramFault::Iv),
+            Work::Job { iv: None, .. } | Work::Rewrap { .. } => Ok(InitialValue::default()),
         }
     }
 
     /// Whether the answer is raw bytes. A check answers with a line.
     pub fn writes_raw(&self) -> bool {
-        !matches!(self, Work::Job(task) if task.job == Job::Check)
+        !matches!(self, Work::Job { task, .. } if task.job == Job::Check)
             && self.notation() == Notation::Raw
     }
 
@@ -95,8 +82,7 @@ impl Work<'_> {
     // Whether the input is a key; else it is a wrapped key.
     fn takes_key(&self) -> bool {
         match self {
-            Work::Job(task) => task.job == Job::Wrap,
-            Work::Convert { task, .. } => task.direction == Direction::Wrap,
+            Work::Job { task, .. } => task.job == Job::Wrap,
             Work::Rewrap { .. } => false,
         }
     }
@@ -104,8 +90,7 @@ impl Work<'_> {
     // The notation of the input.
     fn notation(&self) -> Notation {
         match self {
-            Work::Job(task) => task.input,
-            Work::Convert { task, .. } => task.input,
+            Work::Job { task, .. } => task.input,
             Work::Rewrap { task, .. } => task.input,
         }
     }

@@ -13,15 +13,16 @@ use key_wrap::{Form, rewrap};
 use std::alloc::Global;
 use std::io::{Read, Write};
 
-/// Reads the old KEK, the new KEK and a text that is a wrapping under the old one, and writes the
-/// wrapping of the same key under the new one, in the notation of the input. The key itself is
+/// Reads the old KEK, the new KEK and a wrapped key under the old one, and writes the wrapping of
+/// the same key under the new one, in the notation of the input. The key itself is
 /// never written.
 ///
 /// The first that applies is answered: KekFile, KekLength, NewKekFile, NewKekLength, InputFile,
-/// BadLength of the text, Memory, Integrity, BadLength of the key, Memory of the hex output, Write.
-/// Want of memory while a file is read is answered as Memory, where that file's fault would be. A
-/// file is read only after what comes before it has passed. Nothing is written before the whole
-/// output is made, and the call does not flush. No contract says where Memory stands: tests do.
+/// BadLength of the wrapped key, Memory, Integrity, BadLength of the key, Memory of the hex output,
+/// Write. Where memory runs out while a file is read, Memory is answered where that file's fault
+/// would be. A file is read only after what comes before it has passed. Nothing is written before
+/// the whole output is made, and the call does not flush. No contract says where Memory stands:
+/// tests do.
 pub fn run_rewrap<K: Read, N: Read, R: Read, W: Write>(
     alloc: Global,
     old_form: Form,
@@ -62,7 +63,7 @@ pub fn run_rewrap<K: Read, N: Read, R: Read, W: Write>(
     )
 }
 
-// Makes the new text whole, and then writes it.
+// Makes the new wrapped key whole, and then writes it.
 fn write_rewrapped<O: BlockPair, N: BlockPair, W: Write>(
     alloc: Global,
     old_form: Form,

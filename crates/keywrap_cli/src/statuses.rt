@@ -6,10 +6,10 @@ pub const DONE: u8 = 0;
 /// The command line was refused, or the value of `--iv`, or raw bytes would go to a terminal.
 pub const REFUSED_WORDS: u8 = 2;
 
-/// A KEK has not 16, 24 or 32 bytes.
+/// A KEK is not 16, 24 or 32 bytes long.
 pub const KEK_LENGTH: u8 = 3;
 
-/// The key or the text has no legal length in its form.
+/// The key or the wrapped key has no legal length in its form.
 pub const BAD_LENGTH: u8 = 4;
 
 /// The integrity check failed, a check found no wrapping, or a vector failed.

@@ -12,5 +12,4 @@ mod limits;
 mod requests;
 mod rewraps;
 mod standards;
-mod tips;
 mod vectors;

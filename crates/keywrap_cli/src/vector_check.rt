@@ -9,8 +9,8 @@ ghost use Rattle.keywrap_cli.specs.Conversion.{Converts};
 ghost use Rattle.keywrap_cli.specs.Vectors.{IsRight, Takes, shown};
 
 use crate::convert::{Direction, convert};
+use crate::kek_file::Aes;
 use crate::vector_table::{Operation, Vector};
-use aes_block::Aes;
 use block_pair::BlockPair;
 use key_files::{FileFault, decode_hex};
 use key_wrap::{Form, InitialValue, UnwrapFault};

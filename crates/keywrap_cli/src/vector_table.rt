@@ -5,7 +5,7 @@ use key_wrap::Form;
 /// What takes a vector's input to its output.
 #[derive(Clone, Copy)]
 pub enum Operation {
-    /// The wrapping in a form: from key data to its text.
+    /// The wrapping in a form: from key data to its wrapping.
     KeyWrap(Form),
     /// The encryption of one block.
     Encryption,
@@ -22,7 +22,7 @@ pub struct Vector<'a> {
     pub key: &'a str,
     /// The key data, or the block.
     pub input: &'a str,
-    /// The wrapped text, or the encrypted block.
+    /// The wrapped key data, or the encrypted block.
     pub output: &'a str,
 }
 

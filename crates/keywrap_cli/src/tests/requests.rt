@@ -1,9 +1,8 @@
 //! What a command line asks for: its files, whether it writes raw bytes, and what it waits for.
 
 use crate::command_line::parse;
-use crate::convert::Direction;
-use crate::job::{Job, Notation};
-use crate::request::{Conversion, Places, Request, Work};
+use crate::job::{Job, Notation, Task};
+use crate::request::{Places, Request, Work};
 use key_wrap::Form;
 use std::alloc::{AllocError, Global};
 use std::process::Abort;
@@ -137,26 +136,21 @@ fn says_what_is_waited_for_and_what_is_raw(rt: HostRuntime) -> Result<(), Fail> 
 fn keeps_the_job_beside_the_files(rt: HostRuntime) -> Result<(), Fail> {
     let padded = words(rt.alloc(), "unwrap -o b --kek k --padded --raw -i a")?;
     let (work, _) = asked(rt.alloc(), padded.as_slice()).ok_or("refused")?;
-    assert!(rt;
-        matches!(work, Work::Job(task) if task.job == Job::Unwrap
-        && task.form == Form::Padded
-        && task.input == Notation::Raw
-        && task.kek == Notation::Hex)
-    );
+    let wanted = Task {
+        job: Job::Unwrap,
+        form: Form::Padded,
+        input: Notation::Raw,
+        kek: Notation::Hex,
+    };
+    assert!(rt; matches!(work, Work::Job { iv: None, task } if task == wanted));
     let under_iv = words(rt.alloc(), "unwrap -o b --kek k --iv 0 --raw-kek -i a")?;
     let (work, _) = asked(rt.alloc(), under_iv.as_slice()).ok_or("refused")?;
-    assert!(rt;
-        matches!(
-            work,
-            Work::Convert {
-                iv: "0",
-                task: Conversion {
-                    direction: Direction::Unwrap,
-                    input: Notation::Hex,
-                    kek: Notation::Raw,
-                },
-            }
-        )
-    );
+    let wanted = Task {
+        job: Job::Unwrap,
+        form: Form::Plain,
+        input: Notation::Hex,
+        kek: Notation::Raw,
+    };
+    assert!(rt; matches!(work, Work::Job { iv: Some("0"), task } if task == wanted));
     Ok(())
 }

@@ -29,16 +29,16 @@ Exit status:
   0  done
   2  the command line was refused
   3  a KEK has not 16, 24 or 32 bytes
-     In hex that is 32, 48 or 64 digits. A KEK file of raw bytes wants --raw-kek.
+     In hex that is 32, 48 or 64 digits. For a KEK file of raw bytes use --raw-kek.
   4  the key or the wrapped key has no legal length in this form
-     A plain key has 16 bytes or more, a multiple of 8, and its wrapped key has 8 more. A key of
-     another length wants --padded.
+     A plain key has 16 bytes or more, a multiple of 8, and its wrapped key has 8 more. For a key
+     of another length use --padded.
   5  the integrity check failed; check found no wrapping; a vector failed
      It has another KEK, the other form or an --iv, or it is damaged. keywrap check says which
      form fits the KEK.
   6  a file or the output could not be opened, read or written
      The line names it, and the first byte that is no hex digit, counted from 0 at the start of
-     the file. Raw bytes want --raw.
+     the file. For raw bytes use --raw.
   7  out of memory
      The files may be right: try again with more memory.
 

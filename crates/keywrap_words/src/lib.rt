@@ -1,0 +1,12 @@
+//! The words of the command `keywrap`: its subcommands and their arguments, the help, and what is
+//! said of words that were refused.
+#![tactic(auto)]
+
+mod commands;
+pub mod help;
+mod line;
+#[cfg(test)]
+mod tests;
+mod tips;
+
+pub use line::{Command, CommandLine, Refusal, not_text, parse};

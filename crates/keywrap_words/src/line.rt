@@ -1,0 +1,147 @@
+//! A command line, from its words: a subcommand with its arguments, or what is said instead.
+
+use crate::commands::keywrap;
+use crate::tips::message;
+use clap::error::ErrorKind;
+use clap::{ArgMatches, Error};
+use std::alloc::{AllocError, Global};
+
+/// A subcommand.
+#[derive(Clone, Copy, Debug, PartialEq, Eq)]
+pub enum Command {
+    /// Wraps a key.
+    Wrap,
+    /// Unwraps a wrapped key.
+    Unwrap,
+    /// Wraps the key of a wrapped key under another KEK.
+    Rewrap,
+    /// Says in which form a wrapped key fits the KEK.
+    Check,
+    /// Wraps over the drill block.
+    Drill,
+    /// Answers the published vectors.
+    Vectors,
+}
+
+/// A command line that was taken. What its subcommand does not have is not set or empty.
+#[derive(Clone, Copy)]
+pub struct CommandLine<'a> {
+    /// The subcommand.
+    pub command: Command,
+    /// The KEK file.
+    pub kek: &'a str,
+    /// The file of the new KEK.
+    pub new_kek: &'a str,
+    /// The file of the input, if it is not standard input.
+    pub input: Option<&'a str>,
+    /// The file of the output, if it is not standard output.
+    pub output: Option<&'a str>,
+    /// The text of the initial value, where one is given.
+    pub iv: Option<&'a str>,
+    /// The text of the drill.
+    pub hex: &'a str,
+    /// The padded form; of a rewrapping, that of the old wrapped key.
+    pub padded: bool,
+    /// The padded form of the new wrapped key.
+    pub new_padded: bool,
+    /// The input and the output are raw bytes.
+    pub raw: bool,
+    /// Each KEK file is raw bytes.
+    pub raw_kek: bool,
+    /// The drill unwraps.
+    pub unwrap: bool,
+}
+
+/// What is said in place of what the words ask for.
+#[derive(Debug, Drop)]
+pub enum Refusal {
+    /// The help or the version that was asked for, which goes to standard output.
+    Help(String),
+    /// What is wrong with the words, which goes to standard error.
+    Words(String),
+    /// A growth was refused.
+    Memory,
+}
+
+/// Reads the words, of which the first is the program's name.
+pub fn parse<'a>(alloc: Global, words: &'a [String]) -> Result<CommandLine<'a>, Refusal> {
+    match read(alloc, words) {
+        Ok(line) => Ok(line),
+        Err(error) => Err(refused(alloc, words, &error)),
+    }
+}
+
+/// What is said of words that are not UTF-8.
+pub fn not_text(alloc: Global) -> Refusal {
+    let said = "invalid UTF-8 was detected in one or more arguments";
+    match fault(alloc, ErrorKind::InvalidValue, said) {
+        Ok(error) => refused(alloc, &[], &error),
+        Err(_) => Refusal::Memory,
+    }
+}
+
+fn refused(alloc: Global, words: &[String], error: &Error) -> Refusal {
+    if error.kind() == ErrorKind::OutOfMemory {
+        return Refusal::Memory;
+    }
+    let text = if error.use_stderr() {
+        message(alloc, words, error).map(Refusal::Words)
+    } else {
+        format!(in alloc; "{error}").map(Refusal::Help)
+    };
+    text.unwrap_or(Refusal::Memory)
+}
+
+/// Reads the words as `clap` takes them.
+pub fn read<'a>(alloc: Global, words: &'a [String]) -> Result<CommandLine<'a>, Error> {
+    let matches = keywrap(alloc)?.try_get_matches_from(words)?;
+    match taken(matches.subcommand()) {
+        Some(line) => Ok(line),
+        // A command line without a subcommand, or with another, is refused by the parse itself.
+        None => Err(fault(
+            alloc,
+            ErrorKind::InvalidSubcommand,
+            "unrecognized subcommand",
+        )?),
+    }
+}
+
+fn fault(alloc: Global, kind: ErrorKind, said: &str) -> Result<Error, AllocError> {
+    keywrap(alloc)?.error(kind, said)
+}
+
+fn taken<'a>(subcommand: Option<(&'a str, &ArgMatches<'a>)>) -> Option<CommandLine<'a>> {
+    let (name, found) = subcommand?;
+    Some(CommandLine {
+        command: command_of(name)?,
+        kek: text_of(found, "kek"),
+        new_kek: text_of(found, "new-kek"),
+        input: found.get_str("input"),
+        output: found.get_str("output"),
+        iv: found.get_str("iv"),
+        hex: text_of(found, "hex"),
+        padded: found.get_flag("padded"),
+        new_padded: found.get_flag("new-padded"),
+        raw: found.get_flag("raw"),
+        raw_kek: found.get_flag("raw-kek"),
+        unwrap: found.get_flag("unwrap"),
+    })
+}
+
+fn command_of(name: &str) -> Option<Command> {
+    match name {
+        "wrap" => Some(Command::Wrap),
+        "unwrap" => Some(Command::Unwrap),
+        "rewrap" => Some(Command::Rewrap),
+        "check" => Some(Command::Check),
+        "drill" => Some(Command::Drill),
+        "vectors" => Some(Command::Vectors),
+        _ => None,
+    }
+}
+
+// The value of an argument; empty where the subcommand does not have it. A parse without one that
+// the subcommand requires is refused.
+fn text_of<'a>(found: &ArgMatches<'a>, id: &str) -> &'a str {
+    found.get_str(id).unwrap_or("")
+}

@@ -1,0 +1,120 @@
+//! What is said of words that were refused: clap's message, and a tip on what users guess.
+
+use crate::line::read;
+use clap::Error;
+use clap::error::ErrorKind;
+use std::alloc::{AllocError, Global};
+
+const COMMANDS: &str = "the first word is wrap, unwrap, rewrap, check, drill or vectors";
+
+const FILES: &str = "files are named by options: --kek FILE, --input FILE, --output FILE";
+
+const DRILL: &str = "drill takes one word of hex digits and no KEK; wrap takes --kek FILE";
+
+const CHECK: &str = "check looks at both forms, and says which one it found";
+
+const NEW_KEK: &str = "only rewrap takes --new-kek";
+
+// Where the usage begins in a message of clap, behind what it says of the words.
+const USAGE: &str = "\n\nUsage: ";
+
+// Where clap's own tip begins.
+const TIP: &str = "\n\n  tip: ";
+
+/// The message on words that were refused, the first of which is the program's name. A tip stands
+/// where clap has its own, and there is one at most. The message shows a refused word: its control
+/// characters stand there escaped, since it goes to a terminal.
+pub fn message(alloc: Global, words: &[String], error: &Error) -> Result<String, AllocError> {
+    if !words.iter().any(|word| has_controls(word.as_str())) {
+        return with_tip(alloc, words, error);
+    }
+    let mut shown = Vec::new(alloc);
+    for word in words {
+        shown.push(escaped(alloc, word.as_str())?)?;
+    }
+    // Words with a backslash are refused where those with a control character are.
+    match read(alloc, shown.as_slice()) {
+        Ok(_line) => with_tip(alloc, words, error),
+        Err(error) => on_shown(alloc, shown.as_slice(), &error),
+    }
+}
+
+fn on_shown(alloc: Global, shown: &[String], error: &Error) -> Result<String, AllocError> {
+    if error.kind() == ErrorKind::OutOfMemory {
+        return Err(AllocError);
+    }
+    with_tip(alloc, shown, error)
+}
+
+fn has_controls(word: &str) -> bool {
+    word.chars().any(|c| c.is_control())
+}
+
+// The word with `\x1b` for an escape, and the like.
+fn escaped(alloc: Global, word: &str) -> Result<String, AllocError> {
+    let mut shown = String::new(alloc);
+    for c in word.chars() {
+        if c.is_control() {
+            let code = c as u32;
+            write!(shown, "\\x{code:02x}")?;
+        } else {
+            shown.push(c)?;
+        }
+    }
+    Ok(shown)
+}
+
+fn with_tip(alloc: Global, words: &[String], error: &Error) -> Result<String, AllocError> {
+    let text = format!(in alloc; "{error}")?;
+    let Some((said, usage)) = text.as_str().split_once(USAGE) else {
+        return Ok(text);
+    };
+    match tip_for(words, error.kind(), said) {
+        Some(tip) => {
+            let fault = without_tip(said);
+            format!(in alloc; "{fault}{TIP}{tip}{USAGE}{usage}")
+        }
+        None => Ok(text),
+    }
+}
+
+fn without_tip(said: &str) -> &str {
+    match said.split_once(TIP) {
+        Some((fault, _)) => fault,
+        None => said,
+    }
+}
+
+fn tip_for(words: &[String], kind: ErrorKind, said: &str) -> Option<&'static str> {
+    match kind {
+        ErrorKind::InvalidSubcommand if !said.contains(TIP) => Some(COMMANDS),
+        ErrorKind::UnknownArgument => tip_on_argument(command_of(words), said),
+        _ => None,
+    }
+}
+
+// What clap says of an argument names it between quotes.
+fn tip_on_argument(command: &str, said: &str) -> Option<&'static str> {
+    let named = said
+        .strip_prefix("error: unexpected argument '")
+        .unwrap_or("");
+    let has_tip = said.contains(TIP);
+    match command {
+        "check" if named.starts_with("--padded'") => Some(CHECK),
+        "wrap" | "unwrap" | "check" if named.starts_with("--new-kek'") => Some(NEW_KEK),
+        "wrap" | "unwrap" | "rewrap" | "check" if !has_tip && !named.starts_with("--") => {
+            Some(FILES)
+        }
+        "drill" if !has_tip || said.contains("tip: to pass") => Some(DRILL),
+        "wrap" | "unwrap" | "rewrap" | "check" | "drill" | "vectors" => None,
+        _ if !has_tip => Some(COMMANDS),
+        _ => None,
+    }
+}
+
+fn command_of(words: &[String]) -> &str {
+    match words.get(1) {
+        Some(word) => word.as_str(),
+        None => "",
+    }
+}
