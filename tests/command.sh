@@ -429,8 +429,8 @@ refuses_words drill $'\xff'
 # shows_no_controls ARGUMENT..: the command line is refused, and the terminal gets no control byte of it.
 shows_no_controls() {
     refuses_words "$@"
-    verdict "no control byte of '$(printf '%q ' "$@")' is shown" "$(LC_ALL=C tr -d '\n\040-\176\200-\377' <err | od -An -tx1)"
-    verdict "no C1 control of '$(printf '%q ' "$@")' is shown" "$(LC_ALL=C grep -o $'\xc2[\x80-\x9f]' err | od -An -tx1)"
+    verdict "no control byte of$(printf ' %q' "$@") is shown" "$(tr -d '\n\040-\176\200-\377' <err | od -An -tx1)"
+    verdict "no C1 control of$(printf ' %q' "$@") is shown" "$(LC_ALL=C grep -o $'\xc2[\x80-\x9f]' err | od -An -tx1)"
 }
 for word in $'\e[31mred' $'\e]0;title\a' $'back\b\r' $'\x7f' $'tab\t' $'\xc2\x9b31m'; do
     shows_no_controls "$word"
