@@ -51,11 +51,11 @@ for command in $commands; do
 done
 same 'help and page: the statuses' "$("$program" --help | grep -oE '^  [0-9]+  ')" \
     "$(section 'EXIT STATUS' | sed -nE 's/^\.It ([0-9]+)$/  \1  /p')"
-# What the help's line of a status and the page's first lines of it both say.
+# What the help's line of a status and the page's first line of it both say.
 while read -r status phrase; do
     row "help: what status $status says" grep -qiE "^  $status  .*$phrase" <("$program" --help)
     row "page: what status $status says" grep -qiF "$phrase" \
-        <(section 'EXIT STATUS' | sed -n "/^\.It $status\$/,/^\.It [^$status]*\$/p" | sed -n '2,5p' | paste -sd ' ')
+        <(section 'EXIT STATUS' | sed -n "/^\.It $status\$/{n;p}")
 done <<'END_OF_STATUSES'
 0 done
 2 the command line
