@@ -34,7 +34,7 @@ complete -c keywrap -n '__keywrap_is wrap unwrap; and __keywrap_lacks --padded' 
 complete -c keywrap -n '__keywrap_is wrap unwrap rewrap check' -l raw -d 'Input and output are raw bytes, not hex'
 complete -c keywrap -n '__keywrap_is wrap unwrap rewrap check' -l raw-kek -d 'Each KEK file is raw bytes, not hex'
 complete -c keywrap -n '__keywrap_is wrap unwrap rewrap check' -s i -l input -rF \
-    -d 'The input, in the place of standard input'
+    -d 'The input, instead of standard input'
 complete -c keywrap -n '__keywrap_is wrap unwrap rewrap check' -s o -l output -rF \
     -d 'The file for the answer, written whole'
-complete -c keywrap -n '__keywrap_is drill' -l unwrap -d 'Unwrap in the place of wrapping'
+complete -c keywrap -n '__keywrap_is drill' -l unwrap -d 'Unwrap instead of wrapping'

@@ -21,20 +21,25 @@ run_script() {
     echo "tests/$1.sh: $((SECONDS - began)) s, status $status" >>"$logs/$1"
 }
 
-# They share the program, which is built before the first of them.
+# They share the program, which is built before the first of them. Those that build the C library in its
+# crate's folder take turns.
 ./keywrap --version || exit
 for script in "${scripts[@]}"; do
     while [ "$(jobs -pr | wc -l)" -ge "$(nproc)" ]; do wait -n; done
-    run_script "$script" &
+    case $script in
+    library | python | secrets) { flock 8 && run_script "$script" 8>&-; } 8>"$logs/.turn" & ;;
+    *) run_script "$script" & ;;
+    esac
 done
 wait
 
 passed=0 failed=0 skipped=0
+counts='^([0-9]+) passed, ([0-9]+) failed, ([0-9]+) skipped'$'\n''.* status ([0-9]+)$'
 for script in "${scripts[@]}"; do
     echo
     cat "$logs/$script"
-    # The last two lines are the script's own and its status.
-    if [[ $(tail -n 2 "$logs/$script") =~ ^([0-9]+)\ passed,\ ([0-9]+)\ failed,\ ([0-9]+)\ skipped$'\n'.*\ status\ ([0-9]+)$ ]]; then
+    # The last two lines are the script's own and its status, which has to fit it.
+    if [[ $(tail -n 2 "$logs/$script") =~ $counts ]]; then
         passed=$((passed + BASH_REMATCH[1])) failed=$((failed + BASH_REMATCH[2])) skipped=$((skipped + BASH_REMATCH[3]))
         [ "$((BASH_REMATCH[2] == 0))" = "$((BASH_REMATCH[4] == 0))" ] || failed=$((failed + 1))
     else

@@ -426,6 +426,20 @@ refuses_words drill 00 11
 refuses_words vectors all
 refuses_words drill $'\xff'
 
+# shows_no_controls ARGUMENT..: the command line is refused, and the terminal gets no control byte of it.
+shows_no_controls() {
+    refuses_words "$@"
+    verdict "no control byte of$(printf ' %q' "$@") is shown" "$(tr -d '\n\040-\176\200-\377' <err | od -An -tx1)"
+    verdict "no C1 control of$(printf ' %q' "$@") is shown" "$(LC_ALL=C grep -o $'\xc2[\x80-\x9f]' err | od -An -tx1)"
+}
+for word in $'\e[31mred' $'\e]0;title\a' $'back\b\r' $'\x7f' $'tab\t' $'\xc2\x9b31m'; do
+    shows_no_controls "$word"
+    shows_no_controls wrap --kek kek16.hex "$word"
+    shows_no_controls wrap "--$word"
+    shows_no_controls unwrap --kek kek16.hex --raw="$word"
+    shows_no_controls drill 00 "$word"
+done
+
 # guesses TIP ARGUMENT..: the command line is refused, with a tip on what may have been meant.
 guesses() {
     refuses_words "${@:2}"
@@ -456,17 +470,7 @@ keywrap_alone() {
 }
 keywrap_alone
 explains 'Usage: keywrap <COMMAND>|wrap|unwrap|rewrap|check|drill|vectors' --help
-statuses='  0  done
-  2  the command line was refused
-  3  a KEK has not 16, 24 or 32 bytes
-  4  the key or the wrapped key has no legal length in this form
-  5  the integrity check failed; check found no wrapping; a vector failed
-  6  a file or the output could not be opened, read or written
-  7  out of memory'
 explains 'Exit status:' --help
-problem=''
-grep '^  [0-9]  ' out | cmp -s - <(echo "$statuses") || problem='the lines are others'
-verdict 'the help has the seven statuses' "$problem"
 explains 'Usage: keywrap <COMMAND>|wrap|unwrap|rewrap|check|drill|vectors' -h
 files='-i, --input <FILE>|-o, --output <FILE>'
 usage='[OPTIONS] --kek <FILE>'

@@ -44,18 +44,10 @@ in_pieces() {
 # with_kek NAME STATUS ANSWER LINE INPUT JOB FLAG.. --kek KEK: the KEK comes in other ways.
 with_kek() {
     local kek=${*: -1} flags=("${@:6:$#-6}")
-    "$keywrap" "${flags[@]}" <(cat "$kek") <"$5" >out 2>err
-    status=$?
-    ended "$1, the KEK in a process substitution" "$2" "$3" "$4"
-    "$keywrap" "${flags[@]}" <(in_pieces "$kek" 5) <"$5" >out 2>err
-    status=$?
-    ended "$1, the KEK in pieces" "$2" "$3" "$4"
-    "$keywrap" "${flags[@]}" <(in_pieces "$kek" 5) < <(in_pieces "$5" 5) >out 2>err
-    status=$?
-    ended "$1, the KEK and the input in pieces" "$2" "$3" "$4"
-    "$keywrap" "${flags[@]}" /dev/fd/7 7<"$kek" <"$5" >out 2>err
-    status=$?
-    ended "$1, the KEK in /dev/fd" "$2" "$3" "$4"
+    gives "$1, the KEK in a process substitution" "${@:2:3}" "${flags[@]}" <(cat "$kek") <"$5"
+    gives "$1, the KEK in pieces" "${@:2:3}" "${flags[@]}" <(in_pieces "$kek" 5) <"$5"
+    gives "$1, the KEK and the input in pieces" "${@:2:3}" "${flags[@]}" <(in_pieces "$kek" 5) < <(in_pieces "$5" 5)
+    gives "$1, the KEK in /dev/fd" "${@:2:3}" "${flags[@]}" /dev/fd/7 7<"$kek" <"$5"
     timeout 10 cp "$kek" pipe &
     "$keywrap" "${flags[@]}" pipe <"$5" >out 2>err
     status=$?
@@ -66,9 +58,7 @@ with_kek() {
     check) set -- "$1" 5 none '' ;;
     *) set -- "$1" 4 nothing "keywrap: $bad_length" ;;
     esac
-    "$keywrap" "${flags[@]}" /dev/stdin < <(cat "$kek") >out 2>err
-    status=$?
-    ended "$1, the KEK on standard input" "$2" "$3" "$4"
+    gives "$1, the KEK on standard input" "${@:2:3}" "${flags[@]}" /dev/stdin < <(cat "$kek")
 }
 jobs with_kek
 
@@ -140,9 +130,7 @@ rm loop link
 with_input() {
     local size
     for size in 1 7 1000; do
-        "$keywrap" "${@:6}" < <(in_pieces "$5" $size) >out 2>err
-        status=$?
-        ended "$1, an input in pieces of $size" "$2" "$3" "$4"
+        gives "$1, an input in pieces of $size" "${@:2:3}" "${@:6}" < <(in_pieces "$5" $size)
     done
     # A program that was stopped while it waited goes on.
     exec 8<>pipe
@@ -167,12 +155,8 @@ with_input() {
     status=$?
     ended "$1, an input that fails after 5 bytes" 6 nothing 'keywrap: input: cannot be read'
     exec 8<&-
-    "$keywrap" "${@:6}" <folder >out 2>err
-    status=$?
-    ended "$1, a folder as input" 6 nothing 'keywrap: input: cannot be read'
-    "$keywrap" "${@:6}" 0>full >out 2>err
-    status=$?
-    ended "$1, an input to write to" 6 nothing 'keywrap: input: cannot be read'
+    gives "$1, a folder as input" 6 nothing 'keywrap: input: cannot be read' "${@:6}" <folder
+    gives "$1, an input to write to" 6 nothing 'keywrap: input: cannot be read' "${@:6}" 0>full
 }
 jobs with_input
 head -c 65536 /dev/zero >most.raw
@@ -235,12 +219,13 @@ defaulting() { env --default-signal=PIPE "$program" "$@"; }
 
 # unread NAME STATUS ANSWER LINE INPUT ARGUMENT..: no one reads the pipe that the answer goes to.
 unread() {
-    local line='keywrap: output: refused after 0 bytes'
-    "$keywrap" "${@:6}" <"$(file_of "$5")" >&9 2>err
-    status=$?
-    : >out
-    if [ -s "$3" ]; then set -- "$1" 6 nothing "$line"; fi
-    ended "$1, no reader, $keywrap SIGPIPE" "$2" "$3" "$4"
+    local name="$1, no reader, $keywrap SIGPIPE" input
+    input=$(file_of "$5")
+    if [ -s "$3" ]; then
+        to=unread gives "$name" 6 nothing 'keywrap: output: refused after 0 bytes' "${@:6}" <"$input"
+    else
+        to=unread gives "$name" "${@:2:3}" "${@:6}" <"$input"
+    fi
 }
 
 # is_counted NAME WHOLE: a run whose reader went away is done, or says how much was taken.
@@ -287,20 +272,25 @@ keywrap=$program
 
 ### A full device, and closed streams
 
+# muted, closing ARGUMENT..: the program with a full device for its line, and with those of its streams closed
+# that $streams names.
+muted() { "$program" "$@" 2>/dev/full; }
+closing() (
+    case $streams in *0*) exec <&- ;; esac
+    case $streams in *1*) exec >&- ;; esac
+    case $streams in *2*) exec 2>&- ;; esac
+    exec "$program" "$@"
+)
+
 # with_full_device NAME STATUS ANSWER LINE INPUT ARGUMENT..: the answer, or its line, has no room.
 with_full_device() {
-    : >out
-    "$keywrap" "${@:6}" <"$(file_of "$5")" 2>/dev/full >out
-    status=$?
-    : >err
-    ended "$1, a full device for the line" "$2" "$3" ''
-    "$keywrap" "${@:6}" <"$(file_of "$5")" >/dev/full 2>err
-    status=$?
-    : >out
+    local input
+    input=$(file_of "$5")
+    keywrap=muted gives "$1, a full device for the line" "$2" "$3" '' "${@:6}" <"$input"
     if [ -s "$3" ]; then
-        set -- "$1" 6 nothing 'keywrap: output: refused after 0 bytes'
+        set -- "$1" 6 nothing 'keywrap: output: refused after 0 bytes' "${@:5}"
     fi
-    ended "$1, a full device" "$2" nothing "$4"
+    to=/dev/full gives "$1, a full device" "${@:2:3}" "${@:6}" <"$input"
 }
 each with_full_device
 
@@ -323,25 +313,19 @@ with_closed() {
         case $streams in
         *2*) line='' ;;
         esac
-        (
-            case $streams in *0*) exec <&- ;; esac
-            case $streams in *1*) exec >&- ;; esac
-            case $streams in *2*) exec 2>&- ;; esac
-            exec "$keywrap" "${@:6}"
-        ) <"$(file_of "$5")" >out 2>err
-        status=$?
-        ended "$1, closed: ${streams:-none}" "$wanted" "$answer" "$line"
+        keywrap=closing gives "$1, closed: ${streams:-none}" "$wanted" "$answer" "$line" "${@:6}" <"$(file_of "$5")"
     done
 }
 each with_closed
 
 ### The file of --output
 
-# filed_as NAME STATUS ANSWER LINE: the run that wrote `out` and `err` and ended with $status ended so, wrote
-# nothing to standard output, and left the file of --output with what ANSWER holds, and nothing beside it.
-filed_as() {
-    local problem='' all=(to/*)
-    ended "$1" "$2" nothing "$4"
+# files_it NAME STATUS ANSWER LINE ARGUMENT..: the command, on this call's standard input, ends so, writes
+# nothing to standard output, and leaves the file of --output with what ANSWER holds, and nothing beside it.
+files_it() {
+    local problem='' all
+    gives "$1" "$2" nothing "${@:4}"
+    all=(to/*)
     cmp -s to/file "$3" || problem="the file holds $(shown to/file), not $(shown "$3")"
     [ "${all[*]}" = to/file ] || problem="$problem; files ${all[*]}"
     verdict "$1, the file" "$problem"
@@ -352,23 +336,13 @@ filed_as() {
 with_file() {
     local streams wanted answer line input
     input=$(file_of "$5")
-    "$keywrap" "${@:6}" < <(in_pieces "$input" 7) >out 2>err
-    status=$?
-    filed_as "$1, an input in pieces" "${@:2:3}"
-    : >out
-    "$keywrap" "${@:6}" <"$input" >/dev/full 2>err
-    status=$?
-    filed_as "$1, a full device as standard output" "${@:2:3}"
-    "$keywrap" "${@:6}" <"$input" >out 2>/dev/full
-    status=$?
-    : >err
-    filed_as "$1, a full device for the line" "$2" "$3" ''
+    files_it "$1, an input in pieces" "${@:2:3}" "${@:6}" < <(in_pieces "$input" 7)
+    to=/dev/full files_it "$1, a full device as standard output" "${@:2:3}" "${@:6}" <"$input"
+    keywrap=muted files_it "$1, a full device for the line" "$2" "$3" '' "${@:6}" <"$input"
     exec 8<>pipe
     exec 9>pipe 8<&-
-    "$keywrap" "${@:6}" <"$input" >&9 2>err
-    status=$?
+    to=unread files_it "$1, no reader" "${@:2:3}" "${@:6}" <"$input"
     exec 9>&-
-    filed_as "$1, no reader" "${@:2:3}"
     # From a closed input nothing comes.
     for streams in 0 1 2 01 02 12 012; do
         wanted=$2 answer=$3 line=$4
@@ -380,14 +354,7 @@ with_file() {
         # No input is read where there is no KEK, and none where there is no output.
         case $2,$3 in [36],old) wanted=$2 answer=$3 line=$4 ;; esac
         case $streams in *2*) line='' ;; esac
-        (
-            case $streams in *0*) exec <&- ;; esac
-            case $streams in *1*) exec >&- ;; esac
-            case $streams in *2*) exec 2>&- ;; esac
-            exec "$keywrap" "${@:6}"
-        ) <"$input" >out 2>err
-        status=$?
-        filed_as "$1, closed: $streams" "$wanted" "$answer" "$line"
+        keywrap=closing files_it "$1, closed: $streams" "$wanted" "$answer" "$line" "${@:6}" <"$input"
     done
 }
 cp old to/file
@@ -396,20 +363,14 @@ rm to/file
 
 # in_file NAME STATUS ANSWER LINE INPUT ARGUMENT..: the input is no plain file, and standard input is another.
 in_file() {
-    "$keywrap" "${@:6}" --input <(in_pieces "$5" 7) <wrong.hex >out 2>err
-    status=$?
-    ended "$1, an input file in pieces" "$2" "$3" "$4"
-    "$keywrap" "${@:6}" --input /dev/fd/7 7<"$5" <wrong.hex >out 2>err
-    status=$?
-    ended "$1, an input file in /dev/fd" "$2" "$3" "$4"
+    gives "$1, an input file in pieces" "${@:2:3}" "${@:6}" --input <(in_pieces "$5" 7) <wrong.hex
+    gives "$1, an input file in /dev/fd" "${@:2:3}" "${@:6}" --input /dev/fd/7 7<"$5" <wrong.hex
     timeout 10 cp "$5" pipe &
     "$keywrap" "${@:6}" --input pipe <wrong.hex >out 2>err
     status=$?
     wait $!
     ended "$1, a named pipe as input file" "$2" "$3" "$4"
-    "$keywrap" "${@:6}" --input "$5" <&- >out 2>err
-    status=$?
-    ended "$1, an input file, standard input closed" "$2" "$3" "$4"
+    gives "$1, an input file, standard input closed" "${@:2:3}" "${@:6}" --input "$5" <&-
 }
 jobs in_file
 refuses 'an endless pipe as input file' 6 'input: too long' unwrap --kek kek16.hex --input <(yes 00)

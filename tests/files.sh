@@ -17,70 +17,10 @@ set -u
 . "$root/tests/lib/answers.sh"
 # shellcheck source=tests/lib/commands.sh
 . "$root/tests/lib/commands.sh"
-umask 022
-not_opened='keywrap: output: cannot be opened'
-mkfifo pipe
+# shellcheck source=tests/lib/output.sh
+. "$root/tests/lib/output.sh"
 inputs=(./*.hex ./*.raw)
 cksum "${inputs[@]}" >sums
-
-# bounded ARGUMENT..: the program, which ends by itself: 60 seconds are for a program that waits for ever.
-bounded() { timeout 60 "$program" "$@"; }
-keywrap=bounded
-
-# fresh [TEXT]: an empty folder `to`, or one where `file` holds a line.
-fresh() {
-    rm -rf to
-    mkdir to
-    [ $# = 0 ] || echo "$1" >to/file
-}
-
-# state [TEST..]: the names, kinds, modes and bytes of all that is in the folder `to`, and for which `find`
-# finds the tests true.
-state() {
-    find to -mindepth 1 "$@" \( -printf '%P %y %m %i %l\n' -type f -exec cksum {} + -o -true \) 2>&1 | sort
-}
-
-# quiet STATUS LINE: what is wrong with a run that wrote `out` and `err`, and ended with $status: it ended
-# with STATUS and wrote nothing but LINE (nothing, where that is empty) to standard error.
-quiet() {
-    printf '%s' "${2:+$2
-}" >wanted.err
-    [ "$status" = "$1" ] || echo "status $status, not $1;"
-    [ ! -s out ] || echo "output $(shown out);"
-    cmp -s err wanted.err || echo "error $(shown err), not $(shown wanted.err);"
-}
-
-# is_new FILE ANSWER: what is wrong with a file that is to hold what ANSWER holds, for its owner alone.
-is_new() {
-    local kind
-    cmp -s -- "$1" "$2" || echo "the file holds $(shown "$1"), not $(shown "$2");"
-    kind=$(stat -c '%a %F' -- "$1" 2>&1)
-    [ "$kind" = '600 regular file' ] || echo "the file is $kind;"
-}
-
-# lands NAME STATUS ANSWER FILE ARGUMENT..: the command ends with this status and writes nothing; FILE, of
-# the folder `to`, holds what ANSWER holds, as a file for its owner alone; nothing else in `to` is changed.
-lands() {
-    local to=out status before after problem
-    before=$(state ! -path "$4")
-    ran "${@:5}"
-    after=$(state ! -path "$4")
-    problem=$(quiet "$2" '' && is_new "$4" "$3")
-    [ "$before" = "$after" ] || problem="$problem beside it: $after, not $before"
-    verdict "$1" "$problem"
-}
-
-# keeps NAME STATUS LINE ARGUMENT..: the command is refused with this status and this line, writes nothing
-# to standard output, and nothing in the folder `to` is changed.
-keeps() {
-    local to=out status before after problem
-    before=$(state)
-    ran "${@:4}"
-    after=$(state)
-    problem=$(quiet "$2" "$3")
-    [ "$before" = "$after" ] || problem="$problem in the folder: $after, not $before"
-    verdict "$1" "$problem"
-}
 
 ### Each command
 
@@ -387,22 +327,6 @@ lands 'the KEK file has the name of a new file' 0 text.hex to/file wrap --kek to
 
 ### Runs that wait
 
-# begins ARGUMENT..: starts a run over to/file that waits for its input, which is what goes to descriptor
-# 8, and waits until the new file is there.
-begins() {
-    exec 8<>pipe
-    env --default-signal=INT,TERM,HUP "$program" wrap --kek kek16.hex "$@" -o to/file <pipe >out 2>err 8<&- &
-    running=$!
-    until_true test -e to/file.part0
-}
-
-# ends: waits for that run, and sets its $status.
-ends() {
-    exec 8<&-
-    { wait "$running"; } 2>/dev/null
-    status=$?
-}
-
 # interrupted SIGNAL ARGUMENT..: a run that a signal ends leaves the file as it is, and at most its new
 # file. The next run takes another.
 interrupted() {
@@ -424,18 +348,6 @@ for signal in KILL INT TERM HUP; do
     interrupted $signal
 done
 
-# goes_on NAME STATUS LINE KINDS: the run that waits gets its input, and ends so. KINDS is what is in `to`
-# then, each with its kind.
-goes_on() {
-    local problem kinds
-    cat key.hex >&8
-    ends
-    problem=$(quiet "$2" "$3")
-    kinds=$(find to -mindepth 1 -printf '%P %y\n' | sort | paste -sd ' ')
-    [ "$kinds" = "$4" ] || problem="$problem in the folder: $kinds, not $4"
-    verdict "$1" "$problem"
-}
-flush_fault='keywrap: output: cannot be flushed'
 fresh old
 before=$(state)
 begins
@@ -471,10 +383,10 @@ goes_on 'another file has the name' 6 "$flush_fault" 'file f file.part0 f'
 verdict 'the file stays where another has the name' "$(echo old | cmp - to/file 2>&1)"
 verdict 'the file that has the name stays' "$(echo other | cmp - to/file.part0 2>&1)"
 
-### A sync and a rename that fail
+### Calls of the system that fail
 
-# preloaded ARGUMENT..: the program over an fsync and a rename that write their names to the file `met`,
-# of which the one fails that $FAIL_CALL names.
+# preloaded ARGUMENT..: the program over an fsync, a rename and a statx that write their names to the file
+# `met`, of which those fail that $FAIL_CALL names.
 preloaded() { LD_PRELOAD=$PWD/fail_call.so timeout 60 "$program" "$@" 9>>met; }
 
 # syncs NAME STATUS ANSWER LINE INPUT ARGUMENT..: the new file is on the disk before it gets its name, and
@@ -484,7 +396,7 @@ syncs() {
     fresh old
     : >met
     lands "$1, on the disk and then named" "$2" "$3" to/file "${@:6}" -i "$5" -o to/file
-    verdict "$1, a sync and then a rename" "$(printf 'fsync\nrename\n' | diff - met)"
+    verdict "$1, a sync and then a rename" "$(printf 'fsync\nrename\n' | diff - <(grep -vx statx met))"
     for FAIL_CALL in fsync rename; do
         export FAIL_CALL
         keeps "$1, its $FAIL_CALL fails" 6 "$flush_fault" "${@:6}" -i "$5" -o to/file
@@ -492,12 +404,35 @@ syncs() {
     done
     rm met
 }
+# looks NAME ARGUMENT..: where the program can't look at a file it refuses, each time that it looks, and
+# nothing is changed: a KEK file that it can't tell from the output is not replaced.
+looks() {
+    local call before problem to=out status
+    before=$(state)
+    for ((call = 1; call < 99; call++)); do
+        : >met
+        FAIL_CALL=statx:$call ran "${@:2}"
+        [ "$(grep -cx statx met)" -ge "$call" ] || break
+        problem=$(quiet 6 "$(grep -xF -e "$not_opened" -e "$flush_fault" err)")
+        [ "$(state)" = "$before" ] || problem="$problem in the folder: $(state), not $before"
+        verdict "$1, its look $call fails" "$problem"
+    done
+    verdict "$1: it looks" "$([ "$call" -gt 1 ] || echo 'it does not')"
+    rm met
+}
 if compiled fail_call; then
     keywrap=preloaded
     jobs syncs
+    fresh old
+    cp kek16.hex kek32.hex to
+    ln to/kek16.hex to/link
+    looks 'a file as output' wrap --kek to/kek16.hex -i key.hex -o to/file
+    looks 'the KEK file as output' wrap --kek to/kek16.hex -i key.hex -o to/kek16.hex
+    looks 'a link of the KEK file as output' wrap --kek to/kek16.hex -i key.hex -o to/link
+    looks 'the new KEK file as output' rewrap --kek to/kek16.hex --new-kek to/kek32.hex -i text.hex -o to/kek32.hex
     keywrap=bounded
 else
-    skip 'a sync and a rename that fail' 'no C compiler' gcc
+    skip 'calls of the system that fail' 'no C compiler' gcc
 fi
 
 ### The input

@@ -51,6 +51,20 @@ for command in $commands; do
 done
 same 'help and page: the statuses' "$("$program" --help | grep -oE '^  [0-9]+  ')" \
     "$(section 'EXIT STATUS' | sed -nE 's/^\.It ([0-9]+)$/  \1  /p')"
+# What the help's line of a status and the page's first line of it both say.
+while read -r status phrase; do
+    row "help: what status $status says" grep -qiE "^  $status  .*$phrase" <("$program" --help)
+    row "page: what status $status says" grep -qiF "$phrase" \
+        <(section 'EXIT STATUS' | sed -n "/^\.It $status\$/{n;p}")
+done <<'END_OF_STATUSES'
+0 done
+2 the command line
+3 16, 24 or 32 bytes
+4 the key or the wrapped key has no legal length in this form
+5 the integrity check failed
+6 a file or the output could not be opened, read or written
+7 out of memory
+END_OF_STATUSES
 
 if has mandoc mandoc "the page's form"; then
     # Whether the pages that it refers to are on this machine is no matter of its form.
@@ -73,6 +87,19 @@ ln -s "$program" bin/keywrap
 section EXAMPLES | sed -n '/^\.Bd/,/^\.Ed/p' | grep -v '^\.' >wanted.examples
 (cd examples && PATH=$room/bin:$PATH && transcript <../wanted.examples) >examples.out
 row 'the examples of the page' diff wanted.examples examples.out
+# The help's, each in a folder with the two files that an example from file to file takes.
+for command in $commands; do
+    [ "$command" != help ] || continue
+    mkdir "help.$command"
+    echo 00112233445566778899aabbccddeeff >"help.$command/key.hex"
+    echo 1fa68b0a8112b447aef34bd8fb5a7b829d3e862371d2cfe5 >"help.$command/wrapped.hex"
+    "$program" "$command" --help | sed -n '/^Example/,/^$/s/^  //p' >wanted.examples.help
+    (cd "help.$command" && PATH=$room/bin:$PATH && transcript <../wanted.examples.help) >examples.out
+    # Of the vectors it shows the first.
+    [ "$command" != vectors ] || sed -i '3,12d; 13s/.*/(and eleven more lines)/' examples.out
+    row "the examples of the help of $command" diff wanted.examples.help examples.out
+    row "the help of $command has an example" test -s wanted.examples.help
+done
 row 'the page has examples of each command that reads' test "$(grep -oE 'keywrap (wrap|unwrap|rewrap|check|drill)' \
     wanted.examples | sort -u | wc -l)" = 5
 
@@ -96,6 +123,7 @@ offers_bash() (
     read -ra COMP_WORDS <<<"$1"
     [[ $1 = *' ' ]] && COMP_WORDS+=('')
     COMP_CWORD=$((${#COMP_WORDS[@]} - 1)) COMPREPLY=()
+    compopt() { echo "$*" >>../compopt; }
     _keywrap keywrap "${COMP_WORDS[COMP_CWORD]}" "${COMP_WORDS[COMP_CWORD - 1]}"
     printf '%s\n' "${COMPREPLY[@]}"
 )
@@ -175,6 +203,13 @@ completes() {
 mkdir files files/folder
 touch 'files/a key' files/b.hex
 completes bash
+# Names of files are quoted by bash, and folders get a slash, where it is told that they are such names.
+: >compopt
+offered bash 'keywrap wrap --kek ' >/dev/null
+same 'bash: files are offered as files' '-o filenames' "$(<compopt)"
+: >compopt
+offered bash 'keywrap wrap --' >/dev/null
+same 'bash: options are not' '' "$(<compopt)"
 same 'bash: no option twice' '--raw-kek' "$(offered bash 'keywrap check --raw --kek=b.hex --r')"
 same 'bash: files after --kek=' "$(ls files)" "$(offered bash 'keywrap wrap --kek = ')"
 same 'bash: files after --output=' "$(ls files)" "$(offered bash 'keywrap wrap --output = ')"

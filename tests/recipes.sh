@@ -35,7 +35,7 @@ follows() {
     local problem='' missing
     missing=$(missing_tools "$2" | paste -sd ' ')
     if [ -n "$missing" ]; then
-        skip "the recipe '$1'" "no $missing" "$(sed 's/an openssl with .*/openssl/; s/base64/coreutils/; s/xargs/findutils/' <<<"$missing")"
+        skip "the recipe '$1'" "no $missing" 'openssl xxd coreutils findutils'
         return
     fi
     mkdir here

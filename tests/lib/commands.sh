@@ -1,6 +1,6 @@
 # shellcheck shell=bash disable=SC2154
 # The commands that the scripts of tests/ put under faults: each with its input and its answer, and a
-# refusal of each kind. Wants tests/lib/program.sh, tests/lib/expect.sh and tests/lib/answers.sh before it.
+# refusal of each kind. Needs tests/lib/program.sh, tests/lib/expect.sh and tests/lib/answers.sh before it.
 
 kek_files
 : >nothing

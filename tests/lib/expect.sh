@@ -87,14 +87,19 @@ ended() {
     verdict "$1" "$problem"
 }
 
+# gives NAME STATUS ANSWER LINE ARGUMENT..: the command, on this call's standard input, ends so.
+gives() {
+    local to=${to:-out} status
+    ran "${@:5}"
+    ended "${@:1:4}"
+}
+
 # answers NAME STATUS OUTPUT LINE ARGUMENT..: the command ends with this status, and writes
 # exactly OUTPUT (as printf's format) and LINE (nothing, where that is empty).
 answers() {
-    local to=${to:-out} status
     # shellcheck disable=SC2059
     printf "$3" >wanted.out
-    ran "${@:5}"
-    ended "$1" "$2" wanted.out "$4"
+    gives "$1" "$2" wanted.out "${@:4}"
 }
 
 # prints NAME OUTPUT ARGUMENT..: the command is done, and writes exactly OUTPUT.
