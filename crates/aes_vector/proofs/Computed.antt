@@ -7,10 +7,12 @@ use Rattle.aes_block.specs.SBox.{number_with_bits, s_box, inv_s_box}
 use Rattle.aes_block.specs.SBoxLaw.{inv_s_box-s_box}
 use Rattle.aes_vector.specs.declared.tables.TheConstants.{INV, INVA, TOWER_LOW, TOWER_HIGH, MASKED_TOWER_LOW, INV_LOW, INV_HIGH, MASKED_INV_LOW}
 use Rattle.aes_vector.specs.declared.tables.TheConstants.{MASKED_INV_FOURTEEN_LOW, INV_FOURTEEN_HIGH, INV_ELEVEN_LOW, INV_ELEVEN_HIGH, INV_THIRTEEN_LOW}
-use Rattle.aes_vector.specs.declared.tables.TheConstants.{INV_THIRTEEN_HIGH, INV_NINE_LOW, INV_NINE_HIGH, ONE_I, ONE_J, TWO_I, TWO_J, S_I, S_J, INV_S_I, INV_S_J}
+use Rattle.aes_vector.specs.declared.tables.TheConstants.{INV_THIRTEEN_HIGH, INV_NINE_LOW, INV_NINE_HIGH, ONE_I, ONE_J, TWO_I, TWO_J, S_I, S_J}
+use Rattle.aes_vector.specs.declared.tables.TheConstants.{INV_S_I, INV_S_J}
 use Rattle.aes_vector.specs.declared.tables.TheConstants.{FOURTEEN_I, FOURTEEN_J, ELEVEN_I, ELEVEN_J, THIRTEEN_I, THIRTEEN_J, NINE_I, NINE_J}
 use Rattle.aes_vector.specs.Tower.{high, low, other, subfield, element, affine_element, linear_element}
-use Rattle.aes_vector.specs.Tables.{is_place, over_i, over_j, place_i, place_j, found, linear, EntersTower, EntersInverse, EntersMaskedInverse, FindsMultiple}
+use Rattle.aes_vector.specs.Tables.{is_place, over_i, over_j, place_i, place_j, found, linear, EntersTower, EntersInverse, EntersMaskedInverse}
+use Rattle.aes_vector.specs.Tables.{FindsMultiple}
 use Rattle.aes_vector.specs.Tables.{IsInversion, FindsSBox, FindsInverseMultiple, FindsInverse}
 use Rattle.aes_vector.proofs.EveryByte.{same_test, agree, at_byte}
 
@@ -150,19 +152,23 @@ unfolding inverse_agree
 finds_inverse by_i by_j factor e = λ x h. at_byte _ _ x e h
 
 nine_agree : inverse_agree NINE_I NINE_J 9 ≡ true
-unfolding inverse_agree same_test found place_i place_j over_i over_j linear_element affine_element number_with_bits element subfield inverse product remainder polynomial_product
+unfolding inverse_agree same_test found place_i place_j over_i over_j linear_element affine_element number_with_bits element subfield
+    inverse product remainder polynomial_product
 nine_agree = refl
 
 eleven_agree : inverse_agree ELEVEN_I ELEVEN_J 11 ≡ true
-unfolding inverse_agree same_test found place_i place_j over_i over_j linear_element affine_element number_with_bits element subfield inverse product remainder polynomial_product
+unfolding inverse_agree same_test found place_i place_j over_i over_j linear_element affine_element number_with_bits element subfield
+    inverse product remainder polynomial_product
 eleven_agree = refl
 
 thirteen_agree : inverse_agree THIRTEEN_I THIRTEEN_J 13 ≡ true
-unfolding inverse_agree same_test found place_i place_j over_i over_j linear_element affine_element number_with_bits element subfield inverse product remainder polynomial_product
+unfolding inverse_agree same_test found place_i place_j over_i over_j linear_element affine_element number_with_bits element subfield
+    inverse product remainder polynomial_product
 thirteen_agree = refl
 
 fourteen_agree : inverse_agree FOURTEEN_I FOURTEEN_J 14 ≡ true
-unfolding inverse_agree same_test found place_i place_j over_i over_j linear_element affine_element number_with_bits element subfield inverse product remainder polynomial_product
+unfolding inverse_agree same_test found place_i place_j over_i over_j linear_element affine_element number_with_bits element subfield
+    inverse product remainder polynomial_product
 fourteen_agree = refl
 
 pub nine_finds : FindsInverseMultiple NINE_I NINE_J 9
