@@ -1,5 +1,5 @@
 -- What the tables hold, computed at every byte.
-use Rattle.std.proofs.Common.{◌≡◌, ◌≢◌, ℕ, ◌<◌, Bool, true, ◌==◌, ◌||◌, ◌%◌, List, bit_xor, slice_index, refl, ◌∙◌, sym, ap, eqb-true, arith}
+use Rattle.std.proofs.Common.{◌≡◌, ◌≢◌, ℕ, zero, suc, ◌<◌, Bool, true, ◌==◌, ◌||◌, ◌%◌, List, bit_xor, slice_index, refl, ◌∙◌, sym, ap, eqb-true, arith}
 use Rattle.block_pair.specs.Words.{IsByte}
 use Rattle.aes_block.specs.EveryByte.{passes_below, passes_at}
 use Rattle.aes_block.specs.Field.{polynomial_product, remainder, product, inverse}
@@ -7,11 +7,13 @@ use Rattle.aes_block.specs.SBox.{number_with_bits, s_box, inv_s_box}
 use Rattle.aes_block.specs.SBoxLaw.{inv_s_box-s_box}
 use Rattle.aes_vector.specs.declared.tables.TheConstants.{INV, INVA, TOWER_LOW, TOWER_HIGH, MASKED_TOWER_LOW, INV_LOW, INV_HIGH, MASKED_INV_LOW}
 use Rattle.aes_vector.specs.declared.tables.TheConstants.{MASKED_INV_FOURTEEN_LOW, INV_FOURTEEN_HIGH, INV_ELEVEN_LOW, INV_ELEVEN_HIGH, INV_THIRTEEN_LOW}
-use Rattle.aes_vector.specs.declared.tables.TheConstants.{INV_THIRTEEN_HIGH, INV_NINE_LOW, INV_NINE_HIGH, ONE_I, ONE_J, TWO_I, TWO_J, S_I, S_J, INV_S_I, INV_S_J}
+use Rattle.aes_vector.specs.declared.tables.TheConstants.{INV_THIRTEEN_HIGH, INV_NINE_LOW, INV_NINE_HIGH, ONE_I, ONE_J, TWO_I, TWO_J, S_I, S_J}
+use Rattle.aes_vector.specs.declared.tables.TheConstants.{INV_S_I, INV_S_J}
 use Rattle.aes_vector.specs.declared.tables.TheConstants.{FOURTEEN_I, FOURTEEN_J, ELEVEN_I, ELEVEN_J, THIRTEEN_I, THIRTEEN_J, NINE_I, NINE_J}
 use Rattle.aes_vector.specs.Tower.{high, low, other, subfield, element, affine_element, linear_element}
-use Rattle.aes_vector.specs.Tables.{is_place, over_i, over_j, place_i, place_j, found, linear, EntersTower, EntersInverse, EntersMaskedInverse, FindsMultiple}
-use Rattle.aes_vector.specs.Tables.{FindsSBox, FindsInverseMultiple, FindsInverse}
+use Rattle.aes_vector.specs.Tables.{is_place, over_i, over_j, place_i, place_j, found, linear, EntersTower, EntersInverse, EntersMaskedInverse}
+use Rattle.aes_vector.specs.Tables.{FindsMultiple}
+use Rattle.aes_vector.specs.Tables.{IsInversion, FindsSBox, FindsInverseMultiple, FindsInverse}
 use Rattle.aes_vector.proofs.EveryByte.{same_test, agree, at_byte}
 
 -- ---- each place is one
@@ -40,6 +42,25 @@ place_i-places = refl
 pub place_j-places : passes_below 256 (λ x. is_place (place_j x)) ≡ true
 unfolding over_j place_j
 place_j-places = refl
+
+-- ---- the inversion
+
+inversion_test : List ℕ → ℕ → ℕ → Bool
+inversion_test table a m = subfield (slice_index table (suc m)) == product a (inverse (subfield (suc m)))
+
+inverts_at : (table : List ℕ) (a n : ℕ) → passes_below 15 (inversion_test table a) ≡ true → n < 16 → n ≢ 0
+    → subfield (slice_index table n) ≡ product a (inverse (subfield n))
+unfolding inversion_test
+inverts_at table a zero e h some = absurd (some refl)
+inverts_at table a (suc m) e h some = eqb-true _ _ (passes_at 15 (inversion_test table a) m (omega arith) e)
+
+pub inv_inverts : IsInversion INV 1
+unfolding inversion_test subfield inverse product remainder polynomial_product
+inv_inverts = record { zero = refl; inverts = λ n h some. inverts_at INV 1 n refl h some }
+
+pub inva_inverts : IsInversion INVA 0xED
+unfolding inversion_test subfield inverse product remainder polynomial_product
+inva_inverts = record { zero = refl; inverts = λ n h some. inverts_at INVA 0xED n refl h some }
 
 -- ---- the linear maps into the tower
 
@@ -131,19 +152,23 @@ unfolding inverse_agree
 finds_inverse by_i by_j factor e = λ x h. at_byte _ _ x e h
 
 nine_agree : inverse_agree NINE_I NINE_J 9 ≡ true
-unfolding inverse_agree same_test found place_i place_j over_i over_j linear_element affine_element number_with_bits element subfield inverse product remainder polynomial_product
+unfolding inverse_agree same_test found place_i place_j over_i over_j linear_element affine_element number_with_bits element subfield
+    inverse product remainder polynomial_product
 nine_agree = refl
 
 eleven_agree : inverse_agree ELEVEN_I ELEVEN_J 11 ≡ true
-unfolding inverse_agree same_test found place_i place_j over_i over_j linear_element affine_element number_with_bits element subfield inverse product remainder polynomial_product
+unfolding inverse_agree same_test found place_i place_j over_i over_j linear_element affine_element number_with_bits element subfield
+    inverse product remainder polynomial_product
 eleven_agree = refl
 
 thirteen_agree : inverse_agree THIRTEEN_I THIRTEEN_J 13 ≡ true
-unfolding inverse_agree same_test found place_i place_j over_i over_j linear_element affine_element number_with_bits element subfield inverse product remainder polynomial_product
+unfolding inverse_agree same_test found place_i place_j over_i over_j linear_element affine_element number_with_bits element subfield
+    inverse product remainder polynomial_product
 thirteen_agree = refl
 
 fourteen_agree : inverse_agree FOURTEEN_I FOURTEEN_J 14 ≡ true
-unfolding inverse_agree same_test found place_i place_j over_i over_j linear_element affine_element number_with_bits element subfield inverse product remainder polynomial_product
+unfolding inverse_agree same_test found place_i place_j over_i over_j linear_element affine_element number_with_bits element subfield
+    inverse product remainder polynomial_product
 fourteen_agree = refl
 
 pub nine_finds : FindsInverseMultiple NINE_I NINE_J 9

@@ -20,7 +20,8 @@ use Rattle.aes_vector.specs.Tower.{element, key_byte, last_key_byte, affine_elem
 use Rattle.aes_vector.specs.Turned.{turned}
 use Rattle.aes_vector.proofs.Vectors.{IsVector}
 use Rattle.aes_vector.proofs.EveryByte.{same_test, agree, at_byte, below_test, gives_bytes, byte_of, same_map, map_same}
-use Rattle.aes_vector.proofs.Computed.{masked_enters, tower_enters, masked_inv_enters, fourteen_enters, eleven_enters, thirteen_enters, nine_enters, s_box_finds}
+use Rattle.aes_vector.proofs.Computed.{masked_enters, tower_enters, masked_inv_enters, fourteen_enters, eleven_enters, thirteen_enters, nine_enters}
+use Rattle.aes_vector.proofs.Computed.{s_box_finds}
 use Rattle.aes_vector.proofs.XorMaps.{linear_element-xor, affine_element-xor}
 use Rattle.aes_vector.proofs.RoundLanes.{turned_sum}
 use Rattle.aes_vector.proofs.Mixing.{column, vector_block}

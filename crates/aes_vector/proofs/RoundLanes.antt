@@ -7,7 +7,8 @@ use Rattle.aes_block.specs.Xor.{xor_middle, xor_last}
 use Rattle.aes_block.specs.Field.{product, polynomial_product, remainder, inverse}
 use Rattle.aes_block.specs.FieldLaw.{product-xor_left, product-xor_right}
 use Rattle.aes_block.specs.SBox.{s_box, inv_s_box}
-use Rattle.aes_vector.specs.declared.tables.TheConstants.{ONE_I, ONE_J, TWO_I, TWO_J, NINE_I, NINE_J, ELEVEN_I, ELEVEN_J, THIRTEEN_I, THIRTEEN_J, FOURTEEN_I, FOURTEEN_J}
+use Rattle.aes_vector.specs.declared.tables.TheConstants.{ONE_I, ONE_J, TWO_I, TWO_J, NINE_I, NINE_J, ELEVEN_I, ELEVEN_J, THIRTEEN_I, THIRTEEN_J}
+use Rattle.aes_vector.specs.declared.tables.TheConstants.{FOURTEEN_I, FOURTEEN_J}
 use Rattle.aes_vector.specs.Tables.{place_i, place_j, over_i, over_j, found}
 use Rattle.aes_vector.specs.Tower.{element, key_byte, linear_element, affine_element}
 use Rattle.aes_vector.proofs.EveryByte.{below_test, gives_bytes, byte_of}

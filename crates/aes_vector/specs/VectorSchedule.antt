@@ -1,5 +1,6 @@
 -- How a `VectorAes` keeps its key: as its round keys, each in the forms in which the rounds of both directions take it.
-use Rattle.std.specs.Prelude.{◌≡◌, ℕ, ◌+◌, ◌-◌, ◌*◌, ◌<◌, List, [], ◌∷◌, ◌++◌, length, map, take, slice_index, slice_index_or}
+use Rattle.std.specs.Prelude.{◌≡◌, ℕ, ◌+◌, ◌-◌, ◌*◌, ◌<◌, List, [], ◌∷◌, ◌++◌, length, map, take}
+use Rattle.std.specs.Prelude.{slice_index, slice_index_or}
 use Rattle.std.specs.List.{AllByRecursion}
 use Rattle.block_pair.specs.Words.{IsByte}
 use Rattle.aes_block.specs.KeyExpansion.{IsKekLength, rounds_of, round_key}

@@ -141,8 +141,9 @@ impl VectorAes {
         keys[0].dec
     }
 
-    // The places of InvShiftRows. LLVM must not know them: it would move each shuffle by them before
-    // the sum that it shuffles, which costs a second one. So 0 is added, which it can't know either.
+    // The places of InvShiftRows. LLVM must not know them: it would move each shuffle by them
+    // before the sum that it shuffles, which costs a second one. So 0 is added, in a form that it
+    // can't see through.
     #[inline(always)]
     pub(crate) fn inv_rows(&self) -> InvRows
         ensures by_0 { result.by_0 ≡ INV_ROWS_0 }

@@ -1,5 +1,5 @@
-//! The tables of the shuffles, each of 16 bytes. What each holds stands in `specs/Tables.antt`, and is
-//! proved of it in `proofs/Computed.antt`.
+//! The tables of the shuffles, each of 16 bytes. What each holds stands in `specs/Tables.antt`, and
+//! `proofs/Computed.antt` shows it.
 
 // The inversion in the field of 16: `1 / n`, and `a / n` for the tower's constant `a`; 80 is
 // infinity.

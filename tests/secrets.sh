@@ -1,0 +1,98 @@
+#!/usr/bin/env bash
+# What depends on secrets in the built C library: valgrind's memcheck over each call, with the KEK, the
+# key and the wrapped key marked as undefined, reports each branch and each address that does. There
+# must be none but the decision of an unwrapping, whose answer is public (tests/secrets/decision.supp).
+# And how many bytes that depend on a KEK or a key each call leaves below the stack pointer.
+# A part whose tool is not there is skipped, with a line that says what to install.
+#
+# usage: tests/secrets.sh [LENGTHS]        keys of up to 1024 bytes, if not said.
+# KEYWRAP_ARCHIVE=PATH tries an archive that was built before.
+
+set -u
+longest=${1:-1024}
+# shellcheck source=scripts/room.sh
+. "${BASH_SOURCE[0]%/*}/../scripts/room.sh"
+
+passed=0 failed=0 skipped=0
+
+# row NAME COMMAND..: counts a command that must succeed.
+row() {
+    if "${@:2}" >row.log 2>&1; then
+        passed=$((passed + 1))
+    else
+        failed=$((failed + 1))
+        echo "FAILED: $1"
+        head -n 20 row.log
+    fi
+}
+
+# finish: the counts, which are the last line.
+finish() {
+    echo "$passed passed, $failed failed, $skipped skipped"
+    [ $failed = 0 ]
+    exit
+}
+
+# skip WHY PACKAGE: what is not there, and ends.
+skip() {
+    skipped=$((skipped + 1))
+    echo "SKIPPED: $1 (apt-get install $2)"
+    finish
+}
+
+cc=${CC:-cc}
+command -v "$cc" >/dev/null || skip "no C compiler" gcc
+archive=${KEYWRAP_ARCHIVE:-$root/crates/keywrap_c/out/libkeywrap_c.a}
+[ -n "${KEYWRAP_ARCHIVE:-}" ] || row 'rt lib' env -C "$root/crates/keywrap_c" rt lib
+[ $failed = 0 ] || finish
+
+options=(-std=c99 -O1 -g -Wall -Wextra -pedantic -Werror "-I$root/include" "-I$root/bench")
+
+### Copies on the stack
+
+# leaves WHAT MOST: of each call there is a line, and no count of this is above the most.
+leaves() {
+    awk -F '[: ]' -v what="$1" -v most="$2" '
+        $2 == what { n++; if ($3 > most) { print; bad = 1 } } END { exit bad || n != 11 }' left
+}
+
+# What SECURITY.md says of them. The loader's own work would stand there too, but for -z now.
+row 'the stack: compiles' "$cc" "${options[@]}" "$root/tests/secrets/stack.c" "$archive" -Wl,-z,now -o stack
+row 'the stack: runs' ./stack
+cp row.log left
+row 'the stack: the copies of half a KEK' leaves copies 4
+row 'the stack: the bytes that depend on the KEK' leaves kek 2200
+row 'the stack: the bytes that depend on the key' leaves key 64
+
+### Branches and addresses
+
+command -v valgrind >/dev/null || skip 'memcheck: no valgrind' valgrind
+printf '#include <valgrind/memcheck.h>\n' | "$cc" -fsyntax-only -x c - 2>/dev/null ||
+    skip 'memcheck: no valgrind/memcheck.h' valgrind
+row 'compiles' "$cc" "${options[@]}" "$root/tests/secrets/secrets.c" "$root/bench/one_table.c" "$archive" -o secrets
+
+# reports FILE LENGTHS OPTION..: runs the calls, and writes a line for each with its reports.
+reports() {
+    valgrind -q --error-limit=no --log-file=valgrind.log "${@:3}" ./secrets "$2" >"$1"
+}
+
+# finds FILE PATTERN TEST NUMBER: there are such calls, and the reports of each pass the test.
+finds() {
+    awk -F ': ' -v call="$2" -v least="$3" -v most="$4" '
+        $1 ~ call { n++; found = $2 + 0; if (found < least || found > most) { print; bad = 1 } }
+        END { exit bad || !n }' "$1" || { cat valgrind.log; false; }
+}
+
+row 'the calls, but for the decision' reports quiet "$longest" --suppressions="$root/tests/secrets/decision.supp"
+cat quiet
+row 'no report in a wrap' finds quiet '^keywrap_wrap' 0 0
+row 'none in an unwrap but at the decision' finds quiet '^keywrap_unwrap' 0 0
+row 'none in a rewrap but at the decision' finds quiet '^keywrap_rewrap' 0 0
+
+# What shows that memcheck looks: it finds the decision itself, and an AES by look-ups in tables.
+row 'the calls, all' reports all 32
+row 'no report in a wrap, by itself' finds all '^keywrap_wrap' 0 0
+row 'the decision of an unwrap' finds all '^keywrap_unwrap' 1 999999
+row 'the look-ups of an AES by tables' finds all '^tables' 10000 999999
+
+finish

@@ -1,0 +1,163 @@
+/* secrets.c: what valgrind's memcheck says of each call of the C library where the KEK, the key and
+ * the wrapped key are marked as undefined. A branch or an address that depends on an undefined byte
+ * is a report. tests/secrets.sh compiles it, runs it and reads what it prints: a line for each call
+ * with the reports that no suppression took, over all KEK sizes and lengths of key. */
+
+#include <keywrap.h>
+#include <stdio.h>
+#include <stdlib.h>
+#include <string.h>
+#include <valgrind/memcheck.h>
+
+#include "one_table.h"
+
+enum { LONGEST = 1024, ROOM = LONGEST + 8 };
+
+/* One call on the bytes below, at a KEK and a key of so many bytes: what it answers. */
+typedef int32_t call(size_t kek_len, size_t len);
+
+static const uint8_t IV[8] = {0x01, 0x23, 0x45, 0x67, 0x89, 0xab, 0xcd, 0xef};
+
+static uint8_t kek[32], new_kek[32], key[ROOM], text[ROOM], out[ROOM];
+static size_t out_len;
+static uint32_t forms;
+
+static size_t padded_len(size_t len) {
+    return KEYWRAP_PADDED_TEXT_LEN(len);
+}
+
+static int32_t wrap(size_t kek_len, size_t len) {
+    return keywrap_wrap(kek, kek_len, key, len, out, len + 8);
+}
+
+static int32_t wrap_with(size_t kek_len, size_t len) {
+    return keywrap_wrap_with(kek, kek_len, IV, 8, key, len, out, len + 8);
+}
+
+static int32_t wrap_in_place(size_t kek_len, size_t len) {
+    memcpy(out + 8, key, len);
+    return keywrap_wrap_in_place(kek, kek_len, out, len + 8);
+}
+
+static int32_t wrap_padded(size_t kek_len, size_t len) {
+    return keywrap_wrap_padded(kek, kek_len, key, len, out, padded_len(len));
+}
+
+static int32_t wrap_padded_in_place(size_t kek_len, size_t len) {
+    memcpy(out + 8, key, len);
+    return keywrap_wrap_padded_in_place(kek, kek_len, out, padded_len(len), len);
+}
+
+static int32_t unwrap(size_t kek_len, size_t len) {
+    return keywrap_unwrap(kek, kek_len, text, len + 8, out, len);
+}
+
+static int32_t unwrap_with(size_t kek_len, size_t len) {
+    return keywrap_unwrap_with(kek, kek_len, IV, 8, text, len + 8, out, len);
+}
+
+static int32_t unwrap_in_place(size_t kek_len, size_t len) {
+    memcpy(out, text, len + 8);
+    return keywrap_unwrap_in_place(kek, kek_len, out, len + 8);
+}
+
+static int32_t unwrap_padded(size_t kek_len, size_t len) {
+    size_t room = padded_len(len) - 8;
+    return keywrap_unwrap_padded(kek, kek_len, text, room + 8, out, room, &out_len);
+}
+
+static int32_t unwrap_padded_in_place(size_t kek_len, size_t len) {
+    memcpy(out, text, padded_len(len));
+    return keywrap_unwrap_padded_in_place(kek, kek_len, out, padded_len(len), &out_len);
+}
+
+static int32_t rewrap_in_place(size_t kek_len, size_t len) {
+    size_t text_len = forms & KEYWRAP_OLD_PADDED ? padded_len(len) : len + 8;
+    memcpy(out, text, text_len);
+    return keywrap_rewrap_in_place(kek, kek_len, new_kek, kek_len, out, text_len, forms);
+}
+
+/* An AES that looks its tables up by secrets, to see that memcheck reports it. */
+static int32_t tables(size_t kek_len, size_t len) {
+    struct one_table keys;
+    one_table_schedule(&keys, kek, kek_len);
+    one_table_wrap(&keys, 0xA6A6A6A6A6A6A6A6u, key, len, out);
+    return KEYWRAP_OK;
+}
+
+/* The calls: which one makes the text that is taken, and of which lengths a key may be. */
+static const struct watched {
+    const char *name;
+    call *run, *prepare;
+    size_t shortest, step;
+    uint32_t forms;
+} CALLS[] = {
+    {"keywrap_wrap", wrap, NULL, 16, 8, 0},
+    {"keywrap_wrap_with", wrap_with, NULL, 16, 8, 0},
+    {"keywrap_wrap_in_place", wrap_in_place, NULL, 16, 8, 0},
+    {"keywrap_wrap_padded", wrap_padded, NULL, 1, 1, 0},
+    {"keywrap_wrap_padded_in_place", wrap_padded_in_place, NULL, 1, 1, 0},
+    {"keywrap_unwrap", unwrap, wrap, 16, 8, 0},
+    {"keywrap_unwrap_with", unwrap_with, wrap_with, 16, 8, 0},
+    {"keywrap_unwrap_in_place", unwrap_in_place, wrap, 16, 8, 0},
+    {"keywrap_unwrap_padded", unwrap_padded, wrap_padded, 1, 1, 0},
+    {"keywrap_unwrap_padded_in_place", unwrap_padded_in_place, wrap_padded, 1, 1, 0},
+    {"keywrap_rewrap_in_place", rewrap_in_place, wrap, 16, 8, 0},
+    {"keywrap_rewrap_in_place, to padded", rewrap_in_place, wrap, 16, 8, KEYWRAP_NEW_PADDED},
+    {"keywrap_rewrap_in_place, to plain", rewrap_in_place, wrap_padded, 16, 8, KEYWRAP_OLD_PADDED},
+    {"keywrap_rewrap_in_place, padded", rewrap_in_place, wrap_padded, 1, 1,
+     KEYWRAP_OLD_PADDED | KEYWRAP_NEW_PADDED},
+    {"tables", tables, NULL, 16, 8, 0},
+};
+
+static void mark(int undefined) {
+    uint8_t *secrets[] = {kek, new_kek, key, text};
+    size_t lens[] = {sizeof kek, sizeof new_kek, sizeof key, sizeof text};
+    for (int i = 0; i < 4; i++) {
+        if (undefined) (void)VALGRIND_MAKE_MEM_UNDEFINED(secrets[i], lens[i]);
+        else (void)VALGRIND_MAKE_MEM_DEFINED(secrets[i], lens[i]);
+    }
+}
+
+/* The reports of one call on secrets, whose answer must be the one on bytes that are none. */
+static unsigned reports(const struct watched *watched, size_t kek_len, size_t len) {
+    static uint8_t expected[ROOM];
+    forms = watched->forms;
+    mark(0);
+    if (watched->prepare) {
+        if (watched->prepare(kek_len, len) != KEYWRAP_OK) exit(2);
+        memcpy(text, out, sizeof text);
+    }
+    if (watched->run(kek_len, len) != KEYWRAP_OK) exit(2);
+    memcpy(expected, out, sizeof expected);
+
+    mark(1);
+    unsigned before = (unsigned)VALGRIND_COUNT_ERRORS;
+    int32_t status = watched->run(kek_len, len);
+    unsigned found = (unsigned)VALGRIND_COUNT_ERRORS - before;
+    (void)VALGRIND_MAKE_MEM_DEFINED(&status, sizeof status);
+    (void)VALGRIND_MAKE_MEM_DEFINED(out, sizeof out);
+    if (status != KEYWRAP_OK || memcmp(out, expected, sizeof out)) exit(3);
+    return found;
+}
+
+/* usage: secrets LENGTHS        keys of up to so many bytes */
+int main(int argc, char **argv) {
+    size_t longest = argc == 2 ? strtoul(argv[1], NULL, 10) : 0;
+    if (longest < 16 || longest > LONGEST || !RUNNING_ON_VALGRIND) return 64;
+    one_table_start();
+    for (size_t i = 0; i < sizeof kek; i++) {
+        kek[i] = (uint8_t)(7 * i + 1);
+        new_kek[i] = (uint8_t)(5 * i + 2);
+    }
+    for (size_t i = 0; i < sizeof key; i++) key[i] = (uint8_t)(11 * i + 3);
+    for (size_t c = 0; c < sizeof CALLS / sizeof *CALLS; c++) {
+        unsigned found = 0, calls = 0;
+        for (size_t kek_len = 16; kek_len <= 32; kek_len += 8)
+            for (size_t len = CALLS[c].shortest; len <= longest; len += CALLS[c].step, calls++)
+                found += reports(CALLS + c, kek_len, len);
+        printf("%s: %u reports in %u calls\n", CALLS[c].name, found, calls);
+        fflush(stdout);
+    }
+    return 0;
+}
