@@ -33,7 +33,7 @@ for_zsh = $(share)/zsh/site-functions
 for_fish = $(share)/fish/vendor_completions.d
 
 .PHONY: help version build library test install uninstall install-command uninstall-command \
-    install-library uninstall-library wheel dist bench clean
+    install-library uninstall-library wheel dist dist-library bench clean
 
 help:
 	@echo 'make build              proves and builds the program, where that is not done'
@@ -46,6 +46,7 @@ help:
 	@echo 'make uninstall          removes what make install put there (uninstall-command, uninstall-library: theirs)'
 	@echo 'make dist               packs what make install-command installs, for machines without the kit, as'
 	@echo '                        $(DIST)/keywrap-$(version)-x86_64-linux.tar.gz, with its SHA-256'
+	@echo 'make dist-library       packs what make install-library installs, there, and puts the wheel beside it'
 	@echo 'make version            writes the version'
 	@echo 'make bench              how long a wrap takes, beside OpenSSL, nettle and C'
 	@echo 'make clean              removes what was built'
@@ -80,6 +81,9 @@ wheel: $(LIBRARY)/libkeywrap.a
 	cp include/keywrap.h '$(LIBRARY)/libkeywrap.a' '$(LIBRARY)/python'
 	$(PYTHON) -m build --wheel --no-isolation --outdir '$(abspath $(DIST))' '$(LIBRARY)/python' >'$(LIBRARY)/wheel.log' || \
 	    { cat '$(LIBRARY)/wheel.log'; exit 1; }
+
+dist-library: library wheel
+	scripts/dist_library.sh '$(LIBRARY)' '$(version)' '$(DIST)'
 
 test:
 	rt ci
