@@ -1,0 +1,24 @@
+-- The cipher's body computes the cipher.
+use Rattle.std.proofs.Common.{◌≡◌, ◌-◌, ◌+◌, ap, ap₂, sym, arith, ◌∙◌}
+use Rattle.aes_block.specs.Rounds.{add_round_key}
+use Rattle.aes_block.specs.Cipher.{rounds, round, last_round}
+use Rattle.aes_vector.proofs.CipherSteps.{rounds-more, cipher-key}
+use Rattle.aes_vector.proofs.cipher.VectorAesBlockPair.enc.Goals as goal
+
+pub loop-k-init : goal.loop-k-init
+unfolding rounds
+loop-k-init c = c.first_state-state.ensures ∙ ap₂ add_round_key c.first_enc_key.ensures c.vector_of.ensures
+
+pub loop-k-preserved : goal.loop-k-preserved
+loop-k-preserved c =
+    c.round-next.ensures
+    ∙ ap₂ round c.enc_key.ensures c.loop-k.invariant
+    ∙ sym (rounds-more c.args.self.now c.loop-k.k (c.loop-k.k + 1 - 1) _ (omega arith) (omega arith))
+
+pub returns : goal.returns
+returns c =
+    let all : c.loop-k.k ≡ c.rounds-last.result = omega arith in
+    c.bytes_of.ensures
+    ∙ c.last_round.ensures
+    ∙ ap₂ last_round c.last_enc_key.ensures c.loop-k.invariant
+    ∙ rw (all, c.rounds-last.ensures.value) (sym (cipher-key c.args.self.now c.args.b c.rounds-last.ensures.legal c.rounds-last.ensures.bytes))

@@ -1,0 +1,10 @@
+-- The words below i are those of the key expansion.
+use Rattle.std.proofs.Common.{◌≡◌, ℕ, ◌<◌, length, slice_index}
+use Rattle.aes_block.specs.KeyExpansion.{key_expansion}
+use Rattle.aes_vector.proofs.expansion.expand.Given as goal
+
+abbrev pub invariant-loop-i : goal.invariant-loop-i
+invariant-loop-i l = record {
+  long : length l.schedule ≡ 60;
+  words : (j : ℕ) → j < l.i → slice_index l.schedule j ≡ slice_index (key_expansion l.kek) j;
+}

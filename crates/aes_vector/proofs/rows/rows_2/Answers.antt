@@ -1,0 +1,9 @@
+use Rattle.std.proofs.Common.{[], ◌∷◌}
+use Rattle.std.proofs.lemmas.Simd.{pick_l_left}
+use Rattle.aes_block.specs.Rounds.{shift_rows}
+use Rattle.aes_vector.specs.Turned.{turned}
+use Rattle.aes_vector.proofs.rows.rows_2.Goals as goal
+
+pub returns : goal.returns
+unfolding shift_rows turned
+returns c = pick_l_left 0 c.args.v c.args.v 16 (10 ∷ 15 ∷ 0 ∷ 5 ∷ 14 ∷ 3 ∷ 4 ∷ 9 ∷ 2 ∷ 7 ∷ 8 ∷ 13 ∷ 6 ∷ 11 ∷ 12 ∷ 1 ∷ []) c.fits-v.0 tt
