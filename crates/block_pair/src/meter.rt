@@ -7,8 +7,8 @@ use std::marker::Model;
 
 /// A block pair that counts its calls. Contracts see it as its pair and its count.
 ///
-/// The pair stays the one that the meter was made with, and only through the meter's calls is it
-/// used.
+/// The pair stays the one that the meter was made with. What is asked of the pair beside the meter
+/// is not counted.
 #[derive(Drop)]
 pub struct Meter<'a, B: BlockPair> {
     pair: &'a B,
@@ -70,7 +70,53 @@ impl<'a, B: BlockPair> Meter<'a, B> {
 mod tests {
     use super::*;
     use crate::SwapHalves;
+    use std::cell::Cell;
     use std::test::Fail;
+
+    // The drill block, and how many blocks it was given.
+    #[derive(Drop)]
+    struct Tally {
+        blocks: Cell<u64>,
+    }
+
+    impl Tally {
+        fn tick(&self) {
+            self.blocks.set(self.blocks.get().saturating_add(1));
+        }
+    }
+
+    impl BlockPair for Tally {
+        ghost use Rattle.block_pair.specs.Halves.{swapped_halves};
+        ghost use Rattle.block_pair.specs.HalvesLaw.{swap_halves_lawful};
+
+        ghost encrypted = { λ _. swapped_halves };
+
+        ghost decrypted = { λ _. swapped_halves };
+
+        fn enc(&self, b: [u8; 16]) -> [u8; 16] {
+            self.tick();
+            SwapHalves.enc(b)
+        }
+
+        fn dec(&self, b: [u8; 16]) -> [u8; 16] {
+            self.tick();
+            SwapHalves.dec(b)
+        }
+
+        ghost lawful = { λ _. swap_halves_lawful };
+    }
+
+    #[test]
+    fn asks_its_pair_once_a_call(rt: HostRuntime) {
+        let tally = Tally {
+            blocks: Cell::new(0),
+        };
+        let mut meter = Meter::new(&tally);
+        meter.enc([0; 16]);
+        assert!(rt; tally.blocks.get() == 1 && meter.count() == 1);
+        meter.dec([0; 16]);
+        assert!(rt; tally.blocks.get() == 2 && meter.count() == 2);
+    }
 
     #[test]
     fn answers_as_the_pair_and_counts(rt: HostRuntime) -> Result<(), Fail> {

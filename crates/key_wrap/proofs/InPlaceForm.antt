@@ -29,6 +29,13 @@ held_rest iv len registers word held =
     (word_front iv (aiv (length key)) registers (padded key) word (aiv_word (length key) legal.1) held.holds).1
     ∙ ap (λ (bs : List ℕ). padded (take len bs)) rest
 
+-- and its key has the length that it is held with
+pub held_size : (iv len : ℕ) (registers : List ℕ) → HoldsLength (word_bytes iv ++ registers) len → length (take len registers) ≡ len
+held_size iv len registers held =
+    let own : take len (drop 8 (word_bytes iv ++ registers)) ≡ take len registers =
+    ap (take len) (drop_at (word_bytes iv) registers 8 (length-word_bytes iv)) in
+    rw (← own) held.size
+
 -- room for a padded key, with its padding written
 pub padded_room : (m : ℕ) (old zeroed : List ℕ) → IsPaddedRoom m (length old) → zeroed ≡ replicate (length (take (length old - (8 + m)) (drop (8 + m) old))) 0
     → drop 8 (put_mid (8 + m) (length old - (8 + m)) old zeroed) ≡ padded (key_in m old)

@@ -10,8 +10,10 @@ pub mod FormLengths
 pub mod PlainForm
 pub mod PaddedForm
 pub mod BothForms
+pub mod Differences
 pub mod ThreeChecks
 pub mod InPlaceForm
 pub mod Unwrappings
-pub mod KeyLengths
+pub mod KindForms
+pub mod Promises
 pub mod Rewraps

@@ -52,6 +52,19 @@ many_registers {after = after} size r =
       text_words = many_text r.iv r.P r.C after words r.text_words r.wraps;
     }
 
+many_words : {E : List ℕ → List ℕ} (iv : ℕ) (P : List ℕ) (text : List ℕ) → 2 ≤ length P → PaddedText E iv P text
+    → (C : List ℕ) × (spelled C ≡ text) × Wraps E iv P C
+many_words iv [] text more t = t
+many_words iv (p ∷ []) text more t = absurd (omega arith)
+many_words iv (p ∷ q ∷ P) text more t = t
+
+-- and the registers of the wrapping are those of RFC 3394
+pub registers_many : {E : List ℕ → List ℕ} {before after : List ℕ} → 24 ≤ length before → PaddedRegisters E before after → Registers E before after
+registers_many {after = after} size r =
+    let words : 2 ≤ length r.P = omega (arith, ap length r.key_words, length-spelled (r.iv ∷ r.P)) in
+    let t = many_words r.iv r.P after words r.text_words in
+    record { iv = r.iv; P = r.P; C = t.0; key_words = r.key_words; text_words = t.1; wraps = t.2 }
+
 -- words have one text
 text_same : (E : List ℕ → List ℕ) (iv : ℕ) (P text other : List ℕ) → PaddedText E iv P text → PaddedText E iv P other → text ≡ other
 text_same E iv [] text other h k = sym h.1 ∙ ap spelled (wraps_forward h.2 k.2) ∙ k.1

@@ -6,15 +6,17 @@ use Rattle.block_pair.specs.Pair.{AreInverse}
 use Rattle.key_wrap.specs.declared.faults.InPlaceFault.{InPlaceFault}
 use Rattle.key_wrap.specs.declared.faults.InPlaceFault.TheVariants.{BadLength, Integrity}
 use Rattle.key_wrap.specs.declared.faults.UnwrapFault.{UnwrapFault}
+use Rattle.key_wrap.specs.declared.faults.UnwrapFault.TheVariants as unwrap_faults
 use Rattle.key_wrap.specs.declared.forms.Form.{Form}
 use Rattle.key_wrap.specs.declared.forms.Form.TheVariants.{Plain, Padded}
 use Rattle.key_wrap.specs.Faults.{unwrap_fault}
 use Rattle.key_wrap.specs.Forms.{StandsIn, IsKeyLength, IsTextLength}
 use Rattle.key_wrap.specs.InPlace.{KeyAnswer}
-use Rattle.key_wrap.specs.Rewrap.{AreWrappings, HasBadLength, HasNoWrapping, RewrapAnswer}
+use Rattle.key_wrap.specs.Rewrap.{AreWrappings, HasBadLength, HasNoWrapping, NoOtherForm, Rewrapped}
 use Rattle.key_wrap.proofs.FormLengths.{plain_text_legal, padded_text_legal}
-use Rattle.key_wrap.proofs.PlainForm.{plain_only_text, plain_only_key}
+use Rattle.key_wrap.proofs.PlainForm.{default_free, plain_only_text, plain_only_key}
 use Rattle.key_wrap.proofs.PaddedForm.{padded_only_text, padded_only_key}
+use Rattle.key_wrap.proofs.BothForms.{not_both_forms}
 
 only_text : (form : Form) (E : List ℕ → List ℕ) (key text other : List ℕ) → StandsIn form E key text → StandsIn form E key other → other ≡ text
 only_text Plain E key text other h k = plain_only_text h k
@@ -36,7 +38,7 @@ not_refused form key text found BadLength inv refused h = absurd (refused (text_
 not_refused form key text found Integrity inv refused h = absurd (refused.1 key h)
 
 -- what is promised of the answer to a text that some key stands with
-pub record Rewrapped (old : Form) (E : List ℕ → List ℕ) (new : Form) (F : List ℕ → List ℕ) (text answer : List ℕ)
+pub record Wrapped (old : Form) (E : List ℕ → List ℕ) (new : Form) (F : List ℕ → List ℕ) (text answer : List ℕ)
     (result : Result (Unit {0}) InPlaceFault) : Type 0 where
   pub bad_length : (result ≡ Err BadLength) ↔ HasBadLength old E new text
   pub both : OnOk result (AreWrappings old E new F text answer)
@@ -57,7 +59,7 @@ no_length old new len key text inv stands legal size (inr other) = λ fits.
 pub rewrapped : {E D F D' : List ℕ → List ℕ} (old new : Form) (len : ℕ) (key text answer : List ℕ) (result : Result (Unit {0}) InPlaceFault)
     → AreInverse E D → AreInverse F D' → length key ≡ len → StandsIn old E key text
     → (result ≡ Err BadLength) ↔ ¬ IsKeyLength new len → IsOkUnless result BadLength → OnOk result (StandsIn new F key answer)
-    → Rewrapped old E new F text answer result
+    → Wrapped old E new F text answer result
 rewrapped {E = E} {F = F} old new len key text answer (Ok done) inv inv' size stands refused only wraps =
     let legal : IsTextLength old (length text) = text_legal old key text inv stands in
     record {
@@ -98,14 +100,90 @@ rewrapped {E = E} old new len key text answer (Err fault) inv inv' size stands r
 abbrev refusal : InPlaceFault → Result (Unit {0}) InPlaceFault
 refusal fault = Err fault
 
--- where the call in the buffer refused, the call that takes memory says so
-pub refused_rewrap : {Z : Type 0} (old : Form) (E : List ℕ → List ℕ) (new : Form) (F : List ℕ → List ℕ) (text : List ℕ) (fault : InPlaceFault)
-    (answer : Result (Vec ℕ Z) UnwrapFault)
-    → (refusal fault ≡ Err BadLength) ↔ HasBadLength old E new text → (refusal fault ≡ Err Integrity) ↔ HasNoWrapping old E text
-    → IsErr answer × IsErrAnd answer (λ e. e ≡ unwrap_fault fault)
-    → RewrapAnswer old E new F text answer
-refused_rewrap old E new F text fault (Ok k) bad none r = let no = r.0 in cc
-refused_rewrap {Z = Z} old E new F text BadLength (Err e) bad none r =
-    subst (λ (f : UnwrapFault). RewrapAnswer {Z = Z} old E new F text (Err f)) (sym r.1) (bad.0 refl)
-refused_rewrap {Z = Z} old E new F text Integrity (Err e) bad none r =
-    subst (λ (f : UnwrapFault). RewrapAnswer {Z = Z} old E new F text (Err f)) (sym r.1) (none.0 refl)
+-- a wrapping in one form is none in the other
+pub other_form : {E D : List ℕ → List ℕ} (form : Form) (key text : List ℕ) → AreInverse E D → StandsIn form E key text → NoOtherForm form E text
+other_form Plain key text inv h = λ other k. not_both_forms inv default_free h k
+other_form Padded key text inv h = λ iv word free other k. not_both_forms inv free k h
+
+module _ {Z : Type 0} (old : Form) (E : List ℕ → List ℕ) (new : Form) (F : List ℕ → List ℕ) (text : List ℕ) where
+  -- the text has no legal length, and so no key
+  pub rewrap_refused : {D : List ℕ → List ℕ} → AreInverse E D → ¬ IsTextLength old (length text)
+      → Rewrapped {Z = Z} old E new F text (Err unwrap_faults.BadLength)
+  rewrap_refused inv illegal = record {
+    rewraps = inl illegal;
+    text_length = λ bad. refl;
+    key_length = λ bad. inl refl;
+    accepts = λ key h fits. absurd (illegal (text_legal old key text inv h));
+    memory = λ e. cc;
+    only_answer = tt;
+    only_key = tt;
+    same_key = tt;
+    restores = tt;
+    size = tt;
+    other_form = tt;
+  }
+
+  -- there is no memory for the text
+  pub rewrap_unserved : (answer : Result (Vec ℕ Z) UnwrapFault) → IsTextLength old (length text)
+      → IsErr answer × IsErrAnd answer (λ e. e ≡ unwrap_faults.Memory) → Rewrapped old E new F text answer
+  rewrap_unserved (Ok v) legal r = let no = r.0 in cc
+  rewrap_unserved (Err unwrap_faults.BadLength) legal r = let no = r.1 in cc
+  rewrap_unserved (Err unwrap_faults.Integrity) legal r = let no = r.1 in cc
+  rewrap_unserved (Err unwrap_faults.Memory) legal r = record {
+    rewraps = legal;
+    text_length = λ bad. absurd (bad legal);
+    key_length = λ bad. inr refl;
+    accepts = λ key h fits. refl;
+    memory = λ e. legal;
+    only_answer = tt;
+    only_key = tt;
+    same_key = tt;
+    restores = tt;
+    size = tt;
+    other_form = tt;
+  }
+
+  -- the key has no legal length in the new form
+  key_refused : {D : List ℕ → List ℕ} → AreInverse E D → IsTextLength old (length text) → HasBadLength old E new text
+      → Rewrapped {Z = Z} old E new F text (Err unwrap_faults.BadLength)
+  key_refused inv legal (inl illegal) = absurd (illegal legal)
+  key_refused inv legal (inr bad) = record {
+    rewraps = inr bad;
+    text_length = λ no. refl;
+    key_length = λ no. inl refl;
+    accepts = λ key h fits. absurd (bad.2 (subst (λ (k : List ℕ). IsKeyLength new (length k)) (only_key old bad.0 key text inv bad.1 h) fits));
+    memory = λ e. cc;
+    only_answer = tt;
+    only_key = tt;
+    same_key = tt;
+    restores = tt;
+    size = tt;
+    other_form = tt;
+  }
+
+  -- no key stands with the text
+  no_wrapping : HasNoWrapping old E text → Rewrapped {Z = Z} old E new F text (Err unwrap_faults.Integrity)
+  no_wrapping none = record {
+    rewraps = none;
+    text_length = λ bad. absurd (bad none.0);
+    key_length = λ bad. absurd (none.1 bad.0 bad.1);
+    accepts = λ key h fits. absurd (none.1 key h);
+    memory = λ e. cc;
+    only_answer = tt;
+    only_key = tt;
+    same_key = tt;
+    restores = tt;
+    size = tt;
+    other_form = tt;
+  }
+
+  -- where the call in the buffer refused, the call that takes memory says so
+  pub refused_rewrap : {D : List ℕ → List ℕ} (fault : InPlaceFault) (answer : Result (Vec ℕ Z) UnwrapFault) → AreInverse E D
+      → IsTextLength old (length text) → (refusal fault ≡ Err BadLength) ↔ HasBadLength old E new text
+      → (refusal fault ≡ Err Integrity) ↔ HasNoWrapping old E text → IsErr answer × IsErrAnd answer (λ e. e ≡ unwrap_fault fault)
+      → Rewrapped old E new F text answer
+  refused_rewrap fault (Ok k) inv legal bad none r = let no = r.0 in cc
+  refused_rewrap BadLength (Err e) inv legal bad none r =
+      subst (λ (f : UnwrapFault). Rewrapped {Z = Z} old E new F text (Err f)) (sym r.1) (key_refused inv legal (bad.0 refl))
+  refused_rewrap Integrity (Err e) inv legal bad none r =
+      subst (λ (f : UnwrapFault). Rewrapped {Z = Z} old E new F text (Err f)) (sym r.1) (no_wrapping (none.0 refl))

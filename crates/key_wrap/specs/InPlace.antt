@@ -31,13 +31,13 @@ KeyAnswer Legal Stands text key (Ok m) = Legal × Stands (key m) text
 KeyAnswer Legal Stands text key (Err BadLength) = ¬ Legal
 KeyAnswer Legal Stands text key (Err Integrity) = Legal × NoKey Stands text
 
--- What each unwrapping call that takes no memory promises of its answer: the other form is that in which no key
--- stands with the text then.
-pub record Unwrapping {A : Type 0} (Legal : Type 0) (Stands Other : List ℕ → List ℕ → Type 0) (text : List ℕ) (key : A → List ℕ)
+-- What each unwrapping call that takes no memory promises of its answer, and that the text is no wrapping in the other
+-- form then.
+pub record Unwrapping {A : Type 0} (Legal : Type 0) (Stands : List ℕ → List ℕ → Type 0) (NoOther : List ℕ → Type 0) (text : List ℕ) (key : A → List ℕ)
     (answer : Result A InPlaceFault) : Type 0 where
   pub bad_length : (answer ≡ Err BadLength) ↔ ¬ Legal
   pub unwraps : KeyAnswer Legal Stands text key answer
   pub accepts : (other : List ℕ) → Stands other text → IsOk answer
   pub only_key : IfOk answer (λ m. (other : List ℕ) → Stands other text → other ≡ key m)
   pub restores : IfOk answer (λ m. (other : List ℕ) → Stands (key m) other → other ≡ text)
-  pub other_form : OnOk answer (NoKey Other text)
+  pub other_form : OnOk answer (NoOther text)

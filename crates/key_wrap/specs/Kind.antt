@@ -1,14 +1,10 @@
 -- The kind of a text.
-use Rattle.std.specs.Prelude.{◌≡◌, ℕ, List, length, Option, None, Some, Result, Ok, Err, Vec, vec_len}
-use Rattle.key_wrap.specs.declared.faults.KindFault.{KindFault}
-use Rattle.key_wrap.specs.declared.faults.KindFault.TheVariants as kind_faults
-use Rattle.key_wrap.specs.declared.faults.UnwrapFault.{UnwrapFault}
-use Rattle.key_wrap.specs.declared.faults.UnwrapFault.TheVariants.{BadLength, Integrity, Memory}
+use Rattle.std.specs.Prelude.{◌≡◌, ℕ, List, length}
 use Rattle.key_wrap.specs.declared.forms.Kind.{Kind}
 use Rattle.key_wrap.specs.declared.forms.Kind.TheVariants.{Plain as InPlain, Padded as InPadded, Neither}
 use Rattle.key_wrap.specs.Plain.{Plain, default_iv}
 use Rattle.key_wrap.specs.Padded.{Padded}
-use Rattle.key_wrap.specs.Answer.{NoKey}
+use Rattle.key_wrap.specs.Answer.{NoKey, NoPlainKey}
 
 -- some key of that many bytes stands with the text in that form, the plain one under the default initial value, or no
 -- key does in either
@@ -17,9 +13,16 @@ IsKindOf E text (InPlain m) = (key : List ℕ) × (length key ≡ m) × Plain E 
 IsKindOf E text (InPadded m) = (key : List ℕ) × (length key ≡ m) × Padded E key text
 IsKindOf E text Neither = NoKey (Plain E default_iv) text × NoKey (Padded E) text
 
--- the length of the key that a call answered, or none where it refused the text, or want of memory
-abbrev pub KeyLengthOf : {Z : Type 0} → Result (Vec ℕ Z) UnwrapFault → Result (Option ℕ) KindFault → Type 0
-KeyLengthOf (Ok key) len = len ≡ Ok (Some (vec_len key))
-KeyLengthOf (Err BadLength) len = len ≡ Ok None
-KeyLengthOf (Err Integrity) len = len ≡ Ok None
-KeyLengthOf (Err Memory) len = len ≡ Err kind_faults.Memory
+-- no key stands with the text in the form that the kind does not name, whatever the initial value
+abbrev pub NoOtherKey : (List ℕ → List ℕ) → List ℕ → Kind → Type 0
+NoOtherKey E text (InPlain m) = NoKey (Padded E) text
+NoOtherKey E text (InPadded m) = NoPlainKey E text
+NoOtherKey E text Neither = NoKey (Padded E) text
+
+-- what is promised of the kind of a text
+pub record IsTheKind (E : List ℕ → List ℕ) (text : List ℕ) (kind : Kind) : Type 0 where
+  pub is : IsKindOf E text kind
+  pub plain : (key : List ℕ) → Plain E default_iv key text → kind ≡ InPlain (length key)
+  pub padded : (key : List ℕ) → Padded E key text → kind ≡ InPadded (length key)
+  pub neither : NoKey (Plain E default_iv) text → NoKey (Padded E) text → kind ≡ Neither
+  pub other_form : NoOtherKey E text kind

@@ -1,10 +1,12 @@
 -- What a rewrapping answers: a text that is a wrapping in the old form under E is taken to the wrapping of the same key
 -- in the new form under F.
-use Rattle.std.specs.Prelude.{◌⊎◌, ℕ, List, length, Result, Ok, Err, Vec}
+use Rattle.std.specs.Prelude.{◌≡◌, ◌↔◌, ◌⊎◌, ℕ, List, length, Result, Ok, Err, IfOk, IsOkUnless, Vec}
 use Rattle.key_wrap.specs.declared.faults.UnwrapFault.{UnwrapFault}
 use Rattle.key_wrap.specs.declared.faults.UnwrapFault.TheVariants.{BadLength, Integrity, Memory}
 use Rattle.key_wrap.specs.declared.forms.Form.{Form}
-use Rattle.key_wrap.specs.Answer.{NoKey}
+use Rattle.key_wrap.specs.declared.forms.Form.TheVariants as forms
+use Rattle.key_wrap.specs.Answer.{NoKey, NoPlainKey}
+use Rattle.key_wrap.specs.Padded.{Padded}
 use Rattle.key_wrap.specs.Forms.{StandsIn, IsKeyLength, IsTextLength}
 
 -- one key stands with both: with the text in the old form under E, and with the answer in the new form under F
@@ -24,10 +26,30 @@ abbrev pub HasNoWrapping : Form → (List ℕ → List ℕ) → List ℕ → Typ
 HasNoWrapping old E text = IsTextLength old (length text) × NoKey (StandsIn old E) text
 
 -- Rewrap's answer, by cases: the wrapping of the text's key; BadLength where a length is refused; Integrity where no
--- key stands with the text; or want of memory.
+-- key stands with the text; or that there is no memory.
 abbrev pub RewrapAnswer : {Z : Type 0} → Form → (List ℕ → List ℕ) → Form → (List ℕ → List ℕ) → List ℕ
     → Result (Vec ℕ Z) UnwrapFault → Type 0
 RewrapAnswer old E new F text (Ok answer) = AreWrappings old E new F text answer.items
 RewrapAnswer old E new F text (Err BadLength) = HasBadLength old E new text
 RewrapAnswer old E new F text (Err Integrity) = HasNoWrapping old E text
 RewrapAnswer old E new F text (Err Memory) = IsTextLength old (length text)
+
+-- no key stands with the text in the form that is not this one, whatever the initial value
+abbrev pub NoOtherForm : Form → (List ℕ → List ℕ) → List ℕ → Type 0
+NoOtherForm forms.Plain E text = NoKey (Padded E) text
+NoOtherForm forms.Padded E text = NoPlainKey E text
+
+-- what is promised of the answer of a rewrapping that takes memory
+pub record Rewrapped {Z : Type 0} (old : Form) (E : List ℕ → List ℕ) (new : Form) (F : List ℕ → List ℕ) (text : List ℕ)
+    (answer : Result (Vec ℕ Z) UnwrapFault) : Type 0 where
+  pub rewraps : RewrapAnswer old E new F text answer
+  pub text_length : ¬ IsTextLength old (length text) → answer ≡ Err BadLength
+  pub key_length : HasBadKey old E new text → (answer ≡ Err BadLength) ⊎ (answer ≡ Err Memory)
+  pub accepts : (key : List ℕ) → StandsIn old E key text → IsKeyLength new (length key) → IsOkUnless answer Memory
+  pub memory : answer ≡ Err Memory → IsTextLength old (length text)
+  pub only_answer : IfOk answer (λ out. (other : List ℕ) → AreWrappings old E new F text other → other ≡ out.items)
+  pub only_key : IfOk answer (λ out. (key other : List ℕ) → StandsIn old E key text → StandsIn old E other text → other ≡ key)
+  pub same_key : IfOk answer (λ out. (key : List ℕ) → StandsIn new F key out.items ↔ StandsIn old E key text)
+  pub restores : IfOk answer (λ out. (other : List ℕ) → AreWrappings new F old E out.items other → other ≡ text)
+  pub size : IfOk answer (λ out. length out.items ≡ length text)
+  pub other_form : IfOk answer (λ out. NoOtherForm new F out.items)

@@ -23,7 +23,9 @@ pub(crate) fn room_for<A: Allocator>(alloc: A, key: &[u8]) -> Result<Vec<u8, A>,
     Ok(buffer)
 }
 
-// The first `len` bytes of key data behind the first word, cut out of the same buffer.
+// The first `len` bytes of key data behind the first word, cut out of the same buffer. By
+// `rotate_left`, since a move to the front would leave a second copy of the key's last bytes behind
+// the end of the vector, where now the zeros of the first word stand.
 pub(crate) fn key_of<A: Allocator>(mut buffer: Vec<u8, A>, len: usize) -> Vec<u8, A>
     requires { 8 + len ≤ vec_len buffer }
     ensures { result.items ≡ take len (drop 8 buffer.items) }

@@ -1,13 +1,17 @@
-//! The initial values, and the checks of an unwrapped one: in the padded form of the padding too.
+//! The initial values, the checks of an unwrapped one, in the padded form of the padding too, and
+//! the one decision over them.
 
-ghost use Rattle.std.specs.Prelude.{◌≡◌, ◌<◌, ◌≤◌, ◌↔◌, ℕ, ◌+◌, ◌%◌, ◌++◌, List, length, All};
-ghost use Rattle.std.specs.Prelude.{IsTrue, IfSome, IfNone};
+ghost use Rattle.std.specs.Prelude.{◌≡◌, ◌≤◌, ◌<◌, ◌↔◌, ℕ, ◌+◌, ◌%◌, ◌^◌, ◌++◌, List, length, All};
+ghost use Rattle.std.specs.Prelude.{IsErr, IsOk, IsOkUnless, OnOk, bit_or};
+ghost use Rattle.byteorder.specs.Endian.{big_number};
 ghost use Rattle.key_wrap.specs.Words.{word_bytes};
 ghost use Rattle.key_wrap.specs.Lengths.{IsPaddedKeyLength};
 ghost use Rattle.key_wrap.specs.Padded.{aiv};
 ghost use Rattle.key_wrap.specs.PaddedRegisters.{Holds, HoldsLength};
 
-use crate::lengths::MAX_KEY;
+use crate::faults::InPlaceFault;
+use crate::lengths::{MAX_KEY, WORD};
+use byteorder::{BigEndian, ByteOrder};
 
 // The default initial value (RFC 3394, section 2.2.3.1).
 pub(crate) const DEFAULT_IV: u64 = 0xA6A6_A6A6_A6A6_A6A6;
@@ -23,40 +27,53 @@ pub(crate) fn initial_value(len: usize) -> u64
     (u64::from(AIV_PREFIX) << 32) + len as u64
 }
 
-// The length of the key in the registers under this initial value, where they pass the three checks
-// of RFC 5649, section 3: the prefix, the range of the length, the zero padding.
-pub(crate) fn checked_key_length(iv: u64, registers: &[u8]) -> Option<usize>
+// The one decision of an unwrapping, in either form: where what was found differs from what it must
+// be, the registers become zeros. Each caller has computed the whole difference before, so that
+// which check failed, and at which byte, shows in nothing. Not inlined, so that a tool that follows
+// secrets can name the one place where control hangs on them.
+#[inline(never)]
+pub(crate) fn decide(difference: u64, registers: &mut [u8]) -> Result<(), InPlaceFault>
+    ensures passes { IsOk result ↔ (difference ≡ 0) }
+    ensures only_fault { IsOkUnless result InPlaceFault.Integrity }
+    ensures kept { OnOk result (registers.new ≡ registers.old) }
+    ensures cleared { IsErr result → All (λ byte. byte ≡ 0) registers.new }
+{
+    if difference == 0 {
+        return Ok(());
+    }
+    registers.fill(0);
+    Err(InPlaceFault::Integrity)
+}
+
+// The length of the key that an initial value of the padded form gives: its last four bytes.
+pub(crate) fn given_length(iv: u64) -> u64
+    ensures { result ≡ iv % 2 ^ 32 }
+{
+    iv % (1 << 32)
+}
+
+// 0 where the registers pass, under this initial value, the three checks of RFC 5649, section 3:
+// the prefix, the range of the length, the zero padding. All three are computed, with no branch and
+// no index that depends on the registers or the initial value.
+pub(crate) fn padded_difference(iv: u64, registers: &[u8]) -> u64
     requires whole_words { length registers.now % 8 ≡ 0 }
     requires some { 8 ≤ length registers.now }
     requires at_most { length registers.now ≤ MAX_KEY }
-    ensures passes { IfSome result (λ len. HoldsLength (word_bytes iv ++ registers.now) len) }
-    ensures refuses { IfNone result (
-        (key : List ℕ) → IsPaddedKeyLength (length key)
-        → ¬ Holds (word_bytes iv ++ registers.now) key) }
+    ensures passes { result ≡ 0 → HoldsLength (word_bytes iv ++ registers.now) (iv % 2 ^ 32) }
+    ensures refuses { ¬ (result ≡ 0) → (key : List ℕ) → IsPaddedKeyLength (length key)
+        → ¬ Holds (word_bytes iv ++ registers.now) key }
 {
-    if iv >> 32 != u64::from(AIV_PREFIX) {
-        return None;
-    }
-    let len = (iv & 0xFFFF_FFFF) as usize;
-    if !length_fits(len, registers.len()) {
-        return None;
-    }
-    if is_zero(&registers[len..]) {
-        Some(len)
-    } else {
-        None
-    }
+    let prefix = (iv >> 32) ^ u64::from(AIV_PREFIX);
+    // At least 8, and far more, where the length is not in its range.
+    let padding = (registers.len() as u64).wrapping_sub(given_length(iv));
+    let last = BigEndian::read_u64(&registers[registers.len() - WORD..]);
+    prefix | (padding / 8) | last_bytes(last, padding % 8)
 }
 
-// Whether a key of `len` bytes pads to `padded` bytes: by fewer than 8.
-fn length_fits(len: usize, padded: usize) -> bool
-    ensures { IsTrue result ↔ ((padded < len + 8) × (len ≤ padded)) }
+// The last bytes of a word, so many, as a number.
+fn last_bytes(word: u64, count: u64) -> u64
+    requires { count < 8 }
+    ensures { result ≡ word % 256 ^ count }
 {
-    len <= padded && padded - len < 8
-}
-
-fn is_zero(bytes: &[u8]) -> bool
-    ensures { IsTrue result ↔ All (λ byte. byte ≡ 0) bytes.now }
-{
-    bytes.iter().all(|byte| *byte == 0)
+    word & ((1 << (8 * count)) - 1)
 }

@@ -1,6 +1,7 @@
 //! Why a call refuses.
 
 ghost use Rattle.std.specs.Prelude.{◌≡◌};
+ghost use Rattle.key_wrap.specs.declared.faults.KindFault.TheVariants as kind_faults;
 ghost use Rattle.key_wrap.specs.declared.faults.UnwrapFault.TheVariants as unwrap_faults;
 ghost use Rattle.key_wrap.specs.declared.faults.WrapFault.TheVariants as wrap_faults;
 ghost use Rattle.key_wrap.specs.Faults.{unwrap_fault};
@@ -14,7 +15,7 @@ pub enum WrapFault {
     /// The key has no legal length.
     #[error("bad length")]
     BadLength,
-    /// The text was refused its memory.
+    /// There is no memory for the wrapping.
     #[error("out of memory")]
     Memory,
 }
@@ -30,13 +31,13 @@ impl From<AllocError> for WrapFault {
 /// Why an unwrapping call refuses.
 #[derive(Clone, Copy, Debug, PartialEq, Eq, Error)]
 pub enum UnwrapFault {
-    /// The text has no legal length.
+    /// The text has no legal length; of a rewrapping also: its key has none in the new form.
     #[error("bad length")]
     BadLength,
-    /// The text is no wrapping of any key (RFC 3394, section 2.2.3; RFC 5649, section 3).
+    /// The text is the wrapping of no key (RFC 3394, section 2.2.3; RFC 5649, section 3).
     #[error("integrity check failed")]
     Integrity,
-    /// The key was refused its memory.
+    /// There is no memory for the key, or of a rewrapping for the new wrapping.
     #[error("out of memory")]
     Memory,
 }
@@ -63,21 +64,34 @@ impl From<AllocError> for UnwrapFault {
 /// Why `kind` has no answer.
 #[derive(Clone, Copy, Debug, PartialEq, Eq, Error)]
 pub enum KindFault {
-    /// The unwrapped key was refused its memory.
+    /// There is no memory to unwrap in.
     #[error("out of memory")]
     Memory,
+}
+
+impl From<AllocError> for KindFault {
+    ghost from_gives = { λ _ fault. fault ≡ kind_faults.Memory };
+
+    fn from(_: AllocError) -> KindFault {
+        KindFault::Memory
+    }
 }
 
 /// Why a call in the caller's buffers refuses.
 #[derive(Clone, Copy, Debug, PartialEq, Eq, Error)]
 pub enum InPlaceFault {
-    /// A length is not legal, or a buffer has not the length that goes with it.
+    /// A length is not legal, or a buffer is of another length than the one that goes with it.
     #[error("bad length")]
     BadLength,
-    /// The text is no wrapping of any key (RFC 3394, section 2.2.3; RFC 5649, section 3).
+    /// The text is the wrapping of no key (RFC 3394, section 2.2.3; RFC 5649, section 3).
     #[error("integrity check failed")]
     Integrity,
 }
+
+/// The scratch buffer must be 8 bytes shorter than the text.
+#[derive(Clone, Copy, Debug, PartialEq, Eq, Error)]
+#[error("bad length")]
+pub struct BadScratchLength;
 
 /// The first four bytes of an initial value are A65959A6, as in the padded form (RFC 5649, section
 /// 3).

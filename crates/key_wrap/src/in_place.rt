@@ -1,25 +1,22 @@
 //! The calls in the caller's buffer. They take no memory.
 
-ghost use Rattle.std.specs.Prelude.{◌≡◌, ◌↔◌, ◌++◌, ℕ, List, length, take, drop, replicate, All};
-ghost use Rattle.std.specs.Prelude.{Ok, Err, OnOk, IfOk, IsOk, IsOkUnless};
+ghost use Rattle.std.specs.Prelude.{◌≡◌, ◌↔◌, ◌+◌, ◌*◌, ◌++◌, ℕ, List, length, take, drop};
+ghost use Rattle.std.specs.Prelude.{replicate, All, Ok, Err, OnOk, IfOk, IsOk, IsOkUnless};
 ghost use Rattle.block_pair.specs.Metered.{counted};
 ghost use Rattle.key_wrap.specs.Lengths.{IsPlainTextLength, IsPaddedTextLength};
 ghost use Rattle.key_wrap.specs.Plain.{Plain, IsReserved, default_iv};
-ghost use Rattle.key_wrap.specs.Padded.{Padded, padded};
-ghost use Rattle.key_wrap.specs.Answer.{NoKey};
+ghost use Rattle.key_wrap.specs.Padded.{Padded, padded, word_count};
+ghost use Rattle.key_wrap.specs.Answer.{NoKey, NoPlainKey};
 ghost use Rattle.key_wrap.specs.Calls.{block_calls};
 ghost use Rattle.key_wrap.specs.InPlace.{KeyAnswer, Unwrapping, IsPaddedRoom, key_in};
 
 use crate::checks::{DEFAULT_IV, initial_value};
 use crate::faults::InPlaceFault;
-use crate::lengths::{padded_length_ok, padded_text_length_ok, text_length_ok};
-use crate::machine::{wrap_slice, wrap_words};
+use crate::lengths::{WORD, padded_length_ok, padded_text_length_ok, text_length_ok};
+use crate::machine::{wrap_padded_slice, wrap_slice};
 use crate::unwrapping::{unwrap_padded_registers, unwrap_registers};
 use block_pair::{BlockPair, Meter};
 use byteorder::{BigEndian, ByteOrder};
-
-// The bytes of a word.
-const WORD: usize = 8;
 
 /// The key after the first 8 bytes of the buffer, which are ignored, becomes its plain wrapping,
 /// the whole buffer (RFC 3394, section 2.2.1).
@@ -57,7 +54,7 @@ pub(crate) fn wrap_buffer<B: BlockPair>(meter: &mut Meter<B>, iv: u64, buf: &mut
     BigEndian::write_u64(buf, c0);
 }
 
-/// The plain text in the buffer becomes 8 zero bytes and its key (RFC 3394, section 2.2.2).
+/// The plain wrapping in the buffer becomes 8 zero bytes and its key (RFC 3394, section 2.2.2).
 ///
 /// `BadLength`, with the buffer and the meter as they were, where `text_length_ok` says no to the
 /// buffer's length; `Integrity` where the text is the plain wrapping of no key, and then every byte
@@ -97,7 +94,7 @@ pub fn unwrap_in_place<B: BlockPair>(
     unwrap_buffer(meter, DEFAULT_IV, buf)
 }
 
-// The plain text in the buffer becomes 8 zero bytes and the key whose wrapping under this initial
+// The plain wrapping in the buffer becomes 8 zero bytes and the key whose wrapping under this initial
 // value it is, and zeros where there is none.
 pub(crate) fn unwrap_buffer<B: BlockPair>(
     meter: &mut Meter<B>,
@@ -107,7 +104,7 @@ pub(crate) fn unwrap_buffer<B: BlockPair>(
     requires length { IsPlainTextLength (length buf.old) }
     requires free { ¬ IsReserved iv }
     ensures answer { Unwrapping (IsPlainTextLength (length buf.old))
-        (Plain (B.encrypted meter.old.pair) iv) (Padded (B.encrypted meter.old.pair))
+        (Plain (B.encrypted meter.old.pair) iv) (NoKey (Padded (B.encrypted meter.old.pair)))
         buf.old (λ _. drop 8 buf.new) result }
     ensures first_word { OnOk result (take 8 buf.new ≡ replicate 8 0) }
     ensures cleared { result ≡ Err InPlaceFault.Integrity → All (λ byte. byte ≡ 0) buf.new }
@@ -122,8 +119,7 @@ pub(crate) fn unwrap_buffer<B: BlockPair>(
 /// is, becomes its padded wrapping, the whole buffer (RFC 5649, section 4.1).
 ///
 /// `BadLength`, with the buffer and the meter as they were, where `padded_length_ok` says no to
-/// `m`, or the buffer has not the length of the text: 8 bytes more than `m` rounded up to a
-/// multiple of 8.
+/// `m`, or the buffer is not 8 bytes longer than `m` rounded up to a multiple of 8.
 pub fn wrap_padded_in_place<B: BlockPair>(
     meter: &mut Meter<B>,
     buf: &mut [u8],
@@ -143,12 +139,12 @@ pub fn wrap_padded_in_place<B: BlockPair>(
         return Err(InPlaceFault::BadLength);
     }
     buf[WORD + m..].fill(0);
-    let c0 = wrap_words(meter, initial_value(m), &mut buf[WORD..]);
+    let c0 = wrap_padded_slice(meter, initial_value(m), &mut buf[WORD..]);
     BigEndian::write_u64(buf, c0);
     Ok(())
 }
 
-/// The padded text in the buffer becomes 8 zero bytes, its key, of as many bytes as the answer
+/// The padded wrapping in the buffer becomes 8 zero bytes, its key, of as many bytes as the answer
 /// says, and zero bytes to the end (RFC 5649, section 4.2).
 ///
 /// `BadLength`, with the buffer and the meter as they were, where `padded_text_length_ok` says no
@@ -179,7 +175,9 @@ pub fn unwrap_padded_in_place<B: BlockPair>(
         → other ≡ buf.old) }
     ensures other_form { OnOk result (
         NoKey (Plain (B.encrypted meter.old.pair) default_iv) buf.old) }
+    ensures other_values { OnOk result (NoPlainKey (B.encrypted meter.old.pair) buf.old) }
     ensures size { IfOk result (λ m. length (key_in m buf.new) ≡ m) }
+    ensures room { IfOk result (λ m. length buf.old ≡ 8 + 8 * word_count m) }
     ensures around { IfOk result (λ m. buf.new ≡ replicate 8 0 ++ padded (key_in m buf.new)) }
     ensures cleared { result ≡ Err InPlaceFault.Integrity → All (λ byte. byte ≡ 0) buf.new }
     ensures calls { ¬ (result ≡ Err InPlaceFault.BadLength)

@@ -1,11 +1,11 @@
 //! The calls from one of the caller's buffers into another. They take no memory.
 
-ghost use Rattle.std.specs.Prelude.{◌≡◌, ◌↔◌, ℕ, List, length, take, All, Ok, Err, OnOk, IfOk};
-ghost use Rattle.std.specs.Prelude.{IsOk, IsOkUnless};
+ghost use Rattle.std.specs.Prelude.{◌≡◌, ◌↔◌, ℕ, ◌+◌, ◌*◌, List, length, take, All};
+ghost use Rattle.std.specs.Prelude.{Ok, Err, OnOk, IfOk, IsOkUnless};
 ghost use Rattle.block_pair.specs.Metered.{counted};
 ghost use Rattle.key_wrap.specs.Plain.{Plain, default_iv};
-ghost use Rattle.key_wrap.specs.Padded.{Padded, padded};
-ghost use Rattle.key_wrap.specs.Answer.{NoKey};
+ghost use Rattle.key_wrap.specs.Padded.{Padded, padded, word_count};
+ghost use Rattle.key_wrap.specs.Answer.{NoKey, NoPlainKey};
 ghost use Rattle.key_wrap.specs.Calls.{block_calls};
 ghost use Rattle.key_wrap.specs.InPlace.{KeyAnswer, IsPaddedRoom, ArePlainLengths};
 ghost use Rattle.key_wrap.specs.InPlace.{ArePaddedLengths};
@@ -14,18 +14,15 @@ use crate::faults::InPlaceFault;
 use crate::in_place::wrap_padded_in_place;
 use crate::initial_value::InitialValue;
 use crate::into_with::{unwrap_into_with, wrap_into_with};
-use crate::lengths::{padded_length_ok, padded_text_length_ok};
+use crate::lengths::{WORD, padded_length_ok, padded_text_length_ok};
 use crate::unwrapping::unwrap_padded_registers;
 use block_pair::{BlockPair, Meter};
 use byteorder::{BigEndian, ByteOrder};
 
-// The bytes of a word.
-const WORD: usize = 8;
-
 /// The plain wrapping of `key`, into `text` (RFC 3394, section 2.2.1).
 ///
 /// `BadLength`, with the text and the meter as they were, where `key_length_ok` says no to the
-/// key's length, or the text has not 8 bytes more than the key.
+/// key's length, or the text is not 8 bytes longer than the key.
 pub fn wrap_into<B: BlockPair>(
     meter: &mut Meter<B>,
     key: &[u8],
@@ -40,6 +37,7 @@ pub fn wrap_into<B: BlockPair>(
     ensures only_text { OnOk result (
         (other : List ℕ) → Plain (B.encrypted meter.old.pair) default_iv key.now other
         → other ≡ text.new) }
+    ensures size { OnOk result (length text.new ≡ length key.now + 8) }
     ensures calls { OnOk result (meter.new ≡ counted (block_calls (length text.old)) meter.old) }
 {
     wrap_into_with(meter, &InitialValue::default(), key, text)
@@ -48,7 +46,7 @@ pub fn wrap_into<B: BlockPair>(
 /// The key whose plain wrapping is `text`, into `key` (RFC 3394, section 2.2.2).
 ///
 /// `BadLength`, with the key's buffer and the meter as they were, where `text_length_ok` says no to
-/// the text's length, or the key's buffer has not 8 bytes less; `Integrity` where the text is the
+/// the text's length, or the key's buffer is not 8 bytes shorter; `Integrity` where the text is the
 /// plain wrapping of no key, and then every byte of the key's buffer is zero. The meter counts as
 /// many calls then as for a key.
 pub fn unwrap_into<B: BlockPair>(
@@ -75,6 +73,7 @@ pub fn unwrap_into<B: BlockPair>(
     ensures restores { OnOk result (
         (other : List ℕ) → Plain (B.encrypted meter.old.pair) default_iv key.new other
         → other ≡ text.now) }
+    ensures size { OnOk result (length text.now ≡ length key.new + 8) }
     ensures other_form { OnOk result (NoKey (Padded (B.encrypted meter.old.pair)) text.now) }
     ensures cleared { result ≡ Err InPlaceFault.Integrity → All (λ byte. byte ≡ 0) key.new }
     ensures calls { ¬ (result ≡ Err InPlaceFault.BadLength)
@@ -86,7 +85,7 @@ pub fn unwrap_into<B: BlockPair>(
 /// The padded wrapping of `key`, into `text` (RFC 5649, section 4.1).
 ///
 /// `BadLength`, with the text and the meter as they were, where `padded_length_ok` says no to the
-/// key's length, or the text has not 8 bytes more than that rounded up to a multiple of 8.
+/// key's length, or the text is not 8 bytes longer than that rounded up to a multiple of 8.
 pub fn wrap_padded_into<B: BlockPair>(
     meter: &mut Meter<B>,
     key: &[u8],
@@ -100,6 +99,7 @@ pub fn wrap_padded_into<B: BlockPair>(
     ensures answer { OnOk result (Padded (B.encrypted meter.old.pair) key.now text.new) }
     ensures only_text { OnOk result (
         (other : List ℕ) → Padded (B.encrypted meter.old.pair) key.now other → other ≡ text.new) }
+    ensures size { OnOk result (length text.new ≡ 8 + 8 * word_count (length key.now)) }
     ensures calls { OnOk result (meter.new ≡ counted (block_calls (length text.old)) meter.old) }
 {
     let m = key.len();
@@ -114,7 +114,7 @@ pub fn wrap_padded_into<B: BlockPair>(
 /// the answer says, and zero bytes to the end of the buffer.
 ///
 /// `BadLength`, with the key's buffer and the meter as they were, where `padded_text_length_ok`
-/// says no to the text's length, or the key's buffer has not 8 bytes less; `Integrity` where the
+/// says no to the text's length, or the key's buffer is not 8 bytes shorter; `Integrity` where the
 /// text is the padded wrapping of no key, and then every byte of the key's buffer is zero. The
 /// meter counts as many calls then as for a key.
 pub fn unwrap_padded_into<B: BlockPair>(
@@ -142,7 +142,9 @@ pub fn unwrap_padded_into<B: BlockPair>(
         → other ≡ text.now) }
     ensures other_form { OnOk result (
         NoKey (Plain (B.encrypted meter.old.pair) default_iv) text.now) }
+    ensures other_values { OnOk result (NoPlainKey (B.encrypted meter.old.pair) text.now) }
     ensures size { IfOk result (λ m. length (take m key.new) ≡ m) }
+    ensures room { IfOk result (λ m. length text.now ≡ 8 + 8 * word_count m) }
     ensures behind { IfOk result (λ m. key.new ≡ padded (take m key.new)) }
     ensures cleared { result ≡ Err InPlaceFault.Integrity → All (λ byte. byte ≡ 0) key.new }
     ensures calls { ¬ (result ≡ Err InPlaceFault.BadLength)

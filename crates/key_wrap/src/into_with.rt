@@ -1,7 +1,8 @@
 //! The plain calls from one of the caller's buffers into another, under an initial value that both
 //! ends agreed on. They take no memory.
 
-ghost use Rattle.std.specs.Prelude.{◌≡◌, ◌↔◌, ℕ, List, length, All, Ok, Err, OnOk, IsOkUnless};
+ghost use Rattle.std.specs.Prelude.{◌≡◌, ◌↔◌, ℕ, ◌+◌, List, length, All, Ok, Err, OnOk};
+ghost use Rattle.std.specs.Prelude.{IsOkUnless};
 ghost use Rattle.block_pair.specs.Metered.{counted};
 ghost use Rattle.key_wrap.specs.Plain.{Plain};
 ghost use Rattle.key_wrap.specs.Padded.{Padded};
@@ -12,19 +13,16 @@ ghost use Rattle.key_wrap.specs.InPlace.{KeyAnswer, ArePlainLengths};
 use crate::faults::InPlaceFault;
 use crate::in_place::wrap_buffer;
 use crate::initial_value::InitialValue;
-use crate::lengths::{key_length_ok, text_length_ok};
+use crate::lengths::{WORD, key_length_ok, text_length_ok};
 use crate::unwrapping::unwrap_registers;
 use block_pair::{BlockPair, Meter};
 use byteorder::{BigEndian, ByteOrder};
-
-// The bytes of a word.
-const WORD: usize = 8;
 
 /// The plain wrapping of `key` under this initial value, into `text` (RFC 3394, sections 2.2.1 and
 /// 2.2.3.2).
 ///
 /// `BadLength`, with the text and the meter as they were, where `key_length_ok` says no to the
-/// key's length, or the text has not 8 bytes more than the key.
+/// key's length, or the text is not 8 bytes longer than the key.
 pub fn wrap_into_with<B: BlockPair>(
     meter: &mut Meter<B>,
     iv: &InitialValue,
@@ -40,6 +38,7 @@ pub fn wrap_into_with<B: BlockPair>(
     ensures only_text { OnOk result (
         (other : List ℕ) → Plain (B.encrypted meter.old.pair) iv.now key.now other
         → other ≡ text.new) }
+    ensures size { OnOk result (length text.new ≡ length key.now + 8) }
     ensures calls { OnOk result (meter.new ≡ counted (block_calls (length text.old)) meter.old) }
 {
     if !key_length_ok(key.len()) || text.len() != key.len() + WORD {
@@ -54,7 +53,7 @@ pub fn wrap_into_with<B: BlockPair>(
 /// 2.2.2 and 2.2.3.2).
 ///
 /// `BadLength`, with the key's buffer and the meter as they were, where `text_length_ok` says no to
-/// the text's length, or the key's buffer has not 8 bytes less; `Integrity` where the text is the
+/// the text's length, or the key's buffer is not 8 bytes shorter; `Integrity` where the text is the
 /// plain wrapping of no key under this initial value, and then every byte of the key's buffer is
 /// zero. The meter counts as many calls then as for a key.
 pub fn unwrap_into_with<B: BlockPair>(
@@ -82,6 +81,7 @@ pub fn unwrap_into_with<B: BlockPair>(
     ensures restores { OnOk result (
         (other : List ℕ) → Plain (B.encrypted meter.old.pair) iv.now key.new other
         → other ≡ text.now) }
+    ensures size { OnOk result (length text.now ≡ length key.new + 8) }
     ensures other_form { OnOk result (NoKey (Padded (B.encrypted meter.old.pair)) text.now) }
     ensures cleared { result ≡ Err InPlaceFault.Integrity → All (λ byte. byte ≡ 0) key.new }
     ensures calls { ¬ (result ≡ Err InPlaceFault.BadLength)

@@ -1,24 +1,26 @@
-//! Which form a text is a wrapping in.
+//! Which form a wrapped key is wrapped in.
 
-ghost use Rattle.std.specs.Prelude.{◌≡◌, ◌⊎◌, ℕ, List, length, Ok, Err, IfOk};
+ghost use Rattle.std.specs.Prelude.{◌≡◌, ◌↔◌, ◌⊎◌, ℕ, ◌+◌, List, length, All, Ok, Err, IfOk, IsErr};
+ghost use Rattle.block_pair.specs.Metered.{counted};
 ghost use Rattle.key_wrap.specs.Lengths.{IsPlainTextLength, IsPaddedTextLength};
 ghost use Rattle.key_wrap.specs.Plain.{Plain, default_iv};
 ghost use Rattle.key_wrap.specs.Padded.{Padded};
 ghost use Rattle.key_wrap.specs.Answer.{NoKey};
-ghost use Rattle.key_wrap.specs.Kind.{IsKindOf, KeyLengthOf};
+ghost use Rattle.key_wrap.specs.Calls.{block_calls};
+ghost use Rattle.key_wrap.specs.Kind.{IsKindOf, IsTheKind, NoOtherKey};
 
-use crate::faults::{KindFault, UnwrapFault};
+use crate::faults::{BadScratchLength, KindFault};
 use crate::forms::Kind;
-use crate::initial_value::InitialValue;
-use crate::padded::unwrap_padded_in;
-use crate::plain::unwrap_in;
-use block_pair::BlockPair;
+use crate::lengths::{WORD, padded_text_length_ok};
+use crate::unwrapping::kind_of_registers;
+use block_pair::{BlockPair, Meter};
+use byteorder::{BigEndian, ByteOrder};
 use std::alloc::{Allocator, Global};
 
 /// What `text` is under the pair: the wrapping of a key in one of the two forms, or in neither.
 ///
 /// No text is a wrapping in both forms. `Memory` comes only where the text's length is legal in
-/// some form.
+/// some form, and before the first block call.
 pub fn kind<B: BlockPair>(alloc: Global, pair: &B, text: &[u8]) -> Result<Kind, KindFault>
     ensures answer { IfOk result (IsKindOf (B.encrypted pair.now) text.now) }
     ensures plain { (key : List ℕ) → Plain (B.encrypted pair.now) default_iv key text.now
@@ -28,47 +30,71 @@ pub fn kind<B: BlockPair>(alloc: Global, pair: &B, text: &[u8]) -> Result<Kind, 
     ensures neither { NoKey (Plain (B.encrypted pair.now) default_iv) text.now
         → NoKey (Padded (B.encrypted pair.now)) text.now
         → IfOk result (λ kind. kind ≡ Kind.Neither) }
+
+    // No key stands with the text in the other form, whatever the initial value.
+    ensures other_form { IfOk result (NoOtherKey (B.encrypted pair.now) text.now) }
     ensures memory { result ≡ Err KindFault.Memory
         → IsPlainTextLength (length text.now) ⊎ IsPaddedTextLength (length text.now) }
 {
-    kind_in(alloc, pair, text)
+    kind_on(alloc, pair, text)
 }
 
-// `kind` on any allocator, for the same.
-pub(crate) fn kind_in<A: Allocator + Copy, B: BlockPair>(
+// `kind` on any allocator, so that a test can refuse its growth.
+pub(crate) fn kind_on<A: Allocator, B: BlockPair>(
     alloc: A,
     pair: &B,
     text: &[u8],
 ) -> Result<Kind, KindFault>
-    ensures answer { IfOk result (IsKindOf (B.encrypted pair.now) text.now) }
-    ensures plain { (key : List ℕ) → Plain (B.encrypted pair.now) default_iv key text.now
-        → IfOk result (λ kind. kind ≡ Kind.Plain (length key)) }
-    ensures padded { (key : List ℕ) → Padded (B.encrypted pair.now) key text.now
-        → IfOk result (λ kind. kind ≡ Kind.Padded (length key)) }
-    ensures neither { NoKey (Plain (B.encrypted pair.now) default_iv) text.now
-        → NoKey (Padded (B.encrypted pair.now)) text.now
-        → IfOk result (λ kind. kind ≡ Kind.Neither) }
-    ensures memory { result ≡ Err KindFault.Memory
-        → IsPlainTextLength (length text.now) ⊎ IsPaddedTextLength (length text.now) }
+    ensures answer { IfOk result (IsTheKind (B.encrypted pair.now) text.now) }
+    ensures memory { IsErr result → IsPaddedTextLength (length text.now) }
 {
-    if let Some(len) = key_length(unwrap_in(alloc, pair, &InitialValue::default(), text))? {
-        return Ok(Kind::Plain(len));
+    if !padded_text_length_ok(text.len()) {
+        return Ok(Kind::Neither);
     }
-    match key_length(unwrap_padded_in(alloc, pair, text))? {
-        Some(len) => Ok(Kind::Padded(len)),
-        None => Ok(Kind::Neither),
-    }
+    let mut registers = Vec::from_slice(alloc, &text[WORD..])?;
+    let c0 = BigEndian::read_u64(text);
+    Ok(kind_of_registers(&mut Meter::new(pair), c0, &mut registers))
 }
 
-// The length of the key that was unwrapped, and `None` where the text was refused.
-fn key_length<A: Allocator>(
-    answer: Result<Vec<u8, A>, UnwrapFault>,
-) -> Result<Option<usize>, KindFault>
-    ensures { KeyLengthOf answer result }
+/// What `text` is under the meter's pair, as `kind` says it. It takes no memory: the scratch buffer
+/// must be 8 bytes shorter than the text, and is left all zero. Where the text has no legal length
+/// in either form the answer is `Neither`, whatever the scratch buffer, which stays as it was.
+///
+/// Refused exactly where the text has a legal length and the scratch buffer has another than that;
+/// the buffer and the meter stay as they were.
+pub fn kind_into<B: BlockPair>(
+    meter: &mut Meter<B>,
+    text: &[u8],
+    scratch: &mut [u8],
+) -> Result<Kind, BadScratchLength>
+    ensures bad_length { IsErr result ↔ (IsPaddedTextLength (length text.now)
+        × ¬ (length text.now ≡ length scratch.old + 8)) }
+    ensures answer { IfOk result (IsKindOf (B.encrypted meter.old.pair) text.now) }
+    ensures plain { (key : List ℕ) → Plain (B.encrypted meter.old.pair) default_iv key text.now
+        → IfOk result (λ kind. kind ≡ Kind.Plain (length key)) }
+    ensures padded { (key : List ℕ) → Padded (B.encrypted meter.old.pair) key text.now
+        → IfOk result (λ kind. kind ≡ Kind.Padded (length key)) }
+    ensures neither { NoKey (Plain (B.encrypted meter.old.pair) default_iv) text.now
+        → NoKey (Padded (B.encrypted meter.old.pair)) text.now
+        → IfOk result (λ kind. kind ≡ Kind.Neither) }
+
+    // No key stands with the text in the other form, whatever the initial value.
+    ensures other_form { IfOk result (NoOtherKey (B.encrypted meter.old.pair) text.now) }
+    ensures scratch_kept { IsErr result ⊎ ¬ IsPaddedTextLength (length text.now)
+        → scratch.new ≡ scratch.old }
+    ensures meter_kept { IsErr result ⊎ ¬ IsPaddedTextLength (length text.now)
+        → meter.new ≡ meter.old }
+    ensures cleared { IfOk result (λ _. IsPaddedTextLength (length text.now)
+        → All (λ byte. byte ≡ 0) scratch.new) }
+    ensures calls { IfOk result (λ _. IsPaddedTextLength (length text.now)
+        → meter.new ≡ counted (block_calls (length text.now)) meter.old) }
 {
-    match answer {
-        Ok(key) => Ok(Some(key.len())),
-        Err(UnwrapFault::BadLength | UnwrapFault::Integrity) => Ok(None),
-        Err(UnwrapFault::Memory) => Err(KindFault::Memory),
+    if !padded_text_length_ok(text.len()) {
+        return Ok(Kind::Neither);
     }
+    if scratch.len() != text.len() - WORD {
+        return Err(BadScratchLength);
+    }
+    scratch.copy_from_slice(&text[WORD..]);
+    Ok(kind_of_registers(meter, BigEndian::read_u64(text), scratch))
 }

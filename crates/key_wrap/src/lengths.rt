@@ -4,6 +4,9 @@ ghost use Rattle.std.specs.Prelude.{◌↔◌, IsTrue};
 ghost use Rattle.key_wrap.specs.Lengths.{IsPlainKeyLength, IsPlainTextLength, IsPaddedKeyLength};
 ghost use Rattle.key_wrap.specs.Lengths.{IsPaddedTextLength};
 
+// The bytes of a word.
+pub(crate) const WORD: usize = 8;
+
 /// The most bytes of key data, in both forms. The standards allow more.
 pub const MAX_KEY: usize = 1_048_576;
 

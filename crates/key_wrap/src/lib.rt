@@ -18,13 +18,13 @@ mod rewrapping;
 mod rewrapping_in_place;
 mod unwrapping;
 
-pub use faults::{InPlaceFault, KindFault, ReservedIv, UnwrapFault, WrapFault};
+pub use faults::{BadScratchLength, InPlaceFault, KindFault, ReservedIv, UnwrapFault, WrapFault};
 pub use forms::{Form, Kind};
 pub use in_place::{unwrap_in_place, unwrap_padded_in_place, wrap_in_place, wrap_padded_in_place};
 pub use initial_value::InitialValue;
 pub use into::{unwrap_into, unwrap_padded_into, wrap_into, wrap_padded_into};
 pub use into_with::{unwrap_into_with, wrap_into_with};
-pub use kinds::kind;
+pub use kinds::{kind, kind_into};
 pub use lengths::{
     MAX_KEY, key_length_ok, padded_length_ok, padded_text_length_ok, text_length_ok,
 };

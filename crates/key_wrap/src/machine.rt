@@ -8,12 +8,9 @@ ghost use Rattle.key_wrap.specs.Registers.{Registers};
 ghost use Rattle.key_wrap.specs.PaddedRegisters.{PaddedRegisters};
 ghost use Rattle.key_wrap.specs.Calls.{block_calls};
 
-use crate::lengths::MAX_KEY;
+use crate::lengths::{MAX_KEY, WORD};
 use block_pair::{BlockPair, Meter};
 use byteorder::{BigEndian, ByteOrder};
-
-// The bytes of a word.
-const WORD: usize = 8;
 
 // The key data in the registers become C1 .. Cn, and the answer is C0 (section 2.2.1).
 pub(crate) fn wrap_slice<B: BlockPair>(meter: &mut Meter<B>, iv: u64, registers: &mut [u8]) -> u64
@@ -59,7 +56,11 @@ pub(crate) fn unwrap_slice<B: BlockPair>(meter: &mut Meter<B>, c0: u64, register
 }
 
 // As `wrap_slice`; one word of key data in one block, with no counter (RFC 5649, section 4.1).
-pub(crate) fn wrap_words<B: BlockPair>(meter: &mut Meter<B>, iv: u64, registers: &mut [u8]) -> u64
+pub(crate) fn wrap_padded_slice<B: BlockPair>(
+    meter: &mut Meter<B>,
+    iv: u64,
+    registers: &mut [u8],
+) -> u64
     requires whole_words { length registers.old % 8 ≡ 0 }
     requires some { 8 ≤ length registers.old }
     requires within { length registers.old ≤ MAX_KEY }
@@ -75,7 +76,11 @@ pub(crate) fn wrap_words<B: BlockPair>(meter: &mut Meter<B>, iv: u64, registers:
 }
 
 // As `unwrap_slice`; one word of key data in one block, with no counter (RFC 5649, section 4.2).
-pub(crate) fn unwrap_words<B: BlockPair>(meter: &mut Meter<B>, c0: u64, registers: &mut [u8]) -> u64
+pub(crate) fn unwrap_padded_slice<B: BlockPair>(
+    meter: &mut Meter<B>,
+    c0: u64,
+    registers: &mut [u8],
+) -> u64
     requires whole_words { length registers.old % 8 ≡ 0 }
     requires some { 8 ≤ length registers.old }
     requires within { length registers.old ≤ MAX_KEY }

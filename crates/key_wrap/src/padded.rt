@@ -1,10 +1,11 @@
 //! The padded form (RFC 5649).
 
-ghost use Rattle.std.specs.Prelude.{◌≡◌, ◌↔◌, ℕ, List, length, Ok, Err, IfOk, OnOk, IsOkUnless};
+ghost use Rattle.std.specs.Prelude.{◌≡◌, ◌↔◌, ℕ, ◌+◌, ◌*◌, List, length, Ok, Err, IfOk, OnOk};
+ghost use Rattle.std.specs.Prelude.{IsOkUnless};
 ghost use Rattle.key_wrap.specs.Lengths.{IsPaddedKeyLength, IsPaddedTextLength};
 ghost use Rattle.key_wrap.specs.Plain.{Plain, default_iv};
-ghost use Rattle.key_wrap.specs.Padded.{Padded};
-ghost use Rattle.key_wrap.specs.Answer.{UnwrapAnswer};
+ghost use Rattle.key_wrap.specs.Padded.{Padded, word_count};
+ghost use Rattle.key_wrap.specs.Answer.{NoPlainKey, UnwrapAnswer, Wrapped, Unwrapped};
 
 use crate::buffers::{key_of, room_for};
 use crate::faults::{UnwrapFault, WrapFault};
@@ -23,21 +24,22 @@ pub fn wrap_padded<B: BlockPair>(alloc: Global, pair: &B, key: &[u8]) -> Result<
     ensures answer { IfOk result (λ text. Padded (B.encrypted pair.now) key.now text.items) }
     ensures only_text { IfOk result (λ text.
         (other : List ℕ) → Padded (B.encrypted pair.now) key.now other → other ≡ text.items) }
+    ensures size { IfOk result (λ text.
+        length text.items ≡ 8 + 8 * word_count (length key.now)) }
+    ensures other_form { IfOk result (λ text.
+        NoPlainKey (B.encrypted pair.now) text.items) }
 {
-    wrap_padded_in(alloc, pair, key)
+    wrap_padded_on(alloc, pair, key)
 }
 
 // `wrap_padded` on any allocator, so that a test can refuse its growth.
-pub(crate) fn wrap_padded_in<A: Allocator, B: BlockPair>(
+pub(crate) fn wrap_padded_on<A: Allocator, B: BlockPair>(
     alloc: A,
     pair: &B,
     key: &[u8],
 ) -> Result<Vec<u8, A>, WrapFault>
-    ensures bad_length { (result ≡ Err WrapFault.BadLength) ↔ ¬ IsPaddedKeyLength (length key.now) }
-    ensures memory { result ≡ Err WrapFault.Memory → IsPaddedKeyLength (length key.now) }
-    ensures answer { IfOk result (λ text. Padded (B.encrypted pair.now) key.now text.items) }
-    ensures only_text { IfOk result (λ text.
-        (other : List ℕ) → Padded (B.encrypted pair.now) key.now other → other ≡ text.items) }
+    ensures { Wrapped (IsPaddedKeyLength (length key.now))
+        (Padded (B.encrypted pair.now) key.now) (NoPlainKey (B.encrypted pair.now)) result }
 {
     if !padded_length_ok(key.len()) {
         return Err(WrapFault::BadLength);
@@ -62,7 +64,7 @@ pub fn unwrap_padded<B: BlockPair>(
     ensures answer { UnwrapAnswer IsPaddedTextLength (Padded (B.encrypted pair.now))
         text.now result }
 
-    // A wrapping is refused for want of memory alone.
+    // A wrapping is refused only where there is no memory.
     ensures accepts { (key : List ℕ) → Padded (B.encrypted pair.now) key text.now
         → IsOkUnless result UnwrapFault.Memory }
     ensures only_key { IfOk result (λ key.
@@ -71,34 +73,23 @@ pub fn unwrap_padded<B: BlockPair>(
     // Wrapping the answer again gives the input.
     ensures restores { IfOk result (λ key.
         (other : List ℕ) → Padded (B.encrypted pair.now) key.items other → other ≡ text.now) }
+    ensures size { IfOk result (λ key.
+        length text.now ≡ 8 + 8 * word_count (length key.items)) }
     ensures other_form { OnOk result (
         (key : List ℕ) → ¬ Plain (B.encrypted pair.now) default_iv key text.now) }
+    ensures other_values { OnOk result (NoPlainKey (B.encrypted pair.now) text.now) }
 {
-    unwrap_padded_in(alloc, pair, text)
+    unwrap_padded_on(alloc, pair, text)
 }
 
 // `unwrap_padded` on any allocator, so that a test can refuse its growth.
-pub(crate) fn unwrap_padded_in<A: Allocator, B: BlockPair>(
+pub(crate) fn unwrap_padded_on<A: Allocator, B: BlockPair>(
     alloc: A,
     pair: &B,
     text: &[u8],
 ) -> Result<Vec<u8, A>, UnwrapFault>
-    ensures bad_length { (result ≡ Err UnwrapFault.BadLength)
-        ↔ ¬ IsPaddedTextLength (length text.now) }
-    ensures answer { UnwrapAnswer IsPaddedTextLength (Padded (B.encrypted pair.now))
-        text.now result }
-
-    // A wrapping is refused for want of memory alone.
-    ensures accepts { (key : List ℕ) → Padded (B.encrypted pair.now) key text.now
-        → IsOkUnless result UnwrapFault.Memory }
-    ensures only_key { IfOk result (λ key.
-        (other : List ℕ) → Padded (B.encrypted pair.now) other text.now → other ≡ key.items) }
-
-    // Wrapping the answer again gives the input.
-    ensures restores { IfOk result (λ key.
-        (other : List ℕ) → Padded (B.encrypted pair.now) key.items other → other ≡ text.now) }
-    ensures other_form { OnOk result (
-        (key : List ℕ) → ¬ Plain (B.encrypted pair.now) default_iv key text.now) }
+    ensures { Unwrapped IsPaddedTextLength (Padded (B.encrypted pair.now))
+        (NoPlainKey (B.encrypted pair.now)) text.now result }
 {
     if !padded_text_length_ok(text.len()) {
         return Err(UnwrapFault::BadLength);

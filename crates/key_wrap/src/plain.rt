@@ -1,10 +1,11 @@
 //! The plain form (RFC 3394, section 2.2).
 
-ghost use Rattle.std.specs.Prelude.{◌≡◌, ◌↔◌, ℕ, List, length, Ok, Err, IfOk, OnOk, IsOkUnless};
+ghost use Rattle.std.specs.Prelude.{◌≡◌, ◌↔◌, ℕ, ◌+◌, List, length, Ok, Err, IfOk, OnOk};
+ghost use Rattle.std.specs.Prelude.{IsOkUnless};
 ghost use Rattle.key_wrap.specs.Lengths.{IsPlainKeyLength, IsPlainTextLength};
 ghost use Rattle.key_wrap.specs.Plain.{Plain, default_iv};
 ghost use Rattle.key_wrap.specs.Padded.{Padded};
-ghost use Rattle.key_wrap.specs.Answer.{UnwrapAnswer};
+ghost use Rattle.key_wrap.specs.Answer.{NoKey, UnwrapAnswer, Wrapped, Unwrapped};
 
 use crate::buffers::{key_of, room_for};
 use crate::faults::{UnwrapFault, WrapFault};
@@ -25,8 +26,10 @@ pub fn wrap<B: BlockPair>(alloc: Global, pair: &B, key: &[u8]) -> Result<Vec<u8>
     ensures only_text { IfOk result (λ text.
         (other : List ℕ) → Plain (B.encrypted pair.now) default_iv key.now other
         → other ≡ text.items) }
+    ensures size { IfOk result (λ text. length text.items ≡ length key.now + 8) }
+    ensures other_form { IfOk result (λ text. NoKey (Padded (B.encrypted pair.now)) text.items) }
 {
-    wrap_in(alloc, pair, &InitialValue::default(), key)
+    wrap_on(alloc, pair, &InitialValue::default(), key)
 }
 
 /// The plain wrapping of `key` under this initial value (RFC 3394, sections 2.2.1 and 2.2.3.2): 8
@@ -45,23 +48,22 @@ pub fn wrap_with<B: BlockPair>(
     ensures only_text { IfOk result (λ text.
         (other : List ℕ) → Plain (B.encrypted pair.now) iv.now key.now other
         → other ≡ text.items) }
+    ensures size { IfOk result (λ text. length text.items ≡ length key.now + 8) }
+    ensures other_form { IfOk result (λ text. NoKey (Padded (B.encrypted pair.now)) text.items) }
 {
-    wrap_in(alloc, pair, iv, key)
+    wrap_on(alloc, pair, iv, key)
 }
 
 // `wrap_with` on any allocator, so that a test can refuse its growth.
-pub(crate) fn wrap_in<A: Allocator, B: BlockPair>(
+pub(crate) fn wrap_on<A: Allocator, B: BlockPair>(
     alloc: A,
     pair: &B,
     iv: &InitialValue,
     key: &[u8],
 ) -> Result<Vec<u8, A>, WrapFault>
-    ensures bad_length { (result ≡ Err WrapFault.BadLength) ↔ ¬ IsPlainKeyLength (length key.now) }
-    ensures memory { result ≡ Err WrapFault.Memory → IsPlainKeyLength (length key.now) }
-    ensures answer { IfOk result (λ text. Plain (B.encrypted pair.now) iv.now key.now text.items) }
-    ensures only_text { IfOk result (λ text.
-        (other : List ℕ) → Plain (B.encrypted pair.now) iv.now key.now other
-        → other ≡ text.items) }
+    ensures { Wrapped (IsPlainKeyLength (length key.now))
+        (Plain (B.encrypted pair.now) iv.now key.now)
+        (NoKey (Padded (B.encrypted pair.now))) result }
 {
     if !key_length_ok(key.len()) {
         return Err(WrapFault::BadLength);
@@ -81,7 +83,7 @@ pub fn unwrap<B: BlockPair>(alloc: Global, pair: &B, text: &[u8]) -> Result<Vec<
     ensures answer { UnwrapAnswer IsPlainTextLength (Plain (B.encrypted pair.now) default_iv)
         text.now result }
 
-    // A wrapping is refused for want of memory alone.
+    // A wrapping is refused only where there is no memory.
     ensures accepts { (key : List ℕ) → Plain (B.encrypted pair.now) default_iv key text.now
         → IsOkUnless result UnwrapFault.Memory }
     ensures only_key { IfOk result (λ key.
@@ -92,10 +94,11 @@ pub fn unwrap<B: BlockPair>(alloc: Global, pair: &B, text: &[u8]) -> Result<Vec<
     ensures restores { IfOk result (λ key.
         (other : List ℕ) → Plain (B.encrypted pair.now) default_iv key.items other
         → other ≡ text.now) }
+    ensures size { IfOk result (λ key. length text.now ≡ length key.items + 8) }
     ensures other_form { OnOk result (
         (key : List ℕ) → ¬ Padded (B.encrypted pair.now) key text.now) }
 {
-    unwrap_in(alloc, pair, &InitialValue::default(), text)
+    unwrap_on(alloc, pair, &InitialValue::default(), text)
 }
 
 /// The key whose plain wrapping under this initial value is `text` (RFC 3394, sections 2.2.2 and
@@ -114,7 +117,7 @@ pub fn unwrap_with<B: BlockPair>(
     ensures answer { UnwrapAnswer IsPlainTextLength (Plain (B.encrypted pair.now) iv.now)
         text.now result }
 
-    // A wrapping is refused for want of memory alone.
+    // A wrapping is refused only where there is no memory.
     ensures accepts { (key : List ℕ) → Plain (B.encrypted pair.now) iv.now key text.now
         → IsOkUnless result UnwrapFault.Memory }
     ensures only_key { IfOk result (λ key.
@@ -125,37 +128,22 @@ pub fn unwrap_with<B: BlockPair>(
     ensures restores { IfOk result (λ key.
         (other : List ℕ) → Plain (B.encrypted pair.now) iv.now key.items other
         → other ≡ text.now) }
+    ensures size { IfOk result (λ key. length text.now ≡ length key.items + 8) }
     ensures other_form { OnOk result (
         (key : List ℕ) → ¬ Padded (B.encrypted pair.now) key text.now) }
 {
-    unwrap_in(alloc, pair, iv, text)
+    unwrap_on(alloc, pair, iv, text)
 }
 
 // `unwrap_with` on any allocator, so that a test can refuse its growth.
-pub(crate) fn unwrap_in<A: Allocator, B: BlockPair>(
+pub(crate) fn unwrap_on<A: Allocator, B: BlockPair>(
     alloc: A,
     pair: &B,
     iv: &InitialValue,
     text: &[u8],
 ) -> Result<Vec<u8, A>, UnwrapFault>
-    ensures bad_length { (result ≡ Err UnwrapFault.BadLength)
-        ↔ ¬ IsPlainTextLength (length text.now) }
-    ensures answer { UnwrapAnswer IsPlainTextLength (Plain (B.encrypted pair.now) iv.now)
-        text.now result }
-
-    // A wrapping is refused for want of memory alone.
-    ensures accepts { (key : List ℕ) → Plain (B.encrypted pair.now) iv.now key text.now
-        → IsOkUnless result UnwrapFault.Memory }
-    ensures only_key { IfOk result (λ key.
-        (other : List ℕ) → Plain (B.encrypted pair.now) iv.now other text.now
-        → other ≡ key.items) }
-
-    // Wrapping the answer again gives the input.
-    ensures restores { IfOk result (λ key.
-        (other : List ℕ) → Plain (B.encrypted pair.now) iv.now key.items other
-        → other ≡ text.now) }
-    ensures other_form { OnOk result (
-        (key : List ℕ) → ¬ Padded (B.encrypted pair.now) key text.now) }
+    ensures { Unwrapped IsPlainTextLength (Plain (B.encrypted pair.now) iv.now)
+        (NoKey (Padded (B.encrypted pair.now))) text.now result }
 {
     if !text_length_ok(text.len()) {
         return Err(UnwrapFault::BadLength);

@@ -3,7 +3,7 @@
 ghost use Rattle.std.specs.Prelude.{◌≡◌, ◌↔◌, ◌⊎◌, ℕ, List, length, Err, IfOk};
 ghost use Rattle.std.specs.Prelude.{IsOkUnless, IsTrue};
 ghost use Rattle.key_wrap.specs.Forms.{StandsIn, IsKeyLength, IsTextLength};
-ghost use Rattle.key_wrap.specs.Rewrap.{AreWrappings, HasBadKey, RewrapAnswer};
+ghost use Rattle.key_wrap.specs.Rewrap.{AreWrappings, HasBadKey, NoOtherForm, RewrapAnswer, Rewrapped};
 
 use crate::faults::UnwrapFault;
 use crate::forms::Form;
@@ -34,7 +34,8 @@ pub fn rewrap<O: BlockPair, N: BlockPair>(
     ensures key_length { HasBadKey old_form (O.encrypted old.now) new_form text.now
         → (result ≡ Err UnwrapFault.BadLength) ⊎ (result ≡ Err UnwrapFault.Memory) }
 
-    // A wrapping whose key has a legal length in the new form is refused for want of memory alone.
+    // A wrapping whose key has a legal length in the new form is refused only where there is no
+    // memory.
     ensures accepts { (key : List ℕ) → StandsIn old_form (O.encrypted old.now) key text.now
         → IsKeyLength new_form (length key) → IsOkUnless result UnwrapFault.Memory }
     ensures memory { result ≡ Err UnwrapFault.Memory → IsTextLength old_form (length text.now) }
@@ -57,12 +58,14 @@ pub fn rewrap<O: BlockPair, N: BlockPair>(
         → AreWrappings new_form (N.encrypted new.now) old_form (O.encrypted old.now)
         answer.items other → other ≡ text.now) }
     ensures size { IfOk result (λ answer. length answer.items ≡ length text.now) }
+    ensures other_form { IfOk result (λ answer.
+        NoOtherForm new_form (N.encrypted new.now) answer.items) }
 {
-    rewrap_in(alloc, old, old_form, new, new_form, text)
+    rewrap_on(alloc, old, old_form, new, new_form, text)
 }
 
 // `rewrap` on any allocator, so that a test can refuse its growth.
-pub(crate) fn rewrap_in<A: Allocator, O: BlockPair, N: BlockPair>(
+pub(crate) fn rewrap_on<A: Allocator, O: BlockPair, N: BlockPair>(
     alloc: A,
     old: &O,
     old_form: Form,
@@ -70,30 +73,10 @@ pub(crate) fn rewrap_in<A: Allocator, O: BlockPair, N: BlockPair>(
     new_form: Form,
     text: &[u8],
 ) -> Result<Vec<u8, A>, UnwrapFault>
-    ensures answer { RewrapAnswer old_form (O.encrypted old.now) new_form (N.encrypted new.now)
+    ensures { Rewrapped old_form (O.encrypted old.now) new_form (N.encrypted new.now)
         text.now result }
-    ensures text_length { ¬ IsTextLength old_form (length text.now)
-        → result ≡ Err UnwrapFault.BadLength }
-    ensures key_length { HasBadKey old_form (O.encrypted old.now) new_form text.now
-        → (result ≡ Err UnwrapFault.BadLength) ⊎ (result ≡ Err UnwrapFault.Memory) }
-    ensures accepts { (key : List ℕ) → StandsIn old_form (O.encrypted old.now) key text.now
-        → IsKeyLength new_form (length key) → IsOkUnless result UnwrapFault.Memory }
-    ensures memory { result ≡ Err UnwrapFault.Memory → IsTextLength old_form (length text.now) }
-    ensures only_answer { IfOk result (λ answer. (other : List ℕ)
-        → AreWrappings old_form (O.encrypted old.now) new_form (N.encrypted new.now) text.now other
-        → other ≡ answer.items) }
-    ensures only_key { IfOk result (λ answer. (key other : List ℕ)
-        → StandsIn old_form (O.encrypted old.now) key text.now
-        → StandsIn old_form (O.encrypted old.now) other text.now → other ≡ key) }
-    ensures same_key { IfOk result (λ answer. (key : List ℕ)
-        → StandsIn new_form (N.encrypted new.now) key answer.items
-        ↔ StandsIn old_form (O.encrypted old.now) key text.now) }
-    ensures restores { IfOk result (λ answer. (other : List ℕ)
-        → AreWrappings new_form (N.encrypted new.now) old_form (O.encrypted old.now)
-        answer.items other → other ≡ text.now) }
-    ensures size { IfOk result (λ answer. length answer.items ≡ length text.now) }
 {
-    if !text_length_in(old_form, text.len()) {
+    if !is_text_length(old_form, text.len()) {
         return Err(UnwrapFault::BadLength);
     }
     let mut buffer = Vec::from_slice(alloc, text)?;
@@ -103,7 +86,7 @@ pub(crate) fn rewrap_in<A: Allocator, O: BlockPair, N: BlockPair>(
 }
 
 // Whether a text of `len` bytes can be a wrapping in this form.
-fn text_length_in(form: Form, len: usize) -> bool
+fn is_text_length(form: Form, len: usize) -> bool
     ensures { IsTrue result ↔ IsTextLength form len }
 {
     match form {

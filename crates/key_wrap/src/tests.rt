@@ -10,7 +10,7 @@ mod memory;
 mod rewraps;
 
 use crate::*;
-use block_pair::SwapHalves;
+use block_pair::{Meter, SwapHalves};
 use byteorder::{BigEndian, ByteOrder};
 use std::alloc::{AllocError, Global};
 use std::test::Fail;
@@ -89,12 +89,12 @@ const UNWORKED: [(Form, &[u64], &str); 11] = [
             0x1122_3344_5566_7780,
             0x9900_0000_0000_0004,
         ],
-        "a padded text",
+        "a padded wrapping",
     ),
     (
         Form::Padded,
         &[IV, 0x0011_2233_4455_667F, 0x8899_AABB_CCDD_EEFB],
-        "a plain text",
+        "a plain wrapping",
     ),
     (Form::Padded, &[0, 0xA659_59A6_0000_0000], "length 0"),
     (
@@ -332,10 +332,58 @@ fn names_the_kind(rt: HostRuntime) -> Result<(), Fail> {
     Ok(())
 }
 
+// With ample memory, also where the text is no wrapping: of 16 bytes, or in the other form alone.
+#[test]
+fn names_the_kind_of_what_is_refused(rt: HostRuntime) -> Result<(), Fail> {
+    for (_, words, what) in UNWORKED {
+        let text = spelled(rt.alloc(), words)?;
+        let mut meter = Meter::new(&SwapHalves);
+        let mut scratch = vec![in rt.alloc(); 0x5A; text.len().saturating_sub(8)]?;
+        let answer = kind(rt.alloc(), &SwapHalves, &text)?;
+        let want = match what {
+            "a padded wrapping" => Kind::Padded(9),
+            "a plain wrapping" => Kind::Plain(16),
+            _ => Kind::Neither,
+        };
+        assert!(rt; answer == want, "{what}");
+        assert!(rt;
+            kind_into(&mut meter, &text, &mut scratch) == Ok(want),
+            "{what}"
+        );
+        assert!(rt; scratch.iter().all(|byte| *byte == 0), "{what}");
+        assert!(rt;
+            meter.count() == if words.len() == 2 { 1 } else { 12 },
+            "{what}"
+        );
+    }
+    Ok(())
+}
+
+// The bytes of a text and of a scratch buffer, which stays as it was.
+#[test]
+fn keeps_the_scratch_buffer(rt: HostRuntime) -> Result<(), Fail> {
+    let mut meter = Meter::new(&SwapHalves);
+    for (len, room, want) in [
+        (0, 8, Ok(Kind::Neither)),
+        (17, 9, Ok(Kind::Neither)),
+        (1_048_592, 0, Ok(Kind::Neither)),
+        (24, 8, Err(BadScratchLength)),
+        (24, 24, Err(BadScratchLength)),
+    ] {
+        let text = vec![in rt.alloc(); 0; len]?;
+        let given = vec![in rt.alloc(); 0x5A; room]?;
+        let mut scratch = vec![in rt.alloc(); 0x5A; room]?;
+        let answer = kind_into(&mut meter, &text, &mut scratch);
+        assert!(rt; answer == want && scratch == given, "{len} bytes");
+    }
+    assert!(rt; meter.count() == 0);
+    Ok(())
+}
+
 #[test]
 fn faults_print_their_cause(rt: HostRuntime) -> Result<(), Fail> {
     let lines = format!(in rt.alloc();
-        "{}; {}; {}; {}; {}; {}; {}; {}",
+        "{}; {}; {}; {}; {}; {}; {}; {}; {}",
         WrapFault::BadLength,
         WrapFault::Memory,
         UnwrapFault::BadLength,
@@ -343,12 +391,13 @@ fn faults_print_their_cause(rt: HostRuntime) -> Result<(), Fail> {
         UnwrapFault::Memory,
         InPlaceFault::BadLength,
         InPlaceFault::Integrity,
-        KindFault::Memory
+        KindFault::Memory,
+        BadScratchLength
     )?;
     assert_eq!(rt;
         lines.as_str(),
         "bad length; out of memory; bad length; integrity check failed; out of memory; bad length; \
-         integrity check failed; out of memory"
+         integrity check failed; out of memory; bad length"
     );
     Ok(())
 }

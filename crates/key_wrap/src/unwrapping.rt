@@ -1,18 +1,22 @@
 //! The checked unwrapping of the registers, wherever they lie: in a buffer behind C0, or in one of
 //! their own.
 
-ghost use Rattle.std.specs.Prelude.{◌≡◌, ◌+◌, ◌++◌, length, take, All, Err, IfOk};
+ghost use Rattle.std.specs.Prelude.{◌≡◌, ◌+◌, ◌*◌, ◌++◌, length, take, All, Err, IfOk};
 ghost use Rattle.block_pair.specs.Metered.{counted};
 ghost use Rattle.key_wrap.specs.Words.{word_bytes};
 ghost use Rattle.key_wrap.specs.Lengths.{IsPlainTextLength, IsPaddedTextLength};
-ghost use Rattle.key_wrap.specs.Plain.{Plain, IsReserved, default_iv};
-ghost use Rattle.key_wrap.specs.Padded.{Padded, padded};
+ghost use Rattle.key_wrap.specs.Plain.{Plain, IsReserved};
+ghost use Rattle.key_wrap.specs.Padded.{Padded, padded, word_count};
+ghost use Rattle.key_wrap.specs.Answer.{NoKey, NoPlainKey};
 ghost use Rattle.key_wrap.specs.Calls.{block_calls};
 ghost use Rattle.key_wrap.specs.InPlace.{Unwrapping};
+ghost use Rattle.key_wrap.specs.Kind.{IsTheKind};
 
-use crate::checks::checked_key_length;
+use crate::checks::{DEFAULT_IV, decide, given_length, padded_difference};
 use crate::faults::InPlaceFault;
-use crate::machine::{unwrap_slice, unwrap_words};
+use crate::forms::Kind;
+use crate::lengths::WORD;
+use crate::machine::{unwrap_padded_slice, unwrap_slice};
 use block_pair::{BlockPair, Meter};
 
 // C1 .. Cn in the registers become the key whose plain wrapping under this initial value they are
@@ -27,15 +31,12 @@ pub(crate) fn unwrap_registers<B: BlockPair>(
     requires free { ¬ IsReserved iv }
     ensures answer { let text = word_bytes c0 ++ registers.old in
         Unwrapping (IsPlainTextLength (length text)) (Plain (B.encrypted meter.old.pair) iv)
-        (Padded (B.encrypted meter.old.pair)) text (λ _. registers.new) result }
+        (NoKey (Padded (B.encrypted meter.old.pair))) text (λ _. registers.new) result }
     ensures cleared { result ≡ Err InPlaceFault.Integrity → All (λ byte. byte ≡ 0) registers.new }
     ensures calls { meter.new ≡ counted (block_calls (8 + length registers.old)) meter.old }
 {
-    if unwrap_slice(meter, c0, registers) == iv {
-        return Ok(());
-    }
-    registers.fill(0);
-    Err(InPlaceFault::Integrity)
+    let found = unwrap_slice(meter, c0, registers);
+    decide(found ^ iv, registers)
 }
 
 // C1 .. Cn in the registers become the key whose padded wrapping they are with C0 (RFC 5649,
@@ -49,16 +50,41 @@ pub(crate) fn unwrap_padded_registers<B: BlockPair>(
     requires { IsPaddedTextLength (8 + length registers.old) }
     ensures answer { let text = word_bytes c0 ++ registers.old in
         Unwrapping (IsPaddedTextLength (length text)) (Padded (B.encrypted meter.old.pair))
-        (Plain (B.encrypted meter.old.pair) default_iv) text (λ m. take m registers.new) result }
+        (NoPlainKey (B.encrypted meter.old.pair)) text (λ m. take m registers.new) result }
     ensures size { IfOk result (λ m. length (take m registers.new) ≡ m) }
+    ensures room { IfOk result (λ m. length registers.new ≡ 8 * word_count m) }
     ensures padding { IfOk result (λ m. registers.new ≡ padded (take m registers.new)) }
     ensures cleared { result ≡ Err InPlaceFault.Integrity → All (λ byte. byte ≡ 0) registers.new }
     ensures calls { meter.new ≡ counted (block_calls (8 + length registers.old)) meter.old }
 {
-    let iv = unwrap_words(meter, c0, registers);
-    if let Some(len) = checked_key_length(iv, registers) {
-        return Ok(len);
-    }
+    let iv = unwrap_padded_slice(meter, c0, registers);
+    decide(padded_difference(iv, registers), registers)?;
+    Ok(given_length(iv) as usize)
+}
+
+// The kind of C0, C1 .. Cn, whose registers become zeros. For two words and more both forms unwrap
+// by the same steps, and one word has a padded wrapping alone: so one unwrapping is enough, and the
+// initial value that it finds tells which form it is.
+pub(crate) fn kind_of_registers<B: BlockPair>(
+    meter: &mut Meter<B>,
+    c0: u64,
+    registers: &mut [u8],
+) -> Kind
+    requires { IsPaddedTextLength (8 + length registers.old) }
+    ensures answer { IsTheKind (B.encrypted meter.old.pair) (word_bytes c0 ++ registers.old) result }
+    ensures cleared { All (λ byte. byte ≡ 0) registers.new }
+    ensures calls { meter.new ≡ counted (block_calls (8 + length registers.old)) meter.old }
+{
+    let iv = unwrap_padded_slice(meter, c0, registers);
+    let padded = padded_difference(iv, registers);
+    let is_plain = decide(iv ^ DEFAULT_IV, registers).is_ok();
+    let is_padded = decide(padded, registers).is_ok();
     registers.fill(0);
-    Err(InPlaceFault::Integrity)
+    if is_plain && registers.len() > WORD {
+        Kind::Plain(registers.len())
+    } else if is_padded {
+        Kind::Padded(given_length(iv) as usize)
+    } else {
+        Kind::Neither
+    }
 }

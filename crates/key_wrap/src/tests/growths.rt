@@ -1,12 +1,11 @@
-//! Heaps of every size: a call takes its memory once, for a buffer of the text's length, and before
-//! the first block. A refused one answers Memory and has given its pair no block.
+//! Heaps of every size: a call takes its memory once, for one buffer, and before the first block. A refused one answers Memory and has given its pair no block.
 
 use super::doubles::Tally;
 use super::initial_values::OTHER;
-use crate::kinds::kind_in;
-use crate::padded::{unwrap_padded_in, wrap_padded_in};
-use crate::plain::{unwrap_in, wrap_in};
-use crate::rewrapping::rewrap_in;
+use crate::kinds::kind_on;
+use crate::padded::{unwrap_padded_on, wrap_padded_on};
+use crate::plain::{unwrap_on, wrap_on};
+use crate::rewrapping::rewrap_on;
 use crate::*;
 use block_pair::SwapHalves;
 use linked_list_allocator::LocalHeap;
@@ -34,12 +33,12 @@ fn wraps_after_one_growth(rt: HostRuntime) -> Result<(), Fail> {
         } else {
             (None, BLOCKS)
         };
-        let answer = wrap_in(&heap, &tally, &iv, &key).err();
+        let answer = wrap_on(&heap, &tally, &iv, &key).err();
         assert!(rt;
             answer == fault && tally.take() == blocks,
             "a heap of {size} bytes"
         );
-        let answer = wrap_padded_in(&heap, &tally, &key).err();
+        let answer = wrap_padded_on(&heap, &tally, &key).err();
         assert!(rt;
             answer == fault && tally.take() == blocks,
             "a heap of {size} bytes, padded"
@@ -62,12 +61,12 @@ fn unwraps_after_one_growth(rt: HostRuntime) -> Result<(), Fail> {
         } else {
             (None, BLOCKS)
         };
-        let answer = unwrap_in(&heap, &tally, &iv, &plain).err();
+        let answer = unwrap_on(&heap, &tally, &iv, &plain).err();
         assert!(rt;
             answer == fault && tally.take() == blocks,
             "a heap of {size} bytes"
         );
-        let answer = unwrap_padded_in(&heap, &tally, &padded).err();
+        let answer = unwrap_padded_on(&heap, &tally, &padded).err();
         assert!(rt;
             answer == fault && tally.take() == blocks,
             "a heap of {size} bytes, padded"
@@ -89,7 +88,7 @@ fn rewraps_after_one_growth(rt: HostRuntime) -> Result<(), Fail> {
         } else {
             (None, BLOCKS)
         };
-        let answer = rewrap_in(&heap, &old, Form::Plain, &new, Form::Padded, &plain).err();
+        let answer = rewrap_on(&heap, &old, Form::Plain, &new, Form::Padded, &plain).err();
         assert!(rt; answer == fault, "a heap of {size} bytes");
         assert!(rt;
             old.take() == blocks && new.take() == blocks,
@@ -99,28 +98,107 @@ fn rewraps_after_one_growth(rt: HostRuntime) -> Result<(), Fail> {
     Ok(())
 }
 
-// It unwraps in the plain form, and where that is refused in the padded form, in the same memory.
+// One unwrapping is enough for both forms.
 #[test]
-fn names_the_kind_after_its_growths(rt: HostRuntime) -> Result<(), Fail> {
+fn names_the_kind_after_one_growth(rt: HostRuntime) -> Result<(), Fail> {
     let key = vec![in rt.alloc(); 0x5A; KEY]?;
     let plain = wrap(rt.alloc(), &SwapHalves, &key)?;
     let padded = wrap_padded(rt.alloc(), &SwapHalves, &key)?;
     let tally = Tally::new();
-    for size in (0..TEXT).step_by(STEP) {
+    for size in (0..=TEXT).step_by(STEP) {
         let heap = LocalHeap::new(rt.alloc(), size)?;
-        let plain_kind = kind_in(&heap, &tally, &plain);
-        let padded_kind = kind_in(&heap, &tally, &padded);
-        assert!(rt;
-            plain_kind == Err(KindFault::Memory) && padded_kind == plain_kind,
-            "{size} bytes"
-        );
-        assert!(rt; tally.take() == 0, "{size} bytes");
+        for (text, kind) in [(&plain, Kind::Plain(KEY)), (&padded, Kind::Padded(KEY))] {
+            let (want, blocks) = if size < TEXT {
+                (Err(KindFault::Memory), 0)
+            } else {
+                (Ok(kind), BLOCKS)
+            };
+            let answer = kind_on(&heap, &tally, text);
+            assert!(rt;
+                answer == want && tally.take() == blocks,
+                "a heap of {size} bytes, {kind:?}"
+            );
+        }
     }
-    let heap = LocalHeap::new(rt.alloc(), TEXT)?;
-    assert!(rt; kind_in(&heap, &tally, &plain) == Ok(Kind::Plain(KEY)));
-    assert!(rt; tally.take() == BLOCKS);
-    assert!(rt; kind_in(&heap, &tally, &padded) == Ok(Kind::Padded(KEY)));
-    assert!(rt; tally.take() == 2 * BLOCKS);
+    Ok(())
+}
+
+// The bytes of a key, and the block calls for it in either direction. The shortest two have no
+// plain wrapping.
+const ASKED: [(usize, u64); 5] = [(1, 1), (8, 1), (16, 12), (24, 18), (KEY, BLOCKS)];
+
+const FORMS: [Form; 2] = [Form::Plain, Form::Padded];
+
+#[test]
+fn asks_the_pair_once_a_block(rt: HostRuntime) -> Result<(), Fail> {
+    let alloc = rt.alloc();
+    let (tally, new) = (Tally::new(), Tally::new());
+    for (len, calls) in ASKED {
+        let key = vec![in alloc; 0x5A; len]?;
+        for form in FORMS {
+            if len < 16 && form == Form::Plain {
+                continue;
+            }
+            let text = match form {
+                Form::Plain => wrap(alloc, &tally, &key)?,
+                Form::Padded => wrap_padded(alloc, &tally, &key)?,
+            };
+            assert!(rt; tally.take() == calls, "wraps {len} bytes, {form:?}");
+            let back = match form {
+                Form::Plain => unwrap(alloc, &tally, &text)?,
+                Form::Padded => unwrap_padded(alloc, &tally, &text)?,
+            };
+            assert!(rt;
+                back == key && tally.take() == calls,
+                "unwraps {len} bytes, {form:?}"
+            );
+            for new_form in FORMS {
+                let answer = rewrap(alloc, &tally, form, &new, new_form, &text).err();
+                let (fault, wraps) = if len < 16 && new_form == Form::Plain {
+                    (Some(UnwrapFault::BadLength), 0)
+                } else {
+                    (None, calls)
+                };
+                assert!(rt; answer == fault, "{len} bytes, {form:?} to {new_form:?}");
+                assert!(rt;
+                    tally.take() == calls && new.take() == wraps,
+                    "{len} bytes, {form:?} to {new_form:?}"
+                );
+            }
+        }
+    }
+    Ok(())
+}
+
+// Zeros are a wrapping in neither form.
+#[test]
+fn asks_the_pair_as_often_where_it_refuses(rt: HostRuntime) -> Result<(), Fail> {
+    let alloc = rt.alloc();
+    let (tally, new) = (Tally::new(), Tally::new());
+    let refused = Some(UnwrapFault::Integrity);
+    for (len, calls) in ASKED {
+        let text = vec![in alloc; 0; 8 + len.next_multiple_of(8)]?;
+        assert!(rt;
+            unwrap_padded(alloc, &tally, &text).err() == refused,
+            "{len} bytes"
+        );
+        assert!(rt; tally.take() == calls, "{len} bytes");
+        assert!(rt;
+            kind(alloc, &tally, &text) == Ok(Kind::Neither),
+            "{len} bytes"
+        );
+        assert!(rt; tally.take() == calls, "{len} bytes");
+        let answer = rewrap(alloc, &tally, Form::Padded, &new, Form::Padded, &text).err();
+        assert!(rt; answer == refused, "{len} bytes");
+        assert!(rt; tally.take() == calls && new.take() == 0, "{len} bytes");
+        if len >= 16 {
+            assert!(rt;
+                unwrap(alloc, &tally, &text).err() == refused,
+                "{len} bytes"
+            );
+            assert!(rt; tally.take() == calls, "{len} bytes");
+        }
+    }
     Ok(())
 }
 
@@ -130,12 +208,12 @@ fn takes_no_memory_at_an_illegal_length(rt: HostRuntime) -> Result<(), Fail> {
     let iv = InitialValue::default();
     let tally = Tally::new();
     let bytes = [0x5A; 25];
-    assert!(rt; wrap_in(&heap, &tally, &iv, &bytes).err() == Some(WrapFault::BadLength));
-    assert!(rt; unwrap_in(&heap, &tally, &iv, &bytes).err() == Some(UnwrapFault::BadLength));
-    assert!(rt; wrap_padded_in(&heap, &tally, &[]).err() == Some(WrapFault::BadLength));
-    assert!(rt; unwrap_padded_in(&heap, &tally, &bytes).err() == Some(UnwrapFault::BadLength));
-    assert!(rt; kind_in(&heap, &tally, &bytes) == Ok(Kind::Neither));
-    let answer = rewrap_in(&heap, &tally, Form::Plain, &tally, Form::Plain, &bytes).err();
+    assert!(rt; wrap_on(&heap, &tally, &iv, &bytes).err() == Some(WrapFault::BadLength));
+    assert!(rt; unwrap_on(&heap, &tally, &iv, &bytes).err() == Some(UnwrapFault::BadLength));
+    assert!(rt; wrap_padded_on(&heap, &tally, &[]).err() == Some(WrapFault::BadLength));
+    assert!(rt; unwrap_padded_on(&heap, &tally, &bytes).err() == Some(UnwrapFault::BadLength));
+    assert!(rt; kind_on(&heap, &tally, &bytes) == Ok(Kind::Neither));
+    let answer = rewrap_on(&heap, &tally, Form::Plain, &tally, Form::Plain, &bytes).err();
     assert!(rt; answer == Some(UnwrapFault::BadLength));
     assert!(rt; tally.take() == 0);
     Ok(())

@@ -1,5 +1,6 @@
 //! Initial values other than the default, over the drill block.
 
+use super::memory::FAR;
 use crate::*;
 use block_pair::{Meter, SwapHalves};
 use std::test::Fail;
@@ -9,7 +10,7 @@ pub const OTHER: [u8; 8] = *b"\x01\x23\x45\x67\x89\xAB\xCD\xEF";
 
 const KEY: [u8; 16] = *b"\x00\x11\x22\x33\x44\x55\x66\x77\x88\x99\xAA\xBB\xCC\xDD\xEE\xFF";
 
-// The plain text of the key under this value.
+// The plain wrapping of the key under this value.
 const TEXT: [u8; 24] = *b"\x01\x23\x45\x67\x89\xAB\xCD\xEF\
     \x00\x11\x22\x33\x44\x55\x66\x7F\x88\x99\xAA\xBB\xCC\xDD\xEE\xFB";
 
@@ -62,13 +63,37 @@ fn wraps_under_another_initial_value_into_a_buffer(rt: HostRuntime) -> Result<()
     Ok(())
 }
 
-// Each legal length to 4,104 bytes, and the largest.
+// The values at the edges: the smallest, the largest, the top bit alone, and the neighbours of the
+// reserved ones. In the text of two words the value comes first, and the rest does not hang on it.
+#[test]
+fn wraps_under_the_values_at_the_edges(rt: HostRuntime) -> Result<(), Fail> {
+    let alloc = rt.alloc();
+    for bytes in [
+        [0; 8],
+        [0xFF; 8],
+        *b"\x80\0\0\0\0\0\0\0",
+        *b"\xA6\x59\x59\xA5\xFF\xFF\xFF\xFF",
+        *b"\xA6\x59\x59\xA7\0\0\0\0",
+    ] {
+        let iv = InitialValue::new(bytes)?;
+        let mut want = TEXT;
+        want[..8].copy_from_slice(&bytes);
+        let text = wrap_with(alloc, &SwapHalves, &iv, &KEY)?;
+        assert!(rt; text.as_slice() == want.as_slice(), "{bytes:?}");
+        let key = unwrap_with(alloc, &SwapHalves, &iv, &text)?;
+        assert!(rt; key.as_slice() == KEY.as_slice(), "{bytes:?}");
+    }
+    Ok(())
+}
+
+// Each legal length to 4,104 bytes, those around the powers of two, and some fixed ones.
 #[test]
 fn gives_up_for_memory_at_no_length_under_another_value(rt: HostRuntime) -> Result<(), Fail> {
     let alloc = rt.alloc();
     let iv = InitialValue::new(OTHER)?;
     let key = vec![in alloc; 0x5A; MAX_KEY]?;
-    for len in (16..=4_104).step_by(8).chain([MAX_KEY]) {
+    for len in (16..=4_104).step_by(8).chain(FAR) {
+        let len = len / 8 * 8;
         let key = key.get(..len).unwrap_or(&[]);
         let text = wrap_with(alloc, &SwapHalves, &iv, key)?;
         let again = unwrap_with(alloc, &SwapHalves, &iv, &text)?;

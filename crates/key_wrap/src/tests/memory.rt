@@ -17,6 +17,13 @@ enum Content {
     Random,
 }
 
+/// Lengths beyond 4,105 bytes: around the powers of two, some fixed odd ones, and the largest.
+pub const FAR: [usize; 28] = [
+    8_191, 8_192, 8_193, 16_383, 16_384, 16_385, 32_767, 32_768, 32_769, 65_535, 65_536, 65_537,
+    131_071, 131_072, 131_073, 262_143, 262_144, 262_145, 524_287, 524_288, 524_289, 5_003, 70_001,
+    100_003, 777_777, 1_000_001, 1_048_575, MAX_KEY,
+];
+
 // A pseudo-random byte is the upper one of a number that starts at 1 and is multiplied by the one
 // and increased by the other before each byte.
 const MULTIPLIER: u64 = 6_364_136_223_846_793_005;
@@ -100,10 +107,14 @@ fn gives_up_for_memory_at_no_length_of_a_rewrapping(rt: HostRuntime) -> Result<(
             rewraps_in_its_forms(&rt, rt.alloc(), key.get(..len).unwrap_or(&[]))?;
         }
     }
-    rewraps_in_its_forms(&rt, rt.alloc(), &key)
+    for len in FAR {
+        rewraps_in_its_forms(&rt, rt.alloc(), key.get(..len).unwrap_or(&[]))?;
+    }
+    Ok(())
 }
 
-// Every length to 520 bytes, every multiple of 8 with its neighbours to 4,105, and the largest.
+// Every length to 520 bytes, every multiple of 8 with its neighbours to 4,105, and
+// the lengths beyond.
 #[test]
 fn gives_up_for_memory_at_no_length_or_content(rt: HostRuntime) -> Result<(), Fail> {
     for content in [
@@ -118,7 +129,9 @@ fn gives_up_for_memory_at_no_length_or_content(rt: HostRuntime) -> Result<(), Fa
                 goes_in_its_forms(&rt, rt.alloc(), key.get(..len).unwrap_or(&[]))?;
             }
         }
-        goes_in_its_forms(&rt, rt.alloc(), &key)?;
+        for len in FAR {
+            goes_in_its_forms(&rt, rt.alloc(), key.get(..len).unwrap_or(&[]))?;
+        }
     }
     Ok(())
 }

@@ -1,5 +1,5 @@
 -- The machine was given the text, and leaves the padded key behind eight zeros, or zeros alone.
-use Rattle.std.proofs.Common.{rules, ◌≡◌, ℕ, List, take, replicate, All, ◌++◌, arith, sym, ap, subst, ◌∙◌}
+use Rattle.std.proofs.Common.{rules, ◌≡◌, ℕ, List, length, ◌-◌, take, replicate, All, ◌++◌, arith, sym, ap, subst, ◌∙◌}
 use Rattle.std.proofs.lemmas.Result.{IfOk-weaker}
 use Rattle.std.proofs.lemmas.List.Elements.{All-append, All-replicate}
 use Rattle.block_pair.specs.Metered.{counted}
@@ -11,7 +11,7 @@ use Rattle.key_wrap.specs.InPlace.{key_in}
 use Rattle.key_wrap.proofs.Spelling.{read_word, each_byte}
 use Rattle.key_wrap.proofs.FormLengths.{padded_text_legal}
 use Rattle.key_wrap.proofs.InPlaceForm.{first_cleared}
-use Rattle.key_wrap.proofs.Unwrappings.{renamed}
+use Rattle.key_wrap.proofs.Unwrappings.{renamed, default_among}
 use Rattle.key_wrap.proofs.in_place.unwrap_padded_in_place.Goals as goal
 
 pub returns-then-not-padded_text_length_ok-clause-accepts : goal.returns-then-not-padded_text_length_ok-clause-accepts
@@ -31,6 +31,7 @@ returns g c =
     let states = first_cleared c.read_u64-c0.result text c.fill.new.self registers (omega arith) front (c.fill.ensures.after (λ y e. e)) (search rules) in
     let u = renamed IsPaddedTextLength {key = λ (m : ℕ). take m registers} states.given
     (ap (λ (bs : List ℕ). λ (m : ℕ). key_in m bs) (sym states.left)) w.answer in
+    let size : length registers ≡ length text - 8 = search rules in
     record {
       bad_length = u.bad_length;
       buffer_kept = λ e. absurd (u.bad_length.0 e legal);
@@ -39,8 +40,10 @@ returns g c =
       accepts = u.accepts;
       only_key = u.only_key;
       restores = u.restores;
-      other_form = u.other_form;
+      other_form = default_among (g.B.BlockPair.encrypted c.args.meter.now.pair) text c.unwrap_padded_registers.result u.other_form;
+      other_values = u.other_form;
       size = rw states.left w.size;
+      room = IfOk-weaker c.unwrap_padded_registers.result _ _ (λ m e. omega (arith, e, size)) w.room;
       around = IfOk-weaker _ (λ m. registers ≡ padded (take m registers)) _
           (λ m e. rw states.left (ap (λ (bs : List ℕ). replicate 8 0 ++ bs) e)) w.padding;
       cleared = λ e. subst (λ (bs : List ℕ). All (λ byte. byte ≡ 0) bs) (sym states.left)

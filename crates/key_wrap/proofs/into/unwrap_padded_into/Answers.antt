@@ -1,5 +1,6 @@
 -- The machine was given the text: its first word, and the rest copied into the buffer for the key.
 use Rattle.std.proofs.Common.{rules, ◌≡◌, ℕ, List, length, take, ◌+◌, arith, refl, ap, ◌∙◌, length-append}
+use Rattle.std.proofs.lemmas.Result.{IfOk-weaker}
 use Rattle.block_pair.specs.Metered.{counted}
 use Rattle.key_wrap.specs.Words.{word_bytes}
 use Rattle.key_wrap.specs.Lengths.{IsPaddedTextLength}
@@ -7,7 +8,7 @@ use Rattle.key_wrap.specs.Calls.{block_calls}
 use Rattle.key_wrap.specs.InPlace.{ArePaddedLengths}
 use Rattle.key_wrap.proofs.Spelling.{read_word, each_byte, length-word_bytes}
 use Rattle.key_wrap.proofs.InPlaceForm.{text_again}
-use Rattle.key_wrap.proofs.Unwrappings.{renamed, legally, ok_unless}
+use Rattle.key_wrap.proofs.Unwrappings.{renamed, legally, ok_unless, default_among}
 use Rattle.key_wrap.proofs.into.unwrap_padded_into.Goals as goal
 
 pub returns : goal.returns
@@ -22,6 +23,7 @@ returns g c =
     let size : 8 + length c.copy_from_slice.new.self ≡ length text =
     omega (arith, ap length whole, length-append (word_bytes A) c.copy_from_slice.new.self, length-word_bytes A) in
     let u = legally legal lengths (renamed IsPaddedTextLength whole refl w.answer) in
+    let kept : 8 + length c.unwrap_padded_registers.new.registers ≡ length text = search rules in
     record {
       bad_length = u.bad_length;
       key_kept = λ e. absurd (u.bad_length.0 e lengths);
@@ -30,8 +32,10 @@ returns g c =
       accepts = λ other k. ok_unless c.unwrap_padded_registers.result (u.accepts other k);
       only_key = u.only_key;
       restores = u.restores;
-      other_form = u.other_form;
+      other_form = default_among (g.B.BlockPair.encrypted c.args.meter.now.pair) text c.unwrap_padded_registers.result u.other_form;
+      other_values = u.other_form;
       size = w.size;
+      room = IfOk-weaker c.unwrap_padded_registers.result _ _ (λ m e. omega (arith, e, kept)) w.room;
       behind = w.padding;
       cleared = w.cleared;
       calls = λ _. w.calls ∙ ap (λ (len : ℕ). counted (block_calls len) c.args.meter.now) size;

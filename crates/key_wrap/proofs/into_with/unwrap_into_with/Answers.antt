@@ -30,6 +30,7 @@ returns g c =
       accepts = λ other k. ok_unless c.unwrap_registers.result (u.accepts other k);
       only_key = u.only_key;
       restores = u.restores;
+      size = search rules;
       other_form = u.other_form;
       cleared = w.cleared;
       calls = λ _. w.calls ∙ ap (λ (len : ℕ). counted (block_calls len) c.args.meter.now) size;

@@ -20,5 +20,6 @@ returns g c =
       meter_kept = search rules;
       answer = stands;
       only_text = λ other k. plain_only_text stands k;
+      size = search rules;
       calls = search rules;
     }

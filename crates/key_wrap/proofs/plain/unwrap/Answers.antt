@@ -1,14 +1,21 @@
--- The initial value is the default.
+-- The initial value is the default, and a wrapping is a word longer than its key data.
+use Rattle.std.proofs.lemmas.Result.{IfOk-weaker}
+use Rattle.key_wrap.specs.Lengths.{IsPlainTextLength}
+use Rattle.key_wrap.specs.Plain.{Plain, default_iv}
+use Rattle.key_wrap.proofs.FormLengths.{plain_text_length}
+use Rattle.key_wrap.proofs.Unwrappings.{answered}
 use Rattle.key_wrap.proofs.plain.unwrap.Goals as goal
 
-pub returns-clause-answer : goal.returns-clause-answer
-returns-clause-answer g c = rw c.default.ensures at c.unwrap_in.ensures.answer
-
-pub returns-clause-accepts : goal.returns-clause-accepts
-returns-clause-accepts g c = rw c.default.ensures at c.unwrap_in.ensures.accepts
-
-pub returns-clause-only_key : goal.returns-clause-only_key
-returns-clause-only_key g c = rw c.default.ensures at c.unwrap_in.ensures.only_key
-
-pub returns-clause-restores : goal.returns-clause-restores
-returns-clause-restores g c = rw c.default.ensures at c.unwrap_in.ensures.restores
+pub returns : goal.returns
+returns g c =
+    let w = rw c.default.ensures at c.unwrap_on.ensures in
+    let stands = answered IsPlainTextLength (Plain (g.B.BlockPair.encrypted c.args.pair.now) default_iv) c.args.text.now c.unwrap_on.result w.unwraps in
+    record {
+      bad_length = w.bad_length;
+      answer = w.unwraps;
+      accepts = w.accepts;
+      only_key = w.only_key;
+      restores = w.restores;
+      size = IfOk-weaker c.unwrap_on.result _ _ (λ key h. plain_text_length h) stands;
+      other_form = w.other_form;
+    }

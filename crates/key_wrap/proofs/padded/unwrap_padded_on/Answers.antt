@@ -3,36 +3,36 @@ use Rattle.std.proofs.Common.{rules, ◌≡◌, ℕ, List, length, arith, ap, �
 use Rattle.key_wrap.specs.Lengths.{IsPaddedTextLength}
 use Rattle.key_wrap.specs.Padded.{Padded}
 use Rattle.key_wrap.specs.InPlace.{key_in}
+use Rattle.key_wrap.specs.Answer.{NoPlainKey}
 use Rattle.key_wrap.proofs.FormLengths.{padded_text_legal}
 use Rattle.key_wrap.proofs.PlainForm.{written_back}
 use Rattle.key_wrap.proofs.Unwrappings.{refused}
-use Rattle.key_wrap.proofs.padded.unwrap_padded_in.Goals as goal
+use Rattle.key_wrap.proofs.Promises.{unwrap_refused, unwrap_unserved, unwrap_none}
+use Rattle.key_wrap.proofs.padded.unwrap_padded_on.Goals as goal
 
-pub returns-then-not-padded_text_length_ok-clause-accepts : goal.returns-then-not-padded_text_length_ok-clause-accepts
-returns-then-not-padded_text_length_ok-clause-accepts g c = λ key h.
-    let inv = g.met.B.BlockPair.lawful c.args.pair.now in
-    let legal = c.padded_text_length_ok.ensures.1 (padded_text_legal inv h) in
-    cc
+pub returns-then-not-padded_text_length_ok : goal.returns-then-not-padded_text_length_ok
+returns-then-not-padded_text_length_ok g c =
+    let E = g.B.BlockPair.encrypted c.args.pair.now in
+    unwrap_refused IsPaddedTextLength (Padded E) (NoPlainKey E) c.args.text.now
+    (λ key h. padded_text_legal (g.met.B.BlockPair.lawful c.args.pair.now) h) (search rules)
+
+pub returns-in_err-buffer : goal.returns-in_err-buffer
+returns-in_err-buffer g c =
+    let E = g.B.BlockPair.encrypted c.args.pair.now in
+    unwrap_unserved IsPaddedTextLength (Padded E) (NoPlainKey E) c.args.text.now c.from_residual.result (search rules)
+    c.from_residual.ensures
 
 pub returns-in_err-len : goal.returns-in_err-len
 returns-in_err-len g c =
-    let text : List ℕ = c.args.text.now in
+    let E = g.B.BlockPair.encrypted c.args.pair.now in
     let legal = c.padded_text_length_ok.ensures.0 c.if-not-padded_text_length_ok.false in
-    let same : c.deref_mut.result.now ≡ text = c.deref_mut.ensures.value ∙ c.in_ok-buffer.ensures.items in
+    let same : c.deref_mut.result.now ≡ c.args.text.now = c.deref_mut.ensures.value ∙ c.in_ok-buffer.ensures.items in
     let own = ap (λ m. m.pair) c.new.ensures in
     let given : List ℕ = c.deref_mut.result.now in
     let w = refused (Padded (g.B.BlockPair.encrypted c.new.result.pair)) (IsPaddedTextLength (length given))
-    (λ (m : ℕ). key_in m c.unwrap_padded_in_place.new.buf) given
-    c.in_err-len.field-0.0 c.from_residual-in_err-len.result (rw same legal) c.in_err-len.ensures.answer c.from_residual-in_err-len.ensures in
-    let none = rw (own, same) at w.1 in
-    record {
-      bad_length = rw w.0 (search rules);
-      answer = rw w.0 (legal, none);
-      accepts = λ key h. absurd (none key h);
-      only_key = rw w.0 (search rules);
-      restores = rw w.0 (search rules);
-      other_form = rw w.0 (search rules);
-    }
+    (λ (m : ℕ). key_in m c.unwrap_padded_in_place.new.buf) given c.in_err-len.field-0.0 c.from_residual-in_err-len.result (rw same legal)
+    c.in_err-len.ensures.answer c.from_residual-in_err-len.ensures in
+    unwrap_none IsPaddedTextLength (Padded E) (NoPlainKey E) c.args.text.now c.from_residual-in_err-len.result legal w.0 (rw (own, same) at w.1)
 
 pub returns : goal.returns
 returns g c =
@@ -47,9 +47,9 @@ returns g c =
     let w = rw (own, same) at c.in_ok-len.ensures in
     record {
       bad_length = search rules;
-      answer = (legal, rw key w.answer.1);
+      unwraps = (legal, rw key w.answer.1);
       accepts = search rules;
       only_key = rw key w.only_key;
       restores = rw key w.restores;
-      other_form = w.other_form;
+      other_form = w.other_values;
     }

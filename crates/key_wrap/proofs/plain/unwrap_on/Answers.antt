@@ -3,34 +3,37 @@ use Rattle.std.proofs.Common.{rules, ◌≡◌, ℕ, List, length, take, drop, �
 use Rattle.std.proofs.lemmas.List.{take_all}
 use Rattle.key_wrap.specs.Lengths.{IsPlainTextLength}
 use Rattle.key_wrap.specs.Plain.{Plain}
+use Rattle.key_wrap.specs.Padded.{Padded}
+use Rattle.key_wrap.specs.Answer.{NoKey}
 use Rattle.key_wrap.proofs.FormLengths.{plain_text_legal}
 use Rattle.key_wrap.proofs.PlainForm.{written_back}
 use Rattle.key_wrap.proofs.Unwrappings.{refused}
-use Rattle.key_wrap.proofs.plain.unwrap_in.Goals as goal
+use Rattle.key_wrap.proofs.Promises.{unwrap_refused, unwrap_unserved, unwrap_none}
+use Rattle.key_wrap.proofs.plain.unwrap_on.Goals as goal
 
-pub returns-then-not-text_length_ok-clause-accepts : goal.returns-then-not-text_length_ok-clause-accepts
-returns-then-not-text_length_ok-clause-accepts g c = λ key h. let legal = c.text_length_ok.ensures.1 (plain_text_legal h) in cc
+pub returns-then-not-text_length_ok : goal.returns-then-not-text_length_ok
+returns-then-not-text_length_ok g c =
+    let E = g.B.BlockPair.encrypted c.args.pair.now in
+    unwrap_refused IsPlainTextLength (Plain E c.args.iv.now) (NoKey (Padded E)) c.args.text.now (λ key h. plain_text_legal h) (search rules)
+
+pub returns-in_err-buffer : goal.returns-in_err-buffer
+returns-in_err-buffer g c =
+    let E = g.B.BlockPair.encrypted c.args.pair.now in
+    unwrap_unserved IsPlainTextLength (Plain E c.args.iv.now) (NoKey (Padded E)) c.args.text.now c.from_residual.result (search rules)
+    c.from_residual.ensures
 
 pub returns-in_err-unwrap_buffer : goal.returns-in_err-unwrap_buffer
 returns-in_err-unwrap_buffer g c =
-    let text : List ℕ = c.args.text.now in
+    let E = g.B.BlockPair.encrypted c.args.pair.now in
     let legal = c.text_length_ok.ensures.0 c.if-not-text_length_ok.false in
-    let same : c.deref_mut.result.now ≡ text = c.deref_mut.ensures.value ∙ c.in_ok-buffer.ensures.items in
+    let same : c.deref_mut.result.now ≡ c.args.text.now = c.deref_mut.ensures.value ∙ c.in_ok-buffer.ensures.items in
     let own = ap (λ m. m.pair) c.new.ensures in
     let given : List ℕ = c.deref_mut.result.now in
     let w = refused (Plain (g.B.BlockPair.encrypted c.new.result.pair) c.word.result) (IsPlainTextLength (length given))
     (λ (_ : Unit {0}). drop 8 c.unwrap_buffer.new.buf) given c.in_err-unwrap_buffer.field-0.0 c.from_residual-in_err-unwrap_buffer.result (rw same legal)
-    c.in_err-unwrap_buffer.ensures.answer.unwraps
-    c.from_residual-in_err-unwrap_buffer.ensures in
-    let none = rw (own, same, c.word.ensures.value) at w.1 in
-    record {
-      bad_length = rw w.0 (search rules);
-      answer = rw w.0 (legal, none);
-      accepts = λ key h. absurd (none key h);
-      only_key = rw w.0 (search rules);
-      restores = rw w.0 (search rules);
-      other_form = rw w.0 (search rules);
-    }
+    c.in_err-unwrap_buffer.ensures.answer.unwraps c.from_residual-in_err-unwrap_buffer.ensures in
+    unwrap_none IsPlainTextLength (Plain E c.args.iv.now) (NoKey (Padded E)) c.args.text.now c.from_residual-in_err-unwrap_buffer.result legal w.0
+    (rw (own, same, c.word.ensures.value) at w.1)
 
 pub returns : goal.returns
 returns g c =
@@ -47,7 +50,7 @@ returns g c =
     let w = rw (own, same, c.word.ensures.value) at c.in_ok-unwrap_buffer.ensures.answer in
     record {
       bad_length = search rules;
-      answer = (legal, rw key w.unwraps.1);
+      unwraps = (legal, rw key w.unwraps.1);
       accepts = search rules;
       only_key = rw key w.only_key;
       restores = rw key w.restores;

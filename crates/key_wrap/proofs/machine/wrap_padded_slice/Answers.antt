@@ -5,7 +5,7 @@ use Rattle.key_wrap.specs.Words.{word_bytes}
 use Rattle.key_wrap.proofs.Spelling.{each_byte, length-word_bytes}
 use Rattle.key_wrap.proofs.Registering.{word_register}
 use Rattle.key_wrap.proofs.PaddedForm.{one_block, many_registers}
-use Rattle.key_wrap.proofs.machine.wrap_words.Goals as goal
+use Rattle.key_wrap.proofs.machine.wrap_padded_slice.Goals as goal
 
 pub returns-then-registers-gt-WORD-clause-wrapped : goal.returns-then-registers-gt-WORD-clause-wrapped
 returns-then-registers-gt-WORD-clause-wrapped g c =

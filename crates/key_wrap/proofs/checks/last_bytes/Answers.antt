@@ -1,0 +1,6 @@
+-- The mask has as many bytes as are asked for.
+use Rattle.key_wrap.proofs.Differences.{low_mask}
+use Rattle.key_wrap.proofs.checks.last_bytes.Goals as goal
+
+pub returns : goal.returns
+returns c = low_mask c.args.word c.args.count c.requires

@@ -1,0 +1,49 @@
+-- The buffer holds the text, so what the call in it promises of the text is what is promised here.
+use Rattle.std.proofs.Common.{rules, ◌≡◌, ℕ, List, length, arith, ap, ◌∙◌, inr}
+use Rattle.key_wrap.proofs.PlainForm.{written_back}
+use Rattle.key_wrap.proofs.Rewraps.{text_legal, other_form, rewrap_refused, rewrap_unserved, refused_rewrap}
+use Rattle.key_wrap.proofs.rewrapping.rewrap_on.Goals as goal
+
+pub returns-then-not-is_text_length : goal.returns-then-not-is_text_length
+returns-then-not-is_text_length g c =
+    rewrap_refused c.args.old_form (g.O.BlockPair.encrypted c.args.old.now) c.args.new_form (g.N.BlockPair.encrypted c.args.new.now) c.args.text.now
+    (g.met.O.BlockPair.lawful c.args.old.now) (search rules)
+
+pub returns-in_err-buffer : goal.returns-in_err-buffer
+returns-in_err-buffer g c =
+    rewrap_unserved c.args.old_form (g.O.BlockPair.encrypted c.args.old.now) c.args.new_form (g.N.BlockPair.encrypted c.args.new.now) c.args.text.now
+    c.from_residual.result (search rules) c.from_residual.ensures
+
+pub returns-in_err-rewrap_in_place : goal.returns-in_err-rewrap_in_place
+returns-in_err-rewrap_in_place g c =
+    let legal = c.is_text_length.ensures.0 c.if-not-is_text_length.false in
+    let same : c.deref_mut.result.now ≡ c.args.text.now = c.deref_mut.ensures.value ∙ c.in_ok-buffer.ensures.items in
+    let own = ap (λ m. m.pair) c.new-unwraps.ensures in
+    let w = rw (own, same) at c.in_err-rewrap_in_place.ensures in
+    refused_rewrap c.args.old_form (g.O.BlockPair.encrypted c.args.old.now) c.args.new_form (g.N.BlockPair.encrypted c.args.new.now) c.args.text.now
+    c.in_err-rewrap_in_place.field-0.0 c.from_residual-in_err-rewrap_in_place.result (g.met.O.BlockPair.lawful c.args.old.now) legal w.bad_length w.integrity
+    c.from_residual-in_err-rewrap_in_place.ensures
+
+pub returns : goal.returns
+returns g c =
+    let text : List ℕ = c.args.text.now in
+    let same : c.deref_mut.result.now ≡ text = c.deref_mut.ensures.value ∙ c.in_ok-buffer.ensures.items in
+    let own = ap (λ m. m.pair) c.new-unwraps.ensures in
+    let own' = ap (λ m. m.pair) c.new-wraps.ensures in
+    let new : List ℕ = c.rewrap_in_place.new.buf in
+    let size : length new ≡ length text = search rules in
+    let back = written_back c.in_ok-buffer.buffer.len new c.in_ok-buffer.buffer.items (omega arith) in
+    let w = rw (own, own', same) at c.in_ok-rewrap_in_place.ensures in
+    record {
+      rewraps = rw back w.answer;
+      text_length = λ bad. absurd (bad (c.is_text_length.ensures.0 c.if-not-is_text_length.false));
+      key_length = λ bad. absurd (let e = w.bad_length.1 (inr bad) in cc);
+      accepts = λ key h fits. search rules;
+      memory = λ e. cc;
+      only_answer = rw back w.only_answer;
+      only_key = w.only_key;
+      same_key = rw back w.same_key;
+      restores = rw back w.restores;
+      size = rw back size;
+      other_form = rw back (other_form c.args.new_form w.answer.0 new (g.met.N.BlockPair.lawful c.args.new.now) w.answer.2);
+    }
