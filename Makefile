@@ -20,7 +20,7 @@ PYTHON ?= python3
 soname = libkeywrap.so.1
 shared = $(soname).0.0
 wheel = $(DIST)/keywrap-$(version)-cp39-abi3-linux_x86_64.whl
-crates = block_pair aes_block key_wrap keywrap_c
+crates = block_pair aes_block aes_vector key_wrap keywrap_c
 sources = $(shell find crates.txt $(foreach c,$(crates),$(wildcard crates/$(c)/src crates/$(c)/specs crates/$(c)/proofs)) -type f)
 
 bin = $(DESTDIR)$(PREFIX)/bin
@@ -33,7 +33,7 @@ for_zsh = $(share)/zsh/site-functions
 for_fish = $(share)/fish/vendor_completions.d
 
 .PHONY: help version build library test install uninstall install-command uninstall-command \
-    install-library uninstall-library wheel dist bench clean
+    install-library uninstall-library wheel dist dist-library bench clean
 
 help:
 	@echo 'make build              proves and builds the program, where that is not done'
@@ -46,6 +46,7 @@ help:
 	@echo 'make uninstall          removes what make install put there (uninstall-command, uninstall-library: theirs)'
 	@echo 'make dist               packs what make install-command installs, for machines without the kit, as'
 	@echo '                        $(DIST)/keywrap-$(version)-x86_64-linux.tar.gz, with its SHA-256'
+	@echo 'make dist-library       packs what make install-library installs, there, and puts the wheel beside it'
 	@echo 'make version            writes the version'
 	@echo 'make bench              how long a wrap takes, beside OpenSSL, nettle and C'
 	@echo 'make clean              removes what was built'
@@ -83,6 +84,9 @@ wheel: $(LIBRARY)/libkeywrap.a
 	cp include/keywrap.h '$(LIBRARY)/libkeywrap.a' '$(LIBRARY)/python'
 	$(PYTHON) -m build --wheel --no-isolation --outdir '$(abspath $(DIST))' '$(LIBRARY)/python' >'$(LIBRARY)/wheel.log' || \
 	    { cat '$(LIBRARY)/wheel.log'; exit 1; }
+
+dist-library: library wheel
+	scripts/dist_library.sh '$(LIBRARY)' '$(version)' '$(DIST)'
 
 test:
 	rt ci

@@ -311,6 +311,23 @@ else
     skip 'the library against the command' "no $program (./keywrap --version builds it)"
 fi
 
+### Packed
+
+# dist_library FOLDER: packs it, but for the wheel, which tests/python.sh builds.
+dist_library() { in_library dist-library DIST="$room/$1" -o wheel; }
+packed=keywrap-library-$(make -s --no-print-directory -C "$root" version)-x86_64-linux
+row 'make dist-library' dist_library first
+row 'its checksum' env -C first sha256sum -c "$packed.tar.gz.sha256"
+row 'make dist-library, later and by another umask' eval 'umask 077; sleep 1; dist_library second; umask 022'
+row 'make dist-library makes the same archive again' cmp {first,second}/$packed.tar.gz
+row 'it unpacks' tar -xzf "first/$packed.tar.gz"
+row 'what it packs' diff <(cd "$prefix" && find . ! -type d | sort) <(cd "$packed" && find . ! -type d ! -name README | sort)
+if command -v pkg-config >/dev/null; then
+    read -ra flags < <(PKG_CONFIG_PATH=$packed/lib/pkgconfig pkg-config --cflags --libs keywrap)
+    LD_LIBRARY_PATH=$packed/lib runs_example 'the C example over the packed library' $rfc3394_42 \
+        cc -std=c99 "${strict[@]}" "$root/examples/c/wrap.c" "${flags[@]}"
+fi
+
 row 'make uninstall-library' in_library uninstall-library PREFIX="$prefix"
 row 'nothing is left of it' test -z "$(find "$prefix" ! -type d)"
 row 'no link stands in the tree' test -z "$(find "$root" -name 'libkeywrap*' -type l)"

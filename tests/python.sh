@@ -31,6 +31,8 @@ export PATH=$room/env/bin:$PATH
 same_version() { writes "keywrap $version" python3 -c 'import keywrap; print("keywrap", keywrap.__version__)'; }
 row 'the version' same_version
 
+row 'an extension of the stable ABI' writes _ffi.abi3.so python3 -c 'from keywrap import _ffi; print(_ffi.__file__)'
+
 # The README's command, as it stands there; its answer is that of OpenSSL.
 command=$(sed -n "s/^    \(python3 -c .*\)/\1/p" "$root/python/README.md")
 row "the README's command" writes b595a1c0afbe7a89ce43807cb3b2ba5737ff5d71d0a35cd7 bash -c "$command"

@@ -85,6 +85,7 @@ PLAIN_LENGTHS = "it must be a multiple of 8 from 16 to 1048576 bytes"
          (KEK, b"")),
         ("BadLength", "the wrapped key is 23 bytes long; it must be a multiple of 8 from 24", "rewrap",
          (KEK, KEK, WRAPPED[1:])),
+        ("BadLength", "the wrapped key is 25 bytes long", "rewrap", (KEK, KEK, WRAPPED + b"0")),
         ("BadLength", "the wrapped key is 1 bytes long; it must be a multiple of 8 from 16", "rewrap",
          (KEK, KEK, b"\0", True)),
         ("BadLength", "the key that is wrapped cannot be plain", "rewrap", (KEK_5649, KEK, FORPASI, True)),

@@ -182,6 +182,22 @@ def test_given_objects_are_not_written():
     assert kek == KEK and wrapped == before == bytes([WRAPPED[0] ^ 1]) + WRAPPED[1:]
 
 
+def test_what_a_call_copies_is_wiped(monkeypatch):
+    """Copies of objects that are not bytes, and a padded key before its padding is cut off."""
+    copied, wiped, copy, wipe = [], [], keywrap._copied, keywrap._wipe
+    monkeypatch.setattr(keywrap, "_copied", lambda given: copied.append(copy(given)) or copied[-1])
+    monkeypatch.setattr(keywrap, "_wipe", lambda made, length: wiped.append(made) or wipe(made, length))
+    for call, given, answer in CALLS:
+        copied.clear()
+        assert call(*map(bytearray, given)) == answer
+        with pytest.raises(keywrap.BadKekLength):
+            call(bytearray(15), *map(bytearray, given[1:]))
+        assert len(copied) == 2 * len(given) and all(item == bytes(len(item)) for item in copied)
+    wiped.clear()
+    assert keywrap.unwrap_padded(KEK, keywrap.wrap_padded(KEK, b"seven..")) == b"seven.."
+    assert wiped == [bytes(8)]
+
+
 def test_eight_threads():
     """While one computes others do, and each gets its own answer."""
     wrong = []

@@ -12,11 +12,11 @@ ghost use Rattle.keywrap_c.specs.Status.{IsWrapStatus, IsUnwrapStatus};
 ghost use Rattle.keywrap_c.specs.Answers.{IsWrapping, IsUnwrapping};
 
 use crate::status::{BAD_KEK, BAD_LENGTH, DONE, INTEGRITY};
-use aes_block::Aes;
+use aes_vector::VectorAes;
 use block_pair::Meter;
 use key_wrap::{InPlaceFault, unwrap_padded_into, wrap_padded_into};
 
-/// The padded wrapping of `key` under `kek`, into `text` (RFC 5649, section 4.1).
+/// Wraps `key` under `kek` in the padded form, into `text` (RFC 5649, section 4.1).
 #[unsafe(no_mangle)]
 pub extern "C" fn keywrap_wrap_padded(kek: &[u8], key: &[u8], text: &mut [u8]) -> i32
     ensures statuses { IsWrapStatus result }
@@ -28,7 +28,7 @@ pub extern "C" fn keywrap_wrap_padded(kek: &[u8], key: &[u8], text: &mut [u8]) -
     ensures kept { ¬ IsDone result → text.new ≡ text.old }
     ensures answer { IsDone result → IsWrapping (Padded (cipher kek.now)) key.now text.new }
 {
-    let Ok(aes) = Aes::new(kek) else {
+    let Ok(aes) = VectorAes::new(kek) else {
         return BAD_KEK;
     };
     match wrap_padded_into(&mut Meter::new(&aes), key, text) {
@@ -37,9 +37,9 @@ pub extern "C" fn keywrap_wrap_padded(kek: &[u8], key: &[u8], text: &mut [u8]) -
     }
 }
 
-/// The key whose padded wrapping under `kek` is `text`, into the first `*key_len` bytes of `key`,
-/// with zero bytes behind it (RFC 5649, section 4.2); at `INTEGRITY` every byte of `key` is zero.
-/// `*key_len` is 0 at each refusal.
+/// The key of which `text` is the padded wrapping under `kek`, into the first `*key_len` bytes of
+/// `key`, with zero bytes behind it (RFC 5649, section 4.2); at `INTEGRITY` every byte of `key` is
+/// zero. `*key_len` is 0 at each refusal.
 #[unsafe(no_mangle)]
 pub extern "C" fn keywrap_unwrap_padded(
     kek: &[u8],
@@ -72,7 +72,7 @@ pub extern "C" fn keywrap_unwrap_padded(
         → Padded (cipher kek.now) other text.now → IsDone result }
 {
     *key_len = 0;
-    let Ok(aes) = Aes::new(kek) else {
+    let Ok(aes) = VectorAes::new(kek) else {
         return BAD_KEK;
     };
     match unwrap_padded_into(&mut Meter::new(&aes), text, key) {

@@ -1,4 +1,5 @@
-//! The padded form in one buffer of the text's length: the key stands behind the first 8 bytes.
+//! The padded form in one buffer of the wrapped key's length: the key stands behind the first 8
+//! bytes.
 
 ghost use Rattle.std.specs.Prelude.{◌≡◌, ◌↔◌, ◌++◌, ℕ, List, length, replicate, All};
 ghost use Rattle.aes_block.specs.Cipher.{cipher};
@@ -13,13 +14,12 @@ ghost use Rattle.keywrap_c.specs.Status.{IsWrapStatus, IsUnwrapStatus};
 ghost use Rattle.keywrap_c.specs.Answers.{IsWrapping, IsUnwrapping};
 
 use crate::status::{BAD_KEK, BAD_LENGTH, DONE, INTEGRITY};
-use aes_block::Aes;
+use aes_vector::VectorAes;
 use block_pair::Meter;
 use key_wrap::{InPlaceFault, unwrap_padded_in_place, wrap_padded_in_place};
 
-/// The key of `key_len` bytes behind the first 8 bytes of `buffer`, which are ignored as what
-/// follows it is, becomes its padded wrapping under `kek`, the whole buffer (RFC 5649, section
-/// 4.1).
+/// Wraps the key of `key_len` bytes behind the first 8 bytes of `buffer`, which are ignored as what
+/// follows it is, under `kek` in the padded form, into the whole buffer (RFC 5649, section 4.1).
 #[unsafe(no_mangle)]
 pub extern "C" fn keywrap_wrap_padded_in_place(kek: &[u8], buffer: &mut [u8], key_len: usize) -> i32
     ensures statuses { IsWrapStatus result }
@@ -32,7 +32,7 @@ pub extern "C" fn keywrap_wrap_padded_in_place(kek: &[u8], buffer: &mut [u8], ke
     ensures answer { IsDone result
         → IsWrapping (Padded (cipher kek.now)) (key_in key_len buffer.old) buffer.new }
 {
-    let Ok(aes) = Aes::new(kek) else {
+    let Ok(aes) = VectorAes::new(kek) else {
         return BAD_KEK;
     };
     match wrap_padded_in_place(&mut Meter::new(&aes), buffer, key_len) {
@@ -41,9 +41,9 @@ pub extern "C" fn keywrap_wrap_padded_in_place(kek: &[u8], buffer: &mut [u8], ke
     }
 }
 
-/// The padded text in `buffer` becomes 8 zero bytes, its key under `kek`, of `*key_len` bytes, and
-/// zero bytes to the end (RFC 5649, section 4.2); at `INTEGRITY` every byte of the buffer is zero.
-/// `*key_len` is 0 at each refusal.
+/// The padded wrapping in `buffer` becomes 8 zero bytes, its key under `kek`, of `*key_len` bytes,
+/// and zero bytes to the end (RFC 5649, section 4.2); at `INTEGRITY` every byte of the buffer is
+/// zero. `*key_len` is 0 at each refusal.
 #[unsafe(no_mangle)]
 pub extern "C" fn keywrap_unwrap_padded_in_place(
     kek: &[u8],
@@ -74,7 +74,7 @@ pub extern "C" fn keywrap_unwrap_padded_in_place(
         → Padded (cipher kek.now) key buffer.old → IsDone result }
 {
     *key_len = 0;
-    let Ok(aes) = Aes::new(kek) else {
+    let Ok(aes) = VectorAes::new(kek) else {
         return BAD_KEK;
     };
     match unwrap_padded_in_place(&mut Meter::new(&aes), buffer) {

@@ -12,11 +12,11 @@ ghost use Rattle.keywrap_c.specs.Status.{IsWrapStatus, IsUnwrapStatus};
 ghost use Rattle.keywrap_c.specs.Answers.{IsWrapping, IsUnwrapping};
 
 use crate::status::{BAD_KEK, BAD_LENGTH, DONE, INTEGRITY};
-use aes_block::Aes;
+use aes_vector::VectorAes;
 use block_pair::Meter;
 use key_wrap::{InPlaceFault, unwrap_into, wrap_into};
 
-/// The plain wrapping of `key` under `kek`, into `text` (RFC 3394, section 2.2.1).
+/// Wraps `key` under `kek` in the plain form, into `text` (RFC 3394, section 2.2.1).
 #[unsafe(no_mangle)]
 pub extern "C" fn keywrap_wrap(kek: &[u8], key: &[u8], text: &mut [u8]) -> i32
     ensures statuses { IsWrapStatus result }
@@ -29,7 +29,7 @@ pub extern "C" fn keywrap_wrap(kek: &[u8], key: &[u8], text: &mut [u8]) -> i32
     ensures answer { IsDone result
         → IsWrapping (Plain (cipher kek.now) default_iv) key.now text.new }
 {
-    let Ok(aes) = Aes::new(kek) else {
+    let Ok(aes) = VectorAes::new(kek) else {
         return BAD_KEK;
     };
     match wrap_into(&mut Meter::new(&aes), key, text) {
@@ -38,8 +38,8 @@ pub extern "C" fn keywrap_wrap(kek: &[u8], key: &[u8], text: &mut [u8]) -> i32
     }
 }
 
-/// The key whose plain wrapping under `kek` is `text`, into `key` (RFC 3394, section 2.2.2); at
-/// `INTEGRITY` every byte there is zero.
+/// The key of which `text` is the plain wrapping under `kek`, into `key` (RFC 3394, section 2.2.2);
+/// at `INTEGRITY` every byte there is zero.
 #[unsafe(no_mangle)]
 pub extern "C" fn keywrap_unwrap(kek: &[u8], text: &[u8], key: &mut [u8]) -> i32
     ensures statuses { IsUnwrapStatus result }
@@ -63,7 +63,7 @@ pub extern "C" fn keywrap_unwrap(kek: &[u8], text: &[u8], key: &mut [u8]) -> i32
         → ArePlainLengths (length key.old) (length text.now)
         → Plain (cipher kek.now) default_iv other text.now → IsDone result }
 {
-    let Ok(aes) = Aes::new(kek) else {
+    let Ok(aes) = VectorAes::new(kek) else {
         return BAD_KEK;
     };
     match unwrap_into(&mut Meter::new(&aes), text, key) {

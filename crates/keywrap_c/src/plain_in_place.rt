@@ -1,4 +1,5 @@
-//! The plain form in one buffer of the text's length: the key stands behind the first 8 bytes.
+//! The plain form in one buffer of the wrapped key's length: the key stands behind the first 8
+//! bytes.
 
 ghost use Rattle.std.specs.Prelude.{◌≡◌, ◌↔◌, ℕ, List, length, drop, take, replicate, All};
 ghost use Rattle.aes_block.specs.Cipher.{cipher};
@@ -12,12 +13,12 @@ ghost use Rattle.keywrap_c.specs.Status.{IsWrapStatus, IsUnwrapStatus};
 ghost use Rattle.keywrap_c.specs.Answers.{IsWrapping, IsUnwrapping};
 
 use crate::status::{BAD_KEK, BAD_LENGTH, DONE, INTEGRITY};
-use aes_block::Aes;
+use aes_vector::VectorAes;
 use block_pair::Meter;
 use key_wrap::{InPlaceFault, unwrap_in_place, wrap_in_place};
 
-/// The key behind the first 8 bytes of `buffer`, which are ignored, becomes its plain wrapping
-/// under `kek`, the whole buffer (RFC 3394, section 2.2.1).
+/// Wraps the key behind the first 8 bytes of `buffer`, which are ignored, under `kek` in the plain
+/// form, into the whole buffer (RFC 3394, section 2.2.1).
 #[unsafe(no_mangle)]
 pub extern "C" fn keywrap_wrap_in_place(kek: &[u8], buffer: &mut [u8]) -> i32
     ensures statuses { IsWrapStatus result }
@@ -30,7 +31,7 @@ pub extern "C" fn keywrap_wrap_in_place(kek: &[u8], buffer: &mut [u8]) -> i32
     ensures answer { IsDone result
         → IsWrapping (Plain (cipher kek.now) default_iv) (drop 8 buffer.old) buffer.new }
 {
-    let Ok(aes) = Aes::new(kek) else {
+    let Ok(aes) = VectorAes::new(kek) else {
         return BAD_KEK;
     };
     match wrap_in_place(&mut Meter::new(&aes), buffer) {
@@ -39,7 +40,7 @@ pub extern "C" fn keywrap_wrap_in_place(kek: &[u8], buffer: &mut [u8]) -> i32
     }
 }
 
-/// The plain text in `buffer` becomes 8 zero bytes and its key under `kek` (RFC 3394, section
+/// The plain wrapping in `buffer` becomes 8 zero bytes and its key under `kek` (RFC 3394, section
 /// 2.2.2); at `INTEGRITY` every byte of the buffer is zero.
 #[unsafe(no_mangle)]
 pub extern "C" fn keywrap_unwrap_in_place(kek: &[u8], buffer: &mut [u8]) -> i32
@@ -64,7 +65,7 @@ pub extern "C" fn keywrap_unwrap_in_place(kek: &[u8], buffer: &mut [u8]) -> i32
     ensures accepts { (key : List ℕ) → IsKekLength (length kek.now)
         → Plain (cipher kek.now) default_iv key buffer.old → IsDone result }
 {
-    let Ok(aes) = Aes::new(kek) else {
+    let Ok(aes) = VectorAes::new(kek) else {
         return BAD_KEK;
     };
     match unwrap_in_place(&mut Meter::new(&aes), buffer) {

@@ -13,11 +13,11 @@ ghost use Rattle.keywrap_c.specs.Answers.{IsWrapping, IsUnwrapping};
 ghost use Rattle.keywrap_c.specs.AgreedValue.{IsIv, iv_word};
 
 use crate::status::{BAD_IV, BAD_KEK, BAD_LENGTH, DONE, INTEGRITY};
-use aes_block::Aes;
+use aes_vector::VectorAes;
 use block_pair::Meter;
 use key_wrap::{InPlaceFault, InitialValue, unwrap_into_with, wrap_into_with};
 
-/// The plain wrapping of `key` under `kek` and the initial value `iv`, into `text` (RFC 3394,
+/// Wraps `key` under `kek` and the initial value `iv` in the plain form, into `text` (RFC 3394,
 /// sections 2.2.1 and 2.2.3.2).
 #[unsafe(no_mangle)]
 pub extern "C" fn keywrap_wrap_with(kek: &[u8], iv: &[u8], key: &[u8], text: &mut [u8]) -> i32
@@ -35,7 +35,7 @@ pub extern "C" fn keywrap_wrap_with(kek: &[u8], iv: &[u8], key: &[u8], text: &mu
     let Some(value) = initial_value(iv) else {
         return BAD_IV;
     };
-    let Ok(aes) = Aes::new(kek) else {
+    let Ok(aes) = VectorAes::new(kek) else {
         return BAD_KEK;
     };
     match wrap_into_with(&mut Meter::new(&aes), &value, key, text) {
@@ -44,8 +44,8 @@ pub extern "C" fn keywrap_wrap_with(kek: &[u8], iv: &[u8], key: &[u8], text: &mu
     }
 }
 
-/// The key whose plain wrapping under `kek` and the initial value `iv` is `text`, into `key` (RFC
-/// 3394, sections 2.2.2 and 2.2.3.2); at `INTEGRITY` every byte there is zero.
+/// The key of which `text` is the plain wrapping under `kek` and the initial value `iv`, into `key`
+/// (RFC 3394, sections 2.2.2 and 2.2.3.2); at `INTEGRITY` every byte there is zero.
 #[unsafe(no_mangle)]
 pub extern "C" fn keywrap_unwrap_with(kek: &[u8], iv: &[u8], text: &[u8], key: &mut [u8]) -> i32
     ensures statuses { IsUnwrapWithStatus result }
@@ -74,7 +74,7 @@ pub extern "C" fn keywrap_unwrap_with(kek: &[u8], iv: &[u8], text: &[u8], key: &
     let Some(value) = initial_value(iv) else {
         return BAD_IV;
     };
-    let Ok(aes) = Aes::new(kek) else {
+    let Ok(aes) = VectorAes::new(kek) else {
         return BAD_KEK;
     };
     match unwrap_into_with(&mut Meter::new(&aes), &value, text, key) {

@@ -11,21 +11,21 @@ ghost use Rattle.keywrap_c.specs.Answers.{IsRewrapping};
 ghost use Rattle.keywrap_c.specs.Forms.{AreFlags, old_form, new_form};
 
 use crate::status::{BAD_KEK, BAD_LENGTH, DONE, INTEGRITY};
-use aes_block::Aes;
+use aes_vector::VectorAes;
 use block_pair::Meter;
 use key_wrap::{Form, InPlaceFault, rewrap_in_place};
 
-// The flag of a text that is given in the padded form.
+// The flag of a wrapped key that is given in the padded form.
 const OLD_PADDED: u32 = 1;
 
-// The flag of a text that is wanted in the padded form.
+// The flag of a wrapped key that is to be answered in the padded form.
 const NEW_PADDED: u32 = 2;
 
 const BOTH_PADDED: u32 = OLD_PADDED + NEW_PADDED;
 
-/// The text in `buffer`, a wrapping under `old_kek`, becomes the wrapping of the same key under
-/// `new_kek`, of the same length; `forms` has a flag for each of the two that is padded, as in
-/// `keywrap.h`, and no other bit (RFC 3394 and RFC 5649).
+/// The key in `buffer`, wrapped under `old_kek`, becomes the same key wrapped under `new_kek`, of
+/// the same length; `forms` has a flag for each of the two that is padded, as in `keywrap.h`, and
+/// no other bit (RFC 3394 and RFC 5649).
 ///
 /// After the integrity check has failed, and where the key has no legal length in the new form,
 /// every byte of the buffer is zero.
@@ -65,10 +65,10 @@ pub extern "C" fn keywrap_rewrap_in_place(
         → StandsIn (old_form forms) (cipher old_kek.now) key buffer.old
         → IsKeyLength (new_form forms) (length key) → IsDone result }
 {
-    let Ok(old) = Aes::new(old_kek) else {
+    let Ok(old) = VectorAes::new(old_kek) else {
         return BAD_KEK;
     };
-    let Ok(new) = Aes::new(new_kek) else {
+    let Ok(new) = VectorAes::new(new_kek) else {
         return BAD_KEK;
     };
     let Some((from, to)) = forms_of(forms) else {

@@ -3,14 +3,14 @@
 /// Done.
 pub const DONE: i32 = 0;
 
-/// The initial value has not 8 bytes, or is reserved for the padded form.
+/// The initial value is not 8 bytes long, or is reserved for the padded form.
 pub const BAD_IV: i32 = 2;
 
-/// The key-encryption key (KEK) has not 16, 24 or 32 bytes.
+/// The key-encryption key (KEK) is not 16, 24 or 32 bytes long.
 pub const BAD_KEK: i32 = 3;
 
-/// A length is not legal, or a buffer has not the length that goes with it.
+/// A length is not legal, or a buffer does not have the length that goes with it.
 pub const BAD_LENGTH: i32 = 4;
 
-/// The text is the wrapping of no key under the KEK.
+/// The integrity check failed: no key was wrapped to this under the KEK.
 pub const INTEGRITY: i32 = 5;

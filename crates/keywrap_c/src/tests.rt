@@ -1,5 +1,6 @@
-//! Each call on a vector of RFC 3394 (section 4) or RFC 5649 (section 6), and the refusals; under
-//! another initial value, and from one form to the other, on OpenSSL's texts.
+//! Each call once, on a vector of RFC 3394 (section 4) or RFC 5649 (section 6); under another initial
+//! value, and from one form to the other, on wrappings of OpenSSL's. The refusals are proved, and
+//! made by `tests/library.sh`.
 
 use crate::padded::{keywrap_unwrap_padded, keywrap_wrap_padded};
 use crate::padded_in_place::{keywrap_unwrap_padded_in_place, keywrap_wrap_padded_in_place};
@@ -7,7 +8,7 @@ use crate::plain::{keywrap_unwrap, keywrap_wrap};
 use crate::plain_in_place::{keywrap_unwrap_in_place, keywrap_wrap_in_place};
 use crate::plain_with::{keywrap_unwrap_with, keywrap_wrap_with};
 use crate::rewrapping::keywrap_rewrap_in_place;
-use crate::status::{BAD_IV, BAD_KEK, BAD_LENGTH, DONE, INTEGRITY};
+use crate::status::DONE;
 use std::test::Fail;
 
 const KEK: [u8; 24] = [
@@ -27,9 +28,7 @@ const DEFAULT_IV: [u8; 8] = [0xA6; 8];
 
 const IV: [u8; 8] = [0x01, 0x23, 0x45, 0x67, 0x89, 0xAB, 0xCD, 0xEF];
 
-const RESERVED_IV: [u8; 8] = [0xA6, 0x59, 0x59, 0xA6, 0xFF, 0xFF, 0xFF, 0xFF];
-
-// The text of `KEY` under `IV`, by openssl enc -id-aes192-wrap.
+// The wrapping of `KEY` under `IV`, by openssl enc -id-aes192-wrap.
 const IV_TEXT: [u8; 24] = [
     0x5F, 0xAE, 0xDB, 0x3A, 0xD2, 0x8B, 0x49, 0x8F, 0x36, 0xC1, 0xAF, 0xC3, 0x61, 0x86, 0x17, 0x82,
     0xE0, 0x4E, 0x13, 0x47, 0x98, 0x79, 0x11, 0x45,
@@ -48,16 +47,16 @@ const PADDED_TEXT: [u8; 16] = [
 fn wraps_plain_and_back(rt: HostRuntime) -> Result<(), Fail> {
     let mut text = [1; 24];
     let mut key = [1; 16];
-    assert_eq!(rt; keywrap_wrap(&KEK[..15], &KEY, &mut text), BAD_KEK);
-    assert_eq!(rt; keywrap_wrap(&KEK, &KEY, &mut text[..23]), BAD_LENGTH);
-    assert_eq!(rt; text, [1; 24]);
-    assert_eq!(rt; keywrap_wrap(&KEK, &KEY, &mut text), DONE);
-    assert_eq!(rt; text, TEXT);
-    assert_eq!(rt; keywrap_unwrap(&KEK, &text, &mut key), DONE);
-    assert_eq!(rt; key, KEY);
-    text[3] ^= 1;
-    assert_eq!(rt; keywrap_unwrap(&KEK, &text, &mut key), INTEGRITY);
-    assert_eq!(rt; key, [0; 16]);
+    assert!(rt; keywrap_wrap(&KEK, &KEY, &mut text) == DONE);
+    assert!(rt; text == TEXT);
+    assert!(rt; keywrap_unwrap(&KEK, &TEXT, &mut key) == DONE);
+    assert!(rt; key == KEY);
+    let mut buffer = [1; 24];
+    buffer[8..].copy_from_slice(&KEY);
+    assert!(rt; keywrap_wrap_in_place(&KEK, &mut buffer) == DONE);
+    assert!(rt; buffer == TEXT);
+    assert!(rt; keywrap_unwrap_in_place(&KEK, &mut buffer) == DONE);
+    assert!(rt; &buffer[..8] == &[0; 8] && &buffer[8..] == &KEY);
     Ok(())
 }
 
@@ -66,41 +65,11 @@ fn wraps_under_agreed_values_and_back(rt: HostRuntime) -> Result<(), Fail> {
     let mut text = [1; 24];
     let mut key = [1; 16];
     for (iv, want) in [(&DEFAULT_IV, &TEXT), (&IV, &IV_TEXT)] {
-        assert_eq!(rt; keywrap_wrap_with(&KEK, iv, &KEY, &mut text), DONE);
-        assert_eq!(rt; &text, want);
-        assert_eq!(rt; keywrap_unwrap_with(&KEK, iv, want, &mut key), DONE);
-        assert_eq!(rt; key, KEY);
+        assert!(rt; keywrap_wrap_with(&KEK, iv, &KEY, &mut text) == DONE);
+        assert!(rt; text == *want);
+        assert!(rt; keywrap_unwrap_with(&KEK, iv, want, &mut key) == DONE);
+        assert!(rt; key == KEY);
     }
-    assert_eq!(rt; keywrap_unwrap(&KEK, &text, &mut key), INTEGRITY);
-    assert_eq!(rt; key, [0; 16]);
-    Ok(())
-}
-
-#[test]
-fn refuses_initial_values(rt: HostRuntime) -> Result<(), Fail> {
-    let mut text = TEXT;
-    let mut key = KEY;
-    let long = [0xA6; 9];
-    for iv in [&RESERVED_IV[..], &IV[..7], &long, &[]] {
-        assert_eq!(rt; keywrap_wrap_with(&[], iv, &KEY, &mut text), BAD_IV);
-        assert_eq!(rt; keywrap_unwrap_with(&[], iv, &TEXT, &mut key), BAD_IV);
-    }
-    assert_eq!(rt; text, TEXT);
-    assert_eq!(rt; key, KEY);
-    Ok(())
-}
-
-#[test]
-fn wraps_plain_in_place_and_back(rt: HostRuntime) -> Result<(), Fail> {
-    let mut buffer = [1; 24];
-    buffer[8..].copy_from_slice(&KEY);
-    assert_eq!(rt; keywrap_wrap_in_place(&KEK, &mut buffer), DONE);
-    assert_eq!(rt; buffer, TEXT);
-    assert_eq!(rt; keywrap_unwrap_in_place(&KEK, &mut buffer), DONE);
-    assert_eq!(rt; &buffer[..8], [0; 8].as_slice());
-    assert_eq!(rt; &buffer[8..], KEY.as_slice());
-    assert_eq!(rt; keywrap_unwrap_in_place(&KEK, &mut buffer), INTEGRITY);
-    assert_eq!(rt; buffer, [0; 24]);
     Ok(())
 }
 
@@ -108,47 +77,16 @@ fn wraps_plain_in_place_and_back(rt: HostRuntime) -> Result<(), Fail> {
 fn wraps_padded_and_back(rt: HostRuntime) -> Result<(), Fail> {
     let mut text = [1; 16];
     let mut key = [1; 8];
-    let mut key_len = 1;
-    assert_eq!(rt;
-        keywrap_wrap_padded(&PADDED_KEK, b"ForPasi", &mut text),
-        DONE
-    );
-    assert_eq!(rt; text, PADDED_TEXT);
-    assert_eq!(rt;
-        keywrap_unwrap_padded(&PADDED_KEK, &text, &mut key, &mut key_len),
-        DONE
-    );
-    assert_eq!(rt; &key, b"ForPasi\0");
-    assert_eq!(rt; key_len, 7);
-    text[3] ^= 1;
-    assert_eq!(rt;
-        keywrap_unwrap_padded(&PADDED_KEK, &text, &mut key, &mut key_len),
-        INTEGRITY
-    );
-    assert_eq!(rt; key, [0; 8]);
-    assert_eq!(rt; key_len, 0);
-    Ok(())
-}
-
-#[test]
-fn wraps_padded_in_place_and_back(rt: HostRuntime) -> Result<(), Fail> {
+    let mut len = 1;
+    assert!(rt; keywrap_wrap_padded(&PADDED_KEK, b"ForPasi", &mut text) == DONE);
+    assert!(rt; text == PADDED_TEXT);
+    assert!(rt; keywrap_unwrap_padded(&PADDED_KEK, &text, &mut key, &mut len) == DONE);
+    assert!(rt; key == *b"ForPasi\0" && len == 7);
     let mut buffer = *b"ignored:ForPasi:";
-    let mut key_len = 1;
-    assert_eq!(rt;
-        keywrap_wrap_padded_in_place(&PADDED_KEK, &mut buffer, 7),
-        DONE
-    );
-    assert_eq!(rt; buffer, PADDED_TEXT);
-    assert_eq!(rt;
-        keywrap_unwrap_padded_in_place(&PADDED_KEK, &mut buffer, &mut key_len),
-        DONE
-    );
-    assert_eq!(rt; buffer, *b"\0\0\0\0\0\0\0\0ForPasi\0");
-    assert_eq!(rt; key_len, 7);
-    let status = keywrap_unwrap_padded_in_place(&PADDED_KEK, &mut buffer, &mut key_len);
-    assert_eq!(rt; status, INTEGRITY);
-    assert_eq!(rt; buffer, [0; 16]);
-    assert_eq!(rt; key_len, 0);
+    assert!(rt; keywrap_wrap_padded_in_place(&PADDED_KEK, &mut buffer, 7) == DONE);
+    assert!(rt; buffer == PADDED_TEXT);
+    assert!(rt; keywrap_unwrap_padded_in_place(&PADDED_KEK, &mut buffer, &mut len) == DONE);
+    assert!(rt; buffer == *b"\0\0\0\0\0\0\0\0ForPasi\0" && len == 7);
     Ok(())
 }
 
@@ -159,7 +97,7 @@ const KEK_32: [u8; 32] = [
     26, 27, 28, 29, 30, 31,
 ];
 
-// The texts of `KEY`, plain under `KEK_16` and `KEK_32` (RFC 3394, sections 4.1 and 4.3).
+// The wrappings of `KEY`, plain under `KEK_16` and `KEK_32` (RFC 3394, sections 4.1 and 4.3).
 const TEXT_16: [u8; 24] = [
     0x1F, 0xA6, 0x8B, 0x0A, 0x81, 0x12, 0xB4, 0x47, 0xAE, 0xF3, 0x4B, 0xD8, 0xFB, 0x5A, 0x7B, 0x82,
     0x9D, 0x3E, 0x86, 0x23, 0x71, 0xD2, 0xCF, 0xE5,
@@ -170,7 +108,7 @@ const TEXT_32: [u8; 24] = [
     0x93, 0xC8, 0x19, 0x1E, 0x7D, 0x6E, 0x8A, 0xE7,
 ];
 
-// The texts of `KEY`, padded, by openssl enc -id-aes128-wrap-pad and -id-aes256-wrap-pad.
+// The wrappings of `KEY`, padded, by openssl enc -id-aes128-wrap-pad and -id-aes256-wrap-pad.
 const PADDED_TEXT_16: [u8; 24] = [
     0x2C, 0xEF, 0x0C, 0x9E, 0x30, 0xDE, 0x26, 0x01, 0x6C, 0x23, 0x0C, 0xB7, 0x8B, 0xC6, 0x0D, 0x51,
     0xB1, 0xFE, 0x08, 0x3B, 0xA0, 0xC7, 0x9C, 0xD5,
@@ -179,12 +117,6 @@ const PADDED_TEXT_16: [u8; 24] = [
 const PADDED_TEXT_32: [u8; 24] = [
     0xAF, 0xC8, 0x60, 0x01, 0x5F, 0xFE, 0x2D, 0x75, 0xBE, 0xDF, 0x43, 0xC4, 0x44, 0xFE, 0x58, 0xF4,
     0xAD, 0x9D, 0x89, 0xC4, 0xEC, 0x71, 0xE2, 0x3B,
-];
-
-// The padded text of the key of 20 bytes under `PADDED_KEK` (RFC 5649, section 6).
-const TEXT_OF_20: [u8; 32] = [
-    0x13, 0x8B, 0xDE, 0xAA, 0x9B, 0x8F, 0xA7, 0xFC, 0x61, 0xF9, 0x77, 0x42, 0xE7, 0x22, 0x48, 0xEE,
-    0x5A, 0xE6, 0xAE, 0x53, 0x60, 0xD1, 0xAE, 0x6A, 0x5F, 0x54, 0xF3, 0x73, 0xFA, 0x54, 0x3B, 0x6A,
 ];
 
 #[test]
@@ -203,44 +135,5 @@ fn rewraps_between_forms_and_back(rt: HostRuntime) -> Result<(), Fail> {
         assert!(rt; again == DONE);
         assert!(rt; buffer == *text);
     }
-    Ok(())
-}
-
-#[test]
-fn keeps_the_text_at_bad_lengths_and_flags(rt: HostRuntime) -> Result<(), Fail> {
-    let mut buffer = TEXT_16;
-    for flags in [4, 7, 0x8000_0000, u32::MAX] {
-        let status = keywrap_rewrap_in_place(&KEK_16, &KEK_32, &mut buffer, flags);
-        assert!(rt; status == BAD_LENGTH);
-        let old = keywrap_rewrap_in_place(&KEK_16[..15], &KEK_32, &mut buffer, flags);
-        assert!(rt; old == BAD_KEK);
-        let new = keywrap_rewrap_in_place(&KEK_16, &KEK_32[..15], &mut buffer, flags & 3);
-        assert!(rt; new == BAD_KEK);
-        let short = keywrap_rewrap_in_place(&KEK_16, &KEK_32, &mut buffer[..23], flags & 3);
-        assert!(rt; short == BAD_LENGTH);
-    }
-    assert!(rt; buffer == TEXT_16);
-    Ok(())
-}
-
-#[test]
-fn clears_the_buffer_of_a_key_of_20_bytes(rt: HostRuntime) -> Result<(), Fail> {
-    let mut buffer = TEXT_OF_20;
-    let both = keywrap_rewrap_in_place(&PADDED_KEK, &PADDED_KEK, &mut buffer, 3);
-    assert!(rt; both == DONE);
-    assert!(rt; buffer == TEXT_OF_20);
-    let plain = keywrap_rewrap_in_place(&PADDED_KEK, &KEK_16, &mut buffer, 1);
-    assert!(rt; plain == BAD_LENGTH);
-    assert!(rt; buffer == [0; 32]);
-    Ok(())
-}
-
-#[test]
-fn clears_the_buffer_of_a_damaged_text(rt: HostRuntime) -> Result<(), Fail> {
-    let mut buffer = TEXT_16;
-    buffer[3] ^= 1;
-    let status = keywrap_rewrap_in_place(&KEK_16, &KEK_32, &mut buffer, 0);
-    assert!(rt; status == INTEGRITY);
-    assert!(rt; buffer == [0; 24]);
     Ok(())
 }

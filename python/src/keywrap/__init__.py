@@ -11,9 +11,7 @@ from __future__ import annotations
 import enum
 from typing import TYPE_CHECKING, Any, Callable, Optional, TypeVar
 
-from . import _refusals
-from ._ffi import ffi as _ffi
-from ._ffi import lib as _lib
+from . import _ffi, _refusals
 from ._refusals import BadInitialValue, BadKekLength, BadLength, IntegrityFailed, KeywrapError
 
 if TYPE_CHECKING:
@@ -37,6 +35,7 @@ __all__ = [
 for _refusal in (KeywrapError, BadInitialValue, BadKekLength, BadLength, IntegrityFailed):
     _refusal.__module__ = __name__
 
+_lib = _ffi.lib
 _number: int = _lib.keywrap_version()
 __version__ = f"{_number >> 16}.{_number >> 8 & 255}.{_number & 255}"
 
@@ -71,7 +70,7 @@ _KINDS = {_lib.IS_PLAIN: Kind.PLAIN, _lib.IS_PADDED: Kind.PADDED}
 def _copied(given: object) -> bytes:
     """A new bytes object of what stands in the object's buffer."""
     try:
-        return bytes(_ffi.buffer(_ffi.from_buffer("uint8_t[]", given)))
+        return bytes(_ffi.ffi.buffer(_ffi.ffi.from_buffer("uint8_t[]", given)))
     except (TypeError, ValueError, BufferError):
         pass
     raise TypeError(f"a contiguous bytes-like object is required, not {type(given).__name__!r}")
