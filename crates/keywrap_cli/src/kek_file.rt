@@ -11,7 +11,7 @@ use std::alloc::Global;
 use std::io::Read;
 
 /// The block cipher of the program, which is named here alone.
-pub use aes_block::Aes;
+pub use aes_vector::VectorAes as Aes;
 
 /// AES under the KEK that a file denotes.
 pub fn read_kek<K: Read>(alloc: Global, notation: Notation, kek: &mut K) -> Result<Aes, JobFault>
