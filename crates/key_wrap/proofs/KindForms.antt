@@ -1,5 +1,5 @@
 -- The kind of a text, from the state in which the machine left the registers.
-use Rattle.std.proofs.Common.{rules, ◌≡◌, ℕ, ◌+◌, ◌≤◌, List, ◌++◌, length, take, refl, sym, ap, ◌∙◌, arith, length-append}
+use Rattle.std.proofs.Common.{rules, ◌≡◌, ℕ, ◌≤◌, List, ◌++◌, length, take, refl, sym, ap, ◌∙◌, arith, length-append}
 use Rattle.block_pair.specs.Pair.{AreInverse}
 use Rattle.block_pair.specs.Words.{IsWord}
 use Rattle.key_wrap.specs.declared.forms.Kind.TheVariants.{Plain as InPlain, Padded as InPadded, Neither}

@@ -1,4 +1,15 @@
 //! The AES Key Wrap of RFC 3394 and RFC 5649 over any block pair.
+//!
+//! A key is wrapped under a pair, AES under a KEK for one, and unwrapped again; `rt` is the runtime
+//! that `main` is given:
+//!
+//! ```
+//! let pair = Aes::new(&kek)?;
+//! let wrapped = wrap_padded(rt.alloc(), &pair, b"a key of any length")?;
+//! let key = unwrap_padded(rt.alloc(), &pair, &wrapped)?;
+//! ```
+//!
+//! The calls that end in `_in_place` and `_into` take no memory and count their block calls.
 #![tactic(auto)]
 
 mod buffers;

@@ -1,5 +1,5 @@
 -- Where all parts of the difference are 0 the registers hold a key, and a held key makes each of them 0.
-use Rattle.std.proofs.Common.{rules, ◌≡◌, ℕ, ◌+◌, ◌-◌, ◌/◌, ◌%◌, ◌^◌, ◌<◌, ◌≤◌, List, length, drop, arith, refl, sym, ap, subst, ◌∙◌}
+use Rattle.std.proofs.Common.{rules, ◌≡◌, ℕ, ◌+◌, ◌-◌, ◌%◌, ◌^◌, ◌<◌, ◌≤◌, List, length, drop, arith, refl, sym, ap, subst, ◌∙◌}
 use Rattle.std.specs.List.{All}
 use Rattle.byteorder.specs.Endian.{big_from}
 use Rattle.key_wrap.proofs.Differences.{or_parts, or_both, xor_same, same_xor, blank_of, of_blank}

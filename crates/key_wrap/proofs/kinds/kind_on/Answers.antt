@@ -1,7 +1,6 @@
 -- The machine was given the text: its first word, and the rest copied into the registers.
-use Rattle.std.proofs.Common.{rules, ◌≡◌, ℕ, List, take, arith, ◌++◌, ◌∙◌, sym, ap}
+use Rattle.std.proofs.Common.{rules, ◌≡◌, ℕ, List, take, arith, ◌++◌, ◌∙◌, ap}
 use Rattle.key_wrap.specs.Words.{word_bytes}
-use Rattle.key_wrap.specs.Kind.{IsTheKind}
 use Rattle.key_wrap.proofs.Spelling.{read_word, each_byte}
 use Rattle.key_wrap.proofs.InPlaceForm.{text_again}
 use Rattle.key_wrap.proofs.KindForms.{kind_illegal}

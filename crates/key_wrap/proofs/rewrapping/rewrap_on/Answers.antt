@@ -1,7 +1,7 @@
 -- The buffer holds the text, so what the call in it promises of the text is what is promised here.
 use Rattle.std.proofs.Common.{rules, ◌≡◌, ℕ, List, length, arith, ap, ◌∙◌, inr}
 use Rattle.key_wrap.proofs.PlainForm.{written_back}
-use Rattle.key_wrap.proofs.Rewraps.{text_legal, other_form, rewrap_refused, rewrap_unserved, refused_rewrap}
+use Rattle.key_wrap.proofs.Rewraps.{other_form, rewrap_refused, rewrap_unserved, refused_rewrap}
 use Rattle.key_wrap.proofs.rewrapping.rewrap_on.Goals as goal
 
 pub returns-then-not-is_text_length : goal.returns-then-not-is_text_length
