@@ -1,136 +1,140 @@
-//! Readers and writers of the tests, which stop, fail or never end.
+//! Readers and writers of the tests: in pieces, and with faults, after which they go on or not.
 
 use std::alloc::Global;
 use std::io::{self, Read, Write};
 
-/// Gives up to so many bytes a read, then the fault or the end.
-#[derive(Drop)]
+/// How often a double answers its fault: once, and then it goes on, or whenever it is asked.
+pub static FAULTS: [usize; 2] = [1, usize::MAX];
+
+/// Gives its bytes in pieces, and at one place a fault.
+#[derive(Clone, Copy)]
 pub struct Trickle<'a> {
-    rest: &'a [u8],
+    /// What was not given.
+    pub left: &'a [u8],
+    /// Whether no read was made.
+    pub is_unread: bool,
+    // The most bytes that a read gives.
     size: usize,
-    fails: bool,
-    is_unread: bool,
+    // The bytes up to the place of the fault, and how often it is answered.
+    room: usize,
+    faults: usize,
 }
 
 impl<'a> Trickle<'a> {
-    /// One byte a read, then an error.
-    pub fn failing(bytes: &'a [u8]) -> Self {
-        Trickle {
-            fails: true,
-            ..Trickle::in_pieces(bytes, 1)
-        }
-    }
-
-    /// Up to `size` bytes a read, then the end.
+    /// Up to `size` bytes a read, and then the end.
     pub fn in_pieces(bytes: &'a [u8], size: usize) -> Self {
         Trickle {
-            rest: bytes,
-            size,
-            fails: false,
+            left: bytes,
             is_unread: true,
+            size,
+            room: usize::MAX,
+            faults: 0,
         }
     }
 
-    pub fn is_unread(&self) -> bool {
-        self.is_unread
-    }
-
-    /// How many bytes were not given.
-    pub fn left(&self) -> usize {
-        self.rest.len()
+    /// One byte a read, and after `room` bytes so many faults.
+    pub fn failing(bytes: &'a [u8], room: usize, faults: usize) -> Self {
+        Trickle {
+            room,
+            faults,
+            ..Trickle::in_pieces(bytes, 1)
+        }
     }
 }
 
 impl Read for Trickle<'_> {
     fn read(&mut self, buf: &mut [u8]) -> io::Result<usize> {
         self.is_unread = false;
-        if self.rest.is_empty() && self.fails {
+        if self.room == 0 && self.faults > 0 {
+            self.faults -= 1;
             return Err(io::Error::from(io::ErrorKind::Interrupted));
         }
-        let count = self.rest.len().min(self.size).min(buf.len());
-        let (piece, rest) = self.rest.split_at(count);
+        let most = if self.faults > 0 {
+            self.room
+        } else {
+            usize::MAX
+        };
+        let count = self.left.len().min(self.size).min(buf.len()).min(most);
+        let (piece, left) = self.left.split_at(count);
         buf[..count].copy_from_slice(piece);
-        self.rest = rest;
+        self.left = left;
+        self.room = self.room.saturating_sub(count);
         Ok(count)
     }
 }
 
-/// Never ends, and counts the bytes that it gave.
-#[derive(Drop)]
-pub struct Endless {
-    given: usize,
+/// What a writer answers at its fault: each in turn.
+pub static STOPS: [Stop; 2] = [Stop::Fails, Stop::TakesNone];
+
+/// What a writer answers at its fault.
+#[derive(Clone, Copy, Debug)]
+pub enum Stop {
+    /// An error.
+    Fails,
+    /// That it took no byte.
+    TakesNone,
 }
 
-impl Endless {
-    pub fn new() -> Self {
-        Endless { given: 0 }
-    }
-
-    pub fn given(&self) -> usize {
-        self.given
-    }
-}
-
-impl Read for Endless {
-    fn read(&mut self, buf: &mut [u8]) -> io::Result<usize> {
-        buf.fill(b'0');
-        self.given = self.given.saturating_add(buf.len());
-        Ok(buf.len())
-    }
-}
-
-/// Takes up to so many bytes a write, and when its room is full fails or takes none.
+/// Takes bytes in pieces, and at one place answers a fault.
 #[derive(Drop)]
 pub struct Narrow {
+    /// Whether a flush was asked for.
+    pub is_flushed: bool,
     out: Vec<u8>,
-    room: usize,
+    // The most bytes that a write takes.
     size: usize,
-    fails: bool,
-    is_flushed: bool,
+    // The bytes up to the place of the fault, what it is, and how often it is answered.
+    room: usize,
+    stop: Stop,
+    faults: usize,
 }
 
 impl Narrow {
-    /// Takes `room` bytes, one a write, and then fails.
-    pub fn failing(alloc: Global, room: usize) -> Self {
-        Narrow::in_pieces(alloc, room, 1)
-    }
-
-    /// Takes `room` bytes, one a write, and then none.
-    pub fn full(alloc: Global, room: usize) -> Self {
+    /// Takes up to `size` bytes a write, without end.
+    pub fn in_pieces(alloc: Global, size: usize) -> Self {
         Narrow {
-            fails: false,
-            ..Narrow::in_pieces(alloc, room, 1)
-        }
-    }
-
-    /// Takes `room` bytes, up to `size` a write, and then fails.
-    pub fn in_pieces(alloc: Global, room: usize, size: usize) -> Self {
-        Narrow {
-            out: Vec::new(alloc),
-            room,
-            size,
-            fails: true,
             is_flushed: false,
+            out: Vec::new(alloc),
+            size,
+            room: usize::MAX,
+            stop: Stop::Fails,
+            faults: 0,
         }
     }
 
+    /// Takes one byte a write, and after `room` bytes answers so many faults.
+    pub fn stopping(alloc: Global, room: usize, stop: Stop, faults: usize) -> Self {
+        Narrow {
+            room,
+            stop,
+            faults,
+            ..Narrow::in_pieces(alloc, 1)
+        }
+    }
+
+    /// What was taken.
     pub fn out(&self) -> &[u8] {
         &self.out
-    }
-
-    pub fn is_flushed(&self) -> bool {
-        self.is_flushed
     }
 }
 
 impl Write for Narrow {
     fn write(&mut self, buf: &[u8]) -> io::Result<usize> {
-        if self.room == 0 && self.fails {
-            return Err(io::Error::from(io::ErrorKind::Interrupted));
+        if self.room == 0 && self.faults > 0 {
+            self.faults -= 1;
+            return match self.stop {
+                Stop::Fails => Err(io::Error::from(io::ErrorKind::Interrupted)),
+                Stop::TakesNone => Ok(0),
+            };
         }
-        let count = buf.len().min(self.room).min(self.size);
+        let most = if self.faults > 0 {
+            self.room
+        } else {
+            usize::MAX
+        };
+        let count = buf.len().min(self.size).min(most);
         self.out.extend_from_slice(&buf[..count])?;
-        self.room -= count;
+        self.room = self.room.saturating_sub(count);
         Ok(count)
     }
 

@@ -5,111 +5,69 @@ use super::reading::reads;
 use super::writing::writes;
 use super::{COUNTING, Notation, filled, is_answer};
 use crate::{MAX_FILE, decode_hex};
-use std::alloc::{AllocError, Global};
+use std::alloc::Global;
 use std::process::Abort;
 use std::test::Fail;
 
 // Zeros, ff, counting and pseudo-random bytes.
 const CONTENTS: [[u8; 3]; 4] = [[0, 1, 0], [0xff, 1, 0], COUNTING, [1, 109, 53]];
 
-// Each length to 520, the multiples of 8 with their neighbours to 4,105, and some to the longest
-// file.
+// Each length to 520, the multiples of 8 with their neighbours to 4,105, and some to the largest.
 fn is_tried(len: usize) -> bool {
-    match len {
-        ..=520 => true,
-        ..=4_105 => matches!(len % 8, 0 | 1 | 7),
-        _ => matches!(len, 16_384 | 16_385 | 32_768 | MAX_FILE),
-    }
+    len <= 520 || len <= 4_105 && (len + 1) % 8 <= 2 || len >= 16_384 && len.is_power_of_two()
 }
 
-// What is done with bytes.
-#[derive(Clone, Copy)]
-enum Call {
-    Read(Notation),
-    DecodeHex,
-    Write(Notation),
+#[test]
+fn gives_up_for_memory_at_no_length(rt: HostRuntime) -> Result<(), Fail> {
+    run_each_length(&rt, rt.alloc(), usize::MAX)
 }
 
-// Runs a call on bytes of each content and length, with readers and writers of up to `size` bytes.
-fn run_each_length(rt: &impl Abort, alloc: Global, call: Call, size: usize) -> Result<(), Fail> {
+#[test]
+fn gives_up_for_io_at_no_length(rt: HostRuntime) -> Result<(), Fail> {
+    run_each_length(&rt, rt.alloc(), 1)
+}
+
+// Each call on bytes of each content and length, with readers and writers of up to `size` bytes.
+fn run_each_length(rt: &impl Abort, alloc: Global, size: usize) -> Result<(), Fail> {
     for content in CONTENTS {
         let bytes = filled(alloc, content, MAX_FILE)?;
         for len in 0..=bytes.len() {
             if is_tried(len) {
-                run(rt, alloc, call, &bytes[..len], size)?;
+                run_on(rt, alloc, &bytes[..len], size)?;
             }
         }
     }
     Ok(())
 }
 
-fn run(rt: &impl Abort, alloc: Global, call: Call, bytes: &[u8], size: usize) -> Result<(), Fail> {
-    match call {
-        Call::Read(notation) => {
-            let file = shown(alloc, notation, bytes)?;
-            reads(rt, alloc, notation, &file, size, file.len(), Ok(bytes));
-        }
-        Call::DecodeHex => {
-            let file = shown(alloc, Notation::Hex, bytes)?;
-            assert!(rt; is_answer(decode_hex(alloc, &file), Ok(bytes)));
-        }
-        Call::Write(notation) => {
-            let file = shown(alloc, notation, bytes)?;
-            let out = Narrow::in_pieces(alloc, file.len(), size);
-            writes(rt, alloc, notation, bytes, &file, out, file.len());
-        }
-    }
+fn run_on(rt: &impl Abort, alloc: Global, bytes: &[u8], size: usize) -> Result<(), Fail> {
+    let (raw, len) = (Notation::Raw, bytes.len());
+    reads(rt, alloc, raw, bytes, size, len, Ok(bytes));
+    writes(
+        rt,
+        alloc,
+        raw,
+        bytes,
+        bytes,
+        Narrow::in_pieces(alloc, size),
+        len,
+    );
+    let mut line = hex::encode(alloc, bytes)?;
+    line.push('\n')?;
+    let (hex, line) = (Notation::Hex, line.as_bytes());
+    assert!(rt;
+        is_answer(decode_hex(alloc, line), Ok(bytes)),
+        "{len} bytes"
+    );
+    reads(rt, alloc, hex, line, size, line.len(), Ok(bytes));
+    writes(
+        rt,
+        alloc,
+        hex,
+        bytes,
+        line,
+        Narrow::in_pieces(alloc, size),
+        line.len(),
+    );
     Ok(())
-}
-
-// A file of these bytes.
-fn shown(alloc: Global, notation: Notation, bytes: &[u8]) -> Result<Vec<u8>, AllocError> {
-    match notation {
-        Notation::Raw => bytes.to_vec(alloc),
-        Notation::Hex => {
-            let mut line = hex::encode(alloc, bytes)?;
-            line.push('\n')?;
-            Ok(line.into_bytes())
-        }
-    }
-}
-
-#[test]
-fn gives_up_for_memory_at_no_length_in_read_raw(rt: HostRuntime) -> Result<(), Fail> {
-    run_each_length(&rt, rt.alloc(), Call::Read(Notation::Raw), usize::MAX)
-}
-
-#[test]
-fn gives_up_for_memory_at_no_length_in_read_hex(rt: HostRuntime) -> Result<(), Fail> {
-    run_each_length(&rt, rt.alloc(), Call::Read(Notation::Hex), usize::MAX)
-}
-
-#[test]
-fn gives_up_for_memory_at_no_length_in_decode_hex(rt: HostRuntime) -> Result<(), Fail> {
-    run_each_length(&rt, rt.alloc(), Call::DecodeHex, usize::MAX)
-}
-
-#[test]
-fn gives_up_for_memory_at_no_length_in_write_hex(rt: HostRuntime) -> Result<(), Fail> {
-    run_each_length(&rt, rt.alloc(), Call::Write(Notation::Hex), usize::MAX)
-}
-
-#[test]
-fn gives_up_for_io_at_no_length_in_read_raw(rt: HostRuntime) -> Result<(), Fail> {
-    run_each_length(&rt, rt.alloc(), Call::Read(Notation::Raw), 1)
-}
-
-#[test]
-fn gives_up_for_io_at_no_length_in_read_hex(rt: HostRuntime) -> Result<(), Fail> {
-    run_each_length(&rt, rt.alloc(), Call::Read(Notation::Hex), 1)
-}
-
-#[test]
-fn gives_up_for_io_at_no_length_in_write_raw(rt: HostRuntime) -> Result<(), Fail> {
-    run_each_length(&rt, rt.alloc(), Call::Write(Notation::Raw), 1)
-}
-
-#[test]
-fn gives_up_for_io_at_no_length_in_write_hex(rt: HostRuntime) -> Result<(), Fail> {
-    run_each_length(&rt, rt.alloc(), Call::Write(Notation::Hex), 1)
 }

@@ -1,25 +1,24 @@
-//! Files by readers that give them whole or in pieces, fail or never end.
+//! Files by readers that give them whole or in pieces, fail, or would give more than is taken.
 
 ghost use Rattle.std.specs.Prelude.{◌<◌};
 
-use super::doubles::{Endless, Trickle};
+use super::doubles::{FAULTS, Trickle};
 use super::{COUNTING, Notation, filled, is_answer};
 use crate::{FileFault, MAX_FILE, read_hex, read_raw};
 use std::alloc::Global;
-use std::io::Read;
 use std::process::Abort;
 use std::test::Fail;
 
 // One byte a read, pieces about as large as the most that one read may give, and all at once.
-const PIECES: [usize; 5] = [1, 4_095, 4_096, 4_097, usize::MAX];
+const SIZES: [usize; 5] = [1, 4_095, 4_096, 4_097, usize::MAX];
 
 const KEK_FILE: &[u8] = b"00 01 02 03 04 05 06 07\r\n08090A0b0C0d0E0f\r\n";
 
 // The call that reads a notation.
-fn read<R: Read>(
+fn read(
     alloc: Global,
     notation: Notation,
-    reader: &mut R,
+    reader: &mut Trickle,
     limit: usize,
 ) -> Result<Vec<u8>, FileFault>
     requires { limit < usize.MAX }
@@ -50,14 +49,7 @@ pub(super) fn reads(
         "{} bytes, {size} a read",
         file.len()
     );
-    assert!(rt; pieces.left() == file.len().saturating_sub(limit + 1));
-}
-
-// The same for pieces of each size.
-fn reads_hex(rt: &impl Abort, alloc: Global, file: &[u8], want: Result<&[u8], FileFault>) {
-    for size in PIECES {
-        reads(rt, alloc, Notation::Hex, file, size, MAX_FILE, want);
-    }
+    assert!(rt; pieces.left.len() == file.len().saturating_sub(limit + 1));
 }
 
 static FILES: [(&[u8], Result<&[u8], FileFault>); 8] = [
@@ -77,83 +69,107 @@ static FILES: [(&[u8], Result<&[u8], FileFault>); 8] = [
 #[test]
 fn reads_hex_files(rt: HostRuntime) {
     for (file, want) in &FILES {
-        reads_hex(&rt, rt.alloc(), file, *want);
-    }
-}
-
-#[test]
-fn reads_hex_files_about_the_limit(rt: HostRuntime) -> Result<(), Fail> {
-    let bytes = filled(rt.alloc(), [0x55, 1, 0], MAX_FILE / 2)?;
-    let mut digits = filled(rt.alloc(), [b'5', 1, 0], MAX_FILE - 1)?;
-    reads_hex(&rt, rt.alloc(), &digits, Err(FileFault::OddDigits));
-    digits.push(b'g')?;
-    let at = 4_194_303;
-    reads_hex(&rt, rt.alloc(), &digits, Err(FileFault::BadDigit { at }));
-    digits.pop();
-    digits.push(b'5')?;
-    reads_hex(&rt, rt.alloc(), &digits, Ok(&bytes));
-    digits.push(b'5')?;
-    reads_hex(&rt, rt.alloc(), &digits, Err(FileFault::TooLong));
-    digits.insert(0, b'g')?;
-    reads_hex(&rt, rt.alloc(), &digits, Err(FileFault::TooLong));
-    Ok(())
-}
-
-#[test]
-fn reads_raw_files(rt: HostRuntime) -> Result<(), Fail> {
-    for len in [0, 5, 4_095, 4_096, 4_097, 8_192, 8_193, MAX_FILE] {
-        let file = filled(rt.alloc(), COUNTING, len)?;
-        reads_raw(&rt, rt.alloc(), &file);
-    }
-    Ok(())
-}
-
-// The file is read whole, and one of a byte more than the limit is too long.
-fn reads_raw(rt: &impl Abort, alloc: Global, file: &[u8]) {
-    for size in PIECES {
-        reads(rt, alloc, Notation::Raw, file, size, file.len(), Ok(file));
-        if let Some(limit) = file.len().checked_sub(1) {
-            let want = Err(FileFault::TooLong);
-            reads(rt, alloc, Notation::Raw, file, size, limit, want);
+        for size in SIZES {
+            reads(&rt, rt.alloc(), Notation::Hex, file, size, MAX_FILE, *want);
         }
     }
 }
 
+// Files of digits about the limit: so many bytes, of which the first and the last are these, and
+// the fault, or none where the digits are read.
+static LARGE: [(usize, u8, u8, Option<FileFault>); 5] = [
+    (4_194_304, b'5', b'5', None),
+    (4_194_303, b'5', b'5', Some(FileFault::OddDigits)),
+    (
+        4_194_304,
+        b'5',
+        b'g',
+        Some(FileFault::BadDigit { at: 4_194_303 }),
+    ),
+    (4_194_305, b'5', b'5', Some(FileFault::TooLong)),
+    (4_194_305, b'g', b'5', Some(FileFault::TooLong)),
+];
+
 #[test]
-fn takes_one_byte_past_the_limit(rt: HostRuntime) {
-    for limit in [0, 4, 4_095, 4_096, 10_000, MAX_FILE] {
-        takes_one_byte_past(&rt, rt.alloc(), Notation::Raw, limit);
-        takes_one_byte_past(&rt, rt.alloc(), Notation::Hex, limit);
+fn reads_hex_files_about_the_limit(rt: HostRuntime) -> Result<(), Fail> {
+    let bytes = filled(rt.alloc(), [0x55, 1, 0], 2_097_152)?;
+    for (len, first, last, fault) in &LARGE {
+        let mut digits = vec![in rt.alloc(); *first; 1]?;
+        digits.resize(len.saturating_sub(1), b'5')?;
+        digits.push(*last)?;
+        let want = match fault {
+            Some(fault) => Err(*fault),
+            None => Ok(bytes.as_slice()),
+        };
+        for size in SIZES {
+            reads(
+                &rt,
+                rt.alloc(),
+                Notation::Hex,
+                &digits,
+                size,
+                MAX_FILE,
+                want,
+            );
+        }
     }
+    Ok(())
 }
 
-fn takes_one_byte_past(rt: &impl Abort, alloc: Global, notation: Notation, limit: usize)
-    requires { limit < usize.MAX }
-{
-    let mut endless = Endless::new();
-    let answer = read(alloc, notation, &mut endless, limit);
-    assert!(rt; is_answer(answer, Err(FileFault::TooLong)), "limit {limit}");
-    assert!(rt; endless.given() == limit + 1, "limit {limit}");
+// A file is read whole at its length as the limit, and is too long at one or two bytes less: one
+// byte past the limit is taken from it, as from one without end.
+#[test]
+fn reads_raw_files_and_takes_one_byte_past_the_limit(rt: HostRuntime) -> Result<(), Fail> {
+    for len in [
+        0, 1, 5, 6, 4_095, 4_096, 4_097, 8_192, 8_193, 10_002, MAX_FILE,
+    ] {
+        let file = filled(rt.alloc(), COUNTING, len)?;
+        for size in SIZES {
+            reads_raw(&rt, rt.alloc(), &file, size);
+        }
+    }
+    Ok(())
+}
+
+fn reads_raw(rt: &impl Abort, alloc: Global, file: &[u8], size: usize) {
+    let len = file.len();
+    reads(rt, alloc, Notation::Raw, file, size, len, Ok(file));
+    for less in [1, 2] {
+        if let Some(limit) = len.checked_sub(less) {
+            let too_long = Err(FileFault::TooLong);
+            reads(rt, alloc, Notation::Raw, file, size, limit, too_long);
+            reads(rt, alloc, Notation::Hex, file, size, limit, too_long);
+        }
+    }
 }
 
 #[test]
 fn each_failed_read_is_read(rt: HostRuntime) {
     // In the second file the error is met before the bad digit is looked for.
     for file in [KEK_FILE, b"zz"] {
-        for len in 0..=file.len() {
-            fails_after(&rt, rt.alloc(), Notation::Raw, &file[..len]);
-            fails_after(&rt, rt.alloc(), Notation::Hex, &file[..len]);
+        for room in 0..=file.len() {
+            for faults in FAULTS {
+                fails_after(&rt, rt.alloc(), Notation::Raw, file, room, faults);
+                fails_after(&rt, rt.alloc(), Notation::Hex, file, room, faults);
+            }
         }
     }
 }
 
-fn fails_after(rt: &impl Abort, alloc: Global, notation: Notation, bytes: &[u8]) {
-    let mut stopped = Trickle::failing(bytes);
+// The first fault is answered, and the reader not asked again, even where it would go on.
+fn fails_after(
+    rt: &impl Abort,
+    alloc: Global,
+    notation: Notation,
+    file: &[u8],
+    room: usize,
+    faults: usize,
+) {
+    let mut stopped = Trickle::failing(file, room, faults);
     let answer = read(alloc, notation, &mut stopped, MAX_FILE);
     assert!(rt;
         is_answer(answer, Err(FileFault::Read)),
-        "after {} bytes",
-        bytes.len()
+        "after {room} bytes"
     );
-    assert!(rt; !stopped.is_unread() && stopped.left() == 0);
+    assert!(rt; stopped.left.len() == file.len().saturating_sub(room));
 }

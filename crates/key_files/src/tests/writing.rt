@@ -1,7 +1,7 @@
 //! Bytes and lines by writers that take them whole or in pieces, fail or fill up.
 
 use super::Notation;
-use super::doubles::Narrow;
+use super::doubles::{FAULTS, Narrow, STOPS, Stop};
 use crate::{HexWriteFault, write_hex, write_raw};
 use std::alloc::Global;
 use std::process::Abort;
@@ -25,8 +25,8 @@ fn write(
     }
 }
 
-// Says that bytes go out as this file, or as its first `room` bytes, which the fault counts. The
-// flush is left to the caller.
+// Says that bytes go out as this file, or as its first `room` bytes, which the fault counts, and
+// that no write is made after it. The flush is left to the caller.
 pub(super) fn writes(
     rt: &impl Abort,
     alloc: Global,
@@ -43,42 +43,40 @@ pub(super) fn writes(
         Ok(())
     };
     assert!(rt; answer == want, "{room} of {} bytes", file.len());
-    assert!(rt; Some(out.out()) == file.get(..room) && !out.is_flushed());
-}
-
-// The line as raw bytes, and the text as a line.
-fn writes_line(rt: &impl Abort, alloc: Global, room: usize, raw: Narrow, hex: Narrow) {
-    writes(rt, alloc, Notation::Raw, LINE, LINE, raw, room);
-    writes(rt, alloc, Notation::Hex, TEXT, LINE, hex, room);
+    assert!(rt; Some(out.out()) == file.get(..room) && !out.is_flushed);
 }
 
 #[test]
 fn each_refused_write_is_counted(rt: HostRuntime) {
-    let alloc = rt.alloc();
-    for room in 0..LINE.len() {
-        let (raw, hex) = (Narrow::failing(alloc, room), Narrow::failing(alloc, room));
-        writes_line(&rt, alloc, room, raw, hex);
-        let (raw, hex) = (Narrow::full(alloc, room), Narrow::full(alloc, room));
-        writes_line(&rt, alloc, room, raw, hex);
+    for room in 0..=LINE.len() {
+        for faults in FAULTS {
+            for stop in STOPS {
+                stops_after(&rt, rt.alloc(), room, stop, faults);
+            }
+        }
     }
 }
 
+// The line as raw bytes, and the text as a line. A stop behind the last byte is not met.
+fn stops_after(rt: &impl Abort, alloc: Global, room: usize, stop: Stop, faults: usize) {
+    let raw = Narrow::stopping(alloc, room, stop, faults);
+    writes(rt, alloc, Notation::Raw, LINE, LINE, raw, room);
+    let hex = Narrow::stopping(alloc, room, stop, faults);
+    writes(rt, alloc, Notation::Hex, TEXT, LINE, hex, room);
+}
+
 #[test]
-fn writes_in_pieces(rt: HostRuntime) {
-    let alloc = rt.alloc();
-    let room = LINE.len();
+fn writes_in_pieces_and_no_bytes(rt: HostRuntime) {
+    let (alloc, room) = (rt.alloc(), LINE.len());
     for size in [1, 7, usize::MAX] {
-        let raw = Narrow::in_pieces(alloc, room, size);
-        let hex = Narrow::in_pieces(alloc, room, size);
-        writes_line(&rt, alloc, room, raw, hex);
+        let raw = Narrow::in_pieces(alloc, size);
+        writes(&rt, alloc, Notation::Raw, LINE, LINE, raw, room);
+        let hex = Narrow::in_pieces(alloc, size);
+        writes(&rt, alloc, Notation::Hex, TEXT, LINE, hex, room);
     }
-}
-
-#[test]
-fn writes_no_bytes(rt: HostRuntime) {
     // No write is made of no bytes, so none is refused.
-    let raw = Narrow::failing(rt.alloc(), 0);
-    writes(&rt, rt.alloc(), Notation::Raw, &[], &[], raw, 0);
-    let hex = Narrow::failing(rt.alloc(), 1);
-    writes(&rt, rt.alloc(), Notation::Hex, &[], b"\n", hex, 1);
+    let raw = Narrow::stopping(alloc, 0, Stop::Fails, usize::MAX);
+    writes(&rt, alloc, Notation::Raw, &[], &[], raw, 0);
+    let hex = Narrow::stopping(alloc, 1, Stop::Fails, usize::MAX);
+    writes(&rt, alloc, Notation::Hex, &[], b"\n", hex, 1);
 }

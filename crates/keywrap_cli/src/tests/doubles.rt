@@ -1,148 +1,145 @@
-//! Readers and writers of the tests, which stop, fail or never end, and jobs run over them.
+//! Readers and writers of the tests: in pieces, and with faults, after which they go on or not.
 
-use crate::job::{Done, JobFault, Task, run_job};
 use std::alloc::Global;
 use std::io::{self, Read, Write};
 
-/// Gives so many bytes a read, and then the end or a fault.
-#[derive(Drop)]
+/// How often a double answers its fault: once, and then it goes on, or whenever it is asked.
+pub static FAULTS: [usize; 2] = [1, usize::MAX];
+
+/// Gives its bytes in pieces, and at one place a fault.
+#[derive(Clone, Copy)]
 pub struct Trickle<'a> {
-    rest: &'a [u8],
+    /// What was not given.
+    pub left: &'a [u8],
+    /// Whether no read was made.
+    pub is_unread: bool,
     // The most bytes that a read gives.
     size: usize,
-    fails: bool,
-    is_unread: bool,
+    // The bytes up to the place of the fault, and how often it is answered.
+    room: usize,
+    faults: usize,
 }
 
 impl<'a> Trickle<'a> {
-    /// One byte a read, and then the end.
-    pub fn ending(bytes: &'a [u8]) -> Self {
-        Trickle::in_pieces(bytes, 1)
-    }
-
-    /// One byte a read, and then an error.
-    pub fn failing(bytes: &'a [u8]) -> Self {
-        Trickle {
-            fails: true,
-            ..Trickle::in_pieces(bytes, 1)
-        }
-    }
-
     /// Up to `size` bytes a read, and then the end.
     pub fn in_pieces(bytes: &'a [u8], size: usize) -> Self {
         Trickle {
-            rest: bytes,
-            size,
-            fails: false,
+            left: bytes,
             is_unread: true,
+            size,
+            room: usize::MAX,
+            faults: 0,
         }
     }
 
-    /// Whether no read was made.
-    pub fn is_unread(&self) -> bool {
-        self.is_unread
+    /// One byte a read, and after `room` bytes so many faults.
+    pub fn failing(bytes: &'a [u8], room: usize, faults: usize) -> Self {
+        Trickle {
+            room,
+            faults,
+            ..Trickle::in_pieces(bytes, 1)
+        }
     }
 }
 
 impl Read for Trickle<'_> {
     fn read(&mut self, buf: &mut [u8]) -> io::Result<usize> {
         self.is_unread = false;
-        if self.rest.is_empty() && self.fails {
+        if self.room == 0 && self.faults > 0 {
+            self.faults -= 1;
             return Err(io::Error::from(io::ErrorKind::Interrupted));
         }
-        let count = self.rest.len().min(self.size).min(buf.len());
-        let (front, rest) = self.rest.split_at(count);
-        buf[..count].copy_from_slice(front);
-        self.rest = rest;
+        let most = if self.faults > 0 {
+            self.room
+        } else {
+            usize::MAX
+        };
+        let count = self.left.len().min(self.size).min(buf.len()).min(most);
+        let (piece, left) = self.left.split_at(count);
+        buf[..count].copy_from_slice(piece);
+        self.left = left;
+        self.room = self.room.saturating_sub(count);
         Ok(count)
     }
 }
 
-/// Never ends, and counts the bytes that it gave.
-#[derive(Drop)]
-pub struct Endless {
-    given: usize,
+/// What a writer answers at its fault: each in turn.
+pub static STOPS: [Stop; 2] = [Stop::Fails, Stop::TakesNone];
+
+/// What a writer answers at its fault.
+#[derive(Clone, Copy, Debug)]
+pub enum Stop {
+    /// An error.
+    Fails,
+    /// That it took no byte.
+    TakesNone,
 }
 
-impl Endless {
-    /// A reader of zeros.
-    pub fn new() -> Self {
-        Endless { given: 0 }
-    }
-
-    /// How many bytes were given.
-    pub fn given(&self) -> usize {
-        self.given
-    }
-}
-
-impl Read for Endless {
-    fn read(&mut self, buf: &mut [u8]) -> io::Result<usize> {
-        buf.fill(b'0');
-        self.given = self.given.saturating_add(buf.len());
-        Ok(buf.len())
-    }
-}
-
-/// Takes so many bytes, in pieces, and then fails or takes none.
+/// Takes bytes in pieces, and at one place answers a fault.
 #[derive(Drop)]
 pub struct Narrow {
+    /// Whether a flush was asked for.
+    pub is_flushed: bool,
     out: Vec<u8>,
-    room: usize,
     // The most bytes that a write takes.
     size: usize,
-    fails: bool,
-    is_flushed: bool,
+    // The bytes up to the place of the fault, what it is, and how often it is answered.
+    room: usize,
+    stop: Stop,
+    faults: usize,
 }
 
 impl Narrow {
-    /// Takes one byte a write, and fails after `room` bytes.
-    pub fn failing(alloc: Global, room: usize) -> Self {
-        Narrow {
-            room,
-            fails: true,
-            ..Narrow::in_pieces(alloc, 1)
-        }
-    }
-
-    /// Takes one byte a write, and none after `room` bytes.
-    pub fn full(alloc: Global, room: usize) -> Self {
-        Narrow {
-            room,
-            ..Narrow::in_pieces(alloc, 1)
-        }
-    }
-
     /// Takes up to `size` bytes a write, without end.
     pub fn in_pieces(alloc: Global, size: usize) -> Self {
         Narrow {
-            out: Vec::new(alloc),
-            room: usize::MAX,
-            size,
-            fails: false,
             is_flushed: false,
+            out: Vec::new(alloc),
+            size,
+            room: usize::MAX,
+            stop: Stop::Fails,
+            faults: 0,
         }
+    }
+
+    /// Takes one byte a write, and after `room` bytes answers so many faults.
+    pub fn stopping(alloc: Global, room: usize, stop: Stop, faults: usize) -> Self {
+        Narrow {
+            room,
+            stop,
+            faults,
+            ..Narrow::in_pieces(alloc, 1)
+        }
+    }
+
+    /// Takes one byte a write, and fails after `room` bytes.
+    pub fn failing(alloc: Global, room: usize) -> Self {
+        Narrow::stopping(alloc, room, Stop::Fails, usize::MAX)
     }
 
     /// What was taken.
     pub fn out(&self) -> &[u8] {
         &self.out
     }
-
-    /// Whether a flush was asked for.
-    pub fn is_flushed(&self) -> bool {
-        self.is_flushed
-    }
 }
 
 impl Write for Narrow {
     fn write(&mut self, buf: &[u8]) -> io::Result<usize> {
-        if self.room == 0 && self.fails {
-            return Err(io::Error::from(io::ErrorKind::Interrupted));
+        if self.room == 0 && self.faults > 0 {
+            self.faults -= 1;
+            return match self.stop {
+                Stop::Fails => Err(io::Error::from(io::ErrorKind::Interrupted)),
+                Stop::TakesNone => Ok(0),
+            };
         }
-        let count = buf.len().min(self.room).min(self.size);
+        let most = if self.faults > 0 {
+            self.room
+        } else {
+            usize::MAX
+        };
+        let count = buf.len().min(self.size).min(most);
         self.out.extend_from_slice(&buf[..count])?;
-        self.room -= count;
+        self.room = self.room.saturating_sub(count);
         Ok(count)
     }
 
@@ -150,19 +147,4 @@ impl Write for Narrow {
         self.is_flushed = true;
         Ok(())
     }
-}
-
-/// Runs a job over files and an output of up to `size` bytes a call, and answers what it wrote.
-pub fn run_in_pieces(
-    alloc: Global,
-    task: Task,
-    kek: &[u8],
-    input: &[u8],
-    size: usize,
-) -> (Result<Done, JobFault>, Vec<u8>) {
-    let mut kek = Trickle::in_pieces(kek, size);
-    let mut input = Trickle::in_pieces(input, size);
-    let mut out = Narrow::in_pieces(alloc, size);
-    let done = run_job(alloc, task, &mut kek, &mut input, &mut out);
-    (done, out.out)
 }

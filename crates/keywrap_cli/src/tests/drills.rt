@@ -8,8 +8,6 @@ use crate::fault::ProgramFault;
 use crate::program::run_drill;
 use key_files::decode_hex;
 use key_wrap::Form;
-use std::alloc::Global;
-use std::process::Abort;
 use std::test::Fail;
 
 // Keys and their texts.
@@ -66,22 +64,13 @@ static WRAPPINGS: [(Form, &str, &str); 9] = [
 #[test]
 fn wraps_and_unwraps_keys(rt: HostRuntime) -> Result<(), Fail> {
     for (form, key, text) in &WRAPPINGS {
-        wrap_and_unwrap(&rt, rt.alloc(), *form, key, text)?;
+        let wrapped = drill(rt.alloc(), *form, Direction::Wrap, key)?;
+        let digits = hex::encode(rt.alloc(), &wrapped)?;
+        assert!(rt; digits.as_str() == *text, "{key}");
+        let unwrapped = drill(rt.alloc(), *form, Direction::Unwrap, text)?;
+        let key = decode_hex(rt.alloc(), key.as_bytes())?;
+        assert!(rt; unwrapped == key, "{text}");
     }
-    Ok(())
-}
-
-fn wrap_and_unwrap(
-    rt: &impl Abort,
-    alloc: Global,
-    form: Form,
-    key: &str,
-    text: &str,
-) -> Result<(), Fail> {
-    let wrapped = drill(alloc, form, Direction::Wrap, key)?;
-    assert_eq!(rt; hex::encode(alloc, &wrapped)?.as_str(), text);
-    let unwrapped = drill(alloc, form, Direction::Unwrap, text)?;
-    assert_eq!(rt; unwrapped, decode_hex(alloc, key.as_bytes())?);
     Ok(())
 }
 
@@ -99,10 +88,10 @@ fn wraps_past_256_steps(rt: HostRuntime) -> Result<(), Fail> {
     let digits = [b'0'; 688];
     let zeros = std::str::from_utf8(&digits)?;
     let wrapped = drill(rt.alloc(), Form::Plain, Direction::Wrap, zeros)?;
-    assert_eq!(rt; wrapped.len(), 352);
+    assert!(rt; wrapped.len() == 352);
     for (place, word) in &PAST_256 {
         let found = wrapped.get(8 * place..8 * place + 8);
-        assert_eq!(rt; found, Some(word.to_be_bytes().as_slice()), "C{place}");
+        assert!(rt; found == Some(word.to_be_bytes().as_slice()), "C{place}");
     }
     Ok(())
 }
@@ -160,7 +149,7 @@ static REFUSALS: [(Form, Direction, &str, DrillFault); 10] = [
 fn refuses_in_order(rt: HostRuntime) {
     for (form, direction, text, fault) in &REFUSALS {
         let found = drill(rt.alloc(), *form, *direction, text);
-        assert_eq!(rt; found.err(), Some(*fault), "{form:?} {direction:?}");
+        assert!(rt; found.err() == Some(*fault), "{text}");
     }
 }
 
@@ -174,10 +163,10 @@ fn counts_the_bytes_of_a_drill_that_went_out(rt: HostRuntime) {
         let mut out = Narrow::failing(rt.alloc(), room);
         let done = run_drill(rt.alloc(), Form::Plain, Direction::Wrap, KEY, &mut out);
         assert!(rt; matches!(done, Err(ProgramFault::Write { written }) if written == room));
-        assert!(rt; out.out() == &LINE[..room] && !out.is_flushed());
+        assert!(rt; out.out() == &LINE[..room] && !out.is_flushed);
     }
     let mut out = Narrow::failing(rt.alloc(), LINE.len());
     let done = run_drill(rt.alloc(), Form::Plain, Direction::Wrap, KEY, &mut out);
-    assert_eq!(rt; done.ok(), Some(0));
-    assert!(rt; out.out() == LINE && out.is_flushed());
+    assert!(rt; matches!(done, Ok(0)));
+    assert!(rt; out.out() == LINE && out.is_flushed);
 }

@@ -1,21 +1,36 @@
 //! Initial values: their texts, and jobs under them.
 
-use super::doubles::Trickle;
+use super::cases::{Call, Case, HEX, RAW, WRITTEN};
+use super::jobs::{HEX_KEK, HEX_KEY, HEX_TEXT, INTEGRITY, RAW_KEK, RAW_KEY, RAW_TEXT};
 use crate::convert::Direction;
 use crate::initial_value::{IvFault, parse_iv};
-use crate::job::{Done, JobFault, Notation, run_with};
-use key_wrap::InitialValue;
-use std::test::Fail;
 
-const KEK: &[u8] = b"000102030405060708090a0b0c0d0e0f\n";
+const DEFAULT: [u8; 8] = [0xA6; 8];
 
-const KEY_LINE: &[u8] = b"00112233445566778899aabbccddeeff\n";
+/// A value that is not the default.
+pub const OTHER: [u8; 8] = *b"\x01\x23\x45\x67\x89\xAB\xCD\xEF";
 
-// RFC 3394, section 4.1.
-const TEXT_LINE: &[u8] = b"1fa68b0a8112b447aef34bd8fb5a7b829d3e862371d2cfe5\n";
+// The same key under this value, as OpenSSL wraps it.
+const OTHER_TEXT: &[u8] = b"a0f76f4b09e1f2191b8d94da2ca57adfd45ee9732992a98f\n";
 
-// The same key data under the initial value 0123456789abcdef, as OpenSSL wraps it.
-const OTHER_LINE: &[u8] = b"a0f76f4b09e1f2191b8d94da2ca57adfd45ee9732992a98f\n";
+const WRAP: Call = Call::With(DEFAULT, Direction::Wrap, HEX, HEX);
+
+const UNWRAP: Call = Call::With(DEFAULT, Direction::Unwrap, HEX, HEX);
+
+const RAW_UNWRAP: Call = Call::With(DEFAULT, Direction::Unwrap, RAW, HEX);
+
+const OTHER_WRAP: Call = Call::With(OTHER, Direction::Wrap, HEX, HEX);
+
+const OTHER_UNWRAP: Call = Call::With(OTHER, Direction::Unwrap, HEX, RAW);
+
+pub static CASES: [Case; 6] = [
+    Case(WRAP, [HEX_KEK, b"", HEX_KEY], WRITTEN, HEX_TEXT),
+    Case(UNWRAP, [HEX_KEK, b"", HEX_TEXT], WRITTEN, HEX_KEY),
+    Case(RAW_UNWRAP, [HEX_KEK, b"", RAW_TEXT], WRITTEN, RAW_KEY),
+    Case(OTHER_WRAP, [HEX_KEK, b"", HEX_KEY], WRITTEN, OTHER_TEXT),
+    Case(OTHER_UNWRAP, [RAW_KEK, b"", OTHER_TEXT], WRITTEN, HEX_KEY),
+    Case(OTHER_UNWRAP, [RAW_KEK, b"", HEX_TEXT], INTEGRITY, b""),
+];
 
 #[test]
 fn reads_sixteen_digits_and_nothing_else(rt: HostRuntime) {
@@ -39,58 +54,4 @@ fn reads_sixteen_digits_and_nothing_else(rt: HostRuntime) {
         let found = parse_iv(text).map(|iv| iv.bytes());
         assert_eq!(rt; found, wanted, "{text}");
     }
-}
-
-#[test]
-fn wraps_and_unwraps_under_a_value(rt: HostRuntime) -> Result<(), Fail> {
-    let default = [0xa6; 8];
-    let other = [0x01, 0x23, 0x45, 0x67, 0x89, 0xab, 0xcd, 0xef];
-    let none: &[u8] = &[];
-    let rows = [
-        (
-            default,
-            Direction::Wrap,
-            KEY_LINE,
-            Ok(Done::Written),
-            TEXT_LINE,
-        ),
-        (
-            default,
-            Direction::Unwrap,
-            TEXT_LINE,
-            Ok(Done::Written),
-            KEY_LINE,
-        ),
-        (
-            other,
-            Direction::Wrap,
-            KEY_LINE,
-            Ok(Done::Written),
-            OTHER_LINE,
-        ),
-        (
-            other,
-            Direction::Unwrap,
-            TEXT_LINE,
-            Err(JobFault::Integrity),
-            none,
-        ),
-    ];
-    for (value, direction, input, wanted, output) in rows {
-        let iv = InitialValue::new(value)?;
-        let mut out = Vec::new(rt.alloc());
-        let done = run_with(
-            rt.alloc(),
-            &iv,
-            direction,
-            Notation::Hex,
-            Notation::Hex,
-            &mut Trickle::ending(KEK),
-            &mut Trickle::ending(input),
-            &mut out,
-        );
-        assert_eq!(rt; done, wanted);
-        assert_eq!(rt; out.as_slice(), output);
-    }
-    Ok(())
 }

@@ -1,10 +1,12 @@
-//! Jobs over files in memory, readers of one byte a read, and writers that stop.
+//! Jobs over files in memory: the vector of RFC 3394, section 4.1, in each job and notation, and
+//! what is refused.
 
-use super::doubles::{Trickle, run_in_pieces};
-use crate::job::{Done, Job, JobFault, Notation, Task, run_job};
+use super::cases::{Answer, Call, Case, HEX, RAW, WRITTEN};
+use crate::job::{Job, JobFault};
 use key_files::FileFault;
 use key_wrap::Form;
 
+/// The KEK, the key and its text.
 pub const HEX_KEK: &[u8] = b"000102030405060708090a0b0c0d0e0f\n";
 
 pub const HEX_KEY: &[u8] = b"00112233445566778899aabbccddeeff\n";
@@ -15,165 +17,87 @@ pub const RAW_KEK: &[u8] = b"\x00\x01\x02\x03\x04\x05\x06\x07\x08\x09\x0A\x0B\x0
 
 pub const RAW_KEY: &[u8] = b"\x00\x11\x22\x33\x44\x55\x66\x77\x88\x99\xAA\xBB\xCC\xDD\xEE\xFF";
 
-pub const RAW_TEXT: &[u8] = &[
-    0x1F, 0xA6, 0x8B, 0x0A, 0x81, 0x12, 0xB4, 0x47, 0xAE, 0xF3, 0x4B, 0xD8, 0xFB, 0x5A, 0x7B, 0x82,
-    0x9D, 0x3E, 0x86, 0x23, 0x71, 0xD2, 0xCF, 0xE5,
-];
+pub const RAW_TEXT: &[u8] = b"\x1F\xA6\x8B\x0A\x81\x12\xB4\x47\xAE\xF3\x4B\xD8\xFB\x5A\x7B\x82\
+    \x9D\x3E\x86\x23\x71\xD2\xCF\xE5";
 
-pub const LINE: &[u8] = b"plain 16\n";
+/// RFC 5649, section 6: the KEK, and the texts of 20 and of 7 octets.
+pub const PADDED_KEK: &[u8] = b"5840df6e29b02af1ab493b705bf16ea1ae8338f4dcc176a8";
 
-pub const HEX_WRAP: Task = Task {
-    job: Job::Wrap,
-    form: Form::Plain,
-    input: Notation::Hex,
-    kek: Notation::Hex,
-};
+pub const TEXT_OF_20: &[u8] = b"138bdeaa9b8fa7fc61f97742e72248ee5ae6ae5360d1ae6a5f54f373fa543b6a";
 
-pub const RAW_WRAP: Task = Task {
-    input: Notation::Raw,
-    kek: Notation::Raw,
-    ..HEX_WRAP
-};
+pub const TEXT_OF_7: &[u8] = b"afbeb0f07dfbf5419200f2ccb50bb24f\n";
 
-/// A job with its files and its output.
-#[derive(Clone, Copy)]
-pub struct Case {
-    pub task: Task,
-    pub kek: &'static [u8],
-    pub input: &'static [u8],
-    pub output: &'static [u8],
-}
+/// White space of each kind.
+pub const BLANKS: &[u8] = b" \t\r\n\n\r\t ";
 
-const HEX_CASE: Case = Case {
-    task: HEX_WRAP,
-    kek: HEX_KEK,
-    input: HEX_KEY,
-    output: HEX_TEXT,
-};
+const SPACED_KEK: &[u8] = b"00 01 02 03 04 05 06 07\r\n08090A0b0C0d0E0f\r\n";
 
-const RAW_CASE: Case = Case {
-    task: RAW_WRAP,
-    kek: RAW_KEK,
-    input: RAW_KEY,
-    output: RAW_TEXT,
-};
+const FIFTEEN: &[u8] = b"000000000000000000000000000000";
 
-/// The vector of RFC 3394, section 4.1, in each job, in hex and raw.
-pub static CASES: [Case; 6] = [
-    HEX_CASE,
-    Case {
-        task: Task {
-            job: Job::Unwrap,
-            ..HEX_WRAP
-        },
-        input: HEX_TEXT,
-        output: HEX_KEY,
-        ..HEX_CASE
-    },
-    Case {
-        task: Task {
-            job: Job::Check,
-            ..HEX_WRAP
-        },
-        input: HEX_TEXT,
-        output: LINE,
-        ..HEX_CASE
-    },
-    RAW_CASE,
-    Case {
-        task: Task {
-            job: Job::Unwrap,
-            ..RAW_WRAP
-        },
-        input: RAW_TEXT,
-        output: RAW_KEY,
-        ..RAW_CASE
-    },
-    Case {
-        task: Task {
-            job: Job::Check,
-            ..RAW_WRAP
-        },
-        input: RAW_TEXT,
-        output: LINE,
-        ..RAW_CASE
-    },
-];
+pub const WRAP: Call = Call::Job(Job::Wrap, Form::Plain, HEX, HEX);
 
-#[test]
-fn writes_the_answer_in_the_notation_of_the_input(rt: HostRuntime) {
-    for case in &CASES {
-        let (done, out) = run_in_pieces(rt.alloc(), case.task, case.kek, case.input, 1);
-        assert_eq!(rt; done, Ok(Done::Written), "{:?}", case.task);
-        assert_eq!(rt; out.as_slice(), case.output, "{:?}", case.task);
-    }
-}
+const UNWRAP: Call = Call::Job(Job::Unwrap, Form::Plain, HEX, HEX);
 
-const HEX_UNWRAP: Task = Task {
-    job: Job::Unwrap,
-    ..HEX_WRAP
-};
+const CHECK: Call = Call::Job(Job::Check, Form::Plain, HEX, HEX);
 
-const FIFTEEN_DIGITS: &[u8] = b"000000000000000000000000000000";
+const RAW_WRAP: Call = Call::Job(Job::Wrap, Form::Plain, RAW, RAW);
 
-const KEK_RFC5649: &[u8] = b"5840df6e29b02af1ab493b705bf16ea1ae8338f4dcc176a8";
+const RAW_UNWRAP: Call = Call::Job(Job::Unwrap, Form::Plain, RAW, RAW);
 
-const TEXT_RFC5649: &[u8] = b"138bdeaa9b8fa7fc61f97742e72248ee5ae6ae5360d1ae6a5f54f373fa543b6a";
+const RAW_CHECK: Call = Call::Job(Job::Check, Form::Plain, RAW, RAW);
 
-static REFUSALS: [(Task, &[u8], &[u8], JobFault); 12] = [
-    (RAW_WRAP, &[], RAW_KEY, JobFault::KekLength),
-    (RAW_WRAP, &[0; 15], RAW_KEY, JobFault::KekLength),
-    (RAW_WRAP, &[0; 17], RAW_KEY, JobFault::KekLength),
-    (HEX_WRAP, b" \n", HEX_KEY, JobFault::KekLength),
-    (
-        HEX_WRAP,
-        b"0g",
-        HEX_KEY,
-        JobFault::KekFile(FileFault::BadDigit { at: 1 }),
-    ),
-    (
-        HEX_WRAP,
-        b"012",
-        HEX_KEY,
-        JobFault::KekFile(FileFault::OddDigits),
-    ),
-    (
-        HEX_WRAP,
-        HEX_KEK,
-        b"g01",
-        JobFault::InputFile(FileFault::BadDigit { at: 0 }),
-    ),
-    (
-        HEX_UNWRAP,
-        HEX_KEK,
-        b"012",
-        JobFault::InputFile(FileFault::OddDigits),
-    ),
-    (HEX_WRAP, HEX_KEK, FIFTEEN_DIGITS, JobFault::BadLength),
-    (HEX_WRAP, b"", FIFTEEN_DIGITS, JobFault::KekLength),
-    (HEX_UNWRAP, HEX_KEK, b"\n", JobFault::BadLength),
+const RAW_KEK_WRAP: Call = Call::Job(Job::Wrap, Form::Plain, HEX, RAW);
+
+const RAW_INPUT_WRAP: Call = Call::Job(Job::Wrap, Form::Plain, RAW, HEX);
+
+const PADDED_WRAP: Call = Call::Job(Job::Wrap, Form::Padded, HEX, HEX);
+
+const PADDED_UNWRAP: Call = Call::Job(Job::Unwrap, Form::Padded, HEX, HEX);
+
+pub static CASES: [Case; 27] = [
+    Case(WRAP, [HEX_KEK, b"", HEX_KEY], WRITTEN, HEX_TEXT),
+    Case(UNWRAP, [HEX_KEK, b"", HEX_TEXT], WRITTEN, HEX_KEY),
+    Case(CHECK, [HEX_KEK, b"", HEX_TEXT], WRITTEN, b"plain 16\n"),
+    Case(RAW_WRAP, [RAW_KEK, b"", RAW_KEY], WRITTEN, RAW_TEXT),
+    Case(RAW_UNWRAP, [RAW_KEK, b"", RAW_TEXT], WRITTEN, RAW_KEY),
+    Case(RAW_CHECK, [RAW_KEK, b"", RAW_TEXT], WRITTEN, b"plain 16\n"),
+    Case(RAW_KEK_WRAP, [RAW_KEK, b"", HEX_KEY], WRITTEN, HEX_TEXT),
+    Case(RAW_INPUT_WRAP, [HEX_KEK, b"", RAW_KEY], WRITTEN, RAW_TEXT),
+    Case(WRAP, [SPACED_KEK, b"", HEX_KEY], WRITTEN, HEX_TEXT),
+    // a KEK of no legal length, whatever the input
+    Case(RAW_WRAP, [b"", b"", RAW_KEY], KEK_LENGTH, b""),
+    Case(RAW_WRAP, [&[0; 15], b"", RAW_KEY], KEK_LENGTH, b""),
+    Case(RAW_WRAP, [&[0; 17], b"", RAW_KEY], KEK_LENGTH, b""),
+    Case(WRAP, [b"", b"", FIFTEEN], KEK_LENGTH, b""),
+    Case(WRAP, [BLANKS, b"", HEX_KEY], KEK_LENGTH, b""),
+    Case(UNWRAP, [BLANKS, b"", HEX_TEXT], KEK_LENGTH, b""),
+    Case(CHECK, [BLANKS, b"", HEX_TEXT], KEK_LENGTH, b""),
+    // files that denote no bytes
+    Case(WRAP, [b"0g", b"", HEX_KEY], KEK_DIGIT, b""),
+    Case(WRAP, [b"012", b"", HEX_KEY], KEK_DIGITS, b""),
+    Case(WRAP, [HEX_KEK, b"", b"g01"], INPUT_DIGIT, b""),
+    Case(UNWRAP, [HEX_KEK, b"", b"012"], INPUT_DIGITS, b""),
+    Case(CHECK, [HEX_KEK, b"", b"zz"], INPUT_DIGIT, b""),
+    // inputs of no legal length
+    Case(WRAP, [HEX_KEK, b"", FIFTEEN], BAD_LENGTH, b""),
+    Case(WRAP, [HEX_KEK, b"", BLANKS], BAD_LENGTH, b""),
+    Case(UNWRAP, [HEX_KEK, b"", BLANKS], BAD_LENGTH, b""),
+    Case(PADDED_WRAP, [HEX_KEK, b"", BLANKS], BAD_LENGTH, b""),
+    Case(PADDED_UNWRAP, [HEX_KEK, b"", BLANKS], BAD_LENGTH, b""),
     // a legal length, but a wrapping of the other form
-    (HEX_UNWRAP, KEK_RFC5649, TEXT_RFC5649, JobFault::Integrity),
+    Case(UNWRAP, [PADDED_KEK, b"", TEXT_OF_20], INTEGRITY, b""),
 ];
 
-#[test]
-fn refuses_and_writes_nothing(rt: HostRuntime) {
-    for (task, kek, input, fault) in &REFUSALS {
-        let (done, out) = run_in_pieces(rt.alloc(), *task, kek, input, 1);
-        assert_eq!(rt; done, Err(*fault), "{task:?}");
-        assert!(rt; out.is_empty(), "{task:?}");
-    }
-}
+pub const KEK_LENGTH: Answer = Err(JobFault::KekLength);
 
-static REFUSED_KEKS: [&[u8]; 4] = [b"", b"0g", b"012", b"00010203"];
+pub const KEK_DIGIT: Answer = Err(JobFault::KekFile(FileFault::BadDigit { at: 1 }));
 
-#[test]
-fn leaves_the_input_unread_where_the_kek_is_refused(rt: HostRuntime) {
-    for kek in &REFUSED_KEKS {
-        let mut out = Vec::new(rt.alloc());
-        let mut kek = *kek;
-        let mut input = Trickle::ending(HEX_KEY);
-        let done = run_job(rt.alloc(), HEX_WRAP, &mut kek, &mut input, &mut out);
-        assert!(rt; done.is_err() && input.is_unread());
-    }
-}
+pub const KEK_DIGITS: Answer = Err(JobFault::KekFile(FileFault::OddDigits));
+
+pub const INPUT_DIGIT: Answer = Err(JobFault::InputFile(FileFault::BadDigit { at: 0 }));
+
+pub const INPUT_DIGITS: Answer = Err(JobFault::InputFile(FileFault::OddDigits));
+
+pub const BAD_LENGTH: Answer = Err(JobFault::BadLength);
+
+pub const INTEGRITY: Answer = Err(JobFault::Integrity);

@@ -28,9 +28,8 @@ fips197 4 ok
 #[test]
 fn writes_twelve_lines_that_say_ok(rt: HostRuntime) {
     let mut out = Vec::new(rt.alloc());
-    assert_eq!(rt; vectors(rt.alloc(), &mut out), Ok(true));
-    assert_eq!(rt; out.as_slice(), LINES.as_bytes());
-    assert_eq!(rt; out.len(), 169);
+    assert!(rt; vectors(rt.alloc(), &mut out) == Ok(true));
+    assert!(rt; out.as_slice() == LINES.as_bytes() && out.len() == 169);
 }
 
 // The last byte of one output is changed: its line fails, and the others stay.
@@ -74,11 +73,11 @@ fn with_other_end(alloc: Global, digits: &str) -> Result<String, Fail> {
 
 #[test]
 fn ends_with_the_status_of_the_lines(rt: HostRuntime) {
-    let mut out = Narrow::full(rt.alloc(), LINES.len());
-    assert_eq!(rt; run_vectors(rt.alloc(), &mut out).ok(), Some(0));
-    assert!(rt; out.out() == LINES.as_bytes() && out.is_flushed());
+    let mut out = Narrow::in_pieces(rt.alloc(), 7);
+    assert!(rt; matches!(run_vectors(rt.alloc(), &mut out), Ok(0)));
+    assert!(rt; out.out() == LINES.as_bytes() && out.is_flushed);
     let mut narrow = Narrow::failing(rt.alloc(), 15);
     let done = run_vectors(rt.alloc(), &mut narrow);
     assert!(rt; matches!(done, Err(ProgramFault::Write { written: 15 })));
-    assert!(rt; !narrow.is_flushed());
+    assert!(rt; !narrow.is_flushed);
 }

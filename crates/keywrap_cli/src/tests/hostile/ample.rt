@@ -1,15 +1,20 @@
-//! With ample memory, and files and outputs that can be read and written, no call gives up.
+//! With ample memory, and files and outputs that can be read and written, no call answers Memory,
+//! Read or Write.
 
-use super::super::doubles::run_in_pieces;
-use super::super::jobs::{HEX_KEK, HEX_WRAP, RAW_KEK, RAW_WRAP};
-use super::reads::answers;
+use super::super::cases::{Call, Case, HEX, RAW, WRITTEN};
+use super::super::initial_values::OTHER;
+use super::super::jobs::{HEX_KEK, RAW_KEK};
+use super::super::rewraps::{NEW_KEK, RAW_NEW_KEK};
 use crate::convert::Direction;
 use crate::drill::drill;
-use crate::job::{Done, Job, Task};
-use key_wrap::{Form, MAX_KEY};
+use crate::job::{Job, Notation};
+use aes_block::Aes;
+use key_wrap::{Form, InitialValue, MAX_KEY, wrap, wrap_padded, wrap_with};
 use std::alloc::{AllocError, Global};
 use std::process::Abort;
 use std::test::Fail;
+
+static FORMS: [Form; 2] = [Form::Plain, Form::Padded];
 
 // The byte of a content at a place: of zeros, of ff, of bytes that count and of pseudo-random ones.
 fn byte_of(content: usize, at: usize) -> u8 {
@@ -21,18 +26,9 @@ fn byte_of(content: usize, at: usize) -> u8 {
     }
 }
 
-// A key of the most bytes.
-pub(super) fn key_of(alloc: Global, content: usize) -> Result<Vec<u8>, AllocError> {
-    let mut key = Vec::new(alloc);
-    for at in 0..MAX_KEY {
-        key.push(byte_of(content, at))?;
-    }
-    Ok(key)
-}
-
 // Whether keys of so many bytes are tried: each length to 520 of every content, then words and
 // their neighbours of one content each, and the largest.
-pub(super) fn is_tried(content: usize, len: usize) -> bool {
+fn is_tried(content: usize, len: usize) -> bool {
     match len {
         ..=520 => true,
         ..=4_105 => matches!(len % 8, 0 | 1 | 7) && len / 8 % 4 == content,
@@ -41,7 +37,7 @@ pub(super) fn is_tried(content: usize, len: usize) -> bool {
 }
 
 // Whether a key may have so many bytes, as RFC 3394 and RFC 5649 say up to the largest.
-pub(super) fn is_key_length(form: Form, len: usize) -> bool {
+fn is_key_length(form: Form, len: usize) -> bool {
     match form {
         Form::Plain => len >= 16 && len % 8 == 0,
         Form::Padded => len >= 1,
@@ -49,100 +45,134 @@ pub(super) fn is_key_length(form: Form, len: usize) -> bool {
 }
 
 #[test]
-fn gives_up_for_memory_at_no_length_of_a_drill(rt: HostRuntime) -> Result<(), Fail> {
-    for content in 0..4 {
-        let key = key_of(rt.alloc(), content)?;
-        for len in 1..=key.len() {
-            if is_tried(content, len) {
-                drill_and_back(&rt, rt.alloc(), &key[..len])?;
-            }
-        }
-    }
-    Ok(())
-}
-
-fn drill_and_back(rt: &impl Abort, alloc: Global, key: &[u8]) -> Result<(), Fail> {
-    for form in [Form::Plain, Form::Padded] {
-        if is_key_length(form, key.len()) {
-            let text = drill_bytes(alloc, form, Direction::Wrap, key)?;
-            let back = drill_bytes(alloc, form, Direction::Unwrap, &text)?;
-            assert!(rt; back.as_slice() == key, "{form:?}, {} bytes", key.len());
-        }
-    }
-    Ok(())
-}
-
-fn drill_bytes(
-    alloc: Global,
-    form: Form,
-    direction: Direction,
-    bytes: &[u8],
-) -> Result<Vec<u8>, Fail> {
-    let digits = hex::encode(alloc, bytes)?;
-    Ok(drill(alloc, form, direction, &digits)?)
-}
-
-#[test]
-fn gives_up_for_memory_at_no_length_of_a_job(rt: HostRuntime) -> Result<(), Fail> {
+fn gives_up_for_memory_at_no_length(rt: HostRuntime) -> Result<(), Fail> {
     run_each_length(&rt, rt.alloc(), usize::MAX)
 }
 
 #[test]
-fn gives_up_for_io_at_no_length_of_a_job(rt: HostRuntime) -> Result<(), Fail> {
+fn gives_up_for_io_at_no_length(rt: HostRuntime) -> Result<(), Fail> {
     run_each_length(&rt, rt.alloc(), 1)
 }
 
-// The three jobs on keys of each length, through readers and writers of up to `size` bytes a call.
+// Each call on keys of each length, through readers and writers of up to `size` bytes a call.
 fn run_each_length(rt: &impl Abort, alloc: Global, size: usize) -> Result<(), Fail> {
     for content in 0..4 {
-        let key = key_of(alloc, content)?;
+        let mut key = Vec::new(alloc);
+        for at in 0..MAX_KEY {
+            key.push(byte_of(content, at))?;
+        }
         for len in 1..=key.len() {
             if is_tried(content, len) {
-                run_and_back(rt, alloc, &key[..len], size)?;
+                run_on_key(rt, alloc, &key[..len], size)?;
             }
         }
     }
     Ok(())
 }
 
-fn run_and_back(rt: &impl Abort, alloc: Global, key: &[u8], size: usize) -> Result<(), Fail> {
-    for form in [Form::Plain, Form::Padded] {
+// Each call in each form that the key has, from the key to its texts, from text to text, and back.
+fn run_on_key(rt: &impl Abort, alloc: Global, key: &[u8], size: usize) -> Result<(), Fail> {
+    let (old, new) = (Aes::new(RAW_KEK)?, Aes::new(RAW_NEW_KEK)?);
+    for form in FORMS {
         if is_key_length(form, key.len()) {
-            let raw = Task { form, ..RAW_WRAP };
-            run_in_notation(rt, alloc, raw, RAW_KEK, key, size);
-            let hex = Task { form, ..HEX_WRAP };
-            let mut digits = hex::encode(alloc, key)?;
-            digits.push('\n')?;
-            run_in_notation(rt, alloc, hex, HEX_KEK, digits.as_bytes(), size);
+            let text = wrapped(alloc, &old, form, key)?;
+            let wrap = Call::Job(Job::Wrap, form, RAW, RAW);
+            writes(rt, alloc, wrap, key, &text, size)?;
+            let unwrap = Call::Job(Job::Unwrap, form, RAW, RAW);
+            writes(rt, alloc, unwrap, &text, key, size)?;
+            let check = Call::Job(Job::Check, form, RAW, RAW);
+            let line = check_line(alloc, form, key.len())?;
+            writes(rt, alloc, check, &text, line.as_bytes(), size)?;
+            drills(rt, alloc, form, key)?;
+            for new_form in FORMS {
+                if is_key_length(new_form, key.len()) {
+                    let new_text = wrapped(alloc, &new, new_form, key)?;
+                    let rewrap = Call::Rewrap(form, new_form, RAW, RAW);
+                    writes(rt, alloc, rewrap, &text, &new_text, size)?;
+                }
+            }
         }
+    }
+    if is_key_length(Form::Plain, key.len()) {
+        let text = wrap_with(alloc, &old, &InitialValue::new(OTHER)?, key)?;
+        let wrap = Call::With(OTHER, Direction::Wrap, RAW, RAW);
+        writes(rt, alloc, wrap, key, &text, size)?;
+        let unwrap = Call::With(OTHER, Direction::Unwrap, RAW, RAW);
+        writes(rt, alloc, unwrap, &text, key, size)?;
     }
     Ok(())
 }
 
-// Wraps an input, unwraps the text again and checks it.
-fn run_in_notation(
+fn wrapped(alloc: Global, aes: &Aes, form: Form, key: &[u8]) -> Result<Vec<u8>, Fail> {
+    Ok(match form {
+        Form::Plain => wrap(alloc, aes, key)?,
+        Form::Padded => wrap_padded(alloc, aes, key)?,
+    })
+}
+
+fn check_line(alloc: Global, form: Form, len: usize) -> Result<String, AllocError> {
+    match form {
+        Form::Plain => format!(in alloc; "plain {len}\n"),
+        Form::Padded => format!(in alloc; "padded {len}\n"),
+    }
+}
+
+// Says that a raw call writes this output for this input, and in hex the same.
+fn writes(
     rt: &impl Abort,
     alloc: Global,
-    task: Task,
-    kek: &[u8],
+    call: Call,
     input: &[u8],
+    output: &[u8],
+    size: usize,
+) -> Result<(), Fail> {
+    writes_in(rt, alloc, RAW, call, input, output, size);
+    let input = line_of(alloc, input)?;
+    let output = match call {
+        Call::Job(Job::Check, ..) => output.to_vec(alloc)?,
+        _ => line_of(alloc, output)?,
+    };
+    writes_in(rt, alloc, HEX, in_hex(call), &input, &output, size);
+    Ok(())
+}
+
+// The same for a call with files of one notation.
+fn writes_in<'a>(
+    rt: &impl Abort,
+    alloc: Global,
+    notation: Notation,
+    call: Call,
+    input: &'a [u8],
+    output: &'a [u8],
     size: usize,
 ) {
-    let (_, text) = run_in_pieces(alloc, task, kek, input, size);
-    let unwrap = Task {
-        job: Job::Unwrap,
-        ..task
+    let case = match notation {
+        Notation::Raw => Case(call, [RAW_KEK, RAW_NEW_KEK, input], WRITTEN, output),
+        Notation::Hex => Case(call, [HEX_KEK, NEW_KEK, input], WRITTEN, output),
     };
-    let done = Ok(Done::Written);
-    answers(rt, alloc, unwrap, [kek, &text], size, done, input);
-    let check = Task {
-        job: Job::Check,
-        ..task
-    };
-    let (done, _) = run_in_pieces(alloc, check, kek, &text, size);
-    assert!(rt;
-        done == Ok(Done::Written),
-        "{task:?}, {} bytes",
-        input.len()
-    );
+    case.holds(rt, alloc, size);
+}
+
+fn line_of(alloc: Global, bytes: &[u8]) -> Result<Vec<u8>, AllocError> {
+    let mut line = hex::encode(alloc, bytes)?;
+    line.push('\n')?;
+    Ok(line.into_bytes())
+}
+
+fn in_hex(call: Call) -> Call {
+    match call {
+        Call::Job(job, form, ..) => Call::Job(job, form, HEX, HEX),
+        Call::With(iv, direction, ..) => Call::With(iv, direction, HEX, HEX),
+        Call::Rewrap(old_form, new_form, ..) => Call::Rewrap(old_form, new_form, HEX, HEX),
+    }
+}
+
+// Says that a drill of the key is answered, and that of its text by the key.
+fn drills(rt: &impl Abort, alloc: Global, form: Form, key: &[u8]) -> Result<(), Fail> {
+    let digits = hex::encode(alloc, key)?;
+    let text = drill(alloc, form, Direction::Wrap, &digits)?;
+    let digits = hex::encode(alloc, &text)?;
+    let back = drill(alloc, form, Direction::Unwrap, &digits)?;
+    assert!(rt; back.as_slice() == key, "{form:?}, {} bytes", key.len());
+    Ok(())
 }

@@ -1,7 +1,7 @@
 //! Wrapping and unwrapping in a buffer: what the buffer holds and how many block calls were made,
 //! also where the text is refused.
 
-use super::{Wrapping, published};
+use super::super::standards::WRAPPINGS;
 use aes_block::Aes;
 use block_pair::{BlockPair, Meter};
 use key_wrap::{
@@ -12,35 +12,25 @@ use std::alloc::{AllocError, Global};
 use std::process::Abort;
 use std::test::Fail;
 
-// The block calls of wrapping each published key.
-static CALLS: [u64; 8] = [12, 12, 12, 18, 18, 24, 18, 1];
-
+// There and back in one buffer over one meter.
 #[test]
 fn wraps_and_unwraps_in_place_and_counts(rt: HostRuntime) -> Result<(), Fail> {
-    let published = published(rt.alloc())?;
-    assert!(rt; published.len() == CALLS.len());
-    for (wrapping, calls) in published.iter().zip(&CALLS) {
-        wrap_and_unwrap(&rt, rt.alloc(), wrapping, *calls)?;
+    for wrapping in &WRAPPINGS {
+        let aes = Aes::new(wrapping.kek)?;
+        let mut meter = Meter::new(&aes);
+        let (key, text) = (wrapping.key, wrapping.text);
+        let mut buf = room_for(rt.alloc(), key, 0xFF, text.len())?;
+        let wraps = wrap_here(&mut meter, wrapping.form, &mut buf, key.len());
+        assert!(rt; wraps == Ok(()) && buf.as_slice() == text, "{text:?}");
+        assert!(rt; meter.count() == wrapping.calls, "{text:?}");
+        let unwraps = unwrap_here(&mut meter, wrapping.form, &mut buf);
+        let room = room_for(rt.alloc(), key, 0, text.len())?;
+        assert!(rt; unwraps == Ok(key.len()) && buf == room, "{text:?}");
+        assert!(rt;
+            meter.count() == wrapping.calls.saturating_mul(2),
+            "{text:?}"
+        );
     }
-    Ok(())
-}
-
-// There and back in one buffer over one meter.
-fn wrap_and_unwrap(
-    rt: &impl Abort,
-    alloc: Global,
-    wrapping: &Wrapping,
-    calls: u64,
-) -> Result<(), Fail> {
-    let aes = Aes::new(&wrapping.kek)?;
-    let mut meter = Meter::new(&aes);
-    let (key, text) = (wrapping.key.as_slice(), wrapping.text.as_slice());
-    let mut buf = room_for(alloc, key, 0xFF, text.len())?;
-    let wraps = wrap_here(&mut meter, wrapping.form, &mut buf, key.len());
-    assert!(rt; wraps == Ok(()) && buf.as_slice() == text && meter.count() == calls);
-    let unwraps = unwrap_here(&mut meter, wrapping.form, &mut buf);
-    assert!(rt; unwraps == Ok(key.len()) && buf == room_for(alloc, key, 0, text.len())?);
-    assert!(rt; meter.count() == calls.saturating_mul(2));
     Ok(())
 }
 

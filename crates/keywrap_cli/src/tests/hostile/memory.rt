@@ -1,36 +1,32 @@
 //! Each growth refused in turn: a call answers Memory and has written nothing, or answers all.
 //! tests/allocations.sh runs these tests over an allocator that refuses; the gate's refuses none.
 
-use super::super::jobs::{CASES, Case, RAW_KEY};
+use super::super::cases::{Case, run};
+use super::super::jobs::RAW_KEY;
 use super::super::vectors::LINES;
 use super::swapped::{PADDED_KEY, PADDED_TEXT, TEXT};
 use crate::convert::Direction;
 use crate::drill::{DrillFault, drill};
-use crate::job::{Done, JobFault, run_job};
+use crate::job::JobFault;
 use crate::vectors::{VectorsFault, vectors};
 use key_wrap::Form;
 use std::alloc::Global;
 use std::process::Abort;
 
-#[test]
-fn refuses_each_growth_of_a_job(rt: HostRuntime) {
-    for case in &CASES {
-        run_in_room(&rt, rt.alloc(), case);
-    }
-}
-
-fn run_in_room(rt: &impl Abort, alloc: Global, case: &Case) {
+pub(super) fn run_in_room(rt: &impl Abort, alloc: Global, case: &Case) {
+    let Case(call, _, wanted, output) = *case;
     let mut room = [0; 64];
     // A writer that takes no memory. It shrinks by what it takes.
     let mut free = room.as_mut_slice();
-    let mut kek = case.kek;
-    let mut input = case.input;
-    let done = run_job(alloc, case.task, &mut kek, &mut input, &mut free);
+    let (done, _) = run(alloc, call, case.files(usize::MAX), &mut free);
     let written = 64_usize.saturating_sub(free.len());
     if done == Err(JobFault::Memory) {
-        assert!(rt; written == 0);
+        assert!(rt; written == 0, "{call:?}");
     } else {
-        assert!(rt; done == Ok(Done::Written) && room.get(..written) == Some(case.output));
+        assert!(rt;
+            done == wanted && room.get(..written) == Some(output),
+            "{call:?}"
+        );
     }
 }
 
@@ -59,21 +55,10 @@ static DRILLS: [(Form, Direction, &str, &[u8]); 4] = [
 #[test]
 fn refuses_each_growth_of_a_drill(rt: HostRuntime) {
     for (form, direction, text, wanted) in &DRILLS {
-        drill_in_room(&rt, rt.alloc(), *form, *direction, text, wanted);
-    }
-}
-
-fn drill_in_room(
-    rt: &impl Abort,
-    alloc: Global,
-    form: Form,
-    direction: Direction,
-    text: &str,
-    wanted: &[u8],
-) {
-    match drill(alloc, form, direction, text) {
-        Ok(found) => assert!(rt; found.as_slice() == wanted),
-        Err(fault) => assert!(rt; fault == DrillFault::Memory),
+        match drill(rt.alloc(), *form, *direction, text) {
+            Ok(found) => assert!(rt; found.as_slice() == *wanted),
+            Err(fault) => assert!(rt; fault == DrillFault::Memory),
+        }
     }
 }
 
