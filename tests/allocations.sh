@@ -69,6 +69,7 @@ worded() {
     says "$1" 'a value too many' drill 00 11
     says "$1" 'words that are no text' drill $'\xff'
 }
+# says FUNCTION NAME ARGUMENT..: the same for one of them.
 says() { "$1" "$2" 2 nothing "$("$program" "${@:3}" 2>&1)" - "${@:3}"; }
 
 # out_of_memory: the run that wrote `out` and `err`, and ended with $status, says that memory ran out, and the

@@ -3,6 +3,8 @@
 # output and its standard error, each in full. The expected values are the vectors of
 # RFC 3394 and RFC 5649, and answers over the drill block that were worked by its rule.
 #
+# It is as long as it has rows: a line each for what the program does with one command line.
+#
 # usage: tests/command.sh        (KEYWRAP=PATH tries another program, as an installed one)
 
 set -u
@@ -334,6 +336,7 @@ unset to
 ### Refusals: memory
 
 read -r kind kilobytes <<<"$(least)"
+# starved ARGUMENT..: the program without memory.
 starved() { limited "$kind" "$kilobytes" "$@"; }
 keywrap=starved
 refuses 'no memory, wrap' 7 "$memory" wrap --kek kek16.hex <<<$d16

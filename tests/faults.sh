@@ -4,6 +4,9 @@
 # end with the status and the line of README's table, never with a wrong answer, with no more
 # than a counted front of the answer out, and with no file left behind.
 #
+# It is long since no contract reaches the system: each fault here meets every command and every refusal of
+# tests/lib/commands.sh.
+#
 # usage: tests/faults.sh        (KEYWRAP=PATH tries another program, as an installed one)
 
 set -u
@@ -211,6 +214,7 @@ ended 'a pipe with room for 4096 bytes' 6 wanted.out 'keywrap: output: refused a
 
 ### Readers that go away, with SIGPIPE ignored and not
 
+# ignoring, defaulting ARGUMENT..: the program, to which SIGPIPE means nothing, or its end.
 ignoring() (
     trap '' PIPE
     exec "$program" "$@"

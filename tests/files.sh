@@ -5,6 +5,8 @@
 #
 # usage: tests/files.sh        (KEYWRAP=PATH tries another program, as an installed one)
 #
+# It is long since no contract reaches the file of --output: what is proved is what goes to a writer.
+#
 # The rows on calls of the system that fail need a C compiler, and some others a tool or a right of the
 # system; each is skipped without.
 

@@ -4,6 +4,8 @@
 # program that is built; and holds docs/LIBRARY.md against the crate that it shows. A part whose tool
 # is not there is skipped, with a line that says what to install.
 #
+# It is long since it has a part for each of them; three shells are asked what they offer, each in its own way.
+#
 # usage: tests/papers.sh        (KEYWRAP=PATH tries another program)
 
 set -u
@@ -229,6 +231,7 @@ fi
 ### The version
 
 row 'the version is one of three numbers' grep -qxE '[0-9]+\.[0-9]+\.[0-9]+' <<<"$version"
+# prints_version: the program and the sources name one version.
 prints_version() { [ "$("$program" --version)" = "keywrap $version" ]; }
 row 'the program and the Makefile name one version' prints_version
 places=$(grep -rlIF --exclude-dir=.git --exclude-dir=out -e "$version" "$root")
@@ -287,6 +290,7 @@ row 'it unpacks' tar -xpzf "first/$name.tar.gz"
 same 'what it packs' "$command_files"$'\n644 README' "$(files_of "$name")"
 row 'the packed program is the program' cmp "$program" "$name/bin/keywrap"
 row 'the packed README names the version' grep -q "^keywrap $version:" "$name/README"
+# packs_of_root: each packed file is root's.
 packs_of_root() { tar -tvzf "first/$name.tar.gz" >listed && ! grep -v ' 0/0 ' listed; }
 row 'the packed files have no owner of this machine' packs_of_root
 row 'make dist, later and by another umask' sh -c 'umask 077; sleep 1; "$@"' sh make -s -o build -C "$root" dist \
@@ -303,6 +307,7 @@ for file in $(needs | grep ^/); do
     install -D "$file" "alone$file"
 done
 install -D "$name/bin/keywrap" alone/bin/keywrap
+# runs_alone: the program runs in that folder, as its root.
 runs_alone() {
     [ "$(env -i "$(command -v unshare)" -r "$(command -v chroot)" alone /bin/keywrap drill \
         00112233445566778899aabbccddeeff)" = a6a6a6a6a6a6a6a6001122334455667f8899aabbccddeefb ]

@@ -23,8 +23,8 @@ trap 'chattr -R -f -ia .; rm -rf "$room"' EXIT
 to=out
 wrap=(wrap --kek kek16.hex -i key.hex -o to/file)
 
-# beside NAME KINDS: what is in the folder `to`, each with its kind and its mode.
-beside() {
+# left_beside NAME KINDS: what is in the folder `to`, each with its kind and its mode.
+left_beside() {
     verdict "$1" "$(find to -mindepth 1 -printf '%P %y %m\n' | sort | diff - <(printf '%s\n' "${@:2}"))"
 }
 
@@ -39,7 +39,7 @@ fresh old
 sized "${wrap[@]}" 2>/dev/null
 verdict 'a limit on files ends the program' "$([ $? = 153 ] || echo 'another status')"
 verdict 'a limit on files leaves the file' "$(echo old | cmp - to/file 2>&1)"
-beside 'a limit on files leaves the new file, empty' 'file f 644' 'file.part0 f 600'
+left_beside 'a limit on files leaves the new file, empty' 'file f 644' 'file.part0 f 600'
 verdict 'a limit on files leaves nothing in it' "$([ ! -s to/file.part0 ] || echo 'it holds something')"
 lands 'the run after a limit on files' 0 text.hex to/file "${wrap[@]}"
 
@@ -55,7 +55,7 @@ goes_on 'the folder is moved, and another has its name' 6 "$flush_fault" ''
 rm -r to
 mv moved to
 verdict 'a folder that is moved: the file stays' "$(echo old | cmp - to/file 2>&1)"
-beside 'a folder that is moved keeps the new file' 'file f 644' 'file.part0 f 600'
+left_beside 'a folder that is moved keeps the new file' 'file f 644' 'file.part0 f 600'
 
 ### Files that can't be replaced
 
@@ -71,7 +71,7 @@ if chattr +i to/file 2>/dev/null; then
     ran "${wrap[@]}"
     verdict 'a folder that can only grow' "$(quiet 6 "$flush_fault")"
     verdict 'a folder that can only grow: the file stays' "$(echo old | cmp - to/file 2>&1)"
-    beside 'a folder that can only grow keeps the new file' 'file f 644' 'file.part0 f 600'
+    left_beside 'a folder that can only grow keeps the new file' 'file f 644' 'file.part0 f 600'
     verdict 'a folder that can only grow keeps the answer in it' "$(cmp text.hex to/file.part0 2>&1)"
     chattr -a to
 else

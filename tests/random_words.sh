@@ -5,6 +5,8 @@
 # standard output and standard error than that status allows. Only an answer changes a file: one, which is
 # the answer, for its owner alone.
 #
+# It is long since it draws lines that are nearly right, which random words alone never are.
+#
 # usage: tests/random_words.sh [N [SEED]]        500 command lines, if not said; the same for
 # the same seed. KEYWRAP=PATH tries another program, as an installed one.
 
