@@ -44,7 +44,7 @@ items=$(sed -n '/^\.Ss Options/,/^\.El/s/^\.It //p' "$page")
 same 'help and page: the commands' "$commands" "$(sed -n '/^\.Ss Commands/,/^\.El/s/^\.It Cm //p' "$page")"
 same 'help and page: the commands of the synopsis' "$commands" "$(section SYNOPSIS | sed -n 's/^\.Cm //p')"
 same 'help and page: the options' "$options" "$(options_in "$items")"
-same 'help and page: the options in the text' "$options" "$(options_in "$(cat "$page")")"
+same 'help and page: the options of all sections' "$options" "$(options_in "$(cat "$page")")"
 for command in $commands; do
     synopsis=$(section SYNOPSIS | sed -n "/^\.Cm $command\$/,/^\.Nm/p")
     same "help and page: the synopsis of $command" \
@@ -110,9 +110,9 @@ row 'the page has examples of each command that reads' test "$(grep -oE 'keywrap
 completions=$root/completions
 # What the files say, where their shells are not there too.
 words() { grep -v '^ *#' "$1" | grep -oE -e '--[a-z-]+'; }
-same 'help and bash: the options of the text' "$(grep -e -- <<<"$options")" "$(words "$completions/keywrap.bash")"
-same 'help and zsh: the options of the text' "$(grep -e -- <<<"$options")" "$(words "$completions/_keywrap")"
-same 'help and fish: the options of the text' "$(grep -e -- <<<"$options")" \
+same 'help and bash: the options of the file' "$(grep -e -- <<<"$options")" "$(words "$completions/keywrap.bash")"
+same 'help and zsh: the options of the file' "$(grep -e -- <<<"$options")" "$(words "$completions/_keywrap")"
+same 'help and fish: the options of the file' "$(grep -e -- <<<"$options")" \
     "$(grep '^complete' "$completions/keywrap.fish" | grep -oE -e ' -l [a-z-]+' | sed 's/ -l /--/')"
 
 # offers_SHELL LINE: what the shell offers behind a line, in the folder `files`.
