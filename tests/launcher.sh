@@ -289,7 +289,8 @@ if has cc gcc 'make library'; then
         touch -d 2020-01-01 "$file"
         library "$file is another" "${lib[@]}"
     done
-    row 'the shared object is linked again' test library/libkeywrap.so* -nt include/keywrap.map
+    verdict 'the shared object is linked again' \
+        "$(find library -name 'libkeywrap.so*' ! -newer include/keywrap.map)"
     rm crates/key_wrap/specs/Lib.antt
     library 'a file is gone' "${lib[@]}"
     rm library/libkeywrap.a
@@ -303,9 +304,14 @@ if has cc gcc 'make library'; then
     row 'make library ends with rt' not_made
     library 'and is built later' "${lib[@]}"
 fi
-# The Makefile's list has each crate of this repository below the C library.
-same 'the crates of make library' "$(sed -n 's/^crates = //p' Makefile | tr ' ' '\n')" \
-    "$(sed -n 's/^keywrap_c staticlib: /keywrap_c /p' "$root/crates.txt" | tr ' ' '\n' |
-        grep -xFf <(ls "$root/crates"))"
+# below CRATE: the crate, and those of this repository on which it stands.
+below() {
+    local each
+    echo "$1"
+    for each in $(sed -nE "s/^$1( staticlib)?: *//p" "$root/crates.txt"); do
+        [ ! -d "$root/crates/$each" ] || below "$each"
+    done
+}
+same 'the crates of make library' "$(sed -n 's/^crates = //p' Makefile | tr ' ' '\n')" "$(below keywrap_c)"
 
 finish

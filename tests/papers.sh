@@ -77,7 +77,7 @@ fi
 # transcript: runs the examples of the page, and writes each with what it wrote.
 transcript() {
     local line
-    PATH=$PWD/bin:$PATH
+    local PATH=$room/bin:$PATH
     while IFS= read -r line; do
         [[ $line = '$ '* ]] || continue
         echo "$line"
@@ -87,7 +87,7 @@ transcript() {
 mkdir bin examples
 ln -s "$program" bin/keywrap
 section EXAMPLES | sed -n '/^\.Bd/,/^\.Ed/p' | grep -v '^\.' >wanted.examples
-(cd examples && PATH=$room/bin:$PATH && transcript <../wanted.examples) >examples.out
+(cd examples && transcript <../wanted.examples) >examples.out
 row 'the examples of the page' diff wanted.examples examples.out
 # The help's, each in a folder with the two files that an example from file to file takes.
 for command in $commands; do
@@ -96,7 +96,7 @@ for command in $commands; do
     echo 00112233445566778899aabbccddeeff >"help.$command/key.hex"
     echo 1fa68b0a8112b447aef34bd8fb5a7b829d3e862371d2cfe5 >"help.$command/wrapped.hex"
     "$program" "$command" --help | sed -n '/^Example/,/^$/s/^  //p' >wanted.examples.help
-    (cd "help.$command" && PATH=$room/bin:$PATH && transcript <../wanted.examples.help) >examples.out
+    (cd "help.$command" && transcript <../wanted.examples.help) >examples.out
     # Of the vectors it shows the first.
     [ "$command" != vectors ] || sed -i '3,12d; 13s/.*/(and eleven more lines)/' examples.out
     row "the examples of the help of $command" diff wanted.examples.help examples.out
@@ -239,7 +239,7 @@ row 'the version stands in one place' test "$places" = "$root/crates/keywrap_cli
 
 ### make install, make uninstall
 
-# An archive that stands for that of the exports: tests/library.sh tries the real one.
+# An archive that stands for that of the exports: tests/library.sh tries the real one, and what is installed of it.
 made() {
     make -s --no-print-directory -o build -C "$root" "$@" PROGRAM="$program" \
         LIBRARY="$room/library" ARCHIVE="$room/library.a"
@@ -249,11 +249,6 @@ command_files='755 bin/keywrap
 644 share/fish/vendor_completions.d/keywrap.fish
 644 share/man/man1/keywrap.1
 644 share/zsh/site-functions/_keywrap'
-library_files='644 include/keywrap.h
-644 lib/libkeywrap.a
-777 lib/libkeywrap.so
-755 lib/libkeywrap.so.0
-644 lib/pkgconfig/keywrap.pc'
 # files_of FOLDER: what lies below it, with the modes.
 files_of() { find "$1" ! -type d -printf '%m %P\n'; }
 
@@ -272,7 +267,9 @@ if has cc gcc 'make install with the C library'; then
     row 'an archive to install' cc -fPIC -c library.c -o library.o
     row 'an archive to install' ar rc library.a library.o
     row 'make install' made install DESTDIR="$stage" PREFIX=/usr
-    same 'what make install installs' "$command_files"$'\n'"$library_files" "$(files_of "$stage/usr")"
+    same 'what make install installs, but for the C library' "$command_files" \
+        "$(files_of "$stage/usr" | grep -v -e ' include/' -e ' lib/')"
+    row 'make install installs the C library' test -e "$stage/usr/lib/libkeywrap.so"
     row 'keywrap.pc names the version' grep -qx "Version: $version" "$stage/usr/lib/pkgconfig/keywrap.pc"
     row 'make uninstall' made uninstall DESTDIR="$stage" PREFIX=/usr
     same 'make uninstall leaves nothing' '' "$(files_of "$stage/usr")"
