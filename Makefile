@@ -21,7 +21,7 @@ soname = libkeywrap.so.1
 shared = $(soname).0.0
 wheel = $(DIST)/keywrap-$(version)-cp39-abi3-linux_x86_64.whl
 crates = block_pair aes_block aes_vector key_wrap keywrap_c
-sources = $(shell find crates.txt $(foreach c,$(crates),$(wildcard crates/$(c)/src crates/$(c)/specs crates/$(c)/proofs)) -type f)
+sources = $(shell find crates.txt $(foreach c,$(crates),$(wildcard crates/$(c)/src crates/$(c)/specs crates/$(c)/proofs)))
 
 bin = $(DESTDIR)$(PREFIX)/bin
 lib = $(DESTDIR)$(PREFIX)/lib
@@ -60,7 +60,8 @@ build:
 # Built where that is not done, or where one of the files that it is made of has another content than then:
 # what comes out of an archive keeps its old time. A source that is changed while rt works is no longer what
 # was written down before.
-made_of = $(if $(filter crates/%,$(ARCHIVE)),$(sources),'$(ARCHIVE)') include/keywrap.map
+made_of = $(if $(filter crates/%,$(ARCHIVE)),$(shell find $(sources) -maxdepth 0 -type f),'$(ARCHIVE)') \
+    include/keywrap.map
 .PHONY: always
 $(LIBRARY)/libkeywrap.a: always
 	@b2sum --check --status '$(LIBRARY)/built_from' 2>/dev/null || { set -ex; install -d '$(LIBRARY)'; \

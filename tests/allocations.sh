@@ -67,8 +67,9 @@ worded() {
     says "$1" 'a flag that is none' wrap --kek kek16.hex --secret
     says "$1" 'no KEK' wrap
     says "$1" 'a value too many' drill 00 11
-    says "$1" 'words that are no text' drill $'\xff'
+    says "$1" 'words that are not UTF-8' drill $'\xff'
 }
+# says FUNCTION NAME ARGUMENT..: the same for one of them.
 says() { "$1" "$2" 2 nothing "$("$program" "${@:3}" 2>&1)" - "${@:3}"; }
 
 # out_of_memory: the run that wrote `out` and `err`, and ended with $status, says that memory ran out, and the

@@ -3,6 +3,8 @@
 # output and its standard error, each in full. The expected values are the vectors of
 # RFC 3394 and RFC 5649, and answers over the drill block that were worked by its rule.
 #
+# It is as long as it has rows: a line each for what the program does with one command line.
+#
 # usage: tests/command.sh        (KEYWRAP=PATH tries another program, as an installed one)
 
 set -u
@@ -33,11 +35,11 @@ prints 'drill back, padded, of 16 bytes' '11223344556677889900000000000000\n' \
     drill --padded --unwrap a65959a60000001011223344556677809900000000000004
 prints 'drill back, padded, of 8 bytes' "$(zeros 8)\n" \
     drill --padded --unwrap 0000000000000000a65959a600000008
-for text in 0000000000000000a65959a600000000 0000000000000000a65959a600000009 \
+for wrapped in 0000000000000000a65959a600000000 0000000000000000a65959a600000009 \
     0000000000000000a65959a700000008 a65959a60000000811223344556677809900000000000004 \
     a65959a60000001111223344556677809900000000000004 \
     a65959a60000000811223344556677800000000000000004 "${drilled9%04}05"; do
-    refuses "drill back, padded, of $text" 5 "$integrity" drill --padded --unwrap "$text"
+    refuses "drill back, padded, of $wrapped" 5 "$integrity" drill --padded --unwrap "$wrapped"
 done
 refuses 'drill back of a changed byte' 5 "$integrity" drill --unwrap a7${drilled#a6}
 refuses 'drill of nothing' 4 "$bad_length" drill ''
@@ -53,7 +55,7 @@ both_ways() {
     prints "wraps $1" "$4\n" wrap --kek "$2" "${@:5}" <<<"$3"
     prints "unwraps $1" "$3\n" unwrap --kek "$2" "${@:5}" <<<"$4"
 }
-both_ways 'RFC 3394 4.1' kek16.hex $d16 $text16
+both_ways 'RFC 3394 4.1' kek16.hex $d16 $wrapped16
 both_ways 'RFC 3394 4.2' kek24.hex $d16 96778b25ae6ca435f92b5b97c050aed2468ab8a17ad84e5d
 both_ways 'RFC 3394 4.3' kek32.hex $d16 64e8c3f9ce0f5ba263e9777905818a2a93c8191e7d6e8ae7
 both_ways 'RFC 3394 4.4' kek24.hex $d24 \
@@ -62,38 +64,38 @@ both_ways 'RFC 3394 4.5' kek32.hex $d24 \
     a8f9bc1612c68b3ff6e6f4fbe30e71e4769c8b80a32cb8958cd5d17d6b254da1
 both_ways 'RFC 3394 4.6' kek32.hex $d32 \
     28c9f404c4b810f4cbccb35cfb87f8263f5786e2d80ed326cbc7f0e71a99f43bfb988b9b7a02dd21
-both_ways 'RFC 5649, 20 octets' kek5649.hex $key20 $text20 --padded
-both_ways 'RFC 5649, 7 octets' kek5649.hex $key7 $text7 --padded
+both_ways 'RFC 5649, 20 octets' kek5649.hex $key20 $wrapped20 --padded
+both_ways 'RFC 5649, 7 octets' kek5649.hex $key7 $wrapped7 --padded
 
 # Under an initial value that both ends agreed on: OpenSSL's answer for 4.1, and both ways.
-both_ways 'under another value' kek16.hex $d16 $text_iv --iv $iv
-both_ways 'under the default value' kek16.hex $d16 $text16 --iv A6A6a6a6A6A6a6a6
-refuses 'RFC 3394 4.1 under another value' 5 "$integrity" unwrap --iv $iv --kek kek16.hex <<<$text16
+both_ways 'under another value' kek16.hex $d16 $wrapped_iv --iv $iv
+both_ways 'under the default value' kek16.hex $d16 $wrapped16 --iv A6A6a6a6A6A6a6a6
+refuses 'RFC 3394 4.1 under another value' 5 "$integrity" unwrap --iv $iv --kek kek16.hex <<<$wrapped16
 # --raw and --raw-kek are each of their own files, with --iv too.
 bytes $d16 >key.raw
-bytes $text_iv >text_iv.raw
-prints 'wraps raw under another value' "$(raw $text_iv)" wrap --raw --raw-kek --iv $iv --kek kek16.raw <key.raw
+bytes $wrapped_iv >wrapped_iv.raw
+prints 'wraps raw under another value' "$(raw $wrapped_iv)" wrap --raw --raw-kek --iv $iv --kek kek16.raw <key.raw
 prints 'unwraps raw under another value' "$(raw $d16)" \
-    unwrap --raw --raw-kek --iv $iv --kek kek16.raw <text_iv.raw
-prints 'wraps raw under a value and a KEK in hex' "$(raw $text_iv)" wrap --raw --iv $iv --kek kek16.hex <key.raw
+    unwrap --raw --raw-kek --iv $iv --kek kek16.raw <wrapped_iv.raw
+prints 'wraps raw under a value and a KEK in hex' "$(raw $wrapped_iv)" wrap --raw --iv $iv --kek kek16.hex <key.raw
 prints 'unwraps raw under a value and a KEK in hex' "$(raw $d16)" \
-    unwrap --raw --iv $iv --kek kek16.hex <text_iv.raw
-prints 'wraps hex under a value and a raw KEK' "$text_iv\n" wrap --raw-kek --iv $iv --kek kek16.raw <<<$d16
-prints 'unwraps hex under a value and a raw KEK' "$d16\n" unwrap --raw-kek --iv $iv --kek kek16.raw <<<$text_iv
+    unwrap --raw --iv $iv --kek kek16.hex <wrapped_iv.raw
+prints 'wraps hex under a value and a raw KEK' "$wrapped_iv\n" wrap --raw-kek --iv $iv --kek kek16.raw <<<$d16
+prints 'unwraps hex under a value and a raw KEK' "$d16\n" unwrap --raw-kek --iv $iv --kek kek16.raw <<<$wrapped_iv
 
 printf '00 01 02 03\t04 05 06 07\r\n\n08090A0b0c0D0e0F\r\n' >spaced.hex
-prints 'wraps spaced digits in either case' "$text16\n" \
+prints 'wraps spaced digits in either case' "$wrapped16\n" \
     wrap --kek spaced.hex < <(printf '0011 2233 4455 6677\n8899 AABB CCDD EEFF\n')
 
 ### Raw, and through pipes
 
-bytes $text16 >text.raw
-prints 'wraps raw' "$(raw $text16)" wrap --raw --raw-kek --kek kek16.raw <key.raw
-prints 'unwraps raw' "$(raw $d16)" unwrap --raw --raw-kek --kek kek16.raw <text.raw
-prints 'wraps raw under a KEK in hex' "$(raw $text16)" wrap --raw --kek kek16.hex <key.raw
-prints 'wraps hex under a raw KEK' "$text16\n" wrap --raw-kek --kek kek16.raw <<<$d16
-prints 'wraps raw, padded' "$(raw $text7)" wrap --padded --raw --kek kek5649.hex < <(bytes $key7)
-prints 'unwraps raw, padded' "$(raw $key7)" unwrap --padded --raw --kek kek5649.hex < <(bytes $text7)
+bytes $wrapped16 >wrapped.raw
+prints 'wraps raw' "$(raw $wrapped16)" wrap --raw --raw-kek --kek kek16.raw <key.raw
+prints 'unwraps raw' "$(raw $d16)" unwrap --raw --raw-kek --kek kek16.raw <wrapped.raw
+prints 'wraps raw under a KEK in hex' "$(raw $wrapped16)" wrap --raw --kek kek16.hex <key.raw
+prints 'wraps hex under a raw KEK' "$wrapped16\n" wrap --raw-kek --kek kek16.raw <<<$d16
+prints 'wraps raw, padded' "$(raw $wrapped7)" wrap --padded --raw --kek kek5649.hex < <(bytes $key7)
+prints 'unwraps raw, padded' "$(raw $key7)" unwrap --padded --raw --kek kek5649.hex < <(bytes $wrapped7)
 
 # goes_round BYTES [FLAG]: a random key is wrapped and unwrapped, raw and in hex.
 goes_round() {
@@ -126,7 +128,7 @@ printf '0001020304050607 0809ag' >digit.hex
 printf '000102 03040506070809 0a0b0c0d0e0f0' >odd.hex
 zeros 2097153 >long.hex
 refuses 'a KEK of 15 bytes' 3 "$kek_length" wrap --kek kek15.hex <<<$d16
-refuses 'a raw KEK of 17 bytes' 3 "$kek_length" unwrap --raw-kek --kek kek17.raw <<<$text16
+refuses 'a raw KEK of 17 bytes' 3 "$kek_length" unwrap --raw-kek --kek kek17.raw <<<$wrapped16
 refuses 'an empty KEK, an input of 15 bytes' 3 "$kek_length" wrap --kek empty < <(zeros 15)
 refuses 'an empty KEK, an input of no digits' 3 "$kek_length" check --raw-kek --kek empty <<<'none'
 refuses 'no KEK file' 6 'key file: cannot be opened' wrap --kek missing <<<$d16
@@ -147,8 +149,8 @@ done
 # The value of --iv is looked at first.
 no_iv='--iv is not 16 hex digits'
 for job in wrap unwrap; do
-    for text in '' ${iv%f} ${iv}0 ${iv%f}g " $iv" a65959a60000001; do
-        spares_input "$job --iv '$text', no KEK file" 2 "$no_iv" $job --iv "$text" --kek missing
+    for value in '' ${iv%f} ${iv}0 ${iv%f}g " $iv" a65959a60000001; do
+        spares_input "$job --iv '$value', no KEK file" 2 "$no_iv" $job --iv "$value" --kek missing
     done
     spares_input "$job, a reserved value, no KEK file" 2 '--iv is reserved for the padded form' \
         $job --iv a65959a600000010 --kek missing
@@ -163,12 +165,12 @@ refuses 'an odd number of digits' 6 'input: odd number of hex digits' unwrap --k
 refuses 'an input that is too long' 6 'input: too long' wrap --kek kek16.hex <long.hex
 refuses 'an input without end' 6 'input: too long' check --raw --kek kek16.hex </dev/zero
 refuses 'a folder as input' 6 'input: cannot be read' wrap --kek kek16.hex <folder
-# Nothing comes from a closed standard input: a text without digits.
+# Nothing comes from a closed standard input: a file without digits.
 refuses 'wrap, input closed' 4 "$bad_length" wrap --kek kek16.hex <&-
 refuses 'unwrap, input closed' 4 "$bad_length" unwrap --kek kek16.hex <&-
 refuses 'no KEK file, input closed' 6 'key file: cannot be opened' wrap --kek missing <&-
 
-# refuses_sizes COMMAND BYTES..: keys or texts of these lengths.
+# refuses_sizes COMMAND BYTES..: keys or wrapped keys of these lengths.
 refuses_sizes() {
     for size in "${@:2}"; do
         # shellcheck disable=SC2086
@@ -180,11 +182,11 @@ refuses_sizes unwrap 0 8 16 23 25 1048592
 refuses_sizes 'wrap --padded' 0 1048577
 refuses_sizes 'unwrap --padded' 0 8 17 1048592
 
-refuses 'a wrong byte' 5 "$integrity" unwrap --kek kek16.hex <<<"0f${text16#1f}"
-refuses 'a wrong byte, raw' 5 "$integrity" unwrap --raw --kek kek16.hex < <(bytes "${text16%e5}e4")
-refuses 'another KEK' 5 "$integrity" unwrap --kek kek24.hex <<<$text16
-refuses 'a padded wrapping as plain' 5 "$integrity" unwrap --kek kek5649.hex <<<$text20
-refuses 'a plain wrapping as padded' 5 "$integrity" unwrap --padded --kek kek16.hex <<<$text16
+refuses 'a wrong byte' 5 "$integrity" unwrap --kek kek16.hex <<<"0f${wrapped16#1f}"
+refuses 'a wrong byte, raw' 5 "$integrity" unwrap --raw --kek kek16.hex < <(bytes "${wrapped16%e5}e4")
+refuses 'another KEK' 5 "$integrity" unwrap --kek kek24.hex <<<$wrapped16
+refuses 'a padded wrapping as plain' 5 "$integrity" unwrap --kek kek5649.hex <<<$wrapped20
+refuses 'a plain wrapping as padded' 5 "$integrity" unwrap --padded --kek kek16.hex <<<$wrapped16
 
 ### Files of 4,194,304 bytes, and of one more
 
@@ -195,10 +197,10 @@ spaced "${kek:0:32}" 4194305 >more.hex
 zeros 2097152 >digits.hex
 head -c 4194304 /dev/zero >most.raw
 head -c 4194305 /dev/zero >more.raw
-prints 'a KEK file of 4,194,304 bytes' "$text16\n" wrap --kek most.hex <<<$d16
-prints 'both files of 4,194,304 bytes' "$text16\n" wrap --kek most.hex < <(spaced $d16 4194304)
-prints 'unwraps a file of 4,194,304 bytes' "$d16\n" unwrap --kek most.hex < <(spaced $text16 4194304)
-prints 'checks a file of 4,194,304 bytes' 'plain 16\n' check --kek most.hex < <(spaced $text16 4194304)
+prints 'a KEK file of 4,194,304 bytes' "$wrapped16\n" wrap --kek most.hex <<<$d16
+prints 'both files of 4,194,304 bytes' "$wrapped16\n" wrap --kek most.hex < <(spaced $d16 4194304)
+prints 'unwraps a file of 4,194,304 bytes' "$d16\n" unwrap --kek most.hex < <(spaced $wrapped16 4194304)
+prints 'checks a file of 4,194,304 bytes' 'plain 16\n' check --kek most.hex < <(spaced $wrapped16 4194304)
 refuses 'a KEK file of 4,194,305 bytes' 6 'key file: too long' wrap --kek more.hex <<<$d16
 refuses 'a KEK file of 4,194,304 digits' 3 "$kek_length" wrap --kek digits.hex <<<$d16
 refuses 'a raw KEK file of 4,194,304 bytes' 3 "$kek_length" wrap --raw-kek --kek most.raw <<<$d16
@@ -210,7 +212,7 @@ done
 answers 'checks 4,194,304 digits' 5 'none\n' '' check --kek kek16.hex <digits.hex
 answers 'checks 4,194,304 raw bytes' 5 'none\n' '' check --raw --kek kek16.hex <most.raw
 for job in wrap unwrap check; do
-    refuses "$job of 4,194,305 bytes" 6 'input: too long' $job --kek kek16.hex < <(spaced $text16 4194305)
+    refuses "$job of 4,194,305 bytes" 6 'input: too long' $job --kek kek16.hex < <(spaced $wrapped16 4194305)
     refuses "$job of 4,194,305 raw bytes" 6 'input: too long' $job --raw --kek kek16.hex <more.raw
 done
 
@@ -218,33 +220,33 @@ done
 
 # rewraps NAME KEK NEW-KEK TEXT NEW-TEXT [FLAG]
 rewraps() { prints "rewraps $1" "$5\n" rewrap --kek "$2" --new-kek "$3" "${@:6}" <<<"$4"; }
-rewraps '4.1 to 4.3' kek16.hex kek32.hex $text16 $text32
-rewraps '4.3 to 4.1' kek32.hex kek16.hex $text32 $text16
-rewraps 'from a KEK to itself' kek16.hex kek16.hex $text16 $text16
-rewraps 'plain to padded' kek16.hex kek16.hex $text16 $padded16 --new-padded
-rewraps 'padded to plain' kek16.hex kek16.hex $padded16 $text16 --padded
-rewraps 'plain to padded under another KEK' kek32.hex kek16.hex $text32 $padded16 --new-padded
-rewraps 'padded to plain under another KEK' kek16.hex kek32.hex $padded16 $text32 --padded
-rewraps 'padded to padded, 7 bytes' kek5649.hex kek16.hex $text7 $padded7 --padded --new-padded
-rewraps 'padded to padded back, 7 bytes' kek16.hex kek5649.hex $padded7 $text7 --padded --new-padded
-rewraps 'padded to itself, 20 bytes' kek5649.hex kek5649.hex $text20 $text20 --padded --new-padded
-rewraps 'a text in capitals' kek16.hex kek32.hex "${text16^^}" $text32
+rewraps '4.1 to 4.3' kek16.hex kek32.hex $wrapped16 $wrapped32
+rewraps '4.3 to 4.1' kek32.hex kek16.hex $wrapped32 $wrapped16
+rewraps 'from a KEK to itself' kek16.hex kek16.hex $wrapped16 $wrapped16
+rewraps 'plain to padded' kek16.hex kek16.hex $wrapped16 $padded16 --new-padded
+rewraps 'padded to plain' kek16.hex kek16.hex $padded16 $wrapped16 --padded
+rewraps 'plain to padded under another KEK' kek32.hex kek16.hex $wrapped32 $padded16 --new-padded
+rewraps 'padded to plain under another KEK' kek16.hex kek32.hex $padded16 $wrapped32 --padded
+rewraps 'padded to padded, 7 bytes' kek5649.hex kek16.hex $wrapped7 $padded7 --padded --new-padded
+rewraps 'padded to padded back, 7 bytes' kek16.hex kek5649.hex $padded7 $wrapped7 --padded --new-padded
+rewraps 'padded to itself, 20 bytes' kek5649.hex kek5649.hex $wrapped20 $wrapped20 --padded --new-padded
+rewraps 'a wrapped key in capitals' kek16.hex kek32.hex "${wrapped16^^}" $wrapped32
 
 bytes "$kek" >kek32.raw
-bytes $text32 >text32.raw
-prints 'rewraps raw' "$(raw $text32)" rewrap --raw --kek kek16.hex --new-kek kek32.hex <text.raw
-prints 'rewraps raw under raw KEKs' "$(raw $text32)" \
-    rewrap --raw --raw-kek --kek kek16.raw --new-kek kek32.raw <text.raw
-prints 'rewraps hex under raw KEKs' "$text16\n" \
-    rewrap --raw-kek --kek kek32.raw --new-kek kek16.raw <<<$text32
+bytes $wrapped32 >wrapped32.raw
+prints 'rewraps raw' "$(raw $wrapped32)" rewrap --raw --kek kek16.hex --new-kek kek32.hex <wrapped.raw
+prints 'rewraps raw under raw KEKs' "$(raw $wrapped32)" \
+    rewrap --raw --raw-kek --kek kek16.raw --new-kek kek32.raw <wrapped.raw
+prints 'rewraps hex under raw KEKs' "$wrapped16\n" \
+    rewrap --raw-kek --kek kek32.raw --new-kek kek16.raw <<<$wrapped32
 prints 'rewraps raw, to padded' "$(raw $padded16)" \
-    rewrap --raw --new-padded --kek kek32.hex --new-kek kek16.hex <text32.raw
+    rewrap --raw --new-padded --kek kek32.hex --new-kek kek16.hex <wrapped32.raw
 # --raw-kek is of both files: one in hex has too many bytes.
 refuses 'a raw KEK and one in hex' 3 "$new_kek_length" rewrap --raw-kek --kek kek16.raw --new-kek kek16.hex
 refuses 'a KEK in hex and a raw one' 3 "$kek_length" rewrap --raw-kek --kek kek16.hex --new-kek kek16.raw
-prints 'a new KEK file of 4,194,304 bytes' "$text16\n" rewrap --kek kek32.hex --new-kek most.hex <<<$text32
+prints 'a new KEK file of 4,194,304 bytes' "$wrapped16\n" rewrap --kek kek32.hex --new-kek most.hex <<<$wrapped32
 refuses 'a new KEK file of 4,194,305 bytes' 6 'new key file: too long' \
-    rewrap --kek kek32.hex --new-kek more.hex <<<$text32
+    rewrap --kek kek32.hex --new-kek more.hex <<<$wrapped32
 
 # rewraps_long BYTES WRAP-FLAG REWRAP-FLAG UNWRAP-FLAG: a random key, raw; each flag in words of its own.
 rewraps_long() {
@@ -294,19 +296,19 @@ refuses 'rewrap, input closed' 4 "$bad_length" "${rewraps_both[@]}" <&-
 refuses_sizes 'rewrap --new-kek kek32.hex' 0 8 16 23 25 1048592
 refuses_sizes 'rewrap --new-kek kek32.hex --new-padded' 0 8 16 23 25 1048592
 refuses_sizes 'rewrap --new-kek kek32.hex --padded' 0 8 17 23 1048592
-refuses 'rewrap of a wrong byte' 5 "$integrity" "${rewraps_both[@]}" <<<"0f${text16#1f}"
-refuses 'rewrap of a wrong byte to padded' 5 "$integrity" "${rewraps_both[@]}" --new-padded <<<"0f${text16#1f}"
-refuses 'rewrap, the KEKs exchanged' 5 "$integrity" rewrap --kek kek32.hex --new-kek kek16.hex <<<$text16
+refuses 'rewrap of a wrong byte' 5 "$integrity" "${rewraps_both[@]}" <<<"0f${wrapped16#1f}"
+refuses 'rewrap of a wrong byte to padded' 5 "$integrity" "${rewraps_both[@]}" --new-padded <<<"0f${wrapped16#1f}"
+refuses 'rewrap, the KEKs exchanged' 5 "$integrity" rewrap --kek kek32.hex --new-kek kek16.hex <<<$wrapped16
 refuses 'rewrap of a padded wrapping as plain' 5 "$integrity" "${rewraps_both[@]}" <<<$padded16
-refuses 'rewrap of a plain wrapping as padded' 5 "$integrity" "${rewraps_both[@]}" --padded <<<$text16
+refuses 'rewrap of a plain wrapping as padded' 5 "$integrity" "${rewraps_both[@]}" --padded <<<$wrapped16
 refuses 'rewrap of 20 bytes to plain' 4 "$bad_length" \
-    rewrap --padded --kek kek5649.hex --new-kek kek32.hex <<<$text20
+    rewrap --padded --kek kek5649.hex --new-kek kek32.hex <<<$wrapped20
 refuses 'rewrap of 7 bytes to plain' 4 "$bad_length" \
-    rewrap --padded --kek kek5649.hex --new-kek kek32.hex <<<$text7
+    rewrap --padded --kek kek5649.hex --new-kek kek32.hex <<<$wrapped7
 
 # Two and more causes at once, of each file and of the output: the first is answered. A cause is its
-# place in the order, what brings it about, its status and its line; at 99 nothing is wrong. The text is
-# in the padded form, and the new one in the plain form.
+# place in the order, what brings it about, its status and its line; at 99 nothing is wrong. The
+# wrapped key has the padded form, and the new one the plain form.
 old_causes=('99 kek16.hex' '1 missing 6 key file: cannot be opened'
     '3 digit.hex 6 key file: no hex digit at byte 22' "4 kek15.hex 3 $kek_length")
 new_causes=('99 kek32.hex' '2 missing 6 new key file: cannot be opened'
@@ -321,7 +323,7 @@ for old in "${old_causes[@]}"; do
             for output in "${output_causes[@]}"; do
                 first_cause "$old" "$new" "$input" "$output"
                 answer=''
-                [ "$place" != 99 ] || answer="$text32\n"
+                [ "$place" != 99 ] || answer="$wrapped32\n"
                 to=$(word "$output") answers "rewrap of $(word "$input") from $(word "$old") to $(word "$new")" \
                     "$wanted" "$answer" "$line" \
                     rewrap --padded --kek "$(word "$old")" --new-kek "$(word "$new")" <<<"$(word "$input")"
@@ -334,12 +336,13 @@ unset to
 ### Refusals: memory
 
 read -r kind kilobytes <<<"$(least)"
+# starved ARGUMENT..: the program without memory.
 starved() { limited "$kind" "$kilobytes" "$@"; }
 keywrap=starved
 refuses 'no memory, wrap' 7 "$memory" wrap --kek kek16.hex <<<$d16
-refuses 'no memory, unwrap' 7 "$memory" unwrap --kek kek16.hex <<<$text16
-refuses 'no memory, rewrap' 7 "$memory" rewrap --kek kek16.hex --new-kek kek32.hex <<<$text16
-refuses 'no memory, check' 7 "$memory" check --kek kek16.hex <<<$text16
+refuses 'no memory, unwrap' 7 "$memory" unwrap --kek kek16.hex <<<$wrapped16
+refuses 'no memory, rewrap' 7 "$memory" rewrap --kek kek16.hex --new-kek kek32.hex <<<$wrapped16
+refuses 'no memory, check' 7 "$memory" check --kek kek16.hex <<<$wrapped16
 refuses 'no memory, drill' 7 "$memory" drill $d16
 refuses 'no memory, vectors' 7 "$memory" vectors
 refuses 'no memory, help' 7 "$memory" --help
@@ -354,13 +357,14 @@ exec 9>fifo 8<&-
 for to in closed unread /dev/full; do
     refuses "drill, output $to" 6 "$refused" drill $d16
     refuses "wrap, output $to" 6 "$refused" wrap --kek kek16.hex <<<$d16
-    refuses "unwrap, output $to" 6 "$refused" unwrap --raw --kek kek16.hex <text.raw
-    refuses "rewrap, output $to" 6 "$refused" "${rewraps_both[@]}" <<<$text16
-    refuses "check, output $to" 6 "$refused" check --kek kek16.hex <<<$text16
+    refuses "unwrap, output $to" 6 "$refused" unwrap --raw --kek kek16.hex <wrapped.raw
+    refuses "rewrap, output $to" 6 "$refused" "${rewraps_both[@]}" <<<$wrapped16
+    refuses "check, output $to" 6 "$refused" check --kek kek16.hex <<<$wrapped16
     refuses "vectors, output $to" 6 "$refused" vectors
     refuses "help, output $to" 6 "$refused" --help
-    refuses "another KEK, output $to" 5 "$integrity" unwrap --kek kek24.hex <<<$text16
-    refuses "rewrap from another KEK, output $to" 5 "$integrity" rewrap --kek kek24.hex --new-kek kek16.hex <<<$text16
+    refuses "another KEK, output $to" 5 "$integrity" unwrap --kek kek24.hex <<<$wrapped16
+    refuses "rewrap from another KEK, output $to" 5 "$integrity" \
+        rewrap --kek kek24.hex --new-kek kek16.hex <<<$wrapped16
 done
 unset to
 
@@ -369,9 +373,9 @@ drilled_zeros 512 >drilled512
 echo >>drilled512
 echo "$vector_lines" >lines
 "$keywrap" --help >help
-echo $text32 >text32.hex
+echo $wrapped32 >wrapped32.hex
 for taken in 0 1 10 48 49; do
-    stops 'rewrap' text32.hex $taken "${rewraps_both[@]}" <<<$text16
+    stops 'rewrap' wrapped32.hex $taken "${rewraps_both[@]}" <<<$wrapped16
 done
 stops 'drill of 512 words' drilled512 1024 drill "$(zeros 4096)"
 for taken in 0 1 100 168 169; do
@@ -385,17 +389,17 @@ done
 printf '#!/bin/sh\nexec "%s" "$@" 2>&-\n' "$keywrap" >mute
 chmod +x mute
 keywrap=./mute prints 'drill, error closed' "$drilled\n" drill $d16
-keywrap=./mute answers 'another KEK, error closed' 5 '' '' unwrap --kek kek24.hex <<<$text16
+keywrap=./mute answers 'another KEK, error closed' 5 '' '' unwrap --kek kek24.hex <<<$wrapped16
 keywrap=./mute answers 'words refused, error closed' 2 '' '' rewind
 
 ### check and vectors
 
-prints 'checks a plain wrapping' 'plain 16\n' check --kek kek16.hex <<<$text16
-prints 'checks a plain wrapping, raw' 'plain 16\n' check --raw --raw-kek --kek kek16.raw <text.raw
-prints 'checks a padded wrapping of 20 bytes' 'padded 20\n' check --kek kek5649.hex <<<$text20
-prints 'checks a padded wrapping of 7 bytes' 'padded 7\n' check --kek kek5649.hex <<<$text7
-answers 'checks a wrong byte' 5 'none\n' '' check --kek kek16.hex <<<"0f${text16#1f}"
-answers 'checks 23 bytes' 5 'none\n' '' check --kek kek16.hex <<<"${text16%e5}"
+prints 'checks a plain wrapping' 'plain 16\n' check --kek kek16.hex <<<$wrapped16
+prints 'checks a plain wrapping, raw' 'plain 16\n' check --raw --raw-kek --kek kek16.raw <wrapped.raw
+prints 'checks a padded wrapping of 20 bytes' 'padded 20\n' check --kek kek5649.hex <<<$wrapped20
+prints 'checks a padded wrapping of 7 bytes' 'padded 7\n' check --kek kek5649.hex <<<$wrapped7
+answers 'checks a wrong byte' 5 'none\n' '' check --kek kek16.hex <<<"0f${wrapped16#1f}"
+answers 'checks 23 bytes' 5 'none\n' '' check --kek kek16.hex <<<"${wrapped16%e5}"
 answers 'checks nothing' 5 'none\n' '' check --kek kek16.hex
 
 prints 'the twelve vectors' "$vector_lines\n" vectors
@@ -406,7 +410,7 @@ refuses_words rewind
 refuses_words wrap
 refuses_words wrap --kek
 refuses_words unwrap --kek kek16.hex --secret
-refuses_words unwrap --kek kek16.hex text.raw
+refuses_words unwrap --kek kek16.hex wrapped.raw
 refuses_words check --kek kek16.hex --padded
 refuses_words check --kek kek16.hex --iv $iv
 refuses_words rewrap --kek kek16.hex
@@ -414,7 +418,7 @@ refuses_words rewrap --new-kek kek32.hex
 refuses_words rewrap --kek kek16.hex --new-kek
 refuses_words rewrap --kek kek16.hex --new-kek kek32.hex --new-kek kek32.hex
 refuses_words rewrap --kek kek16.hex --new-kek kek32.hex --iv $iv
-refuses_words rewrap --kek kek16.hex --new-kek kek32.hex text.raw
+refuses_words rewrap --kek kek16.hex --new-kek kek32.hex wrapped.raw
 refuses_words wrap --kek kek16.hex --new-kek kek32.hex
 refuses_words wrap --kek kek16.hex --new-padded
 refuses_words wrap --kek kek16.hex --padded --iv $iv
@@ -474,13 +478,14 @@ explains 'Exit status:' --help
 explains 'Usage: keywrap <COMMAND>|wrap|unwrap|rewrap|check|drill|vectors' -h
 files='-i, --input <FILE>|-o, --output <FILE>'
 usage='[OPTIONS] --kek <FILE>'
-explains "Usage: keywrap wrap $usage < KEY > WRAPPED|--padded|--iv <HEX>|--raw|--raw-kek|$files|$d16|$text16" \
+explains "Usage: keywrap wrap $usage < KEY > WRAPPED|--padded|--iv <HEX>|--raw|--raw-kek|$files|$d16|$wrapped16" \
     wrap --help
-explains "Usage: keywrap unwrap $usage < WRAPPED > KEY|--padded|--iv <HEX>|--raw|--raw-kek|$files|$d16|$text16" \
+explains "Usage: keywrap unwrap $usage < WRAPPED > KEY|--padded|--iv <HEX>|--raw|--raw-kek|$files|$d16|$wrapped16" \
     unwrap --help
-explains "Usage: keywrap rewrap $usage --new-kek <FILE> < WRAPPED > REWRAPPED|$files|$text16|$text32" rewrap --help
+explains "Usage: keywrap rewrap $usage --new-kek <FILE> < WRAPPED > REWRAPPED|$files|$wrapped16|$wrapped32" \
+    rewrap --help
 explains '--padded|--new-padded|--raw|--raw-kek' rewrap --help
-explains "Usage: keywrap check $usage < WRAPPED|--raw|--raw-kek|$files|$text16|plain 16" check --help
+explains "Usage: keywrap check $usage < WRAPPED|--raw|--raw-kek|$files|$wrapped16|plain 16" check --help
 explains "Usage: keywrap drill|--padded|--unwrap|$d16|$drilled" drill --help
 explains 'Usage: keywrap vectors|rfc3394 4.1 ok' vectors --help
 prints 'the version' "keywrap $version\n" --version

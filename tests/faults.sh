@@ -4,6 +4,9 @@
 # end with the status and the line of README's table, never with a wrong answer, with no more
 # than a counted front of the answer out, and with no file left behind.
 #
+# It is long since no contract reaches the system: each fault here meets every command and every refusal of
+# tests/lib/commands.sh.
+#
 # usage: tests/faults.sh        (KEYWRAP=PATH tries another program, as an installed one)
 
 set -u
@@ -64,15 +67,15 @@ jobs with_kek
 
 ### Both KEK files of rewrap
 
-# with_keks ARGUMENT..: 4.1's text goes from kek16 to kek32, whose files come in other ways.
-with_keks() { prints "rewrap $*" "$text32\n" rewrap "$@" <text.hex; }
+# with_keks ARGUMENT..: 4.1's wrapped key goes from kek16 to kek32, whose files come in other ways.
+with_keks() { prints "rewrap $*" "$wrapped32\n" rewrap "$@" <wrapped.hex; }
 with_keks --kek <(cat kek16.hex) --new-kek <(cat kek32.hex)
 with_keks --new-kek <(in_pieces kek32.hex 5) --kek <(in_pieces kek16.hex 7)
 with_keks --kek /dev/fd/7 --new-kek /dev/fd/6 7<kek16.hex 6<kek32.hex
 with_keks --kek /dev/fd/7 --new-kek kek32.hex 7< <(in_pieces kek16.hex 5)
 with_keks --kek kek16.hex --new-kek /dev/fd/7 7< <(in_pieces kek32.hex 5)
-prints 'rewrap, both KEKs and the input in pieces' "$text32\n" \
-    rewrap --kek <(in_pieces kek16.hex 5) --new-kek <(in_pieces kek32.hex 5) < <(in_pieces text.hex 5)
+prints 'rewrap, both KEKs and the input in pieces' "$wrapped32\n" \
+    rewrap --kek <(in_pieces kek16.hex 5) --new-kek <(in_pieces kek32.hex 5) < <(in_pieces wrapped.hex 5)
 # Both pipes are opened before either is read: the old KEK comes last.
 mkfifo pipe.new
 {
@@ -86,14 +89,14 @@ wait $!
 rm pipe.new
 # One pipe has one KEK: the old one takes the whole of it.
 refuses 'both KEKs in one pipe' 3 "$new_kek_length" \
-    rewrap --kek /dev/fd/7 --new-kek /dev/fd/7 7< <(cat kek16.hex) <text.hex
+    rewrap --kek /dev/fd/7 --new-kek /dev/fd/7 7< <(cat kek16.hex) <wrapped.hex
 
 # spares_pipe NAME STATUS MESSAGE ARGUMENT..: rewrap refuses the old KEK before it takes a byte of the new
 # one, of the pipe /dev/fd/7.
 spares_pipe() {
     local status
     {
-        "$keywrap" "${@:4}" --new-kek /dev/fd/7 <text.hex 2>err
+        "$keywrap" "${@:4}" --new-kek /dev/fd/7 <wrapped.hex 2>err
         status=$?
         cat <&7
     } >out 7< <(cat kek32.hex)
@@ -108,7 +111,7 @@ spares_pipe 'a KEK of 15 bytes' 3 "$kek_length" rewrap --kek kek15.hex
 
 ln -s loop loop
 ln -s kek16.hex link
-prints 'the KEK behind a link' "$text16\n" wrap --kek link <key.hex
+prints 'the KEK behind a link' "$wrapped16\n" wrap --kek link <key.hex
 refuses 'an empty pipe as KEK' 3 "$kek_length" wrap --kek <(:)
 refuses 'half a KEK in a pipe' 3 "$kek_length" wrap --kek <(head -c 10 kek16.hex)
 refuses 'an endless pipe as KEK' 6 'key file: too long' wrap --kek <(yes 00)
@@ -211,6 +214,7 @@ ended 'a pipe with room for 4096 bytes' 6 wanted.out 'keywrap: output: refused a
 
 ### Readers that go away, with SIGPIPE ignored and not
 
+# ignoring, defaulting ARGUMENT..: the program, to which SIGPIPE means nothing, or its end.
 ignoring() (
     trap '' PIPE
     exec "$program" "$@"
@@ -374,7 +378,7 @@ in_file() {
 }
 jobs in_file
 refuses 'an endless pipe as input file' 6 'input: too long' unwrap --kek kek16.hex --input <(yes 00)
-prints 'the KEK and the input file in one pipe each' "$text16\n" \
+prints 'the KEK and the input file in one pipe each' "$wrapped16\n" \
     wrap --kek <(in_pieces kek16.hex 5) --input <(in_pieces key.hex 5)
 
 ### Nothing else was touched

@@ -5,6 +5,8 @@
 #
 # usage: tests/files.sh        (KEYWRAP=PATH tries another program, as an installed one)
 #
+# It is long since no contract reaches the file of --output: what is proved is what goes to a writer.
+#
 # The rows on calls of the system that fail need a C compiler, and some others a tool or a right of the
 # system; each is skipped without.
 
@@ -65,17 +67,17 @@ refused kept
 for mode in 000 444 666 755; do
     fresh old
     chmod $mode to/file
-    lands "into a file of mode $mode" 0 text.hex to/file wrap --kek kek16.hex -i key.hex -o to/file
+    lands "into a file of mode $mode" 0 wrapped.hex to/file wrap --kek kek16.hex -i key.hex -o to/file
 done
 fresh
-lands 'into two folders by turns' 0 text.hex to/file wrap --kek kek16.hex -i key.hex -o to/file
-lands 'into the same file again' 0 text32.hex to/file wrap --kek kek32.hex -i key.hex -o to/file
-lands 'from KEK to KEK in place' 0 text.hex to/file \
+lands 'into two folders by turns' 0 wrapped.hex to/file wrap --kek kek16.hex -i key.hex -o to/file
+lands 'into the same file again' 0 wrapped32.hex to/file wrap --kek kek32.hex -i key.hex -o to/file
+lands 'from KEK to KEK in place' 0 wrapped.hex to/file \
     rewrap --kek kek32.hex --new-kek kek16.hex -i to/file -o to/file
 ln to/file to/link
 lands 'in place by another link of the file' 0 key.hex to/file unwrap --kek kek16.hex -i to/link -o to/file
 ln -s file to/name
-lands 'in place by a symbolic link as input' 0 text.hex to/file wrap --kek kek16.hex -i to/name -o to/file
+lands 'in place by a symbolic link as input' 0 wrapped.hex to/file wrap --kek kek16.hex -i to/name -o to/file
 
 # round INPUT FLAGS REWRAP-FLAGS: a long key is wrapped, rewrapped and unwrapped, the last two in place.
 round() {
@@ -111,8 +113,8 @@ within() (
 named() {
     fresh
     mkdir 'to/a folder'
-    keywrap=within lands "into $1" 0 text.hex "to/$2" wrap --kek ../kek16.hex "${@:3}" <key.hex
-    keywrap=within lands "into $1 again" 0 text32.hex "to/$2" wrap --kek ../kek32.hex "${@:3}" <key.hex
+    keywrap=within lands "into $1" 0 wrapped.hex "to/$2" wrap --kek ../kek16.hex "${@:3}" <key.hex
+    keywrap=within lands "into $1 again" 0 wrapped32.hex "to/$2" wrap --kek ../kek32.hex "${@:3}" <key.hex
 }
 named 'a name alone' file --output file
 named 'a name with a space' 'a key' -o 'a key'
@@ -131,7 +133,7 @@ name=$(printf '%0249d' 0)
 named 'the longest name' "$name" -o "$name"
 fresh
 ln -s to linked
-lands 'into a folder by a symbolic link' 0 text.hex to/file wrap --kek kek16.hex -o linked/file <key.hex
+lands 'into a folder by a symbolic link' 0 wrapped.hex to/file wrap --kek kek16.hex -o linked/file <key.hex
 rm linked
 
 ### What is no output
@@ -205,7 +207,7 @@ for name in to/kek16.hex ./to/../to/kek16.hex "$PWD/to/kek16.hex" to/link.kek16.
         wrap --kek /dev/fd/7 -o "$name" 7<to/kek16.hex <key.hex
 done
 for job in unwrap check; do
-    keeps "$job, the KEK file is no output" 6 "$not_opened" $job --kek to/kek16.hex -o to/kek16.hex <text.hex
+    keeps "$job, the KEK file is no output" 6 "$not_opened" $job --kek to/kek16.hex -o to/kek16.hex <wrapped.hex
 done
 keeps 'the KEK file is no output, raw' 6 "$not_opened" wrap --raw-kek --kek to/kek.raw -o to/kek.raw <key.hex
 keeps 'the KEK file is no output, under a value' 6 "$not_opened" \
@@ -213,15 +215,15 @@ keeps 'the KEK file is no output, under a value' 6 "$not_opened" \
 keeps 'the KEK file is no output, as the input too' 6 "$not_opened" \
     wrap --kek to/kek16.hex -i to/kek16.hex -o to/kek16.hex
 keeps 'a KEK file of 15 bytes is no output' 6 "$not_opened" wrap --kek to/kek15.hex -o to/kek15.hex <key.hex
-rewraps_both=(rewrap --kek to/kek16.hex --new-kek to/kek32.hex -i text.hex)
+rewraps_both=(rewrap --kek to/kek16.hex --new-kek to/kek32.hex -i wrapped.hex)
 for name in kek16.hex link.kek16.hex kek32.hex link.kek32.hex name.kek32.hex; do
     keeps "rewrap, $name is no output" 6 "$not_opened" "${rewraps_both[@]}" -o "to/$name"
 done
 keeps 'rewrap, the new KEK by a link is no output' 6 "$not_opened" \
-    rewrap --kek to/kek16.hex --new-kek to/name.kek32.hex -i text.hex -o to/kek32.hex
+    rewrap --kek to/kek16.hex --new-kek to/name.kek32.hex -i wrapped.hex -o to/kek32.hex
 # A copy of a KEK file is none.
 cp kek16.hex to/file
-lands 'into a copy of the KEK file' 0 text.hex to/file wrap --kek to/kek16.hex -i key.hex -o to/file
+lands 'into a copy of the KEK file' 0 wrapped.hex to/file wrap --kek to/kek16.hex -i key.hex -o to/file
 
 ### Folders that can not be written
 
@@ -242,7 +244,7 @@ else
     chmod 755 to
     for mode in 000 444; do
         chmod $mode to/file
-        keywrap=unprivileged lands "into a file of mode $mode" 0 text.hex to/file \
+        keywrap=unprivileged lands "into a file of mode $mode" 0 wrapped.hex to/file \
             wrap --kek kek16.hex -i key.hex -o to/file
     done
 fi
@@ -278,17 +280,17 @@ head -c 2048 long.raw >key2048.raw
 head -c 4096 digits.hex >key2048.hex
 echo >>key2048.hex
 # What has no room here is what goes to standard output; that it is right is shown above.
-"$program" wrap --raw --kek kek16.hex <key2048.raw >text2048.raw
-"$program" wrap --kek kek16.hex <key2048.hex >text2048.hex
-"$program" rewrap --raw --kek kek16.hex --new-kek kek32.hex <text2048.raw >rewrapped.raw
+"$program" wrap --raw --kek kek16.hex <key2048.raw >wrapped2048.raw
+"$program" wrap --kek kek16.hex <key2048.hex >wrapped2048.hex
+"$program" rewrap --raw --kek kek16.hex --new-kek kek32.hex <wrapped2048.raw >rewrapped.raw
 keywrap=in_blocks
-fills 'raw wrap' text2048.raw wrap --raw --kek kek16.hex -i key2048.raw
-fills 'wrap' text2048.hex wrap --kek kek16.hex -i key2048.hex
-fills 'raw unwrap' key2048.raw unwrap --raw --kek kek16.hex -i text2048.raw
-fills 'unwrap' key2048.hex unwrap --kek kek16.hex -i text2048.hex
-fills 'raw rewrap' rewrapped.raw rewrap --raw --kek kek16.hex --new-kek kek32.hex -i text2048.raw
+fills 'raw wrap' wrapped2048.raw wrap --raw --kek kek16.hex -i key2048.raw
+fills 'wrap' wrapped2048.hex wrap --kek kek16.hex -i key2048.hex
+fills 'raw unwrap' key2048.raw unwrap --raw --kek kek16.hex -i wrapped2048.raw
+fills 'unwrap' key2048.hex unwrap --kek kek16.hex -i wrapped2048.hex
+fills 'raw rewrap' rewrapped.raw rewrap --raw --kek kek16.hex --new-kek kek32.hex -i wrapped2048.raw
 blocks=0
-for name in text.hex wrong.hex; do
+for name in wrapped.hex wrong.hex; do
     fresh old
     keeps "check of $name, full" 6 'keywrap: output: refused after 0 bytes' check --kek kek16.hex -i $name -o to/file
 done
@@ -297,7 +299,7 @@ keywrap=bounded
 ### New files that are there already
 
 # lands_beside NAME: the answer goes into a file, beside which new files are already.
-lands_beside() { lands "$1" 0 text.hex to/file wrap --kek kek16.hex -i key.hex -o to/file; }
+lands_beside() { lands "$1" 0 wrapped.hex to/file wrap --kek kek16.hex -i key.hex -o to/file; }
 fresh old
 echo part >to/file.part0
 lands_beside 'a new file that is there stays'
@@ -321,9 +323,9 @@ rm to/file.part50
 lands_beside 'one name of a new file is free'
 fresh old
 cp key.hex to/file.part0
-lands 'the input has the name of a new file' 0 text.hex to/file wrap --kek kek16.hex -i to/file.part0 -o to/file
+lands 'the input has the name of a new file' 0 wrapped.hex to/file wrap --kek kek16.hex -i to/file.part0 -o to/file
 cp kek16.hex to/file.part0
-lands 'the KEK file has the name of a new file' 0 text.hex to/file wrap --kek to/file.part0 -i key.hex -o to/file
+lands 'the KEK file has the name of a new file' 0 wrapped.hex to/file wrap --kek to/file.part0 -i key.hex -o to/file
 
 ### Runs that wait
 
@@ -341,7 +343,7 @@ interrupted() {
     [ ! -e to/file.part0 ] || [ "$(stat -c '%a %s' to/file.part0)" = '600 0' ] ||
         problem="$problem the new file is $(stat -c '%a %s' to/file.part0)"
     verdict "$1 while it waits ${*:2}" "$problem"
-    lands "the run after $1 ${*:2}" 0 text.hex to/file wrap --kek kek16.hex -i key.hex -o to/file
+    lands "the run after $1 ${*:2}" 0 wrapped.hex to/file wrap --kek kek16.hex -i key.hex -o to/file
 }
 for signal in KILL INT TERM HUP; do
     interrupted $signal --input pipe
@@ -354,16 +356,16 @@ begins
 [ "$(state ! -name file.part0)" = "$before" ] && problem='' || problem="in the folder: $(state), not $before"
 verdict 'the file is the old one while the run waits' "$problem"
 goes_on 'the run that waited' 0 '' 'file f'
-verdict 'the file of the run that waited' "$(is_new to/file text.hex)"
+verdict 'the file of the run that waited' "$(is_new to/file wrapped.hex)"
 # Two runs at once make two new files, and the last has the name.
 fresh old
 begins
 "$program" wrap --kek kek32.hex -i key.hex -o to/file
-problem=$(is_new to/file text32.hex)
+problem=$(is_new to/file wrapped32.hex)
 [ -e to/file.part0 ] || problem="$problem the other's new file is gone"
 verdict 'a run beside one that waits' "$problem"
 goes_on 'the run that waited for the other' 0 '' 'file f'
-verdict 'the file of the run that ended last' "$(is_new to/file text.hex)"
+verdict 'the file of the run that ended last' "$(is_new to/file wrapped.hex)"
 # The new file can't get its name.
 fresh
 begins
@@ -429,7 +431,7 @@ if compiled fail_call; then
     looks 'a file as output' wrap --kek to/kek16.hex -i key.hex -o to/file
     looks 'the KEK file as output' wrap --kek to/kek16.hex -i key.hex -o to/kek16.hex
     looks 'a link of the KEK file as output' wrap --kek to/kek16.hex -i key.hex -o to/link
-    looks 'the new KEK file as output' rewrap --kek to/kek16.hex --new-kek to/kek32.hex -i text.hex -o to/kek32.hex
+    looks 'the new KEK file as output' rewrap --kek to/kek16.hex --new-kek to/kek32.hex -i wrapped.hex -o to/kek32.hex
     keywrap=bounded
 else
     skip 'calls of the system that fail' 'no C compiler' gcc
@@ -439,7 +441,7 @@ fi
 
 # read_from NAME FILE: the key is read from this file, and standard input is left alone.
 read_from() {
-    answers "$1 as input" 0 "$text16\n" '' wrap --kek kek16.hex --input "$2" <wrong.hex
+    answers "$1 as input" 0 "$wrapped16\n" '' wrap --kek kek16.hex --input "$2" <wrong.hex
 }
 ln -s key.hex link
 cp key.hex 'a key'
@@ -454,9 +456,9 @@ read_from 'a file by its descriptor' /dev/fd/7 7<key.hex
 timeout 60 cp key.hex pipe &
 read_from 'a named pipe' pipe
 wait $!
-prints 'a name with a dash first, joined, as input' "$text16\n" wrap --kek kek16.hex --input=-x
-prints 'standard input by its name' "$text16\n" wrap --kek kek16.hex --input /dev/stdin <key.hex
-prints 'the KEK file as input' "$text16\n" wrap --kek kek16.hex --input key.hex <&-
+prints 'a name with a dash first, joined, as input' "$wrapped16\n" wrap --kek kek16.hex --input=-x
+prints 'standard input by its name' "$wrapped16\n" wrap --kek kek16.hex --input /dev/stdin <key.hex
+prints 'the KEK file as input' "$wrapped16\n" wrap --kek kek16.hex --input key.hex <&-
 refuses 'an empty file as input' 4 "$bad_length" wrap --kek kek16.hex --input /dev/null <key.hex
 refuses 'a folder as input' 6 'input: cannot be read' wrap --kek kek16.hex --input folder <key.hex
 refuses 'an input without end' 6 'input: too long' wrap --raw --kek kek16.hex --input /dev/zero
@@ -468,7 +470,7 @@ for name in '' - missing loop key.hex/ key.hex/key missing/key /dev/fd/7; do
         refuses "$job, '$name' as input" 6 'input: cannot be opened' $job --kek kek16.hex -i "$name" <key.hex
     done
     refuses "rewrap, '$name' as input" 6 'input: cannot be opened' \
-        rewrap --kek kek16.hex --new-kek kek32.hex -i "$name" <text.hex
+        rewrap --kek kek16.hex --new-kek kek32.hex -i "$name" <wrapped.hex
 done
 for job in wrap unwrap check; do
     spares_input "$job, a file as input" 6 'input: cannot be opened' $job --kek kek16.hex --input missing
@@ -486,8 +488,8 @@ input_causes=('4 missing 6 input: cannot be opened' '8 digit.hex 6 input: no hex
 # Of rewrap the new KEK file, and of unwrap the value of --iv.
 news=('99 kek32.hex' '3 missing 6 new key file: cannot be opened' "7 kek15.hex 3 $new_kek_length")
 values=("99 $iv" '1 0 2 --iv is not 16 hex digits')
-rewrap_inputs=('99 text.hex' "${input_causes[@]}" "9 wrong.hex 5 $integrity")
-unwrap_inputs=('99 agreed.hex' "${input_causes[@]}" "9 text.hex 5 $integrity")
+rewrap_inputs=('99 wrapped.hex' "${input_causes[@]}" "9 wrong.hex 5 $integrity")
+unwrap_inputs=('99 agreed.hex' "${input_causes[@]}" "9 wrapped.hex 5 $integrity")
 
 # in_order ANSWER JOB FLAG OTHER KEK INPUT OUTPUT: of these four causes, where OTHER is that of the flag's
 # value, the first is answered, or there is none.
@@ -506,7 +508,7 @@ for kek in "${keks[@]}"; do
     for output in "${outputs[@]}"; do
         for input in "${rewrap_inputs[@]}"; do
             for other in "${news[@]}"; do
-                in_order text32.hex rewrap --new-kek "$other" "$kek" "$input" "$output"
+                in_order wrapped32.hex rewrap --new-kek "$other" "$kek" "$input" "$output"
             done
         done
         for input in "${unwrap_inputs[@]}"; do

@@ -37,19 +37,20 @@ built=crates/keywrap_cli/out/keywrap_cli
 cat >bin/rt <<'END_OF_RT'
 #!/bin/bash
 crate=${PWD##*/}
+# Of the functions until_true comes from tests/lib/expect.sh.
 note() { echo "$*" >>"$room/notes"; }
 trap 'note "ended $crate"; exit 143' TERM
 echo $$ >>"$room/pids"
 note "$crate: $*"
 . "$room/until.sh"
-on_screen() { [ -z "${screen:-}" ] || until_true grep -qF -e "s, $1" "$screen"; }
+awaits_screen() { [ -z "${screen:-}" ] || until_true grep -qF -e "s, $1" "$screen"; }
 
 echo "rt: waiting for another rt to finish in $PWD"
-on_screen "${crates_done:=$(grep -c 'ends' "$room/notes")} of 4 crates proved: $crate waits for another rt"
+awaits_screen "${crates_done:=$(grep -c 'ends' "$room/notes")} of 4 crates proved: $crate waits for another rt"
 echo "rt: chose --jobs 4 for $crate"
 echo 'so far: 0 of 9 functions checked; the verdict comes last'
 echo 'so far: 3 of 9 functions checked'
-on_screen "$crates_done of 4 crates proved: $crate 3 of 9 functions"
+awaits_screen "$crates_done of 4 crates proved: $crate 3 of 9 functions"
 [ "${held:-}" != "$crate" ] || until_true false
 [ "${edited:-}" != "$crate" ] || echo other >>src/lib.rt
 if [ "${refused:-}" = "$crate" ]; then
@@ -73,9 +74,9 @@ END_OF_RT
 chmod +x bin/rt
 declare -f until_true >until.sh
 
-# ended NAME STATUS ANSWER LINES: the run that ended with $status and wrote `out` and `err` did so, where the
+# launched NAME STATUS ANSWER LINES: the run that ended with $status and wrote `out` and `err` did so, where the
 # folder of the logs in `err` stands as LOGS; it left nothing in the folder for temporary files, and no rt.
-ended() {
+launched() {
     local problem='' pid
     printf '%s' "$3" >wanted.out
     printf '%s' "$4" >wanted.err
@@ -100,6 +101,7 @@ launch() {
     wait $process
     status=$?
 }
+# anew: nothing is built.
 anew() { rm -rf crates/*/out; }
 steps=('block_pair: lib' 'ends block_pair' 'aes_block: lib' 'ends aes_block' 'key_wrap: lib' 'ends key_wrap'
     'keywrap_cli: run -- --version' 'ends keywrap_cli')
@@ -109,10 +111,10 @@ starts='keywrap: proving and building the program, several minutes the first tim
 ### When it is built
 
 launch a 'b c'
-ended 'the first use' 5 "first, of process $process: a b c"$'\n' "$starts"
+launched 'the first use' 5 "first, of process $process: a b c"$'\n' "$starts"
 noted 'the crates of crates.txt one after another, and then the program' "${steps[@]}"
 launch again
-ended 'the second use' 5 "first, of process $process: again"$'\n' ''
+launched 'the second use' 5 "first, of process $process: again"$'\n' ''
 noted 'nothing is proved a second time'
 find . -name '*.rt' -exec touch {} +
 launch
@@ -128,6 +130,7 @@ builds_after() {
     launch
     noted "built once: $1"
 }
+# append FILE: makes it another.
 append() { echo other >>"$1"; }
 for file in crates.txt crates/block_pair/src/lib.rt crates/key_wrap/src/part/other.rt \
     crates/aes_block/specs/Lib.antt crates/keywrap_cli/proofs/Lib.antt crates/key_wrap/proofs/part/of/Answers.antt; do
@@ -161,7 +164,7 @@ verdict 'as a file of sh' "$(grep -vx '.*: d' out; cat err)"
 for crate in block_pair aes_block key_wrap keywrap_cli; do
     anew
     refused=$crate launch
-    ended "$crate is not proved" 70 '' "${starts}rt: waiting for another rt to finish in $room/crates/$crate
+    launched "$crate is not proved" 70 '' "${starts}rt: waiting for another rt to finish in $room/crates/$crate
 rt: chose --jobs 4 for $crate
 so far: 0 of 9 functions checked; the verdict comes last
 so far: 3 of 9 functions checked
@@ -175,16 +178,16 @@ done
 anew
 TMPDIR=$room/missing launch
 sed -i '/^mktemp: /d' err
-ended 'no folder for the logs' 70 '' "keywrap: no folder for the build's logs"$'\n'
+launched 'no folder for the logs' 70 '' "keywrap: no folder for the build's logs"$'\n'
 noted 'no folder for the logs: nothing is proved'
 PATH=/usr/bin:/bin launch
-[ -x /usr/bin/rt ] || [ -x /bin/rt ] || ended 'no rt' 70 '' \
+[ -x /usr/bin/rt ] || [ -x /bin/rt ] || launched 'no rt' 70 '' \
     'keywrap: not built yet, and rt, which proves and builds it, is not on the PATH
 '
 
-# interrupted SIGNAL STATUS CRATE: where it comes while the crate is proved, rt is ended, and then the launcher
+# signalled SIGNAL STATUS CRATE: where it comes while the crate is proved, rt is ended, and then the launcher
 # by it. Signals that this script ignores are ignored by what it starts, unless env has them by default.
-interrupted() {
+signalled() {
     anew
     : >notes
     : >pids
@@ -193,15 +196,15 @@ interrupted() {
     kill -s "$1" $!
     { wait $!; } 2>/dev/null
     status=$?
-    ended "$1 in $3" "$2" '' "$starts"
+    launched "$1 in $3" "$2" '' "$starts"
     verdict "$1 in $3 ends rt" "$(tail -n 1 notes | grep -vx "ended $3")"
     verdict "$1 in $3 leaves no program" "$(ls $built ${built%/*}/built_from* 2>/dev/null)"
 }
 for signal in TERM=143 HUP=129 INT=130 QUIT=131; do
-    interrupted "${signal%=*}" "${signal#*=}" block_pair
+    signalled "${signal%=*}" "${signal#*=}" block_pair
 done
-interrupted TERM 143 keywrap_cli
-interrupted INT 130 keywrap_cli
+signalled TERM 143 keywrap_cli
+signalled INT 130 keywrap_cli
 
 ### On a terminal
 
@@ -236,20 +239,21 @@ if has script bsdutils 'the launcher on a terminal'; then
     seconds=$(grep -o 'keywrap: [0-9]* s' err | tr -dc '0-9\n')
     verdict 'the seconds go up' "$(diff <(echo "$seconds" | sort -n) <(echo "$seconds"))"
     rewritten
-    ended 'the first use on a terminal' 5 "$(<out)"$'\n' "$starts"
+    launched 'the first use on a terminal' 5 "$(<out)"$'\n' "$starts"
     held=key_wrap on_screen 'exec env --default-signal ./keywrap k >out' '\003' 'key_wrap 3 of 9 functions'
     rewritten
-    ended 'Ctrl-C' 130 '' "$starts"
+    launched 'Ctrl-C' 130 '' "$starts"
     unset screen
     TERM=dumb on_screen './keywrap m >out'
     sed -i '/^$/d' err
-    ended 'a terminal that cannot rewrite a line' 5 "$(<out)"$'\n' "$starts"
+    launched 'a terminal that cannot rewrite a line' 5 "$(<out)"$'\n' "$starts"
 fi
 
 ### make build, install, dist and library
 
 # as_built COMMAND..: what it writes has the sources as they are now.
 as_built() { "$@" --version | grep -qF "$(paste -sd ' ' crates/keywrap_cli/src/lib.rt), of"; }
+# in_archive: the same of the program that is packed.
 in_archive() {
     tar -xzf dist/keywrap-1.2.3-x86_64-linux.tar.gz -C tmp && as_built tmp/keywrap-1.2.3-x86_64-linux/bin/keywrap &&
         rm -r tmp/keywrap-*
@@ -285,7 +289,8 @@ if has cc gcc 'make library'; then
         touch -d 2020-01-01 "$file"
         library "$file is another" "${lib[@]}"
     done
-    row 'the shared object is linked again' test library/libkeywrap.so* -nt include/keywrap.map
+    verdict 'the shared object is linked again' \
+        "$(find library -name 'libkeywrap.so*' ! -newer include/keywrap.map)"
     rm crates/key_wrap/specs/Lib.antt
     library 'a file is gone' "${lib[@]}"
     rm library/libkeywrap.a
@@ -299,9 +304,14 @@ if has cc gcc 'make library'; then
     row 'make library ends with rt' not_made
     library 'and is built later' "${lib[@]}"
 fi
-# The Makefile's list has each crate of this repository below the C library.
-same 'the crates of make library' "$(sed -n 's/^crates = //p' Makefile | tr ' ' '\n')" \
-    "$(sed -n 's/^keywrap_c staticlib: /keywrap_c /p' "$root/crates.txt" | tr ' ' '\n' |
-        grep -xFf <(ls "$root/crates"))"
+# below CRATE: the crate, and those of this repository on which it stands.
+below() {
+    local each
+    echo "$1"
+    for each in $(sed -nE "s/^$1( staticlib)?: *//p" "$root/crates.txt"); do
+        [ ! -d "$root/crates/$each" ] || below "$each"
+    done
+}
+same 'the crates of make library' "$(sed -n 's/^crates = //p' Makefile | tr ' ' '\n')" "$(below keywrap_c)"
 
 finish

@@ -4,6 +4,8 @@
 # program that is built; and holds docs/LIBRARY.md against the crate that it shows. A part whose tool
 # is not there is skipped, with a line that says what to install.
 #
+# It is long since it has a part for each of them; three shells are asked what they offer, each in its own way.
+#
 # usage: tests/papers.sh        (KEYWRAP=PATH tries another program)
 
 set -u
@@ -42,7 +44,7 @@ items=$(sed -n '/^\.Ss Options/,/^\.El/s/^\.It //p' "$page")
 same 'help and page: the commands' "$commands" "$(sed -n '/^\.Ss Commands/,/^\.El/s/^\.It Cm //p' "$page")"
 same 'help and page: the commands of the synopsis' "$commands" "$(section SYNOPSIS | sed -n 's/^\.Cm //p')"
 same 'help and page: the options' "$options" "$(options_in "$items")"
-same 'help and page: the options in the text' "$options" "$(options_in "$(cat "$page")")"
+same 'help and page: the options of all sections' "$options" "$(options_in "$(cat "$page")")"
 for command in $commands; do
     synopsis=$(section SYNOPSIS | sed -n "/^\.Cm $command\$/,/^\.Nm/p")
     same "help and page: the synopsis of $command" \
@@ -75,7 +77,7 @@ fi
 # transcript: runs the examples of the page, and writes each with what it wrote.
 transcript() {
     local line
-    PATH=$PWD/bin:$PATH
+    local PATH=$room/bin:$PATH
     while IFS= read -r line; do
         [[ $line = '$ '* ]] || continue
         echo "$line"
@@ -85,7 +87,7 @@ transcript() {
 mkdir bin examples
 ln -s "$program" bin/keywrap
 section EXAMPLES | sed -n '/^\.Bd/,/^\.Ed/p' | grep -v '^\.' >wanted.examples
-(cd examples && PATH=$room/bin:$PATH && transcript <../wanted.examples) >examples.out
+(cd examples && transcript <../wanted.examples) >examples.out
 row 'the examples of the page' diff wanted.examples examples.out
 # The help's, each in a folder with the two files that an example from file to file takes.
 for command in $commands; do
@@ -94,7 +96,7 @@ for command in $commands; do
     echo 00112233445566778899aabbccddeeff >"help.$command/key.hex"
     echo 1fa68b0a8112b447aef34bd8fb5a7b829d3e862371d2cfe5 >"help.$command/wrapped.hex"
     "$program" "$command" --help | sed -n '/^Example/,/^$/s/^  //p' >wanted.examples.help
-    (cd "help.$command" && PATH=$room/bin:$PATH && transcript <../wanted.examples.help) >examples.out
+    (cd "help.$command" && transcript <../wanted.examples.help) >examples.out
     # Of the vectors it shows the first.
     [ "$command" != vectors ] || sed -i '3,12d; 13s/.*/(and eleven more lines)/' examples.out
     row "the examples of the help of $command" diff wanted.examples.help examples.out
@@ -108,9 +110,9 @@ row 'the page has examples of each command that reads' test "$(grep -oE 'keywrap
 completions=$root/completions
 # What the files say, where their shells are not there too.
 words() { grep -v '^ *#' "$1" | grep -oE -e '--[a-z-]+'; }
-same 'help and bash: the options of the text' "$(grep -e -- <<<"$options")" "$(words "$completions/keywrap.bash")"
-same 'help and zsh: the options of the text' "$(grep -e -- <<<"$options")" "$(words "$completions/_keywrap")"
-same 'help and fish: the options of the text' "$(grep -e -- <<<"$options")" \
+same 'help and bash: the options of the file' "$(grep -e -- <<<"$options")" "$(words "$completions/keywrap.bash")"
+same 'help and zsh: the options of the file' "$(grep -e -- <<<"$options")" "$(words "$completions/_keywrap")"
+same 'help and fish: the options of the file' "$(grep -e -- <<<"$options")" \
     "$(grep '^complete' "$completions/keywrap.fish" | grep -oE -e ' -l [a-z-]+' | sed 's/ -l /--/')"
 
 # offers_SHELL LINE: what the shell offers behind a line, in the folder `files`.
@@ -229,14 +231,17 @@ fi
 ### The version
 
 row 'the version is one of three numbers' grep -qxE '[0-9]+\.[0-9]+\.[0-9]+' <<<"$version"
+# prints_version: the program and the sources name one version.
 prints_version() { [ "$("$program" --version)" = "keywrap $version" ]; }
 row 'the program and the Makefile name one version' prints_version
-places=$(grep -rlIF --exclude-dir=.git --exclude-dir=out -e "$version" "$root")
-row 'the version stands in one place' test "$places" = "$root/crates/keywrap_cli/src/commands.rt"
+places=$(cd "$root" && grep -rlIFs --exclude-dir=out -e "$version" \
+    keywrap Makefile man completions scripts crates/keywrap_cli crates/keywrap_words)
+row 'the version of the command stands in one place' grep -qxE 'crates/[a-z_]+/src/[a-z_]+\.rt' <<<"$places"
+same 'and nowhere else' 1 "$(wc -l <<<"$places")"
 
 ### make install, make uninstall
 
-# An archive that stands for that of the exports: tests/library.sh tries the real one.
+# An archive that stands for that of the exports: tests/library.sh tries the real one, and what is installed of it.
 made() {
     make -s --no-print-directory -o build -C "$root" "$@" PROGRAM="$program" \
         LIBRARY="$room/library" ARCHIVE="$room/library.a"
@@ -246,11 +251,6 @@ command_files='755 bin/keywrap
 644 share/fish/vendor_completions.d/keywrap.fish
 644 share/man/man1/keywrap.1
 644 share/zsh/site-functions/_keywrap'
-library_files='644 include/keywrap.h
-644 lib/libkeywrap.a
-777 lib/libkeywrap.so
-755 lib/libkeywrap.so.0
-644 lib/pkgconfig/keywrap.pc'
 # files_of FOLDER: what lies below it, with the modes.
 files_of() { find "$1" ! -type d -printf '%m %P\n'; }
 
@@ -269,7 +269,9 @@ if has cc gcc 'make install with the C library'; then
     row 'an archive to install' cc -fPIC -c library.c -o library.o
     row 'an archive to install' ar rc library.a library.o
     row 'make install' made install DESTDIR="$stage" PREFIX=/usr
-    same 'what make install installs' "$command_files"$'\n'"$library_files" "$(files_of "$stage/usr")"
+    same 'what make install installs, but for the C library' "$command_files" \
+        "$(files_of "$stage/usr" | grep -v -e ' include/' -e ' lib/')"
+    row 'make install installs the C library' test -e "$stage/usr/lib/libkeywrap.so"
     row 'keywrap.pc names the version' grep -qx "Version: $version" "$stage/usr/lib/pkgconfig/keywrap.pc"
     row 'make uninstall' made uninstall DESTDIR="$stage" PREFIX=/usr
     same 'make uninstall leaves nothing' '' "$(files_of "$stage/usr")"
@@ -287,6 +289,7 @@ row 'it unpacks' tar -xpzf "first/$name.tar.gz"
 same 'what it packs' "$command_files"$'\n644 README' "$(files_of "$name")"
 row 'the packed program is the program' cmp "$program" "$name/bin/keywrap"
 row 'the packed README names the version' grep -q "^keywrap $version:" "$name/README"
+# packs_of_root: each packed file is root's.
 packs_of_root() { tar -tvzf "first/$name.tar.gz" >listed && ! grep -v ' 0/0 ' listed; }
 row 'the packed files have no owner of this machine' packs_of_root
 row 'make dist, later and by another umask' sh -c 'umask 077; sleep 1; "$@"' sh make -s -o build -C "$root" dist \
@@ -303,6 +306,7 @@ for file in $(needs | grep ^/); do
     install -D "$file" "alone$file"
 done
 install -D "$name/bin/keywrap" alone/bin/keywrap
+# runs_alone: the program runs in that folder, as its root.
 runs_alone() {
     [ "$(env -i "$(command -v unshare)" -r "$(command -v chroot)" alone /bin/keywrap drill \
         00112233445566778899aabbccddeeff)" = a6a6a6a6a6a6a6a6001122334455667f8899aabbccddeefb ]

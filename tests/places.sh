@@ -23,8 +23,8 @@ trap 'chattr -R -f -ia .; rm -rf "$room"' EXIT
 to=out
 wrap=(wrap --kek kek16.hex -i key.hex -o to/file)
 
-# beside NAME KINDS: what is in the folder `to`, each with its kind and its mode.
-beside() {
+# left_beside NAME KINDS: what is in the folder `to`, each with its kind and its mode.
+left_beside() {
     verdict "$1" "$(find to -mindepth 1 -printf '%P %y %m\n' | sort | diff - <(printf '%s\n' "${@:2}"))"
 }
 
@@ -39,9 +39,9 @@ fresh old
 sized "${wrap[@]}" 2>/dev/null
 verdict 'a limit on files ends the program' "$([ $? = 153 ] || echo 'another status')"
 verdict 'a limit on files leaves the file' "$(echo old | cmp - to/file 2>&1)"
-beside 'a limit on files leaves the new file, empty' 'file f 644' 'file.part0 f 600'
+left_beside 'a limit on files leaves the new file, empty' 'file f 644' 'file.part0 f 600'
 verdict 'a limit on files leaves nothing in it' "$([ ! -s to/file.part0 ] || echo 'it holds something')"
-lands 'the run after a limit on files' 0 text.hex to/file "${wrap[@]}"
+lands 'the run after a limit on files' 0 wrapped.hex to/file "${wrap[@]}"
 
 ### A folder that is moved while the program waits
 
@@ -55,7 +55,7 @@ goes_on 'the folder is moved, and another has its name' 6 "$flush_fault" ''
 rm -r to
 mv moved to
 verdict 'a folder that is moved: the file stays' "$(echo old | cmp - to/file 2>&1)"
-beside 'a folder that is moved keeps the new file' 'file f 644' 'file.part0 f 600'
+left_beside 'a folder that is moved keeps the new file' 'file f 644' 'file.part0 f 600'
 
 ### Files that can't be replaced
 
@@ -71,8 +71,8 @@ if chattr +i to/file 2>/dev/null; then
     ran "${wrap[@]}"
     verdict 'a folder that can only grow' "$(quiet 6 "$flush_fault")"
     verdict 'a folder that can only grow: the file stays' "$(echo old | cmp - to/file 2>&1)"
-    beside 'a folder that can only grow keeps the new file' 'file f 644' 'file.part0 f 600'
-    verdict 'a folder that can only grow keeps the answer in it' "$(cmp text.hex to/file.part0 2>&1)"
+    left_beside 'a folder that can only grow keeps the new file' 'file f 644' 'file.part0 f 600'
+    verdict 'a folder that can only grow keeps the answer in it' "$(cmp wrapped.hex to/file.part0 2>&1)"
     chattr -a to
 else
     skip 'files that are immutable, folders that can only grow' 'chattr is not allowed here' e2fsprogs
@@ -87,7 +87,7 @@ if [ "$(id -u)" = 0 ] && setpriv --reuid=65534 --clear-groups true 2>/dev/null; 
     chmod 1777 to
     keywrap=as_nobody stays "another's file in a sticky folder"
     rm -f to/file
-    keywrap=as_nobody lands 'a file of its own in a sticky folder' 0 text.hex to/file "${wrap[@]}"
+    keywrap=as_nobody lands 'a file of its own in a sticky folder' 0 wrapped.hex to/file "${wrap[@]}"
     chmod 700 .
 else
     skip "another's file in a sticky folder" 'setpriv is not allowed here' util-linux
@@ -124,7 +124,7 @@ if unshare -rm mount -t tmpfs none to 2>/dev/null; then
     if [ $status = 77 ]; then
         skip 'a KEK file and an output of one number' 'the file systems give other numbers'
     else
-        ended 'a KEK file and an output of one number on two file systems' 0 text.hex ''
+        ended 'a KEK file and an output of one number on two file systems' 0 wrapped.hex ''
     fi
     mounted point.sh
     status=$?

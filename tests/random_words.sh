@@ -5,6 +5,8 @@
 # standard output and standard error than that status allows. Only an answer changes a file: one, which is
 # the answer, for its owner alone.
 #
+# It is long since it draws lines that are nearly right, which random words alone never are.
+#
 # usage: tests/random_words.sh [N [SEED]]        500 command lines, if not said; the same for
 # the same seed. KEYWRAP=PATH tries another program, as an installed one.
 
@@ -49,11 +51,11 @@ mkdir folder
 kek_files
 echo $d16 >key.hex
 bytes $d16 >key.raw
-echo $text16 >text.hex
-bytes $text16 >text.raw
-echo $text20 >text20.hex
+echo $wrapped16 >wrapped.hex
+bytes $wrapped16 >wrapped.raw
+echo $wrapped20 >wrapped20.hex
 echo $key7 >key7.hex
-echo 0f${text16#1f} >wrong.hex
+echo 0f${wrapped16#1f} >wrong.hex
 echo 0g >digit.hex
 echo 012 >odd.hex
 : >empty
@@ -65,12 +67,12 @@ printf '\xef\xbb\xbf00' >mark
 printf '%s' "${kek:0:32}" >$'name\xff'
 ln -s kek16.hex link
 ln -s loop loop
-files=(kek16.hex kek24.hex kek32.hex kek5649.hex kek16.raw key.hex key.raw text.hex text.raw text20.hex
+files=(kek16.hex kek24.hex kek32.hex kek5649.hex kek16.raw key.hex key.raw wrapped.hex wrapped.raw wrapped20.hex
     key7.hex wrong.hex digit.hex odd.hex empty long most largest.hex blank mark folder link loop missing
     $'name\xff' ./kek16.hex kek16.hex/ '' . .. /dev/null /dev/zero /dev/full /dev/stdin /proc/self/mem)
-inputs=(key.hex key.raw text.hex text.raw text20.hex key7.hex wrong.hex digit.hex odd.hex empty long most
+inputs=(key.hex key.raw wrapped.hex wrapped.raw wrapped20.hex key7.hex wrong.hex digit.hex odd.hex empty long most
     largest.hex blank mark folder /dev/null /dev/zero)
-outputs=(file new 'a key' ./file folder/file folder/../file file.part0 key.hex text.hex kek16.hex link loop folder
+outputs=(file new 'a key' ./file folder/file folder/../file file.part0 key.hex wrapped.hex kek16.hex link loop folder
     missing/file empty - -x)
 echo old >file
 echo part >new.part0
@@ -85,7 +87,7 @@ commands=(wrap unwrap rewrap check drill vectors help)
 flags=(--kek --padded --raw --raw-kek --unwrap --help -h --version -V -- - --kek=kek16.hex --kek= --raw=1
     --no-raw --ra --KEK -k -rh -hV --kek=$'\xff' --iv --secret --new-kek --new-padded --new-kek=kek32.hex --new
     -i --input -o --output --input=key.hex --output=file --output= --input= -ikey.hex -ofile -io -o=file --out)
-values=("$iv" "${iv^^}" a65959a600000010 "$d16" "$drilled" "${drilled^^}" "$key7" "$text16" "$(zeros 9)" '' 0 0g 012
+values=("$iv" "${iv^^}" a65959a600000010 "$d16" "$drilled" "${drilled^^}" "$key7" "$wrapped16" "$(zeros 9)" '' 0 0g 012
     00 ' 00 11 ' $'00\n11' é "$(zeros 4096)" "$(zeros 4097)" "$(zeros 32769)")
 garbage=(rewind WRAP wrap= '=wrap' 'wrap --kek' '*' "\$HOME" '%s%n' -1 --1 --- '--=x' $'\xff' $'--\xff'
     $'\xc3' $'\xed\xa0\x80' $'\xf4\x90\x80\x80' $'a\xff\xfeb' $'\x01\x1b[31m' $'\n' "$(zeros 3000)")

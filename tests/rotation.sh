@@ -24,10 +24,10 @@ lines=$(wc -l <rotation/rotate)
 verdict 'README rotates in five lines or fewer' "$([ "$lines" -ge 1 ] && [ "$lines" -le 5 ] || echo "$lines lines")"
 cp kek16.hex rotation/kek.hex
 cp kek32.hex rotation/new-kek.hex
-echo $text16 >'rotation/wrapped/1 a key'
-echo "0f${text16#1f}" >'rotation/wrapped/2 damaged'
-echo $text16 >'rotation/wrapped/3'
-(umask 077; echo $text32 >rewrapped)
+echo $wrapped16 >'rotation/wrapped/1 a key'
+echo "0f${wrapped16#1f}" >'rotation/wrapped/2 damaged'
+echo $wrapped16 >'rotation/wrapped/3'
+(umask 077; echo $wrapped32 >rewrapped)
 
 # rotates NAME STATUS LINE FILE..: the lines end so, the old files stay as they are, and the new ones, but
 # for what a crash left, are FILEs, each right and of its owner alone.
@@ -54,9 +54,9 @@ mv new-kek.hex rotation/new-kek.hex
 rotates 'the rotation stops at a damaged key' 5 "keywrap: $integrity
 stopped at wrapped/2 damaged" '1 a key'
 touch -d '2020-01-01' 'rotation/rewrapped/1 a key'
-echo $text16 >'rotation/wrapped/2 damaged'
+echo $wrapped16 >'rotation/wrapped/2 damaged'
 # As after a crash: half a wrapped key is there, in a file that is none of the new ones.
-echo ${text32:0:20} >'rotation/rewrapped/2 damaged.part0'
+echo ${wrapped32:0:20} >'rotation/rewrapped/2 damaged.part0'
 rotates 'the rotation goes on, once the key is mended' 0 '' '1 a key' '2 damaged' 3
 problem=''
 [ "$(stat -c %Y 'rotation/rewrapped/1 a key')" = "$(date -d 2020-01-01 +%s)" ] || problem='it was written again'
@@ -64,12 +64,12 @@ verdict 'the rotation leaves a new file as it is' "$problem"
 problem=''
 [ "$(find rotation/rewrapped -name '*.part*')" = 'rotation/rewrapped/2 damaged.part0' ] ||
     problem='other parts are there'
-[ "$(cat rotation/rewrapped/*.part0)" = ${text32:0:20} ] || problem="$problem; it is changed"
+[ "$(cat rotation/rewrapped/*.part0)" = ${wrapped32:0:20} ] || problem="$problem; it is changed"
 verdict 'the rotation leaves what a crash left, and no other part' "$problem"
 problem=''
 (cd rotation && sh look >../out 2>../err)
 printf 'plain 16\n%.0s' 1 2 3 | cmp -s - out || problem="output $(shown out)"
-echo ${text32%e7}e8 >rotation/rewrapped/3
+echo ${wrapped32%e7}e8 >rotation/rewrapped/3
 mv 'rotation/rewrapped/1 a key' 1
 (cd rotation && sh look >../out 2>../err)
 printf 'wrapped/1 a key\nplain 16\nnone\nwrapped/3\n' | cmp -s - out || problem="$problem; output $(shown out)"

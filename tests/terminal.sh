@@ -96,24 +96,24 @@ for words in 'wrap --raw' 'wrap --raw --raw-kek' 'wrap --padded --raw' "wrap --i
     done
 done
 shows 'raw, before the input' 2 '' "$raw_line" unwrap --raw --kek kek16.hex --input missing
-shows 'raw, with an input' 2 '' "$raw_line" unwrap --raw --kek kek16.raw --raw-kek --input text.raw
+shows 'raw, with an input' 2 '' "$raw_line" unwrap --raw --kek kek16.raw --raw-kek --input wrapped.raw
 shows 'a value that is none, before raw bytes' 2 '' 'keywrap: --iv is not 16 hex digits\n' \
     wrap --raw --iv 0 --kek missing '</dev/null'
 seq 1000 >left
 # shellcheck disable=SC2016
 on_terminal '{ "$program" wrap --raw --kek kek16.hex; cat; } <left 2>err'
 displays 'raw, input untouched' 0 "$(printf '%s\\n' {1..1000})" '' "$raw_line"
-shows 'hex to a terminal' 0 "$text16\n" '' wrap --kek kek16.hex '<key.hex'
-shows 'hex to a terminal, a raw KEK' 0 "$text16\n" '' wrap --raw-kek --kek kek16.raw '<key.hex'
-shows 'unwrap to a terminal' 0 "$d16\n" '' unwrap --kek kek16.hex --input text.hex
-shows 'rewrap to a terminal' 0 "$text32\n" '' rewrap --kek kek16.hex --new-kek kek32.hex '<text.hex'
-shows 'a raw check to a terminal' 0 'plain 16\n' '' check --raw --kek kek16.hex '<text.raw'
+shows 'hex to a terminal' 0 "$wrapped16\n" '' wrap --kek kek16.hex '<key.hex'
+shows 'hex to a terminal, a raw KEK' 0 "$wrapped16\n" '' wrap --raw-kek --kek kek16.raw '<key.hex'
+shows 'unwrap to a terminal' 0 "$d16\n" '' unwrap --kek kek16.hex --input wrapped.hex
+shows 'rewrap to a terminal' 0 "$wrapped32\n" '' rewrap --kek kek16.hex --new-kek kek32.hex '<wrapped.hex'
+shows 'a raw check to a terminal' 0 'plain 16\n' '' check --raw --kek kek16.hex '<wrapped.raw'
 shows 'the file of --output' 0 '' '' wrap --raw --kek kek16.hex --output file '<key.raw'
-verdict 'what is in it' "$(cmp file text.raw 2>&1)"
-shows 'raw bytes through a pipe' 0 "$text16\n" '' \
+verdict 'what is in it' "$(cmp file wrapped.raw 2>&1)"
+shows 'raw bytes through a pipe' 0 "$wrapped16\n" '' \
     wrap --raw --kek kek16.hex '<key.raw | od -An -v -tx1 | tr -d " \n"; echo'
 shows 'raw bytes into a file' 0 '' '' wrap --raw --kek kek16.hex '<key.raw >file'
-verdict 'what is in that' "$(cmp file text.raw 2>&1)"
+verdict 'what is in that' "$(cmp file wrapped.raw 2>&1)"
 shows 'a refusal' 5 '' "keywrap: $integrity\n" unwrap --kek kek16.hex '<wrong.hex'
 
 ### What is waited for
@@ -131,13 +131,14 @@ in_hex='in hex on standard input; Ctrl-D ends it\n'
 in_raw='as raw bytes on standard input; Ctrl-D ends it\n'
 waiting='keywrap: waiting for the key'
 waiting_wrapped='keywrap: waiting for the wrapped key'
-waits 'wrap from a terminal' 0 "$text16\n" "$waiting $in_hex" "$d16\n\004" wrap --kek kek16.hex
-waits 'wrap under a value from a terminal' 0 "$text_iv\n" "$waiting $in_hex" "$d16\n\004" wrap --iv $iv --kek kek16.hex
-waits 'padded wrap from a terminal' 0 "$text7\n" "$waiting $in_hex" "$key7\n\004" wrap --padded --kek kek5649.hex
-waits 'unwrap from a terminal' 0 "$d16\n" "$waiting_wrapped $in_hex" "$text16\n\004" unwrap --kek kek16.hex
-waits 'rewrap from a terminal' 0 "$text32\n" "$waiting_wrapped $in_hex" "$text16\n\004" \
+waits 'wrap from a terminal' 0 "$wrapped16\n" "$waiting $in_hex" "$d16\n\004" wrap --kek kek16.hex
+waits 'wrap under a value from a terminal' 0 "$wrapped_iv\n" "$waiting $in_hex" "$d16\n\004" \
+    wrap --iv $iv --kek kek16.hex
+waits 'padded wrap from a terminal' 0 "$wrapped7\n" "$waiting $in_hex" "$key7\n\004" wrap --padded --kek kek5649.hex
+waits 'unwrap from a terminal' 0 "$d16\n" "$waiting_wrapped $in_hex" "$wrapped16\n\004" unwrap --kek kek16.hex
+waits 'rewrap from a terminal' 0 "$wrapped32\n" "$waiting_wrapped $in_hex" "$wrapped16\n\004" \
     rewrap --kek kek16.hex --new-kek kek32.hex
-waits 'check from a terminal' 0 'plain 16\n' "$waiting_wrapped $in_hex" "$text16\n\004" check --kek kek16.hex
+waits 'check from a terminal' 0 'plain 16\n' "$waiting_wrapped $in_hex" "$wrapped16\n\004" check --kek kek16.hex
 waits 'raw check from a terminal' 5 'none\n' "$waiting_wrapped $in_raw" 'none\n\004' check --raw --kek kek16.hex
 waits 'raw unwrap from a terminal' 4 '' "$waiting_wrapped ${in_raw}keywrap: $bad_length\n" 'none\n\004' \
     unwrap --raw --kek kek16.hex
@@ -146,7 +147,7 @@ waits 'raw rewrap from a terminal' 4 '' "$waiting_wrapped ${in_raw}keywrap: $bad
 waits 'raw wrap from a terminal' 4 '' "$waiting ${in_raw}keywrap: $bad_length\n" 'none\n\004' \
     wrap --raw --kek kek16.hex
 waits 'wrap from a terminal into a file' 0 '' "$waiting $in_hex" "$d16\n\004" wrap --kek kek16.hex --output file
-verdict 'what is in it then' "$(cmp file text.hex 2>&1)"
+verdict 'what is in it then' "$(cmp file wrapped.hex 2>&1)"
 waits 'nothing from a terminal' 4 '' "$waiting ${in_hex}keywrap: $bad_length\n" '\004' wrap --kek kek16.hex
 waits 'a KEK of 15 bytes, which is read after that' 3 '' "$waiting ${in_hex}keywrap: $kek_length\n" '\004' \
     wrap --kek kek15.hex
@@ -154,15 +155,15 @@ waits 'a KEK of 15 bytes, which is read after that' 3 '' "$waiting ${in_hex}keyw
 # shellcheck disable=SC2016
 ahead=yes on_terminal '"$program" wrap --kek kek16.hex --output file >&- 2>&-' "$d16\n\004"
 displays 'wrap into a file, output and error closed' 0 "$d16\n" '' ''
-verdict 'nothing but the answer is in it' "$(cmp file text.hex 2>&1)"
+verdict 'nothing but the answer is in it' "$(cmp file wrapped.hex 2>&1)"
 # Nothing is waited for where the files can't be opened, or the input is a file.
 waits 'no KEK file' 6 '' 'keywrap: key file: cannot be opened\n' '' wrap --kek missing
 waits 'no new KEK file' 6 '' 'keywrap: new key file: cannot be opened\n' '' \
     rewrap --kek kek16.hex --new-kek missing
 waits 'no output file' 6 '' 'keywrap: output: cannot be opened\n' '' wrap --kek kek16.hex --output folder
 waits 'no input file' 6 '' 'keywrap: input: cannot be opened\n' '' wrap --kek kek16.hex --input missing
-waits 'a file as input' 0 "$text16\n" '' '' wrap --kek kek16.hex --input key.hex
-waits 'a redirected input' 0 "$text16\n" '' '' wrap --kek kek16.hex '<key.hex'
+waits 'a file as input' 0 "$wrapped16\n" '' '' wrap --kek kek16.hex --input key.hex
+waits 'a redirected input' 0 "$wrapped16\n" '' '' wrap --kek kek16.hex '<key.hex'
 waits 'drill' 0 "$drilled\n" '' '' drill $d16
 waits 'vectors' 0 "$vector_lines\n" '' '' vectors
 waits 'the version' 0 "keywrap $version\n" '' '' --version

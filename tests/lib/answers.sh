@@ -9,18 +9,18 @@ d24=${d16}0001020304050607
 d32=${d16}000102030405060708090a0b0c0d0e0f
 key20=c37b7e6492584340bed12207808941155068f738
 key7=466f7250617369
-text16=1fa68b0a8112b447aef34bd8fb5a7b829d3e862371d2cfe5
-text20=138bdeaa9b8fa7fc61f97742e72248ee5ae6ae5360d1ae6a5f54f373fa543b6a
-text7=afbeb0f07dfbf5419200f2ccb50bb24f
+wrapped16=1fa68b0a8112b447aef34bd8fb5a7b829d3e862371d2cfe5
+wrapped20=138bdeaa9b8fa7fc61f97742e72248ee5ae6ae5360d1ae6a5f54f373fa543b6a
+wrapped7=afbeb0f07dfbf5419200f2ccb50bb24f
 # Also d16 under kek32, RFC 3394, 4.3.
-text32=64e8c3f9ce0f5ba263e9777905818a2a93c8191e7d6e8ae7
+wrapped32=64e8c3f9ce0f5ba263e9777905818a2a93c8191e7d6e8ae7
 # The padded form under kek16 of d16 and of key7, as OpenSSL wraps them:
 #   xxd -r -p <<<KEY | openssl enc -id-aes128-wrap-pad -iv A65959A6 -K KEK | xxd -p
 padded16=2cef0c9e30de26016c230cb78bc60d51b1fe083ba0c79cd5
 padded7=be80535e12e9394c8f8df26bd9528a35
 # The key data d16 under kek16 and another initial value, as OpenSSL wraps it.
 iv=0123456789abcdef
-text_iv=a0f76f4b09e1f2191b8d94da2ca57adfd45ee9732992a98f
+wrapped_iv=a0f76f4b09e1f2191b8d94da2ca57adfd45ee9732992a98f
 drilled=a6a6a6a6a6a6a6a6001122334455667f8899aabbccddeefb
 vector_lines=$(printf '%s ok\n' rfc3394\ 4.{1,2,3,4,5,6} 'rfc5649 20' 'rfc5649 7' fips197\ {1,2,3,4})
 

@@ -8,15 +8,15 @@ echo none >none
 echo "$d16" >key.hex
 bytes "$d16" >key.raw
 echo "$key7" >key7.hex
-echo "$text16" >text.hex
-bytes "$text16" >text.raw
-echo "$text7" >text7.hex
-echo "$text_iv" >agreed.hex
-echo "$text32" >text32.hex
+echo "$wrapped16" >wrapped.hex
+bytes "$wrapped16" >wrapped.raw
+echo "$wrapped7" >wrapped7.hex
+echo "$wrapped_iv" >agreed.hex
+echo "$wrapped32" >wrapped32.hex
 echo "$padded16" >padded.hex
 bytes "$padded16" >padded.raw
 echo "$padded7" >padded7.hex
-echo "0f${text16#1f}" >wrong.hex
+echo "0f${wrapped16#1f}" >wrong.hex
 echo 0g >digit.hex
 echo 012 >odd.hex
 zeros 15 >kek15.hex
@@ -48,10 +48,10 @@ each() {
 # answered FUNCTION: the same for the commands alone.
 answered() {
     jobs "$1"
-    "$1" 'wrap of a file' 0 text.hex '' - wrap --kek kek16.hex --input key.hex
+    "$1" 'wrap of a file' 0 wrapped.hex '' - wrap --kek kek16.hex --input key.hex
     "$1" 'raw rewrap of a file' 0 padded.raw '' - \
-        rewrap --raw --raw-kek --new-padded --new-kek kek16.raw --kek kek16.raw -i text.raw
-    "$1" 'check of a file' 0 plain16 '' - check --kek kek16.hex -i text.hex
+        rewrap --raw --raw-kek --new-padded --new-kek kek16.raw --kek kek16.raw -i wrapped.raw
+    "$1" 'check of a file' 0 plain16 '' - check --kek kek16.hex -i wrapped.hex
     "$1" 'drill' 0 drilled '' - drill "$d16"
     "$1" 'padded drill' 0 drilled7 '' - drill --padded "$key7"
     "$1" 'drill back' 0 key.hex '' - drill --unwrap "$drilled"
@@ -63,21 +63,21 @@ answered() {
 
 # jobs FUNCTION: the same for the commands that read a KEK.
 jobs() {
-    "$1" 'wrap' 0 text.hex '' key.hex wrap --kek kek16.hex
-    "$1" 'raw wrap' 0 text.raw '' key.raw wrap --raw --raw-kek --kek kek16.raw
-    "$1" 'padded wrap' 0 text7.hex '' key7.hex wrap --padded --kek kek5649.hex
-    "$1" 'unwrap' 0 key.hex '' text.hex unwrap --kek kek16.hex
-    "$1" 'raw unwrap' 0 key.raw '' text.raw unwrap --raw --raw-kek --kek kek16.raw
-    "$1" 'padded unwrap' 0 key7.hex '' text7.hex unwrap --padded --kek kek5649.hex
+    "$1" 'wrap' 0 wrapped.hex '' key.hex wrap --kek kek16.hex
+    "$1" 'raw wrap' 0 wrapped.raw '' key.raw wrap --raw --raw-kek --kek kek16.raw
+    "$1" 'padded wrap' 0 wrapped7.hex '' key7.hex wrap --padded --kek kek5649.hex
+    "$1" 'unwrap' 0 key.hex '' wrapped.hex unwrap --kek kek16.hex
+    "$1" 'raw unwrap' 0 key.raw '' wrapped.raw unwrap --raw --raw-kek --kek kek16.raw
+    "$1" 'padded unwrap' 0 key7.hex '' wrapped7.hex unwrap --padded --kek kek5649.hex
     "$1" 'wrap under a value' 0 agreed.hex '' key.hex wrap --iv "$iv" --kek kek16.hex
     "$1" 'unwrap under a value' 0 key.hex '' agreed.hex unwrap --iv "$iv" --kek kek16.hex
-    "$1" 'check' 0 plain16 '' text.hex check --kek kek16.hex
-    "$1" 'raw check' 0 plain16 '' text.raw check --raw --raw-kek --kek kek16.raw
-    "$1" 'rewrap, the old KEK last' 0 text32.hex '' text.hex rewrap --new-kek kek32.hex --kek kek16.hex
-    "$1" 'rewrap, the new KEK last' 0 text32.hex '' text.hex rewrap --kek kek16.hex --new-kek kek32.hex
-    "$1" 'raw rewrap to padded' 0 padded.raw '' text.raw \
+    "$1" 'check' 0 plain16 '' wrapped.hex check --kek kek16.hex
+    "$1" 'raw check' 0 plain16 '' wrapped.raw check --raw --raw-kek --kek kek16.raw
+    "$1" 'rewrap, the old KEK last' 0 wrapped32.hex '' wrapped.hex rewrap --new-kek kek32.hex --kek kek16.hex
+    "$1" 'rewrap, the new KEK last' 0 wrapped32.hex '' wrapped.hex rewrap --kek kek16.hex --new-kek kek32.hex
+    "$1" 'raw rewrap to padded' 0 padded.raw '' wrapped.raw \
         rewrap --raw --raw-kek --new-padded --new-kek kek16.raw --kek kek16.raw
-    "$1" 'padded rewrap' 0 padded7.hex '' text7.hex \
+    "$1" 'padded rewrap' 0 padded7.hex '' wrapped7.hex \
         rewrap --padded --new-padded --kek kek5649.hex --new-kek kek16.hex
     "$1" 'check of a wrong byte' 5 none '' wrong.hex check --kek kek16.hex
 }
@@ -117,7 +117,7 @@ rewrap_refused() {
     "$1" 'an odd new KEK' 6 nothing "$new odd number of hex digits" - "${from[@]}" --new-kek odd.hex
     "$1" 'a new KEK of 15 bytes' 3 nothing "keywrap: $new_kek_length" - "${from[@]}" --new-kek kek15.hex
     "$1" 'rewrap of a wrong byte' 5 nothing "keywrap: $integrity" wrong.hex "${from[@]}" --new-kek kek32.hex
-    "$1" 'rewrap of 7 bytes to plain' 4 nothing "keywrap: $bad_length" text7.hex \
+    "$1" 'rewrap of 7 bytes to plain' 4 nothing "keywrap: $bad_length" wrapped7.hex \
         rewrap --padded --kek kek5649.hex --new-kek kek32.hex
 }
 
@@ -125,14 +125,14 @@ rewrap_refused() {
 # holds. ANSWER is what to/file holds then, and nothing goes to standard output.
 filed() {
     local output='keywrap: output: cannot be opened' into=(--output to/file)
-    "$1" 'wrap into a file' 0 text.hex '' key.hex wrap --kek kek16.hex "${into[@]}"
-    "$1" 'raw wrap into a file' 0 text.raw '' - wrap --raw --raw-kek --kek kek16.raw -i key.raw "${into[@]}"
+    "$1" 'wrap into a file' 0 wrapped.hex '' key.hex wrap --kek kek16.hex "${into[@]}"
+    "$1" 'raw wrap into a file' 0 wrapped.raw '' - wrap --raw --raw-kek --kek kek16.raw -i key.raw "${into[@]}"
     "$1" 'wrap under a value into a file' 0 agreed.hex '' key.hex wrap --iv "$iv" --kek kek16.hex "${into[@]}"
-    "$1" 'unwrap into a file' 0 key.hex '' - unwrap --kek kek16.hex -i text.hex "${into[@]}"
-    "$1" 'padded unwrap into a file' 0 key7.hex '' text7.hex unwrap --padded --kek kek5649.hex "${into[@]}"
-    "$1" 'rewrap into a file' 0 text32.hex '' - \
-        rewrap --kek kek16.hex --new-kek kek32.hex -i text.hex "${into[@]}"
-    "$1" 'check into a file' 0 plain16 '' text.hex check --kek kek16.hex "${into[@]}"
+    "$1" 'unwrap into a file' 0 key.hex '' - unwrap --kek kek16.hex -i wrapped.hex "${into[@]}"
+    "$1" 'padded unwrap into a file' 0 key7.hex '' wrapped7.hex unwrap --padded --kek kek5649.hex "${into[@]}"
+    "$1" 'rewrap into a file' 0 wrapped32.hex '' - \
+        rewrap --kek kek16.hex --new-kek kek32.hex -i wrapped.hex "${into[@]}"
+    "$1" 'check into a file' 0 plain16 '' wrapped.hex check --kek kek16.hex "${into[@]}"
     "$1" 'check of a wrong byte into a file' 5 none '' - check --kek kek16.hex -i wrong.hex "${into[@]}"
     "$1" 'a wrong byte, no file' 5 old "keywrap: $integrity" - unwrap --kek kek16.hex -i wrong.hex "${into[@]}"
     "$1" 'a KEK of 15 bytes, no file' 3 old "keywrap: $kek_length" - wrap --kek kek15.hex "${into[@]}"

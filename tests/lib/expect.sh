@@ -154,7 +154,7 @@ spares_input() {
     ended "$1, input untouched" "$2" left "keywrap: $3"
 }
 
-# explains PHRASES ARGUMENT..: the command prints a text with each of the PHRASES, which `|` parts.
+# explains PHRASES ARGUMENT..: the command prints each of the PHRASES, which `|` parts.
 explains() {
     local problem='' to=out status phrase phrases
     IFS='|' read -ra phrases <<<"$1"

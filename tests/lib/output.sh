@@ -1,4 +1,4 @@
-# shellcheck shell=bash disable=SC2154
+# shellcheck shell=bash disable=SC2034,SC2154
 # What the rows on --output are written in: the file is to/file, in the folder `to`. Needs tests/lib/program.sh,
 # tests/lib/expect.sh and tests/lib/commands.sh before it.
 
