@@ -156,6 +156,9 @@ ln -s ../keywrap far/link
 verdict 'through a link' "$(grep -vx '.*: b' out; cat err)"
 (cd far && PATH=$room:$PATH keywrap c) >out 2>err
 verdict 'from the PATH' "$(grep -vx '.*: c' out; cat err)"
+mkdir "far/${room##*/}"
+(cd .. && CDPATH=$room/far "${room##*/}/keywrap" e) >out 2>err
+verdict 'by a name that CDPATH has too' "$(grep -vx '.*: e' out; cat err)"
 sh keywrap d >out 2>err
 verdict 'as a file of sh' "$(grep -vx '.*: d' out; cat err)"
 
