@@ -6,8 +6,8 @@
 # usage: tests/library.sh        (KEYWRAP_ARCHIVES='PATH ..' tries archives that were built before)
 
 set -u
-# shellcheck source=scripts/room.sh
-. "${BASH_SOURCE[0]%/*}/../scripts/room.sh"
+# shellcheck source=tests/lib/room.sh
+. "${BASH_SOURCE[0]%/*}/lib/room.sh"
 # shellcheck source=tests/library/rows.sh
 . "$root/tests/library/rows.sh"
 

@@ -5,8 +5,8 @@
 # usage: tests/python.sh        (KEYWRAP_ARCHIVES='PATH ..': over the first of these, which was built before)
 
 set -u
-# shellcheck source=scripts/room.sh
-. "${BASH_SOURCE[0]%/*}/../scripts/room.sh"
+# shellcheck source=tests/lib/room.sh
+. "${BASH_SOURCE[0]%/*}/lib/room.sh"
 # shellcheck source=tests/library/rows.sh
 . "$root/tests/library/rows.sh"
 
