@@ -39,6 +39,12 @@ static int32_t rewrap(const uint8_t *old_kek, size_t old_kek_len, const uint8_t 
                                    forms);
 }
 
+/* By volatile writes, which no compiler leaves out. */
+static void wipe(uint8_t *bytes, size_t len) {
+    volatile uint8_t *at = bytes;
+    while (len-- > 0) *at++ = 0;
+}
+
 #define IS_PLAIN -1
 #define IS_PADDED -2
 
@@ -53,14 +59,8 @@ static int32_t kind(const uint8_t *kek, size_t kek_len, const uint8_t *wrapped, 
         form = IS_PADDED;
     }
     if (status != KEYWRAP_OK) return status;
-    memset(scratch, 0, room);
+    wipe(scratch, room);
     return form;
-}
-
-/* By volatile writes, which no compiler leaves out. */
-static void wipe(uint8_t *bytes, size_t len) {
-    volatile uint8_t *at = bytes;
-    while (len-- > 0) *at++ = 0;
 }
 """
 
@@ -81,5 +81,7 @@ ffi.set_source(
     include_dirs=["."],
     extra_objects=["libkeywrap.a"],
     extra_compile_args=["-std=c99"],
+    # The package calls the library that is in it, whatever another one in the process shows.
+    extra_link_args=["-Wl,--exclude-libs,ALL", "-Wl,-z,relro,-z,now"],
     py_limited_api=True,
 )

@@ -81,7 +81,7 @@ caller() {
         local bytes=${buffer%:*} size=${buffer#*:} set=' = {1}'
         [ "$bytes" != "$short" ] || size=$((size - 1))
         [[ $buffers != *"$buffer" || $name = *_in_place ]] || set=''
-        declared+="uint8_t $bytes[$size]$set; "
+        declared+="uint8_t ${bytes}[$size]$set; "
         given+="${given:+, }$bytes, ${buffer#*:}"
     done
     [ "$more" != '&len' ] || declared+='size_t len; '

@@ -157,16 +157,16 @@ static void macros_at_ends(void) {
 
 /* A macro is one operand, and so is its argument. */
 static void macros_in_expressions(void) {
-    volatile size_t zero = 0;
+    volatile size_t one = 1;
     const size_t found[][2] = {
         {2 * KEYWRAP_MAX_TEXT, 2097168},
-        {KEYWRAP_TEXT_LEN(zero ? 16 : 24), 32},
+        {KEYWRAP_TEXT_LEN(one ? 24 : 16), 32},
         {2 * KEYWRAP_TEXT_LEN(16), 48},
-        {KEYWRAP_PADDED_TEXT_LEN(zero ? 9 : 17), 32},
+        {KEYWRAP_PADDED_TEXT_LEN(one ? 17 : 9), 32},
         {2 * KEYWRAP_PADDED_TEXT_LEN(9), 48},
-        {KEYWRAP_ROOM(zero ? 16 : 24), 16},
+        {KEYWRAP_ROOM(one ? 24 : 16), 16},
         {2 * KEYWRAP_ROOM(24), 32},
-        {KEYWRAP_ROOM(zero | 7), 0},
+        {KEYWRAP_ROOM(one | 6), 0},
     };
     for (size_t i = 0; i < sizeof found / sizeof *found; i++)
         count(found[i][0] == found[i][1], "a macro in an expression", PLAIN, TWO_BUFFERS, 0, i, 0);
