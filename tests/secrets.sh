@@ -1,7 +1,8 @@
 #!/usr/bin/env bash
 # What depends on secrets in the built C library: valgrind's memcheck over each call, with the KEK, the
 # key and the wrapped key marked as undefined, reports each branch and each address that does. There
-# must be none but the decision of an unwrapping, whose answer is public (tests/secrets/decision.supp).
+# must be none but the decision of an unwrapping, whose answer is public (tests/secrets/decision.supp),
+# and in a rewrap what the length of the key decides (tests/secrets/length.supp).
 # And how many bytes that depend on a KEK or a key each call leaves below the stack pointer.
 # A part whose tool is not there is skipped, with a line that says what to install.
 #
@@ -83,16 +84,19 @@ finds() {
         END { exit bad || !n }' "$1" || { cat valgrind.log; false; }
 }
 
-row 'the calls, but for the decision' reports quiet "$longest" --suppressions="$root/tests/secrets/decision.supp"
-cat quiet
-row 'no report in a wrap' finds quiet '^keywrap_wrap' 0 0
+# With no suppression: no wrap gives a report. That memcheck looks is seen at the decision, and at an
+# AES by look-ups in tables.
+row 'the calls' reports all "$longest"
+cat all
+row 'no report in a wrap' finds all '^keywrap_wrap' 0 0
+row 'the decision of an unwrap' finds all '^keywrap_unwrap' 1 9999999
+row 'the look-ups of an AES by tables' finds all '^tables' 10000 9999999
+
+# Without the decision, and what a rewrap does by the length of the key that it has unwrapped, which an
+# unwrap answers.
+row 'the calls, but for what is public' reports quiet "$longest" \
+    --suppressions="$root/tests/secrets/decision.supp" --suppressions="$root/tests/secrets/length.supp"
 row 'none in an unwrap but at the decision' finds quiet '^keywrap_unwrap' 0 0
 row 'none in a rewrap but at the decision' finds quiet '^keywrap_rewrap' 0 0
-
-# What shows that memcheck looks: it finds the decision itself, and an AES by look-ups in tables.
-row 'the calls, all' reports all 32
-row 'no report in a wrap, by itself' finds all '^keywrap_wrap' 0 0
-row 'the decision of an unwrap' finds all '^keywrap_unwrap' 1 999999
-row 'the look-ups of an AES by tables' finds all '^tables' 10000 999999
 
 finish

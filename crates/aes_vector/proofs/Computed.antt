@@ -1,5 +1,5 @@
 -- What the tables hold, computed at every byte.
-use Rattle.std.proofs.Common.{◌≡◌, ◌≢◌, ℕ, zero, suc, ◌<◌, Bool, true, ◌==◌, ◌||◌, ◌%◌, List, bit_xor, slice_index, refl, ◌∙◌, sym, ap, eqb-true, arith}
+use Rattle.std.proofs.Common.{◌≡◌, ◌≢◌, ℕ, zero, suc, ◌<◌, Bool, true, ◌==◌, ◌%◌, List, bit_xor, slice_index, refl, ◌∙◌, sym, ap, eqb-true, arith}
 use Rattle.block_pair.specs.Words.{IsByte}
 use Rattle.aes_block.specs.EveryByte.{passes_below, passes_at}
 use Rattle.aes_block.specs.Field.{polynomial_product, remainder, product, inverse}

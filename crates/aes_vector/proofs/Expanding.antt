@@ -6,7 +6,7 @@ use Rattle.std.proofs.Common.{slice_index, refl, sym, ap, ap₂, ◌∙◌, arit
 use Rattle.std.proofs.Common.{take-append-drop}
 use Rattle.std.specs.Int.{rotate_left, to_be_bytes}
 use Rattle.std.specs.List.{flat_map, AllByRecursion}
-use Rattle.std.proofs.lemmas.List.{ext_get_or, get_or-drop, get_or-take, length-take-le, take_all}
+use Rattle.std.proofs.lemmas.List.{ext_get_or, get_or-drop, get_or-take, length-take-le}
 use Rattle.std.proofs.lemmas.Nat.{or_shifted, be_bytes_4}
 use Rattle.byteorder.specs.Endian.{big_number}
 use Rattle.aes_block.specs.KeyExpansionLaw.{key_expansion_is, legal_words}

@@ -1,5 +1,5 @@
 -- The round keys in the form in which each round takes them, and the S-box of the schedule.
-use Rattle.std.proofs.Common.{◌≡◌, ℕ, true, List, [], ◌∷◌, map, bit_xor, refl, sym, ap, ap₂, ◌∙◌, subst, replicate}
+use Rattle.std.proofs.Common.{◌≡◌, ℕ, true, List, ◌∷◌, map, bit_xor, refl, sym, ap, ap₂, ◌∙◌, subst, replicate}
 use Rattle.std.specs.Int.Bits.{xor_assoc, xor_zero_r}
 use Rattle.std.proofs.lemmas.Simd.{zip2_splat, map-map}
 use Rattle.std.proofs.lemmas.List.{length-map}

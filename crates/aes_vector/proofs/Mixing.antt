@@ -1,21 +1,16 @@
 -- A whole round, lane by lane: ShiftRows and the columns of the matrices are fixed places of lanes.
-use Rattle.std.proofs.Common.{◌≡◌, ℕ, ◌<◌, List, [], ◌∷◌, map, length, bit_xor, refl, sym, ap, ap₂, ◌∙◌, w8, Fits, arith, subst}
-use Rattle.std.specs.Int.Bits.{xor_assoc}
+use Rattle.std.proofs.Common.{◌≡◌, ℕ, List, [], ◌∷◌, map, bit_xor, refl, sym, ap, ap₂, ◌∙◌, w8, Fits, subst}
 use Rattle.std.specs.List.{AllByRecursion}
-use Rattle.std.proofs.lemmas.Nat.{xor_comm}
 use lib.Lanes.{zip2, Each1}
 use Rattle.block_pair.specs.Words.{IsByte, IsBlock}
 use Rattle.aes_block.specs.State.{entry, state}
 use Rattle.aes_block.specs.StateLaw.{entry_byte, state-entry}
-use Rattle.aes_block.specs.Rounds.{shift_rows, inv_shift_rows, sub_bytes, inv_sub_bytes, multiplied, mix_columns, inv_mix_columns, add_round_key}
-use Rattle.aes_block.specs.Cipher.{round, last_round}
-use Rattle.aes_block.specs.SBox.{s_box, inv_s_box}
-use Rattle.aes_vector.specs.declared.tables.TheConstants.{S_I, S_J, INV_S_I, INV_S_J}
-use Rattle.aes_vector.specs.Tables.{found}
-use Rattle.aes_vector.specs.Tower.{element, key_byte, last_key_byte, affine_element}
+use Rattle.aes_block.specs.Rounds.{shift_rows, sub_bytes, multiplied, add_round_key}
+use Rattle.aes_block.specs.Cipher.{round}
+use Rattle.aes_vector.specs.Tower.{element, key_byte}
 use Rattle.aes_vector.specs.Turned.{turned}
 use Rattle.aes_vector.proofs.Vectors.{IsVector}
-use Rattle.aes_vector.proofs.RoundLanes.{one, two, three, times, lane, nine, eleven, thirteen, fourteen, inv_times, inv_lane, turned_sum}
+use Rattle.aes_vector.proofs.RoundLanes.{one, two, three, times, lane, turned_sum}
 
 each_byte : (v : List ℕ) → Each1 (Fits w8) v → AllByRecursion IsByte v
 each_byte [] h = tt

@@ -10,7 +10,7 @@ use Rattle.aes_block.specs.SBox.{s_box, inv_s_box}
 use Rattle.aes_vector.specs.declared.tables.TheConstants.{ONE_I, ONE_J, TWO_I, TWO_J, NINE_I, NINE_J, ELEVEN_I, ELEVEN_J, THIRTEEN_I, THIRTEEN_J}
 use Rattle.aes_vector.specs.declared.tables.TheConstants.{FOURTEEN_I, FOURTEEN_J}
 use Rattle.aes_vector.specs.Tables.{place_i, place_j, over_i, over_j, found}
-use Rattle.aes_vector.specs.Tower.{element, key_byte, linear_element, affine_element}
+use Rattle.aes_vector.specs.Tower.{element, key_byte, affine_element}
 use Rattle.aes_vector.proofs.EveryByte.{below_test, gives_bytes, byte_of}
 use Rattle.aes_vector.proofs.Computed.{one_finds, two_finds, nine_finds, eleven_finds, thirteen_finds, fourteen_finds, inv_s_box_element}
 use Rattle.aes_vector.proofs.XorMaps.{element-xor, linear_element-xor, affine_element-xor}

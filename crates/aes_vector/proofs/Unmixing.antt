@@ -1,5 +1,5 @@
 -- A whole round of the inverse cipher, and the last rounds, lane by lane.
-use Rattle.std.proofs.Common.{◌≡◌, ℕ, ◌<◌, List, [], ◌∷◌, map, bit_xor, refl, sym, ap, ap₂, ◌∙◌, arith, subst}
+use Rattle.std.proofs.Common.{◌≡◌, ℕ, List, ◌∷◌, map, bit_xor, refl, sym, ap, ap₂, ◌∙◌, subst}
 use Rattle.std.specs.Int.Bits.{xor_assoc}
 use Rattle.std.proofs.lemmas.Nat.{xor_comm}
 use lib.Lanes.{zip2}

@@ -1,10 +1,9 @@
 -- The vector operations on 16 bytes, lane by lane.
-use Rattle.std.proofs.Common.{◌≡◌, ℕ, zero, suc, ◌+◌, ◌*◌, ◌/◌, ◌<◌, ◌≤◌, ◌||◌, Bool, true, false, T, cond, ltb, leb, List, [], ◌∷◌, map, length}
-use Rattle.std.proofs.Common.{get_or, refl, sym, ap, ap₂, ◌∙◌, arith, w8, Fits, bit_xor, nat_lt, nat_le, slice_index, leb-true}
+use Rattle.std.proofs.Common.{◌≡◌, ℕ, suc, ◌+◌, ◌*◌, ◌/◌, ◌≤◌, ◌||◌, Bool, true, false, T, cond, ltb, leb, List, [], ◌∷◌, map, length}
+use Rattle.std.proofs.Common.{get_or, refl, sym, ap, ap₂, ◌∙◌, arith, w8, Fits, bit_xor, slice_index, leb-true}
 use Rattle.std.proofs.lemmas.List.{get_or_past}
 use Rattle.std.proofs.lemmas.Simd.{swz_l, SwzOk, SwzOk-from_Each1, Each1-weaker, map-map, zip2_of_maps}
 use lib.Lanes.{zip2, Each1}
-use Rattle.block_pair.specs.Words.{IsByte}
 use Rattle.aes_block.specs.EveryByte.{passes_below, passes_at}
 use Rattle.aes_vector.specs.Tables.{is_place, IsPlace, place_i, place_j, found}
 

@@ -1,6 +1,6 @@
 -- Maps of bytes that distribute over xor: the elements of the tower, and their linear map.
 -- A byte is the sum of its lower half and 16 times its upper; tests of the halves' sums say the rest.
-use Rattle.std.proofs.Common.{◌≡◌, ℕ, ◌*◌, ◌/◌, ◌%◌, ◌^◌, ◌<◌, Bool, true, ◌==◌, bit_xor, refl, sym, ap, ap₂, ◌∙◌, arith, eqb-true}
+use Rattle.std.proofs.Common.{◌≡◌, ℕ, ◌*◌, ◌/◌, ◌%◌, ◌<◌, Bool, true, ◌==◌, bit_xor, refl, sym, ap, ap₂, ◌∙◌, arith, eqb-true}
 use Rattle.std.proofs.lemmas.Nat.{xor_shr, xor_mod, xor_lt}
 use Rattle.block_pair.specs.Words.{IsByte}
 use Rattle.aes_block.specs.EveryByte.{passes_below, passes_at}

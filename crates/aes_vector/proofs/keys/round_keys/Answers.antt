@@ -1,9 +1,9 @@
 -- Each step stores one key, and leaves the others as they are.
-use Rattle.std.proofs.Common.{◌≡◌, ◌≢◌, ℕ, ◌<◌, inl, inr, List, [], length, refl, sym, subst, ap, ◌∙◌, arith, length-set}
+use Rattle.std.proofs.Common.{◌≡◌, ◌≢◌, ℕ, inl, inr, List, [], refl, sym, subst, arith, length-set}
 use Rattle.std.proofs.lemmas.Bool.{cases_lt}
 use Rattle.std.proofs.lemmas.List.{get_or-set_same, get_or-set_other}
 use Rattle.aes_vector.specs.declared.keys.RoundKey.{RoundKey}
-use Rattle.aes_vector.specs.VectorSchedule.{IsFirstKey, IsMiddleKey, IsLastKey, key_at, key_block}
+use Rattle.aes_vector.specs.VectorSchedule.{IsFirstKey, IsMiddleKey, IsLastKey, key_block}
 use Rattle.aes_vector.proofs.keys.round_keys.Goals as goal
 
 none : RoundKey

@@ -1,4 +1,4 @@
-use Rattle.std.proofs.Common.{ℕ, bit_xor, slice_index}
+use Rattle.std.proofs.Common.{bit_xor, slice_index}
 use Rattle.std.proofs.lemmas.Simd.{zip2_of_maps}
 use Rattle.aes_vector.specs.Tower.{low, high}
 use Rattle.aes_vector.proofs.Vectors.{each_place, looks}

@@ -1,10 +1,7 @@
-use Rattle.std.proofs.Common.{List, ℕ, map, slice_index, ap, ◌∙◌}
+use Rattle.std.proofs.Common.{map, slice_index, ap, ◌∙◌}
 use Rattle.aes_block.specs.Rounds.{inv_shift_rows}
-use Rattle.aes_vector.specs.declared.tables.TheConstants.{INV_ROWS_0}
-use Rattle.aes_vector.specs.Tables.{IsPlace}
 use Rattle.aes_vector.proofs.rows.inv_rows_0.Goals as goal
-use Rattle.std.proofs.Common.{refl, subst, sym}
-use lib.Lanes.{Each1}
+use Rattle.std.proofs.Common.{refl}
 
 pub look-requires : goal.look-requires
 look-requires c = rw c.requires (refl, (refl, (refl, (refl, (refl, (refl, (refl, (refl, (refl, (refl, (refl, (refl, (refl, (refl, (refl, (refl, tt))))))))))))))))

@@ -1,5 +1,5 @@
 -- The cipher's body computes the cipher.
-use Rattle.std.proofs.Common.{◌≡◌, ◌-◌, ◌+◌, ap, ap₂, sym, arith, ◌∙◌}
+use Rattle.std.proofs.Common.{◌≡◌, ◌-◌, ◌+◌, ap₂, sym, arith, ◌∙◌}
 use Rattle.aes_block.specs.Rounds.{add_round_key}
 use Rattle.aes_block.specs.Cipher.{rounds, round, last_round}
 use Rattle.aes_vector.proofs.CipherSteps.{rounds-more, cipher-key}

@@ -1,5 +1,5 @@
 -- The round keys are those of the key expansion, and the first two keep the key.
-use Rattle.std.proofs.Common.{◌≡◌, ℕ, ◌+◌, ◌-◌, ◌*◌, ◌<◌, ◌≤◌, ◌++◌, ◌∙◌, List, length, map, take, ap, ap₂, sym, subst, arith}
+use Rattle.std.proofs.Common.{◌≡◌, ℕ, ◌+◌, ◌-◌, ◌*◌, ◌≤◌, ◌++◌, ◌∙◌, List, length, take, ap, ap₂, sym, subst, arith}
 use Rattle.std.specs.List.{AllByRecursion}
 use Rattle.block_pair.specs.Words.{IsByte}
 use Rattle.aes_block.specs.KeyExpansion.{IsKekLength, rounds_of, round_key}
