@@ -1,5 +1,6 @@
 -- What one number that is 0 says of its parts: a difference of two words, the last bytes of a word.
-use Rattle.std.proofs.Common.{◌≡◌, ℕ, zero, suc, ◌+◌, ◌-◌, ◌*◌, ◌%◌, ◌^◌, ◌≤◌, ◌<◌, List, length, get_or, drop, refl, sym, ap, ◌∙◌, arith, bit_xor, bit_and, inl, inr}
+use Rattle.std.proofs.Common.{◌≡◌, ℕ, zero, suc, ◌+◌, ◌-◌, ◌*◌, ◌%◌, ◌^◌, ◌≤◌, ◌<◌, List, length, get_or, drop, refl, sym, ap, ◌∙◌}
+use Rattle.std.proofs.Common.{arith, bit_xor, bit_and, inl, inr}
 use Rattle.std.proofs.Common.{length-drop}
 use Rattle.std.specs.Prelude.{slice_index, bit_or}
 use Rattle.std.specs.Int.Bits.{xor_add_and, xor_self, or_zero_l}
@@ -34,7 +35,8 @@ low_bytes i (suc m) n j xs bytes e =
     let rest : ℕ = big_from (suc i) (m + n) xs in
     let shift : x * 256 ^ (m + n) ≡ x * 256 ^ m * 256 ^ n = ap (λ (v : ℕ). x * v) (pow-add 256 m n) ∙ sym (mul_assoc x (256 ^ m) (256 ^ n)) in
     let more : suc m + n ≡ suc (m + n) = omega arith in
-    ap (λ (k : ℕ). big_from i k xs % 256 ^ n) more ∙ ap (λ (v : ℕ). (v + rest) % 256 ^ n) shift ∙ mul-add-mod_self_right (x * 256 ^ m) (256 ^ n) rest ∙ low_bytes (suc i) m n j xs bytes (omega arith)
+    ap (λ (k : ℕ). big_from i k xs % 256 ^ n) more ∙ ap (λ (v : ℕ). (v + rest) % 256 ^ n) shift
+    ∙ mul-add-mod_self_right (x * 256 ^ m) (256 ^ n) rest ∙ low_bytes (suc i) m n j xs bytes (omega arith)
 
 -- bytes whose number is 0 are zeros
 each_zero : (i n k : ℕ) (xs : List ℕ) → ((k : ℕ) → slice_index xs k < 256) → big_from i n xs ≡ 0 → i ≤ k → k < i + n → slice_index xs k ≡ 0

@@ -1,5 +1,6 @@
 -- What an unwrapping call that takes no memory promises, from the state in which the machine left the registers.
-use Rattle.std.proofs.Common.{rules, ◌≡◌, ◌↔◌, ℕ, bit_xor, ◌+◌, List, ◌++◌, length, take, drop, Result, Ok, Err, IfOk, OnOk, IsOk, IsOkUnless, IsErr, IsErrAnd, Vec, refl, sym, ap, subst}
+use Rattle.std.proofs.Common.{rules, ◌≡◌, ◌↔◌, ℕ, bit_xor, ◌+◌, List, ◌++◌, length, take, drop, Result, Ok, Err, IfOk, OnOk, IsOk, IsOkUnless, IsErr, IsErrAnd, Vec}
+use Rattle.std.proofs.Common.{refl, sym, ap, subst}
 use Rattle.std.proofs.Common.{arith, length-append}
 use Rattle.std.proofs.lemmas.List.{drop_at}
 use Rattle.block_pair.specs.Pair.{AreInverse}
@@ -37,8 +38,8 @@ none_found legal none = record {
 }
 
 -- the same lengths, said in another way
-pub legally : {A : Type 0} {Legal Legal' : Type 0} {Stands : List ℕ → List ℕ → Type 0} {NoOther : List ℕ → Type 0} {text : List ℕ} {key : A → List ℕ} {answer : Result A InPlaceFault}
-    → Legal → Legal' → Unwrapping Legal Stands NoOther text key answer → Unwrapping Legal' Stands NoOther text key answer
+pub legally : {A : Type 0} {Legal Legal' : Type 0} {Stands : List ℕ → List ℕ → Type 0} {NoOther : List ℕ → Type 0} {text : List ℕ} {key : A → List ℕ}
+    {answer : Result A InPlaceFault} → Legal → Legal' → Unwrapping Legal Stands NoOther text key answer → Unwrapping Legal' Stands NoOther text key answer
 legally {answer = Ok m} legal legal' u = record {
   bad_length = (λ e. cc, λ bad. absurd (bad legal'));
   unwraps = (legal', u.unwraps.1);
@@ -81,7 +82,8 @@ pub plain_decided : {E D : List ℕ → List ℕ} (iv found : ℕ) (registers le
 plain_decided {E = E} iv found registers left text (Ok done) inv word word' free legal run passes only kept =
     let same : found ≡ iv = xor_same found iv (passes.0 refl) in
     plain_found iv left text inv word free legal (rw (kept, ← same) run)
-plain_decided iv found registers left text (Err BadLength) inv word word' free legal run passes only kept = absurd (let bad : BadLength ≡ Integrity = only in cc)
+plain_decided iv found registers left text (Err BadLength) inv word word' free legal run passes only kept =
+    absurd (let bad : BadLength ≡ Integrity = only in cc)
 plain_decided iv found registers left text (Err Integrity) inv word word' free legal run passes only kept =
     plain_none iv registers left text inv legal word' (λ same. absurd (let ok = passes.1 (same_xor found iv same) in cc)) run
 

@@ -94,8 +94,8 @@ pub fn unwrap_in_place<B: BlockPair>(
     unwrap_buffer(meter, DEFAULT_IV, buf)
 }
 
-// The plain wrapping in the buffer becomes 8 zero bytes and the key whose wrapping under this initial
-// value it is, and zeros where there is none.
+// The plain wrapping in the buffer becomes 8 zero bytes and the key whose wrapping under this
+// initial value it is, and zeros where there is none.
 pub(crate) fn unwrap_buffer<B: BlockPair>(
     meter: &mut Meter<B>,
     iv: u64,

@@ -3,7 +3,8 @@
 ghost use Rattle.std.specs.Prelude.{◌≡◌, ◌↔◌, ◌⊎◌, ℕ, List, length, Err, IfOk};
 ghost use Rattle.std.specs.Prelude.{IsOkUnless, IsTrue};
 ghost use Rattle.key_wrap.specs.Forms.{StandsIn, IsKeyLength, IsTextLength};
-ghost use Rattle.key_wrap.specs.Rewrap.{AreWrappings, HasBadKey, NoOtherForm, RewrapAnswer, Rewrapped};
+ghost use Rattle.key_wrap.specs.Rewrap.{AreWrappings, HasBadKey, NoOtherForm, RewrapAnswer};
+ghost use Rattle.key_wrap.specs.Rewrap.{Rewrapped};
 
 use crate::faults::UnwrapFault;
 use crate::forms::Form;

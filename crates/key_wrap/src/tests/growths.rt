@@ -1,4 +1,5 @@
-//! Heaps of every size: a call takes its memory once, for one buffer, and before the first block. A refused one answers Memory and has given its pair no block.
+//! Heaps of every size: a call takes its memory once, for one buffer, and before the first block. A
+//! refused one answers Memory and has given its pair no block.
 
 use super::doubles::Tally;
 use super::initial_values::OTHER;
