@@ -11,8 +11,8 @@
 
 set -u
 longest=${1:-1024}
-# shellcheck source=scripts/room.sh
-. "${BASH_SOURCE[0]%/*}/../scripts/room.sh"
+# shellcheck source=tests/lib/room.sh
+. "${BASH_SOURCE[0]%/*}/lib/room.sh"
 
 passed=0 failed=0 skipped=0
 

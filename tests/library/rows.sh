@@ -1,6 +1,6 @@
 # shellcheck shell=bash disable=SC2034,SC2154
 # How the scripts over the C library count: a row is a command that must succeed, and a part whose tool
-# is not there is skipped, with a line that says what to install. Sourced, after scripts/room.sh.
+# is not there is skipped, with a line that says what to install. Sourced, after tests/lib/room.sh.
 
 passed=0 failed=0 skipped=0
 
