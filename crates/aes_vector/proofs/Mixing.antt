@@ -22,7 +22,8 @@ vector_block v h = record { sixteen = h.0; bytes = each_byte v h.1 }
 -- four lanes in a row, and the rest
 pub column : {a b c d e f g h : ℕ} {xs ys : List ℕ} → a ≡ e → b ≡ f → c ≡ g → d ≡ h → xs ≡ ys
     → a ∷ b ∷ c ∷ d ∷ xs ≡ e ∷ f ∷ g ∷ h ∷ ys
-column p q r s t = ap₂ (λ (x : ℕ) (l : List ℕ). x ∷ l) p (ap₂ (λ (x : ℕ) (l : List ℕ). x ∷ l) q (ap₂ (λ (x : ℕ) (l : List ℕ). x ∷ l) r (ap₂ (λ (x : ℕ) (l : List ℕ). x ∷ l) s t)))
+column p q r s t = ap₂ (λ (x : ℕ) (l : List ℕ). x ∷ l) p
+    (ap₂ (λ (x : ℕ) (l : List ℕ). x ∷ l) q (ap₂ (λ (x : ℕ) (l : List ℕ). x ∷ l) r (ap₂ (λ (x : ℕ) (l : List ℕ). x ∷ l) s t)))
 
 abbrev pub vector_round : List ℕ → List ℕ → List ℕ
 vector_round k s =

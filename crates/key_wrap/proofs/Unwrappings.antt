@@ -1,5 +1,6 @@
 -- What an unwrapping call that takes no memory promises, from the state in which the machine left the registers.
-use Rattle.std.proofs.Common.{rules, ◌≡◌, ◌↔◌, ℕ, bit_xor, ◌+◌, List, ◌++◌, length, take, drop, Result, Ok, Err, IfOk, OnOk, IsOk, IsOkUnless, IsErr, IsErrAnd, Vec}
+use Rattle.std.proofs.Common.{rules, ◌≡◌, ◌↔◌, ℕ, bit_xor, ◌+◌, List, ◌++◌, length, take, drop, Result, Ok, Err, Vec}
+use Rattle.std.proofs.Common.{IfOk, OnOk, IsOk, IsOkUnless, IsErr, IsErrAnd}
 use Rattle.std.proofs.Common.{refl, sym, ap, subst}
 use Rattle.std.proofs.Common.{arith, length-append}
 use Rattle.std.proofs.lemmas.List.{drop_at}

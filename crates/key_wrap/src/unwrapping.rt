@@ -71,7 +71,8 @@ pub(crate) fn kind_of_registers<B: BlockPair>(
     registers: &mut [u8],
 ) -> Kind
     requires { IsPaddedTextLength (8 + length registers.old) }
-    ensures answer { IsTheKind (B.encrypted meter.old.pair) (word_bytes c0 ++ registers.old) result }
+    ensures answer { let text = word_bytes c0 ++ registers.old in
+        IsTheKind (B.encrypted meter.old.pair) text result }
     ensures cleared { All (λ byte. byte ≡ 0) registers.new }
     ensures calls { meter.new ≡ counted (block_calls (8 + length registers.old)) meter.old }
 {

@@ -1,6 +1,6 @@
-//! Each call once, on a vector of RFC 3394 (section 4) or RFC 5649 (section 6); under another initial
-//! value, and from one form to the other, on wrappings of OpenSSL's. The refusals are proved, and
-//! made by `tests/library.sh`.
+//! Each call once, on a vector of RFC 3394 (section 4) or RFC 5649 (section 6); under another
+//! initial value, and from one form to the other, on wrappings of OpenSSL's. The refusals are
+//! proved, and made by `tests/library.sh`.
 
 use crate::padded::{keywrap_unwrap_padded, keywrap_wrap_padded};
 use crate::padded_in_place::{keywrap_unwrap_padded_in_place, keywrap_wrap_padded_in_place};

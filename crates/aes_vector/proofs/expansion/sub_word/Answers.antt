@@ -14,7 +14,8 @@ lowest a b c d rest ha hb hc hd = omega arith
 -- SubWord of w, from the lanes of a number whose lowest 32 bits are w
 four_lanes : (w m rest : ℕ) →
     let n = w + 4294967296 * m in
-    (s_box (n % 256) + 256 * (s_box (n / 256 % 256) + 256 * (s_box (n / 256 / 256 % 256) + 256 * (s_box (n / 256 / 256 / 256 % 256) + 256 * rest)))) % 4294967296
+    (s_box (n % 256) + 256 * (s_box (n / 256 % 256) + 256 *
+        (s_box (n / 256 / 256 % 256) + 256 * (s_box (n / 256 / 256 / 256 % 256) + 256 * rest)))) % 4294967296
     ≡ s_box (w / 16777216 % 256) * 16777216 + s_box (w / 65536 % 256) * 65536 + s_box (w / 256 % 256) * 256 + s_box (w % 256)
 four_lanes w m rest =
     let n = w + 4294967296 * m in
