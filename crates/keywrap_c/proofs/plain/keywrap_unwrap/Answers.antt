@@ -1,12 +1,22 @@
 -- What the call of key_wrap ensures, said of the KEK: the pair in its meter is AES under the KEK (`under`). A refusal of
 -- a wrapping would contradict it.
-use Rattle.std.proofs.Common.{rules, ◌≡◌, ℕ, List, ap, ◌∙◌, subst, sym}
+use Rattle.std.proofs.Common.{rules, ◌≡◌, ℕ, List, ap, ◌∙◌, subst, sym, refl}
 use Rattle.aes_block.specs.Cipher.{cipher}
 use Rattle.key_wrap.specs.Plain.{Plain, default_iv}
 use Rattle.key_wrap.specs.Padded.{Padded}
 use Rattle.key_wrap.specs.Answer.{NoKey}
 use Rattle.keywrap_c.specs.Answers.{IsUnwrapping}
 use Rattle.keywrap_c.proofs.plain.keywrap_unwrap.Goals as goal
+
+pub returns-in-Ok-unwrap_into-clause-done : goal.returns-in-Ok-unwrap_into-clause-done
+returns-in-Ok-unwrap_into-clause-done c = λ _. (c.in-Ok.ensures.accepted.0 refl, c.in-Ok-unwrap_into.ensures.answer.0)
+
+pub returns-in-Ok-unwrap_into-clause-integrity : goal.returns-in-Ok-unwrap_into-clause-integrity
+returns-in-Ok-unwrap_into-clause-integrity c =
+    let under : c.new-2.result.pair ≡ c.args.kek.now = ap (λ m. m.pair) c.new-2.ensures ∙ c.in-Ok.ensures.key in
+    let stands = subst (λ (K : List ℕ). Plain (cipher K) default_iv c.unwrap_into.new.key c.args.text.now) under c.in-Ok-unwrap_into.ensures.answer.1 in
+    let refuted : ¬ NoKey (Plain (cipher c.args.kek.now) default_iv) c.args.text.now = λ none. none c.unwrap_into.new.key stands in
+    search rules
 
 pub returns-in-Ok-unwrap_into-clause-answer : goal.returns-in-Ok-unwrap_into-clause-answer
 returns-in-Ok-unwrap_into-clause-answer c = λ _.

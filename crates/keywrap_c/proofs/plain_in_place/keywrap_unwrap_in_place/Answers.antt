@@ -1,12 +1,22 @@
 -- What the call of key_wrap ensures, said of the KEK: the pair in its meter is AES under the KEK (`under`). A refusal of
 -- a wrapping would contradict it.
-use Rattle.std.proofs.Common.{rules, ◌≡◌, ℕ, List, drop, ap, ◌∙◌, subst, sym, true, false}
+use Rattle.std.proofs.Common.{rules, ◌≡◌, ℕ, List, drop, ap, ◌∙◌, subst, sym, refl, true, false}
 use Rattle.aes_block.specs.Cipher.{cipher}
 use Rattle.key_wrap.specs.Plain.{Plain, default_iv}
 use Rattle.key_wrap.specs.Padded.{Padded}
 use Rattle.key_wrap.specs.Answer.{NoKey}
 use Rattle.keywrap_c.specs.Answers.{IsUnwrapping}
 use Rattle.keywrap_c.proofs.plain_in_place.keywrap_unwrap_in_place.Goals as goal
+
+pub returns-in-Ok-unwrap_in_place-clause-done : goal.returns-in-Ok-unwrap_in_place-clause-done
+returns-in-Ok-unwrap_in_place-clause-done c = λ _. (c.in-Ok.ensures.accepted.0 refl, c.in-Ok-unwrap_in_place.ensures.answer.0)
+
+pub returns-in-Ok-unwrap_in_place-clause-integrity : goal.returns-in-Ok-unwrap_in_place-clause-integrity
+returns-in-Ok-unwrap_in_place-clause-integrity c =
+    let under : c.new-2.result.pair ≡ c.args.kek.now = ap (λ m. m.pair) c.new-2.ensures ∙ c.in-Ok.ensures.key in
+    let stands = subst (λ (K : List ℕ). Plain (cipher K) default_iv (drop 8 c.unwrap_in_place.new.buf) c.args.buffer.now) under c.in-Ok-unwrap_in_place.ensures.answer.1 in
+    let refuted : ¬ NoKey (Plain (cipher c.args.kek.now) default_iv) c.args.buffer.now = λ none. none (drop 8 c.unwrap_in_place.new.buf) stands in
+    search rules
 
 pub returns-in-Ok-unwrap_in_place-clause-answer : goal.returns-in-Ok-unwrap_in_place-clause-answer
 returns-in-Ok-unwrap_in_place-clause-answer c = λ _.

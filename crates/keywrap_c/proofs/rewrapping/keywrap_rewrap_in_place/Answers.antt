@@ -50,3 +50,10 @@ pub returns-in-Err-BadLength-clause-kept_at_bad_text : goal.returns-in-Err-BadLe
 returns-in-Err-BadLength-clause-kept_at_bad_text c = λ no.
     let told = c.in-Some.ensures.named in
     c.in-Err-BadLength.ensures.buffer_kept (rw told.1 no)
+
+pub returns-in-Err-Integrity-clause-integrity : goal.returns-in-Err-Integrity-clause-integrity
+returns-in-Err-Integrity-clause-integrity c =
+    let under : c.new-3.result.pair ≡ c.args.old_kek.now = ap (λ m. m.pair) c.new-3.ensures ∙ c.in-Ok.ensures.key in
+    let told = c.in-Some.ensures.named in
+    let refused = rw (under, told.1, told.2, c.in-Err-Integrity.field-0-is) at c.in-Err-Integrity.ensures.integrity in
+    (λ _. (c.in-Ok.ensures.accepted.0 refl, c.in-Ok-new.ensures.accepted.0 refl, told.0, refused.0 refl), λ _. refl)
