@@ -55,5 +55,5 @@ pub returns-in-Err-Integrity-clause-integrity : goal.returns-in-Err-Integrity-cl
 returns-in-Err-Integrity-clause-integrity c =
     let under : c.new-3.result.pair ≡ c.args.old_kek.now = ap (λ m. m.pair) c.new-3.ensures ∙ c.in-Ok.ensures.key in
     let told = c.in-Some.ensures.named in
-    let refused = rw (under, told.1, told.2, c.in-Err-Integrity.field-0-is) at c.in-Err-Integrity.ensures.integrity in
+    let refused = rw (under, told.1, c.in-Err-Integrity.field-0-is) at c.in-Err-Integrity.ensures.integrity in
     (λ _. (c.in-Ok.ensures.accepted.0 refl, c.in-Ok-new.ensures.accepted.0 refl, told.0, refused.0 refl), λ _. refl)
