@@ -45,16 +45,11 @@ static int32_t rewrap(const uint8_t *old_kek, size_t old_kek_len, const uint8_t 
 /* IS_PLAIN or IS_PADDED, or the status of the refusal. */
 static int32_t kind(const uint8_t *kek, size_t kek_len, const uint8_t *wrapped, size_t wrapped_len,
                     uint8_t *scratch, size_t room) {
+    uint32_t padded;
     size_t key_len;
-    int32_t status = keywrap_unwrap(kek, kek_len, wrapped, wrapped_len, scratch, room);
-    int32_t form = IS_PLAIN;
-    if (status == KEYWRAP_BAD_LENGTH || status == KEYWRAP_INTEGRITY) {
-        status = keywrap_unwrap_padded(kek, kek_len, wrapped, wrapped_len, scratch, room, &key_len);
-        form = IS_PADDED;
-    }
+    int32_t status = keywrap_kind(kek, kek_len, wrapped, wrapped_len, scratch, room, &padded, &key_len);
     if (status != KEYWRAP_OK) return status;
-    memset(scratch, 0, room);
-    return form;
+    return padded ? IS_PADDED : IS_PLAIN;
 }
 
 /* By volatile writes, which no compiler leaves out. */
@@ -81,5 +76,7 @@ ffi.set_source(
     include_dirs=["."],
     extra_objects=["libkeywrap.a"],
     extra_compile_args=["-std=c99"],
+    # The package calls the library that is in it, whatever another one in the process shows.
+    extra_link_args=["-Wl,--exclude-libs,ALL", "-Wl,-z,relro,-z,now"],
     py_limited_api=True,
 )

@@ -5,6 +5,7 @@
 # usage: tests/python.sh        (KEYWRAP_ARCHIVES='PATH ..': over the first of these, which was built before)
 
 set -u
+# shellcheck disable=SC2034,SC2154
 # shellcheck source=scripts/room.sh
 . "${BASH_SOURCE[0]%/*}/../scripts/room.sh"
 # shellcheck source=tests/library/rows.sh
@@ -32,6 +33,10 @@ same_version() { writes "keywrap $version" python3 -c 'import keywrap; print("ke
 row 'the version' same_version
 
 row 'an extension of the stable ABI' writes _ffi.abi3.so python3 -c 'from keywrap import _ffi; print(_ffi.__file__)'
+
+# shows_nothing: the extension shows none of the library's names, so that no other takes their place.
+shows_nothing() { [ "$(nm -D --defined-only env/lib/python3*/site-packages/keywrap/_ffi.abi3.so | awk '{ print $3 }')" = PyInit__ffi ]; }
+row 'the names of the extension' shows_nothing
 
 # The README's command, as it stands there; its answer is that of OpenSSL.
 command=$(sed -n "s/^    \(python3 -c .*\)/\1/p" "$root/python/README.md")

@@ -5,7 +5,7 @@ ghost use Rattle.aes_block.specs.Cipher.{cipher};
 ghost use Rattle.aes_block.specs.KeyExpansion.{IsKekLength};
 ghost use Rattle.key_wrap.specs.Plain.{Plain, default_iv};
 ghost use Rattle.key_wrap.specs.Padded.{Padded, padded};
-ghost use Rattle.key_wrap.specs.Answer.{NoKey};
+ghost use Rattle.key_wrap.specs.Answer.{NoKey, NoPlainKey};
 ghost use Rattle.key_wrap.specs.InPlace.{IsPaddedRoom, ArePaddedLengths};
 ghost use Rattle.keywrap_c.specs.Status.{IsDone, IsBadKek, IsBadLength, IsIntegrity};
 ghost use Rattle.keywrap_c.specs.Status.{IsWrapStatus, IsUnwrapStatus};
@@ -63,6 +63,7 @@ pub extern "C" fn keywrap_unwrap_padded(
     ensures answer { IsDone result → IsUnwrapping
         (Padded (cipher kek.now)) (Plain (cipher kek.now) default_iv)
         text.now (take key_len.new key.new) }
+    ensures other_values { IsDone result → NoPlainKey (cipher kek.now) text.now }
     ensures size { IsDone result → length (take key_len.new key.new) ≡ key_len.new }
     ensures behind { IsDone result → key.new ≡ padded (take key_len.new key.new) }
 

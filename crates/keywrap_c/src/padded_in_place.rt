@@ -7,7 +7,7 @@ ghost use Rattle.aes_block.specs.KeyExpansion.{IsKekLength};
 ghost use Rattle.key_wrap.specs.Lengths.{IsPaddedTextLength};
 ghost use Rattle.key_wrap.specs.Plain.{Plain, default_iv};
 ghost use Rattle.key_wrap.specs.Padded.{Padded, padded};
-ghost use Rattle.key_wrap.specs.Answer.{NoKey};
+ghost use Rattle.key_wrap.specs.Answer.{NoKey, NoPlainKey};
 ghost use Rattle.key_wrap.specs.InPlace.{IsPaddedRoom, key_in};
 ghost use Rattle.keywrap_c.specs.Status.{IsDone, IsBadKek, IsBadLength, IsIntegrity};
 ghost use Rattle.keywrap_c.specs.Status.{IsWrapStatus, IsUnwrapStatus};
@@ -65,6 +65,7 @@ pub extern "C" fn keywrap_unwrap_padded_in_place(
     ensures answer { IsDone result
         → IsUnwrapping (Padded (cipher kek.now)) (Plain (cipher kek.now) default_iv)
         buffer.old (key_in key_len.new buffer.new) }
+    ensures other_values { IsDone result → NoPlainKey (cipher kek.now) buffer.old }
     ensures size { IsDone result → length (key_in key_len.new buffer.new) ≡ key_len.new }
     ensures around { IsDone result
         → buffer.new ≡ replicate 8 0 ++ padded (key_in key_len.new buffer.new) }

@@ -4,7 +4,7 @@ use Rattle.std.proofs.Common.{rules, ◌≡◌, ℕ, List, take, ap, ◌∙◌, 
 use Rattle.aes_block.specs.Cipher.{cipher}
 use Rattle.key_wrap.specs.Plain.{Plain, default_iv}
 use Rattle.key_wrap.specs.Padded.{Padded}
-use Rattle.key_wrap.specs.Answer.{NoKey}
+use Rattle.key_wrap.specs.Answer.{NoKey, NoPlainKey}
 use Rattle.keywrap_c.specs.Answers.{IsUnwrapping}
 use Rattle.keywrap_c.proofs.padded.keywrap_unwrap_padded.Goals as goal
 
@@ -15,6 +15,11 @@ returns-in-Ok-unwrap_padded_into-clause-answer c = λ _.
     let key = take c.in-Ok-unwrap_padded_into.m c.unwrap_padded_into.new.key in
     subst (λ (K : List ℕ). IsUnwrapping (Padded (cipher K)) (Plain (cipher K) default_iv) c.args.text.now key) under
     (record { stands = told.answer.1; only_key = told.only_key; restores = told.restores; other_form = told.other_form })
+
+pub returns-in-Ok-unwrap_padded_into-clause-other_values : goal.returns-in-Ok-unwrap_padded_into-clause-other_values
+returns-in-Ok-unwrap_padded_into-clause-other_values c = λ _.
+    let under : c.new-2.result.pair ≡ c.args.kek.now = ap (λ m. m.pair) c.new-2.ensures ∙ c.in-Ok.ensures.key in
+    subst (λ (K : List ℕ). NoPlainKey (cipher K) c.args.text.now) under c.in-Ok-unwrap_padded_into.ensures.other_values
 
 pub returns-in-Err-BadLength-clause-accepts : goal.returns-in-Err-BadLength-clause-accepts
 returns-in-Err-BadLength-clause-accepts c = λ _ _ lengths _.

@@ -4,7 +4,7 @@ use Rattle.std.proofs.Common.{rules, ◌≡◌, ℕ, List, ap, ◌∙◌, subst,
 use Rattle.aes_block.specs.Cipher.{cipher}
 use Rattle.key_wrap.specs.Plain.{Plain, default_iv}
 use Rattle.key_wrap.specs.Padded.{Padded}
-use Rattle.key_wrap.specs.Answer.{NoKey}
+use Rattle.key_wrap.specs.Answer.{NoKey, NoPlainKey}
 use Rattle.key_wrap.specs.InPlace.{key_in}
 use Rattle.keywrap_c.specs.Answers.{IsUnwrapping}
 use Rattle.keywrap_c.proofs.padded_in_place.keywrap_unwrap_padded_in_place.Goals as goal
@@ -16,6 +16,11 @@ returns-in-Ok-unwrap_padded_in_place-clause-answer c = λ _.
     let key = key_in c.in-Ok-unwrap_padded_in_place.m c.unwrap_padded_in_place.new.buf in
     subst (λ (K : List ℕ). IsUnwrapping (Padded (cipher K)) (Plain (cipher K) default_iv) c.args.buffer.now key) under
     (record { stands = told.answer.1; only_key = told.only_key; restores = told.restores; other_form = told.other_form })
+
+pub returns-in-Ok-unwrap_padded_in_place-clause-other_values : goal.returns-in-Ok-unwrap_padded_in_place-clause-other_values
+returns-in-Ok-unwrap_padded_in_place-clause-other_values c = λ _.
+    let under : c.new-2.result.pair ≡ c.args.kek.now = ap (λ m. m.pair) c.new-2.ensures ∙ c.in-Ok.ensures.key in
+    subst (λ (K : List ℕ). NoPlainKey (cipher K) c.args.buffer.now) under c.in-Ok-unwrap_padded_in_place.ensures.other_values
 
 pub returns-in-Err-BadLength-clause-accepts : goal.returns-in-Err-BadLength-clause-accepts
 returns-in-Err-BadLength-clause-accepts c = λ key _ stands.
