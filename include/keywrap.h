@@ -55,7 +55,7 @@ enum keywrap_status {
     KEYWRAP_BAD_IV = 2,     /* the initial value is refused; only a _with call answers it */
     KEYWRAP_BAD_KEK = 3,    /* the KEK is not 16, 24 or 32 bytes long */
     KEYWRAP_BAD_LENGTH = 4, /* a length is not one that the call takes */
-    KEYWRAP_INTEGRITY = 5   /* no key was wrapped to this under this KEK; not of a wrap */
+    KEYWRAP_INTEGRITY = 5   /* no key was wrapped to this under this KEK; not from a wrap */
 };
 
 /* The flags of keywrap_rewrap_in_place: the wrapped key that is given, and the one that is
@@ -204,6 +204,23 @@ KEYWRAP_CALL KEYWRAP_READS(1, 2) KEYWRAP_CHANGES(3, 4)
 int32_t keywrap_unwrap_padded_in_place(const uint8_t *kek, size_t kek_len,
                                        uint8_t *KEYWRAP_RESTRICT buffer, size_t wrapped_len,
                                        size_t *KEYWRAP_RESTRICT key_len);
+
+/* Which form, over a scratch buffer; the key is not given out.
+ *
+ * keywrap_kind tells in which form a key was wrapped, plain (under the default initial value) or
+ * padded, and how long the key is:
+ *   wrapped_len  any: a length that neither form has is KEYWRAP_INTEGRITY
+ *   room         KEYWRAP_ROOM(wrapped_len), the size of the scratch buffer
+ *   KEYWRAP_OK          *padded is 0, or 1 (KEYWRAP_OLD_PADDED), *key_len is the key's length, and
+ *                       scratch is all zeros
+ *   KEYWRAP_INTEGRITY   no key was wrapped to this under this KEK in either form; scratch is all
+ *                       zeros, or as it was where neither form has the length
+ *   any other           scratch is as it was
+ * At each refusal *padded and *key_len are 0. */
+KEYWRAP_CALL KEYWRAP_READS(1, 2) KEYWRAP_READS(3, 4) KEYWRAP_WRITES(5, 6)
+int32_t keywrap_kind(const uint8_t *kek, size_t kek_len, const uint8_t *wrapped, size_t wrapped_len,
+                     uint8_t *KEYWRAP_RESTRICT scratch, size_t room,
+                     uint32_t *KEYWRAP_RESTRICT padded, size_t *KEYWRAP_RESTRICT key_len);
 
 /* From one KEK to another, one buffer: wrapped_len is its whole length. The wrapped key stays as
  * long as it was, in either form, and the key is never given out: it stands in the buffer only

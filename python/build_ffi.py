@@ -51,16 +51,11 @@ static void wipe(uint8_t *bytes, size_t len) {
 /* IS_PLAIN or IS_PADDED, or the status of the refusal. */
 static int32_t kind(const uint8_t *kek, size_t kek_len, const uint8_t *wrapped, size_t wrapped_len,
                     uint8_t *scratch, size_t room) {
+    uint32_t padded;
     size_t key_len;
-    int32_t status = keywrap_unwrap(kek, kek_len, wrapped, wrapped_len, scratch, room);
-    int32_t form = IS_PLAIN;
-    if (status == KEYWRAP_BAD_LENGTH || status == KEYWRAP_INTEGRITY) {
-        status = keywrap_unwrap_padded(kek, kek_len, wrapped, wrapped_len, scratch, room, &key_len);
-        form = IS_PADDED;
-    }
+    int32_t status = keywrap_kind(kek, kek_len, wrapped, wrapped_len, scratch, room, &padded, &key_len);
     if (status != KEYWRAP_OK) return status;
-    wipe(scratch, room);
-    return form;
+    return padded ? IS_PADDED : IS_PLAIN;
 }
 """
 

@@ -70,6 +70,7 @@ calls=(
     'keywrap_unwrap_in_place kek:32,wrapped:24'
     'keywrap_wrap_padded_in_place kek:32,wrapped:24 16'
     'keywrap_unwrap_padded_in_place kek:32,wrapped:24 &len'
+    'keywrap_kind kek:32,wrapped:24,key:16 &form,&len'
     'keywrap_rewrap_in_place kek:32,new_kek:16,wrapped:24 0'
 )
 
@@ -84,7 +85,8 @@ caller() {
         declared+="uint8_t ${bytes}[$size]$set; "
         given+="${given:+, }$bytes, ${buffer#*:}"
     done
-    [ "$more" != '&len' ] || declared+='size_t len; '
+    [[ $more != *'&len'* ]] || declared+='size_t len; '
+    [[ $more != *'&form'* ]] || declared+='uint32_t form; '
     echo "int32_t f$((++callers))(void) { ${declared}int32_t s = $name(${5:-$given${more:+, $more}}); return s; }"
 }
 
@@ -103,7 +105,9 @@ every() {
             for buffer in ${buffers//,/ }; do
                 caller "$name" "$buffers" "$more" '' "${given/"${buffer%:*}, "/NULL, }"
             done
-            [ "$more" != '&len' ] || caller "$name" "$buffers" "$more" '' "${given/&len/NULL}"
+            for buffer in '&form' '&len'; do
+                [[ $more != *"$buffer"* ]] || caller "$name" "$buffers" "$more" '' "${given/"$buffer"/NULL}"
+            done
             ;;
         esac
     done

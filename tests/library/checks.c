@@ -229,6 +229,30 @@ void unwraps_with(const struct value *iv, const uint8_t *kek, size_t kek_len, co
           PLAIN, TWO_BUFFERS, kek_len, text_len, room);
 }
 
+void kinds(enum form form, const uint8_t *kek, size_t kek_len, const uint8_t *text, size_t text_len,
+           size_t room, const uint8_t *key, size_t key_len) {
+    uint8_t *k = frame(&kek_buffer, kek_len), *scratch = frame(&buffer, room);
+    int legal = text_len % 8 == 0 && text_len >= 16 && text_len <= KEYWRAP_MAX_TEXT;
+    int32_t due = !legal_kek(kek_len)                ? KEYWRAP_BAD_KEK
+                  : legal && text_len != room + 8 ? KEYWRAP_BAD_LENGTH
+                  : !legal || key == NULL         ? KEYWRAP_INTEGRITY
+                                                  : KEYWRAP_OK;
+    uint32_t padded = UINT32_MAX;
+    size_t answered = SIZE_MAX;
+    int32_t status;
+    memcpy(k, kek, kek_len);
+    keep(&kek_buffer);
+    keep(&buffer);
+    status = keywrap_kind(k, kek_len, text, text_len, scratch, room, &padded, &answered);
+    count(status == due && sides_stand(&buffer) && is_kept(&kek_buffer)
+              && padded == (due == KEYWRAP_OK && form == PADDED)
+              && answered == (due == KEYWRAP_OK ? key_len : 0)
+              && (legal && (due == KEYWRAP_OK || due == KEYWRAP_INTEGRITY)
+                      ? are_zeros(scratch, room)
+                      : is_kept(&buffer)),
+          "kind", form, TWO_BUFFERS, kek_len, text_len, room);
+}
+
 static enum form form_of(int is_padded) {
     return is_padded ? PADDED : PLAIN;
 }

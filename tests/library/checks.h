@@ -66,6 +66,11 @@ void wraps_with(const struct value *iv, const uint8_t *kek, size_t kek_len, cons
 void unwraps_with(const struct value *iv, const uint8_t *kek, size_t kek_len, const uint8_t *text,
                   size_t text_len, size_t room, const uint8_t *key);
 
+/* The kind is what is due: where the KEK and the room are right, `key` in this form, or, where `key`
+ * is NULL, the failed check; and zeros alone, where the text has a legal length. */
+void kinds(enum form form, const uint8_t *kek, size_t kek_len, const uint8_t *text, size_t text_len,
+           size_t room, const uint8_t *key, size_t key_len);
+
 /* A rewrap in place answers what is due, under these flags: for the wrapping of `key` under the old
  * KEK the wrapping under the new one, or, where `key` is NULL, the failed check and zeros alone;
  * zeros too where the new form takes no key of this length; else a refusal, and then nothing is

@@ -188,6 +188,8 @@ static void lengths(enum form form, size_t kek_len, size_t key_len, size_t text_
         macros(form, key_len, text_len);
         wrap_key(form, kek, kek_len, key, key_len, text);
     }
+    kinds(form, kek, kek_len, scattered, text_len, key_len, NULL, 0);
+    if (done) kinds(form, kek, kek_len, text, text_len, text_len - 8, key, key_len);
     for (enum place place = TWO_BUFFERS; place <= IN_PLACE; place++) {
         wraps(form, place, kek, kek_len, key, key_len, text_len);
         unwraps(form, place, kek, kek_len, scattered, text_len, key_len, NULL, 0);
@@ -232,6 +234,7 @@ static void tampered(enum form form, size_t kek_len, size_t key_len) {
         uint8_t bit = i % 2 ? 0x80 : 0x01;
         text[i / 2] ^= bit;
         refuses(form, kek, kek_len, text_len);
+        kinds(form, kek, kek_len, text, text_len, text_len - 8, NULL, 0);
         text[i / 2] ^= bit;
     }
     refuses(form, kek + 1, kek_len, text_len);

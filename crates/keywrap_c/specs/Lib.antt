@@ -3,3 +3,4 @@ pub mod Status
 pub mod Answers
 pub mod AgreedValue
 pub mod Forms
+pub mod Kinds

@@ -2,6 +2,7 @@
 //! state. `include/keywrap.h` declares them.
 #![tactic(auto)]
 
+mod kinds;
 mod padded;
 mod padded_in_place;
 mod plain;
