@@ -6,8 +6,9 @@ use Rattle.key_wrap.specs.declared.lengths.TheConstants.{MAX_KEY}
 use Rattle.key_wrap.specs.declared.forms.Form.{Form}
 use Rattle.key_wrap.specs.declared.forms.Form.TheVariants as forms
 use Rattle.key_wrap.specs.Forms.{IsTextLength}
-use Rattle.key_wrap.specs.Lengths.{IsPlainKeyLength, IsPlainTextLength}
+use Rattle.key_wrap.specs.Lengths.{IsPlainKeyLength, IsPlainTextLength, IsPaddedTextLength}
 use Rattle.key_wrap.specs.InPlace.{IsPaddedRoom, ArePlainLengths}
+use Rattle.keywrap_c.specs.Kinds.{HasScratch}
 
 -- a buffer whose key has a legal length behind the first word
 pub plain_text_length : (buffer : List ℕ) → IsPlainKeyLength (length (drop 8 buffer)) → IsPlainTextLength (length buffer)
@@ -33,6 +34,10 @@ plain_lengths-not_refused key text kept =
     let least : 16 ≤ key = ≤-not_refused _ _ (λ no. kept (λ they. no they.0.1)) in
     let most : key ≤ MAX_KEY = ≤-not_refused _ _ (λ no. kept (λ they. no they.0.2)) in
     ((whole, least, most), ≡-not_refused _ _ (λ no. kept (λ they. no they.1)))
+
+-- a scratch buffer that is not refused
+pub scratch-not_refused : (text scratch : ℕ) → ¬ (IsPaddedTextLength text × ¬ (text ≡ scratch + 8)) → HasScratch text scratch
+scratch-not_refused text scratch kept = λ legal. ≡-not_refused _ _ (λ no. kept (legal, no))
 
 -- a room that is not refused
 pub room-not_refused : (m len : ℕ) → ¬ (¬ IsPaddedRoom m len) → IsPaddedRoom m len
