@@ -30,7 +30,8 @@ first_ended : (front : List ℕ) → (line : List ℕ) × (lines : List (List �
 unfolding lines_of
 first_ended [] = ([], [], refl)
 first_ended (x ∷ xs) =
-    let at : (b : Bool) → (line : List ℕ) × (lines : List (List ℕ)) × (cond b ([] ∷ lines_of (xs ++ 10 ∷ [])) (before_first x (lines_of (xs ++ 10 ∷ []))) ≡ line ∷ lines) =
+    let at : (b : Bool) → (line : List ℕ) × (lines : List (List ℕ))
+    × (cond b ([] ∷ lines_of (xs ++ 10 ∷ [])) (before_first x (lines_of (xs ++ 10 ∷ []))) ≡ line ∷ lines) =
     elim [
       | true ↦ ([], lines_of (xs ++ 10 ∷ []), refl)
       | false ↦ let rest = first_ended xs in (x ∷ rest.0, rest.1, ap (before_first x) rest.2)
@@ -54,7 +55,8 @@ lines_of-append_front (x ∷ xs) rest =
 
 pub lines_of-append : (taken rest : List ℕ) → EndsWithLf taken → lines_of (taken ++ rest) ≡ lines_of taken ++ lines_of rest
 lines_of-append taken rest (front, is) =
-    ap (λ l. lines_of (l ++ rest)) is ∙ ap lines_of (append_assoc front (10 ∷ []) rest) ∙ lines_of-append_front front rest ∙ ap (λ l. lines_of l ++ lines_of rest) (sym is)
+    ap (λ l. lines_of (l ++ rest)) is ∙ ap lines_of (append_assoc front (10 ∷ []) rest) ∙ lines_of-append_front front rest
+    ∙ ap (λ l. lines_of l ++ lines_of rest) (sym is)
 
 -- and so after nothing
 pub lines_of-more : (taken rest : List ℕ) → EndsLine taken → lines_of (taken ++ rest) ≡ lines_of taken ++ lines_of rest

@@ -27,7 +27,8 @@ pub TakesPart-same : {a b c : Option (List ℕ)} {before after : List ℕ} → T
 TakesPart-same {a} {b} {c} {before} t none is = TakesPart-more [] t (λ k _ h. absurd (omega (arith, h))) none (is ∙ sym (append-nil before))
 
 -- a refusal
-pub ReadsLine-failed : {limit : ℕ} {a b : Option (List ℕ)} (c : Option (List ℕ)) {before : List ℕ} (after : List ℕ) (answer : Result Line FileFault) (fault : FileFault)
+pub ReadsLine-failed : {limit : ℕ} {a b : Option (List ℕ)} (c : Option (List ℕ)) {before : List ℕ} (after : List ℕ) (answer : Result Line FileFault)
+    (fault : FileFault)
     → IsErrAnd answer (λ f. f ≡ fault) → TakesPart a b before → length before ≤ limit → MovesPart limit b c before after (Err fault)
     → ReadsLine limit a c after answer
 ReadsLine-failed c after (Ok v) fault is t fits m = absurd is

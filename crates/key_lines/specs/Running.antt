@@ -1,12 +1,12 @@
 -- What a run over the lines of an input does. A job is known by `answers`: what it answers to the bytes that a line
 -- denotes, which is a text to be written or a refusal.
-use Rattle.std.specs.Prelude.{◌≡◌, ℕ, ◌+◌, ◌-◌, ◌<◌, ◌⊎◌, ⊤, Bool, true, false, List, [], ◌∷◌, ◌++◌, length, Option, Result, Ok, Err}
+use Rattle.std.specs.Prelude.{◌≡◌, ℕ, ◌+◌, ◌-◌, ◌<◌, ◌⊎◌, ⊤, Bool, true, false, ◌&&◌, List, [], ◌∷◌, ◌++◌, length, Option, Result, Ok, Err}
 use Rattle.std.specs.List.{concat}
 use Rattle.std.specs.Io.KnownBytes.{Appends, Consumes}
 use Rattle.key_lines.specs.Block.{Sends}
 use Rattle.key_files.specs.Meaning.{file_meaning, hex_meaning}
 use Rattle.key_files.specs.declared.fault.FileFault.{FileFault}
-use Rattle.key_files.specs.declared.fault.FileFault.TheVariants.{Read, TooLong, Memory}
+use Rattle.key_files.specs.declared.fault.FileFault.TheVariants.{Read, TooLong, BadDigit, OddDigits, Memory}
 use Rattle.key_lines.specs.Lines.{lines_of, EndsWithLf, EndsLine}
 use Rattle.key_lines.specs.Reading.{IsAllOf, TakesLine, TakesPart}
 use Rattle.key_lines.specs.declared.line.Line.{Line}
@@ -28,36 +28,53 @@ LineAnswer limit answers line (Ok output) = (X : List ℕ) × (line_meaning limi
 LineAnswer limit answers line (Err (Refused refusal)) = (X : List ℕ) × (line_meaning limit line ≡ Ok X) × answers X (Err refusal)
 LineAnswer limit answers line (Err (Input fault)) = line_meaning limit line ≡ Err fault
 
--- the outputs are the answers to the lines, one for each and in order
-abbrev pub AreAnswers : {R : Type 0} → ℕ → (List ℕ → Result (List ℕ) R → Type 0) → List (List ℕ) → List (List ℕ) → Type 0
-AreAnswers limit answers [] [] = ⊤
-AreAnswers limit answers (line ∷ lines) (output ∷ outputs) =
-    LineAnswer limit answers line (Ok output) × AreAnswers limit answers lines outputs
-AreAnswers limit answers lines outputs = ⊥
+-- A line that is refused for itself: it denotes no bytes, or its bytes have no answer.
+abbrev pub is_own : {R : Type 0} → LineFault R → Bool
+is_own (Refused refusal) = true
+is_own (Input (BadDigit at)) = true
+is_own (Input OddDigits) = true
+is_own (Input fault) = false
 
--- A run stops at a line for this fault: what it takes of the line.
-abbrev pub StopsFor : {R : Type 0} → ℕ → (List ℕ → Result (List ℕ) R → Type 0) → Option (List ℕ) → Option (List ℕ) → LineFault R → Type 0
-StopsFor limit answers input input' (Input TooLong) = (part : List ℕ) × TakesPart input input' part × (length part ≡ limit + 1)
-StopsFor limit answers input input' (Input Read) = (part : List ℕ) × TakesPart input input' part
-StopsFor limit answers input input' (Input Memory) = (taken : List ℕ) × Consumes input input' taken
-StopsFor limit answers input input' fault =
-    (line : List ℕ) × TakesLine input input' line × LineAnswer limit answers line (Err fault)
+-- the line is refused for itself, and an empty line stands for its answer
+abbrev pub IsPassed : {R : Type 0} → ℕ → (List ℕ → Result (List ℕ) R → Type 0) → List ℕ → List ℕ → Type 0
+IsPassed {R} limit answers line output =
+    (fault : LineFault R) × (is_own fault ≡ true) × LineAnswer limit answers line (Err fault) × (output ≡ 10 ∷ [])
+
+-- What is written for a line: its answer, or, where the run goes on after a refusal, an empty line in its place.
+abbrev pub LineOutput : {R : Type 0} → Bool → ℕ → (List ℕ → Result (List ℕ) R → Type 0) → List ℕ → List ℕ → Type 0
+LineOutput false limit answers line output = LineAnswer limit answers line (Ok output)
+LineOutput true limit answers line output = LineAnswer limit answers line (Ok output) ⊎ IsPassed limit answers line output
+
+-- the outputs are what is written for the lines, one for each and in order
+abbrev pub AreAnswers : {R : Type 0} → Bool → ℕ → (List ℕ → Result (List ℕ) R → Type 0) → List (List ℕ) → List (List ℕ) → Type 0
+AreAnswers goes_on limit answers [] [] = ⊤
+AreAnswers goes_on limit answers (line ∷ lines) (output ∷ outputs) =
+    LineOutput goes_on limit answers line output × AreAnswers goes_on limit answers lines outputs
+AreAnswers goes_on limit answers lines outputs = ⊥
+
+-- A run stops at a line for this fault: what it takes of the line. One that goes on after refusals stops for none of these.
+abbrev pub StopsFor : {R : Type 0} → Bool → ℕ → (List ℕ → Result (List ℕ) R → Type 0) → Option (List ℕ) → Option (List ℕ) → LineFault R → Type 0
+StopsFor goes_on limit answers input input' (Input TooLong) = (part : List ℕ) × TakesPart input input' part × (length part ≡ limit + 1)
+StopsFor goes_on limit answers input input' (Input Read) = (part : List ℕ) × TakesPart input input' part
+StopsFor goes_on limit answers input input' (Input Memory) = (taken : List ℕ) × Consumes input input' taken
+StopsFor goes_on limit answers input input' fault =
+    (line : List ℕ) × TakesLine input input' line × LineAnswer limit answers line (Err fault) × (goes_on ≡ false)
 
 -- What the call for the next line answers and does: whether there was one, which then is answered.
-abbrev pub StepsLine : {R : Type 0} → ℕ → (List ℕ → Result (List ℕ) R → Type 0) → Option (List ℕ) → Option (List ℕ) → Option (List ℕ) → Option (List ℕ)
+abbrev pub StepsLine : {R : Type 0} → Bool → ℕ → (List ℕ → Result (List ℕ) R → Type 0) → Option (List ℕ) → Option (List ℕ) → Option (List ℕ) → Option (List ℕ)
     → List ℕ → List ℕ → Result Line (StepFault R) → Type 0
-StepsLine limit answers input input' out out' block block' (Ok Ended) =
+StepsLine goes_on limit answers input input' out out' block block' (Ok Ended) =
     (line : List ℕ) × (output : List ℕ) × (t : TakesLine input input' line) × EndsWithLf t.taken
-    × LineAnswer limit answers line (Ok output) × Sends out out' block block' output
-StepsLine limit answers input input' out out' block block' (Ok Last) =
+    × LineOutput goes_on limit answers line output × Sends out out' block block' output
+StepsLine goes_on limit answers input input' out out' block block' (Ok Last) =
     (line : List ℕ) × (output : List ℕ) × (t : TakesLine input input' line) × IsAllOf t.taken input
-    × LineAnswer limit answers line (Ok output) × Sends out out' block block' output
-StepsLine limit answers input input' out out' block block' (Ok Missing) =
+    × LineOutput goes_on limit answers line output × Sends out out' block block' output
+StepsLine goes_on limit answers input input' out out' block block' (Ok Missing) =
     IsAllOf [] input × Consumes input input' [] × (out' ≡ out) × (block' ≡ block)
-StepsLine limit answers input input' out out' block block' (Err (steps.Line fault)) =
-    StopsFor limit answers input input' fault × (out' ≡ out) × (block' ≡ block)
-StepsLine limit answers input input' out out' block block' (Err steps.Write) =
-    (line : List ℕ) × (output : List ℕ) × TakesLine input input' line × LineAnswer limit answers line (Ok output)
+StepsLine goes_on limit answers input input' out out' block block' (Err (steps.Line fault)) =
+    StopsFor goes_on limit answers input input' fault × (out' ≡ out) × (block' ≡ block)
+StepsLine goes_on limit answers input input' out out' block block' (Err steps.Write) =
+    (line : List ℕ) × (output : List ℕ) × TakesLine input input' line × LineOutput goes_on limit answers line output
     × Sends out out' block block' output × (0 < length block')
 
 -- What the call that makes the answer to a line answers: Memory is not said of the line.
@@ -67,13 +84,26 @@ MakesAnswer limit answers line (Err (Input Read)) = ⊥
 MakesAnswer limit answers line (Err (Input TooLong)) = ⊥
 MakesAnswer limit answers line answer = LineAnswer limit answers line answer
 
+-- What the call that passes a line answers, whose fault this is, and leaves in the output.
+abbrev pub Passes : {R : Type 0} → Bool → LineFault R → List ℕ → Result Unit (LineFault R) → Type 0
+Passes goes_on fault output (Ok done) = (goes_on ≡ true) × (is_own fault ≡ true) × (output ≡ 10 ∷ [])
+Passes goes_on fault output (Err other) = (other ≡ Input Memory) ⊎ ((other ≡ fault) × ((goes_on && is_own fault) ≡ false))
+
+-- What the call that makes what is written for a line answers: Memory is not said of the line.
+abbrev pub MakesOutput : {R : Type 0} → Bool → ℕ → (List ℕ → Result (List ℕ) R → Type 0) → List ℕ → Result (List ℕ) (LineFault R) → Type 0
+MakesOutput goes_on limit answers line (Ok output) = LineOutput goes_on limit answers line output
+MakesOutput goes_on limit answers line (Err (Input Memory)) = ⊤
+MakesOutput goes_on limit answers line (Err (Input Read)) = ⊥
+MakesOutput goes_on limit answers line (Err (Input TooLong)) = ⊥
+MakesOutput goes_on limit answers line (Err fault) = LineAnswer limit answers line (Err fault) × (goes_on ≡ false)
+
 -- How a run ends that has answered so many lines: at the end of the input, or at the next line.
-abbrev pub RunEnds : {R : Type 0} → ℕ → (List ℕ → Result (List ℕ) R → Type 0) → ℕ → (at_end : Type 0) → Option (List ℕ) → Option (List ℕ)
+abbrev pub RunEnds : {R : Type 0} → Bool → ℕ → (List ℕ → Result (List ℕ) R → Type 0) → ℕ → (at_end : Type 0) → Option (List ℕ) → Option (List ℕ)
     → Result ℕ (RunFault R) → Type 0
-RunEnds limit answers done at_end input input' (Ok count) = (count ≡ done) × at_end × Consumes input input' []
-RunEnds limit answers done at_end input input' (Err (AtLine line fault)) =
-    (line ≡ done + 1) × StopsFor limit answers input input' fault
-RunEnds limit answers done at_end input input' (Err (Write answered unsent)) =
+RunEnds goes_on limit answers done at_end input input' (Ok count) = (count ≡ done) × at_end × Consumes input input' []
+RunEnds goes_on limit answers done at_end input input' (Err (AtLine line fault)) =
+    (line ≡ done + 1) × StopsFor goes_on limit answers input input' fault
+RunEnds goes_on limit answers done at_end input input' (Err (Write answered unsent)) =
     (answered ≡ done) × ((next : List ℕ) × Consumes input input' next)
 
 -- The bytes of the answers that did not go out: none, but where the writer refused them.
@@ -103,22 +133,22 @@ answered_of (Err (AtLine line fault)) = line - 1
 answered_of (Err (Write answered unsent)) = answered
 
 -- Lines were taken whole from the input, and these are their answers, in order.
-pub record AnswersLines {R : Type 0} (limit : ℕ) (answers : List ℕ → Result (List ℕ) R → Type 0)
+pub record AnswersLines {R : Type 0} (goes_on : Bool) (limit : ℕ) (answers : List ℕ → Result (List ℕ) R → Type 0)
     (input input' : Option (List ℕ)) : Type 0 where
   pub taken : List ℕ
   pub outputs : List (List ℕ)
   pub stands_after : Consumes input input' taken
   pub whole : EndsLine taken ⊎ IsAllOf taken input
-  pub answered : AreAnswers limit answers (lines_of taken) outputs
+  pub answered : AreAnswers goes_on limit answers (lines_of taken) outputs
 
 -- What a run does. Of the input and the writer the record takes what is known before the call and after it.
-pub record RunsLines {R : Type 0} (limit : ℕ) (answers : List ℕ → Result (List ℕ) R → Type 0)
+pub record RunsLines {R : Type 0} (goes_on : Bool) (limit : ℕ) (answers : List ℕ → Result (List ℕ) R → Type 0)
     (input input' out out' : Option (List ℕ)) (answer : Result ℕ (RunFault R)) : Type 0 where
   -- what the input had left once the last line was answered
   pub left : Option (List ℕ)
-  pub lines : AnswersLines limit answers input left
+  pub lines : AnswersLines goes_on limit answers input left
   -- it ends where all of the input was taken, or at the next line
-  pub ends : RunEnds limit answers (length lines.outputs) (IsAllOf lines.taken input) left input' answer
+  pub ends : RunEnds goes_on limit answers (length lines.outputs) (IsAllOf lines.taken input) left input' answer
   -- of the answers these bytes went out, and these did not
   pub sent : List ℕ
   pub unsent : List ℕ
@@ -127,11 +157,11 @@ pub record RunsLines {R : Type 0} (limit : ℕ) (answers : List ℕ → Result (
   pub all_but : AreUnsent unsent answer
 
 -- The same before the last block is written.
-pub record Gathers {R : Type 0} (limit : ℕ) (answers : List ℕ → Result (List ℕ) R → Type 0)
+pub record Gathers {R : Type 0} (goes_on : Bool) (limit : ℕ) (answers : List ℕ → Result (List ℕ) R → Type 0)
     (input input' out out' : Option (List ℕ)) (block block' : List ℕ) (answer : Result ℕ (RunFault R)) : Type 0 where
   pub left : Option (List ℕ)
-  pub lines : AnswersLines limit answers input left
-  pub ends : RunEnds limit answers (length lines.outputs) (IsAllOf lines.taken input) left input' answer
+  pub lines : AnswersLines goes_on limit answers input left
+  pub ends : RunEnds goes_on limit answers (length lines.outputs) (IsAllOf lines.taken input) left input' answer
   pub sends : Sends out out' block block' (concat lines.outputs)
   pub refused : IsRefused block' answer
 
@@ -144,13 +174,13 @@ Counts done more (Err (Write answered unsent)) = answered ≡ done
 -- The headline, for an input of these bytes. What was written are the answers to its first lines, in order, and each is
 -- the answer of the job to that line alone: all lines where the run ended well, and else those before the line at which
 -- it stopped. Where the writer refused, the last bytes of these answers did not go out, as many as are counted.
-pub record WritesAnswers {R : Type 0} (limit : ℕ) (answers : List ℕ → Result (List ℕ) R → Type 0) (text : List ℕ)
+pub record WritesAnswers {R : Type 0} (goes_on : Bool) (limit : ℕ) (answers : List ℕ → Result (List ℕ) R → Type 0) (text : List ℕ)
     (out out' : Option (List ℕ)) (answer : Result ℕ (RunFault R)) : Type 0 where
   pub lines : List (List ℕ)
   pub more : List (List ℕ)
   pub split : lines_of text ≡ lines ++ more
   pub outputs : List (List ℕ)
-  pub answered : AreAnswers limit answers lines outputs
+  pub answered : AreAnswers goes_on limit answers lines outputs
   pub counts : Counts (length lines) more answer
   pub sent : List ℕ
   pub unsent : List ℕ

@@ -1,14 +1,16 @@
 //! A run over the lines of an input.
 
-ghost use Rattle.std.specs.Prelude.{◌≡◌, ◌≤◌, ℕ, List, length, IfSome};
+ghost use Rattle.std.specs.Prelude.{◌≡◌, ◌≤◌, ℕ, List, length, IfSome, true, false};
 ghost use Rattle.key_lines.specs.Answers.{made};
-ghost use Rattle.key_lines.specs.Running.{Gathers, MakesAnswer, RunsLines, StepsLine};
-ghost use Rattle.key_lines.specs.Running.{WritesAnswers, answered_of, is_write, run_fault_of};
+ghost use Rattle.key_lines.specs.Running.{Gathers, MakesAnswer, MakesOutput, Passes, RunsLines};
+ghost use Rattle.key_lines.specs.Running.{StepsLine, WritesAnswers, answered_of, is_own, is_write};
+ghost use Rattle.key_lines.specs.Running.{run_fault_of};
 
 use crate::block::{PutFault, put, send};
 use crate::fault::{LineFault, RunFault};
 use crate::job::{LineJob, Outcome};
 use crate::line::{Line, read_line};
+use crate::log::{NoLog, RefusalLog};
 use key_files::{FileFault, MAX_FILE, decode_hex_into};
 use std::alloc::Global;
 use std::io::{BufRead, Write};
@@ -34,15 +36,52 @@ pub fn run_lines<J: LineJob, R: BufRead, W: Write>(
     input: &mut R,
     out: &mut W,
 ) -> Result<u64, RunFault<J::Refusal>>
-    ensures run { RunsLines 4194304 (J.answers job.now) (R.remaining input.old)
+    ensures run { RunsLines false 4194304 (J.answers job.now) (R.remaining input.old)
         (R.remaining input.new) (W.contents out.old) (W.contents out.new) result }
     // What was written are the answers to the first lines of the input, in order: to all of them,
     // or to those before the line at which the call stopped.
-    ensures headline { IfSome (R.remaining input.old) (λ text. WritesAnswers 4194304
+    ensures headline { IfSome (R.remaining input.old) (λ text. WritesAnswers false 4194304
+        (J.answers job.now) text (W.contents out.old) (W.contents out.new) result) }
+{
+    run(alloc, job, false, &NoLog, input, out)
+}
+
+/// [`run_lines`], but it goes on after a line that is refused for itself: an empty line stands for
+/// its answer, and `log` is told, once, before the line is written.
+///
+/// The run still stops at a line that is too long or cannot be read, and where a growth or a write
+/// was refused.
+pub fn run_all_lines<J: LineJob, L: RefusalLog<J::Refusal>, R: BufRead, W: Write>(
+    alloc: Global,
+    job: &J,
+    log: &L,
+    input: &mut R,
+    out: &mut W,
+) -> Result<u64, RunFault<J::Refusal>>
+    ensures run { RunsLines true 4194304 (J.answers job.now) (R.remaining input.old)
+        (R.remaining input.new) (W.contents out.old) (W.contents out.new) result }
+    ensures headline { IfSome (R.remaining input.old) (λ text. WritesAnswers true 4194304
+        (J.answers job.now) text (W.contents out.old) (W.contents out.new) result) }
+{
+    run(alloc, job, true, log, input, out)
+}
+
+// A run that goes on after refusals, or not.
+fn run<J: LineJob, L: RefusalLog<J::Refusal>, R: BufRead, W: Write>(
+    alloc: Global,
+    job: &J,
+    goes_on: bool,
+    log: &L,
+    input: &mut R,
+    out: &mut W,
+) -> Result<u64, RunFault<J::Refusal>>
+    ensures run { RunsLines goes_on 4194304 (J.answers job.now) (R.remaining input.old)
+        (R.remaining input.new) (W.contents out.old) (W.contents out.new) result }
+    ensures headline { IfSome (R.remaining input.old) (λ text. WritesAnswers goes_on 4194304
         (J.answers job.now) text (W.contents out.old) (W.contents out.new) result) }
 {
     let mut block = Vec::new(alloc);
-    let gathered = gather(alloc, job, input, out, &mut block);
+    let gathered = gather(alloc, job, goes_on, log, input, out, &mut block);
     if is_write(&gathered) {
         return gathered;
     }
@@ -74,15 +113,18 @@ fn answered<R>(gathered: &Result<u64, RunFault<R>>) -> u64
 }
 
 // Answers each line. What the block has at the end is not written.
-fn gather<J: LineJob, R: BufRead, W: Write>(
+fn gather<J: LineJob, L: RefusalLog<J::Refusal>, R: BufRead, W: Write>(
     alloc: Global,
     job: &J,
+    goes_on: bool,
+    log: &L,
     input: &mut R,
     out: &mut W,
     block: &mut Vec<u8>,
 ) -> Result<u64, RunFault<J::Refusal>>
-    ensures { Gathers 4194304 (J.answers job.now) (R.remaining input.old) (R.remaining input.new)
-        (W.contents out.old) (W.contents out.new) block.old.items block.new.items result }
+    ensures { Gathers goes_on 4194304 (J.answers job.now) (R.remaining input.old)
+        (R.remaining input.new) (W.contents out.old) (W.contents out.new)
+        block.old.items block.new.items result }
 {
     let mut line = Vec::new(alloc);
     let mut bytes = Vec::new(alloc);
@@ -91,6 +133,9 @@ fn gather<J: LineJob, R: BufRead, W: Write>(
         match run_line(
             alloc,
             job,
+            goes_on,
+            log,
+            done + 1,
             input,
             &mut line,
             &mut bytes,
@@ -124,9 +169,12 @@ fn run_fault<R>(step: StepFault<R>, line: u64, unsent: usize) -> RunFault<R>
 }
 
 // Answers the next line, where there is one.
-fn run_line<J: LineJob, R: BufRead, W: Write>(
+fn run_line<J: LineJob, L: RefusalLog<J::Refusal>, R: BufRead, W: Write>(
     alloc: Global,
     job: &J,
+    goes_on: bool,
+    log: &L,
+    number: u64,
     input: &mut R,
     line: &mut Vec<u8>,
     bytes: &mut Vec<u8>,
@@ -134,7 +182,7 @@ fn run_line<J: LineJob, R: BufRead, W: Write>(
     out: &mut W,
     block: &mut Vec<u8>,
 ) -> Result<Line, StepFault<J::Refusal>>
-    ensures { StepsLine 4194304 (J.answers job.now) (R.remaining input.old)
+    ensures { StepsLine goes_on 4194304 (J.answers job.now) (R.remaining input.old)
         (R.remaining input.new) (W.contents out.old) (W.contents out.new)
         block.old.items block.new.items result }
 {
@@ -145,7 +193,7 @@ fn run_line<J: LineJob, R: BufRead, W: Write>(
     if let Line::Missing = met {
         return Ok(Line::Missing);
     }
-    if let Err(fault) = answer_line(alloc, job, line, bytes, output) {
+    if let Err(fault) = output_of(alloc, job, goes_on, log, number, line, bytes, output) {
         return Err(StepFault::Line(fault));
     }
     match put(out, block, output) {
@@ -153,6 +201,58 @@ fn run_line<J: LineJob, R: BufRead, W: Write>(
         Err(PutFault::Memory) => Err(StepFault::Line(LineFault::Input(FileFault::Memory))),
         Err(PutFault::Write) => Err(StepFault::Write),
     }
+}
+
+// What is written for a line, in `output`.
+fn output_of<J: LineJob, L: RefusalLog<J::Refusal>>(
+    alloc: Global,
+    job: &J,
+    goes_on: bool,
+    log: &L,
+    number: u64,
+    line: &[u8],
+    bytes: &mut Vec<u8>,
+    output: &mut Vec<u8>,
+) -> Result<(), LineFault<J::Refusal>>
+    requires { length line.now ≤ 4194304 }
+    ensures { MakesOutput goes_on 4194304 (J.answers job.now) line.now
+        (made output.new.items result) }
+{
+    match answer_line(alloc, job, line, bytes, output) {
+        Ok(()) => Ok(()),
+        Err(fault) => pass(goes_on, log, number, fault, output),
+    }
+}
+
+// Passes a line that was refused: tells the log, and makes an empty line of its answer.
+fn pass<F: Drop, L: RefusalLog<F>>(
+    goes_on: bool,
+    log: &L,
+    number: u64,
+    fault: LineFault<F>,
+    output: &mut Vec<u8>,
+) -> Result<(), LineFault<F>>
+    ensures { Passes goes_on fault output.new.items result }
+{
+    if !(goes_on && is_own(&fault)) {
+        return Err(fault);
+    }
+    log.tell(number, &fault);
+    output.clear();
+    if output.push(b'\n').is_err() {
+        return Err(LineFault::Input(FileFault::Memory));
+    }
+    Ok(())
+}
+
+// Whether a line is refused for itself.
+fn is_own<F>(fault: &LineFault<F>) -> bool
+    ensures { result ≡ is_own fault.now }
+{
+    matches!(
+        fault,
+        LineFault::Refused(_) | LineFault::Input(FileFault::BadDigit { .. } | FileFault::OddDigits)
+    )
 }
 
 // The answer to a line, in `output`.

@@ -2,9 +2,10 @@
 
 ghost use Rattle.std.specs.Prelude.{⊤};
 
-use crate::{LineJob, Outcome};
+use crate::{LineFault, LineJob, Outcome, RefusalLog};
 use key_files::print_hex;
 use std::alloc::Global;
+use std::cell::Cell;
 use std::io::{self, Read, Write};
 
 /// Gives one byte a read. One read fails, and those after it go on.
@@ -92,5 +93,28 @@ impl LineJob for Echo {
             text if print_hex(text, output).is_ok() => Outcome::Answer,
             _ => Outcome::Memory,
         }
+    }
+}
+
+/// Counts the refusals that it is told, and keeps the last line's number.
+#[derive(Drop)]
+pub struct Told {
+    pub count: Cell<u64>,
+    pub last: Cell<u64>,
+}
+
+impl Told {
+    pub fn new() -> Self {
+        Told {
+            count: Cell::new(0),
+            last: Cell::new(0),
+        }
+    }
+}
+
+impl<F> RefusalLog<F> for Told {
+    fn tell(&self, line: u64, _fault: &LineFault<F>) {
+        self.count.set(self.count.get().saturating_add(1));
+        self.last.set(line);
     }
 }

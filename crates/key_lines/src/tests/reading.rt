@@ -1,6 +1,5 @@
-//! Lines of every length about the limit and the reader's buffer, and reads and growths that fail.
+//! Lines of every length about the limit and the reader's buffer, and growths that are refused.
 
-use super::doubles::Trickle;
 use crate::{Line, read_line};
 use key_files::FileFault;
 use linked_list_allocator::LocalHeap;
@@ -39,7 +38,7 @@ fn reads_each_line(rt: HostRuntime) -> Result<(), Fail> {
 }
 
 // The limit, and then lines of fewer bytes, as many, and one more, each with an LF and without.
-static LIMITED: [(usize, usize, Result<Line, FileFault>); 10] = [
+static LIMITED: [(u16, usize, Result<Line, FileFault>); 10] = [
     (0, 0, Ok(Line::Ended)),
     (0, 1, Err(FileFault::TooLong)),
     (1, 0, Ok(Line::Ended)),
@@ -60,26 +59,12 @@ fn refuses_one_byte_past_the_limit(rt: HostRuntime) -> Result<(), Fail> {
         text.extend_from_slice(b"\nb")?;
         let mut reader = BufReader::with_capacity(rt.alloc(), 4_096, text.as_slice())?;
         let mut line = Vec::new(rt.alloc());
-        let met = read_line(&mut reader, &mut line, limit);
+        let met = read_line(&mut reader, &mut line, limit as usize);
         assert!(rt; met == want && line.len() == len, "{len} bytes of {limit}");
         if met.is_ok() {
             let last = read_line(&mut reader, &mut line, 1)?;
             assert!(rt; last == Line::Last && line.as_slice() == b"b".as_slice());
         }
-    }
-    Ok(())
-}
-
-#[test]
-fn answers_read_where_a_read_fails(rt: HostRuntime) -> Result<(), Fail> {
-    for reads in 0..4 {
-        let mut reader = BufReader::new(rt.alloc(), Trickle::new(b"abc\nd\n", reads))?;
-        let mut line = Vec::new(rt.alloc());
-        let met = read_line(&mut reader, &mut line, 9);
-        assert!(rt;
-            met == Err(FileFault::Read) && line.len() == reads,
-            "after {reads} reads"
-        );
     }
     Ok(())
 }

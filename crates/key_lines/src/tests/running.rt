@@ -1,7 +1,7 @@
 //! Runs that answer each line, that stop at one, and whose output is refused at each byte.
 
-use super::doubles::{Echo, Narrow, Trickle};
-use crate::{LineFault, RunFault, run_lines};
+use super::doubles::{Echo, Narrow, Told, Trickle};
+use crate::{LineFault, RunFault, run_all_lines, run_lines};
 use key_files::FileFault;
 use std::io::BufReader;
 use std::test::Fail;
@@ -71,6 +71,43 @@ fn answers_the_lines_before_the_first_refused_one(rt: HostRuntime) -> Result<(),
                 "of {text:?}"
             );
         }
+    }
+    Ok(())
+}
+
+// The text, what a run that goes on answers and writes, how many refusals it tells, and of which
+// line it tells last.
+static PASSED: [(&[u8], Result<u64, RunFault<u8>>, &[u8], u64, u64); 4] = [
+    (b"00\n01", Ok(2), b"00\n01\n", 0, 0),
+    (b"00\n0g\nff\n0\n01", Ok(5), b"00\n\n\n\n01\n", 3, 4),
+    (b"ff", Ok(1), b"\n", 1, 1),
+    (
+        b"0g\nfe\n00\n",
+        Err(RunFault::AtLine {
+            line: 2,
+            fault: LineFault::Input(FileFault::Memory),
+        }),
+        b"\n",
+        1,
+        1,
+    ),
+];
+
+#[test]
+fn goes_on_after_refused_lines(rt: HostRuntime) -> Result<(), Fail> {
+    for (text, want, written, count, last) in &PASSED {
+        let mut input: &[u8] = text;
+        let mut out = Vec::new(rt.alloc());
+        let told = Told::new();
+        let answer = run_all_lines(rt.alloc(), &Echo, &told, &mut input, &mut out);
+        assert!(rt;
+            answer == *want && out.as_slice() == *written,
+            "of {text:?}"
+        );
+        assert!(rt;
+            told.count.get() == *count && told.last.get() == *last,
+            "of {text:?}"
+        );
     }
     Ok(())
 }
