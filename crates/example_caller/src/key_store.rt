@@ -8,7 +8,7 @@ use block_pair::BlockPair;
 use key_wrap::{UnwrapFault, WrapFault, unwrap, wrap};
 use std::alloc::Global;
 
-/// What is stored of `key`: its text.
+/// What is stored of `key`: its wrapping.
 pub fn store<B: BlockPair>(alloc: Global, pair: &B, key: &[u8]) -> Result<Vec<u8>, WrapFault>
     ensures bad_length { (result ≡ Err WrapFault.BadLength) ↔ ¬ IsPlainKeyLength (length key.now) }
     ensures stored { IfOk result (λ text. IsStored (B.encrypted pair.now) key.now text.items) }
@@ -16,7 +16,7 @@ pub fn store<B: BlockPair>(alloc: Global, pair: &B, key: &[u8]) -> Result<Vec<u8
     wrap(alloc, pair, key)
 }
 
-/// The key of which this text is stored.
+/// The key of which `text` is stored.
 pub fn load<B: BlockPair>(alloc: Global, pair: &B, text: &[u8]) -> Result<Vec<u8>, UnwrapFault>
     ensures stored { IfOk result (λ loaded.
         IsStored (B.encrypted pair.now) loaded.items text.now) }

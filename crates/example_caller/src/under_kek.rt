@@ -12,21 +12,21 @@ use key_wrap::{UnwrapFault, WrapFault, unwrap, wrap};
 use std::alloc::Global;
 use thiserror::Error;
 
-/// Why a key is not wrapped, or a text not unwrapped.
+/// Why a key is not wrapped, or a wrapped key not unwrapped.
 #[derive(Clone, Copy, Debug, PartialEq, Eq, Error)]
 pub enum Refusal {
-    /// The KEK has no legal length.
+    /// The KEK is not 16, 24 or 32 bytes.
     #[error("KEK: {0}")]
     Kek(#[from] BadKekLength),
     /// The key is not wrapped.
     #[error("wrapping: {0}")]
     Wrap(WrapFault),
-    /// The text is not unwrapped.
+    /// The wrapped key is not unwrapped.
     #[error("unwrapping: {0}")]
     Unwrap(UnwrapFault),
 }
 
-/// The text of `key` under the KEK `kek`.
+/// `key`, wrapped under the KEK `kek`.
 pub fn wrap_under(alloc: Global, kek: &[u8], key: &[u8]) -> Result<Vec<u8>, Refusal>
     ensures answer { IfOk result (λ text. IsKekLength (length kek.now)
         × Plain (cipher kek.now) default_iv key.now text.items) }
@@ -37,7 +37,7 @@ pub fn wrap_under(alloc: Global, kek: &[u8], key: &[u8]) -> Result<Vec<u8>, Refu
     wrap(alloc, &aes, key).map_err(Refusal::Wrap)
 }
 
-/// A key whose text under the KEK `kek` this is, or `None` where it is the text of no key.
+/// The key that `text` wraps under the KEK `kek`, or `None` where it wraps no key.
 pub fn unwrap_under(alloc: Global, kek: &[u8], text: &[u8]) -> Result<Option<Vec<u8>>, Refusal>
     ensures answer { IfOk result (λ found. IsKekLength (length kek.now) × MatchOption found
         (NoKey (Plain (cipher kek.now) default_iv) text.now)
