@@ -25,11 +25,7 @@ pub fn decode_hex(alloc: Global, text: &[u8]) -> Result<Vec<u8>, FileFault>
 
 /// [`decode_hex`] into `bytes`, whatever stood there: a text of digits alone, as most are, is decoded
 /// in the room that `bytes` has.
-pub fn decode_hex_into(
-    alloc: Global,
-    text: &[u8],
-    bytes: &mut Vec<u8>,
-) -> Result<(), FileFault>
+pub fn decode_hex_into(alloc: Global, text: &[u8], bytes: &mut Vec<u8>) -> Result<(), FileFault>
     ensures bytes { OnOk result (hex_meaning text.now ≡ Ok bytes.new.items) }
     ensures refused { (fault : FileFault) → fault ≢ FileFault.Memory
         → (result ≡ Err fault) ↔ (hex_meaning text.now ≡ Err fault) }
