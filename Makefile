@@ -33,7 +33,7 @@ for_zsh = $(share)/zsh/site-functions
 for_fish = $(share)/fish/vendor_completions.d
 
 .PHONY: help version build library test install uninstall install-command uninstall-command \
-    install-library uninstall-library wheel dist dist-library bench clean
+    install-library uninstall-library wheel dist dist-command dist-library bench clean
 
 help:
 	@echo 'make build              proves and builds the program, where that is not done'
@@ -44,11 +44,12 @@ help:
 	@echo 'make install-command    installs the program, its manual page, and completions for bash, zsh and fish'
 	@echo 'make install-library    installs the C library: in lib, include and lib/pkgconfig'
 	@echo 'make uninstall          removes what make install put there (uninstall-command, uninstall-library: theirs)'
-	@echo 'make dist               packs what make install-command installs, for machines without the kit, as'
+	@echo 'make dist               packs the two below, for machines without the kit'
+	@echo 'make dist-command       packs what make install-command installs, as'
 	@echo '                        $(DIST)/keywrap-$(version)-x86_64-linux.tar.gz, with its SHA-256'
 	@echo 'make dist-library       packs what make install-library installs, there, and puts the wheel beside it'
 	@echo 'make version            writes the version'
-	@echo 'make bench              how long a wrap takes, beside OpenSSL, nettle and C'
+	@echo 'make bench              how long a wrap takes, beside OpenSSL, nettle, C and pyca'
 	@echo 'make clean              removes what was built'
 
 version:
@@ -124,12 +125,15 @@ uninstall-library:
 	rm -f '$(lib)/libkeywrap.a' '$(lib)/$(shared)' '$(lib)/$(soname)' '$(lib)/libkeywrap.so' \
 	    '$(include)/keywrap.h' '$(lib)/pkgconfig/keywrap.pc'
 
-dist: build
+dist: dist-command dist-library
+
+dist-command: build
 	scripts/dist.sh '$(PROGRAM)' '$(version)' '$(DIST)'
 
-bench: build library
+bench: build library wheel
 	bench/wrap '$(LIBRARY)/libkeywrap.a'
 	bench/startup '$(PROGRAM)'
+	$(PYTHON) python/bench.py '$(wheel)'
 
 clean:
 	rm -rf crates/*/out out

@@ -1,7 +1,7 @@
 #!/bin/sh
 # Packs the built program, its manual page and its completions into an archive for machines that have
 # no kit: FOLDER/keywrap-VERSION-x86_64-linux.tar.gz, with its SHA-256 beside it. Of the same files it
-# makes the same archive, byte for byte: `make dist` calls it.
+# makes the same archive, byte for byte: `make dist-command` calls it.
 #
 # usage: scripts/dist.sh PROGRAM VERSION FOLDER
 

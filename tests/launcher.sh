@@ -272,7 +272,7 @@ while read -r target check; do
 done <<END_OF_TARGETS
 build as_built $built
 install-command as_built to/bin/keywrap
-dist in_archive
+dist-command in_archive
 END_OF_TARGETS
 
 # library NAME NOTE..: make library calls rt for these.

@@ -1,6 +1,6 @@
 #!/usr/bin/env bash
 # Holds the manual page and the completions against the program's help, both ways, so that none
-# falls behind; runs the page's examples; tries make install, make uninstall and make dist, on a
+# falls behind; runs the page's examples; tries make install, make uninstall and make dist-command, on a
 # program that is built; and holds docs/LIBRARY.md against the crate that it shows. A part whose tool
 # is not there is skipped, with a line that says what to install.
 #
@@ -277,12 +277,12 @@ if has cc gcc 'make install with the C library'; then
     same 'make uninstall leaves nothing' '' "$(files_of "$stage/usr")"
 fi
 
-### make dist
+### make dist-command
 
 name=keywrap-$version-x86_64-linux
 # dist FOLDER: packs into a folder.
-dist() { made dist DIST="$room/$1"; }
-row 'make dist' dist first
+dist() { made dist-command DIST="$room/$1"; }
+row 'make dist-command' dist first
 row 'its checksum' env -C first sha256sum -c "$name.tar.gz.sha256"
 same 'what it makes' "$name.tar.gz"$'\n'"$name.tar.gz.sha256" "$(ls first)"
 row 'it unpacks' tar -xpzf "first/$name.tar.gz"
@@ -292,9 +292,9 @@ row 'the packed README names the version' grep -q "^keywrap $version:" "$name/RE
 # packs_of_root: each packed file is root's.
 packs_of_root() { tar -tvzf "first/$name.tar.gz" >listed && ! grep -v ' 0/0 ' listed; }
 row 'the packed files have no owner of this machine' packs_of_root
-row 'make dist, later and by another umask' sh -c 'umask 077; sleep 1; "$@"' sh make -s -o build -C "$root" dist \
-    PROGRAM="$program" DIST="$room/second"
-row 'make dist makes the same archive again' cmp "first/$name.tar.gz" "second/$name.tar.gz"
+row 'make dist-command, later and by another umask' sh -c 'umask 077; sleep 1; "$@"' sh make -s -o build -C "$root" \
+    dist-command PROGRAM="$program" DIST="$room/second"
+row 'make dist-command makes the same archive again' cmp "first/$name.tar.gz" "second/$name.tar.gz"
 
 # What the README says that the program needs, and a folder that holds nothing else.
 needs() { ldd "$name/bin/keywrap" | sed -E 's/ \(0x.*//; s/.* => //; s/^\t//'; }

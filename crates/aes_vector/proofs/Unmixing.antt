@@ -31,13 +31,13 @@ module _ (f : ℕ → ℕ → ℕ) (g : ℕ → ℕ → ℕ) (hf : (r c : ℕ) �
       ∷ affine_element (bit_xor (bit_xor (bit_xor (fourteen (f 3 c3)) (g 3 c0)) (eleven (f 0 c0))) (bit_xor (thirteen (f 1 c1)) (nine (f 2 c2))))
       ∷ xs
       ≡ bit_xor (bit_xor (bit_xor (bit_xor (inv_times 14 (f 0 c0)) (inv_times 11 (f 1 c1))) (inv_times 13 (f 2 c2))) (inv_times 9 (f 3 c3)))
-          (affine_element (g 0 c0))
+      (affine_element (g 0 c0))
       ∷ bit_xor (bit_xor (bit_xor (bit_xor (inv_times 9 (f 0 c0)) (inv_times 14 (f 1 c1))) (inv_times 11 (f 2 c2))) (inv_times 13 (f 3 c3)))
-          (affine_element (g 1 c0))
+      (affine_element (g 1 c0))
       ∷ bit_xor (bit_xor (bit_xor (bit_xor (inv_times 13 (f 0 c0)) (inv_times 9 (f 1 c1))) (inv_times 14 (f 2 c2))) (inv_times 11 (f 3 c3)))
-          (affine_element (g 2 c0))
+      (affine_element (g 2 c0))
       ∷ bit_xor (bit_xor (bit_xor (bit_xor (inv_times 11 (f 0 c0)) (inv_times 13 (f 1 c1))) (inv_times 9 (f 2 c2))) (inv_times 14 (f 3 c3)))
-          (affine_element (g 3 c0))
+      (affine_element (g 3 c0))
       ∷ ys
   inv_column_lanes c0 c1 c2 c3 rest =
       let a = f 0 c0 in
@@ -55,7 +55,7 @@ module _ (f : ℕ → ℕ → ℕ) (g : ℕ → ℕ → ℕ) (hf : (r c : ℕ) �
       (inv_lane c d a b (g 2 c0) hc hd ha hb (hg 2 c0)
       ∙ ap (λ (x : ℕ). bit_xor x (affine_element (g 2 c0)))
       (turned_sum (inv_times 9 b) (inv_times 14 c) (inv_times 11 d) (inv_times 13 a) ∙ turned_sum (inv_times 13 a) (inv_times 9 b) (inv_times 14 c)
-          (inv_times 11 d)))
+      (inv_times 11 d)))
       (inv_lane d a b c (g 3 c0) hd ha hb hc (hg 3 c0)
       ∙ ap (λ (x : ℕ). bit_xor x (affine_element (g 3 c0))) (sym (turned_sum (inv_times 14 d) (inv_times 11 a) (inv_times 13 b) (inv_times 9 c))))
       rest
@@ -114,7 +114,7 @@ inv_round_of k s v0 v1 v2 v3 hk hs e0 e1 e2 e3 r0 r1 r2 r3 =
     (ap₂ (zip2 bit_xor) (r2 ∙ ap (λ (v : List ℕ). turned 2 (inv_shift_rows v)) e2) (r3 ∙ ap (λ (v : List ℕ). turned 3 (inv_shift_rows v)) e3)))
     ∙ by_states
     (λ k s. map affine_element (inv_vector_round k s) ≡ add_round_key (map affine_element k)
-        (inv_mix_columns (inv_sub_bytes (inv_shift_rows (map affine_element s)))))
+    (inv_mix_columns (inv_sub_bytes (inv_shift_rows (map affine_element s)))))
     k s hk hs inv_round_states
 
 pub last_round_of : (k s v : List ℕ) {p : List ℕ} → IsVector k → IsVector s → v ≡ map (found S_I S_J) s → p ≡ shift_rows v
@@ -128,4 +128,4 @@ pub inv_last_round_of : (k s v : List ℕ) {p : List ℕ} → IsVector k → IsV
 inv_last_round_of k s v hk hs e r =
     ap (λ (v : List ℕ). zip2 bit_xor v k) (r ∙ ap inv_shift_rows e)
     ∙ by_states (λ k s. zip2 bit_xor (inv_shift_rows (map (found INV_S_I INV_S_J) s)) k ≡ add_round_key k
-        (inv_sub_bytes (inv_shift_rows (map affine_element s)))) k s hk hs inv_last_states
+    (inv_sub_bytes (inv_shift_rows (map affine_element s)))) k s hk hs inv_last_states

@@ -1,9 +1,9 @@
 -- Files within their limit and past it, and which faults a hex text has.
 use Rattle.std.proofs.Common.{◌≡◌, ◌≢◌, ◌<◌, ◌≤◌, ◌%◌, ℕ, List, length, Option, Some, None, Result, Ok, Err, arith, refl, sym, ap, subst}
-use Rattle.std.specs.Prelude.{◌↔◌, IsErrAnd}
+use Rattle.std.specs.Prelude.{IsErrAnd}
 use Rattle.std.proofs.lemmas.Bool.Decides.{nat_tests}
 use Rattle.key_files.specs.declared.fault.FileFault.{FileFault}
-use Rattle.key_files.specs.declared.fault.FileFault.TheVariants.{TooLong, BadDigit, OddDigits, Memory}
+use Rattle.key_files.specs.declared.fault.FileFault.TheVariants.{Read, TooLong, BadDigit, OddDigits, Memory}
 use Rattle.std.specs.declared.vec.Vec.{Vec}
 use Rattle.key_files.specs.Decoding.{DecodesHex}
 use Rattle.key_files.specs.Meaning.{file_meaning, hex_meaning, digits_meaning}
@@ -44,6 +44,15 @@ digits_meaning-never_long None digits h = grind (arith, nat_tests)
 pub hex_meaning-never_long : (text : List ℕ) → hex_meaning text ≢ Err TooLong
 unfolding hex_meaning
 hex_meaning-never_long text h = digits_meaning-never_long (first_bad text) (digits_of text) h
+
+-- nor is it one that cannot be read
+digits_meaning-never_read : (bad : Option ℕ) (digits : List ℕ) → digits_meaning bad digits ≢ Err Read
+digits_meaning-never_read (Some at) digits h = cc h
+digits_meaning-never_read None digits h = grind (arith, nat_tests)
+
+pub hex_meaning-never_read : (text : List ℕ) → hex_meaning text ≢ Err Read
+unfolding hex_meaning
+hex_meaning-never_read text h = digits_meaning-never_read (first_bad text) (digits_of text) h
 
 -- no first bad byte was found
 pub none_from : (found : Option ℕ) → ((at : ℕ) → found ≢ Some at) → found ≡ None

@@ -3,3 +3,4 @@ mod Denoting
 mod Pairs
 mod ReadBack
 mod Whole
+mod Strict

@@ -22,12 +22,12 @@ value_at-ok : (c i value : ℕ) → value_at c i ≡ Ok value → value ≡ digi
 value_at-ok c i value h = digit_read c i value (hex_digit_value c) refl h
 
 -- what an `Ok` after two steps shows
-bind_ok : {A B : Type 0} (r : Result A FromHexError) (f : A → Result B FromHexError) (y : B) → (r >>= f) ≡ Ok y
+pub bind_ok : {A B : Type 0} (r : Result A FromHexError) (f : A → Result B FromHexError) (y : B) → (r >>= f) ≡ Ok y
     → (x : A) × (r ≡ Ok x) × (f x ≡ Ok y)
 bind_ok (Ok x) f y h = (x, refl, h)
 bind_ok (Err e) f y h = cc h
 
-decode_pairs-paired : (i : ℕ) (digits bytes : List ℕ) → decode_pairs i digits ≡ Ok bytes → bytes ≡ paired digits
+pub decode_pairs-paired : (i : ℕ) (digits bytes : List ℕ) → decode_pairs i digits ≡ Ok bytes → bytes ≡ paired digits
 unfolding decode_pairs paired
 decode_pairs-paired i [] bytes h = cc
 decode_pairs-paired i (digit ∷ []) bytes h = cc h

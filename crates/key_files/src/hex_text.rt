@@ -1,6 +1,6 @@
 //! The hex notation.
 
-ghost use Rattle.std.specs.Prelude.{◌≡◌, ◌≢◌, ◌↔◌, length, IsOk, IfOk, Err, Ok};
+ghost use Rattle.std.specs.Prelude.{◌≡◌, ◌≢◌, ◌↔◌, length, IsOk, IfOk, OnOk, Err, Ok, true};
 ghost use Rattle.key_files.specs.Decoding.{DecodesHex};
 ghost use Rattle.key_files.specs.HexText.{digits_of, first_bad, is_skipped, paired};
 ghost use Rattle.key_files.specs.Meaning.{hex_meaning};
@@ -21,6 +21,36 @@ pub fn decode_hex(alloc: Global, text: &[u8]) -> Result<Vec<u8>, FileFault>
     ensures memory { result ≡ Err FileFault.Memory → IsOk (hex_meaning text.now) }
 {
     decode_hex_in(alloc, text)
+}
+
+/// [`decode_hex`] into `bytes`, whatever stood there: a text of digits alone, as most are, is decoded
+/// in the room that `bytes` has.
+pub fn decode_hex_into(alloc: Global, text: &[u8], bytes: &mut Vec<u8>) -> Result<(), FileFault>
+    ensures bytes { OnOk result (hex_meaning text.now ≡ Ok bytes.new.items) }
+    ensures refused { (fault : FileFault) → fault ≢ FileFault.Memory
+        → (result ≡ Err fault) ↔ (hex_meaning text.now ≡ Err fault) }
+    ensures memory { result ≡ Err FileFault.Memory → IsOk (hex_meaning text.now) }
+    // Only BadDigit, OddDigits and Memory are answered.
+    ensures readable { result ≢ Err FileFault.Read }
+    ensures short { result ≢ Err FileFault.TooLong }
+{
+    if bytes.resize(text.len() / 2, 0).is_ok() && decode_strict(text, bytes) {
+        return Ok(());
+    }
+    match decode_hex(alloc, text) {
+        Ok(decoded) => {
+            *bytes = decoded;
+            Ok(())
+        }
+        Err(fault) => Err(fault),
+    }
+}
+
+// Whether the text is digits alone, two for each of the bytes, which they then spell.
+fn decode_strict(text: &[u8], bytes: &mut [u8]) -> bool
+    ensures { result ≡ true → hex_meaning text.now ≡ Ok bytes.new }
+{
+    hex::decode_to_slice(text, bytes).is_ok()
 }
 
 // `decode_hex` on any allocator, so that a test can refuse each growth.

@@ -9,9 +9,9 @@ mod read;
 mod write;
 
 pub use fault::{FileFault, HexWriteFault, WriteFault};
-pub use hex_text::decode_hex;
+pub use hex_text::{decode_hex, decode_hex_into};
 pub use read::{MAX_FILE, read_hex, read_raw};
-pub use write::{write_hex, write_raw};
+pub use write::{print_hex, write_hex, write_raw};
 
 #[cfg(test)]
 mod tests;

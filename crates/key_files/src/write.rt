@@ -7,7 +7,7 @@ ghost use Rattle.key_files.specs.Meaning.{hex_meaning};
 ghost use Rattle.key_files.specs.Writing.{WritesHex};
 
 use crate::fault::{HexWriteFault, WriteFault};
-use std::alloc::{Allocator, Global};
+use std::alloc::{AllocError, Allocator, Global};
 use std::io::Write;
 
 /// Writes the bytes, and does not flush.
@@ -48,6 +48,21 @@ pub fn write_hex<W: Write>(alloc: Global, writer: &mut W, bytes: &[u8]) -> Resul
     ensures read_back { hex_meaning (hex_line bytes.now) ≡ Ok bytes.now }
 {
     write_hex_in(alloc, writer, bytes)
+}
+
+/// The line that [`write_hex`] writes, in `line`, whatever stood there.
+pub fn print_hex(bytes: &[u8], line: &mut Vec<u8>) -> Result<(), AllocError>
+    ensures { OnOk result (line.new.items ≡ hex_line bytes.now) }
+{
+    let Some(len) = bytes.len().checked_mul(2) else {
+        return Err(AllocError);
+    };
+    line.resize(len, 0)?;
+    if hex::encode_to_slice(bytes, line).is_err() {
+        return Err(AllocError);
+    }
+    line.push(b'\n')?;
+    Ok(())
 }
 
 // `write_hex` on any allocator, so that a test can refuse each growth.

@@ -15,7 +15,7 @@ lowest a b c d rest ha hb hc hd = omega arith
 four_lanes : (w m rest : ℕ) →
     let n = w + 4294967296 * m in
     (s_box (n % 256) + 256 * (s_box (n / 256 % 256) + 256 *
-        (s_box (n / 256 / 256 % 256) + 256 * (s_box (n / 256 / 256 / 256 % 256) + 256 * rest)))) % 4294967296
+    (s_box (n / 256 / 256 % 256) + 256 * (s_box (n / 256 / 256 / 256 % 256) + 256 * rest)))) % 4294967296
     ≡ s_box (w / 16777216 % 256) * 16777216 + s_box (w / 65536 % 256) * 65536 + s_box (w / 256 % 256) * 256 + s_box (w % 256)
 four_lanes w m rest =
     let n = w + 4294967296 * m in

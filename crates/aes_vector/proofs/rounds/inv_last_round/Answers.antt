@@ -7,4 +7,4 @@ pub returns : goal.returns
 returns c =
     let at = c.inverted-at.ensures in
     inv_last_round_of c.args.key c.args.state c.looked_up-found.result c.fits-key c.fits-state
-        (finds INV_S_I INV_S_J c.args.state at.i at.j c.looked_up-found.ensures) c.inv_rows_0.ensures
+    (finds INV_S_I INV_S_J c.args.state at.i at.j c.looked_up-found.ensures) c.inv_rows_0.ensures

@@ -5,8 +5,13 @@ use Rattle.aes_vector.proofs.rows.inv_rows_3.Goals as goal
 use Rattle.std.proofs.Common.{refl}
 
 pub look-requires : goal.look-requires
-look-requires c = rw c.requires (refl, (refl,
-    (refl, (refl, (refl, (refl, (refl, (refl, (refl, (refl, (refl, (refl, (refl, (refl, (refl, (refl, tt))))))))))))))))
+look-requires c = rw c.requires (
+  refl,
+  (
+    refl,
+    (refl, (refl, (refl, (refl, (refl, (refl, (refl, (refl, (refl, (refl, (refl, (refl, (refl, (refl, tt)))))))))))))),
+  ),
+)
 
 pub returns : goal.returns
 unfolding inv_shift_rows turned

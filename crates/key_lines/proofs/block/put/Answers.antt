@@ -1,0 +1,1 @@
+-- The text stands after the block, which was written or not.

@@ -1,0 +1,72 @@
+//! Answers that are gathered in a block and written together, so that it is known of each byte
+//! whether it went out.
+
+ghost use Rattle.std.specs.Prelude.{◌≡◌, ◌-◌, ◌<◌, ◌≤◌, [], length, drop, vec_len, true, false};
+ghost use Rattle.std.specs.Prelude.{OnOk, Err};
+ghost use Rattle.key_lines.specs.Block.{Sends};
+
+use key_files::write_raw;
+use std::io::Write;
+
+// So many bytes are written together.
+const BLOCK: usize = 65_536;
+
+// Why a text was not put, or the block was not written whole.
+#[derive(Clone, Copy)]
+pub(crate) enum PutFault {
+    // A growth was refused, and the block is as it was.
+    Memory,
+    // The writer refused what is left in the block.
+    Write,
+}
+
+// Writes the block. Where the writer refuses, what it did not take is left in the block.
+pub(crate) fn send<W: Write>(out: &mut W, block: &mut Vec<u8>) -> bool
+    ensures sends { Sends (W.contents out.old) (W.contents out.new)
+        block.old.items block.new.items [] }
+    ensures all { result ≡ true → block.new.items ≡ [] }
+    ensures left { result ≡ false → 0 < length block.new.items }
+{
+    match write_raw(out, block) {
+        Ok(()) => {
+            block.clear();
+            true
+        }
+        Err(fault) => {
+            remove_front(block, fault.written);
+            false
+        }
+    }
+}
+
+fn remove_front(block: &mut Vec<u8>, n: usize)
+    requires { n ≤ vec_len block.old }
+    ensures items { block.new.items ≡ drop n block.old.items }
+    ensures len { vec_len block.new ≡ vec_len block.old - n }
+{
+    let len = block.len();
+    block.as_mut_slice().copy_within(n..len, 0);
+    block.truncate(len - n);
+}
+
+// Puts a text after the block, and writes them where they are large enough.
+pub(crate) fn put<W: Write>(out: &mut W, block: &mut Vec<u8>, text: &[u8]) -> Result<(), PutFault>
+    ensures put { OnOk result (Sends (W.contents out.old) (W.contents out.new)
+        block.old.items block.new.items text.now) }
+    ensures refused { result ≡ Err PutFault.Write → Sends (W.contents out.old) (W.contents out.new)
+        block.old.items block.new.items text.now }
+    ensures left { result ≡ Err PutFault.Write → 0 < length block.new.items }
+    ensures untouched { result ≡ Err PutFault.Memory → W.contents out.new ≡ W.contents out.old }
+    ensures unchanged { result ≡ Err PutFault.Memory → block.new.items ≡ block.old.items }
+{
+    if block.extend_from_slice(text).is_err() {
+        return Err(PutFault::Memory);
+    }
+    if block.len() < BLOCK {
+        return Ok(());
+    }
+    if send(out, block) {
+        return Ok(());
+    }
+    Err(PutFault::Write)
+}

@@ -1,0 +1,31 @@
+//! Why a run stops.
+
+use key_files::FileFault;
+
+/// Why a line has no answer.
+#[derive(Clone, Copy, Debug, PartialEq, Eq)]
+pub enum LineFault<R> {
+    /// The line denotes no bytes or cannot be read, or a growth was refused.
+    Input(FileFault),
+    /// The bytes of the line have no answer.
+    Refused(R),
+}
+
+/// Why a run did not answer each line, or not all of its answers were written.
+#[derive(Clone, Copy, Debug, PartialEq, Eq)]
+pub enum RunFault<R> {
+    /// The lines before this one were answered, and it was not.
+    AtLine {
+        /// The line, counted from 1.
+        line: u64,
+        /// Why it was not answered.
+        fault: LineFault<R>,
+    },
+    /// The writer took the answers but for their last bytes.
+    Write {
+        /// How many lines were answered.
+        answered: u64,
+        /// How many bytes of their answers did not go out.
+        unsent: usize,
+    },
+}

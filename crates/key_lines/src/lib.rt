@@ -1,0 +1,23 @@
+//! Many keys in one run: each line of the input is answered on the same line of the output.
+//!
+//! A line is a hex file of its own. What is done with the bytes that it denotes is a [`LineJob`]'s;
+//! [`run_lines`] reads the lines, writes the answers, and stops at the first line that is refused;
+//! [`run_all_lines`] writes an empty line for it and goes on.
+
+#![tactic(auto)]
+
+mod block;
+mod fault;
+mod job;
+mod line;
+mod log;
+mod run;
+
+pub use fault::{LineFault, RunFault};
+pub use job::{LineJob, Outcome};
+pub use line::{Line, read_line};
+pub use log::RefusalLog;
+pub use run::{run_all_lines, run_lines};
+
+#[cfg(test)]
+mod tests;

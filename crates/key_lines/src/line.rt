@@ -1,0 +1,105 @@
+//! Lines that are read one after another.
+
+ghost use Rattle.std.specs.Prelude.{◌≡◌, ◌≢◌, ◌<◌, ◌≤◌, length, take, slice_index, All, vec_len};
+ghost use Rattle.key_lines.specs.Reading.{MovesPart, ReadsLine};
+
+use key_files::FileFault;
+use memchr::memchr;
+use std::alloc::Allocator;
+use std::io::BufRead;
+
+// What was met of a line.
+#[derive(Clone, Copy)]
+pub(crate) enum Part {
+    // The reader has more, or has ended.
+    More,
+    // The LF that ends it.
+    Ended,
+    // The end of the reader.
+    Missing,
+}
+
+/// What stands where the next line is looked for.
+#[derive(Clone, Copy, Debug, PartialEq, Eq)]
+pub enum Line {
+    /// A line that an LF ends.
+    Ended,
+    /// The last line, which no LF ends.
+    Last,
+    /// The end of the reader.
+    Missing,
+}
+
+/// Reads the next line into `line`, without its LF. After `Last` and `Missing` the reader is at its
+/// end, and need not be asked again.
+///
+/// At most `limit + 1` bytes of the line are taken; TooLong comes where they have no LF. Read comes
+/// where a read answers any error, an interrupted one too, and Memory where a growth was refused,
+/// each as it is met; `line` then holds what was taken.
+pub fn read_line<R: BufRead, A: Allocator>(
+    reader: &mut R,
+    line: &mut Vec<u8, A>,
+    limit: usize,
+) -> Result<Line, FileFault>
+    requires { limit < usize.MAX }
+    ensures { ReadsLine limit (R.remaining reader.old) (R.remaining reader.new) line.new.items
+        result }
+{
+    line.clear();
+    for _ in 0..u64::MAX {
+        match move_part(reader, line, limit)? {
+            Part::More => {}
+            Part::Ended => return Ok(Line::Ended),
+            Part::Missing if line.is_empty() => return Ok(Line::Missing),
+            Part::Missing => return Ok(Line::Last),
+        }
+    }
+    Err(FileFault::Read)
+}
+
+// Moves what the reader shows of the line, and at most one byte past the limit.
+fn move_part<R: BufRead, A: Allocator>(
+    reader: &mut R,
+    line: &mut Vec<u8, A>,
+    limit: usize,
+) -> Result<Part, FileFault>
+    requires wide { limit < usize.MAX }
+    requires room { vec_len line.old ≤ limit }
+    ensures { MovesPart limit (R.remaining reader.old) (R.remaining reader.new)
+        line.old.items line.new.items result }
+{
+    let room = limit + 1 - line.len();
+    let shown = match reader.fill_buf() {
+        Ok(shown) => shown,
+        Err(_) => return Err(FileFault::Read),
+    };
+    let front = &shown[..room.min(shown.len())];
+    let len = before_lf(front);
+    let is_end = front.is_empty();
+    let has_lf = len < front.len();
+    line.extend_from_slice(&front[..len])?;
+    if has_lf {
+        reader.consume(len + 1);
+        return Ok(Part::Ended);
+    }
+    reader.consume(len);
+    if is_end {
+        return Ok(Part::Missing);
+    }
+    if line.len() > limit {
+        return Err(FileFault::TooLong);
+    }
+    Ok(Part::More)
+}
+
+// How many bytes stand before the first LF, or all.
+fn before_lf(front: &[u8]) -> usize
+    ensures bound { result ≤ length front.now }
+    ensures lf { result < length front.now → slice_index front.now result ≡ 10 }
+    ensures none { All (λ byte. byte ≢ 10) (take result front.now) }
+{
+    match memchr(b'\n', front) {
+        Some(at) => at,
+        None => front.len(),
+    }
+}

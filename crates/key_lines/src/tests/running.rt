@@ -1,0 +1,182 @@
+//! Runs that answer each line, that stop at one, and whose output is refused at each byte.
+
+use super::doubles::{Echo, Narrow, Told, Trickle};
+use crate::{LineFault, RunFault, run_all_lines, run_lines};
+use key_files::FileFault;
+use std::io::BufReader;
+use std::test::Fail;
+
+static RUNS: [(&[u8], Result<u64, RunFault<u8>>, &[u8]); 11] = [
+    (b"", Ok(0), b""),
+    (b"\n", Ok(1), b"\n"),
+    (b"00", Ok(1), b"00\n"),
+    (b"00\n", Ok(1), b"00\n"),
+    (
+        b"0102030405\n0a 0B\r\n\n7f",
+        Ok(4),
+        b"0102030405\n0a0b\n\n7f\n",
+    ),
+    (
+        b"00\n0g\n01\n",
+        Err(RunFault::AtLine {
+            line: 2,
+            fault: LineFault::Input(FileFault::BadDigit { at: 1 }),
+        }),
+        b"00\n",
+    ),
+    (
+        b"000\n01\n",
+        Err(RunFault::AtLine {
+            line: 1,
+            fault: LineFault::Input(FileFault::OddDigits),
+        }),
+        b"",
+    ),
+    (
+        b"00\n\0\n",
+        Err(RunFault::AtLine {
+            line: 2,
+            fault: LineFault::Input(FileFault::BadDigit { at: 0 }),
+        }),
+        b"00\n",
+    ),
+    (
+        b"00\n01\nff",
+        Err(RunFault::AtLine {
+            line: 3,
+            fault: LineFault::Refused(0xff),
+        }),
+        b"00\n01\n",
+    ),
+    (
+        b"FE\n",
+        Err(RunFault::AtLine {
+            line: 1,
+            fault: LineFault::Input(FileFault::Memory),
+        }),
+        b"",
+    ),
+    (b" 0\t0 \n\n", Ok(2), b"00\n\n"),
+];
+
+#[test]
+fn answers_the_lines_before_the_first_refused_one(rt: HostRuntime) -> Result<(), Fail> {
+    for (text, want, written) in &RUNS {
+        for capacity in [1, 4_096] {
+            let mut input = BufReader::with_capacity(rt.alloc(), capacity, *text)?;
+            let mut out = Vec::new(rt.alloc());
+            let answer = run_lines(rt.alloc(), &Echo, &mut input, &mut out);
+            assert!(rt;
+                answer == *want && out.as_slice() == *written,
+                "of {text:?}"
+            );
+        }
+    }
+    Ok(())
+}
+
+// The text, what a run that goes on answers and writes, how many refusals it tells, and of which
+// line it tells last.
+static PASSED: [(&[u8], Result<u64, RunFault<u8>>, &[u8], u64, u64); 4] = [
+    (b"00\n01", Ok(2), b"00\n01\n", 0, 0),
+    (b"00\n0g\nff\n0\n01", Ok(5), b"00\n\n\n\n01\n", 3, 4),
+    (b"ff", Ok(1), b"\n", 1, 1),
+    (
+        b"0g\nfe\n00\n",
+        Err(RunFault::AtLine {
+            line: 2,
+            fault: LineFault::Input(FileFault::Memory),
+        }),
+        b"\n",
+        1,
+        1,
+    ),
+];
+
+#[test]
+fn goes_on_after_refused_lines(rt: HostRuntime) -> Result<(), Fail> {
+    for (text, want, written, count, last) in &PASSED {
+        let mut input: &[u8] = text;
+        let mut out = Vec::new(rt.alloc());
+        let told = Told::new();
+        let answer = run_all_lines(rt.alloc(), &Echo, &told, &mut input, &mut out);
+        assert!(rt;
+            answer == *want && out.as_slice() == *written,
+            "of {text:?}"
+        );
+        assert!(rt;
+            told.count.get() == *count && told.last.get() == *last,
+            "of {text:?}"
+        );
+    }
+    Ok(())
+}
+
+#[test]
+fn counts_what_a_refused_write_left_out(rt: HostRuntime) -> Result<(), Fail> {
+    // A run that ends well, and one that stops at line 3.
+    for (text, answered) in [(&b"0102\n03\n"[..], 2), (&b"0102\n03\nff\n"[..], 2)] {
+        let whole = b"0102\n03\n";
+        for room in 0..whole.len() {
+            let mut input = text;
+            let mut out = Narrow::new(rt.alloc(), room);
+            let answer = run_lines(rt.alloc(), &Echo, &mut input, &mut out);
+            let unsent = whole.len() - room;
+            assert_eq!(rt; answer, Err(RunFault::Write { answered, unsent }));
+            assert_eq!(rt; out.out(), &whole[..room]);
+        }
+    }
+    Ok(())
+}
+
+#[test]
+fn stops_where_the_writer_refuses_a_full_block(rt: HostRuntime) -> Result<(), Fail> {
+    let mut line = Vec::new(rt.alloc());
+    line.resize(40_000, b'5')?;
+    line.push(b'\n')?;
+    let mut text = Vec::new(rt.alloc());
+    for _ in 0..3 {
+        text.extend_from_slice(&line)?;
+    }
+    let mut input = text.as_slice();
+    let mut out = Narrow::new(rt.alloc(), 10);
+    let answer = run_lines(rt.alloc(), &Echo, &mut input, &mut out);
+    let unsent = 80_002 - 10;
+    assert_eq!(rt;
+        answer,
+        Err(RunFault::Write {
+            answered: 2,
+            unsent
+        })
+    );
+    assert!(rt; out.out().len() == 10 && text.starts_with(out.out()) && input.len() == 40_001);
+    Ok(())
+}
+
+#[test]
+fn stops_at_the_line_whose_read_fails(rt: HostRuntime) -> Result<(), Fail> {
+    let text = b"00\n01\n02";
+    for (reads, line) in [
+        (0, 1),
+        (1, 1),
+        (2, 1),
+        (3, 2),
+        (4, 2),
+        (5, 2),
+        (6, 3),
+        (7, 3),
+        (8, 3),
+    ] {
+        let mut input = BufReader::new(rt.alloc(), Trickle::new(text, reads))?;
+        let mut out = Vec::new(rt.alloc());
+        let answer = run_lines(rt.alloc(), &Echo, &mut input, &mut out);
+        let fault = LineFault::Input(FileFault::Read);
+        assert_eq!(rt;
+            answer,
+            Err(RunFault::AtLine { line, fault }),
+            "after {reads} reads"
+        );
+        assert!(rt; text.starts_with(&out) && out.len() == reads / 3 * 3);
+    }
+    Ok(())
+}
