@@ -2,13 +2,14 @@
 //! initial value, and from one form to the other, on wrappings of OpenSSL's. The refusals are
 //! proved, and made by `tests/library.sh`.
 
+use crate::kinds::keywrap_kind;
 use crate::padded::{keywrap_unwrap_padded, keywrap_wrap_padded};
 use crate::padded_in_place::{keywrap_unwrap_padded_in_place, keywrap_wrap_padded_in_place};
 use crate::plain::{keywrap_unwrap, keywrap_wrap};
 use crate::plain_in_place::{keywrap_unwrap_in_place, keywrap_wrap_in_place};
 use crate::plain_with::{keywrap_unwrap_with, keywrap_wrap_with};
 use crate::rewrapping::keywrap_rewrap_in_place;
-use crate::status::DONE;
+use crate::status::{DONE, INTEGRITY};
 use std::test::Fail;
 
 const KEK: [u8; 24] = [
@@ -56,7 +57,7 @@ fn wraps_plain_and_back(rt: HostRuntime) -> Result<(), Fail> {
     assert!(rt; keywrap_wrap_in_place(&KEK, &mut buffer) == DONE);
     assert!(rt; buffer == TEXT);
     assert!(rt; keywrap_unwrap_in_place(&KEK, &mut buffer) == DONE);
-    assert!(rt; &buffer[..8] == &[0; 8] && &buffer[8..] == &KEY);
+    assert!(rt; &buffer[..8] == [0; 8].as_slice() && &buffer[8..] == KEY.as_slice());
     Ok(())
 }
 
@@ -135,5 +136,25 @@ fn rewraps_between_forms_and_back(rt: HostRuntime) -> Result<(), Fail> {
         assert!(rt; again == DONE);
         assert!(rt; buffer == *text);
     }
+    Ok(())
+}
+
+#[test]
+fn names_the_kind(rt: HostRuntime) -> Result<(), Fail> {
+    let mut scratch = [1; 16];
+    let (mut padded, mut len) = (7, 7);
+    assert!(rt; keywrap_kind(&KEK, &TEXT, &mut scratch, &mut padded, &mut len) == DONE);
+    assert!(rt; padded == 0 && len == 16 && scratch == [0; 16]);
+    assert!(rt; keywrap_kind(&KEK, &IV_TEXT, &mut scratch, &mut padded, &mut len) == INTEGRITY);
+    assert!(rt; padded == 0 && len == 0);
+    let mut scratch = [1; 8];
+    let status = keywrap_kind(
+        &PADDED_KEK,
+        &PADDED_TEXT,
+        &mut scratch,
+        &mut padded,
+        &mut len,
+    );
+    assert!(rt; status == DONE && padded == 1 && len == 7);
     Ok(())
 }
