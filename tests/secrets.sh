@@ -61,9 +61,9 @@ leaves() {
 row 'the stack: compiles' "$cc" "${options[@]}" "$root/tests/secrets/stack.c" "$archive" -Wl,-z,now -o stack
 row 'the stack: runs' ./stack
 cp row.log left
-row 'the stack: the copies of half a KEK' leaves copies 4
+row 'the stack: the copies of half a KEK' leaves copies 3
 row 'the stack: the bytes that depend on the KEK' leaves kek 2200
-row 'the stack: the bytes that depend on the key' leaves key 64
+row 'the stack: the bytes that depend on the key' leaves key 0
 
 ### Branches and addresses
 
