@@ -3,15 +3,18 @@
 use Rattle.std.proofs.Common.{◌≡◌, ℕ, List, map, get_or, refl, ap, ◌∙◌, zero-add}
 use Rattle.std.specs.List.{range_with_len}
 use Rattle.std.proofs.lemmas.List.FromFn.{get_or-map-range_with_len}
-use Rattle.std.proofs.lemmas.Simd.{map-map}
 use Rattle.block_pair.specs.Words.{IsByte}
 use Rattle.aes_block.specs.declared.s_box.TheConstants.{S_BOX, INV_S_BOX}
 use Rattle.aes_block.specs.declared.word_tables.TheConstants.{INV_MIXED, MIXED_S_BOX}
-use Rattle.aes_block.specs.Field.{polynomial_product, remainder, product}
-use Rattle.aes_block.specs.SBox.{s_box, s_boxes, inv_s_box}
-use Rattle.aes_block.specs.SBoxLaw.{place_of, s_box_table, s_boxes_entry}
+use Rattle.aes_block.specs.Field.{polynomial_product, remainder, product, inverse}
+use Rattle.aes_block.specs.SBox.{number_with_bits, s_box, s_boxes, inv_s_box}
+use Rattle.aes_block.specs.SBoxLaw.{place_of, s_boxes_entry}
 use Rattle.aes_block.specs.Rounds.{inv_mix_matrix, mix_matrix}
 use Rattle.aes_block.specs.Columns.{spread}
+
+s_box_table : S_BOX ≡ s_boxes
+unfolding s_boxes s_box number_with_bits inverse product remainder polynomial_product
+s_box_table = refl
 
 pub s_box_entry : (x : ℕ) → IsByte x → get_or S_BOX x 0 ≡ s_box x
 s_box_entry x h = ap (λ (t : List ℕ). get_or t x 0) s_box_table ∙ s_boxes_entry x h
@@ -21,10 +24,8 @@ places : List ℕ → List ℕ
 places table = map (λ y. place_of y table) (range_with_len 0 256)
 
 inv_s_box_table : INV_S_BOX ≡ places s_boxes
-unfolding places
-inv_s_box_table =
-    let computed : INV_S_BOX ≡ places S_BOX = refl in
-    computed ∙ ap places s_box_table
+unfolding places s_boxes s_box number_with_bits inverse product remainder polynomial_product
+inv_s_box_table = refl
 
 pub inv_s_box_entry : (y : ℕ) → IsByte y → get_or INV_S_BOX y 0 ≡ inv_s_box y
 unfolding places inv_s_box
@@ -41,10 +42,8 @@ unfolding columns
 columns_entry f table x e h = ap (λ (t : List ℕ). get_or t x 0) e ∙ get_or-map-range_with_len f 0 256 x x 0 h (zero-add x)
 
 mixed_s_box_table : MIXED_S_BOX ≡ columns (λ x. spread mix_matrix (s_box x))
-unfolding columns s_boxes product remainder polynomial_product
-mixed_s_box_table =
-    let computed : MIXED_S_BOX ≡ map (spread mix_matrix) S_BOX = refl in
-    computed ∙ ap (map (spread mix_matrix)) s_box_table ∙ map-map (spread mix_matrix) s_box (range_with_len 0 256)
+unfolding columns s_box number_with_bits inverse product remainder polynomial_product
+mixed_s_box_table = refl
 
 pub mixed_s_box_entry : (x : ℕ) → IsByte x → get_or MIXED_S_BOX x 0 ≡ spread mix_matrix (s_box x)
 mixed_s_box_entry x h = columns_entry (λ x. spread mix_matrix (s_box x)) MIXED_S_BOX x mixed_s_box_table h
