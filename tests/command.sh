@@ -482,7 +482,7 @@ explains "Usage: keywrap wrap $usage < KEY > WRAPPED|--padded|--iv <HEX>|--raw|-
     wrap --help
 explains "Usage: keywrap unwrap $usage < WRAPPED > KEY|--padded|--iv <HEX>|--raw|--raw-kek|$files|$d16|$wrapped16" \
     unwrap --help
-explains "Usage: keywrap rewrap $usage --new-kek <FILE> < WRAPPED > REWRAPPED|$files|$wrapped16|$wrapped32" \
+explains "Usage: keywrap rewrap $usage --new-kek <FILE> < WRAPPED > NEW|$files|$wrapped16|$wrapped32" \
     rewrap --help
 explains '--padded|--new-padded|--raw|--raw-kek' rewrap --help
 explains "Usage: keywrap check $usage < WRAPPED|--raw|--raw-kek|$files|$wrapped16|plain 16" check --help

@@ -465,7 +465,7 @@ refuses 'an input without end' 6 'input: too long' wrap --raw --kek kek16.hex --
 refuses 'an input that is too long' 6 'input: too long' unwrap --kek kek16.hex --input long.hex
 refuses 'an input that can not be read' 6 'input: cannot be read' wrap --kek kek16.hex --input /proc/self/mem
 ln -s loop loop
-for name in '' - missing loop key.hex/ key.hex/key missing/key /dev/fd/7; do
+for name in '' ./- missing loop key.hex/ key.hex/key missing/key /dev/fd/7; do
     for job in wrap unwrap check; do
         refuses "$job, '$name' as input" 6 'input: cannot be opened' $job --kek kek16.hex -i "$name" <key.hex
     done

@@ -58,7 +58,7 @@ const FLAG: Argument<'static> = Argument {
 const KEK: Argument<'static> = Argument {
     name: "kek",
     kind: Kind::Required("FILE"),
-    help: "The file with the key-encryption key of 16, 24 or 32 bytes, in hex",
+    help: "The key-encryption key: 16, 24 or 32 bytes, in hex",
     ..FLAG
 };
 
@@ -73,7 +73,7 @@ const INPUT: Argument<'static> = Argument {
     name: "input",
     kind: Kind::Optional("FILE"),
     short: Some('i'),
-    help: "Reads FILE, not standard input",
+    help: "Reads FILE, not standard input (-)",
     ..FLAG
 };
 
@@ -81,7 +81,7 @@ const OUTPUT: Argument<'static> = Argument {
     name: "output",
     kind: Kind::Optional("FILE"),
     short: Some('o'),
-    help: "Writes FILE, not standard output",
+    help: "Writes FILE, not standard output (-)",
     long_help: Some(OUTPUT_HELP),
     ..FLAG
 };
@@ -108,14 +108,14 @@ const NEW_PADDED: Argument<'static> = Argument {
 const IV: Argument<'static> = Argument {
     name: "iv",
     kind: Kind::Optional("HEX"),
-    help: "16 hex digits that both ends agreed on as initial value, if they did",
+    help: "The initial value that both ends agreed on, 16 hex digits",
     conflicts: Some("padded"),
     ..FLAG
 };
 
 const RAW: Argument<'static> = Argument {
     name: "raw",
-    help: "Input and output are raw bytes, not hex; every byte counts",
+    help: "Input and output are raw bytes; every byte counts",
     ..FLAG
 };
 
@@ -167,7 +167,7 @@ const SUBCOMMANDS: [Subcommand<'static>; 6] = [
     },
     Subcommand {
         name: "rewrap",
-        about: "Wraps the key of a wrapped key under another KEK, without writing the key",
+        about: "Takes a wrapped key from one KEK to another; no key is written",
         usage: Some(REWRAP_USAGE),
         example: REWRAP_EXAMPLE,
         arguments: &[
@@ -176,21 +176,21 @@ const SUBCOMMANDS: [Subcommand<'static>; 6] = [
     },
     Subcommand {
         name: "check",
-        about: "Says in which form a wrapped key fits the KEK, without writing the key",
+        about: "Says in which form a wrapped key fits the KEK; no key is written",
         usage: Some(CHECK_USAGE),
         example: CHECK_EXAMPLE,
         arguments: &[KEK, INPUT, OUTPUT, RAW_WRAPPED, RAW_KEK],
     },
     Subcommand {
         name: "drill",
-        about: "Wraps over a block that only exchanges its halves, to be worked by hand",
+        about: "Wraps over a block that exchanges its halves, to be worked by hand",
         usage: None,
         example: DRILL_EXAMPLE,
         arguments: &[HEX, PADDED, UNWRAP],
     },
     Subcommand {
         name: "vectors",
-        about: "Answers the vectors of RFC 3394, RFC 5649 and FIPS 197, each ok or failed",
+        about: "Answers the vectors of RFC 3394, RFC 5649 and FIPS 197: ok or failed",
         usage: None,
         example: VECTORS_EXAMPLE,
         arguments: &[],

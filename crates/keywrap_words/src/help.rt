@@ -9,45 +9,49 @@ pub const UNWRAP_USAGE: &str = "keywrap unwrap [OPTIONS] --kek <FILE> < WRAPPED 
 
 /// The usage of `rewrap`.
 pub const REWRAP_USAGE: &str =
-    "keywrap rewrap [OPTIONS] --kek <FILE> --new-kek <FILE> < WRAPPED > REWRAPPED";
+    "keywrap rewrap [OPTIONS] --kek <FILE> --new-kek <FILE> < WRAPPED > NEW";
 
 /// The usage of `check`.
 pub const CHECK_USAGE: &str = "keywrap check [OPTIONS] --kek <FILE> < WRAPPED";
 
 /// What `--output` does.
 pub const OUTPUT_HELP: &str = "\
-Writes FILE, not standard output. FILE is replaced only by the whole answer, and stays as
-it is after a refusal. It may be the file of --input; no KEK file, folder, device, pipe or link";
+Writes FILE, not standard output (-). FILE is replaced only by the
+whole answer, and stays as it is after a refusal. It may be the file
+of --input; no KEK file, folder, device, pipe or link";
 
 /// What hex may hold, what each exit status says, and what to try.
 pub const NOTES: &str = "\
-Hex: two digits a byte, of either case; spaces, tabs and line ends may stand anywhere. No 0x, no
-colons, no base64: decode that with base64 -d, and use --raw. With --raw and --raw-kek every byte
-counts, a newline at the end too.
+Hex: two digits a byte, of either case; spaces, tabs and line ends may stand
+anywhere. No 0x, no colons, no base64: decode that with base64 -d, and use
+--raw. With --raw and --raw-kek every byte counts, a newline at the end too.
 
 Exit status:
   0  done
   2  the command line was refused
   3  a KEK has not 16, 24 or 32 bytes
-     In hex that is 32, 48 or 64 digits. For a KEK file of raw bytes use --raw-kek.
+     In hex that is 32, 48 or 64 digits. For a KEK file of raw bytes use
+     --raw-kek.
   4  the key or the wrapped key has no legal length in this form
-     A plain key has 16 bytes or more, a multiple of 8, and its wrapped key has 8 more. For a key
-     of another length use --padded.
+     A plain key has 16 bytes or more, a multiple of 8, and its wrapped key
+     has 8 more. For a key of another length use --padded.
   5  the integrity check failed; check found no wrapping; a vector failed
-     It has another KEK, the other form or an --iv, or it is damaged. keywrap check says which
-     form fits the KEK.
+     It has another KEK, the other form or an --iv, or it is damaged.
+     keywrap check says which form fits the KEK.
   6  a file or the output could not be opened, read or written
-     The line names it, and the first byte that is no hex digit, counted from 0 at the start of
-     the file. For raw bytes use --raw.
+     The line names it, and the first byte that is no hex digit, counted from
+     0 at the start of the file. For raw bytes use --raw.
   7  out of memory
      The files may be right: try again with more memory.
 
-A refusal is one line on standard error; a refused command line is a message with the usage, and
-one line where the value of --iv or raw bytes to a terminal are the cause.
-wrap, unwrap, rewrap, check and drill write nothing before their whole answer is right; vectors
-writes its lines, those that say failed too, once all are made.
-Status 5 without a line comes from check, which wrote none, and from vectors, whose lines say
-which one failed.";
+A refusal is one line on standard error; a refused command line is a message
+with the usage, and one line where the value of --iv or raw bytes to a terminal
+are the cause.
+wrap, unwrap, rewrap, check and drill write nothing before their whole answer
+is right; vectors writes its lines, those that say failed too, once all are
+made.
+Status 5 without a line comes from check, which wrote none, and from vectors,
+whose lines say which one failed.";
 
 /// An example of `wrap`.
 pub const WRAP_EXAMPLE: &str = "\
@@ -59,44 +63,50 @@ From file to file:
   $ keywrap wrap --kek kek.hex --input key.hex --output wrapped.hex
 
 What hex may hold, and what each exit status says: keywrap --help.
-A plain key has 16 to 1048576 bytes, a multiple of 8. With --padded it has 1 to 1048576.
+A plain key has 16 to 1048576 bytes, a multiple of 8.
+With --padded it has 1 to 1048576.
 A file has at most 4194304 bytes.";
 
 /// An example of `unwrap`.
 pub const UNWRAP_EXAMPLE: &str = "\
 Example, in an empty folder, with the first vector of RFC 3394:
   $ echo 000102030405060708090a0b0c0d0e0f > kek.hex
-  $ echo 1fa68b0a8112b447aef34bd8fb5a7b829d3e862371d2cfe5 | keywrap unwrap --kek kek.hex
+  $ echo 1fa68b0a8112b447aef34bd8fb5a7b829d3e862371d2cfe5 > wrapped.hex
+  $ keywrap unwrap --kek kek.hex < wrapped.hex
   00112233445566778899aabbccddeeff
 From file to file:
   $ keywrap unwrap --kek kek.hex --input wrapped.hex --output key.hex
 
 What hex may hold, and what each exit status says: keywrap --help.
-A wrapped key of a legal length that is no wrapping under this KEK and in this form is refused
-with status 5, and no byte is written. keywrap check says which form fits the KEK.";
+A wrapped key of a legal length that is no wrapping under this KEK and in this
+form is refused with status 5, and no byte is written. keywrap check says which
+form fits the KEK.";
 
 /// An example of `rewrap`.
 pub const REWRAP_EXAMPLE: &str = "\
 Example, in an empty folder, with the first and the third vector of RFC 3394:
-  $ echo 000102030405060708090a0b0c0d0e0f > kek.hex
-  $ echo 000102030405060708090a0b0c0d0e0f101112131415161718191a1b1c1d1e1f > new.hex
+  $ echo 000102030405060708090a0b0c0d0e0f > old
+  $ echo 000102030405060708090a0b0c0d0e0f101112131415161718191a1b1c1d1e1f > new
   $ echo 1fa68b0a8112b447aef34bd8fb5a7b829d3e862371d2cfe5 > wrapped.hex
-  $ keywrap rewrap --kek kek.hex --new-kek new.hex < wrapped.hex
+  $ keywrap rewrap --kek old --new-kek new < wrapped.hex
   64e8c3f9ce0f5ba263e9777905818a2a93c8191e7d6e8ae7
 
 What hex may hold, and what each exit status says: keywrap --help.
-The new wrapped key is as long as the old one. The key itself is not written. From --padded to
-the plain form only a key of 16 bytes or more, a multiple of 8, can go; another is status 4.";
+The new wrapped key is as long as the old one. The key itself is not written.
+From --padded to the plain form only a key of 16 bytes or more, a multiple of
+8, can go; another is status 4.";
 
 /// An example of `check`.
 pub const CHECK_EXAMPLE: &str = "\
 Example, in an empty folder, with the first vector of RFC 3394:
   $ echo 000102030405060708090a0b0c0d0e0f > kek.hex
-  $ echo 1fa68b0a8112b447aef34bd8fb5a7b829d3e862371d2cfe5 | keywrap check --kek kek.hex
+  $ echo 1fa68b0a8112b447aef34bd8fb5a7b829d3e862371d2cfe5 > wrapped.hex
+  $ keywrap check --kek kek.hex < wrapped.hex
   plain 16
 
-The line is `plain N` or `padded N`, with the length of the key in bytes, or `none` (status 5):
-it was wrapped under another KEK or with an --iv, or it is damaged.
+The line is `plain N` or `padded N`, with the length of the key in bytes, or
+`none` (status 5): it was wrapped under another KEK or with an --iv, or it is
+damaged.
 What hex may hold, and what each exit status says: keywrap --help.";
 
 /// An example of `drill`.
@@ -105,7 +115,8 @@ Example:
   $ keywrap drill 00112233445566778899aabbccddeeff
   a6a6a6a6a6a6a6a6001122334455667f8899aabbccddeefb
 
-The drill block turns A | X into X | A, so each answer can be worked by hand. It hides nothing.";
+The drill block turns A | X into X | A, so each answer can be worked by hand.
+It hides nothing.";
 
 /// An example of `vectors`.
 pub const VECTORS_EXAMPLE: &str = "\
@@ -114,4 +125,5 @@ Example:
   rfc3394 4.1 ok
   (and eleven more lines)
 
-Each vector is computed in both directions. A line says `ok` where both give the vector's bytes.";
+Each vector is computed in both directions. A line says `ok` where both give
+the vector's bytes.";

@@ -96,7 +96,7 @@ fn refused(alloc: Global, words: &[String], error: &Error) -> Refusal {
 pub fn read<'a>(alloc: Global, words: &'a [String]) -> Result<CommandLine<'a>, Error> {
     let matches = keywrap(alloc)?.try_get_matches_from(words)?;
     match taken(matches.subcommand()) {
-        Some(line) => Ok(line),
+        Some(line) => with_kek_files(alloc, line),
         // A command line without a subcommand, or with another, is refused by the parse itself.
         None => Err(fault(
             alloc,
@@ -104,6 +104,18 @@ pub fn read<'a>(alloc: Global, words: &'a [String]) -> Result<CommandLine<'a>, E
             "unrecognized subcommand",
         )?),
     }
+}
+
+// A KEK comes from no `-`, which would be a file's name here and standard input elsewhere.
+fn with_kek_files<'a>(alloc: Global, line: CommandLine<'a>) -> Result<CommandLine<'a>, Error> {
+    let said = if line.kek == "-" {
+        "invalid value '-' for '--kek <FILE>'"
+    } else if line.new_kek == "-" {
+        "invalid value '-' for '--new-kek <FILE>'"
+    } else {
+        return Ok(line);
+    };
+    Err(fault(alloc, ErrorKind::InvalidValue, said)?)
 }
 
 fn fault(alloc: Global, kind: ErrorKind, said: &str) -> Result<Error, AllocError> {
@@ -116,8 +128,8 @@ fn taken<'a>(subcommand: Option<(&'a str, &ArgMatches<'a>)>) -> Option<CommandLi
         command: command_of(name)?,
         kek: text_of(found, "kek"),
         new_kek: text_of(found, "new-kek"),
-        input: found.get_str("input"),
-        output: found.get_str("output"),
+        input: file_of(found, "input"),
+        output: file_of(found, "output"),
         iv: found.get_str("iv"),
         hex: text_of(found, "hex"),
         padded: found.get_flag("padded"),
@@ -144,4 +156,12 @@ fn command_of(name: &str) -> Option<Command> {
 // the subcommand requires is refused.
 fn text_of<'a>(found: &ArgMatches<'a>, id: &str) -> &'a str {
     found.get_str(id).unwrap_or("")
+}
+
+// The file of an argument, where one is given that is not the standard stream, `-`.
+fn file_of<'a>(found: &ArgMatches<'a>, id: &str) -> Option<&'a str> {
+    match found.get_str(id) {
+        Some("-") | None => None,
+        name => name,
+    }
 }

@@ -15,6 +15,13 @@ const CHECK: &str = "check looks at both forms, and says which one it found";
 
 const NEW_KEK: &str = "only rewrap takes --new-kek";
 
+const STDIN: &str = "a KEK on standard input is --kek /dev/stdin; a file of this name is ./-";
+
+const NEW_STDIN: &str =
+    "a KEK on standard input is --new-kek /dev/stdin; a file of this name is ./-";
+
+const HELP: &str = "keywrap --help shows the help, and keywrap COMMAND --help that of a command";
+
 // Where the usage begins in a message of clap, behind what it says of the words.
 const USAGE: &str = "\n\nUsage: ";
 
@@ -87,9 +94,26 @@ fn without_tip(said: &str) -> &str {
 
 fn tip_for(words: &[String], kind: ErrorKind, said: &str) -> Option<&'static str> {
     match kind {
+        ErrorKind::InvalidSubcommand if asks_for_help(said) => Some(HELP),
         ErrorKind::InvalidSubcommand if !said.contains(TIP) => Some(COMMANDS),
+        ErrorKind::InvalidValue => tip_on_value(said),
         ErrorKind::UnknownArgument => tip_on_argument(command_of(words), said),
         _ => None,
+    }
+}
+
+// `keywrap help --help`, or the like.
+fn asks_for_help(said: &str) -> bool {
+    said.ends_with(" '--help'") || said.ends_with(" '-h'")
+}
+
+fn tip_on_value(said: &str) -> Option<&'static str> {
+    if said.ends_with(" '-' for '--kek <FILE>'") {
+        Some(STDIN)
+    } else if said.ends_with(" '-' for '--new-kek <FILE>'") {
+        Some(NEW_STDIN)
+    } else {
+        None
     }
 }
 

@@ -48,7 +48,7 @@ fn says_each_status(rt: HostRuntime) -> Result<(), Fail> {
 #[test]
 fn says_the_limits(rt: HostRuntime) -> Result<(), Fail> {
     let line = format!(in rt.alloc();
-        "A plain key has 16 to {MAX_KEY} bytes, a multiple of 8. \
+        "A plain key has 16 to {MAX_KEY} bytes, a multiple of 8.\n\
          With --padded it has 1 to {MAX_KEY}.\nA file has at most {MAX_FILE} bytes."
     )?;
     assert!(rt; WRAP_EXAMPLE.ends_with(line.as_str()));
