@@ -17,3 +17,5 @@ pub mod Unwrappings
 pub mod KindForms
 pub mod Promises
 pub mod Rewraps
+pub mod FoundForms
+pub mod KeptForms

@@ -12,4 +12,6 @@ pub mod Calls
 pub mod InPlace
 pub mod Faults
 pub mod Forms
+pub mod Found
 pub mod Rewrap
+pub mod KeepForm

@@ -45,6 +45,14 @@ pub(crate) fn decide(difference: u64, registers: &mut [u8]) -> Result<(), InPlac
     Err(InPlaceFault::Integrity)
 }
 
+// 1 for 0 and 0 for any other number, with no branch.
+pub(crate) fn is_zero(number: u64) -> u64
+    ensures zero { number ≡ 0 → result ≡ 1 }
+    ensures some { ¬ (number ≡ 0) → result ≡ 0 }
+{
+    u64::from(number == 0)
+}
+
 // The length of the key that an initial value of the padded form gives: its last four bytes.
 pub(crate) fn given_length(iv: u64) -> u64
     ensures { result ≡ iv % 2 ^ 32 }

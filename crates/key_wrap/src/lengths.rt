@@ -3,6 +3,9 @@
 ghost use Rattle.std.specs.Prelude.{◌↔◌, IsTrue};
 ghost use Rattle.key_wrap.specs.Lengths.{IsPlainKeyLength, IsPlainTextLength, IsPaddedKeyLength};
 ghost use Rattle.key_wrap.specs.Lengths.{IsPaddedTextLength};
+ghost use Rattle.key_wrap.specs.Forms.{IsTextLength};
+
+use crate::forms::Form;
 
 // The bytes of a word.
 pub(crate) const WORD: usize = 8;
@@ -38,4 +41,14 @@ pub fn padded_text_length_ok(len: usize) -> bool
     ensures { IsTrue result ↔ IsPaddedTextLength len }
 {
     len % 8 == 0 && 16 <= len && len <= MAX_KEY + 8
+}
+
+// Whether a text of `len` bytes can be a wrapping in this form.
+pub(crate) fn is_text_length(form: Form, len: usize) -> bool
+    ensures { IsTrue result ↔ IsTextLength form len }
+{
+    match form {
+        Form::Plain => text_length_ok(len),
+        Form::Padded => padded_text_length_ok(len),
+    }
 }

@@ -16,10 +16,13 @@ mod buffers;
 mod checks;
 mod faults;
 mod forms;
+mod found;
 mod in_place;
 mod initial_value;
 mod into;
 mod into_with;
+mod keeping_form;
+mod keeping_form_in_place;
 mod kinds;
 mod lengths;
 mod machine;
@@ -35,6 +38,8 @@ pub use in_place::{unwrap_in_place, unwrap_padded_in_place, wrap_in_place, wrap_
 pub use initial_value::InitialValue;
 pub use into::{unwrap_into, unwrap_padded_into, wrap_into, wrap_padded_into};
 pub use into_with::{unwrap_into_with, wrap_into_with};
+pub use keeping_form::rewrap_keeping_form;
+pub use keeping_form_in_place::rewrap_keeping_form_in_place;
 pub use kinds::{kind, kind_into};
 pub use lengths::{
     MAX_KEY, key_length_ok, padded_length_ok, padded_text_length_ok, text_length_ok,

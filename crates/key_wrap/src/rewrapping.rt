@@ -8,7 +8,7 @@ ghost use Rattle.key_wrap.specs.Rewrap.{Rewrapped};
 
 use crate::faults::UnwrapFault;
 use crate::forms::Form;
-use crate::lengths::{padded_text_length_ok, text_length_ok};
+use crate::lengths::is_text_length;
 use crate::rewrapping_in_place::rewrap_in_place;
 use block_pair::{BlockPair, Meter};
 use std::alloc::{Allocator, Global};
@@ -84,14 +84,4 @@ pub(crate) fn rewrap_on<A: Allocator, O: BlockPair, N: BlockPair>(
     let (mut unwraps, mut wraps) = (Meter::new(old), Meter::new(new));
     rewrap_in_place(&mut unwraps, old_form, &mut wraps, new_form, &mut buffer)?;
     Ok(buffer)
-}
-
-// Whether a text of `len` bytes can be a wrapping in this form.
-fn is_text_length(form: Form, len: usize) -> bool
-    ensures { IsTrue result ↔ IsTextLength form len }
-{
-    match form {
-        Form::Plain => text_length_ok(len),
-        Form::Padded => padded_text_length_ok(len),
-    }
 }

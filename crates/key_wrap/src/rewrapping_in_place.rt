@@ -1,21 +1,20 @@
 //! Rewrapping in the caller's buffer: from one pair and form to another. It takes no memory.
 
-ghost use Rattle.std.specs.Prelude.{◌≡◌, ◌↔◌, ℕ, ◌+◌, ◌*◌, List, length, All};
+ghost use Rattle.std.specs.Prelude.{◌≡◌, ◌↔◌, ℕ, ◌++◌, List, length, drop, All};
 ghost use Rattle.std.specs.Prelude.{Err, IfOk, IsErr, IsOk, IsOkUnless, OnOk};
 ghost use Rattle.block_pair.specs.Metered.{counted};
-ghost use Rattle.key_wrap.specs.Lengths.{IsPlainKeyLength, IsPaddedKeyLength};
-ghost use Rattle.key_wrap.specs.Plain.{Plain, default_iv};
-ghost use Rattle.key_wrap.specs.Padded.{word_count};
+ghost use Rattle.key_wrap.specs.Words.{word_bytes};
+ghost use Rattle.key_wrap.specs.Lengths.{IsPlainKeyLength, IsPaddedTextLength};
 ghost use Rattle.key_wrap.specs.Calls.{block_calls};
 ghost use Rattle.key_wrap.specs.Forms.{StandsIn, IsKeyLength, IsTextLength};
-ghost use Rattle.key_wrap.specs.InPlace.{KeyAnswer, key_in};
+ghost use Rattle.key_wrap.specs.Found.{HoldsIn};
 ghost use Rattle.key_wrap.specs.Rewrap.{AreWrappings, HasBadLength, HasNoWrapping};
 
-use crate::checks::DEFAULT_IV;
+use crate::checks::{DEFAULT_IV, decide, given_length, initial_value, is_zero};
 use crate::faults::InPlaceFault;
 use crate::forms::Form;
-use crate::in_place::{unwrap_in_place, unwrap_padded_in_place, wrap_buffer, wrap_padded_in_place};
-use crate::lengths::key_length_ok;
+use crate::found::{form_difference, unwrap_found, wrap_found};
+use crate::lengths::{WORD, is_text_length};
 use block_pair::{BlockPair, Meter};
 
 /// The text in the buffer, a wrapping in the old form under the old pair, becomes the wrapping of
@@ -69,81 +68,57 @@ pub fn rewrap_in_place<O: BlockPair, N: BlockPair>(
     ensures wrap_calls { OnOk result (new.new ≡ counted (block_calls (length buf.old)) new.old) }
     ensures new_meter_kept { IsErr result → new.new ≡ new.old }
 {
-    let len = unwrap_key(old, old_form, buf)?;
-    wrap_key(new, new_form, buf, len)
-}
-
-// The text in the buffer becomes 8 bytes, its key, of as many bytes as the answer says, and its
-// zero padding.
-fn unwrap_key<B: BlockPair>(
-    meter: &mut Meter<B>,
-    form: Form,
-    buf: &mut [u8],
-) -> Result<usize, InPlaceFault>
-    ensures answer { KeyAnswer (IsTextLength form (length buf.old))
-        (StandsIn form (B.encrypted meter.old.pair)) buf.old (λ len. key_in len buf.new) result }
-    ensures legal { IfOk result (λ len. IsPaddedKeyLength len) }
-    ensures room { IfOk result (λ len. length buf.old ≡ 8 + 8 * word_count len) }
-    ensures buffer_kept { result ≡ Err InPlaceFault.BadLength → buf.new ≡ buf.old }
-    ensures meter_kept { result ≡ Err InPlaceFault.BadLength → meter.new ≡ meter.old }
-    ensures cleared { result ≡ Err InPlaceFault.Integrity → All (λ byte. byte ≡ 0) buf.new }
-    ensures calls { ¬ (result ≡ Err InPlaceFault.BadLength)
-        → meter.new ≡ counted (block_calls (length buf.old)) meter.old }
-{
-    match form {
-        Form::Plain => {
-            unwrap_in_place(meter, buf)?;
-            Ok(buf.len() - 8)
-        }
-        Form::Padded => unwrap_padded_in_place(meter, buf),
-    }
-}
-
-// The key of `len` bytes after the first 8 bytes of the buffer becomes its wrapping, the whole
-// buffer, and zeros where it has no legal length in the form.
-fn wrap_key<B: BlockPair>(
-    meter: &mut Meter<B>,
-    form: Form,
-    buf: &mut [u8],
-    len: usize,
-) -> Result<(), InPlaceFault>
-    requires legal { IsPaddedKeyLength len }
-    requires room { length buf.old ≡ 8 + 8 * word_count len }
-    ensures bad_length { (result ≡ Err InPlaceFault.BadLength) ↔ ¬ IsKeyLength form len }
-    ensures only_fault { IsOkUnless result InPlaceFault.BadLength }
-    ensures answer { OnOk result (
-        StandsIn form (B.encrypted meter.old.pair) (key_in len buf.old) buf.new) }
-    ensures cleared { IsErr result → All (λ byte. byte ≡ 0) buf.new }
-    ensures meter_kept { IsErr result → meter.new ≡ meter.old }
-    ensures calls { OnOk result (meter.new ≡ counted (block_calls (length buf.old)) meter.old) }
-{
-    match form {
-        Form::Plain => wrap_plain_key(meter, buf, len),
-        Form::Padded => wrap_padded_in_place(meter, buf, len),
-    }
-}
-
-// The same in the plain form. A padded key may have a length that no plain key has; its padding is
-// not wrapped as key.
-fn wrap_plain_key<B: BlockPair>(
-    meter: &mut Meter<B>,
-    buf: &mut [u8],
-    len: usize,
-) -> Result<(), InPlaceFault>
-    requires legal { IsPaddedKeyLength len }
-    requires room { length buf.old ≡ 8 + 8 * word_count len }
-    ensures bad_length { (result ≡ Err InPlaceFault.BadLength) ↔ ¬ IsPlainKeyLength len }
-    ensures only_fault { IsOkUnless result InPlaceFault.BadLength }
-    ensures answer { OnOk result (
-        Plain (B.encrypted meter.old.pair) default_iv (key_in len buf.old) buf.new) }
-    ensures cleared { IsErr result → All (λ byte. byte ≡ 0) buf.new }
-    ensures meter_kept { IsErr result → meter.new ≡ meter.old }
-    ensures calls { OnOk result (meter.new ≡ counted (block_calls (length buf.old)) meter.old) }
-{
-    if !key_length_ok(len) {
-        buf.fill(0);
+    if !is_text_length(old_form, buf.len()) {
         return Err(InPlaceFault::BadLength);
     }
-    wrap_buffer(meter, DEFAULT_IV, buf);
+    let found = unwrap_found(old, buf);
+    decide(form_difference(old_form, found, &buf[WORD..]), buf)?;
+    let iv = new_value(old_form, new_form, found, buf)?;
+    wrap_found(new, iv, buf);
     Ok(())
+}
+
+// The initial value under which the registers in the buffer hold the found key in the new form. In
+// its own form it is the one that was found, whatever the key's length.
+fn new_value(
+    old_form: Form,
+    new_form: Form,
+    found: u64,
+    buf: &mut [u8],
+) -> Result<u64, InPlaceFault>
+    requires { IsTextLength old_form (length buf.old) }
+    ensures bad_length { (key : List ℕ) → HoldsIn old_form key (word_bytes found ++ drop 8 buf.old)
+        → (result ≡ Err InPlaceFault.BadLength) ↔ ¬ IsKeyLength new_form (length key) }
+    ensures only_fault { IsOkUnless result InPlaceFault.BadLength }
+    ensures answer { IfOk result (λ iv. (key : List ℕ)
+        → HoldsIn old_form key (word_bytes found ++ drop 8 buf.old)
+        → HoldsIn new_form key (word_bytes iv ++ drop 8 buf.new)) }
+    ensures cleared { IsErr result → All (λ byte. byte ≡ 0) buf.new }
+{
+    match (old_form, new_form) {
+        (Form::Plain, Form::Padded) => Ok(initial_value(buf.len() - WORD)),
+        (Form::Padded, Form::Plain) => plain_value(found, buf),
+        _ => Ok(found),
+    }
+}
+
+// The same from the padded form to the plain one. A padded key may have a length that no plain key
+// has: one that does not fill its words, or fills one word alone.
+fn plain_value(found: u64, buf: &mut [u8]) -> Result<u64, InPlaceFault>
+    requires { IsPaddedTextLength (length buf.old) }
+    ensures bad_length { (key : List ℕ)
+        → HoldsIn Form.Padded key (word_bytes found ++ drop 8 buf.old)
+        → (result ≡ Err InPlaceFault.BadLength) ↔ ¬ IsPlainKeyLength (length key) }
+    ensures only_fault { IsOkUnless result InPlaceFault.BadLength }
+    ensures answer { IfOk result (λ iv. (key : List ℕ)
+        → HoldsIn Form.Padded key (word_bytes found ++ drop 8 buf.old)
+        → HoldsIn Form.Plain key (word_bytes iv ++ drop 8 buf.new)) }
+    ensures cleared { IsErr result → All (λ byte. byte ≡ 0) buf.new }
+{
+    let one_word = is_zero((buf.len() - 2 * WORD) as u64);
+    let rest = given_length(found) ^ (buf.len() - WORD) as u64;
+    match decide(one_word | rest, buf) {
+        Ok(()) => Ok(DEFAULT_IV),
+        Err(_) => Err(InPlaceFault::BadLength),
+    }
 }

@@ -1,0 +1,99 @@
+-- The key that the registers hold, in whichever form, stands with the text under the old pair, and they are wrapped again as
+-- they are under the new one.
+use Rattle.std.proofs.Common.{rules, ◌≡◌, ℕ, List, length, ◌++◌, drop, refl}
+use Rattle.key_wrap.specs.declared.faults.InPlaceFault.TheVariants.{Integrity}
+use Rattle.key_wrap.specs.declared.forms.Form.{Form}
+use Rattle.key_wrap.specs.Words.{word_bytes}
+use Rattle.key_wrap.specs.Answer.{NoKey}
+use Rattle.key_wrap.specs.Forms.{StandsIn}
+use Rattle.key_wrap.specs.Found.{HoldsIn}
+use Rattle.key_wrap.specs.KeepForm.{IsSomeTextLength}
+use Rattle.key_wrap.proofs.FoundForms.{found_stands, stands_found, behind_first, refused_as}
+use Rattle.key_wrap.proofs.KeptForms.{one_key, one_answer, same_keys, some_length, length_some, padded_of}
+use Rattle.key_wrap.proofs.keeping_form_in_place.rewrap_keeping_form_in_place.Goals as goal
+
+pub returns-then-not-padded_text_length_ok : goal.returns-then-not-padded_text_length_ok
+returns-then-not-padded_text_length_ok g c =
+    let text : List ℕ = c.args.buf.now in
+    let inv = g.met.O.BlockPair.lawful c.args.old.now.pair in
+    let illegal : ¬ IsSomeTextLength (length text) = λ h.
+    let legal = c.padded_text_length_ok.ensures.1 (padded_of (length text) h) in cc in
+    record {
+      bad_length = (λ e. illegal, λ h. refl);
+      integrity = (λ e. cc, λ none. absurd (illegal none.0));
+      answer = tt;
+      accepts = λ form key h. absurd (illegal (length_some form key text inv h));
+      only_answer = tt;
+      only_key = tt;
+      same_key = tt;
+      restores = tt;
+      buffer_kept = λ h. refl;
+      old_meter_kept = λ h. refl;
+      cleared = λ legal e. absurd (illegal legal);
+      unwrap_calls = λ legal. absurd (illegal legal);
+      wrap_calls = tt;
+      new_meter_kept = λ e. refl;
+    }
+
+pub returns-in_err-decide : goal.returns-in_err-decide
+returns-in_err-decide g c =
+    let E = g.O.BlockPair.encrypted c.args.old.now.pair in
+    let text : List ℕ = c.args.buf.now in
+    let before : List ℕ = word_bytes c.unwrap_found-found.result ++ drop 8 c.unwrap_found-found.new.buf in
+    let inv = g.met.O.BlockPair.lawful c.args.old.now.pair in
+    let legal : IsSomeTextLength (length text) = some_length (length text) (c.padded_text_length_ok.ensures.0 c.if-not-padded_text_length_ok.false) in
+    let d = c.in_err-decide.ensures in
+    let differs : (form : Form) → NoKey (HoldsIn form) before = rw (behind_first c.unwrap_found-found.new.buf) at
+    (c.either_difference.ensures.refuses (λ zero. absurd (let ok = d.passes.1 zero in cc))) in
+    let none : (form : Form) → NoKey (StandsIn form E) text = λ form key h.
+    differs form key (stands_found form key before text inv c.unwrap_found-found.ensures.found h) in
+    let told = refused_as c.from_residual.result c.in_err-decide.field-0.0 Integrity c.from_residual.ensures d.only_fault in
+    record {
+      bad_length = (λ e. cc, λ bad. absurd (bad legal));
+      integrity = (λ e. (legal, none), λ h. told);
+      answer = rw told tt;
+      accepts = λ form key h. absurd (none form key h);
+      only_answer = rw told tt;
+      only_key = rw told tt;
+      same_key = rw told tt;
+      restores = rw told tt;
+      buffer_kept = λ bad. absurd (bad legal);
+      old_meter_kept = λ bad. absurd (bad legal);
+      cleared = λ h e. d.cleared refl;
+      unwrap_calls = λ h. c.unwrap_found-found.ensures.calls;
+      wrap_calls = rw told tt;
+      new_meter_kept = λ e. refl;
+    }
+
+pub returns : goal.returns
+returns g c =
+    let E = g.O.BlockPair.encrypted c.args.old.now.pair in
+    let F = g.N.BlockPair.encrypted c.args.new.now.pair in
+    let text : List ℕ = c.args.buf.now in
+    let answer : List ℕ = c.wrap_found.new.buf in
+    let before : List ℕ = word_bytes c.unwrap_found-found.result ++ drop 8 c.unwrap_found-found.new.buf in
+    let inv = g.met.O.BlockPair.lawful c.args.old.now.pair in
+    let inv' = g.met.N.BlockPair.lawful c.args.new.now.pair in
+    let legal : IsSomeTextLength (length text) = some_length (length text) (c.padded_text_length_ok.ensures.0 c.if-not-padded_text_length_ok.false) in
+    let d = c.in_ok-decide.ensures in
+    let held = rw (behind_first c.unwrap_found-found.new.buf) at (c.either_difference.ensures.passes (d.passes.0 refl)) in
+    let form : Form = held.0 in
+    let key : List ℕ = held.1 in
+    let stands : StandsIn form E key text = found_stands form key before text held.2 c.unwrap_found-found.ensures.found in
+    let wraps : StandsIn form F key answer = found_stands form key before answer held.2 (rw d.kept at c.wrap_found.ensures.wrapped) in
+    record {
+      bad_length = (λ e. cc, λ bad. absurd (bad legal));
+      integrity = (λ e. cc, λ none. absurd (none.1 form key stands));
+      answer = (form, (key, stands, wraps));
+      accepts = λ other_form other h. refl;
+      only_answer = λ other kept. one_answer form key text answer other inv stands wraps kept;
+      only_key = λ one_form other_form one other h k. one_key one_form other_form one other text inv h k;
+      same_key = same_keys form key text answer inv inv' stands wraps;
+      restores = λ other kept. one_answer form key answer text other inv' wraps stands kept;
+      buffer_kept = λ bad. absurd (bad legal);
+      old_meter_kept = λ bad. absurd (bad legal);
+      cleared = λ h e. cc;
+      unwrap_calls = λ h. c.unwrap_found-found.ensures.calls;
+      wrap_calls = search rules;
+      new_meter_kept = λ e. cc;
+    }

@@ -1,0 +1,43 @@
+-- What a rewrapping answers that takes a wrapped key in whichever form it is a wrapping, and keeps that form: under E before,
+-- under F after.
+use Rattle.std.specs.Prelude.{◌≡◌, ◌↔◌, ℕ, List, length, Result, Ok, Err, IfOk, IsOkUnless, Vec}
+use Rattle.key_wrap.specs.declared.faults.UnwrapFault.{UnwrapFault}
+use Rattle.key_wrap.specs.declared.faults.UnwrapFault.TheVariants.{BadLength, Integrity, Memory}
+use Rattle.key_wrap.specs.declared.forms.Form.{Form}
+use Rattle.key_wrap.specs.Answer.{NoKey}
+use Rattle.key_wrap.specs.Forms.{StandsIn, IsTextLength}
+use Rattle.key_wrap.specs.Rewrap.{AreWrappings, NoOtherForm}
+
+-- one key stands with both in one form: with the text under E, and with the answer under F
+abbrev pub KeepsForm : (List ℕ → List ℕ) → (List ℕ → List ℕ) → List ℕ → List ℕ → Type 0
+KeepsForm E F text answer = (form : Form) × AreWrappings form E form F text answer
+
+-- a length that is legal for a text in some form
+abbrev pub IsSomeTextLength : ℕ → Type 0
+IsSomeTextLength len = (form : Form) × IsTextLength form len
+
+-- the text has a length that is legal in some form, and in neither form is it the wrapping of a key
+abbrev pub HasNoForm : (List ℕ → List ℕ) → List ℕ → Type 0
+HasNoForm E text = IsSomeTextLength (length text) × ((form : Form) → NoKey (StandsIn form E) text)
+
+-- The answer, by cases: the wrapping of the text's key in the text's form; BadLength where the length is legal in neither
+-- form; Integrity where no key stands with the text in either; or that there is no memory.
+abbrev pub KeptAnswer : {Z : Type 0} → (List ℕ → List ℕ) → (List ℕ → List ℕ) → List ℕ → Result (Vec ℕ Z) UnwrapFault → Type 0
+KeptAnswer E F text (Ok answer) = KeepsForm E F text answer.items
+KeptAnswer E F text (Err BadLength) = ¬ IsSomeTextLength (length text)
+KeptAnswer E F text (Err Integrity) = HasNoForm E text
+KeptAnswer E F text (Err Memory) = IsSomeTextLength (length text)
+
+-- what is promised of the answer of the call that takes memory
+pub record FormKept {Z : Type 0} (E F : List ℕ → List ℕ) (text : List ℕ) (answer : Result (Vec ℕ Z) UnwrapFault) : Type 0 where
+  pub bad_length : (answer ≡ Err BadLength) ↔ ¬ IsSomeTextLength (length text)
+  pub rewraps : KeptAnswer E F text answer
+  pub accepts : (form : Form) → (key : List ℕ) → StandsIn form E key text → IsOkUnless answer Memory
+  pub memory : answer ≡ Err Memory → IsSomeTextLength (length text)
+  pub only_answer : IfOk answer (λ out. (other : List ℕ) → KeepsForm E F text other → other ≡ out.items)
+  pub only_key : IfOk answer (λ out. (form other_form : Form) → (key other : List ℕ) → StandsIn form E key text → StandsIn other_form E other text
+      → (other_form ≡ form) × (other ≡ key))
+  pub same_key : IfOk answer (λ out. (form : Form) → (key : List ℕ) → StandsIn form F key out.items ↔ StandsIn form E key text)
+  pub restores : IfOk answer (λ out. (other : List ℕ) → KeepsForm F E out.items other → other ≡ text)
+  pub size : IfOk answer (λ out. length out.items ≡ length text)
+  pub other_form : IfOk answer (λ out. (form : Form) → (key : List ℕ) → StandsIn form F key out.items → NoOtherForm form F out.items)

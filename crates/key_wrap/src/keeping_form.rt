@@ -1,0 +1,79 @@
+//! Rewrapping in whichever form the wrapped key is in, with one growth.
+
+ghost use Rattle.std.specs.Prelude.{◌≡◌, ◌↔◌, ℕ, List, length, Err, IfOk, IsOkUnless};
+ghost use Rattle.key_wrap.specs.Forms.{StandsIn};
+ghost use Rattle.key_wrap.specs.Rewrap.{NoOtherForm};
+ghost use Rattle.key_wrap.specs.KeepForm.{FormKept, KeepsForm, KeptAnswer, IsSomeTextLength};
+
+use crate::faults::UnwrapFault;
+use crate::forms::Form;
+use crate::keeping_form_in_place::rewrap_keeping_form_in_place;
+use crate::lengths::padded_text_length_ok;
+use block_pair::{BlockPair, Meter};
+use std::alloc::{Allocator, Global};
+
+/// The wrapping under the new pair of the one key whose wrapping under the old pair is `text`, in
+/// the form in which `text` is its wrapping: as many bytes as the text. No wrapped key is one in
+/// both forms, so there is one answer.
+///
+/// `BadLength` where the text's length is legal in neither form, before any memory is taken; then
+/// `Memory`, before the first block call; `Integrity` where the text is a wrapping in neither form.
+pub fn rewrap_keeping_form<O: BlockPair, N: BlockPair>(
+    alloc: Global,
+    old: &O,
+    new: &N,
+    text: &[u8],
+) -> Result<Vec<u8>, UnwrapFault>
+    ensures bad_length { (result ≡ Err UnwrapFault.BadLength)
+        ↔ ¬ IsSomeTextLength (length text.now) }
+    ensures answer { KeptAnswer (O.encrypted old.now) (N.encrypted new.now) text.now result }
+
+    // A wrapping in either form is refused only where there is no memory.
+    ensures accepts { (form : Form) → (key : List ℕ)
+        → StandsIn form (O.encrypted old.now) key text.now
+        → IsOkUnless result UnwrapFault.Memory }
+    ensures memory { result ≡ Err UnwrapFault.Memory → IsSomeTextLength (length text.now) }
+    ensures only_answer { IfOk result (λ answer. (other : List ℕ)
+        → KeepsForm (O.encrypted old.now) (N.encrypted new.now) text.now other
+        → other ≡ answer.items) }
+
+    // The text is the wrapping of one key alone, in one form.
+    ensures only_key { IfOk result (λ answer. (form other_form : Form) → (key other : List ℕ)
+        → StandsIn form (O.encrypted old.now) key text.now
+        → StandsIn other_form (O.encrypted old.now) other text.now
+        → (other_form ≡ form) × (other ≡ key)) }
+
+    // Unwrapping the answer, in either form, gives exactly the old key.
+    ensures same_key { IfOk result (λ answer. (form : Form) → (key : List ℕ)
+        → StandsIn form (N.encrypted new.now) key answer.items
+        ↔ StandsIn form (O.encrypted old.now) key text.now) }
+
+    // Rewrapping back gives the old text.
+    ensures restores { IfOk result (λ answer. (other : List ℕ)
+        → KeepsForm (N.encrypted new.now) (O.encrypted old.now) answer.items other
+        → other ≡ text.now) }
+    ensures size { IfOk result (λ answer. length answer.items ≡ length text.now) }
+    ensures other_form { IfOk result (λ answer. (form : Form) → (key : List ℕ)
+        → StandsIn form (N.encrypted new.now) key answer.items
+        → NoOtherForm form (N.encrypted new.now) answer.items) }
+{
+    rewrap_keeping_form_on(alloc, old, new, text)
+}
+
+// `rewrap_keeping_form` on any allocator, so that a test can refuse its growth.
+pub(crate) fn rewrap_keeping_form_on<A: Allocator, O: BlockPair, N: BlockPair>(
+    alloc: A,
+    old: &O,
+    new: &N,
+    text: &[u8],
+) -> Result<Vec<u8, A>, UnwrapFault>
+    ensures { FormKept (O.encrypted old.now) (N.encrypted new.now) text.now result }
+{
+    if !padded_text_length_ok(text.len()) {
+        return Err(UnwrapFault::BadLength);
+    }
+    let mut buffer = Vec::from_slice(alloc, text)?;
+    let (mut unwraps, mut wraps) = (Meter::new(old), Meter::new(new));
+    rewrap_keeping_form_in_place(&mut unwraps, &mut wraps, &mut buffer)?;
+    Ok(buffer)
+}
