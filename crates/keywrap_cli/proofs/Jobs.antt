@@ -7,15 +7,18 @@ use Rattle.key_files.specs.declared.fault.FileFault.TheVariants as files
 use Rattle.std.specs.declared.alloc.Global.{Global}
 use Rattle.keywrap_cli.specs.Files.{DenotesKek}
 use Rattle.keywrap_cli.specs.Job.{DenoteBoth, IsInputReadToEnd, IsKekReadToEnd, IsKekRefused, IsUnread, LeavesOutput, RunsJobWith, WritesTheKeyWith}
+use Rattle.keywrap_cli.proofs.Readings.{kek_named}
 use Rattle.keywrap_cli.proofs.Refusals.{file_refusals}
 use Rattle.keywrap_cli.specs.Output.{OutputAnswer, WritesFor}
-use Rattle.keywrap_cli.specs.Readings.{KekAnswer, ReadsKek, InputAnswer, ReadsInput}
+use Rattle.keywrap_cli.specs.Readings.{KekAnswer, ReadsKek, InputAnswer, ReadsInput, kek_fault_of}
 use Rattle.keywrap_cli.specs.declared.job.Done.{Done}
 use Rattle.keywrap_cli.specs.declared.job.Job.{Job}
 use Rattle.keywrap_cli.specs.declared.job.Job.TheVariants.{Unwrap}
 use Rattle.keywrap_cli.specs.declared.job.JobFault.{JobFault}
 use Rattle.keywrap_cli.specs.declared.job.JobFault.TheVariants.{KekFile, KekLength, NewKekFile, NewKekLength, InputFile, BadLength, Integrity, Write, Memory}
 use Rattle.keywrap_cli.specs.declared.job.Task.{Task}
+use Rattle.keywrap_cli.specs.declared.kek_file.KekFault.{KekFault}
+use Rattle.keywrap_cli.specs.declared.kek_file.KekFault.TheVariants.{File, Length}
 
 -- what is not touched stays, and nothing was taken from it
 pub untouched : (known : Option (List ℕ)) → Keeps known known
@@ -32,21 +35,14 @@ record Reaches (iv : ℕ) (task : Task) (F G : List ℕ) (kek' input' out out' :
   input_end : IsInputReadToEnd answer input'
   leaves : LeavesOutput iv task F G out out' answer
 
-kek_stops : (iv : ℕ) (task : Task) (F : List ℕ) (left input out : Option (List ℕ)) (fault : JobFault)
-    → KekAnswer task.kek F left (Err fault) → Reaches iv task F [] left input out out (Err fault)
-kek_stops iv task F left input out (KekFile files.Read) h = record { kek_end = tt; input_end = tt; leaves = untouched out }
-kek_stops iv task F left input out (KekFile files.TooLong) h = record { kek_end = tt; input_end = tt; leaves = (h, untouched out) }
-kek_stops iv task F left input out (KekFile (files.BadDigit at)) h = record { kek_end = h.1; input_end = tt; leaves = (h.0, untouched out) }
-kek_stops iv task F left input out (KekFile files.OddDigits) h = record { kek_end = h.1; input_end = tt; leaves = (h.0, untouched out) }
-kek_stops iv task F left input out (KekFile files.Memory) h = absurd h
-kek_stops iv task F left input out KekLength h = record { kek_end = h.1; input_end = tt; leaves = (h.0, untouched out) }
-kek_stops iv task F left input out (InputFile fault) h = absurd h
-kek_stops iv task F left input out (NewKekFile fault) h = absurd h
-kek_stops iv task F left input out NewKekLength h = absurd h
-kek_stops iv task F left input out BadLength h = absurd h
-kek_stops iv task F left input out Integrity h = absurd h
-kek_stops iv task F left input out (Write written) h = absurd h
-kek_stops iv task F left input out Memory h = record { kek_end = tt; input_end = tt; leaves = untouched out }
+kek_stops : (iv : ℕ) (task : Task) (F : List ℕ) (left input out : Option (List ℕ)) (fault : KekFault)
+    → KekAnswer task.kek F left (Err fault) → Reaches iv task F [] left input out out (Err (kek_fault_of fault))
+kek_stops iv task F left input out (File files.Read) h = record { kek_end = tt; input_end = tt; leaves = untouched out }
+kek_stops iv task F left input out (File files.TooLong) h = record { kek_end = tt; input_end = tt; leaves = (h, untouched out) }
+kek_stops iv task F left input out (File (files.BadDigit at)) h = record { kek_end = h.1; input_end = tt; leaves = (h.0, untouched out) }
+kek_stops iv task F left input out (File files.OddDigits) h = record { kek_end = h.1; input_end = tt; leaves = (h.0, untouched out) }
+kek_stops iv task F left input out (File files.Memory) h = record { kek_end = tt; input_end = tt; leaves = untouched out }
+kek_stops iv task F left input out Length h = record { kek_end = h.1; input_end = tt; leaves = (h.0, untouched out) }
 
 -- a fault is refused alike whatever the answer would have held
 pub same_refusal : {A B : Type 0} → (fault other : JobFault) (r : Result A JobFault) (s : Result B JobFault)
@@ -54,12 +50,13 @@ pub same_refusal : {A B : Type 0} → (fault other : JobFault) (r : Result A Job
 same_refusal fault other r s is was e = let same : fault ≡ other = cc in cc
 
 -- the call is refused at the KEK file
-pub stopped_at_kek : (iv : ℕ) (task : Task) (kek kek' input out : Option (List ℕ)) (fault : JobFault)
-    → ReadsKek task.kek kek kek' (Err fault) → RunsJobWith iv task kek kek' input input out out (Err fault)
+pub stopped_at_kek : (iv : ℕ) (task : Task) (kek kek' input out : Option (List ℕ)) (fault : KekFault)
+    → ReadsKek task.kek kek kek' (Err fault) → RunsJobWith iv task kek kek' input input out out (Err (kek_fault_of fault))
 stopped_at_kek iv task kek kek' input out fault a =
     let reached = kek_stops iv task a.taken kek' input out fault a.answers in
     let unread : IsUnread input input [] = record { nothing = refl; same = untouched input } in
-    let refusals = file_refusals iv task a.taken [] out out (Err fault) reached.leaves in
+    let refusals = file_refusals iv task a.taken [] out out (Err (kek_fault_of fault)) reached.leaves in
+    let named = kek_named fault in
     record {
       F = a.taken;
       G = [];
@@ -72,12 +69,11 @@ stopped_at_kek iv task kek kek' input out fault a =
       in_order = inl unread;
       unread = λ _. unread;
       kek_too_long = (
-        λ e. a.too_long.0 (same_refusal fault _ _ _ refl refl e),
-        λ more. same_refusal fault _ _ _ refl refl (a.too_long.1 more),
+        λ e. let is : fault ≡ File files.TooLong = named.too_long.0 (cc) in a.too_long.0 (cc),
+        λ more. let was = a.too_long.1 more in let is : fault ≡ File files.TooLong = cc in let e = named.too_long.1 is in cc,
       );
       input_too_long = (
-        λ e. let is : fault ≡ InputFile files.TooLong = cc in
-            absurd (subst (λ (f : JobFault). KekAnswer task.kek a.taken kek' (Err f)) is a.answers),
+        λ e. absurd (named.not_input (cc)),
         λ more. absurd (omega arith),
       );
       kek_refused = refusals.kek;

@@ -5,8 +5,7 @@ use Rattle.key_files.specs.declared.fault.FileFault.{FileFault}
 use Rattle.key_files.specs.declared.fault.FileFault.TheVariants as files
 use Rattle.keywrap_cli.proofs.Refusals.{one_kek}
 use Rattle.keywrap_cli.specs.Files.{DenotesKek, IsRefused}
-use Rattle.keywrap_cli.specs.Job.{GivesUp, IsRefusedFor}
-use Rattle.keywrap_cli.specs.Rewrapping.{FilesAnswer, HasBadKek, HasKek, LeavesNewText, Rewrapping}
+use Rattle.keywrap_cli.specs.Rewrapping.{FilesAnswer, GivesUp, HasBadKek, HasKek, IsRefusedFor, LeavesNewText, Rewrapping}
 use Rattle.keywrap_cli.specs.declared.job.Done.{Done}
 use Rattle.keywrap_cli.specs.declared.job.JobFault.{JobFault}
 use Rattle.keywrap_cli.specs.declared.job.JobFault.TheVariants.{KekFile, KekLength, NewKekFile, NewKekLength, InputFile, BadLength, Integrity, Write, Memory}

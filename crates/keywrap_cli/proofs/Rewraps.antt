@@ -11,11 +11,12 @@ use Rattle.key_wrap.specs.Rewrap.{AreWrappings, RewrapAnswer}
 use Rattle.key_wrap.specs.declared.faults.UnwrapFault.{UnwrapFault}
 use Rattle.key_wrap.specs.declared.forms.Form.{Form}
 use Rattle.keywrap_cli.proofs.Jobs.{untouched, nothing_taken, same_refusal}
+use Rattle.keywrap_cli.proofs.Readings.{kek_named}
 use Rattle.keywrap_cli.proofs.RewrapRefusals.{rewrap_refusals}
 use Rattle.keywrap_cli.specs.Files.{DenotesKek, IsRefused, printed}
 use Rattle.keywrap_cli.specs.Job.{IsKekAccepted, IsKekReadToEnd, IsKekRefused, IsUnread}
 use Rattle.keywrap_cli.specs.Output.{job_fault_of}
-use Rattle.keywrap_cli.specs.Readings.{KekAnswer, ReadsKek, ReadsNewKek, InputAnswer, ReadsInput, new_kek_fault_of}
+use Rattle.keywrap_cli.specs.Readings.{KekAnswer, ReadsKek, InputAnswer, ReadsInput, kek_fault_of, new_kek_fault_of}
 use Rattle.keywrap_cli.specs.Rewrapping.{DenoteAll, HasBadKek, HasKek, IsEitherKekRefused, IsNewKekReadToEnd, IsNewText, IsRewrapped}
 use Rattle.keywrap_cli.specs.Rewrapping.{IsTextReadToEnd, LeavesNewText, NewTextAnswer, Rewrapping, RunsRewrap, Takes, WritesTheNewText}
 use Rattle.keywrap_cli.specs.Writing.{Sends}
@@ -23,6 +24,8 @@ use Rattle.keywrap_cli.specs.declared.job.Done.{Done}
 use Rattle.keywrap_cli.specs.declared.job.JobFault.{JobFault}
 use Rattle.keywrap_cli.specs.declared.job.JobFault.TheVariants.{KekFile, KekLength, NewKekFile, NewKekLength, InputFile, BadLength, Integrity, Write, Memory}
 use Rattle.keywrap_cli.specs.declared.job.Notation.{Notation}
+use Rattle.keywrap_cli.specs.declared.kek_file.KekFault.{KekFault}
+use Rattle.keywrap_cli.specs.declared.kek_file.KekFault.TheVariants.{File, Length}
 
 -- what the answer at some step says of the ends of the files and of the writer
 record Reaches (task : Rewrapping) (F H G : List ℕ) (kek' new' input' out out' : Option (List ℕ)) (answer : Result Done JobFault) : Type 0 where
@@ -75,8 +78,8 @@ takes_nothing known P never = record {
   too_long = (λ p. absurd (never p), λ more. absurd (omega arith));
 }
 
-kek_takes : (notation : Notation) (old new : Option (List ℕ)) (r : Result (List ℕ) JobFault) (P : Type 0)
-    → (reads : ReadsKek notation old new r) → P ↔ (r ≡ Err (KekFile files.TooLong)) → Takes old new reads.taken P
+kek_takes : (notation : Notation) (old new : Option (List ℕ)) (r : Result (List ℕ) KekFault) (P : Type 0)
+    → (reads : ReadsKek notation old new r) → P ↔ (r ≡ Err (File files.TooLong)) → Takes old new reads.taken P
 kek_takes notation old new r P reads same = record {
   stands_after = reads.stands_after;
   at_most = reads.at_most;
@@ -91,82 +94,76 @@ kek_accepted notation old new K reads = record { K = K; kek = reads.answers.0; e
 unread : (known : Option (List ℕ)) → IsUnread known known []
 unread known = record { nothing = refl; same = untouched known }
 
--- the faults of reading a KEK: of its file, of its length, or want of memory
-record AtKek (task : Rewrapping) (F : List ℕ) (left new input out : Option (List ℕ)) (fault : JobFault) : Type 0 where
-  reaches : Reaches task F [] [] left new input out out (Err fault)
-  not_new : ¬ (fault ≡ NewKekFile files.TooLong)
-  not_input : ¬ (fault ≡ InputFile files.TooLong)
-
-kek_stops : (task : Rewrapping) (F : List ℕ) (left new input out : Option (List ℕ)) (fault : JobFault)
-    → KekAnswer task.kek F left (Err fault) → AtKek task F left new input out fault
-kek_stops task F left new input out (KekFile files.Read) h =
-    record { reaches = record { kek_end = tt; new_end = tt; input_end = tt; leaves = untouched out }; not_new = λ e. cc; not_input = λ e. cc }
-kek_stops task F left new input out (KekFile files.TooLong) h =
-    record { reaches = record { kek_end = tt; new_end = tt; input_end = tt; leaves = (h, untouched out) }; not_new = λ e. cc; not_input = λ e. cc }
-kek_stops task F left new input out (KekFile (files.BadDigit at)) h =
-    record { reaches = record { kek_end = h.1; new_end = tt; input_end = tt; leaves = (h.0, untouched out) }; not_new = λ e. cc; not_input = λ e. cc }
-kek_stops task F left new input out (KekFile files.OddDigits) h =
-    record { reaches = record { kek_end = h.1; new_end = tt; input_end = tt; leaves = (h.0, untouched out) }; not_new = λ e. cc; not_input = λ e. cc }
-kek_stops task F left new input out (KekFile files.Memory) h = absurd h
-kek_stops task F left new input out KekLength h =
+-- the faults of the old KEK
+kek_stops : (task : Rewrapping) (F : List ℕ) (left new input out : Option (List ℕ)) (fault : KekFault)
+    → KekAnswer task.kek F left (Err fault) → Reaches task F [] [] left new input out out (Err (kek_fault_of fault))
+kek_stops task F left new input out (File files.Read) h = record { kek_end = tt; new_end = tt; input_end = tt; leaves = untouched out }
+kek_stops task F left new input out (File files.TooLong) h =
+    record { kek_end = tt; new_end = tt; input_end = tt; leaves = (h, untouched out) }
+kek_stops task F left new input out (File (files.BadDigit at)) h =
+    record { kek_end = h.1; new_end = tt; input_end = tt; leaves = (h.0, untouched out) }
+kek_stops task F left new input out (File files.OddDigits) h =
+    record { kek_end = h.1; new_end = tt; input_end = tt; leaves = (h.0, untouched out) }
+kek_stops task F left new input out (File files.Memory) h = record { kek_end = tt; new_end = tt; input_end = tt; leaves = untouched out }
+kek_stops task F left new input out Length h =
     let bad : HasBadKek task.kek F = record { K = h.0.0; denoted = h.0.1; bad = h.0.2 } in
-    record { reaches = record { kek_end = h.1; new_end = tt; input_end = tt; leaves = (bad, untouched out) }; not_new = λ e. cc; not_input = λ e. cc }
-kek_stops task F left new input out (NewKekFile fault) h = absurd h
-kek_stops task F left new input out NewKekLength h = absurd h
-kek_stops task F left new input out (InputFile fault) h = absurd h
-kek_stops task F left new input out BadLength h = absurd h
-kek_stops task F left new input out Integrity h = absurd h
-kek_stops task F left new input out (Write written) h = absurd h
-kek_stops task F left new input out Memory h =
-    record { reaches = record { kek_end = tt; new_end = tt; input_end = tt; leaves = untouched out }; not_new = λ e. cc; not_input = λ e. cc }
+    record { kek_end = h.1; new_end = tt; input_end = tt; leaves = (bad, untouched out) }
 
 -- the call is refused at the old KEK's file
-pub stopped_at_kek : (task : Rewrapping) (kek kek' new input out : Option (List ℕ)) (fault : JobFault)
-    → ReadsKek task.kek kek kek' (Err fault) → RunsRewrap task kek kek' new new input input out out (Err fault)
+pub stopped_at_kek : (task : Rewrapping) (kek kek' new input out : Option (List ℕ)) (fault : KekFault)
+    → ReadsKek task.kek kek kek' (Err fault) → RunsRewrap task kek kek' new new input input out out (Err (kek_fault_of fault))
 stopped_at_kek task kek kek' new input out fault a =
-    let stop = kek_stops task a.taken kek' new input out fault a.answers in
-    assembled task kek kek' new new input input out out a.taken [] [] (Err fault)
-    (kek_takes task.kek kek kek' (Err fault) _ a (λ e. same_refusal fault _ _ _ refl refl e, λ e. same_refusal fault _ _ _ refl refl e))
-    (takes_nothing new _ (λ e. stop.not_new (cc)))
-    (takes_nothing input _ (λ e. stop.not_input (cc)))
-    stop.reaches
+    let named = kek_named fault in
+    assembled task kek kek' new new input input out out a.taken [] [] (Err (kek_fault_of fault))
+    (kek_takes task.kek kek kek' (Err fault) _ a (
+      λ e. let is = named.too_long.0 (cc) in cc,
+      λ e. let is : fault ≡ File files.TooLong = cc in let e = named.too_long.1 is in cc,
+    ))
+    (takes_nothing new _ (λ e. named.not_new (cc)))
+    (takes_nothing input _ (λ e. named.not_input (cc)))
+    (kek_stops task a.taken kek' new input out fault a.answers)
     (record { of_new = inl (unread new); of_input = inl (unread input); new_unread = λ s. unread new; input_unread = λ s. unread input })
 
--- the faults of reading the new KEK, named as its own
-record AtNewKek (task : Rewrapping) (F H : List ℕ) (kek' left input out : Option (List ℕ)) (fault : JobFault) : Type 0 where
+-- the faults of the new KEK, by its name
+record AtNewKek (task : Rewrapping) (F H : List ℕ) (kek' left input out : Option (List ℕ)) (fault : KekFault) : Type 0 where
   reaches : Reaches task F H [] kek' left input out out (Err (new_kek_fault_of fault))
   past : ¬ IsKekRefused (Err (new_kek_fault_of fault))
-  too_long : (new_kek_fault_of fault ≡ NewKekFile files.TooLong) ↔ (fault ≡ KekFile files.TooLong)
+  too_long : (new_kek_fault_of fault ≡ NewKekFile files.TooLong) ↔ (fault ≡ File files.TooLong)
   not_input : ¬ (new_kek_fault_of fault ≡ InputFile files.TooLong)
 
-new_kek_stops : (task : Rewrapping) (F H K : List ℕ) (kek' left input out : Option (List ℕ)) (fault : JobFault)
+new_kek_stops : (task : Rewrapping) (F H K : List ℕ) (kek' left input out : Option (List ℕ)) (fault : KekFault)
     → DenotesKek task.kek F K → IsAtEnd kek' → KekAnswer task.kek H left (Err fault) → AtNewKek task F H kek' left input out fault
-new_kek_stops task F H K kek' left input out (KekFile files.Read) kek end h = record {
+new_kek_stops task F H K kek' left input out (File files.Read) kek end h = record {
   reaches = record { kek_end = end; new_end = tt; input_end = tt; leaves = untouched out };
   past = λ s. s;
   too_long = (λ e. cc, λ e. cc);
   not_input = λ e. cc;
 }
-new_kek_stops task F H K kek' left input out (KekFile files.TooLong) kek end h = record {
+new_kek_stops task F H K kek' left input out (File files.TooLong) kek end h = record {
   reaches = record { kek_end = end; new_end = tt; input_end = tt; leaves = ((record { K = K; kek = kek }, h), untouched out) };
   past = λ s. s;
   too_long = (λ e. cc, λ e. cc);
   not_input = λ e. cc;
 }
-new_kek_stops task F H K kek' left input out (KekFile (files.BadDigit at)) kek end h = record {
+new_kek_stops task F H K kek' left input out (File (files.BadDigit at)) kek end h = record {
   reaches = record { kek_end = end; new_end = h.1; input_end = tt; leaves = ((record { K = K; kek = kek }, h.0), untouched out) };
   past = λ s. s;
   too_long = (λ e. cc, λ e. cc);
   not_input = λ e. cc;
 }
-new_kek_stops task F H K kek' left input out (KekFile files.OddDigits) kek end h = record {
+new_kek_stops task F H K kek' left input out (File files.OddDigits) kek end h = record {
   reaches = record { kek_end = end; new_end = h.1; input_end = tt; leaves = ((record { K = K; kek = kek }, h.0), untouched out) };
   past = λ s. s;
   too_long = (λ e. cc, λ e. cc);
   not_input = λ e. cc;
 }
-new_kek_stops task F H K kek' left input out (KekFile files.Memory) kek end h = absurd h
-new_kek_stops task F H K kek' left input out KekLength kek end h =
+new_kek_stops task F H K kek' left input out (File files.Memory) kek end h = record {
+  reaches = record { kek_end = tt; new_end = tt; input_end = tt; leaves = untouched out };
+  past = λ s. s;
+  too_long = (λ e. cc, λ e. cc);
+  not_input = λ e. cc;
+}
+new_kek_stops task F H K kek' left input out Length kek end h =
     let bad : HasBadKek task.kek H = record { K = h.0.0; denoted = h.0.1; bad = h.0.2 } in
     record {
       reaches = record { kek_end = end; new_end = h.1; input_end = tt; leaves = ((record { K = K; kek = kek }, bad), untouched out) };
@@ -174,34 +171,22 @@ new_kek_stops task F H K kek' left input out KekLength kek end h =
       too_long = (λ e. cc, λ e. cc);
       not_input = λ e. cc;
     }
-new_kek_stops task F H K kek' left input out (NewKekFile fault) kek end h = absurd h
-new_kek_stops task F H K kek' left input out NewKekLength kek end h = absurd h
-new_kek_stops task F H K kek' left input out (InputFile fault) kek end h = absurd h
-new_kek_stops task F H K kek' left input out BadLength kek end h = absurd h
-new_kek_stops task F H K kek' left input out Integrity kek end h = absurd h
-new_kek_stops task F H K kek' left input out (Write written) kek end h = absurd h
-new_kek_stops task F H K kek' left input out Memory kek end h = record {
-  reaches = record { kek_end = tt; new_end = tt; input_end = tt; leaves = untouched out };
-  past = λ s. s;
-  too_long = (λ e. cc, λ e. cc);
-  not_input = λ e. cc;
-}
 
 -- an answer past the old KEK's file is none of its refusals
 not_kek : (answer : Result Done JobFault) → ¬ IsKekRefused answer → ¬ (answer ≡ Err (KekFile files.TooLong))
 not_kek answer past e = past (subst (λ (r : Result Done JobFault). IsKekRefused r) (sym e) tt)
 
 -- the call is refused at the new KEK's file
-at_new_kek : (task : Rewrapping) (kek kek' new new' input out : Option (List ℕ)) (K : List ℕ) (fault : JobFault)
+pub stopped_at_new_kek : (task : Rewrapping) (kek kek' new new' input out : Option (List ℕ)) (K : List ℕ) (fault : KekFault)
     → ReadsKek task.kek kek kek' (Ok K) → ReadsKek task.kek new new' (Err fault)
     → RunsRewrap task kek kek' new new' input input out out (Err (new_kek_fault_of fault))
-at_new_kek task kek kek' new new' input out K fault a b =
+stopped_at_new_kek task kek kek' new new' input out K fault a b =
     let stop = new_kek_stops task a.taken b.taken K kek' new' input out fault a.answers.0 a.answers.1 b.answers in
     assembled task kek kek' new new' input input out out a.taken b.taken [] (Err (new_kek_fault_of fault))
     (kek_takes task.kek kek kek' (Ok K) _ a (λ e. absurd (not_kek (Err (new_kek_fault_of fault)) stop.past e), λ e. cc))
     (kek_takes task.kek new new' (Err fault) _ b (
       λ e. let is = stop.too_long.0 (cc) in cc,
-      λ e. let is : fault ≡ KekFile files.TooLong = cc in let named = stop.too_long.1 is in cc,
+      λ e. let is : fault ≡ File files.TooLong = cc in let named = stop.too_long.1 is in cc,
     ))
     (takes_nothing input _ (λ e. stop.not_input (cc)))
     stop.reaches
@@ -211,15 +196,6 @@ at_new_kek task kek kek' new new' input out K fault a b =
       new_unread = λ s. absurd (stop.past s);
       input_unread = λ s. unread input;
     })
-
-pub stopped_at_new_kek : (task : Rewrapping) (kek kek' new new' input out : Option (List ℕ)) (K : List ℕ) (fault : JobFault)
-    → ReadsKek task.kek kek kek' (Ok K) → ReadsNewKek task.kek new new' (Err fault)
-    → RunsRewrap task kek kek' new new' input input out out (Err fault)
-stopped_at_new_kek task kek kek' new new' input out K fault a (Ok L, b, named) = cc
-stopped_at_new_kek task kek kek' new new' input out K fault a (Err found, b, named) =
-    subst (λ (r : Result Done JobFault). RunsRewrap task kek kek' new new' input input out out r)
-    (let is : fault ≡ new_kek_fault_of found = cc in cc)
-    (at_new_kek task kek kek' new new' input out K found a b)
 
 -- past both KEKs
 record PastKeks (task : Rewrapping) (F H G : List ℕ) (kek' new' input' out out' : Option (List ℕ)) (answer : Result Done JobFault) : Type 0 where
@@ -312,27 +288,20 @@ passed task kek kek' new new' input input' out out' K L read answer a b c same p
       input_unread = λ s. absurd (p.past s);
     })
 
--- the new KEK that was found is one that was read
-new_kek_read : (notation : Notation) (old new : Option (List ℕ)) (L : List ℕ) → ReadsNewKek notation old new (Ok L) → ReadsKek notation old new (Ok L)
-new_kek_read notation old new L (Ok K, b, named) = let same : K ≡ L = cc in subst (λ (k : List ℕ). ReadsKek notation old new (Ok k)) same b
-new_kek_read notation old new L (Err found, b, named) = cc
-
 pub stopped_at_text : (task : Rewrapping) (kek kek' new new' input input' out : Option (List ℕ)) (K L : List ℕ) (fault : JobFault)
-    → ReadsKek task.kek kek kek' (Ok K) → ReadsNewKek task.kek new new' (Ok L) → ReadsInput task.input input input' (Err fault)
+    → ReadsKek task.kek kek kek' (Ok K) → ReadsKek task.kek new new' (Ok L) → ReadsInput task.input input input' (Err fault)
     → RunsRewrap task kek kek' new new' input input' out out (Err fault)
-stopped_at_text task kek kek' new new' input input' out K L fault a named c =
-    let b = new_kek_read task.kek new new' L named in
+stopped_at_text task kek kek' new new' input input' out K L fault a b c =
     passed task kek kek' new new' input input' out out K L (Err fault) (Err fault) a b c
     (λ e. same_refusal fault _ _ _ refl refl e, λ e. same_refusal fault _ _ _ refl refl e)
     (text_stops task a.taken b.taken c.taken K L kek' new' input' out fault a.answers.0 a.answers.1 b.answers.0 b.answers.1 c.answers)
 
 pub rewritten : (task : Rewrapping) (kek kek' new new' input input' out out' : Option (List ℕ)) (K L : List ℕ) (X : Vec ℕ Global)
     (answer : Result Done JobFault)
-    → ReadsKek task.kek kek kek' (Ok K) → ReadsNewKek task.kek new new' (Ok L) → ReadsInput task.input input input' (Ok X)
+    → ReadsKek task.kek kek kek' (Ok K) → ReadsKek task.kek new new' (Ok L) → ReadsInput task.input input input' (Ok X)
     → NewTextAnswer task.old_form (cipher K) task.new_form (cipher L) task.input X.items out out' answer
     → RunsRewrap task kek kek' new new' input input' out out' answer
-rewritten task kek kek' new new' input input' out out' K L X answer a named c h =
-    let b = new_kek_read task.kek new new' L named in
+rewritten task kek kek' new new' input input' out out' K L X answer a b c h =
     passed task kek kek' new new' input input' out out' K L (Ok X) answer a b c (
       λ e. absurd (subst (λ (r : Result Done JobFault).
           NewTextAnswer task.old_form (cipher K) task.new_form (cipher L) task.input X.items out out' r) e h),

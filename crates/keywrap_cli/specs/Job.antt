@@ -15,7 +15,7 @@ use Rattle.keywrap_cli.specs.Output.{IsOutput, HasBadLength, HasNoKey, IsDone, j
 use Rattle.keywrap_cli.specs.declared.convert.Direction.{Direction}
 use Rattle.keywrap_cli.specs.declared.job.Done.{Done}
 use Rattle.keywrap_cli.specs.declared.job.JobFault.{JobFault}
-use Rattle.keywrap_cli.specs.declared.job.JobFault.TheVariants.{KekFile, KekLength, NewKekFile, InputFile, BadLength, Integrity, Write, Memory}
+use Rattle.keywrap_cli.specs.declared.job.JobFault.TheVariants.{KekFile, KekLength, InputFile, BadLength, Integrity, Write, Memory}
 use Rattle.keywrap_cli.specs.declared.job.Notation.{Notation}
 use Rattle.keywrap_cli.specs.declared.job.Task.{Task}
 
@@ -92,7 +92,6 @@ pub record IsKekAccepted (notation : Notation) (F : List ℕ) (left : Option (Li
 -- the call gave up: a read failed, or a growth was refused
 abbrev pub GivesUp : Result Done JobFault → Type 0
 GivesUp (Err (KekFile files.Read)) = ⊤
-GivesUp (Err (NewKekFile files.Read)) = ⊤
 GivesUp (Err (InputFile files.Read)) = ⊤
 GivesUp (Err Memory) = ⊤
 GivesUp answer = ⊥

@@ -8,49 +8,33 @@ use Rattle.key_files.specs.declared.fault.FileFault.TheVariants as files
 use Rattle.keywrap_cli.specs.Files.{Denotes, IsRefused, DenotesKek}
 use Rattle.keywrap_cli.specs.declared.job.JobFault.{JobFault}
 use Rattle.keywrap_cli.specs.declared.job.JobFault.TheVariants.{KekFile, KekLength, NewKekFile, NewKekLength, InputFile, Memory}
+use Rattle.keywrap_cli.specs.declared.kek_file.KekFault.{KekFault}
+use Rattle.keywrap_cli.specs.declared.kek_file.KekFault.TheVariants.{File, Length}
 use Rattle.keywrap_cli.specs.declared.job.Notation.{Notation}
 
 -- the KEK, or why there is none, for the bytes F that were taken, with what is left in the reader
-abbrev pub KekAnswer : Notation → List ℕ → Option (List ℕ) → Result (List ℕ) JobFault → Type 0
+abbrev pub KekAnswer : Notation → List ℕ → Option (List ℕ) → Result (List ℕ) KekFault → Type 0
 KekAnswer notation F left (Ok K) = DenotesKek notation F K × IsAtEnd left
-KekAnswer notation F left (Err (KekFile files.Read)) = ⊤
-KekAnswer notation F left (Err (KekFile files.TooLong)) = IsRefused notation F files.TooLong
-KekAnswer notation F left (Err (KekFile files.Memory)) = ⊥
-KekAnswer notation F left (Err (KekFile fault)) = IsRefused notation F fault × IsAtEnd left
-KekAnswer notation F left (Err KekLength) =
+KekAnswer notation F left (Err (File files.Read)) = ⊤
+KekAnswer notation F left (Err (File files.Memory)) = ⊤
+KekAnswer notation F left (Err (File files.TooLong)) = IsRefused notation F files.TooLong
+KekAnswer notation F left (Err (File fault)) = IsRefused notation F fault × IsAtEnd left
+KekAnswer notation F left (Err Length) =
     ((K : List ℕ) × Denotes notation F K × ¬ IsKekLength (length K)) × IsAtEnd left
-KekAnswer notation F left (Err Memory) = ⊤
-KekAnswer notation F left (Err fault) = ⊥
 
 -- the KEK that bytes are, or their refusal
-abbrev pub MakesKek : List ℕ → Result (List ℕ) JobFault → Type 0
+abbrev pub MakesKek : List ℕ → Result (List ℕ) KekFault → Type 0
 MakesKek bytes (Ok K) = (K ≡ bytes) × IsKekLength (length bytes)
-MakesKek bytes (Err KekLength) = ¬ IsKekLength (length bytes)
-MakesKek bytes (Err fault) = ⊥
+MakesKek bytes (Err Length) = ¬ IsKekLength (length bytes)
+MakesKek bytes (Err (File fault)) = ⊥
 
--- what the call that reads the KEK file takes from it, and answers
-pub record ReadsKek (notation : Notation) (old new : Option (List ℕ)) (answer : Result (List ℕ) JobFault) : Type 0 where
+-- what the call that reads a KEK file takes from it, and answers
+pub record ReadsKek (notation : Notation) (old new : Option (List ℕ)) (answer : Result (List ℕ) KekFault) : Type 0 where
   pub taken : List ℕ
   pub stands_after : Consumes old new taken
   pub at_most : length taken ≤ 4194304 + 1
-  pub too_long : (answer ≡ Err (KekFile files.TooLong)) ↔ (4194304 < length taken)
+  pub too_long : (answer ≡ Err (File files.TooLong)) ↔ (4194304 < length taken)
   pub answers : KekAnswer notation taken new answer
-
--- a fault of a KEK, named as that of the new one
-abbrev pub new_kek_fault_of : JobFault → JobFault
-new_kek_fault_of (KekFile fault) = NewKekFile fault
-new_kek_fault_of KekLength = NewKekLength
-new_kek_fault_of fault = fault
-
--- an answer to the new KEK's file: its faults are named as those of the new KEK
-abbrev pub IsNamedNew : Result (List ℕ) JobFault → Result (List ℕ) JobFault → Type 0
-IsNamedNew (Ok K) answer = answer ≡ Ok K
-IsNamedNew (Err fault) answer = answer ≡ Err (new_kek_fault_of fault)
-
--- what the call that reads the new KEK's file takes from it, and answers: all as for the old one, but for the names
-abbrev pub ReadsNewKek : Notation → Option (List ℕ) → Option (List ℕ) → Result (List ℕ) JobFault → Type 0
-ReadsNewKek notation old new answer =
-    (found : Result (List ℕ) JobFault) × ReadsKek notation old new found × IsNamedNew found answer
 
 -- the input's bytes, or why there are none
 abbrev pub InputAnswer : Notation → List ℕ → Option (List ℕ) → Result (Vec ℕ Global) JobFault → Type 0
@@ -75,3 +59,12 @@ pub record ReadsInput (notation : Notation) (old new : Option (List ℕ)) (answe
 abbrev pub named_fault_of : (FileFault → JobFault) → FileFault → JobFault
 named_fault_of name files.Memory = Memory
 named_fault_of name fault = name fault
+
+-- a job's fault for that of its KEK, and a rewrapping's for that of its new KEK
+abbrev pub kek_fault_of : KekFault → JobFault
+kek_fault_of (File fault) = named_fault_of (λ f. KekFile f) fault
+kek_fault_of Length = KekLength
+
+abbrev pub new_kek_fault_of : KekFault → JobFault
+new_kek_fault_of (File fault) = named_fault_of (λ f. NewKekFile f) fault
+new_kek_fault_of Length = NewKekLength

@@ -11,7 +11,7 @@ use Rattle.key_wrap.specs.Forms.{StandsIn}
 use Rattle.key_wrap.specs.Rewrap.{HasBadLength, HasNoWrapping}
 use Rattle.key_wrap.specs.declared.forms.Form.{Form}
 use Rattle.keywrap_cli.specs.Files.{Denotes, IsRefused, DenotesKek, printed}
-use Rattle.keywrap_cli.specs.Job.{IsKekAccepted, IsKekReadToEnd, IsKekRefused, IsRefusedFor, IsUnread}
+use Rattle.keywrap_cli.specs.Job.{IsKekAccepted, IsKekReadToEnd, IsKekRefused, IsUnread}
 use Rattle.keywrap_cli.specs.declared.job.Done.{Done}
 use Rattle.keywrap_cli.specs.declared.job.Done.TheVariants.{Written}
 use Rattle.keywrap_cli.specs.declared.job.JobFault.{JobFault}
@@ -145,6 +145,18 @@ IsTextReadToEnd (Err (InputFile files.TooLong)) left = ⊤
 IsTextReadToEnd (Err (InputFile files.Read)) left = ⊤
 IsTextReadToEnd (Err Memory) left = ⊤
 IsTextReadToEnd answer left = IsAtEnd left
+
+-- the call gave up: a read failed, or a growth was refused
+abbrev pub GivesUp : Result Done JobFault → Type 0
+GivesUp (Err (KekFile files.Read)) = ⊤
+GivesUp (Err (NewKekFile files.Read)) = ⊤
+GivesUp (Err (InputFile files.Read)) = ⊤
+GivesUp (Err Memory) = ⊤
+GivesUp answer = ⊥
+
+-- the call was refused for this fault, unless it gave up
+abbrev pub IsRefusedFor : JobFault → Result Done JobFault → Type 0
+IsRefusedFor fault answer = (answer ≡ Err fault) ⊎ GivesUp answer
 
 -- The call took these bytes from a file, at most one past the limit; TooLong is answered exactly where it took more
 -- than 4,194,304 bytes. Of the file the record takes what is known before the call and after it.

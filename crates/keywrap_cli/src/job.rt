@@ -4,10 +4,11 @@ ghost use Rattle.std.specs.Prelude.{◌≡◌, IsOk};
 ghost use Rattle.keywrap_cli.specs.Job.{RunsJob, RunsJobWith, WritesTheKey, WritesTheKeyWith};
 ghost use Rattle.keywrap_cli.specs.Job.{plain_task};
 ghost use Rattle.keywrap_cli.specs.Output.{job_of};
+ghost use Rattle.keywrap_cli.specs.Readings.{kek_fault_of};
 
 use crate::convert::Direction;
 use crate::files::read_input;
-use crate::kek_file::read_kek;
+use crate::kek_file::{KekFault, read_kek};
 use crate::output::write_output;
 use key_files::FileFault;
 use key_wrap::{Form, InitialValue};
@@ -175,7 +176,21 @@ pub fn run<K: Read, R: Read, W: Write>(
         → WritesTheKeyWith iv.now task (K.remaining kek.old) (K.remaining kek.new)
         (R.remaining input.old) (R.remaining input.new) (W.contents out.old) (W.contents out.new) }
 {
-    let aes = read_kek(alloc, task.kek, kek)?;
+    let aes = match read_kek(alloc, task.kek, kek) {
+        Ok(aes) => aes,
+        Err(fault) => return Err(kek_fault(fault)),
+    };
     let bytes = read_input(alloc, task.input, input)?;
     write_output(alloc, iv, task, &aes, &bytes, out)
+}
+
+/// The fault of a job for one of its KEK.
+pub fn kek_fault(fault: KekFault) -> JobFault
+    ensures { result ≡ kek_fault_of fault }
+{
+    match fault {
+        KekFault::File(FileFault::Memory) => JobFault::Memory,
+        KekFault::File(fault) => JobFault::KekFile(fault),
+        KekFault::Length => JobFault::KekLength,
+    }
 }

@@ -1,11 +1,9 @@
-//! The KEK files of a job.
+//! The KEK that a file denotes.
 
-ghost use Rattle.std.specs.Prelude.{◌≡◌};
-ghost use Rattle.keywrap_cli.specs.Readings.{MakesKek, ReadsKek, ReadsNewKek, named_fault_of};
-ghost use Rattle.keywrap_cli.specs.Readings.{new_kek_fault_of};
+ghost use Rattle.keywrap_cli.specs.Readings.{MakesKek, ReadsKek};
 
 use crate::files::read_file;
-use crate::job::{JobFault, Notation};
+use crate::job::Notation;
 use key_files::FileFault;
 use std::alloc::Global;
 use std::io::Read;
@@ -13,55 +11,30 @@ use std::io::Read;
 /// The block cipher of the program, which is named here alone.
 pub use aes_vector::VectorAes as Aes;
 
+/// Why a file gives no KEK. Its caller names which KEK it is.
+#[derive(Clone, Copy, Debug, PartialEq, Eq)]
+pub enum KekFault {
+    /// The file denotes no bytes, or a growth was refused while it was read.
+    File(FileFault),
+    /// What the file denotes is not 16, 24 or 32 bytes long.
+    Length,
+}
+
 /// AES under the KEK that a file denotes.
-pub fn read_kek<K: Read>(alloc: Global, notation: Notation, kek: &mut K) -> Result<Aes, JobFault>
+pub fn read_kek<K: Read>(alloc: Global, notation: Notation, kek: &mut K) -> Result<Aes, KekFault>
     ensures { ReadsKek notation (K.remaining kek.old) (K.remaining kek.new) result }
 {
     match read_file(alloc, notation, kek) {
         Ok(bytes) => under_kek(&bytes),
-        Err(fault) => Err(kek_fault(fault)),
+        Err(fault) => Err(KekFault::File(fault)),
     }
 }
 
-/// AES under the new KEK that a file denotes.
-pub fn read_new_kek<K: Read>(
-    alloc: Global,
-    notation: Notation,
-    kek: &mut K,
-) -> Result<Aes, JobFault>
-    ensures { ReadsNewKek notation (K.remaining kek.old) (K.remaining kek.new) result }
-{
-    match read_kek(alloc, notation, kek) {
-        Ok(aes) => Ok(aes),
-        Err(fault) => Err(new_kek_fault(fault)),
-    }
-}
-
-// A fault of a KEK, named as that of the new one.
-fn new_kek_fault(fault: JobFault) -> JobFault
-    ensures { result ≡ new_kek_fault_of fault }
-{
-    match fault {
-        JobFault::KekFile(fault) => JobFault::NewKekFile(fault),
-        JobFault::KekLength => JobFault::NewKekLength,
-        fault => fault,
-    }
-}
-
-fn kek_fault(fault: FileFault) -> JobFault
-    ensures { result ≡ named_fault_of (λ f. JobFault.KekFile f) fault }
-{
-    match fault {
-        FileFault::Memory => JobFault::Memory,
-        fault => JobFault::KekFile(fault),
-    }
-}
-
-fn under_kek(kek: &[u8]) -> Result<Aes, JobFault>
+fn under_kek(kek: &[u8]) -> Result<Aes, KekFault>
     ensures { MakesKek kek.now result }
 {
     match Aes::new(kek) {
         Ok(aes) => Ok(aes),
-        Err(_) => Err(JobFault::KekLength),
+        Err(_) => Err(KekFault::Length),
     }
 }

@@ -1,14 +1,16 @@
 //! Rewrapping: from one KEK to another, with no key written.
 
-ghost use Rattle.std.specs.Prelude.{IsOk};
+ghost use Rattle.std.specs.Prelude.{◌≡◌, IsOk};
+ghost use Rattle.keywrap_cli.specs.Readings.{new_kek_fault_of};
 ghost use Rattle.keywrap_cli.specs.Rewrapping.{NewTextAnswer, RunsRewrap, WritesTheNewText};
 ghost use Rattle.keywrap_cli.specs.Rewrapping.{rewrapping};
 
 use crate::files::read_input;
-use crate::job::{Done, JobFault, Notation};
-use crate::kek_file::{read_kek, read_new_kek};
+use crate::job::{Done, JobFault, Notation, kek_fault};
+use crate::kek_file::{KekFault, read_kek};
 use crate::output::{job_fault, send};
 use block_pair::BlockPair;
+use key_files::FileFault;
 use key_wrap::{Form, rewrap};
 use std::alloc::Global;
 use std::io::{Read, Write};
@@ -48,8 +50,14 @@ pub fn run_rewrap<K: Read, N: Read, R: Read, W: Write>(
         (R.remaining input.old) (R.remaining input.new)
         (W.contents out.old) (W.contents out.new) }
 {
-    let old = read_kek(alloc, kek_notation, old_kek)?;
-    let new = read_new_kek(alloc, kek_notation, new_kek)?;
+    let old = match read_kek(alloc, kek_notation, old_kek) {
+        Ok(aes) => aes,
+        Err(fault) => return Err(kek_fault(fault)),
+    };
+    let new = match read_kek(alloc, kek_notation, new_kek) {
+        Ok(aes) => aes,
+        Err(fault) => return Err(new_kek_fault(fault)),
+    };
     let text = read_input(alloc, input_notation, input)?;
     write_rewrapped(
         alloc,
@@ -61,6 +69,16 @@ pub fn run_rewrap<K: Read, N: Read, R: Read, W: Write>(
         &text,
         out,
     )
+}
+
+fn new_kek_fault(fault: KekFault) -> JobFault
+    ensures { result ≡ new_kek_fault_of fault }
+{
+    match fault {
+        KekFault::File(FileFault::Memory) => JobFault::Memory,
+        KekFault::File(fault) => JobFault::NewKekFile(fault),
+        KekFault::Length => JobFault::NewKekLength,
+    }
 }
 
 // Makes the new wrapped key whole, and then writes it.

@@ -7,4 +7,4 @@ returns-in-Ok g c =
     (rw c.deref.ensures.value at c.under_kek.ensures)
 
 pub returns-in-Err : goal.returns-in-Err
-returns-in-Err g c = rw c.kek_fault.ensures (kek_of_fault c.args.notation _ _ c.in-Err.fault c.in-Err.ensures)
+returns-in-Err g c = kek_of_fault c.args.notation _ _ c.in-Err.fault c.in-Err.ensures
