@@ -20,7 +20,8 @@ PYTHON ?= python3
 soname = libkeywrap.so.1
 shared = $(soname).0.0
 wheel = $(DIST)/keywrap-$(version)-cp39-abi3-linux_x86_64.whl
-crates = block_pair aes_block aes_vector key_wrap keywrap_c
+# The crate of the exports, and those that crates.txt names below it.
+crates = keywrap_c $(shell sed -n 's/^keywrap_c staticlib: *//p' crates.txt)
 sources = $(shell find crates.txt $(foreach c,$(crates),$(wildcard crates/$(c)/src crates/$(c)/specs crates/$(c)/proofs)))
 
 bin = $(DESTDIR)$(PREFIX)/bin
