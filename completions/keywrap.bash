@@ -23,9 +23,9 @@ _keywrap() {
         options='wrap unwrap rewrap check drill vectors help'
         [ "${word:0:1}" != - ] || options=$help
         ;;
-    wrap | unwrap) options="--kek --padded --iv --raw --raw-kek $files $help" ;;
-    rewrap) options="--kek --new-kek --padded --new-padded --raw --raw-kek $files $help" ;;
-    check) options="--kek --raw --raw-kek $files $help" ;;
+    wrap | unwrap) options="--kek --padded --iv --raw --raw-kek --verbose $files $help" ;;
+    rewrap) options="--kek --new-kek --padded --new-padded --raw --raw-kek --verbose $files $help" ;;
+    check) options="--kek --raw --raw-kek --verbose $files $help" ;;
     # What is missing may be the HEX, which only the user knows.
     drill) [ "${word:0:1}" != - ] || options="--padded --unwrap $help" ;;
     vectors) options=$help ;;

@@ -37,4 +37,6 @@ complete -c keywrap -n '__keywrap_is wrap unwrap rewrap check' -s i -l input -rF
     -d 'The input, instead of standard input'
 complete -c keywrap -n '__keywrap_is wrap unwrap rewrap check' -s o -l output -rF \
     -d 'The file for the answer, written whole'
+complete -c keywrap -n '__keywrap_is wrap unwrap rewrap check' -l verbose \
+    -d 'A refusal says which file was the cause, and why'
 complete -c keywrap -n '__keywrap_is drill' -l unwrap -d 'Unwrap instead of wrapping'

@@ -1,6 +1,7 @@
-/* An fsync, a rename and a statx for tests/files.sh, built as a shared library and named in LD_PRELOAD. Each
-   writes its name to descriptor 9, and FAIL_CALL=NAME has each call of that name fail with EIO, FAIL_CALL=NAME:N
-   the Nth alone. No header is included: the kit's compiler, which has none, is enough. */
+/* An fsync, a rename and a statx for tests/files.sh and tests/manners.sh, built as a shared library and named in
+   LD_PRELOAD. Each writes its name to descriptor 9, and FAIL_CALL=NAME has each call of that name fail with EIO,
+   FAIL_CALL=NAME:N the Nth alone; FAIL_ERRNO=N has it fail with that error. No header is included: the kit's
+   compiler, which has none, is enough. */
 
 extern char *getenv(const char *name);
 extern int strncmp(const char *one, const char *other, unsigned long count);
@@ -11,19 +12,26 @@ extern int *__errno_location(void);
 
 enum { EIO = 5, SYS_FSYNC = 74, SYS_RENAME = 82, SYS_STATX = 332 };
 
+static long number(const char *digits) {
+    long value = 0;
+    for (; *digits; digits++)
+        value = *digits == ':' ? 0 : 10 * value + (*digits - '0');
+    return value;
+}
+
 static int fails(const char *name, long call) {
     const char *wish = getenv("FAIL_CALL");
+    const char *error = getenv("FAIL_ERRNO");
     unsigned long length = strlen(name);
-    long wanted = 0;
+    long wanted;
     (void)!write(9, name, length);
     (void)!write(9, "\n", 1);
     if (!wish || strncmp(wish, name, length) != 0)
         return 0;
-    for (wish += length; *wish; wish++)
-        wanted = *wish == ':' ? 0 : 10 * wanted + (*wish - '0');
+    wanted = number(wish + length);
     if (wanted != 0 && wanted != call)
         return 0;
-    *__errno_location() = EIO;
+    *__errno_location() = error ? (int)number(error) : EIO;
     return 1;
 }
 

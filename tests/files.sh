@@ -63,7 +63,7 @@ kept() {
 }
 refused kept
 
-# The new file has the place of an old one, whatever its mode, and never its mode.
+# The new file has the place of an old one, whatever its mode.
 for mode in 000 444 666 755; do
     fresh old
     chmod $mode to/file
@@ -340,7 +340,7 @@ interrupted() {
     ends
     problem=$problem$(quiet $((128 + $(kill -l "$1"))) '')
     [ "$(state ! -name file.part0)" = "$before" ] || problem="$problem in the folder: $(state), not $before"
-    [ ! -e to/file.part0 ] || [ "$(stat -c '%a %s' to/file.part0)" = '600 0' ] ||
+    [ ! -e to/file.part0 ] || [ "$(stat -c '%a %s' to/file.part0)" = '644 0' ] ||
         problem="$problem the new file is $(stat -c '%a %s' to/file.part0)"
     verdict "$1 while it waits ${*:2}" "$problem"
     lands "the run after $1 ${*:2}" 0 wrapped.hex to/file wrap --kek kek16.hex -i key.hex -o to/file
@@ -356,16 +356,16 @@ begins
 [ "$(state ! -name file.part0)" = "$before" ] && problem='' || problem="in the folder: $(state), not $before"
 verdict 'the file is the old one while the run waits' "$problem"
 goes_on 'the run that waited' 0 '' 'file f'
-verdict 'the file of the run that waited' "$(is_new to/file wrapped.hex)"
+verdict 'the file of the run that waited' "$(is_new to/file wrapped.hex 644)"
 # Two runs at once make two new files, and the last has the name.
 fresh old
 begins
 "$program" wrap --kek kek32.hex -i key.hex -o to/file
-problem=$(is_new to/file wrapped32.hex)
+problem=$(is_new to/file wrapped32.hex 644)
 [ -e to/file.part0 ] || problem="$problem the other's new file is gone"
 verdict 'a run beside one that waits' "$problem"
 goes_on 'the run that waited for the other' 0 '' 'file f'
-verdict 'the file of the run that ended last' "$(is_new to/file wrapped.hex)"
+verdict 'the file of the run that ended last' "$(is_new to/file wrapped.hex 644)"
 # The new file can't get its name.
 fresh
 begins
@@ -398,7 +398,7 @@ syncs() {
     fresh old
     : >met
     lands "$1, on the disk and then named" "$2" "$3" to/file "${@:6}" -i "$5" -o to/file
-    verdict "$1, a sync and then a rename" "$(printf 'fsync\nrename\n' | diff - <(grep -vx statx met))"
+    verdict "$1, a sync, a rename and a sync" "$(printf 'fsync\nrename\nfsync\n' | diff - <(grep -vx statx met))"
     for FAIL_CALL in fsync rename; do
         export FAIL_CALL
         keeps "$1, its $FAIL_CALL fails" 6 "$flush_fault" "${@:6}" -i "$5" -o to/file

@@ -39,7 +39,7 @@ fresh old
 sized "${wrap[@]}" 2>/dev/null
 verdict 'a limit on files ends the program' "$([ $? = 153 ] || echo 'another status')"
 verdict 'a limit on files leaves the file' "$(echo old | cmp - to/file 2>&1)"
-left_beside 'a limit on files leaves the new file, empty' 'file f 644' 'file.part0 f 600'
+left_beside 'a limit on files leaves the new file, empty' 'file f 644' 'file.part0 f 644'
 verdict 'a limit on files leaves nothing in it' "$([ ! -s to/file.part0 ] || echo 'it holds something')"
 lands 'the run after a limit on files' 0 wrapped.hex to/file "${wrap[@]}"
 
@@ -55,15 +55,15 @@ goes_on 'the folder is moved, and another has its name' 6 "$flush_fault" ''
 rm -r to
 mv moved to
 verdict 'a folder that is moved: the file stays' "$(echo old | cmp - to/file 2>&1)"
-left_beside 'a folder that is moved keeps the new file' 'file f 644' 'file.part0 f 600'
+left_beside 'a folder that is moved keeps the new file' 'file f 644' 'file.part0 f 644'
 
 ### Files that can't be replaced
 
-# stays NAME: the file can't be replaced, which comes out at the end; nothing stays beside it.
-stays() { keeps "$1" 6 "$flush_fault" "${wrap[@]}"; }
+# stays NAME ARGUMENT..: the file can't be replaced, which comes out at the end; nothing stays beside it.
+stays() { keeps "$1" 6 "$flush_fault" "${@:2}"; }
 fresh old
 if chattr +i to/file 2>/dev/null; then
-    stays 'an immutable file'
+    stays 'an immutable file' "${wrap[@]}"
     chattr -i to/file
     fresh old
     chattr +a to
@@ -71,7 +71,7 @@ if chattr +i to/file 2>/dev/null; then
     ran "${wrap[@]}"
     verdict 'a folder that can only grow' "$(quiet 6 "$flush_fault")"
     verdict 'a folder that can only grow: the file stays' "$(echo old | cmp - to/file 2>&1)"
-    left_beside 'a folder that can only grow keeps the new file' 'file f 644' 'file.part0 f 600'
+    left_beside 'a folder that can only grow keeps the new file' 'file f 644' 'file.part0 f 644'
     verdict 'a folder that can only grow keeps the answer in it' "$(cmp wrapped.hex to/file.part0 2>&1)"
     chattr -a to
 else
@@ -85,7 +85,9 @@ if [ "$(id -u)" = 0 ] && setpriv --reuid=65534 --clear-groups true 2>/dev/null; 
     cp "$program" program
     chmod 755 . program
     chmod 1777 to
-    keywrap=as_nobody stays "another's file in a sticky folder"
+    keywrap=as_nobody stays "unwrap over another's file in a sticky folder" \
+        unwrap --kek kek16.hex -i wrapped.hex -o to/file
+    keywrap=as_nobody keeps "wrap over another's file in a sticky folder" 6 "$not_opened" "${wrap[@]}"
     rm -f to/file
     keywrap=as_nobody lands 'a file of its own in a sticky folder' 0 wrapped.hex to/file "${wrap[@]}"
     chmod 700 .

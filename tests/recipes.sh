@@ -20,7 +20,7 @@ PATH=$PWD/bin:$PATH
 # missing_tools SCRIPT: the tools that a recipe calls and this machine has not.
 missing_tools() {
     local tool
-    for tool in openssl xxd base64 xargs; do
+    for tool in openssl xxd base64 basenc xargs softhsm2-util pkcs11-tool; do
         if grep -qw -e "$tool" "$1" && ! command -v $tool >/dev/null; then
             echo "$tool"
         fi
@@ -35,7 +35,7 @@ follows() {
     local problem='' missing
     missing=$(missing_tools "$2" | paste -sd ' ')
     if [ -n "$missing" ]; then
-        skip "the recipe '$1'" "no $missing" 'openssl xxd coreutils findutils'
+        skip "the recipe '$1'" "no $missing" 'openssl xxd coreutils findutils softhsm2 opensc'
         return
     fi
     mkdir here

@@ -34,22 +34,25 @@ quiet() {
     cmp -s err wanted.err || echo "error $(shown err), not $(shown wanted.err);"
 }
 
-# is_new FILE ANSWER: what is wrong with a file that is to hold what ANSWER holds, for its owner alone.
+# is_new FILE ANSWER [MODE]: what is wrong with a file that is to hold what ANSWER holds, in this mode; without
+# one it is for its owner alone.
 is_new() {
     local kind
     cmp -s -- "$1" "$2" || echo "the file holds $(shown "$1"), not $(shown "$2");"
     kind=$(stat -c '%a %F' -- "$1" 2>&1)
-    [ "$kind" = '600 regular file' ] || echo "the file is $kind;"
+    [[ $kind = "${3:-600} regular "* ]] || echo "the file is $kind;"
 }
 
 # lands NAME STATUS ANSWER FILE ARGUMENT..: the command ends with this status and writes nothing; FILE, of
-# the folder `to`, holds what ANSWER holds, as a file for its owner alone; nothing else in `to` is changed.
+# the folder `to`, holds what ANSWER holds, in the mode that a file of this name had before; if there was none,
+# and after `unwrap`, it is for its owner alone. Nothing else in `to` is changed.
 lands() {
-    local to=out status before after problem
+    local to=out status before after problem mode=600
+    [ "$5" = unwrap ] || [ ! -e "$4" ] || mode=$(stat -c %a -- "$4")
     before=$(state ! -path "$4")
     ran "${@:5}"
     after=$(state ! -path "$4")
-    problem=$(quiet "$2" '' && is_new "$4" "$3")
+    problem=$(quiet "$2" '' && is_new "$4" "$3" "$mode")
     [ "$before" = "$after" ] || problem="$problem beside it: $after, not $before"
     verdict "$1" "$problem"
 }

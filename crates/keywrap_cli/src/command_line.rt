@@ -51,6 +51,7 @@ fn places<'a>(line: &CommandLine<'a>) -> Places<'a> {
         kek: line.kek,
         input: line.input,
         output: line.output,
+        verbose: line.verbose,
     }
 }
 

@@ -6,9 +6,12 @@ use crate::fault::ProgramFault;
 use crate::job::{Done, JobFault, Task, run};
 use crate::request::{Rewrapping, Work};
 use crate::rewrap::run_rewrap;
+use crate::telling::Telling;
+use crate::watched::{Seen, Watched};
+use crate::why::Refused;
 use key_wrap::InitialValue;
 use std::alloc::Global;
-use std::fs::{self, Metadata, OpenFile};
+use std::fs::{self, File, Metadata, OpenFile};
 use std::io::{self, Read, Write};
 use std::os::unix::fs::MetadataExt;
 use std::rt::Files;
@@ -32,19 +35,30 @@ pub enum Keyed<K> {
 
 /// Opens the KEK file, and then the one of the new KEK where there is one. The initial value is
 /// that of the work.
-pub fn open_keks<R: Files>(
+pub fn open_keks<R: Files<File = File>>(
     rt: &R,
-    work: Work<'_>,
+    telling: &Telling<'_>,
     iv: InitialValue,
-    kek: &str,
-) -> Result<Keyed<R::File>, ProgramFault> {
-    let kek = fs::open(rt, kek).map_err(|_| ProgramFault::KekOpen)?;
-    match work {
+) -> Result<Keyed<Watched<File>>, Refused> {
+    let kek = open_kek(rt, telling, telling.places.kek, ProgramFault::KekOpen)?;
+    match telling.work {
         Work::Job { task, .. } => Ok(Keyed::Job { iv, task, kek }),
         Work::Rewrap { task, new_kek } => {
-            let new_kek = fs::open(rt, new_kek).map_err(|_| ProgramFault::NewKekOpen)?;
+            let new_kek = open_kek(rt, telling, new_kek, ProgramFault::NewKekOpen)?;
             Ok(Keyed::Rewrap { task, kek, new_kek })
         }
+    }
+}
+
+fn open_kek<R: Files<File = File>>(
+    rt: &R,
+    telling: &Telling<'_>,
+    name: &str,
+    fault: ProgramFault,
+) -> Result<Watched<File>, Refused> {
+    match fs::open(rt, name) {
+        Ok(file) => Ok(Watched::new(file, telling.says_why)),
+        Err(error) => Err(telling.unopened(fault, name, &error)),
     }
 }
 
@@ -78,14 +92,28 @@ impl<K: Read> Keyed<K> {
     }
 }
 
-impl<K: OpenFile> Keyed<K> {
-    /// Whether a file is one of the KEK files, under whatever name.
-    pub fn is_kek(&self, file: &Metadata) -> io::Result<bool> {
+impl<K: OpenFile> Keyed<Watched<K>> {
+    /// Which of the KEK files a file is, under whatever name, if it is one.
+    pub fn kek_file(&self, file: &Metadata) -> io::Result<Option<&'static str>> {
+        let (Keyed::Job { kek, .. } | Keyed::Rewrap { kek, .. }) = self;
+        if is_same(&kek.file, file)? {
+            return Ok(Some("the KEK file"));
+        }
         match self {
-            Keyed::Job { kek, .. } => is_same(kek, file),
-            Keyed::Rewrap { kek, new_kek, .. } => {
-                Ok(is_same(kek, file)? || is_same(new_kek, file)?)
+            Keyed::Rewrap { new_kek, .. } if is_same(&new_kek.file, file)? => {
+                Ok(Some("the new KEK file"))
             }
+            _ => Ok(None),
+        }
+    }
+}
+
+impl<K> Keyed<Watched<K>> {
+    /// What was seen of the KEK file, and of that of the new KEK.
+    pub fn seen(&self) -> (Seen, Seen) {
+        match self {
+            Keyed::Job { kek, .. } => (kek.seen, Seen::default()),
+            Keyed::Rewrap { kek, new_kek, .. } => (kek.seen, new_kek.seen),
         }
     }
 }

@@ -16,22 +16,30 @@ mod program;
 mod request;
 mod rewrap;
 mod statuses;
+mod streams;
+mod telling;
 #[cfg(test)]
 mod tests;
 mod vector_check;
 mod vector_table;
 mod vectors;
+mod watched;
+mod why;
 mod work;
 
 use std::io::{IsTerminal, Write};
+use std::os::fd::AsFd;
 use std::process::ExitCode;
 use work::Terminals;
 
 fn main(rt: HostRuntime) -> ExitCode {
     let terminals = Terminals {
         output: rt.stdout().is_terminal(),
+        error: rt.stderr().is_terminal(),
         // A write of no bytes is refused where standard error is closed.
         input: rt.stdin().is_terminal() && rt.stderr().write(&[]).is_ok(),
+        // A closed descriptor can't be doubled.
+        no_input: rt.stdin().as_fd().try_clone_to_owned().is_err(),
     };
     ExitCode::from(program::run(&rt, terminals))
 }

@@ -1,53 +1,120 @@
-//! The file of `--output`: written whole beside the old one, and then put in its place.
+//! The file of --output: written whole beside the old one, and then put in its place.
 
-use crate::fault::ProgramFault;
 use crate::keyed::{Keyed, is_same};
+use crate::watched::Watched;
+use crate::why::Why;
 use std::alloc::{AllocError, Global};
-use std::fs::{self, OpenFile, OpenOptions};
+use std::fs::{self, File, FileType, Metadata, OpenFile, OpenOptions, Permissions};
 use std::io;
-use std::os::unix::fs::OpenOptionsExt;
+use std::os::unix::fs::{FileTypeExt, MetadataExt, OpenOptionsExt, PermissionsExt, fchown};
 use std::rt::Files;
 
 // How many names a new file may have, one after another.
 const PARTS: u8 = 100;
 
+/// Why there is no new file, or why it did not take its place.
+#[derive(Clone, Copy)]
+pub enum OutputFault {
+    /// It can't be made, or may not replace what is there.
+    Open(Why),
+    /// It can't be synced or renamed, or its folder can't be synced.
+    Flush(Why),
+    /// A growth was refused.
+    Memory,
+}
+
+impl From<AllocError> for OutputFault {
+    fn from(_error: AllocError) -> OutputFault {
+        OutputFault::Memory
+    }
+}
+
 /// A new file, which takes the place of a file or of none once it is whole.
 #[derive(Drop)]
-pub struct OutputFile<'a, F> {
+pub struct OutputFile<'a> {
     /// The writer.
-    pub file: F,
+    pub file: Watched<File>,
     name: &'a str,
     part: String,
 }
 
-/// Makes the new file beside the one that is named. What stands under that name has to be a regular
-/// file that is none of the KEK files, or nothing.
-pub fn create<'a, R: AllocGlobal + Files>(
+/// Makes the new file beside the one that is named, for its owner alone, or, where `keeps` says so,
+/// with the owner, the group and the permissions of that one. What stands under that name has to be
+/// a regular file that is none of the KEK files, or nothing.
+pub fn create<'a, R: AllocGlobal + Files<File = File>>(
     rt: &R,
     name: &'a str,
-    keyed: &Keyed<R::File>,
-) -> Result<OutputFile<'a, R::File>, ProgramFault> {
-    if !may_replace(rt, name, keyed) {
-        return Err(ProgramFault::OutputOpen);
+    keyed: &Keyed<Watched<File>>,
+    keeps: bool,
+) -> Result<OutputFile<'a>, OutputFault> {
+    let old = replaced(rt, name, keyed).map_err(OutputFault::Open)?;
+    let new = create_new(rt, name)?;
+    match old {
+        Some(old) if keeps => new.like(rt, &old),
+        _ => Ok(new),
     }
+}
+
+// Makes the first of its names that is free.
+fn create_new<'a, R: AllocGlobal + Files<File = File>>(
+    rt: &R,
+    name: &'a str,
+) -> Result<OutputFile<'a>, OutputFault> {
     for number in 0..PARTS {
         let part = part_name(rt.alloc(), name, number)?;
         match open_new(rt, part.as_str()) {
-            Ok(file) => return Ok(OutputFile { file, name, part }),
+            Ok(file) => {
+                let file = Watched::new(file, true);
+                return Ok(OutputFile { file, name, part });
+            }
             Err(error) if error.kind() == io::ErrorKind::AlreadyExists => {}
-            Err(_) => return Err(ProgramFault::OutputOpen),
+            Err(error) => return Err(OutputFault::Open(Why::of(&error))),
         }
     }
-    Err(ProgramFault::OutputOpen)
+    Err(OutputFault::Open(Why::Says("files of its name with .part0 to .part99 are there")))
 }
 
-fn may_replace<R: Files>(rt: &R, name: &str, keyed: &Keyed<R::File>) -> bool {
+// What is replaced, if there is a file.
+fn replaced<R: Files<File = File>>(
+    rt: &R,
+    name: &str,
+    keyed: &Keyed<Watched<File>>,
+) -> Result<Option<Metadata>, Why> {
     if name.is_empty() {
-        return false;
+        return Err(Why::Named);
     }
     match rt.symlink_metadata(name) {
-        Ok(old) => old.is_file() && matches!(keyed.is_kek(&old), Ok(false)),
-        Err(error) => error.kind() == io::ErrorKind::NotFound,
+        Ok(old) => {
+            may_be_replaced(&old, keyed)?;
+            Ok(Some(old))
+        }
+        Err(error) if error.kind() == io::ErrorKind::NotFound => Ok(None),
+        Err(error) => Err(Why::of(&error)),
+    }
+}
+
+fn may_be_replaced(old: &Metadata, keyed: &Keyed<Watched<File>>) -> Result<(), Why> {
+    if !old.is_file() {
+        return Err(Why::Is(kind_of(&old.file_type())));
+    }
+    match keyed.kek_file(old) {
+        Ok(None) => Ok(()),
+        Ok(Some(which)) => Err(Why::IsKek(which)),
+        Err(error) => Err(Why::of(&error)),
+    }
+}
+
+fn kind_of(kind: &FileType) -> &'static str {
+    if kind.is_dir() {
+        "a folder"
+    } else if kind.is_symlink() {
+        "a link"
+    } else if kind.is_fifo() {
+        "a pipe"
+    } else if kind.is_socket() {
+        "a socket"
+    } else {
+        "a device"
     }
 }
 
@@ -56,7 +123,7 @@ fn part_name(alloc: Global, name: &str, number: u8) -> Result<String, AllocError
 }
 
 // Opens a file that was not there, for its owner alone.
-fn open_new<R: Files>(rt: &R, name: &str) -> io::Result<R::File> {
+fn open_new<R: Files<File = File>>(rt: &R, name: &str) -> io::Result<File> {
     let mut how = OpenOptions::new();
     how.write(true);
     how.create_new(true);
@@ -64,32 +131,108 @@ fn open_new<R: Files>(rt: &R, name: &str) -> io::Result<R::File> {
     how.open(rt, name)
 }
 
-impl<F: OpenFile + Drop> OutputFile<'_, F> {
-    /// Puts the new file, which is whole, in its place.
-    pub fn finish<R: Files>(self, rt: &R) -> Result<(), ProgramFault> {
-        if self.file.sync_all().is_ok()
-            && self.has_its_name(rt)
-            && fs::rename(rt, self.part.as_str(), self.name).is_ok()
-        {
-            return Ok(());
+// The bits of a mode that say who may read, write and run a file.
+const PERMISSIONS: u32 = 0o777;
+
+// Gives a new file the owner, the group and then the permissions of an old one.
+fn make_like(new: &File, old: &Metadata) -> Result<(), Why> {
+    let made = new.metadata().map_err(|error| Why::of(&error))?;
+    let owner = (made.uid() != old.uid()).then_some(old.uid());
+    let group = (made.gid() != old.gid()).then_some(old.gid());
+    if owner.is_some() || group.is_some() {
+        fchown(new, owner, group).map_err(|_| KEPT)?;
+    }
+    new.set_permissions(Permissions::from_mode(old.mode() & PERMISSIONS))
+        .map_err(|_| KEPT)?;
+    let made = new.metadata().map_err(|error| Why::of(&error))?;
+    if is_like(&made, old) {
+        Ok(())
+    } else {
+        Err(KEPT)
+    }
+}
+
+const KEPT: Why = Why::Says("its owner, group and mode can't be kept");
+
+// Some file systems take a change and leave the file as it is.
+fn is_like(made: &Metadata, old: &Metadata) -> bool {
+    made.uid() == old.uid()
+        && made.gid() == old.gid()
+        && made.mode() & PERMISSIONS == old.mode() & PERMISSIONS
+}
+
+impl OutputFile<'_> {
+    // The new file, which is as the old one is; else it is removed.
+    fn like<R: Files<File = File>>(self, rt: &R, old: &Metadata) -> Result<Self, OutputFault> {
+        match make_like(&self.file.file, old) {
+            Ok(()) => Ok(self),
+            Err(why) => {
+                self.give_up(rt);
+                Err(OutputFault::Open(why))
+            }
         }
-        self.give_up(rt);
-        Err(ProgramFault::Flush)
+    }
+
+    /// Puts the new file, which is whole, in its place.
+    pub fn finish<R: Files<File = File>>(self, rt: &R) -> Result<(), OutputFault> {
+        match self.put(rt) {
+            Ok(()) => sync_folder(rt, self.name).map_err(OutputFault::Flush),
+            Err(why) => {
+                self.give_up(rt);
+                Err(OutputFault::Flush(why))
+            }
+        }
+    }
+
+    fn put<R: Files<File = File>>(&self, rt: &R) -> Result<(), Why> {
+        self.file.file.sync_all().map_err(|error| Why::of(&error))?;
+        if !self.has_its_name(rt) {
+            return Err(Why::Says("another file has the name of the new one"));
+        }
+        fs::rename(rt, self.part.as_str(), self.name).map_err(|error| Why::of(&error))
     }
 
     // Whether the new file still has the name that it was made under: where someone removed it,
     // that of another run may have it now.
-    fn has_its_name<R: Files>(&self, rt: &R) -> bool {
+    fn has_its_name<R: Files<File = File>>(&self, rt: &R) -> bool {
         match rt.symlink_metadata(self.part.as_str()) {
-            Ok(there) => matches!(is_same(&self.file, &there), Ok(true)),
+            Ok(there) => matches!(is_same(&self.file.file, &there), Ok(true)),
             Err(_) => false,
         }
     }
 
     /// Removes the new file, as far as that can be done.
-    pub fn give_up<R: Files>(self, rt: &R) {
+    pub fn give_up<R: Files<File = File>>(self, rt: &R) {
         if self.has_its_name(rt) {
             let _ = fs::remove_file(rt, self.part.as_str());
         }
+    }
+}
+
+// Syncs the folder of a file, so that its name is on the disk. Not each folder can be opened, nor each
+// that is open be synced.
+fn sync_folder<R: Files<File = File>>(rt: &R, name: &str) -> Result<(), Why> {
+    let Ok(folder) = fs::open(rt, folder_of(name)) else {
+        return Ok(());
+    };
+    match folder.sync_all() {
+        Ok(()) => Ok(()),
+        Err(error) if is_not_offered(error.kind()) => Ok(()),
+        Err(error) => Err(Why::of(&error)),
+    }
+}
+
+fn is_not_offered(kind: io::ErrorKind) -> bool {
+    matches!(
+        kind,
+        io::ErrorKind::InvalidInput | io::ErrorKind::Unsupported
+    )
+}
+
+fn folder_of(name: &str) -> &str {
+    match name.rsplit_once('/') {
+        Some(("", _)) => "/",
+        Some((folder, _)) => folder,
+        None => ".",
     }
 }

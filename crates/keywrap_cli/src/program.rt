@@ -12,17 +12,19 @@ use crate::fault::ProgramFault;
 use crate::request::Request;
 use crate::statuses;
 use crate::vectors::vectors;
+use crate::why::Refused;
 use crate::work::{Terminals, run_work};
 use key_files::{write_hex, write_raw};
 use key_wrap::Form;
 use keywrap_words::{Refusal, not_text};
 use std::alloc::{AllocError, Global};
 use std::env;
+use std::fs::File;
 use std::io::{self, Write};
 use std::rt::{Env, Files};
 
 /// Runs the program on the words that it was started with, and answers its exit status.
-pub fn run<R: Print + Eprint + Input + AllocGlobal + Files + Env>(
+pub fn run<R: Print + Eprint + Input + AllocGlobal + Files<File = File> + Env>(
     rt: &R,
     terminals: Terminals,
 ) -> u8 {
@@ -41,7 +43,7 @@ pub fn run<R: Print + Eprint + Input + AllocGlobal + Files + Env>(
 }
 
 // Answers a request, and says what stood in the way on standard error.
-fn answer<R: Print + Eprint + Input + AllocGlobal + Files>(
+fn answer<R: Print + Eprint + Input + AllocGlobal + Files<File = File>>(
     rt: &R,
     wanted: Request<'_>,
     terminals: Terminals,
@@ -52,7 +54,7 @@ fn answer<R: Print + Eprint + Input + AllocGlobal + Files>(
             direction,
             text,
         } => run_drill(rt.alloc(), form, direction, text, &mut io::writer(rt)),
-        Request::Work(work, places) => run_work(rt, work, places, terminals),
+        Request::Work(work, places) => return end_work(rt, run_work(rt, work, places, terminals)),
         Request::Vectors => run_vectors(rt.alloc(), &mut io::writer(rt)),
     };
     end(rt, done)
@@ -104,6 +106,20 @@ fn end<R: Eprint>(rt: &R, done: Result<u8, ProgramFault>) -> u8 {
     match done {
         Ok(status) => status,
         Err(fault) => refuse(rt, &fault),
+    }
+}
+
+// The same of a request with files, whose refusal may say why on a second line.
+fn end_work<R: Eprint>(rt: &R, done: Result<u8, Refused>) -> u8 {
+    match done {
+        Ok(status) => status,
+        Err(refused) => {
+            let status = refuse(rt, &refused.fault);
+            if let Some(why) = &refused.why {
+                let _ = rt.eprintln(why.as_str());
+            }
+            status
+        }
     }
 }
 

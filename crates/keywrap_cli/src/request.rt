@@ -52,6 +52,8 @@ pub struct Places<'a> {
     pub input: Option<&'a str>,
     /// The file that the answer goes into, if that is not standard output.
     pub output: Option<&'a str>,
+    /// A refusal says which file was the cause, and why.
+    pub verbose: bool,
 }
 
 impl Work<'_> {
@@ -87,8 +89,21 @@ impl Work<'_> {
         }
     }
 
-    // The notation of the input.
-    fn notation(&self) -> Notation {
+    /// The notation of the KEK files.
+    pub fn kek_notation(&self) -> Notation {
+        match self {
+            Work::Job { task, .. } => task.kek,
+            Work::Rewrap { task, .. } => task.kek,
+        }
+    }
+
+    /// Whether a new file is as the one that it replaces. That of a key is for its owner alone.
+    pub fn keeps_modes(&self) -> bool {
+        !matches!(self, Work::Job { task, .. } if task.job == Job::Unwrap)
+    }
+
+    /// The notation of the input.
+    pub fn notation(&self) -> Notation {
         match self {
             Work::Job { task, .. } => task.input,
             Work::Rewrap { task, .. } => task.input,

@@ -137,6 +137,12 @@ const RAW_KEKS: Argument<'static> = Argument {
     ..FLAG
 };
 
+const VERBOSE: Argument<'static> = Argument {
+    name: "verbose",
+    help: "A refusal has a second line: which file, and why",
+    ..FLAG
+};
+
 const HEX: Argument<'static> = Argument {
     name: "hex",
     kind: Kind::Word("HEX"),
@@ -156,14 +162,14 @@ const SUBCOMMANDS: [Subcommand<'static>; 6] = [
         about: "Wraps a key",
         usage: Some(WRAP_USAGE),
         example: WRAP_EXAMPLE,
-        arguments: &[KEK, INPUT, OUTPUT, PADDED, IV, RAW, RAW_KEK],
+        arguments: &[KEK, INPUT, OUTPUT, PADDED, IV, RAW, RAW_KEK, VERBOSE],
     },
     Subcommand {
         name: "unwrap",
         about: "Unwraps a wrapped key",
         usage: Some(UNWRAP_USAGE),
         example: UNWRAP_EXAMPLE,
-        arguments: &[KEK, INPUT, OUTPUT, PADDED, IV, RAW, RAW_KEK],
+        arguments: &[KEK, INPUT, OUTPUT, PADDED, IV, RAW, RAW_KEK, VERBOSE],
     },
     Subcommand {
         name: "rewrap",
@@ -171,7 +177,7 @@ const SUBCOMMANDS: [Subcommand<'static>; 6] = [
         usage: Some(REWRAP_USAGE),
         example: REWRAP_EXAMPLE,
         arguments: &[
-            KEK, NEW_KEK, INPUT, OUTPUT, OLD_PADDED, NEW_PADDED, RAW, RAW_KEKS,
+            KEK, NEW_KEK, INPUT, OUTPUT, OLD_PADDED, NEW_PADDED, RAW, RAW_KEKS, VERBOSE,
         ],
     },
     Subcommand {
@@ -179,7 +185,7 @@ const SUBCOMMANDS: [Subcommand<'static>; 6] = [
         about: "Says in which form a wrapped key fits the KEK; no key is written",
         usage: Some(CHECK_USAGE),
         example: CHECK_EXAMPLE,
-        arguments: &[KEK, INPUT, OUTPUT, RAW_WRAPPED, RAW_KEK],
+        arguments: &[KEK, INPUT, OUTPUT, RAW_WRAPPED, RAW_KEK, VERBOSE],
     },
     Subcommand {
         name: "drill",

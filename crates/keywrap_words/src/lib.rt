@@ -10,3 +10,4 @@ mod tests;
 mod tips;
 
 pub use line::{Command, CommandLine, Refusal, not_text, parse};
+pub use tips::escaped;

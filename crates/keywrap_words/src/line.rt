@@ -48,6 +48,8 @@ pub struct CommandLine<'a> {
     pub raw: bool,
     /// Each KEK file is raw bytes.
     pub raw_kek: bool,
+    /// A refusal says which file was the cause, and why.
+    pub verbose: bool,
     /// The drill unwraps.
     pub unwrap: bool,
 }
@@ -136,6 +138,7 @@ fn taken<'a>(subcommand: Option<(&'a str, &ArgMatches<'a>)>) -> Option<CommandLi
         new_padded: found.get_flag("new-padded"),
         raw: found.get_flag("raw"),
         raw_kek: found.get_flag("raw-kek"),
+        verbose: found.get_flag("verbose"),
         unwrap: found.get_flag("unwrap"),
     })
 }

@@ -57,8 +57,8 @@ fn has_controls(word: &str) -> bool {
     word.chars().any(|c| c.is_control())
 }
 
-// The word with `\x1b` for an escape, and the like.
-fn escaped(alloc: Global, word: &str) -> Result<String, AllocError> {
+/// The word with `\x1b` for an escape, and the like.
+pub fn escaped(alloc: Global, word: &str) -> Result<String, AllocError> {
     let mut shown = String::new(alloc);
     for c in word.chars() {
         if c.is_control() {

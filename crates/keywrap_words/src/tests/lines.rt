@@ -5,7 +5,7 @@ use std::test::Fail;
 
 // A line, its command, its texts (kek, new_kek, input, output, iv, hex; the empty one stands for
 // none) and its flags (padded, new_padded, raw, raw_kek, unwrap).
-static LINES: [(&str, Command, [&str; 6], [u8; 5]); 13] = [
+static LINES: [(&str, Command, [&str; 6], [u8; 5]); 14] = [
     (
         "wrap --kek k",
         Command::Wrap,
@@ -16,6 +16,12 @@ static LINES: [(&str, Command, [&str; 6], [u8; 5]); 13] = [
         "wrap --kek k -i a",
         Command::Wrap,
         ["k", "", "a", "", "", ""],
+        [0, 0, 0, 0, 0],
+    ),
+    (
+        "wrap --kek k -i - --output=-",
+        Command::Wrap,
+        ["k", "", "", "", "", ""],
         [0, 0, 0, 0, 0],
     ),
     (

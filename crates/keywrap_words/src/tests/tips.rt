@@ -31,8 +31,15 @@ const CHECK: &str = "check looks at both forms, and says which one it found";
 
 const NEW_KEK: &str = "only rewrap takes --new-kek";
 
+const HELP: &str = "keywrap --help shows the help, and keywrap COMMAND --help that of a command";
+
+const STDIN: &str = "a KEK on standard input is --kek /dev/stdin; a file of this name is ./-";
+
 // A line, and the tip on it; the empty tip stands for none.
-static TIPS: [(&str, &str); 20] = [
+static TIPS: [(&str, &str); 23] = [
+    ("help --help", HELP),
+    ("help -h", HELP),
+    ("wrap --kek -", STDIN),
     ("wrap kek.hex", FILES),
     ("unwrap --kek kek.hex key.hex", FILES),
     ("rewrap -k kek.hex", FILES),

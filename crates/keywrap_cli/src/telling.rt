@@ -1,0 +1,222 @@
+//! What is told of a refused run: its fault, and which of its files was the cause, and why.
+
+use crate::fault::ProgramFault;
+use crate::job::{Job, JobFault, Notation};
+use crate::output_file::OutputFault;
+use crate::request::{Places, Work};
+use crate::watched::Seen;
+use crate::why::{Refused, Why};
+use key_files::FileFault;
+use key_wrap::{Form, MAX_KEY};
+use std::alloc::Global;
+use std::io;
+
+/// What a run was asked, and whether it says why it is refused.
+#[derive(Clone, Copy)]
+pub struct Telling<'a> {
+    /// What is done.
+    pub work: Work<'a>,
+    /// The files that it is done with.
+    pub places: Places<'a>,
+    /// Where the second line is made.
+    pub alloc: Global,
+    /// Whether there is a second line.
+    pub says_why: bool,
+}
+
+/// What was seen of the files of a job.
+#[derive(Clone, Copy)]
+pub struct SeenFiles {
+    /// The KEK file.
+    pub kek: Seen,
+    /// The file of the new KEK.
+    pub new_kek: Seen,
+    /// The input.
+    pub input: Seen,
+    /// The output.
+    pub output: Seen,
+}
+
+impl<'a> Telling<'a> {
+    /// The refusal for a file that can't be opened.
+    pub fn unopened(&self, fault: ProgramFault, name: &str, error: &io::Error) -> Refused {
+        self.refused(fault, name, Why::of(error))
+    }
+
+    /// The refusal for the file of the output.
+    pub fn no_output(&self, fault: OutputFault) -> Refused {
+        match fault {
+            OutputFault::Open(why) => {
+                self.refused(ProgramFault::OutputOpen, self.output_name(), why)
+            }
+            OutputFault::Flush(why) => self.refused(ProgramFault::Flush, self.output_name(), why),
+            OutputFault::Memory => Refused::from(ProgramFault::Memory),
+        }
+    }
+
+    /// The refusal for standard output that can't be flushed.
+    pub fn unflushed(&self, seen: Seen) -> Refused {
+        self.refused(
+            ProgramFault::Flush,
+            self.output_name(),
+            Why::of_number(seen.error),
+        )
+    }
+
+    /// The refusal of a job.
+    pub fn refused_job(&self, fault: JobFault, seen: &SeenFiles) -> Refused {
+        match self.cause(fault, seen) {
+            Some((name, why)) => self.refused(ProgramFault::Job(fault), name, why),
+            None => Refused::from(ProgramFault::Job(fault)),
+        }
+    }
+
+    /// The refusal for a name and what is said of it. Without memory there is no second line.
+    pub fn refused(&self, fault: ProgramFault, name: &str, why: Why) -> Refused {
+        let why = if self.says_why {
+            why.line(self.alloc, name).ok()
+        } else {
+            None
+        };
+        Refused { fault, why }
+    }
+
+    // The file that was the cause, and what is said of it.
+    fn cause(&self, fault: JobFault, seen: &SeenFiles) -> Option<(&'a str, Why)> {
+        let kek = self.work.kek_notation();
+        match fault {
+            JobFault::KekFile(fault) => {
+                Some((self.places.kek, of_file(fault, &seen.kek, RAW_KEK)))
+            }
+            JobFault::KekLength => Some((self.places.kek, of_kek(kek, &seen.kek))),
+            JobFault::NewKekFile(fault) => {
+                Some((self.new_kek_name(), of_file(fault, &seen.new_kek, RAW_KEK)))
+            }
+            JobFault::NewKekLength => Some((self.new_kek_name(), of_kek(kek, &seen.new_kek))),
+            JobFault::InputFile(fault) => {
+                Some((self.input_name(), of_file(fault, &seen.input, RAW)))
+            }
+            JobFault::BadLength => Some((self.input_name(), self.of_length(&seen.input))),
+            JobFault::Integrity => Some((self.input_name(), self.of_integrity())),
+            JobFault::Write { .. } => {
+                Some((self.output_name(), Why::of_number(seen.output.error)))
+            }
+            JobFault::Memory => None,
+        }
+    }
+
+    fn new_kek_name(&self) -> &'a str {
+        match self.work {
+            Work::Rewrap { new_kek, .. } => new_kek,
+            Work::Job { .. } => "",
+        }
+    }
+
+    fn input_name(&self) -> &'a str {
+        self.places.input.unwrap_or("standard input")
+    }
+
+    fn output_name(&self) -> &'a str {
+        self.places.output.unwrap_or("standard output")
+    }
+
+    fn of_length(&self, seen: &Seen) -> Why {
+        let bytes = denoted(self.work.notation(), seen);
+        match self.work {
+            Work::Job { task, .. } if task.job == Job::Wrap => of_key(task.form, bytes),
+            Work::Job { task, .. } => of_wrapped(task.form, bytes),
+            Work::Rewrap { task, .. } => of_rewrapped(task.old_form, bytes),
+        }
+    }
+
+    fn of_integrity(&self) -> Why {
+        Why::Says(match self.work {
+            Work::Job { iv: Some(_), .. } => "no wrapping under this KEK and --iv",
+            Work::Job { task, .. } => no_wrapping(task.form),
+            Work::Rewrap { task, .. } => no_wrapping(task.old_form),
+        })
+    }
+}
+
+const RAW: &str = "not hex; for raw bytes use --raw";
+
+const RAW_KEK: &str = "not hex; for raw bytes use --raw-kek";
+
+// The bytes that a file denotes that was read whole.
+fn denoted(notation: Notation, seen: &Seen) -> u64 {
+    match notation {
+        Notation::Raw => seen.bytes,
+        Notation::Hex => seen.digits / 2,
+    }
+}
+
+fn of_file(fault: FileFault, seen: &Seen, raw: &'static str) -> Why {
+    match fault {
+        FileFault::Read => Why::of_number(seen.error),
+        FileFault::TooLong => Why::Says("more than 4194304 bytes"),
+        FileFault::BadDigit { .. } => Why::Says(raw),
+        FileFault::OddDigits => Why::Digits(seen.digits),
+        FileFault::Memory => Why::Named,
+    }
+}
+
+fn of_kek(notation: Notation, seen: &Seen) -> Why {
+    Why::Kek {
+        bytes: denoted(notation, seen),
+    }
+}
+
+fn of_key(form: Form, bytes: u64) -> Why {
+    if bytes > MAX_KEY as u64 {
+        return Why::TooLong {
+            bytes,
+            what: "a key",
+            most: MAX_KEY,
+        };
+    }
+    let legal = match form {
+        Form::Plain => "a plain key has 16 or more, a multiple of 8",
+        Form::Padded => "a key has 1 or more",
+    };
+    Why::Length { bytes, legal }
+}
+
+fn of_wrapped(form: Form, bytes: u64) -> Why {
+    if bytes > MAX_WRAPPED as u64 {
+        return Why::TooLong {
+            bytes,
+            what: "a wrapped key",
+            most: MAX_WRAPPED,
+        };
+    }
+    let legal = match form {
+        Form::Plain => "a plain wrapped key has 24 or more, a multiple of 8",
+        Form::Padded => "a padded wrapped key has 16 or more, a multiple of 8",
+    };
+    Why::Length { bytes, legal }
+}
+
+// The length of the wrapped key, or else that of its key, which only its unwrapping shows.
+fn of_rewrapped(form: Form, bytes: u64) -> Why {
+    let least = match form {
+        Form::Plain => 24,
+        Form::Padded => 16,
+    };
+    if bytes >= least && bytes <= MAX_WRAPPED as u64 && bytes % 8 == 0 {
+        Why::Says(
+            "its key is none for the plain form, which takes 16 bytes or more, a multiple of 8",
+        )
+    } else {
+        of_wrapped(form, bytes)
+    }
+}
+
+// The longest wrapped key, in either form.
+const MAX_WRAPPED: usize = MAX_KEY + 8;
+
+fn no_wrapping(form: Form) -> &'static str {
+    match form {
+        Form::Plain => "no wrapping in the plain form under this KEK; try keywrap check",
+        Form::Padded => "no wrapping in the padded form under this KEK; try keywrap check",
+    }
+}

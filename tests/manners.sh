@@ -1,0 +1,460 @@
+#!/usr/bin/env bash
+# Runs the built program as one who works with it all day: that its help fits a terminal, `-` and closed
+# standard streams, whose the file of --output is and who may read it, the sync of its folder, and the second
+# line of a refusal. The expected values are the vectors of RFC 3394 and RFC 5649, and the system's own words.
+#
+# usage: tests/manners.sh        (KEYWRAP=PATH tries another program, as an installed one)
+#
+# Owners need root, default modes setfacl, and a terminal `script`; what is lacking is skipped.
+
+set -u
+# shellcheck source=tests/lib/program.sh
+. "${BASH_SOURCE[0]%/*}/lib/program.sh"
+# shellcheck source=tests/lib/expect.sh
+. "$root/tests/lib/expect.sh"
+# shellcheck source=tests/lib/answers.sh
+. "$root/tests/lib/answers.sh"
+# shellcheck source=tests/lib/commands.sh
+. "$root/tests/lib/commands.sh"
+# shellcheck source=tests/lib/output.sh
+. "$root/tests/lib/output.sh"
+
+### The help
+
+# fits ARGUMENT..: no line of this help is longer than 80 characters.
+fits() {
+    "$program" "$@" >help.lines
+    verdict "80 columns are enough for '$*'" "$([ -s help.lines ] || echo 'no help')$(grep -nE '.{81}' help.lines)"
+}
+for help in -h --help; do
+    fits $help
+    for command in wrap unwrap rewrap check drill vectors; do
+        fits $command $help
+    done
+done
+
+# tips NAME TIP ARGUMENT..: the words are refused, and the one tip is this.
+tips() {
+    local problem='' to=out status
+    ran "${@:3}"
+    [ "$status" = 2 ] || problem="status $status, not 2;"
+    [ ! -s out ] || problem="$problem output $(shown out);"
+    [ "$(grep -n '^  tip: ' err)" = "3:  tip: $2" ] || problem="$problem error $(shown err);"
+    verdict "$1" "$problem"
+}
+asks_help='keywrap --help shows the help, and keywrap COMMAND --help that of a command'
+tips 'the tip on help --help' "$asks_help" help --help
+tips 'the tip on help -h' "$asks_help" help -h
+tips 'the tip on check --padded' 'check looks at both forms, and says which one it found' check --kek kek16.hex --padded
+tips 'the tip on unwrap --new-kek' 'only rewrap takes --new-kek' unwrap --kek kek16.hex --new-kek kek32.hex
+tips 'a usage in a word moves no tip' 'files are named by options: --kek FILE, --input FILE, --output FILE' \
+    wrap --kek kek16.hex $'a\n\nUsage: keywrap'
+
+### The name -
+
+for kek in kek new-kek; do
+    for command in wrap unwrap check rewrap; do
+        [ $command = rewrap ] || [ $kek = kek ] || continue
+        words=("$command" --kek kek16.hex)
+        [ $command != rewrap ] || words+=(--new-kek kek32.hex)
+        words=("${words[@]/#--$kek/--$kek=-}")
+        # The value that stood behind it goes.
+        case $kek in kek) unset 'words[2]' ;; *) unset 'words[4]' ;; esac
+        tips "$command --$kek -" \
+            "a KEK on standard input is --$kek /dev/stdin; a file of this name is ./-" "${words[@]}"
+    done
+done
+fresh
+cp kek32.hex ./-
+prints 'standard input by -i -' "$wrapped16\n" wrap --kek kek16.hex -i - <key.hex
+prints 'standard input by --input=-' "$wrapped16\n" wrap --kek kek16.hex --input=- <key.hex
+prints 'standard output by -o -' "$d16\n" unwrap --kek kek16.hex -i wrapped.hex -o -
+prints 'both, of check' 'plain 16\n' check --kek kek16.hex --input - --output - <wrapped.hex
+prints 'both, of rewrap' "$wrapped32\n" rewrap --kek kek16.hex --new-kek kek32.hex -i- -o- <wrapped.hex
+prints 'the KEK file ./-' "$wrapped32\n" wrap --kek ./- <key.hex
+prints 'the KEK on standard input' "$wrapped16\n" wrap --kek /dev/stdin -i key.hex <kek16.hex
+refuses 'the input file ./-' 5 "$integrity" unwrap --kek kek16.hex -i ./- </dev/null
+lands 'the output file ./-' 0 wrapped.hex ./- wrap --kek kek16.hex -i key.hex -o ./-
+rm ./-
+
+### Closed standard streams
+
+# Nothing that is opened takes the place of standard input, and nothing is read.
+kek_twice=${kek:0:32}${kek:0:32}
+echo "$kek_twice" >kek_twice.hex
+refuses 'wrap, standard input closed' 4 "$bad_length" wrap --kek kek16.hex <&-
+refuses 'unwrap, standard input closed' 4 "$bad_length" unwrap --kek kek16.hex <&-
+refuses 'rewrap, standard input closed' 4 "$bad_length" rewrap --kek kek16.hex --new-kek kek32.hex <&-
+answers 'check, standard input closed' 5 'none\n' '' check --kek kek16.hex <&-
+for name in - /dev/stdin /dev/fd/0 /proc/self/fd/0; do
+    refuses "the input $name, closed" 4 "$bad_length" wrap --kek kek16.hex -i $name <&-
+done
+refuses 'the KEK file /dev/stdin, closed' 3 "$kek_length" wrap --kek /dev/stdin -i key.hex <&-
+# A KEK file that goes on once it was read: what comes behind its end is no input.
+refuses 'a KEK pipe, standard input closed' 4 "$bad_length" wrap --kek <(cat kek16.hex) <&-
+prints 'a file as input, standard input closed' "$wrapped16\n" wrap --kek kek16.hex -i key.hex <&-
+fresh
+to=closed lands 'a file into a file, input and output closed' 0 wrapped.hex to/file \
+    wrap --kek kek16.hex -i key.hex -o to/file <&-
+refuses 'no descriptor 3' 6 'key file: cannot be opened' wrap --kek /dev/fd/3 <&-
+# in_order: all three are closed, and the KEK file may have the place of any.
+"$program" wrap --kek kek16.hex -o to/other <&- >&- 2>&-
+verdict 'all three closed' "$([ $? = 4 ] && [ ! -e to/other ] || echo "status $?, files $(ls to)")"
+# few NUMBER ARGUMENT..: the program, which may have so many descriptors at once.
+few() (
+    ulimit -n "$1"
+    exec "$program" "${@:2}"
+)
+few 1 wrap --kek kek16.hex <&- >out 2>err
+status=$?
+ended 'one descriptor, standard input closed' 6 nothing 'keywrap: input: cannot be opened'
+few 4 wrap --kek kek16.hex <key.hex >out 2>err
+status=$?
+ended 'as many descriptors as it takes' 0 wrapped.hex ''
+
+### Owner, group and mode of the file of --output
+
+# as USER ARGUMENT..: the program as this user, where that is not ours.
+as() {
+    if [ "$1" = "$(id -un)" ]; then
+        timeout 60 "$program" "${@:2}"
+    else
+        timeout 60 setpriv --reuid "$1" --regid "$(id -g "$1")" --clear-groups ./program "${@:2}"
+    fi
+}
+
+# owned FILE: its owner, group and mode.
+owned() { stat -c '%u %g %a' "$1" 2>&1; }
+
+# takes_place NAME USER OWNED ANSWER ARGUMENT..: run by the user, the answer goes into to/file, which has this
+# owner, group and mode then; nothing else is in `to`.
+takes_place() {
+    local problem=''
+    keywrap="as $2"
+    as "$2" "${@:5}" -o to/file >out 2>err || problem="status $?; error $(shown err);"
+    cmp -s to/file "$4" || problem="$problem the file holds $(shown to/file);"
+    [ "$(owned to/file)" = "$3" ] || problem="$problem it is $(owned to/file), not $3;"
+    [ "$(ls -A to)" = file ] || problem="$problem files $(ls -A to)"
+    verdict "$1" "$problem"
+    keywrap=bounded
+}
+
+# stays NAME USER ARGUMENT..: run by the user, the file is as it was, and the line is that it can't be opened.
+stays() {
+    local problem before
+    before=$(state; owned to/file)
+    as "$2" "${@:3}" -o to/file >out 2>err
+    status=$?
+    problem=$(quiet 6 "$not_opened")
+    [ "$(state; owned to/file)" = "$before" ] || problem="$problem in the folder: $(state; owned to/file), not $before"
+    verdict "$1" "$problem"
+}
+
+cp "$program" program
+me="$(id -u) $(id -g)"
+user=$(id -un)
+wraps=(wrap --kek kek16.hex -i key.hex)
+rewraps=(rewrap --kek kek16.hex --new-kek kek32.hex -i wrapped.hex)
+checks=(check --kek kek16.hex -i wrapped.hex)
+unwraps=(unwrap --kek kek16.hex -i wrapped.hex)
+chmod 755 . program
+for mode in 0 400 444 600 640 664 666 755 777; do
+    for mask in 000 077; do
+        fresh old
+        chmod $mode to/file
+        umask $mask
+        takes_place "wrap over mode $mode, umask $mask" "$user" "$me $mode" wrapped.hex "${wraps[@]}"
+        takes_place "rewrap over mode $mode, umask $mask" "$user" "$me $mode" wrapped32.hex "${rewraps[@]}"
+        takes_place "check over mode $mode, umask $mask" "$user" "$me $mode" plain16 "${checks[@]}"
+        takes_place "unwrap over mode $mode, umask $mask" "$user" "$me 600" key.hex "${unwraps[@]}"
+        umask 022
+    done
+done
+fresh old
+chmod 6755 to/file
+takes_place 'set-user-ID and set-group-ID are not kept' "$user" "$me 755" wrapped.hex "${wraps[@]}"
+for mask in 000 022 077; do
+    fresh
+    umask $mask
+    takes_place "a new file, umask $mask" "$user" "$me 600" wrapped.hex "${wraps[@]}"
+    umask 022
+done
+# A refusal keeps all of it.
+fresh old
+chmod 640 to/file
+keeps 'a refusal keeps mode and content' 5 "keywrap: $integrity" unwrap --kek kek32.hex -i wrapped.hex -o to/file
+
+# default_acl: a folder whose new files others may read by its default.
+default_acl() { fresh && setfacl -d -m u::rwx,g::rwx,o::rwx,u:nobody:rwx to; }
+if ! has setfacl acl 'a folder with a default mode'; then
+    :
+elif ! default_acl 2>/dev/null; then
+    skip 'a folder with a default mode' 'this file system has none'
+else
+    takes_place 'a new file in a folder with a default' "$user" "$me 600" wrapped.hex "${wraps[@]}"
+    default_acl
+    takes_place 'unwrap in a folder with a default' "$user" "$me 600" key.hex "${unwraps[@]}"
+    row 'and no one else may read it' sh -c "getfacl -cE to/file | grep -q '^mask::---'"
+    default_acl
+    echo old >to/file
+    chmod 604 to/file
+    takes_place 'over a file in a folder with a default' "$user" "$me 604" wrapped.hex "${wraps[@]}"
+fi
+
+if [ "$(id -u)" != 0 ] || ! setpriv --reuid nobody --regid "$(id -g nobody)" --clear-groups true; then
+    skip 'owners' 'only root can try them, with setpriv' util-linux
+else
+    nobody="$(id -u nobody) $(id -g nobody)"
+    for mode in 400 640 666; do
+        fresh old
+        chown nobody: to/file
+        chmod $mode to/file
+        takes_place "root, over a file of nobody, mode $mode" root "$nobody $mode" wrapped.hex "${wraps[@]}"
+        takes_place "root, check over it, mode $mode" root "$nobody $mode" plain16 "${checks[@]}"
+        cp wrapped.hex to/file
+        takes_place "root, rewrap in place, mode $mode" root "$nobody $mode" wrapped32.hex \
+            rewrap --kek kek16.hex --new-kek kek32.hex -i to/file
+        takes_place "root, unwrap over it, mode $mode" root "$me 600" key.hex "${unwraps[@]}"
+    done
+    fresh old
+    chown 12345:54321 to/file
+    takes_place 'root, over a file of an owner without a name' root '12345 54321 644' wrapped.hex "${wraps[@]}"
+    # nobody, in a folder of nobody.
+    fresh old
+    chown nobody: to to/file
+    chmod 640 to/file
+    takes_place 'nobody, over a file of its own' nobody "$nobody 640" wrapped.hex "${wraps[@]}"
+    takes_place 'nobody, unwrap over it' nobody "$nobody 600" key.hex "${unwraps[@]}"
+    chown root:root to/file
+    chmod 666 to/file
+    for job in wraps rewraps checks; do
+        declare -n asked=$job
+        stays "nobody, ${asked[0]} over a file of root" nobody "${asked[@]}"
+    done
+    takes_place 'nobody, unwrap over a file of root' nobody "$nobody 600" key.hex "${unwraps[@]}"
+    chown nobody:root to/file
+    chmod 644 to/file
+    stays 'nobody, over a file of its own with a group of root' nobody "${wraps[@]}"
+    # A folder that hands its group on.
+    fresh old
+    chown nobody:54321 to
+    chmod 2775 to
+    chown root:root to/file
+    takes_place 'root, in a folder that hands its group on' root '0 0 644' wrapped.hex "${wraps[@]}"
+    rm to/file
+    takes_place 'root, a new file in such a folder' root '0 54321 600' wrapped.hex "${wraps[@]}"
+    chown nobody:"$(id -g nobody)" to/file
+    chmod 640 to/file
+    takes_place 'nobody, over a file of its own in such a folder' nobody "$nobody 640" wrapped.hex "${wraps[@]}"
+fi
+
+### The sync of its folder
+
+# preloaded ARGUMENT..: the program over calls of the system that write their names to the file `met`, of
+# which those fail that $FAIL_CALL names.
+preloaded() { LD_PRELOAD=$PWD/fail_call.so timeout 60 "$program" "$@" 9>>met; }
+
+if ! compiled fail_call; then
+    skip 'the sync of the folder' 'no C compiler' gcc
+else
+    keywrap=preloaded
+    fresh old
+    : >met
+    takes=("${wraps[@]}" -o to/file)
+    ran_to() { to=out ran "$@"; }
+    ran_to "${takes[@]}"
+    verdict 'the file is synced, renamed, and its folder synced' \
+        "$(printf 'fsync\nrename\nfsync\n' | diff - <(grep -vx statx met))"
+    fresh old
+    export FAIL_CALL=fsync:2
+    ran_to "${takes[@]}"
+    verdict 'an error of the folder is one of the run' "$(quiet 6 "$flush_fault")"
+    verdict 'the file is the new one then' "$(cmp to/file wrapped.hex 2>&1)"
+    export FAIL_ERRNO=22
+    fresh old
+    ran_to "${takes[@]}"
+    verdict 'a folder that can not be synced' "$(quiet 0 '')$(cmp to/file wrapped.hex 2>&1)"
+    unset FAIL_CALL FAIL_ERRNO
+    rm met
+    keywrap=bounded
+fi
+drops=()
+[ "$(id -u)" != 0 ] || drops=(setpriv "--bounding-set=-dac_override,-dac_read_search")
+# unprivileged ARGUMENT..: the program without the right to read where the modes say no.
+unprivileged() { timeout 60 "${drops[@]}" "$program" "$@"; }
+fresh old
+chmod 300 to
+if ! "${drops[@]}" true || "${drops[@]}" ls to 2>/dev/null; then
+    skip 'a folder that can not be read' 'setpriv takes no right away' util-linux
+else
+    to=out keywrap=unprivileged ran "${wraps[@]}" -o to/file
+    verdict 'a folder that can not be read' "$(quiet 0 '')$(cmp to/file wrapped.hex 2>&1)"
+fi
+chmod 755 to
+for name in "$room/to/file" to/file ./to//file; do
+    fresh
+    lands "into $name" 0 plain16 to/file "${checks[@]}" -o "$name"
+done
+fresh
+(cd to && "$program" wrap --kek ../kek16.hex -i ../key.hex -o file) >out 2>err
+verdict 'into a name alone' "$(cmp to/file wrapped.hex 2>&1)"
+
+### The second line
+
+# tells NAME STATUS LINE WHY ARGUMENT..: with --verbose the refusal has these two lines, and else the first.
+tells() {
+    answers "$1" "$2" '' "keywrap: $3"$'\n'"  $4" "${@:5}" --verbose <"$stream"
+    answers "$1, not --verbose" "$2" '' "keywrap: $3" "${@:5}" <"$stream"
+}
+stream=/dev/null
+echo 00 >one.hex
+bytes "$(zeros 17)" >raw17
+no_file='No such file or directory'
+key_file='key file: cannot be opened'
+fresh old
+tells 'no KEK file' 6 "$key_file" "missing: $no_file" wrap --kek missing
+tells 'a KEK file behind a file' 6 "$key_file" 'key.hex/x: Not a directory' check --kek key.hex/x
+tells 'no name' 6 "$key_file" "'': $no_file" wrap --kek ''
+tells 'no new KEK file' 6 'new key file: cannot be opened' "missing: $no_file" rewrap --kek kek16.hex --new-kek missing
+tells 'no input file' 6 'input: cannot be opened' "to/missing: $no_file" wrap --kek kek16.hex -i to/missing
+tells 'a name with control characters' 6 "$key_file" "a\\x1b[31m\\x0ab: $no_file" wrap --kek $'a\x1b[31m\nb'
+tells 'a name beyond ASCII' 6 "$key_file" "é: $no_file" wrap --kek é
+tells 'a folder as KEK file' 6 'key file: cannot be read' 'folder: Is a directory' wrap --kek folder
+tells 'a folder as input' 6 'input: cannot be read' 'folder: Is a directory' wrap --kek kek16.hex -i folder
+tells 'a KEK of 15 bytes' 3 "$kek_length" 'kek15.hex: 15 bytes of KEK' wrap --kek kek15.hex
+tells 'a raw KEK in hex' 3 "$kek_length" 'kek16.hex: 33 bytes of KEK' wrap --raw-kek --kek kek16.hex
+tells 'an empty KEK' 3 "$kek_length" '/dev/null: 0 bytes of KEK' check --kek /dev/null
+tells 'a KEK of one byte' 3 "$kek_length" 'one.hex: 1 byte of KEK' check --kek one.hex
+tells 'a new KEK of 15 bytes' 3 "$new_kek_length" 'kek15.hex: 15 bytes of KEK' rewrap --kek kek16.hex --new-kek kek15.hex
+tells 'a raw KEK file' 6 'key file: no hex digit at byte 0' 'kek16.raw: not hex; for raw bytes use --raw-kek' \
+    wrap --kek kek16.raw
+tells 'an odd KEK' 6 'key file: odd number of hex digits' 'odd.hex: 3 hex digits' wrap --kek odd.hex
+tells 'a KEK file that is too long' 6 'key file: too long' 'long.hex: more than 4194304 bytes' wrap --kek long.hex
+tells 'a bad digit in the new KEK' 6 'new key file: no hex digit at byte 1' \
+    'digit.hex: not hex; for raw bytes use --raw-kek' rewrap --kek kek16.hex --new-kek digit.hex
+tells 'a bad digit' 6 'input: no hex digit at byte 1' 'digit.hex: not hex; for raw bytes use --raw' \
+    wrap --kek kek16.hex -i digit.hex
+tells 'odd digits' 6 'input: odd number of hex digits' 'odd.hex: 3 hex digits' unwrap --kek kek16.hex -i odd.hex
+tells 'an input that is too long' 6 'input: too long' 'long.hex: more than 4194304 bytes' \
+    wrap --kek kek16.hex -i long.hex
+
+# bad NAME WHY ARGUMENT..: a length is refused so.
+bad() { tells "$1" 4 "$bad_length" "$2" "${@:3}"; }
+in16='a plain key has 16 or more, a multiple of 8'
+in24='a plain wrapped key has 24 or more, a multiple of 8'
+in_padded='a padded wrapped key has 16 or more, a multiple of 8'
+zeros 23 >wrapped23.hex
+zeros 24 >wrapped24.hex
+head -c 1048577 /dev/zero >key.long
+head -c 1048592 /dev/zero >wrapped.long
+bad 'a key of 7 bytes' "key7.hex: 7 bytes; $in16" wrap --kek kek16.hex -i key7.hex
+bad 'a key of 7 bytes under a value' "key7.hex: 7 bytes; $in16" wrap --iv "$iv" --kek kek16.hex -i key7.hex
+bad 'no key' 'nothing: 0 bytes; a key has 1 or more' wrap --padded --kek kek16.hex -i nothing
+bad 'a raw key of 17 bytes' "raw17: 17 bytes; $in16" wrap --raw --kek kek16.hex -i raw17
+bad 'a wrapped key of 23 bytes' "wrapped23.hex: 23 bytes; $in24" unwrap --kek kek16.hex -i wrapped23.hex
+bad 'a padded wrapped key of 23 bytes' "wrapped23.hex: 23 bytes; $in_padded" \
+    unwrap --padded --kek kek16.hex -i wrapped23.hex
+bad 'rewrap of 23 bytes' "wrapped23.hex: 23 bytes; $in24" \
+    rewrap --kek kek16.hex --new-kek kek32.hex -i wrapped23.hex
+bad 'rewrap of 16 bytes' "wrapped7.hex: 16 bytes; $in24" rewrap --kek kek16.hex --new-kek kek32.hex -i wrapped7.hex
+bad 'rewrap of 7 bytes to plain' \
+    'wrapped7.hex: its key is none for the plain form, which takes 16 bytes or more, a multiple of 8' \
+    rewrap --padded --kek kek5649.hex --new-kek kek32.hex -i wrapped7.hex
+bad 'a key that is too long' 'key.long: 1048577 bytes; a key has 1048576 at most' \
+    wrap --padded --raw --kek kek16.hex -i key.long
+bad 'a wrapped key that is too long' 'wrapped.long: 1048592 bytes; a wrapped key has 1048584 at most' \
+    unwrap --raw --kek kek16.hex -i wrapped.long
+stream=key7.hex
+bad 'a key of 7 bytes from standard input' "standard input: 7 bytes; $in16" wrap --kek kek16.hex
+bad 'a key of 7 bytes by -' "standard input: 7 bytes; $in16" wrap --kek kek16.hex -i -
+stream=/dev/null
+
+# wrong NAME WHY ARGUMENT..: the integrity check fails, and this is why.
+wrong() { tells "$1" 5 "$integrity" "$2" "${@:3}"; }
+wrong 'a wrong byte' 'wrong.hex: no wrapping in the plain form under this KEK; try keywrap check' \
+    unwrap --kek kek16.hex -i wrong.hex
+wrong 'a plain one, taken for padded' 'wrapped.hex: no wrapping in the padded form under this KEK; try keywrap check' \
+    unwrap --padded --kek kek16.hex -i wrapped.hex
+wrong 'rewrap of a wrong byte' 'wrong.hex: no wrapping in the plain form under this KEK; try keywrap check' \
+    rewrap --kek kek16.hex --new-kek kek32.hex -i wrong.hex
+wrong 'another value' 'wrapped.hex: no wrapping under this KEK and --iv' \
+    unwrap --iv "$iv" --kek kek16.hex -i wrapped.hex
+
+# not_to FILE WHY [ARGUMENT..]: FILE is no output.
+not_to() { tells "no output: $1" 6 'output: cannot be opened' "$2" wrap --kek kek16.hex -i key.hex "${@:3}" -o "$1"; }
+ln -s old link
+not_to folder 'folder: is a folder'
+not_to folder/ 'folder/: is a folder'
+not_to link 'link: is a link'
+not_to pipe 'pipe: is a pipe'
+not_to /dev/null '/dev/null: is a device'
+not_to kek16.hex 'kek16.hex is the KEK file'
+not_to ./kek16.hex './kek16.hex is the KEK file'
+not_to missing/file "missing/file: $no_file"
+not_to old/file 'old/file: Not a directory'
+not_to '' "''"
+tells 'no output: the new KEK file' 6 'output: cannot be opened' 'kek32.hex is the new KEK file' \
+    rewrap --kek kek16.hex --new-kek kek32.hex -i wrapped.hex -o kek32.hex
+for ((n = 0; n < 100; n++)); do : >to/file.part$n; done
+not_to to/file 'to/file: files of its name with .part0 to .part99 are there'
+fresh
+if [ "$(id -u)" = 0 ] && setpriv --reuid nobody --regid "$(id -g nobody)" --clear-groups true; then
+    chown nobody: to
+    echo old >to/file
+    keywrap='as_nobody'
+    as_nobody() { as nobody "$@"; }
+    not_to to/file "to/file: its owner, group and mode can't be kept"
+    keywrap=bounded
+else
+    skip 'an owner that can not be kept' 'only root can try it, with setpriv' util-linux
+fi
+# full ARGUMENT..: the program, for which files have no room. Its lines go through a pipe.
+full() {
+    (
+        ulimit -f 0
+        trap '' XFSZ
+        exec "$program" "$@"
+    ) 2>&1 | cat >err
+    status=${PIPESTATUS[0]}
+}
+fresh
+: >out
+full "${wraps[@]}" --verbose -o to/file
+verdict 'a file without room' "$(quiet 6 'keywrap: output: refused after 0 bytes
+  to/file: File too large')"
+"$program" "${wraps[@]}" --verbose >/dev/full 2>err
+status=$?
+verdict 'standard output without room' "$(quiet 6 'keywrap: output: refused after 0 bytes
+  standard output: No space left on device')"
+refuses 'a value that is none has no second line' 2 '--iv is not 16 hex digits' wrap --iv 0 --kek missing --verbose
+answers 'check has no second line' 5 'none\n' '' check --kek kek16.hex -i wrong.hex --verbose
+prints 'an answer has none' "$wrapped16\n" wrap --kek kek16.hex -i key.hex --verbose
+for command in drill vectors; do refuses_words $command --verbose; done
+"$program" wrap --kek kek15.hex -i key.hex --verbose >out 2>&-
+status=$?
+: >err
+verdict 'standard error closed' "$(quiet 3 '')"
+
+# On a terminal it is there without the flag.
+if [ "$(script -qec 'echo here' /dev/null 2>&1 | tr -d '\r')" != here ]; then
+    skip 'the second line on a terminal' 'no script, or it makes no terminal' bsdutils
+else
+    # on_screen NAME LINE WANTED: what a terminal shows of this line of sh.
+    on_screen() {
+        echo "$2" >line.sh
+        program=$program timeout 60 script -qec 'sh ./line.sh' /dev/null </dev/null 2>&1 | tr -d '\r' >screen
+        verdict "$1" "$(diff <(printf '%s\n' "$3") screen)"
+    }
+    export program
+    # shellcheck disable=SC2016
+    {
+        on_screen 'a refusal on a terminal' '"$program" wrap --kek missing </dev/null' \
+            $'keywrap: key file: cannot be opened\n  missing: No such file or directory'
+        on_screen 'a refusal on a terminal, the output a file' '"$program" wrap --kek kek15.hex -i key.hex >out' \
+            $'keywrap: key length is not 16, 24 or 32 bytes\n  kek15.hex: 15 bytes of KEK'
+        on_screen 'a refusal in a file' '"$program" wrap --kek missing </dev/null 2>err; cat err' \
+            'keywrap: key file: cannot be opened'
+    }
+fi
+
+finish
