@@ -120,7 +120,7 @@ refuses 'an empty pipe as new KEK' 3 "$new_kek_length" rewrap --kek kek16.hex --
 refuses 'an endless raw pipe as KEK' 6 'key file: too long' wrap --raw-kek --kek <(yes 00)
 refuses 'no bytes as KEK' 3 "$kek_length" wrap --kek /dev/null
 refuses 'a KEK that can not be read' 6 'key file: cannot be read' wrap --kek /proc/self/mem
-for name in '' - loop link/ kek16.hex/kek "$(zeros 2500)" /dev/fd/7 $'a\nb'; do
+for name in '' ./- loop link/ kek16.hex/kek "$(zeros 2500)" /dev/fd/7 $'a\nb'; do
     refuses "'${name:0:20}' as KEK file" 6 'key file: cannot be opened' wrap --kek "$name"
     refuses "'${name:0:20}' as new KEK file" 6 'new key file: cannot be opened' \
         rewrap --kek kek16.hex --new-kek "$name"

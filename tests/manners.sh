@@ -435,6 +435,27 @@ status=$?
 : >err
 verdict 'standard error closed' "$(quiet 3 '')"
 
+# Each allocation fails in turn: for the second line alone there may be no memory.
+if ! compiled fail_alloc; then
+    skip 'the second line without memory' 'no C compiler' gcc
+else
+    problem='' without=0
+    for ((call = 1; call < 999; call++)); do
+        : >met
+        FAIL_ALLOC=$call LD_PRELOAD=$PWD/fail_alloc.so \
+            "$program" wrap --kek kek15.hex -i key.hex --verbose >out 2>err 9>met
+        case $?:$(<err) in
+        "7:keywrap: $memory") ;;
+        "3:keywrap: $kek_length") without=$((without + 1)) ;;
+        "3:keywrap: $kek_length"$'\n''  kek15.hex: 15 bytes of KEK') [ -s met ] || break ;;
+        *) problem="$problem allocation $call: $(shown err);" ;;
+        esac
+    done
+    verdict 'the second line without memory' "$problem"
+    verdict 'there are runs with the first line alone' "$([ "$without" -gt 0 ] && [ $call -lt 999 ] || echo "$without of $call")"
+    rm met
+fi
+
 # On a terminal it is there without the flag.
 if [ "$(script -qec 'echo here' /dev/null 2>&1 | tr -d '\r')" != here ]; then
     skip 'the second line on a terminal' 'no script, or it makes no terminal' bsdutils

@@ -3,7 +3,7 @@
 # commands, flags, values, names of files, garbage and bytes that are not UTF-8. Each run has to
 # end within ten seconds, never by a signal, with a status of README's table, and with no more on
 # standard output and standard error than that status allows. Only an answer changes a file: one, which is
-# the answer, for its owner alone.
+# the answer, with the mode of the one that it replaces or for its owner alone.
 #
 # It is long since it draws lines that are nearly right, which random words alone never are.
 #
@@ -240,20 +240,26 @@ listed() {
         tr '\n\0' '?\n' | sort
 }
 
-# is_kept: the run changed nothing in its folder; or it answered, into one file for its owner alone, and wrote
-# nothing to standard output. Sets $answer to where the answer is.
+# is_kept: the run changed nothing in its folder; or it answered, into one file, and wrote nothing to standard
+# output. The file has the mode of that which had the name; if there was none, and of unwrap, it is for its owner
+# alone. Sets $answer to where the answer is.
 is_kept() {
-    local new
+    local new old mode=600
     answer=out
     listed >after
     ! cmp -s before after || return 0
     new=$(comm -13 before after)
-    answer=${new##* 600 }
+    old=$(comm -23 before after)
+    [ -z "$old" ] || [ "${words[0]}" = unwrap ] || mode=$(mode_of "$old")
+    answer=${new##* "$mode" }
     [ -f "$answer" ] && [ ! -s out ] && [ "$(wc -l <<<"$new")" = 1 ] || return
     case $status in 0) ;; 5) [ "${words[0]}" = check ] ;; *) false ;; esac || return
     # Nothing went, but what had the name before.
-    [ "$(comm -23 before after | sed 's/.* here/here/')" = "$answer" ] || [ -z "$(comm -23 before after)" ]
+    [ -z "$old" ] || [ "${old##* "$(mode_of "$old")" }" = "$answer" ]
 }
+
+# mode_of LINE: the mode in a line of the list.
+mode_of() { sed -E 's/^(\S+ ){4} (\S+) .*/\2/' <<<"$1"; }
 
 # restored: the files as they were before the first run.
 restored() {
