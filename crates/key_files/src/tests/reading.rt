@@ -154,7 +154,18 @@ fn each_failed_read_is_read(rt: HostRuntime) {
             }
         }
     }
+    for room in FAR {
+        for faults in FAULTS {
+            fails_after(&rt, rt.alloc(), Notation::Raw, &DIGITS, room, faults);
+            fails_after(&rt, rt.alloc(), Notation::Hex, &DIGITS, room, faults);
+        }
+    }
 }
+
+/// Places of a fault far into a file, and about the most that one read may give.
+pub const FAR: [usize; 4] = [100, 4_095, 4_096, 4_097];
+
+static DIGITS: [u8; 4_100] = [b'5'; 4_100];
 
 // The first fault is answered, and the reader not asked again, even where it would go on.
 fn fails_after(

@@ -2,9 +2,11 @@
 
 use super::Notation;
 use super::doubles::{FAULTS, Narrow, STOPS, Stop};
+use super::reading::FAR;
 use crate::{HexWriteFault, write_hex, write_raw};
 use std::alloc::Global;
 use std::process::Abort;
+use std::test::Fail;
 
 // The wrapping of RFC 3394, section 4.1.
 const TEXT: &[u8] = b"\x1f\xa6\x8b\x0a\x81\x12\xb4\x47\xae\xf3\x4b\xd8\xfb\x5a\x7b\x82\
@@ -47,22 +49,37 @@ pub(super) fn writes(
 }
 
 #[test]
-fn each_refused_write_is_counted(rt: HostRuntime) {
-    for room in 0..=LINE.len() {
-        for faults in FAULTS {
-            for stop in STOPS {
-                stops_after(&rt, rt.alloc(), room, stop, faults);
+fn each_refused_write_is_counted(rt: HostRuntime) -> Result<(), Fail> {
+    let zeros = [0; 2_050];
+    let mut line = vec![in rt.alloc(); b'0'; 4_100]?;
+    line.push(b'\n')?;
+    for faults in FAULTS {
+        for stop in STOPS {
+            for room in 0..=LINE.len() {
+                stops_after(&rt, rt.alloc(), TEXT, LINE, room, stop, faults);
+            }
+            for room in FAR {
+                stops_after(&rt, rt.alloc(), &zeros, &line, room, stop, faults);
             }
         }
     }
+    Ok(())
 }
 
-// The line as raw bytes, and the text as a line. A stop behind the last byte is not met.
-fn stops_after(rt: &impl Abort, alloc: Global, room: usize, stop: Stop, faults: usize) {
+// The line as raw bytes, and the bytes as this line. A stop behind the last byte is not met.
+fn stops_after(
+    rt: &impl Abort,
+    alloc: Global,
+    bytes: &[u8],
+    line: &[u8],
+    room: usize,
+    stop: Stop,
+    faults: usize,
+) {
     let raw = Narrow::stopping(alloc, room, stop, faults);
-    writes(rt, alloc, Notation::Raw, LINE, LINE, raw, room);
+    writes(rt, alloc, Notation::Raw, line, line, raw, room);
     let hex = Narrow::stopping(alloc, room, stop, faults);
-    writes(rt, alloc, Notation::Hex, TEXT, LINE, hex, room);
+    writes(rt, alloc, Notation::Hex, bytes, line, hex, room);
 }
 
 #[test]
