@@ -22,14 +22,20 @@ run_script() {
 }
 
 # They share the program, which is built before the first of them. Those that build the C library in its
-# crate's folder take turns.
+# crate's folder take turns, as one of the jobs; of the others the longest begin first.
 ./keywrap --version || exit
+turns=() long=() short=()
 for script in "${scripts[@]}"; do
-    while [ "$(jobs -pr | wc -l)" -ge "$(nproc)" ]; do wait -n; done
     case $script in
-    library | python | secrets) { flock 8 && run_script "$script" 8>&-; } 8>"$logs/.turn" & ;;
-    *) run_script "$script" & ;;
+    library | python | secrets) turns+=("$script") ;;
+    allocations | faults | files) long+=("$script") ;;
+    *) short+=("$script") ;;
     esac
+done
+for script in "${turns[@]}"; do run_script "$script"; done &
+for script in "${long[@]}" "${short[@]}"; do
+    while [ "$(jobs -pr | wc -l)" -ge "$(nproc)" ]; do wait -n; done
+    run_script "$script" &
 done
 wait
 
