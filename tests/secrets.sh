@@ -1,8 +1,7 @@
 #!/usr/bin/env bash
 # What depends on secrets in the built C library: valgrind's memcheck over each call, with the KEK, the
 # key and the wrapped key marked as undefined, reports each branch and each address that does. There
-# must be none but the decision of an unwrapping, whose answer is public (tests/secrets/decision.supp),
-# and in a rewrap what the length of the key decides (tests/secrets/length.supp).
+# must be none but the decision of an unwrapping, whose answer is public (tests/secrets/decision.supp).
 # And how many bytes that depend on a KEK or a key each call leaves below the stack pointer.
 # A part whose tool is not there is skipped, with a line that says what to install.
 #
@@ -51,19 +50,22 @@ options=(-std=c99 -O1 -g -Wall -Wextra -pedantic -Werror "-I$root/include" "-I$r
 
 ### Copies on the stack
 
-# leaves WHAT MOST: of each call there is a line, and no count of this is above the most.
+# leaves WHAT MOST REFUSED: of each call there is a line, and no count of this is above the most, or
+# above that of a refusal.
 leaves() {
-    awk -F '[: ]' -v what="$1" -v most="$2" '
-        $2 == what { n++; if ($3 > most) { print; bad = 1 } } END { exit bad || n != 11 }' left
+    awk -F '[: ]' -v what="$1" -v most="$2" -v refused="$3" '
+        $2 == what { n++; if ($3 > ($1 ~ /_refused$/ ? refused : most)) { print; bad = 1 } }
+        END { exit bad || n != 19 }' left
 }
 
 # What SECURITY.md says of them. The loader's own work would stand there too, but for -z now.
 row 'the stack: compiles' "$cc" "${options[@]}" "$root/tests/secrets/stack.c" "$archive" -Wl,-z,now -o stack
 row 'the stack: runs' ./stack
 cp row.log left
-row 'the stack: the copies of half a KEK' leaves copies 3
-row 'the stack: the bytes that depend on the KEK' leaves kek 2200
-row 'the stack: the bytes that depend on the key' leaves key 0
+row 'the stack: the copies of half a secret' leaves copies 0 0
+row 'the stack: the bytes that depend on the KEK' leaves kek 0 8
+row 'the stack: the bytes that depend on the new KEK' leaves new_kek 0 0
+row 'the stack: the bytes that depend on the key' leaves key 1 8
 
 ### Branches and addresses
 
@@ -92,11 +94,11 @@ row 'no report in a wrap' finds all '^keywrap_wrap' 0 0
 row 'the decision of an unwrap' finds all '^keywrap_unwrap' 1 9999999
 row 'the look-ups of an AES by tables' finds all '^tables' 10000 9999999
 
-# Without the decision, and what a rewrap does by the length of the key that it has unwrapped, which an
-# unwrap answers.
-row 'the calls, but for what is public' reports quiet "$longest" \
-    --suppressions="$root/tests/secrets/decision.supp" --suppressions="$root/tests/secrets/length.supp"
+# Without the decision, which a rewrap and keywrap_kind make at the same place.
+row 'the calls, but for the decision' reports quiet "$longest" \
+    --suppressions="$root/tests/secrets/decision.supp"
 row 'none in an unwrap but at the decision' finds quiet '^keywrap_unwrap' 0 0
 row 'none in a rewrap but at the decision' finds quiet '^keywrap_rewrap' 0 0
+row 'none in a look for the form but at the decision' finds quiet '^keywrap_kind' 0 0
 
 finish

@@ -20,7 +20,7 @@ static const uint8_t IV[8] = {0x01, 0x23, 0x45, 0x67, 0x89, 0xab, 0xcd, 0xef};
 
 static uint8_t kek[32], new_kek[32], key[ROOM], text[ROOM], out[ROOM];
 static size_t out_len;
-static uint32_t forms;
+static uint32_t forms, padded;
 
 static size_t padded_len(size_t len) {
     return KEYWRAP_PADDED_TEXT_LEN(len);
@@ -71,6 +71,15 @@ static int32_t unwrap_padded_in_place(size_t kek_len, size_t len) {
     return keywrap_unwrap_padded_in_place(kek, kek_len, out, padded_len(len), &out_len);
 }
 
+static int32_t kind(size_t kek_len, size_t len) {
+    return keywrap_kind(kek, kek_len, text, len + 8, out, len, &padded, &out_len);
+}
+
+static int32_t kind_padded(size_t kek_len, size_t len) {
+    size_t room = padded_len(len) - 8;
+    return keywrap_kind(kek, kek_len, text, room + 8, out, room, &padded, &out_len);
+}
+
 static int32_t rewrap_in_place(size_t kek_len, size_t len) {
     size_t text_len = forms & KEYWRAP_OLD_PADDED ? padded_len(len) : len + 8;
     memcpy(out, text, text_len);
@@ -102,6 +111,8 @@ static const struct watched {
     {"keywrap_unwrap_in_place", unwrap_in_place, wrap, 16, 8, LONGEST, 0},
     {"keywrap_unwrap_padded", unwrap_padded, wrap_padded, 1, 1, LONGEST, 0},
     {"keywrap_unwrap_padded_in_place", unwrap_padded_in_place, wrap_padded, 1, 1, LONGEST, 0},
+    {"keywrap_kind", kind, wrap, 16, 8, LONGEST, 0},
+    {"keywrap_kind, padded", kind_padded, wrap_padded, 1, 1, LONGEST, 0},
     {"keywrap_rewrap_in_place", rewrap_in_place, wrap, 16, 8, LONGEST, 0},
     {"keywrap_rewrap_in_place, to padded", rewrap_in_place, wrap, 16, 8, LONGEST,
      KEYWRAP_NEW_PADDED},

@@ -1,8 +1,8 @@
-/* stack.c: how many bytes that depend on the KEK, or on the key, each call of the C library leaves
- * below the stack pointer. Each call runs on a stack of its own that is filled beforehand, under
- * two KEKs and over two keys: a byte of the stack that differs afterwards depends on what differed.
- * Prints a line for each call: its name with `:kek`, `:key` or `:copies`, and the count. Copies are
- * those of the KEK's first 16 bytes as they stand. */
+/* stack.c: how many bytes that depend on a KEK, or on the key, each call of the C library leaves
+ * below the stack pointer. Each call runs on a stack of its own that is filled beforehand, and again
+ * with another KEK, another new KEK, another key: a byte of the stack that differs afterwards depends
+ * on what differed. Prints lines for each call, and for each that refuses a damaged text, with
+ * `_refused`: its name with `:kek`, `:new_kek`, `:key` or `:copies`, and the count. Copies are those of 16 bytes in a row of a KEK or of the key. */
 
 #define _XOPEN_SOURCE 700
 
@@ -18,6 +18,7 @@ static const uint8_t IV[8] = {0x01, 0x23, 0x45, 0x67, 0x89, 0xab, 0xcd, 0xef};
 
 static uint8_t kek[32], new_kek[32], key[TEXT_LEN], text[TEXT_LEN], out[TEXT_LEN];
 static size_t out_len;
+static uint32_t padded;
 static int32_t status;
 
 static void wrap(void) {
@@ -60,6 +61,10 @@ static void unwrap_padded_in_place(void) {
     status = keywrap_unwrap_padded_in_place(kek, 32, out, TEXT_LEN, &out_len);
 }
 
+static void kind(void) {
+    status = keywrap_kind(kek, 32, text, TEXT_LEN, out, KEY_LEN, &padded, &out_len);
+}
+
 static void rewrap_in_place(void) {
     status = keywrap_rewrap_in_place(kek, 32, new_kek, 32, out, TEXT_LEN, 0);
 }
@@ -79,25 +84,41 @@ static const struct watched {
     {"keywrap_unwrap_in_place", unwrap_in_place, wrap},
     {"keywrap_unwrap_padded", unwrap_padded, wrap_padded},
     {"keywrap_unwrap_padded_in_place", unwrap_padded_in_place, wrap_padded},
+    {"keywrap_kind", kind, wrap},
     {"keywrap_rewrap_in_place", rewrap_in_place, wrap},
 };
 
-/* Runs a call on the stack, which is filled beforehand. */
-static void run_on(uint8_t *stack, const struct watched *watched) {
+/* What is secret, of 32 bytes each, and from which seed it is filled. */
+static const struct secret {
+    const char *name;
+    uint8_t *bytes;
+    unsigned seed;
+} SECRETS[] = {{"kek", kek, 1}, {"new_kek", new_kek, 3}, {"key", key, 2}};
+
+enum { SECRET_COUNT = sizeof SECRETS / sizeof *SECRETS };
+
+/* The registers with which each call begins: a call saves some of them on its stack. */
+static ucontext_t start;
+
+/* Runs a call on the stack, which is filled beforehand. A damaged text must be refused. */
+static void run_on(uint8_t *stack, const struct watched *watched, int damaged) {
     static ucontext_t here, there;
     if (watched->prepare) {
+        memcpy(out + 8, key, KEY_LEN);
         watched->prepare();
+        out[3] ^= damaged;
         memcpy(text, out, sizeof text);
     } else {
         memcpy(out + 8, key, KEY_LEN);
     }
     memset(stack, 0x5A, STACK);
-    if (getcontext(&there)) exit(2);
+    there = start;
     there.uc_stack.ss_sp = stack;
     there.uc_stack.ss_size = STACK;
     there.uc_link = &here;
     makecontext(&there, watched->run, 0);
-    if (swapcontext(&here, &there) || status != KEYWRAP_OK) exit(3);
+    if (swapcontext(&here, &there)) exit(2);
+    if (status != (damaged ? KEYWRAP_INTEGRITY : KEYWRAP_OK)) exit(3);
 }
 
 static void fill(uint8_t *bytes, size_t len, unsigned seed) {
@@ -113,36 +134,37 @@ static unsigned differing(const uint8_t *a, const uint8_t *b) {
     return count;
 }
 
+/* How often 16 bytes of a secret stand there, at the secret's start or in its middle. */
 static unsigned copies(const uint8_t *stack) {
     unsigned count = 0;
-    for (size_t i = 0; i + 16 <= STACK; i++) count += !memcmp(stack + i, kek, 16);
+    for (size_t i = 0; i + 16 <= STACK; i++)
+        for (int s = 0; s < SECRET_COUNT; s++)
+            for (int half = 0; half < 32; half += 16)
+                count += !memcmp(stack + i, SECRETS[s].bytes + half, 16);
     return count;
 }
 
+static void watch(uint8_t *stack, const struct watched *watched, int damaged) {
+    static uint8_t first[STACK];
+    const char *refused = damaged ? "_refused" : "";
+    run_on(stack, watched, damaged);
+    memcpy(first, stack, STACK);
+    printf("%s%s:copies %u\n", watched->name, refused, copies(stack));
+    for (const struct secret *secret = SECRETS; secret < SECRETS + SECRET_COUNT; secret++) {
+        fill(secret->bytes, 32, secret->seed + 10);
+        run_on(stack, watched, damaged);
+        printf("%s%s:%s %u\n", watched->name, refused, secret->name, differing(first, stack));
+        fill(secret->bytes, 32, secret->seed);
+    }
+}
+
 int main(void) {
-    static uint8_t first[STACK], second[STACK];
     uint8_t *stack = malloc(STACK);
-    if (!stack) return 2;
-    fill(new_kek, sizeof new_kek, 3);
+    if (!stack || getcontext(&start)) return 2;
+    for (int i = 0; i < SECRET_COUNT; i++) fill(SECRETS[i].bytes, 32, SECRETS[i].seed);
     for (size_t c = 0; c < sizeof CALLS / sizeof *CALLS; c++) {
-        const struct watched *watched = CALLS + c;
-        fill(kek, sizeof kek, 1);
-        fill(key, sizeof key, 2);
-        memcpy(out, text, sizeof out);
-        run_on(stack, watched);
-        memcpy(first, stack, STACK);
-        printf("%s:copies %u\n", watched->name, copies(stack));
-
-        fill(kek, sizeof kek, 4);
-        memcpy(out, text, sizeof out);
-        run_on(stack, watched);
-        memcpy(second, stack, STACK);
-        printf("%s:kek %u\n", watched->name, differing(first, second));
-
-        fill(key, sizeof key, 5);
-        memcpy(out, text, sizeof out);
-        run_on(stack, watched);
-        printf("%s:key %u\n", watched->name, differing(second, stack));
+        watch(stack, CALLS + c, 0);
+        if (CALLS[c].prepare) watch(stack, CALLS + c, 1);
     }
     free(stack);
     return 0;

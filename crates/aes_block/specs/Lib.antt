@@ -8,6 +8,7 @@ pub mod SBoxLaw
 pub mod KeyExpansion
 pub mod KeyExpansionLaw
 pub mod Schedule
+pub mod ExpandingLaw
 pub mod State
 pub mod StateLaw
 pub mod Rounds
@@ -16,3 +17,4 @@ pub mod MixColumnsLaw
 pub mod RoundsLaw
 pub mod Cipher
 pub mod CipherLaw
+pub mod StepsLaw

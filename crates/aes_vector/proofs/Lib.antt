@@ -1,11 +1,11 @@
 -- The lemmas that the proofs of this crate share.
 pub mod Adding
-pub mod CipherSteps
 pub mod Computed
 pub mod EveryByte
-pub mod Expanding
+pub mod FirstBlocks
 pub mod KeyForms
 pub mod Mixing
+pub mod Rooms
 pub mod RoundLanes
 pub mod Starts
 pub mod Unmixing

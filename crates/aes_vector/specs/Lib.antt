@@ -2,4 +2,5 @@
 pub mod Tables
 pub mod Tower
 pub mod Turned
+pub mod VectorRoom
 pub mod VectorSchedule

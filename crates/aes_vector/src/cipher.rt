@@ -4,11 +4,12 @@ ghost use Rattle.aes_block.specs.Cipher.{cipher, inv_cipher};
 ghost use Rattle.aes_block.specs.CipherLaw.{cipher_inverse};
 
 use crate::lanes::{bytes_of, vector_of};
+use crate::lent::LentAes;
+use crate::owned::VectorAes;
 use crate::rounds::{first_state, inv_first_state, inv_last_round, inv_round, last_round, round};
-use crate::schedule::VectorAes;
 use block_pair::BlockPair;
 
-impl BlockPair for VectorAes {
+impl<'a> BlockPair for LentAes<'a> {
     ghost encrypted = { cipher };
 
     ghost decrypted = { inv_cipher };
@@ -36,6 +37,24 @@ impl BlockPair for VectorAes {
             state = next;
         }
         bytes_of(inv_last_round(rows, self.last_dec_key(), state))
+    }
+
+    ghost lawful = { cipher_inverse };
+}
+
+impl BlockPair for VectorAes {
+    ghost encrypted = { cipher };
+
+    ghost decrypted = { inv_cipher };
+
+    #[inline(always)]
+    fn enc(&self, b: [u8; 16]) -> [u8; 16] {
+        self.lent().enc(b)
+    }
+
+    #[inline(always)]
+    fn dec(&self, b: [u8; 16]) -> [u8; 16] {
+        self.lent().dec(b)
     }
 
     ghost lawful = { cipher_inverse };

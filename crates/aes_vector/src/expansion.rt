@@ -28,20 +28,18 @@ static ROUND_CONSTANTS: [u32; 10] = [
 // The longest schedule: four words for each of 14 rounds, and four more.
 pub(crate) const MAX_WORDS: usize = 60;
 
-// The key's words, and each word after them from those before it. The rest are 0. Each caller gives
-// `key_words` as a number, so that no division is left.
+// The key's words, and each word after them from those before it, into `words`. The rest stay. Each
+// caller gives `key_words` as a number, so that no division is left.
 #[inline(always)]
-pub(crate) fn expand(kek: &[u8], key_words: usize) -> [u32; MAX_WORDS]
+pub(crate) fn expand(kek: &[u8], key_words: usize, words: &mut [u32; MAX_WORDS])
     requires legal { IsKekLength (length kek.now) }
     requires words { length kek.now ≡ 4 * key_words }
-    ensures { take (4 * (rounds_of kek.now + 1)) result ≡ key_expansion kek.now }
+    ensures { take (4 * (rounds_of kek.now + 1)) words.new ≡ key_expansion kek.now }
 {
-    let mut schedule = [0; MAX_WORDS];
-    BigEndian::read_u32_into(kek, &mut schedule[..key_words]);
+    BigEndian::read_u32_into(kek, &mut words[..key_words]);
     for i in key_words..4 * (key_words + 7) {
-        schedule[i] = schedule[i - key_words] ^ temp(key_words, i, schedule[i - 1]);
+        words[i] = words[i - key_words] ^ temp(key_words, i, words[i - 1]);
     }
-    schedule
 }
 
 // What is xored to the word `key_words` places before place `i`, from the word before it.

@@ -24,22 +24,21 @@ pub(crate) struct RoundKey {
     pub(crate) dec: u8x16,
 }
 
-// The round keys of a schedule. Those past the last are not used.
+// The round keys of a schedule, into `keys`. Those past the last stay.
 #[inline(always)]
-pub(crate) fn round_keys(schedule: &[u32; MAX_WORDS], rounds: usize) -> [RoundKey; MAX_KEYS]
+pub(crate) fn round_keys(words: &[u32; MAX_WORDS], rounds: usize, keys: &mut [RoundKey; MAX_KEYS])
     requires some { 1 ≤ rounds }
     requires within { rounds ≤ 14 }
-    ensures first { IsFirstKey (key_at result 0) (key_block schedule.now 0) }
+    ensures first { IsFirstKey (key_at keys.new 0) (key_block words.now 0) }
     ensures middle { (k : ℕ) → 0 < k → k < rounds
-        → IsMiddleKey (key_at result k) (key_block schedule.now k) }
-    ensures last { IsLastKey (key_at result rounds) (key_block schedule.now rounds) }
+        → IsMiddleKey (key_at keys.new k) (key_block words.now k) }
+    ensures last { IsLastKey (key_at keys.new rounds) (key_block words.now rounds) }
 {
-    let mut keys = [first_key(key_block(schedule, 0)); MAX_KEYS];
+    keys[0] = first_key(key_block(words, 0));
     for k in 1..rounds {
-        keys[k] = middle_key(key_block(schedule, k));
+        keys[k] = middle_key(key_block(words, k));
     }
-    keys[rounds] = last_key(key_block(schedule, rounds));
-    keys
+    keys[rounds] = last_key(key_block(words, rounds));
 }
 
 #[inline(always)]
@@ -96,15 +95,15 @@ fn inv_mixed(key: u8x16) -> u8x16
 
 // Round key `k` of the schedule: the block of its four words.
 #[inline(always)]
-fn key_block(schedule: &[u32; MAX_WORDS], k: usize) -> u8x16
+fn key_block(words: &[u32; MAX_WORDS], k: usize) -> u8x16
     requires { k ≤ 14 }
-    ensures { result ≡ key_block schedule.now k }
+    ensures { result ≡ key_block words.now k }
 {
     vector_of(&block_of([
-        schedule[4 * k],
-        schedule[4 * k + 1],
-        schedule[4 * k + 2],
-        schedule[4 * k + 3],
+        words[4 * k],
+        words[4 * k + 1],
+        words[4 * k + 2],
+        words[4 * k + 3],
     ]))
 }
 

@@ -11,13 +11,18 @@ mod cipher;
 mod expansion;
 mod keys;
 mod lanes;
+mod lent;
+mod owned;
+mod room;
 mod rounds;
 mod rows;
 mod schedule;
 mod tables;
 mod tower;
 
-pub use schedule::VectorAes;
+pub use lent::LentAes;
+pub use owned::VectorAes;
+pub use room::Room;
 
 #[cfg(test)]
 mod tests;

@@ -13,7 +13,7 @@ ghost use Rattle.keywrap_c.specs.Status.{IsUnwrapStatus};
 ghost use Rattle.keywrap_c.specs.Kinds.{HasScratch, found_kind};
 
 use crate::status::{BAD_KEK, BAD_LENGTH, DONE, INTEGRITY};
-use aes_vector::VectorAes;
+use aes_vector::{LentAes, Room};
 use block_pair::Meter;
 use key_wrap::{Kind, kind_into};
 
@@ -65,20 +65,29 @@ pub extern "C" fn keywrap_kind(
 {
     *padded = 0;
     *key_len = 0;
-    let Ok(aes) = VectorAes::new(kek) else {
+    let mut room = Room::new();
+    let Ok(aes) = LentAes::new(kek, &mut room) else {
         return BAD_KEK;
     };
     match kind_into(&mut Meter::new(&aes), text, scratch) {
         Ok(Kind::Plain(m)) => {
+            room.clear();
             *key_len = m;
             DONE
         }
         Ok(Kind::Padded(m)) => {
+            room.clear();
             *key_len = m;
             *padded = 1;
             DONE
         }
-        Ok(Kind::Neither) => INTEGRITY,
-        Err(_) => BAD_LENGTH,
+        Ok(Kind::Neither) => {
+            room.clear();
+            INTEGRITY
+        }
+        Err(_) => {
+            room.clear();
+            BAD_LENGTH
+        }
     }
 }

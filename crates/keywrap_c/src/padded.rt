@@ -12,7 +12,7 @@ ghost use Rattle.keywrap_c.specs.Status.{IsWrapStatus, IsUnwrapStatus};
 ghost use Rattle.keywrap_c.specs.Answers.{IsWrapping, IsUnwrapping};
 
 use crate::status::{BAD_KEK, BAD_LENGTH, DONE, INTEGRITY};
-use aes_vector::VectorAes;
+use aes_vector::{LentAes, Room};
 use block_pair::Meter;
 use key_wrap::{InPlaceFault, unwrap_padded_into, wrap_padded_into};
 
@@ -28,12 +28,19 @@ pub extern "C" fn keywrap_wrap_padded(kek: &[u8], key: &[u8], text: &mut [u8]) -
     ensures kept { ¬ IsDone result → text.new ≡ text.old }
     ensures answer { IsDone result → IsWrapping (Padded (cipher kek.now)) key.now text.new }
 {
-    let Ok(aes) = VectorAes::new(kek) else {
+    let mut room = Room::new();
+    let Ok(aes) = LentAes::new(kek, &mut room) else {
         return BAD_KEK;
     };
     match wrap_padded_into(&mut Meter::new(&aes), key, text) {
-        Ok(()) => DONE,
-        Err(_) => BAD_LENGTH,
+        Ok(()) => {
+            room.clear();
+            DONE
+        }
+        Err(_) => {
+            room.clear();
+            BAD_LENGTH
+        }
     }
 }
 
@@ -73,15 +80,23 @@ pub extern "C" fn keywrap_unwrap_padded(
         → Padded (cipher kek.now) other text.now → IsDone result }
 {
     *key_len = 0;
-    let Ok(aes) = VectorAes::new(kek) else {
+    let mut room = Room::new();
+    let Ok(aes) = LentAes::new(kek, &mut room) else {
         return BAD_KEK;
     };
     match unwrap_padded_into(&mut Meter::new(&aes), text, key) {
         Ok(m) => {
+            room.clear();
             *key_len = m;
             DONE
         }
-        Err(InPlaceFault::BadLength) => BAD_LENGTH,
-        Err(InPlaceFault::Integrity) => INTEGRITY,
+        Err(InPlaceFault::BadLength) => {
+            room.clear();
+            BAD_LENGTH
+        }
+        Err(InPlaceFault::Integrity) => {
+            room.clear();
+            INTEGRITY
+        }
     }
 }

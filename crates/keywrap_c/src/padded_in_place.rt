@@ -14,7 +14,7 @@ ghost use Rattle.keywrap_c.specs.Status.{IsWrapStatus, IsUnwrapStatus};
 ghost use Rattle.keywrap_c.specs.Answers.{IsWrapping, IsUnwrapping};
 
 use crate::status::{BAD_KEK, BAD_LENGTH, DONE, INTEGRITY};
-use aes_vector::VectorAes;
+use aes_vector::{LentAes, Room};
 use block_pair::Meter;
 use key_wrap::{InPlaceFault, unwrap_padded_in_place, wrap_padded_in_place};
 
@@ -32,12 +32,19 @@ pub extern "C" fn keywrap_wrap_padded_in_place(kek: &[u8], buffer: &mut [u8], ke
     ensures answer { IsDone result
         → IsWrapping (Padded (cipher kek.now)) (key_in key_len buffer.old) buffer.new }
 {
-    let Ok(aes) = VectorAes::new(kek) else {
+    let mut room = Room::new();
+    let Ok(aes) = LentAes::new(kek, &mut room) else {
         return BAD_KEK;
     };
     match wrap_padded_in_place(&mut Meter::new(&aes), buffer, key_len) {
-        Ok(()) => DONE,
-        Err(_) => BAD_LENGTH,
+        Ok(()) => {
+            room.clear();
+            DONE
+        }
+        Err(_) => {
+            room.clear();
+            BAD_LENGTH
+        }
     }
 }
 
@@ -75,15 +82,23 @@ pub extern "C" fn keywrap_unwrap_padded_in_place(
         → Padded (cipher kek.now) key buffer.old → IsDone result }
 {
     *key_len = 0;
-    let Ok(aes) = VectorAes::new(kek) else {
+    let mut room = Room::new();
+    let Ok(aes) = LentAes::new(kek, &mut room) else {
         return BAD_KEK;
     };
     match unwrap_padded_in_place(&mut Meter::new(&aes), buffer) {
         Ok(m) => {
+            room.clear();
             *key_len = m;
             DONE
         }
-        Err(InPlaceFault::BadLength) => BAD_LENGTH,
-        Err(InPlaceFault::Integrity) => INTEGRITY,
+        Err(InPlaceFault::BadLength) => {
+            room.clear();
+            BAD_LENGTH
+        }
+        Err(InPlaceFault::Integrity) => {
+            room.clear();
+            INTEGRITY
+        }
     }
 }

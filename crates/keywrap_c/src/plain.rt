@@ -12,7 +12,7 @@ ghost use Rattle.keywrap_c.specs.Status.{IsWrapStatus, IsUnwrapStatus};
 ghost use Rattle.keywrap_c.specs.Answers.{IsWrapping, IsUnwrapping};
 
 use crate::status::{BAD_KEK, BAD_LENGTH, DONE, INTEGRITY};
-use aes_vector::VectorAes;
+use aes_vector::{LentAes, Room};
 use block_pair::Meter;
 use key_wrap::{InPlaceFault, unwrap_into, wrap_into};
 
@@ -29,12 +29,19 @@ pub extern "C" fn keywrap_wrap(kek: &[u8], key: &[u8], text: &mut [u8]) -> i32
     ensures answer { IsDone result
         → IsWrapping (Plain (cipher kek.now) default_iv) key.now text.new }
 {
-    let Ok(aes) = VectorAes::new(kek) else {
+    let mut room = Room::new();
+    let Ok(aes) = LentAes::new(kek, &mut room) else {
         return BAD_KEK;
     };
     match wrap_into(&mut Meter::new(&aes), key, text) {
-        Ok(()) => DONE,
-        Err(_) => BAD_LENGTH,
+        Ok(()) => {
+            room.clear();
+            DONE
+        }
+        Err(_) => {
+            room.clear();
+            BAD_LENGTH
+        }
     }
 }
 
@@ -63,12 +70,22 @@ pub extern "C" fn keywrap_unwrap(kek: &[u8], text: &[u8], key: &mut [u8]) -> i32
         → ArePlainLengths (length key.old) (length text.now)
         → Plain (cipher kek.now) default_iv other text.now → IsDone result }
 {
-    let Ok(aes) = VectorAes::new(kek) else {
+    let mut room = Room::new();
+    let Ok(aes) = LentAes::new(kek, &mut room) else {
         return BAD_KEK;
     };
     match unwrap_into(&mut Meter::new(&aes), text, key) {
-        Ok(()) => DONE,
-        Err(InPlaceFault::BadLength) => BAD_LENGTH,
-        Err(InPlaceFault::Integrity) => INTEGRITY,
+        Ok(()) => {
+            room.clear();
+            DONE
+        }
+        Err(InPlaceFault::BadLength) => {
+            room.clear();
+            BAD_LENGTH
+        }
+        Err(InPlaceFault::Integrity) => {
+            room.clear();
+            INTEGRITY
+        }
     }
 }

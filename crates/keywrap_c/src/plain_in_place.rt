@@ -13,7 +13,7 @@ ghost use Rattle.keywrap_c.specs.Status.{IsWrapStatus, IsUnwrapStatus};
 ghost use Rattle.keywrap_c.specs.Answers.{IsWrapping, IsUnwrapping};
 
 use crate::status::{BAD_KEK, BAD_LENGTH, DONE, INTEGRITY};
-use aes_vector::VectorAes;
+use aes_vector::{LentAes, Room};
 use block_pair::Meter;
 use key_wrap::{InPlaceFault, unwrap_in_place, wrap_in_place};
 
@@ -31,12 +31,19 @@ pub extern "C" fn keywrap_wrap_in_place(kek: &[u8], buffer: &mut [u8]) -> i32
     ensures answer { IsDone result
         → IsWrapping (Plain (cipher kek.now) default_iv) (drop 8 buffer.old) buffer.new }
 {
-    let Ok(aes) = VectorAes::new(kek) else {
+    let mut room = Room::new();
+    let Ok(aes) = LentAes::new(kek, &mut room) else {
         return BAD_KEK;
     };
     match wrap_in_place(&mut Meter::new(&aes), buffer) {
-        Ok(()) => DONE,
-        Err(_) => BAD_LENGTH,
+        Ok(()) => {
+            room.clear();
+            DONE
+        }
+        Err(_) => {
+            room.clear();
+            BAD_LENGTH
+        }
     }
 }
 
@@ -65,12 +72,22 @@ pub extern "C" fn keywrap_unwrap_in_place(kek: &[u8], buffer: &mut [u8]) -> i32
     ensures accepts { (key : List ℕ) → IsKekLength (length kek.now)
         → Plain (cipher kek.now) default_iv key buffer.old → IsDone result }
 {
-    let Ok(aes) = VectorAes::new(kek) else {
+    let mut room = Room::new();
+    let Ok(aes) = LentAes::new(kek, &mut room) else {
         return BAD_KEK;
     };
     match unwrap_in_place(&mut Meter::new(&aes), buffer) {
-        Ok(()) => DONE,
-        Err(InPlaceFault::BadLength) => BAD_LENGTH,
-        Err(InPlaceFault::Integrity) => INTEGRITY,
+        Ok(()) => {
+            room.clear();
+            DONE
+        }
+        Err(InPlaceFault::BadLength) => {
+            room.clear();
+            BAD_LENGTH
+        }
+        Err(InPlaceFault::Integrity) => {
+            room.clear();
+            INTEGRITY
+        }
     }
 }

@@ -13,7 +13,7 @@ ghost use Rattle.keywrap_c.specs.Answers.{IsWrapping, IsUnwrapping};
 ghost use Rattle.keywrap_c.specs.AgreedValue.{IsIv, iv_word};
 
 use crate::status::{BAD_IV, BAD_KEK, BAD_LENGTH, DONE, INTEGRITY};
-use aes_vector::VectorAes;
+use aes_vector::{LentAes, Room};
 use block_pair::Meter;
 use key_wrap::{InPlaceFault, InitialValue, unwrap_into_with, wrap_into_with};
 
@@ -35,12 +35,19 @@ pub extern "C" fn keywrap_wrap_with(kek: &[u8], iv: &[u8], key: &[u8], text: &mu
     let Some(value) = initial_value(iv) else {
         return BAD_IV;
     };
-    let Ok(aes) = VectorAes::new(kek) else {
+    let mut room = Room::new();
+    let Ok(aes) = LentAes::new(kek, &mut room) else {
         return BAD_KEK;
     };
     match wrap_into_with(&mut Meter::new(&aes), &value, key, text) {
-        Ok(()) => DONE,
-        Err(_) => BAD_LENGTH,
+        Ok(()) => {
+            room.clear();
+            DONE
+        }
+        Err(_) => {
+            room.clear();
+            BAD_LENGTH
+        }
     }
 }
 
@@ -74,13 +81,23 @@ pub extern "C" fn keywrap_unwrap_with(kek: &[u8], iv: &[u8], text: &[u8], key: &
     let Some(value) = initial_value(iv) else {
         return BAD_IV;
     };
-    let Ok(aes) = VectorAes::new(kek) else {
+    let mut room = Room::new();
+    let Ok(aes) = LentAes::new(kek, &mut room) else {
         return BAD_KEK;
     };
     match unwrap_into_with(&mut Meter::new(&aes), &value, text, key) {
-        Ok(()) => DONE,
-        Err(InPlaceFault::BadLength) => BAD_LENGTH,
-        Err(InPlaceFault::Integrity) => INTEGRITY,
+        Ok(()) => {
+            room.clear();
+            DONE
+        }
+        Err(InPlaceFault::BadLength) => {
+            room.clear();
+            BAD_LENGTH
+        }
+        Err(InPlaceFault::Integrity) => {
+            room.clear();
+            INTEGRITY
+        }
     }
 }
 

@@ -11,7 +11,7 @@ ghost use Rattle.keywrap_c.specs.Answers.{IsRewrapping};
 ghost use Rattle.keywrap_c.specs.Forms.{AreFlags, old_form, new_form};
 
 use crate::status::{BAD_KEK, BAD_LENGTH, DONE, INTEGRITY};
-use aes_vector::VectorAes;
+use aes_vector::{LentAes, Room};
 use block_pair::Meter;
 use key_wrap::{Form, InPlaceFault, rewrap_in_place};
 
@@ -65,13 +65,18 @@ pub extern "C" fn keywrap_rewrap_in_place(
         → StandsIn (old_form forms) (cipher old_kek.now) key buffer.old
         → IsKeyLength (new_form forms) (length key) → IsDone result }
 {
-    let Ok(old) = VectorAes::new(old_kek) else {
+    let mut old_room = Room::new();
+    let Ok(old) = LentAes::new(old_kek, &mut old_room) else {
         return BAD_KEK;
     };
-    let Ok(new) = VectorAes::new(new_kek) else {
+    let mut new_room = Room::new();
+    let Ok(new) = LentAes::new(new_kek, &mut new_room) else {
+        old_room.clear();
         return BAD_KEK;
     };
     let Some((from, to)) = forms_of(forms) else {
+        old_room.clear();
+        new_room.clear();
         return BAD_LENGTH;
     };
     match rewrap_in_place(
@@ -81,9 +86,21 @@ pub extern "C" fn keywrap_rewrap_in_place(
         to,
         buffer,
     ) {
-        Ok(()) => DONE,
-        Err(InPlaceFault::BadLength) => BAD_LENGTH,
-        Err(InPlaceFault::Integrity) => INTEGRITY,
+        Ok(()) => {
+            old_room.clear();
+            new_room.clear();
+            DONE
+        }
+        Err(InPlaceFault::BadLength) => {
+            old_room.clear();
+            new_room.clear();
+            BAD_LENGTH
+        }
+        Err(InPlaceFault::Integrity) => {
+            old_room.clear();
+            new_room.clear();
+            INTEGRITY
+        }
     }
 }
 

@@ -2,7 +2,8 @@
 -- The bytes of each sum come from one lemma; joined, they compute to the definition's block.
 use Rattle.std.proofs.Common.{arith}
 use Rattle.aes_block.specs.Rounds.{add_round_key}
-use Rattle.aes_block.proofs.ColumnWords.{joined, sum_bytes}
+use Rattle.aes_block.specs.ExpandingLaw.{joined}
+use Rattle.aes_block.proofs.ColumnWords.{sum_bytes}
 use Rattle.aes_block.proofs.cipher.add_round_key.Goals as goal
 
 pub returns : goal.returns

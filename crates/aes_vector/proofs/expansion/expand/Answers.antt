@@ -5,7 +5,7 @@ use Rattle.std.proofs.Common.{length-take, length-set}
 use Rattle.std.proofs.lemmas.List.{ext_get_or, get_or_append_left, get_or-set_same, get_or-set_other, get_or-take, length-take-le}
 use Rattle.aes_block.specs.KeyExpansion.{key_words, rounds_of, temp, key_expansion}
 use Rattle.aes_block.specs.KeyExpansionLaw.{key_expansion_is, legal_words}
-use Rattle.aes_vector.proofs.Expanding.{read_word}
+use Rattle.aes_block.specs.ExpandingLaw.{read_word}
 use Rattle.aes_vector.proofs.expansion.expand.Goals as goal
 
 pub loop-i-init : goal.loop-i-init
@@ -26,7 +26,7 @@ loop-i-preserved c =
     let i = c.loop-i.i in
     let n = c.args.key_words in
     let same : key_words K ≡ n = omega (arith, c.requires.words) in
-    let s = c.loop-i.schedule in
+    let s = c.loop-i.words in
     let is = key_expansion_is K c.requires.legal in
     let some = legal_words K c.requires.legal in
     let words = c.loop-i.invariant.words in record {
@@ -44,6 +44,6 @@ returns c =
     let n = 4 * (rounds_of K + 1) in
     let some = legal_words K c.requires.legal in
     let count = (key_expansion_is K c.requires.legal).count in
-    let long : length (take n c.loop-i.schedule) ≡ n = length-take-le n c.loop-i.schedule (omega arith) in
-    ext_get_or 0 (take n c.loop-i.schedule) (key_expansion K) (long ∙ sym count)
-    (λ i h. let below : i < n = omega arith in get_or-take n c.loop-i.schedule i 0 below ∙ c.loop-i.invariant.words i (omega arith))
+    let long : length (take n c.loop-i.words) ≡ n = length-take-le n c.loop-i.words (omega arith) in
+    ext_get_or 0 (take n c.loop-i.words) (key_expansion K) (long ∙ sym count)
+    (λ i h. let below : i < n = omega arith in get_or-take n c.loop-i.words i 0 below ∙ c.loop-i.invariant.words i (omega arith))

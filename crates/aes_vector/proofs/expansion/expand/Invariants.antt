@@ -5,6 +5,6 @@ use Rattle.aes_vector.proofs.expansion.expand.Given as goal
 
 abbrev pub invariant-loop-i : goal.invariant-loop-i
 invariant-loop-i l = record {
-  long : length l.schedule ≡ 60;
-  words : (j : ℕ) → j < l.i → slice_index l.schedule j ≡ slice_index (key_expansion l.kek) j;
+  long : length l.words ≡ 60;
+  words : (j : ℕ) → j < l.i → slice_index l.words j ≡ slice_index (key_expansion l.kek) j;
 }

@@ -1,5 +1,5 @@
 -- Each step stores one key, and leaves the others as they are.
-use Rattle.std.proofs.Common.{◌≡◌, ◌≢◌, ℕ, inl, inr, List, [], refl, sym, subst, arith, length-set}
+use Rattle.std.proofs.Common.{◌≡◌, ◌≢◌, ℕ, inl, inr, List, [], sym, subst, arith, length-set}
 use Rattle.std.proofs.lemmas.Bool.{cases_lt}
 use Rattle.std.proofs.lemmas.List.{get_or-set_same, get_or-set_other}
 use Rattle.aes_vector.specs.declared.keys.RoundKey.{RoundKey}
@@ -10,9 +10,11 @@ none : RoundKey
 none = record { enc = []; dec = [] }
 
 pub loop-k-init : goal.loop-k-init
+unfolding none
 loop-k-init c = record {
-  long = refl;
-  first = subst (λ (b : List ℕ). IsFirstKey c.first_key-keys.result b) c.key_block.ensures c.first_key-keys.ensures;
+  long = simp length-set c.told-keys;
+  first = subst (λ (key : RoundKey). IsFirstKey key (key_block c.args.words.now 0)) (sym (get_or-set_same c.args.keys.now 0 _ none (omega arith)))
+      (subst (λ (b : List ℕ). IsFirstKey c.first_key.result b) c.key_block.ensures c.first_key.ensures);
   middle = λ j p h. absurd (omega arith);
 }
 
@@ -21,7 +23,7 @@ unfolding none
 loop-k-preserved c =
     let keys = c.loop-k.keys in
     let k = c.loop-k.k in
-    let words = c.args.schedule.now in record {
+    let words = c.args.words.now in record {
       long = simp length-set c.loop-k.invariant.long;
       first =
           let other : 0 ≢ k = omega arith in
@@ -44,7 +46,7 @@ pub returns-clause-first : goal.returns-clause-first
 unfolding none
 returns-clause-first c =
     let other : 0 ≢ c.args.rounds = omega arith in
-    subst (λ (key : RoundKey). IsFirstKey key (key_block c.args.schedule.now 0)) (sym (get_or-set_other c.loop-k.keys c.args.rounds 0 _ none other))
+    subst (λ (key : RoundKey). IsFirstKey key (key_block c.args.words.now 0)) (sym (get_or-set_other c.loop-k.keys c.args.rounds 0 _ none other))
     c.loop-k.invariant.first
 
 pub returns-clause-middle : goal.returns-clause-middle
@@ -52,12 +54,12 @@ unfolding none
 returns-clause-middle c =
     λ j p h.
     let other : j ≢ c.args.rounds = omega arith in
-    subst (λ (key : RoundKey). IsMiddleKey key (key_block c.args.schedule.now j)) (sym (get_or-set_other c.loop-k.keys c.args.rounds j _ none other))
+    subst (λ (key : RoundKey). IsMiddleKey key (key_block c.args.words.now j)) (sym (get_or-set_other c.loop-k.keys c.args.rounds j _ none other))
     (c.loop-k.invariant.middle j p (omega arith))
 
 pub returns-clause-last : goal.returns-clause-last
 unfolding none
 returns-clause-last c =
-    subst (λ (key : RoundKey). IsLastKey key (key_block c.args.schedule.now c.args.rounds))
+    subst (λ (key : RoundKey). IsLastKey key (key_block c.args.words.now c.args.rounds))
     (sym (get_or-set_same c.loop-k.keys c.args.rounds _ none (omega arith)))
     (subst (λ (b : List ℕ). IsLastKey c.last_key.result b) c.key_block-2.ensures c.last_key.ensures)

@@ -6,6 +6,6 @@ use Rattle.aes_vector.proofs.keys.round_keys.Given as goal
 abbrev pub invariant-loop-k : goal.invariant-loop-k
 invariant-loop-k l = record {
   long : length l.keys ≡ 15;
-  first : IsFirstKey (key_at l.keys 0) (key_block l.schedule 0);
-  middle : (j : ℕ) → 0 < j → j < l.k → IsMiddleKey (key_at l.keys j) (key_block l.schedule j);
+  first : IsFirstKey (key_at l.keys 0) (key_block l.words 0);
+  middle : (j : ℕ) → 0 < j → j < l.k → IsMiddleKey (key_at l.keys j) (key_block l.words j);
 }

@@ -4,7 +4,7 @@ use Rattle.std.proofs.Common.{ℕ, List, ◌-◌, ap, ap₂, sym, arith, ◌∙�
 use Rattle.aes_block.specs.Rounds.{add_round_key, inv_mix_columns, inv_shift_rows, inv_sub_bytes}
 use Rattle.aes_block.specs.Cipher.{inv_rounds}
 use Rattle.aes_block.specs.Columns.{block_of}
-use Rattle.aes_block.proofs.CipherSteps.{inv_rounds-more, inv_rounds-none, inv_cipher-key}
+use Rattle.aes_block.specs.StepsLaw.{inv_rounds-more, inv_rounds-none, inv_cipher-key}
 use Rattle.aes_block.proofs.cipher.AesBlockPair.dec.Goals as goal
 
 -- the steps with which a round of the definition ends

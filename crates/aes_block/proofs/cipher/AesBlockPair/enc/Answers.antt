@@ -3,7 +3,7 @@
 use Rattle.std.proofs.Common.{◌≡◌, ◌-◌, ◌+◌, ap₂, sym, arith, ◌∙◌}
 use Rattle.aes_block.specs.Rounds.{add_round_key}
 use Rattle.aes_block.specs.Cipher.{rounds, round, last_round}
-use Rattle.aes_block.proofs.CipherSteps.{rounds-more, cipher-key}
+use Rattle.aes_block.specs.StepsLaw.{rounds-more, cipher-key}
 use Rattle.aes_block.proofs.cipher.AesBlockPair.enc.Goals as goal
 
 pub loop-k-init : goal.loop-k-init

@@ -4,7 +4,7 @@ use Rattle.std.proofs.Common.{◌≡◌, inl, inr, ℕ, ◌+◌, ◌*◌, ◌∙
 use Rattle.aes_block.specs.KeyExpansion.{IsKekLength, rounds_of, key_expansion}
 use Rattle.aes_block.specs.KeyExpansionLaw.{key_expansion_only, words_bytes}
 use Rattle.aes_block.specs.Schedule.{key_of}
-use Rattle.aes_block.proofs.Expanding.{key_of_schedule}
+use Rattle.aes_block.specs.ExpandingLaw.{key_of_schedule}
 use Rattle.aes_block.proofs.schedule.Aes.new.Goals as goal
 use Rattle.aes_block.proofs.schedule.Aes.new.Goals.{in-16, in-24, in-32}
 

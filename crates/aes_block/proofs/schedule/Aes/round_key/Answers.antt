@@ -3,7 +3,7 @@
 use Rattle.std.proofs.Common.{◌≡◌, ℕ, ◌+◌, ◌*◌, ◌∙◌, List, length, take, ap, sym, subst}
 use Rattle.aes_block.specs.KeyExpansion.{IsKekLength, rounds_of, key_expansion}
 use Rattle.aes_block.specs.Schedule.{key_of}
-use Rattle.aes_block.proofs.Expanding.{words_key}
+use Rattle.aes_block.specs.ExpandingLaw.{words_key}
 use Rattle.aes_block.proofs.schedule.Aes.round_key.Goals as goal
 
 pub returns : goal.returns

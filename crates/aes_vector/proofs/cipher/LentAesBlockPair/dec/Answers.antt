@@ -6,8 +6,8 @@ use Rattle.aes_block.specs.Rounds.{add_round_key, inv_mix_columns, inv_mix_matri
 use Rattle.aes_block.specs.Cipher.{inv_rounds}
 use Rattle.aes_vector.specs.Tower.{affine_element}
 use Rattle.aes_vector.proofs.Adding.{multiplied_added}
-use Rattle.aes_vector.proofs.CipherSteps.{inv_rounds-more, inv_rounds-none, inv_cipher-key}
-use Rattle.aes_vector.proofs.cipher.VectorAesBlockPair.dec.Goals as goal
+use Rattle.aes_block.specs.StepsLaw.{inv_rounds-more, inv_rounds-none, inv_cipher-key}
+use Rattle.aes_vector.proofs.cipher.LentAesBlockPair.dec.Goals as goal
 
 -- the steps with which a round of the definition ends
 ends : List ℕ → List ℕ

@@ -4,7 +4,7 @@ use Rattle.aes_block.specs.KeyExpansion.{round_key}
 use Rattle.aes_block.specs.Rounds.{inv_shift_rows, inv_sub_bytes}
 use Rattle.aes_block.specs.Cipher.{inv_last_round, inv_rounds}
 use Rattle.aes_vector.specs.Tower.{affine_element}
-use Rattle.aes_vector.proofs.cipher.VectorAesBlockPair.dec.Given as goal
+use Rattle.aes_vector.proofs.cipher.LentAesBlockPair.dec.Given as goal
 
 abbrev pub invariant-loop-k : goal.invariant-loop-k
 invariant-loop-k l =

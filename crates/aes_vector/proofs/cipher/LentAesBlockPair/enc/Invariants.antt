@@ -4,7 +4,7 @@ use Rattle.aes_block.specs.KeyExpansion.{round_key}
 use Rattle.aes_block.specs.Rounds.{add_round_key}
 use Rattle.aes_block.specs.Cipher.{rounds}
 use Rattle.aes_vector.specs.Tower.{element}
-use Rattle.aes_vector.proofs.cipher.VectorAesBlockPair.enc.Given as goal
+use Rattle.aes_vector.proofs.cipher.LentAesBlockPair.enc.Given as goal
 
 abbrev pub invariant-loop-k : goal.invariant-loop-k
 invariant-loop-k l = map element l.state ≡ rounds l.self (l.k - 1) (add_round_key (round_key l.self 0) l.fn.b)

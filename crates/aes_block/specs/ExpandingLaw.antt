@@ -1,4 +1,4 @@
--- What the key schedule's code computes at each step, and what it keeps.
+-- What a key schedule computes at each step, and what it keeps: laws for each body of AES.
 -- The code's words are compared with the definition's place by place; bytes become words, and words bytes, four at a time.
 use Rattle.std.proofs.Common.{◌≡◌, ◌≢◌, ℕ, ◌+◌, ◌-◌, ◌*◌, ◌/◌, ◌%◌, ◌^◌, ◌<◌, ◌≤◌, bit_xor, w32, zero, suc, List, [], ◌∷◌, ◌++◌, length, get_or, take, drop}
 use Rattle.std.proofs.Common.{slice_index, refl, sym, ap, ap₂, ◌∙◌, arith, eq-eqb, ne_eqb, add-zero, lit<, drop-cons, length-drop, length-take}
@@ -11,7 +11,6 @@ use Rattle.byteorder.specs.Endian.{big_number}
 use Rattle.aes_block.specs.KeyExpansionLaw.{key_expansion_is, legal_words}
 use Rattle.aes_block.specs.Columns.{block_of}
 use Rattle.aes_block.specs.Schedule.{key_of}
-use Rattle.aes_block.proofs.ColumnWords.{joined}
 use Rattle.aes_block.specs.KeyExpansion.{IsKekLength, key_words, rounds_of, key_word, key_expansion, round_key, rot_word, sub_word, round_constants, temp}
 
 -- RotWord is a rotation by one byte
@@ -76,10 +75,16 @@ four_words s m h =
     rw (e0, e1, e2, e3, drop-cons s m 0, drop-cons s (suc m) 0, drop-cons s (suc (suc m)) 0, drop-cons s (suc (suc (suc m))) 0) refl
 
 -- a list that begins with the key expansion is as long
-schedule_long : (K s : List ℕ) → IsKekLength (length K) → take (4 * (rounds_of K + 1)) s ≡ key_expansion K → 4 * (rounds_of K + 1) ≤ length s
+pub schedule_long : (K s : List ℕ) → IsKekLength (length K) → take (4 * (rounds_of K + 1)) s ≡ key_expansion K → 4 * (rounds_of K + 1) ≤ length s
 schedule_long K s legal words =
     let whole = ap length words ∙ (key_expansion_is K legal).count in
     omega (arith, length-take (4 * (rounds_of K + 1)) s, whole)
+
+-- the block of four words from the bytes of each
+pub joined : (a b c d : ℕ) (v w x y : List ℕ) → to_be_bytes w32 a ≡ v → to_be_bytes w32 b ≡ w → to_be_bytes w32 c ≡ x → to_be_bytes w32 d ≡ y
+    → block_of (a ∷ b ∷ c ∷ d ∷ []) ≡ v ++ (w ++ (x ++ (y ++ [])))
+joined a b c d v w x y ea eb ec ed =
+    ap₂ (λ (s t : List ℕ). s ++ t) ea (ap₂ (λ (s t : List ℕ). s ++ t) eb (ap₂ (λ (s t : List ℕ). s ++ t) ec (ap (λ (s : List ℕ). s ++ []) ed)))
 
 -- the four words that stand at round key k
 pub words_key : (K s : List ℕ) (k : ℕ) → IsKekLength (length K) → take (4 * (rounds_of K + 1)) s ≡ key_expansion K → k ≤ rounds_of K

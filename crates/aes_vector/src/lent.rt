@@ -1,0 +1,150 @@
+//! AES under one key, in room that is lent, and its round keys.
+
+ghost use Rattle.std.specs.Prelude.{◌≡◌, ◌<◌, ◌↔◌, List, ℕ, length, map};
+ghost use Rattle.std.specs.Prelude.{IsOk, IsErr, IfOk};
+ghost use Rattle.std.specs.List.{AllByRecursion};
+ghost use Rattle.block_pair.specs.Words.{IsByte};
+ghost use Rattle.aes_block.specs.KeyExpansion.{IsKekLength, IsKeyExpansion, key_expansion};
+ghost use Rattle.aes_block.specs.KeyExpansion.{round_key, rounds_of};
+ghost use Rattle.aes_block.specs.Rounds.{inv_mix_columns};
+ghost use Rattle.aes_vector.specs.Tower.{affine_element, key_byte, last_key_byte};
+
+use crate::keys::{MAX_KEYS, RoundKey};
+use crate::room::Room;
+use crate::rows::InvRows;
+use crate::schedule::fill;
+use crate::tables::{INV_ROWS_0, INV_ROWS_1, INV_ROWS_2, INV_ROWS_3};
+use aes_block::BadKekLength;
+use std::marker::Model;
+use std::simd::prelude::*;
+
+/// AES under one key, whose schedule stands in room of the caller's, which clears it afterwards.
+/// Contracts see it as the key, as `VectorAes`.
+#[derive(Drop)]
+pub struct LentAes<'a> {
+    // Those past the rounds are not used.
+    pub(crate) keys: &'a [RoundKey; MAX_KEYS],
+    pub(crate) rounds: u8,
+}
+
+impl<'a> Model for LentAes<'a> {
+    ghost use Rattle.std.specs.Prelude.{ℕ, List};
+    ghost use Rattle.aes_vector.specs.VectorSchedule.{IsVectorSchedule, key_of};
+
+    ghost Value = { List ℕ };
+
+    ghost view = { λ a. key_of a.rounds a.keys.now };
+
+    ghost invariant = { λ a. IsVectorSchedule a.rounds a.keys.now };
+}
+
+impl<'a> LentAes<'a> {
+    /// AES under the key-encryption key `kek`, in this room. Refused where the key is not of 16, 24 or 32 bytes.
+    pub fn new(kek: &[u8], room: &'a mut Room) -> Result<LentAes<'a>, BadKekLength>
+        ensures accepted { IsOk result ↔ IsKekLength (length kek.now) }
+        ensures refused { IsErr result ↔ ¬ IsKekLength (length kek.now) }
+        ensures key { IfOk result (λ aes. aes ≡ kek.now) }
+
+        // A law for callers, on definitions alone: the key has one key schedule, that of the
+        // standard's equations, from which its round keys come.
+        ensures schedule { IsKekLength (length kek.now)
+            → (w : List ℕ) → IsKeyExpansion kek.now w ↔ (w ≡ key_expansion kek.now) }
+    {
+        let Ok(rounds) = fill(kek, &mut room.keys, &mut room.words) else {
+            return Err(BadKekLength);
+        };
+        Ok(LentAes {
+            keys: &room.keys,
+            rounds,
+        })
+    }
+
+    /// How many rounds the cipher has under this key: 10, 12 or 14 (FIPS 197, 5, table 3).
+    pub fn rounds(&self) -> u8
+        ensures legal { IsKekLength (length self.now) }
+        ensures bytes { AllByRecursion IsByte self.now }
+        ensures sixteen { length self.now ≡ 16 → result ≡ 10 }
+        ensures twenty_four { length self.now ≡ 24 → result ≡ 12 }
+        ensures thirty_two { length self.now ≡ 32 → result ≡ 14 }
+        ensures value { result ≡ rounds_of self.now }
+    {
+        self.rounds
+    }
+
+    // Round key 0, with which the cipher begins.
+    #[inline(always)]
+    pub(crate) fn first_enc_key(&self) -> u8x16
+        ensures { map key_byte result ≡ round_key self.now 0 }
+    {
+        let keys = &self.keys;
+        keys[0].enc
+    }
+
+    // Round key `k`, for a round of the cipher.
+    #[inline(always)]
+    pub(crate) fn enc_key(&self, k: usize) -> u8x16
+        requires some { 0 < k }
+        requires within { k < rounds_of self.now }
+        ensures { map key_byte result ≡ round_key self.now k }
+    {
+        let keys = &self.keys;
+        keys[k].enc
+    }
+
+    // The last round key, with which the cipher ends.
+    #[inline(always)]
+    pub(crate) fn last_enc_key(&self) -> u8x16
+        ensures { map last_key_byte result ≡ round_key self.now (rounds_of self.now) }
+    {
+        let keys = &self.keys;
+        keys[self.rounds as usize].enc
+    }
+
+    // The last round key, with which the inverse cipher begins.
+    #[inline(always)]
+    pub(crate) fn first_dec_key(&self) -> u8x16
+        ensures { map affine_element result ≡ round_key self.now (rounds_of self.now) }
+    {
+        let keys = &self.keys;
+        keys[self.rounds as usize].dec
+    }
+
+    // Round key `k`, for a round of the inverse cipher.
+    #[inline(always)]
+    pub(crate) fn dec_key(&self, k: usize) -> u8x16
+        requires some { 0 < k }
+        requires within { k < rounds_of self.now }
+        ensures { map affine_element result ≡ inv_mix_columns (round_key self.now k) }
+    {
+        let keys = &self.keys;
+        keys[k].dec
+    }
+
+    // Round key 0, with which the inverse cipher ends.
+    #[inline(always)]
+    pub(crate) fn last_dec_key(&self) -> u8x16
+        ensures { result ≡ round_key self.now 0 }
+    {
+        let keys = &self.keys;
+        keys[0].dec
+    }
+
+    // The places of InvShiftRows. LLVM must not know them: it would move each shuffle by them
+    // before the sum that it shuffles, which costs a second one. So 0 is added, in a form that it
+    // can't see through.
+    #[inline(always)]
+    pub(crate) fn inv_rows(&self) -> InvRows
+        ensures by_0 { result.by_0 ≡ INV_ROWS_0 }
+        ensures by_1 { result.by_1 ≡ INV_ROWS_1 }
+        ensures by_2 { result.by_2 ≡ INV_ROWS_2 }
+        ensures by_3 { result.by_3 ≡ INV_ROWS_3 }
+    {
+        let zero = u8x16::splat(self.rounds >> 4);
+        InvRows {
+            by_0: u8x16::from_array(INV_ROWS_0) ^ zero,
+            by_1: u8x16::from_array(INV_ROWS_1) ^ zero,
+            by_2: u8x16::from_array(INV_ROWS_2) ^ zero,
+            by_3: u8x16::from_array(INV_ROWS_3) ^ zero,
+        }
+    }
+}

@@ -1,0 +1,70 @@
+//! Room for a key schedule, which is cleared after use.
+
+ghost use Rattle.std.specs.Prelude.{◌≡◌, All, replicate};
+ghost use Rattle.aes_vector.specs.VectorRoom.{no_key};
+
+use crate::expansion::MAX_WORDS;
+use crate::keys::{MAX_KEYS, RoundKey};
+use std::marker::Model;
+use std::simd::prelude::*;
+
+/// Room for the key schedule of one key, and for the words that it is made of. Contracts see the
+/// numbers that stand there.
+#[derive(Drop)]
+pub struct Room {
+    pub(crate) keys: [RoundKey; MAX_KEYS],
+    pub(crate) words: [u32; MAX_WORDS],
+}
+
+impl Model for Room {
+    ghost use Rattle.std.specs.Prelude.{ℕ, List};
+    ghost use Rattle.aes_vector.specs.VectorRoom.{numbers};
+
+    ghost Value = { List ℕ };
+
+    ghost view = { λ r. numbers r.keys r.words };
+}
+
+impl Room {
+    /// Room where zeros stand.
+    #[inline(always)]
+    pub fn new() -> Room
+        ensures zeros { All (λ x. x ≡ 0) result }
+    {
+        Room {
+            keys: no_keys(),
+            words: [0; MAX_WORDS],
+        }
+    }
+
+    /// Writes zeros over all that stands there.
+    #[inline(always)]
+    pub fn clear(&mut self)
+        ensures zeros { All (λ x. x ≡ 0) self.new }
+    {
+        clear_both(&mut self.keys, &mut self.words);
+    }
+}
+
+// Zeros in place of round keys.
+#[inline(always)]
+pub(crate) fn no_keys() -> [RoundKey; MAX_KEYS]
+    ensures { result ≡ replicate 15 no_key }
+{
+    let zeros = u8x16::splat(0);
+    [RoundKey {
+        enc: zeros,
+        dec: zeros,
+    }; MAX_KEYS]
+}
+
+// Zeros over both. LLVM drops a call that does nothing but write to one value that is not read
+// again. This one writes to two and is not inlined, so it stays.
+#[inline(never)]
+fn clear_both(keys: &mut [RoundKey; MAX_KEYS], words: &mut [u32; MAX_WORDS])
+    ensures keys { keys.new ≡ replicate 15 no_key }
+    ensures words { words.new ≡ replicate 60 0 }
+{
+    *keys = no_keys();
+    *words = [0; MAX_WORDS];
+}
