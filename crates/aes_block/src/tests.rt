@@ -1,11 +1,11 @@
-//! The standard's worked bytes and vectors, by the code and by the definitions.
+//! The standard's worked bytes by the definitions, and its vectors by the code too.
 
 ghost use Rattle.std.specs.Prelude.{◌≡◌, take};
 ghost use Rattle.aes_block.specs.Field.{inverse, product};
 ghost use Rattle.aes_block.specs.SBox.{inv_s_box, s_box};
 ghost use Rattle.aes_block.specs.Cipher.{cipher};
 
-use crate::{Aes, BadKekLength, field, inv_sbox, sbox};
+use crate::{Aes, BadKekLength};
 use block_pair::BlockPair;
 use std::test::Fail;
 
@@ -55,12 +55,8 @@ fn computes_the_definitions()
 {}
 
 #[test]
-fn answers_the_standards_bytes(rt: HostRuntime) {
+fn definitions_give_the_standards_bytes() {
     computes_the_definitions();
-    assert_eq!(rt; field::mul(0x57, 0x83), 0xC1);
-    assert_eq!(rt; field::inverse(0x53), 0xCA);
-    assert_eq!(rt; sbox(0x53), 0xED);
-    assert_eq!(rt; inv_sbox(0xED), 0x53);
 }
 
 #[test]
@@ -81,8 +77,6 @@ fn answers_the_standards_vectors(rt: HostRuntime) {
 
 #[test]
 fn says_which_lengths_are_legal(rt: HostRuntime) -> Result<(), Fail> {
-    let refused = Aes::new(&KEYS[1..]).err();
-    assert_eq!(rt; refused, Some(BadKekLength));
     let message = format!(in rt.alloc(); "{BadKekLength}")?;
     assert_eq!(rt; message.as_str(), "key length is not 16, 24 or 32 bytes");
     Ok(())

@@ -34,23 +34,3 @@ fn swap_halves(mut b: [u8; 16]) -> [u8; 16]
     b.rotate_left(8);
     b
 }
-
-#[cfg(test)]
-mod tests {
-    use super::*;
-    use std::test::Fail;
-
-    // Encrypts and then decrypts through the bound alone.
-    fn there_and_back<B: BlockPair>(pair: &B, block: [u8; 16]) -> ([u8; 16], [u8; 16]) {
-        (pair.enc(block), pair.dec(pair.enc(block)))
-    }
-
-    #[test]
-    fn exchanges_the_halves_and_back(rt: HostRuntime) -> Result<(), Fail> {
-        let block = *b"first 8.second 8";
-        let (swapped, back) = there_and_back(&SwapHalves, block);
-        assert_eq!(rt; swapped, *b"second 8first 8.");
-        assert_eq!(rt; back, block);
-        Ok(())
-    }
-}

@@ -10,6 +10,4 @@ mod plain_in_place;
 mod plain_with;
 mod rewrapping;
 mod status;
-#[cfg(test)]
-mod tests;
 mod version;
