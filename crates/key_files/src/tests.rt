@@ -45,26 +45,6 @@ fn filled(alloc: Global, content: [u8; 3], len: usize) -> Result<Vec<u8>, AllocE
     Ok(bytes)
 }
 
-static TEXTS: [(&[u8], Result<&[u8], FileFault>); 9] = [
-    (b"0aFF", Ok(&[0x0a, 0xff])),
-    (b"0 g", Err(FileFault::BadDigit { at: 2 })),
-    (b"012", Err(FileFault::OddDigits)),
-    (b"", Ok(&[])),
-    (b" \t\r\n", Ok(&[])),
-    (b"0", Err(FileFault::OddDigits)),
-    (b"\xef\xbb\xbf00", Err(FileFault::BadDigit { at: 0 })),
-    (b"0\x000", Err(FileFault::BadDigit { at: 1 })),
-    (b"0:0", Err(FileFault::BadDigit { at: 1 })),
-];
-
-#[test]
-fn decodes_hex_texts(rt: HostRuntime) {
-    for (text, want) in &TEXTS {
-        let answer = decode_hex(rt.alloc(), text);
-        assert!(rt; is_answer(answer, *want), "{text:?}");
-    }
-}
-
 #[test]
 fn says_each_fault(rt: HostRuntime) -> Result<(), Fail> {
     let lines = format!(in rt.alloc();

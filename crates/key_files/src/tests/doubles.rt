@@ -11,8 +11,6 @@ pub static FAULTS: [usize; 2] = [1, usize::MAX];
 pub struct Trickle<'a> {
     /// What was not given.
     pub left: &'a [u8],
-    /// Whether no read was made.
-    pub is_unread: bool,
     // The most bytes that a read gives.
     size: usize,
     // The bytes up to the place of the fault, and how often it is answered.
@@ -25,7 +23,6 @@ impl<'a> Trickle<'a> {
     pub fn in_pieces(bytes: &'a [u8], size: usize) -> Self {
         Trickle {
             left: bytes,
-            is_unread: true,
             size,
             room: usize::MAX,
             faults: 0,
@@ -44,7 +41,6 @@ impl<'a> Trickle<'a> {
 
 impl Read for Trickle<'_> {
     fn read(&mut self, buf: &mut [u8]) -> io::Result<usize> {
-        self.is_unread = false;
         if self.room == 0 && self.faults > 0 {
             self.faults -= 1;
             return Err(io::Error::from(io::ErrorKind::Interrupted));
@@ -67,7 +63,7 @@ impl Read for Trickle<'_> {
 pub static STOPS: [Stop; 2] = [Stop::Fails, Stop::TakesNone];
 
 /// What a writer answers at its fault.
-#[derive(Clone, Copy, Debug)]
+#[derive(Clone, Copy)]
 pub enum Stop {
     /// An error.
     Fails,

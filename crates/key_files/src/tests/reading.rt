@@ -4,7 +4,7 @@ ghost use Rattle.std.specs.Prelude.{◌<◌};
 
 use super::doubles::{FAULTS, Trickle};
 use super::{COUNTING, Notation, filled, is_answer};
-use crate::{FileFault, MAX_FILE, read_hex, read_raw};
+use crate::{FileFault, MAX_FILE, decode_hex, read_hex, read_raw};
 use std::alloc::Global;
 use std::process::Abort;
 use std::test::Fail;
@@ -52,25 +52,28 @@ pub(super) fn reads(
     assert!(rt; pieces.left.len() == file.len().saturating_sub(limit + 1));
 }
 
-static FILES: [(&[u8], Result<&[u8], FileFault>); 8] = [
+static TEXTS: [(&[u8], Result<&[u8], FileFault>); 10] = [
     (
         KEK_FILE,
         Ok(&[0, 1, 2, 3, 4, 5, 6, 7, 8, 9, 10, 11, 12, 13, 14, 15]),
     ),
-    (b"0g", Err(FileFault::BadDigit { at: 1 })),
+    (b"0aFF", Ok(&[0x0a, 0xff])),
+    (b"0 g", Err(FileFault::BadDigit { at: 2 })),
     (b"g01", Err(FileFault::BadDigit { at: 0 })),
     (b"012", Err(FileFault::OddDigits)),
     (b"", Ok(&[])),
+    (b" \t\r\n \n\r\t", Ok(&[])),
     (b"\xef\xbb\xbf00", Err(FileFault::BadDigit { at: 0 })),
     (b"0\x000", Err(FileFault::BadDigit { at: 1 })),
-    (b" \t\r\n \n\r\t", Ok(&[])),
+    (b"0:0", Err(FileFault::BadDigit { at: 1 })),
 ];
 
 #[test]
-fn reads_hex_files(rt: HostRuntime) {
-    for (file, want) in &FILES {
+fn decodes_hex_texts_and_files(rt: HostRuntime) {
+    for (text, want) in &TEXTS {
+        assert!(rt; is_answer(decode_hex(rt.alloc(), text), *want), "{text:?}");
         for size in SIZES {
-            reads(&rt, rt.alloc(), Notation::Hex, file, size, MAX_FILE, *want);
+            reads(&rt, rt.alloc(), Notation::Hex, text, size, MAX_FILE, *want);
         }
     }
 }

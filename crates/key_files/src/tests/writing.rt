@@ -81,19 +81,3 @@ fn stops_after(
     let hex = Narrow::stopping(alloc, room, stop, faults);
     writes(rt, alloc, Notation::Hex, bytes, line, hex, room);
 }
-
-#[test]
-fn writes_in_pieces_and_no_bytes(rt: HostRuntime) {
-    let (alloc, room) = (rt.alloc(), LINE.len());
-    for size in [1, 7, usize::MAX] {
-        let raw = Narrow::in_pieces(alloc, size);
-        writes(&rt, alloc, Notation::Raw, LINE, LINE, raw, room);
-        let hex = Narrow::in_pieces(alloc, size);
-        writes(&rt, alloc, Notation::Hex, TEXT, LINE, hex, room);
-    }
-    // No write is made of no bytes, so none is refused.
-    let raw = Narrow::stopping(alloc, 0, Stop::Fails, usize::MAX);
-    writes(&rt, alloc, Notation::Raw, &[], &[], raw, 0);
-    let hex = Narrow::stopping(alloc, 1, Stop::Fails, usize::MAX);
-    writes(&rt, alloc, Notation::Hex, &[], b"\n", hex, 1);
-}
