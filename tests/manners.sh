@@ -246,6 +246,10 @@ else
     chown nobody:"$(id -g nobody)" to/file
     chmod 640 to/file
     takes_place 'nobody, over a file of its own in such a folder' nobody "$nobody 640" wrapped.hex "${wraps[@]}"
+    # One of the groups that it has.
+    chown nobody:54321 to/file
+    setpriv --reuid nobody --regid "$(id -g nobody)" --groups 54321 ./program "${wraps[@]}" -o to/file
+    verdict 'nobody, over a file of a group of its own' "$([ $? = 0 ] && owned to/file | grep -vx "${nobody% *} 54321 640")"
 fi
 
 ### The sync of its folder
@@ -403,7 +407,7 @@ if [ "$(id -u)" = 0 ] && setpriv --reuid nobody --regid "$(id -g nobody)" --clea
     echo old >to/file
     keywrap='as_nobody'
     as_nobody() { as nobody "$@"; }
-    not_to to/file "to/file: its owner, group and mode can't be kept"
+    not_to to/file "to/file: owner, group or mode can't be kept: Operation not permitted"
     keywrap=bounded
 else
     skip 'an owner that can not be kept' 'only root can try it, with setpriv' util-linux

@@ -136,23 +136,24 @@ const PERMISSIONS: u32 = 0o777;
 
 // Gives a new file the owner, the group and then the permissions of an old one.
 fn make_like(new: &File, old: &Metadata) -> Result<(), Why> {
-    let made = new.metadata().map_err(|error| Why::of(&error))?;
+    let made = new.metadata().map_err(unkept)?;
     let owner = (made.uid() != old.uid()).then_some(old.uid());
     let group = (made.gid() != old.gid()).then_some(old.gid());
     if owner.is_some() || group.is_some() {
-        fchown(new, owner, group).map_err(|_| KEPT)?;
+        fchown(new, owner, group).map_err(unkept)?;
     }
-    new.set_permissions(Permissions::from_mode(old.mode() & PERMISSIONS))
-        .map_err(|_| KEPT)?;
-    let made = new.metadata().map_err(|error| Why::of(&error))?;
-    if is_like(&made, old) {
+    let permissions = Permissions::from_mode(old.mode() & PERMISSIONS);
+    new.set_permissions(permissions).map_err(unkept)?;
+    if is_like(&new.metadata().map_err(unkept)?, old) {
         Ok(())
     } else {
-        Err(KEPT)
+        Err(Why::Unkept(None))
     }
 }
 
-const KEPT: Why = Why::Says("its owner, group and mode can't be kept");
+fn unkept(error: io::Error) -> Why {
+    Why::Unkept(error.raw_os_error())
+}
 
 // Some file systems take a change and leave the file as it is.
 fn is_like(made: &Metadata, old: &Metadata) -> bool {

@@ -27,6 +27,8 @@ pub enum Why {
     Named,
     /// What the system says of its error of this number.
     System(i32),
+    /// That a new file can't be as it is, and what the system says of that, if anything.
+    Unkept(Option<i32>),
     /// What it is, as `a folder`.
     Is(&'static str),
     /// Which of the KEK files it is.
@@ -75,6 +77,13 @@ impl Why {
             Why::System(number) => {
                 let said = system_text(alloc, number)?;
                 format!(in alloc; "  {name}: {said}")
+            }
+            Why::Unkept(number) => {
+                let said = match number {
+                    Some(number) => system_text(alloc, number)?,
+                    None => String::from_str(alloc, "the file system has one for all")?,
+                };
+                format!(in alloc; "  {name}: owner, group or mode can't be kept: {said}")
             }
             Why::Is(what) => format!(in alloc; "  {name}: is {what}"),
             Why::IsKek(which) => format!(in alloc; "  {name} is {which}"),

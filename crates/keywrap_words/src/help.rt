@@ -18,7 +18,9 @@ pub const CHECK_USAGE: &str = "keywrap check [OPTIONS] --kek <FILE> < WRAPPED";
 pub const OUTPUT_HELP: &str = "\
 Writes FILE, not standard output (-). FILE is replaced only by the
 whole answer, and stays as it is after a refusal. It may be the file
-of --input; no KEK file, folder, device, pipe or link";
+of --input; no KEK file, folder, device, pipe or link. A new FILE, and
+each of unwrap, is for its owner alone; else FILE keeps its owner and
+mode";
 
 /// What hex may hold, what each exit status says, and what to try.
 pub const NOTES: &str = "\
@@ -46,7 +48,8 @@ Exit status:
 
 A refusal is one line on standard error; a refused command line is a message
 with the usage, and one line where the value of --iv or raw bytes to a terminal
-are the cause.
+are the cause. Where standard error is a terminal, and with --verbose, a second
+line names the file and says why.
 wrap, unwrap, rewrap, check and drill write nothing before their whole answer
 is right; vectors writes its lines, those that say failed too, once all are
 made.
