@@ -1,12 +1,10 @@
 -- What the call of key_wrap ensures, said of the KEK: the pair in its meter is AES under the KEK (`under`). A scratch
 -- buffer that is not refused has its room (`room`), and what stands with the text tells which kind was found.
-use Rattle.std.proofs.Common.{rules, ◌≡◌, ℕ, List, length, ap, ◌∙◌, subst, sym, refl}
+use Rattle.std.proofs.Common.{◌≡◌, ℕ, List, length, ap, ◌∙◌, subst, sym, refl}
 use Rattle.aes_block.specs.Cipher.{cipher}
 use Rattle.key_wrap.specs.Plain.{Plain, default_iv}
 use Rattle.key_wrap.specs.Padded.{Padded}
-use Rattle.key_wrap.specs.Answer.{NoKey}
 use Rattle.key_wrap.specs.Kind.{IsKindOf, NoOtherKey}
-use Rattle.key_wrap.specs.declared.forms.Kind.{Kind}
 use Rattle.key_wrap.specs.declared.forms.Kind.TheVariants as kinds
 use Rattle.keywrap_c.specs.Kinds.{HasScratch}
 use Rattle.keywrap_c.proofs.Lengths.{scratch-not_refused}
