@@ -10,11 +10,11 @@ use Rattle.key_wrap.specs.Answer.{NoKey}
 abbrev pub IsPaddedRoom : (m len : ℕ) → Type 0
 IsPaddedRoom m len = IsPaddedKeyLength m × (len ≡ 8 + 8 * word_count m)
 
--- a buffer for a plain key, of so many bytes, and a text of so many: the text has one word more
+-- a buffer for a plain key, of so many bytes, and a wrapped key of so many: it has one word more
 abbrev pub ArePlainLengths : (key text : ℕ) → Type 0
 ArePlainLengths key text = IsPlainKeyLength key × (text ≡ key + 8)
 
--- a buffer for a padded key, of so many bytes, and a text of so many: the text has one word more
+-- a buffer for a padded key, of so many bytes, and a wrapped key of so many: it has one word more
 abbrev pub ArePaddedLengths : (room text : ℕ) → Type 0
 ArePaddedLengths room text = IsPaddedTextLength text × (text ≡ room + 8)
 
@@ -22,8 +22,8 @@ ArePaddedLengths room text = IsPaddedTextLength text × (text ≡ room + 8)
 abbrev pub key_in : (m : ℕ) (buffer : List ℕ) → List ℕ
 key_in m buffer = take m (drop 8 buffer)
 
--- Unwrap's answer in the form in which these keys stand with these texts, where the call takes no memory:
--- BadLength where the lengths are not legal; where they are, a key that stands with the text, found from what is
+-- Unwrap's answer in the form in which these keys stand with these wrapped keys, where the call takes no memory:
+-- BadLength where the lengths are not legal; where they are, a key that stands with the wrapped key, found from what is
 -- answered, or Integrity where no key does.
 abbrev pub KeyAnswer : {A : Type 0} → (Legal : Type 0) → (Stands : List ℕ → List ℕ → Type 0) → (text : List ℕ) → (key : A → List ℕ)
     → Result A InPlaceFault → Type 0
@@ -31,7 +31,7 @@ KeyAnswer Legal Stands text key (Ok m) = Legal × Stands (key m) text
 KeyAnswer Legal Stands text key (Err BadLength) = ¬ Legal
 KeyAnswer Legal Stands text key (Err Integrity) = Legal × NoKey Stands text
 
--- What each unwrapping call that takes no memory promises of its answer, and that the text is no wrapping in the other
+-- What each unwrapping call that takes no memory promises of its answer, and that it is no wrapping in the other
 -- form then.
 pub record Unwrapping {A : Type 0} (Legal : Type 0) (Stands : List ℕ → List ℕ → Type 0) (NoOther : List ℕ → Type 0) (text : List ℕ) (key : A → List ℕ)
     (answer : Result A InPlaceFault) : Type 0 where

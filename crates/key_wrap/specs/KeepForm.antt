@@ -8,20 +8,20 @@ use Rattle.key_wrap.specs.Answer.{NoKey}
 use Rattle.key_wrap.specs.Forms.{StandsIn, IsTextLength}
 use Rattle.key_wrap.specs.Rewrap.{AreWrappings, NoOtherForm}
 
--- one key stands with both in one form: with the text under E, and with the answer under F
+-- one key stands with both in one form: with the wrapped key under E, and with the answer under F
 abbrev pub KeepsForm : (List ℕ → List ℕ) → (List ℕ → List ℕ) → List ℕ → List ℕ → Type 0
 KeepsForm E F text answer = (form : Form) × AreWrappings form E form F text answer
 
--- a length that is legal for a text in some form
+-- a length that is legal for a wrapped key in some form
 abbrev pub IsSomeTextLength : ℕ → Type 0
 IsSomeTextLength len = (form : Form) × IsTextLength form len
 
--- the text has a length that is legal in some form, and in neither form is it the wrapping of a key
+-- the wrapped key has a length that is legal in some form, and in neither form is it the wrapping of a key
 abbrev pub HasNoForm : (List ℕ → List ℕ) → List ℕ → Type 0
 HasNoForm E text = IsSomeTextLength (length text) × ((form : Form) → NoKey (StandsIn form E) text)
 
--- The answer, by cases: the wrapping of the text's key in the text's form; BadLength where the length is legal in neither
--- form; Integrity where no key stands with the text in either; or that there is no memory.
+-- The answer, by cases: the wrapping of its key in its form; BadLength where the length is legal in neither
+-- form; Integrity where no key stands with it in either; or that there is no memory.
 abbrev pub KeptAnswer : {Z : Type 0} → (List ℕ → List ℕ) → (List ℕ → List ℕ) → List ℕ → Result (Vec ℕ Z) UnwrapFault → Type 0
 KeptAnswer E F text (Ok answer) = KeepsForm E F text answer.items
 KeptAnswer E F text (Err BadLength) = ¬ IsSomeTextLength (length text)

@@ -1,4 +1,4 @@
--- The kind of a text.
+-- The kind of a wrapped key.
 use Rattle.std.specs.Prelude.{◌≡◌, ℕ, List, length}
 use Rattle.key_wrap.specs.declared.forms.Kind.{Kind}
 use Rattle.key_wrap.specs.declared.forms.Kind.TheVariants.{Plain as InPlain, Padded as InPadded, Neither}
@@ -6,20 +6,20 @@ use Rattle.key_wrap.specs.Plain.{Plain, default_iv}
 use Rattle.key_wrap.specs.Padded.{Padded}
 use Rattle.key_wrap.specs.Answer.{NoKey, NoPlainKey}
 
--- some key of that many bytes stands with the text in that form, the plain one under the default initial value, or no
+-- some key of that many bytes stands with it in that form, the plain one under the default initial value, or no
 -- key does in either
 abbrev pub IsKindOf : (List ℕ → List ℕ) → List ℕ → Kind → Type 0
 IsKindOf E text (InPlain m) = (key : List ℕ) × (length key ≡ m) × Plain E default_iv key text
 IsKindOf E text (InPadded m) = (key : List ℕ) × (length key ≡ m) × Padded E key text
 IsKindOf E text Neither = NoKey (Plain E default_iv) text × NoKey (Padded E) text
 
--- no key stands with the text in the form that the kind does not name, whatever the initial value
+-- no key stands with it in the form that the kind does not name, whatever the initial value
 abbrev pub NoOtherKey : (List ℕ → List ℕ) → List ℕ → Kind → Type 0
 NoOtherKey E text (InPlain m) = NoKey (Padded E) text
 NoOtherKey E text (InPadded m) = NoPlainKey E text
 NoOtherKey E text Neither = NoKey (Padded E) text
 
--- what is promised of the kind of a text
+-- what is promised of the kind of a wrapped key
 pub record IsTheKind (E : List ℕ → List ℕ) (text : List ℕ) (kind : Kind) : Type 0 where
   pub is : IsKindOf E text kind
   pub plain : (key : List ℕ) → Plain E default_iv key text → kind ≡ InPlain (length key)

@@ -1,4 +1,4 @@
--- The lengths, in bytes, of keys and texts that are wrapped and unwrapped: this project's profile of
+-- The lengths, in bytes, of keys and of wrapped keys: this project's profile of
 -- RFC 3394, section 2.2, and RFC 5649, section 4. A key has at most 1,048,576 bytes; the standards allow more.
 use Rattle.std.specs.Prelude.{◌≡◌, ℕ, ◌+◌, ◌%◌, ◌≤◌}
 
@@ -6,7 +6,7 @@ use Rattle.std.specs.Prelude.{◌≡◌, ℕ, ◌+◌, ◌%◌, ◌≤◌}
 abbrev pub IsPlainKeyLength : ℕ → Type 0
 IsPlainKeyLength len = (len % 8 ≡ 0) × (16 ≤ len) × (len ≤ 1048576)
 
--- the text of a plain key has one word more
+-- its wrapping has one word more
 abbrev pub IsPlainTextLength : ℕ → Type 0
 IsPlainTextLength len = (len % 8 ≡ 0) × (24 ≤ len) × (len ≤ 1048576 + 8)
 
@@ -14,6 +14,6 @@ IsPlainTextLength len = (len % 8 ≡ 0) × (24 ≤ len) × (len ≤ 1048576 + 8)
 abbrev pub IsPaddedKeyLength : ℕ → Type 0
 IsPaddedKeyLength len = (1 ≤ len) × (len ≤ 1048576)
 
--- the text of a padded key has one word more than the padded key
+-- its wrapping has one word more than the key with its padding
 abbrev pub IsPaddedTextLength : ℕ → Type 0
 IsPaddedTextLength len = (len % 8 ≡ 0) × (16 ≤ len) × (len ≤ 1048576 + 8)

@@ -17,13 +17,13 @@ word_count m = (m + 7) / 8
 abbrev pub padded : List ℕ → List ℕ
 padded key = key ++ replicate (8 * word_count (length key) - length key) 0
 
--- The text of the words P under an initial value (section 4.1): for one word the one block of both, with no
+-- What the words P are wrapped to under an initial value (section 4.1): for one word the one block of both, with no
 -- steps and no counter, and for more words the wrapping of RFC 3394.
 abbrev pub PaddedText : (List ℕ → List ℕ) → ℕ → List ℕ → List ℕ → Type 0
 PaddedText E iv (p ∷ []) text = E (joined iv p) ≡ text
 PaddedText E iv P text = (C : List ℕ) × (spelled C ≡ text) × Wraps E iv P C
 
--- the text is the padded wrapping of the key
+-- the wrapped key is the padded wrapping of the key
 pub record Padded (E : List ℕ → List ℕ) (key text : List ℕ) : Type 0 where
   pub legal : IsPaddedKeyLength (length key)
   pub P : List ℕ

@@ -5,7 +5,7 @@ use Rattle.key_wrap.specs.Words.{AreWords, word_bytes, spelled}
 use Rattle.key_wrap.specs.Lengths.{IsPaddedKeyLength}
 use Rattle.key_wrap.specs.Padded.{PaddedText, aiv, padded}
 
--- the bytes before spell an initial value and words of key data, and the bytes after are their text
+-- the bytes before spell an initial value and words of key data, and the bytes after are what these are wrapped to
 pub record PaddedRegisters (E : List ℕ → List ℕ) (before after : List ℕ) : Type 0 where
   pub iv : ℕ
   pub P : List ℕ

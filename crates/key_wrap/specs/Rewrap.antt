@@ -1,4 +1,4 @@
--- What a rewrapping answers: a text that is a wrapping in the old form under E is taken to the wrapping of the same key
+-- What a rewrapping answers: a wrapped key that is one in the old form under E is taken to the wrapping of the same key
 -- in the new form under F.
 use Rattle.std.specs.Prelude.{◌≡◌, ◌↔◌, ◌⊎◌, ℕ, List, length, Result, Ok, Err, IfOk, IsOkUnless, Vec}
 use Rattle.key_wrap.specs.declared.faults.UnwrapFault.{UnwrapFault}
@@ -9,24 +9,24 @@ use Rattle.key_wrap.specs.Answer.{NoKey, NoPlainKey}
 use Rattle.key_wrap.specs.Padded.{Padded}
 use Rattle.key_wrap.specs.Forms.{StandsIn, IsKeyLength, IsTextLength}
 
--- one key stands with both: with the text in the old form under E, and with the answer in the new form under F
+-- one key stands with both: with the first in the old form under E, and with the answer in the new form under F
 abbrev pub AreWrappings : Form → (List ℕ → List ℕ) → Form → (List ℕ → List ℕ) → List ℕ → List ℕ → Type 0
 AreWrappings old E new F text answer = (key : List ℕ) × StandsIn old E key text × StandsIn new F key answer
 
--- the text is the old wrapping of a key that has no legal length in the new form
+-- it is the old wrapping of a key that has no legal length in the new form
 abbrev pub HasBadKey : Form → (List ℕ → List ℕ) → Form → List ℕ → Type 0
 HasBadKey old E new text = (key : List ℕ) × StandsIn old E key text × ¬ IsKeyLength new (length key)
 
--- a length is refused: the text's in the old form, or the key's in the new one
+-- a length is refused: the wrapped key's in the old form, or the key's in the new one
 abbrev pub HasBadLength : Form → (List ℕ → List ℕ) → Form → List ℕ → Type 0
 HasBadLength old E new text = ¬ IsTextLength old (length text) ⊎ HasBadKey old E new text
 
--- the text has a legal length in the old form, and is the wrapping of no key
+-- it has a legal length in the old form, and is the wrapping of no key
 abbrev pub HasNoWrapping : Form → (List ℕ → List ℕ) → List ℕ → Type 0
 HasNoWrapping old E text = IsTextLength old (length text) × NoKey (StandsIn old E) text
 
--- Rewrap's answer, by cases: the wrapping of the text's key; BadLength where a length is refused; Integrity where no
--- key stands with the text; or that there is no memory.
+-- Rewrap's answer, by cases: the new wrapping of its key; BadLength where a length is refused; Integrity where no
+-- key stands with it; or that there is no memory.
 abbrev pub RewrapAnswer : {Z : Type 0} → Form → (List ℕ → List ℕ) → Form → (List ℕ → List ℕ) → List ℕ
     → Result (Vec ℕ Z) UnwrapFault → Type 0
 RewrapAnswer old E new F text (Ok answer) = AreWrappings old E new F text answer.items
@@ -34,7 +34,7 @@ RewrapAnswer old E new F text (Err BadLength) = HasBadLength old E new text
 RewrapAnswer old E new F text (Err Integrity) = HasNoWrapping old E text
 RewrapAnswer old E new F text (Err Memory) = IsTextLength old (length text)
 
--- no key stands with the text in the form that is not this one, whatever the initial value
+-- no key stands with it in the form that is not this one, whatever the initial value
 abbrev pub NoOtherForm : Form → (List ℕ → List ℕ) → List ℕ → Type 0
 NoOtherForm forms.Plain E text = NoKey (Padded E) text
 NoOtherForm forms.Padded E text = NoPlainKey E text

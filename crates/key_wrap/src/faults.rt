@@ -31,10 +31,10 @@ impl From<AllocError> for WrapFault {
 /// Why an unwrapping call refuses.
 #[derive(Clone, Copy, Debug, PartialEq, Eq, Error)]
 pub enum UnwrapFault {
-    /// The text has no legal length; of a rewrapping also: its key has none in the new form.
+    /// The wrapped key has no legal length; of a rewrapping also: its key has none in the new form.
     #[error("bad length")]
     BadLength,
-    /// The text is the wrapping of no key (RFC 3394, section 2.2.3; RFC 5649, section 3).
+    /// What is unwrapped is the wrapping of no key (RFC 3394, section 2.2.3; RFC 5649, section 3).
     #[error("integrity check failed")]
     Integrity,
     /// There is no memory for the key, or of a rewrapping for the new wrapping.
@@ -83,12 +83,12 @@ pub enum InPlaceFault {
     /// A length is not legal, or a buffer is of another length than the one that goes with it.
     #[error("bad length")]
     BadLength,
-    /// The text is the wrapping of no key (RFC 3394, section 2.2.3; RFC 5649, section 3).
+    /// What is unwrapped is the wrapping of no key (RFC 3394, section 2.2.3; RFC 5649, section 3).
     #[error("integrity check failed")]
     Integrity,
 }
 
-/// The scratch buffer must be 8 bytes shorter than the text.
+/// The scratch buffer must be 8 bytes shorter than the wrapped key.
 #[derive(Clone, Copy, Debug, PartialEq, Eq, Error)]
 #[error("bad length")]
 pub struct BadScratchLength;

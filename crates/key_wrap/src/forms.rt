@@ -1,4 +1,4 @@
-//! The forms of key wrap, and the kinds of texts.
+//! The forms of key wrap, and the kinds of wrapped keys.
 
 /// A form of key wrap.
 #[derive(Clone, Copy, Debug, PartialEq, Eq)]
@@ -9,7 +9,7 @@ pub enum Form {
     Padded,
 }
 
-/// The form in which a text is a wrapping, with the length of its key in bytes.
+/// The form in which bytes are a wrapping, with the length of their key.
 #[derive(Clone, Copy, Debug, PartialEq, Eq)]
 pub enum Kind {
     /// The plain wrapping (RFC 3394) of a key of this many bytes.

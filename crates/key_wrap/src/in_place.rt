@@ -57,7 +57,7 @@ pub(crate) fn wrap_buffer<B: BlockPair>(meter: &mut Meter<B>, iv: u64, buf: &mut
 /// The plain wrapping in the buffer becomes 8 zero bytes and its key (RFC 3394, section 2.2.2).
 ///
 /// `BadLength`, with the buffer and the meter as they were, where `text_length_ok` says no to the
-/// buffer's length; `Integrity` where the text is the plain wrapping of no key, and then every byte
+/// buffer's length; `Integrity` where it holds the plain wrapping of no key, and then every byte
 /// of the buffer is zero. The meter counts as many calls then as for a key.
 pub fn unwrap_in_place<B: BlockPair>(
     meter: &mut Meter<B>,
@@ -148,7 +148,7 @@ pub fn wrap_padded_in_place<B: BlockPair>(
 /// says, and zero bytes to the end (RFC 5649, section 4.2).
 ///
 /// `BadLength`, with the buffer and the meter as they were, where `padded_text_length_ok` says no
-/// to the buffer's length; `Integrity` where the text is the padded wrapping of no key, and then
+/// to the buffer's length; `Integrity` where it holds the padded wrapping of no key, and then
 /// every byte of the buffer is zero. The meter counts as many calls then as for a key.
 pub fn unwrap_padded_in_place<B: BlockPair>(
     meter: &mut Meter<B>,

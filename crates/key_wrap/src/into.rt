@@ -21,8 +21,8 @@ use byteorder::{BigEndian, ByteOrder};
 
 /// The plain wrapping of `key`, into `text` (RFC 3394, section 2.2.1).
 ///
-/// `BadLength`, with the text and the meter as they were, where `key_length_ok` says no to the
-/// key's length, or the text is not 8 bytes longer than the key.
+/// `BadLength`, with `text` and the meter as they were, where `key_length_ok` says no to the
+/// key's length, or `text` is not 8 bytes longer than the key.
 pub fn wrap_into<B: BlockPair>(
     meter: &mut Meter<B>,
     key: &[u8],
@@ -46,7 +46,7 @@ pub fn wrap_into<B: BlockPair>(
 /// The key whose plain wrapping is `text`, into `key` (RFC 3394, section 2.2.2).
 ///
 /// `BadLength`, with the key's buffer and the meter as they were, where `text_length_ok` says no to
-/// the text's length, or the key's buffer is not 8 bytes shorter; `Integrity` where the text is the
+/// `text`'s length, or the key's buffer is not 8 bytes shorter; `Integrity` where `text` is the
 /// plain wrapping of no key, and then every byte of the key's buffer is zero. The meter counts as
 /// many calls then as for a key.
 pub fn unwrap_into<B: BlockPair>(
@@ -84,8 +84,8 @@ pub fn unwrap_into<B: BlockPair>(
 
 /// The padded wrapping of `key`, into `text` (RFC 5649, section 4.1).
 ///
-/// `BadLength`, with the text and the meter as they were, where `padded_length_ok` says no to the
-/// key's length, or the text is not 8 bytes longer than that rounded up to a multiple of 8.
+/// `BadLength`, with `text` and the meter as they were, where `padded_length_ok` says no to the
+/// key's length, or `text` is not 8 bytes longer than that rounded up to a multiple of 8.
 pub fn wrap_padded_into<B: BlockPair>(
     meter: &mut Meter<B>,
     key: &[u8],
@@ -114,8 +114,7 @@ pub fn wrap_padded_into<B: BlockPair>(
 /// the answer says, and zero bytes to the end of the buffer.
 ///
 /// `BadLength`, with the key's buffer and the meter as they were, where `padded_text_length_ok`
-/// says no to the text's length, or the key's buffer is not 8 bytes shorter; `Integrity` where the
-/// text is the padded wrapping of no key, and then every byte of the key's buffer is zero. The
+/// says no to `text`'s length, or the key's buffer is not 8 bytes shorter; `Integrity` where `text` is the padded wrapping of no key, and then every byte of the key's buffer is zero. The
 /// meter counts as many calls then as for a key.
 pub fn unwrap_padded_into<B: BlockPair>(
     meter: &mut Meter<B>,

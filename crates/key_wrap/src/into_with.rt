@@ -21,8 +21,8 @@ use byteorder::{BigEndian, ByteOrder};
 /// The plain wrapping of `key` under this initial value, into `text` (RFC 3394, sections 2.2.1 and
 /// 2.2.3.2).
 ///
-/// `BadLength`, with the text and the meter as they were, where `key_length_ok` says no to the
-/// key's length, or the text is not 8 bytes longer than the key.
+/// `BadLength`, with `text` and the meter as they were, where `key_length_ok` says no to the
+/// key's length, or `text` is not 8 bytes longer than the key.
 pub fn wrap_into_with<B: BlockPair>(
     meter: &mut Meter<B>,
     iv: &InitialValue,
@@ -53,7 +53,7 @@ pub fn wrap_into_with<B: BlockPair>(
 /// 2.2.2 and 2.2.3.2).
 ///
 /// `BadLength`, with the key's buffer and the meter as they were, where `text_length_ok` says no to
-/// the text's length, or the key's buffer is not 8 bytes shorter; `Integrity` where the text is the
+/// `text`'s length, or the key's buffer is not 8 bytes shorter; `Integrity` where `text` is the
 /// plain wrapping of no key under this initial value, and then every byte of the key's buffer is
 /// zero. The meter counts as many calls then as for a key.
 pub fn unwrap_into_with<B: BlockPair>(

@@ -13,11 +13,11 @@ use block_pair::{BlockPair, Meter};
 use std::alloc::{Allocator, Global};
 
 /// The wrapping under the new pair of the one key whose wrapping under the old pair is `text`, in
-/// the form in which `text` is its wrapping: as many bytes as the text. No wrapped key is one in
+/// the form in which `text` is its wrapping: as many bytes as `text`. No wrapped key is one in
 /// both forms, so there is one answer.
 ///
-/// `BadLength` where the text's length is legal in neither form, before any memory is taken; then
-/// `Memory`, before the first block call; `Integrity` where the text is a wrapping in neither form.
+/// `BadLength` where `text`'s length is legal in neither form, before any memory is taken; then
+/// `Memory`, before the first block call; `Integrity` where `text` is a wrapping in neither form.
 pub fn rewrap_keeping_form<O: BlockPair, N: BlockPair>(
     alloc: Global,
     old: &O,
@@ -37,7 +37,7 @@ pub fn rewrap_keeping_form<O: BlockPair, N: BlockPair>(
         → KeepsForm (O.encrypted old.now) (N.encrypted new.now) text.now other
         → other ≡ answer.items) }
 
-    // The text is the wrapping of one key alone, in one form.
+    // It is the wrapping of one key alone, in one form.
     ensures only_key { IfOk result (λ answer. (form other_form : Form) → (key other : List ℕ)
         → StandsIn form (O.encrypted old.now) key text.now
         → StandsIn other_form (O.encrypted old.now) other text.now
@@ -48,7 +48,7 @@ pub fn rewrap_keeping_form<O: BlockPair, N: BlockPair>(
         → StandsIn form (N.encrypted new.now) key answer.items
         ↔ StandsIn form (O.encrypted old.now) key text.now) }
 
-    // Rewrapping back gives the old text.
+    // Rewrapping back gives the old wrapping.
     ensures restores { IfOk result (λ answer. (other : List ℕ)
         → KeepsForm (N.encrypted new.now) (O.encrypted old.now) answer.items other
         → other ≡ text.now) }

@@ -19,7 +19,7 @@ use std::alloc::{Allocator, Global};
 
 /// What `text` is under the pair: the wrapping of a key in one of the two forms, or in neither.
 ///
-/// No text is a wrapping in both forms. `Memory` comes only where the text's length is legal in
+/// No wrapped key is one in both forms. `Memory` comes only where `text`'s length is legal in
 /// some form, and before the first block call.
 pub fn kind<B: BlockPair>(alloc: Global, pair: &B, text: &[u8]) -> Result<Kind, KindFault>
     ensures answer { IfOk result (IsKindOf (B.encrypted pair.now) text.now) }
@@ -31,7 +31,7 @@ pub fn kind<B: BlockPair>(alloc: Global, pair: &B, text: &[u8]) -> Result<Kind, 
         → NoKey (Padded (B.encrypted pair.now)) text.now
         → IfOk result (λ kind. kind ≡ Kind.Neither) }
 
-    // No key stands with the text in the other form, whatever the initial value.
+    // No key stands with it in the other form, whatever the initial value.
     ensures other_form { IfOk result (NoOtherKey (B.encrypted pair.now) text.now) }
     ensures memory { result ≡ Err KindFault.Memory
         → IsPlainTextLength (length text.now) ⊎ IsPaddedTextLength (length text.now) }
@@ -57,10 +57,10 @@ pub(crate) fn kind_on<A: Allocator, B: BlockPair>(
 }
 
 /// What `text` is under the meter's pair, as `kind` says it. It takes no memory: the scratch buffer
-/// must be 8 bytes shorter than the text, and is left all zero. Where the text has no legal length
+/// must be 8 bytes shorter than `text`, and is left all zero. Where `text` has no legal length
 /// in either form the answer is `Neither`, whatever the scratch buffer, which stays as it was.
 ///
-/// Refused exactly where the text has a legal length and the scratch buffer has another than that;
+/// Refused exactly where `text` has a legal length and the scratch buffer has another than that;
 /// the buffer and the meter stay as they were.
 pub fn kind_into<B: BlockPair>(
     meter: &mut Meter<B>,
@@ -78,7 +78,7 @@ pub fn kind_into<B: BlockPair>(
         → NoKey (Padded (B.encrypted meter.old.pair)) text.now
         → IfOk result (λ kind. kind ≡ Kind.Neither) }
 
-    // No key stands with the text in the other form, whatever the initial value.
+    // No key stands with it in the other form, whatever the initial value.
     ensures other_form { IfOk result (NoOtherKey (B.encrypted meter.old.pair) text.now) }
     ensures scratch_kept { IsErr result ⊎ ¬ IsPaddedTextLength (length text.now)
         → scratch.new ≡ scratch.old }

@@ -1,4 +1,4 @@
-//! The lengths of keys and texts that are wrapped and unwrapped.
+//! The legal lengths of keys and of wrapped keys.
 
 ghost use Rattle.std.specs.Prelude.{◌↔◌, IsTrue};
 ghost use Rattle.key_wrap.specs.Lengths.{IsPlainKeyLength, IsPlainTextLength, IsPaddedKeyLength};
@@ -21,7 +21,7 @@ pub fn key_length_ok(len: usize) -> bool
     len % 8 == 0 && (16..=MAX_KEY).contains(&len)
 }
 
-/// Whether a text of `len` bytes can be a plain wrapping: a multiple of 8 from 24 to `MAX_KEY + 8`.
+/// Whether `len` bytes can be a plain wrapping: a multiple of 8 from 24 to `MAX_KEY + 8`.
 pub fn text_length_ok(len: usize) -> bool
     ensures { IsTrue result ↔ IsPlainTextLength len }
 {
@@ -35,7 +35,7 @@ pub fn padded_length_ok(len: usize) -> bool
     1 <= len && len <= MAX_KEY
 }
 
-/// Whether a text of `len` bytes can be a padded wrapping: a multiple of 8 from 16 to `MAX_KEY +
+/// Whether `len` bytes can be a padded wrapping: a multiple of 8 from 16 to `MAX_KEY +
 /// 8`.
 pub fn padded_text_length_ok(len: usize) -> bool
     ensures { IsTrue result ↔ IsPaddedTextLength len }
@@ -43,7 +43,7 @@ pub fn padded_text_length_ok(len: usize) -> bool
     len % 8 == 0 && 16 <= len && len <= MAX_KEY + 8
 }
 
-// Whether a text of `len` bytes can be a wrapping in this form.
+// Whether `len` bytes can be a wrapping in this form.
 pub(crate) fn is_text_length(form: Form, len: usize) -> bool
     ensures { IsTrue result ↔ IsTextLength form len }
 {

@@ -45,7 +45,7 @@ pub(crate) fn wrap_padded_on<A: Allocator, B: BlockPair>(
         return Err(WrapFault::BadLength);
     }
     let mut text = room_for(alloc, key)?;
-    // The buffer has the length of the text, so it is not refused.
+    // The buffer has the length of the wrapped key, so it is not refused.
     wrap_padded_in_place(&mut Meter::new(pair), &mut text, key.len()).unwrap();
     Ok(text)
 }
@@ -53,7 +53,7 @@ pub(crate) fn wrap_padded_on<A: Allocator, B: BlockPair>(
 /// The key whose padded wrapping is `text` (RFC 5649, section 4.2).
 ///
 /// `BadLength` where `padded_text_length_ok` says no, before any memory is taken; then `Memory`;
-/// `Integrity` where the text is the padded wrapping of no key.
+/// `Integrity` where `text` is the padded wrapping of no key.
 pub fn unwrap_padded<B: BlockPair>(
     alloc: Global,
     pair: &B,

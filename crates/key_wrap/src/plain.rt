@@ -73,10 +73,10 @@ pub(crate) fn wrap_on<A: Allocator, B: BlockPair>(
     Ok(text)
 }
 
-/// The key whose plain wrapping is `text` (RFC 3394, section 2.2.2): 8 bytes less than the text.
+/// The key whose plain wrapping is `text` (RFC 3394, section 2.2.2): 8 bytes less than `text`.
 ///
 /// `BadLength` where `text_length_ok` says no, before any memory is taken; then `Memory`;
-/// `Integrity` where the text is the plain wrapping of no key.
+/// `Integrity` where `text` is the plain wrapping of no key.
 pub fn unwrap<B: BlockPair>(alloc: Global, pair: &B, text: &[u8]) -> Result<Vec<u8>, UnwrapFault>
     ensures bad_length { (result ≡ Err UnwrapFault.BadLength)
         ↔ ¬ IsPlainTextLength (length text.now) }
@@ -102,10 +102,10 @@ pub fn unwrap<B: BlockPair>(alloc: Global, pair: &B, text: &[u8]) -> Result<Vec<
 }
 
 /// The key whose plain wrapping under this initial value is `text` (RFC 3394, sections 2.2.2 and
-/// 2.2.3.2): 8 bytes less than the text.
+/// 2.2.3.2): 8 bytes less than `text`.
 ///
 /// `BadLength` where `text_length_ok` says no, before any memory is taken; then `Memory`;
-/// `Integrity` where the text is the plain wrapping of no key under this initial value.
+/// `Integrity` where `text` is the plain wrapping of no key under this initial value.
 pub fn unwrap_with<B: BlockPair>(
     alloc: Global,
     pair: &B,

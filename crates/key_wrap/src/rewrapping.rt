@@ -14,11 +14,11 @@ use block_pair::{BlockPair, Meter};
 use std::alloc::{Allocator, Global};
 
 /// The wrapping, in the new form under the new pair, of the one key whose wrapping in the old form
-/// under the old pair is `text`: as many bytes as the text. The text is unwrapped in the buffer of
+/// under the old pair is `text`: as many bytes as `text`. That is unwrapped in the buffer of
 /// the answer, and wrapped there again.
 ///
-/// `BadLength` where the text has no legal length in the old form, before any memory is taken; then
-/// `Memory`, before the first block call; `Integrity` where the text is no old wrapping;
+/// `BadLength` where `text` has no legal length in the old form, before any memory is taken; then
+/// `Memory`, before the first block call; `Integrity` where `text` is no old wrapping;
 /// `BadLength` where its key has no legal length in the new form (only from padded to plain).
 pub fn rewrap<O: BlockPair, N: BlockPair>(
     alloc: Global,
@@ -44,7 +44,7 @@ pub fn rewrap<O: BlockPair, N: BlockPair>(
         → AreWrappings old_form (O.encrypted old.now) new_form (N.encrypted new.now) text.now other
         → other ≡ answer.items) }
 
-    // The text is the wrapping of one key alone.
+    // It is the wrapping of one key alone.
     ensures only_key { IfOk result (λ answer. (key other : List ℕ)
         → StandsIn old_form (O.encrypted old.now) key text.now
         → StandsIn old_form (O.encrypted old.now) other text.now → other ≡ key) }
@@ -54,7 +54,7 @@ pub fn rewrap<O: BlockPair, N: BlockPair>(
         → StandsIn new_form (N.encrypted new.now) key answer.items
         ↔ StandsIn old_form (O.encrypted old.now) key text.now) }
 
-    // Rewrapping back gives the old text.
+    // Rewrapping back gives the old wrapping.
     ensures restores { IfOk result (λ answer. (other : List ℕ)
         → AreWrappings new_form (N.encrypted new.now) old_form (O.encrypted old.now)
         answer.items other → other ≡ text.now) }

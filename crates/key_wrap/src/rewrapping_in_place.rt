@@ -17,11 +17,11 @@ use crate::found::{form_difference, unwrap_found, wrap_found};
 use crate::lengths::{WORD, is_text_length};
 use block_pair::{BlockPair, Meter};
 
-/// The text in the buffer, a wrapping in the old form under the old pair, becomes the wrapping of
+/// The wrapped key in the buffer, a wrapping in the old form under the old pair, becomes the wrapping of
 /// the same key in the new form under the new pair, of the same length.
 ///
-/// `BadLength` where the buffer has no legal length of a text in the old form, with the buffer and
-/// both meters as they were; `Integrity` where the text is no old wrapping; `BadLength` where its
+/// `BadLength` where the buffer has no legal length of a wrapped key in the old form, with the buffer and
+/// both meters as they were; `Integrity` where it is no old wrapping; `BadLength` where its
 /// key has no legal length in the new form (only from padded to plain). After these two every byte
 /// of the buffer is zero, and the new pair was not asked. Each meter counts as for its call alone.
 pub fn rewrap_in_place<O: BlockPair, N: BlockPair>(
@@ -45,7 +45,7 @@ pub fn rewrap_in_place<O: BlockPair, N: BlockPair>(
         → AreWrappings old_form (O.encrypted old.old.pair) new_form (N.encrypted new.old.pair)
         buf.old other → other ≡ buf.new) }
 
-    // The text is the wrapping of one key alone.
+    // It is the wrapping of one key alone.
     ensures only_key { OnOk result ((key other : List ℕ)
         → StandsIn old_form (O.encrypted old.old.pair) key buf.old
         → StandsIn old_form (O.encrypted old.old.pair) other buf.old → other ≡ key) }
@@ -55,7 +55,7 @@ pub fn rewrap_in_place<O: BlockPair, N: BlockPair>(
         → StandsIn new_form (N.encrypted new.old.pair) key buf.new
         ↔ StandsIn old_form (O.encrypted old.old.pair) key buf.old) }
 
-    // Rewrapping back gives the old text.
+    // Rewrapping back gives the old wrapping.
     ensures restores { OnOk result ((other : List ℕ)
         → AreWrappings new_form (N.encrypted new.old.pair) old_form (O.encrypted old.old.pair)
         buf.new other → other ≡ buf.old) }

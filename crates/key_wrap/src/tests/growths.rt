@@ -3,6 +3,7 @@
 
 use super::doubles::Tally;
 use super::initial_values::OTHER;
+use crate::keeping_form::rewrap_keeping_form_on;
 use crate::kinds::kind_on;
 use crate::padded::{unwrap_padded_on, wrap_padded_on};
 use crate::plain::{unwrap_on, wrap_on};
@@ -15,41 +16,16 @@ use std::test::Fail;
 // A heap's least block.
 const STEP: usize = 16;
 
-// A key in both forms, with its text, of whole blocks of a heap, and the block calls for it.
+// A key in both forms, with its wrappings, of whole blocks of a heap, and the block calls for it.
 const KEY: usize = 520;
 
 const TEXT: usize = 528;
 
 const BLOCKS: u64 = 390;
 
+// All that is unwrapped is a wrapping, so that a refusal is for memory.
 #[test]
-fn wraps_after_one_growth(rt: HostRuntime) -> Result<(), Fail> {
-    let key = vec![in rt.alloc(); 0x5A; KEY]?;
-    let iv = InitialValue::new(OTHER)?;
-    let tally = Tally::new();
-    for size in (0..=TEXT).step_by(STEP) {
-        let heap = LocalHeap::new(rt.alloc(), size)?;
-        let (fault, blocks) = if size < TEXT {
-            (Some(WrapFault::Memory), 0)
-        } else {
-            (None, BLOCKS)
-        };
-        let answer = wrap_on(&heap, &tally, &iv, &key).err();
-        assert!(rt;
-            answer == fault && tally.take() == blocks,
-            "a heap of {size} bytes"
-        );
-        let answer = wrap_padded_on(&heap, &tally, &key).err();
-        assert!(rt;
-            answer == fault && tally.take() == blocks,
-            "a heap of {size} bytes, padded"
-        );
-    }
-    Ok(())
-}
-
-#[test]
-fn unwraps_after_one_growth(rt: HostRuntime) -> Result<(), Fail> {
+fn wraps_and_unwraps_after_one_growth(rt: HostRuntime) -> Result<(), Fail> {
     let key = vec![in rt.alloc(); 0x5A; KEY]?;
     let iv = InitialValue::new(OTHER)?;
     let plain = wrap_with(rt.alloc(), &SwapHalves, &iv, &key)?;
@@ -57,69 +33,48 @@ fn unwraps_after_one_growth(rt: HostRuntime) -> Result<(), Fail> {
     let tally = Tally::new();
     for size in (0..=TEXT).step_by(STEP) {
         let heap = LocalHeap::new(rt.alloc(), size)?;
-        let (fault, blocks) = if size < TEXT {
-            (Some(UnwrapFault::Memory), 0)
-        } else {
-            (None, BLOCKS)
-        };
-        let answer = unwrap_on(&heap, &tally, &iv, &plain).err();
+        let serves = size >= TEXT;
+        let blocks = if serves { BLOCKS } else { 0 };
+        let answer = wrap_on(&heap, &tally, &iv, &key).is_ok();
+        assert!(rt; answer == serves && tally.take() == blocks, "{size} bytes");
+        let answer = wrap_padded_on(&heap, &tally, &key).is_ok();
         assert!(rt;
-            answer == fault && tally.take() == blocks,
-            "a heap of {size} bytes"
+            answer == serves && tally.take() == blocks,
+            "{size} bytes, padded"
         );
-        let answer = unwrap_padded_on(&heap, &tally, &padded).err();
+        let answer = unwrap_on(&heap, &tally, &iv, &plain).is_ok();
+        assert!(rt; answer == serves && tally.take() == blocks, "{size} bytes");
+        let answer = unwrap_padded_on(&heap, &tally, &padded).is_ok();
         assert!(rt;
-            answer == fault && tally.take() == blocks,
-            "a heap of {size} bytes, padded"
+            answer == serves && tally.take() == blocks,
+            "{size} bytes, padded"
         );
     }
     Ok(())
 }
 
-// The old pair and the new are given their blocks in the one buffer.
+// The old pair and the new are given their blocks in the one buffer. For `kind` one unwrapping is
+// enough for both forms.
 #[test]
 fn rewraps_after_one_growth(rt: HostRuntime) -> Result<(), Fail> {
     let key = vec![in rt.alloc(); 0x5A; KEY]?;
     let plain = wrap(rt.alloc(), &SwapHalves, &key)?;
+    let padded = wrap_padded(rt.alloc(), &SwapHalves, &key)?;
     let (old, new) = (Tally::new(), Tally::new());
     for size in (0..=TEXT).step_by(STEP) {
         let heap = LocalHeap::new(rt.alloc(), size)?;
-        let (fault, blocks) = if size < TEXT {
-            (Some(UnwrapFault::Memory), 0)
-        } else {
-            (None, BLOCKS)
-        };
-        let answer = rewrap_on(&heap, &old, Form::Plain, &new, Form::Padded, &plain).err();
-        assert!(rt; answer == fault, "a heap of {size} bytes");
-        assert!(rt;
-            old.take() == blocks && new.take() == blocks,
-            "a heap of {size} bytes"
-        );
-    }
-    Ok(())
-}
-
-// One unwrapping is enough for both forms.
-#[test]
-fn names_the_kind_after_one_growth(rt: HostRuntime) -> Result<(), Fail> {
-    let key = vec![in rt.alloc(); 0x5A; KEY]?;
-    let plain = wrap(rt.alloc(), &SwapHalves, &key)?;
-    let padded = wrap_padded(rt.alloc(), &SwapHalves, &key)?;
-    let tally = Tally::new();
-    for size in (0..=TEXT).step_by(STEP) {
-        let heap = LocalHeap::new(rt.alloc(), size)?;
-        for (text, kind) in [(&plain, Kind::Plain(KEY)), (&padded, Kind::Padded(KEY))] {
-            let (want, blocks) = if size < TEXT {
-                (Err(KindFault::Memory), 0)
-            } else {
-                (Ok(kind), BLOCKS)
-            };
-            let answer = kind_on(&heap, &tally, text);
-            assert!(rt;
-                answer == want && tally.take() == blocks,
-                "a heap of {size} bytes, {kind:?}"
-            );
+        let serves = size >= TEXT;
+        let blocks = if serves { BLOCKS } else { 0 };
+        for text in [&plain, &padded] {
+            let answer = kind_on(&heap, &old, text).is_ok();
+            assert!(rt; answer == serves && old.take() == blocks, "{size} bytes");
+            let answer = rewrap_keeping_form_on(&heap, &old, &new, text).is_ok();
+            assert!(rt; answer == serves && old.take() == blocks, "{size} bytes");
+            assert!(rt; new.take() == blocks, "{size} bytes");
         }
+        let answer = rewrap_on(&heap, &old, Form::Plain, &new, Form::Padded, &plain).is_ok();
+        assert!(rt; answer == serves && old.take() == blocks, "{size} bytes");
+        assert!(rt; new.take() == blocks, "{size} bytes");
     }
     Ok(())
 }
@@ -128,44 +83,60 @@ fn names_the_kind_after_one_growth(rt: HostRuntime) -> Result<(), Fail> {
 // plain wrapping.
 const ASKED: [(usize, u64); 5] = [(1, 1), (8, 1), (16, 12), (24, 18), (KEY, BLOCKS)];
 
-const FORMS: [Form; 2] = [Form::Plain, Form::Padded];
+#[test]
+fn asks_the_pair_once_a_block_padded(rt: HostRuntime) -> Result<(), Fail> {
+    let alloc = rt.alloc();
+    let (tally, new) = (Tally::new(), Tally::new());
+    for (len, calls) in ASKED {
+        let key = vec![in alloc; 0x5A; len]?;
+        let text = wrap_padded(alloc, &tally, &key)?;
+        assert!(rt; tally.take() == calls, "wraps {len} bytes");
+        let back = unwrap_padded(alloc, &tally, &text)?;
+        assert!(rt; back == key && tally.take() == calls, "unwraps {len} bytes");
+        let again = rewrap(alloc, &tally, Form::Padded, &new, Form::Padded, &text)?;
+        assert!(rt;
+            tally.take() == calls && new.take() == calls,
+            "rewraps {len} bytes"
+        );
+        let kept = rewrap_keeping_form(alloc, &tally, &new, &text)?;
+        assert!(rt;
+            tally.take() == calls && new.take() == calls,
+            "rewraps {len} bytes"
+        );
+        assert!(rt; again == text && kept == text, "rewraps {len} bytes");
+        let plain = rewrap(alloc, &tally, Form::Padded, &new, Form::Plain, &text).is_ok();
+        let wraps = if plain { calls } else { 0 };
+        assert!(rt;
+            plain == (len >= 16) && tally.take() == calls,
+            "{len} bytes to plain"
+        );
+        assert!(rt; new.take() == wraps, "{len} bytes to plain");
+    }
+    Ok(())
+}
 
 #[test]
 fn asks_the_pair_once_a_block(rt: HostRuntime) -> Result<(), Fail> {
     let alloc = rt.alloc();
     let (tally, new) = (Tally::new(), Tally::new());
-    for (len, calls) in ASKED {
+    for (len, calls) in [(16, 12), (24, 18), (KEY, BLOCKS)] {
         let key = vec![in alloc; 0x5A; len]?;
-        for form in FORMS {
-            if len < 16 && form == Form::Plain {
-                continue;
-            }
-            let text = match form {
-                Form::Plain => wrap(alloc, &tally, &key)?,
-                Form::Padded => wrap_padded(alloc, &tally, &key)?,
-            };
-            assert!(rt; tally.take() == calls, "wraps {len} bytes, {form:?}");
-            let back = match form {
-                Form::Plain => unwrap(alloc, &tally, &text)?,
-                Form::Padded => unwrap_padded(alloc, &tally, &text)?,
-            };
+        let text = wrap(alloc, &tally, &key)?;
+        assert!(rt; tally.take() == calls, "wraps {len} bytes");
+        let back = unwrap(alloc, &tally, &text)?;
+        assert!(rt; back == key && tally.take() == calls, "unwraps {len} bytes");
+        let kept = rewrap_keeping_form(alloc, &tally, &new, &text)?;
+        assert!(rt;
+            kept == text && tally.take() == calls,
+            "rewraps {len} bytes"
+        );
+        assert!(rt; new.take() == calls, "rewraps {len} bytes");
+        for form in [Form::Plain, Form::Padded] {
+            rewrap(alloc, &tally, Form::Plain, &new, form, &text)?;
             assert!(rt;
-                back == key && tally.take() == calls,
-                "unwraps {len} bytes, {form:?}"
+                tally.take() == calls && new.take() == calls,
+                "{len} bytes to {form:?}"
             );
-            for new_form in FORMS {
-                let answer = rewrap(alloc, &tally, form, &new, new_form, &text).err();
-                let (fault, wraps) = if len < 16 && new_form == Form::Plain {
-                    (Some(UnwrapFault::BadLength), 0)
-                } else {
-                    (None, calls)
-                };
-                assert!(rt; answer == fault, "{len} bytes, {form:?} to {new_form:?}");
-                assert!(rt;
-                    tally.take() == calls && new.take() == wraps,
-                    "{len} bytes, {form:?} to {new_form:?}"
-                );
-            }
         }
     }
     Ok(())
@@ -179,27 +150,23 @@ fn asks_the_pair_as_often_where_it_refuses(rt: HostRuntime) -> Result<(), Fail> 
     let refused = Some(UnwrapFault::Integrity);
     for (len, calls) in ASKED {
         let text = vec![in alloc; 0; 8 + len.next_multiple_of(8)]?;
+        let answer = unwrap_padded(alloc, &tally, &text).err();
+        assert!(rt; answer == refused && tally.take() == calls, "{len} bytes");
+        let answer = kind(alloc, &tally, &text);
         assert!(rt;
-            unwrap_padded(alloc, &tally, &text).err() == refused,
+            answer == Ok(Kind::Neither) && tally.take() == calls,
             "{len} bytes"
         );
-        assert!(rt; tally.take() == calls, "{len} bytes");
-        assert!(rt;
-            kind(alloc, &tally, &text) == Ok(Kind::Neither),
-            "{len} bytes"
-        );
-        assert!(rt; tally.take() == calls, "{len} bytes");
         let answer = rewrap(alloc, &tally, Form::Padded, &new, Form::Padded, &text).err();
-        assert!(rt; answer == refused, "{len} bytes");
-        assert!(rt; tally.take() == calls && new.take() == 0, "{len} bytes");
+        assert!(rt; answer == refused && tally.take() == calls, "{len} bytes");
+        let answer = rewrap_keeping_form(alloc, &tally, &new, &text).err();
+        assert!(rt; answer == refused && tally.take() == calls, "{len} bytes");
         if len >= 16 {
-            assert!(rt;
-                unwrap(alloc, &tally, &text).err() == refused,
-                "{len} bytes"
-            );
-            assert!(rt; tally.take() == calls, "{len} bytes");
+            let answer = unwrap(alloc, &tally, &text).err();
+            assert!(rt; answer == refused && tally.take() == calls, "{len} bytes");
         }
     }
+    assert!(rt; new.take() == 0);
     Ok(())
 }
 
@@ -216,11 +183,13 @@ fn takes_no_memory_at_an_illegal_length(rt: HostRuntime) -> Result<(), Fail> {
     assert!(rt; kind_on(&heap, &tally, &bytes) == Ok(Kind::Neither));
     let answer = rewrap_on(&heap, &tally, Form::Plain, &tally, Form::Plain, &bytes).err();
     assert!(rt; answer == Some(UnwrapFault::BadLength));
+    let answer = rewrap_keeping_form_on(&heap, &tally, &tally, &bytes).err();
+    assert!(rt; answer == Some(UnwrapFault::BadLength));
     assert!(rt; tally.take() == 0);
     Ok(())
 }
 
-// The key data and its texts, plain and padded.
+// The key data and its wrappings, plain and padded.
 const DATA: [u8; 16] = *b"\x00\x11\x22\x33\x44\x55\x66\x77\x88\x99\xAA\xBB\xCC\xDD\xEE\xFF";
 
 const PLAIN: [u8; 24] = *b"\xA6\xA6\xA6\xA6\xA6\xA6\xA6\xA6\

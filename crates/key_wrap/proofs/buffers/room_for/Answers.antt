@@ -1,4 +1,4 @@
--- The zeros, the key and its padding are what the four fillings leave, and none of them wants more room.
+-- The zeros, the key and its padding are what the four fillings leave, and none of them needs more room.
 use Rattle.std.proofs.Common.{length, ap, arith}
 use Rattle.key_wrap.proofs.Filling.{cleared_word, filled}
 use Rattle.key_wrap.proofs.buffers.room_for.Goals as goal
