@@ -23,14 +23,14 @@ abbrev pub IsInputLength : Direction → Form → ℕ → Type 0
 IsInputLength Wrap form len = IsKeyLength form len
 IsInputLength Unwrap form len = IsTextLength form len
 
--- the text is the wrapping of the key, and no other text is
+-- `text` is the wrapping of the key, and nothing else is
 pub record IsTextOf (form : Form) (iv : ℕ) (E : List ℕ → List ℕ) (key text : List ℕ) : Type 0 where
   pub stands : Stands form iv E key text
   pub alone : (other : List ℕ) → Stands form iv E key other → other ≡ text
 
--- The key is the one whose wrapping the text is, and of no other: it stands with the text, it alone does,
--- wrapping it again restores the text, and no key stands with the text in the other form, which for a padded
--- text is the plain one under the default value.
+-- `text` is the wrapping of this key, and of no other: the key stands with it, it alone does, wrapping it again
+-- restores the wrapped key, and no key stands with that in the other form, which for the padded form is the plain
+-- one under the default value.
 pub record IsKeyOf (form : Form) (iv : ℕ) (E : List ℕ → List ℕ) (text key : List ℕ) : Type 0 where
   pub stands : Stands form iv E key text
   pub alone : (other : List ℕ) → Stands form iv E other text → other ≡ key
@@ -47,7 +47,7 @@ abbrev pub unwrap_fault_of : WrapFault → UnwrapFault
 unwrap_fault_of wraps.BadLength = BadLength
 unwrap_fault_of wraps.Memory = Memory
 
--- only an unwrapping is refused for its integrity: no key stands with the text
+-- only an unwrapping is refused for its integrity: no key stands with the wrapped key
 abbrev pub HasNoAnswer : Direction → Form → ℕ → (List ℕ → List ℕ) → List ℕ → Type 0
 HasNoAnswer Wrap form iv E X = ⊥
 HasNoAnswer Unwrap form iv E X = NoKey (Stands form iv E) X

@@ -51,7 +51,7 @@ LeavesOutput iv task F G old new (Err (Write written)) =
 LeavesOutput iv task F G old new (Err (KekFile files.Read)) = Keeps old new
 LeavesOutput iv task F G old new (Err (InputFile files.Read)) = Keeps old new
 LeavesOutput iv task F G old new (Err Memory) = Keeps old new
--- want of memory is never answered as a file's fault
+-- a growth that is refused is never answered as a file's fault
 LeavesOutput iv task F G old new (Err (KekFile files.Memory)) = ⊥
 LeavesOutput iv task F G old new (Err (InputFile files.Memory)) = ⊥
 LeavesOutput iv task F G old new (Err fault) = JobAnswer iv task F G (Err fault) × Keeps old new
@@ -89,14 +89,14 @@ pub record IsKekAccepted (notation : Notation) (F : List ℕ) (left : Option (Li
   pub kek : DenotesKek notation F K
   pub end : IsAtEnd left
 
--- the call gave up: a read failed, or a growth was refused
+-- the call stopped short: a read failed, or a growth was refused
 abbrev pub GivesUp : Result Done JobFault → Type 0
 GivesUp (Err (KekFile files.Read)) = ⊤
 GivesUp (Err (InputFile files.Read)) = ⊤
 GivesUp (Err Memory) = ⊤
 GivesUp answer = ⊥
 
--- the call was refused for this fault, unless it gave up
+-- the call was refused for this fault, unless it stopped short
 abbrev pub IsRefusedFor : JobFault → Result Done JobFault → Type 0
 IsRefusedFor fault answer = (answer ≡ Err fault) ⊎ GivesUp answer
 
@@ -120,7 +120,7 @@ pub record RunsJobWith (iv : ℕ) (task : Task) (kek kek' input input' out out' 
   -- a file is too long exactly where more than 4,194,304 bytes were taken from it
   pub kek_too_long : (answer ≡ Err (KekFile files.TooLong)) ↔ (4194304 < length F)
   pub input_too_long : (answer ≡ Err (InputFile files.TooLong)) ↔ (4194304 < length G)
-  -- bytes that a step refuses are answered by its refusal, unless the call gives up
+  -- bytes that a step refuses are answered by its refusal, unless the call stops short
   pub kek_refused : (fault : FileFault) → IsRefused task.kek F fault → IsRefusedFor (KekFile fault) answer
   pub kek_length : (K : List ℕ) → Denotes task.kek F K → ¬ IsKekLength (length K) → IsRefusedFor KekLength answer
   pub input_refused : (K : List ℕ) → DenotesKek task.kek F K → (fault : FileFault) → IsRefused task.input G fault

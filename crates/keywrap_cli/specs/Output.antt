@@ -30,8 +30,8 @@ kind_line (kinds.Plain m) = codes "plain " ++ decimal m ++ 10 ∷ []
 kind_line (kinds.Padded m) = codes "padded " ++ decimal m ++ 10 ∷ []
 kind_line kinds.Neither = codes "none\n"
 
--- what a job in a form writes for the bytes X: the text of the key, the key of the text, or the line that says
--- what the text is a wrapping of; a check looks at the default value alone
+-- what a job in a form writes for the bytes X: the wrapping of the key, the key of the wrapping, or the line that says
+-- what X is a wrapping of; a check looks at the default value alone
 abbrev pub WritesFor : Job → ℕ → Task → (List ℕ → List ℕ) → List ℕ → List ℕ → Type 0
 WritesFor Wrap iv task E X output =
     (text : List ℕ) × IsTextOf task.form iv E X text × (output ≡ printed task.input text)

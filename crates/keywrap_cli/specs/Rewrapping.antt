@@ -1,5 +1,5 @@
 -- What a call that rewraps does to its files. It goes by steps: it reads the old KEK's file and takes its bytes for a
--- KEK, does the same with the new KEK's file, reads the input file, makes the new text, and writes it. It is refused at
+-- KEK, does the same with the new KEK's file, reads the input file, makes the new wrapped key, and writes it. It is refused at
 -- the first step that fails, and the later ones are not begun.
 use Rattle.std.specs.Prelude.{◌≡◌, ◌<◌, ◌≤◌, ◌+◌, ◌⊎◌, ◌↔◌, ⊤, ℕ, List, length, take, Option, Result, Ok, Err}
 use Rattle.std.specs.Io.KnownBytes.{Appends, Keeps, Consumes, IsAtEnd}
@@ -18,7 +18,7 @@ use Rattle.keywrap_cli.specs.declared.job.JobFault.{JobFault}
 use Rattle.keywrap_cli.specs.declared.job.JobFault.TheVariants.{KekFile, KekLength, NewKekFile, NewKekLength, InputFile, BadLength, Integrity, Write, Memory}
 use Rattle.keywrap_cli.specs.declared.job.Notation.{Notation}
 
--- the forms of the two texts, and the notations of the input and of both KEK files
+-- the forms of the two wrapped keys, and the notations of the input and of both KEK files
 pub record Rewrapping : Type 0 where
   pub old_form : Form
   pub new_form : Form
@@ -28,9 +28,9 @@ pub record Rewrapping : Type 0 where
 abbrev pub rewrapping : Form → Form → Notation → Notation → Rewrapping
 rewrapping old_form new_form input kek = record { old_form = old_form; new_form = new_form; input = input; kek = kek }
 
--- The answer is the new wrapping, under F, of the one key whose old wrapping, under E, the text is: that key alone
--- stands with the text, and it alone with the answer; it has no other new wrapping, and no other old one. So unwrapping
--- the answer gives exactly the old key, and rewrapping back gives the old text.
+-- The answer is the new wrapping, under F, of the one key whose old wrapping, under E, `text` is: that key alone
+-- stands with `text`, and it alone with the answer; it has no other new wrapping, and no other old one. So unwrapping
+-- the answer gives exactly the old key, and rewrapping back gives `text` again.
 pub record IsRewrapped (old_form : Form) (E : List ℕ → List ℕ) (new_form : Form) (F : List ℕ → List ℕ)
     (text answer : List ℕ) : Type 0 where
   pub key : List ℕ
@@ -41,14 +41,14 @@ pub record IsRewrapped (old_form : Form) (E : List ℕ → List ℕ) (new_form :
   pub alone : (other : List ℕ) → StandsIn new_form F key other → other ≡ answer
   pub restores : (other : List ℕ) → StandsIn old_form E key other → other ≡ text
 
--- the output is the rewrapped text, in a notation
+-- the output is the rewrapped key, in a notation
 pub record IsNewText (old_form : Form) (E : List ℕ → List ℕ) (new_form : Form) (F : List ℕ → List ℕ)
     (notation : Notation) (text output : List ℕ) : Type 0 where
   pub answer : List ℕ
   pub rewrapped : IsRewrapped old_form E new_form F text answer
   pub shown : output ≡ printed notation answer
 
--- What is left in the writer for the text, by cases: the whole output, or the first `written` bytes of it, or nothing.
+-- What is left in the writer for a wrapped key, by cases: the whole output, or the first `written` bytes of it, or nothing.
 abbrev pub NewTextAnswer : Form → (List ℕ → List ℕ) → Form → (List ℕ → List ℕ) → Notation → List ℕ → Option (List ℕ)
     → Option (List ℕ) → Result Done JobFault → Type 0
 NewTextAnswer old_form E new_form F notation text old new (Ok done) =
@@ -74,15 +74,15 @@ pub record HasBadKek (notation : Notation) (file : List ℕ) : Type 0 where
   pub denoted : Denotes notation file K
   pub bad : ¬ IsKekLength (length K)
 
--- the old KEK's file F denotes the KEK K, the new one's file H the KEK L, and the input file G the text X
+-- the old KEK's file F denotes the KEK K, the new one's file H the KEK L, and the input file G the wrapped key X
 pub record DenoteAll (task : Rewrapping) (F H G K L X : List ℕ) : Type 0 where
   pub kek : DenotesKek task.kek F K
   pub new_kek : DenotesKek task.kek H L
   pub input : Denotes task.input G X
 
 -- A call's answer to what it took from the old KEK's file, F, the new one's, H, and the input file, G, each whole or up
--- to one byte past the limit: the first that applies of a file or a KEK that is refused, and for the text X under AES
--- of the two KEKs: a bad length of the text or of its key, no old wrapping, or the output.
+-- to one byte past the limit: the first that applies of a file or a KEK that is refused, and for the wrapped key X under
+-- AES of the two KEKs: a bad length of it or of its key, no old wrapping, or the output.
 abbrev pub FilesAnswer : Rewrapping → List ℕ → List ℕ → List ℕ → Result (List ℕ) JobFault → Type 0
 FilesAnswer task F H G (Err (KekFile fault)) = IsRefused task.kek F fault
 FilesAnswer task F H G (Err KekLength) = HasBadKek task.kek F
@@ -112,7 +112,7 @@ LeavesNewText task F H G old new (Err (KekFile files.Read)) = Keeps old new
 LeavesNewText task F H G old new (Err (NewKekFile files.Read)) = Keeps old new
 LeavesNewText task F H G old new (Err (InputFile files.Read)) = Keeps old new
 LeavesNewText task F H G old new (Err Memory) = Keeps old new
--- want of memory is never answered as a file's fault
+-- a growth that is refused is never answered as a file's fault
 LeavesNewText task F H G old new (Err (KekFile files.Memory)) = ⊥
 LeavesNewText task F H G old new (Err (NewKekFile files.Memory)) = ⊥
 LeavesNewText task F H G old new (Err (InputFile files.Memory)) = ⊥
@@ -146,7 +146,7 @@ IsTextReadToEnd (Err (InputFile files.Read)) left = ⊤
 IsTextReadToEnd (Err Memory) left = ⊤
 IsTextReadToEnd answer left = IsAtEnd left
 
--- the call gave up: a read failed, or a growth was refused
+-- the call stopped short: a read failed, or a growth was refused
 abbrev pub GivesUp : Result Done JobFault → Type 0
 GivesUp (Err (KekFile files.Read)) = ⊤
 GivesUp (Err (NewKekFile files.Read)) = ⊤
@@ -154,7 +154,7 @@ GivesUp (Err (InputFile files.Read)) = ⊤
 GivesUp (Err Memory) = ⊤
 GivesUp answer = ⊥
 
--- the call was refused for this fault, unless it gave up
+-- the call was refused for this fault, unless it stopped short
 abbrev pub IsRefusedFor : JobFault → Result Done JobFault → Type 0
 IsRefusedFor fault answer = (answer ≡ Err fault) ⊎ GivesUp answer
 
@@ -185,7 +185,7 @@ pub record RunsRewrap (task : Rewrapping) (kek kek' new new' input input' out ou
   pub input_in_order : IsUnread input input' G ⊎ (IsKekAccepted task.kek F kek' × IsKekAccepted task.kek H new')
   pub new_kek_unread : IsKekRefused answer → IsUnread new new' H
   pub input_unread : IsEitherKekRefused answer → IsUnread input input' G
-  -- bytes that a step refuses are answered by its refusal, unless the call gives up
+  -- bytes that a step refuses are answered by its refusal, unless the call stops short
   pub kek_refused : (fault : FileFault) → IsRefused task.kek F fault → IsRefusedFor (KekFile fault) answer
   pub kek_length : HasBadKek task.kek F → IsRefusedFor KekLength answer
   pub new_kek_refused : HasKek task.kek F → (fault : FileFault) → IsRefused task.kek H fault

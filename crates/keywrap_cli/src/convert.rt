@@ -32,7 +32,7 @@ pub fn convert<B: BlockPair>(
     ensures answer { ConversionAnswer direction form iv.now (B.encrypted pair.now) input.now
         result }
 
-    // What has an answer is refused for want of memory alone.
+    // What has an answer is refused only where memory runs out.
     ensures accepts { (output : List ℕ)
         → Converts direction form iv.now (B.encrypted pair.now) input.now output
         → IsOkUnless result UnwrapFault.Memory }

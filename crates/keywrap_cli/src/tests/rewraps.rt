@@ -128,6 +128,7 @@ fn reads_the_words_of_a_rewrapping(rt: HostRuntime) -> Result<(), Fail> {
                     kek: "old.hex",
                     input: None,
                     output: None,
+                    verbose: false,
                 },
             ))
         )
