@@ -1,5 +1,6 @@
 -- The initial value and the registers that were found, the key that they hold, and the texts that they are wrapped to.
-use Rattle.std.proofs.Common.{◌≡◌, ◌⊎◌, ℕ, ◌+◌, ◌%◌, ◌^◌, ◌≤◌, List, ◌++◌, length, take, drop, bit_xor, refl, ap, ◌∙◌, arith, length-append, inl, inr, ◌-◌, Result, Ok, Err, IsErr, IsErrAnd, length-drop}
+use Rattle.std.proofs.Common.{◌≡◌, ◌⊎◌, ℕ, ◌+◌, ◌-◌, ◌%◌, ◌^◌, ◌≤◌, List, ◌++◌, length, take, drop, bit_xor, Result, Ok, Err, IsErr, IsErrAnd, inl, inr}
+use Rattle.std.proofs.Common.{refl, ap, ◌∙◌, arith, length-append, length-drop}
 use Rattle.std.proofs.lemmas.List.{take_all}
 use Rattle.block_pair.specs.Pair.{AreInverse}
 use Rattle.block_pair.specs.Words.{IsWord}

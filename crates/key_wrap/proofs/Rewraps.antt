@@ -50,8 +50,8 @@ key_length E Plain key text h = h.legal
 key_length E Padded key text h = h.legal
 
 -- a length that is refused is not this key's
-length_fits : {E D : List ℕ → List ℕ} (F : List ℕ → List ℕ) (old new : Form) (key text answer : List ℕ) → AreInverse E D → StandsIn old E key text → StandsIn new F key answer
-    → ¬ HasBadLength old E new text
+length_fits : {E D : List ℕ → List ℕ} (F : List ℕ → List ℕ) (old new : Form) (key text answer : List ℕ) → AreInverse E D → StandsIn old E key text
+    → StandsIn new F key answer → ¬ HasBadLength old E new text
 length_fits F old new key text answer inv stands wraps (inl short) = short (text_legal old key text inv stands)
 length_fits F old new key text answer inv stands wraps (inr bad) =
     bad.2 (subst (λ (k : List ℕ). IsKeyLength new (length k)) (sym (only_key old key bad.0 text inv stands bad.1)) (key_length F new key answer wraps))

@@ -1,4 +1,5 @@
-//! The one buffer of a call that takes memory: room for the wrapped key, and in the end that or the key.
+//! The one buffer of a call that takes memory: room for the wrapped key, and in the end that or the
+//! key.
 
 ghost use Rattle.std.specs.Prelude.{◌≡◌, ◌+◌, ◌≤◌, ◌++◌, length, take, drop, replicate, vec_len};
 ghost use Rattle.std.specs.Prelude.{IfOk};
@@ -7,8 +8,8 @@ ghost use Rattle.key_wrap.specs.Padded.{padded};
 use crate::lengths::MAX_KEY;
 use std::alloc::{AllocError, Allocator};
 
-// Room for the first word of the wrapped key, the key and its zero padding (none where the key fills its
-// words). Takes its memory in one growth.
+// Room for the first word of the wrapped key, the key and its zero padding (none where the key
+// fills its words). Takes its memory in one growth.
 pub(crate) fn room_for<A: Allocator>(alloc: A, key: &[u8]) -> Result<Vec<u8, A>, AllocError>
     requires { length key.now ≤ MAX_KEY }
     ensures { IfOk result (λ buffer. buffer.items ≡ replicate 8 0 ++ padded key.now) }

@@ -114,8 +114,9 @@ pub fn wrap_padded_into<B: BlockPair>(
 /// the answer says, and zero bytes to the end of the buffer.
 ///
 /// `BadLength`, with the key's buffer and the meter as they were, where `padded_text_length_ok`
-/// says no to `text`'s length, or the key's buffer is not 8 bytes shorter; `Integrity` where `text` is the padded wrapping of no key, and then every byte of the key's buffer is zero. The
-/// meter counts as many calls then as for a key.
+/// says no to `text`'s length, or the key's buffer is not 8 bytes shorter; `Integrity` where `text`
+/// is the padded wrapping of no key, and then every byte of the key's buffer is zero. The meter
+/// counts as many calls then as for a key.
 pub fn unwrap_padded_into<B: BlockPair>(
     meter: &mut Meter<B>,
     text: &[u8],

@@ -14,9 +14,9 @@ use crate::found::{either_difference, unwrap_found, wrap_found};
 use crate::lengths::{WORD, padded_text_length_ok};
 use block_pair::{BlockPair, Meter};
 
-/// The wrapped key in the buffer, a wrapping under the old pair in one of the two forms, becomes the
-/// wrapping of the same key in that form under the new pair. No wrapped key is one in both forms, so
-/// there is one answer; nothing but the answer tells the form, or the key's length.
+/// The wrapped key in the buffer, a wrapping under the old pair in one of the two forms, becomes
+/// the wrapping of the same key in that form under the new pair. No wrapped key is one in both
+/// forms, so there is one answer. No branch and no index hangs on the form, or on the key's length.
 ///
 /// `BadLength` where the buffer's length is legal in neither form, with the buffer and both meters
 /// as they were; `Integrity` where it holds a wrapping in neither form, and then every byte of the

@@ -17,13 +17,14 @@ use crate::found::{form_difference, unwrap_found, wrap_found};
 use crate::lengths::{WORD, is_text_length};
 use block_pair::{BlockPair, Meter};
 
-/// The wrapped key in the buffer, a wrapping in the old form under the old pair, becomes the wrapping of
-/// the same key in the new form under the new pair, of the same length.
+/// The wrapped key in the buffer, a wrapping in the old form under the old pair, becomes the
+/// wrapping of the same key in the new form under the new pair, of the same length.
 ///
-/// `BadLength` where the buffer has no legal length of a wrapped key in the old form, with the buffer and
-/// both meters as they were; `Integrity` where it is no old wrapping; `BadLength` where its
-/// key has no legal length in the new form (only from padded to plain). After these two every byte
-/// of the buffer is zero, and the new pair was not asked. Each meter counts as for its call alone.
+/// `BadLength` where the buffer has no legal length of a wrapped key in the old form, with the
+/// buffer and both meters as they were; `Integrity` where it is no old wrapping; `BadLength` where
+/// its key has no legal length in the new form (only from padded to plain). After these two every
+/// byte of the buffer is zero, and the new pair was not asked. Each meter counts as for its call
+/// alone.
 pub fn rewrap_in_place<O: BlockPair, N: BlockPair>(
     old: &mut Meter<O>,
     old_form: Form,

@@ -1,6 +1,6 @@
 -- The key that the registers hold, in whichever form, stands with the text under the old pair, and they are wrapped again as
 -- they are under the new one.
-use Rattle.std.proofs.Common.{rules, ◌≡◌, ℕ, List, length, ◌++◌, drop, refl}
+use Rattle.std.proofs.Common.{rules, ℕ, List, length, ◌++◌, drop, refl}
 use Rattle.key_wrap.specs.declared.faults.InPlaceFault.TheVariants.{Integrity}
 use Rattle.key_wrap.specs.declared.forms.Form.{Form}
 use Rattle.key_wrap.specs.Words.{word_bytes}
