@@ -2,6 +2,9 @@ pub mod Conversions
 pub mod Drills
 pub mod InitialValues
 pub mod Jobs
+pub mod KeptTexts
+pub mod LineRefusals
+pub mod LineRuns
 pub mod Outputs
 pub mod Readings
 pub mod Refusals

@@ -335,7 +335,7 @@ headline_of task kek kek' new new' input input' out out' (Ok done) run ok =
 headline_of task kek kek' new new' input input' out out' (Err fault) run ok = cc
 
 -- what the clauses of key_wrap's call say of its answer
-is_rewrapped : (old : Form) (E : List ℕ → List ℕ) (new : Form) (F : List ℕ → List ℕ) (text answer : List ℕ)
+pub is_rewrapped : (old : Form) (E : List ℕ → List ℕ) (new : Form) (F : List ℕ → List ℕ) (text answer : List ℕ)
     → AreWrappings old E new F text answer
     → ((other : List ℕ) → AreWrappings old E new F text other → other ≡ answer)
     → ((key other : List ℕ) → StandsIn old E key text → StandsIn old E other text → other ≡ key)

@@ -1,9 +1,13 @@
 pub mod Conversion
 pub mod Drill
 pub mod Files
+pub mod Forms
 pub mod InitialValue
 pub mod Job
+pub mod KeptForm
 pub mod Keyed
+pub mod LineAnswers
+pub mod Lines
 pub mod Output
 pub mod Published
 pub mod Readings

@@ -153,8 +153,8 @@ fn done_of(kind: Kind) -> Done
     }
 }
 
-// The line of a check.
-fn kind_line(alloc: Global, kind: Kind) -> Result<String, AllocError>
+/// The line of a check.
+pub fn kind_line(alloc: Global, kind: Kind) -> Result<String, AllocError>
     ensures { IfOk result (λ line. string_bytes line ≡ kind_line kind) }
 {
     match kind {

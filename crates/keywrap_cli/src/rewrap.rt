@@ -71,7 +71,8 @@ pub fn run_rewrap<K: Read, N: Read, R: Read, W: Write>(
     )
 }
 
-fn new_kek_fault(fault: KekFault) -> JobFault
+/// The fault of a rewrapping for one of its new KEK.
+pub fn new_kek_fault(fault: KekFault) -> JobFault
     ensures { result ≡ new_kek_fault_of fault }
 {
     match fault {
