@@ -11,7 +11,7 @@ use std::process::Abort;
 
 /// Which call is made: of a `With` under which initial value, of a `Rewrap` from which form to
 /// which; then the notation of the input and that of the KEK files.
-#[derive(Clone, Copy, Debug)]
+#[derive(Clone, Copy)]
 pub enum Call {
     Job(Job, Form, Notation, Notation),
     With([u8; 8], Direction, Notation, Notation),
@@ -99,16 +99,13 @@ impl<'a> Case<'a> {
         let Case(call, bytes, wanted, output) = *self;
         let mut out = Narrow::in_pieces(alloc, size);
         let (done, files) = run(alloc, call, self.files(size), &mut out);
-        assert!(rt; done == wanted, "{call:?}, {size} bytes a read");
-        assert!(rt; out.out() == output && !out.is_flushed, "{call:?}");
+        assert!(rt; done == wanted, "{wanted:?}, {size} bytes a read");
+        assert!(rt; out.out() == output && !out.is_flushed, "{wanted:?}");
         for at in 0..3 {
             let most = if self.reads(at) { 4_194_305 } else { 0 };
             let left = bytes[at].len().saturating_sub(most);
-            assert!(rt; files[at].left.len() == left, "{call:?}, file {at}");
-            assert!(rt;
-                files[at].is_unread != self.reads(at),
-                "{call:?}, file {at}"
-            );
+            assert!(rt; files[at].left.len() == left, "{wanted:?}, file {at}");
+            assert!(rt; files[at].is_unread != self.reads(at), "file {at}");
         }
     }
 }

@@ -63,9 +63,6 @@ impl Read for Trickle<'_> {
     }
 }
 
-/// What a writer answers at its fault: each in turn.
-pub static STOPS: [Stop; 2] = [Stop::Fails, Stop::TakesNone];
-
 /// What a writer answers at its fault.
 #[derive(Clone, Copy, Debug)]
 pub enum Stop {
@@ -74,6 +71,14 @@ pub enum Stop {
     /// That it took no byte.
     TakesNone,
 }
+
+/// How a writer stops, and how often.
+pub static STOPPINGS: [(Stop, usize); 4] = [
+    (Stop::Fails, 1),
+    (Stop::TakesNone, 1),
+    (Stop::Fails, usize::MAX),
+    (Stop::TakesNone, usize::MAX),
+];
 
 /// Takes bytes in pieces, and at one place answers a fault.
 #[derive(Drop)]

@@ -1,17 +1,14 @@
 //! Drills, whose answers follow from the rule of the drill block: At is the register that goes in,
 //! xored with t, and A(t-1) goes into the last register.
 
-use super::doubles::Narrow;
 use crate::convert::Direction;
 use crate::drill::{DrillFault, drill};
-use crate::fault::ProgramFault;
-use crate::program::run_drill;
-use key_files::decode_hex;
 use key_wrap::Form;
+use std::alloc::Global;
 use std::test::Fail;
 
 // Keys and their texts.
-static WRAPPINGS: [(Form, &str, &str); 9] = [
+static WRAPPINGS: [(Form, &str, &str); 8] = [
     // two words
     (
         Form::Plain,
@@ -36,12 +33,6 @@ static WRAPPINGS: [(Form, &str, &str); 9] = [
         "0000000000000000111111111111111122222222222222223333333333333333",
         "333333333333333ba6a6a6a6a6a6a6b20000000000000009111111111111111f2222222222222221",
     ),
-    // digits of both cases, with white space between them
-    (
-        Form::Plain,
-        "00 11\t22 33 44 55 66 77\r\n88 99 AA bb CC dd EE ff\n",
-        "a6a6a6a6a6a6a6a6001122334455667f8899aabbccddeefb",
-    ),
     // padded keys: one word, and two words, whose registers go as the plain ones above
     (
         Form::Padded,
@@ -61,26 +52,47 @@ static WRAPPINGS: [(Form, &str, &str); 9] = [
     ),
 ];
 
+// Digits of both cases, with white space between them.
+const SPACED: &str = "00 11\t22 33 44 55 66 77\r\n88 99 AA bb CC dd EE ff\n";
+
 #[test]
-fn wraps_and_unwraps_keys(rt: HostRuntime) -> Result<(), Fail> {
+fn wraps_and_unwraps_keys(rt: HostRuntime) {
     for (form, key, text) in &WRAPPINGS {
-        let wrapped = drill(rt.alloc(), *form, Direction::Wrap, key)?;
-        let digits = hex::encode(rt.alloc(), &wrapped)?;
-        assert!(rt; digits.as_str() == *text, "{key}");
-        let unwrapped = drill(rt.alloc(), *form, Direction::Unwrap, text)?;
-        let key = decode_hex(rt.alloc(), key.as_bytes())?;
-        assert!(rt; unwrapped == key, "{text}");
+        assert!(rt;
+            answers(rt.alloc(), *form, Direction::Wrap, key, text),
+            "{key}"
+        );
+        assert!(rt;
+            answers(rt.alloc(), *form, Direction::Unwrap, text, key),
+            "{text}"
+        );
     }
-    Ok(())
+    let (_, _, text) = WRAPPINGS[0];
+    assert!(rt; answers(rt.alloc(), Form::Plain, Direction::Wrap, SPACED, text));
 }
 
-// The words of the text of 43 zero words.
-static PAST_256: [(usize, u64); 5] = [
-    (0, 0x0174),
-    (1, 0x77),
-    (6, 0xa6a6_a6a6_a6a6_a63a),
-    (42, 0x0174),
-    (43, 0x0174),
+// Whether a drill answers the bytes of these digits.
+fn answers(alloc: Global, form: Form, direction: Direction, text: &str, digits: &str) -> bool {
+    match drill(alloc, form, direction, text) {
+        Ok(found) => are_of(alloc, &found, digits),
+        Err(_) => false,
+    }
+}
+
+fn are_of(alloc: Global, bytes: &[u8], digits: &str) -> bool {
+    match hex::encode(alloc, bytes) {
+        Ok(found) => found.as_str() == digits,
+        Err(_) => false,
+    }
+}
+
+// Words of the wrapping of 43 zero words, each from which byte on.
+static PAST_256: [(usize, &[u8]); 5] = [
+    (0, b"\x00\x00\x00\x00\x00\x00\x01\x74"),
+    (8, b"\x00\x00\x00\x00\x00\x00\x00\x77"),
+    (48, b"\xa6\xa6\xa6\xa6\xa6\xa6\xa6\x3a"),
+    (336, b"\x00\x00\x00\x00\x00\x00\x01\x74"),
+    (344, b"\x00\x00\x00\x00\x00\x00\x01\x74"),
 ];
 
 #[test]
@@ -89,9 +101,9 @@ fn wraps_past_256_steps(rt: HostRuntime) -> Result<(), Fail> {
     let zeros = std::str::from_utf8(&digits)?;
     let wrapped = drill(rt.alloc(), Form::Plain, Direction::Wrap, zeros)?;
     assert!(rt; wrapped.len() == 352);
-    for (place, word) in &PAST_256 {
-        let found = wrapped.get(8 * place..8 * place + 8);
-        assert!(rt; found == Some(word.to_be_bytes().as_slice()), "C{place}");
+    for (at, word) in &PAST_256 {
+        let from_there = wrapped.get(*at..).unwrap_or(&[]);
+        assert!(rt; from_there.starts_with(word), "byte {at}");
     }
     Ok(())
 }
@@ -151,22 +163,4 @@ fn refuses_in_order(rt: HostRuntime) {
         let found = drill(rt.alloc(), *form, *direction, text);
         assert!(rt; found.err() == Some(*fault), "{text}");
     }
-}
-
-const KEY: &str = "00112233445566778899aabbccddeeff";
-
-const LINE: &[u8] = b"a6a6a6a6a6a6a6a6001122334455667f8899aabbccddeefb\n";
-
-#[test]
-fn counts_the_bytes_of_a_drill_that_went_out(rt: HostRuntime) {
-    for room in 0..LINE.len() {
-        let mut out = Narrow::failing(rt.alloc(), room);
-        let done = run_drill(rt.alloc(), Form::Plain, Direction::Wrap, KEY, &mut out);
-        assert!(rt; matches!(done, Err(ProgramFault::Write { written }) if written == room));
-        assert!(rt; out.out() == &LINE[..room] && !out.is_flushed);
-    }
-    let mut out = Narrow::failing(rt.alloc(), LINE.len());
-    let done = run_drill(rt.alloc(), Form::Plain, Direction::Wrap, KEY, &mut out);
-    assert!(rt; matches!(done, Ok(0)));
-    assert!(rt; out.out() == LINE && out.is_flushed);
 }

@@ -1,9 +1,6 @@
-//! The vectors of RFC 3394, section 4, and RFC 5649, section 6, through the calls of `key_wrap`
-//! over AES.
+//! The vectors of RFC 3394, section 4, and RFC 5649, section 6.
 
-use aes_block::Aes;
-use key_wrap::{Form, unwrap, unwrap_padded, wrap, wrap_padded};
-use std::test::Fail;
+use key_wrap::Form;
 
 const KEK16: &[u8] = b"\x00\x01\x02\x03\x04\x05\x06\x07\x08\x09\x0a\x0b\x0c\x0d\x0e\x0f";
 
@@ -120,31 +117,3 @@ pub static WRAPPINGS: [Wrapping; 8] = [
         legal: &[],
     },
 ];
-
-#[test]
-fn wraps_and_unwraps_the_published_keys(rt: HostRuntime) -> Result<(), Fail> {
-    for Wrapping {
-        form,
-        kek,
-        key,
-        text,
-        ..
-    } in &WRAPPINGS {
-        let aes = Aes::new(kek)?;
-        let (wrapped, unwrapped) = match form {
-            Form::Plain => (
-                wrap(rt.alloc(), &aes, key)?,
-                unwrap(rt.alloc(), &aes, text)?,
-            ),
-            Form::Padded => (
-                wrap_padded(rt.alloc(), &aes, key)?,
-                unwrap_padded(rt.alloc(), &aes, text)?,
-            ),
-        };
-        assert!(rt;
-            wrapped.as_slice() == *text && unwrapped.as_slice() == *key,
-            "{text:?}"
-        );
-    }
-    Ok(())
-}

@@ -83,7 +83,7 @@ fn run_on_key(rt: &impl Abort, alloc: Global, key: &[u8], size: usize) -> Result
             let check = Call::Job(Job::Check, form, RAW, RAW);
             let line = check_line(alloc, form, key.len())?;
             writes(rt, alloc, check, &text, line.as_bytes(), size)?;
-            drills(rt, alloc, form, key)?;
+            assert!(rt; drills(alloc, form, key), "{} bytes", key.len());
             for new_form in FORMS {
                 if is_key_length(new_form, key.len()) {
                     let new_text = wrapped(alloc, &new, new_form, key)?;
@@ -167,12 +167,20 @@ fn in_hex(call: Call) -> Call {
     }
 }
 
-// Says that a drill of the key is answered, and that of its text by the key.
-fn drills(rt: &impl Abort, alloc: Global, form: Form, key: &[u8]) -> Result<(), Fail> {
-    let digits = hex::encode(alloc, key)?;
-    let text = drill(alloc, form, Direction::Wrap, &digits)?;
-    let digits = hex::encode(alloc, &text)?;
-    let back = drill(alloc, form, Direction::Unwrap, &digits)?;
-    assert!(rt; back.as_slice() == key, "{form:?}, {} bytes", key.len());
-    Ok(())
+// Whether a drill of the key is answered, and that of its wrapping by the key.
+fn drills(alloc: Global, form: Form, key: &[u8]) -> bool {
+    match drilled(alloc, form, Direction::Wrap, key) {
+        Some(text) => match drilled(alloc, form, Direction::Unwrap, &text) {
+            Some(back) => back.as_slice() == key,
+            None => false,
+        },
+        None => false,
+    }
+}
+
+fn drilled(alloc: Global, form: Form, direction: Direction, bytes: &[u8]) -> Option<Vec<u8>> {
+    match hex::encode(alloc, bytes) {
+        Ok(digits) => drill(alloc, form, direction, &digits).ok(),
+        Err(_) => None,
+    }
 }

@@ -21,11 +21,11 @@ pub(super) fn run_in_room(rt: &impl Abort, alloc: Global, case: &Case) {
     let (done, _) = run(alloc, call, case.files(usize::MAX), &mut free);
     let written = 64_usize.saturating_sub(free.len());
     if done == Err(JobFault::Memory) {
-        assert!(rt; written == 0, "{call:?}");
+        assert!(rt; written == 0, "{wanted:?}");
     } else {
         assert!(rt;
             done == wanted && room.get(..written) == Some(output),
-            "{call:?}"
+            "{wanted:?}"
         );
     }
 }

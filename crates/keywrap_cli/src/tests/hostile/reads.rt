@@ -29,13 +29,10 @@ pub(super) fn fail_each_read(rt: &impl Abort, alloc: Global, case: &Case) {
                 files[at] = Trickle::failing(file, room, faults);
                 let mut out = Narrow::in_pieces(alloc, 1);
                 let (done, [_, new_kek, input]) = run(alloc, call, files, &mut out);
-                assert!(rt;
-                    done == Err(READ_FAULTS[at]),
-                    "{call:?}, file {at}, byte {room}"
-                );
-                assert!(rt; out.out().is_empty(), "{call:?}, file {at}, byte {room}");
-                assert!(rt; at > 0 || new_kek.is_unread, "{call:?}");
-                assert!(rt; at > 1 || input.is_unread, "{call:?}");
+                assert!(rt; done == Err(READ_FAULTS[at]), "file {at}, byte {room}");
+                assert!(rt; out.out().is_empty(), "file {at}, byte {room}");
+                assert!(rt; at > 0 || new_kek.is_unread, "byte {room}");
+                assert!(rt; at > 1 || input.is_unread, "byte {room}");
             }
         }
     }
