@@ -38,8 +38,8 @@ pub enum LinesFault {
 /// Reads the KEK, and then answers each line of the input as `run_job` answers an input in hex,
 /// whatever the task's notation of the input; in the plain form under this initial value.
 ///
-/// The run stops at the first line that is refused; where it `goes_on`, an empty line stands for the
-/// answer to a line that is refused for itself, and the log is told. It does not flush.
+/// The run stops at the first line that is refused; where it `goes_on`, an empty line stands for
+/// the answer to a line that is refused for itself, and the log is told. It does not flush.
 pub fn run_job_lines<K: Read, L: RefusalLog<LineRefusal>, R: BufRead, W: Write>(
     alloc: Global,
     iv: &InitialValue,
@@ -74,8 +74,8 @@ pub fn run_job_lines<K: Read, L: RefusalLog<LineRefusal>, R: BufRead, W: Write>(
     lines_answer(answer, job.neither.get())
 }
 
-/// Reads the old KEK and the new one, and then answers each line of the input as `run_rewrap` answers
-/// an input in hex. It stops, and goes on, as `run_job_lines` does.
+/// Reads the old KEK and the new one, and then answers each line of the input as `run_rewrap`
+/// answers an input in hex. It stops, and goes on, as `run_job_lines` does.
 pub fn run_rewrap_lines<K: Read, N: Read, L: RefusalLog<LineRefusal>, R: BufRead, W: Write>(
     alloc: Global,
     forms: RewrapForms,
@@ -93,8 +93,8 @@ pub fn run_rewrap_lines<K: Read, N: Read, L: RefusalLog<LineRefusal>, R: BufRead
         (R.remaining input.old) (R.remaining input.new) (W.contents out.old) (W.contents out.new)
         result }
 
-    // What was written are the answers to the first lines, in order: each is the wrapping of the very
-    // key whose wrapping the line is.
+    // What was written are the answers to the first lines, in order: each is the wrapping of the
+    // very key whose wrapping the line is.
     ensures headline { IsPastKeks result → IfSome (R.remaining input.old) (λ text.
         WritesRewrapLines forms kek_notation goes_on
         (K.remaining old_kek.old) (K.remaining old_kek.new)

@@ -12,10 +12,11 @@ use key_wrap::rewrap_keeping_form;
 use std::alloc::Global;
 use std::io::{Read, Write};
 
-/// `run_rewrap`, but the wrapped key is taken in whichever form it is a wrapping, and keeps that form.
+/// `run_rewrap`, but the wrapped key is taken in whichever form it is a wrapping, and keeps that
+/// form.
 ///
-/// It answers as `run_rewrap` does: BadLength where the wrapped key's length is legal in neither form,
-/// and Integrity where it is a wrapping in neither.
+/// It answers as `run_rewrap` does: BadLength where the wrapped key's length is legal in neither
+/// form, and Integrity where it is a wrapping in neither.
 pub fn run_rewrap_keeping_form<K: Read, N: Read, R: Read, W: Write>(
     alloc: Global,
     input_notation: Notation,
