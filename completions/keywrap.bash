@@ -1,11 +1,11 @@
 # shellcheck shell=bash
 # Completion of keywrap for bash: the commands, the options of each, and file names after those that
-# take one. An option that stands already is not offered again, in neither of its forms, and of --padded
-# and --iv only one.
+# take one. An option that stands already is not offered again, in neither of its forms, nor one that it
+# excludes, as --padded and --iv do.
 
 _keywrap() {
-    local word=${COMP_WORDS[COMP_CWORD]} before=${COMP_WORDS[COMP_CWORD - 1]} command='' options='' at
-    local help='-h --help -V --version' files='-i --input -o --output'
+    local word=${COMP_WORDS[COMP_CWORD]} before=${COMP_WORDS[COMP_CWORD - 1]} command='' options='' at option gone
+    local help='-h --help -V --version' files='-i --input -o --output' lines='--lines --keep-going --quiet'
     COMPREPLY=()
     # Of --kek=FILE bash makes three words.
     case $word in =) word='' ;; *) [ "$before" = = ] && before=${COMP_WORDS[COMP_CWORD - 2]} ;; esac
@@ -23,25 +23,28 @@ _keywrap() {
         options='wrap unwrap rewrap check drill vectors help'
         [ "${word:0:1}" != - ] || options=$help
         ;;
-    wrap | unwrap) options="--kek --padded --iv --raw --raw-kek --verbose $files $help" ;;
-    rewrap) options="--kek --new-kek --padded --new-padded --raw --raw-kek --verbose $files $help" ;;
-    check) options="--kek --raw --raw-kek --verbose $files $help" ;;
+    wrap | unwrap) options="--kek --padded --iv --raw --raw-kek --verbose $lines $files $help" ;;
+    rewrap) options="--kek --new-kek --padded --new-padded --raw --raw-kek --verbose $lines $files $help" ;;
+    check) options="--kek --raw --raw-kek --verbose $lines $files $help" ;;
     # What is missing may be the HEX, which only the user knows.
     drill) [ "${word:0:1}" != - ] || options="--padded --unwrap $help" ;;
     vectors) options=$help ;;
     help) [ "$COMP_CWORD" != 2 ] || options='wrap unwrap rewrap check drill vectors help' ;;
     esac
     for ((at = 2; at < COMP_CWORD; at++)); do
-        options=" $options "
         case ${COMP_WORDS[at]} in
-        -i | --input) options=${options/ -i --input / } ;;
-        -o | --output) options=${options/ -o --output / } ;;
-        --padded | --iv)
-            options=${options/ --padded / }
-            options=${options/ --iv / }
-            ;;
-        *) options=${options/ ${COMP_WORDS[at]} / } ;;
+        -i | --input) gone=(-i --input) ;;
+        -o | --output) gone=(-o --output) ;;
+        --padded) gone=(--padded --iv) ;;
+        --iv) gone=(--iv --padded) ;;
+        --raw) gone=(--raw --lines --keep-going --quiet) ;;
+        --lines | --keep-going | --quiet) gone=("${COMP_WORDS[at]}" --raw) ;;
+        *) gone=("${COMP_WORDS[at]}") ;;
         esac
+        for option in "${gone[@]}"; do
+            options=" $options "
+            options=${options/ $option / }
+        done
     done
     mapfile -t COMPREPLY < <(compgen -W "$options" -- "$word")
 }

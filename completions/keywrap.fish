@@ -7,7 +7,10 @@ function __keywrap_is
 end
 
 function __keywrap_lacks
-    not contains -- $argv (commandline -opc)
+    for option in $argv
+        contains -- $option (commandline -opc); and return 1
+    end
+    return 0
 end
 
 complete -c keywrap -f
@@ -31,7 +34,14 @@ complete -c keywrap -n '__keywrap_is wrap unwrap rewrap drill; and __keywrap_lac
 complete -c keywrap -n '__keywrap_is rewrap' -l new-padded -d 'Write the padded form of RFC 5649'
 complete -c keywrap -n '__keywrap_is wrap unwrap; and __keywrap_lacks --padded' -l iv -x \
     -d 'An initial value that both ends agreed on'
-complete -c keywrap -n '__keywrap_is wrap unwrap rewrap check' -l raw -d 'Input and output are raw bytes, not hex'
+complete -c keywrap -l raw -n '__keywrap_is wrap unwrap rewrap check; and __keywrap_lacks --lines --keep-going' \
+    -d 'Input and output are raw bytes, not hex'
+complete -c keywrap -n '__keywrap_is wrap unwrap rewrap check; and __keywrap_lacks --raw' -l lines \
+    -d 'Many keys, one a line'
+complete -c keywrap -n '__keywrap_is wrap unwrap rewrap check; and __keywrap_lacks --raw' -l keep-going \
+    -d 'With --lines: write an empty line for a refused one'
+complete -c keywrap -n '__keywrap_is wrap unwrap rewrap check; and __keywrap_lacks --raw' -l quiet \
+    -d 'With --lines: show no progress'
 complete -c keywrap -n '__keywrap_is wrap unwrap rewrap check' -l raw-kek -d 'Each KEK file is raw bytes, not hex'
 complete -c keywrap -n '__keywrap_is wrap unwrap rewrap check' -s i -l input -rF \
     -d 'The input, instead of standard input'

@@ -421,6 +421,12 @@ refuses_words rewrap --kek kek16.hex --new-kek kek32.hex --iv $iv
 refuses_words rewrap --kek kek16.hex --new-kek kek32.hex wrapped.raw
 refuses_words wrap --kek kek16.hex --new-kek kek32.hex
 refuses_words wrap --kek kek16.hex --new-padded
+refuses_words wrap --kek kek16.hex --lines --raw
+refuses_words check --kek kek16.hex --raw --lines
+refuses_words rewrap --kek kek16.hex --new-kek kek32.hex --lines --raw
+refuses_words unwrap --kek kek16.hex --keep-going
+refuses_words wrap --kek kek16.hex --quiet
+refuses_words drill --lines 00
 refuses_words wrap --kek kek16.hex --padded --iv $iv
 refuses_words unwrap --kek kek16.hex --iv $iv --padded
 refuses_words wrap --kek kek16.hex --iv
@@ -444,10 +450,23 @@ for word in $'\e[31mred' $'\e]0;title\a' $'back\b\r' $'\x7f' $'tab\t' $'\xc2\x9b
     shows_no_controls drill 00 "$word"
 done
 
-# guesses TIP ARGUMENT..: the command line is refused, with a tip on what may have been meant.
-guesses() {
+# says_before_usage LINES ARGUMENT..: the command line is refused, with these lines and then the usage.
+says_before_usage() {
     refuses_words "${@:2}"
-    verdict "a tip for '${*:2}'" "$(grep -qxF -e "  tip: $1" err || shown err)"
+    printf '%s\n\n' "$1" >wanted.err
+    verdict "what is said of$(printf ' %q' "${@:2}")" "$(
+        sed '/^Usage: keywrap /,$d' err | cmp -s - wanted.err && grep -q '^Usage: keywrap ' err || shown err
+    )"
+}
+# guesses TIP ARGUMENT..: the command line is refused, with this tip alone on what may have been meant, which
+# stands before the usage; an empty one stands for none.
+guesses() {
+    local wanted=${1:+  tip: $1}
+    refuses_words "${@:2}"
+    verdict "a tip for '${*:2}'" "$(
+        [ "$(grep -F '  tip: ' err)" = "$wanted" ] && { [ -z "$1" ] || grep -A 2 -F '  tip: ' err | tail -n 2 |
+            tr '\n' '|' | grep -q '^|Usage: keywrap '; } || shown err
+    )"
 }
 files_tip='files are named by options: --kek FILE, --input FILE, --output FILE'
 commands_tip='the first word is wrap, unwrap, rewrap, check, drill or vectors'
@@ -456,10 +475,45 @@ for job in wrap unwrap rewrap check; do
     guesses "$files_tip" $job kek16.hex
     guesses "$files_tip" $job --kek kek16.hex key.hex
 done
+guesses "$files_tip" rewrap -k kek16.hex
 guesses "$commands_tip" kek16.hex
 guesses "$commands_tip" rewind
+guesses "$commands_tip" encrypt --kek kek16.hex
+guesses "$commands_tip" help kek16.hex
+guesses "$commands_tip" --kek kek16.hex
 guesses "$drill_tip" drill --kek kek16.hex $d16
 guesses "$drill_tip" drill $d16 --kek kek16.hex
+guesses "$drill_tip" drill 00 11
+guesses "some similar subcommands exist: 'rewrap', 'unwrap', 'wrap'" wrapp
+guesses "a similar argument exists: '--kek'" wrap --key kek16.hex
+guesses "a similar argument exists: '--input'" wrap --inpt kek16.hex
+guesses "'wrap --kek' exists" --kek kek16.hex wrap
+guesses "subcommand 'wrap' exists; to use it, remove the '--' before it" -- wrap
+guesses 'check looks at both forms, and says which one it found' check --kek kek16.hex --padded
+guesses 'only rewrap takes --new-kek' unwrap --kek kek16.hex --new-kek kek32.hex
+guesses 'keywrap --help shows the help, and keywrap COMMAND --help that of a command' help --help
+guesses 'keywrap --help shows the help, and keywrap COMMAND --help that of a command' help -h
+guesses 'a KEK on standard input is --kek /dev/stdin; a file of this name is ./-' wrap --kek -
+guesses '' wrap
+guesses '' wrap --kek
+guesses '' vectors all
+
+# What clap says stays, and a refused word is shown with its control characters escaped; one that looks like a
+# part of the message moves no tip.
+unexpected() { printf "error: unexpected argument '%s' found\n\n  tip: %s" "$1" "$2"; }
+says_before_usage "$(unexpected --kek "$drill_tip")" drill --kek kek16.hex 00
+verdict 'the usage, and where help is' "$(tail -n 3 err | cmp -s - <(
+    printf "Usage: keywrap drill [OPTIONS] <HEX>\n\nFor more information, try '--help'.\n"
+) || shown err)"
+while IFS='|' read -r given shown_as; do
+    says_before_usage "$(unexpected "$shown_as" "$files_tip")" wrap "$(printf '%b' "$given")"
+done <<'WORDS'
+\x1b[31m|\x1b[31m
+a\rb\tc\x7f|a\x0db\x09c\x7f
+\xc2\x9b2J\xc3\xa9|\x9b2Jé
+a\n\nUsage: b|a\x0a\x0aUsage: b
+a\n\n  tip: b|a\x0a\x0a  tip: b
+WORDS
 
 # Without a word the commands are shown, where a message on refused words goes.
 keywrap_alone() {
@@ -484,8 +538,12 @@ explains "Usage: keywrap unwrap $usage < WRAPPED > KEY|--padded|--iv <HEX>|--raw
     unwrap --help
 explains "Usage: keywrap rewrap $usage --new-kek <FILE> < WRAPPED > NEW|$files|$wrapped16|$wrapped32" \
     rewrap --help
-explains '--padded|--new-padded|--raw|--raw-kek' rewrap --help
+explains '--padded|--new-padded|--raw|--raw-kek|--lines|--keep-going|--quiet' rewrap --help
 explains "Usage: keywrap check $usage < WRAPPED|--raw|--raw-kek|$files|$wrapped16|plain 16" check --help
+explains "Usage: keywrap wrap $usage < KEY > WRAPPED" wrap -h
+explains "Usage: keywrap unwrap $usage < WRAPPED > KEY" unwrap -h
+explains "Usage: keywrap rewrap $usage --new-kek <FILE> < WRAPPED > NEW" rewrap -h
+explains "Usage: keywrap check $usage < WRAPPED" check -h
 explains "Usage: keywrap drill|--padded|--unwrap|$d16|$drilled" drill --help
 explains 'Usage: keywrap vectors|rfc3394 4.1 ok' vectors --help
 prints 'the version' "keywrap $version\n" --version

@@ -197,6 +197,8 @@ completes() {
     same "$shell: nothing after --iv" '' "$(offered "$shell" 'keywrap wrap --iv ')"
     same "$shell: no --iv beside --padded" '' "$(offered "$shell" 'keywrap wrap --padded --i' | grep -- --iv)"
     same "$shell: no --padded beside --iv" '' "$(offered "$shell" 'keywrap unwrap --iv 00 --p')"
+    same "$shell: no --raw beside --lines" --raw-kek "$(offered "$shell" 'keywrap wrap --lines --r')"
+    same "$shell: no --lines beside --raw" '' "$(offered "$shell" 'keywrap check --raw --l')"
     same "$shell: nothing for the HEX of drill" '' "$(offered "$shell" 'keywrap drill ' | grep -v '^-')"
     same "$shell: nothing after the HEX of drill" '' "$(offered "$shell" 'keywrap drill 00 ' | grep -v '^-')"
     same "$shell: nothing after vectors" '' "$(offered "$shell" 'keywrap vectors ' | grep -v '^-')"

@@ -2,7 +2,7 @@
 
 use crate::convert::Direction;
 use crate::job::{Job, Notation, Task};
-use crate::request::{Places, Request, Rewrapping, Work};
+use crate::request::{Lines, Places, Request, Rewrapping, Work};
 use key_wrap::Form;
 use keywrap_words::{Command, CommandLine, Refusal};
 use std::alloc::Global;
@@ -32,7 +32,8 @@ fn job<'a>(job: Job, line: &CommandLine<'a>) -> Request<'a> {
         input: notation(line.raw),
         kek: notation(line.raw_kek),
     };
-    Request::Work(Work::Job { iv: line.iv, task }, places(line))
+    let work = Work::Job { iv: line.iv, task };
+    Request::Work(work, places(line), lines(line))
 }
 
 fn rewrap<'a>(line: &CommandLine<'a>) -> Request<'a> {
@@ -42,8 +43,23 @@ fn rewrap<'a>(line: &CommandLine<'a>) -> Request<'a> {
         input: notation(line.raw),
         kek: notation(line.raw_kek),
     };
-    let new_kek = line.new_kek;
-    Request::Work(Work::Rewrap { task, new_kek }, places(line))
+    let work = Work::Rewrap {
+        task,
+        new_kek: line.new_kek,
+    };
+    Request::Work(work, places(line), lines(line))
+}
+
+// `--lines` and `--raw` exclude each other; the other two go with `--lines` alone.
+fn lines(line: &CommandLine<'_>) -> Option<Lines> {
+    if line.lines {
+        Some(Lines {
+            goes_on: line.keep_going,
+            is_quiet: line.quiet,
+        })
+    } else {
+        None
+    }
 }
 
 fn places<'a>(line: &CommandLine<'a>) -> Places<'a> {

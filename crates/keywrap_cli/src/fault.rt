@@ -3,9 +3,11 @@
 use crate::drill::DrillFault;
 use crate::initial_value::IvFault;
 use crate::job::JobFault;
+use crate::line_job::LineRefusal;
 use crate::statuses;
 use crate::vectors::VectorsFault;
-use key_files::{HexWriteFault, WriteFault};
+use key_files::{FileFault, HexWriteFault, WriteFault};
+use key_lines::LineFault;
 use std::alloc::AllocError;
 use std::fmt;
 use thiserror::Error;
@@ -34,10 +36,13 @@ pub enum ProgramFault {
     /// A job was refused.
     #[error("{0}")]
     Job(JobFault),
+    /// A line of the input was refused.
+    #[error("{0}")]
+    Line(RefusedLine),
     /// A drill was refused.
     #[error("{0}")]
     Drill(DrillFault),
-    /// The help, the vectors or the drill's answer could not be written.
+    /// The help, the vectors, the drill's answer or those to the lines could not be written.
     #[error("output: refused after {written} bytes")]
     Write { written: usize },
     /// Standard output can't be flushed, or the new file not be put in its place.
@@ -46,6 +51,34 @@ pub enum ProgramFault {
     /// A growth was refused.
     #[error("out of memory")]
     Memory,
+}
+
+/// A line of the input, counted from 1, and why it was refused.
+#[derive(Clone, Copy, Debug)]
+pub struct RefusedLine {
+    pub line: u64,
+    pub fault: LineFault<LineRefusal>,
+}
+
+impl fmt::Display for RefusedLine {
+    fn fmt<W: fmt::Write>(&self, f: &mut fmt::Formatter<W>) -> fmt::Result {
+        let line = self.line;
+        match self.fault {
+            LineFault::Input(fault) => write!(f, "line {line}: {fault}"),
+            LineFault::Refused(refusal) => {
+                let fault = job_fault(refusal);
+                write!(f, "line {line}: {fault}")
+            }
+        }
+    }
+}
+
+// What is said of one key that is refused so.
+fn job_fault(refusal: LineRefusal) -> JobFault {
+    match refusal {
+        LineRefusal::BadLength => JobFault::BadLength,
+        LineRefusal::Integrity => JobFault::Integrity,
+    }
 }
 
 /// A fault's line on standard error: the program's name, and the fault's message.
@@ -76,6 +109,7 @@ impl ProgramFault {
             | ProgramFault::Write { .. }
             | ProgramFault::Flush => statuses::INPUT_OUTPUT,
             ProgramFault::Job(fault) => job_status(fault),
+            ProgramFault::Line(refused) => line_status(refused.fault),
             ProgramFault::Drill(fault) => drill_status(fault),
             ProgramFault::Memory => statuses::MEMORY,
         }
@@ -92,6 +126,14 @@ fn job_status(fault: &JobFault) -> u8 {
         | JobFault::InputFile(_)
         | JobFault::Write { .. } => statuses::INPUT_OUTPUT,
         JobFault::Memory => statuses::MEMORY,
+    }
+}
+
+fn line_status(fault: LineFault<LineRefusal>) -> u8 {
+    match fault {
+        LineFault::Refused(refusal) => job_status(&job_fault(refusal)),
+        LineFault::Input(FileFault::Memory) => statuses::MEMORY,
+        LineFault::Input(_) => statuses::INPUT_OUTPUT,
     }
 }
 

@@ -4,15 +4,19 @@ ghost use Rattle.keywrap_cli.specs.Keyed.{RunsKeyed};
 
 use crate::fault::ProgramFault;
 use crate::job::{Done, JobFault, Task, run};
+use crate::line_job::LineRefusal;
+use crate::lines::{LinesDone, LinesFault, run_job_lines, run_rewrap_lines};
 use crate::request::{Rewrapping, Work};
 use crate::rewrap::run_rewrap;
+use crate::rewrap_line::RewrapForms;
 use crate::telling::Telling;
 use crate::watched::{Seen, Watched};
 use crate::why::Refused;
+use key_lines::RefusalLog;
 use key_wrap::InitialValue;
 use std::alloc::Global;
 use std::fs::{self, File, Metadata, OpenFile};
-use std::io::{self, Read, Write};
+use std::io::{self, BufRead, Read, Write};
 use std::os::unix::fs::MetadataExt;
 use std::rt::Files;
 
@@ -88,6 +92,32 @@ impl<K: Read> Keyed<K> {
                 input,
                 out,
             ),
+        }
+    }
+
+    /// Does it with each line of the input, by the one call with a contract that does. `log` is
+    /// told of the lines that are passed.
+    pub fn run_lines<L: RefusalLog<LineRefusal>, I: BufRead, W: Write>(
+        &mut self,
+        alloc: Global,
+        goes_on: bool,
+        log: &L,
+        input: &mut I,
+        out: &mut W,
+    ) -> Result<LinesDone, LinesFault> {
+        match self {
+            Keyed::Job { iv, task, kek } => {
+                run_job_lines(alloc, iv, *task, goes_on, log, kek, input, out)
+            }
+            Keyed::Rewrap { task, kek, new_kek } => {
+                let forms = RewrapForms::Changed {
+                    old: task.old_form,
+                    new: task.new_form,
+                };
+                run_rewrap_lines(
+                    alloc, forms, task.kek, goes_on, log, kek, new_kek, input, out,
+                )
+            }
         }
     }
 }

@@ -22,9 +22,10 @@ use std::env;
 use std::fs::File;
 use std::io::{self, Write};
 use std::rt::{Env, Files};
+use std::time::Clock;
 
 /// Runs the program on the words that it was started with, and answers its exit status.
-pub fn run<R: Print + Eprint + Input + AllocGlobal + Files<File = File> + Env>(
+pub fn run<R: Print + Eprint + Input + AllocGlobal + Files<File = File> + Env + Clock>(
     rt: &R,
     terminals: Terminals,
 ) -> u8 {
@@ -43,7 +44,7 @@ pub fn run<R: Print + Eprint + Input + AllocGlobal + Files<File = File> + Env>(
 }
 
 // Answers a request, and says what stood in the way on standard error.
-fn answer<R: Print + Eprint + Input + AllocGlobal + Files<File = File>>(
+fn answer<R: Print + Eprint + Input + AllocGlobal + Files<File = File> + Env + Clock>(
     rt: &R,
     wanted: Request<'_>,
     terminals: Terminals,
@@ -54,7 +55,9 @@ fn answer<R: Print + Eprint + Input + AllocGlobal + Files<File = File>>(
             direction,
             text,
         } => run_drill(rt.alloc(), form, direction, text, &mut io::writer(rt)),
-        Request::Work(work, places) => return end_work(rt, run_work(rt, work, places, terminals)),
+        Request::Work(work, places, lines) => {
+            return end_work(rt, run_work(rt, work, places, lines, terminals));
+        }
         Request::Vectors => run_vectors(rt.alloc(), &mut io::writer(rt)),
     };
     end(rt, done)

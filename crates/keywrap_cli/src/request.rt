@@ -15,8 +15,9 @@ pub enum Request<'a> {
         direction: Direction,
         text: &'a str,
     },
-    /// What is done with an input under a KEK, and the files that it is done with.
-    Work(Work<'a>, Places<'a>),
+    /// What is done with an input under a KEK, the files that it is done with, and how each line
+    /// of the input is answered, if not the whole.
+    Work(Work<'a>, Places<'a>, Option<Lines>),
     /// The published vectors.
     Vectors,
 }
@@ -28,6 +29,15 @@ pub enum Work<'a> {
     Job { iv: Option<&'a str>, task: Task },
     /// A rewrapping, to the KEK in another file.
     Rewrap { task: Rewrapping, new_kek: &'a str },
+}
+
+/// How each line of an input is answered.
+#[derive(Clone, Copy)]
+pub struct Lines {
+    /// After a line that is refused for itself it goes on.
+    pub goes_on: bool,
+    /// It does not show how far it is.
+    pub is_quiet: bool,
 }
 
 /// A rewrapping, with the forms of both wrapped keys and the notations of its files.
@@ -72,8 +82,10 @@ impl Work<'_> {
     }
 
     /// What is said while standard input, a terminal, is waited for.
-    pub fn waiting(&self) -> &'static str {
+    pub fn waiting(&self, lines: Option<Lines>) -> &'static str {
         match (self.takes_key(), self.notation()) {
+            (true, _) if lines.is_some() => WAITING_FOR_KEYS,
+            (false, _) if lines.is_some() => WAITING_FOR_WRAPPED_KEYS,
             (true, Notation::Hex) => WAITING_FOR_KEY,
             (true, Notation::Raw) => WAITING_FOR_RAW_KEY,
             (false, Notation::Hex) => WAITING_FOR_WRAPPED_KEY,
@@ -116,6 +128,12 @@ const WAITING_FOR_KEY: &str =
 
 const WAITING_FOR_RAW_KEY: &str =
     "keywrap: waiting for the key as raw bytes on standard input; Ctrl-D ends it";
+
+const WAITING_FOR_KEYS: &str =
+    "keywrap: waiting for the keys in hex, one a line, on standard input; Ctrl-D ends it";
+
+const WAITING_FOR_WRAPPED_KEYS: &str =
+    "keywrap: waiting for the wrapped keys in hex, one a line, on standard input; Ctrl-D ends it";
 
 const WAITING_FOR_WRAPPED_KEY: &str =
     "keywrap: waiting for the wrapped key in hex on standard input; Ctrl-D ends it";

@@ -1,12 +1,14 @@
 //! What is told of a refused run: its fault, and which of its files was the cause, and why.
 
-use crate::fault::ProgramFault;
+use crate::fault::{ProgramFault, RefusedLine};
 use crate::job::{Job, JobFault, Notation};
+use crate::line_job::LineRefusal;
 use crate::output_file::OutputFault;
 use crate::request::{Places, Work};
 use crate::watched::Seen;
 use crate::why::{Refused, Why};
 use key_files::FileFault;
+use key_lines::LineFault;
 use key_wrap::{Form, MAX_KEY};
 use std::alloc::Global;
 use std::io;
@@ -71,6 +73,22 @@ impl<'a> Telling<'a> {
         }
     }
 
+    /// The refusal of a run over lines.
+    pub fn refused_lines(&self, fault: ProgramFault, seen: &SeenFiles) -> Refused {
+        match fault {
+            ProgramFault::Job(fault) => self.refused_job(fault, seen),
+            ProgramFault::Line(line) => {
+                let why = self.of_line(line);
+                self.refused(ProgramFault::Line(line), self.input_name(), why)
+            }
+            ProgramFault::Write { written } => {
+                let why = Why::of_number(seen.output.error);
+                self.refused(ProgramFault::Write { written }, self.output_name(), why)
+            }
+            fault => Refused::from(fault),
+        }
+    }
+
     /// The refusal for a name and what is said of it. Without memory there is no second line.
     pub fn refused(&self, fault: ProgramFault, name: &str, why: Why) -> Refused {
         let why = if self.says_why {
@@ -126,6 +144,14 @@ impl<'a> Telling<'a> {
             Work::Job { task, .. } if task.job == Job::Wrap => of_key(task.form, bytes),
             Work::Job { task, .. } => of_wrapped(task.form, bytes),
             Work::Rewrap { task, .. } => of_rewrapped(task.old_form, bytes),
+        }
+    }
+
+    fn of_line(&self, line: RefusedLine) -> Why {
+        match line.fault {
+            LineFault::Refused(LineRefusal::Integrity) => self.of_integrity(),
+            LineFault::Input(FileFault::TooLong) => Why::Says("a line of more than 4194304 bytes"),
+            LineFault::Refused(LineRefusal::BadLength) | LineFault::Input(_) => Why::Named,
         }
     }
 

@@ -3,16 +3,18 @@
 use crate::fault::ProgramFault;
 use crate::job::Done;
 use crate::keyed::{Keyed, open_keks};
+use crate::many::{Many, answer_lines};
 use crate::output_file::create;
-use crate::request::{Places, Work};
+use crate::request::{Lines, Places, Work};
 use crate::statuses;
 use crate::streams::hold_input;
 use crate::telling::{SeenFiles, Telling};
 use crate::watched::{Seen, Watched};
 use crate::why::Refused;
-use std::fs::{self, File};
+use std::fs::{self, File, OpenFile};
 use std::io::{self, Read, Write};
-use std::rt::Files;
+use std::rt::{Env, Files};
+use std::time::Clock;
 
 /// What is known of the standard streams, as the program starts.
 #[derive(Clone, Copy)]
@@ -28,15 +30,17 @@ pub struct Terminals {
     pub no_input: bool,
 }
 
-/// Does what is asked with these files, and answers the exit status.
+/// Does what is asked with these files, with each line of the input or with the whole, and answers
+/// the exit status.
 ///
 /// The first that applies is answered: Iv, RawToTerminal, KekOpen, NewKekOpen, InputOpen, Memory of
 /// the new file's name or OutputOpen, then what the call says, and Flush. No contract says so:
 /// `tests/files.sh` and `tests/terminal.sh` do.
-pub fn run_work<R: Print + Eprint + Input + AllocGlobal + Files<File = File>>(
+pub fn run_work<R: Print + Eprint + Input + AllocGlobal + Files<File = File> + Env + Clock>(
     rt: &R,
     work: Work<'_>,
     places: Places<'_>,
+    lines: Option<Lines>,
     terminals: Terminals,
 ) -> Result<u8, Refused> {
     let iv = work.initial_value()?;
@@ -58,48 +62,78 @@ pub fn run_work<R: Print + Eprint + Input + AllocGlobal + Files<File = File>>(
                 name,
                 &error,
             ))?;
-            run_from(rt, &telling, &mut keyed, input, None)
+            let many = many(lines, places, terminals, length_of(&input));
+            run_from(rt, &telling, &mut keyed, many, input, None)
         }
         None => {
             let waiting = if terminals.input {
-                Some(work.waiting())
+                Some(work.waiting(lines))
             } else {
                 None
             };
-            run_from(rt, &telling, &mut keyed, rt.reader(), waiting)
+            let many = many(lines, places, terminals, None);
+            run_from(rt, &telling, &mut keyed, many, rt.reader(), waiting)
         }
+    }
+}
+
+// How the lines of an input of this length are answered. How far that is stands between no answers
+// and no words that are typed.
+fn many(
+    lines: Option<Lines>,
+    places: Places<'_>,
+    terminals: Terminals,
+    total: Option<u64>,
+) -> Option<Many> {
+    let lines = lines?;
+    let is_typed = places.input.is_none() && terminals.input;
+    let is_read = places.output.is_none() && terminals.output;
+    Some(Many {
+        goes_on: lines.goes_on,
+        shows: terminals.error && !lines.is_quiet && !is_typed && !is_read,
+        total,
+    })
+}
+
+// The length of a regular file.
+fn length_of<F: OpenFile>(file: &F) -> Option<u64> {
+    let about = file.metadata().ok()?;
+    if about.is_file() {
+        Some(about.len())
+    } else {
+        None
     }
 }
 
 // Does it with an input that is open, and says first what is waited for, if anything is.
-fn run_from<R: Print + Eprint + AllocGlobal + Files<File = File>, I: Read + Drop>(
+fn run_from<R: Print + Eprint + AllocGlobal + Files<File = File> + Env + Clock, I: Read + Drop>(
     rt: &R,
     telling: &Telling<'_>,
     keyed: &mut Keyed<Watched<File>>,
+    many: Option<Many>,
     input: I,
     waiting: Option<&str>,
 ) -> Result<u8, Refused> {
-    let mut input = Watched::new(input, telling.says_why);
+    // Of lines no digit is counted.
+    let mut input = Watched::new(input, telling.says_why && many.is_none());
     match telling.places.output {
-        Some(name) => run_into(rt, telling, keyed, &mut input, name, waiting),
+        Some(name) => run_into(rt, telling, keyed, many, &mut input, name, waiting),
         None => {
             announce(rt, waiting);
             let mut out = Watched::new(io::writer(rt), telling.says_why);
-            let done = keyed.run(rt.alloc(), &mut input, &mut out);
-            let done = done.map_err(|fault| {
-                telling.refused_job(fault, &seen_files(keyed, input.seen, out.seen))
-            })?;
+            let status = answer(rt, telling, keyed, many, &mut input, &mut out)?;
             out.flush().map_err(|_| telling.unflushed(out.seen))?;
-            Ok(status_of(done))
+            Ok(status)
         }
     }
 }
 
-// The same, into a file. Where there is no answer, the file stays as it is.
-fn run_into<R: Eprint + AllocGlobal + Files<File = File>, I: Read>(
+// The same, into a file. Where the answer is not whole, the file stays as it is.
+fn run_into<R: Eprint + AllocGlobal + Files<File = File> + Env + Clock, I: Read>(
     rt: &R,
     telling: &Telling<'_>,
     keyed: &mut Keyed<Watched<File>>,
+    many: Option<Many>,
     input: &mut Watched<I>,
     name: &str,
     waiting: Option<&str>,
@@ -107,16 +141,38 @@ fn run_into<R: Eprint + AllocGlobal + Files<File = File>, I: Read>(
     let keeps = telling.work.keeps_modes();
     let mut new = create(rt, name, keyed, keeps).map_err(|fault| telling.no_output(fault))?;
     announce(rt, waiting);
-    match keyed.run(rt.alloc(), input, &mut new.file) {
-        Ok(done) => {
+    match answer(rt, telling, keyed, many, input, &mut new.file) {
+        Ok(status) => {
             new.finish(rt).map_err(|fault| telling.no_output(fault))?;
-            Ok(status_of(done))
+            Ok(status)
         }
-        Err(fault) => {
-            let seen = seen_files(keyed, input.seen, new.file.seen);
+        Err(refused) => {
             new.give_up(rt);
-            Err(telling.refused_job(fault, &seen))
+            Err(refused)
         }
+    }
+}
+
+// Answers the input, or each line of it.
+fn answer<R: Eprint + AllocGlobal + Env + Clock, I: Read, W: Write>(
+    rt: &R,
+    telling: &Telling<'_>,
+    keyed: &mut Keyed<Watched<File>>,
+    many: Option<Many>,
+    input: &mut Watched<I>,
+    out: &mut Watched<W>,
+) -> Result<u8, Refused> {
+    match many {
+        Some(many) => match answer_lines(rt, keyed, many, input, out) {
+            Ok(status) => Ok(status),
+            Err(fault) => {
+                Err(telling.refused_lines(fault, &seen_files(keyed, input.seen, out.seen)))
+            }
+        },
+        None => match keyed.run(rt.alloc(), input, out) {
+            Ok(done) => Ok(status_of(done)),
+            Err(fault) => Err(telling.refused_job(fault, &seen_files(keyed, input.seen, out.seen))),
+        },
     }
 }
 
@@ -137,7 +193,8 @@ fn announce<R: Eprint>(rt: &R, waiting: Option<&str>) {
     }
 }
 
-fn status_of(done: Done) -> u8 {
+/// The status of a run that was not refused.
+pub fn status_of(done: Done) -> u8 {
     match done {
         Done::Written => statuses::DONE,
         Done::Neither => statuses::FAILED,

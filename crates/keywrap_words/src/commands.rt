@@ -1,8 +1,9 @@
 //! The commands and their arguments, as the command line takes them and the help shows them.
 
 use crate::help::{
-    CHECK_EXAMPLE, CHECK_USAGE, DRILL_EXAMPLE, NOTES, OUTPUT_HELP, REWRAP_EXAMPLE, REWRAP_USAGE,
-    UNWRAP_EXAMPLE, UNWRAP_USAGE, VECTORS_EXAMPLE, WRAP_EXAMPLE, WRAP_USAGE,
+    CHECK_EXAMPLE, CHECK_USAGE, DRILL_EXAMPLE, DRILL_USAGE, KEEP_GOING_HELP, LINES_HELP, NOTES,
+    OUTPUT_HELP, REWRAP_EXAMPLE, REWRAP_USAGE, UNWRAP_EXAMPLE, UNWRAP_USAGE, VECTORS_EXAMPLE,
+    VECTORS_USAGE, WRAP_EXAMPLE, WRAP_USAGE,
 };
 use clap::{Arg, ArgAction, Command};
 use std::alloc::{AllocError, Global};
@@ -12,8 +13,8 @@ use std::alloc::{AllocError, Global};
 struct Subcommand<'a> {
     name: &'a str,
     about: &'a str,
-    // The usage line, where clap's own would not say where the input comes from.
-    usage: Option<&'a str>,
+    // The usage line. Clap's own would not say where the input comes from.
+    usage: &'a str,
     // What its help ends with.
     example: &'a str,
     arguments: &'a [Argument<'a>],
@@ -28,8 +29,10 @@ struct Argument<'a> {
     help: &'a str,
     // What `--help` says, where `-h` says less.
     long_help: Option<&'a str>,
-    // An argument that does not go with it.
-    conflicts: Option<&'a str>,
+    // The arguments that do not go with it.
+    conflicts: &'a [&'a str],
+    // An argument without which it is refused.
+    needs: Option<&'a str>,
 }
 
 // How an argument is given. A value has a name in the help.
@@ -52,7 +55,8 @@ const FLAG: Argument<'static> = Argument {
     short: None,
     help: "",
     long_help: None,
-    conflicts: None,
+    conflicts: &[],
+    needs: None,
 };
 
 const KEK: Argument<'static> = Argument {
@@ -109,7 +113,31 @@ const IV: Argument<'static> = Argument {
     name: "iv",
     kind: Kind::Optional("HEX"),
     help: "The initial value that both ends agreed on, 16 hex digits",
-    conflicts: Some("padded"),
+    conflicts: &["padded"],
+    ..FLAG
+};
+
+// Raw bytes have no lines.
+const LINES: Argument<'static> = Argument {
+    name: "lines",
+    help: "Many keys, one a line: each is answered on its line",
+    long_help: Some(LINES_HELP),
+    conflicts: &["raw"],
+    ..FLAG
+};
+
+const KEEP_GOING: Argument<'static> = Argument {
+    name: "keep-going",
+    help: "With --lines: writes an empty line for a refused one",
+    long_help: Some(KEEP_GOING_HELP),
+    needs: Some("lines"),
+    ..FLAG
+};
+
+const QUIET: Argument<'static> = Argument {
+    name: "quiet",
+    help: "With --lines: no progress on a terminal",
+    needs: Some("lines"),
     ..FLAG
 };
 
@@ -160,44 +188,59 @@ const SUBCOMMANDS: [Subcommand<'static>; 6] = [
     Subcommand {
         name: "wrap",
         about: "Wraps a key",
-        usage: Some(WRAP_USAGE),
+        usage: WRAP_USAGE,
         example: WRAP_EXAMPLE,
-        arguments: &[KEK, INPUT, OUTPUT, PADDED, IV, RAW, RAW_KEK, VERBOSE],
+        arguments: &[
+            KEK, INPUT, OUTPUT, PADDED, IV, RAW, RAW_KEK, LINES, KEEP_GOING, QUIET, VERBOSE,
+        ],
     },
     Subcommand {
         name: "unwrap",
         about: "Unwraps a wrapped key",
-        usage: Some(UNWRAP_USAGE),
+        usage: UNWRAP_USAGE,
         example: UNWRAP_EXAMPLE,
-        arguments: &[KEK, INPUT, OUTPUT, PADDED, IV, RAW, RAW_KEK, VERBOSE],
+        arguments: &[
+            KEK, INPUT, OUTPUT, PADDED, IV, RAW, RAW_KEK, LINES, KEEP_GOING, QUIET, VERBOSE,
+        ],
     },
     Subcommand {
         name: "rewrap",
         about: "Takes a wrapped key from one KEK to another; no key is written",
-        usage: Some(REWRAP_USAGE),
+        usage: REWRAP_USAGE,
         example: REWRAP_EXAMPLE,
         arguments: &[
-            KEK, NEW_KEK, INPUT, OUTPUT, OLD_PADDED, NEW_PADDED, RAW, RAW_KEKS, VERBOSE,
+            KEK, NEW_KEK, INPUT, OUTPUT, OLD_PADDED, NEW_PADDED, RAW, RAW_KEKS, LINES, KEEP_GOING,
+            QUIET, VERBOSE,
         ],
     },
     Subcommand {
         name: "check",
         about: "Says in which form a wrapped key fits the KEK; no key is written",
-        usage: Some(CHECK_USAGE),
+        usage: CHECK_USAGE,
         example: CHECK_EXAMPLE,
-        arguments: &[KEK, INPUT, OUTPUT, RAW_WRAPPED, RAW_KEK, VERBOSE],
+        arguments: &[
+            KEK,
+            INPUT,
+            OUTPUT,
+            RAW_WRAPPED,
+            RAW_KEK,
+            LINES,
+            KEEP_GOING,
+            QUIET,
+            VERBOSE,
+        ],
     },
     Subcommand {
         name: "drill",
         about: "Wraps over a block that exchanges its halves, to be worked by hand",
-        usage: None,
+        usage: DRILL_USAGE,
         example: DRILL_EXAMPLE,
         arguments: &[HEX, PADDED, UNWRAP],
     },
     Subcommand {
         name: "vectors",
         about: "Answers the vectors of RFC 3394, RFC 5649 and FIPS 197: ok or failed",
-        usage: None,
+        usage: VECTORS_USAGE,
         example: VECTORS_EXAMPLE,
         arguments: &[],
     },
@@ -235,11 +278,8 @@ fn with_arguments<'a>(alloc: Global, wanted: Subcommand<'a>) -> Result<Command<'
 fn named<'a>(alloc: Global, wanted: Subcommand<'a>) -> Result<Command<'a>, AllocError> {
     let command = Command::new(alloc, wanted.name)
         .about(wanted.about)
-        .after_long_help(wanted.example);
-    let command = match wanted.usage {
-        Some(usage) => command.override_usage(usage),
-        None => command,
-    };
+        .after_long_help(wanted.example)
+        .override_usage(wanted.usage);
     command.display_name("keywrap")
 }
 
@@ -253,24 +293,30 @@ fn arg<'a>(alloc: Global, wanted: Argument<'a>) -> Result<Arg<'a>, AllocError> {
         Some(help) => arg.long_help(help),
         None => arg,
     };
-    match wanted.conflicts {
-        Some(other) => arg.conflicts_with(other),
+    let arg = arg.conflicts_with_all(wanted.conflicts)?;
+    match wanted.needs {
+        Some(other) => arg.requires_arg(other),
         None => Ok(arg),
     }
 }
 
 // The argument, given as its kind is.
 fn of_kind<'a>(arg: Arg<'a>, wanted: Argument<'a>) -> Arg<'a> {
-    let arg = match wanted.kind {
+    let is_required = matches!(wanted.kind, Kind::Required(_) | Kind::Word(_));
+    valued(by_name(arg, wanted), wanted.kind).required(is_required)
+}
+
+// Each but a word stands behind its name.
+fn by_name<'a>(arg: Arg<'a>, wanted: Argument<'a>) -> Arg<'a> {
+    match wanted.kind {
+        Kind::Word(_) => arg,
+        Kind::Flag | Kind::Optional(_) | Kind::Required(_) => arg.long(wanted.name),
+    }
+}
+
+fn valued<'a>(arg: Arg<'a>, kind: Kind<'a>) -> Arg<'a> {
+    match kind {
         Kind::Flag => arg.action(ArgAction::SetTrue),
         Kind::Optional(value) | Kind::Required(value) | Kind::Word(value) => arg.value_name(value),
-    };
-    let arg = match wanted.kind {
-        Kind::Flag | Kind::Optional(_) | Kind::Required(_) => arg.long(wanted.name),
-        Kind::Word(_) => arg,
-    };
-    match wanted.kind {
-        Kind::Required(_) | Kind::Word(_) => arg.required(true),
-        Kind::Flag | Kind::Optional(_) => arg,
     }
 }

@@ -14,6 +14,12 @@ pub const REWRAP_USAGE: &str =
 /// The usage of `check`.
 pub const CHECK_USAGE: &str = "keywrap check [OPTIONS] --kek <FILE> < WRAPPED";
 
+/// The usage of `drill`.
+pub const DRILL_USAGE: &str = "keywrap drill [OPTIONS] <HEX>";
+
+/// The usage of `vectors`.
+pub const VECTORS_USAGE: &str = "keywrap vectors";
+
 /// What `--output` does.
 pub const OUTPUT_HELP: &str = "\
 Writes FILE, not standard output (-). FILE is replaced only by the
@@ -21,6 +27,20 @@ whole answer, and stays as it is after a refusal. It may be the file
 of --input; no KEK file, folder, device, pipe or link. A new FILE, and
 each of unwrap, is for its owner alone; else FILE keeps its owner and
 mode";
+
+/// What `--lines` does.
+pub const LINES_HELP: &str = "\
+Many keys in one run: each line of the input is a hex file of its own,
+and its answer stands on the same line of the output. It stops at the
+first line that is refused, and names it by its number, from 1: the
+answers before it are written, and FILE of --output stays as it is.
+Not with --raw";
+
+/// What `--keep-going` does.
+pub const KEEP_GOING_HELP: &str = "\
+With --lines: a line that is refused gets an empty line as its answer
+and a line on standard error, and the run goes on. At its end the
+status is that of the first refusal";
 
 /// What hex may hold, what each exit status says, and what to try.
 pub const NOTES: &str = "\
@@ -31,7 +51,7 @@ anywhere. No 0x, no colons, no base64: decode that with base64 -d, and use
 Exit status:
   0  done
   2  the command line was refused
-  3  a KEK has not 16, 24 or 32 bytes
+  3  a KEK must be 16, 24 or 32 bytes
      In hex that is 32, 48 or 64 digits. For a KEK file of raw bytes use
      --raw-kek.
   4  the key or the wrapped key has no legal length in this form
@@ -52,7 +72,8 @@ are the cause. Where standard error is a terminal, and with --verbose, a second
 line names the file and says why.
 wrap, unwrap, rewrap, check and drill write nothing before their whole answer
 is right; vectors writes its lines, those that say failed too, once all are
-made.
+made. With --lines both are said of each line of the input: the refusal names
+it, and the answers to the lines before it are written.
 Status 5 without a line comes from check, which wrote none, and from vectors,
 whose lines say which one failed.";
 

@@ -1,12 +1,10 @@
 //! The words of the command `keywrap`: its subcommands and their arguments, the help, and what is
-//! said of words that were refused.
+//! said of words that were refused. What it reads and says is tested over the built program.
 #![tactic(auto)]
 
 mod commands;
 pub mod help;
 mod line;
-#[cfg(test)]
-mod tests;
 mod tips;
 
 pub use line::{Command, CommandLine, Refusal, not_text, parse};

@@ -44,6 +44,12 @@ pub struct CommandLine<'a> {
     pub padded: bool,
     /// The padded form of the new wrapped key.
     pub new_padded: bool,
+    /// Each line of the input is answered.
+    pub lines: bool,
+    /// A refused line is passed.
+    pub keep_going: bool,
+    /// No progress is shown.
+    pub quiet: bool,
     /// The input and the output are raw bytes.
     pub raw: bool,
     /// Each KEK file is raw bytes.
@@ -136,6 +142,9 @@ fn taken<'a>(subcommand: Option<(&'a str, &ArgMatches<'a>)>) -> Option<CommandLi
         hex: text_of(found, "hex"),
         padded: found.get_flag("padded"),
         new_padded: found.get_flag("new-padded"),
+        lines: found.get_flag("lines"),
+        keep_going: found.get_flag("keep-going"),
+        quiet: found.get_flag("quiet"),
         raw: found.get_flag("raw"),
         raw_kek: found.get_flag("raw-kek"),
         verbose: found.get_flag("verbose"),
@@ -143,7 +152,8 @@ fn taken<'a>(subcommand: Option<(&'a str, &ArgMatches<'a>)>) -> Option<CommandLi
     })
 }
 
-fn command_of(name: &str) -> Option<Command> {
+/// The subcommand of this name.
+pub fn command_of(name: &str) -> Option<Command> {
     match name {
         "wrap" => Some(Command::Wrap),
         "unwrap" => Some(Command::Unwrap),

@@ -1,6 +1,6 @@
 //! What is said of words that were refused: clap's message, and a tip on what users guess.
 
-use crate::line::read;
+use crate::line::{Command, command_of, read};
 use clap::Error;
 use clap::error::ErrorKind;
 use std::alloc::{AllocError, Global};
@@ -97,7 +97,7 @@ fn tip_for(words: &[String], kind: ErrorKind, said: &str) -> Option<&'static str
         ErrorKind::InvalidSubcommand if asks_for_help(said) => Some(HELP),
         ErrorKind::InvalidSubcommand if !said.contains(TIP) => Some(COMMANDS),
         ErrorKind::InvalidValue => tip_on_value(said),
-        ErrorKind::UnknownArgument => tip_on_argument(command_of(words), said),
+        ErrorKind::UnknownArgument => tip_on_argument(first_word(words), said),
         _ => None,
     }
 }
@@ -118,27 +118,24 @@ fn tip_on_value(said: &str) -> Option<&'static str> {
 }
 
 // What clap says of an argument names it between quotes.
-fn tip_on_argument(command: &str, said: &str) -> Option<&'static str> {
+fn tip_on_argument(command: Option<Command>, said: &str) -> Option<&'static str> {
     let named = said
         .strip_prefix("error: unexpected argument '")
         .unwrap_or("");
     let has_tip = said.contains(TIP);
     match command {
-        "check" if named.starts_with("--padded'") => Some(CHECK),
-        "wrap" | "unwrap" | "check" if named.starts_with("--new-kek'") => Some(NEW_KEK),
-        "wrap" | "unwrap" | "rewrap" | "check" if !has_tip && !named.starts_with("--") => {
-            Some(FILES)
-        }
-        "drill" if !has_tip || said.contains("tip: to pass") => Some(DRILL),
-        "wrap" | "unwrap" | "rewrap" | "check" | "drill" | "vectors" => None,
-        _ if !has_tip => Some(COMMANDS),
+        Some(Command::Check) if named.starts_with("--padded'") => Some(CHECK),
+        Some(Command::Wrap | Command::Unwrap | Command::Check) if named.starts_with("--new-kek'") =>
+            { Some(NEW_KEK) }
+        Some(Command::Wrap | Command::Unwrap | Command::Rewrap | Command::Check)
+            if !has_tip && !named.starts_with("--") => { Some(FILES) }
+        Some(Command::Drill) if !has_tip || said.contains("tip: to pass") => Some(DRILL),
+        None if !has_tip => Some(COMMANDS),
         _ => None,
     }
 }
 
-fn command_of(words: &[String]) -> &str {
-    match words.get(1) {
-        Some(word) => word.as_str(),
-        None => "",
-    }
+// The command that the first word after the program's name is, if it is one.
+fn first_word(words: &[String]) -> Option<Command> {
+    command_of(words.get(1)?.as_str())
 }

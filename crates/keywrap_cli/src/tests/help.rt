@@ -12,7 +12,7 @@ use std::test::Fail;
 static LINES: [(u8, &str); 7] = [
     (statuses::DONE, "done"),
     (statuses::REFUSED_WORDS, "the command line was refused"),
-    (statuses::KEK_LENGTH, "a KEK has not 16, 24 or 32 bytes"),
+    (statuses::KEK_LENGTH, "a KEK must be 16, 24 or 32 bytes"),
     (
         statuses::BAD_LENGTH,
         "the key or the wrapped key has no legal length in this form",

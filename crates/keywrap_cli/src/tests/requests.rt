@@ -1,8 +1,9 @@
-//! What a command line asks for: its files, whether it writes raw bytes, and what it waits for.
+//! What a command line asks for: its files, its lines, whether it writes raw bytes, and what it
+//! waits for.
 
 use crate::command_line::parse;
 use crate::job::{Job, Notation, Task};
-use crate::request::{Places, Request, Work};
+use crate::request::{Lines, Places, Request, Work};
 use key_wrap::Form;
 use std::alloc::{AllocError, Global};
 use std::process::Abort;
@@ -18,9 +19,9 @@ fn words(alloc: Global, line: &str) -> Result<Vec<String>, AllocError> {
     Ok(words)
 }
 
-fn asked<'a>(alloc: Global, words: &'a [String]) -> Option<(Work<'a>, Places<'a>)> {
+fn asked<'a>(alloc: Global, words: &'a [String]) -> Option<(Work<'a>, Places<'a>, Option<Lines>)> {
     match parse(alloc, words) {
-        Ok(Request::Work(work, places)) => Some((work, places)),
+        Ok(Request::Work(work, places, lines)) => Some((work, places, lines)),
         _ => None,
     }
 }
@@ -34,7 +35,7 @@ fn places_are(
     output: Option<&str>,
 ) -> Result<(), Fail> {
     let words = words(alloc, line)?;
-    let (_, places) = asked(alloc, words.as_slice()).ok_or("refused")?;
+    let (_, places, _) = asked(alloc, words.as_slice()).ok_or("refused")?;
     assert_eq!(rt; places.kek, "k");
     assert!(rt; places.input == input, "{line}");
     assert!(rt; places.output == output, "{line}");
@@ -87,7 +88,7 @@ fn takes_a_file_once_and_with_a_name(rt: HostRuntime) -> Result<(), Fail> {
 }
 
 // Each command, whether it writes raw bytes, and what it waits for.
-static WORKS: [(&str, bool, &str); 12] = [
+static WORKS: [(&str, bool, &str); 14] = [
     ("wrap --kek k", false, "the key in hex"),
     ("wrap --kek k --padded", false, "the key in hex"),
     ("wrap --kek k --iv 0", false, "the key in hex"),
@@ -116,18 +117,28 @@ static WORKS: [(&str, bool, &str); 12] = [
     ),
     ("check --kek k --raw-kek", false, "the wrapped key in hex"),
     ("check --kek k --raw", false, "the wrapped key as raw bytes"),
+    (
+        "wrap --kek k --lines",
+        false,
+        "the keys in hex, one a line,",
+    ),
+    (
+        "rewrap --kek k --new-kek n --lines --quiet",
+        false,
+        "the wrapped keys in hex, one a line,",
+    ),
 ];
 
 #[test]
 fn says_what_is_waited_for_and_what_is_raw(rt: HostRuntime) -> Result<(), Fail> {
     for (line, is_raw, what) in &WORKS {
         let words = words(rt.alloc(), line)?;
-        let (work, _) = asked(rt.alloc(), words.as_slice()).ok_or("refused")?;
+        let (work, _, lines) = asked(rt.alloc(), words.as_slice()).ok_or("refused")?;
         assert_eq!(rt; work.writes_raw(), *is_raw);
         let waiting = format!(in rt.alloc();
             "keywrap: waiting for {what} on standard input; Ctrl-D ends it"
         )?;
-        assert_eq!(rt; work.waiting(), waiting.as_str());
+        assert_eq!(rt; work.waiting(lines), waiting.as_str());
     }
     Ok(())
 }
@@ -135,7 +146,7 @@ fn says_what_is_waited_for_and_what_is_raw(rt: HostRuntime) -> Result<(), Fail> 
 #[test]
 fn keeps_the_job_beside_the_files(rt: HostRuntime) -> Result<(), Fail> {
     let padded = words(rt.alloc(), "unwrap -o b --kek k --padded --raw -i a")?;
-    let (work, _) = asked(rt.alloc(), padded.as_slice()).ok_or("refused")?;
+    let (work, _, _) = asked(rt.alloc(), padded.as_slice()).ok_or("refused")?;
     let wanted = Task {
         job: Job::Unwrap,
         form: Form::Padded,
@@ -144,7 +155,7 @@ fn keeps_the_job_beside_the_files(rt: HostRuntime) -> Result<(), Fail> {
     };
     assert!(rt; matches!(work, Work::Job { iv: None, task } if task == wanted));
     let under_iv = words(rt.alloc(), "unwrap -o b --kek k --iv 0 --raw-kek -i a")?;
-    let (work, _) = asked(rt.alloc(), under_iv.as_slice()).ok_or("refused")?;
+    let (work, _, _) = asked(rt.alloc(), under_iv.as_slice()).ok_or("refused")?;
     let wanted = Task {
         job: Job::Unwrap,
         form: Form::Plain,
@@ -152,5 +163,22 @@ fn keeps_the_job_beside_the_files(rt: HostRuntime) -> Result<(), Fail> {
         kek: Notation::Raw,
     };
     assert!(rt; matches!(work, Work::Job { iv: Some("0"), task } if task == wanted));
+    Ok(())
+}
+
+// Whether the lines are answered, and if, whether the run goes on after refusals and is quiet.
+#[test]
+fn takes_the_flags_of_lines(rt: HostRuntime) -> Result<(), Fail> {
+    for (line, wanted) in [
+        ("wrap --kek k", None),
+        ("unwrap --kek k --lines", Some((false, false))),
+        ("check --kek k --keep-going --lines", Some((true, false))),
+        ("wrap --kek k --lines --quiet", Some((false, true))),
+    ] {
+        let words = words(rt.alloc(), line)?;
+        let (_, _, lines) = asked(rt.alloc(), words.as_slice()).ok_or("refused")?;
+        let found = lines.map(|it| (it.goes_on, it.is_quiet));
+        assert!(rt; found == wanted, "{line}");
+    }
     Ok(())
 }

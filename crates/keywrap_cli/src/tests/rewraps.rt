@@ -130,6 +130,7 @@ fn reads_the_words_of_a_rewrapping(rt: HostRuntime) -> Result<(), Fail> {
                     output: None,
                     verbose: false,
                 },
+                None,
             ))
         )
     );

@@ -1,0 +1,108 @@
+//! Many keys in one run: the lines of an input, from the files that are open to the exit status.
+
+use crate::fault::{ProgramFault, RefusedLine};
+use crate::keyed::Keyed;
+use crate::line_job::LineRefusal;
+use crate::lines::LinesFault;
+use crate::progress::{Counted, Progress};
+use crate::work::status_of;
+use key_lines::{LineFault, RefusalLog, RunFault};
+use std::cell::Cell;
+use std::io::{self, BufReader, Read, Write};
+use std::rt::Env;
+use std::time::Clock;
+
+// So many bytes are read together.
+const PART: usize = 65_536;
+
+/// How a run answers the lines of an input.
+#[derive(Clone, Copy)]
+pub struct Many {
+    /// It goes on after a line that is refused for itself.
+    pub goes_on: bool,
+    /// It shows how far it is.
+    pub shows: bool,
+    /// The length of the input, where it is known.
+    pub total: Option<u64>,
+}
+
+/// Answers each line of the input, and answers the exit status. A line that is passed is said on
+/// standard error as it is met, and the status is then that of the first.
+pub fn answer_lines<R, K: Read, I: Read, W: Write>(
+    rt: &R,
+    keyed: &mut Keyed<K>,
+    many: Many,
+    input: &mut I,
+    out: &mut W,
+) -> Result<u8, ProgramFault>
+where
+    R: Eprint + AllocGlobal + Env + Clock,
+{
+    let progress = Progress::new(rt, many.shows, many.total);
+    let counted = Counted::new(input, &progress);
+    let mut input = match BufReader::with_capacity(rt.alloc(), PART, counted) {
+        Ok(input) => input,
+        Err(_) => return Err(ProgramFault::Memory),
+    };
+    let mut out = Sent { out, written: 0 };
+    let log = Refused {
+        progress: &progress,
+        first: Cell::new(None),
+    };
+    let done = keyed.run_lines(rt.alloc(), many.goes_on, &log, &mut input, &mut out);
+    progress.clear();
+    match done {
+        Ok(done) => Ok(log.first.get().unwrap_or(status_of(done.done))),
+        Err(fault) => Err(program_fault(fault, out.written)),
+    }
+}
+
+// A write was refused after so many bytes.
+fn program_fault(fault: LinesFault, written: usize) -> ProgramFault {
+    match fault {
+        LinesFault::Kek(fault) => ProgramFault::Job(fault),
+        LinesFault::Run(RunFault::AtLine { line, fault }) => {
+            ProgramFault::Line(RefusedLine { line, fault })
+        }
+        LinesFault::Run(RunFault::Write { .. }) => ProgramFault::Write { written },
+    }
+}
+
+// Says each line that is passed, and keeps the status of the first.
+#[derive(Drop)]
+struct Refused<'p, 'r, R> {
+    progress: &'p Progress<'r, R>,
+    first: Cell<Option<u8>>,
+}
+
+impl<R: Eprint + AllocGlobal + Env + Clock> RefusalLog<LineRefusal> for Refused<'_, '_, R> {
+    fn tell(&self, line: u64, fault: &LineFault<LineRefusal>) {
+        let refused = ProgramFault::Line(RefusedLine {
+            line,
+            fault: *fault,
+        });
+        self.progress.say(refused.line());
+        if self.first.get().is_none() {
+            self.first.set(Some(refused.status()));
+        }
+    }
+}
+
+// A writer, and how many bytes it took.
+#[derive(Drop)]
+struct Sent<'a, W> {
+    out: &'a mut W,
+    written: usize,
+}
+
+impl<W: Write> Write for Sent<'_, W> {
+    fn write(&mut self, buf: &[u8]) -> io::Result<usize> {
+        let count = self.out.write(buf)?;
+        self.written = self.written.saturating_add(count);
+        Ok(count)
+    }
+
+    fn flush(&mut self) -> io::Result<()> {
+        self.out.flush()
+    }
+}
