@@ -24,7 +24,7 @@ _keywrap() {
         [ "${word:0:1}" != - ] || options=$help
         ;;
     wrap | unwrap) options="--kek --padded --iv --raw --raw-kek --verbose $lines $files $help" ;;
-    rewrap) options="--kek --new-kek --padded --new-padded --raw --raw-kek --verbose $lines $files $help" ;;
+    rewrap) options="--kek --new-kek --padded --new-padded --keep-form --raw --raw-kek --verbose $lines $files $help" ;;
     check) options="--kek --raw --raw-kek --verbose $lines $files $help" ;;
     # What is missing may be the HEX, which only the user knows.
     drill) [ "${word:0:1}" != - ] || options="--padded --unwrap $help" ;;
@@ -35,7 +35,9 @@ _keywrap() {
         case ${COMP_WORDS[at]} in
         -i | --input) gone=(-i --input) ;;
         -o | --output) gone=(-o --output) ;;
-        --padded) gone=(--padded --iv) ;;
+        --padded) gone=(--padded --iv --keep-form) ;;
+        --new-padded) gone=(--new-padded --keep-form) ;;
+        --keep-form) gone=(--keep-form --padded --new-padded) ;;
         --iv) gone=(--iv --padded) ;;
         --raw) gone=(--raw --lines --keep-going --quiet) ;;
         --lines | --keep-going | --quiet) gone=("${COMP_WORDS[at]}" --raw) ;;

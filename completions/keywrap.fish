@@ -29,9 +29,12 @@ complete -c keywrap -n '__keywrap_is help; and test (count (commandline -opc)) =
 
 complete -c keywrap -n '__keywrap_is wrap unwrap rewrap check' -l kek -rF -d 'The KEK'
 complete -c keywrap -n '__keywrap_is rewrap' -l new-kek -rF -d 'The KEK of the new wrapped key'
-complete -c keywrap -n '__keywrap_is wrap unwrap rewrap drill; and __keywrap_lacks --iv' -l padded \
+complete -c keywrap -n '__keywrap_is wrap unwrap rewrap drill; and __keywrap_lacks --iv --keep-form' -l padded \
     -d 'The padded form of RFC 5649'
-complete -c keywrap -n '__keywrap_is rewrap' -l new-padded -d 'Write the padded form of RFC 5649'
+complete -c keywrap -n '__keywrap_is rewrap; and __keywrap_lacks --keep-form' -l new-padded \
+    -d 'Write the padded form of RFC 5649'
+complete -c keywrap -n '__keywrap_is rewrap; and __keywrap_lacks --padded --new-padded' -l keep-form \
+    -d 'Take either form, and keep it'
 complete -c keywrap -n '__keywrap_is wrap unwrap; and __keywrap_lacks --padded' -l iv -x \
     -d 'An initial value that both ends agreed on'
 complete -c keywrap -l raw -n '__keywrap_is wrap unwrap rewrap check; and __keywrap_lacks --lines --keep-going' \

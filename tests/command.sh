@@ -230,6 +230,9 @@ rewraps 'padded to plain under another KEK' kek16.hex kek32.hex $padded16 $wrapp
 rewraps 'padded to padded, 7 bytes' kek5649.hex kek16.hex $wrapped7 $padded7 --padded --new-padded
 rewraps 'padded to padded back, 7 bytes' kek16.hex kek5649.hex $padded7 $wrapped7 --padded --new-padded
 rewraps 'padded to itself, 20 bytes' kek5649.hex kek5649.hex $wrapped20 $wrapped20 --padded --new-padded
+rewraps 'plain to plain, keeping its form' kek16.hex kek32.hex $wrapped16 $wrapped32 --keep-form
+rewraps 'padded to padded, keeping its form' kek16.hex kek16.hex $padded16 $padded16 --keep-form
+rewraps '7 bytes, keeping their form' kek5649.hex kek16.hex $wrapped7 $padded7 --keep-form
 rewraps 'a wrapped key in capitals' kek16.hex kek32.hex "${wrapped16^^}" $wrapped32
 
 bytes "$kek" >kek32.raw
@@ -298,6 +301,8 @@ refuses_sizes 'rewrap --new-kek kek32.hex --new-padded' 0 8 16 23 25 1048592
 refuses_sizes 'rewrap --new-kek kek32.hex --padded' 0 8 17 23 1048592
 refuses 'rewrap of a wrong byte' 5 "$integrity" "${rewraps_both[@]}" <<<"0f${wrapped16#1f}"
 refuses 'rewrap of a wrong byte to padded' 5 "$integrity" "${rewraps_both[@]}" --new-padded <<<"0f${wrapped16#1f}"
+refuses 'rewrap of a wrong byte in either form' 5 "$integrity" "${rewraps_both[@]}" --keep-form <<<"0f${wrapped16#1f}"
+refuses_sizes 'rewrap --new-kek kek32.hex --keep-form' 0 8 17 23 1048592
 refuses 'rewrap, the KEKs exchanged' 5 "$integrity" rewrap --kek kek32.hex --new-kek kek16.hex <<<$wrapped16
 refuses 'rewrap of a padded wrapping as plain' 5 "$integrity" "${rewraps_both[@]}" <<<$padded16
 refuses 'rewrap of a plain wrapping as padded' 5 "$integrity" "${rewraps_both[@]}" --padded <<<$wrapped16
@@ -421,6 +426,9 @@ refuses_words rewrap --kek kek16.hex --new-kek kek32.hex --iv $iv
 refuses_words rewrap --kek kek16.hex --new-kek kek32.hex wrapped.raw
 refuses_words wrap --kek kek16.hex --new-kek kek32.hex
 refuses_words wrap --kek kek16.hex --new-padded
+refuses_words unwrap --kek kek16.hex --keep-form
+refuses_words rewrap --kek kek16.hex --new-kek kek32.hex --keep-form --padded
+refuses_words rewrap --kek kek16.hex --new-kek kek32.hex --new-padded --keep-form
 refuses_words wrap --kek kek16.hex --lines --raw
 refuses_words check --kek kek16.hex --raw --lines
 refuses_words rewrap --kek kek16.hex --new-kek kek32.hex --lines --raw
@@ -538,7 +546,7 @@ explains "Usage: keywrap unwrap $usage < WRAPPED > KEY|--padded|--iv <HEX>|--raw
     unwrap --help
 explains "Usage: keywrap rewrap $usage --new-kek <FILE> < WRAPPED > NEW|$files|$wrapped16|$wrapped32" \
     rewrap --help
-explains '--padded|--new-padded|--raw|--raw-kek|--lines|--keep-going|--quiet' rewrap --help
+explains '--padded|--new-padded|--keep-form|--raw|--raw-kek|--lines|--keep-going|--quiet' rewrap --help
 explains "Usage: keywrap check $usage < WRAPPED|--raw|--raw-kek|$files|$wrapped16|plain 16" check --help
 explains "Usage: keywrap wrap $usage < KEY > WRAPPED" wrap -h
 explains "Usage: keywrap unwrap $usage < WRAPPED > KEY" unwrap -h

@@ -3,6 +3,7 @@
 use crate::convert::Direction;
 use crate::job::{Job, Notation, Task};
 use crate::request::{Lines, Places, Request, Rewrapping, Work};
+use crate::rewrap_line::RewrapForms;
 use key_wrap::Form;
 use keywrap_words::{Command, CommandLine, Refusal};
 use std::alloc::Global;
@@ -38,8 +39,7 @@ fn job<'a>(job: Job, line: &CommandLine<'a>) -> Request<'a> {
 
 fn rewrap<'a>(line: &CommandLine<'a>) -> Request<'a> {
     let task = Rewrapping {
-        old_form: form(line.padded),
-        new_form: form(line.new_padded),
+        forms: rewrap_forms(line),
         input: notation(line.raw),
         kek: notation(line.raw_kek),
     };
@@ -48,6 +48,18 @@ fn rewrap<'a>(line: &CommandLine<'a>) -> Request<'a> {
         new_kek: line.new_kek,
     };
     Request::Work(work, places(line), lines(line))
+}
+
+// `--keep-form` excludes `--padded` and `--new-padded`.
+fn rewrap_forms(line: &CommandLine<'_>) -> RewrapForms {
+    if line.keep_form {
+        RewrapForms::Kept
+    } else {
+        RewrapForms::Changed {
+            old: form(line.padded),
+            new: form(line.new_padded),
+        }
+    }
 }
 
 // `--lines` and `--raw` exclude each other; the other two go with `--lines` alone.

@@ -1,6 +1,6 @@
 //! What is done with an input, once the KEK files are open.
 
-ghost use Rattle.keywrap_cli.specs.Keyed.{RunsKeyed};
+ghost use Rattle.keywrap_cli.specs.Keyed.{RunsInForms, RunsKeyed};
 
 use crate::fault::ProgramFault;
 use crate::job::{Done, JobFault, Task, run};
@@ -8,6 +8,7 @@ use crate::line_job::LineRefusal;
 use crate::lines::{LinesDone, LinesFault, run_job_lines, run_rewrap_lines};
 use crate::request::{Rewrapping, Work};
 use crate::rewrap::run_rewrap;
+use crate::rewrap_kept::run_rewrap_keeping_form;
 use crate::rewrap_line::RewrapForms;
 use crate::telling::Telling;
 use crate::watched::{Seen, Watched};
@@ -81,17 +82,9 @@ impl<K: Read> Keyed<K> {
     {
         match self {
             Keyed::Job { iv, task, kek } => run(alloc, iv, *task, kek, input, out),
-            Keyed::Rewrap { task, kek, new_kek } => run_rewrap(
-                alloc,
-                task.old_form,
-                task.new_form,
-                task.input,
-                task.kek,
-                kek,
-                new_kek,
-                input,
-                out,
-            ),
+            Keyed::Rewrap { task, kek, new_kek } => {
+                rewrap_once(alloc, *task, kek, new_kek, input, out)
+            }
         }
     }
 
@@ -109,16 +102,35 @@ impl<K: Read> Keyed<K> {
             Keyed::Job { iv, task, kek } => {
                 run_job_lines(alloc, iv, *task, goes_on, log, kek, input, out)
             }
-            Keyed::Rewrap { task, kek, new_kek } => {
-                let forms = RewrapForms::Changed {
-                    old: task.old_form,
-                    new: task.new_form,
-                };
-                run_rewrap_lines(
-                    alloc, forms, task.kek, goes_on, log, kek, new_kek, input, out,
-                )
-            }
+            Keyed::Rewrap { task, kek, new_kek } => run_rewrap_lines(
+                alloc, task.forms, task.kek, goes_on, log, kek, new_kek, input, out,
+            ),
         }
+    }
+}
+
+// Rewraps the whole input.
+fn rewrap_once<K: Read, I: Read, W: Write>(
+    alloc: Global,
+    task: Rewrapping,
+    kek: &mut K,
+    new_kek: &mut K,
+    input: &mut I,
+    out: &mut W,
+) -> Result<Done, JobFault>
+    ensures { RunsInForms task.forms task.input task.kek
+        (K.remaining kek.old) (K.remaining kek.new)
+        (K.remaining new_kek.old) (K.remaining new_kek.new)
+        (I.remaining input.old) (I.remaining input.new)
+        (W.contents out.old) (W.contents out.new) result }
+{
+    match task.forms {
+        RewrapForms::Kept => {
+            run_rewrap_keeping_form(alloc, task.input, task.kek, kek, new_kek, input, out)
+        }
+        RewrapForms::Changed { old, new } => run_rewrap(
+            alloc, old, new, task.input, task.kek, kek, new_kek, input, out,
+        ),
     }
 }
 

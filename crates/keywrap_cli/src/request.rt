@@ -4,6 +4,7 @@ use crate::convert::Direction;
 use crate::fault::ProgramFault;
 use crate::initial_value::parse_iv;
 use crate::job::{Job, Notation, Task};
+use crate::rewrap_line::RewrapForms;
 use key_wrap::{Form, InitialValue};
 
 /// What a command line asks for.
@@ -43,10 +44,8 @@ pub struct Lines {
 /// A rewrapping, with the forms of both wrapped keys and the notations of its files.
 #[derive(Clone, Copy)]
 pub struct Rewrapping {
-    /// The form of the wrapped key.
-    pub old_form: Form,
-    /// The form of the new wrapped key.
-    pub new_form: Form,
+    /// The forms of the wrapped key and of the new one.
+    pub forms: RewrapForms,
     /// The notation of the input and of the output.
     pub input: Notation,
     /// The notation of both KEK files.

@@ -5,6 +5,7 @@ use crate::job::{Job, JobFault, Notation};
 use crate::line_job::LineRefusal;
 use crate::output_file::OutputFault;
 use crate::request::{Places, Work};
+use crate::rewrap_line::RewrapForms;
 use crate::watched::Seen;
 use crate::why::{Refused, Why};
 use key_files::FileFault;
@@ -143,7 +144,10 @@ impl<'a> Telling<'a> {
         match self.work {
             Work::Job { task, .. } if task.job == Job::Wrap => of_key(task.form, bytes),
             Work::Job { task, .. } => of_wrapped(task.form, bytes),
-            Work::Rewrap { task, .. } => of_rewrapped(task.old_form, bytes),
+            Work::Rewrap { task, .. } => match task.forms {
+                RewrapForms::Kept => of_either(bytes),
+                RewrapForms::Changed { old, .. } => of_rewrapped(old, bytes),
+            },
         }
     }
 
@@ -159,7 +163,10 @@ impl<'a> Telling<'a> {
         Why::Says(match self.work {
             Work::Job { iv: Some(_), .. } => "no wrapping under this KEK and --iv",
             Work::Job { task, .. } => no_wrapping(task.form),
-            Work::Rewrap { task, .. } => no_wrapping(task.old_form),
+            Work::Rewrap { task, .. } => match task.forms {
+                RewrapForms::Kept => "no wrapping in either form under this KEK",
+                RewrapForms::Changed { old, .. } => no_wrapping(old),
+            },
         })
     }
 }
@@ -220,6 +227,17 @@ fn of_wrapped(form: Form, bytes: u64) -> Why {
         Form::Padded => "a padded wrapped key has 16 or more, a multiple of 8",
     };
     Why::Length { bytes, legal }
+}
+
+// A wrapped key that may be in either form.
+fn of_either(bytes: u64) -> Why {
+    match of_wrapped(Form::Padded, bytes) {
+        Why::Length { bytes, .. } => Why::Length {
+            bytes,
+            legal: "a wrapped key has 16 or more, a multiple of 8",
+        },
+        why => why,
+    }
 }
 
 // The length of the wrapped key, or else that of its key, which only its unwrapping shows.

@@ -1,9 +1,9 @@
 //! The commands and their arguments, as the command line takes them and the help shows them.
 
 use crate::help::{
-    CHECK_EXAMPLE, CHECK_USAGE, DRILL_EXAMPLE, DRILL_USAGE, KEEP_GOING_HELP, LINES_HELP, NOTES,
-    OUTPUT_HELP, REWRAP_EXAMPLE, REWRAP_USAGE, UNWRAP_EXAMPLE, UNWRAP_USAGE, VECTORS_EXAMPLE,
-    VECTORS_USAGE, WRAP_EXAMPLE, WRAP_USAGE,
+    CHECK_EXAMPLE, CHECK_USAGE, DRILL_EXAMPLE, DRILL_USAGE, KEEP_FORM_HELP, KEEP_GOING_HELP,
+    LINES_HELP, NOTES, OUTPUT_HELP, REWRAP_EXAMPLE, REWRAP_USAGE, UNWRAP_EXAMPLE, UNWRAP_USAGE,
+    VECTORS_EXAMPLE, VECTORS_USAGE, WRAP_EXAMPLE, WRAP_USAGE,
 };
 use clap::{Arg, ArgAction, Command};
 use std::alloc::{AllocError, Global};
@@ -141,6 +141,15 @@ const QUIET: Argument<'static> = Argument {
     ..FLAG
 };
 
+// It finds the old form, and says the new one.
+const KEEP_FORM: Argument<'static> = Argument {
+    name: "keep-form",
+    help: "Takes either form, and the new wrapped key keeps it",
+    long_help: Some(KEEP_FORM_HELP),
+    conflicts: &["padded", "new-padded"],
+    ..FLAG
+};
+
 const RAW: Argument<'static> = Argument {
     name: "raw",
     help: "Input and output are raw bytes; every byte counts",
@@ -209,8 +218,8 @@ const SUBCOMMANDS: [Subcommand<'static>; 6] = [
         usage: REWRAP_USAGE,
         example: REWRAP_EXAMPLE,
         arguments: &[
-            KEK, NEW_KEK, INPUT, OUTPUT, OLD_PADDED, NEW_PADDED, RAW, RAW_KEKS, LINES, KEEP_GOING,
-            QUIET, VERBOSE,
+            KEK, NEW_KEK, INPUT, OUTPUT, OLD_PADDED, NEW_PADDED, KEEP_FORM, RAW, RAW_KEKS, LINES,
+            KEEP_GOING, QUIET, VERBOSE,
         ],
     },
     Subcommand {

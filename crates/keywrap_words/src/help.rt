@@ -42,6 +42,11 @@ With --lines: a line that is refused gets an empty line as its answer
 and a line on standard error, and the run goes on. At its end the
 status is that of the first refusal";
 
+/// What `--keep-form` does.
+pub const KEEP_FORM_HELP: &str = "\
+Takes the wrapped key in whichever form it is a wrapping, and the new
+one keeps that form. Not with --padded or --new-padded";
+
 /// What hex may hold, what each exit status says, and what to try.
 pub const NOTES: &str = "\
 Hex: two digits a byte, of either case; spaces, tabs and line ends may stand

@@ -44,6 +44,8 @@ pub struct CommandLine<'a> {
     pub padded: bool,
     /// The padded form of the new wrapped key.
     pub new_padded: bool,
+    /// The new wrapped key keeps the form of the old one.
+    pub keep_form: bool,
     /// Each line of the input is answered.
     pub lines: bool,
     /// A refused line is passed.
@@ -142,6 +144,7 @@ fn taken<'a>(subcommand: Option<(&'a str, &ArgMatches<'a>)>) -> Option<CommandLi
         hex: text_of(found, "hex"),
         padded: found.get_flag("padded"),
         new_padded: found.get_flag("new-padded"),
+        keep_form: found.get_flag("keep-form"),
         lines: found.get_flag("lines"),
         keep_going: found.get_flag("keep-going"),
         quiet: found.get_flag("quiet"),

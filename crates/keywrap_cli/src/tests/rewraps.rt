@@ -9,6 +9,7 @@ use super::jobs::{
 use crate::command_line::parse;
 use crate::job::{JobFault, Notation};
 use crate::request::{Places, Request, Rewrapping, Work};
+use crate::rewrap_line::RewrapForms;
 use key_files::FileFault;
 use key_wrap::Form;
 use std::test::Fail;
@@ -117,8 +118,10 @@ fn reads_the_words_of_a_rewrapping(rt: HostRuntime) -> Result<(), Fail> {
             Ok(Request::Work(
                 Work::Rewrap {
                     task: Rewrapping {
-                        old_form: Form::Plain,
-                        new_form: Form::Padded,
+                        forms: RewrapForms::Changed {
+                            old: Form::Plain,
+                            new: Form::Padded,
+                        },
                         input: Notation::Hex,
                         kek: Notation::Raw,
                     },
