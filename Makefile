@@ -134,6 +134,7 @@ dist-command: build
 bench: build library wheel
 	bench/wrap '$(LIBRARY)/libkeywrap.a'
 	bench/startup '$(PROGRAM)'
+	bench/lines '$(PROGRAM)' '$(PYTHON)'
 	$(PYTHON) python/bench.py '$(wheel)'
 
 clean:
