@@ -4,7 +4,7 @@
 #
 # usage: tests/recipes.sh        (KEYWRAP=PATH tries another program, as an installed one)
 #
-# A recipe whose tool is not here is skipped.
+# A recipe whose tool is not here is skipped. Those that call psql have a PostgreSQL server of their own.
 
 set -u
 # shellcheck source=tests/lib/program.sh
@@ -17,16 +17,37 @@ mkdir bin
 ln -s "$launcher" bin/keywrap
 PATH=$PWD/bin:$PATH
 
+# serves: starts a PostgreSQL server in a folder of its own, which psql finds from here on. It refuses to run as root.
+serves() {
+    local bin user=()
+    bin=$(printf '%s\n' /usr/lib/postgresql/*/bin | sort -V | tail -n 1)
+    [ -x "$bin/initdb" ] && server=$(mktemp -d) || return
+    trap 'rm -rf "$room" "$server"' EXIT
+    if [ "$(id -u)" = 0 ]; then
+        user=(setpriv --reuid nobody --regid nogroup --clear-groups)
+        chown nobody "$server"
+    fi
+    export PGHOST=$server PGPORT=5432 PGUSER=keywrap PGDATABASE=postgres PSQLRC=/dev/null
+    "${user[@]}" env -C "$server" "$bin/initdb" -D data -U keywrap -A trust -N >initdb.log 2>&1 || return
+    timeout 600 "${user[@]}" env -C "$server" "$bin/postgres" -D data -k "$server" -c listen_addresses= -c fsync=off \
+        >server.log 2>&1 &
+    trap 'kill "'$!'" && wait; rm -rf "$room" "$server"' EXIT
+    until_true psql -qc '' 2>psql.log
+}
+
 # missing_tools SCRIPT: the tools that a recipe calls and this machine has not.
 missing_tools() {
     local tool
-    for tool in openssl xxd base64 basenc xargs softhsm2-util pkcs11-tool; do
+    for tool in openssl xxd base64 basenc xargs awk softhsm2-util pkcs11-tool psql sqlite3 jq parallel; do
         if grep -qw -e "$tool" "$1" && ! command -v $tool >/dev/null; then
             echo "$tool"
         fi
     done
     if grep -q -e 'wrap-pad\|cipher-pad' "$1" && ! openssl enc -list 2>&1 | grep -q id-aes256-wrap-pad; then
         echo "an openssl with id-aes256-wrap-pad"
+    fi
+    if grep -qw psql "$1" && [ $serving = no ]; then
+        echo "a PostgreSQL server"
     fi
 }
 
@@ -35,7 +56,8 @@ follows() {
     local problem='' missing
     missing=$(missing_tools "$2" | paste -sd ' ')
     if [ -n "$missing" ]; then
-        skip "the recipe '$1'" "no $missing" 'openssl xxd coreutils findutils softhsm2 opensc'
+        skip "the recipe '$1'" "no $missing" \
+            'openssl xxd coreutils findutils mawk softhsm2 opensc postgresql sqlite3 jq parallel'
         return
     fi
     mkdir here
@@ -45,6 +67,8 @@ follows() {
     verdict "the recipe '$1'" "$problem"
 }
 
+serving=no
+! serves || serving=yes
 # Of each section: its name, the lines that are typed, and those that come back.
 awk '/^## / { name = substr($0, 4); n++; print name >("name." n); printf "" >("script." n); printf "" >("answer." n) }
     n && sub(/^    (  )?/, "") { if (sub(/^[$>] /, "")) print >("script." n); else print >("answer." n) }' "$recipes"

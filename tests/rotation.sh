@@ -1,6 +1,6 @@
 #!/usr/bin/env bash
-# Rotates a folder of wrapped keys by the lines that the README shows, as they stand there: they stop at the
-# first refusal, go on where they stopped, and change nothing else.
+# Rotates lines of wrapped keys by the README's line, and a folder of them by those that docs/RECIPES.md shows, as
+# they stand there: these stop at the first refusal, go on where they stopped, and change nothing else.
 #
 # usage: tests/rotation.sh        (KEYWRAP=PATH tries another program, as an installed one)
 
@@ -16,12 +16,13 @@ kek_files
 mkdir bin rotation rotation/wrapped
 ln -s "$launcher" bin/keywrap
 PATH=$room/bin:$PATH
-# The lines of the README's section: those that rotate, and one that looks at what they made.
-sed -n '/^## Rotating/,/^## From/s/^    //p' "$root/README.md" | sed 's|\./keywrap|keywrap|' >shown
-sed -n '1,/^ *done)$/p' shown >rotation/rotate
+# The lines of the recipe: the function that rotates, and one that looks at what it made.
+sed -n '/^## Rotate a folder/,/^## /s/^    [$>] //p' "$root/docs/RECIPES.md" >shown
+sed -n '/^rotate() (/,/^)$/p' shown >rotation/rotate
+echo rotate >>rotation/rotate
 grep '^for old in' shown >rotation/look
-lines=$(wc -l <rotation/rotate)
-verdict 'README rotates in five lines or fewer' "$([ "$lines" -ge 1 ] && [ "$lines" -le 5 ] || echo "$lines lines")"
+row 'the recipe has a function that rotates' test "$(wc -l <rotation/rotate)" -ge 3
+row 'the recipe has a line that looks' test -s rotation/look
 cp kek16.hex rotation/kek.hex
 cp kek32.hex rotation/new-kek.hex
 echo $wrapped16 >'rotation/wrapped/1 a key'
@@ -75,7 +76,14 @@ mv 'rotation/rewrapped/1 a key' 1
 printf 'wrapped/1 a key\nplain 16\nnone\nwrapped/3\n' | cmp -s - out || problem="$problem; output $(shown out)"
 mv 1 'rotation/rewrapped/1 a key'
 cp -p rewrapped rotation/rewrapped/3
-verdict 'each old file has a new one under the new KEK, or is named, by the line that README shows' "$problem"
+verdict 'each old file has a new one under the new KEK, or is named, by the line of the recipe' "$problem"
 rotates 'the rotation has nothing left to do' 0 '' '1 a key' '2 damaged' 3
+
+mkdir lines
+cp rotation/kek.hex rotation/new-kek.hex lines
+printf '%s\n' $wrapped16 $wrapped16 >lines/wrapped.hex
+sed -n '/^## Rotating/,/^## From/s/^    //p' "$root/README.md" >lines/rotate
+row "the README's line" env -C lines sh ./rotate
+row "what it wrote" diff lines/rewrapped.hex <(printf '%s\n' $wrapped32 $wrapped32)
 
 finish
