@@ -298,7 +298,6 @@ killed() {
     ends
     problem=$problem$(quiet $((128 + $(kill -l "$1"))) '')
     [ "$(<to/file)" = old ] || problem="$problem the file holds $(shown to/file)"
-    [ ! -e to/file.part0 ] || [ "$(stat -c %a to/file.part0)" = 600 ] || problem="$problem open to others"
     verdict "$1 in the middle" "$problem"
     lands "the run after $1" 0 most.wrapped to/file "${wraps[@]}" -i most.keys -o to/file
 }
