@@ -399,7 +399,7 @@ syncs() {
     : >met
     lands "$1, on the disk and then named" "$2" "$3" to/file "${@:6}" -i "$5" -o to/file
     verdict "$1, a sync, a rename and a sync" "$(printf 'fsync\nrename\nfsync\n' | diff - <(grep -vx statx met))"
-    for FAIL_CALL in fsync rename; do
+    for FAIL_CALL in fsync:1 rename:1; do
         export FAIL_CALL
         keeps "$1, its $FAIL_CALL fails" 6 "$flush_fault" "${@:6}" -i "$5" -o to/file
         export -n FAIL_CALL

@@ -91,6 +91,7 @@ PLAIN_LENGTHS = "it must be a multiple of 8 from 16 to 1048576 bytes"
         ("BadLength", "the key that is wrapped cannot be plain", "rewrap", (KEK_5649, KEK, FORPASI, True)),
         ("BadLength", "the key that is wrapped cannot be plain", "rewrap", (KEK_5649, KEK, PADDED_OF_20, True)),
         ("BadInitialValue", "the initial value is 0 bytes long; it must be 8 bytes", "wrap", (KEK, KEY, b"")),
+        ("BadInitialValue", "the initial value is 0 bytes long", "unwrap", (KEK, WRAPPED, b"")),
         ("BadInitialValue", "the initial value is 9 bytes long", "unwrap", (KEK, WRAPPED, IV + b"0")),
         ("BadInitialValue", "begins with a6 59 59 a6", "wrap", (KEK, KEY, b"\xa6\x59\x59\xa6" + IV[4:])),
         ("IntegrityFailed", "the integrity check failed", "unwrap", (KEK, DAMAGED)),

@@ -96,25 +96,25 @@ impl LineJob for Echo {
     }
 }
 
-/// Counts the refusals that it is told, and keeps the last line's number.
+/// Counts the refusals that it is told, and keeps the last: its line, and why.
 #[derive(Drop)]
 pub struct Told {
     pub count: Cell<u64>,
-    pub last: Cell<u64>,
+    pub last: Cell<Option<(u64, LineFault<u8>)>>,
 }
 
 impl Told {
     pub fn new() -> Self {
         Told {
             count: Cell::new(0),
-            last: Cell::new(0),
+            last: Cell::new(None),
         }
     }
 }
 
-impl<F> RefusalLog<F> for Told {
-    fn tell(&self, line: u64, _fault: &LineFault<F>) {
+impl RefusalLog<u8> for Told {
+    fn tell(&self, line: u64, fault: &LineFault<u8>) {
         self.count.set(self.count.get().saturating_add(1));
-        self.last.set(line);
+        self.last.set(Some((line, *fault)));
     }
 }

@@ -75,12 +75,24 @@ fn answers_the_lines_before_the_first_refused_one(rt: HostRuntime) -> Result<(),
     Ok(())
 }
 
-// The text, what a run that goes on answers and writes, how many refusals it tells, and of which
-// line it tells last.
-static PASSED: [(&[u8], Result<u64, RunFault<u8>>, &[u8], u64, u64); 4] = [
-    (b"00\n01", Ok(2), b"00\n01\n", 0, 0),
-    (b"00\n0g\nff\n0\n01", Ok(5), b"00\n\n\n\n01\n", 3, 4),
-    (b"ff", Ok(1), b"\n", 1, 1),
+// The text, what a run that goes on answers and writes, how many refusals it tells, and the last of
+// them: its line, and why.
+static PASSED: [(
+    &[u8],
+    Result<u64, RunFault<u8>>,
+    &[u8],
+    u64,
+    Option<(u64, LineFault<u8>)>,
+); 4] = [
+    (b"00\n01", Ok(2), b"00\n01\n", 0, None),
+    (
+        b"00\n0g\nff\n0\n01",
+        Ok(5),
+        b"00\n\n\n\n01\n",
+        3,
+        Some((4, LineFault::Input(FileFault::OddDigits))),
+    ),
+    (b"ff", Ok(1), b"\n", 1, Some((1, LineFault::Refused(0xff)))),
     (
         b"0g\nfe\n00\n",
         Err(RunFault::AtLine {
@@ -89,7 +101,7 @@ static PASSED: [(&[u8], Result<u64, RunFault<u8>>, &[u8], u64, u64); 4] = [
         }),
         b"\n",
         1,
-        1,
+        Some((1, LineFault::Input(FileFault::BadDigit { at: 1 }))),
     ),
 ];
 

@@ -198,6 +198,26 @@ const PLAIN: [u8; 24] = *b"\xA6\xA6\xA6\xA6\xA6\xA6\xA6\xA6\
 const PADDED: [u8; 24] = *b"\xA6\x59\x59\xA6\x00\x00\x00\x10\
     \x00\x11\x22\x33\x44\x55\x66\x7F\x88\x99\xAA\xBB\xCC\xDD\xEE\xFB";
 
+// Under an initial value that is handed in, and for a kind that is found.
+#[test]
+fn asks_the_pair_once_a_block_under_a_value_and_for_a_kind(rt: HostRuntime) -> Result<(), Fail> {
+    let (alloc, iv, tally) = (rt.alloc(), InitialValue::new(OTHER)?, Tally::new());
+    let text = wrap_with(alloc, &tally, &iv, &DATA)?;
+    assert!(rt; tally.take() == 12, "wraps");
+    let key = unwrap_with(alloc, &tally, &iv, &text)?;
+    assert!(rt;
+        key.as_slice() == DATA.as_slice() && tally.take() == 12,
+        "unwraps"
+    );
+    for (text, want) in [(PLAIN, Kind::Plain(16)), (PADDED, Kind::Padded(16))] {
+        assert!(rt;
+            kind(alloc, &tally, &text) == Ok(want) && tally.take() == 12,
+            "{want:?}"
+        );
+    }
+    Ok(())
+}
+
 // tests/allocations.sh refuses each allocation of this test in turn, and counts them: five.
 #[test]
 fn refuses_each_growth_of_five_calls(rt: HostRuntime) {

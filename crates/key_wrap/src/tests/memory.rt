@@ -114,3 +114,26 @@ fn gives_up_for_memory_at_no_length_or_content(rt: HostRuntime) -> Result<(), Fa
     }
     Ok(())
 }
+
+// What is no wrapping is refused for that alone, with ample memory: zeros of each length to 528.
+#[test]
+fn gives_up_for_memory_at_no_length_of_what_is_none(rt: HostRuntime) -> Result<(), Fail> {
+    let (alloc, refused) = (rt.alloc(), Some(UnwrapFault::Integrity));
+    let zeros = vec![in alloc; 0; 528]?;
+    for len in (24..=528).step_by(8) {
+        let text = zeros.get(..len).unwrap_or(&[]);
+        let pair = SwapHalves;
+        assert!(rt; unwrap(alloc, &pair, text).err() == refused, "{len} bytes");
+        assert!(rt;
+            unwrap_padded(alloc, &pair, text).err() == refused,
+            "{len} bytes"
+        );
+        assert!(rt;
+            kind(alloc, &pair, text) == Ok(Kind::Neither),
+            "{len} bytes"
+        );
+        let answer = rewrap(alloc, &pair, Form::Plain, &pair, Form::Plain, text);
+        assert!(rt; answer.err() == refused, "{len} bytes");
+    }
+    Ok(())
+}
