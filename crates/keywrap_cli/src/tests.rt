@@ -10,6 +10,7 @@ mod hostile;
 mod initial_values;
 mod jobs;
 mod limits;
+mod lines;
 mod requests;
 mod rewraps;
 mod standards;
