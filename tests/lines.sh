@@ -324,6 +324,56 @@ yes $wrapped16 | head -n 1000000 >answers
 ended "1,000,000 lines in the $most KB of 1,000" 0 answers ''
 rm million answers
 
+### Each growth and each read refused in turn
+
+# stopped WORDS: the run that ended with $status and left `out` and `err` named the line at which it stopped, and wrote
+# the answers before it; or it stopped before the first line.
+stopped() {
+    local line
+    line=$(sed -n "s/^keywrap: line \([0-9]*\): $1\$/\1/p" err)
+    [ -n "$line" ] || { grep -qx "keywrap: .*$1" err && line=1; }
+    [ -n "$line" ] && [ "$(wc -l <err)" = 1 ] && head -n $((line - 1)) answers | cmp -s - out
+}
+
+# in_turn NAME WHAT STATUS WORDS ARGUMENT..: for the lines of `in` the answer is `answers`, however often the run
+# allocates or reads; and where one of these calls fails, the run ends so. One that can be left out is.
+in_turn() {
+    local name=$1 what=$2 call problem=''
+    for ((call = 1; ; call++)); do
+        env "LD_PRELOAD=./fail_$what.so" "FAIL_${what^^}=$call" "$program" "${@:5}" <in >out 2>err 9>met
+        status=$?
+        [ -s met ] || break
+        { [ $status = "$3" ] && stopped "$4"; } || { [ $status = 0 ] && cmp -s out answers; } ||
+            problem="$problem; $what $call: status $status, error $(shown err)"
+    done
+    [ $status = 0 ] && cmp -s out answers || problem="$problem; without one: status $status"
+    [ $call -gt 4 ] || problem="$problem; $((call - 1)) of them"
+    verdict "$name, each $what that fails" "${problem:0:600}"
+}
+
+# fails_in_turn NAME KEY ANSWER ARGUMENT..: of 6 lines of a key each growth, and of 4,000 each read; the second line
+# has blanks.
+fails_in_turn() {
+    yes "$2" | head -n 4000 | sed '2s/../& /g' >most
+    yes "$3" | head -n 4000 >all
+    head -n 6 most >in
+    head -n 6 all >answers
+    in_turn "$1" alloc 7 'out of memory' "${@:4}"
+    mv most in
+    mv all answers
+    in_turn "$1" read 6 'cannot be read' "${@:4}"
+}
+if compiled fail_alloc && compiled fail_read; then
+    fails_in_turn 'wrap' "$d16" "$wrapped16" wrap --lines --kek kek16.hex
+    fails_in_turn 'unwrap' "$wrapped16" "$d16" unwrap --lines --kek kek16.hex
+    fails_in_turn 'padded unwrap' "$wrapped7" "$key7" unwrap --padded --lines --kek kek5649.hex
+    fails_in_turn 'rewrap' "$under24_16" "$under32_16" "${rewraps[@]}"
+    fails_in_turn 'rewrap in either form' "$under24_16" "$under32_16" "${rewraps[@]}" --keep-form
+    fails_in_turn 'check' "$wrapped16" 'plain 16' check --lines --kek kek16.hex
+else
+    skip 'each growth and each read of a run' 'no C compiler' gcc
+fi
+
 ### How far it is, on a terminal
 
 # on_terminal WORDS: runs a line of sh on a terminal, which is standard error, and output too where the line leaves it
