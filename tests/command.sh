@@ -499,6 +499,9 @@ guesses "'wrap --kek' exists" --kek kek16.hex wrap
 guesses "subcommand 'wrap' exists; to use it, remove the '--' before it" -- wrap
 guesses 'check looks at both forms, and says which one it found' check --kek kek16.hex --padded
 guesses 'only rewrap takes --new-kek' unwrap --kek kek16.hex --new-kek kek32.hex
+guesses 'only rewrap takes --keep-form' unwrap --kek kek16.hex --keep-form
+guesses '--keep-going and --quiet go with --lines' wrap --kek kek16.hex --keep-going
+guesses '--keep-going and --quiet go with --lines' check --quiet --kek kek16.hex
 guesses 'keywrap --help shows the help, and keywrap COMMAND --help that of a command' help --help
 guesses 'keywrap --help shows the help, and keywrap COMMAND --help that of a command' help -h
 guesses 'a KEK on standard input is --kek /dev/stdin; a file of this name is ./-' wrap --kek -

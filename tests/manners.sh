@@ -100,6 +100,10 @@ refuses 'no descriptor 3' 6 'key file: cannot be opened' wrap --kek /dev/fd/3 <&
 # in_order: all three are closed, and the KEK file may have the place of any.
 "$program" wrap --kek kek16.hex -o to/other <&- >&- 2>&-
 verdict 'all three closed' "$([ $? = 4 ] && [ ! -e to/other ] || echo "status $?, files $(ls to)")"
+# What is said of a line that is passed goes into no file.
+printf '%s\ng\n' "$wrapped16" >in
+"$program" check --lines --keep-going --kek kek16.hex -o to/kinds <in >&- 2>&-
+verdict 'lines that are passed, output and error closed' "$(printf 'plain 16\n\n' | cmp - to/kinds 2>&1)"
 # few NUMBER ARGUMENT..: the program, which may have so many descriptors at once.
 few() (
     ulimit -n "$1"

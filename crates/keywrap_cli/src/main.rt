@@ -35,8 +35,8 @@ mod why;
 mod work;
 
 use std::io::{IsTerminal, Write};
-use std::os::fd::AsFd;
 use std::process::ExitCode;
+use streams::{Closed, is_closed};
 use work::Terminals;
 
 fn main(rt: HostRuntime) -> ExitCode {
@@ -45,8 +45,11 @@ fn main(rt: HostRuntime) -> ExitCode {
         error: rt.stderr().is_terminal(),
         // A write of no bytes is refused where standard error is closed.
         input: rt.stdin().is_terminal() && rt.stderr().write(&[]).is_ok(),
-        // A closed descriptor can't be doubled.
-        no_input: rt.stdin().as_fd().try_clone_to_owned().is_err(),
+        closed: Closed {
+            input: is_closed(&rt.stdin()),
+            output: is_closed(&rt.stdout()),
+            error: is_closed(&rt.stderr()),
+        },
     };
     ExitCode::from(program::run(&rt, terminals))
 }

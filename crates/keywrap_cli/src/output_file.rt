@@ -188,7 +188,7 @@ impl OutputFile<'_> {
     fn put<R: Files<File = File>>(&self, rt: &R) -> Result<(), Why> {
         self.file.file.sync_all().map_err(|error| Why::of(&error))?;
         if !self.has_its_name(rt) {
-            return Err(Why::Says("another file has the name of the new one"));
+            return Err(Why::Says("the new file lost its name"));
         }
         fs::rename(rt, self.part.as_str(), self.name).map_err(|error| Why::of(&error))
     }

@@ -1,12 +1,45 @@
-//! Standard input, as the program starts.
+//! The standard streams, as the program starts.
 
 use crate::fault::ProgramFault;
 use std::io::{self, PipeReader};
+use std::os::fd::AsFd;
 use std::rt::Files;
 
-/// Takes the place of standard input where that is closed, so that no file that is opened later
-/// does: a pipe without a writer, which reads as empty.
-pub fn hold_input<R: Files>(rt: &R, is_closed: bool) -> Result<Option<PipeReader>, ProgramFault> {
+/// Which of the standard streams are closed.
+#[derive(Clone, Copy)]
+pub struct Closed {
+    /// Standard input.
+    pub input: bool,
+    /// Standard output.
+    pub output: bool,
+    /// Standard error.
+    pub error: bool,
+}
+
+/// A closed descriptor can't be doubled.
+pub fn is_closed<F: AsFd>(stream: &F) -> bool {
+    stream.as_fd().try_clone_to_owned().is_err()
+}
+
+/// What stands in the place of the standard streams that are closed, so that no file that is opened
+/// later does: pipes without a writer, which read as empty and take no byte.
+#[derive(Drop)]
+pub struct Held {
+    _input: Option<PipeReader>,
+    _output: Option<PipeReader>,
+    _error: Option<PipeReader>,
+}
+
+/// Takes the places of those that are closed. A pipe's reader takes the lowest that is free.
+pub fn hold_closed<R: Files>(rt: &R, closed: Closed) -> Result<Held, ProgramFault> {
+    Ok(Held {
+        _input: hold(rt, closed.input)?,
+        _output: hold(rt, closed.output)?,
+        _error: hold(rt, closed.error)?,
+    })
+}
+
+fn hold<R: Files>(rt: &R, is_closed: bool) -> Result<Option<PipeReader>, ProgramFault> {
     if !is_closed {
         return Ok(None);
     }

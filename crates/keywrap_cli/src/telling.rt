@@ -79,7 +79,7 @@ impl<'a> Telling<'a> {
         match fault {
             ProgramFault::Job(fault) => self.refused_job(fault, seen),
             ProgramFault::Line(line) => {
-                let why = self.of_line(line);
+                let why = self.of_line(line, &seen.input);
                 self.refused(ProgramFault::Line(line), self.input_name(), why)
             }
             ProgramFault::Write { written } => {
@@ -151,11 +151,26 @@ impl<'a> Telling<'a> {
         }
     }
 
-    fn of_line(&self, line: RefusedLine) -> Why {
+    // Of a line it is not said how long it is.
+    fn of_line(&self, line: RefusedLine, seen: &Seen) -> Why {
         match line.fault {
             LineFault::Refused(LineRefusal::Integrity) => self.of_integrity(),
+            LineFault::Refused(LineRefusal::BadLength) => self.of_line_length(),
             LineFault::Input(FileFault::TooLong) => Why::Says("a line of more than 4194304 bytes"),
-            LineFault::Refused(LineRefusal::BadLength) | LineFault::Input(_) => Why::Named,
+            LineFault::Input(FileFault::Read) => Why::of_number(seen.error),
+            LineFault::Input(FileFault::BadDigit { .. }) => Why::Says("not hex"),
+            LineFault::Input(FileFault::OddDigits | FileFault::Memory) => Why::Named,
+        }
+    }
+
+    // The legal length; from padded to plain it may be that of the key that is not.
+    fn of_line_length(&self) -> Why {
+        match self.work {
+            Work::Rewrap { task, .. } if is_to_plain(task.forms) => Why::Named,
+            _ => match self.of_length(&Seen::default()) {
+                Why::Length { legal, .. } => Why::Says(legal),
+                why => why,
+            },
         }
     }
 
@@ -169,6 +184,16 @@ impl<'a> Telling<'a> {
             },
         })
     }
+}
+
+fn is_to_plain(forms: RewrapForms) -> bool {
+    matches!(
+        forms,
+        RewrapForms::Changed {
+            old: Form::Padded,
+            new: Form::Plain
+        }
+    )
 }
 
 const RAW: &str = "not hex; for raw bytes use --raw";

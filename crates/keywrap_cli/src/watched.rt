@@ -13,12 +13,12 @@ pub struct Seen {
     pub error: Option<i32>,
 }
 
-/// A file as it is, and what was seen of it where it is watched.
+/// A file as it is, and what was seen of it.
 #[derive(Drop)]
 pub struct Watched<F> {
     /// The file.
     pub file: F,
-    /// What was seen of it: nothing where it is not watched.
+    /// What was seen of it: where it is not watched the errors alone.
     pub seen: Seen,
     watches: bool,
 }
@@ -47,11 +47,10 @@ impl<F: Read> Read for Watched<F> {
 
     fn read(&mut self, buf: &mut [u8]) -> io::Result<usize> {
         let answer = self.file.read(buf);
-        if self.watches {
-            match &answer {
-                Ok(count) => self.seen.read(buf.get(..*count).unwrap_or(&[])),
-                Err(error) => self.seen.error = error.raw_os_error(),
-            }
+        match &answer {
+            Ok(count) if self.watches => self.seen.read(buf.get(..*count).unwrap_or(&[])),
+            Ok(_) => {}
+            Err(error) => self.seen.error = error.raw_os_error(),
         }
         answer
     }

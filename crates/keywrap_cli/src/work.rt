@@ -7,7 +7,7 @@ use crate::many::{Many, answer_lines};
 use crate::output_file::create;
 use crate::request::{Lines, Places, Work};
 use crate::statuses;
-use crate::streams::hold_input;
+use crate::streams::{Closed, hold_closed};
 use crate::telling::{SeenFiles, Telling};
 use crate::watched::{Seen, Watched};
 use crate::why::Refused;
@@ -23,11 +23,10 @@ pub struct Terminals {
     pub output: bool,
     /// Standard error is a terminal.
     pub error: bool,
-    /// Standard input is a terminal, while standard error is open. Where that is closed, the new
-    /// file may get its descriptor, and a line on what is waited for would go into the file.
+    /// Standard input is a terminal, while standard error is open.
     pub input: bool,
-    /// Standard input is closed.
-    pub no_input: bool,
+    /// Which of the three are closed.
+    pub closed: Closed,
 }
 
 /// Does what is asked with these files, with each line of the input or with the whole, and answers
@@ -53,7 +52,7 @@ pub fn run_work<R: Print + Eprint + Input + AllocGlobal + Files<File = File> + E
         alloc: rt.alloc(),
         says_why: places.verbose || terminals.error,
     };
-    let _held = hold_input(rt, terminals.no_input)?;
+    let _held = hold_closed(rt, terminals.closed)?;
     let mut keyed = open_keks(rt, &telling, iv)?;
     match places.input {
         Some(name) => {

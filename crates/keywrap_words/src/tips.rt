@@ -15,6 +15,10 @@ const CHECK: &str = "check looks at both forms, and says which one it found";
 
 const NEW_KEK: &str = "only rewrap takes --new-kek";
 
+const KEEP_FORM: &str = "only rewrap takes --keep-form";
+
+const LINES: &str = "--keep-going and --quiet go with --lines";
+
 const STDIN: &str = "a KEK on standard input is --kek /dev/stdin; a file of this name is ./-";
 
 const NEW_STDIN: &str =
@@ -98,6 +102,7 @@ fn tip_for(words: &[String], kind: ErrorKind, said: &str) -> Option<&'static str
         ErrorKind::InvalidSubcommand if !said.contains(TIP) => Some(COMMANDS),
         ErrorKind::InvalidValue => tip_on_value(said),
         ErrorKind::UnknownArgument => tip_on_argument(first_word(words), said),
+        ErrorKind::MissingRequiredArgument if said.ends_with("\n  --lines") => Some(LINES),
         _ => None,
     }
 }
@@ -127,6 +132,8 @@ fn tip_on_argument(command: Option<Command>, said: &str) -> Option<&'static str>
         Some(Command::Check) if named.starts_with("--padded'") => Some(CHECK),
         Some(Command::Wrap | Command::Unwrap | Command::Check) if named.starts_with("--new-kek'") =>
             { Some(NEW_KEK) }
+        Some(Command::Wrap | Command::Unwrap | Command::Check)
+            if named.starts_with("--keep-form'") => { Some(KEEP_FORM) }
         Some(Command::Wrap | Command::Unwrap | Command::Rewrap | Command::Check)
             if !has_tip && !named.starts_with("--") => { Some(FILES) }
         Some(Command::Drill) if !has_tip || said.contains("tip: to pass") => Some(DRILL),
