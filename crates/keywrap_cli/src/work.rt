@@ -61,7 +61,7 @@ pub fn run_work<R: Print + Eprint + Input + AllocGlobal + Files<File = File> + E
                 name,
                 &error,
             ))?;
-            let many = many(lines, places, terminals, length_of(&input));
+            let many = many(lines, places, terminals, length_of(lines, &input));
             run_from(rt, &telling, &mut keyed, many, input, None)
         }
         None => {
@@ -94,8 +94,9 @@ fn many(
     })
 }
 
-// The length of a regular file.
-fn length_of<F: OpenFile>(file: &F) -> Option<u64> {
+// The length of a regular file of lines.
+fn length_of<F: OpenFile>(lines: Option<Lines>, file: &F) -> Option<u64> {
+    let _lines = lines?;
     let about = file.metadata().ok()?;
     if about.is_file() {
         Some(about.len())
