@@ -19,15 +19,9 @@ case ${TESTS:-} in
 '' | /*) ;;
 *) TESTS=$PWD/$TESTS ;;
 esac
-# shellcheck source=tests/lib/program.sh
-. "${BASH_SOURCE[0]%/*}/lib/program.sh"
-# shellcheck source=tests/lib/expect.sh
-. "$root/tests/lib/expect.sh"
-# shellcheck source=tests/lib/answers.sh
-. "$root/tests/lib/answers.sh"
-
 # shellcheck source=tests/lib/commands.sh
-. "$root/tests/lib/commands.sh"
+. "${BASH_SOURCE[0]%/*}/lib/commands.sh"
+
 explained
 
 # beside COMMAND..: runs a part of the rows beside the others, in a folder of its own that has the files

@@ -8,12 +8,8 @@
 # usage: tests/command.sh        (KEYWRAP=PATH tries another program, as an installed one)
 
 set -u
-# shellcheck source=tests/lib/program.sh
-. "${BASH_SOURCE[0]%/*}/lib/program.sh"
-# shellcheck source=tests/lib/expect.sh
-. "$root/tests/lib/expect.sh"
 # shellcheck source=tests/lib/answers.sh
-. "$root/tests/lib/answers.sh"
+. "${BASH_SOURCE[0]%/*}/lib/answers.sh"
 keywrap=$launcher
 
 ### The drill block

@@ -10,14 +10,8 @@
 # usage: tests/faults.sh        (KEYWRAP=PATH tries another program, as an installed one)
 
 set -u
-# shellcheck source=tests/lib/program.sh
-. "${BASH_SOURCE[0]%/*}/lib/program.sh"
-# shellcheck source=tests/lib/expect.sh
-. "$root/tests/lib/expect.sh"
-# shellcheck source=tests/lib/answers.sh
-. "$root/tests/lib/answers.sh"
 # shellcheck source=tests/lib/commands.sh
-. "$root/tests/lib/commands.sh"
+. "${BASH_SOURCE[0]%/*}/lib/commands.sh"
 keywrap=$program
 
 long=$(zeros 4096)

@@ -9,16 +9,8 @@
 # usage: tests/lines.sh        (KEYWRAP=PATH tries another program, as an installed one)
 
 set -u
-# shellcheck source=tests/lib/program.sh
-. "${BASH_SOURCE[0]%/*}/lib/program.sh"
-# shellcheck source=tests/lib/expect.sh
-. "$root/tests/lib/expect.sh"
-# shellcheck source=tests/lib/answers.sh
-. "$root/tests/lib/answers.sh"
-# shellcheck source=tests/lib/commands.sh
-. "$root/tests/lib/commands.sh"
 # shellcheck source=tests/lib/output.sh
-. "$root/tests/lib/output.sh"
+. "${BASH_SOURCE[0]%/*}/lib/output.sh"
 
 # RFC 3394: the keys of three lengths under kek32 (4.3, 4.5, 4.6), and two of them under kek24 (4.2, 4.4).
 under32_16=$wrapped32

@@ -8,16 +8,8 @@
 # Owners need root, default modes setfacl, and a terminal `script`; what is lacking is skipped.
 
 set -u
-# shellcheck source=tests/lib/program.sh
-. "${BASH_SOURCE[0]%/*}/lib/program.sh"
-# shellcheck source=tests/lib/expect.sh
-. "$root/tests/lib/expect.sh"
-# shellcheck source=tests/lib/answers.sh
-. "$root/tests/lib/answers.sh"
-# shellcheck source=tests/lib/commands.sh
-. "$root/tests/lib/commands.sh"
 # shellcheck source=tests/lib/output.sh
-. "$root/tests/lib/output.sh"
+. "${BASH_SOURCE[0]%/*}/lib/output.sh"
 
 ### The help
 

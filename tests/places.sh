@@ -8,16 +8,8 @@
 # Most rows need root, or a right of the system; each is skipped without.
 
 set -u
-# shellcheck source=tests/lib/program.sh
-. "${BASH_SOURCE[0]%/*}/lib/program.sh"
-# shellcheck source=tests/lib/expect.sh
-. "$root/tests/lib/expect.sh"
-# shellcheck source=tests/lib/answers.sh
-. "$root/tests/lib/answers.sh"
-# shellcheck source=tests/lib/commands.sh
-. "$root/tests/lib/commands.sh"
 # shellcheck source=tests/lib/output.sh
-. "$root/tests/lib/output.sh"
+. "${BASH_SOURCE[0]%/*}/lib/output.sh"
 # Whatever a row leaves is removed at the end.
 trap 'chattr -R -f -ia .; rm -rf "$room"' EXIT
 to=out

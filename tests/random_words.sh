@@ -19,12 +19,8 @@ case $lines$seed in
     exit 2
     ;;
 esac
-# shellcheck source=tests/lib/program.sh
-. "${BASH_SOURCE[0]%/*}/lib/program.sh"
-# shellcheck source=tests/lib/expect.sh
-. "$root/tests/lib/expect.sh"
 # shellcheck source=tests/lib/answers.sh
-. "$root/tests/lib/answers.sh"
+. "${BASH_SOURCE[0]%/*}/lib/answers.sh"
 
 ### Random numbers, the same in each bash
 

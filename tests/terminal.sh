@@ -7,14 +7,8 @@
 # A terminal is made by `script`; without it nothing is run, and a line says so.
 
 set -u
-# shellcheck source=tests/lib/program.sh
-. "${BASH_SOURCE[0]%/*}/lib/program.sh"
-# shellcheck source=tests/lib/expect.sh
-. "$root/tests/lib/expect.sh"
-# shellcheck source=tests/lib/answers.sh
-. "$root/tests/lib/answers.sh"
 # shellcheck source=tests/lib/commands.sh
-. "$root/tests/lib/commands.sh"
+. "${BASH_SOURCE[0]%/*}/lib/commands.sh"
 
 if [ "$(script -qec 'echo here' /dev/null 2>&1 | tr -d '\r')" != here ]; then
     skip 'the program on a terminal' 'no script, or it makes no terminal' bsdutils

@@ -1,6 +1,12 @@
 # shellcheck shell=bash disable=SC2034
 # What the command is known to answer: the vectors of RFC 3394, section 4, and RFC 5649,
-# section 6, in hex, and answers over the drill block that were worked by its rule.
+# section 6, in hex, and answers over the drill block that were worked by its rule. Sourced, it begins with
+# tests/lib/program.sh and tests/lib/expect.sh.
+
+# shellcheck source=tests/lib/program.sh
+. "${BASH_SOURCE[0]%/*}/program.sh"
+# shellcheck source=tests/lib/expect.sh
+. "$root/tests/lib/expect.sh"
 
 kek=000102030405060708090a0b0c0d0e0f101112131415161718191a1b1c1d1e1f
 kek5649=5840df6e29b02af1ab493b705bf16ea1ae8338f4dcc176a8

@@ -1,6 +1,9 @@
 # shellcheck shell=bash disable=SC2154
 # The commands that the scripts of tests/ put under faults: each with its input and its answer, and a
-# refusal of each kind. Needs tests/lib/program.sh, tests/lib/expect.sh and tests/lib/answers.sh before it.
+# refusal of each kind. Sourced, it begins with tests/lib/answers.sh, and makes the files of the rows.
+
+# shellcheck source=tests/lib/answers.sh
+. "${BASH_SOURCE[0]%/*}/answers.sh"
 
 kek_files
 : >nothing

@@ -1,6 +1,9 @@
 # shellcheck shell=bash disable=SC2034,SC2154
-# What the rows on --output are written in: the file is to/file, in the folder `to`. Needs tests/lib/program.sh,
-# tests/lib/expect.sh and tests/lib/commands.sh before it.
+# What the rows on --output are written in: the file is to/file, in the folder `to`. Sourced, it begins with
+# tests/lib/commands.sh.
+
+# shellcheck source=tests/lib/commands.sh
+. "${BASH_SOURCE[0]%/*}/commands.sh"
 
 umask 022
 not_opened='keywrap: output: cannot be opened'
