@@ -1,11 +1,11 @@
 -- What a call does that rewraps one key in whichever form it is wrapped. It goes by the steps of a rewrapping, and is
 -- refused at the first that fails; the later ones are not begun.
 use Rattle.std.specs.Prelude.{◌≡◌, ◌<◌, ℕ, List, length, take, Option, Result, Ok, Err, Vec}
-use Rattle.std.specs.Io.KnownBytes.{Appends, Keeps}
+use Rattle.std.specs.Io.KnownBytes.{Appends, Consumes, Keeps}
 use Rattle.std.specs.declared.alloc.Global.{Global}
 use Rattle.aes_block.specs.Cipher.{cipher}
 use Rattle.key_wrap.specs.KeepForm.{HasNoForm, IsSomeTextLength}
-use Rattle.keywrap_cli.specs.Files.{printed}
+use Rattle.keywrap_cli.specs.Files.{Denotes, DenotesKek, printed}
 use Rattle.keywrap_cli.specs.Forms.{IsRewrappedInForm}
 use Rattle.keywrap_cli.specs.Readings.{ReadsInput, ReadsKek, kek_fault_of, new_kek_fault_of}
 use Rattle.keywrap_cli.specs.declared.job.Done.{Done}
@@ -61,3 +61,23 @@ pub record RunsKeptRewrap (notation of_keks : Notation) (kek kek' new new' input
   pub kek_answer : Result (List ℕ) KekFault
   pub kek_read : ReadsKek of_keks kek kek' kek_answer
   pub rest : KeptAfter notation of_keks kek_answer new new' input input' out out' answer
+
+-- The headline, of the bytes that a call took and wrote. The input was, in one form alone, the wrapping under AES of the
+-- old KEK of one key; what was written is that key's wrapping in that form, under AES of the new KEK.
+pub record WritesTheKeptText (notation of_keks : Notation) (kek kek' new new' input input' out out' : Option (List ℕ))
+    : Type 0 where
+  pub F : List ℕ
+  pub H : List ℕ
+  pub G : List ℕ
+  pub K : List ℕ
+  pub L : List ℕ
+  pub X : List ℕ
+  pub answer : List ℕ
+  pub kek_taken : Consumes kek kek' F
+  pub new_kek_taken : Consumes new new' H
+  pub input_taken : Consumes input input' G
+  pub old_kek : DenotesKek of_keks F K
+  pub new_kek : DenotesKek of_keks H L
+  pub text : Denotes notation G X
+  pub rewrapped : IsRewrappedInForm (cipher K) (cipher L) X answer
+  pub written : Appends out out' (printed notation answer)

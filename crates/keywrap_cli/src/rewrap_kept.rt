@@ -1,6 +1,7 @@
 //! Rewrapping in whichever form the wrapped key is in.
 
-ghost use Rattle.keywrap_cli.specs.KeptForm.{KeptTextAnswer, RunsKeptRewrap};
+ghost use Rattle.std.specs.Prelude.{IsOk};
+ghost use Rattle.keywrap_cli.specs.KeptForm.{KeptTextAnswer, RunsKeptRewrap, WritesTheKeptText};
 
 use crate::files::read_input;
 use crate::job::{Done, JobFault, Notation, kek_fault};
@@ -31,6 +32,14 @@ pub fn run_rewrap_keeping_form<K: Read, N: Read, R: Read, W: Write>(
         (N.remaining new_kek.old) (N.remaining new_kek.new)
         (R.remaining input.old) (R.remaining input.new)
         (W.contents out.old) (W.contents out.new) result }
+
+    // What is written wraps exactly the key that the input was the wrapping of, in the form of the
+    // input, which is one form alone.
+    ensures headline { IsOk result → WritesTheKeptText input_notation kek_notation
+        (K.remaining old_kek.old) (K.remaining old_kek.new)
+        (N.remaining new_kek.old) (N.remaining new_kek.new)
+        (R.remaining input.old) (R.remaining input.new)
+        (W.contents out.old) (W.contents out.new) }
 {
     let old = match read_kek(alloc, kek_notation, old_kek) {
         Ok(old) => old,
