@@ -20,9 +20,12 @@ PYTHON ?= python3
 soname = libkeywrap.so.1
 shared = $(soname).0.0
 wheel = $(DIST)/keywrap-$(version)-cp39-abi3-linux_x86_64.whl
-# The crate of the exports, and those that crates.txt names below it.
+# What the library is made of: the sources of the exports' crate and of those that crates.txt names below it,
+# unless the archive is one from elsewhere.
+of_exports = $(filter crates/%,$(ARCHIVE))
 crates = keywrap_c $(shell sed -n 's/^keywrap_c staticlib: *//p' crates.txt)
-sources = $(shell find crates.txt $(foreach c,$(crates),$(wildcard crates/$(c)/src crates/$(c)/specs crates/$(c)/proofs)))
+folders = $(wildcard $(foreach crate,$(crates),$(addprefix crates/$(crate)/,src specs proofs)))
+made_of = include/keywrap.map $(if $(of_exports),$(shell find crates.txt $(folders) -type f),'$(ARCHIVE)')
 
 bin = $(DESTDIR)$(PREFIX)/bin
 lib = $(DESTDIR)$(PREFIX)/lib
@@ -33,7 +36,7 @@ for_bash = $(share)/bash-completion/completions
 for_zsh = $(share)/zsh/site-functions
 for_fish = $(share)/fish/vendor_completions.d
 
-.PHONY: help version build library test install uninstall install-command uninstall-command \
+.PHONY: help version build library library-anew test install uninstall install-command uninstall-command \
     install-library uninstall-library wheel dist dist-command dist-library bench clean
 
 help:
@@ -59,34 +62,31 @@ version:
 build:
 	@./keywrap --version >/dev/null
 
-# Built where that is not done, or where one of the files that it is made of has another content than then:
-# what comes out of an archive keeps its old time. A source that is changed while rt works is no longer what
-# was written down before.
-made_of = $(if $(filter crates/%,$(ARCHIVE)),$(shell find $(sources) -maxdepth 0 -type f),'$(ARCHIVE)') \
-    include/keywrap.map
-.PHONY: always
-$(LIBRARY)/libkeywrap.a: always
-	@b2sum --check --status '$(LIBRARY)/built_from' 2>/dev/null || { set -ex; install -d '$(LIBRARY)'; \
-	    b2sum $(made_of) >'$(LIBRARY)/begun'; \
-	    [ '$(ARCHIVE)' != crates/keywrap_c/out/libkeywrap_c.a ] || (cd crates/keywrap_c && rt lib); \
-	    install -m 644 '$(ARCHIVE)' '$@'; \
-	    b2sum '$@' >>'$(LIBRARY)/begun'; mv '$(LIBRARY)/begun' '$(LIBRARY)/built_from'; }
+# Made where that is not done, or where a file that it is made of, or one of its own, has another content than
+# then: what comes out of an archive keeps its old time.
+library:
+	@b2sum --check --status '$(LIBRARY)/built_from' 2>/dev/null || $(MAKE) --no-print-directory library-anew
 
-# The loader finds it by its soname; a hard link, since no symbolic one stands in this folder.
-$(LIBRARY)/$(shared): $(LIBRARY)/libkeywrap.a include/keywrap.map
-	$(CC) -shared -o '$@' -Wl,--whole-archive '$<' -Wl,--no-whole-archive -Wl,-soname,$(soname) \
-	    -Wl,--version-script,include/keywrap.map -Wl,-z,defs,-z,relro,-z,now
-	ln -f '$@' '$(LIBRARY)/$(soname)'
-
-library: $(LIBRARY)/libkeywrap.a $(LIBRARY)/$(shared)
+# A source that is changed while rt works is no longer what was written down before. The loader finds the
+# shared object by its soname; a hard link, since no symbolic one stands in this folder.
+library-anew:
+	install -d '$(LIBRARY)'
+	b2sum $(made_of) >'$(LIBRARY)/begun'
+	$(if $(of_exports),cd crates/keywrap_c && rt lib)
+	install -m 644 '$(ARCHIVE)' '$(LIBRARY)/libkeywrap.a'
+	$(CC) -shared -o '$(LIBRARY)/$(shared)' -Wl,--whole-archive '$(LIBRARY)/libkeywrap.a' -Wl,--no-whole-archive \
+	    -Wl,-soname,$(soname) -Wl,--version-script,include/keywrap.map -Wl,-z,defs,-z,relro,-z,now
+	ln -f '$(LIBRARY)/$(shared)' '$(LIBRARY)/$(soname)'
+	b2sum '$(LIBRARY)/libkeywrap.a' '$(LIBRARY)/$(shared)' '$(LIBRARY)/$(soname)' >>'$(LIBRARY)/begun'
+	mv '$(LIBRARY)/begun' '$(LIBRARY)/built_from'
 
 # The package is built beside the header and the archive, in a folder of its own.
-wheel: $(LIBRARY)/libkeywrap.a
+wheel: library
 	rm -rf '$(LIBRARY)/python'
 	cp -R python '$(LIBRARY)/python'
 	cp include/keywrap.h '$(LIBRARY)/libkeywrap.a' '$(LIBRARY)/python'
-	$(PYTHON) -m build --wheel --no-isolation --outdir '$(abspath $(DIST))' '$(LIBRARY)/python' >'$(LIBRARY)/wheel.log' || \
-	    { cat '$(LIBRARY)/wheel.log'; exit 1; }
+	$(PYTHON) -m build --wheel --no-isolation --outdir '$(abspath $(DIST))' '$(LIBRARY)/python' \
+	    >'$(LIBRARY)/wheel.log' || { cat '$(LIBRARY)/wheel.log'; exit 1; }
 
 dist-library: library wheel
 	scripts/dist_library.sh '$(LIBRARY)' '$(version)' '$(DIST)'

@@ -11,245 +11,168 @@ set -u
 # shellcheck source=tests/lib/expect.sh
 . "$root/tests/lib/expect.sh"
 
-cp -R "$root"/{keywrap,Makefile,man,completions,include,scripts} .
+mkdir -p 'a tree'/{bin,tmp,far/'a tree'}
+cd 'a tree' || exit
+cp -R "$root"/{keywrap,Makefile,man,completions,include,scripts,python} .
 sed -i "1s|.*|#!${SH:-/bin/sh}|" keywrap
-crates=(block_pair aes_block key_wrap keywrap_cli)
-cat >crates.txt <<'END_OF_CRATES'
-# A tree of this form.
-block_pair:
-aes_block: block_pair byteorder
-key_wrap: block_pair
-keywrap_c staticlib: block_pair aes_block key_wrap
-keywrap_cli: block_pair aes_block key_wrap clap
-END_OF_CRATES
+crates=(block_pair aes_block keywrap_cli)
+printf '%s\n' block_pair: 'aes_block: block_pair byteorder' 'keywrap_c staticlib: block_pair aes_block' \
+    'keywrap_cli: block_pair aes_block clap' >crates.txt
 for crate in "${crates[@]}" keywrap_c; do
-    mkdir -p "crates/$crate"/{src/part,specs,proofs/part}
-    echo first | tee "crates/$crate"/{src/{lib,part/other}.rt,{specs/Lib,proofs/part/Answers}.antt} >/dev/null
+    mkdir -p "crates/$crate"/{src,specs,proofs/part}
+    echo first | tee "crates/$crate"/{src/lib.rt,specs/Lib.antt,proofs/part/Answers.antt} >/dev/null
 done
 echo '    .version("1.2.3")' >crates/keywrap_cli/src/commands.rt
-mkdir bin tmp
-export room PATH=$room/bin:$PATH TMPDIR=$room/tmp TERM=xterm
-built=crates/keywrap_cli/out/keywrap_cli
+program=crates/keywrap_cli/out/keywrap_cli
+archive=crates/keywrap_c/out/libkeywrap_c.a
+export tree=$PWD helpers=$root/tests/lib/expect.sh PATH=$PWD/bin:$PATH TMPDIR=$PWD/tmp TERM=xterm
 
-# The stand-in for rt. $refused, $held and $edited name the crate that it refuses, where it waits to be
-# ended, and of which it changes a source; $screen is the file where what it says is to be shown.
-cat >bin/rt <<'END_OF_RT'
+# The stand-in for rt: in the crate $at it runs $event, and it waits until what it says is in the file $screen.
+# Each program and archive that it builds is another. The program says who called it, and with which words.
+install -m 755 /dev/stdin bin/rt <<'END_OF_RT'
 #!/bin/bash
+. "$helpers"
 crate=${PWD##*/}
-trap 'echo "ended $crate" >>"$room/notes"; exit 143' TERM
-echo $$ >>"$room/pids"
-echo "$crate: $*" >>"$room/notes"
-. "$room/until.sh"
-echo 'so far: 3 of 9 functions checked'
-[ -z "${screen:-}" ] || until_true grep -qF "$crate: so far: 3 of 9 functions" "$screen"
-[ "${held:-}" != "$crate" ] || until_true false
-[ "${edited:-}" != "$crate" ] || echo other >>src/lib.rt
-[ "${refused:-}" != "$crate" ] || exit 1
-mkdir -p out
-case $crate in
-keywrap_c)
-    echo 'int keywrap_wrap(void) { return 0; }' | cc -x c -fPIC -c - -o one.o
-    ar rc out/libkeywrap_c.a one.o
-    ;;
-keywrap_cli)
-    printf '#!/bin/sh\necho "%s, of process $$, $# words: $*"\n[ "$1" = --version ] || exit 5\n' "$(paste -sd ' ' src/lib.rt)" \
-        >out/keywrap_cli
-    chmod +x out/keywrap_cli
-    ;;
-esac
-echo "ends $crate" >>"$room/notes"
+trap 'echo "ended $crate" >>"$tree/notes"; exit 143' INT TERM
+echo "$crate: $*" >>"$tree/notes"
+echo 'the first line'
+echo 'so far: 3 of 9 functions checked, which is all that fits' >&2
+[ -z "${screen:-}" ] || until_true grep -qF "$crate: so far: 3 of 9" "$screen"
+[ "${at:-}" != "$crate" ] || eval "$event"
+install -D -m 755 /dev/stdin out/keywrap_cli <<END_OF_PROGRAM
+#!/bin/sh
+echo "child of \$PPID, \$# words: \$*"
+[ "\$1" = --version ] || exit 5
+# $(date +%N)
+END_OF_PROGRAM
+cp out/keywrap_cli out/libkeywrap_c.a
+echo "ends $crate" >>"$tree/notes"
 END_OF_RT
-chmod +x bin/rt
-declare -f until_true >until.sh
 
-# launched NAME STATUS ANSWER LINES: the run that ended with $status and wrote `out` and `err` did so, where the
-# folder of the logs in `err` stands as LOGS; it left nothing in the folder for temporary files, and no rt.
-launched() {
-    sed -i 's/(logs: .*)/(logs: LOGS)/' err
-    verdict "$1" "$(
-        [ "$status" = "$2" ] || echo "status $status, not $2"
-        printf '%s' "$3" | diff - out
-        printf '%s' "$4" | diff - err
-        ls tmp
-        [ ! -s pids ] || ps -o args= -p "$(paste -sd , pids)"
-    )"
-}
-# noted NAME NOTE..: the stand-in noted these, in this order, since it was `anew` or built `fresh`.
-noted() { verdict "$1" "$(diff notes <([ $# = 1 ] || printf '%s\n' "${@:2}"))"; }
-anew() { tee pids >notes </dev/null; }
-fresh() { rm -rf crates/*/out && anew; }
-# launch ARGUMENT..: runs the launcher.
+fresh() { rm -rf crates/*/out && : >notes; }
+# append FILE: makes it another.
+append() { echo other >>"$1"; }
+# launch ARGUMENT..: runs the launcher. A signal that this script ignores would be ignored by it too.
 launch() {
-    ./keywrap "$@" >out 2>err &
-    process=$!
-    wait $process
+    /usr/bin/env --default-signal "$tree/keywrap" "$@" >out 2>err
     status=$?
 }
-# append FILE: makes it another. rebuilds COMMAND NOTE..: after each change that a line of its input makes, rt is
-# called for these, and not a second time. The sources are old, as what comes out of an archive is.
-append() { echo other >>"$1"; }
+# noted NAME NOTE..: these are the notes, in this order.
+noted() { verdict "$1: what is built" "$(diff notes <([ $# = 1 ] || printf '%s\n' "${@:2}"))"; }
+# launched NAME STATUS ANSWER LINES NOTE..: the run ended so, and left no temporary file, and no rt.
+launched() {
+    sed -i '/^mktemp: /d; s/(log: .*)/(log: LOG)/' err
+    printf '%s' "$3" >wanted.out
+    ended "$1" "$2" wanted.out "$4"
+    noted "$1" "${@:5}"
+    verdict "$1: what is left" "$(ls tmp; pgrep -af "$tree/bin/rt")"
+}
+# rebuilds COMMAND NOTE..: after each change that a line of its input makes, the command has this done, and
+# not a second time. The sources are old, as what comes out of an archive is.
 rebuilds() {
+    local change
     while read -r change; do
-        row "$change" eval "$change"
+        eval "$change" >/dev/null 2>&1
         find crates.txt include crates/*/{src,specs,proofs} -exec touch -d 2020-01-01 {} + 2>/dev/null
-        anew
-        # shellcheck disable=SC2086
-        row "$1: $change" $1
-        noted "$1 after $change" "${@:2}"
-        # shellcheck disable=SC2086
-        row "$1 again: $change" $1
-        noted "$1 once after $change" "${@:2}"
+        : >notes
+        row "$1, twice after $change" eval "$1 && echo again >>notes && $1"
+        noted "$1, twice after $change" "${@:2}" again
     done
 }
 
-steps=()
-for crate in "${crates[@]}"; do
-    steps+=("$crate: lib" "ends $crate")
-done
-steps[6]='keywrap_cli: run -- --version'
-starts='keywrap: proving and building the program, several minutes the first time (logs: LOGS)
-'
+steps=('block_pair: lib' 'ends block_pair' 'aes_block: lib' 'ends aes_block' 'keywrap_cli: run -- --version'
+    'ends keywrap_cli')
+starts='keywrap: proving and building the program, several minutes the first time (log: LOG)'
 
-### When it is built
+### When it is built, and from where it is called
 
-anew
+fresh
+PATH=$tree/tmp launch
+launched 'no rt' 70 '' 'keywrap: not built yet, and rt, which proves and builds it, is not on the PATH'
+TMPDIR=$tree/missing launch
+launched 'no file for the log' 70 '' "keywrap: no file for the build's log"
 launch a 'b c'
-launched 'the first use' 5 "first, of process $process, 2 words: a b c"$'\n' "$starts"
-noted 'the crates of crates.txt one after another, and then the program' "${steps[@]}"
-find . -name '*.rt' -exec touch {} +
-anew
-launch again
-launched 'the second use, of sources with other times' 5 "first, of process $process, 1 words: again"$'\n' ''
-noted 'nothing is proved a second time'
+launched 'the first use' 5 "child of $$, 2 words: a b c"$'\n' "$starts" "${steps[@]}"
+ln -s ../keywrap far/link
+: >notes
+find crates -name '*.rt' -exec touch {} +
+for way in far/link 'sh keywrap' "PATH='$tree':\$PATH && cd / && keywrap" \
+    "cd .. && CDPATH='$tree/far' 'a tree/keywrap'"; do
+    verdict "$way" "$(eval "$way --version" 2>&1 | grep -vx 'child of [0-9]*, 1 words: --version'; cat notes)"
+done
 rebuilds './keywrap --version' "${steps[@]}" <<END_OF_CHANGES
-append crates.txt
-append crates/block_pair/src/lib.rt
-append crates/key_wrap/src/part/other.rt
+echo first >crates/block_pair/src/added.rt; append crates.txt
+append crates/block_pair/src/added.rt
 append crates/aes_block/specs/Lib.antt
-append crates/keywrap_cli/proofs/part/Answers.antt
-rm crates/block_pair/specs/Lib.antt
 rm -r crates/keywrap_cli/proofs
-rm $built
-chmod -x $built
-touch -d tomorrow $built
-fresh; edited=block_pair launch
+chmod -x $program
+touch -d tomorrow $program
+fresh; at=block_pair event='echo other >>src/lib.rt' launch
+append crates/aes_block/src/lib.rt; at=aes_block event='exit 1' launch
+append crates/aes_block/src/lib.rt; at=keywrap_cli event='kill -s KILL \$\$' launch
+fresh; (trap '' XFSZ; at=keywrap_cli event='prlimit --fsize=999 --pid \$PPID' ./keywrap)
 END_OF_CHANGES
 
-### From where
+### What ends a build
 
-mkdir -p far/"${room##*/}"
-ln -s ../keywrap far/link
-while read -r way; do
-    anew
-    (eval "$way" >"$room/out" 2>"$room/err")
-    verdict "$way" "$(grep -v ': b$' out; cat err)"
-    noted "$way: it is built"
-done <<'END_OF_WAYS'
-far/link b
-cd / && "$room/far/link" b
-PATH=$room:$PATH keywrap b
-cd .. && CDPATH=$room/far "${room##*/}/keywrap" b
-sh keywrap b
-END_OF_WAYS
-
-### What is refused
-
-for crate in "${crates[@]}"; do
+rm -r crates/aes_block/specs && : >notes
+at=aes_block event='exit 1' launch
+launched 'a crate is not proved' 70 '' "$starts
+the first line
+so far: 3 of 9 functions checked, which is all that fits
+keywrap: the build failed" "${steps[@]:0:3}"
+for signal in HUP INT QUIT TERM; do
     fresh
-    refused=$crate launch
-    launched "$crate is not proved" 70 '' "${starts}so far: 3 of 9 functions checked
-keywrap: the build failed
-"
-    verdict "$crate is not proved: nothing comes after it" "$(tail -n 1 notes | grep -v "^$crate: ")"
+    at=keywrap_cli event="kill -s $signal \$PPID; until_true false" launch 2>/dev/null
+    launched "$signal" "$((128 + $(kill -l $signal)))" '' "$starts" "${steps[@]:0:5}" 'ended keywrap_cli'
 done
-rebuilds './keywrap --version' "${steps[@]}" <<<true
-fresh
-TMPDIR=$room/missing launch
-sed -i '/^mktemp: /d' err
-launched 'no folder for the logs' 70 '' "keywrap: no folder for the build's logs"$'\n'
-PATH=/usr/bin:/bin launch
-[ -x /usr/bin/rt ] || [ -x /bin/rt ] || launched 'no rt' 70 '' \
-    'keywrap: not built yet, and rt, which proves and builds it, is not on the PATH
-'
-# Where a signal comes while a crate is proved, rt is ended, and then the launcher by it. Signals that this
-# script ignores are ignored by what it starts, unless env has them by default.
-while read -r signal number crate; do
-    fresh
-    held=$crate env --default-signal ./keywrap g >out 2>err &
-    until_true grep -q "^$crate: " notes
-    kill -s "$signal" $!
-    { wait $!; } 2>/dev/null
-    status=$?
-    launched "$signal in $crate" "$number" '' "$starts"
-    verdict "$signal in $crate ends rt" "$(tail -n 1 notes | grep -vx "ended $crate")"
-    verdict "$signal in $crate leaves no program" "$(ls $built ${built%/*}/built_from* 2>/dev/null)"
-done <<'END_OF_SIGNALS'
-TERM 143 block_pair
-HUP 129 block_pair
-INT 130 block_pair
-QUIT 131 block_pair
-TERM 143 keywrap_cli
-INT 130 keywrap_cli
-END_OF_SIGNALS
 
 ### On a terminal
 
-# on_screen LINE [KEYS CRATE]: runs a line of sh on a terminal, where KEYS are pressed once it says how far the
-# crate is. What is shown comes as the file `screen`; `err` has the launcher's lines that were not rewritten.
+# on_screen: runs the launcher on a terminal, whose keys are what is written to the pipe `keys`. What it shows
+# comes as the file `screen`; `err` has the launcher's lines that were not rewritten.
+mkfifo keys && exec 3<>keys
 on_screen() {
     fresh
-    : >screen
-    {
-        [ $# = 1 ] || { until_true grep -qF "$3: so far" screen && printf '%b' "$2"; }
-        # The terminal closes with its input.
-        until_true grep -q COMMAND_EXIT_CODE screen
-    } | SHELL=/bin/sh timeout 240 script -qefc "$1" screen >/dev/null
-    status=${PIPESTATUS[1]}
-    sed -n '/^keywrap: proving/,$p' screen | tr -d '\r' | sed 's/.*\x1b\[K//; /^Script done/d; /^$/d' >err
+    SHELL=/bin/sh timeout 240 script -qefc 'exec env --default-signal ./keywrap h >out' screen <&3 >/dev/null
+    status=$?
+    tr -d '\r' <screen | sed -n '/^keywrap: proving/,$ { s/.*\x1b\[K//; /^Script done/d; /./p }' >err
 }
 if has script bsdutils 'the launcher on a terminal'; then
-    export screen=$room/screen
-    on_screen 'exec env --default-signal ./keywrap h >out'
-    launched 'the first use on a terminal' 5 "$(<out)"$'\n' "$starts"
-    verdict 'how far it is' "$(grep -o '[0-9]* s, crate [^:]*: so far: 3 of 9' screen | sort -nsu | sed 's/.* s, //' |
-        uniq | diff - <(for n in 1 2 3 4; do echo "crate $n of 4, ${crates[n - 1]}: so far: 3 of 9"; done))"
-    held=key_wrap on_screen 'exec env --default-signal ./keywrap k >out' '\003' key_wrap
-    launched 'Ctrl-C' 130 '' "$starts"
-    unset screen
-    TERM=dumb on_screen './keywrap m >out'
-    launched 'a terminal that cannot rewrite a line' 5 "$(<out)"$'\n' "$starts"
+    TERM=dumb on_screen
+    verdict 'a terminal that cannot rewrite a line' "$(grep $'\e' screen)"
+    screen=$tree/screen on_screen
+    launched 'the first use on a terminal' 5 "$(<out)"$'\n' "$starts" "${steps[@]}"
+    verdict 'how far it is' "$(grep -oE '[0-9]+ s, crate [^:]*: so far: 3 of 9' screen | sed 's/.* s, //' | uniq |
+        diff - <(for i in 0 1 2; do echo "crate $((i + 1)) of 3, ${crates[i]}: so far: 3 of 9"; done)
+        grep -oP '\e\[K\K[^\r\e]{80,}' screen)"
+    screen=$tree/screen at=aes_block event='printf "\003" >../../keys; until_true false' on_screen
+    launched 'Ctrl-C' 130 '' "$starts" "${steps[@]:0:3}" 'ended aes_block'
 fi
 
-### make build, install, dist and library
+### make
 
-while read -r target program; do
-    rebuilds "make -s $target DIST=tmp DESTDIR=$room/tmp PREFIX=" "${steps[@]}" <<<'append crates/keywrap_cli/src/lib.rt'
-    [ "$target" != dist-command ] || tar -xzf tmp/keywrap-1.2.3-x86_64-linux.tar.gz -C tmp
-    verdict "make $target takes what is built" \
-        "$("$program" --version | grep -vF "$(paste -sd ' ' crates/keywrap_cli/src/lib.rt), of")"
-done <<END_OF_TARGETS
-build $built
-install-command tmp/bin/keywrap
-dist-command tmp/keywrap-1.2.3-x86_64-linux/bin/keywrap
-END_OF_TARGETS
-library='make -s library LIBRARY=library'
-refused() { ! refused=keywrap_c $library; }
-if has cc gcc 'make library'; then
-    rebuilds "$library" 'keywrap_c: lib' 'ends keywrap_c' <<'END_OF_CHANGES'
-[ ! -e library ]
+# For a compiler stands what is noted, and has a copy of the archive as the shared object.
+export PYTHON=true CC='echo linked >>notes; cp library/libkeywrap.a library/libkeywrap.so.1.0.0; :'
+make='make -s LIBRARY=library DIST=dist DESTDIR=stage/ PREFIX=usr'
+linked=('keywrap_c: lib' 'ends keywrap_c' linked)
+rebuilds "$make wheel && cmp library/python/libkeywrap.a $archive" "${linked[@]}" <<<true
+rebuilds "$make install && cmp stage/usr/bin/keywrap $program && cmp stage/usr/lib/libkeywrap.so $archive" \
+    "${steps[@]}" "${linked[@]}" <<<'append crates/aes_block/src/lib.rt'
+same 'make install keeps to DESTDIR and PREFIX' $'bin\ninclude\nlib\nshare' "$(ls stage/usr)"
+verdict 'make uninstall leaves nothing' "$($make uninstall; find stage ! -type d)"
+rebuilds "$make dist && cat dist/*.gz | tar -xzif - && cmp keywrap-1.2.3-*/bin/keywrap $program &&
+    cmp keywrap-library-1.2.3-*/lib/libkeywrap.so $archive && cmp library/python/libkeywrap.a $archive" \
+    "${steps[@]}" "${linked[@]}" <<<'append crates/aes_block/src/lib.rt'
+rebuilds "$make library" "${linked[@]}" <<END_OF_CHANGES
 append crates.txt
-append crates/block_pair/src/lib.rt
-append crates/aes_block/specs/Lib.antt
-append crates/key_wrap/proofs/part/Answers.antt
-append crates/keywrap_c/src/part/other.rt
-sed -i '1i /* another */' include/keywrap.map
-rm crates/key_wrap/specs/Lib.antt
+append crates/keywrap_c/proofs/part/Answers.antt
+append include/keywrap.map
+rm -r crates/block_pair/specs
 rm library/libkeywrap.a
-append crates/aes_block/src/lib.rt; edited=keywrap_c $library
-append crates/aes_block/src/lib.rt; refused
+append crates/block_pair/src/lib.rt; at=keywrap_c event='echo other >>src/lib.rt' $make library
+append crates/block_pair/src/lib.rt; at=keywrap_c event='exit 1' $make library
 END_OF_CHANGES
-    verdict 'the shared object is linked again' \
-        "$(find library -name 'libkeywrap.so*' ! -newer library/libkeywrap.a)"
-fi
+rebuilds "$make library ARCHIVE=another.a" linked <<<'rm -r library; append another.a'
 
 finish
