@@ -23,8 +23,7 @@ for crate in "${crates[@]}" keywrap_c; do
     echo first | tee "crates/$crate"/{src/lib.rt,specs/Lib.antt,proofs/part/Answers.antt} >/dev/null
 done
 echo '    .version("1.2.3")' >crates/keywrap_cli/src/commands.rt
-program=crates/keywrap_cli/out/keywrap_cli
-archive=crates/keywrap_c/out/libkeywrap_c.a
+program=crates/keywrap_cli/out/keywrap_cli archive=crates/keywrap_c/out/libkeywrap_c.a
 export tree=$PWD helpers=$root/tests/lib/expect.sh PATH=$PWD/bin:$PATH TMPDIR=$PWD/tmp TERM=xterm
 
 # The stand-in for rt: in the crate $at it runs $event, and it waits until what it says is in the file $screen.
@@ -80,8 +79,9 @@ rebuilds() {
     done
 }
 
-steps=('block_pair: lib' 'ends block_pair' 'aes_block: lib' 'ends aes_block' 'keywrap_cli: run -- --version'
-    'ends keywrap_cli')
+jobs=$(($(nproc) < 4 ? $(nproc) : 4))
+steps=("block_pair: lib --jobs $jobs" 'ends block_pair' "aes_block: lib --jobs $jobs" 'ends aes_block'
+    "keywrap_cli: run --jobs $jobs -- --version" 'ends keywrap_cli')
 starts='keywrap: proving and building the program, several minutes the first time (log: LOG)'
 
 ### When it is built, and from where it is called
