@@ -1,17 +1,9 @@
-//! Worked rows and published vectors, through the public calls.
+//! What no contract says: that Memory, Read and Write come only with cause, that no fault is tried
+//! again, and what neither a contract nor a command line shows.
 
-mod cases;
-mod checks;
+mod calls;
 mod doubles;
-mod drills;
 mod faults;
-mod help;
-mod hostile;
-mod initial_values;
-mod jobs;
-mod limits;
-mod lines;
-mod requests;
-mod rewraps;
-mod standards;
-mod vectors;
+mod growths;
+mod lengths;
+mod messages;
