@@ -3,5 +3,6 @@ mod Blocks
 mod Ends
 mod Passing
 mod Runs
+mod Showing
 mod Splitting
 mod Takings

@@ -58,7 +58,7 @@ ReadsLine-ended {limit} {a} {b} {c} {before} {after} t m =
       m.4,
     )
 
-length-nil : (l : List ℕ) → length l ≡ 0 → l ≡ []
+pub length-nil : (l : List ℕ) → length l ≡ 0 → l ≡ []
 length-nil [] h = refl
 length-nil (x ∷ xs) h = absurd (omega (arith, h))
 

@@ -249,10 +249,12 @@ fn pass<F: Drop, L: RefusalLog<F>>(
 fn is_own<F>(fault: &LineFault<F>) -> bool
     ensures { result ≡ is_own fault.now }
 {
-    matches!(
-        fault,
-        LineFault::Refused(_) | LineFault::Input(FileFault::BadDigit { .. } | FileFault::OddDigits)
-    )
+    match fault {
+        LineFault::Refused(_) => true,
+        LineFault::Input(FileFault::BadDigit { .. }) => true,
+        LineFault::Input(FileFault::OddDigits) => true,
+        LineFault::Input(_) => false,
+    }
 }
 
 // The answer to a line, in `output`.
