@@ -8,7 +8,7 @@ use key_wrap::InitialValue;
 use thiserror::Error;
 
 /// Why a text names no initial value.
-#[derive(Clone, Copy, Debug, PartialEq, Eq, Error)]
+#[derive(Clone, Copy, Debug, PartialEq, Error)]
 pub enum IvFault {
     /// The text is not 16 hex digits.
     #[error("--iv is not 16 hex digits")]

@@ -12,7 +12,7 @@ use std::io::Read;
 pub use aes_vector::VectorAes as Aes;
 
 /// Why a file gives no KEK. Its caller names which KEK it is.
-#[derive(Clone, Copy, Debug, PartialEq, Eq)]
+#[derive(Clone, Copy)]
 pub enum KekFault {
     /// The file denotes no bytes, or a growth was refused while it was read.
     File(FileFault),

@@ -16,7 +16,7 @@ use std::alloc::Global;
 use std::cell::Cell;
 
 /// Why the bytes of a line have no answer.
-#[derive(Clone, Copy, Debug, PartialEq, Eq)]
+#[derive(Clone, Copy, Debug, PartialEq)]
 pub enum LineRefusal {
     /// The key or the wrapped key has no legal length in this form.
     BadLength,

@@ -17,7 +17,7 @@ use std::cell::Cell;
 use std::io::{BufRead, Read, Write};
 
 /// What a run that was not stopped did.
-#[derive(Clone, Copy, Debug, PartialEq, Eq)]
+#[derive(Clone, Copy, PartialEq)]
 pub struct LinesDone {
     /// How many lines were answered.
     pub lines: u64,
@@ -26,7 +26,7 @@ pub struct LinesDone {
 }
 
 /// Why a run over lines did not answer all of them, or not all of its answers were written.
-#[derive(Clone, Copy, Debug, PartialEq, Eq)]
+#[derive(Clone, Copy, PartialEq)]
 pub enum LinesFault {
     /// Before the first line: KekFile, KekLength, NewKekFile, NewKekLength or Memory. Nothing was
     /// read of the input, and nothing written.

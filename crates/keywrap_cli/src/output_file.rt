@@ -151,6 +151,10 @@ fn make_like(new: &File, old: &Metadata) -> Result<(), Why> {
     }
 }
 
+fn said(error: io::Error) -> Why {
+    Why::of(&error)
+}
+
 fn unkept(error: io::Error) -> Why {
     Why::Unkept(error.raw_os_error())
 }
@@ -186,11 +190,11 @@ impl OutputFile<'_> {
     }
 
     fn put<R: Files<File = File>>(&self, rt: &R) -> Result<(), Why> {
-        self.file.file.sync_all().map_err(|error| Why::of(&error))?;
+        self.file.file.sync_all().map_err(said)?;
         if !self.has_its_name(rt) {
             return Err(Why::Says("the new file lost its name"));
         }
-        fs::rename(rt, self.part.as_str(), self.name).map_err(|error| Why::of(&error))
+        fs::rename(rt, self.part.as_str(), self.name).map_err(said)
     }
 
     // Whether the new file still has the name that it was made under: where someone removed it,
@@ -232,7 +236,7 @@ fn is_not_offered(kind: io::ErrorKind) -> bool {
 
 fn folder_of(name: &str) -> &str {
     match name.rsplit_once('/') {
-        Some(("", _)) => "/",
+        Some((folder, _)) if folder.is_empty() => "/",
         Some((folder, _)) => folder,
         None => ".",
     }

@@ -100,8 +100,10 @@ pub(crate) fn write_help<W: Write>(text: &str, out: &mut W) -> Result<u8, Progra
 fn flush<W: Write>(out: &mut W, status: u8) -> Result<u8, ProgramFault>
     ensures { IfOk result (λ answer. answer ≡ status) }
 {
-    out.flush().map_err(|_| ProgramFault::Flush)?;
-    Ok(status)
+    match out.flush() {
+        Ok(()) => Ok(status),
+        Err(_) => Err(ProgramFault::Flush),
+    }
 }
 
 // The exit status of a request that was answered or refused.

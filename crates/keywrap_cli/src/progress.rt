@@ -97,7 +97,7 @@ impl<'a, R: Eprint + Clock + Env + AllocGlobal> Progress<'a, R> {
 // A terminal without a name, or a dumb one, has no such control.
 fn rewrites<R: Env + AllocGlobal>(rt: &R) -> bool {
     match env::var(rt, "TERM") {
-        Ok(name) => !matches!(name.as_str(), "" | "dumb"),
+        Ok(name) => !name.is_empty() && name.as_str() != "dumb",
         Err(_) => false,
     }
 }

@@ -68,16 +68,22 @@ pub struct Places<'a> {
 impl Work<'_> {
     /// The initial value of the text of `--iv`; the default where there is none.
     pub fn initial_value(&self) -> Result<InitialValue, ProgramFault> {
-        match self {
-            Work::Job { iv: Some(iv), .. } => parse_iv(iv).map_err(ProgramFault::Iv),
-            Work::Job { iv: None, .. } | Work::Rewrap { .. } => Ok(InitialValue::default()),
+        let Work::Job { iv: Some(iv), .. } = self else {
+            return Ok(InitialValue::default());
+        };
+        match parse_iv(iv) {
+            Ok(iv) => Ok(iv),
+            Err(fault) => Err(ProgramFault::Iv(fault)),
         }
     }
 
     /// Whether the answer is raw bytes. A check answers with a line.
     pub fn writes_raw(&self) -> bool {
-        !matches!(self, Work::Job { task, .. } if task.job == Job::Check)
-            && self.notation() == Notation::Raw
+        let is_check = match self {
+            Work::Job { task, .. } => matches!(task.job, Job::Check),
+            Work::Rewrap { .. } => false,
+        };
+        !is_check && matches!(self.notation(), Notation::Raw)
     }
 
     /// What is said while standard input, a terminal, is waited for.
@@ -95,7 +101,7 @@ impl Work<'_> {
     // Whether the input is a key; else it is a wrapped key.
     fn takes_key(&self) -> bool {
         match self {
-            Work::Job { task, .. } => task.job == Job::Wrap,
+            Work::Job { task, .. } => matches!(task.job, Job::Wrap),
             Work::Rewrap { .. } => false,
         }
     }
@@ -110,7 +116,10 @@ impl Work<'_> {
 
     /// Whether a new file is as the one that it replaces. That of a key is for its owner alone.
     pub fn keeps_modes(&self) -> bool {
-        !matches!(self, Work::Job { task, .. } if task.job == Job::Unwrap)
+        match self {
+            Work::Job { task, .. } => !matches!(task.job, Job::Unwrap),
+            Work::Rewrap { .. } => true,
+        }
     }
 
     /// The notation of the input.

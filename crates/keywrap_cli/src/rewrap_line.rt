@@ -11,7 +11,7 @@ use key_lines::{LineJob, Outcome};
 use key_wrap::{Form, InPlaceFault, rewrap_in_place, rewrap_keeping_form_in_place};
 
 /// Which forms wrapped keys are rewrapped from and to.
-#[derive(Clone, Copy, Debug, PartialEq, Eq)]
+#[derive(Clone, Copy, Debug)]
 pub enum RewrapForms {
     /// From the form in which it is a wrapping, to the same.
     Kept,

@@ -43,6 +43,8 @@ fn hold<R: Files>(rt: &R, is_closed: bool) -> Result<Option<PipeReader>, Program
     if !is_closed {
         return Ok(None);
     }
-    let (reader, _writer) = io::pipe(rt).map_err(|_| ProgramFault::InputOpen)?;
-    Ok(Some(reader))
+    match io::pipe(rt) {
+        Ok((reader, _writer)) => Ok(Some(reader)),
+        Err(_) => Err(ProgramFault::InputOpen),
+    }
 }

@@ -55,15 +55,13 @@ pub fn run_work<R: Print + Eprint + Input + AllocGlobal + Files<File = File> + E
     let _held = hold_closed(rt, terminals.closed)?;
     let mut keyed = open_keks(rt, &telling, iv)?;
     match places.input {
-        Some(name) => {
-            let input = fs::open(rt, name).map_err(|error| telling.unopened(
-                ProgramFault::InputOpen,
-                name,
-                &error,
-            ))?;
-            let many = many(lines, places, terminals, length_of(lines, &input));
-            run_from(rt, &telling, &mut keyed, many, input, None)
-        }
+        Some(name) => match fs::open(rt, name) {
+            Ok(input) => {
+                let many = many(lines, places, terminals, length_of(lines, &input));
+                run_from(rt, &telling, &mut keyed, many, input, None)
+            }
+            Err(error) => Err(telling.unopened(ProgramFault::InputOpen, name, &error)),
+        },
         None => {
             let waiting = if terminals.input {
                 Some(work.waiting(lines))
@@ -122,8 +120,10 @@ fn run_from<R: Print + Eprint + AllocGlobal + Files<File = File> + Env + Clock, 
             announce(rt, waiting);
             let mut out = Watched::new(io::writer(rt), telling.says_why);
             let status = answer(rt, telling, keyed, many, &mut input, &mut out)?;
-            out.flush().map_err(|_| telling.unflushed(out.seen))?;
-            Ok(status)
+            match out.flush() {
+                Ok(()) => Ok(status),
+                Err(_) => Err(telling.unflushed(out.seen)),
+            }
         }
     }
 }
@@ -139,13 +139,16 @@ fn run_into<R: Eprint + AllocGlobal + Files<File = File> + Env + Clock, I: Read>
     waiting: Option<&str>,
 ) -> Result<u8, Refused> {
     let keeps = telling.work.keeps_modes();
-    let mut new = create(rt, name, keyed, keeps).map_err(|fault| telling.no_output(fault))?;
+    let mut new = match create(rt, name, keyed, keeps) {
+        Ok(new) => new,
+        Err(fault) => return Err(telling.no_output(fault)),
+    };
     announce(rt, waiting);
     match answer(rt, telling, keyed, many, input, &mut new.file) {
-        Ok(status) => {
-            new.finish(rt).map_err(|fault| telling.no_output(fault))?;
-            Ok(status)
-        }
+        Ok(status) => match new.finish(rt) {
+            Ok(()) => Ok(status),
+            Err(fault) => Err(telling.no_output(fault)),
+        },
         Err(refused) => {
             new.give_up(rt);
             Err(refused)
