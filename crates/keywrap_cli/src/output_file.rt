@@ -47,7 +47,10 @@ pub fn create<'a, R: AllocGlobal + Files<File = File>>(
     keyed: &Keyed<Watched<File>>,
     keeps: bool,
 ) -> Result<OutputFile<'a>, OutputFault> {
-    let old = replaced(rt, name, keyed).map_err(OutputFault::Open)?;
+    let old = match replaced(rt, name, keyed) {
+        Ok(old) => old,
+        Err(why) => return Err(OutputFault::Open(why)),
+    };
     let new = create_new(rt, name)?;
     match old {
         Some(old) if keeps => new.like(rt, &old),
@@ -151,10 +154,6 @@ fn make_like(new: &File, old: &Metadata) -> Result<(), Why> {
     }
 }
 
-fn said(error: io::Error) -> Why {
-    Why::of(&error)
-}
-
 fn unkept(error: io::Error) -> Why {
     Why::Unkept(error.raw_os_error())
 }
@@ -181,7 +180,10 @@ impl OutputFile<'_> {
     /// Puts the new file, which is whole, in its place.
     pub fn finish<R: Files<File = File>>(self, rt: &R) -> Result<(), OutputFault> {
         match self.put(rt) {
-            Ok(()) => sync_folder(rt, self.name).map_err(OutputFault::Flush),
+            Ok(()) => match sync_folder(rt, self.name) {
+                Ok(()) => Ok(()),
+                Err(why) => Err(OutputFault::Flush(why)),
+            },
             Err(why) => {
                 self.give_up(rt);
                 Err(OutputFault::Flush(why))
@@ -190,11 +192,16 @@ impl OutputFile<'_> {
     }
 
     fn put<R: Files<File = File>>(&self, rt: &R) -> Result<(), Why> {
-        self.file.file.sync_all().map_err(said)?;
+        if let Err(error) = self.file.file.sync_all() {
+            return Err(Why::of(&error));
+        }
         if !self.has_its_name(rt) {
             return Err(Why::Says("the new file lost its name"));
         }
-        fs::rename(rt, self.part.as_str(), self.name).map_err(said)
+        match fs::rename(rt, self.part.as_str(), self.name) {
+            Ok(()) => Ok(()),
+            Err(error) => Err(Why::of(&error)),
+        }
     }
 
     // Whether the new file still has the name that it was made under: where someone removed it,

@@ -71,7 +71,10 @@ pub(crate) fn run_drill<W: Write>(
     text: &str,
     out: &mut W,
 ) -> Result<u8, ProgramFault> {
-    let bytes = drill(alloc, form, direction, text).map_err(ProgramFault::Drill)?;
+    let bytes = match drill(alloc, form, direction, text) {
+        Ok(bytes) => bytes,
+        Err(fault) => return Err(ProgramFault::Drill(fault)),
+    };
     write_hex(alloc, out, &bytes)?;
     flush(out, statuses::DONE)
 }

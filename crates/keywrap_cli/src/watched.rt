@@ -36,9 +36,12 @@ impl<F> Watched<F> {
 
 impl Seen {
     fn read(&mut self, bytes: &[u8]) {
-        let digits = bytes.iter().filter(|byte| byte.is_ascii_hexdigit()).count();
         self.bytes = self.bytes.saturating_add(bytes.len() as u64);
-        self.digits = self.digits.saturating_add(digits as u64);
+        for byte in bytes {
+            if byte.is_ascii_hexdigit() {
+                self.digits = self.digits.saturating_add(1);
+            }
+        }
     }
 }
 
