@@ -259,7 +259,8 @@ const SUBCOMMANDS: [Subcommand<'static>; 6] = [
 pub fn keywrap<'a>(alloc: Global) -> Result<Command<'a>, AllocError> {
     let mut command = bare(alloc)?;
     for wanted in &SUBCOMMANDS {
-        command = command.subcommand(with_arguments(alloc, *wanted)?)?;
+        let subcommand = with_arguments(alloc, *wanted)?;
+        command = command.subcommand(subcommand)?;
     }
     Ok(command)
 }
@@ -278,7 +279,8 @@ fn bare<'a>(alloc: Global) -> Result<Command<'a>, AllocError> {
 fn with_arguments<'a>(alloc: Global, wanted: Subcommand<'a>) -> Result<Command<'a>, AllocError> {
     let mut command = named(alloc, wanted)?;
     for it in wanted.arguments {
-        command = command.arg(arg(alloc, *it)?)?;
+        let argument = arg(alloc, *it)?;
+        command = command.arg(argument)?;
     }
     Ok(command)
 }
@@ -292,40 +294,38 @@ fn named<'a>(alloc: Global, wanted: Subcommand<'a>) -> Result<Command<'a>, Alloc
     command.display_name("keywrap")
 }
 
-fn arg<'a>(alloc: Global, wanted: Argument<'a>) -> Result<Arg<'a>, AllocError> {
-    let arg = of_kind(Arg::new(alloc, wanted.name).help(wanted.help), wanted);
-    let arg = match wanted.short {
-        Some(short) => arg.short(short),
-        None => arg,
-    };
-    let arg = match wanted.long_help {
-        Some(help) => arg.long_help(help),
-        None => arg,
-    };
-    let arg = arg.conflicts_with_all(wanted.conflicts)?;
-    match wanted.needs {
-        Some(other) => arg.requires_arg(other),
-        None => Ok(arg),
-    }
-}
-
-// The argument, given as its kind is.
-fn of_kind<'a>(arg: Arg<'a>, wanted: Argument<'a>) -> Arg<'a> {
-    let is_required = matches!(wanted.kind, Kind::Required(_) | Kind::Word(_));
-    valued(by_name(arg, wanted), wanted.kind).required(is_required)
-}
-
 // Each but a word stands behind its name.
-fn by_name<'a>(arg: Arg<'a>, wanted: Argument<'a>) -> Arg<'a> {
-    match wanted.kind {
-        Kind::Word(_) => arg,
-        Kind::Flag | Kind::Optional(_) | Kind::Required(_) => arg.long(wanted.name),
+fn arg<'a>(alloc: Global, wanted: Argument<'a>) -> Result<Arg<'a>, AllocError> {
+    let arg = Arg::new(alloc, wanted.name)
+        .help(wanted.help)
+        .long_help(wanted.long_help.unwrap_or(wanted.help))
+        .action(action_of(wanted.kind))
+        .value_name(value_name_of(wanted))
+        .required(is_required(wanted.kind))
+        .conflicts_with_all(wanted.conflicts)?
+        .requires_all(wanted.needs.as_slice())?;
+    Ok(match (wanted.kind, wanted.short) {
+        (Kind::Word(_), _) => arg,
+        (_, None) => arg.long(wanted.name),
+        (_, Some(short)) => arg.long(wanted.name).short(short),
+    })
+}
+
+fn action_of(kind: Kind<'_>) -> ArgAction {
+    match kind {
+        Kind::Flag => ArgAction::SetTrue,
+        Kind::Optional(_) | Kind::Required(_) | Kind::Word(_) => ArgAction::Set,
     }
 }
 
-fn valued<'a>(arg: Arg<'a>, kind: Kind<'a>) -> Arg<'a> {
-    match kind {
-        Kind::Flag => arg.action(ArgAction::SetTrue),
-        Kind::Optional(value) | Kind::Required(value) | Kind::Word(value) => arg.value_name(value),
+// A flag has no value, and no name of one is shown.
+fn value_name_of<'a>(wanted: Argument<'a>) -> &'a str {
+    match wanted.kind {
+        Kind::Flag => wanted.name,
+        Kind::Optional(value) | Kind::Required(value) | Kind::Word(value) => value,
     }
+}
+
+fn is_required(kind: Kind<'_>) -> bool {
+    matches!(kind, Kind::Required(_) | Kind::Word(_))
 }

@@ -7,7 +7,7 @@ use clap::{ArgMatches, Error};
 use std::alloc::{AllocError, Global};
 
 /// A subcommand.
-#[derive(Clone, Copy, Debug, PartialEq, Eq)]
+#[derive(Clone, Copy)]
 pub enum Command {
     /// Wraps a key.
     Wrap,
@@ -63,7 +63,7 @@ pub struct CommandLine<'a> {
 }
 
 /// What is said in place of what the words ask for.
-#[derive(Debug, Drop)]
+#[derive(Drop)]
 pub enum Refusal {
     /// The help or the version that was asked for, which goes to standard output.
     Help(String),
@@ -83,11 +83,16 @@ pub fn parse<'a>(alloc: Global, words: &'a [String]) -> Result<CommandLine<'a>, 
 
 /// What is said of words that are not UTF-8.
 pub fn not_text(alloc: Global) -> Refusal {
-    let said = "invalid UTF-8 was detected in one or more arguments";
-    match fault(alloc, ErrorKind::InvalidValue, said) {
-        Ok(error) => refused(alloc, &[], &error),
+    match not_text_message(alloc) {
+        Ok(text) => Refusal::Words(text),
         Err(_) => Refusal::Memory,
     }
+}
+
+fn not_text_message(alloc: Global) -> Result<String, AllocError> {
+    let said = "invalid UTF-8 was detected in one or more arguments";
+    let error = fault(alloc, ErrorKind::InvalidValue, said)?;
+    format!(in alloc; "{error}")
 }
 
 fn refused(alloc: Global, words: &[String], error: &Error) -> Refusal {
@@ -105,27 +110,25 @@ fn refused(alloc: Global, words: &[String], error: &Error) -> Refusal {
 /// Reads the words as `clap` takes them.
 pub fn read<'a>(alloc: Global, words: &'a [String]) -> Result<CommandLine<'a>, Error> {
     let matches = keywrap(alloc)?.try_get_matches_from(words)?;
-    match taken(matches.subcommand()) {
-        Some(line) => with_kek_files(alloc, line),
-        // A command line without a subcommand, or with another, is refused by the parse itself.
-        None => Err(fault(
-            alloc,
-            ErrorKind::InvalidSubcommand,
-            "unrecognized subcommand",
-        )?),
-    }
+    checked(alloc, taken(matches.subcommand()))
 }
 
-// A KEK comes from no `-`, which would be a file's name here and standard input elsewhere.
-fn with_kek_files<'a>(alloc: Global, line: CommandLine<'a>) -> Result<CommandLine<'a>, Error> {
-    let said = if line.kek == "-" {
-        "invalid value '-' for '--kek <FILE>'"
-    } else if line.new_kek == "-" {
-        "invalid value '-' for '--new-kek <FILE>'"
-    } else {
-        return Ok(line);
+// A command line without a subcommand, or with another, is refused by the parse itself. A KEK comes
+// from no `-`, which would be a file's name here and standard input elsewhere.
+fn checked<'a>(alloc: Global, line: Option<CommandLine<'a>>) -> Result<CommandLine<'a>, Error> {
+    let (kind, said) = match line {
+        None => (ErrorKind::InvalidSubcommand, "unrecognized subcommand"),
+        Some(line) if line.kek == "-" => (
+            ErrorKind::InvalidValue,
+            "invalid value '-' for '--kek <FILE>'",
+        ),
+        Some(line) if line.new_kek == "-" => (
+            ErrorKind::InvalidValue,
+            "invalid value '-' for '--new-kek <FILE>'",
+        ),
+        Some(line) => return Ok(line),
     };
-    Err(fault(alloc, ErrorKind::InvalidValue, said)?)
+    Err(fault(alloc, kind, said)?)
 }
 
 fn fault(alloc: Global, kind: ErrorKind, said: &str) -> Result<Error, AllocError> {

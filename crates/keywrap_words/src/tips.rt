@@ -36,9 +36,6 @@ const TIP: &str = "\n\n  tip: ";
 /// where clap has its own, and there is one at most. The message shows a refused word: its control
 /// characters stand there escaped, since it goes to a terminal.
 pub fn message(alloc: Global, words: &[String], error: &Error) -> Result<String, AllocError> {
-    if !words.iter().any(|word| has_controls(word.as_str())) {
-        return with_tip(alloc, words, error);
-    }
     let mut shown = Vec::new(alloc);
     for word in words {
         shown.push(escaped(alloc, word.as_str())?)?;
@@ -55,10 +52,6 @@ fn on_shown(alloc: Global, shown: &[String], error: &Error) -> Result<String, Al
         return Err(AllocError);
     }
     with_tip(alloc, shown, error)
-}
-
-fn has_controls(word: &str) -> bool {
-    word.chars().any(|c| c.is_control())
 }
 
 /// The word with `\x1b` for an escape, and the like.
