@@ -1,37 +1,31 @@
 -- The whole difference is 0 where the key fills its words, two and more.
-use Rattle.std.proofs.Common.{rules, ◌≡◌, ◌⊎◌, ℕ, ◌+◌, ◌%◌, ◌^◌, ◌-◌, List, length, drop, refl, arith, length-drop, inl, inr, bit_xor}
+use Rattle.std.proofs.Common.{rules, ◌≡◌, ◌⊎◌, ℕ, ◌+◌, ◌%◌, ◌^◌, ◌-◌, List, length, drop, refl, sym, ◌∙◌, arith, length-drop, inl, inr, bit_xor}
 use Rattle.std.proofs.Math.Nat.{eq-or-lt_of_le}
-use Rattle.key_wrap.specs.Lengths.{IsPaddedTextLength}
-use Rattle.key_wrap.proofs.Differences.{or_parts, or_both, xor_same, same_xor}
+use Rattle.key_wrap.proofs.Behind.{behind_legal, fills_words}
+use Rattle.key_wrap.proofs.Differences.{or_both, same_xor}
 use Rattle.key_wrap.proofs.FoundForms.{to_plain, not_plain}
 use Rattle.key_wrap.proofs.rewrapping_in_place.plain_value.Goals as goal
 
 pub returns-in-Ok-clause-bad_length : goal.returns-in-Ok-clause-bad_length
 returns-in-Ok-clause-bad_length c = λ key holds.
     let buf : List ℕ = c.args.buf.now in
-    let rest = length-drop 8 buf in
-    let legal : IsPaddedTextLength (8 + length (drop 8 buf)) = (omega (arith, c.requires), omega (arith, c.requires), omega (arith, c.requires)) in
-    let parts = or_parts c.is_zero-one_word.result (bit_xor c.given_length.result (length buf - 8)) (c.in-Ok.ensures.passes.0 refl) in
-    let same = xor_same c.given_length.result (length buf - 8) parts.1 in
-    let more : ¬ (length (drop 8 buf) ≡ 8) = λ e. absurd (omega (arith, parts.0, c.is_zero-one_word.ensures.zero (omega (arith, c.requires)))) in
-    let plain = to_plain c.args.found (drop 8 buf) key (search rules) legal more (omega (arith, c.given_length.ensures)) holds in
+    let fits = fills_words c.is_zero-one_word.result c.given_length.result buf c.requires
+    (λ zero. c.is_zero-one_word.ensures.zero (omega (arith, zero, c.requires))) (c.in-Ok.ensures.passes.0 refl) in
+    let plain = to_plain c.args.found (drop 8 buf) key (search rules) (behind_legal buf c.requires) fits.0 (sym c.given_length.ensures ∙ fits.1) holds in
     (λ e. cc, λ illegal. absurd (illegal plain.0))
 
 pub returns-in-Ok-clause-answer : goal.returns-in-Ok-clause-answer
 returns-in-Ok-clause-answer c = λ key holds.
     let buf : List ℕ = c.args.buf.now in
-    let rest = length-drop 8 buf in
-    let legal : IsPaddedTextLength (8 + length (drop 8 buf)) = (omega (arith, c.requires), omega (arith, c.requires), omega (arith, c.requires)) in
-    let parts = or_parts c.is_zero-one_word.result (bit_xor c.given_length.result (length buf - 8)) (c.in-Ok.ensures.passes.0 refl) in
-    let same = xor_same c.given_length.result (length buf - 8) parts.1 in
-    let more : ¬ (length (drop 8 buf) ≡ 8) = λ e. absurd (omega (arith, parts.0, c.is_zero-one_word.ensures.zero (omega (arith, c.requires)))) in
-    rw c.in-Ok.ensures.kept (to_plain c.args.found (drop 8 buf) key (search rules) legal more (omega (arith, c.given_length.ensures)) holds)
+    let fits = fills_words c.is_zero-one_word.result c.given_length.result buf c.requires
+    (λ zero. c.is_zero-one_word.ensures.zero (omega (arith, zero, c.requires))) (c.in-Ok.ensures.passes.0 refl) in
+    rw c.in-Ok.ensures.kept (to_plain c.args.found (drop 8 buf) key (search rules) (behind_legal buf c.requires) fits.0 (sym c.given_length.ensures ∙ fits.1) holds)
 
 pub returns-in-Err-clause-bad_length : goal.returns-in-Err-clause-bad_length
 returns-in-Err-clause-bad_length c = λ key holds.
     let buf : List ℕ = c.args.buf.now in
     let rest = length-drop 8 buf in
-    let legal : IsPaddedTextLength (8 + length (drop 8 buf)) = (omega (arith, c.requires), omega (arith, c.requires), omega (arith, c.requires)) in
+    let legal = behind_legal buf c.requires in
     let cause : (length (drop 8 buf) ≡ 8) ⊎ ¬ (c.args.found % 2 ^ 32 ≡ length (drop 8 buf)) = elim (eq-or-lt_of_le legal.1) [
       | inl short ↦ inl (omega arith)
       | inr more ↦ inr (λ e.

@@ -1,9 +1,9 @@
 -- The machine ran back to an initial value and registers, once; they tell the kind.
-use Rattle.std.proofs.Common.{rules, ◌≡◌, ℕ, List, length, ◌+◌, ◌++◌, ◌%◌, ◌^◌, arith, length-append}
+use Rattle.std.proofs.Common.{rules, ◌≡◌, ℕ, List, length, ◌+◌, ◌++◌, ◌%◌, ◌^◌, arith}
 use Rattle.key_wrap.specs.Words.{word_bytes}
 use Rattle.key_wrap.specs.Lengths.{IsPlainTextLength, IsPaddedTextLength}
 use Rattle.key_wrap.specs.Plain.{default_iv}
-use Rattle.key_wrap.proofs.Spelling.{length-word_bytes}
+use Rattle.key_wrap.proofs.Behind.{length-behind, long_legal}
 use Rattle.key_wrap.proofs.Differences.{xor_same, same_xor}
 use Rattle.key_wrap.proofs.KindForms.{kind_plain, kind_padded, kind_neither}
 use Rattle.key_wrap.proofs.unwrapping.kind_of_registers.Goals.{else-is_plain-via-then-is_plain+else-registers-gt-WORD, else-is_plain-via-else-is_plain}
@@ -14,12 +14,10 @@ returns-then-registers-gt-WORD-clause-answer g c =
     let iv : ℕ = c.unwrap_padded_slice-iv.result in
     let registers : List ℕ = c.unwrap_padded_slice-iv.new.registers in
     let text : List ℕ = word_bytes c.args.c0 ++ c.args.registers.now in
-    let size : length text ≡ 8 + length c.args.registers.now =
-    omega (arith, length-append (word_bytes c.args.c0) c.args.registers.now, length-word_bytes c.args.c0) in
     let kept : length registers ≡ length c.args.registers.now = search rules in
     let count : length c.fill.new.self ≡ length registers = search rules in
     let long = c.if-registers-gt-WORD.true in
-    let legal : IsPlainTextLength (length text) = (omega (arith, c.requires), omega (arith, c.requires), omega (arith, c.requires)) in
+    let legal = long_legal c.args.c0 c.args.registers.now c.requires (omega arith) in
     let same : iv ≡ default_iv = xor_same iv default_iv (c.decide.ensures.passes.0 (search rules)) in
     rw count (kind_plain iv registers text (g.met.B.BlockPair.lawful c.args.meter.now.pair) same (omega (arith, c.requires)) legal
     c.unwrap_padded_slice-iv.ensures.wrapped)
@@ -28,8 +26,7 @@ pub returns-then-is_padded-clause-answer : goal.returns-then-is_padded-clause-an
 returns-then-is_padded-clause-answer g c =
     let iv : ℕ = c.unwrap_padded_slice-iv.result in
     let text : List ℕ = word_bytes c.args.c0 ++ c.args.registers.now in
-    let size : length text ≡ 8 + length c.args.registers.now =
-    omega (arith, length-append (word_bytes c.args.c0) c.args.registers.now, length-word_bytes c.args.c0) in
+    let size : length text ≡ 8 + length c.args.registers.now = length-behind c.args.c0 c.args.registers.now in
     let legal : IsPaddedTextLength (length text) = rw size c.requires in
     let held = c.padded_difference-padded.ensures.passes (c.decide-2.ensures.passes.0 (search rules)) in
     rw c.given_length.ensures (kind_padded iv (iv % 2 ^ 32) c.unwrap_padded_slice-iv.new.registers text
@@ -39,8 +36,7 @@ pub returns-else-is_padded-clause-answer : goal.returns-else-is_padded-clause-an
 returns-else-is_padded-clause-answer g c =
     let iv : ℕ = c.unwrap_padded_slice-iv.result in
     let text : List ℕ = word_bytes c.args.c0 ++ c.args.registers.now in
-    let size : length text ≡ 8 + length c.args.registers.now =
-    omega (arith, length-append (word_bytes c.args.c0) c.args.registers.now, length-word_bytes c.args.c0) in
+    let size : length text ≡ 8 + length c.args.registers.now = length-behind c.args.c0 c.args.registers.now in
     let other : iv ≡ default_iv → ¬ IsPlainTextLength (length text) = elim c.else-is_plain.branch [
       | else-is_plain-via-then-is_plain+else-registers-gt-WORD w ↦ λ same legal. absurd (let short = w.if-registers-gt-WORD.false in
           let kept : length c.fill.new.self ≡ length c.args.registers.now = search rules in

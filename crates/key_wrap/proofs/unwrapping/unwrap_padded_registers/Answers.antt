@@ -1,8 +1,8 @@
 -- The machine ran back to an initial value and registers; the key stands with the text where they hold one.
-use Rattle.std.proofs.Common.{rules, ◌≡◌, ℕ, List, length, take, ◌+◌, ◌++◌, ◌%◌, ◌^◌, arith, length-append, refl, ap}
+use Rattle.std.proofs.Common.{rules, ◌≡◌, ℕ, List, length, take, ◌+◌, ◌++◌, ◌%◌, ◌^◌, arith, refl, ap}
 use Rattle.key_wrap.specs.Words.{word_bytes}
 use Rattle.key_wrap.specs.Lengths.{IsPaddedTextLength}
-use Rattle.key_wrap.proofs.Spelling.{length-word_bytes}
+use Rattle.key_wrap.proofs.Behind.{length-behind}
 use Rattle.key_wrap.proofs.FormLengths.{length-padded}
 use Rattle.key_wrap.proofs.InPlaceForm.{held_rest, held_size}
 use Rattle.key_wrap.proofs.Unwrappings.{padded_found, padded_none, passed_on}
@@ -12,8 +12,7 @@ pub returns-clause-answer : goal.returns-clause-answer
 returns-clause-answer g c =
     let iv : ℕ = c.unwrap_padded_slice-iv.result in
     let text : List ℕ = word_bytes c.args.c0 ++ c.args.registers.now in
-    let size : length text ≡ 8 + length c.args.registers.now =
-    omega (arith, length-append (word_bytes c.args.c0) c.args.registers.now, length-word_bytes c.args.c0) in
+    let size : length text ≡ 8 + length c.args.registers.now = length-behind c.args.c0 c.args.registers.now in
     let legal : IsPaddedTextLength (length text) = rw size c.requires in
     let d = c.in_ok-decide.ensures in
     let held = c.padded_difference.ensures.passes (d.passes.0 refl) in
@@ -48,8 +47,7 @@ returns-clause-padding g c =
 pub returns-in_err-decide-clause-answer : goal.returns-in_err-decide-clause-answer
 returns-in_err-decide-clause-answer g c =
     let text : List ℕ = word_bytes c.args.c0 ++ c.args.registers.now in
-    let size : length text ≡ 8 + length c.args.registers.now =
-    omega (arith, length-append (word_bytes c.args.c0) c.args.registers.now, length-word_bytes c.args.c0) in
+    let size : length text ≡ 8 + length c.args.registers.now = length-behind c.args.c0 c.args.registers.now in
     let legal : IsPaddedTextLength (length text) = rw size c.requires in
     let d = c.in_err-decide.ensures in
     let holds = c.padded_difference.ensures.refuses (λ e. absurd (let ok = d.passes.1 e in cc)) in
