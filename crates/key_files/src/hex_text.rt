@@ -92,10 +92,9 @@ fn digit_count(text: &[u8]) -> usize
 fn digits<A: Allocator>(alloc: A, text: &[u8]) -> Result<Vec<u8, A>, AllocError>
     ensures { IfOk result (λ v. v.items ≡ digits_of text.now) }
 {
-    text.iter()
-        .copied()
-        .filter(|c| c.is_ascii_hexdigit())
-        .collect(alloc)
+    let mut digits = text.to_vec(alloc)?;
+    digits.retain(|c| c.is_ascii_hexdigit());
+    Ok(digits)
 }
 
 // An even number of digits is refused for memory alone.
