@@ -62,6 +62,8 @@ for mode in 000 444 666 755; do
     lands "into a file of mode $mode" 0 wrapped.hex to/file wrap --kek kek16.hex -i key.hex -o to/file
 done
 fresh
+lands 'by short names and their values in one word' 0 wrapped.hex to/file wrap --kek kek16.hex -ikey.hex -oto/file
+fresh
 lands 'into two folders by turns' 0 wrapped.hex to/file wrap --kek kek16.hex -i key.hex -o to/file
 lands 'into the same file again' 0 wrapped32.hex to/file wrap --kek kek32.hex -i key.hex -o to/file
 lands 'from KEK to KEK in place' 0 wrapped.hex to/file \

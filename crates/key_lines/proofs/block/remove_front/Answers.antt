@@ -23,4 +23,5 @@ returns-clause-len c = omega (arith, c.truncate.ensures.len, c.copy_within.ensur
 pub returns-clause-items : goal.returns-clause-items
 returns-clause-items c =
     let shift = c.copy_within.ensures.items in
-    c.truncate.ensures.items ∙ ap (take (c.len-len.result - c.args.n)) shift ∙ rw (c.len-len.ensures, c.args.block.now.ok.0) (moved c.args.n c.args.block.now.items)
+    let cut = ap (take (c.len-len.result - c.args.n)) shift in
+    c.truncate.ensures.items ∙ cut ∙ rw (c.len-len.ensures, c.args.block.now.ok.0) (moved c.args.n c.args.block.now.items)

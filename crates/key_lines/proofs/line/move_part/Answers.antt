@@ -82,7 +82,8 @@ returns-then-len-limit g c =
       }) c.before_lf-len.ensures.bound,
       items,
       past_by_one c.args.limit len before (take room shown) after items (rw c.args.line.now.ok.0 at c.requires.room)
-          (front_fits room c.args.limit c.len.result (length before) shown c.min.ensures (c.len.ensures ∙ c.args.line.now.ok.0)) (rw (c.len-2.ensures, c.extend_from_slice.new.self.ok.0) at c.if-len-limit.true),
+          (front_fits room c.args.limit c.len.result (length before) shown c.min.ensures (c.len.ensures ∙ c.args.line.now.ok.0))
+          (rw (c.len-2.ensures, c.extend_from_slice.new.self.ok.0) at c.if-len-limit.true),
     )
 
 pub returns : goal.returns

@@ -19,7 +19,8 @@ returns-in-Ok-clause-answer c = λ key holds.
     let buf : List ℕ = c.args.buf.now in
     let fits = fills_words c.is_zero-one_word.result c.given_length.result buf c.requires
     (λ zero. c.is_zero-one_word.ensures.zero (omega (arith, zero, c.requires))) (c.in-Ok.ensures.passes.0 refl) in
-    rw c.in-Ok.ensures.kept (to_plain c.args.found (drop 8 buf) key (search rules) (behind_legal buf c.requires) fits.0 (sym c.given_length.ensures ∙ fits.1) holds)
+    rw c.in-Ok.ensures.kept
+    (to_plain c.args.found (drop 8 buf) key (search rules) (behind_legal buf c.requires) fits.0 (sym c.given_length.ensures ∙ fits.1) holds)
 
 pub returns-in-Err-clause-bad_length : goal.returns-in-Err-clause-bad_length
 returns-in-Err-clause-bad_length c = λ key holds.

@@ -17,6 +17,6 @@ returns g c =
         );
       };
       headline = λ is.
-        kept_headline _ _ _ _ _ _ _ _ _ _ _ _ c.in-Ok-read_input.text c.write_kept.result c.in-Ok.ensures c.in-Ok-read_kek.ensures
-        c.in-Ok-read_input.ensures left is;
+          kept_headline _ _ _ _ _ _ _ _ _ _ _ _ c.in-Ok-read_input.text c.write_kept.result c.in-Ok.ensures c.in-Ok-read_kek.ensures
+          c.in-Ok-read_input.ensures left is;
     }
