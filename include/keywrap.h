@@ -38,7 +38,7 @@
 
 /* Lengths, in bytes: of the longest key and the longest wrapped key (a thread's stack may be
  * shorter), of a key's plain and padded wrapping, and of the buffer that an unwrap fills, in either
- * form (0 where the wrapped key is too short for any). Each is a constant expression where its
+ * form (8 less than the wrapped key, and 0 below 8). Each is a constant expression where its
  * argument is one, which it may read twice. */
 #define KEYWRAP_MAX_KEY 1048576
 #define KEYWRAP_MAX_TEXT (KEYWRAP_MAX_KEY + 8)

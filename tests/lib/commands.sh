@@ -82,6 +82,10 @@ jobs() {
         rewrap --raw --raw-kek --new-padded --new-kek kek16.raw --kek kek16.raw
     "$1" 'padded rewrap' 0 padded7.hex '' wrapped7.hex \
         rewrap --padded --new-padded --kek kek5649.hex --new-kek kek16.hex
+    "$1" 'rewrap in the form it has' 0 wrapped32.hex '' wrapped.hex \
+        rewrap --keep-form --kek kek16.hex --new-kek kek32.hex
+    "$1" 'padded rewrap in the form it has' 0 padded7.hex '' wrapped7.hex \
+        rewrap --keep-form --kek kek5649.hex --new-kek kek16.hex
     "$1" 'check of a wrong byte' 5 none '' wrong.hex check --kek kek16.hex
 }
 
