@@ -1,9 +1,15 @@
-//! What no contract says: that Memory, Read and Write come only with cause, that no fault is tried
-//! again, and what neither a contract nor a command line shows.
+//! Worked rows and published vectors, through the public calls.
 
-mod calls;
+mod cases;
+mod checks;
 mod doubles;
+mod drills;
 mod faults;
-mod growths;
-mod lengths;
+mod hostile;
+mod initial_values;
+mod jobs;
+mod limits;
 mod messages;
+mod rewraps;
+mod standards;
+mod vectors;

@@ -1,43 +1,60 @@
-//! Readers and writers in pieces, which at one place answer a fault, and then go on or not.
+//! Readers and writers of the tests: in pieces, and with faults, after which they go on or not.
 
 use std::alloc::Global;
 use std::io::{self, Read, Write};
 
-/// Gives its bytes in pieces.
+/// How often a double answers its fault: once, and then it goes on, or whenever it is asked.
+pub static FAULTS: [usize; 2] = [1, usize::MAX];
+
+/// Gives its bytes in pieces, and at one place a fault.
 #[derive(Clone, Copy)]
 pub struct Trickle<'a> {
     /// What was not given.
     pub left: &'a [u8],
-    /// The most bytes that a read gives.
-    pub size: usize,
-    /// The bytes up to the fault.
-    pub room: usize,
-    /// Whether it goes on after the fault.
-    pub goes_on: bool,
+    /// Whether no read was made.
+    pub is_unread: bool,
+    // The most bytes that a read gives.
+    size: usize,
+    // The bytes up to the place of the fault, and how often it is answered.
+    room: usize,
+    faults: usize,
 }
 
 impl<'a> Trickle<'a> {
-    /// Up to `size` bytes a read, and no fault.
+    /// Up to `size` bytes a read, and then the end.
     pub fn in_pieces(bytes: &'a [u8], size: usize) -> Self {
         Trickle {
             left: bytes,
+            is_unread: true,
             size,
             room: usize::MAX,
-            goes_on: true,
+            faults: 0,
+        }
+    }
+
+    /// One byte a read, and after `room` bytes so many faults.
+    pub fn failing(bytes: &'a [u8], room: usize, faults: usize) -> Self {
+        Trickle {
+            room,
+            faults,
+            ..Trickle::in_pieces(bytes, 1)
         }
     }
 }
 
 impl Read for Trickle<'_> {
     fn read(&mut self, buf: &mut [u8]) -> io::Result<usize> {
-        if self.room == 0 {
-            if self.goes_on {
-                self.room = usize::MAX;
-            }
+        self.is_unread = false;
+        if self.room == 0 && self.faults > 0 {
+            self.faults -= 1;
             return Err(io::Error::from(io::ErrorKind::Interrupted));
         }
-        let most = self.size.min(self.room);
-        let count = self.left.len().min(buf.len()).min(most);
+        let most = if self.faults > 0 {
+            self.room
+        } else {
+            usize::MAX
+        };
+        let count = self.left.len().min(self.size).min(buf.len()).min(most);
         let (piece, left) = self.left.split_at(count);
         buf[..count].copy_from_slice(piece);
         self.left = left;
@@ -46,49 +63,86 @@ impl Read for Trickle<'_> {
     }
 }
 
-/// Takes bytes in pieces.
+/// What a writer answers at its fault.
+#[derive(Clone, Copy, Debug)]
+pub enum Stop {
+    /// An error.
+    Fails,
+    /// That it took no byte.
+    TakesNone,
+}
+
+/// How a writer stops, and how often.
+pub static STOPPINGS: [(Stop, usize); 4] = [
+    (Stop::Fails, 1),
+    (Stop::TakesNone, 1),
+    (Stop::Fails, usize::MAX),
+    (Stop::TakesNone, usize::MAX),
+];
+
+/// Takes bytes in pieces, and at one place answers a fault.
 #[derive(Drop)]
 pub struct Narrow {
-    /// What was taken.
-    pub out: Vec<u8>,
     /// Whether a flush was asked for.
     pub is_flushed: bool,
-    /// The most bytes that a write takes.
-    pub size: usize,
-    /// The bytes up to the fault.
-    pub room: usize,
-    /// Whether the fault is that it takes no byte; else it is an error.
-    pub takes_none: bool,
-    /// Whether it goes on after the fault.
-    pub goes_on: bool,
+    out: Vec<u8>,
+    // The most bytes that a write takes.
+    size: usize,
+    // The bytes up to the place of the fault, what it is, and how often it is answered.
+    room: usize,
+    stop: Stop,
+    faults: usize,
 }
 
 impl Narrow {
-    /// Up to `size` bytes a write, and no fault.
+    /// Takes up to `size` bytes a write, without end.
     pub fn in_pieces(alloc: Global, size: usize) -> Self {
         Narrow {
-            out: Vec::new(alloc),
             is_flushed: false,
+            out: Vec::new(alloc),
             size,
             room: usize::MAX,
-            takes_none: false,
-            goes_on: true,
+            stop: Stop::Fails,
+            faults: 0,
         }
+    }
+
+    /// Takes one byte a write, and after `room` bytes answers so many faults.
+    pub fn stopping(alloc: Global, room: usize, stop: Stop, faults: usize) -> Self {
+        Narrow {
+            room,
+            stop,
+            faults,
+            ..Narrow::in_pieces(alloc, 1)
+        }
+    }
+
+    /// Takes one byte a write, and fails after `room` bytes.
+    pub fn failing(alloc: Global, room: usize) -> Self {
+        Narrow::stopping(alloc, room, Stop::Fails, usize::MAX)
+    }
+
+    /// What was taken.
+    pub fn out(&self) -> &[u8] {
+        &self.out
     }
 }
 
 impl Write for Narrow {
     fn write(&mut self, buf: &[u8]) -> io::Result<usize> {
-        if self.room == 0 {
-            if self.goes_on {
-                self.room = usize::MAX;
-            }
-            if self.takes_none {
-                return Ok(0);
-            }
-            return Err(io::Error::from(io::ErrorKind::Interrupted));
+        if self.room == 0 && self.faults > 0 {
+            self.faults -= 1;
+            return match self.stop {
+                Stop::Fails => Err(io::Error::from(io::ErrorKind::Interrupted)),
+                Stop::TakesNone => Ok(0),
+            };
         }
-        let count = buf.len().min(self.size).min(self.room);
+        let most = if self.faults > 0 {
+            self.room
+        } else {
+            usize::MAX
+        };
+        let count = buf.len().min(self.size).min(most);
         self.out.extend_from_slice(&buf[..count])?;
         self.room = self.room.saturating_sub(count);
         Ok(count)

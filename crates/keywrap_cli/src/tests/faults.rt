@@ -1,130 +1,168 @@
-//! Each read that fails and each write that stops, once or from then on.
+//! The lines on standard error and the exit statuses.
 
-use super::calls::{CASES, Call, Case, keks, run};
-use super::doubles::{Narrow, Trickle};
-use super::growths::LINES;
+use crate::drill::DrillFault;
+use crate::fault::ProgramFault;
+use crate::initial_value::IvFault;
 use crate::job::JobFault;
-use crate::vectors::{VectorsFault, vectors};
 use key_files::FileFault;
-use std::alloc::Global;
-use std::process::Abort;
+use std::test::Fail;
 
-// No fault is met there.
-const FAR: usize = usize::MAX;
+static FAULTS: [(ProgramFault, &str, u8); 31] = [
+    (
+        ProgramFault::Job(JobFault::KekLength),
+        "keywrap: key length is not 16, 24 or 32 bytes",
+        3,
+    ),
+    (
+        ProgramFault::Job(JobFault::NewKekLength),
+        "keywrap: new key length is not 16, 24 or 32 bytes",
+        3,
+    ),
+    (
+        ProgramFault::Job(JobFault::BadLength),
+        "keywrap: bad length",
+        4,
+    ),
+    (
+        ProgramFault::Job(JobFault::Integrity),
+        "keywrap: integrity check failed",
+        5,
+    ),
+    (
+        ProgramFault::Job(JobFault::KekFile(FileFault::Read)),
+        "keywrap: key file: cannot be read",
+        6,
+    ),
+    (
+        ProgramFault::Job(JobFault::KekFile(FileFault::TooLong)),
+        "keywrap: key file: too long",
+        6,
+    ),
+    (
+        ProgramFault::Job(JobFault::KekFile(FileFault::OddDigits)),
+        "keywrap: key file: odd number of hex digits",
+        6,
+    ),
+    (
+        ProgramFault::Job(JobFault::NewKekFile(FileFault::Read)),
+        "keywrap: new key file: cannot be read",
+        6,
+    ),
+    (
+        ProgramFault::Job(JobFault::NewKekFile(FileFault::TooLong)),
+        "keywrap: new key file: too long",
+        6,
+    ),
+    (
+        ProgramFault::Job(JobFault::NewKekFile(FileFault::BadDigit { at: 1 })),
+        "keywrap: new key file: no hex digit at byte 1",
+        6,
+    ),
+    (
+        ProgramFault::Job(JobFault::InputFile(FileFault::Read)),
+        "keywrap: input: cannot be read",
+        6,
+    ),
+    (
+        ProgramFault::Job(JobFault::InputFile(FileFault::TooLong)),
+        "keywrap: input: too long",
+        6,
+    ),
+    (
+        ProgramFault::Job(JobFault::InputFile(FileFault::BadDigit { at: 17 })),
+        "keywrap: input: no hex digit at byte 17",
+        6,
+    ),
+    (
+        ProgramFault::Job(JobFault::Write { written: 10 }),
+        "keywrap: output: refused after 10 bytes",
+        6,
+    ),
+    (
+        ProgramFault::Job(JobFault::Memory),
+        "keywrap: out of memory",
+        7,
+    ),
+    (
+        ProgramFault::Iv(IvFault::NotSixteenDigits),
+        "keywrap: --iv is not 16 hex digits",
+        2,
+    ),
+    (
+        ProgramFault::Iv(IvFault::Reserved),
+        "keywrap: --iv is reserved for the padded form",
+        2,
+    ),
+    (
+        ProgramFault::Drill(DrillFault::BadLength),
+        "keywrap: bad length",
+        4,
+    ),
+    (
+        ProgramFault::Drill(DrillFault::Integrity),
+        "keywrap: integrity check failed",
+        5,
+    ),
+    (
+        ProgramFault::Drill(DrillFault::TooLong),
+        "keywrap: input: too long",
+        6,
+    ),
+    (
+        ProgramFault::Drill(DrillFault::BadDigit { at: 1 }),
+        "keywrap: input: no hex digit at byte 1",
+        6,
+    ),
+    (
+        ProgramFault::Drill(DrillFault::OddDigits),
+        "keywrap: input: odd number of hex digits",
+        6,
+    ),
+    (
+        ProgramFault::Drill(DrillFault::Memory),
+        "keywrap: out of memory",
+        7,
+    ),
+    (
+        ProgramFault::KekOpen,
+        "keywrap: key file: cannot be opened",
+        6,
+    ),
+    (
+        ProgramFault::NewKekOpen,
+        "keywrap: new key file: cannot be opened",
+        6,
+    ),
+    (
+        ProgramFault::RawToTerminal,
+        "keywrap: output: raw bytes do not go to a terminal; redirect it or use --output",
+        2,
+    ),
+    (
+        ProgramFault::InputOpen,
+        "keywrap: input: cannot be opened",
+        6,
+    ),
+    (
+        ProgramFault::OutputOpen,
+        "keywrap: output: cannot be opened",
+        6,
+    ),
+    (
+        ProgramFault::Write { written: 0 },
+        "keywrap: output: refused after 0 bytes",
+        6,
+    ),
+    (ProgramFault::Flush, "keywrap: output: cannot be flushed", 6),
+    (ProgramFault::Memory, "keywrap: out of memory", 7),
+];
 
 #[test]
-fn answers_each_read_that_fails(rt: HostRuntime) {
-    for case in &CASES {
-        let (kek, new_kek) = keks(case.1);
-        for room in 0..=kek.len() {
-            let fault = JobFault::KekFile(FileFault::Read);
-            fail_reads(&rt, rt.alloc(), case, (room, FAR, FAR), fault);
-        }
-        if let Call::Rewrap(..) = case.0 {
-            for room in 0..=new_kek.len() {
-                let fault = JobFault::NewKekFile(FileFault::Read);
-                fail_reads(&rt, rt.alloc(), case, (FAR, room, FAR), fault);
-            }
-        }
-        for room in 0..=case.2.len() {
-            let fault = JobFault::InputFile(FileFault::Read);
-            fail_reads(&rt, rt.alloc(), case, (FAR, FAR, room), fault);
-        }
+fn says_each_fault(rt: HostRuntime) -> Result<(), Fail> {
+    for (fault, line, status) in &FAULTS {
+        let said = format!(in rt.alloc(); "{}", fault.line())?;
+        assert_eq!(rt; said.as_str(), *line);
+        assert_eq!(rt; fault.status(), *status);
     }
-}
-
-// Reads byte by byte, of which one fails after so many of its file, and says that nothing is
-// written then, no file behind is read, and a reader that would go on is not asked again.
-fn fail_reads(
-    rt: &impl Abort,
-    alloc: Global,
-    case: &Case,
-    (of_kek, of_new_kek, of_input): (usize, usize, usize),
-    fault: JobFault,
-) {
-    let Case(call, notation, bytes, ..) = *case;
-    let (kek, new_kek) = keks(notation);
-    for goes_on in [false, true] {
-        let mut kek = failing(kek, of_kek, goes_on);
-        let mut new = failing(new_kek, of_new_kek, goes_on);
-        let mut input = failing(bytes, of_input, goes_on);
-        let mut out = Narrow::in_pieces(alloc, 1);
-        let done = run(
-            alloc, call, notation, &mut kek, &mut new, &mut input, &mut out,
-        );
-        assert!(rt; done == Err(fault) && out.out.is_empty(), "{fault:?}");
-        assert!(rt;
-            of_input < FAR || input.left.len() == bytes.len(),
-            "{fault:?}"
-        );
-        assert!(rt;
-            of_kek == FAR || new.left.len() == new_kek.len(),
-            "{fault:?}"
-        );
-    }
-}
-
-fn failing(bytes: &[u8], room: usize, goes_on: bool) -> Trickle<'_> {
-    Trickle {
-        left: bytes,
-        size: 1,
-        room,
-        goes_on,
-    }
-}
-
-// Whether a write takes no byte, or fails; and whether the next ones go on.
-const STOPS: [(bool, bool); 4] = [(false, false), (false, true), (true, false), (true, true)];
-
-fn stopping(alloc: Global, room: usize, (takes_none, goes_on): (bool, bool)) -> Narrow {
-    Narrow {
-        room,
-        takes_none,
-        goes_on,
-        ..Narrow::in_pieces(alloc, 1)
-    }
-}
-
-// A writer that would go on is not asked again, and one that stops behind the output is not met.
-#[test]
-fn counts_what_went_out_at_each_write_that_stops(rt: HostRuntime) {
-    for Case(call, notation, bytes, wanted, output) in &CASES {
-        let (kek, new_kek) = keks(*notation);
-        for room in 0..=output.len() {
-            for stop in STOPS {
-                let mut kek = Trickle::in_pieces(kek, FAR);
-                let mut new_kek = Trickle::in_pieces(new_kek, FAR);
-                let mut input = Trickle::in_pieces(bytes, FAR);
-                let mut out = stopping(rt.alloc(), room, stop);
-                let done = run(
-                    rt.alloc(),
-                    *call,
-                    *notation,
-                    &mut kek,
-                    &mut new_kek,
-                    &mut input,
-                    &mut out,
-                );
-                if room < output.len() {
-                    assert!(rt; done == Err(JobFault::Write { written: room }));
-                } else {
-                    assert!(rt; done == *wanted);
-                }
-                assert!(rt; Some(out.out.as_slice()) == output.get(..room));
-                assert!(rt; !out.is_flushed);
-            }
-        }
-    }
-}
-
-#[test]
-fn counts_the_bytes_of_the_vectors_at_each_write_that_stops(rt: HostRuntime) {
-    for room in 0..LINES.len() {
-        for stop in STOPS {
-            let mut out = stopping(rt.alloc(), room, stop);
-            let done = vectors(rt.alloc(), &mut out);
-            assert!(rt; done == Err(VectorsFault::Write { written: room }));
-            assert!(rt; Some(out.out.as_slice()) == LINES.get(..room));
-        }
-    }
+    Ok(())
 }

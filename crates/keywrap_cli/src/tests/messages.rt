@@ -1,14 +1,10 @@
-//! What is said of the limits, while lines are waited for, and of a drill that no command line has
-//! room for.
+//! What the help says of the limits, and what is said while lines are waited for.
 
-use crate::drill::DrillFault;
-use crate::fault::ProgramFault;
 use crate::job::{Job, Notation, Task};
 use crate::request::{Lines, Work};
 use key_files::MAX_FILE;
 use key_wrap::{Form, MAX_KEY};
 use keywrap_words::help::WRAP_EXAMPLE;
-use std::test::Fail;
 
 const LIMITS: &str = "\
 A plain key has 16 to 1048576 bytes, a multiple of 8.
@@ -19,14 +15,6 @@ A file has at most 4194304 bytes.";
 fn says_the_limits(rt: HostRuntime) {
     assert!(rt; MAX_KEY == 1_048_576 && MAX_FILE == 4_194_304);
     assert!(rt; WRAP_EXAMPLE.ends_with(LIMITS));
-}
-
-#[test]
-fn says_that_a_drill_is_too_long(rt: HostRuntime) -> Result<(), Fail> {
-    let fault = ProgramFault::Drill(DrillFault::TooLong);
-    let line = format!(in rt.alloc(); "{}", fault.line())?;
-    assert!(rt; line.as_str() == "keywrap: input: too long" && fault.status() == 6);
-    Ok(())
 }
 
 #[test]

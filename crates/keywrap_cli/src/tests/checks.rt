@@ -1,0 +1,44 @@
+//! Checks: the line that says what a text is a wrapping of, whatever the form of the task.
+
+use super::cases::{Answer, Call, Case, HEX, WRITTEN};
+use super::jobs::{BLANKS, HEX_KEK, HEX_TEXT, PADDED_KEK, TEXT_OF_7, TEXT_OF_20};
+use crate::job::{Done, Job};
+use key_wrap::Form;
+
+const CHECK: Call = Call::Job(Job::Check, Form::Plain, HEX, HEX);
+
+const PADDED_CHECK: Call = Call::Job(Job::Check, Form::Padded, HEX, HEX);
+
+const NEITHER: Answer = Ok(Done::Neither);
+
+// The text of RFC 3394, section 4.1, without its last byte, and with another.
+const SHORT: &[u8] = b"1fa68b0a8112b447aef34bd8fb5a7b829d3e862371d2cf";
+
+const CHANGED: &[u8] = b"1fa68b0a8112b447aef34bd8fb5a7b829d3e862371d2cfe4";
+
+pub static CASES: [Case; 9] = [
+    Case(
+        CHECK,
+        [PADDED_KEK, b"", TEXT_OF_20],
+        WRITTEN,
+        b"padded 20\n",
+    ),
+    Case(CHECK, [PADDED_KEK, b"", TEXT_OF_7], WRITTEN, b"padded 7\n"),
+    Case(CHECK, [HEX_KEK, b"", SHORT], NEITHER, b"none\n"),
+    Case(CHECK, [HEX_KEK, b"", CHANGED], NEITHER, b"none\n"),
+    Case(CHECK, [HEX_KEK, b"", BLANKS], NEITHER, b"none\n"),
+    Case(
+        PADDED_CHECK,
+        [HEX_KEK, b"", HEX_TEXT],
+        WRITTEN,
+        b"plain 16\n",
+    ),
+    Case(
+        PADDED_CHECK,
+        [PADDED_KEK, b"", TEXT_OF_7],
+        WRITTEN,
+        b"padded 7\n",
+    ),
+    Case(PADDED_CHECK, [HEX_KEK, b"", CHANGED], NEITHER, b"none\n"),
+    Case(PADDED_CHECK, [HEX_KEK, b"", BLANKS], NEITHER, b"none\n"),
+];

@@ -1,0 +1,166 @@
+//! Drills, whose answers follow from the rule of the drill block: At is the register that goes in,
+//! xored with t, and A(t-1) goes into the last register.
+
+use crate::convert::Direction;
+use crate::drill::{DrillFault, drill};
+use key_wrap::Form;
+use std::alloc::Global;
+use std::test::Fail;
+
+// Keys and their texts.
+static WRAPPINGS: [(Form, &str, &str); 8] = [
+    // two words
+    (
+        Form::Plain,
+        "00112233445566778899aabbccddeeff",
+        "a6a6a6a6a6a6a6a6001122334455667f8899aabbccddeefb",
+    ),
+    // three zero words
+    (
+        Form::Plain,
+        "000000000000000000000000000000000000000000000000",
+        "00000000000000120000000000000000a6a6a6a6a6a6a6b60000000000000011",
+    ),
+    // three words: P2 xor 12, P3, IV xor 10, P1 xor 11
+    (
+        Form::Plain,
+        "010203040506070811121314151617182122232425262728",
+        "111213141516170a2122232425262728a6a6a6a6a6a6a6b60102030405060719",
+    ),
+    // four words: P4 xor 08, IV xor 14, P1 xor 09, P2 xor 0e, P3 xor 03
+    (
+        Form::Plain,
+        "0000000000000000111111111111111122222222222222223333333333333333",
+        "333333333333333ba6a6a6a6a6a6a6b20000000000000009111111111111111f2222222222222221",
+    ),
+    // padded keys: one word, and two words, whose registers go as the plain ones above
+    (
+        Form::Padded,
+        "466f7250617369",
+        "466f725061736900a65959a600000007",
+    ),
+    (Form::Padded, "ff", "ff00000000000000a65959a600000001"),
+    (
+        Form::Padded,
+        "0011223344556677",
+        "0011223344556677a65959a600000008",
+    ),
+    (
+        Form::Padded,
+        "112233445566778899",
+        "a65959a60000000911223344556677809900000000000004",
+    ),
+];
+
+// Digits of both cases, with white space between them.
+const SPACED: &str = "00 11\t22 33 44 55 66 77\r\n88 99 AA bb CC dd EE ff\n";
+
+#[test]
+fn wraps_and_unwraps_keys(rt: HostRuntime) {
+    for (form, key, text) in &WRAPPINGS {
+        assert!(rt;
+            answers(rt.alloc(), *form, Direction::Wrap, key, text),
+            "{key}"
+        );
+        assert!(rt;
+            answers(rt.alloc(), *form, Direction::Unwrap, text, key),
+            "{text}"
+        );
+    }
+    let (_, _, text) = WRAPPINGS[0];
+    assert!(rt; answers(rt.alloc(), Form::Plain, Direction::Wrap, SPACED, text));
+}
+
+// Whether a drill answers the bytes of these digits.
+fn answers(alloc: Global, form: Form, direction: Direction, text: &str, digits: &str) -> bool {
+    match drill(alloc, form, direction, text) {
+        Ok(found) => are_of(alloc, &found, digits),
+        Err(_) => false,
+    }
+}
+
+fn are_of(alloc: Global, bytes: &[u8], digits: &str) -> bool {
+    match hex::encode(alloc, bytes) {
+        Ok(found) => found.as_str() == digits,
+        Err(_) => false,
+    }
+}
+
+// Words of the wrapping of 43 zero words, each from which byte on.
+static PAST_256: [(usize, &[u8]); 5] = [
+    (0, b"\x00\x00\x00\x00\x00\x00\x01\x74"),
+    (8, b"\x00\x00\x00\x00\x00\x00\x00\x77"),
+    (48, b"\xa6\xa6\xa6\xa6\xa6\xa6\xa6\x3a"),
+    (336, b"\x00\x00\x00\x00\x00\x00\x01\x74"),
+    (344, b"\x00\x00\x00\x00\x00\x00\x01\x74"),
+];
+
+#[test]
+fn wraps_past_256_steps(rt: HostRuntime) -> Result<(), Fail> {
+    let digits = [b'0'; 688];
+    let zeros = std::str::from_utf8(&digits)?;
+    let wrapped = drill(rt.alloc(), Form::Plain, Direction::Wrap, zeros)?;
+    assert!(rt; wrapped.len() == 352);
+    for (at, word) in &PAST_256 {
+        let from_there = wrapped.get(*at..).unwrap_or(&[]);
+        assert!(rt; from_there.starts_with(word), "byte {at}");
+    }
+    Ok(())
+}
+
+static REFUSALS: [(Form, Direction, &str, DrillFault); 10] = [
+    (
+        Form::Plain,
+        Direction::Wrap,
+        "0g",
+        DrillFault::BadDigit { at: 1 },
+    ),
+    (
+        Form::Plain,
+        Direction::Unwrap,
+        "g01",
+        DrillFault::BadDigit { at: 0 },
+    ),
+    (Form::Plain, Direction::Wrap, "001", DrillFault::OddDigits),
+    (Form::Plain, Direction::Wrap, "", DrillFault::BadLength),
+    (Form::Padded, Direction::Wrap, "", DrillFault::BadLength),
+    (
+        Form::Plain,
+        Direction::Wrap,
+        "0011223344556677",
+        DrillFault::BadLength,
+    ),
+    (
+        Form::Plain,
+        Direction::Unwrap,
+        "00112233445566778899aabbccddeeff",
+        DrillFault::BadLength,
+    ),
+    (
+        Form::Plain,
+        Direction::Unwrap,
+        "a7a6a6a6a6a6a6a6001122334455667f8899aabbccddeefb",
+        DrillFault::Integrity,
+    ),
+    (
+        Form::Padded,
+        Direction::Unwrap,
+        "a65959a60000000911223344556677809900000000000005",
+        DrillFault::Integrity,
+    ),
+    // a legal length, but a wrapping of the other form
+    (
+        Form::Plain,
+        Direction::Unwrap,
+        "a65959a60000000911223344556677809900000000000004",
+        DrillFault::Integrity,
+    ),
+];
+
+#[test]
+fn refuses_in_order(rt: HostRuntime) {
+    for (form, direction, text, fault) in &REFUSALS {
+        let found = drill(rt.alloc(), *form, *direction, text);
+        assert!(rt; found.err() == Some(*fault), "{text}");
+    }
+}

@@ -1,0 +1,189 @@
+//! With ample memory, and files and outputs that can be read and written, no call answers Memory,
+//! Read or Write.
+
+use super::super::cases::{Call, Case, HEX, RAW, WRITTEN};
+use super::super::initial_values::OTHER;
+use super::super::jobs::{HEX_KEK, RAW_KEK};
+use super::super::rewraps::{NEW_KEK, RAW_NEW_KEK};
+use crate::convert::Direction;
+use crate::drill::drill;
+use crate::job::{Job, Notation};
+use aes_block::Aes;
+use key_wrap::{Form, InitialValue, MAX_KEY, wrap, wrap_padded, wrap_with};
+use std::alloc::{AllocError, Global};
+use std::process::Abort;
+use std::test::Fail;
+
+static FORMS: [Form; 2] = [Form::Plain, Form::Padded];
+
+// The byte of a content at a place: of zeros, of ff, of bytes that count and of pseudo-random ones.
+fn byte_of(content: usize, at: usize) -> u8 {
+    match content {
+        0 => 0,
+        1 => 0xFF,
+        2 => (at % 256) as u8,
+        _ => at.wrapping_mul(at | 0x9E37_79B9_7F4A_7C15).to_be_bytes()[0],
+    }
+}
+
+// Whether keys of so many bytes are tried: each length to 520, of every content where files are
+// read at once, then words and their neighbours of one content each, and the largest.
+fn is_tried(content: usize, len: usize, size: usize) -> bool {
+    let is_its = len / 8 % 4 == content;
+    match len {
+        ..=520 => is_its || size > 1,
+        ..=4_105 => is_its && matches!(len % 8, 0 | 1 | 7),
+        _ => len == MAX_KEY && content == 3,
+    }
+}
+
+// Whether a key may have so many bytes, as RFC 3394 and RFC 5649 say up to the largest.
+fn is_key_length(form: Form, len: usize) -> bool {
+    match form {
+        Form::Plain => len >= 16 && len % 8 == 0,
+        Form::Padded => len >= 1,
+    }
+}
+
+#[test]
+fn gives_up_for_memory_at_no_length(rt: HostRuntime) -> Result<(), Fail> {
+    run_each_length(&rt, rt.alloc(), usize::MAX)
+}
+
+// Reads and writes go byte by byte to 1,039 bytes, and beyond in pieces that grow with the key:
+// that long files can be read and written byte by byte is shown by the tests of key_files.
+#[test]
+fn gives_up_for_io_at_no_length(rt: HostRuntime) -> Result<(), Fail> {
+    run_each_length(&rt, rt.alloc(), 1)
+}
+
+// Each call on keys of each length, through readers and writers of so many bytes a call at least.
+fn run_each_length(rt: &impl Abort, alloc: Global, size: usize) -> Result<(), Fail> {
+    for content in 0..4 {
+        let mut key = Vec::new(alloc);
+        for at in 0..MAX_KEY {
+            key.push(byte_of(content, at))?;
+        }
+        for len in 1..=key.len() {
+            if is_tried(content, len, size) {
+                run_on_key(rt, alloc, &key[..len], size.max(len / 520))?;
+            }
+        }
+    }
+    Ok(())
+}
+
+// Each call in each form that the key has, from the key to its texts, from text to text, and back.
+fn run_on_key(rt: &impl Abort, alloc: Global, key: &[u8], size: usize) -> Result<(), Fail> {
+    let (old, new) = (Aes::new(RAW_KEK)?, Aes::new(RAW_NEW_KEK)?);
+    for form in FORMS {
+        if is_key_length(form, key.len()) {
+            let text = wrapped(alloc, &old, form, key)?;
+            let wrap = Call::Job(Job::Wrap, form, RAW, RAW);
+            writes(rt, alloc, wrap, key, &text, size)?;
+            let unwrap = Call::Job(Job::Unwrap, form, RAW, RAW);
+            writes(rt, alloc, unwrap, &text, key, size)?;
+            let check = Call::Job(Job::Check, form, RAW, RAW);
+            let line = check_line(alloc, form, key.len())?;
+            writes(rt, alloc, check, &text, line.as_bytes(), size)?;
+            assert!(rt; drills(alloc, form, key), "{} bytes", key.len());
+            for new_form in FORMS {
+                if is_key_length(new_form, key.len()) {
+                    let new_text = wrapped(alloc, &new, new_form, key)?;
+                    let rewrap = Call::Rewrap(form, new_form, RAW, RAW);
+                    writes(rt, alloc, rewrap, &text, &new_text, size)?;
+                }
+            }
+        }
+    }
+    if is_key_length(Form::Plain, key.len()) {
+        let text = wrap_with(alloc, &old, &InitialValue::new(OTHER)?, key)?;
+        let wrap = Call::With(OTHER, Direction::Wrap, RAW, RAW);
+        writes(rt, alloc, wrap, key, &text, size)?;
+        let unwrap = Call::With(OTHER, Direction::Unwrap, RAW, RAW);
+        writes(rt, alloc, unwrap, &text, key, size)?;
+    }
+    Ok(())
+}
+
+fn wrapped(alloc: Global, aes: &Aes, form: Form, key: &[u8]) -> Result<Vec<u8>, Fail> {
+    Ok(match form {
+        Form::Plain => wrap(alloc, aes, key)?,
+        Form::Padded => wrap_padded(alloc, aes, key)?,
+    })
+}
+
+fn check_line(alloc: Global, form: Form, len: usize) -> Result<String, AllocError> {
+    match form {
+        Form::Plain => format!(in alloc; "plain {len}\n"),
+        Form::Padded => format!(in alloc; "padded {len}\n"),
+    }
+}
+
+// Says that a raw call writes this output for this input, and in hex the same.
+fn writes(
+    rt: &impl Abort,
+    alloc: Global,
+    call: Call,
+    input: &[u8],
+    output: &[u8],
+    size: usize,
+) -> Result<(), Fail> {
+    writes_in(rt, alloc, RAW, call, input, output, size);
+    let input = line_of(alloc, input)?;
+    let output = match call {
+        Call::Job(Job::Check, ..) => output.to_vec(alloc)?,
+        _ => line_of(alloc, output)?,
+    };
+    writes_in(rt, alloc, HEX, in_hex(call), &input, &output, size);
+    Ok(())
+}
+
+// The same for a call with files of one notation.
+fn writes_in<'a>(
+    rt: &impl Abort,
+    alloc: Global,
+    notation: Notation,
+    call: Call,
+    input: &'a [u8],
+    output: &'a [u8],
+    size: usize,
+) {
+    let case = match notation {
+        Notation::Raw => Case(call, [RAW_KEK, RAW_NEW_KEK, input], WRITTEN, output),
+        Notation::Hex => Case(call, [HEX_KEK, NEW_KEK, input], WRITTEN, output),
+    };
+    case.holds(rt, alloc, size);
+}
+
+fn line_of(alloc: Global, bytes: &[u8]) -> Result<Vec<u8>, AllocError> {
+    let mut line = hex::encode(alloc, bytes)?;
+    line.push('\n')?;
+    Ok(line.into_bytes())
+}
+
+fn in_hex(call: Call) -> Call {
+    match call {
+        Call::Job(job, form, ..) => Call::Job(job, form, HEX, HEX),
+        Call::With(iv, direction, ..) => Call::With(iv, direction, HEX, HEX),
+        Call::Rewrap(old_form, new_form, ..) => Call::Rewrap(old_form, new_form, HEX, HEX),
+    }
+}
+
+// Whether a drill of the key is answered, and that of its wrapping by the key.
+fn drills(alloc: Global, form: Form, key: &[u8]) -> bool {
+    match drilled(alloc, form, Direction::Wrap, key) {
+        Some(text) => match drilled(alloc, form, Direction::Unwrap, &text) {
+            Some(back) => back.as_slice() == key,
+            None => false,
+        },
+        None => false,
+    }
+}
+
+fn drilled(alloc: Global, form: Form, direction: Direction, bytes: &[u8]) -> Option<Vec<u8>> {
+    match hex::encode(alloc, bytes) {
+        Ok(digits) => drill(alloc, form, direction, &digits).ok(),
+        Err(_) => None,
+    }
+}

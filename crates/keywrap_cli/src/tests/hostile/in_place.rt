@@ -1,0 +1,105 @@
+//! Wrapping and unwrapping in a buffer: what the buffer holds and how many block calls were made,
+//! also where the text is refused.
+
+use super::super::standards::WRAPPINGS;
+use aes_block::Aes;
+use block_pair::{BlockPair, Meter};
+use key_wrap::{
+    Form, InPlaceFault, unwrap_in_place, unwrap_padded_in_place, wrap_in_place,
+    wrap_padded_in_place,
+};
+use std::alloc::{AllocError, Global};
+use std::process::Abort;
+use std::test::Fail;
+
+// There and back in one buffer over one meter.
+#[test]
+fn wraps_and_unwraps_in_place_and_counts(rt: HostRuntime) -> Result<(), Fail> {
+    for wrapping in &WRAPPINGS {
+        let aes = Aes::new(wrapping.kek)?;
+        let mut meter = Meter::new(&aes);
+        let (key, text) = (wrapping.key, wrapping.text);
+        let mut buf = room_for(rt.alloc(), key, 0xFF, text.len())?;
+        let wraps = wrap_here(&mut meter, wrapping.form, &mut buf, key.len());
+        assert!(rt; wraps == Ok(()) && buf.as_slice() == text, "{text:?}");
+        assert!(rt; meter.count() == wrapping.calls, "{text:?}");
+        let unwraps = unwrap_here(&mut meter, wrapping.form, &mut buf);
+        let room = room_for(rt.alloc(), key, 0, text.len())?;
+        assert!(rt; unwraps == Ok(key.len()) && buf == room, "{text:?}");
+        assert!(rt;
+            meter.count() == wrapping.calls.saturating_mul(2),
+            "{text:?}"
+        );
+    }
+    Ok(())
+}
+
+fn wrap_here<B: BlockPair>(
+    meter: &mut Meter<B>,
+    form: Form,
+    buf: &mut [u8],
+    len: usize,
+) -> Result<(), InPlaceFault> {
+    match form {
+        Form::Plain => wrap_in_place(meter, buf),
+        Form::Padded => wrap_padded_in_place(meter, buf, len),
+    }
+}
+
+// Answers the bytes of the key.
+fn unwrap_here<B: BlockPair>(
+    meter: &mut Meter<B>,
+    form: Form,
+    buf: &mut [u8],
+) -> Result<usize, InPlaceFault> {
+    match form {
+        Form::Plain => {
+            unwrap_in_place(meter, buf)?;
+            Ok(buf.len().saturating_sub(8))
+        }
+        Form::Padded => unwrap_padded_in_place(meter, buf),
+    }
+}
+
+// The block calls of one wrapping or unwrapping: six for each word of the key, and one for a padded
+// key of one word.
+fn calls_for(text: &[u8]) -> u64 {
+    match text.len() {
+        16 => 1,
+        len => (len / 8).saturating_sub(1).saturating_mul(6) as u64,
+    }
+}
+
+// So many bytes `other`, with the key behind the first 8.
+fn room_for(alloc: Global, key: &[u8], other: u8, len: usize) -> Result<Vec<u8>, AllocError> {
+    let mut buf = vec![in alloc; other; 8]?;
+    buf.extend_from_slice(key)?;
+    buf.resize(len, other)?;
+    Ok(buf)
+}
+
+// Unwraps a copy of a text, and says that the copy becomes the key behind zeros, or that the text
+// is refused and the copy cleared.
+pub(super) fn unwraps_to<B: BlockPair>(
+    rt: &impl Abort,
+    alloc: Global,
+    form: Form,
+    pair: &B,
+    text: &[u8],
+    key: Option<&[u8]>,
+) -> Result<(), Fail> {
+    let mut meter = Meter::new(pair);
+    let mut buf = text.to_vec(alloc)?;
+    let answer = unwrap_here(&mut meter, form, &mut buf);
+    let wanted = match key {
+        Some(key) => Ok(key.len()),
+        None => Err(InPlaceFault::Integrity),
+    };
+    assert!(rt;
+        answer == wanted && meter.count() == calls_for(text),
+        "{text:?}"
+    );
+    let held = room_for(alloc, key.unwrap_or(&[]), 0, text.len())?;
+    assert!(rt; buf == held, "{text:?}");
+    Ok(())
+}

@@ -1,0 +1,39 @@
+//! Each read that fails in turn, once or from then on.
+
+use super::super::cases::{Case, run};
+use super::super::doubles::{FAULTS, Narrow, Trickle};
+use crate::job::JobFault;
+use key_files::FileFault;
+use std::alloc::Global;
+use std::process::Abort;
+
+// The answer to a failed read of the KEK, the new KEK and the input.
+static READ_FAULTS: [JobFault; 3] = [
+    JobFault::KekFile(FileFault::Read),
+    JobFault::NewKekFile(FileFault::Read),
+    JobFault::InputFile(FileFault::Read),
+];
+
+// Nothing is written then, and the files behind are not read. The fault comes before what the bytes
+// denote, and a reader that would go on is not asked again.
+pub(super) fn fail_each_read(rt: &impl Abort, alloc: Global, case: &Case) {
+    let Case(call, bytes, ..) = *case;
+    for at in 0..3 {
+        if !case.reads(at) {
+            continue;
+        }
+        let file = bytes[at];
+        for room in 0..file.len().saturating_add(1) {
+            for faults in FAULTS {
+                let mut files = case.files(1);
+                files[at] = Trickle::failing(file, room, faults);
+                let mut out = Narrow::in_pieces(alloc, 1);
+                let (done, [_, new_kek, input]) = run(alloc, call, files, &mut out);
+                assert!(rt; done == Err(READ_FAULTS[at]), "file {at}, byte {room}");
+                assert!(rt; out.out().is_empty(), "file {at}, byte {room}");
+                assert!(rt; at > 0 || new_kek.is_unread, "byte {room}");
+                assert!(rt; at > 1 || input.is_unread, "byte {room}");
+            }
+        }
+    }
+}

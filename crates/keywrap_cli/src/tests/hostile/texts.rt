@@ -1,0 +1,56 @@
+//! The eight texts of RFC 3394, section 4, and RFC 5649, section 6, cut short, and with one bit of
+//! them or of their KEK changed: each is refused, by a job and in a buffer.
+
+use super::super::cases::{Call, Case, RAW};
+use super::super::jobs::{BAD_LENGTH, INTEGRITY};
+use super::super::standards::{WRAPPINGS, Wrapping};
+use super::change_bit;
+use super::in_place::unwraps_to;
+use crate::job::Job;
+use aes_block::Aes;
+use std::alloc::Global;
+use std::process::Abort;
+use std::test::Fail;
+
+// For its length, or, where that is legal, for its bytes.
+#[test]
+fn refuses_each_proper_prefix_of_a_text(rt: HostRuntime) {
+    for wrapping in &WRAPPINGS {
+        let unwrap = Call::Job(Job::Unwrap, wrapping.form, RAW, RAW);
+        for len in 0..wrapping.text.len() {
+            let done = if wrapping.legal.contains(&len) {
+                INTEGRITY
+            } else {
+                BAD_LENGTH
+            };
+            let files = [wrapping.kek, b"", &wrapping.text[..len]];
+            Case(unwrap, files, done, b"").holds(&rt, rt.alloc(), usize::MAX);
+        }
+    }
+}
+
+#[test]
+fn refuses_each_changed_bit_of_a_kek_or_a_text(rt: HostRuntime) -> Result<(), Fail> {
+    for wrapping in &WRAPPINGS {
+        refuse_each_changed_bit(&rt, rt.alloc(), wrapping)?;
+    }
+    Ok(())
+}
+
+fn refuse_each_changed_bit(
+    rt: &impl Abort,
+    alloc: Global,
+    wrapping: &Wrapping,
+) -> Result<(), Fail> {
+    let unwrap = Call::Job(Job::Unwrap, wrapping.form, RAW, RAW);
+    let mut bytes = wrapping.kek.to_vec(alloc)?;
+    bytes.extend_from_slice(wrapping.text)?;
+    for bit in 0..bytes.len().saturating_mul(8) {
+        change_bit(&mut bytes, bit);
+        let (kek, text) = bytes.split_at(wrapping.kek.len().min(bytes.len()));
+        Case(unwrap, [kek, b"", text], INTEGRITY, b"").holds(rt, alloc, usize::MAX);
+        unwraps_to(rt, alloc, wrapping.form, &Aes::new(kek)?, text, None)?;
+        change_bit(&mut bytes, bit);
+    }
+    Ok(())
+}

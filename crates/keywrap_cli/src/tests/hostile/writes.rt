@@ -1,0 +1,48 @@
+//! Each write that stops in turn, once or from then on, by an error or by taking no byte.
+
+use super::super::cases::{Case, run};
+use super::super::doubles::{Narrow, STOPPINGS};
+use super::super::vectors::LINES;
+use crate::job::JobFault;
+use crate::vectors::{VectorsFault, vectors};
+use std::alloc::Global;
+use std::process::Abort;
+
+// A writer that would go on is not asked again, and one that stops behind the output is not met.
+pub(super) fn stop_each_write(rt: &impl Abort, alloc: Global, case: &Case) {
+    let Case(call, _, wanted, output) = *case;
+    for room in 0..=output.len() {
+        for (stop, faults) in &STOPPINGS {
+            let mut out = Narrow::stopping(alloc, room, *stop, *faults);
+            let (done, _) = run(alloc, call, case.files(1), &mut out);
+            let wanted = if room < output.len() {
+                Err(JobFault::Write { written: room })
+            } else {
+                wanted
+            };
+            assert!(rt; done == wanted, "{wanted:?}, {stop:?} at byte {room}");
+            assert!(rt; Some(out.out()) == output.get(..room), "byte {room}");
+            assert!(rt; !out.is_flushed);
+        }
+    }
+}
+
+#[test]
+fn counts_the_bytes_of_the_vectors_at_each_write_that_stops(rt: HostRuntime) {
+    for room in 0..=LINES.len() {
+        for (stop, faults) in &STOPPINGS {
+            let mut out = Narrow::stopping(rt.alloc(), room, *stop, *faults);
+            let done = vectors(rt.alloc(), &mut out);
+            let wanted = if room < LINES.len() {
+                Err(VectorsFault::Write { written: room })
+            } else {
+                Ok(true)
+            };
+            assert!(rt; done == wanted, "{stop:?} at byte {room}");
+            assert!(rt;
+                Some(out.out()) == LINES.as_bytes().get(..room),
+                "byte {room}"
+            );
+        }
+    }
+}

@@ -1,0 +1,91 @@
+//! Rewrappings over files in memory: from one KEK and form to another, and what is refused.
+
+use super::cases::{Answer, Call, Case, HEX, RAW, WRITTEN};
+use super::jobs::{
+    BAD_LENGTH, BLANKS, HEX_KEK, HEX_TEXT, INPUT_DIGIT, INPUT_DIGITS, INTEGRITY, KEK_DIGIT,
+    KEK_DIGITS, KEK_LENGTH, PADDED_KEK, RAW_KEK, RAW_TEXT, TEXT_OF_7, TEXT_OF_20,
+};
+use crate::job::JobFault;
+use key_files::FileFault;
+use key_wrap::Form;
+
+/// The KEK of RFC 3394, section 4.3.
+pub const NEW_KEK: &[u8] = b"000102030405060708090a0b0c0d0e0f101112131415161718191a1b1c1d1e1f\n";
+
+/// The same, raw.
+pub const RAW_NEW_KEK: &[u8] = b"\x00\x01\x02\x03\x04\x05\x06\x07\x08\x09\x0A\x0B\x0C\x0D\x0E\x0F\
+    \x10\x11\x12\x13\x14\x15\x16\x17\x18\x19\x1A\x1B\x1C\x1D\x1E\x1F";
+
+// The text of RFC 3394, section 4.3: the same key as that of section 4.1.
+const NEW_TEXT: &[u8] = b"64e8c3f9ce0f5ba263e9777905818a2a93c8191e7d6e8ae7\n";
+
+const RAW_NEW_TEXT: &[u8] = b"\x64\xE8\xC3\xF9\xCE\x0F\x5B\xA2\x63\xE9\x77\x79\
+    \x05\x81\x8A\x2A\x93\xC8\x19\x1E\x7D\x6E\x8A\xE7";
+
+// The padded wrapping of that key under this KEK, as OpenSSL answers it.
+const NEW_PADDED: &[u8] = b"afc860015ffe2d75bedf43c444fe58f4ad9d89c4ec71e23b\n";
+
+// The wrapping of the 7 octets of RFC 5649, section 6, under this KEK, as OpenSSL answers it.
+const NEW_OF_7: &[u8] = b"443b17837bb39348610d19202df8a1f9\n";
+
+const FIFTEEN: &[u8] = b"000102030405060708090a0b0c0d0e";
+
+const TWENTY_THREE: &[u8] = b"1fa68b0a8112b447aef34bd8fb5a7b829d3e862371d2cf";
+
+pub const PLAIN: Call = Call::Rewrap(Form::Plain, Form::Plain, HEX, HEX);
+
+const RAW_PLAIN: Call = Call::Rewrap(Form::Plain, Form::Plain, RAW, RAW);
+
+const RAW_KEKS: Call = Call::Rewrap(Form::Plain, Form::Plain, HEX, RAW);
+
+const TO_PADDED: Call = Call::Rewrap(Form::Plain, Form::Padded, HEX, HEX);
+
+const TO_PLAIN: Call = Call::Rewrap(Form::Padded, Form::Plain, HEX, HEX);
+
+const PADDED: Call = Call::Rewrap(Form::Padded, Form::Padded, HEX, HEX);
+
+const NEW_KEK_LENGTH: Answer = Err(JobFault::NewKekLength);
+
+const NEW_KEK_DIGIT: Answer = Err(JobFault::NewKekFile(FileFault::BadDigit { at: 1 }));
+
+const NEW_KEK_DIGITS: Answer = Err(JobFault::NewKekFile(FileFault::OddDigits));
+
+pub static CASES: [Case; 23] = [
+    Case(PLAIN, [HEX_KEK, NEW_KEK, HEX_TEXT], WRITTEN, NEW_TEXT),
+    Case(
+        RAW_PLAIN,
+        [RAW_KEK, RAW_NEW_KEK, RAW_TEXT],
+        WRITTEN,
+        RAW_NEW_TEXT,
+    ),
+    Case(
+        RAW_KEKS,
+        [RAW_KEK, RAW_NEW_KEK, HEX_TEXT],
+        WRITTEN,
+        NEW_TEXT,
+    ),
+    Case(TO_PADDED, [HEX_KEK, NEW_KEK, HEX_TEXT], WRITTEN, NEW_PADDED),
+    Case(TO_PLAIN, [NEW_KEK, HEX_KEK, NEW_PADDED], WRITTEN, HEX_TEXT),
+    Case(PADDED, [PADDED_KEK, NEW_KEK, TEXT_OF_7], WRITTEN, NEW_OF_7),
+    // a refused KEK, whatever stands behind it
+    Case(PLAIN, [b"", NEW_KEK, HEX_TEXT], KEK_LENGTH, b""),
+    Case(PLAIN, [FIFTEEN, b"0g", HEX_TEXT], KEK_LENGTH, b""),
+    Case(PLAIN, [b"0g", b"", HEX_TEXT], KEK_DIGIT, b""),
+    Case(PLAIN, [b"012", NEW_KEK, HEX_TEXT], KEK_DIGITS, b""),
+    Case(PLAIN, [HEX_KEK, b"", HEX_TEXT], NEW_KEK_LENGTH, b""),
+    Case(PLAIN, [HEX_KEK, FIFTEEN, b"0g"], NEW_KEK_LENGTH, b""),
+    Case(PLAIN, [HEX_KEK, b"0g", b""], NEW_KEK_DIGIT, b""),
+    Case(PLAIN, [HEX_KEK, b"012", HEX_TEXT], NEW_KEK_DIGITS, b""),
+    // inputs that denote no bytes, or none of a legal length
+    Case(PLAIN, [HEX_KEK, NEW_KEK, b"g01"], INPUT_DIGIT, b""),
+    Case(PLAIN, [HEX_KEK, NEW_KEK, b"012"], INPUT_DIGITS, b""),
+    Case(PLAIN, [HEX_KEK, NEW_KEK, TWENTY_THREE], BAD_LENGTH, b""),
+    Case(PLAIN, [HEX_KEK, NEW_KEK, BLANKS], BAD_LENGTH, b""),
+    // the KEKs exchanged, and the forms
+    Case(PLAIN, [NEW_KEK, HEX_KEK, HEX_TEXT], INTEGRITY, b""),
+    Case(TO_PLAIN, [HEX_KEK, NEW_KEK, HEX_TEXT], INTEGRITY, b""),
+    Case(PADDED, [HEX_KEK, NEW_KEK, HEX_TEXT], INTEGRITY, b""),
+    // a key of 20 bytes has no plain wrapping; a text that is no wrapping has no key
+    Case(TO_PLAIN, [PADDED_KEK, NEW_KEK, TEXT_OF_20], BAD_LENGTH, b""),
+    Case(TO_PLAIN, [HEX_KEK, NEW_KEK, TEXT_OF_20], INTEGRITY, b""),
+];

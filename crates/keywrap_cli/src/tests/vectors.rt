@@ -1,0 +1,83 @@
+//! The lines of the published vectors, and of tables in which one vector is changed.
+
+use super::doubles::Narrow;
+use crate::fault::ProgramFault;
+use crate::program::run_vectors;
+use crate::vector_table::{VECTORS, Vector};
+use crate::vectors::{report_on, vectors};
+use key_files::decode_hex;
+use std::alloc::{AllocError, Global};
+use std::process::Abort;
+use std::test::Fail;
+
+pub const LINES: &str = "\
+rfc3394 4.1 ok
+rfc3394 4.2 ok
+rfc3394 4.3 ok
+rfc3394 4.4 ok
+rfc3394 4.5 ok
+rfc3394 4.6 ok
+rfc5649 20 ok
+rfc5649 7 ok
+fips197 1 ok
+fips197 2 ok
+fips197 3 ok
+fips197 4 ok
+";
+
+#[test]
+fn writes_twelve_lines_that_say_ok(rt: HostRuntime) {
+    let mut out = Vec::new(rt.alloc());
+    assert!(rt; vectors(rt.alloc(), &mut out) == Ok(true));
+    assert!(rt; out.as_slice() == LINES.as_bytes() && out.len() == 169);
+}
+
+// The last byte of one output is changed: its line fails, and the others stay.
+#[test]
+fn says_failed_exactly_for_the_changed_vector(rt: HostRuntime) -> Result<(), Fail> {
+    for changed in 0..VECTORS.len() {
+        change_vector(&rt, rt.alloc(), changed)?;
+    }
+    Ok(())
+}
+
+fn change_vector(rt: &impl Abort, alloc: Global, changed: usize) -> Result<(), Fail> {
+    let vector = VECTORS.get(changed).ok_or("no such vector")?;
+    let output = with_other_end(alloc, vector.output)?;
+    let ok = format!(in alloc; "{} ok", vector.name)?;
+    let failed = format!(in alloc; "{} failed", vector.name)?;
+    let wanted = LINES.replace(alloc, ok.as_str(), failed.as_str())?;
+    let report = report_on(alloc, &table_with(alloc, changed, &output)?)?;
+    assert!(rt; report.text == wanted && !report.all_ok, "{}", report.text);
+    Ok(())
+}
+
+// The table, with another output of one vector.
+fn table_with(alloc: Global, changed: usize, output: &str) -> Result<Vec<Vector<'_>>, AllocError> {
+    let mut table = Vec::new(alloc);
+    for (at, vector) in VECTORS.iter().enumerate() {
+        let output = if at == changed { output } else { vector.output };
+        table.push(Vector { output, ..*vector })?;
+    }
+    Ok(table)
+}
+
+// The digits with another last byte.
+fn with_other_end(alloc: Global, digits: &str) -> Result<String, Fail> {
+    let mut bytes = decode_hex(alloc, digits.as_bytes())?;
+    if let Some(last) = bytes.last_mut() {
+        *last ^= 1;
+    }
+    Ok(hex::encode(alloc, &bytes)?)
+}
+
+#[test]
+fn ends_with_the_status_of_the_lines(rt: HostRuntime) {
+    let mut out = Narrow::in_pieces(rt.alloc(), 7);
+    assert!(rt; matches!(run_vectors(rt.alloc(), &mut out), Ok(0)));
+    assert!(rt; out.out() == LINES.as_bytes() && out.is_flushed);
+    let mut narrow = Narrow::failing(rt.alloc(), 15);
+    let done = run_vectors(rt.alloc(), &mut narrow);
+    assert!(rt; matches!(done, Err(ProgramFault::Write { written: 15 })));
+    assert!(rt; !narrow.is_flushed);
+}
