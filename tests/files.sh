@@ -334,7 +334,8 @@ interrupted() {
     ends
     problem=$problem$(quiet $((128 + $(kill -l "$1"))) '')
     [ "$(state ! -name file.part0)" = "$before" ] || problem="$problem in the folder: $(state), not $before"
-    [ ! -e to/file.part0 ] || [ "$(stat -c '%a %s' to/file.part0)" = '644 0' ] ||
+    # It is made for its owner alone, and gets the mode of the old one then.
+    [ ! -e to/file.part0 ] || [[ $(stat -c '%a %s' to/file.part0) =~ ^6(00|44)\ 0$ ]] ||
         problem="$problem the new file is $(stat -c '%a %s' to/file.part0)"
     verdict "$1 while it waits ${*:2}" "$problem"
     lands "the run after $1 ${*:2}" 0 wrapped.hex to/file wrap --kek kek16.hex -i key.hex -o to/file
