@@ -1,6 +1,6 @@
 -- A text that `hex` decodes is digits alone, and denotes what is decoded.
 use Rattle.std.proofs.Common.{◌≡◌, ◌≢◌, ℕ, ◌+◌, ◌%◌, ◌<◌, ◌||◌, not, Bool, true, false, cond, List, [], ◌∷◌, length, nat_lt, Option, Some, None, Result, Ok, Err, arith, refl, sym, ap, ◌∙◌, subst}
-use Rattle.std.specs.Prelude.{MatchResult, is_ok}
+use Rattle.std.specs.Prelude.{MatchResult, is_ok, is_some}
 use Rattle.std.specs.List.{position_from}
 use Rattle.std.proofs.lemmas.Bool.Decides.{nat_tests}
 use Rattle.std.proofs.lemmas.Iterator.Adapters.{position_from-zero}
@@ -8,7 +8,7 @@ use Rattle.hex.specs.Hex.{decode_pairs, decode_sized, digit_or_error, hex_digit_
 use Rattle.hex.specs.declared.error.FromHexError.{FromHexError}
 use Rattle.hex.specs.declared.error.FromHexError.TheVariants.{OddLength, InvalidStringLength}
 use Rattle.key_files.specs.HexText.{digits_of, first_bad, is_hex_digit, is_skipped, paired}
-use Rattle.key_files.specs.Meaning.{hex_meaning}
+use Rattle.key_files.specs.Meaning.{digits_meaning, hex_meaning}
 use Rattle.key_files.proofs.Denoting.{hex_meaning-even}
 use Rattle.key_files.proofs.Pairs.{bind_ok, decode_pairs-paired, hex_digit_value-ok}
 
@@ -70,3 +70,29 @@ sized-meaning text n out answer m ok = at (decode_sized text n) refl m
         → MatchResult d (λ bytes. (answer ≡ Ok tt) × (out ≡ bytes)) (λ e. answer ≡ Err e) → hex_meaning text ≡ Ok out
     at (Ok bytes) is found = decoded-meaning text bytes (sized _ _ (decode_pairs 0 text) bytes is) ∙ ap Ok (sym found.1)
     at (Err e) is refused = cc (subst (λ (r : Result Unit FromHexError). is_ok r ≡ true) refused ok)
+
+-- digits are their own digits
+kept_again : (x : ℕ) (xs : List ℕ) (b : Bool) → is_hex_digit x ≡ b → digits_of xs ≡ xs → digits_of (cond b (x ∷ xs) xs) ≡ cond b (x ∷ xs) xs
+kept_again x xs true is same = rw is (ap (λ ys. x ∷ ys) same)
+kept_again x xs false is same = same
+
+all_digits : (xs : List ℕ) → digits_of (digits_of xs) ≡ digits_of xs
+all_digits [] = refl
+all_digits (x ∷ xs) = kept_again x (digits_of xs) (is_hex_digit x) refl (all_digits xs)
+
+digits_denote : (found : Option ℕ) (digits bytes : List ℕ) → digits_meaning found digits ≡ Ok bytes → digits_meaning None digits ≡ Ok bytes
+digits_denote (Some at) digits bytes h = cc h
+digits_denote None digits bytes h = h
+
+-- a text without a bad byte denotes what its digits do
+pub spaced-meaning : (text digits bytes : List ℕ) → first_bad text ≡ None → digits ≡ digits_of text → hex_meaning digits ≡ Ok bytes
+    → hex_meaning text ≡ Ok bytes
+unfolding hex_meaning
+spaced-meaning text digits bytes none same h =
+    let own : digits_of digits ≡ digits_of text = ap (λ ys. digits_of ys) same ∙ all_digits text in
+    rw none (digits_denote (first_bad digits) (digits_of text) bytes (rw own at h))
+
+-- nothing was found
+pub nothing : (found : Option ℕ) → is_some found ≡ false → found ≡ None
+nothing (Some at) h = cc h
+nothing None h = refl

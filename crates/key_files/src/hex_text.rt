@@ -37,6 +37,9 @@ pub fn decode_hex_into(alloc: Global, text: &[u8], bytes: &mut Vec<u8>) -> Resul
     if bytes.resize(text.len() / 2, 0).is_ok() && decode_strict(text, bytes) {
         return Ok(());
     }
+    if decode_spaced(alloc, text, bytes) {
+        return Ok(());
+    }
     match decode_hex(alloc, text) {
         Ok(decoded) => {
             *bytes = decoded;
@@ -44,6 +47,22 @@ pub fn decode_hex_into(alloc: Global, text: &[u8], bytes: &mut Vec<u8>) -> Resul
         }
         Err(fault) => Err(fault),
     }
+}
+
+// Whether the text denotes bytes, which `bytes` then has, and there was memory to see it.
+fn decode_spaced(alloc: Global, text: &[u8], bytes: &mut Vec<u8>) -> bool
+    ensures { result ≡ true → hex_meaning text.now ≡ Ok bytes.new.items }
+{
+    if first_bad(text).is_some() {
+        return false;
+    }
+    let Ok(digits) = digits(alloc, text) else {
+        return false;
+    };
+    if bytes.resize(digits.len() / 2, 0).is_err() {
+        return false;
+    }
+    decode_strict(&digits, bytes)
 }
 
 // Whether the text is digits alone, two for each of the bytes, which they then spell.
