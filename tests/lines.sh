@@ -415,17 +415,17 @@ if [ "$(script -qec 'echo here' /dev/null 2>&1 | tr -d '\r')" = here ]; then
     # shellcheck disable=SC2016
     on_terminal '{ for n in 1 2 3; do sleep 0.6; cat part$n; done; } | "$program" wrap --lines --kek kek16.hex'
     verdict 'answers to the terminal' "$(sed "s/.*\x1b\[K//" screen | cmp - <(head -n 6 most.wrapped) 2>&1)"
-    # Two terminals: the answers go to one, and what is refused is said on the other, which shows no more.
-    script -qec 'tty >other.new; mv other.new other; until [ -e seen ]; do sleep 0.1; done' /dev/null <&8 >other.raw 2>&1 &
-    until [ -e other ]; do sleep 0.1; done
+    # Two terminals: answers go to the inner one, and what is refused is said on the outer, which shows no more.
     echo g >>part3
     # shellcheck disable=SC2016
-    on_terminal '{ for n in 1 2 3; do sleep 0.6; cat part$n; done; } | "$program" wrap --lines --kek kek16.hex 2>"$(cat other)"'
-    touch seen
-    wait $!
-    verdict 'answers to one terminal of two' "$(cmp screen <(head -n 6 most.wrapped) 2>&1)"
-    printf '%s' "keywrap: line 7: $digit" | cmp -s - <(head -n 1 other.raw | tr -d '\r\n') && [ "$status" = 6 ]
-    verdict 'the refusal on the other' "$([ $? = 0 ] || echo "status $status, it shows $(shown other.raw)")"
+    parts='for n in 1 2 3; do sleep 0.6; cat part$n; done'
+    echo "{ $parts; } | \"\$program\" wrap --lines --kek kek16.hex 2>\$outer" >inner
+    # shellcheck disable=SC2016
+    on_terminal 'outer=$(tty); export outer; script -qec ". ./inner" inner.raw >/dev/null'
+    tr -d '\r' <inner.raw | grep -v '^Script \|^$' >inner.shown
+    verdict 'answers to one terminal of two' "$(cmp inner.shown <(head -n 6 most.wrapped) 2>&1)"
+    printf '%s' "keywrap: line 7: $digit" | cmp -s - <(head -n 1 screen | tr -d '\n') && [ "$status" = 6 ]
+    verdict 'the refusal on the other' "$([ $? = 0 ] || echo "status $status, it shows $(shown screen)")"
     # A regular file has a length.
     yes $d16 | head -n 600000 >million
     # shellcheck disable=SC2016
