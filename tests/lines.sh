@@ -424,8 +424,8 @@ if [ "$(script -qec 'echo here' /dev/null 2>&1 | tr -d '\r')" = here ]; then
     on_terminal 'outer=$(tty); export outer; script -qec ". ./inner" inner.raw >/dev/null'
     tr -d '\r' <inner.raw | grep -v '^Script \|^$' >inner.shown
     verdict 'answers to one terminal of two' "$(cmp inner.shown <(head -n 6 most.wrapped) 2>&1)"
-    printf '%s' "keywrap: line 7: $digit" | cmp -s - <(head -n 1 screen | tr -d '\n') && [ "$status" = 6 ]
-    verdict 'the refusal on the other' "$([ $? = 0 ] || echo "status $status, it shows $(shown screen)")"
+    verdict 'the refusal on the other' "$([ "$status $(head -n 1 screen)" = "6 keywrap: line 7: $digit" ] ||
+        echo "status $status, it shows $(shown screen)")"
     # A regular file has a length.
     yes $d16 | head -n 600000 >million
     # shellcheck disable=SC2016
