@@ -45,7 +45,7 @@ fn remove_front(block: &mut Vec<u8>, n: usize)
     ensures len { vec_len block.new ≡ vec_len block.old - n }
 {
     let len = block.len();
-    block.copy_within(n..len, 0);
+    block.as_mut_slice().copy_within(n..len, 0);
     block.truncate(len - n);
 }
 
