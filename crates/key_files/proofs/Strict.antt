@@ -1,6 +1,6 @@
 -- A text that `hex` decodes is digits alone, and denotes what is decoded.
 use Rattle.std.proofs.Common.{◌≡◌, ◌≢◌, ℕ, ◌+◌, ◌%◌, ◌<◌, ◌||◌, not, Bool, true, false, cond, List, [], ◌∷◌, length, nat_lt, Option, Some, None, Result, Ok, Err, arith, refl, sym, ap, ◌∙◌, subst}
-use Rattle.std.specs.Prelude.{MatchResult, is_ok, is_some}
+use Rattle.std.specs.Prelude.{MatchResult, is_ok}
 use Rattle.std.specs.List.{position_from}
 use Rattle.std.proofs.lemmas.Bool.Decides.{nat_tests}
 use Rattle.std.proofs.lemmas.Iterator.Adapters.{position_from-zero}
@@ -91,8 +91,3 @@ unfolding hex_meaning
 spaced-meaning text digits bytes none same h =
     let own : digits_of digits ≡ digits_of text = ap (λ ys. digits_of ys) same ∙ all_digits text in
     rw none (digits_denote (first_bad digits) (digits_of text) bytes (rw own at h))
-
--- nothing was found
-pub nothing : (found : Option ℕ) → is_some found ≡ false → found ≡ None
-nothing (Some at) h = cc h
-nothing None h = refl

@@ -1,13 +1,16 @@
 -- No byte of the text is bad, and what its digits spell was decoded.
-use Rattle.std.proofs.Common.{◌≡◌, Ok, rules, sym, ap, length, take, drop, ◌++◌, ◌∙◌}
+use Rattle.std.specs.Prelude.{is_some}
+use Rattle.std.proofs.Common.{◌≡◌, Ok, false, rules, sym, ap, length, take, drop, ◌++◌, ◌∙◌}
 use Rattle.std.proofs.Math.Seq.{take-append_seam}
 use Rattle.key_files.specs.Meaning.{hex_meaning}
-use Rattle.key_files.proofs.Strict.{nothing, spaced-meaning}
+use Rattle.key_files.proofs.Denoting.{none_from}
+use Rattle.key_files.proofs.Strict.{spaced-meaning}
 use Rattle.key_files.proofs.hex_text.decode_spaced.Goals as goal
 
 pub returns : goal.returns
 returns c = λ ok.
-    let none = sym c.first_bad.ensures ∙ nothing c.first_bad.result (search rules) in
+    let no : is_some c.first_bad.result ≡ false = search rules in
+    let none = sym c.first_bad.ensures ∙ none_from c.first_bad.result (λ at e. let some = rw e at no in cc) in
     let decoded = c.decode_strict.ensures ok in
     let same = c.deref.ensures.value ∙ c.in-Ok.ensures in
     let out = c.decode_strict.new.bytes in
