@@ -71,49 +71,54 @@ impl Why {
     /// The line that says it of a name, whose control characters stand there escaped.
     pub fn line(self, alloc: Global, name: &str) -> Result<String, AllocError> {
         let name = if name.is_empty() { "''" } else { name };
-        let name = escaped(alloc, name)?;
+        let mut line = indented(alloc, name)?;
+        self.write_behind(alloc, &mut line)?;
+        Ok(line)
+    }
+
+    // Writes what is said, behind the name.
+    fn write_behind(self, alloc: Global, line: &mut String) -> Result<(), AllocError> {
         match self {
-            Why::Named => format!(in alloc; "  {name}"),
-            Why::System(number) => {
-                let said = system_text(alloc, number)?;
-                format!(in alloc; "  {name}: {said}")
-            }
-            Why::Unkept(number) => {
-                let said = match number {
-                    Some(number) => system_text(alloc, number)?,
-                    None => String::from_str(alloc, "the file system has one for all")?,
-                };
-                format!(in alloc; "  {name}: owner, group or mode can't be kept: {said}")
-            }
-            Why::Is(what) => format!(in alloc; "  {name}: is {what}"),
-            Why::IsKek(which) => format!(in alloc; "  {name} is {which}"),
-            Why::Kek { bytes } => {
-                let unit = unit(bytes);
-                format!(in alloc; "  {name}: {bytes} {unit} of KEK")
-            }
-            Why::Length { bytes, legal } => {
-                let unit = unit(bytes);
-                format!(in alloc; "  {name}: {bytes} {unit}; {legal}")
-            }
+            Why::Named => Ok(()),
+            Why::System(number) => write_system(alloc, number, line),
+            Why::Unkept(number) => write_unkept(alloc, number, line),
+            Why::Is(what) => write!(line, ": is {what}"),
+            Why::IsKek(which) => write!(line, " is {which}"),
+            Why::Kek { bytes } => write!(line, ": {bytes} {} of KEK", unit(bytes)),
+            Why::Length { bytes, legal } => write!(line, ": {bytes} {}; {legal}", unit(bytes)),
             Why::TooLong { bytes, what, most } => {
-                format!(in alloc; "  {name}: {bytes} bytes; {what} has {most} at most")
+                write!(line, ": {bytes} bytes; {what} has {most} at most")
             }
-            Why::Digits(digits) => format!(in alloc; "  {name}: {digits} hex digits"),
-            Why::Says(text) => format!(in alloc; "  {name}: {text}"),
+            Why::Digits(digits) => write!(line, ": {digits} hex digits"),
+            Why::Says(text) => write!(line, ": {text}"),
         }
+    }
+}
+
+// A name, whose control characters are escaped.
+fn indented(alloc: Global, name: &str) -> Result<String, AllocError> {
+    let name = escaped(alloc, name)?;
+    format!(in alloc; "  {name}")
+}
+
+fn write_unkept(alloc: Global, number: Option<i32>, line: &mut String) -> Result<(), AllocError> {
+    line.push_str(": owner, group or mode can't be kept")?;
+    match number {
+        Some(number) => write_system(alloc, number, line),
+        None => line.push_str(": the file system has one for all"),
+    }
+}
+
+// The system's text without its number.
+fn write_system(alloc: Global, number: i32, line: &mut String) -> Result<(), AllocError> {
+    let error = io::Error::from_raw_os_error(number);
+    let text = format!(in alloc; ": {error}")?;
+    match text.as_str().split_once(" (os error ") {
+        Some((said, _)) => line.push_str(said),
+        None => line.push_str(text.as_str()),
     }
 }
 
 fn unit(bytes: u64) -> &'static str {
     if bytes == 1 { "byte" } else { "bytes" }
-}
-
-// The system's text without its number.
-fn system_text(alloc: Global, number: i32) -> Result<String, AllocError> {
-    let error = io::Error::from_raw_os_error(number);
-    let text = format!(in alloc; "{error}")?;
-    match text.as_str().split_once(" (os error ") {
-        Some((said, _)) => String::from_str(alloc, said),
-        None => Ok(text),
-    }
 }

@@ -54,23 +54,32 @@ pub fn run_work<R: Print + Eprint + Input + AllocGlobal + Files<File = File> + E
     };
     let _held = hold_closed(rt, terminals.closed)?;
     let mut keyed = open_keks(rt, &telling, iv)?;
-    match places.input {
-        Some(name) => match fs::open(rt, name) {
-            Ok(input) => {
-                let many = many(lines, places, terminals, length_of(lines, &input));
-                run_from(rt, &telling, &mut keyed, many, input, None)
-            }
-            Err(error) => Err(telling.unopened(ProgramFault::InputOpen, name, &error)),
-        },
-        None => {
-            let waiting = if terminals.input {
-                Some(work.waiting(lines))
-            } else {
-                None
-            };
-            let many = many(lines, places, terminals, None);
-            run_from(rt, &telling, &mut keyed, many, rt.reader(), waiting)
+    run_keyed(rt, &telling, &mut keyed, lines, terminals)
+}
+
+// Does it with KEK files that are open.
+fn run_keyed<R: Print + Eprint + Input + AllocGlobal + Files<File = File> + Env + Clock>(
+    rt: &R,
+    telling: &Telling<'_>,
+    keyed: &mut Keyed<Watched<File>>,
+    lines: Option<Lines>,
+    terminals: Terminals,
+) -> Result<u8, Refused> {
+    let Some(name) = telling.places.input else {
+        let waiting = if terminals.input {
+            Some(telling.work.waiting(lines))
+        } else {
+            None
+        };
+        let many = many(lines, telling.places, terminals, None);
+        return run_from(rt, telling, keyed, many, rt.reader(), waiting);
+    };
+    match fs::open(rt, name) {
+        Ok(input) => {
+            let many = many(lines, telling.places, terminals, length_of(lines, &input));
+            run_from(rt, telling, keyed, many, input, None)
         }
+        Err(error) => Err(telling.unopened(ProgramFault::InputOpen, name, &error)),
     }
 }
 

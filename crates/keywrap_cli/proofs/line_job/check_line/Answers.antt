@@ -1,5 +1,5 @@
 -- The line is that of the text's kind, in a buffer that was cleared.
-use Rattle.std.proofs.Common.{rules, ap, ◌∙◌}
+use Rattle.std.proofs.Common.{ap, ◌∙◌}
 use Rattle.keywrap_cli.proofs.line_job.check_line.Goals as goal
 
 pub returns-in-Ok-extend_from_slice : goal.returns-in-Ok-extend_from_slice
