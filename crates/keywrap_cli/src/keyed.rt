@@ -6,19 +6,18 @@ use crate::fault::ProgramFault;
 use crate::job::{Done, JobFault, Task, run};
 use crate::line_job::LineRefusal;
 use crate::lines::{LinesDone, LinesFault, run_job_lines, run_rewrap_lines};
+use crate::refused::Refused;
 use crate::request::{Rewrapping, Work};
 use crate::rewrap::run_rewrap;
 use crate::rewrap_kept::run_rewrap_keeping_form;
 use crate::rewrap_line::RewrapForms;
 use crate::telling::Telling;
-use crate::watched::{Seen, Watched};
-use crate::why::Refused;
 use key_lines::RefusalLog;
 use key_wrap::InitialValue;
+use keywrap_io::{Guarded, Seen, Watched, is_same};
 use std::alloc::Global;
 use std::fs::{self, File, Metadata, OpenFile};
 use std::io::{self, BufRead, Read, Write};
-use std::os::unix::fs::MetadataExt;
 use std::rt::Files;
 
 /// What is done with an input, with its KEK files.
@@ -134,9 +133,9 @@ fn rewrap_once<K: Read, I: Read, W: Write>(
     }
 }
 
-impl<K: OpenFile> Keyed<Watched<K>> {
-    /// Which of the KEK files a file is, under whatever name, if it is one.
-    pub fn kek_file(&self, file: &Metadata) -> io::Result<Option<&'static str>> {
+// An output replaces none of its KEK files.
+impl<K: OpenFile> Guarded for Keyed<Watched<K>> {
+    fn which(&self, file: &Metadata) -> io::Result<Option<&'static str>> {
         let (Keyed::Job { kek, .. } | Keyed::Rewrap { kek, .. }) = self;
         if is_same(&kek.file, file)? {
             return Ok(Some("the KEK file"));
@@ -158,10 +157,4 @@ impl<K> Keyed<Watched<K>> {
             Keyed::Rewrap { kek, new_kek, .. } => (kek.seen, new_kek.seen),
         }
     }
-}
-
-/// Whether a file is the one that is open.
-pub fn is_same<F: OpenFile>(open: &F, file: &Metadata) -> io::Result<bool> {
-    let open = open.metadata()?;
-    Ok(open.dev() == file.dev() && open.ino() == file.ino())
 }

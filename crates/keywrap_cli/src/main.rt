@@ -15,28 +15,24 @@ mod line_job;
 mod lines;
 mod many;
 mod output;
-mod output_file;
 mod program;
-mod progress;
+mod refused;
 mod request;
 mod rewrap;
 mod rewrap_kept;
 mod rewrap_line;
 mod statuses;
-mod streams;
 mod telling;
 #[cfg(test)]
 mod tests;
 mod vector_check;
 mod vector_table;
 mod vectors;
-mod watched;
-mod why;
 mod work;
 
+use keywrap_io::{Closed, is_closed};
 use std::io::{IsTerminal, Write};
 use std::process::ExitCode;
-use streams::{Closed, is_closed};
 use work::Terminals;
 
 fn main(rt: HostRuntime) -> ExitCode {

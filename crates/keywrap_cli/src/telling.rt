@@ -3,15 +3,15 @@
 use crate::fault::{ProgramFault, RefusedLine};
 use crate::job::{Job, JobFault, Notation};
 use crate::line_job::LineRefusal;
-use crate::output_file::OutputFault;
+use crate::refused::Refused;
 use crate::request::{Places, Work};
 use crate::rewrap_line::RewrapForms;
-use crate::watched::Seen;
-use crate::why::{Refused, Why};
 use key_files::FileFault;
 use key_lines::LineFault;
 use key_wrap::{Form, MAX_KEY};
-use std::alloc::Global;
+use keywrap_io::{OutputFault, Seen, Why};
+use keywrap_words::escaped;
+use std::alloc::{AllocError, Global};
 use std::io;
 
 /// What a run was asked, and whether it says why it is refused.
@@ -93,11 +93,17 @@ impl<'a> Telling<'a> {
     /// The refusal for a name and what is said of it. Without memory there is no second line.
     pub fn refused(&self, fault: ProgramFault, name: &str, why: Why) -> Refused {
         let why = if self.says_why {
-            why.line(self.alloc, name).ok()
+            self.line(name, why).ok()
         } else {
             None
         };
         Refused { fault, why }
+    }
+
+    // The control characters of the name are escaped.
+    fn line(&self, name: &str, why: Why) -> Result<String, AllocError> {
+        let name = escaped(self.alloc, name)?;
+        why.line(self.alloc, name.as_str())
     }
 
     // The file that was the cause, and what is said of it.

@@ -4,13 +4,11 @@ use crate::fault::ProgramFault;
 use crate::job::Done;
 use crate::keyed::{Keyed, open_keks};
 use crate::many::{Many, answer_lines};
-use crate::output_file::create;
+use crate::refused::Refused;
 use crate::request::{Lines, Places, Work};
 use crate::statuses;
-use crate::streams::{Closed, hold_closed};
 use crate::telling::{SeenFiles, Telling};
-use crate::watched::{Seen, Watched};
-use crate::why::Refused;
+use keywrap_io::{Closed, Seen, Watched, create, hold_closed};
 use std::fs::{self, File, OpenFile};
 use std::io::{self, Read, Write};
 use std::rt::{Env, Files};
@@ -52,7 +50,9 @@ pub fn run_work<R: Print + Eprint + Input + AllocGlobal + Files<File = File> + E
         alloc: rt.alloc(),
         says_why: places.verbose || terminals.error,
     };
-    let _held = hold_closed(rt, terminals.closed)?;
+    let Ok(_held) = hold_closed(rt, terminals.closed) else {
+        return Err(Refused::from(ProgramFault::InputOpen));
+    };
     let mut keyed = open_keks(rt, &telling, iv)?;
     run_keyed(rt, &telling, &mut keyed, lines, terminals)
 }

@@ -1,24 +1,7 @@
-//! Why a run was refused: the second line, which names what was given.
+//! Why a file was refused: the second line, which names what was given.
 
-use crate::fault::ProgramFault;
-use keywrap_words::escaped;
 use std::alloc::{AllocError, Global};
 use std::io;
-
-/// A fault, with the line that says why, where there is one.
-#[derive(Drop)]
-pub struct Refused {
-    /// The fault.
-    pub fault: ProgramFault,
-    /// The second line.
-    pub why: Option<String>,
-}
-
-impl From<ProgramFault> for Refused {
-    fn from(fault: ProgramFault) -> Refused {
-        Refused { fault, why: None }
-    }
-}
 
 /// What is said of a name that was given.
 #[derive(Clone, Copy)]
@@ -31,8 +14,8 @@ pub enum Why {
     Unkept(Option<i32>),
     /// What it is, as `a folder`.
     Is(&'static str),
-    /// Which of the KEK files it is.
-    IsKek(&'static str),
+    /// Which of the guarded files it is, as `the KEK file`.
+    IsGuarded(&'static str),
     /// How many bytes of KEK are in it.
     Kek {
         bytes: u64,
@@ -68,10 +51,10 @@ impl Why {
         }
     }
 
-    /// The line that says it of a name, whose control characters stand there escaped.
+    /// The line that says it of a name, which has no control character any more.
     pub fn line(self, alloc: Global, name: &str) -> Result<String, AllocError> {
         let name = if name.is_empty() { "''" } else { name };
-        let mut line = indented(alloc, name)?;
+        let mut line = format!(in alloc; "  {name}")?;
         self.write_behind(alloc, &mut line)?;
         Ok(line)
     }
@@ -83,7 +66,7 @@ impl Why {
             Why::System(number) => write_system(alloc, number, line),
             Why::Unkept(number) => write_unkept(alloc, number, line),
             Why::Is(what) => write!(line, ": is {what}"),
-            Why::IsKek(which) => write!(line, " is {which}"),
+            Why::IsGuarded(which) => write!(line, " is {which}"),
             Why::Kek { bytes } => write!(line, ": {bytes} {} of KEK", unit(bytes)),
             Why::Length { bytes, legal } => write!(line, ": {bytes} {}; {legal}", unit(bytes)),
             Why::TooLong { bytes, what, most } => {
@@ -93,12 +76,6 @@ impl Why {
             Why::Says(text) => write!(line, ": {text}"),
         }
     }
-}
-
-// A name, whose control characters are escaped.
-fn indented(alloc: Global, name: &str) -> Result<String, AllocError> {
-    let name = escaped(alloc, name)?;
-    format!(in alloc; "  {name}")
 }
 
 fn write_unkept(alloc: Global, number: Option<i32>, line: &mut String) -> Result<(), AllocError> {

@@ -1,6 +1,5 @@
 //! The standard streams, as the program starts.
 
-use crate::fault::ProgramFault;
 use std::io::{self, PipeReader};
 use std::os::fd::AsFd;
 use std::rt::Files;
@@ -31,7 +30,7 @@ pub struct Held {
 }
 
 /// Takes the places of those that are closed. A pipe's reader takes the lowest that is free.
-pub fn hold_closed<R: Files>(rt: &R, closed: Closed) -> Result<Held, ProgramFault> {
+pub fn hold_closed<R: Files>(rt: &R, closed: Closed) -> io::Result<Held> {
     Ok(Held {
         _input: hold(rt, closed.input)?,
         _output: hold(rt, closed.output)?,
@@ -39,12 +38,10 @@ pub fn hold_closed<R: Files>(rt: &R, closed: Closed) -> Result<Held, ProgramFaul
     })
 }
 
-fn hold<R: Files>(rt: &R, is_closed: bool) -> Result<Option<PipeReader>, ProgramFault> {
+fn hold<R: Files>(rt: &R, is_closed: bool) -> io::Result<Option<PipeReader>> {
     if !is_closed {
         return Ok(None);
     }
-    match io::pipe(rt) {
-        Ok((reader, _writer)) => Ok(Some(reader)),
-        Err(_) => Err(ProgramFault::InputOpen),
-    }
+    let (reader, _writer) = io::pipe(rt)?;
+    Ok(Some(reader))
 }

@@ -49,7 +49,7 @@ impl<'a, R: Eprint + Clock + Env + AllocGlobal> Progress<'a, R> {
         }
     }
 
-    /// Takes a part of the input that was read.
+    // Takes a part of the input that was read.
     fn take(&self, part: &[u8]) {
         let Some(began) = self.began else {
             return;

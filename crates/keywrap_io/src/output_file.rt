@@ -1,6 +1,5 @@
 //! The file of --output: written whole beside the old one, and then put in its place.
 
-use crate::keyed::{Keyed, is_same};
 use crate::watched::Watched;
 use crate::why::Why;
 use std::alloc::{AllocError, Global};
@@ -38,16 +37,22 @@ pub struct OutputFile<'a> {
     part: String,
 }
 
+/// Files that an output does not replace.
+pub trait Guarded {
+    /// Which of them a file is, under whatever name, as `the KEK file`, if it is one.
+    fn which(&self, file: &Metadata) -> io::Result<Option<&'static str>>;
+}
+
 /// Makes the new file beside the one that is named, for its owner alone, or, where `keeps` says so,
 /// with the owner, the group and the permissions of that one. What stands under that name has to be
-/// a regular file that is none of the KEK files, or nothing.
-pub fn create<'a, R: AllocGlobal + Files<File = File>>(
+/// a regular file that is none of those that are guarded, or nothing.
+pub fn create<'a, R: AllocGlobal + Files<File = File>, G: Guarded>(
     rt: &R,
     name: &'a str,
-    keyed: &Keyed<Watched<File>>,
+    guarded: &G,
     keeps: bool,
 ) -> Result<OutputFile<'a>, OutputFault> {
-    let old = match replaced(rt, name, keyed) {
+    let old = match replaced(rt, name, guarded) {
         Ok(old) => old,
         Err(why) => return Err(OutputFault::Open(why)),
     };
@@ -78,17 +83,17 @@ fn create_new<'a, R: AllocGlobal + Files<File = File>>(
 }
 
 // What is replaced, if there is a file.
-fn replaced<R: Files<File = File>>(
+fn replaced<R: Files<File = File>, G: Guarded>(
     rt: &R,
     name: &str,
-    keyed: &Keyed<Watched<File>>,
+    guarded: &G,
 ) -> Result<Option<Metadata>, Why> {
     if name.is_empty() {
         return Err(Why::Named);
     }
     match rt.symlink_metadata(name) {
         Ok(old) => {
-            may_be_replaced(&old, keyed)?;
+            may_be_replaced(&old, guarded)?;
             Ok(Some(old))
         }
         Err(error) if error.kind() == io::ErrorKind::NotFound => Ok(None),
@@ -96,13 +101,13 @@ fn replaced<R: Files<File = File>>(
     }
 }
 
-fn may_be_replaced(old: &Metadata, keyed: &Keyed<Watched<File>>) -> Result<(), Why> {
+fn may_be_replaced<G: Guarded>(old: &Metadata, guarded: &G) -> Result<(), Why> {
     if !old.is_file() {
         return Err(Why::Is(kind_of(&old.file_type())));
     }
-    match keyed.kek_file(old) {
+    match guarded.which(old) {
         Ok(None) => Ok(()),
-        Ok(Some(which)) => Err(Why::IsKek(which)),
+        Ok(Some(which)) => Err(Why::IsGuarded(which)),
         Err(error) => Err(Why::of(&error)),
     }
 }
@@ -119,6 +124,12 @@ fn kind_of(kind: &FileType) -> &'static str {
     } else {
         "a device"
     }
+}
+
+/// Whether a file is the one that is open.
+pub fn is_same<F: OpenFile>(open: &F, file: &Metadata) -> io::Result<bool> {
+    let open = open.metadata()?;
+    Ok(open.dev() == file.dev() && open.ino() == file.ino())
 }
 
 fn part_name(alloc: Global, name: &str, number: u8) -> Result<String, AllocError> {
