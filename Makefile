@@ -91,8 +91,11 @@ wheel: library
 dist-library: library wheel
 	scripts/dist_library.sh '$(LIBRARY)' '$(version)' '$(DIST)'
 
+# The scripts run the program that the gate proved and built, and the launcher finds it built of its sources. One
+# that is changed meanwhile is no longer what was written down before.
 test:
-	rt ci
+	built_from=$$(scripts/sources.sh) && rt ci && \
+	    printf '%s\n' "$$built_from" >crates/keywrap_cli/out/built_from
 	scripts/tests.sh
 
 install: install-command install-library

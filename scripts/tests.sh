@@ -7,8 +7,8 @@
 
 set -u
 cd "$(dirname "${BASH_SOURCE[0]}")/.." || exit
-logs=$(mktemp -d) || exit
-trap 'rm -rf "$logs"' EXIT
+logs=$(mktemp -d) && built=$(mktemp -d) || exit
+trap 'rm -rf "$logs" "$built"' EXIT
 [ $# -gt 0 ] || set -- tests/*.sh
 scripts=("${@##*/}")
 scripts=("${scripts[@]%.sh}")
@@ -21,18 +21,27 @@ run_script() {
     echo "tests/$1.sh: $((SECONDS - began)) s, status $status" >>"$logs/$1"
 }
 
-# They share the program, which is built before the first of them. Those that build the C library in its
-# crate's folder take turns, as one of the jobs; of the others the longest begin first.
+# over_library NAME..: builds the archives of the C library, and then runs these over them. Where they can't be
+# built, each says so by itself.
+over_library() {
+    local script
+    tests/library/build.sh "$built" >"$built/log" 2>&1 && export KEYWRAP_ARCHIVES="$built/rattle.a $built/llvm.a"
+    for script in "$@"; do run_script "$script" & done
+    wait
+}
+
+# They share the program, which is built before the first of them. Those over the C library are one of the jobs;
+# of the others the longest begin first.
 ./keywrap --version || exit
-turns=() long=() short=()
+over_archives=() long=() short=()
 for script in "${scripts[@]}"; do
     case $script in
-    library | python | secrets) turns+=("$script") ;;
+    library | python | secrets) over_archives+=("$script") ;;
     allocations | faults | files) long+=("$script") ;;
     *) short+=("$script") ;;
     esac
 done
-for script in "${turns[@]}"; do run_script "$script"; done &
+[ ${#over_archives[@]} = 0 ] || over_library "${over_archives[@]}" &
 for script in "${long[@]}" "${short[@]}"; do
     while [ "$(jobs -pr | wc -l)" -ge "$(nproc)" ]; do wait -n; done
     run_script "$script" &

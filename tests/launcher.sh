@@ -11,9 +11,9 @@ set -u
 # shellcheck source=tests/lib/expect.sh
 . "$root/tests/lib/expect.sh"
 
-mkdir -p 'a tree'/{bin,tmp,far/'a tree'}
-cd 'a tree' || exit
-cp -R "$root"/{keywrap,Makefile,man,completions,include,scripts,python} .
+mkdir -p 'a tree'/{bin,tmp,far/'a tree'} && cd 'a tree' || exit
+# No script is run after the gate.
+cp -R "$root"/{keywrap,Makefile,man,completions,include,scripts,python} . && rm scripts/tests.sh
 sed -i "1s|.*|#!${SH:-/bin/sh}|" keywrap
 crates=(block_pair aes_block keywrap_cli)
 printf '%s\n' block_pair: 'aes_block: block_pair byteorder' 'keywrap_c staticlib: block_pair aes_block' \
@@ -86,8 +86,7 @@ starts='keywrap: proving and building the program, several minutes the first tim
 
 ### When it is built, and from where it is called
 
-fresh
-PATH=$tree/tmp launch
+fresh; PATH=$tree/tmp launch
 launched 'no rt' 70 '' 'keywrap: not built yet, and rt, which proves and builds it, is not on the PATH'
 TMPDIR=$tree/missing launch
 launched 'no file for the log' 70 '' "keywrap: no file for the build's log"
@@ -111,7 +110,9 @@ fresh; at=block_pair event='echo other >>src/lib.rt' launch
 append crates/aes_block/src/lib.rt; at=aes_block event='exit 1' launch
 append crates/aes_block/src/lib.rt; at=keywrap_cli event='kill -s KILL \$\$' launch
 fresh; (trap '' XFSZ; at=keywrap_cli event='prlimit --fsize=999 --pid \$PPID' ./keywrap)
+fresh; at='a tree' event='cd crates/keywrap_cli; echo other >>src/lib.rt' make test
 END_OF_CHANGES
+rebuilds './keywrap --version' <<<"fresh; at='a tree' event='cd crates/keywrap_cli' make test"
 
 ### What ends a build
 

@@ -14,15 +14,10 @@ set -u
 ### The archives
 
 archives=()
-# The second build is LLVM's, so that it is what stays in the crate's folder.
-build() {
-    cd "$root/crates/keywrap_c" && rt lib --backend rattle && cp out/libkeywrap_c.a "$room/rattle.a" &&
-        rt lib && cp out/libkeywrap_c.a "$room/llvm.a"
-}
 # shellcheck disable=SC2206
 if [ -n "${KEYWRAP_ARCHIVES:-}" ]; then
     archives=($KEYWRAP_ARCHIVES)
-elif (build) >build.log 2>&1; then
+elif "$root/tests/library/build.sh" "$room" >build.log 2>&1; then
     archives=("$room/rattle.a" "$room/llvm.a")
 else
     cat build.log

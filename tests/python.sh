@@ -2,7 +2,7 @@
 # Builds the Python package as a wheel, installs it in a fresh environment, and runs its tests there, those
 # of hostile objects under the address sanitizer too.
 #
-# usage: tests/python.sh        (KEYWRAP_ARCHIVES='PATH ..': over the first of these, which was built before)
+# usage: tests/python.sh        (KEYWRAP_ARCHIVES='PATH ..': over the last of these, which was built before)
 
 set -u
 # shellcheck disable=SC2034,SC2154
@@ -19,7 +19,7 @@ if ! has_python cffi,setuptools,wheel,build,venv,pytest; then
 fi
 
 archive=${KEYWRAP_ARCHIVES:-crates/keywrap_c/out/libkeywrap_c.a}
-archive=${archive%% *} library=$room/library
+archive=${archive##* } library=$room/library
 version=$(make -s --no-print-directory -C "$root" version)
 wheel=$room/dist/keywrap-$version-cp39-abi3-linux_x86_64.whl
 row 'make wheel' in_library wheel PYTHON="$python" DIST="$room/dist"

@@ -6,7 +6,7 @@
 # A part whose tool is not there is skipped, with a line that says what to install.
 #
 # usage: tests/secrets.sh [LENGTHS]        keys of up to 1024 bytes, if not said.
-# KEYWRAP_ARCHIVE=PATH tries an archive that was built before.
+# KEYWRAP_ARCHIVES='PATH ..' tries the last of these, which was built before.
 
 set -u
 longest=${1:-1024}
@@ -42,8 +42,9 @@ skip() {
 
 cc=${CC:-cc}
 command -v "$cc" >/dev/null || skip "no C compiler" gcc
-archive=${KEYWRAP_ARCHIVE:-$root/crates/keywrap_c/out/libkeywrap_c.a}
-[ -n "${KEYWRAP_ARCHIVE:-}" ] || row 'rt lib' env -C "$root/crates/keywrap_c" rt lib
+archive=${KEYWRAP_ARCHIVES:-$root/crates/keywrap_c/out/libkeywrap_c.a}
+archive=${archive##* }
+[ -n "${KEYWRAP_ARCHIVES:-}" ] || row 'rt lib' env -C "$root/crates/keywrap_c" rt lib
 [ $failed = 0 ] || finish
 
 options=(-std=c99 -O1 -g -Wall -Wextra -pedantic -Werror "-I$root/include" "-I$root/bench")
