@@ -5,7 +5,7 @@ DESTDIR ?=
 CC ?= cc
 
 # The program as it was built, which `make build` makes.
-PROGRAM ?= crates/keywrap_cli/out/keywrap_cli
+PROGRAM ?= crates/keywrap/out/keywrap
 # The version stands in one place, where the program has it from.
 version = $(shell sed -n 's/^ *\.version("\(.*\)")$$/\1/p' crates/*/src/*.rt)
 # Where `make dist` puts its archive; in a folder that is never committed.
@@ -95,7 +95,7 @@ dist-library: library wheel
 # that is changed meanwhile is no longer what was written down before.
 test:
 	built_from=$$(scripts/sources.sh) && rt ci && \
-	    printf '%s\n' "$$built_from" >crates/keywrap_cli/out/built_from
+	    printf '%s\n' "$$built_from" >crates/keywrap/out/built_from
 	scripts/tests.sh
 
 install: install-command install-library

@@ -541,6 +541,7 @@ files='-i, --input <FILE>|-o, --output <FILE>'
 usage='[OPTIONS] --kek <FILE>'
 explains "Usage: keywrap wrap $usage < KEY > WRAPPED|--padded|--iv <HEX>|--raw|--raw-kek|$files|$d16|$wrapped16" \
     wrap --help
+explains 'has 16 to 1048576 bytes, a multiple of 8.|With --padded it has 1 to 1048576.|at most 4194304 bytes.' wrap --help
 explains "Usage: keywrap unwrap $usage < WRAPPED > KEY|--padded|--iv <HEX>|--raw|--raw-kek|$files|$d16|$wrapped16" \
     unwrap --help
 explains "Usage: keywrap rewrap $usage --new-kek <FILE> < WRAPPED > NEW|$files|$wrapped16|$wrapped32" \

@@ -15,15 +15,15 @@ mkdir -p 'a tree'/{bin,tmp,far/'a tree'} && cd 'a tree' || exit
 # No script is run after the gate.
 cp -R "$root"/{keywrap,Makefile,man,completions,include,scripts,python} . && rm scripts/tests.sh
 sed -i "1s|.*|#!${SH:-/bin/sh}|" keywrap
-crates=(block_pair aes_block keywrap_cli)
+crates=(block_pair aes_block keywrap)
 printf '%s\n' block_pair: 'aes_block: block_pair byteorder' 'keywrap_c staticlib: block_pair aes_block' \
-    'keywrap_cli: block_pair aes_block clap' >crates.txt
+    'keywrap: block_pair aes_block clap' >crates.txt
 for crate in "${crates[@]}" keywrap_c; do
     mkdir -p "crates/$crate"/{src,specs,proofs/part}
     echo first | tee "crates/$crate"/{src/lib.rt,specs/Lib.antt,proofs/part/Answers.antt} >/dev/null
 done
-echo '    .version("1.2.3")' >crates/keywrap_cli/src/commands.rt
-program=crates/keywrap_cli/out/keywrap_cli archive=crates/keywrap_c/out/libkeywrap_c.a
+echo '    .version("1.2.3")' >crates/keywrap/src/commands.rt
+program=crates/keywrap/out/keywrap archive=crates/keywrap_c/out/libkeywrap_c.a
 export tree=$PWD helpers=$root/tests/lib/expect.sh PATH=$PWD/bin:$PATH TMPDIR=$PWD/tmp TERM=xterm
 
 # The stand-in for rt: in the crate $at it runs $event, and it waits until what it says is in the file $screen.
@@ -38,13 +38,13 @@ echo 'the first line'
 echo 'so far: 3 of 9 functions checked, which is all that fits' >&2
 [ -z "${screen:-}" ] || until_true grep -qF "$crate: so far: 3 of 9" "$screen"
 [ "${at:-}" != "$crate" ] || eval "$event"
-install -D -m 755 /dev/stdin out/keywrap_cli <<END_OF_PROGRAM
+install -D -m 755 /dev/stdin out/keywrap <<END_OF_PROGRAM
 #!/bin/sh
 echo "child of \$PPID, \$# words: \$*"
 [ "\$1" = --version ] || exit 5
 # $(date +%N)
 END_OF_PROGRAM
-cp out/keywrap_cli out/libkeywrap_c.a
+cp out/keywrap out/libkeywrap_c.a
 echo "ends $crate" >>"$tree/notes"
 END_OF_RT
 
@@ -81,7 +81,7 @@ rebuilds() {
 
 jobs=$(($(nproc) < 4 ? $(nproc) : 4))
 steps=("block_pair: lib --jobs $jobs" 'ends block_pair' "aes_block: lib --jobs $jobs" 'ends aes_block'
-    "keywrap_cli: run --jobs $jobs -- --version" 'ends keywrap_cli')
+    "keywrap: run --jobs $jobs -- --version" 'ends keywrap')
 starts='keywrap: proving and building the program, several minutes the first time (log: LOG)'
 
 ### When it is built, and from where it is called
@@ -103,16 +103,16 @@ rebuilds './keywrap --version' "${steps[@]}" <<END_OF_CHANGES
 echo first >crates/block_pair/src/added.rt; append crates.txt
 append crates/block_pair/src/added.rt
 append crates/aes_block/specs/Lib.antt
-rm -r crates/keywrap_cli/proofs
+rm -r crates/keywrap/proofs
 chmod -x $program
 touch -d tomorrow $program
 fresh; at=block_pair event='echo other >>src/lib.rt' launch
 append crates/aes_block/src/lib.rt; at=aes_block event='exit 1' launch
-append crates/aes_block/src/lib.rt; at=keywrap_cli event='kill -s KILL \$\$' launch
-fresh; (trap '' XFSZ; at=keywrap_cli event='prlimit --fsize=999 --pid \$PPID' ./keywrap)
-fresh; at='a tree' event='cd crates/keywrap_cli; echo other >>src/lib.rt' make test
+append crates/aes_block/src/lib.rt; at=keywrap event='kill -s KILL \$\$' launch
+fresh; (trap '' XFSZ; at=keywrap event='prlimit --fsize=999 --pid \$PPID' ./keywrap)
+fresh; at='a tree' event='cd crates/keywrap; echo other >>src/lib.rt' make test
 END_OF_CHANGES
-rebuilds './keywrap --version' <<<"fresh; at='a tree' event='cd crates/keywrap_cli' make test"
+rebuilds './keywrap --version' <<<"fresh; at='a tree' event='cd crates/keywrap' make test"
 
 ### What ends a build
 
@@ -124,8 +124,8 @@ so far: 3 of 9 functions checked, which is all that fits
 keywrap: the build failed" "${steps[@]:0:3}"
 for signal in HUP INT QUIT TERM; do
     fresh
-    at=keywrap_cli event="kill -s $signal \$PPID; until_true false" launch 2>/dev/null
-    launched "$signal" "$((128 + $(kill -l $signal)))" '' "$starts" "${steps[@]:0:5}" 'ended keywrap_cli'
+    at=keywrap event="kill -s $signal \$PPID; until_true false" launch 2>/dev/null
+    launched "$signal" "$((128 + $(kill -l $signal)))" '' "$starts" "${steps[@]:0:5}" 'ended keywrap'
 done
 
 ### On a terminal

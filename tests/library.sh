@@ -299,7 +299,7 @@ agrees() {
     [ "$found" = "$wanted" ] || { printf '%s\n' "library: $found" "command: $wanted"; false; }
 }
 
-program=${KEYWRAP:-$root/crates/keywrap_cli/out/keywrap_cli}
+program=${KEYWRAP:-$root/crates/keywrap/out/keywrap}
 if [ -x "$program" ]; then
     echo 000102030405060708090a0b0c0d0e0f | tee kek.hex >key.hex
     row 'the caller under a value: builds' cc -std=c99 "${strict[@]}" agreed.c "${flags[@]}" -o agreed

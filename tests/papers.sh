@@ -239,7 +239,7 @@ row 'the version is one of three numbers' grep -qxE '[0-9]+\.[0-9]+\.[0-9]+' <<<
 prints_version() { [ "$("$program" --version)" = "keywrap $version" ]; }
 row 'the program and the Makefile name one version' prints_version
 places=$(cd "$root" && grep -rlIFs --exclude-dir=out -e "$version" \
-    keywrap Makefile man completions scripts crates/keywrap_{cli,io,words})
+    keywrap Makefile man completions scripts crates/keywrap{,_cli,_words})
 row 'the version of the command stands in one place' grep -qxE 'crates/[a-z_]+/src/[a-z_]+\.rt' <<<"$places"
 same 'and nowhere else' 1 "$(wc -l <<<"$places")"
 

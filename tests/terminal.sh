@@ -142,6 +142,11 @@ waits 'raw wrap from a terminal' 4 '' "$waiting ${in_raw}keywrap: $bad_length\n"
     wrap --raw --kek kek16.hex
 waits 'wrap from a terminal into a file' 0 '' "$waiting $in_hex" "$d16\n\004" wrap --kek kek16.hex --output file
 verdict 'what is in it then' "$(cmp file wrapped.hex 2>&1)"
+in_lines='in hex, one a line, on standard input; Ctrl-D ends it\n'
+waits 'keys in lines from a terminal' 0 "$wrapped16\n" "${waiting}s $in_lines" "$d16\n\004" \
+    wrap --lines --kek kek16.hex
+waits 'wrapped keys in lines from a terminal' 0 "$d16\n" "${waiting_wrapped}s $in_lines" "$wrapped16\n\004" \
+    unwrap --lines --kek kek16.hex
 waits 'nothing from a terminal' 4 '' "$waiting ${in_hex}keywrap: $bad_length\n" '\004' wrap --kek kek16.hex
 waits 'a KEK of 15 bytes, which is read after that' 3 '' "$waiting ${in_hex}keywrap: $kek_length\n" '\004' \
     wrap --kek kek15.hex

@@ -13,7 +13,7 @@ case ${KEYWRAP:-} in
 *) KEYWRAP=$PWD/$KEYWRAP ;;
 esac
 launcher=${KEYWRAP:-$root/keywrap}
-program=${KEYWRAP:-$root/crates/keywrap_cli/out/keywrap_cli}
+program=${KEYWRAP:-$root/crates/keywrap/out/keywrap}
 version=$(make -s --no-print-directory -C "$root" version)
 
 # limited KIND KILOBYTES ARGUMENT..: runs the program with so much memory and no more, of its data

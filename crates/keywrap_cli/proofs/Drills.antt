@@ -9,7 +9,7 @@ use Rattle.key_files.specs.Meaning.{file_meaning, hex_meaning, digits_meaning}
 use Rattle.key_files.specs.declared.fault.FileFault.{FileFault}
 use Rattle.key_files.specs.declared.fault.FileFault.TheVariants as files
 use Rattle.key_files.specs.declared.read.TheConstants.{MAX_FILE}
-use Rattle.keywrap_cli.specs.declared.drill.DrillFault.{DrillFault}
+use Rattle.keywrap_cli.specs.declared.drilling.DrillFault.{DrillFault}
 use Rattle.keywrap_cli.specs.Drill.{drill_meaning, text_fault_of, TextAnswer}
 
 -- digits that are odd in number are refused as such, and others denote bytes

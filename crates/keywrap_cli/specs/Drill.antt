@@ -10,8 +10,8 @@ use Rattle.key_wrap.specs.declared.forms.Form.{Form}
 use Rattle.key_wrap.specs.declared.faults.UnwrapFault.{UnwrapFault}
 use Rattle.key_wrap.specs.declared.faults.UnwrapFault.TheVariants as unwraps
 use Rattle.keywrap_cli.specs.declared.convert.Direction.{Direction}
-use Rattle.keywrap_cli.specs.declared.drill.DrillFault.{DrillFault}
-use Rattle.keywrap_cli.specs.declared.drill.DrillFault.TheVariants.{TooLong, BadDigit, OddDigits, BadLength, Integrity, Memory}
+use Rattle.keywrap_cli.specs.declared.drilling.DrillFault.{DrillFault}
+use Rattle.keywrap_cli.specs.declared.drilling.DrillFault.TheVariants.{TooLong, BadDigit, OddDigits, BadLength, Integrity, Memory}
 use Rattle.keywrap_cli.specs.Conversion.{IsAnswer, HasNoAnswer, IsInputLength}
 
 -- what the text of a drill denotes: it is a hex file of at most 4,194,304 bytes

@@ -1,11 +1,11 @@
 //! Why the program ends without its answer: the line on standard error and the exit status.
 
-use crate::drill::DrillFault;
+use crate::drilling::DrillFault;
 use crate::initial_value::IvFault;
 use crate::job::JobFault;
 use crate::line_job::LineRefusal;
+use crate::report::VectorsFault;
 use crate::statuses;
-use crate::vectors::VectorsFault;
 use key_files::{FileFault, HexWriteFault, WriteFault};
 use key_lines::LineFault;
 use std::alloc::AllocError;

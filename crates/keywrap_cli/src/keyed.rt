@@ -2,23 +2,16 @@
 
 ghost use Rattle.keywrap_cli.specs.Keyed.{RunsInForms, RunsKeyed};
 
-use crate::fault::ProgramFault;
-use crate::job::{Done, JobFault, Task, run};
+use crate::job::{Done, JobFault, Notation, Task, run};
 use crate::line_job::LineRefusal;
 use crate::lines::{LinesDone, LinesFault, run_job_lines, run_rewrap_lines};
-use crate::refused::Refused;
-use crate::request::{Rewrapping, Work};
 use crate::rewrap::run_rewrap;
 use crate::rewrap_kept::run_rewrap_keeping_form;
 use crate::rewrap_line::RewrapForms;
-use crate::telling::Telling;
 use key_lines::RefusalLog;
 use key_wrap::InitialValue;
-use keywrap_io::{Guarded, Seen, Watched, is_same};
 use std::alloc::Global;
-use std::fs::{self, File, Metadata, OpenFile};
-use std::io::{self, BufRead, Read, Write};
-use std::rt::Files;
+use std::io::{BufRead, Read, Write};
 
 /// What is done with an input, with its KEK files.
 #[derive(Drop)]
@@ -37,33 +30,15 @@ pub enum Keyed<K> {
     },
 }
 
-/// Opens the KEK file, and then the one of the new KEK where there is one. The initial value is
-/// that of the work.
-pub fn open_keks<R: Files<File = File>>(
-    rt: &R,
-    telling: &Telling<'_>,
-    iv: InitialValue,
-) -> Result<Keyed<Watched<File>>, Refused> {
-    let kek = open_kek(rt, telling, telling.places.kek, ProgramFault::KekOpen)?;
-    match telling.work {
-        Work::Job { task, .. } => Ok(Keyed::Job { iv, task, kek }),
-        Work::Rewrap { task, new_kek } => {
-            let new_kek = open_kek(rt, telling, new_kek, ProgramFault::NewKekOpen)?;
-            Ok(Keyed::Rewrap { task, kek, new_kek })
-        }
-    }
-}
-
-fn open_kek<R: Files<File = File>>(
-    rt: &R,
-    telling: &Telling<'_>,
-    name: &str,
-    fault: ProgramFault,
-) -> Result<Watched<File>, Refused> {
-    match fs::open(rt, name) {
-        Ok(file) => Ok(Watched::new(file, telling.says_why)),
-        Err(error) => Err(telling.unopened(fault, name, &error)),
-    }
+/// A rewrapping, with the forms of both wrapped keys and the notations of its files.
+#[derive(Clone, Copy)]
+pub struct Rewrapping {
+    /// The forms of the wrapped key and of the new one.
+    pub forms: RewrapForms,
+    /// The notation of the input and of the output.
+    pub input: Notation,
+    /// The notation of both KEK files.
+    pub kek: Notation,
 }
 
 impl<K: Read> Keyed<K> {
@@ -130,31 +105,5 @@ fn rewrap_once<K: Read, I: Read, W: Write>(
         RewrapForms::Changed { old, new } => run_rewrap(
             alloc, old, new, task.input, task.kek, kek, new_kek, input, out,
         ),
-    }
-}
-
-// An output replaces none of its KEK files.
-impl<K: OpenFile> Guarded for Keyed<Watched<K>> {
-    fn which(&self, file: &Metadata) -> io::Result<Option<&'static str>> {
-        let (Keyed::Job { kek, .. } | Keyed::Rewrap { kek, .. }) = self;
-        if is_same(&kek.file, file)? {
-            return Ok(Some("the KEK file"));
-        }
-        match self {
-            Keyed::Rewrap { new_kek, .. } if is_same(&new_kek.file, file)? => {
-                Ok(Some("the new KEK file"))
-            }
-            _ => Ok(None),
-        }
-    }
-}
-
-impl<K> Keyed<Watched<K>> {
-    /// What was seen of the KEK file, and of that of the new KEK.
-    pub fn seen(&self) -> (Seen, Seen) {
-        match self {
-            Keyed::Job { kek, .. } => (kek.seen, Seen::default()),
-            Keyed::Rewrap { kek, new_kek, .. } => (kek.seen, new_kek.seen),
-        }
     }
 }

@@ -9,7 +9,6 @@ mod hostile;
 mod initial_values;
 mod jobs;
 mod limits;
-mod messages;
 mod rewraps;
 mod standards;
 mod vectors;

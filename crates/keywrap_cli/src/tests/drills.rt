@@ -2,7 +2,7 @@
 //! xored with t, and A(t-1) goes into the last register.
 
 use crate::convert::Direction;
-use crate::drill::{DrillFault, drill};
+use crate::drilling::{DrillFault, drill};
 use key_wrap::Form;
 use std::alloc::Global;
 use std::test::Fail;

@@ -1,6 +1,6 @@
 //! The lines on standard error and the exit statuses.
 
-use crate::drill::DrillFault;
+use crate::drilling::DrillFault;
 use crate::fault::ProgramFault;
 use crate::initial_value::IvFault;
 use crate::job::JobFault;

@@ -5,7 +5,7 @@ use super::cases::{Answer, Call, Case, HEX, RAW, WRITTEN};
 use super::jobs::{BAD_LENGTH, HEX_KEK, HEX_KEY, HEX_TEXT, KEK_LENGTH, WRAP};
 use super::rewraps::{NEW_KEK, PLAIN};
 use crate::convert::Direction;
-use crate::drill::{DrillFault, drill};
+use crate::drilling::{DrillFault, drill};
 use crate::job::{Done, Job, JobFault};
 use key_files::FileFault;
 use key_wrap::Form;

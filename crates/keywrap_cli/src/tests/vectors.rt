@@ -2,9 +2,9 @@
 
 use super::doubles::Narrow;
 use crate::fault::ProgramFault;
-use crate::program::run_vectors;
+use crate::flushed::run_vectors;
+use crate::report::{report_on, vectors};
 use crate::vector_table::{VECTORS, Vector};
-use crate::vectors::{report_on, vectors};
 use key_files::decode_hex;
 use std::alloc::{AllocError, Global};
 use std::process::Abort;

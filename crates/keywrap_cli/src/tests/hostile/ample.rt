@@ -6,7 +6,7 @@ use super::super::initial_values::OTHER;
 use super::super::jobs::{HEX_KEK, RAW_KEK};
 use super::super::rewraps::{NEW_KEK, RAW_NEW_KEK};
 use crate::convert::Direction;
-use crate::drill::drill;
+use crate::drilling::drill;
 use crate::job::{Job, Notation};
 use aes_block::Aes;
 use key_wrap::{Form, InitialValue, MAX_KEY, wrap, wrap_padded, wrap_with};

@@ -5,7 +5,7 @@ use super::super::jobs::RAW_KEY;
 use super::change_bit;
 use super::in_place::unwraps_to;
 use crate::convert::Direction;
-use crate::drill::{DrillFault, drill};
+use crate::drilling::{DrillFault, drill};
 use block_pair::SwapHalves;
 use key_wrap::Form;
 use std::alloc::Global;

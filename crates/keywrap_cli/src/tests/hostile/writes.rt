@@ -4,7 +4,7 @@ use super::super::cases::{Case, run};
 use super::super::doubles::{Narrow, STOPPINGS};
 use super::super::vectors::LINES;
 use crate::job::JobFault;
-use crate::vectors::{VectorsFault, vectors};
+use crate::report::{VectorsFault, vectors};
 use std::alloc::Global;
 use std::process::Abort;
 

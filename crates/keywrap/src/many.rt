@@ -1,12 +1,9 @@
 //! Many keys in one run: the lines of an input, from the files that are open to the exit status.
 
-use crate::fault::{ProgramFault, RefusedLine};
-use crate::keyed::Keyed;
-use crate::line_job::LineRefusal;
-use crate::lines::LinesFault;
+use crate::progress::{Counted, Progress};
 use crate::work::status_of;
 use key_lines::{LineFault, RefusalLog, RunFault};
-use keywrap_io::{Counted, Progress};
+use keywrap_cli::{Keyed, LineRefusal, LinesFault, ProgramFault, RefusedLine};
 use std::cell::Cell;
 use std::io::{self, BufReader, Read, Write};
 use std::rt::Env;

@@ -1,5 +1,6 @@
 //! The file of --output: written whole beside the old one, and then put in its place.
 
+use crate::open_keks::OpenKeks;
 use crate::watched::Watched;
 use crate::why::Why;
 use std::alloc::{AllocError, Global};
@@ -37,22 +38,16 @@ pub struct OutputFile<'a> {
     part: String,
 }
 
-/// Files that an output does not replace.
-pub trait Guarded {
-    /// Which of them a file is, under whatever name, as `the KEK file`, if it is one.
-    fn which(&self, file: &Metadata) -> io::Result<Option<&'static str>>;
-}
-
 /// Makes the new file beside the one that is named, for its owner alone, or, where `keeps` says so,
 /// with the owner, the group and the permissions of that one. What stands under that name has to be
-/// a regular file that is none of those that are guarded, or nothing.
-pub fn create<'a, R: AllocGlobal + Files<File = File>, G: Guarded>(
+/// a regular file that is no KEK file of the run, or nothing.
+pub fn create<'a, R: AllocGlobal + Files<File = File>>(
     rt: &R,
     name: &'a str,
-    guarded: &G,
+    keks: &OpenKeks,
     keeps: bool,
 ) -> Result<OutputFile<'a>, OutputFault> {
-    let old = match replaced(rt, name, guarded) {
+    let old = match replaced(rt, name, keks) {
         Ok(old) => old,
         Err(why) => return Err(OutputFault::Open(why)),
     };
@@ -83,17 +78,17 @@ fn create_new<'a, R: AllocGlobal + Files<File = File>>(
 }
 
 // What is replaced, if there is a file.
-fn replaced<R: Files<File = File>, G: Guarded>(
+fn replaced<R: Files<File = File>>(
     rt: &R,
     name: &str,
-    guarded: &G,
+    keks: &OpenKeks,
 ) -> Result<Option<Metadata>, Why> {
     if name.is_empty() {
         return Err(Why::Named);
     }
     match rt.symlink_metadata(name) {
         Ok(old) => {
-            may_be_replaced(&old, guarded)?;
+            may_be_replaced(&old, keks)?;
             Ok(Some(old))
         }
         Err(error) if error.kind() == io::ErrorKind::NotFound => Ok(None),
@@ -101,13 +96,13 @@ fn replaced<R: Files<File = File>, G: Guarded>(
     }
 }
 
-fn may_be_replaced<G: Guarded>(old: &Metadata, guarded: &G) -> Result<(), Why> {
+fn may_be_replaced(old: &Metadata, keks: &OpenKeks) -> Result<(), Why> {
     if !old.is_file() {
         return Err(Why::Is(kind_of(&old.file_type())));
     }
-    match guarded.which(old) {
+    match keks.which(old) {
         Ok(None) => Ok(()),
-        Ok(Some(which)) => Err(Why::IsGuarded(which)),
+        Ok(Some(which)) => Err(Why::IsKek(which)),
         Err(error) => Err(Why::of(&error)),
     }
 }

@@ -1,6 +1,6 @@
 //! A run that was refused: its fault, and the line that says why.
 
-use crate::fault::ProgramFault;
+use keywrap_cli::ProgramFault;
 
 /// A fault, with the line that says why, where there is one.
 #[derive(Drop)]

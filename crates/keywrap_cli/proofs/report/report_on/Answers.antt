@@ -1,6 +1,6 @@
 use Rattle.keywrap_cli.specs.Vectors.{shown}
 use Rattle.keywrap_cli.proofs.Reports.{report_step}
-use Rattle.keywrap_cli.proofs.vectors.report_on.Goals as goal
+use Rattle.keywrap_cli.proofs.report.report_on.Goals as goal
 
 pub loop-vector-preserved : goal.loop-vector-preserved
 loop-vector-preserved c =

@@ -1,7 +1,7 @@
 -- The table of the program is the published one, by computing; the rest is what the report says of it.
 use Rattle.std.proofs.Common.{◌≡◌}
 use Rattle.keywrap_cli.proofs.Reports.{all_right, front_of_report}
-use Rattle.keywrap_cli.proofs.vectors.vectors.Goals as goal
+use Rattle.keywrap_cli.proofs.report.vectors.Goals as goal
 
 pub returns-in-Ok-write_raw-clause-all_right : goal.returns-in-Ok-write_raw-clause-all_right
 returns-in-Ok-write_raw-clause-all_right g c = all_right _ _ c.in-Ok.report.all_ok c.in-Ok.ensures

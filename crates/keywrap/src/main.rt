@@ -2,37 +2,22 @@
 #![tactic(auto)]
 
 mod command_line;
-mod convert;
-mod drill;
-mod fault;
-mod files;
-mod initial_value;
-mod job;
-mod kek_file;
-mod keyed;
-mod line_convert;
-mod line_job;
-mod lines;
 mod many;
-mod output;
+mod open_keks;
+mod output_file;
 mod program;
+mod progress;
 mod refused;
 mod request;
-mod rewrap;
-mod rewrap_kept;
-mod rewrap_line;
-mod statuses;
+mod streams;
 mod telling;
-#[cfg(test)]
-mod tests;
-mod vector_check;
-mod vector_table;
-mod vectors;
+mod watched;
+mod why;
 mod work;
 
-use keywrap_io::{Closed, is_closed};
 use std::io::{IsTerminal, Write};
 use std::process::ExitCode;
+use streams::{Closed, is_closed};
 use work::Terminals;
 
 fn main(rt: HostRuntime) -> ExitCode {

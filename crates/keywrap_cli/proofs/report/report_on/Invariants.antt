@@ -1,6 +1,6 @@
 use Rattle.std.proofs.Common.{map, take, string_bytes}
 use Rattle.keywrap_cli.specs.Vectors.{IsReport, shown}
-use Rattle.keywrap_cli.proofs.vectors.report_on.Given as goal
+use Rattle.keywrap_cli.proofs.report.report_on.Given as goal
 
 abbrev pub invariant-loop-vector : goal.invariant-loop-vector
 invariant-loop-vector l =

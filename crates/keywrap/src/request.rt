@@ -1,11 +1,7 @@
 //! What a command line asks for.
 
-use crate::convert::Direction;
-use crate::fault::ProgramFault;
-use crate::initial_value::parse_iv;
-use crate::job::{Job, Notation, Task};
-use crate::rewrap_line::RewrapForms;
 use key_wrap::{Form, InitialValue};
+use keywrap_cli::{Direction, Job, Notation, ProgramFault, Rewrapping, Task, parse_iv};
 
 /// What a command line asks for.
 #[derive(Drop)]
@@ -39,17 +35,6 @@ pub struct Lines {
     pub goes_on: bool,
     /// It does not show how far it is.
     pub is_quiet: bool,
-}
-
-/// A rewrapping, with the forms of both wrapped keys and the notations of its files.
-#[derive(Clone, Copy)]
-pub struct Rewrapping {
-    /// The forms of the wrapped key and of the new one.
-    pub forms: RewrapForms,
-    /// The notation of the input and of the output.
-    pub input: Notation,
-    /// The notation of both KEK files.
-    pub kek: Notation,
 }
 
 /// The files of a job.

@@ -1,15 +1,14 @@
 //! What is told of a refused run: its fault, and which of its files was the cause, and why.
 
-use crate::fault::{ProgramFault, RefusedLine};
-use crate::job::{Job, JobFault, Notation};
-use crate::line_job::LineRefusal;
+use crate::output_file::OutputFault;
 use crate::refused::Refused;
 use crate::request::{Places, Work};
-use crate::rewrap_line::RewrapForms;
+use crate::watched::Seen;
+use crate::why::Why;
 use key_files::FileFault;
 use key_lines::LineFault;
 use key_wrap::{Form, MAX_KEY};
-use keywrap_io::{OutputFault, Seen, Why};
+use keywrap_cli::{Job, JobFault, LineRefusal, Notation, ProgramFault, RefusedLine, RewrapForms};
 use keywrap_words::escaped;
 use std::alloc::{AllocError, Global};
 use std::io;

@@ -1,14 +1,14 @@
 //! A job from its files to its exit status.
 
-use crate::fault::ProgramFault;
-use crate::job::Done;
-use crate::keyed::{Keyed, open_keks};
 use crate::many::{Many, answer_lines};
+use crate::open_keks::{OpenKeks, open_keks};
+use crate::output_file::create;
 use crate::refused::Refused;
 use crate::request::{Lines, Places, Work};
-use crate::statuses;
+use crate::streams::{Closed, hold_closed};
 use crate::telling::{SeenFiles, Telling};
-use keywrap_io::{Closed, Seen, Watched, create, hold_closed};
+use crate::watched::{Seen, Watched};
+use keywrap_cli::{Done, ProgramFault, statuses};
 use std::fs::{self, File, OpenFile};
 use std::io::{self, Read, Write};
 use std::rt::{Env, Files};
@@ -53,15 +53,15 @@ pub fn run_work<R: Print + Eprint + Input + AllocGlobal + Files<File = File> + E
     let Ok(_held) = hold_closed(rt, terminals.closed) else {
         return Err(Refused::from(ProgramFault::InputOpen));
     };
-    let mut keyed = open_keks(rt, &telling, iv)?;
-    run_keyed(rt, &telling, &mut keyed, lines, terminals)
+    let mut keks = open_keks(rt, &telling, iv)?;
+    run_keyed(rt, &telling, &mut keks, lines, terminals)
 }
 
 // Does it with KEK files that are open.
 fn run_keyed<R: Print + Eprint + Input + AllocGlobal + Files<File = File> + Env + Clock>(
     rt: &R,
     telling: &Telling<'_>,
-    keyed: &mut Keyed<Watched<File>>,
+    keks: &mut OpenKeks,
     lines: Option<Lines>,
     terminals: Terminals,
 ) -> Result<u8, Refused> {
@@ -72,12 +72,12 @@ fn run_keyed<R: Print + Eprint + Input + AllocGlobal + Files<File = File> + Env 
             None
         };
         let many = many(lines, telling.places, terminals, None);
-        return run_from(rt, telling, keyed, many, rt.reader(), waiting);
+        return run_from(rt, telling, keks, many, rt.reader(), waiting);
     };
     match fs::open(rt, name) {
         Ok(input) => {
             let many = many(lines, telling.places, terminals, length_of(lines, &input));
-            run_from(rt, telling, keyed, many, input, None)
+            run_from(rt, telling, keks, many, input, None)
         }
         Err(error) => Err(telling.unopened(ProgramFault::InputOpen, name, &error)),
     }
@@ -116,7 +116,7 @@ fn length_of<F: OpenFile>(lines: Option<Lines>, file: &F) -> Option<u64> {
 fn run_from<R: Print + Eprint + AllocGlobal + Files<File = File> + Env + Clock, I: Read + Drop>(
     rt: &R,
     telling: &Telling<'_>,
-    keyed: &mut Keyed<Watched<File>>,
+    keks: &mut OpenKeks,
     many: Option<Many>,
     input: I,
     waiting: Option<&str>,
@@ -124,11 +124,11 @@ fn run_from<R: Print + Eprint + AllocGlobal + Files<File = File> + Env + Clock, 
     // Of lines no digit is counted.
     let mut input = Watched::new(input, telling.says_why && many.is_none());
     match telling.places.output {
-        Some(name) => run_into(rt, telling, keyed, many, &mut input, name, waiting),
+        Some(name) => run_into(rt, telling, keks, many, &mut input, name, waiting),
         None => {
             announce(rt, waiting);
             let mut out = Watched::new(io::writer(rt), telling.says_why);
-            let status = answer(rt, telling, keyed, many, &mut input, &mut out)?;
+            let status = answer(rt, telling, keks, many, &mut input, &mut out)?;
             match out.flush() {
                 Ok(()) => Ok(status),
                 Err(_) => Err(telling.unflushed(out.seen)),
@@ -141,19 +141,19 @@ fn run_from<R: Print + Eprint + AllocGlobal + Files<File = File> + Env + Clock, 
 fn run_into<R: Eprint + AllocGlobal + Files<File = File> + Env + Clock, I: Read>(
     rt: &R,
     telling: &Telling<'_>,
-    keyed: &mut Keyed<Watched<File>>,
+    keks: &mut OpenKeks,
     many: Option<Many>,
     input: &mut Watched<I>,
     name: &str,
     waiting: Option<&str>,
 ) -> Result<u8, Refused> {
     let keeps = telling.work.keeps_modes();
-    let mut new = match create(rt, name, keyed, keeps) {
+    let mut new = match create(rt, name, keks, keeps) {
         Ok(new) => new,
         Err(fault) => return Err(telling.no_output(fault)),
     };
     announce(rt, waiting);
-    match answer(rt, telling, keyed, many, input, &mut new.file) {
+    match answer(rt, telling, keks, many, input, &mut new.file) {
         Ok(status) => match new.finish(rt) {
             Ok(()) => Ok(status),
             Err(fault) => Err(telling.no_output(fault)),
@@ -169,27 +169,27 @@ fn run_into<R: Eprint + AllocGlobal + Files<File = File> + Env + Clock, I: Read>
 fn answer<R: Eprint + AllocGlobal + Env + Clock, I: Read, W: Write>(
     rt: &R,
     telling: &Telling<'_>,
-    keyed: &mut Keyed<Watched<File>>,
+    keks: &mut OpenKeks,
     many: Option<Many>,
     input: &mut Watched<I>,
     out: &mut Watched<W>,
 ) -> Result<u8, Refused> {
     match many {
-        Some(many) => match answer_lines(rt, keyed, many, input, out) {
+        Some(many) => match answer_lines(rt, &mut keks.keyed, many, input, out) {
             Ok(status) => Ok(status),
             Err(fault) => {
-                Err(telling.refused_lines(fault, &seen_files(keyed, input.seen, out.seen)))
+                Err(telling.refused_lines(fault, &seen_files(keks, input.seen, out.seen)))
             }
         },
-        None => match keyed.run(rt.alloc(), input, out) {
+        None => match keks.keyed.run(rt.alloc(), input, out) {
             Ok(done) => Ok(status_of(done)),
-            Err(fault) => Err(telling.refused_job(fault, &seen_files(keyed, input.seen, out.seen))),
+            Err(fault) => Err(telling.refused_job(fault, &seen_files(keks, input.seen, out.seen))),
         },
     }
 }
 
-fn seen_files(keyed: &Keyed<Watched<File>>, input: Seen, output: Seen) -> SeenFiles {
-    let (kek, new_kek) = keyed.seen();
+fn seen_files(keks: &OpenKeks, input: Seen, output: Seen) -> SeenFiles {
+    let (kek, new_kek) = keks.seen();
     SeenFiles {
         kek,
         new_kek,

@@ -1,10 +1,8 @@
 //! What the words of a command line ask for.
 
-use crate::convert::Direction;
-use crate::job::{Job, Notation, Task};
-use crate::request::{Lines, Places, Request, Rewrapping, Work};
-use crate::rewrap_line::RewrapForms;
+use crate::request::{Lines, Places, Request, Work};
 use key_wrap::Form;
+use keywrap_cli::{Direction, Job, Notation, RewrapForms, Rewrapping, Task};
 use keywrap_words::{Command, CommandLine, Refusal};
 use std::alloc::Global;
 

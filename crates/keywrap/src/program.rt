@@ -1,28 +1,16 @@
 //! The program: from its words to its exit status.
 
-ghost use Rattle.std.specs.Prelude.{◌≡◌, IfOk};
-ghost use Rattle.std.specs.List.{AllByRecursion};
-ghost use Rattle.keywrap_cli.specs.Published.{published_vectors};
-ghost use Rattle.keywrap_cli.specs.Vectors.{IsRight};
-
 use crate::command_line::parse;
-use crate::convert::Direction;
-use crate::drill::drill;
-use crate::fault::ProgramFault;
 use crate::refused::Refused;
 use crate::request::Request;
-use crate::statuses;
-use crate::vectors::vectors;
 use crate::work::{Terminals, run_work};
-use key_files::{write_hex, write_raw};
-use key_wrap::Form;
+use keywrap_cli::{ProgramFault, run_drill, run_vectors, statuses, write_help};
 use keywrap_words::{Refusal, not_text};
-use std::alloc::{AllocError, Global};
-use std::env;
+use std::alloc::AllocError;
 use std::fs::File;
-use std::io::{self, Write};
 use std::rt::{Env, Files};
 use std::time::Clock;
+use std::{env, io};
 
 /// Runs the program on the words that it was started with, and answers its exit status.
 pub fn run<R: Print + Eprint + Input + AllocGlobal + Files<File = File> + Env + Clock>(
@@ -61,52 +49,6 @@ fn answer<R: Print + Eprint + Input + AllocGlobal + Files<File = File> + Env + C
         Request::Vectors => run_vectors(rt.alloc(), &mut io::writer(rt)),
     };
     end(rt, done)
-}
-
-// The drill of a text, on one line of hex digits.
-pub(crate) fn run_drill<W: Write>(
-    alloc: Global,
-    form: Form,
-    direction: Direction,
-    text: &str,
-    out: &mut W,
-) -> Result<u8, ProgramFault> {
-    let bytes = match drill(alloc, form, direction, text) {
-        Ok(bytes) => bytes,
-        Err(fault) => return Err(ProgramFault::Drill(fault)),
-    };
-    write_hex(alloc, out, &bytes)?;
-    flush(out, statuses::DONE)
-}
-
-// The published vectors.
-pub(crate) fn run_vectors<W: Write>(alloc: Global, out: &mut W) -> Result<u8, ProgramFault>
-    ensures done { IfOk result (λ status.
-        AllByRecursion IsRight published_vectors → status ≡ 0) }
-    ensures failed { IfOk result (λ status.
-        ¬ AllByRecursion IsRight published_vectors → status ≡ 5) }
-{
-    if vectors(alloc, out)? {
-        flush(out, statuses::DONE)
-    } else {
-        flush(out, statuses::FAILED)
-    }
-}
-
-// The help or the version.
-pub(crate) fn write_help<W: Write>(text: &str, out: &mut W) -> Result<u8, ProgramFault> {
-    write_raw(out, text.as_bytes())?;
-    flush(out, statuses::DONE)
-}
-
-// Flushes the output, and answers the status of a call that ended without a fault.
-fn flush<W: Write>(out: &mut W, status: u8) -> Result<u8, ProgramFault>
-    ensures { IfOk result (λ answer. answer ≡ status) }
-{
-    match out.flush() {
-        Ok(()) => Ok(status),
-        Err(_) => Err(ProgramFault::Flush),
-    }
 }
 
 // The exit status of a request that was answered or refused.

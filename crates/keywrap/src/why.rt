@@ -14,8 +14,8 @@ pub enum Why {
     Unkept(Option<i32>),
     /// What it is, as `a folder`.
     Is(&'static str),
-    /// Which of the guarded files it is, as `the KEK file`.
-    IsGuarded(&'static str),
+    /// Which KEK file it is, as `the KEK file`.
+    IsKek(&'static str),
     /// How many bytes of KEK are in it.
     Kek {
         bytes: u64,
@@ -66,7 +66,7 @@ impl Why {
             Why::System(number) => write_system(alloc, number, line),
             Why::Unkept(number) => write_unkept(alloc, number, line),
             Why::Is(what) => write!(line, ": is {what}"),
-            Why::IsGuarded(which) => write!(line, " is {which}"),
+            Why::IsKek(which) => write!(line, " is {which}"),
             Why::Kek { bytes } => write!(line, ": {bytes} {} of KEK", unit(bytes)),
             Why::Length { bytes, legal } => write!(line, ": {bytes} {}; {legal}", unit(bytes)),
             Why::TooLong { bytes, what, most } => {

@@ -1,5 +1,5 @@
 use Rattle.keywrap_cli.proofs.Drills.{long_text, text_answer}
-use Rattle.keywrap_cli.proofs.drill.bytes_of.Goals as goal
+use Rattle.keywrap_cli.proofs.drilling.bytes_of.Goals as goal
 
 pub returns-then-text-gt-MAX_FILE : goal.returns-then-text-gt-MAX_FILE
 returns-then-text-gt-MAX_FILE c = long_text c.args.text.now c.if-text-gt-MAX_FILE.true

@@ -1,0 +1,62 @@
+//! What is done without files: the answer is written and flushed, and the exit status answered.
+
+ghost use Rattle.std.specs.Prelude.{◌≡◌, IfOk};
+ghost use Rattle.std.specs.List.{AllByRecursion};
+ghost use Rattle.keywrap_cli.specs.Published.{published_vectors};
+ghost use Rattle.keywrap_cli.specs.Vectors.{IsRight};
+
+use crate::convert::Direction;
+use crate::drilling::drill;
+use crate::fault::ProgramFault;
+use crate::report::vectors;
+use crate::statuses;
+use key_files::{write_hex, write_raw};
+use key_wrap::Form;
+use std::alloc::Global;
+use std::io::Write;
+
+/// Writes the answer of [`drill`], on one line of hex digits.
+pub fn run_drill<W: Write>(
+    alloc: Global,
+    form: Form,
+    direction: Direction,
+    text: &str,
+    out: &mut W,
+) -> Result<u8, ProgramFault> {
+    let bytes = match drill(alloc, form, direction, text) {
+        Ok(bytes) => bytes,
+        Err(fault) => return Err(ProgramFault::Drill(fault)),
+    };
+    write_hex(alloc, out, &bytes)?;
+    flush(out, statuses::DONE)
+}
+
+/// Writes the lines of [`vectors`]. The status says whether every vector held.
+pub fn run_vectors<W: Write>(alloc: Global, out: &mut W) -> Result<u8, ProgramFault>
+    ensures done { IfOk result (λ status.
+        AllByRecursion IsRight published_vectors → status ≡ 0) }
+    ensures failed { IfOk result (λ status.
+        ¬ AllByRecursion IsRight published_vectors → status ≡ 5) }
+{
+    if vectors(alloc, out)? {
+        flush(out, statuses::DONE)
+    } else {
+        flush(out, statuses::FAILED)
+    }
+}
+
+/// Writes the help or the version.
+pub fn write_help<W: Write>(text: &str, out: &mut W) -> Result<u8, ProgramFault> {
+    write_raw(out, text.as_bytes())?;
+    flush(out, statuses::DONE)
+}
+
+// Flushes the output, and answers the status of a call that ended without a fault.
+fn flush<W: Write>(out: &mut W, status: u8) -> Result<u8, ProgramFault>
+    ensures { IfOk result (λ answer. answer ≡ status) }
+{
+    match out.flush() {
+        Ok(()) => Ok(status),
+        Err(_) => Err(ProgramFault::Flush),
+    }
+}

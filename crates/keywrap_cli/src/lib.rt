@@ -1,0 +1,41 @@
+//! What the command `keywrap` does, as calls over readers and writers: jobs over a whole input and
+//! line by line, rewrapping, the drill, the published vectors, and the line and the exit status of
+//! each fault.
+#![tactic(auto)]
+
+mod convert;
+mod drilling;
+mod fault;
+mod files;
+mod flushed;
+mod initial_value;
+mod job;
+mod kek_file;
+mod keyed;
+mod line_convert;
+mod line_job;
+mod lines;
+mod output;
+mod report;
+mod rewrap;
+mod rewrap_kept;
+mod rewrap_line;
+pub mod statuses;
+#[cfg(test)]
+mod tests;
+mod vector_check;
+mod vector_table;
+
+pub use convert::Direction;
+pub use drilling::{DrillFault, drill};
+pub use fault::{Line, ProgramFault, RefusedLine};
+pub use flushed::{run_drill, run_vectors, write_help};
+pub use initial_value::{IvFault, parse_iv};
+pub use job::{Done, Job, JobFault, Notation, Task, run_job, run_with};
+pub use keyed::{Keyed, Rewrapping};
+pub use line_job::LineRefusal;
+pub use lines::{LinesDone, LinesFault, run_job_lines, run_rewrap_lines};
+pub use report::{VectorsFault, vectors};
+pub use rewrap::run_rewrap;
+pub use rewrap_kept::run_rewrap_keeping_form;
+pub use rewrap_line::RewrapForms;
