@@ -1,6 +1,6 @@
 //! What the command `keywrap` does, as calls over readers and writers: jobs over a whole input and
-//! line by line, rewrapping, the drill, the published vectors, and the line and the exit status of
-//! each fault.
+//! line by line, rewrapping, the drill, the published vectors. Beside them stand the line and the
+//! exit status of each fault, which tests show and no contract.
 #![tactic(auto)]
 
 mod convert;
