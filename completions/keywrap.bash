@@ -24,7 +24,9 @@ _keywrap() {
         [ "${word:0:1}" != - ] || options=$help
         ;;
     wrap | unwrap) options="--kek --padded --iv --raw --raw-kek --verbose $lines $files $help" ;;
-    rewrap) options="--kek --new-kek --padded --new-padded --keep-form --raw --raw-kek --verbose $lines $files $help" ;;
+    rewrap)
+        options="--kek --new-kek --padded --new-padded --keep-form --pass-new --raw --raw-kek --verbose $lines $files $help"
+        ;;
     check) options="--kek --raw --raw-kek --verbose $lines $files $help" ;;
     # What is missing may be the HEX, which only the user knows.
     drill) [ "${word:0:1}" != - ] || options="--padded --unwrap $help" ;;

@@ -35,6 +35,7 @@ complete -c keywrap -n '__keywrap_is rewrap; and __keywrap_lacks --keep-form' -l
     -d 'Write the padded form of RFC 5649'
 complete -c keywrap -n '__keywrap_is rewrap; and __keywrap_lacks --padded --new-padded' -l keep-form \
     -d 'Take either form, and keep it'
+complete -c keywrap -n '__keywrap_is rewrap' -l pass-new -d 'Answer what is under the new KEK already as it is'
 complete -c keywrap -n '__keywrap_is wrap unwrap; and __keywrap_lacks --padded' -l iv -x \
     -d 'An initial value that both ends agreed on'
 complete -c keywrap -l raw -n '__keywrap_is wrap unwrap rewrap check; and __keywrap_lacks --lines --keep-going' \

@@ -1,13 +1,17 @@
 #!/bin/sh
 # Packs the built C library, its header and keywrap.pc into an archive for machines that have no kit:
-# FOLDER/keywrap-library-VERSION-x86_64-linux.tar.gz, with its SHA-256 beside it. Of the same files it
+# FOLDER/keywrap-library-VERSION-MACHINE-linux.tar.gz, with its SHA-256 beside it. Of the same files it
 # makes the same archive, byte for byte: `make dist-library` calls it.
 #
-# usage: scripts/dist_library.sh LIBRARY VERSION FOLDER        (LIBRARY: what `make library` made)
+# usage: scripts/dist_library.sh LIBRARY VERSION FOLDER MACHINE    (LIBRARY: what `make library` made for it)
 
 set -eu
 library=$(readlink -f -- "$1")
-name=keywrap-library-${2:?}-x86_64-linux
+name=keywrap-library-${2:?}-${4:?}-linux
+case $4 in
+x86_64) processors='x86-64 (version 2 of it: processors from 2009 on)' cross='' ;;
+aarch64) processors='aarch64 (each 64-bit processor of Arm)' cross=' # elsewhere: aarch64-linux-gnu-gcc' ;;
+esac
 mkdir -p -- "$3"
 folder=$(cd -- "$3" && pwd)
 cd -- "$(dirname -- "$0")/.."
@@ -25,10 +29,10 @@ keywrap $2: the C library, AES Key Wrap (RFC 3394 and RFC 5649), proved.
     include/keywrap.h      the calls, and what each answers
     lib                    libkeywrap.a, libkeywrap.so.$2 and keywrap.pc
 
-It is for Linux on x86-64 (version 2 of it: processors from 2009 on) and needs of the system memcpy,
+It is for Linux on $processors and needs of the system memcpy,
 memmove and memset alone. It is used from where it lies:
 
-    cc prog.c \$(PKG_CONFIG_PATH=lib/pkgconfig pkg-config --cflags --libs keywrap)
+    cc prog.c \$(PKG_CONFIG_PATH=lib/pkgconfig pkg-config --cflags --libs keywrap)$cross
 
 To install it: cp -r include lib /usr/local/ && ldconfig
 TEXT

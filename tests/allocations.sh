@@ -3,15 +3,14 @@
 # a refusal of each kind, the reading of the command line included. Each run has to end with
 # status 7, `keywrap: out of memory` and nothing on standard output, or with the answer that it
 # has with ample memory; and the file of --output is as it was, or holds that answer, with nothing
-# beside it. Then it runs, in the same way, the tests refuses_each_growth_.. of two crates: they say
-# of each call that it answers Memory and has written nothing, or answers all. Last it runs the
-# commands in ever more memory, from where the program starts at all.
+# beside it. Then it runs the commands in ever more memory, from where the program starts at all.
 #
-# usage: tests/allocations.sh        (KEYWRAP=PATH tries another program, as an installed one, and
-#                                     TESTS=PATH a folder of crates with other test programs)
+# usage: tests/allocations.sh        (KEYWRAP=PATH tries another program, as an installed one)
+# TESTS=PATH: a folder of crates with the test programs that `rt test` and `rt ci` leave, as `make gate` names it.
+# Of two of them it runs, in the same way, the tests refuses_each_growth_..: they say of each call that it answers
+# Memory and has written nothing, or answers all.
 #
-# The first two parts need a C compiler, cc or the clang of the kit beside rt, and the second also the
-# test programs that `rt test` and `rt ci` leave; they are skipped without.
+# What needs a C compiler, cc or the clang of the kit beside rt, is skipped without one.
 
 set -u
 # Where the test programs are, from the folder that this was started in.
@@ -151,11 +150,7 @@ holds_at_each() {
 
 # holds_in CRATE [COUNT]: the same for each test of a crate that is named for it.
 holds_in() {
-    local tests="${TESTS:-$root/crates}/$1/out/$1_tests" growths test
-    if [ ! -x "$tests" ]; then
-        skip "each growth of a call of $1 refused in turn" "no $tests (rt test in crates/$1 makes it)"
-        return
-    fi
+    local tests=$TESTS/$1/out/$1_tests growths test
     growths=$("$tests" --list | sed -n 's/^\(.*::refuses_each_growth_.*\): test$/\1/p')
     [ -n "$growths" ] || verdict 'each growth of a call' "no test refuses_each_growth_.. in $tests"
     for test in $growths; do
@@ -163,7 +158,7 @@ holds_in() {
     done
 }
 
-if $has_compiler; then
+if [ -n "${TESTS:-}" ] && $has_compiler; then
     # Five calls, and one growth in each.
     beside holds_in key_wrap 5
     beside holds_in keywrap_cli

@@ -489,13 +489,15 @@ guesses "$drill_tip" drill --kek kek16.hex $d16
 guesses "$drill_tip" drill $d16 --kek kek16.hex
 guesses "$drill_tip" drill 00 11
 guesses "some similar subcommands exist: 'rewrap', 'unwrap', 'wrap'" wrapp
-guesses "a similar argument exists: '--kek'" wrap --key kek16.hex
+guesses "a similar argument exists: '--kek'" wrap --keck kek16.hex
+guesses 'the KEK is --kek FILE, and the key or the wrapped key --input FILE' wrap --key kek16.hex
 guesses "a similar argument exists: '--input'" wrap --inpt kek16.hex
 guesses "'wrap --kek' exists" --kek kek16.hex wrap
 guesses "subcommand 'wrap' exists; to use it, remove the '--' before it" -- wrap
 guesses 'check looks at both forms, and says which one it found' check --kek kek16.hex --padded
 guesses 'only rewrap takes --new-kek' unwrap --kek kek16.hex --new-kek kek32.hex
 guesses 'only rewrap takes --keep-form' unwrap --kek kek16.hex --keep-form
+guesses 'only rewrap takes --pass-new' check --kek kek16.hex --pass-new
 guesses '--keep-going and --quiet go with --lines' wrap --kek kek16.hex --keep-going
 guesses '--keep-going and --quiet go with --lines' check --quiet --kek kek16.hex
 guesses 'keywrap --help shows the help, and keywrap COMMAND --help that of a command' help --help
@@ -546,7 +548,7 @@ explains "Usage: keywrap unwrap $usage < WRAPPED > KEY|--padded|--iv <HEX>|--raw
     unwrap --help
 explains "Usage: keywrap rewrap $usage --new-kek <FILE> < WRAPPED > NEW|$files|$wrapped16|$wrapped32" \
     rewrap --help
-explains '--padded|--new-padded|--keep-form|--raw|--raw-kek|--lines|--keep-going|--quiet' rewrap --help
+explains '--padded|--new-padded|--keep-form|--pass-new|--raw|--raw-kek|--lines|--keep-going|--quiet' rewrap --help
 explains "Usage: keywrap check $usage < WRAPPED|--raw|--raw-kek|$files|$wrapped16|plain 16" check --help
 explains "Usage: keywrap wrap $usage < KEY > WRAPPED" wrap -h
 explains "Usage: keywrap unwrap $usage < WRAPPED > KEY" unwrap -h

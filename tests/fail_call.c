@@ -1,7 +1,7 @@
-/* An fsync, a rename and a statx for tests/files.sh and tests/manners.sh, built as a shared library and named in
-   LD_PRELOAD. Each writes its name to descriptor 9, and FAIL_CALL=NAME has each call of that name fail with EIO,
-   FAIL_CALL=NAME:N the Nth alone; FAIL_ERRNO=N has it fail with that error. No header is included: the kit's
-   compiler, which has none, is enough. */
+/* An fsync, a rename, an fchmod and a statx for tests/files.sh and tests/manners.sh, built as a shared library and named
+   in LD_PRELOAD. Each writes its name to descriptor 9, and FAIL_CALL=NAME has each call of that name fail with EIO,
+   FAIL_CALL=NAME:N the Nth alone; FAIL_ERRNO=N has it fail with that error. ONE_MODE=1 has each open file be for all, as
+   on a file system without modes. No header is included: the kit's compiler, which has none, is enough. */
 
 extern char *getenv(const char *name);
 extern int strncmp(const char *one, const char *other, unsigned long count);
@@ -10,7 +10,7 @@ extern long write(int descriptor, const void *bytes, unsigned long count);
 extern long syscall(long number, ...);
 extern int *__errno_location(void);
 
-enum { EIO = 5, SYS_FSYNC = 74, SYS_RENAME = 82, SYS_STATX = 332 };
+enum { EIO = 5, SYS_FSYNC = 74, SYS_RENAME = 82, SYS_FCHMOD = 91, SYS_STATX = 332, MODE = 28 };
 
 static long number(const char *digits) {
     long value = 0;
@@ -45,7 +45,16 @@ int rename(const char *from, const char *to) {
     return fails("rename", ++calls) ? -1 : (int)syscall(SYS_RENAME, from, to);
 }
 
+int fchmod(int descriptor, unsigned mode) {
+    static long calls;
+    return fails("fchmod", ++calls) ? -1 : (int)syscall(SYS_FCHMOD, descriptor, mode);
+}
+
 int statx(int folder, const char *path, int flags, unsigned mask, void *found) {
     static long calls;
-    return fails("statx", ++calls) ? -1 : (int)syscall(SYS_STATX, folder, path, flags, mask, found);
+    if (fails("statx", ++calls) || syscall(SYS_STATX, folder, path, flags, mask, found) != 0)
+        return -1;
+    if (!*path && getenv("ONE_MODE"))
+        *(unsigned short *)((char *)found + MODE) |= 0777;
+    return 0;
 }

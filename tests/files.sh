@@ -382,7 +382,7 @@ verdict 'the file that has the name stays' "$(echo other | cmp - to/file.part0 2
 
 ### Calls of the system that fail
 
-# preloaded ARGUMENT..: the program over an fsync, a rename and a statx that write their names to the file
+# preloaded ARGUMENT..: the program over an fsync, a rename, an fchmod and a statx that write their names to the file
 # `met`, of which those fail that $FAIL_CALL names.
 preloaded() { LD_PRELOAD=$PWD/fail_call.so timeout 60 "$program" "$@" 9>>met; }
 
@@ -393,7 +393,8 @@ syncs() {
     fresh old
     : >met
     lands "$1, on the disk and then named" "$2" "$3" to/file "${@:6}" -i "$5" -o to/file
-    verdict "$1, a sync, a rename and a sync" "$(printf 'fsync\nrename\nfsync\n' | diff - <(grep -vx statx met))"
+    verdict "$1, a sync, a rename and a sync" \
+        "$(printf 'fsync\nrename\nfsync\n' | diff - <(grep -vx -e statx -e fchmod met))"
     for FAIL_CALL in fsync:1 rename:1; do
         export FAIL_CALL
         keeps "$1, its $FAIL_CALL fails" 6 "$flush_fault" "${@:6}" -i "$5" -o to/file

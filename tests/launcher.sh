@@ -1,103 +1,73 @@
 #!/usr/bin/env bash
-# Runs the launcher keywrap and the Makefile over a stand-in for rt, which proves nothing and notes what it
-# is called for: what is built, in which order, and when again; what is said, where; what is left behind.
+# Runs the launcher keywrap over a stand-in for rt, which proves nothing and notes what it is called for: what is
+# built, in which order, and when again; what is said, where; what is left behind.
 #
 # usage: tests/launcher.sh
 # SH=PATH tests/launcher.sh has another shell than /bin/sh run the launcher.
 
+# shellcheck disable=SC2016
 set -u
-# shellcheck source=tests/lib/room.sh
-. "${BASH_SOURCE[0]%/*}/lib/room.sh"
-# shellcheck source=tests/lib/expect.sh
-. "$root/tests/lib/expect.sh"
-
-mkdir -p 'a tree'/{bin,tmp,far/'a tree'} && cd 'a tree' || exit
+# shellcheck source=tests/lib/stand_in.sh
+. "${BASH_SOURCE[0]%/*}/lib/stand_in.sh"
 # No script is run after the gate.
-cp -R "$root"/{keywrap,Makefile,man,completions,include,scripts,python} . && rm scripts/tests.sh
-sed -i "1s|.*|#!${SH:-/bin/sh}|" keywrap
-crates=(block_pair aes_block keywrap)
-printf '%s\n' block_pair: 'aes_block: block_pair byteorder' 'keywrap_c staticlib: block_pair aes_block' \
-    'keywrap: block_pair aes_block clap' >crates.txt
-for crate in "${crates[@]}" keywrap_c; do
-    mkdir -p "crates/$crate"/{src,specs,proofs/part}
-    echo first | tee "crates/$crate"/{src/lib.rt,specs/Lib.antt,proofs/part/Answers.antt} >/dev/null
-done
-echo '    .version("1.2.3")' >crates/keywrap/src/commands.rt
-program=crates/keywrap/out/keywrap archive=crates/keywrap_c/out/libkeywrap_c.a
-export tree=$PWD helpers=$root/tests/lib/expect.sh PATH=$PWD/bin:$PATH TMPDIR=$PWD/tmp TERM=xterm
+printf '#!/bin/sh\n' >scripts/tests.sh
 
-# The stand-in for rt: in the crate $at it runs $event, and it waits until what it says is in the file $screen.
-# Each program and archive that it builds is another. The program says who called it, and with which words.
-install -m 755 /dev/stdin bin/rt <<'END_OF_RT'
-#!/bin/bash
-. "$helpers"
-crate=${PWD##*/}
-trap 'echo "ended $crate" >>"$tree/notes"; exit 143' INT TERM
-echo "$crate: $*" >>"$tree/notes"
-echo 'the first line'
-echo 'so far: 3 of 9 functions checked, which is all that fits' >&2
-[ -z "${screen:-}" ] || until_true grep -qF "$crate: so far: 3 of 9" "$screen"
-[ "${at:-}" != "$crate" ] || eval "$event"
-install -D -m 755 /dev/stdin out/keywrap <<END_OF_PROGRAM
-#!/bin/sh
-echo "child of \$PPID, \$# words: \$*"
-[ "\$1" = --version ] || exit 5
-# $(date +%N)
-END_OF_PROGRAM
-cp out/keywrap out/libkeywrap_c.a
-echo "ends $crate" >>"$tree/notes"
-END_OF_RT
-
-fresh() { rm -rf crates/*/out && : >notes; }
-# append FILE: makes it another.
-append() { echo other >>"$1"; }
 # launch ARGUMENT..: runs the launcher. A signal that this script ignores would be ignored by it too.
 launch() {
     /usr/bin/env --default-signal "$tree/keywrap" "$@" >out 2>err
     status=$?
 }
-# noted NAME NOTE..: these are the notes, in this order.
-noted() { verdict "$1: what is built" "$(diff notes <([ $# = 1 ] || printf '%s\n' "${@:2}"))"; }
-# launched NAME STATUS ANSWER LINES NOTE..: the run ended so, and left no temporary file, and no rt.
+# left: what a run left: temporary files, an rt, a make over this tree. What the stand-in had just begun when it was
+# ended, as a grep, ends by itself.
+left() {
+    local make
+    ls tmp
+    ! pgrep -f "$tree/bin/rt" >/dev/null || sleep 1
+    pgrep -af "$tree/bin/rt"
+    for make in $(pgrep -f first_use.mk); do
+        [ "$(readlink "/proc/$make/cwd")" != "$tree" ] || echo "make $make"
+    done
+    find crates -name 'built_from.*'
+}
+# launched NAME STATUS ANSWER LINES NOTE..: the run ended so, and left nothing at work or behind.
 launched() {
-    sed -i '/^mktemp: /d; s/(log: .*)/(log: LOG)/' err
+    sed -i '/^mktemp: /d; s/(logs: .*)/(logs: LOGS)/' err
     printf '%s' "$3" >wanted.out
     ended "$1" "$2" wanted.out "$4"
     noted "$1" "${@:5}"
-    verdict "$1: what is left" "$(ls tmp; pgrep -af "$tree/bin/rt")"
+    verdict "$1: what is left" "$(left)"
 }
-# rebuilds COMMAND NOTE..: after each change that a line of its input makes, the command has this done, and
-# not a second time. The sources are old, as what comes out of an archive is.
-rebuilds() {
-    local change
-    while read -r change; do
-        eval "$change" >/dev/null 2>&1
-        find crates.txt include crates/*/{src,specs,proofs} -exec touch -d 2020-01-01 {} + 2>/dev/null
-        : >notes
-        row "$1, twice after $change" eval "$1 && echo again >>notes && $1"
-        noted "$1, twice after $change" "${@:2}" again
-    done
-}
-
-jobs=$(($(nproc) < 4 ? $(nproc) : 4))
-steps=("block_pair: lib --jobs $jobs" 'ends block_pair' "aes_block: lib --jobs $jobs" 'ends aes_block'
-    "keywrap: run --jobs $jobs -- --version" 'ends keywrap')
-starts='keywrap: proving and building the program, several minutes the first time (log: LOG)'
+starts='keywrap: proving and building the program, several minutes the first time (logs: LOGS)'
+# said CRATE: what rt says of it.
+said() { printf '%s\n' "the first line of $1" 'so far: 3 of 9 functions checked'; }
 
 ### When it is built, and from where it is called
 
 fresh; PATH=$tree/tmp launch
 launched 'no rt' 70 '' 'keywrap: not built yet, and rt, which proves and builds it, is not on the PATH'
+mkdir alone && cp bin/rt alone && PATH=$tree/alone launch
+launched 'no make' 70 '' 'keywrap: not built yet, and make, which proves and builds it, is not on the PATH'
 TMPDIR=$tree/missing launch
-launched 'no file for the log' 70 '' "keywrap: no file for the build's log"
+launched 'no folder for the logs' 70 '' "keywrap: no folder for the build's logs"
 launch a 'b c'
 launched 'the first use' 5 "child of $$, 2 words: a b c"$'\n' "$starts" "${steps[@]}"
-ln -s ../keywrap far/link
+fresh; at='.*' event='cat >>"$tree/notes"' launch <crates.txt
+noted 'the input is left to the program' "${steps[@]}"
+mkdir -p 'far/a tree' && ln -s ../keywrap far/link
 : >notes
 find crates -name '*.rt' -exec touch {} +
 for way in far/link 'sh keywrap' "PATH='$tree':\$PATH && cd / && keywrap" \
     "cd .. && CDPATH='$tree/far' 'a tree/keywrap'"; do
     verdict "$way" "$(eval "$way --version" 2>&1 | grep -vx 'child of [0-9]*, 1 words: --version'; cat notes)"
+done
+for way in far/link "cd .. && CDPATH='$tree/far' 'a tree/keywrap'" 'TMPDIR=tmp ./keywrap' \
+    'MAKEFLAGS=n MAKEFILES=missing.mk ./keywrap' 'JOBS=7 CRATES=others WORDS=x ./keywrap' \
+    'make -s -j3 JOBS=7 build && ./keywrap'; do
+    fresh
+    verdict "the first use by $way" "$(eval "$way --version" 2>&1 |
+        grep -vx -e 'child of [0-9]*, 1 words: --version' -e "${starts% (*} (logs: .*)")"
+    noted "the first use by $way" "${steps[@]}"
+    verdict "the first use by $way: what is left" "$(left)"
 done
 rebuilds './keywrap --version' "${steps[@]}" <<END_OF_CHANGES
 echo first >crates/block_pair/src/added.rt; append crates.txt
@@ -109,23 +79,90 @@ touch -d tomorrow $program
 fresh; at=block_pair event='echo other >>src/lib.rt' launch
 append crates/aes_block/src/lib.rt; at=aes_block event='exit 1' launch
 append crates/aes_block/src/lib.rt; at=keywrap event='kill -s KILL \$\$' launch
-fresh; (trap '' XFSZ; at=keywrap event='prlimit --fsize=999 --pid \$PPID' ./keywrap)
-fresh; at='a tree' event='cd crates/keywrap; echo other >>src/lib.rt' make test
+fresh; (trap '' XFSZ; at=keywrap event='prlimit --fsize=999 --pid \$launcher' ./keywrap)
+fresh; at='a tree' event='cd crates/keywrap; echo other >>src/lib.rt' make gate
 END_OF_CHANGES
-rebuilds './keywrap --version' <<<"fresh; at='a tree' event='cd crates/keywrap' make test"
+rebuilds './keywrap --version' <<<"fresh; at='a tree' event='cd crates/keywrap' make gate"
+fresh; (trap '' XFSZ; at=keywrap event='prlimit --fsize=999 --pid $launcher' ./keywrap >out 2>err)
+verdict 'a record that can not be written: what is left' "$(left)"
+
+# Another launcher begins, and ends, while this one is at work.
+fresh; at=keywrap event='at= "$tree/keywrap" --version' launch
+launched 'two at once' 5 "child of $$, 0 words: "$'\n' "$starts" "${steps[@]:0:5}" "${steps[@]}" 'ends keywrap'
+rebuilds './keywrap --version' <<<"at=keywrap event='at= \"\$tree/keywrap\" --version' launch"
 
 ### What ends a build
 
 rm -r crates/aes_block/specs && : >notes
 at=aes_block event='exit 1' launch
 launched 'a crate is not proved' 70 '' "$starts
-the first line
-so far: 3 of 9 functions checked, which is all that fits
-keywrap: the build failed" "${steps[@]:0:3}"
+$(said aes_block)
+keywrap: the build failed: aes_block" "${steps[@]:0:3}"
+rm -r crates/keywrap/specs && : >notes
+at=keywrap event='exit 5' launch
+launched 'the program is not proved' 70 '' "$starts
+$(said keywrap)
+keywrap: the build failed: keywrap" "${steps[@]:0:5}"
+mv scripts/first_use.mk kept.mk && fresh
+launch
+verdict 'make itself fails' "$(left; [ "$status" = 70 ] || echo "status $status"
+    grep -c '^make: .*first_use.mk' err | grep -vx '[1-9]')"
+mv kept.mk scripts/first_use.mk
+
+### Side by side
+
+# Four that need no other of these, and a fifth above the second.
+crates first_four: second_four: third_four: fourth_four: 'above_second: second_four' 'keywrap_c staticlib:' \
+    'keywrap: first_four second_four third_four fourth_four above_second'
+begins=('first_four: lib --jobs 4' 'fourth_four: lib --jobs 4' 'second_four: lib --jobs 4' 'third_four: lib --jobs 4')
+# sorted_notes: the notes of those that are at work side by side may come in any order.
+sorted_notes() { LC_ALL=C sort -o notes notes; }
+# most_at_once: how many were at work at once.
+most_at_once() { awk '/^[a-z_]*: /{ n++ } /^end/{ n-- } n > most { most = n } END { print most + 0 }' notes; }
+# at_once PROCESSORS N EVENT: so many are at work at once, each with as many jobs, and the program comes last.
+at_once() {
+    fresh
+    processors=$1 at='.*_four' event=$3 launch
+    verdict "$1 processors" "$([ "$status" = 5 ] || cat err; [ "$(most_at_once)" = "$2" ] || cat notes
+        sed -n 's/.* --jobs \([0-9]*\).*/\1/p' notes | grep -vx "$2")"
+    verdict "$1 processors: what is built" "$(LC_ALL=C sort notes | sed -n 's/: lib .*//p' | paste -sd ' ' |
+        diff - <(echo above_second first_four fourth_four second_four third_four)
+        tail -n 2 notes | diff - <(printf '%s\n' "keywrap: run --jobs $2 -- --version" 'ends keywrap'))"
+}
+at_once 1 1 ''
+at_once 2 2 'until_true begun 2; sleep 0.2'
+at_once 4 4 'until_true begun 4; sleep 0.2'
+at_once 9 4 'until_true begun 4; sleep 0.2'
+
+fresh; at='(first|third|fourth)_four' event='until_true grep -q "^ends above" "$tree/notes"' launch
+verdict 'a crate begins where those below it are proved' "$([ "$status" = 5 ] || cat err
+    grep -e '^ends second' -e above notes |
+        diff - <(printf '%s\n' 'ends second_four' 'above_second: lib --jobs 4' 'ends above_second')
+    grep -A 9 '^ends above' notes | grep -c '^ends .*_four' | grep -vx 3)"
+
+# What is at work when a proof fails ends, and no other begins.
+fresh; at='(first|second)_four' event='until_true begun 4
+    [ $crate = second_four ] || { touch ../../failed; exit 1; }
+    until_true [ -e ../../failed ]; sleep 0.5' launch
+sorted_notes
+launched 'a proof fails beside others' 70 '' "$starts
+$(said first_four)
+keywrap: the build failed: first_four" 'ends fourth_four' 'ends second_four' 'ends third_four' "${begins[@]}"
+fresh; at='(first|third)_four' event='until_true begun 4; sleep 0.5; exit 1' launch
+sorted_notes
+launched 'two proofs fail' 70 '' "$starts
+$(said first_four)
+$(said third_four)
+keywrap: the build failed: first_four third_four" 'above_second: lib --jobs 4' 'ends above_second' \
+    'ends fourth_four' 'ends second_four' "${begins[@]}"
+
 for signal in HUP INT QUIT TERM; do
     fresh
-    at=keywrap event="kill -s $signal \$PPID; until_true false" launch 2>/dev/null
-    launched "$signal" "$((128 + $(kill -l $signal)))" '' "$starts" "${steps[@]:0:5}" 'ended keywrap'
+    at='.*_four' event="until_true begun 4; [ \$crate != second_four ] || kill -s $signal \$launcher
+        until_true false" launch 2>/dev/null
+    sorted_notes
+    launched "$signal" "$((128 + $(kill -l $signal)))" '' "$starts" \
+        'ended first_four' 'ended fourth_four' 'ended second_four' 'ended third_four' "${begins[@]}"
 done
 
 ### On a terminal
@@ -139,41 +176,25 @@ on_screen() {
     status=$?
     tr -d '\r' <screen | sed -n '/^keywrap: proving/,$ { s/.*\x1b\[K//; /^Script done/d; /./p }' >err
 }
+# states: what the line said in turn, but for the seconds.
+states() { grep -oP '\e\[Kkeywrap: [0-9]+ s, \K[^\r\e]+' screen | uniq; }
 if has script bsdutils 'the launcher on a terminal'; then
+    at='.*_four' event='until_true begun 4; until_true grep -q "(3 of 9) fourth" "$tree/screen"' on_screen
+    verdict 'how far it is, side by side' "$([ "$status" = 5 ] || cat err
+        states | grep -q '^0 of 6 crates proved, at work: first_four (3 of 9) fourth_four (3' || states
+        grep -oP '\e\[K\K[^\r\e]{80,}' screen)"
+    at='.*_four' event='until_true begun 4
+        [ $crate != first_four ] || printf "\003" >../../keys; until_true false' on_screen
+    sorted_notes
+    launched 'Ctrl-C' 130 '' "$starts" \
+        'ended first_four' 'ended fourth_four' 'ended second_four' 'ended third_four' "${begins[@]}"
+    crates block_pair: 'aes_block: block_pair' 'keywrap: block_pair aes_block clap'
     TERM=dumb on_screen
     verdict 'a terminal that cannot rewrite a line' "$(grep $'\e' screen)"
     screen=$tree/screen on_screen
     launched 'the first use on a terminal' 5 "$(<out)"$'\n' "$starts" "${steps[@]}"
-    verdict 'how far it is' "$(grep -oE '[0-9]+ s, crate [^:]*: so far: 3 of 9' screen | sed 's/.* s, //' | uniq |
-        diff - <(for i in 0 1 2; do echo "crate $((i + 1)) of 3, ${crates[i]}: so far: 3 of 9"; done)
-        grep -oP '\e\[K\K[^\r\e]{80,}' screen)"
-    screen=$tree/screen at=aes_block event='printf "\003" >../../keys; until_true false' on_screen
-    launched 'Ctrl-C' 130 '' "$starts" "${steps[@]:0:3}" 'ended aes_block'
+    verdict 'how far it is' "$(states | grep '(' | diff - <(printf '%s of 3 crates proved, at work: %s (3 of 9)\n' \
+        0 block_pair 1 aes_block 2 keywrap))"
 fi
-
-### make
-
-# For a compiler stands what is noted, and has a copy of the archive as the shared object.
-export PYTHON=true CC='echo linked >>notes; cp library/libkeywrap.a library/libkeywrap.so.1.0.0; :'
-make='make -s LIBRARY=library DIST=dist DESTDIR=stage/ PREFIX=usr'
-linked=('keywrap_c: lib' 'ends keywrap_c' linked)
-rebuilds "$make wheel && cmp library/python/libkeywrap.a $archive" "${linked[@]}" <<<true
-rebuilds "$make install && cmp stage/usr/bin/keywrap $program && cmp stage/usr/lib/libkeywrap.so $archive" \
-    "${steps[@]}" "${linked[@]}" <<<'append crates/aes_block/src/lib.rt'
-same 'make install keeps to DESTDIR and PREFIX' $'bin\ninclude\nlib\nshare' "$(ls stage/usr)"
-verdict 'make uninstall leaves nothing' "$($make uninstall; find stage ! -type d)"
-rebuilds "$make dist && cat dist/*.gz | tar -xzif - && cmp keywrap-1.2.3-*/bin/keywrap $program &&
-    cmp keywrap-library-1.2.3-*/lib/libkeywrap.so $archive && cmp library/python/libkeywrap.a $archive" \
-    "${steps[@]}" "${linked[@]}" <<<'append crates/aes_block/src/lib.rt'
-rebuilds "$make library" "${linked[@]}" <<END_OF_CHANGES
-append crates.txt
-append crates/keywrap_c/proofs/part/Answers.antt
-append include/keywrap.map
-rm -r crates/block_pair/specs
-rm library/libkeywrap.a
-append crates/block_pair/src/lib.rt; at=keywrap_c event='echo other >>src/lib.rt' $make library
-append crates/block_pair/src/lib.rt; at=keywrap_c event='exit 1' $make library
-END_OF_CHANGES
-rebuilds "$make library ARCHIVE=another.a" linked <<<'rm -r library; append another.a'
 
 finish

@@ -10,6 +10,8 @@ set -u
 . "${BASH_SOURCE[0]%/*}/lib/room.sh"
 # shellcheck source=tests/library/rows.sh
 . "$root/tests/library/rows.sh"
+# shellcheck source=tests/library/shown.sh
+. "$root/tests/library/shown.sh"
 
 ### The archives
 
@@ -140,22 +142,6 @@ fi
 # The other AES is built once, and without the sanitizers.
 row 'the other AES: compiles' cc -std=c99 -O2 "${strict[@]}" -c "$root/bench/one_table.c" -o one_table.o
 checks=("$root"/tests/library/*.c one_table.o)
-names=$(printf '%s\n' keywrap_version "${calls[@]%% *}" | sort)
-
-# shows NM_OPTION.. FILE: the names that the file shows are those of the header, and no others.
-shows() { diff <(nm "$@" --defined-only | awk 'NF == 3 && $2 != "A" { print $3 }' | sort) - <<<"$names"; }
-
-# versioned FILE: each name of the shared object stands under the version node.
-versioned() { shows -D --without-symbol-versions "$1" && ! nm -D --defined-only "$1" | grep -v KEYWRAP_1; }
-
-# wants FILE: the archive wants nothing but these of the C library.
-wants() { ! nm -u "$1" | awk 'NF == 2 { print $2 }' | grep -vxE 'memcpy|memmove|memset|keywrap_[a-z_]+'; }
-
-# hardened FILE: what a shared object promises of itself.
-hardened() {
-    readelf -dlW "$1" >"$room/elf" && grep -q 'SONAME.*\[libkeywrap\.so\.1\]' "$room/elf" &&
-        grep -q BIND_NOW "$room/elf" && grep -q GNU_RELRO "$room/elf" && ! grep -q TEXTREL "$room/elf"
-}
 
 # run_calls NAME OPTION..: the C program, linked with the library by these options, finds no fault.
 run_calls() {
@@ -169,10 +155,7 @@ for archive in "${archives[@]}"; do
     name=$(basename "$archive" .a)
     library=$room/$name.library
     row "make library, of $name" in_library library
-    row "$name: an archive that wants nothing else" wants "$library/libkeywrap.a"
-    row "$name: the names of the archive" shows -g "$library/libkeywrap.a"
-    row "$name: the names of the shared object" versioned "$library/libkeywrap.so.1.0.0"
-    row "$name: a hardened shared object" hardened "$library/libkeywrap.so.1.0.0"
+    shown "$name"
     for compiler in "${compilers[@]}"; do
         run_calls "$name by $compiler, static" "$library/libkeywrap.a"
         run_calls "$name by $compiler, shared" "$library/libkeywrap.so.1"

@@ -69,11 +69,10 @@ all 'both forms, each keeping its own' "$wrapped16\n$padded7\n$padded16\n" "$wra
 
 wraps=(wrap --lines --kek kek16.hex)
 one="$wrapped16\n" two="$wrapped16\n$wrapped16\n"
-all 'no line' '' '' "${wraps[@]}"
 all 'one line' "$d16\n" "$one" "${wraps[@]}"
 all 'a last line without LF' "$d16\n$d16" "$two" "${wraps[@]}"
 all 'CR before LF' "$d16\r\n$d16\r\n" "$two" "${wraps[@]}"
-all 'blanks, tabs and CR' " \t$d16 \t\r\n\r 0\t0 ${d16:2}" "$two" "${wraps[@]}"
+all 'blanks, tabs and CR at the ends' " \t$d16 \t\r\n\r\t $d16\r\r" "$two" "${wraps[@]}"
 all 'digits of either case' "${d16^^}\n$d16\n" "$two" "${wraps[@]}"
 # A line ends just before, at and just after the borders of buffers.
 for border in 4096 8192 65536; do
@@ -92,6 +91,21 @@ written 'blank lines alone' 4 in "$(<lines.err)" in in wrap --lines --keep-going
 { echo $d16 && cat longest && printf '\n%s' $d16; } >in
 { echo $wrapped16 && cat longest.answer && echo $wrapped16; } >answers
 written 'the longest line' 0 answers '' answers in "${wraps[@]}"
+
+### No line at all
+
+: >in
+for words in 'wrap' 'unwrap' 'check' 'rewrap --new-kek kek32.hex'; do
+    for flag in '' --keep-going; do
+        # shellcheck disable=SC2086
+        written "no line, $words $flag" 4 nothing 'keywrap: no lines' old in $words --lines --kek kek16.hex $flag
+    done
+done
+refuses 'no line, standard input closed' 4 'no lines' "${wraps[@]}" <&-
+refuses 'no KEK file before no line' 6 'key file: cannot be opened' wrap --lines --kek missing
+refuses 'a KEK of 15 bytes before no line' 3 "$kek_length" wrap --lines --kek kek15.hex
+fresh
+keeps 'no line makes no file' 4 'keywrap: no lines' "${wraps[@]}" -o to/file
 
 ### The line at which it stops
 
@@ -131,8 +145,10 @@ too_long=$(head -c 4194305 /dev/zero | tr '\0' ' ')
 refused_lines() {
     local rest=("$1" "$2" "${@:5}")
     refused_at 'a bad digit' 6 'no hex digit at byte 5' 00112g "${rest[@]}"
-    refused_at 'a bad digit behind blanks' 6 'no hex digit at byte 3' $' 0\t-' "${rest[@]}"
-    refused_at 'odd digits' 6 'odd number of hex digits' '0 0 1' "${rest[@]}"
+    refused_at 'a bad digit behind blanks' 6 'no hex digit at byte 3' $' \t0-' "${rest[@]}"
+    refused_at 'a blank between digits' 6 'no hex digit at byte 4' $' \t01 23 ' "${rest[@]}"
+    refused_at 'a name and a key' 6 'no hex digit at byte 2' "17 $1" "${rest[@]}"
+    refused_at 'odd digits' 6 'odd number of hex digits' $' 001\t' "${rest[@]}"
     refused_at 'a line that is too long' 6 'too long' "$too_long" "${rest[@]}"
     [ -z "$3" ] || {
         refused_at 'no byte' 4 "$bad_length" '' "${rest[@]}"
@@ -190,6 +206,37 @@ going_on 'a digit first' 6 "g\n$wrong\n00" '\n\n\n' \
     "$(says 1 "$digit" 2 "$integrity" 3 "$bad_length")" "${unwraps[@]}"
 going_on 'nothing refused' 0 "$wrapped16\n" "$d16\n" '' "${unwraps[@]}"
 
+# What became of the lines, which --verbose says last.
+# counts NAME STATUS INPUT ANSWER LINES ARGUMENT..: the run ends so, into a file and with --quiet too.
+counts() {
+    # shellcheck disable=SC2059
+    printf "$3" >in
+    # shellcheck disable=SC2059
+    printf "$4" >answers
+    gives "counts $1" "$2" answers "$5" "${@:6}" --verbose <in
+    gives "counts $1, --quiet" "$2" answers "$5" "${@:6}" --verbose --quiet <in
+    fresh
+    gives "counts $1, into a file" "$2" nothing "$5" "${@:6}" --verbose -i in -o to/file
+}
+counts 'three lines' 0 "$d16\n$d16\n$d16\n" "$two$one" 'keywrap: 3 lines: 3 answered, 0 refused' "${wraps[@]}"
+counts 'one line' 0 "$d16" "$one" 'keywrap: 1 line: 1 answered, 0 refused' "${wraps[@]}"
+counts 'one that is passed' 6 'g' '\n' "keywrap: line 1: $digit
+keywrap: 1 line: 0 answered, 1 refused" "${wraps[@]}" --keep-going
+counts 'two of four that are passed' 5 "$wrong\n$wrapped16\n\n$wrapped16\n" "\n$d16\n\n$d16\n" \
+    "keywrap: line 1: $integrity
+keywrap: line 3: $bad_length
+keywrap: 4 lines: 2 answered, 2 refused" "${unwraps[@]}" --keep-going
+counts 'lines without a wrapping' 5 "$wrong\n$wrapped16\n" 'none\nplain 16\n' \
+    'keywrap: 2 lines: 2 answered, 0 refused' check --lines --kek kek16.hex
+# A run that stops has no such line, nor one whose answers are not written.
+printf '%s\n' $d16 00 >in
+printf '%s\n' $wrapped16 >answers
+gives 'a run that stops is not counted' 4 answers "keywrap: line 2: $bad_length
+  standard input: a plain key has 16 or more, a multiple of 8" "${wraps[@]}" --verbose <in
+echo $d16 >in
+to=/dev/full answers 'a full device is not counted' 6 '' "keywrap: output: refused after 0 bytes
+  standard output: No space left on device" "${wraps[@]}" --verbose <in
+
 # check writes `none` and goes on; its status is 5 then.
 checks=(check --lines --kek kek16.hex)
 printf '%s\n' "$wrong" '' $key7 $wrapped16 >in
@@ -232,6 +279,49 @@ fresh
 cp most.wrapped to/file
 lands 'rewrap in place' 0 most.wrapped to/file \
     rewrap --lines --kek kek16.hex --new-kek kek16.hex -i to/file -o to/file
+
+# The file of the input is no output where refused lines are passed: they stand there alone.
+printf '%s\n' $under24_16 $wrapped16 >both
+for way in to/file ./to/../to/file to/link to/name; do
+    for flags in '--kek kek24.hex --new-kek kek32.hex' '--kek kek16.hex --new-kek kek16.hex --keep-form'; do
+        fresh
+        cp both to/file
+        ln to/file to/link
+        ln -s file to/name
+        # shellcheck disable=SC2086
+        keeps "rewrap in place by $way, going on, $flags" 6 "$not_opened" \
+            rewrap --lines --keep-going $flags -i $way -o to/file
+        # shellcheck disable=SC2086
+        keeps "rewrap in place from standard input by $way, going on, $flags" 6 "$not_opened" \
+            rewrap --lines --keep-going $flags -o to/file <$way
+    done
+done
+for job in wrap unwrap check; do
+    keeps "$job in place, going on" 6 "$not_opened" $job --lines --keep-going --kek kek16.hex -i to/file -o to/file
+done
+keeps 'in place by /dev/stdin, going on' 6 "$not_opened" "${rewraps[@]}" --keep-going -i /dev/stdin -o to/file <to/file
+keeps 'in place, going on, says why' 6 "$not_opened
+  to/file: is the input, whose refused lines would be lost with --keep-going" \
+    "${rewraps[@]}" --keep-going --verbose -i to/file -o to/file
+{
+    "$program" "${rewraps[@]}" --keep-going -o to/file 2>err
+    status=$?
+    cat
+} <to/file >out
+ended 'in place, going on, reads nothing' 6 both "$not_opened"
+# Another file is one, a copy too; and the KEK file comes first.
+{ echo $under32_16 && echo; } >answers
+cp to/file to/copy
+going_into() { gives "going on into $1" 5 nothing "keywrap: line 2: $integrity" "${rewraps[@]}" --keep-going "${@:2}"; }
+going_into 'a copy' -i to/file -o to/copy
+row 'what is in it' cmp answers to/copy
+going_into 'a new file, from standard input' -o to/new <to/file
+row 'what is in that' cmp answers to/new
+going_into 'a file, from a pipe' -o to/new < <(cat to/file)
+gives 'going on to standard output' 5 answers "keywrap: line 2: $integrity" "${rewraps[@]}" --keep-going -i to/file
+cp kek24.hex to/kek
+keeps 'the KEK file as both, going on' 6 "$not_opened
+  to/kek is the KEK file" wrap --lines --keep-going --verbose --kek to/kek -i to/kek -o to/kek
 
 ### Outputs that are full or closed
 
@@ -344,9 +434,9 @@ in_turn() {
 }
 
 # fails_in_turn NAME KEY ANSWER ARGUMENT..: of 6 lines of a key each growth, and of 4,000 each read; the second line
-# has blanks.
+# has blanks at its ends.
 fails_in_turn() {
-    yes "$2" | head -n 4000 | sed '2s/../& /g' >most
+    yes "$2" | head -n 4000 | sed '2s/.*/ &\t/' >most
     yes "$3" | head -n 4000 >all
     head -n 6 most >in
     head -n 6 all >answers
@@ -400,21 +490,29 @@ if [ "$(script -qec 'echo here' /dev/null 2>&1 | tr -d '\r')" = here ]; then
     tail -n 1000 most.keys >part3
     sed -n 1001,3999p most.keys >part2
     progress='keywrap: [0-9]+ lines, [0-9]+ a second'
-    shows 'how far it is' 0 "$progress" '' '>out'
+    last='keywrap: 4999 lines: 4999 answered, 0 refused'
+    shows 'how far it is' 0 "$progress" "$last" '>out'
     verdict 'what it wrote then' "$(cmp out most.wrapped 2>&1)"
     shows 'nothing with --quiet' 0 '' '' '--quiet >out'
     shows 'nothing into a file' 0 '' '' '>out 2>err'
     verdict 'nothing is in it' "$(shown err | grep -vx "''")"
-    TERM_OF=dumb shows 'nothing on a dumb terminal' 0 '' '' '>out'
+    TERM_OF=dumb shows 'the last line alone on a dumb terminal' 0 '' "$last" '>out'
+    shows 'the last line alone where answers go into a pipe' 0 '' "$last" '| cat >out'
+    shows 'the last line with --quiet --verbose' 0 '' "$last" '--quiet --verbose >out'
     echo g >>part3
     refused="keywrap: line 5000: $digit"
     shows 'how far it is, and a refusal' 6 "$progress" "$refused" '>out'
     shows 'how far it is, into a file' 6 "$progress" "$refused" '--keep-going --output other'
+    verdict 'what became of the lines then' "$(tail -n 1 screen |
+        grep -vx 'keywrap: 5000 lines: 4999 answered, 1 refused')"
     # Both on the terminal: each answer stands whole.
     head -n 2 most.keys | tee part1 part2 >part3
     # shellcheck disable=SC2016
     on_terminal '{ for n in 1 2 3; do sleep 0.6; cat part$n; done; } | "$program" wrap --lines --kek kek16.hex'
     verdict 'answers to the terminal' "$(sed "s/.*\x1b\[K//" screen | cmp - <(head -n 6 most.wrapped) 2>&1)"
+    # shellcheck disable=SC2016
+    on_terminal 'cat part1 part2 | "$program" wrap --lines --kek kek16.hex --verbose'
+    verdict 'answers to the terminal, --verbose' "$(cmp screen <(head -n 4 most.wrapped) 2>&1)"
     # Two terminals: answers go to the inner one, and what is refused is said on the outer, which shows no more.
     echo g >>part3
     # shellcheck disable=SC2016
@@ -463,6 +561,31 @@ for ((at = 1; at <= 1000; at += 37)); do
     row "rewrap of key $at alone" one_key $at plain new.plain rewrap "${both[@]}"
     row "rewrap of key $at in either form alone" one_key $at mixed new.mixed rewrap --keep-form "${both[@]}"
 done
+
+# What is new passes. A line is a key's wrapping under the old KEK or the new one, in either form, or a damaged one;
+# beside it stands what is answered where the form is kept, or is the plain or the padded one of plain keys.
+paste -d ' ' plain padded new.plain <(sed -n '0~2p' new.mixed) | awk '{
+    damaged = substr($1, 1, length($1) - 1) (substr($1, length($1)) == "0" ? 1 : 0)
+    split($0 " " damaged, text)
+    n = NR % 5 + 1
+    print text[n] >"some"
+    print (n == 5 ? "" : n % 2 ? $3 : $4) >"passed.kept"
+    print (n == 1 || n == 3 ? $3 : "") >"passed.plain"
+    print (n == 1 || n == 4 ? $4 : "") >"passed.padded"
+}'
+# passes NAME ANSWERS COUNTS ARGUMENT..: the run over these lines goes on to the end, and counts them so.
+passes() {
+    local status problem=''
+    "$program" rewrap --lines --pass-new --keep-going --verbose "${both[@]}" "${@:4}" <some >out 2>err
+    status=$?
+    [ "$status $(tail -n 1 err)" = "5 keywrap: 1000 lines: $3" ] || problem="status $status, $(tail -n 1 err)"
+    verdict "$1" "$problem$(cmp out "$2" 2>&1)"
+    grep . "$2" >again
+    row "$1, twice" cmp again <("$program" rewrap --lines --pass-new "${both[@]}" "${@:4}" <again)
+}
+passes 'what is new passes, in its form' passed.kept '400 answered, 400 passed, 200 refused' --keep-form
+passes 'what is new and plain passes' passed.plain '200 answered, 200 passed, 600 refused'
+passes 'what is new and padded passes' passed.padded '200 answered, 200 passed, 600 refused' --new-padded
 
 cat >pyca.py <<'END_OF_PYTHON'
 from cryptography.hazmat.primitives.keywrap import aes_key_wrap as wrap, aes_key_wrap_with_padding as pad

@@ -11,6 +11,8 @@ set -u
 # shellcheck source=tests/lib/output.sh
 . "${BASH_SOURCE[0]%/*}/lib/output.sh"
 
+digits64=$kek
+
 ### The help
 
 # fits ARGUMENT..: no line of this help is longer than 80 characters.
@@ -39,6 +41,29 @@ tips 'the tip on help --help' "$asks_help" help --help
 tips 'the tip on help -h' "$asks_help" help -h
 tips 'the tip on check --padded' 'check looks at both forms, and says which one it found' check --kek kek16.hex --padded
 tips 'the tip on unwrap --new-kek' 'only rewrap takes --new-kek' unwrap --kek kek16.hex --new-kek kek32.hex
+# What others call it.
+key_tip='the KEK is --kek FILE, and the key or the wrapped key --input FILE'
+base64_tip='there is no such flag: base64 -d decodes it, and --raw takes the bytes'
+for command in wrap unwrap rewrap check; do
+    words=("$command" --kek kek16.hex)
+    tips "the tip on $command --in" 'the input is --input FILE, in short -i FILE' "${words[@]}" --in key.hex
+    tips "the tip on $command --out" 'the answer goes into --output FILE, in short -o FILE' "${words[@]}" --out file
+    tips "the tip on $command --old-kek" 'the KEK of the wrapped key is --kek FILE; rewrap takes --new-kek FILE too' \
+        "$command" --old-kek kek16.hex
+    tips "the tip on $command --old-padded" \
+        'of rewrap, --padded is the form of the wrapped key and --new-padded that of the new one' \
+        "${words[@]}" --old-padded
+    tips "the tip on $command --key" "$key_tip" "$command" --key kek16.hex
+    tips "the tip on $command -K" "$key_tip" "$command" -K "$kek"
+    tips "the tip on $command --hex" 'there is no such flag: without --raw and --raw-kek all is hex' "${words[@]}" --hex
+    tips "the tip on $command --b64" "$base64_tip" "${words[@]}" --b64
+    tips "the tip on $command --base64" "$base64_tip" "${words[@]}" --base64
+    tips "the tip on $command -v" '--verbose has no short name, and -V is the version' "${words[@]}" -v
+    tips "the tip on $command -q" '--quiet has no short name, and goes with --lines' "${words[@]}" -q
+    tips "the tip on $command -f" 'files are named by options: --kek FILE, --input FILE, --output FILE' \
+        "$command" -f kek16.hex
+done
+tips 'the tip on drill -v' 'drill takes one word of hex digits and no KEK; wrap takes --kek FILE' drill -v
 tips 'a usage in a word moves no tip' 'files are named by options: --kek FILE, --input FILE, --output FILE' \
     wrap --kek kek16.hex $'a\n\nUsage: keywrap'
 
@@ -264,7 +289,7 @@ else
     ran_to() { to=out ran "$@"; }
     ran_to "${takes[@]}"
     verdict 'the file is synced, renamed, and its folder synced' \
-        "$(printf 'fsync\nrename\nfsync\n' | diff - <(grep -vx statx met))"
+        "$(printf 'fsync\nrename\nfsync\n' | diff - <(grep -vx -e statx -e fchmod met))"
     fresh old
     export FAIL_CALL=fsync:2
     ran_to "${takes[@]}"
@@ -275,6 +300,27 @@ else
     ran_to "${takes[@]}"
     verdict 'a folder that can not be synced' "$(quiet 0 '')$(cmp to/file wrapped.hex 2>&1)"
     unset FAIL_CALL FAIL_ERRNO
+    # A mode that is right already is not set: some file systems refuse that.
+    export FAIL_CALL=fchmod FAIL_ERRNO=1
+    fresh old
+    chmod 600 to/file
+    ran_to "${takes[@]}"
+    verdict 'a mode that is right is not set' "$(quiet 0 '')$(is_new to/file wrapped.hex)"
+    chmod 640 to/file
+    keeps 'a mode that can not be set' 6 "$not_opened
+  to/file: owner, group or mode can't be kept: Operation not permitted" "${takes[@]}" --verbose
+    unset FAIL_CALL FAIL_ERRNO
+    # A file system without modes lets others read a new file.
+    export ONE_MODE=1
+    shared="$not_opened
+  to/file: owner, group or mode can't be kept: the file system has one for all"
+    fresh old
+    keeps 'a file without a mode of its own' 6 "$shared" "${takes[@]}" --verbose
+    keeps 'unwrap over it' 6 "$shared" "${unwraps[@]}" --verbose -o to/file
+    fresh
+    keeps 'a new file without a mode of its own' 6 "$shared" "${takes[@]}" --verbose
+    keeps 'unwrap into a new file without one' 6 "$shared" "${unwraps[@]}" --verbose -o to/file
+    unset ONE_MODE
     rm met
     keywrap=bounded
 fi
@@ -319,10 +365,25 @@ tells 'no new KEK file' 6 'new key file: cannot be opened' "missing: $no_file" r
 tells 'no input file' 6 'input: cannot be opened' "to/missing: $no_file" wrap --kek kek16.hex -i to/missing
 tells 'a name with control characters' 6 "$key_file" "a\\x1b[31m\\x0ab: $no_file" wrap --kek $'a\x1b[31m\nb'
 tells 'a name beyond ASCII' 6 "$key_file" "é: $no_file" wrap --kek é
+tells 'a name with characters that turn or break it' 6 "$key_file" \
+    "a\\u{202e}b\\u{2028}c\\u{200b}d\\u{feff}e\\u{2066}f: $no_file" \
+    wrap --kek $'a\u202eb\u2028c\u200bd\ufeffe\u2066f'
+# A KEK that was typed in the place of its file's name is not shown, whatever its case; one digit more is a name.
+for digits in 32 48 64; do
+    tells "$digits digits as KEK file" 6 "$key_file" \
+        "(the value of --kek is not shown: it looks like a KEK): $no_file" check --kek "${digits64:0:$digits}"
+    tells "$digits digits as new KEK file" 6 'new key file: cannot be opened' \
+        "(the value of --new-kek is not shown: it looks like a KEK): $no_file" \
+        rewrap --kek kek16.hex --new-kek "$(tr a-f A-F <<<"${digits64:0:$digits}")"
+    tells "$((digits + 1)) digits are a name" 6 "$key_file" "0${digits64:0:$digits}: $no_file" \
+        check --kek "0${digits64:0:$digits}"
+done
+tells 'a name of 32 characters' 6 "$key_file" "g${digits64:0:31}: $no_file" check --kek "g${digits64:0:31}"
 tells 'a folder as KEK file' 6 'key file: cannot be read' 'folder: Is a directory' wrap --kek folder
 tells 'a folder as input' 6 'input: cannot be read' 'folder: Is a directory' wrap --kek kek16.hex -i folder
 tells 'a KEK of 15 bytes' 3 "$kek_length" 'kek15.hex: 15 bytes of KEK' wrap --kek kek15.hex
-tells 'a raw KEK in hex' 3 "$kek_length" 'kek16.hex: 33 bytes of KEK' wrap --raw-kek --kek kek16.hex
+tells 'a raw KEK in hex' 3 "$kek_length" 'kek16.hex: 33 bytes of KEK; hex digits: try without --raw-kek' \
+    wrap --raw-kek --kek kek16.hex
 tells 'an empty KEK' 3 "$kek_length" '/dev/null: 0 bytes of KEK' check --kek /dev/null
 tells 'a KEK of one byte' 3 "$kek_length" 'one.hex: 1 byte of KEK' check --kek one.hex
 tells 'a new KEK of 15 bytes' 3 "$new_kek_length" 'kek15.hex: 15 bytes of KEK' rewrap --kek kek16.hex --new-kek kek15.hex
@@ -330,10 +391,23 @@ tells 'a raw KEK file' 6 'key file: no hex digit at byte 0' 'kek16.raw: not hex;
     wrap --kek kek16.raw
 tells 'an odd KEK' 6 'key file: odd number of hex digits' 'odd.hex: 3 hex digits' wrap --kek odd.hex
 tells 'a KEK file that is too long' 6 'key file: too long' 'long.hex: more than 4194304 bytes' wrap --kek long.hex
+# Text that is no hex is no raw bytes either.
+base64_for='not hex but characters of base64; if it is base64, decode it with base64 -d for'
 tells 'a bad digit in the new KEK' 6 'new key file: no hex digit at byte 1' \
-    'digit.hex: not hex; for raw bytes use --raw-kek' rewrap --kek kek16.hex --new-kek digit.hex
-tells 'a bad digit' 6 'input: no hex digit at byte 1' 'digit.hex: not hex; for raw bytes use --raw' \
-    wrap --kek kek16.hex -i digit.hex
+    "digit.hex: $base64_for --raw-kek" rewrap --kek kek16.hex --new-kek digit.hex
+tells 'a bad digit' 6 'input: no hex digit at byte 1' "digit.hex: $base64_for --raw" wrap --kek kek16.hex -i digit.hex
+tells 'a raw input' 6 'input: no hex digit at byte 0' 'key.raw: not hex; for raw bytes use --raw' \
+    wrap --kek kek16.hex -i key.raw
+echo '00:11:22' >colons
+tells 'a text that is neither' 6 'input: no hex digit at byte 2' 'colons: not hex but text' \
+    wrap --kek kek16.hex -i colons
+base64 kek16.raw >kek16.base64
+tells 'a KEK in base64' 6 'key file: no hex digit at byte 5' "kek16.base64: $base64_for --raw-kek" \
+    wrap --kek kek16.base64
+tells 'a KEK in base64, as raw' 3 "$kek_length" \
+    'kek16.base64: 25 bytes of KEK; characters of base64: decode it with base64 -d' wrap --raw-kek --kek kek16.base64
+tells 'no line' 4 'no lines' 'nothing: is empty' wrap --lines --kek kek16.hex -i nothing
+tells 'no line on standard input' 4 'no lines' 'standard input: is empty' check --lines --kek kek16.hex
 tells 'odd digits' 6 'input: odd number of hex digits' 'odd.hex: 3 hex digits' unwrap --kek kek16.hex -i odd.hex
 tells 'an input that is too long' 6 'input: too long' 'long.hex: more than 4194304 bytes' \
     wrap --kek kek16.hex -i long.hex
@@ -379,6 +453,15 @@ wrong 'rewrap of a wrong byte' 'wrong.hex: no wrapping in the plain form under t
     rewrap --kek kek16.hex --new-kek kek32.hex -i wrong.hex
 wrong 'another value' 'wrapped.hex: no wrapping under this KEK and --iv' \
     unwrap --iv "$iv" --kek kek16.hex -i wrapped.hex
+
+# The KEK of an unwrapping is text.
+printf %s "${digits64:0:32}" >kek.digits
+head -c -1 kek16.base64 >kek.base64
+under='wrapped.hex: no wrapping under this KEK, which is'
+wrong 'a KEK of hex digits, as raw' "$under hex digits read as raw bytes; try without --raw-kek" \
+    unwrap --raw-kek --kek kek.digits -i wrapped.hex
+wrong 'a KEK of base64, as raw' "$under characters of base64 read as raw bytes; decode it with base64 -d" \
+    unwrap --raw-kek --kek kek.base64 -i wrapped.hex
 
 # not_to FILE WHY [ARGUMENT..]: FILE is no output.
 not_to() { tells "no output: $1" 6 'output: cannot be opened' "$2" wrap --kek kek16.hex -i key.hex "${@:3}" -o "$1"; }
@@ -435,6 +518,67 @@ status=$?
 : >err
 verdict 'standard error closed' "$(quiet 3 '')"
 
+### Lines beside an answer
+
+# notes NAME STATUS LINES ARGUMENT..: the command answers as it does without --verbose, which adds LINES alone.
+notes() {
+    local status
+    to=answer ran "${@:4}" <"$stream"
+    verdict "$1, not --verbose" "$(quiet "$2" '')"
+    gives "$1" "$2" answer "${3:+keywrap: $3}" "${@:4}" --verbose <"$stream"
+}
+# in_hex FILE: the same bytes in hex.
+in_hex() { od -An -v -tx1 <"$1" | tr -d ' \n'; }
+is_hex='hex digits; without'
+is_base64='characters of base64; base64 -d decodes them'
+as_kek="are text, $is_hex --raw-kek they are read as hex"
+as_key="are text, $is_hex --raw they are read as hex"
+printf '%s' "${digits64:0:16}" >kek.short
+printf '%s\n' "${digits64:0:23}" >kek.line
+printf '%s\r\n' "${digits64:0:30}" >kek.crlf
+notes 'a raw KEK of 32 digits' 0 "kek.digits: its 32 bytes $as_kek" wrap --raw-kek --kek kek.digits -i key.hex
+in_hex kek.digits >kek.hex
+row 'it is that KEK' cmp answer <("$program" wrap --kek kek.hex -i key.hex)
+notes 'a raw KEK of 16 digits' 0 "kek.short: its 16 bytes $as_kek" wrap --raw-kek --kek kek.short -i key.hex
+notes 'a raw KEK of 23 digits and a line end' 0 "kek.line: its 24 bytes $as_kek" \
+    wrap --raw-kek --kek kek.line -i key.hex
+notes 'a raw KEK of 30 digits and CR LF' 0 "kek.crlf: its 32 bytes $as_kek" wrap --raw-kek --kek kek.crlf -i key.hex
+notes 'a raw KEK in base64' 0 "kek.base64: its 24 bytes are text, $is_base64" wrap --raw-kek --kek kek.base64 -i key.hex
+notes 'a new KEK of digits' 0 "kek.digits: its 32 bytes $as_kek" \
+    rewrap --raw-kek --kek kek16.raw --new-kek kek.digits -i wrapped.hex
+notes 'a check that finds none' 5 "kek.base64: its 24 bytes are text, $is_base64" \
+    check --raw-kek --kek kek.base64 -i wrapped.hex
+notes 'many keys under a KEK of digits' 0 "kek.digits: its 32 bytes $as_kek
+keywrap: 1 line: 1 answered, 0 refused" wrap --lines --raw-kek --kek kek.digits -i key.hex
+notes 'a raw key of 33 bytes' 0 "key.hex: its 33 bytes $as_key" wrap --padded --raw --kek kek16.hex -i key.hex
+stream=kek.digits
+notes 'a raw key of digits from standard input' 0 "standard input: its 32 bytes $as_key" wrap --raw --kek kek16.hex
+stream=/dev/null
+notes 'a raw key in base64' 0 "kek16.base64: its 25 bytes are text, $is_base64" \
+    wrap --padded --raw --kek kek16.hex -i kek16.base64
+notes 'a raw key and a KEK of digits' 0 "kek.short: its 16 bytes $as_kek
+keywrap: kek.digits: its 32 bytes $as_key" wrap --raw --raw-kek --kek kek.short -i kek.digits
+# What is no text, or in no doubt.
+printf 'correct horse ba' >kek.words
+printf '%s\0' "${digits64:0:15}" >kek.nul
+head -c 16 /dev/zero | tr '\0' '\n' >kek.ends
+for name in kek16.raw kek.words kek.nul kek.ends; do
+    notes "a raw KEK of $name" 0 '' wrap --raw-kek --kek $name -i key.hex
+    notes "a raw key of $name" 0 '' wrap --raw --kek kek16.hex -i $name
+done
+notes 'a KEK in hex' 0 '' wrap --kek kek.digits -i key.hex
+notes 'a raw wrapped key of text' 5 '' check --raw --kek kek16.hex -i kek.digits
+# A form that changes.
+plain='the new wrapping is plain; with --keep-form or --new-padded it is padded'
+same_kek=(rewrap --kek kek16.hex --new-kek kek16.hex -i)
+notes 'from padded to plain' 0 "$plain" "${same_kek[@]}" padded.hex --padded
+notes 'from padded to plain, in lines' 0 "$plain
+keywrap: 1 line: 1 answered, 0 refused" "${same_kek[@]}" padded.hex --padded --lines
+notes 'padded as before' 0 '' "${same_kek[@]}" padded.hex --padded --new-padded
+notes 'the form that is kept' 0 '' "${same_kek[@]}" padded.hex --keep-form
+notes 'from plain to plain' 0 '' "${same_kek[@]}" wrapped.hex
+notes 'from plain to padded' 0 '' "${same_kek[@]}" wrapped.hex --new-padded
+
 # Each allocation fails in turn: for the second line alone there may be no memory.
 if ! compiled fail_alloc; then
     skip 'the second line without memory' 'no C compiler' gcc
@@ -473,6 +617,10 @@ else
             $'keywrap: key file: cannot be opened\n  missing: No such file or directory'
         on_screen 'a refusal on a terminal, the output a file' '"$program" wrap --kek kek15.hex -i key.hex >out' \
             $'keywrap: key length is not 16, 24 or 32 bytes\n  kek15.hex: 15 bytes of KEK'
+        on_screen 'a raw KEK of digits on a terminal' '"$program" wrap --raw-kek --kek kek.digits -i key.hex >out' \
+            "keywrap: kek.digits: its 32 bytes $as_kek"
+        on_screen 'a KEK as its name on a terminal' "\"\$program\" wrap --kek ${digits64:0:32} </dev/null" \
+            $'keywrap: key file: cannot be opened\n  (the value of --kek is not shown: it looks like a KEK): '"$no_file"
         on_screen 'a refusal in a file' '"$program" wrap --kek missing </dev/null 2>err; cat err' \
             'keywrap: key file: cannot be opened'
     }

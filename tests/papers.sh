@@ -198,7 +198,7 @@ completes() {
     same "$shell: no --iv beside --padded" '' "$(offered "$shell" 'keywrap wrap --padded --i' | grep -- --iv)"
     same "$shell: no --padded beside --iv" '' "$(offered "$shell" 'keywrap unwrap --iv 00 --p')"
     same "$shell: no --raw beside --lines" --raw-kek "$(offered "$shell" 'keywrap wrap --lines --r')"
-    same "$shell: no --padded beside --keep-form" '' "$(offered "$shell" 'keywrap rewrap --keep-form --p')"
+    same "$shell: no --padded beside --keep-form" '' "$(offered "$shell" 'keywrap rewrap --keep-form --pad')"
     same "$shell: no --keep-form beside --new-padded" '' "$(offered "$shell" 'keywrap rewrap --new-padded --keep-f')"
     same "$shell: no --lines beside --raw" '' "$(offered "$shell" 'keywrap check --raw --l')"
     same "$shell: nothing for the HEX of drill" '' "$(offered "$shell" 'keywrap drill ' | grep -v '^-')"

@@ -50,7 +50,7 @@ sed -n '/SKIPPED/p; $p' "$room/row.log"
 sanitizer=$(gcc -print-file-name=libasan.so 2>/dev/null)
 if [ -f "$sanitizer" ]; then
     row 'hostile objects, under the address sanitizer' env PYTHONMALLOC=malloc ASAN_OPTIONS=detect_leaks=0 \
-        LD_PRELOAD="$sanitizer" "${tests[@]}" -k 'test_objects and not million and not thread'
+        LD_PRELOAD="$sanitizer" "${tests[@]}" -k 'test_objects and not many_calls and not thread'
 else
     skip 'hostile objects under the address sanitizer' 'no libasan (apt-get install gcc)'
 fi

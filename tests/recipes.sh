@@ -16,24 +16,8 @@ recipes=$root/docs/RECIPES.md
 mkdir bin
 ln -s "$launcher" bin/keywrap
 PATH=$PWD/bin:$PATH
-
-# serves: starts a PostgreSQL server in a folder of its own, which psql finds from here on. It refuses to run as root.
-serves() {
-    local bin user=()
-    bin=$(printf '%s\n' /usr/lib/postgresql/*/bin | sort -V | tail -n 1)
-    [ -x "$bin/initdb" ] && server=$(mktemp -d) || return
-    trap 'rm -rf "$room" "$server"' EXIT
-    if [ "$(id -u)" = 0 ]; then
-        user=(setpriv --reuid nobody --regid nogroup --clear-groups)
-        chown nobody "$server"
-    fi
-    export PGHOST=$server PGPORT=5432 PGUSER=keywrap PGDATABASE=postgres PSQLRC=/dev/null
-    "${user[@]}" env -C "$server" "$bin/initdb" -D data -U keywrap -A trust -N >initdb.log 2>&1 || return
-    timeout 600 "${user[@]}" env -C "$server" "$bin/postgres" -D data -k "$server" -c listen_addresses= -c fsync=off \
-        >server.log 2>&1 &
-    trap 'kill "'$!'" && wait; rm -rf "$room" "$server"' EXIT
-    until_true psql -qc '' 2>psql.log
-}
+# shellcheck source=tests/lib/postgres.sh
+. "$root/tests/lib/postgres.sh"
 
 # missing_tools SCRIPT: the tools that a recipe calls and this machine has not.
 missing_tools() {
@@ -67,8 +51,6 @@ follows() {
     verdict "the recipe '$1'" "$problem"
 }
 
-serving=no
-! serves || serving=yes
 # Of each section: its name, the lines that are typed, and those that come back.
 awk '/^## / { name = substr($0, 4); n++; print name >("name." n); printf "" >("script." n); printf "" >("answer." n) }
     n && sub(/^    (  )?/, "") { if (sub(/^[$>] /, "")) print >("script." n); else print >("answer." n) }' "$recipes"
@@ -77,6 +59,12 @@ for ((n = 1; ; n++)); do
     follows "$(<name.$n)" script.$n answer.$n
 done
 [ $n -gt 1 ] || verdict 'the recipes' "none in $recipes"
+# The list at the head: each recipe's name with its anchor, in their order.
+sed -n 's/^- \[\(.*\)\](#\(.*\))$/\1 \2/p' "$recipes" >listed
+for ((i = 1; i < n; i++)); do
+    echo "$(<name.$i) $(tr A-Z\  a-z- <name.$i | tr -cd 'a-z0-9-')"
+done >wanted
+verdict 'the list of the recipes' "$(diff listed wanted)"
 
 # The README's, up to its second heading, in one folder.
 sed -n '1,/^## /s/^    //p' "$root/README.md" >lines

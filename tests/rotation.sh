@@ -1,85 +1,248 @@
 #!/usr/bin/env bash
-# Rotates lines of wrapped keys by the README's line, and a folder of them by those that docs/RECIPES.md shows, as
-# they stand there: these stop at the first refusal, go on where they stopped, and change nothing else.
+# Runs each rotation of docs/RECIPES.md, as it stands there, while one of its steps goes wrong: it fails, is cut off, or
+# is killed after its work; the disk is full; another process has the table locked. Whatever goes wrong, the store holds
+# the old wrapped keys or the new ones, all of them, and the status is 0 only where these are the new ones. Begun again,
+# undisturbed, the rotation ends well. And the README's line.
 #
-# usage: tests/rotation.sh        (KEYWRAP=PATH tries another program, as an installed one)
+# usage: tests/rotation.sh [NAME..]        (KEYWRAP=PATH tries another program, as an installed one)
+#
+# NAME is the first word of a row below; without one they all run.
 
 set -u
+# In memory, where there is such a folder: each run syncs its files.
+[ ! -w /dev/shm ] || export TMPDIR=/dev/shm
 # shellcheck source=tests/lib/answers.sh
 . "${BASH_SOURCE[0]%/*}/lib/answers.sh"
-
 kek_files
-mkdir bin rotation rotation/wrapped
-ln -s "$launcher" bin/keywrap
+recipes=$root/docs/RECIPES.md
+mkdir bin faulty
+ln -s "$program" bin/keywrap
 PATH=$room/bin:$PATH
-# The lines of the recipe: the function that rotates, and one that looks at what it made.
-sed -n '/^## Rotate a folder/,/^## /s/^    [$>] //p' "$root/docs/RECIPES.md" >shown
-sed -n '/^rotate() (/,/^)$/p' shown >rotation/rotate
-echo rotate >>rotation/rotate
-grep '^for old in' shown >rotation/look
-row 'the recipe has a function that rotates' test "$(wc -l <rotation/rotate)" -ge 3
-row 'the recipe has a line that looks' test -s rotation/look
-cp kek16.hex rotation/kek.hex
-cp kek32.hex rotation/new-kek.hex
-echo $wrapped16 >'rotation/wrapped/1 a key'
-echo "0f${wrapped16#1f}" >'rotation/wrapped/2 damaged'
-echo $wrapped16 >'rotation/wrapped/3'
-(umask 077; echo $wrapped32 >rewrapped)
 
-# rotates NAME STATUS LINE FILE..: the lines end so, the old files stay as they are, and the new ones, but
-# for what a crash left, are FILEs, each right and of its owner alone.
-rotates() {
-    local problem='' file new
-    (cd rotation && cksum wrapped/* >../old.sums && sh rotate >../out 2>../err)
-    [ $? = "$2" ] || problem="another status than $2"
-    printf '%s' "${3:+$3
-}" | cmp -s - err || problem="$problem; error $(shown err)"
-    [ ! -s out ] || problem="$problem; output $(shown out)"
-    (cd rotation && cksum wrapped/*) | cmp -s - old.sums || problem="$problem; an old file is changed"
-    new=$(find rotation/rewrapped -type f ! -name '*.part0' -printf '%f\n' | LC_ALL=C sort)
-    [ "$new" = "$(printf '%s\n' "${@:4}")" ] || problem="$problem; files $new"
-    for file in "${@:4}"; do
-        cmp -s "rotation/rewrapped/$file" rewrapped || problem="$problem; $file is wrong"
-        [ "$(stat -c %a "rotation/rewrapped/$file")" = 600 ] || problem="$problem; $file is open to others"
-    done
-    verdict "$1" "$problem"
+# What stands for each tool: call $at of $tool goes wrong as $how says; a call is a line of $calls.
+cat >stand_in <<'END'
+#!/bin/bash
+name=${0##*/} all=$PATH
+PATH=${PATH#*:}
+echo "$name" >>"$calls"
+real=$(command -v "$name")
+runs() { PATH=$all "$real" "$@"; }
+# half FILE: its first half.
+half() { head -c $(($(stat -c %s "$1") / 2)) "$1"; }
+if [ "$name" = "$tool" ] && [ "$(grep -cx "$name" "$calls")" = "$at" ]; then
+    case $how in
+    fails) exit 1 ;;
+    'is cut off')
+        cat >"$calls.in"
+        half "$calls.in" | runs "$@" >"$calls.out"
+        half "$calls.out"
+        # What cp writes to is cut off too.
+        [ "$name" != cp ] || [ ! -f "${!#}" ] || { half "${!#}" >"$calls.out"; cat "$calls.out" >"${!#}"; }
+        ;;
+    'is killed late') runs "$@" ;;
+    meanwhile) eval "$meanwhile"; runs "$@"; exit ;;
+    esac
+    kill -KILL $$
+fi
+PATH=$all exec "$real" "$@"
+END
+chmod +x stand_in
+for name in keywrap psql sqlite3 jq parallel awk cat cmp cp cut grep mv paste rm sed sync wc; do
+    cp stand_in faulty/$name
+done
+
+# The keys of a store are of both forms.
+cat >both_forms <<'END'
+keywrap() {
+    [ "$1 $2" = 'wrap --lines' ] || { command keywrap "$@"; return; }
+    cat >keys
+    paste -d '\n' <(sed -n 'p;n' keys | command keywrap wrap --lines --kek kek.hex) \
+        <(sed -n 'n;p' keys | command keywrap wrap --lines --padded --kek kek.hex) >"${6:-/dev/stdout}"
 }
-mv rotation/new-kek.hex new-kek.hex
-rotates 'the rotation makes nothing without the new KEK' 6 'keywrap: new key file: cannot be opened
-stopped at wrapped/1 a key'
-mv new-kek.hex rotation/new-kek.hex
-rotates 'the rotation stops at a damaged key' 5 "keywrap: $integrity
-stopped at wrapped/2 damaged" '1 a key'
-touch -d '2020-01-01' 'rotation/rewrapped/1 a key'
-echo $wrapped16 >'rotation/wrapped/2 damaged'
-# As after a crash: half a wrapped key is there, in a file that is none of the new ones.
-echo ${wrapped32:0:20} >'rotation/rewrapped/2 damaged.part0'
-rotates 'the rotation goes on, once the key is mended' 0 '' '1 a key' '2 damaged' 3
-problem=''
-[ "$(stat -c %Y 'rotation/rewrapped/1 a key')" = "$(date -d 2020-01-01 +%s)" ] || problem='it was written again'
-verdict 'the rotation leaves a new file as it is' "$problem"
-problem=''
-[ "$(find rotation/rewrapped -name '*.part*')" = 'rotation/rewrapped/2 damaged.part0' ] ||
-    problem='other parts are there'
-[ "$(cat rotation/rewrapped/*.part0)" = ${wrapped32:0:20} ] || problem="$problem; it is changed"
-verdict 'the rotation leaves what a crash left, and no other part' "$problem"
-problem=''
-(cd rotation && sh look >../out 2>../err)
-printf 'plain 16\n%.0s' 1 2 3 | cmp -s - out || problem="output $(shown out)"
-echo ${wrapped32%e7}e8 >rotation/rewrapped/3
-mv 'rotation/rewrapped/1 a key' 1
-(cd rotation && sh look >../out 2>../err)
-printf 'wrapped/1 a key\nplain 16\nnone\nwrapped/3\n' | cmp -s - out || problem="$problem; output $(shown out)"
-mv 1 'rotation/rewrapped/1 a key'
-cp -p rewrapped rotation/rewrapped/3
-verdict 'each old file has a new one under the new KEK, or is named, by the line of the recipe' "$problem"
-rotates 'the rotation has nothing left to do' 0 '' '1 a key' '2 damaged' 3
+END
 
+# rotates [LIMIT]: runs the script in the folder `here`, and sets $status. No file gets longer than LIMIT kilobytes.
+export calls=$room/calls tool=none at=0 how=none meanwhile=
+rotates() {
+    (
+        cd here || exit
+        trap '' XFSZ
+        ulimit -f "${1:-unlimited}"
+        PATH=$room/faulty:$PATH timeout 60 bash rotate.sh >../out 2>../err
+    )
+    status=$?
+}
+
+# held: what the store holds, a wrapped key a line. restored: the store is as it was before.
+held() { (cd here && eval "$dump") | tr A-F a-f; }
+restored() {
+    rm -rf here calls
+    cp -a made here
+    [ "$name" != psql ] || psql -qc 'TRUNCATE keys; INSERT INTO keys TABLE saved'
+}
+
+# state: whether the store holds all old keys or all new ones; else what it begins with.
+state() {
+    held >now
+    if cmp -s now old; then
+        echo old
+    elif keywrap rewrap --lines --keep-form --kek made/new-kek.hex --new-kek made/kek.hex -i now 2>&1 |
+        cmp -s - old; then
+        echo new
+    else
+        echo "$(wc -l <now) lines, $(shown now)"
+    fi
+}
+
+# endures NAME [STATE]: the run that ended with $status left all old keys or all new ones (those of STATE), with status
+# 0 for the new ones alone; and another one makes them new.
+endures() {
+    local problem='' left
+    left=$(state)
+    [[ $left = "${2:-old}" || $left = "${2:-new}" ]] || problem="status $status, the store has $left"
+    [ $status != 0 ] || [ "$left" = new ] || problem="$problem; status 0, the store has $left"
+    tool=none rotates
+    [ "$(state)" = new ] || problem="$problem; begun again, status $status, the store has $(state)"
+    [ $status = 0 ] || [ "$left" = new ] || problem="$problem; begun again, status $status $(shown err)"
+    verdict "$name: $1" "$problem"
+}
+
+# goes_wrong [TOOL]: each call of each tool, or of this one, in turn; of more than 8, each fourth.
+goes_wrong() {
+    local tool at how count
+    sort calls | uniq -c | grep "$1" >steps
+    while read -r count tool <&3; do
+        for ((at = 1; at <= count; at += count > 8 ? 4 : 1)); do
+            for how in fails 'is cut off' 'is killed late'; do
+                [[ $how != *late || $tool =~ keywrap|psql|sqlite3|cp|mv ]] || continue
+                restored
+                rotates
+                endures "call $at of $tool $how"
+            done
+        done
+    done 3<steps
+}
+
+# disk_full: no file gets longer than so much, up to where nothing is refused.
+disk_full() {
+    local limit full=0
+    for ((limit = 0; limit < 4096; limit += limit / 2 + 1)); do
+        restored
+        rotates $limit
+        [ $status != 0 ] || break
+        full=$((full + 1))
+        endures "no room after $limit KB"
+    done
+    row "$name: room is short at all" test $full -gt 0 -a $limit -lt 4096
+}
+
+# locked STATEMENT CLIENT..: another process has the table locked by this statement.
+locked() {
+    restored
+    coproc "${@:2}" 2>&1
+    local other=$COPROC_PID
+    echo "$1; SELECT 'locked';" >&"${COPROC[1]}"
+    read -r _ <&"${COPROC[0]}"
+    sed -i "s/10000/100/; s/10s/100ms/" here/rotate.sh
+    rotates
+    row "$name: status where it is locked by $1" test $status != 0
+    eval "exec ${COPROC[1]}>&-"
+    wait "$other"
+    endures "locked by $1" old
+}
+
+# changed STATEMENT: another process changes the table of SQLite while the keys are rewrapped.
+changed() {
+    local tool=keywrap at=2 how=meanwhile meanwhile="sqlite3 keys.db \"$1\"" problem=''
+    restored
+    (cd here && eval "$meanwhile" && eval "$dump" | tr A-F a-f) >other
+    restored
+    rotates
+    [ $status != 0 ] || problem='status 0'
+    held | cmp -s - other || problem="$problem; the store is not as it was left"
+    verdict "$name: meanwhile $1" "$problem"
+}
+
+# rotation NAME RECIPE N DUMP [COMMAND]: the Nth run of the script in that recipe. DUMP writes the keys, and COMMAND
+# adds to the store.
+rotation() {
+    name=$1 dump=$4
+    rm -rf made
+    mkdir made
+    cp both_forms made/set_up
+    sed -n "/^## $2\$/,/^## /s/^    [\$>] //p" "$recipes" |
+        awk -v n="$3" '/^bash rotate.sh/ && !--n { exit } 1' | sed 's/320000\|64000/3200/' >>made/set_up
+    (cd made && bash -u set_up && eval "${5:-}") >set_up.out 2>&1 || verdict "$name: the store" "$(shown set_up.out)"
+    rm -rf here
+    cp -a made here
+    held >old
+    row "$name: the store has keys" test "$(wc -l <old)" -ge 5
+    restored
+    rotates
+    verdict "$name: undisturbed" "$([ "$status $(state)" = '0 new' ] || echo "status $status $(state) $(shown err)")"
+    cp calls first_calls
+    rotates
+    row "$name: again" test "$status $(state)" = "${again:-0} new"
+    cp first_calls calls
+    goes_wrong "${only:-}"
+    restored
+    rm here/new-kek.hex
+    rotates
+    cp made/new-kek.hex here
+    endures 'no new KEK' old
+    disk_full
+}
+
+# can NAME TOOL PACKAGE: whether the rotation NAME is to run, and its tool is here.
+can() { [[ -z $chosen || " $chosen " = *" $1 "* ]] && has "$2" "$3" "the rotation '$1'"; }
+
+chosen=$*
+! can lines keywrap '' || rotation lines 'Rotate many keys in one run' 2 'cat keys.hex'
+if can psql psql postgresql; then
+    # shellcheck source=tests/lib/postgres.sh
+    . "$root/tests/lib/postgres.sh"
+    if [ $serving = yes ]; then
+        rotation psql 'Rotate a table of PostgreSQL' 1 \
+            "psql -qAtc \"SELECT encode(key, 'hex') FROM keys ORDER BY id\"" \
+            'psql -qc "CREATE TABLE saved AS TABLE keys"'
+        locked 'BEGIN; LOCK TABLE keys IN SHARE MODE' psql -qAt
+    else
+        skip "the rotation 'psql'" 'no PostgreSQL server' postgresql
+    fi
+fi
+if can sqlite3 sqlite3 sqlite3; then
+    rotation sqlite3 'Rotate a table of SQLite' 1 "sqlite3 keys.db 'SELECT hex(key) FROM keys ORDER BY id'"
+    locked 'BEGIN IMMEDIATE' sqlite3 here/keys.db
+    locked 'BEGIN EXCLUSIVE' sqlite3 here/keys.db
+    changed 'UPDATE keys SET key = zeroblob(40) WHERE id = 2'
+    changed 'INSERT INTO keys (key) VALUES (zeroblob(40))'
+    changed 'DELETE FROM keys WHERE id = 2'
+fi
+! can json jq jq || rotation json 'Rotate keys in JSON and CSV' 1 \
+    "jq -r '.[] | select(.owner == \"someone\").key' keys.json"
+! can csv jq jq || only="awk" rotation csv 'Rotate keys in JSON and CSV' 2 \
+    "sed -n 's/^[0-9]*,\(.*\),someone\$/\1/p' keys.csv"
+! can parallel parallel parallel || only='parallel\|keywrap' rotation parallel 'On more than one processor' 1 \
+    'cat keys.hex'
+# shellcheck disable=SC2016
+# The old folder stays as it is. A key may stand on more than one line, and a name begin with a dot.
+! can folder keywrap '' || again=1 rotation folder 'Rotate a folder of wrapped keys' 2 '
+    diff -r wrapped ../made/wrapped
+    cd rewrapped 2>&- || cd wrapped
+    find . -type f ! -perm 640 -printf "%m %p\n"
+    for file in "./4 a key" ./.5 1 2 3; do tr -d "[:space:]" <"$file"; echo; done' '
+    echo '$padded16' >"wrapped/4 a key"
+    fold -w 20 <<<'$wrapped16' >wrapped/.5
+    chmod 640 wrapped/* wrapped/.5'
+
+# The README's line, over both forms; the padded one under kek32 as OpenSSL wraps it.
 mkdir lines
-cp rotation/kek.hex rotation/new-kek.hex lines
-printf '%s\n' $wrapped16 $wrapped16 >lines/wrapped.hex
+cp kek16.hex lines/kek.hex
+cp kek32.hex lines/new-kek.hex
+printf '%s\n' $wrapped16 $padded16 >lines/wrapped.hex
 sed -n '/^## Rotating/,/^## From/s/^    //p' "$root/README.md" >lines/rotate
 row "the README's line" env -C lines sh ./rotate
-row "what it wrote" diff lines/rewrapped.hex <(printf '%s\n' $wrapped32 $wrapped32)
+row "what it wrote" diff lines/rewrapped.hex \
+    <(printf '%s\n' $wrapped32 afc860015ffe2d75bedf43c444fe58f4ad9d89c4ec71e23b)
 
 finish

@@ -6,7 +6,7 @@
 # A part whose tool is not there is skipped, with a line that says what to install.
 #
 # usage: tests/secrets.sh [LENGTHS]        keys of up to 1024 bytes, if not said.
-# KEYWRAP_ARCHIVES='PATH ..' tries the last of these, which was built before.
+# KEYWRAP_ARCHIVES='PATH ..' tries the last of these, which was built before; with TARGET it is one of that machine.
 
 set -u
 longest=${1:-1024}
@@ -40,7 +40,7 @@ skip() {
     finish
 }
 
-cc=${CC:-cc}
+. "$root/tests/library/machine.sh"
 command -v "$cc" >/dev/null || skip "no C compiler" gcc
 archive=${KEYWRAP_ARCHIVES:-$root/crates/keywrap_c/out/libkeywrap_c.a}
 archive=${archive##* }
@@ -61,7 +61,7 @@ leaves() {
 
 # What SECURITY.md says of them. The loader's own work would stand there too, but for -z now.
 row 'the stack: compiles' "$cc" "${options[@]}" "$root/tests/secrets/stack.c" "$archive" -Wl,-z,now -o stack
-row 'the stack: runs' ./stack
+row 'the stack: runs' "${runs[@]}" ./stack
 cp row.log left
 row 'the stack: the copies of half a secret' leaves copies 0 0
 row 'the stack: the bytes that depend on the KEK' leaves kek 0 8
@@ -70,14 +70,14 @@ row 'the stack: the bytes that depend on the key' leaves key 1 8
 
 ### Branches and addresses
 
-command -v valgrind >/dev/null || skip 'memcheck: no valgrind' valgrind
+command -v "${memcheck[-1]}" >/dev/null || skip 'memcheck: no valgrind' valgrind
 printf '#include <valgrind/memcheck.h>\n' | "$cc" -fsyntax-only -x c - 2>/dev/null ||
     skip 'memcheck: no valgrind/memcheck.h' valgrind
 row 'compiles' "$cc" "${options[@]}" "$root/tests/secrets/secrets.c" "$root/bench/one_table.c" "$archive" -o secrets
 
 # reports FILE LENGTHS OPTION..: runs the calls, and writes a line for each with its reports.
 reports() {
-    valgrind -q --error-limit=no --log-file=valgrind.log "${@:3}" ./secrets "$2" >"$1"
+    "${memcheck[@]}" -q --error-limit=no --log-file=valgrind.log "${@:3}" ./secrets "$2" >"$1"
 }
 
 # finds FILE PATTERN TEST NUMBER: there are such calls, and the reports of each pass the test.

@@ -150,6 +150,24 @@ waits 'wrapped keys in lines from a terminal' 0 "$d16\n" "${waiting_wrapped}s $i
 waits 'nothing from a terminal' 4 '' "$waiting ${in_hex}keywrap: $bad_length\n" '\004' wrap --kek kek16.hex
 waits 'a KEK of 15 bytes, which is read after that' 3 '' "$waiting ${in_hex}keywrap: $kek_length\n" '\004' \
     wrap --kek kek15.hex
+waits 'the input by its name from a terminal' 0 "$wrapped16\n" "$waiting $in_hex" "$d16\n\004" \
+    wrap --kek kek16.hex -i /dev/stdin
+# A KEK that is typed is asked for as one, with a file as input too.
+waiting_kek="keywrap: waiting for the KEK $in_hex"
+typed_kek="$(<kek16.hex)\n\004"
+for name in /dev/stdin /dev/fd/0 /proc/self/fd/0; do
+    waits "the KEK from $name, a terminal" 0 "$wrapped16\n" "$waiting_kek" "$typed_kek" wrap --kek $name -i key.hex
+done
+waits 'the new KEK from a terminal' 0 "$wrapped16\n" "keywrap: waiting for the new KEK $in_hex" "$typed_kek" \
+    rewrap --kek kek16.hex --new-kek /dev/stdin -i wrapped.hex
+waits 'the KEK in lines from a terminal' 0 "$wrapped16\n" "$waiting_kek" "$typed_kek" \
+    wrap --lines --kek /dev/stdin -i key.hex
+waits 'a raw KEK from a terminal' 3 '' "keywrap: waiting for the KEK ${in_raw}keywrap: $kek_length\n" 'none\n\004' \
+    wrap --raw-kek --kek /dev/stdin -i key.hex
+waits 'a raw new KEK from a terminal' 3 '' "keywrap: waiting for the new KEK ${in_raw}keywrap: $new_kek_length\n" \
+    'none\n\004' rewrap --raw-kek --kek kek16.raw --new-kek /dev/stdin -i wrapped.hex
+waits 'the KEK and then the key from a terminal' 3 '' "$waiting_kek$waiting ${in_hex}keywrap: $kek_length\n" '\004' \
+    wrap --kek /dev/stdin
 # With standard output and standard error closed the file of --output has the descriptor of standard error.
 # shellcheck disable=SC2016
 ahead=yes on_terminal '"$program" wrap --kek kek16.hex --output file >&- 2>&-' "$d16\n\004"

@@ -4,6 +4,7 @@ file under the address sanitizer too."""
 import array
 import gc
 import mmap
+import os
 import sys
 import threading
 
@@ -246,7 +247,8 @@ def resident():
         return int(file.read().split()[1]) * mmap.PAGESIZE
 
 
-def test_a_million_calls_take_no_memory():
+def test_many_calls_take_no_memory():
+    """A million, or as many as KEYWRAP_CALLS says."""
     padded, damaged, view = keywrap.wrap_padded(KEK, b"seven.."), bytes(24), memoryview(WRAPPED)
 
     def calls(count):
@@ -262,6 +264,6 @@ def test_a_million_calls_take_no_memory():
     calls(10_000)
     gc.collect()
     before = resident()
-    calls(250_000)
+    calls(int(os.environ.get("KEYWRAP_CALLS", 1_000_000)) // 4)
     gc.collect()
     assert resident() - before < 1 << 20

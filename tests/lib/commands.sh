@@ -86,6 +86,8 @@ jobs() {
         rewrap --keep-form --kek kek16.hex --new-kek kek32.hex
     "$1" 'padded rewrap in the form it has' 0 padded7.hex '' wrapped7.hex \
         rewrap --keep-form --kek kek5649.hex --new-kek kek16.hex
+    "$1" 'rewrap of what is new already' 0 wrapped32.hex '' wrapped32.hex \
+        rewrap --pass-new --kek kek16.hex --new-kek kek32.hex
     "$1" 'check of a wrong byte' 5 none '' wrong.hex check --kek kek16.hex
 }
 

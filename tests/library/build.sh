@@ -1,10 +1,18 @@
 #!/usr/bin/env bash
-# Builds the C library by both of the toolchain's compilers, as the archives rattle.a and llvm.a of a folder.
+# Builds the C library by both of the toolchain's compilers, as the archives rattle.a and llvm.a of a folder; and the
+# library for aarch64 as its folder arm64, where that is asked for and can be.
 #
-# usage: tests/library/build.sh FOLDER
+# usage: tests/library/build.sh FOLDER [arm64]
 
-# The second build is LLVM's, so that it is what stays in the crate's folder.
+# of_arm FOLDER: tests/arm64.sh says why where this does not end well.
+of_arm() {
+    command -v aarch64-linux-gnu-gcc || return 0
+    make -s -C ../.. library TARGET=aarch64-unknown-linux-gnu LIBRARY="$1" || rm -rf "$1"
+}
+
+# The last build is LLVM's, so that it is what stays in the crate's folder.
 jobs=$(nproc) && [ "$jobs" -le 4 ] || jobs=4
 cd "$(dirname "${BASH_SOURCE[0]}")/../../crates/keywrap_c" &&
     rt lib --jobs "$jobs" --backend rattle && cp out/libkeywrap_c.a "$1/rattle.a" &&
+    { [ "${2:-}" != arm64 ] || of_arm "$1/arm64"; } &&
     rt lib --jobs "$jobs" && cp out/libkeywrap_c.a "$1/llvm.a"

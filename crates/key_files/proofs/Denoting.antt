@@ -3,11 +3,11 @@ use Rattle.std.proofs.Common.{◌≡◌, ◌≢◌, ◌<◌, ◌≤◌, ◌%◌,
 use Rattle.std.specs.Prelude.{IsErrAnd}
 use Rattle.std.proofs.lemmas.Bool.Decides.{nat_tests}
 use Rattle.key_files.specs.declared.fault.FileFault.{FileFault}
-use Rattle.key_files.specs.declared.fault.FileFault.TheVariants.{Read, TooLong, BadDigit, OddDigits, Memory}
+use Rattle.key_files.specs.declared.fault.FileFault.TheVariants.{TooLong, BadDigit, OddDigits, Memory}
 use Rattle.std.specs.declared.vec.Vec.{Vec}
 use Rattle.key_files.specs.Decoding.{DecodesHex}
-use Rattle.key_files.specs.Meaning.{file_meaning, hex_meaning, digits_meaning}
-use Rattle.key_files.specs.HexText.{first_bad, digits_of, paired}
+use Rattle.key_files.specs.Meaning.{file_meaning, hex_meaning, digit_text_meaning, digits_meaning}
+use Rattle.key_files.specs.HexText.{first_bad, first_no_digit, digits_of, paired}
 
 -- a file within the limit denotes what its bytes do
 pub file_meaning-within : (meaning : List ℕ → Result (List ℕ) FileFault) (limit : ℕ) (file : List ℕ) → length file ≤ limit
@@ -36,6 +36,19 @@ pub hex_meaning-even : (text : List ℕ) → first_bad text ≡ None → length 
 unfolding hex_meaning
 hex_meaning-even text h even = rw h (grind (arith, nat_tests))
 
+-- the same of a text of digits alone
+pub digit_text_meaning-bad : (text : List ℕ) (at : ℕ) → first_no_digit text ≡ Some at → digit_text_meaning text ≡ Err (BadDigit at)
+unfolding digit_text_meaning
+digit_text_meaning-bad text at h = rw h
+
+pub digit_text_meaning-odd : (text : List ℕ) → first_no_digit text ≡ None → length text % 2 ≡ 1 → digit_text_meaning text ≡ Err OddDigits
+unfolding digit_text_meaning
+digit_text_meaning-odd text h odd = rw (h, odd)
+
+pub digit_text_meaning-even : (text : List ℕ) → first_no_digit text ≡ None → length text % 2 ≢ 1 → digit_text_meaning text ≡ Ok (paired text)
+unfolding digit_text_meaning
+digit_text_meaning-even text h even = rw h (grind (arith, nat_tests))
+
 -- a text is never too long
 digits_meaning-never_long : (bad : Option ℕ) (digits : List ℕ) → digits_meaning bad digits ≢ Err TooLong
 digits_meaning-never_long (Some at) digits h = cc h
@@ -44,15 +57,6 @@ digits_meaning-never_long None digits h = grind (arith, nat_tests)
 pub hex_meaning-never_long : (text : List ℕ) → hex_meaning text ≢ Err TooLong
 unfolding hex_meaning
 hex_meaning-never_long text h = digits_meaning-never_long (first_bad text) (digits_of text) h
-
--- nor is it one that cannot be read
-digits_meaning-never_read : (bad : Option ℕ) (digits : List ℕ) → digits_meaning bad digits ≢ Err Read
-digits_meaning-never_read (Some at) digits h = cc h
-digits_meaning-never_read None digits h = grind (arith, nat_tests)
-
-pub hex_meaning-never_read : (text : List ℕ) → hex_meaning text ≢ Err Read
-unfolding hex_meaning
-hex_meaning-never_read text h = digits_meaning-never_read (first_bad text) (digits_of text) h
 
 -- no first bad byte was found
 pub none_from : (found : Option ℕ) → ((at : ℕ) → found ≢ Some at) → found ≡ None

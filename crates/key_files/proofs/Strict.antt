@@ -1,5 +1,5 @@
 -- A text that `hex` decodes is digits alone, and denotes what is decoded.
-use Rattle.std.proofs.Common.{◌≡◌, ◌≢◌, ℕ, ◌+◌, ◌%◌, ◌<◌, ◌||◌, not, Bool, true, false, cond, List, [], ◌∷◌, length, nat_lt, Option, Some, None, Result, Ok, Err, arith, refl, sym, ap, ◌∙◌, subst}
+use Rattle.std.proofs.Common.{◌≡◌, ℕ, ◌+◌, ◌%◌, ◌<◌, not, Bool, true, false, cond, List, [], ◌∷◌, length, nat_lt, Option, Some, None, Result, Ok, Err, arith, refl, sym, ap, ◌∙◌, subst}
 use Rattle.std.specs.Prelude.{MatchResult, is_ok}
 use Rattle.std.specs.List.{position_from}
 use Rattle.std.proofs.lemmas.Bool.Decides.{nat_tests}
@@ -7,9 +7,9 @@ use Rattle.std.proofs.lemmas.Iterator.Adapters.{position_from-zero}
 use Rattle.hex.specs.Hex.{decode_pairs, decode_sized, digit_or_error, hex_digit_value, pair_value, value_at}
 use Rattle.hex.specs.declared.error.FromHexError.{FromHexError}
 use Rattle.hex.specs.declared.error.FromHexError.TheVariants.{OddLength, InvalidStringLength}
-use Rattle.key_files.specs.HexText.{digits_of, first_bad, is_hex_digit, is_skipped, paired}
-use Rattle.key_files.specs.Meaning.{digits_meaning, hex_meaning}
-use Rattle.key_files.proofs.Denoting.{hex_meaning-even}
+use Rattle.key_files.specs.HexText.{first_no_digit, is_hex_digit}
+use Rattle.key_files.specs.Meaning.{digit_text_meaning}
+use Rattle.key_files.proofs.Denoting.{digit_text_meaning-even}
 use Rattle.key_files.proofs.Pairs.{bind_ok, decode_pairs-paired, hex_digit_value-ok}
 
 hex_digit_value-below : (c value : ℕ) → hex_digit_value c ≡ Some value → value < 16
@@ -25,14 +25,11 @@ digit_read c i value None h e = cc e
 is_digit-read : (c i value : ℕ) → value_at c i ≡ Ok value → is_hex_digit c ≡ true
 is_digit-read c i value h = digit_read c i value (hex_digit_value c) refl h
 
-is_allowed-digit : (c : ℕ) → is_hex_digit c ≡ true → not (is_hex_digit c || is_skipped c) ≡ false
-is_allowed-digit c h = rw h refl
-
--- no byte of it is bad, each is a digit, and there are two for each byte that is decoded
+-- each byte is a digit, and there are two for each byte that is decoded
 digits_alone : (i j : ℕ) (text bytes : List ℕ) → decode_pairs i text ≡ Ok bytes
-    → (position_from (λ c. not (is_hex_digit c || is_skipped c)) j text ≡ None) × (digits_of text ≡ text) × (length text % 2 ≡ 0)
+    → (position_from (λ c. not (is_hex_digit c)) j text ≡ None) × (length text % 2 ≡ 0)
 unfolding decode_pairs
-digits_alone i j [] bytes h = (refl, refl, refl)
+digits_alone i j [] bytes h = (refl, refl)
 digits_alone i j (digit ∷ []) bytes h = cc h
 digits_alone i j (high ∷ low ∷ rest) bytes h =
     let pair = bind_ok (pair_value high low i) _ bytes h in
@@ -41,18 +38,13 @@ digits_alone i j (high ∷ low ∷ rest) bytes h =
     let others = bind_ok (decode_pairs (i + 2) rest) _ bytes pair.2 in
     let left = is_digit-read high i first.0 first.1 in
     let right = is_digit-read low (i + 1) second.0 second.1 in
-    let more = digits_alone (i + 2) (j + 1 + 1) rest others.0 others.1 in (
-      rw (is_allowed-digit high left, is_allowed-digit low right) more.0,
-      rw (left, right, more.1) refl,
-      omega (arith, more.2),
-    )
+    let more = digits_alone (i + 2) (j + 1 + 1) rest others.0 others.1 in (rw (left, right) more.0, omega (arith, more.1))
 
-decoded-meaning : (text bytes : List ℕ) → decode_pairs 0 text ≡ Ok bytes → hex_meaning text ≡ Ok bytes
+decoded-meaning : (text bytes : List ℕ) → decode_pairs 0 text ≡ Ok bytes → digit_text_meaning text ≡ Ok bytes
 decoded-meaning text bytes h =
     let alone = digits_alone 0 0 text bytes h in
-    let none : first_bad text ≡ None = position_from-zero _ text ∙ alone.0 in
-    let even : length (digits_of text) % 2 ≢ 1 = rw alone.1 (omega (arith, alone.2)) in
-    hex_meaning-even text none even ∙ ap Ok (ap paired alone.1 ∙ sym (decode_pairs-paired 0 text bytes h))
+    let none : first_no_digit text ≡ None = position_from-zero _ text ∙ alone.0 in
+    digit_text_meaning-even text none (omega (arith, alone.1)) ∙ ap Ok (sym (decode_pairs-paired 0 text bytes h))
 
 sized : (odd fits : Bool) (pairs : Result (List ℕ) FromHexError) (bytes : List ℕ)
     → cond odd (Err OddLength) (cond fits pairs (Err InvalidStringLength)) ≡ Ok bytes → pairs ≡ Ok bytes
@@ -63,31 +55,10 @@ sized false false pairs bytes h = cc h
 -- where it was decoded into room for its bytes
 pub sized-meaning : (text : List ℕ) (n : ℕ) (out : List ℕ) (answer : Result Unit FromHexError)
     → MatchResult (decode_sized text n) (λ bytes. (answer ≡ Ok tt) × (out ≡ bytes)) (λ e. answer ≡ Err e)
-    → is_ok answer ≡ true → hex_meaning text ≡ Ok out
+    → is_ok answer ≡ true → digit_text_meaning text ≡ Ok out
 sized-meaning text n out answer m ok = at (decode_sized text n) refl m
   where
     at : (d : Result (List ℕ) FromHexError) → decode_sized text n ≡ d
-        → MatchResult d (λ bytes. (answer ≡ Ok tt) × (out ≡ bytes)) (λ e. answer ≡ Err e) → hex_meaning text ≡ Ok out
+        → MatchResult d (λ bytes. (answer ≡ Ok tt) × (out ≡ bytes)) (λ e. answer ≡ Err e) → digit_text_meaning text ≡ Ok out
     at (Ok bytes) is found = decoded-meaning text bytes (sized _ _ (decode_pairs 0 text) bytes is) ∙ ap Ok (sym found.1)
     at (Err e) is refused = cc (subst (λ (r : Result Unit FromHexError). is_ok r ≡ true) refused ok)
-
--- digits are their own digits
-kept_again : (x : ℕ) (xs : List ℕ) (b : Bool) → is_hex_digit x ≡ b → digits_of xs ≡ xs → digits_of (cond b (x ∷ xs) xs) ≡ cond b (x ∷ xs) xs
-kept_again x xs true is same = rw is (ap (λ ys. x ∷ ys) same)
-kept_again x xs false is same = same
-
-all_digits : (xs : List ℕ) → digits_of (digits_of xs) ≡ digits_of xs
-all_digits [] = refl
-all_digits (x ∷ xs) = kept_again x (digits_of xs) (is_hex_digit x) refl (all_digits xs)
-
-digits_denote : (found : Option ℕ) (digits bytes : List ℕ) → digits_meaning found digits ≡ Ok bytes → digits_meaning None digits ≡ Ok bytes
-digits_denote (Some at) digits bytes h = cc h
-digits_denote None digits bytes h = h
-
--- a text without a bad byte denotes what its digits do
-pub spaced-meaning : (text digits bytes : List ℕ) → first_bad text ≡ None → digits ≡ digits_of text → hex_meaning digits ≡ Ok bytes
-    → hex_meaning text ≡ Ok bytes
-unfolding hex_meaning
-spaced-meaning text digits bytes none same h =
-    let own : digits_of digits ≡ digits_of text = ap (λ ys. digits_of ys) same ∙ all_digits text in
-    rw none (digits_denote (first_bad digits) (digits_of text) bytes (rw own at h))

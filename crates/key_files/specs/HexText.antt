@@ -15,6 +15,10 @@ is_skipped c = (c == 32 || c == 9) || (c == 13 || c == 10)
 abbrev pub first_bad : List ℕ → Option ℕ
 first_bad text = position (λ c. not (is_hex_digit c || is_skipped c)) text
 
+-- the offset of the first byte that is no digit
+abbrev pub first_no_digit : List ℕ → Option ℕ
+first_no_digit text = position (λ c. not (is_hex_digit c)) text
+
 -- the digits of the text, in order
 abbrev pub digits_of : List ℕ → List ℕ
 digits_of text = filter is_hex_digit text

@@ -2,7 +2,7 @@
 use Rattle.std.specs.Prelude.{ℕ, ◌%◌, ◌==◌, nat_lt, List, length, Option, Some, None, Result, Ok, Err, if◌then◌else◌}
 use Rattle.key_files.specs.declared.fault.FileFault.{FileFault}
 use Rattle.key_files.specs.declared.fault.FileFault.TheVariants.{TooLong, BadDigit, OddDigits}
-use Rattle.key_files.specs.HexText.{first_bad, digits_of, paired}
+use Rattle.key_files.specs.HexText.{first_bad, first_no_digit, digits_of, paired}
 
 -- a raw file denotes its bytes
 abbrev pub raw_meaning : List ℕ → Result (List ℕ) FileFault
@@ -16,6 +16,10 @@ digits_meaning None digits = if length digits % 2 == 1 then Err OddDigits else O
 -- a hex text denotes the bytes that its digits spell: it has no bad byte, and an even number of digits
 unfoldable pub hex_meaning : List ℕ → Result (List ℕ) FileFault
 hex_meaning text = digits_meaning (first_bad text) (digits_of text)
+
+-- the same of a text in which nothing stands but digits
+unfoldable pub digit_text_meaning : List ℕ → Result (List ℕ) FileFault
+digit_text_meaning text = digits_meaning (first_no_digit text) text
 
 -- what a file denotes in a notation, where it may have `limit` bytes
 unfoldable pub file_meaning : (List ℕ → Result (List ℕ) FileFault) → ℕ → List ℕ → Result (List ℕ) FileFault

@@ -16,8 +16,8 @@ pub enum FileFault {
     /// The file has more bytes than the limit.
     #[error("too long")]
     TooLong,
-    /// The byte at offset `at`, counted from 0 over all bytes, is the first that is neither a hex
-    /// digit nor a space, tab, CR or LF.
+    /// The byte at offset `at`, counted from 0 over all bytes, is the first that is no hex digit,
+    /// nor a space, tab, CR or LF that may stand there.
     #[error("no hex digit at byte {at}")]
     BadDigit { at: usize },
     /// The number of hex digits is odd.

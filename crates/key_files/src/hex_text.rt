@@ -1,9 +1,10 @@
 //! The hex notation.
 
-ghost use Rattle.std.specs.Prelude.{◌≡◌, ◌≢◌, ◌↔◌, length, IsOk, IfOk, OnOk, Err, Ok, true};
-ghost use Rattle.key_files.specs.Decoding.{DecodesHex};
-ghost use Rattle.key_files.specs.HexText.{digits_of, first_bad, is_skipped, paired};
-ghost use Rattle.key_files.specs.Meaning.{hex_meaning};
+ghost use Rattle.std.specs.Prelude.{◌≡◌, ◌≢◌, ◌↔◌, length, IsOk, IfOk, Err, Ok, true};
+ghost use Rattle.key_files.specs.Decoding.{Decodes, DecodesHex};
+ghost use Rattle.key_files.specs.HexText.{digits_of, first_bad, first_no_digit, is_hex_digit};
+ghost use Rattle.key_files.specs.HexText.{is_skipped, paired};
+ghost use Rattle.key_files.specs.Meaning.{digit_text_meaning, hex_meaning};
 ghost use Rattle.key_files.specs.declared.fault.FileFault.{FileFault};
 
 use crate::fault::FileFault;
@@ -23,51 +24,26 @@ pub fn decode_hex(alloc: Global, text: &[u8]) -> Result<Vec<u8>, FileFault>
     decode_hex_in(alloc, text)
 }
 
-/// [`decode_hex`] into `bytes`, whatever stood there: a text of digits alone, as most are, is decoded
-/// in the room that `bytes` has.
-pub fn decode_hex_into(alloc: Global, text: &[u8], bytes: &mut Vec<u8>) -> Result<(), FileFault>
-    ensures bytes { OnOk result (hex_meaning text.now ≡ Ok bytes.new.items) }
-    ensures refused { (fault : FileFault) → fault ≢ FileFault.Memory
-        → (result ≡ Err fault) ↔ (hex_meaning text.now ≡ Err fault) }
-    ensures memory { result ≡ Err FileFault.Memory → IsOk (hex_meaning text.now) }
-    // Only BadDigit, OddDigits and Memory are answered.
-    ensures readable { result ≢ Err FileFault.Read }
-    ensures short { result ≢ Err FileFault.TooLong }
+/// The bytes that a text of digits alone denotes, in `bytes`, whatever stood there: they are
+/// decoded in the room that `bytes` has.
+///
+/// The first that applies is answered: BadDigit, OddDigits, Memory.
+pub fn decode_digits_into(text: &[u8], bytes: &mut Vec<u8>) -> Result<(), FileFault>
+    ensures { Decodes (digit_text_meaning text.now) bytes.new.items result }
 {
     if bytes.resize(text.len() / 2, 0).is_ok() && decode_strict(text, bytes) {
         return Ok(());
     }
-    if decode_spaced(alloc, text, bytes) {
-        return Ok(());
+    match first_no_digit(text) {
+        Some(at) => Err(FileFault::BadDigit { at }),
+        None if text.len() % 2 == 1 => Err(FileFault::OddDigits),
+        None => Err(FileFault::Memory),
     }
-    match decode_hex(alloc, text) {
-        Ok(decoded) => {
-            *bytes = decoded;
-            Ok(())
-        }
-        Err(fault) => Err(fault),
-    }
-}
-
-// Whether the text denotes bytes, which `bytes` then has, and there was memory to see it.
-fn decode_spaced(alloc: Global, text: &[u8], bytes: &mut Vec<u8>) -> bool
-    ensures { result ≡ true → hex_meaning text.now ≡ Ok bytes.new.items }
-{
-    if first_bad(text).is_some() {
-        return false;
-    }
-    let Ok(digits) = digits(alloc, text) else {
-        return false;
-    };
-    if bytes.resize(digits.len() / 2, 0).is_err() {
-        return false;
-    }
-    decode_strict(&digits, bytes)
 }
 
 // Whether the text is digits alone, two for each of the bytes, which they then spell.
 fn decode_strict(text: &[u8], bytes: &mut [u8]) -> bool
-    ensures { result ≡ true → hex_meaning text.now ≡ Ok bytes.new }
+    ensures { result ≡ true → digit_text_meaning text.now ≡ Ok bytes.new }
 {
     hex::decode_to_slice(text, bytes).is_ok()
 }
@@ -100,6 +76,18 @@ fn first_bad(text: &[u8]) -> Option<usize>
 {
     text.iter()
         .position(|c| !(c.is_ascii_hexdigit() || is_skipped(*c)))
+}
+
+fn is_hex_digit(c: u8) -> bool
+    ensures { result ≡ is_hex_digit c }
+{
+    c.is_ascii_hexdigit()
+}
+
+fn first_no_digit(text: &[u8]) -> Option<usize>
+    ensures { result ≡ first_no_digit text.now }
+{
+    text.iter().position(|c| !is_hex_digit(*c))
 }
 
 fn digit_count(text: &[u8]) -> usize

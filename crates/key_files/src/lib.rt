@@ -9,7 +9,7 @@ mod read;
 mod write;
 
 pub use fault::{FileFault, HexWriteFault, WriteFault};
-pub use hex_text::{decode_hex, decode_hex_into};
+pub use hex_text::{decode_digits_into, decode_hex};
 pub use read::{MAX_FILE, read_hex, read_raw};
 pub use write::{print_hex, write_hex, write_raw};
 

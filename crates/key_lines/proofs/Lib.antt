@@ -1,5 +1,6 @@
--- The lemmas: the lines of a text, what a call took of one, the block of answers, and a run's answers.
+-- The lemmas: the lines of a text, what a line denotes, what a call took of one, the block of answers, and a run's answers.
 mod Blocks
+mod Denoting
 mod Ends
 mod Passing
 mod Runs

@@ -1,17 +1,14 @@
 -- What a run has answered, and how it ends.
-use Rattle.std.proofs.Common.{Bool, ◌≡◌, ◌≢◌, ℕ, ◌+◌, ◌<◌, ◌≤◌, List, [], ◌∷◌, ◌++◌, length, Option, None, Some, Result, Ok, Err, inl, inr, refl, sym, ap, ◌∙◌, arith, subst, append_assoc, append-nil, length-append}
+use Rattle.std.proofs.Common.{Bool, ◌≡◌, ◌≢◌, ℕ, ◌+◌, ◌<◌, List, [], ◌∷◌, ◌++◌, length, Option, None, Some, Result, Ok, Err, inl, inr, refl, sym, ap, ◌∙◌, arith, subst, append_assoc, append-nil, length-append}
 use Rattle.std.specs.Prelude.{◌⊎◌}
 use Rattle.std.specs.List.{concat}
 use Rattle.std.specs.Io.KnownBytes.{Consumes}
 use Rattle.std.proofs.KnownBytes.{Consumes-trans, Consumes-nil, Appends-nil}
-use Rattle.std.proofs.lemmas.Bool.Decides.{nat_tests}
-use Rattle.key_files.specs.declared.fault.FileFault.{FileFault}
-use Rattle.key_files.specs.declared.fault.FileFault.TheVariants.{Read, TooLong, BadDigit, OddDigits, Memory}
-use Rattle.key_files.specs.Meaning.{file_meaning, hex_meaning}
+use Rattle.key_files.specs.declared.fault.FileFault.TheVariants.{Read}
 use Rattle.key_lines.specs.Lines.{lines_of, EndsWithLf, EndsLine}
 use Rattle.key_lines.specs.Reading.{IsAllOf, TakesLine, ReadsLine}
 use Rattle.key_lines.specs.Block.{Sends}
-use Rattle.key_lines.specs.Running.{AnswersLines, AreAnswers, LineOutput, Gathers, MakesAnswer, StepsLine, StopsFor, run_fault_of}
+use Rattle.key_lines.specs.Running.{AnswersLines, AreAnswers, LineOutput, Gathers, StepsLine, StopsFor, run_fault_of}
 use Rattle.key_lines.specs.declared.line.Line.{Line}
 use Rattle.key_lines.specs.declared.line.Line.TheVariants.{Ended, Last, Missing}
 use Rattle.key_lines.specs.declared.fault.LineFault.{LineFault}
@@ -22,21 +19,6 @@ use Rattle.key_lines.specs.declared.run.StepFault.TheVariants as steps
 use Rattle.key_lines.proofs.Blocks.{Sends-trans}
 use Rattle.key_lines.proofs.Splitting.{lines_of-more, lines_of-nil}
 use Rattle.key_lines.proofs.Takings.{all_of-taken}
-
--- a line within the limit denotes what its digits do
-pub meaning-within : (limit : ℕ) (line : List ℕ) → length line ≤ limit → file_meaning hex_meaning limit line ≡ hex_meaning line
-unfolding file_meaning
-meaning-within limit line fits = grind (arith, nat_tests)
-
-module _ {R : Type 0} (limit : ℕ) (answers : List ℕ → Result (List ℕ) R → Type 0) where
-  -- why a line denotes no bytes
-  pub makes_input : (line : List ℕ) (fault : FileFault) → length line ≤ limit → fault ≢ Read → fault ≢ TooLong
-      → (fault ≢ Memory → hex_meaning line ≡ Err fault) → MakesAnswer limit answers line (Err (Input fault))
-  makes_input line Memory fits read long means = tt
-  makes_input line Read fits read long means = absurd (read refl)
-  makes_input line TooLong fits read long means = absurd (long refl)
-  makes_input line (BadDigit at) fits read long means = meaning-within limit line fits ∙ means (λ e. cc e)
-  makes_input line OddDigits fits read long means = meaning-within limit line fits ∙ means (λ e. cc e)
 
 module _ {R : Type 0} (goes_on : Bool) (limit : ℕ) (answers : List ℕ → Result (List ℕ) R → Type 0) where
   -- a line that was answered

@@ -4,10 +4,9 @@ use Rattle.std.specs.Prelude.{◌≡◌, ℕ, ◌+◌, ◌-◌, ◌<◌, ◌⊎�
 use Rattle.std.specs.List.{concat}
 use Rattle.std.specs.Io.KnownBytes.{Appends, Consumes}
 use Rattle.key_lines.specs.Block.{Sends}
-use Rattle.key_files.specs.Meaning.{file_meaning, hex_meaning}
-use Rattle.key_files.specs.declared.fault.FileFault.{FileFault}
 use Rattle.key_files.specs.declared.fault.FileFault.TheVariants.{Read, TooLong, BadDigit, OddDigits, Memory}
 use Rattle.key_lines.specs.Lines.{lines_of, EndsWithLf, EndsLine}
+use Rattle.key_lines.specs.Meaning.{line_meaning}
 use Rattle.key_lines.specs.Reading.{IsAllOf, TakesLine, TakesPart}
 use Rattle.key_lines.specs.declared.line.Line.{Line}
 use Rattle.key_lines.specs.declared.line.Line.TheVariants.{Ended, Last, Missing}
@@ -17,10 +16,6 @@ use Rattle.key_lines.specs.declared.fault.RunFault.{RunFault}
 use Rattle.key_lines.specs.declared.fault.RunFault.TheVariants.{AtLine, Write}
 use Rattle.key_lines.specs.declared.run.StepFault.{StepFault}
 use Rattle.key_lines.specs.declared.run.StepFault.TheVariants as steps
-
--- what a line denotes: what a hex file of its bytes does, of which there may be `limit`
-abbrev pub line_meaning : ℕ → List ℕ → Result (List ℕ) FileFault
-line_meaning limit line = file_meaning hex_meaning limit line
 
 -- The answer to a line: the job's to the bytes that the line denotes, or why it denotes none.
 abbrev pub LineAnswer : {R : Type 0} → ℕ → (List ℕ → Result (List ℕ) R → Type 0) → List ℕ → Result (List ℕ) (LineFault R) → Type 0

@@ -1,6 +1,7 @@
 //! Many keys in one run: each line of the input is answered on the same line of the output.
 //!
-//! A line is a hex file of its own. What is done with the bytes that it denotes is a [`LineJob`]'s;
+//! A line is one text of hex digits, with blanks at its ends alone. What is done with the bytes
+//! that it denotes is a [`LineJob`]'s;
 //! [`run_lines`] reads the lines, writes the answers, and stops at the first line that is refused;
 //! [`run_all_lines`] writes an empty line for it and goes on.
 
@@ -12,6 +13,7 @@ mod job;
 mod line;
 mod log;
 mod run;
+mod text;
 
 pub use fault::{LineFault, RunFault};
 pub use job::{LineJob, Outcome};

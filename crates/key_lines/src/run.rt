@@ -11,7 +11,8 @@ use crate::fault::{LineFault, RunFault};
 use crate::job::{LineJob, Outcome};
 use crate::line::{Line, read_line};
 use crate::log::{NoLog, RefusalLog};
-use key_files::{FileFault, MAX_FILE, decode_hex_into};
+use crate::text::decode_line;
+use key_files::{FileFault, MAX_FILE};
 use std::alloc::Global;
 use std::io::{BufRead, Write};
 
@@ -131,7 +132,6 @@ fn gather<J: LineJob, L: RefusalLog<J::Refusal>, R: BufRead, W: Write>(
     let mut output = Vec::new(alloc);
     for done in 0..MOST {
         match run_line(
-            alloc,
             job,
             goes_on,
             log,
@@ -170,7 +170,6 @@ fn run_fault<R>(step: StepFault<R>, line: u64, unsent: usize) -> RunFault<R>
 
 // Answers the next line, where there is one.
 fn run_line<J: LineJob, L: RefusalLog<J::Refusal>, R: BufRead, W: Write>(
-    alloc: Global,
     job: &J,
     goes_on: bool,
     log: &L,
@@ -193,7 +192,7 @@ fn run_line<J: LineJob, L: RefusalLog<J::Refusal>, R: BufRead, W: Write>(
     if let Line::Missing = met {
         return Ok(Line::Missing);
     }
-    if let Err(fault) = output_of(alloc, job, goes_on, log, number, line, bytes, output) {
+    if let Err(fault) = output_of(job, goes_on, log, number, line, bytes, output) {
         return Err(StepFault::Line(fault));
     }
     match put(out, block, output) {
@@ -205,7 +204,6 @@ fn run_line<J: LineJob, L: RefusalLog<J::Refusal>, R: BufRead, W: Write>(
 
 // What is written for a line, in `output`.
 fn output_of<J: LineJob, L: RefusalLog<J::Refusal>>(
-    alloc: Global,
     job: &J,
     goes_on: bool,
     log: &L,
@@ -218,7 +216,7 @@ fn output_of<J: LineJob, L: RefusalLog<J::Refusal>>(
     ensures { MakesOutput goes_on 4194304 (J.answers job.now) line.now
         (made output.new.items result) }
 {
-    match answer_line(alloc, job, line, bytes, output) {
+    match answer_line(job, line, bytes, output) {
         Ok(()) => Ok(()),
         Err(fault) => pass(goes_on, log, number, fault, output),
     }
@@ -259,7 +257,6 @@ fn is_own<F>(fault: &LineFault<F>) -> bool
 
 // The answer to a line, in `output`.
 fn answer_line<J: LineJob>(
-    alloc: Global,
     job: &J,
     line: &[u8],
     bytes: &mut Vec<u8>,
@@ -268,7 +265,7 @@ fn answer_line<J: LineJob>(
     requires { length line.now ≤ 4194304 }
     ensures { MakesAnswer 4194304 (J.answers job.now) line.now (made output.new.items result) }
 {
-    if let Err(fault) = decode_hex_into(alloc, line, bytes) {
+    if let Err(fault) = decode_line(line, bytes) {
         return Err(LineFault::Input(fault));
     }
     match job.answer(bytes, output) {

@@ -38,6 +38,7 @@ fn job<'a>(job: Job, line: &CommandLine<'a>) -> Request<'a> {
 fn rewrap<'a>(line: &CommandLine<'a>) -> Request<'a> {
     let task = Rewrapping {
         forms: rewrap_forms(line),
+        passes_new: line.pass_new,
         input: notation(line.raw),
         kek: notation(line.raw_kek),
     };

@@ -3,14 +3,19 @@
 
 mod command_line;
 mod many;
+mod notes;
 mod open_keks;
 mod output_file;
 mod program;
 mod progress;
 mod refused;
 mod request;
+mod spared;
 mod streams;
+mod tally;
 mod telling;
+mod text;
+mod waiting;
 mod watched;
 mod why;
 mod work;

@@ -1,9 +1,12 @@
 //! Many keys in one run: the lines of an input, from the files that are open to the exit status.
 
 use crate::progress::{Counted, Progress};
+use crate::spared::Spared;
+use crate::tally::Tally;
 use crate::work::status_of;
 use key_lines::{LineFault, RefusalLog, RunFault};
-use keywrap_cli::{Keyed, LineRefusal, LinesFault, ProgramFault, RefusedLine};
+use key_wrap::InPlaceFault;
+use keywrap_cli::{Keyed, LinesDone, LinesFault, ProgramFault, RefusedLine};
 use std::cell::Cell;
 use std::io::{self, BufReader, Read, Write};
 use std::rt::Env;
@@ -19,19 +22,24 @@ pub struct Many {
     pub goes_on: bool,
     /// It shows how far it is.
     pub shows: bool,
+    /// It ends with a line that says what became of the lines.
+    pub counts: bool,
     /// The length of the input, where it is known.
     pub total: Option<u64>,
+    /// What the output may not replace.
+    pub spared: Spared,
 }
 
-/// Answers each line of the input, and answers the exit status. A line that is passed is said on
-/// standard error as it is met, and the status is then that of the first.
+/// Answers each line of the input, and answers the exit status with what became of the lines. A line
+/// that is passed is said on standard error as it is met, and the status is then that of the first.
+/// An input without a line is refused.
 pub fn answer_lines<R, K: Read, I: Read, W: Write>(
     rt: &R,
     keyed: &mut Keyed<K>,
     many: Many,
     input: &mut I,
     out: &mut W,
-) -> Result<u8, ProgramFault>
+) -> Result<(u8, Tally), ProgramFault>
 where
     R: Eprint + AllocGlobal + Env + Clock,
 {
@@ -45,12 +53,25 @@ where
     let log = Refused {
         progress: &progress,
         first: Cell::new(None),
+        count: Cell::new(0),
     };
     let done = keyed.run_lines(rt.alloc(), many.goes_on, &log, &mut input, &mut out);
     progress.clear();
     match done {
-        Ok(done) => Ok(log.first.get().unwrap_or(status_of(done.done))),
+        Ok(done) if done.lines == 0 => Err(ProgramFault::NoLines),
+        Ok(done) => {
+            let status = log.first.get().unwrap_or(status_of(done.done));
+            Ok((status, log.tally(&done, passes_new(keyed))))
+        }
         Err(fault) => Err(program_fault(fault, out.written)),
+    }
+}
+
+// Whether what is wrapped under the new KEK already passes.
+fn passes_new<K>(keyed: &Keyed<K>) -> bool {
+    match keyed {
+        Keyed::Job { .. } => false,
+        Keyed::Rewrap { task, .. } => task.passes_new,
     }
 }
 
@@ -65,20 +86,33 @@ fn program_fault(fault: LinesFault, written: usize) -> ProgramFault {
     }
 }
 
-// Says each line that is passed, and keeps the status of the first.
+// Says each line that is passed, counts them, and keeps the status of the first.
 #[derive(Drop)]
 struct Refused<'p, 'r, R> {
     progress: &'p Progress<'r, R>,
     first: Cell<Option<u8>>,
+    count: Cell<u64>,
 }
 
-impl<R: Eprint + AllocGlobal + Env + Clock> RefusalLog<LineRefusal> for Refused<'_, '_, R> {
-    fn tell(&self, line: u64, fault: &LineFault<LineRefusal>) {
+impl<R> Refused<'_, '_, R> {
+    // What became of the lines.
+    fn tally(&self, done: &LinesDone, passes_new: bool) -> Tally {
+        Tally {
+            lines: done.lines,
+            refused: self.count.get(),
+            passed: if passes_new { Some(done.passed) } else { None },
+        }
+    }
+}
+
+impl<R: Eprint + AllocGlobal + Env + Clock> RefusalLog<InPlaceFault> for Refused<'_, '_, R> {
+    fn tell(&self, line: u64, fault: &LineFault<InPlaceFault>) {
         let refused = ProgramFault::Line(RefusedLine {
             line,
             fault: *fault,
         });
         self.progress.say(refused.line());
+        self.count.set(self.count.get().saturating_add(1));
         if self.first.get().is_none() {
             self.first.set(Some(refused.status()));
         }

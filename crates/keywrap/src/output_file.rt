@@ -1,6 +1,7 @@
 //! The file of --output: written whole beside the old one, and then put in its place.
 
 use crate::open_keks::OpenKeks;
+use crate::spared::Spared;
 use crate::watched::Watched;
 use crate::why::Why;
 use std::alloc::{AllocError, Global};
@@ -40,22 +41,24 @@ pub struct OutputFile<'a> {
 
 /// Makes the new file beside the one that is named, for its owner alone, or, where `keeps` says so,
 /// with the owner, the group and the permissions of that one. What stands under that name has to be
-/// a regular file that is no KEK file of the run, or nothing.
+/// a regular file that is no KEK file of the run and is not spared, or nothing.
 pub fn create<'a, R: AllocGlobal + Files<File = File>>(
     rt: &R,
     name: &'a str,
     keks: &OpenKeks,
+    spared: Spared,
     keeps: bool,
 ) -> Result<OutputFile<'a>, OutputFault> {
-    let old = match replaced(rt, name, keks) {
+    let old = match replaced(rt, name, keks, spared) {
         Ok(old) => old,
         Err(why) => return Err(OutputFault::Open(why)),
     };
     let new = create_new(rt, name)?;
-    match old {
-        Some(old) if keeps => new.like(rt, &old),
-        _ => Ok(new),
-    }
+    let made = match old {
+        Some(old) if keeps => make_like(&new.file.file, &old),
+        _ => look_private(&new.file.file),
+    };
+    new.unless(rt, made)
 }
 
 // Makes the first of its names that is free.
@@ -82,6 +85,7 @@ fn replaced<R: Files<File = File>>(
     rt: &R,
     name: &str,
     keks: &OpenKeks,
+    spared: Spared,
 ) -> Result<Option<Metadata>, Why> {
     if name.is_empty() {
         return Err(Why::Named);
@@ -89,6 +93,7 @@ fn replaced<R: Files<File = File>>(
     match rt.symlink_metadata(name) {
         Ok(old) => {
             may_be_replaced(&old, keks)?;
+            spared.may_go(&old)?;
             Ok(Some(old))
         }
         Err(error) if error.kind() == io::ErrorKind::NotFound => Ok(None),
@@ -151,9 +156,25 @@ fn make_like(new: &File, old: &Metadata) -> Result<(), Why> {
     if owner.is_some() || group.is_some() {
         fchown(new, owner, group).map_err(unkept)?;
     }
-    let permissions = Permissions::from_mode(old.mode() & PERMISSIONS);
-    new.set_permissions(permissions).map_err(unkept)?;
+    let permissions = old.mode() & PERMISSIONS;
+    if made.mode() & PERMISSIONS != permissions {
+        new.set_permissions(Permissions::from_mode(permissions))
+            .map_err(unkept)?;
+    }
     if is_like(&new.metadata().map_err(unkept)?, old) {
+        Ok(())
+    } else {
+        Err(Why::Unkept(None))
+    }
+}
+
+// The bits of them that are for others than the owner.
+const OF_OTHERS: u32 = 0o077;
+
+// Looks whether a new file is for its owner alone: some file systems have one mode for all.
+fn look_private(new: &File) -> Result<(), Why> {
+    let made = new.metadata().map_err(unkept)?;
+    if made.mode() & OF_OTHERS == 0 {
         Ok(())
     } else {
         Err(Why::Unkept(None))
@@ -172,9 +193,13 @@ fn is_like(made: &Metadata, old: &Metadata) -> bool {
 }
 
 impl OutputFile<'_> {
-    // The new file, which is as the old one is; else it is removed.
-    fn like<R: Files<File = File>>(self, rt: &R, old: &Metadata) -> Result<Self, OutputFault> {
-        match make_like(&self.file.file, old) {
+    // The new file, if it was made as it has to be; else it is removed.
+    fn unless<R: Files<File = File>>(
+        self,
+        rt: &R,
+        made: Result<(), Why>,
+    ) -> Result<Self, OutputFault> {
+        match made {
             Ok(()) => Ok(self),
             Err(why) => {
                 self.give_up(rt);

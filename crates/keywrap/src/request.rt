@@ -1,7 +1,9 @@
 //! What a command line asks for.
 
 use key_wrap::{Form, InitialValue};
-use keywrap_cli::{Direction, Job, Notation, ProgramFault, Rewrapping, Task, parse_iv};
+use keywrap_cli::{
+    Direction, Job, Notation, ProgramFault, RewrapForms, Rewrapping, Task, parse_iv,
+};
 
 /// What a command line asks for.
 #[derive(Drop)]
@@ -50,7 +52,15 @@ pub struct Places<'a> {
     pub verbose: bool,
 }
 
-impl Work<'_> {
+impl<'a> Work<'a> {
+    /// The file of the new KEK; of a job no name.
+    pub fn new_kek(&self) -> &'a str {
+        match self {
+            Work::Rewrap { new_kek, .. } => new_kek,
+            Work::Job { .. } => "",
+        }
+    }
+
     /// The initial value of the text of `--iv`; the default where there is none.
     pub fn initial_value(&self) -> Result<InitialValue, ProgramFault> {
         let Work::Job { iv: Some(iv), .. } = self else {
@@ -83,11 +93,25 @@ impl Work<'_> {
         }
     }
 
-    // Whether the input is a key; else it is a wrapped key.
-    fn takes_key(&self) -> bool {
+    /// Whether the input is a key; else it is a wrapped key.
+    pub fn takes_key(&self) -> bool {
         match self {
             Work::Job { task, .. } => matches!(task.job, Job::Wrap),
             Work::Rewrap { .. } => false,
+        }
+    }
+
+    /// Whether a padded wrapping becomes a plain one.
+    pub fn becomes_plain(&self) -> bool {
+        match self {
+            Work::Job { .. } => false,
+            Work::Rewrap { task, .. } => matches!(
+                task.forms,
+                RewrapForms::Changed {
+                    old: Form::Padded,
+                    new: Form::Plain
+                }
+            ),
         }
     }
 

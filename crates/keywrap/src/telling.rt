@@ -3,12 +3,13 @@
 use crate::output_file::OutputFault;
 use crate::refused::Refused;
 use crate::request::{Places, Work};
+use crate::text::Text;
 use crate::watched::Seen;
 use crate::why::Why;
 use key_files::FileFault;
 use key_lines::LineFault;
-use key_wrap::{Form, MAX_KEY};
-use keywrap_cli::{Job, JobFault, LineRefusal, Notation, ProgramFault, RefusedLine, RewrapForms};
+use key_wrap::{Form, InPlaceFault, MAX_KEY};
+use keywrap_cli::{Job, JobFault, Notation, ProgramFault, RefusedLine, RewrapForms};
 use keywrap_words::escaped;
 use std::alloc::{AllocError, Global};
 use std::io;
@@ -78,12 +79,15 @@ impl<'a> Telling<'a> {
         match fault {
             ProgramFault::Job(fault) => self.refused_job(fault, seen),
             ProgramFault::Line(line) => {
-                let why = self.of_line(line, &seen.input);
+                let why = self.of_line(line, seen);
                 self.refused(ProgramFault::Line(line), self.input_name(), why)
             }
             ProgramFault::Write { written } => {
                 let why = Why::of_number(seen.output.error);
                 self.refused(ProgramFault::Write { written }, self.output_name(), why)
+            }
+            ProgramFault::NoLines => {
+                self.refused(ProgramFault::NoLines, self.input_name(), Why::Is("empty"))
             }
             fault => Refused::from(fault),
         }
@@ -99,10 +103,32 @@ impl<'a> Telling<'a> {
         Refused { fault, why }
     }
 
-    // The control characters of the name are escaped.
     fn line(&self, name: &str, why: Why) -> Result<String, AllocError> {
-        let name = escaped(self.alloc, name)?;
+        let name = self.shown(name)?;
         why.line(self.alloc, name.as_str())
+    }
+
+    /// The name as a terminal may show it: its control characters are escaped, and a KEK in the
+    /// place of its file's name is not shown.
+    pub fn shown(&self, name: &str) -> Result<String, AllocError> {
+        let shown = match self.typed_kek(name) {
+            Some(flag) => flag,
+            None => name,
+        };
+        escaped(self.alloc, shown)
+    }
+
+    // What is said in place of the value of `--kek` or `--new-kek`, where it is no name but a KEK.
+    fn typed_kek(&self, name: &str) -> Option<&'static str> {
+        if !is_kek(name) {
+            None
+        } else if name == self.places.kek {
+            Some("(the value of --kek is not shown: it looks like a KEK)")
+        } else if name == self.work.new_kek() {
+            Some("(the value of --new-kek is not shown: it looks like a KEK)")
+        } else {
+            None
+        }
     }
 
     // The file that was the cause, and what is said of it.
@@ -110,18 +136,21 @@ impl<'a> Telling<'a> {
         let kek = self.work.kek_notation();
         match fault {
             JobFault::KekFile(fault) => {
-                Some((self.places.kek, of_file(fault, &seen.kek, RAW_KEK)))
+                Some((self.places.kek, of_file(fault, &seen.kek, &KEK_TIPS)))
             }
             JobFault::KekLength => Some((self.places.kek, of_kek(kek, &seen.kek))),
             JobFault::NewKekFile(fault) => {
-                Some((self.new_kek_name(), of_file(fault, &seen.new_kek, RAW_KEK)))
+                Some((
+                    self.work.new_kek(),
+                    of_file(fault, &seen.new_kek, &KEK_TIPS),
+                ))
             }
-            JobFault::NewKekLength => Some((self.new_kek_name(), of_kek(kek, &seen.new_kek))),
+            JobFault::NewKekLength => Some((self.work.new_kek(), of_kek(kek, &seen.new_kek))),
             JobFault::InputFile(fault) => {
-                Some((self.input_name(), of_file(fault, &seen.input, RAW)))
+                Some((self.input_name(), of_file(fault, &seen.input, &INPUT_TIPS)))
             }
             JobFault::BadLength => Some((self.input_name(), self.of_length(&seen.input))),
-            JobFault::Integrity => Some((self.input_name(), self.of_integrity())),
+            JobFault::Integrity => Some((self.input_name(), self.of_integrity(&seen.kek))),
             JobFault::Write { .. } => {
                 Some((self.output_name(), Why::of_number(seen.output.error)))
             }
@@ -129,14 +158,8 @@ impl<'a> Telling<'a> {
         }
     }
 
-    fn new_kek_name(&self) -> &'a str {
-        match self.work {
-            Work::Rewrap { new_kek, .. } => new_kek,
-            Work::Job { .. } => "",
-        }
-    }
-
-    fn input_name(&self) -> &'a str {
+    /// The input, by its name.
+    pub fn input_name(&self) -> &'a str {
         self.places.input.unwrap_or("standard input")
     }
 
@@ -157,12 +180,12 @@ impl<'a> Telling<'a> {
     }
 
     // Of a line it is not said how long it is.
-    fn of_line(&self, line: RefusedLine, seen: &Seen) -> Why {
+    fn of_line(&self, line: RefusedLine, seen: &SeenFiles) -> Why {
         match line.fault {
-            LineFault::Refused(LineRefusal::Integrity) => self.of_integrity(),
-            LineFault::Refused(LineRefusal::BadLength) => self.of_line_length(),
+            LineFault::Refused(InPlaceFault::Integrity) => self.of_integrity(&seen.kek),
+            LineFault::Refused(InPlaceFault::BadLength) => self.of_line_length(),
             LineFault::Input(FileFault::TooLong) => Why::Says("a line of more than 4194304 bytes"),
-            LineFault::Input(FileFault::Read) => Why::of_number(seen.error),
+            LineFault::Input(FileFault::Read) => Why::of_number(seen.input.error),
             LineFault::Input(FileFault::BadDigit { .. }) => Why::Says("not hex"),
             LineFault::Input(FileFault::OddDigits | FileFault::Memory) => Why::Named,
         }
@@ -171,7 +194,7 @@ impl<'a> Telling<'a> {
     // The legal length; from padded to plain it may be that of the key that is not.
     fn of_line_length(&self) -> Why {
         match self.work {
-            Work::Rewrap { task, .. } if is_to_plain(task.forms) => Why::Named,
+            work if work.becomes_plain() => Why::Named,
             _ => match self.of_length(&Seen::default()) {
                 Why::Length { legal, .. } => Why::Says(legal),
                 why => why,
@@ -179,7 +202,22 @@ impl<'a> Telling<'a> {
         }
     }
 
-    fn of_integrity(&self) -> Why {
+    // A KEK of text that was read as raw bytes comes first.
+    fn of_integrity(&self, kek: &Seen) -> Why {
+        match raw_text(self.work.kek_notation(), kek) {
+            Some(Text::Hex) => Why::Says(
+                "no wrapping under this KEK, which is hex digits read as raw bytes; \
+                 try without --raw-kek",
+            ),
+            Some(Text::Base64) => Why::Says(
+                "no wrapping under this KEK, which is characters of base64 read as raw bytes; \
+                 decode it with base64 -d",
+            ),
+            None => self.of_wrapping(),
+        }
+    }
+
+    fn of_wrapping(&self) -> Why {
         Why::Says(match self.work {
             Work::Job { iv: Some(_), .. } => "no wrapping under this KEK and --iv",
             Work::Job { task, .. } => no_wrapping(task.form),
@@ -191,19 +229,44 @@ impl<'a> Telling<'a> {
     }
 }
 
-fn is_to_plain(forms: RewrapForms) -> bool {
-    matches!(
-        forms,
-        RewrapForms::Changed {
-            old: Form::Padded,
-            new: Form::Plain
-        }
-    )
+// Whether a text is the hex of a KEK.
+fn is_kek(text: &str) -> bool {
+    matches!(text.len(), 32 | 48 | 64) && text.bytes().all(|byte| byte.is_ascii_hexdigit())
 }
 
-const RAW: &str = "not hex; for raw bytes use --raw";
+// What is said of a file that is no hex.
+#[derive(Clone, Copy)]
+struct Tips {
+    raw: &'static str,
+    base64: &'static str,
+}
 
-const RAW_KEK: &str = "not hex; for raw bytes use --raw-kek";
+const INPUT_TIPS: Tips = Tips {
+    raw: "not hex; for raw bytes use --raw",
+    base64: "not hex but characters of base64; if it is base64, decode it with base64 -d for --raw",
+};
+
+const KEK_TIPS: Tips = Tips {
+    raw: "not hex; for raw bytes use --raw-kek",
+    base64: "not hex but characters of base64; if it is base64, decode it with base64 -d for --raw-kek",
+};
+
+// Text is no raw bytes.
+fn of_no_hex(seen: &Seen, tips: &Tips) -> &'static str {
+    match seen.text() {
+        Some(_) => tips.base64,
+        None if seen.is_shown() => "not hex but text",
+        None => tips.raw,
+    }
+}
+
+/// What a file that was read as raw bytes is, where it is text.
+pub fn raw_text(notation: Notation, seen: &Seen) -> Option<Text> {
+    match notation {
+        Notation::Raw => seen.text(),
+        Notation::Hex => None,
+    }
+}
 
 // The bytes that a file denotes that was read whole.
 fn denoted(notation: Notation, seen: &Seen) -> u64 {
@@ -213,11 +276,11 @@ fn denoted(notation: Notation, seen: &Seen) -> u64 {
     }
 }
 
-fn of_file(fault: FileFault, seen: &Seen, raw: &'static str) -> Why {
+fn of_file(fault: FileFault, seen: &Seen, tips: &Tips) -> Why {
     match fault {
         FileFault::Read => Why::of_number(seen.error),
         FileFault::TooLong => Why::Says("more than 4194304 bytes"),
-        FileFault::BadDigit { .. } => Why::Says(raw),
+        FileFault::BadDigit { .. } => Why::Says(of_no_hex(seen, tips)),
         FileFault::OddDigits => Why::Digits(seen.digits),
         FileFault::Memory => Why::Named,
     }
@@ -226,6 +289,7 @@ fn of_file(fault: FileFault, seen: &Seen, raw: &'static str) -> Why {
 fn of_kek(notation: Notation, seen: &Seen) -> Why {
     Why::Kek {
         bytes: denoted(notation, seen),
+        text: raw_text(notation, seen),
     }
 }
 

@@ -9,6 +9,12 @@ pub struct Seen {
     pub bytes: u64,
     /// How many of them are hex digits.
     pub digits: u64,
+    /// How many are characters of base64, as hex digits are.
+    pub base64: u64,
+    /// How many are the bytes of line ends.
+    pub line_ends: u64,
+    /// How many are characters of ASCII that are shown, blanks, tabs or the bytes of line ends.
+    pub shown: u64,
     /// The number of the system's last error.
     pub error: Option<i32>,
 }
@@ -38,11 +44,24 @@ impl Seen {
     fn read(&mut self, bytes: &[u8]) {
         self.bytes = self.bytes.saturating_add(bytes.len() as u64);
         for byte in bytes {
-            if byte.is_ascii_hexdigit() {
-                self.digits = self.digits.saturating_add(1);
-            }
+            self.digits = self.digits.saturating_add(byte.is_ascii_hexdigit() as u64);
+            self.base64 = self.base64.saturating_add(is_base64(*byte) as u64);
+            self.line_ends = self.line_ends.saturating_add(is_line_end(*byte) as u64);
+            self.shown = self.shown.saturating_add(is_shown(*byte) as u64);
         }
     }
+}
+
+fn is_base64(byte: u8) -> bool {
+    byte.is_ascii_alphanumeric() || matches!(byte, b'+' | b'/' | b'=')
+}
+
+fn is_line_end(byte: u8) -> bool {
+    matches!(byte, b'\n' | b'\r')
+}
+
+fn is_shown(byte: u8) -> bool {
+    matches!(byte, b' '..=b'~' | b'\t') || is_line_end(byte)
 }
 
 impl<F: Read> Read for Watched<F> {

@@ -1,5 +1,6 @@
 //! Why a file was refused: the second line, which names what was given.
 
+use crate::text::Text;
 use std::alloc::{AllocError, Global};
 use std::io;
 
@@ -16,9 +17,11 @@ pub enum Why {
     Is(&'static str),
     /// Which KEK file it is, as `the KEK file`.
     IsKek(&'static str),
-    /// How many bytes of KEK are in it.
+    /// How many bytes of KEK are in it, and what they are where they are text that was read as raw
+    /// bytes.
     Kek {
         bytes: u64,
+        text: Option<Text>,
     },
     /// How many bytes are in it, and which a legal length is.
     Length {
@@ -67,7 +70,10 @@ impl Why {
             Why::Unkept(number) => write_unkept(alloc, number, line),
             Why::Is(what) => write!(line, ": is {what}"),
             Why::IsKek(which) => write!(line, " is {which}"),
-            Why::Kek { bytes } => write!(line, ": {bytes} {} of KEK", unit(bytes)),
+            Why::Kek { bytes, text } => {
+                let text = said_of(text);
+                write!(line, ": {bytes} {} of KEK{text}", unit(bytes))
+            }
             Why::Length { bytes, legal } => write!(line, ": {bytes} {}; {legal}", unit(bytes)),
             Why::TooLong { bytes, what, most } => {
                 write!(line, ": {bytes} bytes; {what} has {most} at most")
@@ -93,6 +99,14 @@ fn write_system(alloc: Global, number: i32, line: &mut String) -> Result<(), All
     match text.as_str().split_once(" (os error ") {
         Some((said, _)) => line.push_str(said),
         None => line.push_str(text.as_str()),
+    }
+}
+
+fn said_of(text: Option<Text>) -> &'static str {
+    match text {
+        Some(Text::Hex) => "; hex digits: try without --raw-kek",
+        Some(Text::Base64) => "; characters of base64: decode it with base64 -d",
+        None => "",
     }
 }
 

@@ -5,12 +5,16 @@ use crate::open_keks::{OpenKeks, open_keks};
 use crate::output_file::create;
 use crate::refused::Refused;
 use crate::request::{Lines, Places, Work};
+use crate::spared::{Spared, spare, spare_standard_input};
 use crate::streams::{Closed, hold_closed};
+use crate::tally::Tally;
 use crate::telling::{SeenFiles, Telling};
+use crate::waiting::{Waiting, waiting_for};
 use crate::watched::{Seen, Watched};
 use keywrap_cli::{Done, ProgramFault, statuses};
 use std::fs::{self, File, OpenFile};
 use std::io::{self, Read, Write};
+use std::os::unix::fs::FileTypeExt;
 use std::rt::{Env, Files};
 use std::time::Clock;
 
@@ -54,7 +58,24 @@ pub fn run_work<R: Print + Eprint + Input + AllocGlobal + Files<File = File> + E
         return Err(Refused::from(ProgramFault::InputOpen));
     };
     let mut keks = open_keks(rt, &telling, iv)?;
-    run_keyed(rt, &telling, &mut keks, lines, terminals)
+    let answered = run_keyed(rt, &telling, &mut keks, lines, terminals)?;
+    telling.say_notes(rt, &answered.seen);
+    if let Some(tally) = answered.tally {
+        // Nothing is left to do where standard error is closed.
+        let _ = rt.eprintln(tally);
+    }
+    Ok(answered.status)
+}
+
+// A run that was not refused.
+#[derive(Clone, Copy)]
+struct Answered {
+    // The exit status.
+    status: u8,
+    // What became of its lines, where that is said.
+    tally: Option<Tally>,
+    // What was seen of its files.
+    seen: SeenFiles,
 }
 
 // Does it with KEK files that are open.
@@ -64,41 +85,67 @@ fn run_keyed<R: Print + Eprint + Input + AllocGlobal + Files<File = File> + Env 
     keks: &mut OpenKeks,
     lines: Option<Lines>,
     terminals: Terminals,
-) -> Result<u8, Refused> {
-    let Some(name) = telling.places.input else {
-        let waiting = if terminals.input {
-            Some(telling.work.waiting(lines))
-        } else {
-            None
+) -> Result<Answered, Refused> {
+    let waiting = if terminals.input {
+        Some(waiting_for(&telling.work, &telling.places, lines))
+    } else {
+        None
+    };
+    let places = telling.places;
+    let Some(name) = places.input else {
+        let spared = match lines {
+            Some(lines) if lines.goes_on => spare_standard_input(rt),
+            _ => Spared::Nothing,
         };
-        let many = many(lines, telling.places, terminals, None);
+        let many = many(rt, lines, places, terminals, waiting, None, spared);
         return run_from(rt, telling, keks, many, rt.reader(), waiting);
     };
     match fs::open(rt, name) {
         Ok(input) => {
-            let many = many(lines, telling.places, terminals, length_of(lines, &input));
-            run_from(rt, telling, keks, many, input, None)
+            let spared = match lines {
+                Some(lines) if lines.goes_on => spare(&input),
+                _ => Spared::Nothing,
+            };
+            let length = length_of(lines, &input);
+            let many = many(rt, lines, places, terminals, waiting, length, spared);
+            run_from(rt, telling, keks, many, input, waiting)
         }
         Err(error) => Err(telling.unopened(ProgramFault::InputOpen, name, &error)),
     }
 }
 
-// How the lines of an input of this length are answered. How far that is stands between no answers
-// and no words that are typed.
-fn many(
+// How the lines of an input of this length are answered. Neither how far that is nor its last line
+// stands on a terminal between answers or words that are typed; the last line, not the other, may
+// be asked for.
+fn many<R: Files>(
+    rt: &R,
     lines: Option<Lines>,
     places: Places<'_>,
     terminals: Terminals,
+    waiting: Option<Waiting>,
     total: Option<u64>,
+    spared: Spared,
 ) -> Option<Many> {
     let lines = lines?;
-    let is_typed = places.input.is_none() && terminals.input;
+    let is_typed = matches!(waiting, Some(Waiting { input: Some(_), .. }));
     let is_read = places.output.is_none() && terminals.output;
+    let is_free = !is_typed && !is_read;
+    let says = terminals.error && is_free && !lines.is_quiet;
     Some(Many {
         goes_on: lines.goes_on,
-        shows: terminals.error && !lines.is_quiet && !is_typed && !is_read,
+        shows: says && (places.output.is_some() || !is_piped(rt)),
+        counts: says || places.verbose && (is_free || !terminals.error),
         total,
+        spared,
     })
+}
+
+// Whether standard output is a pipe, which may lead to the terminal.
+fn is_piped<R: Files>(rt: &R) -> bool {
+    match rt.metadata("/proc/self/fd/1") {
+        Ok(about) => about.file_type().is_fifo(),
+        Err(_) => false,
+    }
 }
 
 // The length of a regular file of lines.
@@ -119,8 +166,8 @@ fn run_from<R: Print + Eprint + AllocGlobal + Files<File = File> + Env + Clock, 
     keks: &mut OpenKeks,
     many: Option<Many>,
     input: I,
-    waiting: Option<&str>,
-) -> Result<u8, Refused> {
+    waiting: Option<Waiting>,
+) -> Result<Answered, Refused> {
     // Of lines no digit is counted.
     let mut input = Watched::new(input, telling.says_why && many.is_none());
     match telling.places.output {
@@ -128,9 +175,9 @@ fn run_from<R: Print + Eprint + AllocGlobal + Files<File = File> + Env + Clock, 
         None => {
             announce(rt, waiting);
             let mut out = Watched::new(io::writer(rt), telling.says_why);
-            let status = answer(rt, telling, keks, many, &mut input, &mut out)?;
+            let answered = answer(rt, telling, keks, many, &mut input, &mut out)?;
             match out.flush() {
-                Ok(()) => Ok(status),
+                Ok(()) => Ok(answered),
                 Err(_) => Err(telling.unflushed(out.seen)),
             }
         }
@@ -145,17 +192,18 @@ fn run_into<R: Eprint + AllocGlobal + Files<File = File> + Env + Clock, I: Read>
     many: Option<Many>,
     input: &mut Watched<I>,
     name: &str,
-    waiting: Option<&str>,
-) -> Result<u8, Refused> {
+    waiting: Option<Waiting>,
+) -> Result<Answered, Refused> {
     let keeps = telling.work.keeps_modes();
-    let mut new = match create(rt, name, keks, keeps) {
+    let spared = many.map_or(Spared::Nothing, |many| many.spared);
+    let mut new = match create(rt, name, keks, spared, keeps) {
         Ok(new) => new,
         Err(fault) => return Err(telling.no_output(fault)),
     };
     announce(rt, waiting);
     match answer(rt, telling, keks, many, input, &mut new.file) {
-        Ok(status) => match new.finish(rt) {
-            Ok(()) => Ok(status),
+        Ok(answered) => match new.finish(rt) {
+            Ok(()) => Ok(answered),
             Err(fault) => Err(telling.no_output(fault)),
         },
         Err(refused) => {
@@ -173,18 +221,32 @@ fn answer<R: Eprint + AllocGlobal + Env + Clock, I: Read, W: Write>(
     many: Option<Many>,
     input: &mut Watched<I>,
     out: &mut Watched<W>,
-) -> Result<u8, Refused> {
+) -> Result<Answered, Refused> {
     match many {
-        Some(many) => match answer_lines(rt, &mut keks.keyed, many, input, out) {
-            Ok(status) => Ok(status),
-            Err(fault) => {
-                Err(telling.refused_lines(fault, &seen_files(keks, input.seen, out.seen)))
+        Some(many) => {
+            let done = answer_lines(rt, &mut keks.keyed, many, input, out);
+            let seen = seen_files(keks, input.seen, out.seen);
+            match done {
+                Ok((status, tally)) => Ok(Answered {
+                    status,
+                    tally: if many.counts { Some(tally) } else { None },
+                    seen,
+                }),
+                Err(fault) => Err(telling.refused_lines(fault, &seen)),
             }
-        },
-        None => match keks.keyed.run(rt.alloc(), input, out) {
-            Ok(done) => Ok(status_of(done)),
-            Err(fault) => Err(telling.refused_job(fault, &seen_files(keks, input.seen, out.seen))),
-        },
+        }
+        None => {
+            let done = keks.keyed.run(rt.alloc(), input, out);
+            let seen = seen_files(keks, input.seen, out.seen);
+            match done {
+                Ok(done) => Ok(Answered {
+                    status: status_of(done),
+                    tally: None,
+                    seen,
+                }),
+                Err(fault) => Err(telling.refused_job(fault, &seen)),
+            }
+        }
     }
 }
 
@@ -198,10 +260,9 @@ fn seen_files(keks: &OpenKeks, input: Seen, output: Seen) -> SeenFiles {
     }
 }
 
-// Nothing is lost where standard error is closed.
-fn announce<R: Eprint>(rt: &R, waiting: Option<&str>) {
-    if let Some(line) = waiting {
-        let _ = rt.eprintln(line);
+fn announce<R: Eprint>(rt: &R, waiting: Option<Waiting>) {
+    if let Some(waiting) = waiting {
+        waiting.say(rt);
     }
 }
 

@@ -106,17 +106,3 @@ input_of_bytes notation old new bytes reads = record {
   too_long = (λ e. (cc), λ more. let e = reads.too_long.1 more in cc);
   answers = (reads.means, reads.to_end);
 }
-
--- a job's fault for that of its KEK is TooLong exactly where the KEK's file is, and is no other file's
-pub record KekNamed (fault : KekFault) : Type 0 where
-  pub too_long : (kek_fault_of fault ≡ KekFile files.TooLong) ↔ (fault ≡ File files.TooLong)
-  pub not_new : ¬ (kek_fault_of fault ≡ NewKekFile files.TooLong)
-  pub not_input : ¬ (kek_fault_of fault ≡ InputFile files.TooLong)
-
-pub kek_named : (fault : KekFault) → KekNamed fault
-kek_named (File files.Read) = record { too_long = (λ e. cc, λ e. cc); not_new = λ e. cc; not_input = λ e. cc }
-kek_named (File files.TooLong) = record { too_long = (λ e. refl, λ e. refl); not_new = λ e. cc; not_input = λ e. cc }
-kek_named (File (files.BadDigit at)) = record { too_long = (λ e. cc, λ e. cc); not_new = λ e. cc; not_input = λ e. cc }
-kek_named (File files.OddDigits) = record { too_long = (λ e. cc, λ e. cc); not_new = λ e. cc; not_input = λ e. cc }
-kek_named (File files.Memory) = record { too_long = (λ e. cc, λ e. cc); not_new = λ e. cc; not_input = λ e. cc }
-kek_named Length = record { too_long = (λ e. cc, λ e. cc); not_new = λ e. cc; not_input = λ e. cc }

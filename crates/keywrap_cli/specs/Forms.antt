@@ -1,18 +1,33 @@
 -- Rewrappings that change the form of a wrapped key, and those that keep it: under E before, under F after.
-use Rattle.std.specs.Prelude.{◌≡◌, ℕ, List, length}
-use Rattle.key_wrap.specs.Forms.{StandsIn}
+use Rattle.std.specs.Prelude.{◌≡◌, ◌⊎◌, Bool, true, false, ℕ, List, length, Result, Ok, Err}
+use Rattle.key_wrap.specs.Forms.{StandsIn, IsTextLength}
 use Rattle.key_wrap.specs.KeepForm.{HasNoForm, IsSomeTextLength}
 use Rattle.key_wrap.specs.Rewrap.{HasBadLength, HasNoWrapping}
+use Rattle.key_wrap.specs.declared.faults.InPlaceFault.{InPlaceFault}
+use Rattle.key_wrap.specs.declared.faults.InPlaceFault.TheVariants.{BadLength, Integrity}
 use Rattle.key_wrap.specs.declared.forms.Form.{Form}
-use Rattle.keywrap_cli.specs.Rewrapping.{IsRewrapped}
-use Rattle.keywrap_cli.specs.declared.rewrap_line.RewrapForms.{RewrapForms}
-use Rattle.keywrap_cli.specs.declared.rewrap_line.RewrapForms.TheVariants.{Kept, Changed}
+use Rattle.keywrap_cli.specs.declared.rewrapping.RewrapForms.{RewrapForms}
+use Rattle.keywrap_cli.specs.declared.rewrapping.RewrapForms.TheVariants.{Kept, Changed}
+
+-- The answer is the new wrapping, under F, of the one key whose old wrapping, under E, `text` is: that key alone
+-- stands with `text`, and it alone with the answer; it has no other new wrapping, and no other old one. So unwrapping
+-- the answer gives exactly the old key, and rewrapping back gives `text` again.
+pub record IsRewrapped (old_form : Form) (E : List ℕ → List ℕ) (new_form : Form) (F : List ℕ → List ℕ)
+    (text answer : List ℕ) : Type 0 where
+  pub key : List ℕ
+  pub stood : StandsIn old_form E key text
+  pub stands : StandsIn new_form F key answer
+  pub one_key : (other : List ℕ) → StandsIn old_form E other text → other ≡ key
+  pub same_key : (other : List ℕ) → StandsIn new_form F other answer → other ≡ key
+  pub alone : (other : List ℕ) → StandsIn new_form F key other → other ≡ answer
+  pub restores : (other : List ℕ) → StandsIn old_form E key other → other ≡ text
 
 -- the answer is the rewrapped text in the form in which the text is a wrapping, which is one form alone
 pub record IsRewrappedInForm (E F : List ℕ → List ℕ) (text answer : List ℕ) : Type 0 where
   pub form : Form
   pub rewrapped : IsRewrapped form E form F text answer
   pub one_form : (other : Form) → (key : List ℕ) → StandsIn other E key text → other ≡ form
+  pub same_form : (other : Form) → (key : List ℕ) → StandsIn other F key answer → other ≡ form
 
 -- the answer is the rewrapped text
 abbrev pub IsRewrappedAs : RewrapForms → (List ℕ → List ℕ) → (List ℕ → List ℕ) → List ℕ → List ℕ → Type 0
@@ -28,3 +43,48 @@ HasNoLengthAs Kept E text = ¬ IsSomeTextLength (length text)
 abbrev pub HasNoWrappingAs : RewrapForms → (List ℕ → List ℕ) → List ℕ → Type 0
 HasNoWrappingAs (Changed old new) E text = HasNoWrapping old E text
 HasNoWrappingAs Kept E text = HasNoForm E text
+
+-- what a rewrapping makes of the text, by cases: the rewrapped text, or why there is none
+abbrev pub Rewraps : RewrapForms → (List ℕ → List ℕ) → (List ℕ → List ℕ) → List ℕ → Result (List ℕ) InPlaceFault → Type 0
+Rewraps forms E F text (Ok answer) = IsRewrappedAs forms E F text answer
+Rewraps forms E F text (Err BadLength) = HasNoLengthAs forms E text
+Rewraps forms E F text (Err Integrity) = HasNoWrappingAs forms E text
+
+-- a length that is legal for the text where it has one old form
+abbrev pub IsOldLength : RewrapForms → ℕ → Type 0
+IsOldLength (Changed old new) len = IsTextLength old len
+IsOldLength Kept len = ⊥
+
+-- the text is no wrapping under the old KEK: its length is legal in no old form, or no key stands with it
+abbrev pub IsNoOld : RewrapForms → (List ℕ → List ℕ) → List ℕ → Type 0
+IsNoOld (Changed old new) E text = (¬ IsTextLength old (length text)) ⊎ HasNoWrapping old E text
+IsNoOld Kept E text = (¬ IsSomeTextLength (length text)) ⊎ HasNoForm E text
+
+-- the forms of a rewrapping from the new KEK to itself: the answer's on both sides
+abbrev pub to_itself : RewrapForms → RewrapForms
+to_itself (Changed old new) = Changed new new
+to_itself Kept = Kept
+
+-- the text is no wrapping under the new KEK, in the form that an answer would have
+abbrev pub IsNoNew : RewrapForms → (List ℕ → List ℕ) → List ℕ → Type 0
+IsNoNew forms F text = (refusal : InPlaceFault) × Rewraps (to_itself forms) F F text (Err refusal)
+
+-- The text is no wrapping under the old KEK, but the one under the new KEK of one key, in the form that an answer would
+-- have, and is answered as it is.
+pub record IsPassed (forms : RewrapForms) (E F : List ℕ → List ℕ) (text answer : List ℕ) : Type 0 where
+  pub no_old : IsNoOld forms E text
+  pub new : IsRewrappedAs (to_itself forms) F F text answer
+  pub as_it_is : answer ≡ text
+
+-- The answer is the wrapping under the new KEK of the one key whose wrapping the text is under the old KEK or, where there
+-- is none, under the new one. So what an answer is answered is the answer again, unless it is a wrapping under the old
+-- KEK, too.
+pub record IsRewrappedOrPassed (forms : RewrapForms) (E F : List ℕ → List ℕ) (text answer : List ℕ) : Type 0 where
+  pub rewrapped : IsRewrappedAs forms E F text answer ⊎ IsPassed forms E F text answer
+  pub again : IsNoOld forms E answer → IsPassed forms E F answer answer
+
+-- what a rewrapping makes of the text, that passes what is wrapped under the new KEK already or does not
+abbrev pub Makes : Bool → RewrapForms → (List ℕ → List ℕ) → (List ℕ → List ℕ) → List ℕ → Result (List ℕ) InPlaceFault → Type 0
+Makes false forms E F text answer = Rewraps forms E F text answer
+Makes true forms E F text (Ok answer) = IsRewrappedOrPassed forms E F text answer
+Makes true forms E F text (Err refusal) = Rewraps forms E F text (Err refusal) × (IsNoOld forms E text → IsNoNew forms F text)

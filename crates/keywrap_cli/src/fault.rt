@@ -1,13 +1,14 @@
 //! Why the program ends without its answer: the line on standard error and the exit status.
 
 use crate::drilling::DrillFault;
+use crate::engine::job_fault;
 use crate::initial_value::IvFault;
 use crate::job::JobFault;
-use crate::line_job::LineRefusal;
 use crate::report::VectorsFault;
 use crate::statuses;
 use key_files::{FileFault, HexWriteFault, WriteFault};
 use key_lines::LineFault;
+use key_wrap::InPlaceFault;
 use std::alloc::AllocError;
 use std::fmt;
 use thiserror::Error;
@@ -39,6 +40,9 @@ pub enum ProgramFault {
     /// A line of the input was refused.
     #[error("{0}")]
     Line(RefusedLine),
+    /// The input has no line.
+    #[error("no lines")]
+    NoLines,
     /// A drill was refused.
     #[error("{0}")]
     Drill(DrillFault),
@@ -57,7 +61,7 @@ pub enum ProgramFault {
 #[derive(Clone, Copy, Debug)]
 pub struct RefusedLine {
     pub line: u64,
-    pub fault: LineFault<LineRefusal>,
+    pub fault: LineFault<InPlaceFault>,
 }
 
 impl fmt::Display for RefusedLine {
@@ -70,14 +74,6 @@ impl fmt::Display for RefusedLine {
                 write!(f, "line {line}: {fault}")
             }
         }
-    }
-}
-
-// What is said of one key that is refused so.
-fn job_fault(refusal: LineRefusal) -> JobFault {
-    match refusal {
-        LineRefusal::BadLength => JobFault::BadLength,
-        LineRefusal::Integrity => JobFault::Integrity,
     }
 }
 
@@ -110,6 +106,7 @@ impl ProgramFault {
             | ProgramFault::Flush => statuses::INPUT_OUTPUT,
             ProgramFault::Job(fault) => job_status(fault),
             ProgramFault::Line(refused) => line_status(refused.fault),
+            ProgramFault::NoLines => statuses::BAD_LENGTH,
             ProgramFault::Drill(fault) => drill_status(fault),
             ProgramFault::Memory => statuses::MEMORY,
         }
@@ -129,7 +126,7 @@ fn job_status(fault: &JobFault) -> u8 {
     }
 }
 
-fn line_status(fault: LineFault<LineRefusal>) -> u8 {
+fn line_status(fault: LineFault<InPlaceFault>) -> u8 {
     match fault {
         LineFault::Refused(refusal) => job_status(&job_fault(refusal)),
         LineFault::Input(FileFault::Memory) => statuses::MEMORY,

@@ -3,16 +3,17 @@
 ghost use Rattle.std.specs.Prelude.{◌≡◌, IsOk};
 ghost use Rattle.keywrap_cli.specs.Job.{RunsJob, RunsJobWith, WritesTheKey, WritesTheKeyWith};
 ghost use Rattle.keywrap_cli.specs.Job.{plain_task};
-ghost use Rattle.keywrap_cli.specs.Output.{job_of};
+ghost use Rattle.keywrap_cli.specs.Answers.{job_of};
 ghost use Rattle.keywrap_cli.specs.Readings.{kek_fault_of};
 
 use crate::convert::Direction;
-use crate::files::read_input;
+use crate::engine::{job_answer, run_input};
 use crate::kek_file::{KekFault, read_kek};
-use crate::output::write_output;
+use crate::key_job::KeyJob;
 use key_files::FileFault;
 use key_wrap::{Form, InitialValue};
 use std::alloc::Global;
+use std::cell::Cell;
 use std::io::{Read, Write};
 use thiserror::Error;
 
@@ -176,12 +177,19 @@ pub fn run<K: Read, R: Read, W: Write>(
         → WritesTheKeyWith iv.now task (K.remaining kek.old) (K.remaining kek.new)
         (R.remaining input.old) (R.remaining input.new) (W.contents out.old) (W.contents out.new) }
 {
-    let aes = match read_kek(alloc, task.kek, kek) {
-        Ok(aes) => aes,
+    let pair = match read_kek(alloc, task.kek, kek) {
+        Ok(pair) => pair,
         Err(fault) => return Err(kek_fault(fault)),
     };
-    let bytes = read_input(alloc, task.input, input)?;
-    write_output(alloc, iv, task, &aes, &bytes, out)
+    let job = KeyJob {
+        alloc,
+        iv: *iv,
+        task,
+        pair,
+        neither: Cell::new(false),
+    };
+    let outcome = run_input(alloc, task.input, &job, input, out);
+    job_answer(task.job, outcome)
 }
 
 /// The fault of a job for one of its KEK.

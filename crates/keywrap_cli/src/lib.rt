@@ -4,22 +4,22 @@
 #![tactic(auto)]
 
 mod convert;
+mod convert_into;
 mod drilling;
+mod engine;
 mod fault;
 mod files;
 mod flushed;
 mod initial_value;
 mod job;
 mod kek_file;
+mod key_job;
 mod keyed;
-mod line_convert;
-mod line_job;
 mod lines;
-mod output;
 mod report;
 mod rewrap;
-mod rewrap_kept;
-mod rewrap_line;
+mod rewrap_job;
+mod rewrapping;
 pub mod statuses;
 #[cfg(test)]
 mod tests;
@@ -32,10 +32,8 @@ pub use fault::{Line, ProgramFault, RefusedLine};
 pub use flushed::{run_drill, run_vectors, write_help};
 pub use initial_value::{IvFault, parse_iv};
 pub use job::{Done, Job, JobFault, Notation, Task, run_job, run_with};
-pub use keyed::{Keyed, Rewrapping};
-pub use line_job::LineRefusal;
+pub use keyed::Keyed;
 pub use lines::{LinesDone, LinesFault, run_job_lines, run_rewrap_lines};
 pub use report::{VectorsFault, vectors};
-pub use rewrap::run_rewrap;
-pub use rewrap_kept::run_rewrap_keeping_form;
-pub use rewrap_line::RewrapForms;
+pub use rewrap::{run_rewrap, run_rewrap_keeping_form};
+pub use rewrapping::{RewrapForms, Rewrapping};

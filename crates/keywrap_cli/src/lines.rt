@@ -1,17 +1,22 @@
 //! Many keys in one run: each line of the input is a key or a wrapped key in hex, and its answer
 //! stands on the same line of the output.
 
-ghost use Rattle.std.specs.Prelude.{IfSome};
-ghost use Rattle.keywrap_cli.specs.Lines.{IsAnswerOf, IsPastKeks, RunsJobLines, RunsOver};
-ghost use Rattle.keywrap_cli.specs.Lines.{RunsRewrapLines, WritesJobLines, WritesRewrapLines};
+ghost use Rattle.std.specs.Prelude.{◌≡◌, IfSome};
+ghost use Rattle.keywrap_cli.specs.Answers.{in_hex, lines_of};
+ghost use Rattle.keywrap_cli.specs.Rewrapping.{rewrapping};
+ghost use Rattle.keywrap_cli.specs.Engine.{IsPastKeks};
+ghost use Rattle.keywrap_cli.specs.Lines.{RunsJobLines, RunsRewrapLines, WritesJobLines};
+ghost use Rattle.keywrap_cli.specs.Lines.{WritesRewrapLines};
 
+use crate::engine::{lines_answer, run_over};
 use crate::job::{Done, JobFault, Notation, Task, kek_fault};
 use crate::kek_file::read_kek;
-use crate::line_job::{JobLines, LineRefusal};
+use crate::key_job::KeyJob;
 use crate::rewrap::new_kek_fault;
-use crate::rewrap_line::{RewrapForms, RewrapLines};
-use key_lines::{LineJob, RefusalLog, RunFault, run_all_lines, run_lines};
-use key_wrap::InitialValue;
+use crate::rewrap_job::RewrapJob;
+use crate::rewrapping::{RewrapForms, Rewrapping};
+use key_lines::{RefusalLog, RunFault};
+use key_wrap::{InPlaceFault, InitialValue};
 use std::alloc::Global;
 use std::cell::Cell;
 use std::io::{BufRead, Read, Write};
@@ -21,6 +26,8 @@ use std::io::{BufRead, Read, Write};
 pub struct LinesDone {
     /// How many lines were answered.
     pub lines: u64,
+    /// How many of them were wrapped under the new KEK already. No contract says so: tests do.
+    pub passed: u64,
     /// Neither where a check wrote `none` for some line. No contract says so: tests do.
     pub done: Done,
 }
@@ -32,7 +39,7 @@ pub enum LinesFault {
     /// read of the input, and nothing written.
     Kek(JobFault),
     /// The run was stopped.
-    Run(RunFault<LineRefusal>),
+    Run(RunFault<InPlaceFault>),
 }
 
 /// Reads the KEK, and then answers each line of the input as `run_job` answers an input in hex,
@@ -40,7 +47,7 @@ pub enum LinesFault {
 ///
 /// The run stops at the first line that is refused; where it `goes_on`, an empty line stands for
 /// the answer to a line that is refused for itself, and the log is told. It does not flush.
-pub fn run_job_lines<K: Read, L: RefusalLog<LineRefusal>, R: BufRead, W: Write>(
+pub fn run_job_lines<K: Read, L: RefusalLog<InPlaceFault>, R: BufRead, W: Write>(
     alloc: Global,
     iv: &InitialValue,
     task: Task,
@@ -63,20 +70,25 @@ pub fn run_job_lines<K: Read, L: RefusalLog<LineRefusal>, R: BufRead, W: Write>(
         Ok(pair) => pair,
         Err(fault) => return Err(LinesFault::Kek(kek_fault(fault))),
     };
-    let job = JobLines {
+    let job = KeyJob {
         alloc,
         iv: *iv,
-        task,
+        task: in_hex(task),
         pair,
         neither: Cell::new(false),
     };
     let answer = run_over(alloc, &job, goes_on, log, input, out);
-    lines_answer(answer, job.neither.get())
+    let done = if job.neither.get() {
+        Done::Neither
+    } else {
+        Done::Written
+    };
+    lines_answer(answer, 0, done)
 }
 
 /// Reads the old KEK and the new one, and then answers each line of the input as `run_rewrap`
 /// answers an input in hex. It stops, and goes on, as `run_job_lines` does.
-pub fn run_rewrap_lines<K: Read, N: Read, L: RefusalLog<LineRefusal>, R: BufRead, W: Write>(
+pub fn run_rewrap_lines<K: Read, N: Read, L: RefusalLog<InPlaceFault>, R: BufRead, W: Write>(
     alloc: Global,
     forms: RewrapForms,
     kek_notation: Notation,
@@ -87,7 +99,7 @@ pub fn run_rewrap_lines<K: Read, N: Read, L: RefusalLog<LineRefusal>, R: BufRead
     input: &mut R,
     out: &mut W,
 ) -> Result<LinesDone, LinesFault>
-    ensures run { RunsRewrapLines forms kek_notation goes_on
+    ensures run { RunsRewrapLines (rewrapping forms Notation.Hex kek_notation) goes_on
         (K.remaining old_kek.old) (K.remaining old_kek.new)
         (N.remaining new_kek.old) (N.remaining new_kek.new)
         (R.remaining input.old) (R.remaining input.new) (W.contents out.old) (W.contents out.new)
@@ -96,56 +108,77 @@ pub fn run_rewrap_lines<K: Read, N: Read, L: RefusalLog<LineRefusal>, R: BufRead
     // What was written are the answers to the first lines, in order: each is the wrapping of the
     // very key whose wrapping the line is.
     ensures headline { IsPastKeks result → IfSome (R.remaining input.old) (λ text.
-        WritesRewrapLines forms kek_notation goes_on
+        WritesRewrapLines (rewrapping forms Notation.Hex kek_notation) goes_on
         (K.remaining old_kek.old) (K.remaining old_kek.new)
         (N.remaining new_kek.old) (N.remaining new_kek.new) text
         (W.contents out.old) (W.contents out.new) result) }
 {
-    let old = match read_kek(alloc, kek_notation, old_kek) {
+    let task = Rewrapping {
+        forms,
+        passes_new: false,
+        input: Notation::Hex,
+        kek: kek_notation,
+    };
+    rewrap_lines(alloc, task, goes_on, log, old_kek, new_kek, input, out)
+}
+
+/// A rewrapping of lines, whatever the task's notation of the input.
+pub fn rewrap_lines<K: Read, N: Read, L: RefusalLog<InPlaceFault>, R: BufRead, W: Write>(
+    alloc: Global,
+    task: Rewrapping,
+    goes_on: bool,
+    log: &L,
+    old_kek: &mut K,
+    new_kek: &mut N,
+    input: &mut R,
+    out: &mut W,
+) -> Result<LinesDone, LinesFault>
+    ensures run { RunsRewrapLines task goes_on (K.remaining old_kek.old) (K.remaining old_kek.new)
+        (N.remaining new_kek.old) (N.remaining new_kek.new)
+        (R.remaining input.old) (R.remaining input.new) (W.contents out.old) (W.contents out.new)
+        result }
+    ensures headline { IsPastKeks result → IfSome (R.remaining input.old) (λ text.
+        WritesRewrapLines task goes_on (K.remaining old_kek.old) (K.remaining old_kek.new)
+        (N.remaining new_kek.old) (N.remaining new_kek.new) text
+        (W.contents out.old) (W.contents out.new) result) }
+{
+    let old = match read_kek(alloc, task.kek, old_kek) {
         Ok(old) => old,
         Err(fault) => return Err(LinesFault::Kek(kek_fault(fault))),
     };
-    let new = match read_kek(alloc, kek_notation, new_kek) {
+    let new = match read_kek(alloc, task.kek, new_kek) {
         Ok(new) => new,
         Err(fault) => return Err(LinesFault::Kek(new_kek_fault(fault))),
     };
-    let job = RewrapLines { forms, old, new };
+    let job = RewrapJob {
+        task: lines_of(task),
+        old,
+        new,
+        passed: Cell::new(0),
+    };
     let answer = run_over(alloc, &job, goes_on, log, input, out);
-    lines_answer(answer, false)
+    lines_answer(answer, job.passed.get(), Done::Written)
 }
 
-// A run of a job, which goes on after refusals or not.
-fn run_over<J: LineJob, L: RefusalLog<J::Refusal>, R: BufRead, W: Write>(
-    alloc: Global,
-    job: &J,
-    goes_on: bool,
-    log: &L,
-    input: &mut R,
-    out: &mut W,
-) -> Result<u64, RunFault<J::Refusal>>
-    ensures { RunsOver goes_on (J.answers job.now) (R.remaining input.old) (R.remaining input.new)
-        (W.contents out.old) (W.contents out.new) result }
+// Lines are in hex.
+fn in_hex(task: Task) -> Task
+    ensures { result ≡ in_hex task }
 {
-    if goes_on {
-        run_all_lines(alloc, job, log, input, out)
-    } else {
-        run_lines(alloc, job, input, out)
+    Task {
+        job: task.job,
+        form: task.form,
+        input: Notation::Hex,
+        kek: task.kek,
     }
 }
 
-fn lines_answer(
-    answer: Result<u64, RunFault<LineRefusal>>,
-    neither: bool,
-) -> Result<LinesDone, LinesFault>
-    ensures { IsAnswerOf answer result }
+fn lines_of(task: Rewrapping) -> Rewrapping
+    ensures { result ≡ lines_of task }
 {
-    let done = if neither {
-        Done::Neither
-    } else {
-        Done::Written
-    };
-    match answer {
-        Ok(lines) => Ok(LinesDone { lines, done }),
-        Err(fault) => Err(LinesFault::Run(fault)),
+    Rewrapping {
+        forms: task.forms,
+        passes_new: task.passes_new,
+        input: Notation::Hex,
+        kek: task.kek,
     }
 }

@@ -1,18 +1,20 @@
-//! Rewrapping: from one KEK to another, with no key written.
+//! Rewrapping one key: from one KEK to another, with no key written.
 
 ghost use Rattle.std.specs.Prelude.{◌≡◌, IsOk};
+ghost use Rattle.keywrap_cli.specs.Answers.{IsWritten};
+ghost use Rattle.keywrap_cli.specs.Engine.{IsDoneAs, output_of};
 ghost use Rattle.keywrap_cli.specs.Readings.{new_kek_fault_of};
-ghost use Rattle.keywrap_cli.specs.Rewrapping.{NewTextAnswer, RunsRewrap, WritesTheNewText};
-ghost use Rattle.keywrap_cli.specs.Rewrapping.{rewrapping};
+ghost use Rattle.keywrap_cli.specs.Rewrapping.{RunsRewrap, WritesTheNewText, rewrapping};
 
-use crate::files::read_input;
+use crate::engine::run_input;
 use crate::job::{Done, JobFault, Notation, kek_fault};
 use crate::kek_file::{KekFault, read_kek};
-use crate::output::{job_fault, send};
-use block_pair::BlockPair;
+use crate::rewrap_job::RewrapJob;
+use crate::rewrapping::{RewrapForms, Rewrapping};
 use key_files::FileFault;
-use key_wrap::{Form, rewrap};
+use key_wrap::Form;
 use std::alloc::Global;
+use std::cell::Cell;
 use std::io::{Read, Write};
 
 /// Reads the old KEK, the new KEK and a wrapped key under the old one, and writes the wrapping of
@@ -20,8 +22,8 @@ use std::io::{Read, Write};
 /// never written.
 ///
 /// The first that applies is answered: KekFile, KekLength, NewKekFile, NewKekLength, InputFile,
-/// BadLength of the wrapped key, Memory, Integrity, BadLength of the key, Memory of the hex output,
-/// Write. Where memory runs out while a file is read, Memory is answered where that file's fault
+/// BadLength of the wrapped key, Integrity, BadLength of the key, Memory of the output, Write.
+/// Where memory runs out while a file is read, Memory is answered where that file's fault
 /// would be. A file is read only after what comes before it has passed. Nothing is written before
 /// the whole output is made, and the call does not flush. No contract says where Memory stands:
 /// tests do.
@@ -36,39 +38,107 @@ pub fn run_rewrap<K: Read, N: Read, R: Read, W: Write>(
     input: &mut R,
     out: &mut W,
 ) -> Result<Done, JobFault>
-    ensures run { RunsRewrap (rewrapping old_form new_form input_notation kek_notation)
+    ensures run { RunsRewrap
+        (rewrapping (RewrapForms.Changed old_form new_form) input_notation kek_notation)
         (K.remaining old_kek.old) (K.remaining old_kek.new)
         (N.remaining new_kek.old) (N.remaining new_kek.new)
         (R.remaining input.old) (R.remaining input.new)
         (W.contents out.old) (W.contents out.new) result }
 
     // What is written wraps exactly the key that the input was the wrapping of.
-    ensures headline { IsOk result
-        → WritesTheNewText (rewrapping old_form new_form input_notation kek_notation)
+    ensures headline { IsOk result → WritesTheNewText
+        (rewrapping (RewrapForms.Changed old_form new_form) input_notation kek_notation)
         (K.remaining old_kek.old) (K.remaining old_kek.new)
         (N.remaining new_kek.old) (N.remaining new_kek.new)
         (R.remaining input.old) (R.remaining input.new)
         (W.contents out.old) (W.contents out.new) }
 {
-    let old = match read_kek(alloc, kek_notation, old_kek) {
-        Ok(aes) => aes,
+    let forms = RewrapForms::Changed {
+        old: old_form,
+        new: new_form,
+    };
+    let task = Rewrapping {
+        forms,
+        passes_new: false,
+        input: input_notation,
+        kek: kek_notation,
+    };
+    rewrap(alloc, task, old_kek, new_kek, input, out)
+}
+
+/// `run_rewrap`, but the wrapped key is taken in whichever form it is a wrapping, and keeps that
+/// form.
+///
+/// It answers as `run_rewrap` does: BadLength where the wrapped key's length is legal in neither
+/// form, and Integrity where it is a wrapping in neither.
+pub fn run_rewrap_keeping_form<K: Read, N: Read, R: Read, W: Write>(
+    alloc: Global,
+    input_notation: Notation,
+    kek_notation: Notation,
+    old_kek: &mut K,
+    new_kek: &mut N,
+    input: &mut R,
+    out: &mut W,
+) -> Result<Done, JobFault>
+    ensures run { RunsRewrap (rewrapping RewrapForms.Kept input_notation kek_notation)
+        (K.remaining old_kek.old) (K.remaining old_kek.new)
+        (N.remaining new_kek.old) (N.remaining new_kek.new)
+        (R.remaining input.old) (R.remaining input.new)
+        (W.contents out.old) (W.contents out.new) result }
+
+    // What is written wraps exactly the key that the input was the wrapping of, in the form of the
+    // input, which is one form alone.
+    ensures headline { IsOk result
+        → WritesTheNewText (rewrapping RewrapForms.Kept input_notation kek_notation)
+        (K.remaining old_kek.old) (K.remaining old_kek.new)
+        (N.remaining new_kek.old) (N.remaining new_kek.new)
+        (R.remaining input.old) (R.remaining input.new)
+        (W.contents out.old) (W.contents out.new) }
+{
+    let task = Rewrapping {
+        forms: RewrapForms::Kept,
+        passes_new: false,
+        input: input_notation,
+        kek: kek_notation,
+    };
+    rewrap(alloc, task, old_kek, new_kek, input, out)
+}
+
+/// A rewrapping of one key.
+pub fn rewrap<K: Read, N: Read, R: Read, W: Write>(
+    alloc: Global,
+    task: Rewrapping,
+    old_kek: &mut K,
+    new_kek: &mut N,
+    input: &mut R,
+    out: &mut W,
+) -> Result<Done, JobFault>
+    ensures run { RunsRewrap task (K.remaining old_kek.old) (K.remaining old_kek.new)
+        (N.remaining new_kek.old) (N.remaining new_kek.new)
+        (R.remaining input.old) (R.remaining input.new)
+        (W.contents out.old) (W.contents out.new) result }
+    ensures headline { IsOk result → WritesTheNewText task
+        (K.remaining old_kek.old) (K.remaining old_kek.new)
+        (N.remaining new_kek.old) (N.remaining new_kek.new)
+        (R.remaining input.old) (R.remaining input.new)
+        (W.contents out.old) (W.contents out.new) }
+{
+    let old = match read_kek(alloc, task.kek, old_kek) {
+        Ok(old) => old,
         Err(fault) => return Err(kek_fault(fault)),
     };
-    let new = match read_kek(alloc, kek_notation, new_kek) {
-        Ok(aes) => aes,
+    let new = match read_kek(alloc, task.kek, new_kek) {
+        Ok(new) => new,
         Err(fault) => return Err(new_kek_fault(fault)),
     };
-    let text = read_input(alloc, input_notation, input)?;
-    write_rewrapped(
-        alloc,
-        old_form,
-        new_form,
-        input_notation,
-        &old,
-        &new,
-        &text,
-        out,
-    )
+    let job = RewrapJob {
+        task,
+        old,
+        new,
+        passed: Cell::new(0),
+    };
+    let outcome = run_input(alloc, task.input, &job, input, out);
+    rewrap_answer(outcome)
 }
 
 /// The fault of a rewrapping for one of its new KEK.
@@ -82,21 +152,11 @@ pub fn new_kek_fault(fault: KekFault) -> JobFault
     }
 }
 
-// Makes the new wrapped key whole, and then writes it.
-fn write_rewrapped<O: BlockPair, N: BlockPair, W: Write>(
-    alloc: Global,
-    old_form: Form,
-    new_form: Form,
-    notation: Notation,
-    old: &O,
-    new: &N,
-    text: &[u8],
-    out: &mut W,
-) -> Result<Done, JobFault>
-    ensures { NewTextAnswer old_form (O.encrypted old.now) new_form (N.encrypted new.now) notation
-        text.now (W.contents out.old) (W.contents out.new) result }
+fn rewrap_answer(outcome: Result<Vec<u8>, JobFault>) -> Result<Done, JobFault>
+    ensures { IsDoneAs IsWritten (output_of outcome) result }
 {
-    let answer = rewrap(alloc, old, old_form, new, new_form, text).map_err(job_fault)?;
-    send(alloc, notation, &answer, out)?;
-    Ok(Done::Written)
+    match outcome {
+        Ok(_) => Ok(Done::Written),
+        Err(fault) => Err(fault),
+    }
 }

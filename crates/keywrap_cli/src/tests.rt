@@ -8,6 +8,7 @@ mod faults;
 mod hostile;
 mod initial_values;
 mod jobs;
+mod keyed;
 mod limits;
 mod rewraps;
 mod standards;

@@ -2,8 +2,8 @@
 
 use crate::help::{
     CHECK_EXAMPLE, CHECK_USAGE, DRILL_EXAMPLE, DRILL_USAGE, KEEP_FORM_HELP, KEEP_GOING_HELP,
-    LINES_HELP, NOTES, OUTPUT_HELP, REWRAP_EXAMPLE, REWRAP_USAGE, UNWRAP_EXAMPLE, UNWRAP_USAGE,
-    VECTORS_EXAMPLE, VECTORS_USAGE, WRAP_EXAMPLE, WRAP_USAGE,
+    LINES_HELP, NOTES, OUTPUT_HELP, PASS_NEW_HELP, REWRAP_EXAMPLE, REWRAP_USAGE, UNWRAP_EXAMPLE,
+    UNWRAP_USAGE, VECTORS_EXAMPLE, VECTORS_USAGE, WRAP_EXAMPLE, WRAP_USAGE,
 };
 use clap::{Arg, ArgAction, Command};
 use std::alloc::{AllocError, Global};
@@ -150,6 +150,14 @@ const KEEP_FORM: Argument<'static> = Argument {
     ..FLAG
 };
 
+// A rotation that was cut off is begun again with it.
+const PASS_NEW: Argument<'static> = Argument {
+    name: "pass-new",
+    help: "Answers what is under the new KEK already as it is",
+    long_help: Some(PASS_NEW_HELP),
+    ..FLAG
+};
+
 const RAW: Argument<'static> = Argument {
     name: "raw",
     help: "Input and output are raw bytes; every byte counts",
@@ -218,8 +226,8 @@ const SUBCOMMANDS: [Subcommand<'static>; 6] = [
         usage: REWRAP_USAGE,
         example: REWRAP_EXAMPLE,
         arguments: &[
-            KEK, NEW_KEK, INPUT, OUTPUT, OLD_PADDED, NEW_PADDED, KEEP_FORM, RAW, RAW_KEKS, LINES,
-            KEEP_GOING, QUIET, VERBOSE,
+            KEK, NEW_KEK, INPUT, OUTPUT, OLD_PADDED, NEW_PADDED, KEEP_FORM, PASS_NEW, RAW,
+            RAW_KEKS, LINES, KEEP_GOING, QUIET, VERBOSE,
         ],
     },
     Subcommand {

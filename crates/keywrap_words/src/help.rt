@@ -24,28 +24,36 @@ pub const VECTORS_USAGE: &str = "keywrap vectors";
 pub const OUTPUT_HELP: &str = "\
 Writes FILE, not standard output (-). FILE is replaced only by the
 whole answer, and stays as it is after a refusal. It may be the file
-of --input; no KEK file, folder, device, pipe or link. A new FILE, and
-each of unwrap, is for its owner alone; else FILE keeps its owner and
-mode";
+of --input, but with --keep-going; no KEK file, folder, device, pipe
+or link. A new FILE, and each of unwrap, is for its owner alone; else
+FILE keeps its owner and mode";
 
 /// What `--lines` does.
 pub const LINES_HELP: &str = "\
-Many keys in one run: each line of the input is a hex file of its own,
-and its answer stands on the same line of the output. It stops at the
-first line that is refused, and names it by its number, from 1: the
-answers before it are written, and FILE of --output stays as it is.
-Not with --raw";
+Many keys in one run: each line of the input holds one text of hex,
+with spaces and tabs at its ends alone, and its answer stands on the
+same line of the output. It stops at the first line that is refused,
+and names it by its number, from 1: the answers before it are written,
+and FILE of --output stays as it is. An input without a line is
+refused. Not with --raw";
 
 /// What `--keep-going` does.
 pub const KEEP_GOING_HELP: &str = "\
 With --lines: a line that is refused gets an empty line as its answer
 and a line on standard error, and the run goes on. At its end the
-status is that of the first refusal";
+status is that of the first refusal. The input is not replaced: FILE
+of --output is another";
 
 /// What `--keep-form` does.
 pub const KEEP_FORM_HELP: &str = "\
 Takes the wrapped key in whichever form it is a wrapping, and the new
 one keeps that form. Not with --padded or --new-padded";
+
+/// What `--pass-new` does.
+pub const PASS_NEW_HELP: &str = "\
+What is no wrapping under the KEK, but one under the new KEK already,
+in the form of an answer, is answered as it is: a rotation that was
+cut off is begun again, and what is damaged is still refused";
 
 /// What hex may hold, what each exit status says, and what to try.
 pub const NOTES: &str = "\
@@ -61,7 +69,8 @@ Exit status:
      --raw-kek.
   4  the key or the wrapped key has no legal length in this form
      A plain key has 16 bytes or more, a multiple of 8, and its wrapped key
-     has 8 more. For a key of another length use --padded.
+     has 8 more. For a key of another length use --padded. With --lines: the
+     input has no line.
   5  the integrity check failed; check found no wrapping; a vector failed
      It has another KEK, the other form or an --iv, or it is damaged.
      keywrap check says which form fits the KEK.
@@ -74,7 +83,9 @@ Exit status:
 A refusal is one line on standard error; a refused command line is a message
 with the usage, and one line where the value of --iv or raw bytes to a terminal
 are the cause. Where standard error is a terminal, and with --verbose, a second
-line names the file and says why.
+line names the file and says why; and after an answer a line says what may not
+have been meant: raw bytes that are text, a padded form that became plain. With
+--lines the last line says how many were answered.
 wrap, unwrap, rewrap, check and drill write nothing before their whole answer
 is right; vectors writes its lines, those that say failed too, once all are
 made. With --lines both are said of each line of the input: the refusal names
@@ -117,11 +128,12 @@ Example, in an empty folder, with the first and the third vector of RFC 3394:
   $ echo 000102030405060708090a0b0c0d0e0f > old
   $ echo 000102030405060708090a0b0c0d0e0f101112131415161718191a1b1c1d1e1f > new
   $ echo 1fa68b0a8112b447aef34bd8fb5a7b829d3e862371d2cfe5 > wrapped.hex
-  $ keywrap rewrap --kek old --new-kek new < wrapped.hex
+  $ keywrap rewrap --keep-form --kek old --new-kek new < wrapped.hex
   64e8c3f9ce0f5ba263e9777905818a2a93c8191e7d6e8ae7
 
 What hex may hold, and what each exit status says: keywrap --help.
 The new wrapped key is as long as the old one. The key itself is not written.
+Without --keep-form and --new-padded the new one has the plain form.
 From --padded to the plain form only a key of 16 bytes or more, a multiple of
 8, can go; another is status 4.";
 

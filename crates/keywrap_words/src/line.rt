@@ -46,6 +46,8 @@ pub struct CommandLine<'a> {
     pub new_padded: bool,
     /// The new wrapped key keeps the form of the old one.
     pub keep_form: bool,
+    /// What is wrapped under the new KEK already is answered as it is.
+    pub pass_new: bool,
     /// Each line of the input is answered.
     pub lines: bool,
     /// A refused line is passed.
@@ -148,6 +150,7 @@ fn taken<'a>(subcommand: Option<(&'a str, &ArgMatches<'a>)>) -> Option<CommandLi
         padded: found.get_flag("padded"),
         new_padded: found.get_flag("new-padded"),
         keep_form: found.get_flag("keep-form"),
+        pass_new: found.get_flag("pass-new"),
         lines: found.get_flag("lines"),
         keep_going: found.get_flag("keep-going"),
         quiet: found.get_flag("quiet"),

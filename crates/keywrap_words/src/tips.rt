@@ -17,12 +17,33 @@ const NEW_KEK: &str = "only rewrap takes --new-kek";
 
 const KEEP_FORM: &str = "only rewrap takes --keep-form";
 
+const PASS_NEW: &str = "only rewrap takes --pass-new";
+
 const LINES: &str = "--keep-going and --quiet go with --lines";
 
 const STDIN: &str = "a KEK on standard input is --kek /dev/stdin; a file of this name is ./-";
 
 const NEW_STDIN: &str =
     "a KEK on standard input is --new-kek /dev/stdin; a file of this name is ./-";
+
+const INPUT: &str = "the input is --input FILE, in short -i FILE";
+
+const OUTPUT: &str = "the answer goes into --output FILE, in short -o FILE";
+
+const OLD_KEK: &str = "the KEK of the wrapped key is --kek FILE; rewrap takes --new-kek FILE too";
+
+const OLD_PADDED: &str =
+    "of rewrap, --padded is the form of the wrapped key and --new-padded that of the new one";
+
+const KEY: &str = "the KEK is --kek FILE, and the key or the wrapped key --input FILE";
+
+const HEX: &str = "there is no such flag: without --raw and --raw-kek all is hex";
+
+const BASE64: &str = "there is no such flag: base64 -d decodes it, and --raw takes the bytes";
+
+const VERBOSE: &str = "--verbose has no short name, and -V is the version";
+
+const QUIET: &str = "--quiet has no short name, and goes with --lines";
 
 const HELP: &str = "keywrap --help shows the help, and keywrap COMMAND --help that of a command";
 
@@ -54,18 +75,38 @@ fn on_shown(alloc: Global, shown: &[String], error: &Error) -> Result<String, Al
     with_tip(alloc, shown, error)
 }
 
-/// The word with `\x1b` for an escape, and the like.
+/// The word with `\x1b` for an escape and `\u{202e}` for a character that turns the text around, and
+/// the like.
 pub fn escaped(alloc: Global, word: &str) -> Result<String, AllocError> {
     let mut shown = String::new(alloc);
     for c in word.chars() {
+        let code = c as u32;
         if c.is_control() {
-            let code = c as u32;
             write!(shown, "\\x{code:02x}")?;
+        } else if is_unseen(code) {
+            write!(shown, "\\u{{{code:x}}}")?;
         } else {
             shown.push(c)?;
         }
     }
     Ok(shown)
+}
+
+// Whether a terminal shows nothing for the character, or other text in another order or on another
+// line: Unicode's format characters and its separators of lines and paragraphs.
+fn is_unseen(code: u32) -> bool {
+    matches!(
+        code,
+        0xad | 0x61c
+            | 0x180e
+            | 0x200b..=0x200f
+            | 0x2028..=0x202e
+            | 0x2060..=0x206f
+            | 0xfeff
+            | 0xfff9..=0xfffb
+            | 0xe0001
+            | 0xe0020..=0xe007f
+    )
 }
 
 fn with_tip(alloc: Global, words: &[String], error: &Error) -> Result<String, AllocError> {
@@ -121,16 +162,45 @@ fn tip_on_argument(command: Option<Command>, said: &str) -> Option<&'static str>
         .strip_prefix("error: unexpected argument '")
         .unwrap_or("");
     let has_tip = said.contains(TIP);
+    if let (true, Some(tip)) = (takes_files(command), tip_on_guess(named)) {
+        return Some(tip);
+    }
     match command {
         Some(Command::Check) if named.starts_with("--padded'") => Some(CHECK),
         Some(Command::Wrap | Command::Unwrap | Command::Check) if named.starts_with("--new-kek'") =>
             { Some(NEW_KEK) }
         Some(Command::Wrap | Command::Unwrap | Command::Check)
             if named.starts_with("--keep-form'") => { Some(KEEP_FORM) }
-        Some(Command::Wrap | Command::Unwrap | Command::Rewrap | Command::Check)
-            if !has_tip && !named.starts_with("--") => { Some(FILES) }
+        Some(Command::Wrap | Command::Unwrap | Command::Check)
+            if named.starts_with("--pass-new'") => { Some(PASS_NEW) }
+        _ if takes_files(command) && !has_tip && !named.starts_with("--") => { Some(FILES) }
         Some(Command::Drill) if !has_tip || said.contains("tip: to pass") => Some(DRILL),
         None if !has_tip => Some(COMMANDS),
+        _ => None,
+    }
+}
+
+// Whether the command reads a KEK and an input.
+fn takes_files(command: Option<Command>) -> bool {
+    matches!(
+        command,
+        Some(Command::Wrap | Command::Unwrap | Command::Rewrap | Command::Check)
+    )
+}
+
+// What others call it. The argument stands before the first quote.
+fn tip_on_guess(named: &str) -> Option<&'static str> {
+    let (guess, _) = named.split_once('\'')?;
+    match guess {
+        "--in" => Some(INPUT),
+        "--out" => Some(OUTPUT),
+        "--old-kek" => Some(OLD_KEK),
+        "--old-padded" => Some(OLD_PADDED),
+        "--key" | "-K" => Some(KEY),
+        "--hex" => Some(HEX),
+        "--b64" | "--base64" => Some(BASE64),
+        "-v" => Some(VERBOSE),
+        "-q" => Some(QUIET),
         _ => None,
     }
 }

@@ -12,7 +12,7 @@ static RUNS: [(&[u8], Result<u64, RunFault<u8>>, &[u8]); 11] = [
     (b"00", Ok(1), b"00\n"),
     (b"00\n", Ok(1), b"00\n"),
     (
-        b"0102030405\n0a 0B\r\n\n7f",
+        b"0102030405\n0a0B\r\n\n7f",
         Ok(4),
         b"0102030405\n0a0b\n\n7f\n",
     ),
@@ -56,7 +56,7 @@ static RUNS: [(&[u8], Result<u64, RunFault<u8>>, &[u8]); 11] = [
         }),
         b"",
     ),
-    (b" 0\t0 \n\n", Ok(2), b"00\n\n"),
+    (b" 00 \n\n", Ok(2), b"00\n\n"),
 ];
 
 #[test]
@@ -71,6 +71,48 @@ fn answers_the_lines_before_the_first_refused_one(rt: HostRuntime) -> Result<(),
                 "of {text:?}"
             );
         }
+    }
+    Ok(())
+}
+
+// Blanks at the ends of a line and within it: the line, its answer, and where it is refused.
+static BLANKS: [(&[u8], &[u8], Option<usize>); 20] = [
+    (b" 0a0b", b"0a0b\n", None),
+    (b"\t0a0b", b"0a0b\n", None),
+    (b"\r0a0b", b"0a0b\n", None),
+    (b"0a0b ", b"0a0b\n", None),
+    (b"0a0b\t", b"0a0b\n", None),
+    (b"0a0b\r", b"0a0b\n", None),
+    (b" \t\r 0a0b\t \r\r", b"0a0b\n", None),
+    (b" ", b"\n", None),
+    (b"\r", b"\n", None),
+    (b"\t \r", b"\n", None),
+    (b"0a 0b", b"", Some(2)),
+    (b"0a\t0b", b"", Some(2)),
+    (b"0a\r0b", b"", Some(2)),
+    (b"0 a", b"", Some(1)),
+    (b"0 0 1", b"", Some(1)),
+    (b"11 0a0b0c0d", b"", Some(2)),
+    (b" \t0a0b 0c \r", b"", Some(6)),
+    (b"  0a0g 0b", b"", Some(5)),
+    (b" 0a0b \x0c", b"", Some(5)),
+    (b"\x0b0a0b", b"", Some(0)),
+];
+
+#[test]
+fn takes_blanks_at_the_ends_alone(rt: HostRuntime) -> Result<(), Fail> {
+    for (line, want, refused) in &BLANKS {
+        let mut input: &[u8] = line;
+        let mut out = Vec::new(rt.alloc());
+        let answer = run_lines(rt.alloc(), &Echo, &mut input, &mut out);
+        let wanted = match refused {
+            None => Ok(1),
+            Some(at) => Err(RunFault::AtLine {
+                line: 1,
+                fault: LineFault::Input(FileFault::BadDigit { at: *at }),
+            }),
+        };
+        assert!(rt; answer == wanted && out.as_slice() == *want, "of {line:?}");
     }
     Ok(())
 }

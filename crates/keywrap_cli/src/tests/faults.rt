@@ -7,7 +7,8 @@ use crate::job::JobFault;
 use key_files::FileFault;
 use std::test::Fail;
 
-static FAULTS: [(ProgramFault, &str, u8); 31] = [
+static FAULTS: [(ProgramFault, &str, u8); 32] = [
+    (ProgramFault::NoLines, "keywrap: no lines", 4),
     (
         ProgramFault::Job(JobFault::KekLength),
         "keywrap: key length is not 16, 24 or 32 bytes",

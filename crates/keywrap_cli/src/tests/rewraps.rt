@@ -17,16 +17,16 @@ pub const RAW_NEW_KEK: &[u8] = b"\x00\x01\x02\x03\x04\x05\x06\x07\x08\x09\x0A\x0
     \x10\x11\x12\x13\x14\x15\x16\x17\x18\x19\x1A\x1B\x1C\x1D\x1E\x1F";
 
 // The text of RFC 3394, section 4.3: the same key as that of section 4.1.
-const NEW_TEXT: &[u8] = b"64e8c3f9ce0f5ba263e9777905818a2a93c8191e7d6e8ae7\n";
+pub const NEW_TEXT: &[u8] = b"64e8c3f9ce0f5ba263e9777905818a2a93c8191e7d6e8ae7\n";
 
 const RAW_NEW_TEXT: &[u8] = b"\x64\xE8\xC3\xF9\xCE\x0F\x5B\xA2\x63\xE9\x77\x79\
     \x05\x81\x8A\x2A\x93\xC8\x19\x1E\x7D\x6E\x8A\xE7";
 
 // The padded wrapping of that key under this KEK, as OpenSSL answers it.
-const NEW_PADDED: &[u8] = b"afc860015ffe2d75bedf43c444fe58f4ad9d89c4ec71e23b\n";
+pub const NEW_PADDED: &[u8] = b"afc860015ffe2d75bedf43c444fe58f4ad9d89c4ec71e23b\n";
 
 // The wrapping of the 7 octets of RFC 5649, section 6, under this KEK, as OpenSSL answers it.
-const NEW_OF_7: &[u8] = b"443b17837bb39348610d19202df8a1f9\n";
+pub const NEW_OF_7: &[u8] = b"443b17837bb39348610d19202df8a1f9\n";
 
 const FIFTEEN: &[u8] = b"000102030405060708090a0b0c0d0e";
 

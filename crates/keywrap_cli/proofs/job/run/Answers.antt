@@ -1,20 +1,15 @@
--- Each return gives the call's record at the step that the call came to; the headline follows from the record.
-use Rattle.std.proofs.lemmas.Result.{err_from_is_err_and}
-use Rattle.keywrap_cli.proofs.Jobs.{answered, headline_of, stopped_at_input, stopped_at_kek}
+-- The KEK was read, and the engine says the rest; the headline follows from it.
+use Rattle.std.proofs.Common.{Ok}
+use Rattle.keywrap_cli.specs.Engine.{output_of}
+use Rattle.keywrap_cli.specs.Job.{RunsJobWith}
+use Rattle.keywrap_cli.proofs.Headlines.{key_headline}
 use Rattle.keywrap_cli.proofs.job.run.Goals as goal
-
-pub returns-in-Err-clause-run : goal.returns-in-Err-clause-run
-returns-in-Err-clause-run g c =
-    rw c.kek_fault.ensures (stopped_at_kek c.args.iv.now c.args.task _ _ _ _ c.in-Err.fault c.in-Err.ensures)
-
-pub returns-in_err-bytes-clause-run : goal.returns-in_err-bytes-clause-run
-returns-in_err-bytes-clause-run g c =
-    let p = err_from_is_err_and c.from_residual.result c.from_residual.ensures.1 in
-    rw (p.1, p.2)
-    (stopped_at_input c.args.iv.now c.args.task _ _ _ _ _ c.in-Ok.aes c.in_err-bytes.field-0.0 c.in-Ok.ensures c.in_err-bytes.ensures)
 
 pub returns : goal.returns
 returns g c =
-    let run = answered c.args.iv.now c.args.task _ _ _ _ _ _ c.in-Ok.aes c.in_ok-bytes.bytes c.write_output.result
-    c.in-Ok.ensures c.in_ok-bytes.ensures (rw c.deref.ensures.value at c.write_output.ensures) in
-    record { run = run; headline = headline_of c.args.iv.now c.args.task _ _ _ _ _ _ c.write_output.result run }
+    let run : RunsJobWith c.args.iv.now c.args.task _ _ _ _ _ _ c.job_answer.result = record {
+      found = Ok c.in-Ok.pair;
+      read = c.in-Ok.ensures;
+      rest = (output_of c.run_input-outcome.result, c.run_input-outcome.ensures, c.job_answer.ensures);
+    } in
+    record { run = run; headline = key_headline c.args.iv.now c.args.task _ _ _ _ _ _ c.job_answer.result run }

@@ -1,0 +1,119 @@
+/* provider.c: how long a wrap and an unwrap by EVP take, each with a context of its own, by
+ * OpenSSL's own provider and by ours, which stands as keywrap.so in the folder that is given. Both
+ * must answer the same bytes. They take turns, and the best time of each counts, by the processor
+ * time of this thread. bench/provider compiles and runs it. */
+
+#define _POSIX_C_SOURCE 200809L
+
+#include <openssl/evp.h>
+#include <openssl/provider.h>
+#include <stdint.h>
+#include <stdio.h>
+#include <string.h>
+#include <time.h>
+
+enum { THEIRS, OURS, SIDES, LONGEST = 4096, ROUNDS = 200 };
+static const double TURN_NS = 500000;
+static const char *const PROVIDERS[SIDES] = {"default", "keywrap"};
+
+/* One row: a cipher, a direction, and the key's length. */
+struct row {
+    const char *name;
+    int wraps, len;
+};
+
+static const struct row ROWS[] = {{"AES-128-WRAP", 1, 16},     {"AES-128-WRAP", 0, 16},
+                                  {"AES-256-WRAP", 1, 32},     {"AES-256-WRAP", 0, 32},
+                                  {"AES-256-WRAP", 1, 256},    {"AES-256-WRAP", 0, 256},
+                                  {"AES-256-WRAP", 1, 4096},   {"AES-256-WRAP", 0, 4096},
+                                  {"AES-256-WRAP-PAD", 1, 32}, {"AES-256-WRAP-PAD", 0, 32}};
+
+static uint8_t kek[32], key[LONGEST], text[LONGEST + 16];
+
+static double now(void) {
+    struct timespec t;
+    clock_gettime(CLOCK_THREAD_CPUTIME_ID, &t);
+    return (double)t.tv_sec * 1e9 + (double)t.tv_nsec;
+}
+
+/* The answer's length, or 0 at a refusal. */
+static int call(const EVP_CIPHER *cipher, int wraps, const uint8_t *in, int len, uint8_t *out) {
+    EVP_CIPHER_CTX *ctx = EVP_CIPHER_CTX_new();
+    int out_len = 0, more = 0;
+    int done = ctx != NULL && EVP_CipherInit_ex2(ctx, cipher, kek, NULL, wraps, NULL)
+               && EVP_CipherUpdate(ctx, out, &out_len, in, len)
+               && EVP_CipherFinal_ex(ctx, out + out_len, &more);
+    EVP_CIPHER_CTX_free(ctx);
+    return done ? out_len + more : 0;
+}
+
+/* Nanoseconds a call, over a turn of so many. */
+static double turn(const EVP_CIPHER *cipher, const struct row *row, unsigned calls) {
+    uint8_t out[LONGEST + 32];
+    double start = now();
+    for (unsigned i = 0; i < calls; i++)
+        call(cipher, row->wraps, row->wraps ? key : text, row->wraps ? row->len : row->len + 8,
+             out);
+    return (now() - start) / calls;
+}
+
+/* Whether both wrap to the same, and each unwraps that. */
+static int agree(EVP_CIPHER *const ciphers[], const struct row *row) {
+    uint8_t out[LONGEST + 32];
+    int text_len = row->len + 8;
+    if (call(ciphers[THEIRS], 1, key, row->len, text) != text_len) return 0;
+    for (int i = 0; i < SIDES; i++)
+        if (call(ciphers[i], 1, key, row->len, out) != text_len || memcmp(out, text, text_len) != 0
+            || call(ciphers[i], 0, text, text_len, out) != row->len
+            || memcmp(out, key, row->len) != 0)
+            return 0;
+    return 1;
+}
+
+static int time_row(const struct row *row) {
+    EVP_CIPHER *ciphers[SIDES];
+    double best[SIDES];
+    unsigned calls[SIDES];
+    for (int i = 0; i < SIDES; i++) {
+        char properties[32];
+        snprintf(properties, sizeof properties, "provider=%s", PROVIDERS[i]);
+        ciphers[i] = EVP_CIPHER_fetch(NULL, row->name, properties);
+        if (ciphers[i] == NULL) return 0;
+    }
+    if (!agree(ciphers, row)) return 0;
+    for (int i = 0; i < SIDES; i++) {
+        best[i] = turn(ciphers[i], row, 1);
+        calls[i] = (unsigned)(TURN_NS / best[i]) + 1;
+    }
+    for (int round = 0; round < ROUNDS; round++)
+        for (int i = 0; i < SIDES; i++) {
+            double time = turn(ciphers[i], row, calls[i]);
+            if (time < best[i]) best[i] = time;
+        }
+    printf("%-17s %5d  %-6s %9.0f %9.0f  %6.2f\n", row->name, row->len,
+           row->wraps ? "wrap" : "unwrap", best[THEIRS], best[OURS], best[OURS] / best[THEIRS]);
+    for (int i = 0; i < SIDES; i++) EVP_CIPHER_free(ciphers[i]);
+    return 1;
+}
+
+int main(int argc, char **argv) {
+    if (argc != 2 || !OSSL_PROVIDER_set_default_search_path(NULL, argv[1])) return 2;
+    for (int i = 0; i < SIDES; i++)
+        if (OSSL_PROVIDER_load(NULL, PROVIDERS[i]) == NULL) {
+            printf("the provider %s can't be loaded\n", PROVIDERS[i]);
+            return 1;
+        }
+    for (size_t i = 0; i < sizeof kek; i++) kek[i] = (uint8_t)(3 * i + 1);
+    for (size_t i = 0; i < sizeof key; i++) key[i] = (uint8_t)(7 * i);
+    printf(
+        "\nBy EVP, %s. Nanoseconds a call with its context, the best of %d rounds, and keywrap's"
+        " time to the default provider's:\n",
+        OpenSSL_version(OPENSSL_VERSION), ROUNDS);
+    printf("cipher              key  call     default   keywrap      to\n");
+    for (size_t i = 0; i < sizeof ROWS / sizeof *ROWS; i++)
+        if (!time_row(ROWS + i)) {
+            printf("%s: not the same bytes\n", ROWS[i].name);
+            return 1;
+        }
+    return 0;
+}

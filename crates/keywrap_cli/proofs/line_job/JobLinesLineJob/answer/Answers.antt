@@ -1,4 +1,0 @@
-use Rattle.keywrap_cli.proofs.line_job.JobLinesLineJob.answer.Goals as goal
-
-pub returns-in-Check-clause-answered : goal.returns-in-Check-clause-answered
-returns-in-Check-clause-answered g c = λ e. rw c.in-Check.is (rw (e, c.deref.ensures.value) at c.check_line.ensures)

@@ -1,0 +1,113 @@
+-- What the two kinds of job answer to bytes, an input's or a line's: a task under a KEK, and a rewrapping under two. An
+-- output is in the notation of the input. The plain form has the initial value `iv`.
+use Rattle.std.specs.Prelude.{◌≡◌, ⊤, ℕ, List, [], ◌∷◌, ◌++◌, length, codes, Result, Ok, Err}
+use Rattle.std.specs.Fmt.{decimal}
+use Rattle.key_lines.specs.declared.job.Outcome.{Outcome}
+use Rattle.key_lines.specs.declared.job.Outcome.TheVariants.{Answer, Refused, Memory}
+use Rattle.key_wrap.specs.Answer.{NoKey}
+use Rattle.key_wrap.specs.Forms.{Stands}
+use Rattle.key_wrap.specs.Kind.{IsKindOf}
+use Rattle.key_wrap.specs.declared.faults.InPlaceFault.{InPlaceFault}
+use Rattle.key_wrap.specs.declared.faults.InPlaceFault.TheVariants.{BadLength, Integrity}
+use Rattle.key_wrap.specs.declared.faults.UnwrapFault.{UnwrapFault}
+use Rattle.key_wrap.specs.declared.faults.UnwrapFault.TheVariants as unwraps
+use Rattle.key_wrap.specs.declared.forms.Form.{Form}
+use Rattle.key_wrap.specs.declared.forms.Kind.{Kind}
+use Rattle.key_wrap.specs.declared.forms.Kind.TheVariants as kinds
+use Rattle.keywrap_cli.specs.Conversion.{HasNoAnswer, IsAnswer, IsInputLength, IsKeyOf, IsTextOf}
+use Rattle.keywrap_cli.specs.Files.{printed}
+use Rattle.keywrap_cli.specs.Forms.{Makes}
+use Rattle.keywrap_cli.specs.declared.convert.Direction.{Direction}
+use Rattle.keywrap_cli.specs.declared.convert.Direction.TheVariants as directions
+use Rattle.keywrap_cli.specs.declared.job.Done.{Done}
+use Rattle.keywrap_cli.specs.declared.job.Done.TheVariants.{Written, Neither}
+use Rattle.keywrap_cli.specs.declared.job.Job.{Job}
+use Rattle.keywrap_cli.specs.declared.job.Job.TheVariants.{Wrap, Unwrap, Check}
+use Rattle.keywrap_cli.specs.declared.job.Notation.TheVariants.{Hex}
+use Rattle.keywrap_cli.specs.declared.job.Task.{Task}
+use Rattle.keywrap_cli.specs.declared.rewrapping.Rewrapping.{Rewrapping}
+
+-- the line of a check: the form and the key's length in decimal
+abbrev pub kind_line : Kind → List ℕ
+kind_line (kinds.Plain m) = codes "plain " ++ decimal m ++ 10 ∷ []
+kind_line (kinds.Padded m) = codes "padded " ++ decimal m ++ 10 ∷ []
+kind_line kinds.Neither = codes "none\n"
+
+-- what a job in a form writes for the bytes X: the wrapping of the key, the key of the wrapping, or the line that says
+-- what X is a wrapping of; a check looks at the default value alone
+abbrev pub WritesFor : Job → ℕ → Task → (List ℕ → List ℕ) → List ℕ → List ℕ → Type 0
+WritesFor Wrap iv task E X output =
+    (text : List ℕ) × IsTextOf task.form iv E X text × (output ≡ printed task.input text)
+WritesFor Unwrap iv task E X output =
+    (key : List ℕ) × IsKeyOf task.form iv E X key × (output ≡ printed task.input key)
+WritesFor Check iv task E X output = (kind : Kind) × IsKindOf E X kind × (output ≡ kind_line kind)
+
+-- the bytes X have no legal length for the job; a check asks for none
+abbrev pub HasBadLength : Job → Form → List ℕ → Type 0
+HasBadLength Wrap form X = ¬ IsInputLength directions.Wrap form (length X)
+HasBadLength Unwrap form X = ¬ IsInputLength directions.Unwrap form (length X)
+HasBadLength Check form X = ⊥
+
+-- the bytes X have a legal length, and no key stands with them; only an unwrapping is refused for that
+abbrev pub HasNoKey : Job → Form → ℕ → (List ℕ → List ℕ) → List ℕ → Type 0
+HasNoKey Wrap form iv E X = ⊥
+HasNoKey Unwrap form iv E X = IsInputLength directions.Unwrap form (length X) × NoKey (Stands form iv E) X
+HasNoKey Check form iv E X = ⊥
+
+-- what this job, with the form and the notation of the task, answers to the bytes X, by cases
+abbrev pub AnswerOfJob : Job → ℕ → Task → (List ℕ → List ℕ) → List ℕ → Result (List ℕ) InPlaceFault → Type 0
+AnswerOfJob job iv task E X (Ok output) = WritesFor job iv task E X output
+AnswerOfJob job iv task E X (Err BadLength) = HasBadLength job task.form X
+AnswerOfJob job iv task E X (Err Integrity) = HasNoKey job task.form iv E X
+
+-- what the job of the task answers to the bytes X
+abbrev pub JobAnswer : ℕ → Task → (List ℕ → List ℕ) → List ℕ → Result (List ℕ) InPlaceFault → Type 0
+JobAnswer iv task E X answer = AnswerOfJob task.job iv task E X answer
+
+-- the task with its input and output in hex, as lines are
+abbrev pub in_hex : Task → Task
+in_hex task = record { job = task.job; form = task.form; input = Hex; kek = task.kek }
+
+-- a job is done as Neither exactly if it is a check that wrote `none`
+abbrev pub IsDone : Job → List ℕ → Done → Type 0
+IsDone job output Written = ¬ ((job ≡ Check) × (output ≡ kind_line kinds.Neither))
+IsDone job output Neither = (job ≡ Check) × (output ≡ kind_line kinds.Neither)
+
+-- the job that goes in a direction
+abbrev pub job_of : Direction → Job
+job_of directions.Wrap = Wrap
+job_of directions.Unwrap = Unwrap
+
+-- what a rewrapping answers to the text: what it makes of it, in a notation
+abbrev pub RewrappingAnswer : Rewrapping → (List ℕ → List ℕ) → (List ℕ → List ℕ) → List ℕ → Result (List ℕ) InPlaceFault → Type 0
+RewrappingAnswer task E F text (Ok output) =
+    (answer : List ℕ) × Makes task.passes_new task.forms E F text (Ok answer) × (output ≡ printed task.input answer)
+RewrappingAnswer task E F text (Err refusal) = Makes task.passes_new task.forms E F text (Err refusal)
+
+-- the rewrapping with its input and output in hex, as lines are
+abbrev pub lines_of : Rewrapping → Rewrapping
+lines_of task = record { forms = task.forms; passes_new = task.passes_new; input = Hex; kek = task.kek }
+
+-- a rewrapping that wrote its output is done
+abbrev pub IsWritten : List ℕ → Done → Type 0
+IsWritten output done = done ≡ Written
+
+-- what a conversion of the bytes X makes, by cases; Memory is not said of them
+abbrev pub MakesConversion : Direction → Form → ℕ → (List ℕ → List ℕ) → List ℕ → Result (List ℕ) UnwrapFault → Type 0
+MakesConversion direction form iv E X (Ok Y) = IsAnswer direction form iv E X Y
+MakesConversion direction form iv E X (Err unwraps.BadLength) = ¬ IsInputLength direction form (length X)
+MakesConversion direction form iv E X (Err unwraps.Integrity) =
+    IsInputLength direction form (length X) × HasNoAnswer direction form iv E X
+MakesConversion direction form iv E X (Err unwraps.Memory) = ⊤
+
+-- this is said of an outcome with its output: Memory is not said of the bytes
+abbrev pub OutcomeIs : {R : Type 0} → (Result (List ℕ) R → Type 0) → List ℕ → Outcome R → Type 0
+OutcomeIs Is output Answer = Is (Ok output)
+OutcomeIs Is output (Refused refusal) = Is (Err refusal)
+OutcomeIs Is output Memory = ⊤
+
+-- the outcome for the fault of a conversion
+abbrev pub outcome_of : UnwrapFault → Outcome InPlaceFault
+outcome_of unwraps.BadLength = Refused BadLength
+outcome_of unwraps.Integrity = Refused Integrity
+outcome_of unwraps.Memory = Memory

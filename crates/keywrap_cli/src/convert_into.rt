@@ -1,0 +1,105 @@
+//! Wrapping and unwrapping into a buffer that may be used again.
+
+ghost use Rattle.std.specs.Prelude.{◌≡◌};
+ghost use Rattle.key_lines.specs.Answers.{made};
+ghost use Rattle.keywrap_cli.specs.Answers.{MakesConversion};
+
+use crate::convert::Direction;
+use block_pair::{BlockPair, Meter};
+use key_wrap::{
+    Form, InitialValue, UnwrapFault, key_length_ok, padded_length_ok, padded_text_length_ok,
+    text_length_ok, unwrap_into_with, unwrap_padded_into, wrap_into_with, wrap_padded_into,
+};
+
+// The bytes of a word.
+const WORD: usize = 8;
+
+/// What `convert` answers, in `output`, whatever stood there.
+pub fn convert_into<B: BlockPair>(
+    direction: Direction,
+    form: Form,
+    iv: &InitialValue,
+    pair: &B,
+    input: &[u8],
+    output: &mut Vec<u8>,
+) -> Result<(), UnwrapFault>
+    ensures { MakesConversion direction form iv.now (B.encrypted pair.now) input.now
+        (made output.new.items result) }
+{
+    match (direction, form) {
+        (Direction::Wrap, Form::Plain) => wrap_plain(iv, pair, input, output),
+        (Direction::Wrap, Form::Padded) => wrap_padded(iv, pair, input, output),
+        (Direction::Unwrap, Form::Plain) => unwrap_plain(iv, pair, input, output),
+        (Direction::Unwrap, Form::Padded) => unwrap_padded(iv, pair, input, output),
+    }
+}
+
+fn wrap_plain<B: BlockPair>(
+    iv: &InitialValue,
+    pair: &B,
+    key: &[u8],
+    text: &mut Vec<u8>,
+) -> Result<(), UnwrapFault>
+    ensures { MakesConversion Direction.Wrap Form.Plain iv.now (B.encrypted pair.now) key.now
+        (made text.new.items result) }
+{
+    if !key_length_ok(key.len()) {
+        return Err(UnwrapFault::BadLength);
+    }
+    text.resize(key.len() + WORD, 0)?;
+    wrap_into_with(&mut Meter::new(pair), iv, key, text)?;
+    Ok(())
+}
+
+// The initial value is that of the plain form, and is not asked for.
+fn wrap_padded<B: BlockPair>(
+    iv: &InitialValue,
+    pair: &B,
+    key: &[u8],
+    text: &mut Vec<u8>,
+) -> Result<(), UnwrapFault>
+    ensures { MakesConversion Direction.Wrap Form.Padded iv.now (B.encrypted pair.now) key.now
+        (made text.new.items result) }
+{
+    if !padded_length_ok(key.len()) {
+        return Err(UnwrapFault::BadLength);
+    }
+    text.resize(WORD + key.len().next_multiple_of(WORD), 0)?;
+    wrap_padded_into(&mut Meter::new(pair), key, text)?;
+    Ok(())
+}
+
+fn unwrap_plain<B: BlockPair>(
+    iv: &InitialValue,
+    pair: &B,
+    text: &[u8],
+    key: &mut Vec<u8>,
+) -> Result<(), UnwrapFault>
+    ensures { MakesConversion Direction.Unwrap Form.Plain iv.now (B.encrypted pair.now) text.now
+        (made key.new.items result) }
+{
+    if !text_length_ok(text.len()) {
+        return Err(UnwrapFault::BadLength);
+    }
+    key.resize(text.len() - WORD, 0)?;
+    unwrap_into_with(&mut Meter::new(pair), iv, text, key)?;
+    Ok(())
+}
+
+fn unwrap_padded<B: BlockPair>(
+    iv: &InitialValue,
+    pair: &B,
+    text: &[u8],
+    key: &mut Vec<u8>,
+) -> Result<(), UnwrapFault>
+    ensures { MakesConversion Direction.Unwrap Form.Padded iv.now (B.encrypted pair.now) text.now
+        (made key.new.items result) }
+{
+    if !padded_text_length_ok(text.len()) {
+        return Err(UnwrapFault::BadLength);
+    }
+    key.resize(text.len() - WORD, 0)?;
+    let len = unwrap_padded_into(&mut Meter::new(pair), text, key)?;
+    key.truncate(len);
+    Ok(())
+}

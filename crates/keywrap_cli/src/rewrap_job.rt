@@ -1,0 +1,165 @@
+//! What a rewrapping answers to bytes, an input's or a line's.
+
+ghost use Rattle.std.specs.Prelude.{◌≡◌, ◌↔◌, IsTrue, length, true};
+ghost use Rattle.key_lines.specs.Answers.{made};
+ghost use Rattle.keywrap_cli.specs.Answers.{OutcomeIs, RewrappingAnswer};
+ghost use Rattle.keywrap_cli.specs.Forms.{IsOldLength, Makes, Rewraps, to_itself};
+
+use crate::engine::print_in;
+use crate::rewrapping::{RewrapForms, Rewrapping};
+use block_pair::{BlockPair, Meter};
+use key_lines::{LineJob, Outcome};
+use key_wrap::{
+    Form, InPlaceFault, padded_text_length_ok, rewrap_in_place, rewrap_keeping_form_in_place,
+    text_length_ok,
+};
+use std::cell::Cell;
+
+/// A rewrapping from the old pair to the new one.
+#[derive(Drop)]
+pub struct RewrapJob<O: BlockPair, N: BlockPair> {
+    pub task: Rewrapping,
+    pub old: O,
+    pub new: N,
+    /// How many were passed.
+    pub passed: Cell<u64>,
+}
+
+impl<O: BlockPair, N: BlockPair> LineJob for RewrapJob<O, N> {
+    type Refusal = InPlaceFault;
+
+    ghost answers = { λ job text answer. RewrappingAnswer job.task
+        (O.encrypted job.old) (N.encrypted job.new) text answer };
+
+    fn answer(&self, bytes: &mut Vec<u8>, output: &mut Vec<u8>) -> Outcome<InPlaceFault> {
+        let outcome = make(self.task, &self.old, &self.new, &self.passed, bytes, output);
+        if !matches!(outcome, Outcome::Answer) {
+            return outcome;
+        }
+        match print_in(self.task.input, bytes, output) {
+            Ok(()) => Outcome::Answer,
+            Err(_) => Outcome::Memory,
+        }
+    }
+}
+
+// Makes the answer in the buffer of the text.
+fn make<O: BlockPair, N: BlockPair>(
+    task: Rewrapping,
+    old: &O,
+    new: &N,
+    passed: &Cell<u64>,
+    text: &mut Vec<u8>,
+    spare: &mut Vec<u8>,
+) -> Outcome<InPlaceFault>
+    ensures { OutcomeIs (Makes task.passes_new task.forms (O.encrypted old.now)
+        (N.encrypted new.now) text.old.items) text.new.items result }
+{
+    if task.passes_new {
+        return rewrap_or_pass(task.forms, old, new, passed, text, spare);
+    }
+    match rewrap_bytes(task.forms, old, new, text) {
+        Ok(()) => Outcome::Answer,
+        Err(refusal) => Outcome::Refused(refusal),
+    }
+}
+
+// The same where what is new passes. A refused rewrapping clears its buffer, so the text is kept.
+fn rewrap_or_pass<O: BlockPair, N: BlockPair>(
+    forms: RewrapForms,
+    old: &O,
+    new: &N,
+    passed: &Cell<u64>,
+    text: &mut Vec<u8>,
+    spare: &mut Vec<u8>,
+) -> Outcome<InPlaceFault>
+    ensures { OutcomeIs (Makes true forms (O.encrypted old.now) (N.encrypted new.now)
+        text.old.items) text.new.items result }
+{
+    spare.clear();
+    if spare.extend_from_slice(text).is_err() {
+        return Outcome::Memory;
+    }
+    let refusal = match rewrap_bytes(forms, old, new, text) {
+        Ok(()) => return Outcome::Answer,
+        Err(refusal) => refusal,
+    };
+    if has_old_length(forms, refusal, spare.len()) {
+        return Outcome::Refused(refusal);
+    }
+    match rewrap_bytes(to_itself(forms), new, new, spare) {
+        Ok(()) => {
+            passed.set(passed.get().saturating_add(1));
+            std::mem::swap(text, spare);
+            Outcome::Answer
+        }
+        Err(_) => Outcome::Refused(refusal),
+    }
+}
+
+// Whether what was refused is a wrapping under the old KEK: its key's length was.
+fn has_old_length(forms: RewrapForms, refusal: InPlaceFault, len: usize) -> bool
+    ensures { IsTrue result ↔ ((refusal ≡ InPlaceFault.BadLength) × IsOldLength forms len) }
+{
+    match (refusal, forms) {
+        (InPlaceFault::BadLength, RewrapForms::Changed { old, .. }) => match old {
+            Form::Plain => text_length_ok(len),
+            Form::Padded => padded_text_length_ok(len),
+        },
+        _ => false,
+    }
+}
+
+fn to_itself(forms: RewrapForms) -> RewrapForms
+    ensures { result ≡ to_itself forms }
+{
+    match forms {
+        RewrapForms::Kept => RewrapForms::Kept,
+        RewrapForms::Changed { new, .. } => RewrapForms::Changed { old: new, new },
+    }
+}
+
+// Rewraps the text in the buffer.
+fn rewrap_bytes<O: BlockPair, N: BlockPair>(
+    forms: RewrapForms,
+    old: &O,
+    new: &N,
+    text: &mut [u8],
+) -> Result<(), InPlaceFault>
+    ensures { Rewraps forms (O.encrypted old.now) (N.encrypted new.now) text.old
+        (made text.new result) }
+{
+    match forms {
+        RewrapForms::Kept => rewrap_kept(old, new, text),
+        RewrapForms::Changed {
+            old: old_form,
+            new: new_form,
+        } => rewrap_changed(old_form, new_form, old, new, text),
+    }
+}
+
+fn rewrap_changed<O: BlockPair, N: BlockPair>(
+    old_form: Form,
+    new_form: Form,
+    old: &O,
+    new: &N,
+    text: &mut [u8],
+) -> Result<(), InPlaceFault>
+    ensures { Rewraps (RewrapForms.Changed old_form new_form) (O.encrypted old.now)
+        (N.encrypted new.now) text.old (made text.new result) }
+{
+    let (mut unwraps, mut wraps) = (Meter::new(old), Meter::new(new));
+    rewrap_in_place(&mut unwraps, old_form, &mut wraps, new_form, text)
+}
+
+fn rewrap_kept<O: BlockPair, N: BlockPair>(
+    old: &O,
+    new: &N,
+    text: &mut [u8],
+) -> Result<(), InPlaceFault>
+    ensures { Rewraps RewrapForms.Kept (O.encrypted old.now) (N.encrypted new.now) text.old
+        (made text.new result) }
+{
+    let (mut unwraps, mut wraps) = (Meter::new(old), Meter::new(new));
+    rewrap_keeping_form_in_place(&mut unwraps, &mut wraps, text)
+}

@@ -1,0 +1,97 @@
+//! Rewrappings from open KEK files, as the program makes them: what is new already passes.
+
+use super::cases::{Answer, HEX, WRITTEN};
+use super::doubles::{Narrow, Trickle};
+use super::jobs::{BAD_LENGTH, HEX_KEK, HEX_TEXT, INTEGRITY, PADDED_KEK, TEXT_OF_20};
+use super::rewraps::{NEW_KEK, NEW_OF_7, NEW_PADDED, NEW_TEXT};
+use crate::job::Done;
+use crate::keyed::Keyed;
+use crate::lines::LinesDone;
+use crate::rewrapping::{RewrapForms, Rewrapping};
+use key_lines::{LineFault, RefusalLog};
+use key_wrap::{Form, InPlaceFault};
+use std::io::BufReader;
+use std::test::Fail;
+
+const KEPT: RewrapForms = RewrapForms::Kept;
+
+const PLAIN: RewrapForms = RewrapForms::Changed {
+    old: Form::Plain,
+    new: Form::Plain,
+};
+
+const TO_PADDED: RewrapForms = RewrapForms::Changed {
+    old: Form::Plain,
+    new: Form::Padded,
+};
+
+const TO_PLAIN: RewrapForms = RewrapForms::Changed {
+    old: Form::Padded,
+    new: Form::Plain,
+};
+
+// Forms, the KEK, the input, the answer and the output; the new KEK is one for all.
+static ROWS: [(RewrapForms, &[u8], &[u8], Answer, &[u8]); 10] = [
+    (PLAIN, HEX_KEK, HEX_TEXT, WRITTEN, NEW_TEXT),
+    (PLAIN, HEX_KEK, NEW_TEXT, WRITTEN, NEW_TEXT),
+    (PLAIN, HEX_KEK, NEW_PADDED, INTEGRITY, b""),
+    (TO_PADDED, HEX_KEK, NEW_PADDED, WRITTEN, NEW_PADDED),
+    (TO_PADDED, HEX_KEK, NEW_TEXT, INTEGRITY, b""),
+    // its length is legal in the new form alone
+    (TO_PADDED, HEX_KEK, NEW_OF_7, WRITTEN, NEW_OF_7),
+    (PLAIN, HEX_KEK, NEW_OF_7, BAD_LENGTH, b""),
+    (KEPT, HEX_KEK, NEW_TEXT, WRITTEN, NEW_TEXT),
+    (KEPT, HEX_KEK, NEW_OF_7, WRITTEN, NEW_OF_7),
+    // under the old KEK, and of a key that has no plain wrapping
+    (TO_PLAIN, PADDED_KEK, TEXT_OF_20, BAD_LENGTH, b""),
+];
+
+fn keyed(forms: RewrapForms, kek: &'static [u8]) -> Keyed<Trickle<'static>> {
+    Keyed::Rewrap {
+        task: Rewrapping {
+            forms,
+            passes_new: true,
+            input: HEX,
+            kek: HEX,
+        },
+        kek: Trickle::in_pieces(kek, 7),
+        new_kek: Trickle::in_pieces(NEW_KEK, 7),
+    }
+}
+
+#[test]
+fn passes_what_is_new_already(rt: HostRuntime) {
+    for (forms, kek, text, wanted, output) in ROWS {
+        let mut out = Narrow::in_pieces(rt.alloc(), 7);
+        let mut input = Trickle::in_pieces(text, 7);
+        let done = keyed(forms, kek).run(rt.alloc(), &mut input, &mut out);
+        assert!(rt; done == wanted && out.out() == output, "{wanted:?}");
+    }
+}
+
+// Nobody is told.
+struct NoLog;
+
+impl RefusalLog<InPlaceFault> for NoLog {
+    fn tell(&self, _line: u64, _fault: &LineFault<InPlaceFault>) {}
+}
+
+#[test]
+fn counts_the_lines_that_pass(rt: HostRuntime) -> Result<(), Fail> {
+    let lines = b"1fa68b0a8112b447aef34bd8fb5a7b829d3e862371d2cfe5\n\
+        64e8c3f9ce0f5ba263e9777905818a2a93c8191e7d6e8ae7\n00\n";
+    let wanted = b"64e8c3f9ce0f5ba263e9777905818a2a93c8191e7d6e8ae7\n\
+        64e8c3f9ce0f5ba263e9777905818a2a93c8191e7d6e8ae7\n\n";
+    let mut input = BufReader::with_capacity(rt.alloc(), 16, Trickle::in_pieces(lines, 7))?;
+    let mut out = Narrow::in_pieces(rt.alloc(), 7);
+    let done = keyed(PLAIN, HEX_KEK).run_lines(rt.alloc(), true, &NoLog, &mut input, &mut out);
+    assert!(rt;
+        done == Ok(LinesDone {
+            lines: 3,
+            passed: 1,
+            done: Done::Written,
+        })
+    );
+    assert!(rt; out.out() == wanted.as_slice());
+    Ok(())
+}

@@ -1,0 +1,289 @@
+// AES Key Wrap (RFC 3394) and AES Key Wrap with Padding (RFC 5649), by the module keywrap.wasm that
+// lies beside this file: the refusals, what a call takes, the calls over the module's memory, and
+// `load`. keywrap.d.ts says what each of them takes and answers.
+
+/* The refusals */
+
+export class KeywrapError extends Error {
+    static { this.prototype.name = 'KeywrapError'; }
+}
+
+export class BadInitialValue extends KeywrapError {
+    static { this.prototype.name = 'BadInitialValue'; }
+}
+
+export class BadKekLength extends KeywrapError {
+    static { this.prototype.name = 'BadKekLength'; }
+}
+
+export class BadLength extends KeywrapError {
+    static { this.prototype.name = 'BadLength'; }
+}
+
+export class IntegrityFailed extends KeywrapError {
+    static { this.prototype.name = 'IntegrityFailed'; }
+}
+
+export class NoMemory64 extends Error {
+    static { this.prototype.name = 'NoMemory64'; }
+}
+
+/* What a call takes: the longest that is legal, in bytes, and all that are */
+
+const KEK = { what: 'the KEK', longest: 32, legal: '16, 24 or 32' };
+const IV = { what: 'the initial value', longest: 8, legal: '8' };
+const PLAIN_KEY = {
+    what: 'the key', longest: 1048576, legal: 'a multiple of 8 from 16 to 1048576',
+};
+const PADDED_KEY = {
+    what: 'the key', longest: 1048576, legal: 'from 1 to 1048576',
+};
+const WRAPPED_PLAIN = {
+    what: 'the wrapped key', longest: 1048584, legal: 'a multiple of 8 from 24 to 1048584',
+};
+const WRAPPED_PADDED = {
+    what: 'the wrapped key', longest: 1048584, legal: 'a multiple of 8 from 16 to 1048584',
+};
+
+const typedArray = Object.getPrototypeOf(Uint8Array.prototype);
+const getter = (name) => {
+    const { get } = Object.getOwnPropertyDescriptor(typedArray, name);
+    return (object) => get.call(object);
+};
+const tagOf = getter(Symbol.toStringTag);
+const bufferOf = getter('buffer');
+const offsetOf = getter('byteOffset');
+const lengthOf = getter('length');
+
+// The bytes of a Uint8Array, by a view whose length stays. No property is asked that the object may
+// have made its own; a detached buffer is a TypeError, too.
+function taken(kind, given) {
+    if (tagOf(given) !== 'Uint8Array') {
+        throw new TypeError(`${kind.what} must be a Uint8Array`);
+    }
+    return { kind, bytes: new Uint8Array(bufferOf(given), offsetOf(given), lengthOf(given)) };
+}
+
+// The options. None is passed over: neither one of another name, nor an array in their place.
+function optionsOf(given, ...names) {
+    if (typeof given !== 'object' || given === null || ArrayBuffer.isView(given)) {
+        throw new TypeError('the options must be an object, as { name: value }');
+    }
+    for (const name of Object.keys(given)) {
+        if (!names.includes(name)) {
+            throw new TypeError(`this call has no such option: ${name}`);
+        }
+    }
+    return given;
+}
+
+function flagOf(name, given) {
+    if (typeof given !== 'boolean') {
+        throw new TypeError(`${name} must be true or false`);
+    }
+    return given;
+}
+
+/* What the statuses say of the inputs of a call */
+
+const BAD_IV = 2;
+const BAD_KEK = 3;
+const BAD_LENGTH = 4;
+const INTEGRITY = 5;
+
+const isBadKek = ({ kind, bytes }) => kind === KEK && ![16, 24, 32].includes(bytes.length);
+const lengthIs = ({ kind, bytes }) =>
+    `${kind.what} is ${bytes.length} bytes long; it must be ${kind.legal} bytes`;
+
+// The error that a status is.
+function refusalOf(status, call, inputs) {
+    const iv = inputs.find(({ kind }) => kind === IV);
+    const kek = inputs.find(isBadKek);
+    if (status === BAD_IV && iv) {
+        return new BadInitialValue(iv.bytes.length === IV.longest
+            ? 'the initial value begins with a6 59 59 a6, which RFC 5649 reserves'
+            : lengthIs(iv));
+    }
+    if (status === BAD_KEK && kek) {
+        return new BadKekLength(lengthIs(kek));
+    }
+    if (status === BAD_LENGTH) {
+        return new BadLength(lengthIs(inputs.at(-1)));
+    }
+    if (status === INTEGRITY) {
+        return new IntegrityFailed('the integrity check failed: no wrapped key under this KEK');
+    }
+    return new Error(`internal error: ${call} answered ${status}`);
+}
+
+/* The calls over the module's memory */
+
+// An instance, with a memory that nobody else has. Up to #start it is as the module is made, its
+// stack among that; there the module writes two numbers, and behind them are copies of what a call
+// is given, and room for its answer.
+class Machine {
+    #exports;
+    #memory;
+    #made;
+    #start;
+
+    constructor(exports) {
+        this.#exports = exports;
+        this.#memory = new Uint8Array(exports.memory.buffer);
+        this.#start = Math.ceil(Number(exports.__heap_base.value) / 8) * 8;
+        this.#made = this.#memory.slice(0, this.#start);
+    }
+
+    get version() {
+        const number = this.#exports.keywrap_version();
+        return [number >>> 16, number >>> 8 & 255, number & 255].join('.');
+    }
+
+    // The two numbers, and where they stand.
+    get atLength() { return BigInt(this.#start); }
+    get atPadded() { return BigInt(this.#start + 8); }
+    get length() { return this.#number(0); }
+    get isPadded() { return this.#number(8) === 1; }
+
+    #number(at) {
+        return new DataView(this.#memory.buffer, this.#start + at).getUint32(0, true);
+    }
+
+    copy(at, length) { return this.#memory.slice(at, at + length); }
+
+    // Calls over copies of the inputs with `room` behind them, if any, and answers what `answer`
+    // makes of the last of these places. Whatever happens, the memory is then as it was made. Of an
+    // input that is too long the module gets one byte more than is legal, and refuses that.
+    call(name, inputs, { room, rest = [], answer = (at, length) => this.copy(at, length) }) {
+        const copied = inputs.map(({ kind, bytes }) => bytes.subarray(0, kind.longest + 1));
+        const lengths = copied.map(({ length }) => length);
+        if (room) {
+            lengths.push(room(lengths.at(-1)));
+        }
+        let end = this.#start + 16;
+        const places = lengths.map((length) => [(end += length) - length, length]);
+        try {
+            copied.forEach((bytes, of) => this.#memory.set(bytes, places[of][0]));
+            const status = this.#exports[name](...places.flat().map(BigInt), ...rest);
+            if (status !== 0) {
+                throw refusalOf(status, name, inputs);
+            }
+            return answer(...places.at(-1));
+        } finally {
+            this.#memory.fill(0, this.#start, end);
+            this.#memory.set(this.#made);
+        }
+    }
+}
+
+// The room for a wrapped key, plain and padded, and for a key.
+const plainRoom = (length) => length + 8;
+const paddedRoom = (length) => Math.ceil(length / 8) * 8 + 8;
+const keyRoom = (length) => Math.max(length - 8, 0);
+
+function plain(machine, name, kek, iv, text, room) {
+    return iv === undefined
+        ? machine.call(name, [kek, text], { room })
+        : machine.call(`${name}_with`, [kek, taken(IV, iv), text], { room });
+}
+
+function wrap(machine, kek, key, options = {}) {
+    const { iv } = optionsOf(options, 'iv');
+    const inputs = [taken(KEK, kek), iv, taken(PLAIN_KEY, key)];
+    return plain(machine, 'keywrap_wrap', ...inputs, plainRoom);
+}
+
+function unwrap(machine, kek, wrapped, options = {}) {
+    const { iv } = optionsOf(options, 'iv');
+    const inputs = [taken(KEK, kek), iv, taken(WRAPPED_PLAIN, wrapped)];
+    return plain(machine, 'keywrap_unwrap', ...inputs, keyRoom);
+}
+
+function wrapPadded(machine, kek, key, options = {}) {
+    optionsOf(options);
+    const inputs = [taken(KEK, kek), taken(PADDED_KEY, key)];
+    return machine.call('keywrap_wrap_padded', inputs, { room: paddedRoom });
+}
+
+function unwrapPadded(machine, kek, wrapped, options = {}) {
+    optionsOf(options);
+    const inputs = [taken(KEK, kek), taken(WRAPPED_PADDED, wrapped)];
+    return machine.call('keywrap_unwrap_padded', inputs, {
+        room: keyRoom,
+        rest: [machine.atLength],
+        answer: (at) => machine.copy(at, machine.length),
+    });
+}
+
+// From padded to plain what is wrapped may have a legal length, and the key in it none.
+const NOT_PLAIN =
+    `the key that is wrapped cannot be plain: it is not ${PLAIN_KEY.legal} bytes long`;
+
+function isLegal({ kind, bytes: { length } }) {
+    const least = kind === WRAPPED_PADDED ? 16 : 24;
+    return length % 8 === 0 && length >= least && length <= kind.longest;
+}
+
+function rewrap(machine, oldKek, newKek, wrapped, options = {}) {
+    const { oldPadded = false, newPadded = false } = optionsOf(options, 'oldPadded', 'newPadded');
+    const forms = flagOf('oldPadded', oldPadded) | flagOf('newPadded', newPadded) << 1;
+    const old = taken(oldPadded ? WRAPPED_PADDED : WRAPPED_PLAIN, wrapped);
+    const inputs = [taken(KEK, oldKek), taken(KEK, newKek), old];
+    try {
+        return machine.call('keywrap_rewrap_in_place', inputs, { rest: [forms] });
+    } catch (error) {
+        throw error instanceof BadLength && isLegal(old) ? new BadLength(NOT_PLAIN) : error;
+    }
+}
+
+function check(machine, kek, wrapped, options = {}) {
+    optionsOf(options);
+    const inputs = [taken(KEK, kek), taken(WRAPPED_PADDED, wrapped)];
+    try {
+        return machine.call('keywrap_kind', inputs, {
+            room: keyRoom,
+            rest: [machine.atPadded, machine.atLength],
+            answer: () => ({
+                form: machine.isPadded ? 'padded' : 'plain', length: machine.length,
+            }),
+        });
+    } catch (error) {
+        if (error instanceof IntegrityFailed) {
+            return null;
+        }
+        throw error;
+    }
+}
+
+/* Loading the module */
+
+// The smallest module with a 64-bit memory.
+const MEMORY64 = Uint8Array.of(0x00, 0x61, 0x73, 0x6d, 1, 0, 0, 0, 5, 3, 1, 4, 0);
+
+// The bytes of keywrap.wasm: Node fetches no file. The name of what reads one there is no literal,
+// so that a bundler for browsers leaves it alone.
+async function beside() {
+    const url = new URL('keywrap.wasm', import.meta.url);
+    if (url.protocol === 'file:') {
+        const files = 'node:fs/promises';
+        return (await import(files)).readFile(url);
+    }
+    const response = await fetch(url);
+    if (!response.ok) {
+        throw new Error(`${url}: ${response.status} ${response.statusText}`);
+    }
+    return response.arrayBuffer();
+}
+
+export async function load(source) {
+    if (typeof WebAssembly !== 'object' || !WebAssembly.validate(MEMORY64)) {
+        throw new NoMemory64("no 64-bit WebAssembly memory here: keywrap's README says who has it");
+    }
+    const module = source instanceof WebAssembly.Module
+        ? source : await WebAssembly.compile(source === undefined ? await beside() : source);
+    const machine = new Machine((await WebAssembly.instantiate(module)).exports);
+    const calls = { wrap, unwrap, wrapPadded, unwrapPadded, rewrap, check };
+    const bound = Object.entries(calls).map(
+        ([name, call]) => [name, (...given) => call(machine, ...given)]);
+    return Object.freeze({ version: machine.version, ...Object.fromEntries(bound) });
+}

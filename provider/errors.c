@@ -1,0 +1,38 @@
+/* errors.c: the refusals, which the core puts in its queue under this provider's name. */
+
+#include <stdarg.h>
+
+#include "provider.h"
+
+const OSSL_ITEM REASONS[] = {
+    {REASON_INTEGRITY, "integrity check failed"},
+    {REASON_PARAMETER_READ, "a parameter cannot be read"},
+    {REASON_PARAMETER_WRITTEN, "a parameter cannot be written"},
+    {REASON_KEK_LENGTH, "bad KEK length"},
+    {REASON_ROOM, "the output's room is shorter than the input"},
+    {REASON_IV_LENGTH, "bad length of the initial value"},
+    {REASON_NO_KEK, "no KEK was given"},
+    {REASON_LENGTH, "bad length"},
+    {REASON_NO_INPUT, "no input was given"},
+    {REASON_PLAIN_IV, "reserved initial value"},
+    {REASON_PADDED_IV, "not the initial value of the padded form"},
+    {REASON_TOO_LONG, "longer than 1048576 bytes of key"},
+    {REASON_NO_MEMORY, "out of memory"},
+    {0, NULL},
+};
+
+/* The core takes what follows the reason as a list of arguments; here it is empty. */
+static void set_error(const struct provider *provider, uint32_t reason, const char *format, ...) {
+    va_list none;
+    va_start(none, format);
+    provider->vset_error(provider->core, reason, format, none);
+    va_end(none);
+}
+
+int refuse(const struct provider *provider, enum reason reason, const char *file, int line,
+           const char *function) {
+    provider->new_error(provider->core);
+    provider->set_error_debug(provider->core, file, line, function);
+    set_error(provider, reason, NULL);
+    return 0;
+}

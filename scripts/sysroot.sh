@@ -1,0 +1,43 @@
+#!/bin/sh
+# Unpacks of Debian's arm64 what the wheel for aarch64 is built with and its tests run under qemu: Python with what
+# the tests import, and valgrind. Any user may call it: apt-get has its lists and its state in a folder of its own, so
+# that the machine's stay as they are. FOLDER is made whole or not at all, and left as it is where it is there.
+#
+# usage: scripts/sysroot.sh [FOLDER]        (if none: where scripts/target.mk looks for it)
+
+set -eu
+packages='python3 libpython3-dev python3-cffi-backend python3-pytest python3-cryptography python3-cryptography-vectors
+    valgrind'
+[ $# -gt 0 ] || set -- "${XDG_CACHE_HOME:-$HOME/.cache}/keywrap/sysroot-aarch64-unknown-linux-gnu"
+[ ! -d "$1" ] || exit 0
+mkdir -p -- "$(dirname -- "$1")"
+room=$(mktemp -d -- "$1.XXXXXX")
+trap 'rm -rf -- "$room"' EXIT
+trap 'exit 1' HUP INT TERM
+room=$(cd -- "$room" && pwd)
+
+# What apt-get as root hands the download to is no user of this folder's.
+chmod 755 "$room"
+mkdir -p "$room/state/lists/partial" "$room/cache/archives/partial" "$room/root"
+: >"$room/status"
+cat >"$room/conf" <<CONF
+#clear APT::Update::Pre-Invoke;
+#clear APT::Update::Post-Invoke;
+#clear APT::Update::Post-Invoke-Success;
+#clear DPkg::Post-Invoke;
+#clear APT::Architectures;
+APT::Architecture "arm64";
+APT::Architectures "arm64";
+APT::Install-Recommends "false";
+Dir::State "$room/state";
+Dir::State::lists "$room/state/lists";
+Dir::State::status "$room/status";
+Dir::Cache "$room/cache";
+Dir::Cache::archives "$room/cache/archives";
+CONF
+# A list that has nothing for arm64 is none of Debian's.
+apt-get -qq -c "$room/conf" update || echo 'sysroot.sh: some lists of packages are not there' >&2
+# shellcheck disable=SC2086
+apt-get -qq -c "$room/conf" install -y --download-only $packages >&2
+for package in "$room"/cache/archives/*.deb; do dpkg-deb -x "$package" "$room/root"; done
+mv -T -- "$room/root" "$1"

@@ -1,0 +1,40 @@
+# What differs with the machine that TARGET names. Another than x86-64 is built for by Debian's cross compiler, of what
+# scripts/sysroot.sh unpacks, and has the C library and the wheel alone: the kit has no archive there for a program
+# to stand on.
+
+of_program = build test gate install install-command dist-command bench
+
+ifeq ($(TARGET),x86_64-unknown-linux-gnu)
+machine = x86_64
+packed = dist-command dist-library
+other =
+else ifeq ($(TARGET),aarch64-unknown-linux-gnu)
+machine = aarch64
+packed = dist-library
+other = -$(TARGET)
+CC = aarch64-linux-gnu-gcc
+ifneq ($(filter $(of_program),$(MAKECMDGOALS)),)
+$(error make $(firstword $(filter $(of_program),$(MAKECMDGOALS))): the program is for x86-64 alone, not for $(TARGET))
+endif
+else
+$(error TARGET='$(TARGET)' is none of x86_64-unknown-linux-gnu and aarch64-unknown-linux-gnu)
+endif
+
+# Of another machine: what must be there; what rt builds for it by, which has one place for the archive of each
+# machine, so that x86-64's comes back there; the headers of its Python, beside the package's sources, and what the
+# wheel is built of them by.
+ifneq ($(other),)
+# Outside of this folder, in which rt lets no symbolic link stand.
+SYSROOT ?= $(or $(XDG_CACHE_HOME),$(HOME)/.cache)/keywrap/sysroot$(other)
+needs_compiler = @command -v $(firstword $(CC)) >/dev/null || \
+    { echo 'no $(firstword $(CC)): apt-get install gcc-aarch64-linux-gnu libc6-dev-arm64-cross' >&2; exit 1; }
+needs_headers = @[ -d '$(SYSROOT)/usr/include' ] || \
+    { echo "no Python of $(machine): scripts/sysroot.sh '$(SYSROOT)' unpacks Debian's" >&2; exit 1; }
+rt_target = --target $(TARGET)
+set_aside = $(if $(of_exports),@cp -p '$(ARCHIVE)' '$(LIBRARY)/x86_64.a' 2>/dev/null || rm -f '$(LIBRARY)/x86_64.a')
+put_back = $(if $(of_exports),@mv '$(LIBRARY)/x86_64.a' '$(ARCHIVE)' 2>/dev/null || rm -f '$(ARCHIVE)')
+copy_headers = install -d '$(LIBRARY)/python/include/$(machine)-linux-gnu' && \
+    cp -R '$(SYSROOT)'/usr/include/python3.*/. '$(LIBRARY)/python/include' && \
+    cp -R '$(SYSROOT)/usr/include/$(machine)-linux-gnu'/python3.* '$(LIBRARY)/python/include/$(machine)-linux-gnu'
+built_for = CC='$(CC)' LDSHARED='$(CC) -shared' CFLAGS=-Iinclude _PYTHON_HOST_PLATFORM=linux-$(machine)
+endif

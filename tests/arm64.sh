@@ -1,0 +1,123 @@
+#!/usr/bin/env bash
+# Builds the C library and the Python package for aarch64 by Debian's cross compiler, and runs them under qemu: the
+# calls from C, what depends on secrets in them, the package's tests with NIST's and OpenSSL's cases, what is packed.
+# A part whose tool is not there is skipped, with a line that says what to install.
+#
+# usage: tests/arm64.sh        (KEYWRAP_ARM64=FOLDER: over the library that make built there before)
+
+set -u
+# shellcheck disable=SC2034
+# shellcheck source=tests/lib/room.sh
+. "${BASH_SOURCE[0]%/*}/lib/room.sh"
+# shellcheck source=tests/library/rows.sh
+. "$root/tests/library/rows.sh"
+# shellcheck source=tests/library/shown.sh
+. "$root/tests/library/shown.sh"
+export TARGET=aarch64-unknown-linux-gnu
+# shellcheck source=tests/library/machine.sh
+. "$root/tests/library/machine.sh"
+
+# making GOAL VARIABLE=VALUE..: has this made for aarch64.
+library=${KEYWRAP_ARM64:-$room/library}
+making() { make -s -C "$root" "$@" LIBRARY="$library" SYSROOT="$sysroot" DIST="$room/dist"; }
+
+# are_arm FILE..: all that is in these is for aarch64.
+are_arm() { [ "$(LC_ALL=C readelf -h "$@" | sed -n 's/^ *Machine: *//p' | sort -u)" = AArch64 ]; }
+
+# begin NAME COMMAND..: has it run beside what follows. A row of its name is `ended NAME`.
+begin() { "${@:2}" >"$1.log" 2>&1 & eval "running_$1=$!"; }
+ended() {
+    local of=running_$1 status
+    wait "${!of}"
+    status=$?
+    cat "$1.log"
+    return $status
+}
+
+### The library
+
+for needed in aarch64-linux-gnu-gcc:gcc-aarch64-linux-gnu qemu-aarch64:qemu-user; do
+    has "${needed%:*}" "${needed#*:}" 'all of aarch64' || { finish; exit; }
+done
+printf '#include <stdio.h>\n' | "$cc" -fsyntax-only -x c - 2>/dev/null ||
+    { skip 'all of aarch64' 'no C library for it (apt-get install libc6-dev-arm64-cross)'; finish; exit; }
+
+row 'make library' making library || { finish; exit; }
+row 'the library is of aarch64' are_arm "$library"/libkeywrap.{a,so.1.0.0}
+shown aarch64
+
+# shuffles: the shuffles of bytes are the processor's, and none of its instructions is one that it may lack.
+shuffles() {
+    "${tools}objdump" -d --no-show-raw-insn "$library/libkeywrap.a" | awk '{ print $2 }' >instructions
+    [ "$(grep -cx tbl instructions)" -gt 100 ] && ! grep -xE 'aes.*|sha.*|pmull2?|tbx|sdot|udot' instructions
+}
+row 'the shuffles' shuffles
+
+# By the shared object, on an early processor; what depends on secrets and the package go by the archive.
+row 'the calls: compile' "$cc" -std=c99 -O2 -Wall -Wextra -pedantic -Werror "-I$root/include" "-I$root/bench" \
+    "$root"/tests/library/*.c "$root/bench/one_table.c" "$library/libkeywrap.so.1" -o checks
+begin calls "${runs[@]}" -cpu cortex-a53 -E "LD_LIBRARY_PATH=$library" ./checks few
+
+### What depends on secrets
+
+# secrets: tests/secrets.sh passes over this library, the whole of it.
+secrets() {
+    KEYWRAP_ARCHIVES=$library/libkeywrap.a bash "$root/tests/secrets.sh" 24 >secrets.log
+    grep -q ' 0 failed, 0 skipped$' secrets.log || { cat secrets.log && false; }
+}
+of_debian="no $sysroot (scripts/sysroot.sh '$sysroot')"
+if [ -d "$sysroot" ]; then row 'what depends on secrets' secrets; else skip 'what depends on secrets' "$of_debian"; fi
+
+### What is packed
+
+version=$(make -s --no-print-directory -C "$root" version)
+packed=keywrap-library-$version-aarch64-linux wheel=keywrap-$version-cp39-abi3-linux_aarch64.whl
+needed='python3-cffi python3-setuptools python3-wheel python3-build'
+if ! has_python cffi,setuptools,wheel,build; then
+    skip 'the wheel' "no Python with its modules (apt-get install $needed)"
+elif [ ! -d "$sysroot" ]; then
+    skip 'the wheel' "$of_debian"
+else
+    row 'make dist' making dist PYTHON="$python"
+    row 'what it makes' diff <(ls dist) <(printf '%s\n' "$wheel" "$packed.tar.gz"{,.sha256})
+    row 'the wheel, unpacked' "$python" -m zipfile -e "dist/$wheel" site
+fi
+[ -d dist ] || row 'make dist-library' making dist-library -o wheel
+row 'its checksum' env -C dist sha256sum -c "$packed.tar.gz.sha256"
+row 'it unpacks' tar -xzf "dist/$packed.tar.gz"
+row 'what it packs' diff <(cd "$packed" && find . ! -type d | sort) <(printf './%s\n' README include/keywrap.h \
+    lib/libkeywrap.{a,so,so.1,"so.$version"} lib/pkgconfig/keywrap.pc)
+row 'it is of aarch64' are_arm "$packed"/lib/libkeywrap.{a,so}
+row 'its README says so' grep -q 'Linux on aarch64' "$packed/README"
+if has pkg-config pkg-config 'the C example over the packed library'; then
+    read -ra flags < <(PKG_CONFIG_PATH=$packed/lib/pkgconfig pkg-config --cflags --libs keywrap)
+    row 'the C example: builds' "$cc" -std=c99 "$root/examples/c/wrap.c" "${flags[@]}" -o example
+    row 'the C example: runs' writes 96778b25ae6ca435f92b5b97c050aed2468ab8a17ad84e5d \
+        "${runs[@]}" -E "LD_LIBRARY_PATH=$packed/lib" ./example
+fi
+
+### The Python package
+
+# takes: Python of aarch64 installs a wheel of this name.
+takes() {
+    "${arm_python[@]}" -c 'import sys; from packaging import tags, utils
+assert utils.parse_wheel_filename(sys.argv[1])[3] & set(tags.sys_tags())' "$wheel"
+}
+
+# package_tests: none of the package's tests fails, or lacks what it needs. What threads do is Python's.
+package_tests() {
+    PYTHONPATH=$room/site KEYWRAP_CALLS=10000 "${arm_python[@]}" -m pytest -q -p no:cacheprovider \
+        -k 'not thread' "$root/python/tests" >tests.log
+    grep -E '^[0-9]+ passed' tests.log | grep -vE 'skipped|failed|error' || { cat tests.log && false; }
+}
+
+if [ -d site ]; then
+    arm_python=(qemu-aarch64 -L "$sysroot" "$sysroot/usr/bin/python3" -B)
+    row 'the extension is of aarch64' are_arm site/keywrap/_ffi.abi3.so
+    row 'the names of the extension' test \
+        "$("${tools}nm" -D --defined-only site/keywrap/_ffi.abi3.so | awk '{ print $3 }')" = PyInit__ffi
+    row 'Python takes the wheel' takes
+    row 'the tests of the package' package_tests
+fi
+row 'the calls' ended calls
+finish

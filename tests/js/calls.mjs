@@ -1,0 +1,328 @@
+// The calls of the package, in Node: the standards' vectors, OpenSSL's and Web Crypto's answers,
+// each refusal, what the module's memory holds afterwards, and how a module is loaded.
+
+import assert from 'node:assert/strict';
+import { randomBytes, webcrypto } from 'node:crypto';
+import { readFile } from 'node:fs/promises';
+import { createRequire } from 'node:module';
+import { test } from 'node:test';
+import * as openssl from './openssl.mjs';
+import {
+    BadInitialValue, BadKekLength, BadLength, IntegrityFailed, KeywrapError, isAsMade, watched,
+} from './watched.mjs';
+
+const bytes = (hex) => new Uint8Array(Buffer.from(hex, 'hex'));
+const random = (length) => new Uint8Array(randomBytes(length));
+const zeros = (length) => new Uint8Array(length);
+
+const MODULE = await readFile(createRequire(import.meta.url).resolve('keywrap/keywrap.wasm'));
+const MAX_KEY = 1048576;
+const KEK = bytes('000102030405060708090a0b0c0d0e0f');
+const KEK_32 = bytes('000102030405060708090a0b0c0d0e0f101112131415161718191a1b1c1d1e1f');
+const KEY = bytes('00112233445566778899aabbccddeeff');
+const WRAPPED = bytes('1fa68b0a8112b447aef34bd8fb5a7b829d3e862371d2cfe5');
+const WRAPPED_32 = bytes('64e8c3f9ce0f5ba263e9777905818a2a93c8191e7d6e8ae7');
+const PADDED_32 = openssl.wrapPadded(KEK_32, KEY);
+const IV = bytes('0123456789abcdef');
+const KEK_5649 = bytes('5840df6e29b02af1ab493b705bf16ea1ae8338f4dcc176a8');
+const KEY_7 = bytes('466f7250617369');
+const PADDED_7 = bytes('afbeb0f07dfbf5419200f2ccb50bb24f');
+const KEY_20 = bytes('c37b7e6492584340bed12207808941155068f738');
+const PADDED_20 = bytes('138bdeaa9b8fa7fc61f97742e72248ee5ae6ae5360d1ae6a5f54f373fa543b6a');
+const RESERVED = bytes('a65959a600000000');
+const damaged = (wrapped) => wrapped.map((byte, at) => at ? byte : byte ^ 1);
+
+const { keywrap, exports } = await watched();
+const { wrap, unwrap, wrapPadded, unwrapPadded, rewrap, check } = keywrap;
+
+test('the module imports nothing, and its memory never grows', async () => {
+    assert.deepEqual(WebAssembly.Module.imports(await WebAssembly.compile(MODULE)), []);
+    for (const pages of [1, 1n]) {
+        assert.throws(() => exports.memory.grow(pages));
+    }
+});
+
+test("the standards' vectors", () => {
+    assert.deepEqual(wrap(KEK, KEY), WRAPPED);
+    assert.deepEqual(unwrap(KEK, WRAPPED), KEY);
+    assert.deepEqual(wrap(KEK_32, KEY), WRAPPED_32);
+    assert.deepEqual(wrapPadded(KEK_5649, KEY_7), PADDED_7);
+    assert.deepEqual(unwrapPadded(KEK_5649, PADDED_7), KEY_7);
+    assert.deepEqual(wrapPadded(KEK_5649, KEY_20), PADDED_20);
+    assert.deepEqual(unwrapPadded(KEK_5649, PADDED_20), KEY_20);
+});
+
+test('an initial value', () => {
+    const wrapped = openssl.wrap(KEK, KEY, IV);
+    assert.deepEqual(wrap(KEK, KEY, { iv: IV }), wrapped);
+    assert.deepEqual(unwrap(KEK, wrapped, { iv: IV }), KEY);
+    assert.deepEqual(wrap(KEK, KEY, { iv: undefined }), WRAPPED);
+    assert.deepEqual(unwrap(KEK, WRAPPED, { iv: zeros(8).fill(0xa6) }), KEY);
+});
+
+test('a rewrap from each form to each', () => {
+    assert.deepEqual(rewrap(KEK, KEK_32, WRAPPED), WRAPPED_32);
+    assert.deepEqual(rewrap(KEK, KEK_32, WRAPPED, { newPadded: true }), PADDED_32);
+    assert.deepEqual(rewrap(KEK_32, KEK, PADDED_32, { oldPadded: true }), WRAPPED);
+    const both = { oldPadded: true, newPadded: true };
+    assert.deepEqual(rewrap(KEK_5649, KEK, PADDED_20, both), openssl.wrapPadded(KEK, KEY_20));
+    assert.deepEqual(rewrap(KEK_5649, KEK, PADDED_7, both), openssl.wrapPadded(KEK, KEY_7));
+    const neither = { oldPadded: false, newPadded: false };
+    assert.deepEqual(rewrap(KEK, KEK_32, WRAPPED, neither), WRAPPED_32);
+});
+
+test('a check', () => {
+    assert.deepEqual(check(KEK, WRAPPED), { form: 'plain', length: 16 });
+    assert.deepEqual(check(KEK_32, PADDED_32), { form: 'padded', length: 16 });
+    assert.deepEqual(check(KEK_5649, PADDED_20), { form: 'padded', length: 20 });
+    for (const other of [damaged(WRAPPED), WRAPPED.subarray(1)]) {
+        assert.equal(check(KEK, other), null);
+    }
+    for (const length of [0, 1, 16, MAX_KEY + 9, MAX_KEY + 16]) {
+        assert.equal(check(KEK, zeros(length)), null);
+    }
+});
+
+test('random keys, as OpenSSL answers', () => {
+    for (let turn = 0; turn < 300; turn++) {
+        const kek = random([16, 24, 32][turn % 3]);
+        const key = random(16 + 8 * (turn % 37));
+        const wrapped = openssl.wrap(kek, key);
+        assert.deepEqual(wrap(kek, key), wrapped);
+        assert.deepEqual(unwrap(kek, wrapped), key);
+        const some = random(1 + turn);
+        const padded = openssl.wrapPadded(kek, some);
+        assert.deepEqual(wrapPadded(kek, some), padded);
+        assert.deepEqual(unwrapPadded(kek, padded), some);
+    }
+});
+
+test('random keys, as Web Crypto answers', async () => {
+    const { subtle } = webcrypto;
+    for (let turn = 0; turn < 60; turn++) {
+        const kek = random([16, 24, 32][turn % 3]);
+        const key = random(16 + 8 * turn);
+        const theirs = await subtle.importKey('raw', kek, 'AES-KW', false, ['wrapKey']);
+        const secret = await subtle.importKey(
+            'raw', key, { name: 'HMAC', hash: 'SHA-256' }, true, ['sign']);
+        const wrapped = new Uint8Array(await subtle.wrapKey('raw', secret, theirs, 'AES-KW'));
+        assert.deepEqual(wrap(kek, key), wrapped);
+        assert.deepEqual(unwrap(kek, wrapped), key);
+    }
+});
+
+// The class of what a call throws, or undefined.
+function thrown(call, ...given) {
+    try {
+        call(...given);
+    } catch (error) {
+        return error.constructor;
+    }
+}
+
+test('every length to 80 bytes', () => {
+    for (let length = 0; length <= 80; length++) {
+        const given = random(length);
+        const isWords = length % 8 === 0;
+        const isKek = [16, 24, 32].includes(length);
+        if (isWords && length >= 16) {
+            assert.deepEqual(wrap(KEK, given), openssl.wrap(KEK, given));
+        } else {
+            assert.equal(thrown(wrap, KEK, given), BadLength);
+        }
+        if (length >= 1) {
+            assert.deepEqual(wrapPadded(KEK, given), openssl.wrapPadded(KEK, given));
+        } else {
+            assert.equal(thrown(wrapPadded, KEK, given), BadLength);
+        }
+        assert.equal(thrown(unwrap, KEK, given),
+            isWords && length >= 24 ? IntegrityFailed : BadLength);
+        assert.equal(thrown(unwrapPadded, KEK, given),
+            isWords && length >= 16 ? IntegrityFailed : BadLength);
+        for (const call of [wrap, unwrap, wrapPadded, unwrapPadded, check]) {
+            assert.equal(thrown(call, given, WRAPPED) === BadKekLength, !isKek);
+        }
+        assert.equal(thrown(rewrap, given, KEK, WRAPPED) === BadKekLength, !isKek);
+        assert.equal(thrown(rewrap, KEK, given, WRAPPED), isKek ? undefined : BadKekLength);
+        const iv = length === 8 ? undefined : BadInitialValue;
+        assert.equal(thrown(wrap, KEK, KEY, { iv: given }), iv);
+        assert.equal(thrown(unwrap, KEK, WRAPPED, { iv: given }), iv ?? IntegrityFailed);
+    }
+});
+
+test('the longest keys, and longer ones', () => {
+    const key = random(MAX_KEY);
+    const wrapped = openssl.wrap(KEK_32, key);
+    assert.ok(Buffer.from(wrap(KEK_32, key)).equals(wrapped));
+    assert.ok(Buffer.from(unwrap(KEK_32, wrapped)).equals(key));
+    assert.ok(isAsMade(exports));
+    const odd = key.subarray(1);
+    const padded = openssl.wrapPadded(KEK, odd);
+    assert.ok(Buffer.from(wrapPadded(KEK, odd)).equals(padded));
+    assert.ok(Buffer.from(unwrapPadded(KEK, padded)).equals(odd));
+    assert.ok(isAsMade(exports));
+    for (const length of [MAX_KEY + 1, MAX_KEY + 8, MAX_KEY + 16, 5 * MAX_KEY]) {
+        assert.equal(thrown(wrap, KEK, zeros(length)), BadLength);
+        assert.equal(thrown(wrapPadded, KEK, zeros(length)), BadLength);
+        assert.equal(thrown(unwrap, KEK, zeros(length + 8)), BadLength);
+        assert.equal(thrown(unwrapPadded, KEK, zeros(length + 8)), BadLength);
+        assert.equal(thrown(rewrap, KEK, KEK, zeros(length + 8)), BadLength);
+        assert.equal(thrown(wrap, zeros(length), zeros(length)), BadKekLength);
+        assert.equal(thrown(wrap, zeros(length), KEY, { iv: zeros(length) }), BadInitialValue);
+    }
+    assert.ok(isAsMade(exports));
+});
+
+const PLAIN_LENGTHS = 'it must be a multiple of 8 from 16 to 1048576 bytes';
+const PADDED_LENGTHS = 'it must be from 1 to 1048576 bytes';
+const WRAPPED_PLAIN = 'it must be a multiple of 8 from 24 to 1048584 bytes';
+const WRAPPED_PADDED = 'it must be a multiple of 8 from 16 to 1048584 bytes';
+const NOT_PLAIN = 'the key that is wrapped cannot be plain: '
+    + 'it is not a multiple of 8 from 16 to 1048576 bytes long';
+const FAILED = 'the integrity check failed: no wrapped key under this KEK';
+const KEKS = 'it must be 16, 24 or 32 bytes';
+const OLD = { oldPadded: true };
+const NEW = { newPadded: true };
+
+const REFUSED = [
+    [BadKekLength, `the KEK is 15 bytes long; ${KEKS}`, wrap, KEK.subarray(1), KEY],
+    [BadKekLength, `the KEK is 0 bytes long; ${KEKS}`, unwrapPadded, zeros(0), zeros(0)],
+    [BadKekLength, `the KEK is 33 bytes long; ${KEKS}`, rewrap, KEK, zeros(33), WRAPPED],
+    [BadKekLength, `the KEK is 4096 bytes long; ${KEKS}`, check, zeros(4096), WRAPPED],
+    [BadLength, `the key is 15 bytes long; ${PLAIN_LENGTHS}`, wrap, KEK, KEY.subarray(1)],
+    [BadLength, `the key is 1048584 bytes long; ${PLAIN_LENGTHS}`, wrap, KEK, zeros(1048584)],
+    [BadLength, `the key is 0 bytes long; ${PADDED_LENGTHS}`, wrapPadded, KEK, zeros(0)],
+    [BadLength, `the key is 2097152 bytes long; ${PADDED_LENGTHS}`,
+        wrapPadded, KEK, zeros(2097152)],
+    [BadLength, `the wrapped key is 16 bytes long; ${WRAPPED_PLAIN}`, unwrap, KEK, KEY],
+    [BadLength, `the wrapped key is 9 bytes long; ${WRAPPED_PLAIN}`,
+        unwrap, KEK, zeros(9), { iv: IV }],
+    [BadLength, `the wrapped key is 8 bytes long; ${WRAPPED_PADDED}`, unwrapPadded, KEK, zeros(8)],
+    [BadLength, `the wrapped key is 16 bytes long; ${WRAPPED_PLAIN}`, rewrap, KEK, KEK, KEY],
+    [BadLength, `the wrapped key is 23 bytes long; ${WRAPPED_PADDED}`,
+        rewrap, KEK, KEK, zeros(23), OLD],
+    [BadLength, `the wrapped key is 1048592 bytes long; ${WRAPPED_PADDED}`,
+        rewrap, KEK, KEK, zeros(1048592), OLD],
+    [BadLength, NOT_PLAIN, rewrap, KEK_5649, KEK, PADDED_7, OLD],
+    [BadLength, NOT_PLAIN, rewrap, KEK_5649, KEK, PADDED_20, OLD],
+    [BadInitialValue, 'the initial value is 0 bytes long; it must be 8 bytes',
+        wrap, KEK, KEY, { iv: zeros(0) }],
+    [BadInitialValue, 'the initial value is 9 bytes long; it must be 8 bytes',
+        unwrap, KEK, WRAPPED, { iv: zeros(9) }],
+    [BadInitialValue, 'the initial value begins with a6 59 59 a6, which RFC 5649 reserves',
+        wrap, KEK, KEY, { iv: RESERVED }],
+    [IntegrityFailed, FAILED, unwrap, KEK, damaged(WRAPPED)],
+    [IntegrityFailed, FAILED, unwrap, KEK, WRAPPED, { iv: IV }],
+    [IntegrityFailed, FAILED, unwrap, KEK_32, WRAPPED],
+    [IntegrityFailed, FAILED, unwrap, KEK_32, PADDED_32],
+    [IntegrityFailed, FAILED, unwrapPadded, KEK, WRAPPED],
+    [IntegrityFailed, FAILED, rewrap, KEK, KEK_32, damaged(WRAPPED)],
+    [IntegrityFailed, FAILED, rewrap, KEK, KEK_32, WRAPPED, OLD],
+];
+
+test('each refusal, its class and its message; and the memory after it', () => {
+    for (const [refusal, message, call, ...given] of REFUSED) {
+        assert.throws(() => call(...given), (error) => {
+            assert.equal(error.constructor, refusal);
+            assert.ok(error instanceof KeywrapError && error instanceof Error);
+            assert.deepEqual([error.name, error.message], [refusal.name, message]);
+            return true;
+        });
+        assert.ok(isAsMade(exports), message);
+    }
+});
+
+// Each call with inputs that it takes, and its answer.
+const CALLS = [
+    [wrap, [KEK, KEY], WRAPPED],
+    [wrap, [KEK, KEY, { iv: zeros(8).fill(0xa6) }], WRAPPED],
+    [unwrap, [KEK, WRAPPED], KEY],
+    [unwrap, [KEK, WRAPPED, { iv: zeros(8).fill(0xa6) }], KEY],
+    [wrapPadded, [KEK_5649, KEY_7], PADDED_7],
+    [unwrapPadded, [KEK_5649, PADDED_7], KEY_7],
+    [unwrapPadded, [KEK_32, PADDED_32], KEY],
+    [rewrap, [KEK, KEK_32, WRAPPED, NEW], PADDED_32],
+    [check, [KEK, WRAPPED], { form: 'plain', length: 16 }],
+    [check, [KEK_5649, PADDED_20], { form: 'padded', length: 20 }],
+];
+
+test('after each call the memory is as it was made, and what was given and answered stays', () => {
+    for (const [call, given, answer] of CALLS) {
+        const before = structuredClone(given);
+        const first = call(...given);
+        assert.ok(isAsMade(exports), call.name);
+        if (first instanceof Uint8Array) {
+            assert.equal(first.buffer.byteLength, first.length);
+            assert.notEqual(first.buffer, exports.memory.buffer);
+        }
+        call(...given);
+        assert.deepEqual(first, answer);
+        assert.deepEqual(given, before);
+    }
+});
+
+test('10,000 calls in a row take no memory', () => {
+    const size = () => {
+        globalThis.gc();
+        const { heapUsed, arrayBuffers } = process.memoryUsage();
+        return heapUsed + arrayBuffers;
+    };
+    const calls = (count) => {
+        for (let turn = 0; turn < count; turn++) {
+            const [call, given] = CALLS[turn % CALLS.length];
+            call(...given);
+            thrown(unwrap, KEK_32, WRAPPED);
+        }
+    };
+    calls(1000);
+    const [before, length] = [size(), exports.memory.buffer.byteLength];
+    calls(10000);
+    assert.ok(size() - before < 1 << 20);
+    assert.equal(exports.memory.buffer.byteLength, length);
+    assert.ok(isAsMade(exports));
+});
+
+/* How a module is loaded, and one that is not as it should be */
+
+test('a module is loaded from its bytes, or compiled, each with a memory of its own', async () => {
+    const { buffer } = new Uint8Array(MODULE);
+    const sources = [undefined, MODULE, buffer, await WebAssembly.compile(MODULE)];
+    for (const source of sources) {
+        const other = await watched(source);
+        assert.deepEqual(other.keywrap.wrap(KEK, KEY), WRAPPED);
+        assert.notEqual(other.exports.memory, exports.memory);
+    }
+    await assert.rejects(watched(zeros(8)), WebAssembly.CompileError);
+    await assert.rejects(watched('keywrap.wasm'), TypeError);
+});
+
+test('a status that a call does not answer is no refusal, and nothing is given out', async () => {
+    for (const status of [1, 2, 3, 6, 77, -1, undefined]) {
+        const other = await watched(undefined, (made) => ({
+            ...made, keywrap_wrap: (...given) => made.keywrap_wrap(...given) || status,
+        }));
+        assert.throws(() => other.keywrap.wrap(KEK, KEY), {
+            name: 'Error', message: `internal error: keywrap_wrap answered ${status}`,
+        });
+        assert.ok(isAsMade(other.exports));
+    }
+});
+
+test('a module that stops leaves no secret in its memory', async () => {
+    const other = await watched(undefined, (made) => ({
+        ...made,
+        keywrap_unwrap: (...given) => assert.fail(`stops at ${made.keywrap_unwrap(...given)}`),
+    }));
+    assert.throws(() => other.keywrap.unwrap(KEK, WRAPPED), /stops at 0/);
+    assert.ok(isAsMade(other.exports));
+});
+
+test('a host without 64-bit memory', async () => {
+    const { validate } = WebAssembly;
+    WebAssembly.validate = () => false;
+    try {
+        await assert.rejects(watched(), { name: 'NoMemory64' });
+    } finally {
+        WebAssembly.validate = validate;
+    }
+});

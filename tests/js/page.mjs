@@ -1,0 +1,151 @@
+// The page example.html in Chromium: a person types, presses and reads; and there the answers of
+// Web Crypto.
+//
+// usage: node page.mjs PACKAGE CHROMIUM FOLDER        (FOLDER: for what Chromium keeps)
+
+import assert from 'node:assert/strict';
+import { readFile } from 'node:fs/promises';
+import { createServer } from 'node:http';
+import { after, test } from 'node:test';
+import { Browser } from './browser.mjs';
+
+const [, , folder, program, kept] = process.argv;
+const TYPES = {
+    'example.html': 'text/html',
+    'keywrap.js': 'text/javascript',
+    'keywrap.wasm': 'application/wasm',
+};
+
+// A static server, and the paths that it was asked for.
+const asked = [];
+const server = createServer(async (request, response) => {
+    const name = request.url.slice(1);
+    asked.push(`${request.method} ${name}`);
+    if (TYPES[name]) {
+        const file = await readFile(`${folder}/${name}`);
+        response.writeHead(200, { 'content-type': TYPES[name] }).end(file);
+    } else {
+        response.writeHead(404).end();
+    }
+});
+await new Promise((listening) => server.listen(0, '127.0.0.1', listening));
+const url = `http://127.0.0.1:${server.address().port}/example.html`;
+const browser = await Browser.start(program, kept);
+after(async () => {
+    await browser.stop();
+    server.close();
+});
+
+const KEK = '000102030405060708090A0B0C0D0E0F';
+const KEY = '00112233445566778899aabbccddeeff';
+const WRAPPED = '1fa68b0a8112b447aef34bd8fb5a7b829d3e862371d2cfe5';
+const KEK_5649 = '5840df6e29b02af1ab493b705bf16ea1ae8338f4dcc176a8';
+const KEY_20 = 'c37b7e6492584340bed12207808941155068f738';
+const PADDED_20 = '138bdeaa9b8fa7fc61f97742e72248ee5ae6ae5360d1ae6a5f54f373fa543b6a';
+
+// Types both fields, presses the button, and reads what is told, and the answer.
+async function done(kek, text, button) {
+    await browser.type('kek', kek);
+    await browser.type('text', text);
+    assert.deepEqual([await browser.read('told'), await browser.read('answer')], ['', '']);
+    await browser.press(button);
+    const isRed = await browser.evaluate("document.getElementById('told').className === 'refused'");
+    return [await browser.read('told'), await browser.read('answer'), isRed];
+}
+
+test('the page opens', async () => {
+    await browser.open(url, '!document.getElementById("check").disabled');
+    assert.equal(await browser.read('told'), '');
+});
+
+test('a key is wrapped, unwrapped and checked', async () => {
+    assert.deepEqual(await done(KEK, KEY, 'wrap'), ['Wrapped key, 24 bytes:', WRAPPED, false]);
+    assert.deepEqual(await done(KEK, WRAPPED, 'unwrap'), ['Key, 16 bytes:', KEY, false]);
+    const spaced = WRAPPED.toUpperCase().replace(/.{16}/g, '$& \t');
+    assert.deepEqual(await done(KEK, spaced, 'check'),
+        ['It is a wrapped key: plain, of 16 bytes.', '', false]);
+});
+
+test('in the padded form, too', async () => {
+    await browser.press('padded');
+    assert.deepEqual(await done(KEK_5649, KEY_20, 'wrap'),
+        ['Wrapped key, 32 bytes:', PADDED_20, false]);
+    assert.deepEqual(await done(KEK_5649, PADDED_20, 'unwrap'), ['Key, 20 bytes:', KEY_20, false]);
+    assert.deepEqual(await done(KEK_5649, PADDED_20, 'check'),
+        ['It is a wrapped key: padded, of 20 bytes.', '', false]);
+    await browser.press('plain');
+});
+
+test('a refusal says why, and there is no answer', async () => {
+    const failed = 'Refused: the integrity check failed: no wrapped key under this KEK.';
+    assert.deepEqual(await done(KEK_5649, WRAPPED, 'unwrap'), [failed, '', true]);
+    assert.deepEqual(await done(KEK, `${WRAPPED.slice(0, -1)}4`, 'unwrap'), [failed, '', true]);
+    assert.deepEqual(await done(KEK_5649, WRAPPED, 'check'),
+        ['It is no wrapped key under this KEK.', '', true]);
+    assert.deepEqual(await done(KEK.slice(2), KEY, 'wrap'),
+        ['Refused: the KEK is 15 bytes long; it must be 16, 24 or 32 bytes.', '', true]);
+    const lengths = 'a multiple of 8 from 16 to 1048576 bytes';
+    assert.deepEqual(await done(KEK_5649, KEY_20, 'wrap'),
+        [`Refused: the key is 20 bytes long; it must be ${lengths}.`, '', true]);
+    for (const digits of ['0g', '012', '0x', '+1']) {
+        assert.deepEqual(await done(KEK, digits, 'wrap'),
+            ['Refused: the second field is not hex digits in pairs.', '', true]);
+    }
+    assert.deepEqual(await done('KEK', KEY, 'wrap'),
+        ['Refused: the KEK is not hex digits in pairs.', '', true]);
+});
+
+test('an answer goes once the form is changed', async () => {
+    assert.deepEqual(await done(KEK, KEY, 'wrap'), ['Wrapped key, 24 bytes:', WRAPPED, false]);
+    await browser.press('padded');
+    assert.deepEqual([await browser.read('told'), await browser.read('answer')], ['', '']);
+    await browser.press('plain');
+});
+
+test('Web Crypto wraps and unwraps to the same', async () => {
+    assert.equal(await browser.evaluate(`(async () => {
+        const { load } = await import('./keywrap.js');
+        const { wrap, unwrap } = await load();
+        const { subtle } = crypto;
+        const random = (length) => crypto.getRandomValues(new Uint8Array(length));
+        const hmac = { name: 'HMAC', hash: 'SHA-256' };
+        let same = 0;
+        for (let turn = 0; turn < 50; turn++) {
+            const [kek, key] = [random(turn % 2 ? 16 : 32), random(16 + 8 * turn)];
+            const theirs = await subtle.importKey(
+                'raw', kek, 'AES-KW', false, ['wrapKey', 'unwrapKey']);
+            const secret = await subtle.importKey('raw', key, hmac, true, ['sign']);
+            const wrapped = new Uint8Array(await subtle.wrapKey('raw', secret, theirs, 'AES-KW'));
+            const again = await subtle.unwrapKey(
+                'raw', wrap(kek, key), theirs, 'AES-KW', hmac, true, ['sign']);
+            const exported = new Uint8Array(await subtle.exportKey('raw', again));
+            same += wrap(kek, key).join() === wrapped.join()
+                && unwrap(kek, wrapped).join() === key.join() && exported.join() === key.join();
+        }
+        return same;
+    })()`), 50);
+});
+
+test('where there is no 64-bit memory the page says so', async () => {
+    const source = 'WebAssembly.validate = () => false';
+    const { identifier } = await browser.send('Page.addScriptToEvaluateOnNewDocument', { source });
+    await browser.open(url, 'document.getElementById("told").innerText !== "Loading"');
+    assert.match(await browser.read('told'), /^It does not run here: no 64-bit WebAssembly memory/);
+    const enabled = 'document.querySelectorAll("button:not(:disabled)").length';
+    assert.equal(await browser.evaluate(enabled), 0);
+    await browser.send('Page.removeScriptToEvaluateOnNewDocument', { identifier });
+});
+
+test('where a file is missing the page says so', async () => {
+    const type = TYPES['keywrap.wasm'];
+    delete TYPES['keywrap.wasm'];
+    await browser.open(url, 'document.getElementById("told").innerText !== "Loading"');
+    assert.match(await browser.read('told'), /^It does not run here: .*keywrap\.wasm: 404/);
+    TYPES['keywrap.wasm'] = type;
+});
+
+test('nothing was sent, and nothing went wrong in the page', () => {
+    const names = ['example.html', 'keywrap.js', 'keywrap.wasm', 'favicon.ico'];
+    assert.deepEqual(asked.filter((it) => !names.map((name) => `GET ${name}`).includes(it)), []);
+    assert.deepEqual(browser.errors, []);
+});

@@ -1,0 +1,33 @@
+# shellcheck shell=bash disable=SC2154
+# Rows on what the C library in the folder $library shows and needs. Sourced, after tests/library/rows.sh.
+# $tools is how the names of the tools of its machine begin.
+
+tools=
+names=$(sed -n 's/^u\?int32_t \(keywrap_[a-z_]*\)(.*/\1/p' "$root/include/keywrap.h" | sort)
+
+# shows NM_OPTION.. FILE: the names that the file shows are those of the header, and no others.
+shows() { diff <("${tools}nm" "$@" --defined-only | awk 'NF == 3 && $2 != "A" { print $3 }' | sort) - <<<"$names"; }
+
+# versioned FILE: each name of the shared object stands under the version node.
+versioned() {
+    shows -D --without-symbol-versions "$1" && ! "${tools}nm" -D --defined-only "$1" | grep -v KEYWRAP_1
+}
+
+# wants FILE: the archive wants nothing but these of the C library.
+wants() {
+    ! "${tools}nm" -u "$1" | awk 'NF == 2 { print $2 }' | grep -vxE 'memcpy|memmove|memset|keywrap_[a-z_]+'
+}
+
+# hardened FILE: what a shared object promises of itself.
+hardened() {
+    readelf -dlW "$1" >"$room/elf" && grep -q 'SONAME.*\[libkeywrap\.so\.1\]' "$room/elf" &&
+        grep -q BIND_NOW "$room/elf" && grep -q GNU_RELRO "$room/elf" && ! grep -q TEXTREL "$room/elf"
+}
+
+# shown NAME: the rows.
+shown() {
+    row "$1: an archive that wants nothing else" wants "$library/libkeywrap.a"
+    row "$1: the names of the archive" shows -g "$library/libkeywrap.a"
+    row "$1: the names of the shared object" versioned "$library/libkeywrap.so.1.0.0"
+    row "$1: a hardened shared object" hardened "$library/libkeywrap.so.1.0.0"
+}

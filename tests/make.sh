@@ -1,0 +1,215 @@
+#!/usr/bin/env bash
+# Runs the Makefile and the scripts beside it over a stand-in for rt and over stand-ins for the scripts of tests/:
+# what is built of what, and when again; and that what fails ends in no status 0.
+#
+# usage: tests/make.sh
+
+# shellcheck disable=SC2016,SC2086
+set -u
+# shellcheck source=tests/lib/stand_in.sh
+. "${BASH_SOURCE[0]%/*}/lib/stand_in.sh"
+# The paths of the archives stand in one word of the environment.
+export TMPDIR=$room
+
+# script NAME COUNTS STATUS: a stand-in for tests/NAME.sh. It notes what it is given.
+script() {
+    cat >"tests/$1.sh" <<END_OF_SCRIPT
+echo "$1: \${KEYWRAP_ARCHIVES:+over \$(cat \$KEYWRAP_ARCHIVES | wc -l) lines}\${TESTS:+the programs of \$TESTS}" \
+    >>"\$tree/notes"
+echo '$2'
+exit $3
+END_OF_SCRIPT
+}
+# scripts: those that are there, which pass.
+scripts() {
+    rm -f tests/*.sh
+    script command '2 passed, 0 failed, 1 skipped' 0
+    script library '40 passed, 0 failed, 0 skipped' 0
+}
+# ends STATUS LAST COMMAND..: the command ends so, and what it writes with this line (any, where that is empty).
+ends() {
+    local status wanted=$1 last=$2
+    "${@:3}" >wrote 2>err
+    status=$?
+    [ "$status" = "$wanted" ] || echo "status $status, not $wanted: $(tail -n 3 err)"
+    [ -z "$last" ] || [ "$(tail -n 1 wrote)" = "$last" ] || echo "the last line is $(tail -n 1 wrote)"
+}
+# does NAME STATUS LAST COMMAND.. -- NOTE..: it ends so, and these are the notes, in any order.
+does() {
+    local name=$1 command=()
+    shift
+    while [ "$1" != -- ]; do command+=("$1") && shift; done
+    : >notes
+    verdict "$name" "$(ends "${command[@]}")"
+    verdict "$name: what is done" "$(diff <(sort notes) <([ $# = 1 ] || printf '%s\n' "${@:2}" | sort))"
+}
+
+archives=('keywrap_c: lib --jobs 4 --backend rattle' 'ends keywrap_c' 'keywrap_c: lib --jobs 4' 'ends keywrap_c')
+over='over 8 lines'
+
+### make test
+
+scripts; fresh
+does 'make test, the first use' 0 '42 passed, 0 failed, 1 skipped' make test -- \
+    "${steps[@]}" "${archives[@]}" 'command: ' "library: $over"
+does 'make test over what is built' 0 '42 passed, 0 failed, 1 skipped' make test -- \
+    "${archives[@]}" 'command: ' "library: $over"
+does 'one script' 0 '2 passed, 0 failed, 1 skipped' scripts/tests.sh command -- 'command: '
+while IFS=: read -r counts ending good bad left; do
+    script command "$counts" "$ending"
+    does "a script that says '$counts' and ends with status $ending" 2 \
+        "$((40 + good)) passed, $bad failed, $left skipped" make test -- "${archives[@]}" 'command: ' "library: $over"
+    does "'$counts' and status $ending by itself" 1 "$good passed, $bad failed, $left skipped" \
+        scripts/tests.sh command -- 'command: '
+done <<'END_OF_SCRIPTS'
+7 passed, 1 failed, 0 skipped:1:7:1:0
+7 passed, 3 failed, 2 skipped:1:7:3:2
+7 passed, 0 failed, 0 skipped:1:7:1:0
+7 passed, 1 failed, 0 skipped:0:7:2:0
+no counts:0:0:1:0
+END_OF_SCRIPTS
+scripts
+does 'a script that is not there' 1 '2 passed, 1 failed, 1 skipped' scripts/tests.sh command missing -- 'command: '
+fresh
+at=aes_block event='exit 1' does 'make test, where a crate is not proved' 2 '' make test -- "${steps[@]:0:3}"
+at=aes_block event='exit 1' does 'the scripts, where a crate is not proved' 70 '' scripts/tests.sh -- \
+    "${steps[@]:0:3}"
+./keywrap --version >/dev/null 2>&1
+at=keywrap_c event='exit 1' does 'no archive is built' 0 '42 passed, 0 failed, 1 skipped' make test -- \
+    "${archives[0]}" 'command: ' 'library: '
+at=keywrap_c event='[[ "$*" =~ rattle ]] || exit 1' \
+    does 'the second archive is not built' 0 '42 passed, 0 failed, 1 skipped' make test -- \
+    "${archives[@]:0:3}" 'command: ' 'library: '
+at=keywrap_c event='[[ ! "$*" =~ rattle ]] || exit 1' \
+    does 'the first archive is not built, over an old one' 0 '42 passed, 0 failed, 1 skipped' make test -- \
+    "${archives[0]}" 'command: ' 'library: '
+
+### make gate, and what CI runs
+
+# The stand-in builds the program as rt ci does.
+ci='cd crates/keywrap'
+in_gate=('a tree: ci' 'ends a tree' "${archives[@]}" 'command: the programs of crates'
+    "library: ${over}the programs of crates")
+scripts; fresh
+at='a tree' event=$ci does 'make gate' 0 '42 passed, 0 failed, 1 skipped' make gate -- "${in_gate[@]}"
+same 'the gate comes first' 'a tree: ci' "$(head -n 1 notes)"
+does 'the program after the gate' 5 '' ./keywrap --
+script command '1 passed, 1 failed, 0 skipped' 1
+at='a tree' event=$ci does 'a gate whose script fails' 2 '41 passed, 1 failed, 0 skipped' make gate -- "${in_gate[@]}"
+fresh
+built="($ci && install -D ../../bin/nproc out/keywrap)"
+at='a tree' event="$built; exit 1" does 'a gate that fails' 2 '' make gate -- 'a tree: ci'
+verdict 'a gate that fails records nothing' "$(find crates -name 'built_from*')"
+
+# The packages are installed one by one where all together can't be. What is asked for is noted.
+printf '# A comment.\none\ntwo\n' >tests/packages.txt
+install -m 755 /dev/stdin bin/apt-get <<'END_OF_APT'
+#!/bin/sh
+echo "apt-get: $*" >>"$tree/notes"
+[ $# -le "${takes:-9}" ]
+END_OF_APT
+printf '#!/bin/sh\necho "${uid:-0}"\n' | install -m 755 /dev/stdin bin/id
+installs='apt-get: install -y --no-install-recommends --no-upgrade'
+cp scripts/sysroot.sh tmp/kept
+printf '#!/bin/sh\necho "sysroot: $*" >>"$tree/notes"\n' >scripts/sysroot.sh
+unpacks='sysroot: '
+at='a tree' event='exit 1' does 'CI, where the gate fails' 2 '' .ci/run -- \
+    'apt-get: update' "$installs one two" "$unpacks" 'a tree: ci'
+at='a tree' event='exit 1' takes=5 does 'CI, where a package is missing' 2 '' .ci/run -- \
+    'apt-get: update' "$installs one two" "$installs one" "$installs two" "$unpacks" 'a tree: ci'
+at='a tree' event='exit 1' uid=1 does 'CI without the right to install' 2 '' .ci/run -- 'a tree: ci'
+scripts
+at='a tree' event=$ci uid=1 does 'CI' 0 '42 passed, 0 failed, 1 skipped' .ci/run -- "${in_gate[@]}"
+at='a tree' event=$ci takes=0 does 'CI, where nothing can be installed' 0 '42 passed, 0 failed, 1 skipped' .ci/run -- \
+    'apt-get: update' "$installs one two" "$installs one" "$installs two" "$unpacks" "${in_gate[@]}"
+rm bin/id bin/apt-get
+cp tmp/kept scripts/sysroot.sh
+
+### What is made, and when again
+
+# For a compiler stands what is noted, and has a copy of the archive as the shared object.
+export PYTHON=true CC='echo linked >>notes; cp library/libkeywrap.a library/libkeywrap.so.1.0.0; :'
+make='make -s LIBRARY=library DIST=dist DESTDIR=stage/ PREFIX=usr'
+linked=('keywrap_c: lib' 'ends keywrap_c' linked)
+rm -r crates/*/out
+rebuilds "$make wheel && cmp library/python/libkeywrap.a $archive" "${linked[@]}" <<<true
+rebuilds "$make install && cmp stage/usr/bin/keywrap $program && cmp stage/usr/lib/libkeywrap.so $archive" \
+    "${steps[@]}" "${linked[@]}" <<<'append crates/aes_block/src/lib.rt'
+same 'make install keeps to DESTDIR and PREFIX' $'bin\ninclude\nlib\nshare' "$(ls stage/usr)"
+verdict 'make uninstall leaves nothing' "$($make uninstall; find stage ! -type d)"
+rebuilds "$make dist && cat dist/*.gz | tar -xzif - && cmp keywrap-1.2.3-*/bin/keywrap $program &&
+    cmp keywrap-library-1.2.3-*/lib/libkeywrap.so $archive && cmp library/python/libkeywrap.a $archive" \
+    "${steps[@]}" "${linked[@]}" <<<'append crates/aes_block/src/lib.rt'
+rebuilds "$make library" "${linked[@]}" <<END_OF_CHANGES
+append crates.txt
+append crates/keywrap_c/proofs/part/Answers.antt
+append include/keywrap.map
+rm -r crates/block_pair/specs
+rm library/libkeywrap.a
+append crates/block_pair/src/lib.rt; at=keywrap_c event='echo other >>src/lib.rt' $make library
+append crates/block_pair/src/lib.rt; at=keywrap_c event='exit 1' $make library
+END_OF_CHANGES
+rebuilds "$make library ARCHIVE=another.a" linked <<<'rm -r library; append another.a'
+
+rm -r library && $make wheel >row.log 2>&1
+echo 'gone from the sources' >library/python/gone.py
+$make wheel
+verdict 'the wheel is packed of the sources alone' "$(diff -r library/python python |
+    grep -vE '^Only in library/python: (keywrap.h|libkeywrap.a)$')"
+for prefix in '/opt/R&D' '/opt/a|b' '/opt/a\1b' '/opt/a/b'; do
+    $make install-library PREFIX="$prefix"
+    same "PREFIX='$prefix'" "prefix=$prefix" "$(head -n 1 "stage/$prefix/lib/pkgconfig/keywrap.pc")"
+done
+
+### For another machine
+
+arm=TARGET=aarch64-unknown-linux-gnu
+for_arm="$make $arm CC=\"\$CC\""
+linked_for_arm=("keywrap_c: lib --target ${arm#*=}" 'ends keywrap_c' linked)
+rebuilds "$for_arm library && cmp $archive kept && ! cmp -s $archive library/libkeywrap.a" \
+    "${linked_for_arm[@]}" <<<"rm -r library; echo kept | tee kept >$archive"
+rebuilds "$for_arm library && [ ! -e $archive ]" "${linked_for_arm[@]}" <<<"rm -r library $archive"
+rebuilds "$make library && cmp $archive library/libkeywrap.a" "${linked[@]}" <<<"$for_arm library"
+
+# refused LINE WORD..: make says so on one line, and begins nothing.
+refused() {
+    : >notes
+    ! $make "${@:2}" >said 2>&1 && [ "$(wc -l <said)" = 1 ] && grep -qF -e "$1" said && [ ! -s notes ]
+}
+for words in 'library TARGET=aarch64' 'dist TARGET=' "wheel TARGET=%"; do
+    # shellcheck disable=SC2086
+    row "make $words" refused "is none of x86_64-unknown-linux-gnu and ${arm#*=}" $words
+done
+for goal in build test gate install install-command dist-command bench; do
+    row "make $goal $arm" refused "make $goal: the program is for x86-64 alone" dist $goal $arm
+done
+row 'a folder of its own' grep -q " out/library-${arm#*=}/libkeywrap.a" <(make -s help $arm)
+row 'make wheel, without its Python' grep -q "scripts/sysroot.sh 'none' " \
+    <(eval "$for_arm wheel SYSROOT=none" 2>&1)
+
+### What fails
+
+rm -r stage dist
+{ ./keywrap --version; $make library; } >/dev/null 2>&1
+does 'no wheel' 2 '' $make wheel PYTHON=false --
+CC=false does 'no linker' 2 '' $make library LIBRARY=other -- 'keywrap_c: lib' 'ends keywrap_c'
+verdict 'no linker: what is recorded' "$(ls other/built_from 2>/dev/null)"
+does 'no program to pack' 2 '' $make -o build dist-command PROGRAM=missing --
+does 'no library to pack' 2 '' $make -o library -o wheel dist-library LIBRARY=missing --
+verdict 'nothing is packed' "$(find dist -type f 2>/dev/null)"
+for target in build install install-command dist dist-command bench; do
+    append crates/aes_block/src/lib.rt
+    at=aes_block event='exit 1' does "make $target, where a crate is not proved" 2 '' $make $target -- "${steps[@]:0:3}"
+done
+for target in library wheel install-library dist-library; do
+    append crates/aes_block/src/lib.rt
+    at=keywrap_c event='exit 1' does "make $target, where the exports are not proved" 2 '' $make $target -- \
+        "${linked[0]}"
+done
+verdict 'nothing is installed or packed' "$(find dist stage -type f 2>/dev/null)"
+
+mkdir -p out/library && make -s clean
+verdict 'make clean' "$(ls -d out crates/*/out 2>/dev/null; for crate in crates/*/; do [ -f "$crate/src/lib.rt" ] ||
+    echo "$crate"; done)"
+
+finish

@@ -1,0 +1,196 @@
+#!/usr/bin/env bash
+# Builds the provider for OpenSSL 3, and makes each call by EVP in OpenSSL's own provider and in ours: the
+# answers must be the same, but for what docs/OPENSSL.md says. Then programs that know nothing of it are run
+# by the openssl.cnf of that page. A part whose tool is not there is skipped, with a line that says what to
+# install.
+#
+# usage: tests/provider.sh        (KEYWRAP_ARCHIVES='PATH ..': over the last of these, which was built before)
+
+set -u
+# shellcheck disable=SC2034,SC2154
+# shellcheck source=tests/lib/room.sh
+. "${BASH_SOURCE[0]%/*}/lib/room.sh"
+# shellcheck source=tests/library/rows.sh
+. "$root/tests/library/rows.sh"
+unset OPENSSL_CONF OPENSSL_MODULES
+
+cc=${CC:-cc}
+has "$cc" gcc 'the provider' || { finish; exit; }
+if ! printf '#include <openssl/provider.h>\n' | "$cc" -fsyntax-only -x c - 2>/dev/null; then
+    skip 'the provider' 'no headers of OpenSSL 3 (apt-get install libssl-dev)'
+    finish
+    exit
+fi
+
+archive=${KEYWRAP_ARCHIVES:-crates/keywrap_c/out/libkeywrap_c.a}
+archive=${archive##* } library=$room/library
+export KEYWRAP_VERSION
+KEYWRAP_VERSION=$(make -s --no-print-directory -C "$root" version)
+
+### The module
+
+row 'make provider' in_library provider PROVIDER="$room/modules" || { finish; exit; }
+module=$room/modules/keywrap.so
+strict=(-std=c99 -Wall -Wextra -pedantic -Werror "-I$root/include")
+for compiler in gcc clang; do
+    has $compiler $compiler "the provider by $compiler" &&
+        row "no warning by $compiler" $compiler "${strict[@]}" -O2 -fsyntax-only "$root"/provider/*.c
+done
+
+# shows_one: of all names the module shows the one that OpenSSL looks for.
+shows_one() { [ "$(nm -D --defined-only "$module" | awk '{ print $3 }')" = OSSL_provider_init ]; }
+# needs_libc: it needs no library but the system's C library, so no libcrypto.
+needs_libc() { [ "$(readelf -d "$module" | sed -n 's/.*(NEEDED).*\[\(.*\)\]/\1/p')" = libc.so.6 ]; }
+# hardened: its tables are read-only once it is loaded.
+hardened() {
+    readelf -dlW "$module" >elf && grep -q BIND_NOW elf && grep -q GNU_RELRO elf && ! grep -q TEXTREL elf
+}
+row 'the names of the module' shows_one
+row 'what the module needs' needs_libc
+row 'a hardened module' hardened
+
+### Against OpenSSL's own
+
+programs=$root/tests/provider
+mapfile -t compared < <(printf '%s\n' "$programs"/*.c | grep -v '/direct\.c$')
+
+# programs FOLDER OPTION..: the two programs, compiled into the folder.
+programs() {
+    "$cc" "${strict[@]}" -O1 -g "${@:2}" "${compared[@]}" -lcrypto -o "$1/compared" &&
+        "$cc" "${strict[@]}" -O1 -g "${@:2}" "$programs/direct.c" -ldl -o "$1/direct"
+}
+
+# nist: NIST's cases, a line each: the cipher's number, the KEK, the key or -, the wrapped key.
+nist() {
+    local folder form bits tables
+    folder=$("$python" -c 'import cryptography_vectors as v, os; print(os.path.dirname(v.__file__))')
+    for form in KW KWP; do
+        for bits in 128 192 256; do
+            tables=("$folder/keywrap/kwtestvectors/${form}_"{AE,AD}"_$bits.txt")
+            sed 's/\r$//' "${tables[@]}" | awk -v RS= -F '\n' -v n=$(((bits - 128) / 64 + (${#form} - 2) * 3)) '
+                /^COUNT = / {
+                    split("", word)
+                    for (i = 1; i <= NF; i++) { split($i, pair, " = "); word[pair[1]] = pair[2] }
+                    print n, word["K"], "FAIL" in word ? "-" : word["P"], word["C"]
+                }'
+        done
+    done
+}
+
+row 'the programs: compile' programs . || { finish; exit; }
+row 'called as by the core; refused memory; cleared KEKs' ./direct "$module"
+row 'all lengths, in each place' ./compared modules lengths
+row 'random sequences' ./compared modules sequences 10000
+row 'parameters and names' ./compared modules parameters
+row 'where it differs' ./compared modules refusals
+if has_python cryptography_vectors; then
+    nist >nist.txt
+    row "NIST's cases" writes '6000 cases' ./compared modules vectors <nist.txt
+    row "NIST's refused cases" test "$(grep -c ' - ' nist.txt)" -gt 300
+else
+    skip "NIST's cases" 'no tables (apt-get install python3-cryptography-vectors)'
+fi
+
+### Under the sanitizers, under valgrind
+
+sanitize=("-fsanitize=address,undefined" -fno-sanitize-recover=all)
+mkdir sanitized
+# sanitized_module: the same sources, with the sanitizers.
+sanitized_module() {
+    "$cc" "${strict[@]}" -O1 -g -fPIC -shared "${sanitize[@]}" "$root"/provider/*.c "$library/libkeywrap.a" \
+        -Wl,--version-script,"$root/provider/provider.map" -o sanitized/keywrap.so
+}
+printf 'int main(void) { return 0; }\n' >empty.c
+if "$cc" "${sanitize[@]}" empty.c -o empty 2>/dev/null && ./empty; then
+    row 'sanitized: compiles' eval 'sanitized_module && programs sanitized "${sanitize[@]}"'
+    row 'sanitized: called as by the core' sanitized/direct sanitized/keywrap.so
+    row 'sanitized: random sequences' sanitized/compared sanitized sequences 2000
+    row 'sanitized: parameters' sanitized/compared sanitized parameters
+    row 'sanitized: where it differs' sanitized/compared sanitized refusals
+else
+    skip 'the sanitizers' 'not there (apt-get install libasan8 libubsan1)'
+fi
+if has valgrind valgrind 'memcheck'; then
+    memcheck=(valgrind -q --error-exitcode=9 --leak-check=full)
+    row 'memcheck: called as by the core' "${memcheck[@]}" ./direct "$module"
+    row 'memcheck: random sequences' "${memcheck[@]}" ./compared modules sequences 300
+fi
+
+### By openssl.cnf alone
+
+page=$root/docs/OPENSSL.md
+kek=000102030405060708090a0b0c0d0e0f101112131415161718191a1b1c1d1e1f
+d16=00112233445566778899aabbccddeeff
+# RFC 3394, 4.3; and, as OpenSSL's own wraps it, the padded form of the same.
+wrapped=64e8c3f9ce0f5ba263e9777905818a2a93c8191e7d6e8ae7
+padded=$(echo $d16 | xxd -r -p | openssl enc -id-aes256-wrap-pad -K $kek -iv a65959a6 2>/dev/null | xxd -p -c 99)
+reserved='reserved initial value'
+sed -n '/^    openssl_conf = /,/^    default_properties = /s/^    //p' "$page" |
+    sed "s|^module = .*|module = $module|" >ours.cnf
+row 'the configuration of the page' test "$(grep -cE '^(module|activate|providers|nodejs_conf)' ours.cnf)" = 5
+
+# ours COMMAND..: runs it by that configuration.
+ours() { OPENSSL_CONF=$room/ours.cnf "$@"; }
+# enc WORDS: what openssl enc answers to the hex of standard input, under the KEK, in hex.
+enc() { xxd -r -p | openssl enc "$@" -K $kek | xxd -p -c 99; }
+# refuses TEXT COMMAND..: the command says that it was refused so, in words that OpenSSL's own has not.
+refuses() { "${@:2}" >refused 2>&1; grep -qF "$1" refused || { cat refused && false; }; }
+
+if has openssl openssl 'openssl' && has xxd xxd 'openssl'; then
+    row 'it is listed' writes "version: $KEYWRAP_VERSION" ours openssl list -providers
+    row 'enc wraps' writes $wrapped ours enc -id-aes256-wrap -iv a6a6a6a6a6a6a6a6 < <(echo $d16)
+    row 'enc unwraps' writes $d16 ours enc -d -id-aes256-wrap -iv a6a6a6a6a6a6a6a6 < <(echo $wrapped)
+    row 'enc wraps, padded' writes "$padded" ours enc -id-aes256-wrap-pad -iv a65959a6 < <(echo $d16)
+    row 'enc unwraps, padded' writes $d16 ours enc -d -id-aes256-wrap-pad -iv a65959a6 < <(echo "$padded")
+    # The page's way to see that ours answers: OpenSSL's own takes the value.
+    command=$(sed -n 's/^    \$ \(echo .* | openssl enc -id-aes128-wrap .*\)/\1/p' "$page")
+    row "the page's command is refused by ours" refuses "$reserved" ours bash -c "$command"
+    row "the page's command without ours" test "$(bash -c "$command" | wc -c)" = 24
+    sed 's|^module = .*|module = /none.so|' ours.cnf >none.cnf
+    row 'a module that is not there is passed over' \
+        test "$(OPENSSL_CONF=$room/none.cnf bash -c "$command" | wc -c)" = 24
+    row 'a refused unwrapping has its reason' refuses 'integrity check failed' \
+        ours enc -d -id-aes256-wrap -iv a6a6a6a6a6a6a6a6 < <(echo "${wrapped%7}8")
+fi
+
+# cms_from_to WRITER READER: a message of the one is read by the other: under a KEK of both, and under one that
+# is agreed on by a key of the reader.
+cms_from_to() {
+    local written=(-aes-256-cbc -in message -out message.cms -outform DER -binary)
+    local read=(-in message.cms -inform DER -binary -out read.back)
+    rm -f read.back
+    $1 openssl cms -encrypt "${written[@]}" -recip cert.pem &&
+        $2 openssl cms -decrypt "${read[@]}" -recip cert.pem -inkey key.pem && cmp message read.back &&
+        $1 openssl cms -encrypt "${written[@]}" -secretkey $kek -secretkeyid 01 &&
+        $2 openssl cms -decrypt "${read[@]}" -secretkey $kek -secretkeyid 01 && cmp message read.back
+}
+echo 'a message' >message
+openssl req -x509 -newkey ec -pkeyopt ec_paramgen_curve:P-256 -nodes -keyout key.pem -out cert.pem -subj /CN=reader \
+    2>/dev/null
+row 'cms, from ours to theirs' cms_from_to ours env
+row 'cms, from theirs to ours' cms_from_to env ours
+row 'cms by ours, under another KEK' refuses 'integrity check failed' ours openssl cms -decrypt -in message.cms \
+    -inform DER -secretkey "${kek%f}0" -secretkeyid 01
+
+# by_script NAME COMMAND..: a script that knows nothing of the provider, given an initial value, wraps
+# and unwraps; and tells, given a reserved one, that ours refused it.
+by_script() {
+    row "$1: the wrapped key" writes $wrapped ours "${@:2}" a6a6a6a6a6a6a6a6
+    row "$1: the key" writes $d16 ours "${@:2}" a6a6a6a6a6a6a6a6
+    row "$1: a reserved value, by ours" refuses "$reserved" ours "${@:2}" a65959a600000010
+    row "$1: a reserved value, by OpenSSL's own" writes $d16 "${@:2}" a65959a600000010
+}
+scripts=$root/tests/provider
+has php php-cli 'PHP' && by_script PHP php "$scripts/wrap.php"
+has ruby ruby 'Ruby' && by_script Ruby ruby "$scripts/wrap.rb"
+has node nodejs 'Node' && by_script Node node "$scripts/wrap.js"
+libcrypto=$(python3 -c 'import ssl; print(open("/proc/self/maps").read())' 2>/dev/null |
+    awk '/\/libcrypto\.so\.3/ { print $NF; exit }')
+if [ -n "$libcrypto" ]; then
+    row 'Python: import ssl loads it' writes keywrap ours python3 "$scripts/who.py" "$libcrypto"
+    row 'Python: without the configuration' writes default python3 "$scripts/who.py" "$libcrypto"
+else
+    skip 'Python' 'no python3 whose ssl is over a shared libcrypto.so.3 (apt-get install python3)'
+fi
+
+finish

@@ -1,0 +1,182 @@
+/* sides.c: the two providers, and calls that are made in both. */
+
+#include "sides.h"
+
+#include <openssl/err.h>
+#include <stdarg.h>
+#include <stdio.h>
+#include <string.h>
+
+const char *const CIPHER_NAMES[CIPHERS] = {"AES-128-WRAP",     "AES-192-WRAP",
+                                           "AES-256-WRAP",     "AES-128-WRAP-PAD",
+                                           "AES-192-WRAP-PAD", "AES-256-WRAP-PAD"};
+
+struct side sides[2] = {{.name = "default"}, {.name = "keywrap"}};
+unsigned passed, failed;
+
+int is_padded(int which) {
+    return which >= 3;
+}
+
+int kek_len(int which) {
+    return 16 + which % 3 * 8;
+}
+
+static void say(const char *format, va_list arguments) {
+    if (failed > 20) return;
+    vprintf(format, arguments);
+    printf("\n");
+}
+
+void check(int right, const char *format, ...) {
+    va_list arguments;
+    if (right) {
+        passed++;
+        return;
+    }
+    failed++;
+    va_start(arguments, format);
+    say(format, arguments);
+    va_end(arguments);
+}
+
+static int load(struct side *side) {
+    char properties[32];
+    snprintf(properties, sizeof properties, "provider=%s", side->name);
+    side->provider = OSSL_PROVIDER_load(NULL, side->name);
+    if (side->provider == NULL) return 0;
+    for (int i = 0; i < CIPHERS; i++) {
+        side->ciphers[i] = EVP_CIPHER_fetch(NULL, CIPHER_NAMES[i], properties);
+        if (side->ciphers[i] == NULL) return 0;
+    }
+    side->ctx = EVP_CIPHER_CTX_new();
+    return side->ctx != NULL;
+}
+
+int load_sides(const char *folder) {
+    if (OSSL_PROVIDER_set_default_search_path(NULL, folder) && load(sides) && load(sides + 1))
+        return 1;
+    ERR_print_errors_fp(stdout);
+    return 0;
+}
+
+void unload_sides(void) {
+    for (struct side *side = sides; side < sides + 2; side++) {
+        EVP_CIPHER_CTX_free(side->ctx);
+        for (int i = 0; i < CIPHERS; i++) EVP_CIPHER_free(side->ciphers[i]);
+        OSSL_PROVIDER_unload(side->provider);
+    }
+}
+
+int first_reason(void) {
+    int reason = ERR_GET_REASON(ERR_peek_error());
+    ERR_clear_error();
+    return reason;
+}
+
+void record_bytes(struct side *side, const void *bytes, size_t len) {
+    if (len > RECORD - side->recorded) len = RECORD - side->recorded;
+    memcpy(side->record + side->recorded, bytes, len);
+    side->recorded += len;
+}
+
+void record_number(struct side *side, long number) {
+    record_bytes(side, &number, sizeof number);
+}
+
+void begin(struct side *side, int which, const uint8_t *kek, const uint8_t *iv, int wraps) {
+    const EVP_CIPHER *cipher = which < 0 ? NULL : side->ciphers[which];
+    record_number(side, EVP_CipherInit_ex(side->ctx, cipher, NULL, kek, iv, wraps));
+    record_number(side, first_reason());
+}
+
+/* OpenSSL's own has one reason for a plain key of 8 bytes and for what was not wrapped so; ours
+ * says which it is: the length. */
+static int reason_of(const struct side *side, int len) {
+    int reason = first_reason(), wraps = EVP_CIPHER_CTX_is_encrypting(side->ctx);
+    int padded = EVP_CIPHER_CTX_get_iv_length(side->ctx) == 4;
+    ERR_clear_error();
+    return reason == 102 && !padded && len == (wraps ? 8 : 16) ? 230 : reason;
+}
+
+/* OpenSSL's own clears, after a refused padded unwrap, the 8 bytes behind the key's room too: they
+ * are put back here, so that the rest is compared, and that ours leaves them. */
+static void put_back(struct side *side, uint8_t *out, const uint8_t *before, int len, int status) {
+    if (side == sides && status != 1 && EVP_CIPHER_CTX_get_iv_length(side->ctx) == 4
+        && !EVP_CIPHER_CTX_is_encrypting(side->ctx) && len >= 16 && len % 8 == 0)
+        memcpy(out + len - 8, before + len - 8, 8);
+}
+
+int run_update(struct side *side, struct place place, const uint8_t *input, int len, int once,
+               uint8_t *got) {
+    uint8_t arena[ARENA], before[ARENA];
+    uint8_t *in = arena + place.in, *out = place.out_null ? NULL : arena + place.out;
+    int out_len = -7, status;
+    for (int i = 0; i < ARENA; i++) arena[i] = (uint8_t)(i * 31 + 7);
+    memcpy(in, input, (size_t)len);
+    memcpy(before, arena, ARENA);
+    if (once)
+        status = EVP_Cipher(side->ctx, out, in, (unsigned)len);
+    else
+        status = EVP_CipherUpdate(side->ctx, out, &out_len, in, len);
+    /* EVP_Cipher passes on what OpenSSL's own answers: 1 at a refusal, too. */
+    if (once && side == sides && ERR_peek_error() != 0) status = 0;
+    if (out != NULL) put_back(side, out, before + place.out, len, status);
+    if (got != NULL && out != NULL && status == 1 && out_len > 0) memcpy(got, out, (size_t)out_len);
+    record_number(side, status);
+    record_number(side, out_len);
+    record_number(side, reason_of(side, len));
+    record_bytes(side, arena, ARENA);
+    return status == 1 ? out_len : -1;
+}
+
+void run_final(struct side *side) {
+    uint8_t out[64];
+    int out_len = -7;
+    memset(out, 0x5A, sizeof out);
+    record_number(side, EVP_CipherFinal_ex(side->ctx, out, &out_len));
+    record_number(side, out_len);
+    record_number(side, first_reason());
+    record_bytes(side, out, sizeof out);
+}
+
+void compare(const char *format, ...) {
+    va_list arguments;
+    int same = sides[0].recorded == sides[1].recorded && sides[0].recorded < RECORD
+               && memcmp(sides[0].record, sides[1].record, sides[0].recorded) == 0;
+    if (same) {
+        passed++;
+    } else {
+        size_t at = 0;
+        while (at < RECORD && sides[0].record[at] == sides[1].record[at]) at++;
+        failed++;
+        va_start(arguments, format);
+        say(format, arguments);
+        va_end(arguments);
+        if (failed <= 20)
+            printf("    the answers differ, of %zu bytes from byte %zu on\n", sides[0].recorded,
+                   at);
+    }
+    sides[0].recorded = sides[1].recorded = 0;
+}
+
+static uint64_t state;
+
+void seed(uint64_t with) {
+    state = with * 2654435761u + 1;
+}
+
+uint32_t number(void) {
+    state ^= state << 13;
+    state ^= state >> 7;
+    state ^= state << 17;
+    return (uint32_t)(state >> 16);
+}
+
+unsigned below(unsigned limit) {
+    return number() % limit;
+}
+
+void fill(uint8_t *bytes, size_t len) {
+    for (size_t i = 0; i < len; i++) bytes[i] = (uint8_t)number();
+}
