@@ -3,9 +3,10 @@ use Rattle.std.proofs.Common.{◌≡◌, ◌≢◌, ◌<◌, ◌≤◌, ◌%◌,
 use Rattle.std.specs.Prelude.{IsErrAnd}
 use Rattle.std.proofs.lemmas.Bool.Decides.{nat_tests}
 use Rattle.key_files.specs.declared.fault.FileFault.{FileFault}
-use Rattle.key_files.specs.declared.fault.FileFault.TheVariants.{TooLong, BadDigit, OddDigits, Memory}
+use Rattle.key_files.specs.declared.fault.FileFault.TheVariants.{Read, TooLong, BadDigit, OddDigits, BadBase64, Memory}
 use Rattle.std.specs.declared.vec.Vec.{Vec}
 use Rattle.key_files.specs.Decoding.{DecodesHex}
+use Rattle.key_files.specs.Reading.{IsMeaning, answer_of}
 use Rattle.key_files.specs.Meaning.{file_meaning, hex_meaning, digit_text_meaning, digits_meaning}
 use Rattle.key_files.specs.HexText.{first_bad, first_no_digit, digits_of, paired}
 
@@ -92,3 +93,14 @@ DecodesHex-bytes text v m = record {
   refused = λ fault _. (λ e. cc, λ e. cc);
   memory = λ e. cc;
 }
+
+-- such an answer is the meaning of the text
+pub DecodesHex-means : {Z : Type 0} (text : List ℕ) (answer : Result (Vec ℕ Z) FileFault) → DecodesHex text answer
+    → IsMeaning (answer_of answer) (hex_meaning text)
+DecodesHex-means text (Ok v) d = d.bytes
+DecodesHex-means text (Err Read) d = tt
+DecodesHex-means text (Err Memory) d = tt
+DecodesHex-means text (Err TooLong) d = (d.refused TooLong (λ e. cc e)).0 refl
+DecodesHex-means text (Err (BadDigit at)) d = (d.refused (BadDigit at) (λ e. cc e)).0 refl
+DecodesHex-means text (Err OddDigits) d = (d.refused OddDigits (λ e. cc e)).0 refl
+DecodesHex-means text (Err (BadBase64 wrong)) d = (d.refused (BadBase64 wrong) (λ e. cc e)).0 refl

@@ -4,3 +4,4 @@ mod Pairs
 mod ReadBack
 mod Whole
 mod Strict
+mod Base64

@@ -1,16 +1,16 @@
 -- What a call took from a reader, and what it answers for that: one lemma for each way in which a read ends, and those that
--- carry the answer for a raw file over to a hex file.
-use Rattle.std.proofs.Common.{◌≡◌, ◌≢◌, ◌≤◌, ◌+◌, ℕ, List, [], length, Option, Result, Ok, Err, IfOk, Vec}
+-- carry the answer for a raw file over to a file of text.
+use Rattle.std.proofs.Common.{◌≡◌, ◌≢◌, ◌≤◌, ◌+◌, ℕ, List, [], length, Option, Result, Ok, Err, Vec}
 use Rattle.std.proofs.Common.{arith, refl, sym, ap, subst, ◌∙◌, append-nil, inl, inr}
-use Rattle.std.specs.Prelude.{◌↔◌, IsErrAnd}
+use Rattle.std.specs.Prelude.{IsErrAnd}
 use Rattle.std.specs.Io.KnownBytes.{Consumes, IsAtEnd}
 use Rattle.std.proofs.KnownBytes.{Consumes-trans}
 use Rattle.std.proofs.lemmas.Bool.{cases_lt}
 use Rattle.key_files.specs.declared.fault.FileFault.{FileFault}
-use Rattle.key_files.specs.declared.fault.FileFault.TheVariants.{Read, TooLong, BadDigit, OddDigits, Memory}
-use Rattle.key_files.specs.Meaning.{hex_meaning, raw_meaning}
+use Rattle.key_files.specs.declared.fault.FileFault.TheVariants.{Read, TooLong, BadDigit, OddDigits, BadBase64, Memory}
+use Rattle.key_files.specs.Meaning.{raw_meaning}
 use Rattle.key_files.specs.Reading.{IsMeaning, ReadsAs, ReadsToEnd, answer_of}
-use Rattle.key_files.proofs.Denoting.{file_meaning-past, file_meaning-within, hex_meaning-never_long}
+use Rattle.key_files.proofs.Denoting.{file_meaning-past, file_meaning-within}
 
 -- a read that took no byte
 pub Consumes-none : (a b c : Option (List ℕ)) (bytes : List ℕ) → Consumes a b bytes → Consumes b c [] → Consumes a c bytes
@@ -71,6 +71,11 @@ ReadsAs-refused {limit = limit} (BadDigit at) r =
       | inl past ↦ cc (r.too_long.1 past)
       | inr within ↦ cc (sym (file_meaning-within raw_meaning limit r.taken (omega arith)) ∙ r.means)
     ]
+ReadsAs-refused {limit = limit} (BadBase64 wrong) r =
+    elim (cases_lt limit (length r.taken)) [
+      | inl past ↦ cc (r.too_long.1 past)
+      | inr within ↦ cc (sym (file_meaning-within raw_meaning limit r.taken (omega arith)) ∙ r.means)
+    ]
 ReadsAs-refused {limit = limit} OddDigits r =
     elim (cases_lt limit (length r.taken)) [
       | inl past ↦ cc (r.too_long.1 past)
@@ -90,12 +95,12 @@ taken-raw {limit = limit} {text = text} r =
     ]
 
 -- an answer for the text of a file that was read whole is one for the file
-ReadsAs-text : {limit : ℕ} {old new : Option (List ℕ)} {text : List ℕ} (answer : Result (List ℕ) FileFault)
-    (r : ReadsAs raw_meaning limit old new (Ok text)) → IsMeaning answer (hex_meaning text) → answer ≢ Err TooLong → ReadsToEnd answer new
-    → ReadsAs hex_meaning limit old new answer
-ReadsAs-text {limit = limit} answer r means short end =
+ReadsAs-text : {meaning : List ℕ → Result (List ℕ) FileFault} {limit : ℕ} {old new : Option (List ℕ)} {text : List ℕ}
+    (answer : Result (List ℕ) FileFault) (r : ReadsAs raw_meaning limit old new (Ok text)) → IsMeaning answer (meaning text)
+    → answer ≢ Err TooLong → ReadsToEnd answer new → ReadsAs meaning limit old new answer
+ReadsAs-text {meaning = meaning} {limit = limit} answer r means short end =
     let (fits, same) = taken-raw r in
-    let file = file_meaning-within hex_meaning limit r.taken fits ∙ ap hex_meaning same in
+    let file = file_meaning-within meaning limit r.taken fits ∙ ap meaning same in
     record {
       taken = r.taken;
       stands_after = r.stands_after;
@@ -105,18 +110,17 @@ ReadsAs-text {limit = limit} answer r means short end =
       to_end = end;
     }
 
--- a hex file that was read whole, and then decoded
-pub ReadsAs-hex : {Z : Type 0} {limit : ℕ} {old new : Option (List ℕ)} {text : List ℕ} (answer : Result (Vec ℕ Z) FileFault)
-    → ReadsAs raw_meaning limit old new (Ok text) → IfOk answer (λ v. hex_meaning text ≡ Ok v.items)
-    → ((fault : FileFault) → fault ≢ Memory → (answer ≡ Err fault) ↔ (hex_meaning text ≡ Err fault))
-    → ReadsAs hex_meaning limit old new (answer_of answer)
-ReadsAs-hex (Ok v) r bytes refused = ReadsAs-text (Ok v.items) r bytes (λ e. cc e) r.to_end
-ReadsAs-hex (Err (BadDigit at)) r bytes refused =
-    ReadsAs-text (Err (BadDigit at)) r ((refused (BadDigit at) (λ e. cc e)).0 refl) (λ e. cc e) r.to_end
-ReadsAs-hex (Err OddDigits) r bytes refused = ReadsAs-text (Err OddDigits) r ((refused OddDigits (λ e. cc e)).0 refl) (λ e. cc e) r.to_end
-ReadsAs-hex {text = text} (Err TooLong) r bytes refused = absurd (hex_meaning-never_long text ((refused TooLong (λ e. cc e)).0 refl))
-ReadsAs-hex (Err Read) r bytes refused = ReadsAs-text (Err Read) r tt (λ e. cc e) tt
-ReadsAs-hex (Err Memory) r bytes refused = ReadsAs-text (Err Memory) r tt (λ e. cc e) tt
+-- a file of text that was read whole, and then decoded
+pub ReadsAs-decoded : {meaning : List ℕ → Result (List ℕ) FileFault} {limit : ℕ} {old new : Option (List ℕ)} {text : List ℕ}
+    (answer : Result (List ℕ) FileFault) → meaning text ≢ Err TooLong → ReadsAs raw_meaning limit old new (Ok text)
+    → IsMeaning answer (meaning text) → ReadsAs meaning limit old new answer
+ReadsAs-decoded (Ok bytes) short r means = ReadsAs-text (Ok bytes) r means (λ e. cc e) r.to_end
+ReadsAs-decoded (Err (BadDigit at)) short r means = ReadsAs-text (Err (BadDigit at)) r means (λ e. cc e) r.to_end
+ReadsAs-decoded (Err OddDigits) short r means = ReadsAs-text (Err OddDigits) r means (λ e. cc e) r.to_end
+ReadsAs-decoded (Err (BadBase64 wrong)) short r means = ReadsAs-text (Err (BadBase64 wrong)) r means (λ e. cc e) r.to_end
+ReadsAs-decoded (Err TooLong) short r means = absurd (short means)
+ReadsAs-decoded (Err Read) short r means = ReadsAs-text (Err Read) r tt (λ e. cc e) tt
+ReadsAs-decoded (Err Memory) short r means = ReadsAs-text (Err Memory) r tt (λ e. cc e) tt
 
 -- a fault of the raw file that is answered as it is
 pub ReadsAs-failed : {Z : Type 0} {meaning : List ℕ → Result (List ℕ) FileFault} {limit : ℕ} {old new : Option (List ℕ)}

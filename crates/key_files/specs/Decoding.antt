@@ -1,8 +1,9 @@
 -- What a call that decodes a hex text answers.
-use Rattle.std.specs.Prelude.{◌≡◌, ◌≢◌, ◌↔◌, ℕ, List, Result, Ok, Err, IfOk, IsOk}
+use Rattle.std.specs.Prelude.{⊤, ◌+◌, ◌≡◌, ◌≢◌, ◌↔◌, ℕ, List, Result, Ok, Err, IfOk, IsOk}
 use Rattle.std.specs.declared.vec.Vec.{Vec}
 use Rattle.key_files.specs.declared.fault.FileFault.{FileFault}
-use Rattle.key_files.specs.declared.fault.FileFault.TheVariants.{BadDigit, OddDigits, Memory}
+use Rattle.key_files.specs.declared.fault.FileFault.TheVariants.{BadDigit, OddDigits, BadBase64, Memory}
+use Rattle.key_files.specs.declared.fault.Base64Fault.TheVariants.{Character, BehindPadding}
 use Rattle.key_files.specs.Meaning.{hex_meaning}
 
 -- the answer is what the text denotes, or Memory in the place of bytes
@@ -16,5 +17,25 @@ abbrev pub Decodes : Result (List ℕ) FileFault → List ℕ → Result Unit Fi
 Decodes meaning bytes (Ok done) = meaning ≡ Ok bytes
 Decodes meaning bytes (Err (BadDigit at)) = meaning ≡ Err (BadDigit at)
 Decodes meaning bytes (Err OddDigits) = meaning ≡ Err OddDigits
+Decodes meaning bytes (Err (BadBase64 fault)) = meaning ≡ Err (BadBase64 fault)
 Decodes meaning bytes (Err Memory) = IsOk meaning
 Decodes meaning bytes (Err fault) = ⊥
+
+-- The same where Memory comes before it is known whether the text encodes bytes, and is not said of it.
+abbrev pub DecodesText : Result (List ℕ) FileFault → List ℕ → Result Unit FileFault → Type 0
+DecodesText meaning bytes (Err Memory) = ⊤
+DecodesText meaning bytes answer = Decodes meaning bytes answer
+
+-- the place that a fault names in the text, or 0
+abbrev pub place_of : FileFault → ℕ
+place_of (BadDigit at) = at
+place_of (BadBase64 (Character at)) = at
+place_of (BadBase64 (BehindPadding at)) = at
+place_of fault = 0
+
+-- the fault with its place counted from so many bytes before the text
+abbrev pub fault_behind : ℕ → FileFault → FileFault
+fault_behind n (BadDigit at) = BadDigit (n + at)
+fault_behind n (BadBase64 (Character at)) = BadBase64 (Character (n + at))
+fault_behind n (BadBase64 (BehindPadding at)) = BadBase64 (BehindPadding (n + at))
+fault_behind n fault = fault

@@ -1,5 +1,6 @@
 -- The definitions: the hex notation, what a file denotes, what a call that reads or writes takes, leaves and answers.
 pub mod HexText
+pub mod Base64Text
 pub mod Meaning
 pub mod Decoding
 pub mod Reading

@@ -23,9 +23,31 @@ pub enum FileFault {
     /// The number of hex digits is odd.
     #[error("odd number of hex digits")]
     OddDigits,
+    /// The text is no base64.
+    #[error("{0}")]
+    BadBase64(Base64Fault),
     /// A growth was refused.
     #[error("out of memory")]
     Memory,
+}
+
+/// Why a text is no base64 (RFC 4648, sections 4 and 5). Places are offsets, counted from 0 over
+/// all bytes.
+#[derive(Clone, Copy, Debug, PartialEq, Eq, Error)]
+pub enum Base64Fault {
+    /// The byte at `at` is the first that is no character of the text's alphabet, no padding, and
+    /// no space, tab, CR or LF that may stand there.
+    #[error("no base64 character at byte {at}")]
+    Character { at: usize },
+    /// The byte at `at` is the first that is no padding after the padding began.
+    #[error("base64 goes on after its padding at byte {at}")]
+    BehindPadding { at: usize },
+    /// The characters, with their padding, are not so many as encode whole bytes.
+    #[error("length is not that of base64")]
+    Length,
+    /// The last character has bits that are not 0 after those of the last byte.
+    #[error("last base64 character has bits of no byte")]
+    TrailingBits,
 }
 
 /// A writer that failed, or took no byte of those that were left.

@@ -1,7 +1,8 @@
 //! The hex notation.
 
-ghost use Rattle.std.specs.Prelude.{◌≡◌, ◌≢◌, ◌↔◌, length, IsOk, IfOk, Err, Ok, true};
-ghost use Rattle.key_files.specs.Decoding.{Decodes, DecodesHex};
+ghost use Rattle.std.specs.Prelude.{◌≡◌, ◌≢◌, ◌<◌, ◌≤◌, ◌↔◌, length, IsOk, IfErr, IfOk, IfSome};
+ghost use Rattle.std.specs.Prelude.{Err, Ok, true};
+ghost use Rattle.key_files.specs.Decoding.{Decodes, DecodesHex, place_of};
 ghost use Rattle.key_files.specs.HexText.{digits_of, first_bad, first_no_digit, is_hex_digit};
 ghost use Rattle.key_files.specs.HexText.{is_skipped, paired};
 ghost use Rattle.key_files.specs.Meaning.{digit_text_meaning, hex_meaning};
@@ -29,7 +30,8 @@ pub fn decode_hex(alloc: Global, text: &[u8]) -> Result<Vec<u8>, FileFault>
 ///
 /// The first that applies is answered: BadDigit, OddDigits, Memory.
 pub fn decode_digits_into(text: &[u8], bytes: &mut Vec<u8>) -> Result<(), FileFault>
-    ensures { Decodes (digit_text_meaning text.now) bytes.new.items result }
+    ensures meaning { Decodes (digit_text_meaning text.now) bytes.new.items result }
+    ensures within { IfErr result (λ fault. place_of fault ≤ length text.now) }
 {
     if bytes.resize(text.len() / 2, 0).is_ok() && decode_strict(text, bytes) {
         return Ok(());
@@ -65,7 +67,7 @@ pub(crate) fn decode_hex_in<A: Allocator + Copy>(
 }
 
 // Space, tab, CR and LF may stand between digits.
-fn is_skipped(c: u8) -> bool
+pub(crate) fn is_skipped(c: u8) -> bool
     ensures { result ≡ is_skipped c }
 {
     matches!(c, b' ' | b'\t' | b'\r' | b'\n')
@@ -85,7 +87,8 @@ fn is_hex_digit(c: u8) -> bool
 }
 
 fn first_no_digit(text: &[u8]) -> Option<usize>
-    ensures { result ≡ first_no_digit text.now }
+    ensures place { result ≡ first_no_digit text.now }
+    ensures bound { IfSome result (λ at. at < length text.now) }
 {
     text.iter().position(|c| !is_hex_digit(*c))
 }

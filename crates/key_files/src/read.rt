@@ -2,9 +2,11 @@
 
 ghost use Rattle.std.specs.Prelude.{◌≡◌, ◌<◌, ◌≤◌, length, take, IfOk, IfErr};
 ghost use Rattle.std.specs.Io.KnownBytes.{Consumes, IsAtEnd, Keeps};
+ghost use Rattle.key_files.specs.Base64Text.{base64_meaning};
 ghost use Rattle.key_files.specs.Meaning.{raw_meaning, hex_meaning};
 ghost use Rattle.key_files.specs.Reading.{ReadsAs, answer_of};
 
+use crate::base64_text::decode_base64_in;
 use crate::fault::FileFault;
 use crate::hex_text::decode_hex_in;
 use std::alloc::{Allocator, Global};
@@ -96,4 +98,36 @@ pub(crate) fn read_hex_in<A: Allocator + Copy, R: Read>(
 {
     let text = read_raw_in(alloc, reader, limit)?;
     decode_hex_in(alloc, &text)
+}
+
+/// The bytes that a base64 file denotes, in either alphabet, with padding or without it, and with
+/// blanks anywhere. `limit` counts the bytes of the file.
+///
+/// The file is read as [`read_raw`] reads it. The first that applies is answered: Read or Memory as
+/// met, TooLong, BadBase64 of a Character or of one BehindPadding, Memory, BadBase64 of the Length
+/// or of TrailingBits.
+pub fn read_base64<R: Read>(
+    alloc: Global,
+    reader: &mut R,
+    limit: usize,
+) -> Result<Vec<u8>, FileFault>
+    requires { limit < usize.MAX }
+    ensures { ReadsAs base64_meaning limit (R.remaining reader.old) (R.remaining reader.new)
+        (answer_of result) }
+{
+    read_base64_in(alloc, reader, limit)
+}
+
+// `read_base64` on any allocator.
+pub(crate) fn read_base64_in<A: Allocator + Copy, R: Read>(
+    alloc: A,
+    reader: &mut R,
+    limit: usize,
+) -> Result<Vec<u8, A>, FileFault>
+    requires { limit < usize.MAX }
+    ensures { ReadsAs base64_meaning limit (R.remaining reader.old) (R.remaining reader.new)
+        (answer_of result) }
+{
+    let file = read_raw_in(alloc, reader, limit)?;
+    decode_base64_in(alloc, &file)
 }

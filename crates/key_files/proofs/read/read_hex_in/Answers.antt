@@ -1,5 +1,6 @@
 -- What the raw file answers is one answer of the hex file: a fault as it is, bytes decoded.
-use Rattle.key_files.proofs.Whole.{ReadsAs-hex, ReadsAs-failed}
+use Rattle.key_files.proofs.Denoting.{DecodesHex-means, hex_meaning-never_long}
+use Rattle.key_files.proofs.Whole.{ReadsAs-decoded, ReadsAs-failed}
 use Rattle.key_files.proofs.read.read_hex_in.Goals as goal
 
 pub returns-in_err-text : goal.returns-in_err-text
@@ -8,7 +9,4 @@ returns-in_err-text g c =
     ReadsAs-failed answer.result c.in_err-text.field-0.0 answer.ensures.1 c.in_err-text.ensures
 
 pub returns : goal.returns
-returns g c =
-    let same = c.deref.ensures.value in
-    let decoded = c.decode_hex_in.ensures in
-    ReadsAs-hex c.decode_hex_in.result c.in_ok-text.ensures (rw same at decoded.bytes) (rw same at decoded.refused)
+returns g c = ReadsAs-decoded _ (hex_meaning-never_long _) c.in_ok-text.ensures (rw c.deref.ensures.value at (DecodesHex-means _ c.decode_hex_in.result c.decode_hex_in.ensures))

@@ -1,0 +1,76 @@
+-- What a base64 text denotes: the cases of its meaning.
+use Rattle.std.proofs.Common.{◌≡◌, ◌≢◌, ◌<◌, ◌≤◌, ℕ, true, false, List, [], ◌++◌, length, drop, nat_eq, Option, Some, None, Result, Ok, Err}
+use Rattle.std.proofs.Common.{arith, refl, sym, ap, ◌∙◌, append-nil, inl, inr}
+use Rattle.std.proofs.lemmas.Bool.{cases_lt}
+use Rattle.std.proofs.lemmas.Bool.Decides.{nat_tests}
+use Rattle.std.proofs.lemmas.List.{drop_all}
+use Rattle.base64.specs.GeneralPurpose.{SameEngine, decode_of, encode_of, encoded_size_of}
+use Rattle.base64.specs.declared.decode.DecodeError.{DecodeError}
+use Rattle.base64.specs.declared.engine.general_purpose.GeneralPurpose.{GeneralPurpose}
+use Rattle.key_files.specs.Base64Text.{base64_fault_of, base64_meaning, decoded_meaning, encoding_of, kept, misplaced, placed_meaning, symbol_text_meaning, symbols_meaning}
+use Rattle.key_files.specs.declared.fault.Base64Fault.{Base64Fault}
+use Rattle.key_files.specs.declared.fault.FileFault.TheVariants.{TooLong, BadBase64}
+
+-- engines with the same tables and configuration decode the same
+pub decode_of-same : (a b : GeneralPurpose) (text : List ℕ) → SameEngine a b → decode_of a text ≡ decode_of b text
+decode_of-same a b text same = rw (same.1, same.2, same.3) refl
+
+-- what an engine of the text's encoding decodes
+pub symbols_meaning-is : (e : GeneralPurpose) (text : List ℕ) (decoded : Result (List ℕ) DecodeError) → SameEngine e (encoding_of text)
+    → decode_of e text ≡ decoded → symbols_meaning text ≡ decoded_meaning decoded
+symbols_meaning-is e text decoded same is = ap decoded_meaning (sym (decode_of-same e (encoding_of text) text same) ∙ is)
+
+-- a character stands where it may not
+pub symbol_text_meaning-misplaced : (text : List ℕ) (fault : Base64Fault) → misplaced false text ≡ Some fault
+    → symbol_text_meaning text ≡ Err (BadBase64 fault)
+unfolding symbol_text_meaning
+symbol_text_meaning-misplaced text fault h = rw h refl
+
+pub base64_meaning-misplaced : (text : List ℕ) (fault : Base64Fault) → misplaced true text ≡ Some fault
+    → base64_meaning text ≡ Err (BadBase64 fault)
+unfolding base64_meaning
+base64_meaning-misplaced text fault h = rw h refl
+
+-- none does
+pub symbol_text_meaning-placed : (text : List ℕ) → misplaced false text ≡ None → symbol_text_meaning text ≡ symbols_meaning text
+unfolding symbol_text_meaning
+symbol_text_meaning-placed text h = rw h refl
+
+pub base64_meaning-placed : (text : List ℕ) → misplaced true text ≡ None → base64_meaning text ≡ symbols_meaning (kept text)
+unfolding base64_meaning
+base64_meaning-placed text h = rw h refl
+
+pub not_misplaced : (found : Option Base64Fault) → ((fault : Base64Fault) → found ≢ Some fault) → found ≡ None
+not_misplaced None h = refl
+not_misplaced (Some fault) h = absurd (h fault refl)
+
+-- a text is never too long
+symbols-never_long : (decoded : Result (List ℕ) DecodeError) → decoded_meaning decoded ≢ Err TooLong
+symbols-never_long (Ok bytes) h = cc h
+symbols-never_long (Err error) h = cc h
+
+placed-never_long : (found : Option Base64Fault) (text : List ℕ) → placed_meaning found text ≢ Err TooLong
+placed-never_long (Some fault) text h = cc h
+placed-never_long None text h = symbols-never_long (decode_of (encoding_of text) text) h
+
+pub base64_meaning-never_long : (text : List ℕ) → base64_meaning text ≢ Err TooLong
+unfolding base64_meaning
+base64_meaning-never_long text h = placed-never_long (misplaced true text) (kept text) h
+
+-- an output that the encoding fills
+pub filled : {F : Type 0} (e : GeneralPurpose) (bytes old new : List ℕ) (n : ℕ) (answer : Result ℕ F) (error : F) → answer ≡ Ok n
+    → (encoded_size_of e (length bytes) ≤ length old → answer ≡ Ok (encoded_size_of e (length bytes)))
+    → (length old < encoded_size_of e (length bytes) → answer ≡ Err error) → new ≡ encode_of e bytes ++ drop (encoded_size_of e (length bytes)) old
+    → length new ≡ length old → nat_eq n (length new) ≡ true → new ≡ encode_of e bytes
+filled e bytes old new n answer error is fits small written same whole = elim (cases_lt (length old) (encoded_size_of e (length bytes))) [
+  | inl lt ↦ cc (sym is ∙ small lt)
+  | inr ge ↦
+      let size : n ≡ encoded_size_of e (length bytes) = cc (sym is ∙ fits ge) in
+      let all : n ≡ length new = grind (arith, nat_tests) in
+      let none : drop (encoded_size_of e (length bytes)) old ≡ [] = drop_all (encoded_size_of e (length bytes)) old (omega (arith, size, all)) in
+      written ∙ ap (λ rest. encode_of e bytes ++ rest) none ∙ append-nil (encode_of e bytes)
+]
+
+-- engines with the same tables and configuration encode the same
+pub encode_of-same : (a b : GeneralPurpose) (bytes : List ℕ) → SameEngine a b → encode_of a bytes ≡ encode_of b bytes
+encode_of-same a b bytes same = rw (same.0, same.2, same.3) refl

@@ -1,0 +1,122 @@
+-- Base64 (RFC 4648, sections 4 and 5): which texts encode which bytes, and what is wrong with one that encodes none.
+use Rattle.std.specs.Prelude.{◌≡◌, ℕ, ◌+◌, ◌==◌, ◌||◌, ◌&&◌, not, if◌then◌else◌, Bool, true, false, List, [], ◌∷◌, ◌++◌, drop, length, Option, Some, None, Result, Ok, Err}
+use Rattle.std.specs.Prelude.{slice_index, filter, position, nat_le, nat_lt}
+use Rattle.std.specs.List.{prefix_len}
+use Rattle.base64.specs.Engines.{standard, standard_no_pad, url_safe, url_safe_no_pad}
+use Rattle.base64.specs.GeneralPurpose.{decode_of, encode_of}
+use Rattle.base64.specs.declared.decode.DecodeError.{DecodeError}
+use Rattle.base64.specs.declared.decode.DecodeError.TheVariants.{InvalidLastSymbol}
+use Rattle.base64.specs.declared.engine.general_purpose.GeneralPurpose.{GeneralPurpose}
+use Rattle.key_files.specs.HexText.{is_skipped}
+use Rattle.key_files.specs.declared.fault.Base64Fault.{Base64Fault}
+use Rattle.key_files.specs.declared.fault.Base64Fault.TheVariants.{Character, BehindPadding, Length, TrailingBits}
+use Rattle.key_files.specs.declared.fault.FileFault.{FileFault}
+use Rattle.key_files.specs.declared.fault.FileFault.TheVariants.{BadBase64}
+
+-- the characters of section 4 alone, `+` and `/`
+abbrev pub is_standard : ℕ → Bool
+is_standard c = c == 43 || c == 47
+
+-- those of section 5 alone, `-` and `_`
+abbrev pub is_url_safe : ℕ → Bool
+is_url_safe c = c == 45 || c == 95
+
+-- those of both: letters and digits
+abbrev pub is_shared : ℕ → Bool
+is_shared c = (nat_le 65 c && nat_le c 90) || ((nat_le 97 c && nat_le c 122) || (nat_le 48 c && nat_le c 57))
+
+-- the padding, `=`
+abbrev pub is_padding : ℕ → Bool
+is_padding c = c == 61
+
+-- the first character that one alphabet alone has says which it is
+abbrev pub is_url_safe_at : List ℕ → Option ℕ → Bool
+is_url_safe_at text (Some at) = is_url_safe (slice_index text at)
+is_url_safe_at text None = false
+
+abbrev pub first_of_one : List ℕ → Option ℕ
+first_of_one text = position (λ c. is_standard c || is_url_safe c) text
+
+abbrev pub is_url_safe_text : List ℕ → Bool
+is_url_safe_text text = is_url_safe_at text (first_of_one text)
+
+-- a character of the one alphabet or of the other, or padding
+abbrev pub is_base64 : Bool → ℕ → Bool
+is_base64 url_safe c = is_padding c || (is_shared c || (if url_safe then is_url_safe c else is_standard c))
+
+-- a character that may stand in such a text: where blanks are skipped, space, tab, CR and LF may, too
+abbrev pub is_allowed : Bool → Bool → ℕ → Bool
+is_allowed skips url_safe c = is_base64 url_safe c || (skips && is_skipped c)
+
+-- the place, over all bytes of the text, of the first character that may not stand in it
+abbrev pub first_foreign : Bool → List ℕ → Option ℕ
+first_foreign skips text = position (λ c. not (is_allowed skips (is_url_safe_text text) c)) text
+
+-- how many bytes stand before the first padding
+abbrev pub before_padding : List ℕ → ℕ
+before_padding text = prefix_len (λ c. not (is_padding c)) text
+
+-- the place of the first character that is no padding
+abbrev pub first_no_padding : Bool → List ℕ → Option ℕ
+first_no_padding skips text = position (λ c. not (is_padding c || (skips && is_skipped c))) text
+
+-- the text without what is skipped
+abbrev pub kept : List ℕ → List ℕ
+kept text = filter (λ c. not (is_skipped c)) text
+
+-- the encoding of a text: by its alphabet, with padding where it has some
+abbrev pub encoding : Bool → Bool → GeneralPurpose
+encoding false false = standard_no_pad
+encoding false true = standard
+encoding true false = url_safe_no_pad
+encoding true true = url_safe
+
+abbrev pub has_padding : List ℕ → Bool
+has_padding text = nat_lt (before_padding text) (length text)
+
+abbrev pub encoding_of : List ℕ → GeneralPurpose
+encoding_of text = encoding (is_url_safe_text text) (has_padding text)
+
+-- the fault of a text whose characters may all stand in it, and which is no encoding
+abbrev pub base64_fault_of : DecodeError → Base64Fault
+base64_fault_of (InvalidLastSymbol at symbol value) = TrailingBits
+base64_fault_of error = Length
+
+abbrev pub decoded_meaning : Result (List ℕ) DecodeError → Result (List ℕ) FileFault
+decoded_meaning (Ok bytes) = Ok bytes
+decoded_meaning (Err error) = Err (BadBase64 (base64_fault_of error))
+
+-- what such a text denotes: the bytes that it encodes
+abbrev pub symbols_meaning : List ℕ → Result (List ℕ) FileFault
+symbols_meaning text = decoded_meaning (decode_of (encoding_of text) text)
+
+-- why a text denotes no bytes for the place of a character: that of one that may not stand in it, or behind its padding
+abbrev pub place_fault : Option ℕ → ℕ → Option ℕ → Option Base64Fault
+place_fault (Some at) before behind = Some (Character at)
+place_fault None before (Some at) = Some (BehindPadding (before + at))
+place_fault None before None = None
+
+abbrev pub misplaced : Bool → List ℕ → Option Base64Fault
+misplaced skips text =
+    place_fault (first_foreign skips text) (before_padding text) (first_no_padding skips (drop (before_padding text) text))
+
+abbrev pub placed_meaning : Option Base64Fault → List ℕ → Result (List ℕ) FileFault
+placed_meaning (Some fault) text = Err (BadBase64 fault)
+placed_meaning None text = symbols_meaning text
+
+-- A text denotes the bytes that it encodes, in either alphabet, with its padding whole or left out. Blanks may stand
+-- anywhere in it.
+unfoldable pub base64_meaning : List ℕ → Result (List ℕ) FileFault
+base64_meaning text = placed_meaning (misplaced true text) (kept text)
+
+-- the same of a text in which no blank stands
+unfoldable pub symbol_text_meaning : List ℕ → Result (List ℕ) FileFault
+symbol_text_meaning text = placed_meaning (misplaced false text) text
+
+-- The text is an encoding of the bytes (RFC 4648): in one of the two alphabets, with padding or without it.
+abbrev pub IsBase64Of : List ℕ → List ℕ → Type 0
+IsBase64Of text bytes = (url_safe : Bool) × (padded : Bool) × (text ≡ encode_of (encoding url_safe padded) bytes)
+
+-- base64 output: section 4 with padding, or section 5 without it, and then LF
+abbrev pub base64_line : Bool → List ℕ → List ℕ
+base64_line url_safe bytes = encode_of (encoding url_safe (not url_safe)) bytes ++ 10 ∷ []

@@ -1,0 +1,208 @@
+//! The base64 notation.
+
+ghost use Rattle.std.specs.Prelude.{◌≡◌, ◌<◌, ◌≤◌, length, not, true, IfErr, IfOk, IfSome, OnOk};
+ghost use Rattle.base64.specs.GeneralPurpose.{SameEngine, encode_of};
+ghost use Rattle.key_files.specs.Base64Text.{base64_fault_of, base64_line, before_padding};
+ghost use Rattle.key_files.specs.Base64Text.{encoding, encoding_of, first_foreign, first_no_padding};
+ghost use Rattle.key_files.specs.Base64Text.{first_of_one};
+ghost use Rattle.key_files.specs.Base64Text.{is_allowed, is_standard, is_url_safe};
+ghost use Rattle.key_files.specs.Base64Text.{is_url_safe_text, kept, misplaced};
+ghost use Rattle.key_files.specs.Base64Text.{base64_meaning, symbol_text_meaning, symbols_meaning};
+ghost use Rattle.key_files.specs.Decoding.{DecodesText, place_of};
+ghost use Rattle.key_files.specs.declared.fault.FileFault.{FileFault};
+ghost use Rattle.key_files.specs.Reading.{IsMeaning, answer_of};
+
+use crate::fault::{Base64Fault, FileFault};
+use crate::hex_text::is_skipped;
+use base64::engine::GeneralPurpose;
+use base64::engine::general_purpose::{STANDARD, STANDARD_NO_PAD, URL_SAFE, URL_SAFE_NO_PAD};
+use base64::{DecodeAllocError, DecodeError, encoded_len};
+use std::alloc::{AllocError, Allocator};
+
+/// The bytes that a base64 text in which no blank stands denotes, in `bytes`, whatever stood there.
+///
+/// The first that applies is answered: BadBase64 of a Character or of one BehindPadding, Memory,
+/// BadBase64 of the Length or of TrailingBits.
+pub fn decode_symbols_into(text: &[u8], bytes: &mut Vec<u8>) -> Result<(), FileFault>
+    ensures meaning { DecodesText (symbol_text_meaning text.now) bytes.new.items result }
+    ensures within { IfErr result (λ fault. place_of fault ≤ length text.now) }
+{
+    if let Some(fault) = misplaced(false, text) {
+        return Err(FileFault::BadBase64(fault));
+    }
+    bytes.clear();
+    match encoding_of(text).decode_vec(text, bytes) {
+        Ok(()) => Ok(()),
+        Err(DecodeAllocError::OutOfMemory) => Err(FileFault::Memory),
+        Err(DecodeAllocError::DecodeError(error)) => Err(FileFault::BadBase64(fault_of(error))),
+    }
+}
+
+// The bytes that a base64 text denotes, with blanks anywhere, on any allocator.
+//
+// The first that applies is answered, as by `decode_symbols_into`.
+pub(crate) fn decode_base64_in<A: Allocator + Copy>(
+    alloc: A,
+    text: &[u8],
+) -> Result<Vec<u8, A>, FileFault>
+    ensures { IsMeaning (answer_of result) (base64_meaning text.now) }
+{
+    if let Some(fault) = misplaced(true, text) {
+        return Err(FileFault::BadBase64(fault));
+    }
+    let kept = kept(alloc, text)?;
+    match encoding_of(&kept).decode(alloc, &kept) {
+        Ok(bytes) => Ok(bytes),
+        Err(DecodeAllocError::OutOfMemory) => Err(FileFault::Memory),
+        Err(DecodeAllocError::DecodeError(error)) => Err(FileFault::BadBase64(fault_of(error))),
+    }
+}
+
+fn kept<A: Allocator>(alloc: A, text: &[u8]) -> Result<Vec<u8, A>, AllocError>
+    ensures { IfOk result (λ v. v.items ≡ kept text.now) }
+{
+    let mut kept = text.to_vec(alloc)?;
+    kept.retain(|c| !is_skipped(*c));
+    Ok(kept)
+}
+
+/// The line that base64 output is, in `line`, whatever stood there: in the alphabet of section 4
+/// with padding, or in that of section 5 without it.
+pub fn print_base64(url_safe: bool, bytes: &[u8], line: &mut Vec<u8>) -> Result<(), AllocError>
+    ensures { OnOk result (line.new.items ≡ base64_line url_safe bytes.now) }
+{
+    let Some(len) = encoded_len(bytes.len(), !url_safe) else {
+        return Err(AllocError);
+    };
+    line.resize(len, 0)?;
+    if !fills(url_safe, bytes, line) {
+        return Err(AllocError);
+    }
+    line.push(b'\n')?;
+    Ok(())
+}
+
+// Whether the encoding of the bytes is as long as the output, which then is it.
+fn fills(url_safe: bool, bytes: &[u8], output: &mut [u8]) -> bool
+    ensures { result ≡ true → output.new ≡ encode_of (encoding url_safe (not url_safe)) bytes.now }
+{
+    match encoding(url_safe, !url_safe).encode_slice(bytes, output) {
+        Ok(len) => len == output.len(),
+        Err(_) => false,
+    }
+}
+
+// The fault of a text whose characters may all stand in it.
+fn fault_of(error: DecodeError) -> Base64Fault
+    ensures fault { result ≡ base64_fault_of error }
+    ensures placeless { place_of (FileFault.BadBase64 result) ≡ 0 }
+{
+    match error {
+        DecodeError::InvalidLastSymbol { .. } => Base64Fault::TrailingBits,
+        _ => Base64Fault::Length,
+    }
+}
+
+// The first character that stands where it may not.
+fn misplaced(skips: bool, text: &[u8]) -> Option<Base64Fault>
+    ensures first { result ≡ misplaced skips text.now }
+    ensures within { IfSome result (λ fault. place_of (FileFault.BadBase64 fault)
+        ≤ length text.now) }
+{
+    if let Some(at) = first_foreign(skips, text) {
+        return Some(Base64Fault::Character { at });
+    }
+    let before = before_padding(text);
+    let Some(at) = first_no_padding(skips, &text[before..]) else {
+        return None;
+    };
+    Some(Base64Fault::BehindPadding { at: before + at })
+}
+
+fn first_foreign(skips: bool, text: &[u8]) -> Option<usize>
+    ensures place { result ≡ first_foreign skips text.now }
+    ensures bound { IfSome result (λ at. at < length text.now) }
+{
+    let url_safe = is_url_safe_text(text);
+    text.iter()
+        .position(|c| !is_allowed(skips, url_safe, *c))
+}
+
+fn first_no_padding(skips: bool, text: &[u8]) -> Option<usize>
+    ensures place { result ≡ first_no_padding skips text.now }
+    ensures bound { IfSome result (λ at. at < length text.now) }
+{
+    text.iter()
+        .position(|c| !(*c == b'=' || (skips && is_skipped(*c))))
+}
+
+fn before_padding(text: &[u8]) -> usize
+    ensures count { result ≡ before_padding text.now }
+    ensures bound { result ≤ length text.now }
+{
+    text.iter().take_while(|c| **c != b'=').count()
+}
+
+// A character that may stand in a text of this alphabet.
+fn is_allowed(skips: bool, url_safe: bool, c: u8) -> bool
+    ensures { result ≡ is_allowed skips url_safe c }
+{
+    match c {
+        b'=' | b'A'..=b'Z' | b'a'..=b'z' | b'0'..=b'9' => true,
+        b'+' | b'/' => !url_safe,
+        b'-' | b'_' => url_safe,
+        _ => skips && is_skipped(c),
+    }
+}
+
+// Whether the first character that one alphabet alone has is of the URL-safe one.
+fn is_url_safe_text(text: &[u8]) -> bool
+    ensures { result ≡ is_url_safe_text text.now }
+{
+    match first_of_one(text) {
+        Some(at) => is_url_safe(text[at]),
+        None => false,
+    }
+}
+
+fn first_of_one(text: &[u8]) -> Option<usize>
+    ensures place { result ≡ first_of_one text.now }
+    ensures bound { IfSome result (λ at. at < length text.now) }
+{
+    text.iter()
+        .position(|c| is_standard(*c) || is_url_safe(*c))
+}
+
+fn is_standard(c: u8) -> bool
+    ensures { result ≡ is_standard c }
+{
+    c == b'+' || c == b'/'
+}
+
+fn is_url_safe(c: u8) -> bool
+    ensures { result ≡ is_url_safe c }
+{
+    c == b'-' || c == b'_'
+}
+
+// The encoding of a text, by its alphabet and its padding.
+fn encoding_of(text: &[u8]) -> GeneralPurpose
+    ensures { SameEngine result (encoding_of text.now) }
+{
+    encoding(is_url_safe_text(text), before_padding(text) < text.len())
+}
+
+fn encoding(url_safe: bool, padded: bool) -> GeneralPurpose
+    ensures { SameEngine result (encoding url_safe padded) }
+{
+    if url_safe && padded {
+        return URL_SAFE;
+    }
+    if url_safe {
+        return URL_SAFE_NO_PAD;
+    }
+    if padded {
+        return STANDARD;
+    }
+    STANDARD_NO_PAD
+}
