@@ -124,8 +124,7 @@ fn first_foreign(skips: bool, text: &[u8]) -> Option<usize>
     ensures bound { IfSome result (λ at. at < length text.now) }
 {
     let url_safe = is_url_safe_text(text);
-    text.iter()
-        .position(|c| !is_allowed(skips, url_safe, *c))
+    text.iter().position(|c| !is_allowed(skips, url_safe, *c))
 }
 
 fn first_no_padding(skips: bool, text: &[u8]) -> Option<usize>
@@ -169,8 +168,7 @@ fn first_of_one(text: &[u8]) -> Option<usize>
     ensures place { result ≡ first_of_one text.now }
     ensures bound { IfSome result (λ at. at < length text.now) }
 {
-    text.iter()
-        .position(|c| is_standard(*c) || is_url_safe(*c))
+    text.iter().position(|c| is_standard(*c) || is_url_safe(*c))
 }
 
 fn is_standard(c: u8) -> bool

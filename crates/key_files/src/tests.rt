@@ -7,6 +7,7 @@ use super::*;
 use std::alloc::{AllocError, Allocator, Global};
 use std::test::Fail;
 
+mod base64_texts;
 mod doubles;
 mod growths;
 mod lengths;
@@ -48,7 +49,11 @@ fn filled(alloc: Global, content: [u8; 3], len: usize) -> Result<Vec<u8>, AllocE
 #[test]
 fn says_each_fault(rt: HostRuntime) -> Result<(), Fail> {
     let lines = format!(in rt.alloc();
-        "{}; {}; {}; {}; {}; {}; {}; {}",
+        "{}; {}; {}; {}; {}; {}; {}; {}; {}; {}; {}; {}",
+        FileFault::BadBase64(Base64Fault::Character { at: 7 }),
+        Base64Fault::BehindPadding { at: 9 },
+        Base64Fault::Length,
+        Base64Fault::TrailingBits,
         FileFault::Read,
         FileFault::TooLong,
         FileFault::BadDigit { at: 4_194_303 },
@@ -60,7 +65,9 @@ fn says_each_fault(rt: HostRuntime) -> Result<(), Fail> {
     )?;
     assert!(rt;
         lines.as_str()
-            == "cannot be read; too long; no hex digit at byte 4194303; odd number of hex digits; \
+            == "no base64 character at byte 7; base64 goes on after its padding at byte 9; \
+                length is not that of base64; last base64 character has bits of no byte; \
+                cannot be read; too long; no hex digit at byte 4194303; odd number of hex digits; \
                 out of memory; refused after 10 bytes; out of memory; refused after 10 bytes"
     );
     Ok(())

@@ -7,10 +7,12 @@ use Rattle.std.proofs.KnownBytes.{Consumes-trans, Consumes-nil, Appends-nil}
 use Rattle.key_files.specs.declared.fault.FileFault.TheVariants.{Read}
 use Rattle.key_lines.specs.Lines.{lines_of, EndsWithLf, EndsLine}
 use Rattle.key_lines.specs.Reading.{IsAllOf, TakesLine, ReadsLine}
+use Rattle.key_lines.specs.Meaning.{line_limit}
 use Rattle.key_lines.specs.Block.{Sends}
 use Rattle.key_lines.specs.Running.{AnswersLines, AreAnswers, LineOutput, Gathers, StepsLine, StopsFor, run_fault_of}
 use Rattle.key_lines.specs.declared.line.Line.{Line}
 use Rattle.key_lines.specs.declared.line.Line.TheVariants.{Ended, Last, Missing}
+use Rattle.key_lines.specs.declared.text.TextNotation.{TextNotation}
 use Rattle.key_lines.specs.declared.fault.LineFault.{LineFault}
 use Rattle.key_lines.specs.declared.fault.LineFault.TheVariants.{Input}
 use Rattle.key_lines.specs.declared.fault.RunFault.TheVariants.{AtLine, Write}
@@ -20,30 +22,30 @@ use Rattle.key_lines.proofs.Blocks.{Sends-trans}
 use Rattle.key_lines.proofs.Splitting.{lines_of-more, lines_of-nil}
 use Rattle.key_lines.proofs.Takings.{all_of-taken}
 
-module _ {R : Type 0} (goes_on : Bool) (limit : ℕ) (answers : List ℕ → Result (List ℕ) R → Type 0) where
+module _ {R : Type 0} (goes_on : Bool) (notation : TextNotation) (answers : List ℕ → Result (List ℕ) R → Type 0) where
   -- a line that was answered
-  pub StepsLine-answered : (a b p q : Option (List ℕ)) (block block' line output : List ℕ) (met : Line) → met ≢ Missing → ReadsLine limit a b line (Ok met)
-      → LineOutput goes_on limit answers line output → Sends p q block block' output → StepsLine goes_on limit answers a b p q block block' (Ok met)
+  pub StepsLine-answered : (a b p q : Option (List ℕ)) (block block' line output : List ℕ) (met : Line) → met ≢ Missing → ReadsLine line_limit a b line (Ok met)
+      → LineOutput goes_on notation answers line output → Sends p q block block' output → StepsLine goes_on notation answers a b p q block block' (Ok met)
   StepsLine-answered a b p q block block' line output Ended some r h w = (line, output, r.0, r.1, h, w)
   StepsLine-answered a b p q block block' line output Last some r h w = (line, output, r.0, r.1, h, w)
   StepsLine-answered a b p q block block' line output Missing some r h w = absurd (some refl)
 
   -- a line whose answer the writer refused
-  pub StepsLine-refused : (a b p q : Option (List ℕ)) (block block' line output : List ℕ) (met : Line) → met ≢ Missing → ReadsLine limit a b line (Ok met)
-      → LineOutput goes_on limit answers line output → Sends p q block block' output → 0 < length block'
-      → StepsLine goes_on limit answers a b p q block block' (Err steps.Write)
+  pub StepsLine-refused : (a b p q : Option (List ℕ)) (block block' line output : List ℕ) (met : Line) → met ≢ Missing → ReadsLine line_limit a b line (Ok met)
+      → LineOutput goes_on notation answers line output → Sends p q block block' output → 0 < length block'
+      → StepsLine goes_on notation answers a b p q block block' (Err steps.Write)
   StepsLine-refused a b p q block block' line output Ended some r h w left = (line, output, r.0, h, w, left)
   StepsLine-refused a b p q block block' line output Last some r h w left = (line, output, r.0, h, w, left)
   StepsLine-refused a b p q block block' line output Missing some r h w left = absurd (some refl)
 
-  AreAnswers-more : (lines outputs : List (List ℕ)) (line output : List ℕ) → AreAnswers goes_on limit answers lines outputs
-      → LineOutput goes_on limit answers line output → AreAnswers goes_on limit answers (lines ++ line ∷ []) (outputs ++ output ∷ [])
+  AreAnswers-more : (lines outputs : List (List ℕ)) (line output : List ℕ) → AreAnswers goes_on notation answers lines outputs
+      → LineOutput goes_on notation answers line output → AreAnswers goes_on notation answers (lines ++ line ∷ []) (outputs ++ output ∷ [])
   AreAnswers-more [] [] line output h new = (new, tt)
   AreAnswers-more [] (o ∷ os) line output h new = absurd h
   AreAnswers-more (l ∷ ls) [] line output h new = absurd h
   AreAnswers-more (l ∷ ls) (o ∷ os) line output h new = (h.0, AreAnswers-more ls os line output h.1 new)
 
-  pub AreAnswers-length : (lines outputs : List (List ℕ)) → AreAnswers goes_on limit answers lines outputs → length lines ≡ length outputs
+  pub AreAnswers-length : (lines outputs : List (List ℕ)) → AreAnswers goes_on notation answers lines outputs → length lines ≡ length outputs
   AreAnswers-length [] [] h = refl
   AreAnswers-length [] (o ∷ os) h = absurd h
   AreAnswers-length (l ∷ ls) [] h = absurd h
@@ -55,7 +57,7 @@ module _ {R : Type 0} (goes_on : Bool) (limit : ℕ) (answers : List ℕ → Res
 
   -- so many lines were answered, and what comes next begins a line
   pub record Answered (a b o p : Option (List ℕ)) (block block' : List ℕ) (done : ℕ) : Type 0 where
-    pub lines : AnswersLines goes_on limit answers a b
+    pub lines : AnswersLines goes_on notation answers a b
     pub sends : Sends o p block block' (concat lines.outputs)
     pub ends : EndsLine lines.taken
     pub count : length lines.outputs ≡ done
@@ -67,7 +69,7 @@ module _ {R : Type 0} (goes_on : Bool) (limit : ℕ) (answers : List ℕ → Res
       outputs = [];
       stands_after = Consumes-nil a;
       whole = inl (inl refl);
-      answered = subst (λ ls. AreAnswers goes_on limit answers ls []) (sym lines_of-nil) tt;
+      answered = subst (λ ls. AreAnswers goes_on notation answers ls []) (sym lines_of-nil) tt;
     };
     sends = record { sent = []; written = Appends-nil o; kept = append-nil block };
     ends = inl refl;
@@ -75,9 +77,9 @@ module _ {R : Type 0} (goes_on : Bool) (limit : ℕ) (answers : List ℕ → Res
   }
 
   -- one line more
-  added : {a b c : Option (List ℕ)} (old : AnswersLines goes_on limit answers a b) → EndsLine old.taken → (line output : List ℕ) (t : TakesLine b c line)
-      → LineOutput goes_on limit answers line output
-      → EndsLine (old.taken ++ t.taken) ⊎ IsAllOf (old.taken ++ t.taken) a → AnswersLines goes_on limit answers a c
+  added : {a b c : Option (List ℕ)} (old : AnswersLines goes_on notation answers a b) → EndsLine old.taken → (line output : List ℕ) (t : TakesLine b c line)
+      → LineOutput goes_on notation answers line output
+      → EndsLine (old.taken ++ t.taken) ⊎ IsAllOf (old.taken ++ t.taken) a → AnswersLines goes_on notation answers a c
   added {a} {b} {c} old ends line output t h whole =
       let split : lines_of (old.taken ++ t.taken) ≡ lines_of old.taken ++ line ∷ [] =
       lines_of-more old.taken t.taken ends ∙ ap (λ l. lines_of old.taken ++ l) t.one_line in
@@ -86,7 +88,7 @@ module _ {R : Type 0} (goes_on : Bool) (limit : ℕ) (answers : List ℕ → Res
         outputs = old.outputs ++ output ∷ [];
         stands_after = Consumes-trans a b c old.taken t.taken old.stands_after t.stands_after;
         whole = whole;
-        answered = subst (λ ls. AreAnswers goes_on limit answers ls (old.outputs ++ output ∷ [])) (sym split)
+        answered = subst (λ ls. AreAnswers goes_on notation answers ls (old.outputs ++ output ∷ [])) (sym split)
             (AreAnswers-more (lines_of old.taken) old.outputs line output old.answered h);
       }
 
@@ -107,7 +109,7 @@ module _ {R : Type 0} (goes_on : Bool) (limit : ℕ) (answers : List ℕ → Res
   count-more outputs output done is = length-append outputs (output ∷ []) ∙ ap (λ n. n + 1) is
 
   pub Answered-more : {a b c o p q : Option (List ℕ)} {block mid after : List ℕ} {done : ℕ} → Answered a b o p block mid done
-      → StepsLine goes_on limit answers b c p q mid after (Ok Ended) → Answered a c o q block after (done + 1)
+      → StepsLine goes_on notation answers b c p q mid after (Ok Ended) → Answered a c o q block after (done + 1)
   unfolding added
   Answered-more {o = o} {p = p} {q = q} {block = block} {mid = mid} {after = after} {done = done} m (line, output, t, lf, h, w) =
       let ends = ends-append m.lines.taken t.taken lf in
@@ -121,7 +123,7 @@ module _ {R : Type 0} (goes_on : Bool) (limit : ℕ) (answers : List ℕ → Res
 
   -- the end of the input
   pub Gathers-missing : {a b c o p q : Option (List ℕ)} {block mid after : List ℕ} {done : ℕ} → Answered a b o p block mid done
-      → StepsLine goes_on limit answers b c p q mid after (Ok Missing) → Gathers goes_on limit answers a c o q block after (Ok done)
+      → StepsLine goes_on notation answers b c p q mid after (Ok Missing) → Gathers goes_on notation answers a c o q block after (Ok done)
   Gathers-missing {a} {b} {c} {o} {p} {q} {block} {mid} {after} m s =
       let l = m.lines in
       record {
@@ -139,7 +141,7 @@ module _ {R : Type 0} (goes_on : Bool) (limit : ℕ) (answers : List ℕ → Res
 
   -- a last line
   pub Gathers-last : {a b c o p q : Option (List ℕ)} {block mid after : List ℕ} {done : ℕ} → Answered a b o p block mid done
-      → StepsLine goes_on limit answers b c p q mid after (Ok Last) → Gathers goes_on limit answers a c o q block after (Ok (done + 1))
+      → StepsLine goes_on notation answers b c p q mid after (Ok Last) → Gathers goes_on notation answers a c o q block after (Ok (done + 1))
   unfolding added
   Gathers-last {a} {b} {c} {o} {p} {q} {block} {mid} {after} {done} m (line, output, t, all, h, w) =
       let both = all_of-both a b m.lines.taken t.taken m.lines.stands_after all in
@@ -154,8 +156,8 @@ module _ {R : Type 0} (goes_on : Bool) (limit : ℕ) (answers : List ℕ → Res
 
   -- a line at which the run stops
   pub Gathers-stopped : (line : ℕ) (fault : LineFault R) {a b c o p q : Option (List ℕ)} {block mid after : List ℕ} {done : ℕ} → line ≡ done + 1
-      → Answered a b o p block mid done → StopsFor goes_on limit answers b c fault → q ≡ p → after ≡ mid
-      → Gathers goes_on limit answers a c o q block after (Err (AtLine line fault))
+      → Answered a b o p block mid done → StopsFor goes_on notation answers b c fault → q ≡ p → after ≡ mid
+      → Gathers goes_on notation answers a c o q block after (Err (AtLine line fault))
   Gathers-stopped line fault {a} {b} {c} {o} {p} {q} {block} {mid} {after} is m s out same =
       let l = m.lines in
       record {
@@ -168,8 +170,8 @@ module _ {R : Type 0} (goes_on : Bool) (limit : ℕ) (answers : List ℕ → Res
 
   -- a line after which the writer refuses the block
   pub Gathers-refused : (line unsent : ℕ) {a b c o p q : Option (List ℕ)} {block mid after : List ℕ} {done : ℕ} → line ≡ done + 1 → length after ≡ unsent
-      → Answered a b o p block mid done → StepsLine goes_on limit answers b c p q mid after (Err steps.Write)
-      → Gathers goes_on limit answers a c o q block after (Err (Write line unsent))
+      → Answered a b o p block mid done → StepsLine goes_on notation answers b c p q mid after (Err steps.Write)
+      → Gathers goes_on notation answers a c o q block after (Err (Write line unsent))
   unfolding added
   Gathers-refused number unsent {a} {b} {c} {o} {p} {q} {block} {mid} {after} {done} is size m (line, output, t, h, w, some) =
       let outputs = m.lines.outputs in
@@ -186,11 +188,11 @@ module _ {R : Type 0} (goes_on : Bool) (limit : ℕ) (answers : List ℕ → Res
       whole (inr all) = inr (all_of-both a b m.lines.taken t.taken m.lines.stands_after all)
 
   pub Gathers-halted : (line unsent : ℕ) (step : StepFault R) {a b c o p q : Option (List ℕ)} {block mid after : List ℕ} {done : ℕ} → line ≡ done + 1
-      → length after ≡ unsent → Answered a b o p block mid done → StepsLine goes_on limit answers b c p q mid after (Err step)
-      → Gathers goes_on limit answers a c o q block after (Err (run_fault_of step line unsent))
+      → length after ≡ unsent → Answered a b o p block mid done → StepsLine goes_on notation answers b c p q mid after (Err step)
+      → Gathers goes_on notation answers a c o q block after (Err (run_fault_of step line unsent))
   Gathers-halted line unsent (steps.Line fault) is size m s = Gathers-stopped line fault is m s.0 s.1 s.2
   Gathers-halted line unsent steps.Write is size m s = Gathers-refused line unsent is size m s
 
   -- a run that ends before a line
-  pub StopsFor-nothing : (a : Option (List ℕ)) → StopsFor goes_on limit answers a a (Input Read)
+  pub StopsFor-nothing : (a : Option (List ℕ)) → StopsFor goes_on notation answers a a (Input Read)
   StopsFor-nothing a = ([], record { stands_after = Consumes-nil a; inside = λ k _ h. absurd (omega (arith, h)) })

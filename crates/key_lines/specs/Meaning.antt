@@ -1,9 +1,12 @@
--- What a line denotes: one text of hex digits, with blanks at the ends of the line alone.
-use Rattle.std.specs.Prelude.{ℕ, ◌+◌, ◌-◌, ◌==◌, ◌||◌, Bool, List, length, take, drop, Result, Err}
+-- What a line denotes: one text of hex digits or of base64, with blanks at the ends of the line alone.
+use Rattle.std.specs.Prelude.{ℕ, ◌-◌, ◌==◌, ◌||◌, Bool, List, length, take, drop, Result, Ok, Err}
 use Rattle.std.specs.List.{prefix_len, suffix_len}
+use Rattle.key_files.specs.Base64Text.{symbol_text_meaning}
+use Rattle.key_files.specs.Decoding.{fault_behind}
 use Rattle.key_files.specs.Meaning.{digit_text_meaning, file_meaning}
 use Rattle.key_files.specs.declared.fault.FileFault.{FileFault}
-use Rattle.key_files.specs.declared.fault.FileFault.TheVariants.{BadDigit}
+use Rattle.key_lines.specs.declared.text.TextNotation.{TextNotation}
+use Rattle.key_lines.specs.declared.text.TextNotation.TheVariants.{Hex, Base64}
 
 -- blanks are space, tab and CR
 abbrev pub is_blank : ℕ → Bool
@@ -17,16 +20,25 @@ behind_blanks line = drop (prefix_len is_blank line) line
 abbrev pub text_of : List ℕ → List ℕ
 text_of line = take (length (behind_blanks line) - suffix_len is_blank (behind_blanks line)) (behind_blanks line)
 
--- the meaning of what stands behind so many bytes: the place of a bad digit counts these too
+-- what a text denotes in a notation, where no blank stands in it
+abbrev pub text_meaning : TextNotation → List ℕ → Result (List ℕ) FileFault
+text_meaning Hex text = digit_text_meaning text
+text_meaning Base64 text = symbol_text_meaning text
+
+-- the meaning of what stands behind so many bytes: the place of a fault counts these too
 abbrev pub meaning_behind : ℕ → Result (List ℕ) FileFault → Result (List ℕ) FileFault
-meaning_behind n (Err (BadDigit at)) = Err (BadDigit (n + at))
-meaning_behind n meaning = meaning
+meaning_behind n (Ok bytes) = Ok bytes
+meaning_behind n (Err fault) = Err (fault_behind n fault)
 
--- A line denotes what its text does, in which nothing stands but digits. The place of the first byte that is no digit
--- is counted from the front of the line.
-unfoldable pub blank_ended_meaning : List ℕ → Result (List ℕ) FileFault
-blank_ended_meaning line = meaning_behind (prefix_len is_blank line) (digit_text_meaning (text_of line))
+-- A line denotes what its text does, in which no blank stands. The place of what is wrong in it is counted from the front
+-- of the line.
+unfoldable pub blank_ended_meaning : TextNotation → List ℕ → Result (List ℕ) FileFault
+blank_ended_meaning notation line = meaning_behind (prefix_len is_blank line) (text_meaning notation (text_of line))
 
--- what a line denotes, where it may have `limit` bytes
-abbrev pub line_meaning : ℕ → List ℕ → Result (List ℕ) FileFault
-line_meaning limit line = file_meaning blank_ended_meaning limit line
+-- the most bytes that a line may have
+abbrev pub line_limit : ℕ
+line_limit = 4194304
+
+-- what a line denotes, within the limit
+abbrev pub line_meaning : TextNotation → List ℕ → Result (List ℕ) FileFault
+line_meaning notation line = file_meaning (blank_ended_meaning notation) line_limit line

@@ -1,9 +1,8 @@
 //! Many keys in one run: each line of the input is answered on the same line of the output.
 //!
-//! A line is one text of hex digits, with blanks at its ends alone. What is done with the bytes
-//! that it denotes is a [`LineJob`]'s;
-//! [`run_lines`] reads the lines, writes the answers, and stops at the first line that is refused;
-//! [`run_all_lines`] writes an empty line for it and goes on.
+//! A line is one text of hex digits or of base64, with blanks at its ends alone. What is done with
+//! the bytes that it denotes is a [`LineJob`]'s; [`run_lines`] reads the lines, writes the answers,
+//! and stops at the first line that is refused, or writes an empty line for it and goes on.
 
 #![tactic(auto)]
 
@@ -19,7 +18,8 @@ pub use fault::{LineFault, RunFault};
 pub use job::{LineJob, Outcome};
 pub use line::{Line, read_line};
 pub use log::RefusalLog;
-pub use run::{run_all_lines, run_lines};
+pub use run::run_lines;
+pub use text::TextNotation;
 
 #[cfg(test)]
 mod tests;

@@ -7,10 +7,3 @@ pub trait RefusalLog<F> {
     /// The line, counted from 1, and why it was refused.
     fn tell(&self, line: u64, fault: &LineFault<F>);
 }
-
-// Nobody.
-pub(crate) struct NoLog;
-
-impl<F> RefusalLog<F> for NoLog {
-    fn tell(&self, _line: u64, _fault: &LineFault<F>) {}
-}

@@ -10,8 +10,8 @@ use crate::block::{PutFault, put, send};
 use crate::fault::{LineFault, RunFault};
 use crate::job::{LineJob, Outcome};
 use crate::line::{Line, read_line};
-use crate::log::{NoLog, RefusalLog};
-use crate::text::decode_line;
+use crate::log::RefusalLog;
+use crate::text::{TextNotation, decode_line};
 use key_files::{FileFault, MAX_FILE};
 use std::alloc::Global;
 use std::io::{BufRead, Write};
@@ -28,61 +28,31 @@ const MOST: u64 = u64::MAX - 1;
 /// Answers each line of the input on a line of the output, and says how many there were. Does not
 /// flush.
 ///
-/// It stops at the first line that is not answered, and nothing of an answer to it is written. The
-/// answers are gathered in a block of their own, so that `out` needs no buffer, and what is said of
-/// the bytes that went out is true of `out`.
-pub fn run_lines<J: LineJob, R: BufRead, W: Write>(
-    alloc: Global,
-    job: &J,
-    input: &mut R,
-    out: &mut W,
-) -> Result<u64, RunFault<J::Refusal>>
-    ensures run { RunsLines false 4194304 (J.answers job.now) (R.remaining input.old)
-        (R.remaining input.new) (W.contents out.old) (W.contents out.new) result }
-    // What was written are the answers to the first lines of the input, in order: to all of them,
-    // or to those before the line at which the call stopped.
-    ensures headline { IfSome (R.remaining input.old) (λ text. WritesAnswers false 4194304
-        (J.answers job.now) text (W.contents out.old) (W.contents out.new) result) }
-{
-    run(alloc, job, false, &NoLog, input, out)
-}
-
-/// [`run_lines`], but it goes on after a line that is refused for itself: an empty line stands for
-/// its answer, and `log` is told, once, before the line is written.
+/// It stops at the first line that is not answered, and nothing of an answer to it is written. Where
+/// it `goes_on`, it stops at no line that is refused for itself: an empty line stands for its
+/// answer, and `log` is told, once, before the line is written. It still stops at a line that is too
+/// long or cannot be read, and where a growth or a write was refused.
 ///
-/// The run still stops at a line that is too long or cannot be read, and where a growth or a write
-/// was refused.
-pub fn run_all_lines<J: LineJob, L: RefusalLog<J::Refusal>, R: BufRead, W: Write>(
+/// The answers are gathered in a block of their own, so that `out` needs no buffer, and what is said
+/// of the bytes that went out is true of `out`.
+pub fn run_lines<J: LineJob, L: RefusalLog<J::Refusal>, R: BufRead, W: Write>(
     alloc: Global,
-    job: &J,
-    log: &L,
-    input: &mut R,
-    out: &mut W,
-) -> Result<u64, RunFault<J::Refusal>>
-    ensures run { RunsLines true 4194304 (J.answers job.now) (R.remaining input.old)
-        (R.remaining input.new) (W.contents out.old) (W.contents out.new) result }
-    ensures headline { IfSome (R.remaining input.old) (λ text. WritesAnswers true 4194304
-        (J.answers job.now) text (W.contents out.old) (W.contents out.new) result) }
-{
-    run(alloc, job, true, log, input, out)
-}
-
-// A run that goes on after refusals, or not.
-fn run<J: LineJob, L: RefusalLog<J::Refusal>, R: BufRead, W: Write>(
-    alloc: Global,
+    notation: TextNotation,
     job: &J,
     goes_on: bool,
     log: &L,
     input: &mut R,
     out: &mut W,
 ) -> Result<u64, RunFault<J::Refusal>>
-    ensures run { RunsLines goes_on 4194304 (J.answers job.now) (R.remaining input.old)
+    ensures run { RunsLines goes_on notation (J.answers job.now) (R.remaining input.old)
         (R.remaining input.new) (W.contents out.old) (W.contents out.new) result }
-    ensures headline { IfSome (R.remaining input.old) (λ text. WritesAnswers goes_on 4194304
+    // What was written are the answers to the first lines of the input, in order: to all of them,
+    // or to those before the line at which the call stopped.
+    ensures headline { IfSome (R.remaining input.old) (λ text. WritesAnswers goes_on notation
         (J.answers job.now) text (W.contents out.old) (W.contents out.new) result) }
 {
     let mut block = Vec::new(alloc);
-    let gathered = gather(alloc, job, goes_on, log, input, out, &mut block);
+    let gathered = gather(alloc, notation, job, goes_on, log, input, out, &mut block);
     if is_write(&gathered) {
         return gathered;
     }
@@ -116,6 +86,7 @@ fn answered<R>(gathered: &Result<u64, RunFault<R>>) -> u64
 // Answers each line. What the block has at the end is not written.
 fn gather<J: LineJob, L: RefusalLog<J::Refusal>, R: BufRead, W: Write>(
     alloc: Global,
+    notation: TextNotation,
     job: &J,
     goes_on: bool,
     log: &L,
@@ -123,7 +94,7 @@ fn gather<J: LineJob, L: RefusalLog<J::Refusal>, R: BufRead, W: Write>(
     out: &mut W,
     block: &mut Vec<u8>,
 ) -> Result<u64, RunFault<J::Refusal>>
-    ensures { Gathers goes_on 4194304 (J.answers job.now) (R.remaining input.old)
+    ensures { Gathers goes_on notation (J.answers job.now) (R.remaining input.old)
         (R.remaining input.new) (W.contents out.old) (W.contents out.new)
         block.old.items block.new.items result }
 {
@@ -132,6 +103,7 @@ fn gather<J: LineJob, L: RefusalLog<J::Refusal>, R: BufRead, W: Write>(
     let mut output = Vec::new(alloc);
     for done in 0..MOST {
         match run_line(
+            notation,
             job,
             goes_on,
             log,
@@ -170,6 +142,7 @@ fn run_fault<R>(step: StepFault<R>, line: u64, unsent: usize) -> RunFault<R>
 
 // Answers the next line, where there is one.
 fn run_line<J: LineJob, L: RefusalLog<J::Refusal>, R: BufRead, W: Write>(
+    notation: TextNotation,
     job: &J,
     goes_on: bool,
     log: &L,
@@ -181,7 +154,7 @@ fn run_line<J: LineJob, L: RefusalLog<J::Refusal>, R: BufRead, W: Write>(
     out: &mut W,
     block: &mut Vec<u8>,
 ) -> Result<Line, StepFault<J::Refusal>>
-    ensures { StepsLine goes_on 4194304 (J.answers job.now) (R.remaining input.old)
+    ensures { StepsLine goes_on notation (J.answers job.now) (R.remaining input.old)
         (R.remaining input.new) (W.contents out.old) (W.contents out.new)
         block.old.items block.new.items result }
 {
@@ -192,7 +165,7 @@ fn run_line<J: LineJob, L: RefusalLog<J::Refusal>, R: BufRead, W: Write>(
     if let Line::Missing = met {
         return Ok(Line::Missing);
     }
-    if let Err(fault) = output_of(job, goes_on, log, number, line, bytes, output) {
+    if let Err(fault) = output_of(notation, job, goes_on, log, number, line, bytes, output) {
         return Err(StepFault::Line(fault));
     }
     match put(out, block, output) {
@@ -204,6 +177,7 @@ fn run_line<J: LineJob, L: RefusalLog<J::Refusal>, R: BufRead, W: Write>(
 
 // What is written for a line, in `output`.
 fn output_of<J: LineJob, L: RefusalLog<J::Refusal>>(
+    notation: TextNotation,
     job: &J,
     goes_on: bool,
     log: &L,
@@ -213,10 +187,10 @@ fn output_of<J: LineJob, L: RefusalLog<J::Refusal>>(
     output: &mut Vec<u8>,
 ) -> Result<(), LineFault<J::Refusal>>
     requires { length line.now ≤ 4194304 }
-    ensures { MakesOutput goes_on 4194304 (J.answers job.now) line.now
+    ensures { MakesOutput goes_on notation (J.answers job.now) line.now
         (made output.new.items result) }
 {
-    match answer_line(job, line, bytes, output) {
+    match answer_line(notation, job, line, bytes, output) {
         Ok(()) => Ok(()),
         Err(fault) => pass(goes_on, log, number, fault, output),
     }
@@ -251,21 +225,23 @@ fn is_own<F>(fault: &LineFault<F>) -> bool
         LineFault::Refused(_) => true,
         LineFault::Input(FileFault::BadDigit { .. }) => true,
         LineFault::Input(FileFault::OddDigits) => true,
+        LineFault::Input(FileFault::BadBase64(_)) => true,
         LineFault::Input(_) => false,
     }
 }
 
 // The answer to a line, in `output`.
 fn answer_line<J: LineJob>(
+    notation: TextNotation,
     job: &J,
     line: &[u8],
     bytes: &mut Vec<u8>,
     output: &mut Vec<u8>,
 ) -> Result<(), LineFault<J::Refusal>>
     requires { length line.now ≤ 4194304 }
-    ensures { MakesAnswer 4194304 (J.answers job.now) line.now (made output.new.items result) }
+    ensures { MakesAnswer notation (J.answers job.now) line.now (made output.new.items result) }
 {
-    if let Err(fault) = decode_line(line, bytes) {
+    if let Err(fault) = decode_line(notation, line, bytes) {
         return Err(LineFault::Input(fault));
     }
     match job.answer(bytes, output) {

@@ -1,24 +1,27 @@
 //! Lines that are read, answered and written, by readers and writers that fail in turn.
 
 ghost use Rattle.std.specs.Prelude.{◌≡◌, ◌++◌, [], ◌∷◌, Ok, Err, codes};
-ghost use Rattle.key_lines.specs.Meaning.{line_meaning};
+ghost use Rattle.key_lines.specs.Meaning.{blank_ended_meaning};
 
 mod doubles;
 mod reading;
 mod running;
 
-use key_files::FileFault;
+use crate::TextNotation;
+use key_files::{Base64Fault, FileFault};
 
 // The definition itself, computed on lines whose meaning is known.
 #[tactic(auto, unfolding(crate::specs::Meaning::blank_ended_meaning, key_files::specs::Meaning::digit_text_meaning, key_files::specs::Meaning::file_meaning, key_files::specs::HexText::paired))]
 fn known_meanings()
-    ensures ends { line_meaning 9 (9 ∷ codes "  0aFF " ++ 13 ∷ []) ≡ Ok (10 ∷ 255 ∷ []) }
-    ensures none { line_meaning 9 (13 ∷ codes " " ++ 9 ∷ []) ≡ Ok [] }
-    ensures between { line_meaning 9 (codes "0a 0b") ≡ Err (FileFault.BadDigit 2) }
-    ensures place { line_meaning 9 (codes "  0a 0g") ≡ Err (FileFault.BadDigit 4) }
-    ensures first { line_meaning 9 (codes " 0 0 1") ≡ Err (FileFault.BadDigit 2) }
-    ensures odd { line_meaning 9 (codes " 012 ") ≡ Err FileFault.OddDigits }
-    ensures long { line_meaning 4 (codes " 0aFF") ≡ Err FileFault.TooLong }
+    ensures ends { blank_ended_meaning TextNotation.Hex (9 ∷ codes "  0aFF " ++ 13 ∷ []) ≡ Ok (10 ∷ 255 ∷ []) }
+    ensures none { blank_ended_meaning TextNotation.Hex (13 ∷ codes " " ++ 9 ∷ []) ≡ Ok [] }
+    ensures between { blank_ended_meaning TextNotation.Hex (codes "0a 0b") ≡ Err (FileFault.BadDigit 2) }
+    ensures place { blank_ended_meaning TextNotation.Hex (codes "  0a 0g") ≡ Err (FileFault.BadDigit 4) }
+    ensures first { blank_ended_meaning TextNotation.Hex (codes " 0 0 1") ≡ Err (FileFault.BadDigit 2) }
+    ensures odd { blank_ended_meaning TextNotation.Hex (codes " 012 ") ≡ Err FileFault.OddDigits }
+    ensures base64 { blank_ended_meaning TextNotation.Base64 (codes " -_8 ") ≡ Ok (251 ∷ 255 ∷ []) }
+    ensures inside { blank_ended_meaning TextNotation.Base64 (codes " +/ 8")
+        ≡ Err (FileFault.BadBase64 (Base64Fault.Character 3)) }
 {}
 
 #[test]

@@ -1,28 +1,63 @@
 //! The text of a line, between the blanks at its ends, and the bytes that it denotes.
 
-ghost use Rattle.std.specs.Prelude.{◌≡◌, ◌≤◌, length};
+ghost use Rattle.std.specs.Prelude.{◌≡◌, ◌+◌, ◌≤◌, length, IfErr};
 ghost use Rattle.std.specs.List.{prefix_len, suffix_len};
-ghost use Rattle.key_files.specs.Decoding.{Decodes};
-ghost use Rattle.key_lines.specs.Meaning.{blank_ended_meaning, is_blank, text_of};
+ghost use Rattle.key_files.specs.Decoding.{DecodesText, fault_behind, place_of};
+ghost use Rattle.key_lines.specs.Meaning.{blank_ended_meaning, is_blank, text_meaning, text_of};
 
-use key_files::{FileFault, decode_digits_into};
+use key_files::{Base64Fault, FileFault, decode_digits_into, decode_symbols_into};
+
+/// How the text of a line denotes bytes.
+#[derive(Clone, Copy, Debug, PartialEq, Eq)]
+pub enum TextNotation {
+    /// By two hex digits each.
+    Hex,
+    /// By base64 (RFC 4648), in either alphabet, with padding or without it.
+    Base64,
+}
 
 /// The bytes that a line denotes, in `bytes`, whatever stood there.
 ///
-/// Blanks may stand at its ends alone: one between digits is refused as no hex digit. The place of
-/// the first byte that is none is counted from the front of the line.
-pub(crate) fn decode_line(line: &[u8], bytes: &mut Vec<u8>) -> Result<(), FileFault>
+/// Blanks may stand at its ends alone: one in the text is refused as no character of it. The place
+/// of what is refused is counted from the front of the line.
+pub(crate) fn decode_line(
+    notation: TextNotation,
+    line: &[u8],
+    bytes: &mut Vec<u8>,
+) -> Result<(), FileFault>
     requires { length line.now ≤ 4194304 }
-    ensures { Decodes (blank_ended_meaning line.now) bytes.new.items result }
+    ensures { DecodesText (blank_ended_meaning notation line.now) bytes.new.items result }
 {
-    let Err(fault) = decode_digits_into(text_of(line), bytes) else {
-        return Ok(());
-    };
+    match decode_text(notation, text_of(line), bytes) {
+        Ok(()) => Ok(()),
+        Err(fault) => Err(fault_behind(blanks_before(line), fault)),
+    }
+}
+
+fn decode_text(notation: TextNotation, text: &[u8], bytes: &mut Vec<u8>) -> Result<(), FileFault>
+    ensures meaning { DecodesText (text_meaning notation text.now) bytes.new.items result }
+    ensures within { IfErr result (λ fault. place_of fault ≤ length text.now) }
+{
+    match notation {
+        TextNotation::Hex => decode_digits_into(text, bytes),
+        TextNotation::Base64 => decode_symbols_into(text, bytes),
+    }
+}
+
+// The fault with its place counted from so many bytes before the text.
+fn fault_behind(before: usize, fault: FileFault) -> FileFault
+    requires { before + place_of fault ≤ 4194304 }
+    ensures { result ≡ fault_behind before fault }
+{
     match fault {
-        FileFault::BadDigit { at } => Err(FileFault::BadDigit {
-            at: blanks_before(line) + at,
-        }),
-        _ => Err(fault),
+        FileFault::BadDigit { at } => FileFault::BadDigit { at: before + at },
+        FileFault::BadBase64(Base64Fault::Character { at }) => {
+            FileFault::BadBase64(Base64Fault::Character { at: before + at })
+        }
+        FileFault::BadBase64(Base64Fault::BehindPadding { at }) => {
+            FileFault::BadBase64(Base64Fault::BehindPadding { at: before + at })
+        }
+        fault => fault,
     }
 }
 

@@ -52,6 +52,8 @@ fault_answer text files.Read short refused memory =
     absurd (hex_faults text files.Read (λ at h. (cc)) (λ h. (cc)) (refused (λ h. (cc))))
 fault_answer text files.TooLong short refused memory =
     absurd (hex_faults text files.TooLong (λ at h. (cc)) (λ h. (cc)) (refused (λ h. (cc))))
+fault_answer text (files.BadBase64 wrong) short refused memory =
+    absurd (hex_faults text (files.BadBase64 wrong) (λ at h. (cc)) (λ h. (cc)) (refused (λ h. (cc))))
 fault_answer text (files.BadDigit at) short refused memory = short_text text short ∙ refused (λ h. (cc))
 fault_answer text files.OddDigits short refused memory = short_text text short ∙ refused (λ h. (cc))
 fault_answer text files.Memory short refused memory =

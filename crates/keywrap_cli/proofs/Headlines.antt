@@ -4,9 +4,9 @@ use Rattle.std.specs.Io.KnownBytes.{Appends, Consumes}
 use Rattle.std.specs.declared.alloc.Global.{Global}
 use Rattle.aes_block.specs.Cipher.{cipher}
 use Rattle.key_wrap.specs.declared.faults.InPlaceFault.{InPlaceFault}
-use Rattle.keywrap_cli.specs.Answers.{IsDone, IsWritten, JobAnswer, RewrappingAnswer, WritesFor, in_hex, lines_of}
+use Rattle.keywrap_cli.specs.Answers.{IsDone, IsWritten, JobAnswer, RewrappingAnswer, WritesFor, in_lines, lines_of}
 use Rattle.keywrap_cli.specs.Engine.{AnswersInput, AnswersLines, IsDoneAs, IsPastKeks, IsRefusedBefore, RunsInput, UnderKek, UnderKeks, WritesFrom}
-use Rattle.keywrap_cli.specs.Files.{Denotes, DenotesKek}
+use Rattle.keywrap_cli.specs.Files.{Denotes, DenotesKek, text_notation}
 use Rattle.keywrap_cli.specs.Job.{RunsJobWith, WritesTheKeyWith}
 use Rattle.keywrap_cli.specs.Lines.{RunsJobLines, RunsRewrapLines, WritesJobLines, WritesRewrapLines}
 use Rattle.keywrap_cli.specs.Readings.{ReadsInput, ReadsKek, kek_fault_of, new_kek_fault_of}
@@ -161,7 +161,7 @@ pub job_lines_headline : (iv : ℕ) (task : Task) (goes_on : Bool) (kek kek' inp
     → IfSome input (λ text. WritesJobLines iv task goes_on kek kek' text out out' answer)
 job_lines_headline iv task goes_on kek kek' None input' out out' answer run past = tt
 job_lines_headline iv task goes_on kek kek' (Some text) input' out out' answer run past =
-    let a = past_kek task.kek kek kek' (λ K. AnswersLines goes_on (JobAnswer iv (in_hex task) (cipher K)) (Some text) input' out out' answer)
+    let a = past_kek task.kek kek kek' (λ K. AnswersLines goes_on (text_notation task.input) (JobAnswer iv (in_lines task) (cipher K)) (Some text) input' out out' answer)
     (λ fault. IsRefusedBefore (Kek (kek_fault_of fault)) (Some text) input' out out' answer) run
     (λ fault h. came_past answer (kek_fault_of fault) (Some text) input' out out' past h) in
     record { F = a.F; K = a.K; kek_taken = a.taken; of_kek = a.denoted; run = a.then.0; same = a.then.2; written = a.then.1.written }
@@ -172,7 +172,7 @@ pub rewrap_lines_headline : (task : Rewrapping) (goes_on : Bool) (kek kek' new n
 rewrap_lines_headline task goes_on kek kek' new new' None input' out out' answer run past = tt
 rewrap_lines_headline task goes_on kek kek' new new' (Some text) input' out out' answer run past =
     let a = past_keks task.kek kek kek' new new'
-    (λ K L. AnswersLines goes_on (RewrappingAnswer (lines_of task) (cipher K) (cipher L)) (Some text) input' out out' answer)
+    (λ K L. AnswersLines goes_on (text_notation task.input) (RewrappingAnswer (lines_of task) (cipher K) (cipher L)) (Some text) input' out out' answer)
     (λ fault. IsRefusedBefore (Kek fault) (Some text) input' out out' answer) run
     (λ fault h. came_past answer fault (Some text) input' out out' past h) in
     let c = a.then in

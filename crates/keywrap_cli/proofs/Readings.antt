@@ -19,6 +19,7 @@ kek_fault_answer : (notation : Notation) (old new : Option (List ℕ)) (fault : 
 kek_fault_answer notation old new files.Read reads = tt
 kek_fault_answer notation old new files.TooLong reads = reads.means
 kek_fault_answer notation old new (files.BadDigit at) reads = (reads.means, reads.to_end)
+kek_fault_answer notation old new (files.BadBase64 wrong) reads = (reads.means, reads.to_end)
 kek_fault_answer notation old new files.OddDigits reads = (reads.means, reads.to_end)
 kek_fault_answer notation old new files.Memory reads = tt
 
@@ -66,6 +67,7 @@ input_too_long : (fault : FileFault)
 input_too_long files.Read = (λ e. cc, λ e. cc)
 input_too_long files.TooLong = (λ e. refl, λ e. refl)
 input_too_long (files.BadDigit at) = (λ e. cc, λ e. cc)
+input_too_long (files.BadBase64 wrong) = (λ e. cc, λ e. cc)
 input_too_long files.OddDigits = (λ e. cc, λ e. cc)
 input_too_long files.Memory = (λ e. cc, λ e. cc)
 
@@ -76,6 +78,7 @@ input_fault_answer : (notation : Notation) (old new : Option (List ℕ)) (fault 
 input_fault_answer notation old new files.Read reads = tt
 input_fault_answer notation old new files.TooLong reads = reads.means
 input_fault_answer notation old new (files.BadDigit at) reads = (reads.means, reads.to_end)
+input_fault_answer notation old new (files.BadBase64 wrong) reads = (reads.means, reads.to_end)
 input_fault_answer notation old new files.OddDigits reads = (reads.means, reads.to_end)
 input_fault_answer notation old new files.Memory reads = tt
 

@@ -15,7 +15,7 @@ use Rattle.key_wrap.specs.declared.forms.Form.{Form}
 use Rattle.key_wrap.specs.declared.forms.Kind.{Kind}
 use Rattle.key_wrap.specs.declared.forms.Kind.TheVariants as kinds
 use Rattle.keywrap_cli.specs.Conversion.{HasNoAnswer, IsAnswer, IsInputLength, IsKeyOf, IsTextOf}
-use Rattle.keywrap_cli.specs.Files.{printed}
+use Rattle.keywrap_cli.specs.Files.{line_notation, printed}
 use Rattle.keywrap_cli.specs.Forms.{Makes}
 use Rattle.keywrap_cli.specs.declared.convert.Direction.{Direction}
 use Rattle.keywrap_cli.specs.declared.convert.Direction.TheVariants as directions
@@ -23,7 +23,6 @@ use Rattle.keywrap_cli.specs.declared.job.Done.{Done}
 use Rattle.keywrap_cli.specs.declared.job.Done.TheVariants.{Written, Neither}
 use Rattle.keywrap_cli.specs.declared.job.Job.{Job}
 use Rattle.keywrap_cli.specs.declared.job.Job.TheVariants.{Wrap, Unwrap, Check}
-use Rattle.keywrap_cli.specs.declared.job.Notation.TheVariants.{Hex}
 use Rattle.keywrap_cli.specs.declared.job.Task.{Task}
 use Rattle.keywrap_cli.specs.declared.rewrapping.Rewrapping.{Rewrapping}
 
@@ -64,9 +63,9 @@ AnswerOfJob job iv task E X (Err Integrity) = HasNoKey job task.form iv E X
 abbrev pub JobAnswer : ℕ → Task → (List ℕ → List ℕ) → List ℕ → Result (List ℕ) InPlaceFault → Type 0
 JobAnswer iv task E X answer = AnswerOfJob task.job iv task E X answer
 
--- the task with its input and output in hex, as lines are
-abbrev pub in_hex : Task → Task
-in_hex task = record { job = task.job; form = task.form; input = Hex; kek = task.kek }
+-- the task with its input and output as lines are
+abbrev pub in_lines : Task → Task
+in_lines task = record { job = task.job; form = task.form; input = line_notation task.input; kek = task.kek }
 
 -- a job is done as Neither exactly if it is a check that wrote `none`
 abbrev pub IsDone : Job → List ℕ → Done → Type 0
@@ -84,9 +83,9 @@ RewrappingAnswer task E F text (Ok output) =
     (answer : List ℕ) × Makes task.passes_new task.forms E F text (Ok answer) × (output ≡ printed task.input answer)
 RewrappingAnswer task E F text (Err refusal) = Makes task.passes_new task.forms E F text (Err refusal)
 
--- the rewrapping with its input and output in hex, as lines are
+-- the rewrapping with its input and output as lines are
 abbrev pub lines_of : Rewrapping → Rewrapping
-lines_of task = record { forms = task.forms; passes_new = task.passes_new; input = Hex; kek = task.kek }
+lines_of task = record { forms = task.forms; passes_new = task.passes_new; input = line_notation task.input; kek = task.kek }
 
 -- a rewrapping that wrote its output is done
 abbrev pub IsWritten : List ℕ → Done → Type 0

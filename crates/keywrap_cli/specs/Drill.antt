@@ -34,6 +34,7 @@ text_fault_of (files.BadDigit at) = BadDigit at
 text_fault_of files.OddDigits = OddDigits
 text_fault_of files.Read = Memory
 text_fault_of files.TooLong = Memory
+text_fault_of (files.BadBase64 wrong) = Memory
 text_fault_of files.Memory = Memory
 
 abbrev pub drill_fault_of : UnwrapFault → DrillFault

@@ -5,6 +5,7 @@ use Rattle.std.specs.Prelude.{◌≡◌, ◌<◌, ⊤, Bool, ℕ, List, length, 
 use Rattle.std.specs.Io.KnownBytes.{Appends, Keeps}
 use Rattle.std.specs.declared.alloc.Global.{Global}
 use Rattle.key_lines.specs.Running.{RunsLines, WritesAnswers}
+use Rattle.key_lines.specs.declared.text.TextNotation.{TextNotation}
 use Rattle.key_lines.specs.declared.fault.RunFault.{RunFault}
 use Rattle.key_wrap.specs.declared.faults.InPlaceFault.{InPlaceFault}
 use Rattle.key_wrap.specs.declared.faults.InPlaceFault.TheVariants as refusals
@@ -82,10 +83,10 @@ AnswersInput notation answers Is input input' out out' answer =
 
 -- What a run over lines of at most 4,194,304 bytes does. Where it is known what the input had left, what was written are
 -- the answers to its first lines, in order.
-pub record RunsOver {R : Type 0} (goes_on : Bool) (answers : List ℕ → Result (List ℕ) R → Type 0)
+pub record RunsOver {R : Type 0} (goes_on : Bool) (notation : TextNotation) (answers : List ℕ → Result (List ℕ) R → Type 0)
     (input input' out out' : Option (List ℕ)) (answer : Result ℕ (RunFault R)) : Type 0 where
-  pub run : RunsLines goes_on 4194304 answers input input' out out' answer
-  pub written : IfSome input (λ text. WritesAnswers goes_on 4194304 answers text out out' answer)
+  pub run : RunsLines goes_on notation answers input input' out out' answer
+  pub written : IfSome input (λ text. WritesAnswers goes_on notation answers text out out' answer)
 
 -- the answer of a run to its lines, as that of the call: with how many lines it answered
 abbrev pub IsAnswerOf : Result ℕ (RunFault InPlaceFault) → Result LinesDone LinesFault → Type 0
@@ -94,10 +95,10 @@ IsAnswerOf (Err fault) (Err other) = other ≡ Run fault
 IsAnswerOf run answer = ⊥
 
 -- each line is answered, and so is the call
-abbrev pub AnswersLines : Bool → (List ℕ → Result (List ℕ) InPlaceFault → Type 0) → Option (List ℕ) → Option (List ℕ)
+abbrev pub AnswersLines : Bool → TextNotation → (List ℕ → Result (List ℕ) InPlaceFault → Type 0) → Option (List ℕ) → Option (List ℕ)
     → Option (List ℕ) → Option (List ℕ) → Result LinesDone LinesFault → Type 0
-AnswersLines goes_on answers input input' out out' answer =
-    (run : Result ℕ (RunFault InPlaceFault)) × RunsOver goes_on answers input input' out out' run × IsAnswerOf run answer
+AnswersLines goes_on notation answers input input' out out' answer =
+    (run : Result ℕ (RunFault InPlaceFault)) × RunsOver goes_on notation answers input input' out out' run × IsAnswerOf run answer
 
 -- the call came to its lines: no KEK was refused
 abbrev pub IsPastKeks : Result LinesDone LinesFault → Type 0

@@ -1,15 +1,20 @@
 -- What the two files of a job denote, of at most 4,194,304 bytes each, and what is written.
-use Rattle.std.specs.Prelude.{◌≡◌, ℕ, List, length, Result, Ok, Err}
+use Rattle.std.specs.Prelude.{◌≡◌, ℕ, true, false, List, length, Result, Ok, Err}
 use Rattle.aes_block.specs.KeyExpansion.{IsKekLength}
+use Rattle.key_files.specs.Base64Text.{base64_line, base64_meaning}
 use Rattle.key_files.specs.HexText.{hex_line}
 use Rattle.key_files.specs.Meaning.{file_meaning, raw_meaning, hex_meaning}
 use Rattle.key_files.specs.declared.fault.FileFault.{FileFault}
+use Rattle.key_lines.specs.declared.text.TextNotation.{TextNotation}
+use Rattle.key_lines.specs.declared.text.TextNotation.TheVariants as texts
 use Rattle.keywrap_cli.specs.declared.job.Notation.{Notation}
-use Rattle.keywrap_cli.specs.declared.job.Notation.TheVariants.{Raw, Hex}
+use Rattle.keywrap_cli.specs.declared.job.Notation.TheVariants.{Raw, Hex, Base64, Base64Url}
 
 abbrev pub meaning_in : Notation → List ℕ → Result (List ℕ) FileFault
 meaning_in Raw file = raw_meaning file
 meaning_in Hex file = hex_meaning file
+meaning_in Base64 file = base64_meaning file
+meaning_in Base64Url file = base64_meaning file
 
 -- the file denotes these bytes, within the limit
 abbrev pub Denotes : Notation → List ℕ → List ℕ → Type 0
@@ -28,3 +33,17 @@ pub record DenotesKek (notation : Notation) (file K : List ℕ) : Type 0 where
 abbrev pub printed : Notation → List ℕ → List ℕ
 printed Raw bytes = bytes
 printed Hex bytes = hex_line bytes
+printed Base64 bytes = base64_line false bytes
+printed Base64Url bytes = base64_line true bytes
+
+-- lines are texts: raw bytes are none, and hex is in their place
+abbrev pub line_notation : Notation → Notation
+line_notation Raw = Hex
+line_notation notation = notation
+
+-- how a line denotes bytes in the notation
+abbrev pub text_notation : Notation → TextNotation
+text_notation Raw = texts.Hex
+text_notation Hex = texts.Hex
+text_notation Base64 = texts.Base64
+text_notation Base64Url = texts.Base64

@@ -1,13 +1,13 @@
--- What a run over lines does: its KEK files are read as for one key, and then each line is answered, in hex.
+-- What a run over lines does: its KEK files are read as for one key, and then each line is answered, in the task's notation.
 use Rattle.std.specs.Prelude.{Bool, ℕ, List, Option, Result}
 use Rattle.std.specs.Io.KnownBytes.{Consumes}
 use Rattle.aes_block.specs.Cipher.{cipher}
 use Rattle.key_lines.specs.Running.{WritesAnswers}
 use Rattle.key_lines.specs.declared.fault.RunFault.{RunFault}
 use Rattle.key_wrap.specs.declared.faults.InPlaceFault.{InPlaceFault}
-use Rattle.keywrap_cli.specs.Answers.{JobAnswer, RewrappingAnswer, in_hex, lines_of}
+use Rattle.keywrap_cli.specs.Answers.{JobAnswer, RewrappingAnswer, in_lines, lines_of}
 use Rattle.keywrap_cli.specs.Engine.{AnswersLines, IsAnswerOf, IsRefusedBefore, UnderKek, UnderKeks}
-use Rattle.keywrap_cli.specs.Files.{DenotesKek}
+use Rattle.keywrap_cli.specs.Files.{DenotesKek, text_notation}
 use Rattle.keywrap_cli.specs.Readings.{kek_fault_of}
 use Rattle.keywrap_cli.specs.declared.job.Task.{Task}
 use Rattle.keywrap_cli.specs.declared.lines.LinesDone.{LinesDone}
@@ -20,7 +20,7 @@ abbrev pub RunsJobLines : ℕ → Task → Bool → Option (List ℕ) → Option
     → Option (List ℕ) → Result LinesDone LinesFault → Type 0
 RunsJobLines iv task goes_on kek kek' input input' out out' answer =
     UnderKek task.kek kek kek'
-    (λ K. AnswersLines goes_on (JobAnswer iv (in_hex task) (cipher K)) input input' out out' answer)
+    (λ K. AnswersLines goes_on (text_notation task.input) (JobAnswer iv (in_lines task) (cipher K)) input input' out out' answer)
     (λ fault. IsRefusedBefore (Kek (kek_fault_of fault)) input input' out out' answer)
 
 -- what a call that rewraps lines does
@@ -28,7 +28,7 @@ abbrev pub RunsRewrapLines : Rewrapping → Bool → Option (List ℕ) → Optio
     → Option (List ℕ) → Option (List ℕ) → Option (List ℕ) → Option (List ℕ) → Result LinesDone LinesFault → Type 0
 RunsRewrapLines task goes_on kek kek' new new' input input' out out' answer =
     UnderKeks task.kek kek kek' new new'
-    (λ K L. AnswersLines goes_on (RewrappingAnswer (lines_of task) (cipher K) (cipher L)) input input' out out' answer)
+    (λ K L. AnswersLines goes_on (text_notation task.input) (RewrappingAnswer (lines_of task) (cipher K) (cipher L)) input input' out out' answer)
     (λ fault. IsRefusedBefore (Kek fault) input input' out out' answer)
 
 -- The headline of a job over lines, for an input of these bytes: what was written are the answers to its first lines, in
@@ -41,7 +41,7 @@ pub record WritesJobLines (iv : ℕ) (task : Task) (goes_on : Bool) (kek kek' : 
   pub of_kek : DenotesKek task.kek F K
   pub run : Result ℕ (RunFault InPlaceFault)
   pub same : IsAnswerOf run answer
-  pub written : WritesAnswers goes_on 4194304 (JobAnswer iv (in_hex task) (cipher K)) text out out' run
+  pub written : WritesAnswers goes_on (text_notation task.input) (JobAnswer iv (in_lines task) (cipher K)) text out out' run
 
 -- The headline of a rewrapping of lines, for an input of these bytes: what was written are the answers to its first lines,
 -- in order, each under AES of the two KEKs that the KEK files denoted.
@@ -57,4 +57,4 @@ pub record WritesRewrapLines (task : Rewrapping) (goes_on : Bool) (kek kek' new 
   pub of_new_kek : DenotesKek task.kek H L
   pub run : Result ℕ (RunFault InPlaceFault)
   pub same : IsAnswerOf run answer
-  pub written : WritesAnswers goes_on 4194304 (RewrappingAnswer (lines_of task) (cipher K) (cipher L)) text out out' run
+  pub written : WritesAnswers goes_on (text_notation task.input) (RewrappingAnswer (lines_of task) (cipher K) (cipher L)) text out out' run

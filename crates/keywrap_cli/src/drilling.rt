@@ -69,14 +69,15 @@ fn bytes_of(alloc: Global, text: &str) -> Result<Vec<u8>, DrillFault>
     decode_hex(alloc, text.as_bytes()).map_err(text_fault)
 }
 
-// A slice is neither read nor too long.
+// A slice is neither read nor too long, and no base64 is asked of it.
 fn text_fault(fault: FileFault) -> DrillFault
     ensures { result ≡ text_fault_of fault }
 {
     match fault {
         FileFault::BadDigit { at } => DrillFault::BadDigit { at },
         FileFault::OddDigits => DrillFault::OddDigits,
-        FileFault::Read | FileFault::TooLong | FileFault::Memory => DrillFault::Memory,
+        FileFault::Read | FileFault::TooLong | FileFault::BadBase64(_) | FileFault::Memory =>
+            DrillFault::Memory,
     }
 }
 

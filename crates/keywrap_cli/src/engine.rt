@@ -3,18 +3,18 @@
 
 ghost use Rattle.std.specs.Prelude.{◌≡◌, OnOk};
 ghost use Rattle.keywrap_cli.specs.Answers.{IsDone};
-ghost use Rattle.keywrap_cli.specs.Engine.{IsAnswerOf, IsDoneAs, RunsInput, RunsOver, WritesAnswer};
+ghost use Rattle.keywrap_cli.specs.Engine.{IsAnswerOf, IsDoneAs, RunsInput, WritesAnswer};
 ghost use Rattle.keywrap_cli.specs.Engine.{job_fault_of, output_of};
 ghost use Rattle.keywrap_cli.specs.Files.{printed};
 
 use crate::files::read_input;
 use crate::job::{Done, Job, JobFault, Notation};
 use crate::lines::{LinesDone, LinesFault};
-use key_files::{print_hex, write_raw};
-use key_lines::{LineJob, Outcome, RefusalLog, RunFault, run_all_lines, run_lines};
+use key_files::{print_base64, print_hex, write_raw};
+use key_lines::{LineJob, Outcome, RunFault};
 use key_wrap::InPlaceFault;
 use std::alloc::{AllocError, Global};
-use std::io::{BufRead, Read, Write};
+use std::io::{Read, Write};
 
 /// Reads the input, and writes what the job answers to its bytes, which is answered, too. Nothing
 /// is written before the whole output is made, and the call does not flush.
@@ -103,25 +103,8 @@ pub fn print_in(
             Ok(())
         }
         Notation::Hex => print_hex(bytes, output),
-    }
-}
-
-/// A run of a job over the lines of an input, which goes on after refusals or not.
-pub fn run_over<J: LineJob, L: RefusalLog<J::Refusal>, R: BufRead, W: Write>(
-    alloc: Global,
-    job: &J,
-    goes_on: bool,
-    log: &L,
-    input: &mut R,
-    out: &mut W,
-) -> Result<u64, RunFault<J::Refusal>>
-    ensures { RunsOver goes_on (J.answers job.now) (R.remaining input.old) (R.remaining input.new)
-        (W.contents out.old) (W.contents out.new) result }
-{
-    if goes_on {
-        run_all_lines(alloc, job, log, input, out)
-    } else {
-        run_lines(alloc, job, input, out)
+        Notation::Base64 => print_base64(false, bytes, output),
+        Notation::Base64Url => print_base64(true, bytes, output),
     }
 }
 

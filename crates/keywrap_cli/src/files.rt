@@ -6,7 +6,7 @@ ghost use Rattle.keywrap_cli.specs.Files.{meaning_in};
 ghost use Rattle.keywrap_cli.specs.Readings.{ReadsInput, named_fault_of};
 
 use crate::job::{JobFault, Notation};
-use key_files::{FileFault, MAX_FILE, read_hex, read_raw};
+use key_files::{FileFault, MAX_FILE, read_base64, read_hex, read_raw};
 use std::alloc::Global;
 use std::io::Read;
 
@@ -45,5 +45,6 @@ pub fn read_file<R: Read>(
     match notation {
         Notation::Raw => read_raw(alloc, reader, MAX_FILE),
         Notation::Hex => read_hex(alloc, reader, MAX_FILE),
+        Notation::Base64 | Notation::Base64Url => read_base64(alloc, reader, MAX_FILE),
     }
 }

@@ -35,6 +35,11 @@ pub enum Notation {
     Raw,
     /// By two hex digits each.
     Hex,
+    /// By base64 (RFC 4648). Either alphabet is read, with padding or without it; that of section 4
+    /// is written, with padding.
+    Base64,
+    /// The same, but written is the alphabet of section 5, without padding.
+    Base64Url,
 }
 
 /// A job, with the form of the wrapping and the notations of its files.

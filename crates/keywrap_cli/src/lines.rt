@@ -1,21 +1,22 @@
-//! Many keys in one run: each line of the input is a key or a wrapped key in hex, and its answer
-//! stands on the same line of the output.
+//! Many keys in one run: each line of the input is a key or a wrapped key, and its answer stands on
+//! the same line of the output.
 
 ghost use Rattle.std.specs.Prelude.{◌≡◌, IfSome};
-ghost use Rattle.keywrap_cli.specs.Answers.{in_hex, lines_of};
+ghost use Rattle.keywrap_cli.specs.Answers.{in_lines, lines_of};
+ghost use Rattle.keywrap_cli.specs.Files.{line_notation, text_notation};
 ghost use Rattle.keywrap_cli.specs.Rewrapping.{rewrapping};
 ghost use Rattle.keywrap_cli.specs.Engine.{IsPastKeks};
 ghost use Rattle.keywrap_cli.specs.Lines.{RunsJobLines, RunsRewrapLines, WritesJobLines};
 ghost use Rattle.keywrap_cli.specs.Lines.{WritesRewrapLines};
 
-use crate::engine::{lines_answer, run_over};
+use crate::engine::lines_answer;
 use crate::job::{Done, JobFault, Notation, Task, kek_fault};
 use crate::kek_file::read_kek;
 use crate::key_job::KeyJob;
 use crate::rewrap::new_kek_fault;
 use crate::rewrap_job::RewrapJob;
 use crate::rewrapping::{RewrapForms, Rewrapping};
-use key_lines::{RefusalLog, RunFault};
+use key_lines::{RefusalLog, RunFault, TextNotation, run_lines};
 use key_wrap::{InPlaceFault, InitialValue};
 use std::alloc::Global;
 use std::cell::Cell;
@@ -42,8 +43,9 @@ pub enum LinesFault {
     Run(RunFault<InPlaceFault>),
 }
 
-/// Reads the KEK, and then answers each line of the input as `run_job` answers an input in hex,
-/// whatever the task's notation of the input; in the plain form under this initial value.
+/// Reads the KEK, and then answers each line of the input as `run_job` answers an input; in the
+/// plain form under this initial value. Where the task's notation of the input is raw, lines are in
+/// hex.
 ///
 /// The run stops at the first line that is refused; where it `goes_on`, an empty line stands for
 /// the answer to a line that is refused for itself, and the log is told. It does not flush.
@@ -73,11 +75,19 @@ pub fn run_job_lines<K: Read, L: RefusalLog<InPlaceFault>, R: BufRead, W: Write>
     let job = KeyJob {
         alloc,
         iv: *iv,
-        task: in_hex(task),
+        task: in_lines(task),
         pair,
         neither: Cell::new(false),
     };
-    let answer = run_over(alloc, &job, goes_on, log, input, out);
+    let answer = run_lines(
+        alloc,
+        text_notation(task.input),
+        &job,
+        goes_on,
+        log,
+        input,
+        out,
+    );
     let done = if job.neither.get() {
         Done::Neither
     } else {
@@ -122,7 +132,7 @@ pub fn run_rewrap_lines<K: Read, N: Read, L: RefusalLog<InPlaceFault>, R: BufRea
     rewrap_lines(alloc, task, goes_on, log, old_kek, new_kek, input, out)
 }
 
-/// A rewrapping of lines, whatever the task's notation of the input.
+/// A rewrapping of lines, in hex where the task's notation of the input is raw.
 pub fn rewrap_lines<K: Read, N: Read, L: RefusalLog<InPlaceFault>, R: BufRead, W: Write>(
     alloc: Global,
     task: Rewrapping,
@@ -156,18 +166,25 @@ pub fn rewrap_lines<K: Read, N: Read, L: RefusalLog<InPlaceFault>, R: BufRead, W
         new,
         passed: Cell::new(0),
     };
-    let answer = run_over(alloc, &job, goes_on, log, input, out);
+    let answer = run_lines(
+        alloc,
+        text_notation(task.input),
+        &job,
+        goes_on,
+        log,
+        input,
+        out,
+    );
     lines_answer(answer, job.passed.get(), Done::Written)
 }
 
-// Lines are in hex.
-fn in_hex(task: Task) -> Task
-    ensures { result ≡ in_hex task }
+fn in_lines(task: Task) -> Task
+    ensures { result ≡ in_lines task }
 {
     Task {
         job: task.job,
         form: task.form,
-        input: Notation::Hex,
+        input: line_notation(task.input),
         kek: task.kek,
     }
 }
@@ -178,7 +195,26 @@ fn lines_of(task: Rewrapping) -> Rewrapping
     Rewrapping {
         forms: task.forms,
         passes_new: task.passes_new,
-        input: Notation::Hex,
+        input: line_notation(task.input),
         kek: task.kek,
+    }
+}
+
+// Lines are texts: raw bytes are none.
+fn line_notation(notation: Notation) -> Notation
+    ensures { result ≡ line_notation notation }
+{
+    match notation {
+        Notation::Raw => Notation::Hex,
+        _ => notation,
+    }
+}
+
+fn text_notation(notation: Notation) -> TextNotation
+    ensures { result ≡ text_notation notation }
+{
+    match notation {
+        Notation::Raw | Notation::Hex => TextNotation::Hex,
+        Notation::Base64 | Notation::Base64Url => TextNotation::Base64,
     }
 }

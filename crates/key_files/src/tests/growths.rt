@@ -3,6 +3,7 @@
 
 use super::doubles::{Narrow, Trickle};
 use super::is_answer;
+use crate::base64_text::decode_base64_in;
 use crate::hex_text::decode_hex_in;
 use crate::read::{read_hex_in, read_raw_in};
 use crate::write::write_hex_in;
@@ -21,6 +22,10 @@ static DIGITS: [u8; 300] = [b'5'; 300];
 
 static BYTES: [u8; 150] = [0x55; 150];
 
+static CHARACTERS: [u8; 304] = [b'A'; 304];
+
+static ZEROS: [u8; 228] = [0; 228];
+
 #[test]
 fn refuses_each_growth(rt: HostRuntime) -> Result<(), Fail> {
     for size in (0..=AMPLE).step_by(STEP) {
@@ -32,6 +37,7 @@ fn refuses_each_growth(rt: HostRuntime) -> Result<(), Fail> {
         let answer = read_hex_in(&heap, &mut file, DIGITS.len());
         is_met(&rt, answer, &BYTES, size);
         is_met(&rt, decode_hex_in(&heap, &DIGITS), &BYTES, size);
+        is_met(&rt, decode_base64_in(&heap, &CHARACTERS), &ZEROS, size);
         let mut out = Narrow::in_pieces(rt.alloc(), usize::MAX);
         let answer = write_hex_in(&heap, &mut out, &BYTES);
         if answer == Err(HexWriteFault::Memory) {

@@ -1,7 +1,7 @@
 //! Runs that answer each line, that stop at one, and whose output is refused at each byte.
 
 use super::doubles::{Echo, Narrow, Told, Trickle};
-use crate::{LineFault, RunFault, run_all_lines, run_lines};
+use crate::{LineFault, RunFault, TextNotation, run_lines};
 use key_files::FileFault;
 use std::io::BufReader;
 use std::test::Fail;
@@ -65,7 +65,15 @@ fn answers_the_lines_before_the_first_refused_one(rt: HostRuntime) -> Result<(),
         for capacity in [1, 4_096] {
             let mut input = BufReader::with_capacity(rt.alloc(), capacity, *text)?;
             let mut out = Vec::new(rt.alloc());
-            let answer = run_lines(rt.alloc(), &Echo, &mut input, &mut out);
+            let answer = run_lines(
+                rt.alloc(),
+                TextNotation::Hex,
+                &Echo,
+                false,
+                &told,
+                &mut input,
+                &mut out,
+            );
             assert!(rt;
                 answer == *want && out.as_slice() == *written,
                 "of {text:?}"
@@ -104,7 +112,15 @@ fn takes_blanks_at_the_ends_alone(rt: HostRuntime) -> Result<(), Fail> {
     for (line, want, refused) in &BLANKS {
         let mut input: &[u8] = line;
         let mut out = Vec::new(rt.alloc());
-        let answer = run_lines(rt.alloc(), &Echo, &mut input, &mut out);
+        let answer = run_lines(
+            rt.alloc(),
+            TextNotation::Hex,
+            &Echo,
+            false,
+            &told,
+            &mut input,
+            &mut out,
+        );
         let wanted = match refused {
             None => Ok(1),
             Some(at) => Err(RunFault::AtLine {
@@ -153,7 +169,15 @@ fn goes_on_after_refused_lines(rt: HostRuntime) -> Result<(), Fail> {
         let mut input: &[u8] = text;
         let mut out = Vec::new(rt.alloc());
         let told = Told::new();
-        let answer = run_all_lines(rt.alloc(), &Echo, &told, &mut input, &mut out);
+        let answer = run_lines(
+            rt.alloc(),
+            TextNotation::Hex,
+            &Echo,
+            true,
+            &told,
+            &mut input,
+            &mut out,
+        );
         assert!(rt;
             answer == *want && out.as_slice() == *written,
             "of {text:?}"
@@ -174,7 +198,15 @@ fn counts_what_a_refused_write_left_out(rt: HostRuntime) -> Result<(), Fail> {
         for room in 0..whole.len() {
             let mut input = text;
             let mut out = Narrow::new(rt.alloc(), room);
-            let answer = run_lines(rt.alloc(), &Echo, &mut input, &mut out);
+            let answer = run_lines(
+                rt.alloc(),
+                TextNotation::Hex,
+                &Echo,
+                false,
+                &told,
+                &mut input,
+                &mut out,
+            );
             let unsent = whole.len() - room;
             assert_eq!(rt; answer, Err(RunFault::Write { answered, unsent }));
             assert_eq!(rt; out.out(), &whole[..room]);
@@ -194,7 +226,15 @@ fn stops_where_the_writer_refuses_a_full_block(rt: HostRuntime) -> Result<(), Fa
     }
     let mut input = text.as_slice();
     let mut out = Narrow::new(rt.alloc(), 10);
-    let answer = run_lines(rt.alloc(), &Echo, &mut input, &mut out);
+    let answer = run_lines(
+        rt.alloc(),
+        TextNotation::Hex,
+        &Echo,
+        false,
+        &told,
+        &mut input,
+        &mut out,
+    );
     let unsent = 80_002 - 10;
     assert_eq!(rt;
         answer,
@@ -223,7 +263,15 @@ fn stops_at_the_line_whose_read_fails(rt: HostRuntime) -> Result<(), Fail> {
     ] {
         let mut input = BufReader::new(rt.alloc(), Trickle::new(text, reads))?;
         let mut out = Vec::new(rt.alloc());
-        let answer = run_lines(rt.alloc(), &Echo, &mut input, &mut out);
+        let answer = run_lines(
+            rt.alloc(),
+            TextNotation::Hex,
+            &Echo,
+            false,
+            &told,
+            &mut input,
+            &mut out,
+        );
         let fault = LineFault::Input(FileFault::Read);
         assert_eq!(rt;
             answer,

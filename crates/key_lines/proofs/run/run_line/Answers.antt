@@ -4,7 +4,7 @@ use Rattle.key_lines.proofs.run.run_line.Goals as goal
 
 pub returns-in-Ok-put : goal.returns-in-Ok-put
 returns-in-Ok-put g c =
-    StepsLine-answered c.args.goes_on 4194304 (g.J.LineJob.answers c.args.job.now) (g.R.Read.remaining c.args.input.now)
+    StepsLine-answered c.args.goes_on c.args.notation (g.J.LineJob.answers c.args.job.now) (g.R.Read.remaining c.args.input.now)
     (g.R.Read.remaining c.read_line.new.reader)
     (g.W.Write.contents c.args.out.now) (g.W.Write.contents c.put.new.out) c.args.block.now.items c.put.new.block.items
     c.read_line.new.line.items c.output_of.new.output.items

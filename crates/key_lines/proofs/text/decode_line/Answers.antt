@@ -1,23 +1,19 @@
--- What the text of the line denotes, with the place of a bad digit counted in the line.
-use Rattle.std.proofs.Common.{Err, length, arith, ap}
-use Rattle.key_files.specs.declared.fault.FileFault.TheVariants.{BadDigit}
-use Rattle.key_lines.proofs.Denoting.{Decodes-line, bad_digit-within, blank_ended_meaning-is, length-text_of}
+-- What the text of the line denotes, with the place of what is wrong in it counted in the line.
+use Rattle.std.proofs.Common.{◌≡◌, Err, sym, ap, ◌∙◌, subst}
+use Rattle.std.specs.List.{prefix_len}
+use Rattle.key_files.specs.Decoding.{DecodesText, fault_behind}
+use Rattle.key_lines.specs.Meaning.{blank_ended_meaning, is_blank, text_meaning}
+use Rattle.key_lines.proofs.Denoting.{DecodesText-bytes, DecodesText-line}
 use Rattle.key_lines.proofs.text.decode_line.Goals as goal
 
-pub overflow_add-result : goal.overflow_add-result
-overflow_add-result c =
-    let within = bad_digit-within c.text_of.result.now c.in-BadDigit.at (rw c.in-BadDigit.is at c.in-Err.ensures) in
-    omega (arith, c.blanks_before.ensures.count, ap length c.text_of.ensures, length-text_of c.args.line.now)
+pub returns-in-Ok : goal.returns-in-Ok
+returns-in-Ok c = DecodesText-bytes c.args.notation c.args.line.now _ (rw c.text_of.ensures at c.in-Ok.ensures.meaning)
 
-pub returns-in_default : goal.returns-in_default
-returns-in_default c = blank_ended_meaning-is c.args.line.now c.text_of.result.now _ c.text_of.ensures c.in_default.ensures
-
-pub returns-in-BadDigit : goal.returns-in-BadDigit
-returns-in-BadDigit c =
-    rw c.blanks_before.ensures.count (blank_ended_meaning-is c.args.line.now c.text_of.result.now (Err (BadDigit c.in-BadDigit.at)) c.text_of.ensures
-    (rw c.in-BadDigit.is at c.in-Err.ensures))
-
-pub returns-in_default-fault : goal.returns-in_default-fault
-returns-in_default-fault c =
-    Decodes-line c.args.line.now c.text_of.result.now c.decode_digits_into.new.bytes.items c.in-Err.fault c.text_of.ensures
-    c.in_default-fault.not-BadDigit c.in-Err.ensures
+pub returns-in-Err : goal.returns-in-Err
+returns-in-Err c =
+    let fault = c.in-Err.fault in
+    let behind : c.fault_behind.result ≡ fault_behind (prefix_len is_blank c.args.line.now) fault =
+    c.fault_behind.ensures ∙ ap (λ n. fault_behind n fault) c.blanks_before.ensures.count in
+    subst (λ f. DecodesText (blank_ended_meaning c.args.notation c.args.line.now) c.decode_text.new.bytes.items (Err f)) (sym behind)
+    (DecodesText-line c.args.notation c.args.line.now c.decode_text.new.bytes.items fault
+    (subst (λ t. DecodesText (text_meaning c.args.notation t) c.decode_text.new.bytes.items (Err fault)) c.text_of.ensures c.in-Err.ensures.meaning))

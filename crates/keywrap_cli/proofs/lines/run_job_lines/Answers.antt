@@ -6,9 +6,10 @@ use Rattle.keywrap_cli.proofs.lines.run_job_lines.Goals as goal
 
 pub returns : goal.returns
 returns g c =
+    let over = rw c.text_notation.ensures at (rw c.in_lines.ensures at c.run_lines-answer.ensures) in
     let run : RunsJobLines c.args.iv.now c.args.task c.args.goes_on _ _ _ _ _ _ c.lines_answer.result = record {
       found = Ok c.in-Ok.pair;
       read = c.in-Ok.ensures;
-      rest = (c.run_over-answer.result, rw c.in_hex.ensures at c.run_over-answer.ensures, c.lines_answer.ensures);
+      rest = (c.run_lines-answer.result, record { run = over.run; written = over.headline }, c.lines_answer.ensures);
     } in
     record { run = run; headline = job_lines_headline c.args.iv.now c.args.task c.args.goes_on _ _ _ _ _ _ c.lines_answer.result run }
