@@ -193,7 +193,8 @@ uninstall-library:
 
 # Without TARGET for each machine, each in a make of its own.
 dist: $(if $(filter file,$(origin TARGET)),dist-each,needs $(packed))
-	cd '$(DIST)' && sha256sum $(if $(filter file,$(origin TARGET)),$(all_handed_out),$(handed_out)) >SHA256SUMS
+	cd '$(DIST)' && sha256sum $(if $(filter file,$(origin TARGET)),$(all_handed_out),$(handed_out)) >SHA256SUMS.new && \
+	    mv SHA256SUMS.new SHA256SUMS
 	@echo '$(DIST)/SHA256SUMS'
 
 each = @set -e; for target in $(targets); do $(MAKE) --no-print-directory $(1) TARGET=$$target; done

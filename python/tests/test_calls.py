@@ -102,6 +102,8 @@ PLAIN_LENGTHS = "it must be a multiple of 8 from 16 to 1048576 bytes"
         # The shortest of each form has a legal length there, and not in the other.
         ("BadLength", "the wrapped key is 16 bytes long; it must be a multiple of 8 from 24", "rewrap",
          (KEK, KEK, FORPASI)),
+        ("BadLength", "the wrapped key is 8 bytes long; it must be a multiple of 8 from 16", "rewrap",
+         (KEK, KEK, FORPASI[:8], True)),
         ("BadLength", "the key that is wrapped cannot be plain", "rewrap", (KEK_5649, KEK, FORPASI, True)),
         ("BadLength", "the key that is wrapped cannot be plain", "rewrap", (KEK_5649, KEK, PADDED_OF_20, True)),
         ("BadInitialValue", "the initial value is 0 bytes long; it must be 8 bytes", "wrap", (KEK, KEY, b"")),
