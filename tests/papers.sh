@@ -254,10 +254,10 @@ verdict 'what repeats the version' "$(repeat "$(<"$root/VERSION")" 2>&1)"
 # same_words: each cause has these words in every language that can say it. A cipher of OpenSSL has one length of KEK.
 same_words() {
     local words file
-    for words in 'reserved for the padded form' '16, 24 or 32 bytes' 'bad length' 'integrity check failed'; do
+    for words in 'reserved for the padded form' '16, 24 or 32' 'bad length' 'integrity check failed'; do
         for file in crates/keywrap_cli/src include/keywrap.h python/src/keywrap/_refusals.py js/keywrap.js \
             provider/errors.c; do
-            [ "$words $file" = '16, 24 or 32 bytes provider/errors.c' ] || grep -rqF "$words" "$root/$file" ||
+            [ "$words $file" = '16, 24 or 32 provider/errors.c' ] || grep -rqF "$words" "$root/$file" ||
                 echo "no '$words' in $file;"
         done
     done
