@@ -50,11 +50,13 @@ row "the README's lines run" writes b595a1c0afbe7a89ce43807cb3b2ba5737ff5d71d0a3
     env PATH="$room/first:$PATH" PIP_NO_INDEX=1 bash -e lines || { finish; exit; }
 export PATH=$room/env/bin:$PATH
 
-# same_version: the package has the version of the program, and so has its METADATA.
+# same_version: the package has the version of the program, and so has its METADATA; the library in it the numbers.
 same_version() {
-    writes "$version $version" python3 -c '
+    writes "$version $version ${version%.dev0}" python3 -c '
 import importlib.metadata, keywrap
-print(keywrap.__version__, importlib.metadata.version("keywrap"))'
+number = keywrap._ffi.lib.keywrap_version()
+print(keywrap.__version__, importlib.metadata.version("keywrap"), end=" ")
+print(number >> 16, number >> 8 & 255, number & 255, sep=".")'
 }
 row 'the version' same_version
 
