@@ -51,7 +51,7 @@ for_fish = $(share)/fish/vendor_completions.d
 
 .PHONY: help version build library library-anew test gate install uninstall install-command uninstall-command \
     install-library uninstall-library provider needs needs-wheel wheel js dist dist-each dist-command dist-library \
-    dist-wheel dist-js bench clean
+    dist-wheel dist-js packed bench clean
 # What a goal needs is looked at before anything is built for it; and what rt builds of the exports has one place.
 .NOTPARALLEL:
 

@@ -1,8 +1,9 @@
 #!/usr/bin/env bash
 # Holds the manual page and the completions against the program's help, both ways, so that none
-# falls behind; runs the page's examples; tries make install, make uninstall and make dist-command, on a
-# program that is built; and holds docs/LIBRARY.md against the crate that it shows. A part whose tool
-# is not there is skipped, with a line that says what to install.
+# falls behind; runs the page's examples; holds what repeats the version, and the words of a refusal in each
+# language, against each other; tries make install and make uninstall, on a program that is built; and holds
+# docs/LIBRARY.md against the crate that it shows. A part whose tool is not there is skipped, with a line that says
+# what to install.
 #
 # It is long since it has a part for each of them; three shells are asked what they offer, each in its own way.
 #
