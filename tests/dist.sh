@@ -33,6 +33,8 @@ if has_python cffi,setuptools,wheel,build; then
     row 'what it makes' diff <(ls dist) <(printf '%s\n' SHA256SUMS "${tarballs[@]}" "$wheel" | LC_ALL=C sort)
     row 'its checksums' env -C dist sha256sum -c --strict SHA256SUMS
     row 'they are of all' test "$(wc -l <dist/SHA256SUMS)" = 4
+    sed -n '/^### From an archive/,$s/^    //p' "$root/docs/INSTALLING.md" >lines
+    row 'the lines of docs/INSTALLING.md' env -C dist bash -e "$room/lines"
 else
     skip 'the wheel, and make dist' \
         'no Python with its modules (apt-get install python3-cffi python3-setuptools python3-wheel python3-build)'
