@@ -101,17 +101,17 @@ function refusalOf(status, call, inputs) {
     const kek = inputs.find(isBadKek);
     if (status === BAD_IV && iv) {
         return new BadInitialValue(iv.bytes.length === IV.longest
-            ? 'the initial value begins with a6 59 59 a6, which RFC 5649 reserves'
+            ? 'the initial value is reserved for the padded form: it begins with a6 59 59 a6'
             : lengthIs(iv));
     }
     if (status === BAD_KEK && kek) {
         return new BadKekLength(lengthIs(kek));
     }
     if (status === BAD_LENGTH) {
-        return new BadLength(lengthIs(inputs.at(-1)));
+        return new BadLength(`bad length: ${lengthIs(inputs.at(-1))}`);
     }
     if (status === INTEGRITY) {
-        return new IntegrityFailed('the integrity check failed: no wrapped key under this KEK');
+        return new IntegrityFailed('integrity check failed: no wrapped key under this KEK');
     }
     return new Error(`internal error: ${call} answered ${status}`);
 }
@@ -216,8 +216,8 @@ function unwrapPadded(machine, kek, wrapped, options = {}) {
 }
 
 // From padded to plain what is wrapped may have a legal length, and the key in it none.
-const NOT_PLAIN =
-    `the key that is wrapped cannot be plain: it is not ${PLAIN_KEY.legal} bytes long`;
+const NOT_PLAIN = 'bad length: the key that is wrapped cannot be plain: '
+    + `it is not ${PLAIN_KEY.legal} bytes long`;
 
 function isLegal({ kind, bytes: { length } }) {
     const least = kind === WRAPPED_PADDED ? 16 : 24;

@@ -11,11 +11,10 @@ int64_t unwrap_padded(const uint8_t *kek, size_t kek_len, const uint8_t *wrapped
 int32_t rewrap(const uint8_t *old_kek, size_t old_kek_len, const uint8_t *new_kek,
                size_t new_kek_len, const uint8_t *wrapped, size_t wrapped_len, uint8_t *answer,
                uint32_t forms);
-int32_t kind(const uint8_t *kek, size_t kek_len, const uint8_t *wrapped, size_t wrapped_len,
+int64_t kind(const uint8_t *kek, size_t kek_len, const uint8_t *wrapped, size_t wrapped_len,
              uint8_t *scratch, size_t room);
-#define IS_PLAIN ...
-#define IS_PADDED ...
 void wipe(uint8_t *bytes, size_t len);
+static const char *const VERSION;
 """
 
 SOURCE = """
@@ -45,18 +44,16 @@ static void wipe(uint8_t *bytes, size_t len) {
     while (len-- > 0) *at++ = 0;
 }
 
-#define IS_PLAIN -1
-#define IS_PADDED -2
-
-/* IS_PLAIN or IS_PADDED, or the status of the refusal. */
-static int32_t kind(const uint8_t *kek, size_t kek_len, const uint8_t *wrapped, size_t wrapped_len,
+/* The key's length, doubled, and 1 more where it is padded; or the status of the refusal, negated. */
+static int64_t kind(const uint8_t *kek, size_t kek_len, const uint8_t *wrapped, size_t wrapped_len,
                     uint8_t *scratch, size_t room) {
     uint32_t padded;
     size_t key_len;
     int32_t status = keywrap_kind(kek, kek_len, wrapped, wrapped_len, scratch, room, &padded, &key_len);
-    if (status != KEYWRAP_OK) return status;
-    return padded ? IS_PADDED : IS_PLAIN;
+    return status == KEYWRAP_OK ? (int64_t)(2 * key_len + padded) : -(int64_t)status;
 }
+
+static const char *const VERSION = PACKAGE_VERSION;
 """
 
 
@@ -68,6 +65,8 @@ def declarations(header: str) -> str:
     return "\n".join([*statuses, *numbers, *calls]).replace("KEYWRAP_RESTRICT ", "")
 
 
+VERSION = Path("VERSION").read_text(encoding="utf-8").strip().replace("-dev", ".dev0")
+
 ffi = FFI()
 ffi.cdef(declarations(Path("keywrap.h").read_text(encoding="utf-8")) + HELPERS)
 ffi.set_source(
@@ -75,6 +74,7 @@ ffi.set_source(
     SOURCE,
     include_dirs=["."],
     extra_objects=["libkeywrap.a"],
+    define_macros=[("PACKAGE_VERSION", f'"{VERSION}"')],
     extra_compile_args=["-std=c99"],
     # The package calls the library that is in it, whatever another one in the process shows.
     extra_link_args=["-Wl,--exclude-libs,ALL", "-Wl,-z,relro,-z,now"],

@@ -1,15 +1,12 @@
-"""The extension, and the version, which keywrap.h tells. `make wheel` puts the header and the library here."""
+"""The extension, and the version. `make wheel` puts VERSION, the header and the library here."""
 
-import re
 from pathlib import Path
 
 from setuptools import setup
 
-header = Path("keywrap.h").read_text(encoding="utf-8")
-version = re.findall(r"^#define KEYWRAP_VERSION_(?:MAJOR|MINOR|PATCH) (\d+)$", header, re.M)
-
 setup(
-    version=".".join(version),
+    # Python writes -dev as .dev0, and so does build_ffi.py.
+    version=Path("VERSION").read_text(encoding="utf-8").strip().replace("-dev", ".dev0"),
     cffi_modules=["build_ffi.py:ffi"],
     options={"bdist_wheel": {"py_limited_api": "cp39"}},
 )

@@ -29,6 +29,7 @@ mv -- "$archive" "$room/wasm.a"
 # A memory that never grows: the stack, which comes first, and twice the longest wrapped key.
 "$kit/bin/rattle-link" --target $target --toolchain "$kit/toolchain" \
     --memory 2228224 --stack 65536 -o "$folder/keywrap.wasm" "$room/wasm.a"
-cp js/keywrap.js js/keywrap.d.ts js/example.html js/README.md "$folder"
+cp js/keywrap.js js/keywrap.d.ts js/example.html "$folder"
+scripts/links.sh <js/README.md >"$folder/README.md"
 sed "s|@VERSION@|$1|" js/package.json.in >"$folder/package.json"
 echo "$folder"

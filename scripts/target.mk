@@ -3,14 +3,22 @@
 # to stand on.
 
 of_program = build test gate install install-command dist-command bench
+targets = x86_64-unknown-linux-gnu aarch64-unknown-linux-gnu
+
+# What `make dist` hands out, by goal and by name: what is for no one machine, the package for npm, goes with x86-64's.
+of_machine = keywrap-library-$(version)-$(1)-linux.tar.gz keywrap-$(of_python)-cp39-abi3-linux_$(1).whl
+of_command = keywrap-$(version)-x86_64-linux
+of_x86_64 = $(of_command).tar.gz keywrap-$(version).tgz
+all_handed_out = $(of_x86_64) $(call of_machine,x86_64) $(call of_machine,aarch64)
+handed_out = $(of_$(machine)) $(call of_machine,$(machine))
 
 ifeq ($(TARGET),x86_64-unknown-linux-gnu)
 machine = x86_64
-packed = dist-command dist-library
+packed = dist-command dist-library dist-wheel dist-js
 other =
 else ifeq ($(TARGET),aarch64-unknown-linux-gnu)
 machine = aarch64
-packed = dist-library
+packed = dist-library dist-wheel
 other = -$(TARGET)
 CC = aarch64-linux-gnu-gcc
 ifneq ($(filter $(of_program),$(MAKECMDGOALS)),)

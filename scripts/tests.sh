@@ -24,11 +24,13 @@ run_script() {
 # over_library NAME..: builds the archives of the C library, and then runs these over them. Where they can't be
 # built, each says so by itself.
 over_library() {
-    local script of_arm=
-    [[ " $* " != *' arm64 '* ]] || of_arm=arm64
-    tests/library/build.sh "$built" $of_arm >"$built/log" 2>&1 &&
+    local script more=()
+    [[ " $* " != *' arm64 '* ]] || more+=(arm64)
+    [[ " $* " != *' js '* && " $* " != *' dist '* ]] || more+=(js)
+    tests/library/build.sh "$built" "${more[@]}" >"$built/log" 2>&1 &&
         export KEYWRAP_ARCHIVES="$built/rattle.a $built/llvm.a"
     [ ! -d "$built/arm64" ] || export KEYWRAP_ARM64=$built/arm64
+    [ ! -d "$built/js" ] || export KEYWRAP_JS=$built/js
     for script in "$@"; do run_script "$script" & done
     wait
 }
@@ -39,7 +41,7 @@ over_library() {
 over_archives=() long=() short=()
 for script in "${scripts[@]}"; do
     case $script in
-    arm64 | js | library | provider | python | secrets) over_archives+=("$script") ;;
+    arm64 | dist | js | library | provider | python | secrets) over_archives+=("$script") ;;
     allocations | faults | files) long+=("$script") ;;
     *) short+=("$script") ;;
     esac

@@ -43,7 +43,7 @@ printf '#include <stdio.h>\n' | "$cc" -fsyntax-only -x c - 2>/dev/null ||
     { skip 'all of aarch64' 'no C library for it (apt-get install libc6-dev-arm64-cross)'; finish; exit; }
 
 row 'make library' making library || { finish; exit; }
-row 'the library is of aarch64' are_arm "$library"/libkeywrap.{a,so.1.0.0}
+row 'the library is of aarch64' are_arm "$library"/libkeywrap.{a,so.1}
 shown aarch64
 
 # shuffles: the shuffles of bytes are the processor's, and none of its instructions is one that it may lack.
@@ -71,7 +71,7 @@ if [ -d "$sysroot" ]; then row 'what depends on secrets' secrets; else skip 'wha
 ### What is packed
 
 version=$(make -s --no-print-directory -C "$root" version)
-packed=keywrap-library-$version-aarch64-linux wheel=keywrap-$version-cp39-abi3-linux_aarch64.whl
+packed=keywrap-library-$version-aarch64-linux wheel=keywrap-${version/-dev/.dev0}-cp39-abi3-linux_aarch64.whl
 needed='python3-cffi python3-setuptools python3-wheel python3-build'
 if ! has_python cffi,setuptools,wheel,build; then
     skip 'the wheel' "no Python with its modules (apt-get install $needed)"
@@ -79,14 +79,15 @@ elif [ ! -d "$sysroot" ]; then
     skip 'the wheel' "$of_debian"
 else
     row 'make dist' making dist PYTHON="$python"
-    row 'what it makes' diff <(ls dist) <(printf '%s\n' "$wheel" "$packed.tar.gz"{,.sha256})
+    row 'what it makes' diff <(ls dist) <(printf '%s\n' SHA256SUMS "$wheel" "$packed.tar.gz")
+    row 'its checksums' env -C dist sha256sum -c --strict SHA256SUMS
     row 'the wheel, unpacked' "$python" -m zipfile -e "dist/$wheel" site
 fi
-[ -d dist ] || row 'make dist-library' making dist-library -o wheel
-row 'its checksum' env -C dist sha256sum -c "$packed.tar.gz.sha256"
+[ -d dist ] || row 'make dist-library' making dist-library
 row 'it unpacks' tar -xzf "dist/$packed.tar.gz"
-row 'what it packs' diff <(cd "$packed" && find . ! -type d | sort) <(printf './%s\n' README include/keywrap.h \
-    lib/libkeywrap.{a,so,so.1,"so.$version"} lib/pkgconfig/keywrap.pc)
+row 'what it packs, but for documents' diff <(cd "$packed" && find . -path ./share -prune -o ! -type d -print | sort) \
+    <(printf './%s\n' README include/keywrap.h lib/libkeywrap.{a,so,so.1,"so.${version%-dev}"} lib/pkgconfig/keywrap.pc)
+row 'its documents' test -s "$packed/share/doc/keywrap/C_LIBRARY.md"
 row 'it is of aarch64' are_arm "$packed"/lib/libkeywrap.{a,so}
 row 'its README says so' grep -q 'Linux on aarch64' "$packed/README"
 if has pkg-config pkg-config 'the C example over the packed library'; then

@@ -2,7 +2,7 @@
 # Builds the package for browsers, Node and Deno, and runs its tests in Node, on NIST's tables too; and tries
 # its page in Chromium, as a person does. Deno is not in Debian, and so not tried.
 #
-# usage: tests/js.sh
+# usage: tests/js.sh        (KEYWRAP_JS=FOLDER: over the package that make built there before)
 
 set -u
 # shellcheck disable=SC2154
@@ -16,7 +16,12 @@ set -u
 package=$room/node_modules/keywrap
 version=$(make -s --no-print-directory -C "$root" version)
 cp "$root"/tests/js/*.mjs .
-row 'make js' make -s -C "$root" js JS="$package" || { finish; exit; }
+if [ -d "${KEYWRAP_JS:-}" ]; then
+    mkdir node_modules
+    row 'the package' cp -R "$KEYWRAP_JS" "$package"
+else
+    row 'make js' make -s -C "$root" js JS="$package" || { finish; exit; }
+fi
 row 'its files' test "$(cd "$package" && echo *)" = \
     'README.md example.html keywrap.d.ts keywrap.js keywrap.wasm package.json'
 
@@ -34,9 +39,9 @@ without_memory64() {
         load().catch(({ name }) => console.log(name));"
 }
 
-# same_version: the package, and the module in it, have the version of the program.
+# same_version: the package has the version of the program, and the module in it the numbers.
 same_version() {
-    writes "$version $version" "${node[@]}" --input-type=module -e "
+    writes "$version ${version%-dev}" "${node[@]}" --input-type=module -e "
         import { load } from 'keywrap';
         import { readFileSync } from 'node:fs';
         const { version } = JSON.parse(readFileSync('node_modules/keywrap/package.json'));

@@ -174,13 +174,13 @@ prefix=$room/prefix
 row 'make install-library' in_library install-library PREFIX="$prefix"
 export LD_LIBRARY_PATH=$prefix/lib
 
-# same_version: the header's version is that of the program and of keywrap.pc, and names the file.
+# same_version: the header's version is that of the program and of keywrap.pc, but for -dev, and names the file.
 same_version() {
     local version header
     version=$(make -s --no-print-directory -C "$root" version)
     header=$(sed -n 's/^#define KEYWRAP_VERSION_[A-Z]* \([0-9]*\)$/\1/p' "$prefix/include/keywrap.h" | paste -sd .)
-    [ "$version" = "$header" ] && grep -qx "Version: $version" "$prefix/lib/pkgconfig/keywrap.pc" &&
-        [ "$(readlink -f "$prefix/lib/libkeywrap.so")" = "$(readlink -f "$prefix/lib/libkeywrap.so.$version")" ]
+    [ "${version%-dev}" = "$header" ] && grep -qx "Version: $version" "$prefix/lib/pkgconfig/keywrap.pc" &&
+        [ "$(readlink -f "$prefix/lib/libkeywrap.so")" = "$(readlink -f "$prefix/lib/libkeywrap.so.$header")" ]
 }
 row 'one version' same_version
 
@@ -291,23 +291,6 @@ if [ -x "$program" ]; then
     done
 else
     skip 'the library against the command' "no $program (./keywrap --version builds it)"
-fi
-
-### Packed
-
-# dist_library FOLDER: packs it, but for the wheel, which tests/python.sh builds.
-dist_library() { in_library dist-library DIST="$room/$1" -o wheel; }
-packed=keywrap-library-$(make -s --no-print-directory -C "$root" version)-x86_64-linux
-row 'make dist-library' dist_library first
-row 'its checksum' env -C first sha256sum -c "$packed.tar.gz.sha256"
-row 'make dist-library, later and by another umask' eval 'umask 077; sleep 1; dist_library second; umask 022'
-row 'make dist-library makes the same archive again' cmp {first,second}/$packed.tar.gz
-row 'it unpacks' tar -xzf "first/$packed.tar.gz"
-row 'what it packs' diff <(cd "$prefix" && find . ! -type d | sort) <(cd "$packed" && find . ! -type d ! -name README | sort)
-if command -v pkg-config >/dev/null; then
-    read -ra flags < <(PKG_CONFIG_PATH=$packed/lib/pkgconfig pkg-config --cflags --libs keywrap)
-    LD_LIBRARY_PATH=$packed/lib runs_example 'the C example over the packed library' $rfc3394_42 \
-        cc -std=c99 "${strict[@]}" "$root/examples/c/wrap.c" "${flags[@]}"
 fi
 
 row 'make uninstall-library' in_library uninstall-library PREFIX="$prefix"

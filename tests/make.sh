@@ -127,8 +127,22 @@ cp tmp/kept scripts/sysroot.sh
 
 ### What is made, and when again
 
-# For a compiler stands what is noted, and has a copy of the archive as the shared object.
-export PYTHON=true CC='echo linked >>notes; cp library/libkeywrap.a library/libkeywrap.so.1.0.0; :'
+# For a compiler stands what is noted, and has a copy of the archive as the shared object; for Python what makes a wheel
+# of the right name, and for the linker of the kit what makes its file.
+install -m 755 /dev/stdin bin/linker <<'END_OF_LINKER'
+#!/bin/sh
+echo linked >>"$tree/notes"
+while [ "$1" != -o ]; do shift; done
+cp "${2%/*}/libkeywrap.a" "$2"
+END_OF_LINKER
+install -m 755 /dev/stdin bin/python <<'END_OF_PYTHON'
+#!/bin/sh
+[ "$1" = -m ] || exit 0
+mkdir -p "$6"
+echo wheel >"$6/keywrap-1.2.3.dev0-cp39-abi3-$(echo "${_PYTHON_HOST_PLATFORM:-linux-x86_64}" | tr - _).whl"
+END_OF_PYTHON
+printf '#!/bin/sh\nwhile [ "$1" != -o ]; do shift; done\necho wasm >"$2"\n' | install -m 755 /dev/stdin bin/rattle-link
+export PYTHON=python CC=linker
 make='make -s LIBRARY=library DIST=dist DESTDIR=stage/ PREFIX=usr'
 linked=('keywrap_c: lib' 'ends keywrap_c' linked)
 rm -r crates/*/out
@@ -137,9 +151,9 @@ rebuilds "$make install && cmp stage/usr/bin/keywrap $program && cmp stage/usr/l
     "${steps[@]}" "${linked[@]}" <<<'append crates/aes_block/src/lib.rt'
 same 'make install keeps to DESTDIR and PREFIX' $'bin\ninclude\nlib\nshare' "$(ls stage/usr)"
 verdict 'make uninstall leaves nothing' "$($make uninstall; find stage ! -type d)"
-rebuilds "$make dist && cat dist/*.gz | tar -xzif - && cmp keywrap-1.2.3-*/bin/keywrap $program &&
-    cmp keywrap-library-1.2.3-*/lib/libkeywrap.so $archive && cmp library/python/libkeywrap.a $archive" \
-    "${steps[@]}" "${linked[@]}" <<<'append crates/aes_block/src/lib.rt'
+rebuilds "$make dist-command dist-library wheel && cat dist/*.tar.gz | tar -xzif - &&
+    cmp keywrap-1.2.3-dev-*/bin/keywrap $program && cmp keywrap-library-1.2.3-dev-*/lib/libkeywrap.so $archive &&
+    cmp library/python/libkeywrap.a $archive" "${steps[@]}" "${linked[@]}" <<<'append crates/aes_block/src/lib.rt'
 rebuilds "$make library" "${linked[@]}" <<END_OF_CHANGES
 append crates.txt
 append crates/keywrap_c/proofs/part/Answers.antt
@@ -153,9 +167,9 @@ rebuilds "$make library ARCHIVE=another.a" linked <<<'rm -r library; append anot
 
 rm -r library && $make wheel >row.log 2>&1
 echo 'gone from the sources' >library/python/gone.py
-$make wheel
-verdict 'the wheel is packed of the sources alone' "$(diff -r library/python python |
-    grep -vE '^Only in library/python: (keywrap.h|libkeywrap.a)$')"
+$make wheel >row.log 2>&1
+verdict 'the wheel is packed of the sources alone' "$(diff -r -x README.md library/python python |
+    grep -vE '^Only in library/python: (VERSION|keywrap.h|libkeywrap.a)$')"
 for prefix in '/opt/R&D' '/opt/a|b' '/opt/a\1b' '/opt/a/b'; do
     $make install-library PREFIX="$prefix"
     same "PREFIX='$prefix'" "prefix=$prefix" "$(head -n 1 "stage/$prefix/lib/pkgconfig/keywrap.pc")"
@@ -183,9 +197,42 @@ done
 for goal in build test gate install install-command dist-command bench; do
     row "make $goal $arm" refused "make $goal: the program is for x86-64 alone" dist $goal $arm
 done
-row 'a folder of its own' grep -q " out/library-${arm#*=}/libkeywrap.a" <(make -s help $arm)
+row 'a folder of its own' grep -q " out/library-${arm#*=}/libkeywrap.a" <(make -s help $arm 2>/dev/null)
 row 'make wheel, without its Python' grep -q "scripts/sysroot.sh 'none' " \
     <(eval "$for_arm wheel SYSROOT=none" 2>&1)
+
+### All that is handed out
+
+# of NAME..: these are in dist, SHA256SUMS has the sum of each, and nothing else is there.
+of() {
+    diff <(printf '%s\n' SHA256SUMS "$@" | sort) <(cd dist && printf '%s\n' * | sort) &&
+        diff <(printf '%s\n' "$@" | sort) <(sed 's/.* //' dist/SHA256SUMS | sort) &&
+        (cd dist && sha256sum -c --quiet SHA256SUMS)
+}
+x86=TARGET=x86_64-unknown-linux-gnu wheel=keywrap-1.2.3.dev0-cp39-abi3-linux
+wasm=('keywrap_c: lib --target wasm64-unknown-unknown --backend llvm' 'ends keywrap_c')
+mkdir -p sysroot/usr/include/{,aarch64-linux-gnu/}python3.11
+all='make -s DIST=dist CC=linker SYSROOT=sysroot'
+rm -r dist; fresh
+does 'make dist' 0 dist/SHA256SUMS $all dist -- "${steps[@]}" "${linked[@]}" "${wasm[@]}" "${linked_for_arm[@]}"
+row 'what it hands out' of keywrap-1.2.3-dev{-x86_64-linux.tar.gz,.tgz} \
+    keywrap-library-1.2.3-dev-{x86_64,aarch64}-linux.tar.gz ${wheel}_{x86_64,aarch64}.whl
+does 'make dist, again' 0 dist/SHA256SUMS $all dist -- "${wasm[@]}"
+rm -r dist
+does 'make dist for one machine' 0 dist/SHA256SUMS $all dist $arm --
+row 'what that hands out' of keywrap-library-1.2.3-dev-aarch64-linux.tar.gz ${wheel}_aarch64.whl
+# What is not there is said before anything is built.
+fresh
+while IFS=: read -r lacks says; do
+    does "make dist $lacks" 2 '' $all dist $lacks --
+    row "make dist $lacks: what to install" grep -q "$says" err
+done <<'END_OF_LACKS'
+CC=none:no none: apt-get install
+SYSROOT=none:scripts/sysroot.sh 'none'
+PYTHON=false:apt-get install python3
+END_OF_LACKS
+does 'make wheel, without what builds it' 2 '' $make wheel PYTHON=false --
+{ ./keywrap --version; $make library; } >/dev/null 2>&1
 
 ### What fails
 
@@ -197,11 +244,11 @@ verdict 'no linker: what is recorded' "$(ls other/built_from 2>/dev/null)"
 does 'no program to pack' 2 '' $make -o build dist-command PROGRAM=missing --
 does 'no library to pack' 2 '' $make -o library -o wheel dist-library LIBRARY=missing --
 verdict 'nothing is packed' "$(find dist -type f 2>/dev/null)"
-for target in build install install-command dist dist-command bench; do
+for target in build install install-command "dist $x86" dist-command bench; do
     append crates/aes_block/src/lib.rt
     at=aes_block event='exit 1' does "make $target, where a crate is not proved" 2 '' $make $target -- "${steps[@]:0:3}"
 done
-for target in library wheel install-library dist-library; do
+for target in library wheel install-library dist-library dist-wheel; do
     append crates/aes_block/src/lib.rt
     at=keywrap_c event='exit 1' does "make $target, where the exports are not proved" 2 '' $make $target -- \
         "${linked[0]}"

@@ -1,8 +1,9 @@
 #!/usr/bin/env bash
 # Holds the manual page and the completions against the program's help, both ways, so that none
-# falls behind; runs the page's examples; tries make install, make uninstall and make dist-command, on a
-# program that is built; and holds docs/LIBRARY.md against the crate that it shows. A part whose tool
-# is not there is skipped, with a line that says what to install.
+# falls behind; runs the page's examples; holds what repeats the version, and the words of a refusal in each
+# language, against each other; tries make install and make uninstall, on a program that is built; and holds
+# docs/LIBRARY.md against the crate that it shows. A part whose tool is not there is skipped, with a line that says
+# what to install.
 #
 # It is long since it has a part for each of them; three shells are asked what they offer, each in its own way.
 #
@@ -239,14 +240,35 @@ fi
 
 ### The version
 
-row 'the version is one of three numbers' grep -qxE '[0-9]+\.[0-9]+\.[0-9]+' <<<"$version"
-# prints_version: the program and the sources name one version.
-prints_version() { [ "$("$program" --version)" = "keywrap $version" ]; }
-row 'the program and the Makefile name one version' prints_version
-places=$(cd "$root" && grep -rlIFs --exclude-dir=out -e "$version" \
-    keywrap Makefile man completions scripts crates/keywrap{,_cli,_words})
-row 'the version of the command stands in one place' grep -qxE 'crates/[a-z_]+/src/[a-z_]+\.rt' <<<"$places"
-same 'and nowhere else' 1 "$(wc -l <<<"$places")"
+# repeat VERSION: what repeats what the file VERSION holds: the program, the one place in its sources, the header (its
+# numbers) and the newest changes; and nothing else does.
+repeat() {
+    local sources=crates/keywrap_words/src/commands.rt
+    diff <("$program" --version) <(echo "keywrap $1")
+    (cd "$root" && diff <(grep -F ".version(\"$1\")" $sources) <(grep '\.version(' $sources) &&
+        diff <(sed -n 's/^#define KEYWRAP_VERSION_[A-Z]* \([0-9]*\)$/\1/p' include/keywrap.h | paste -sd .) \
+            <(echo "${1%-dev}") &&
+        grep -m 1 '^## ' CHANGELOG.md | diff - <(echo "## $1") &&
+        grep -rlIFs --exclude-dir=out -e "$1" -e "${1/-dev/.dev0}" keywrap Makefile man completions scripts python js \
+            crates/keywrap{,_cli,_words} | diff - <(echo $sources))
+}
+row 'the version is three numbers, or these with -dev' grep -qxE '[0-9]+\.[0-9]+\.[0-9]+(-dev)?' "$root/VERSION"
+verdict 'what repeats the version' "$(repeat "$(<"$root/VERSION")" 2>&1)"
+
+### The words of a refusal
+
+# same_words: each cause has these words in every language that can say it. A cipher of OpenSSL has one length of KEK.
+same_words() {
+    local words file
+    for words in 'reserved for the padded form' '16, 24 or 32' 'bad length' 'integrity check failed'; do
+        for file in crates/keywrap_cli/src include/keywrap.h python/src/keywrap/_refusals.py js/keywrap.js \
+            provider/errors.c; do
+            [ "$words $file" = '16, 24 or 32 provider/errors.c' ] || grep -rqF "$words" "$root/$file" ||
+                echo "no '$words' in $file;"
+        done
+    done
+}
+verdict 'the words of a refusal are the same in every language' "$(same_words)"
 
 ### make install, make uninstall
 
@@ -255,11 +277,16 @@ made() {
     make -s --no-print-directory -o build -C "$root" "$@" PROGRAM="$program" \
         LIBRARY="$room/library" ARCHIVE="$room/library.a"
 }
+documents='644 share/doc/keywrap/CHANGELOG.md
+644 share/doc/keywrap/RECIPES.md
+644 share/doc/keywrap/SECURITY.md'
 command_files='755 bin/keywrap
 644 share/bash-completion/completions/keywrap
+644 share/doc/keywrap/README
 644 share/fish/vendor_completions.d/keywrap.fish
 644 share/man/man1/keywrap.1
-644 share/zsh/site-functions/_keywrap'
+644 share/zsh/site-functions/_keywrap
+'$documents
 # files_of FOLDER: what lies below it, with the modes.
 files_of() { find "$1" ! -type d -printf '%m %P\n'; }
 
@@ -278,52 +305,18 @@ if has cc gcc 'make install with the C library'; then
     row 'an archive to install' cc -fPIC -c library.c -o library.o
     row 'an archive to install' ar rc library.a library.o
     row 'make install' made install DESTDIR="$stage" PREFIX=/usr
-    same 'what make install installs, but for the C library' "$command_files" \
-        "$(files_of "$stage/usr" | grep -v -e ' include/' -e ' lib/')"
+    same 'what make install installs, but for the C library' "$command_files" "$(files_of "$stage/usr" |
+        grep -vE ' (include|lib)/| share/doc/keywrap/(C_LIBRARY.md|OPENSSL.md|README.library|examples/|provider/)')"
+    row 'make uninstall-library' made uninstall-library DESTDIR="$stage" PREFIX=/usr
+    same 'it leaves what is of the command, and its documents' "$command_files" "$(files_of "$stage/usr")"
+    row 'make install-library' made install-library DESTDIR="$stage" PREFIX=/usr
     row 'make install installs the C library' test -e "$stage/usr/lib/libkeywrap.so"
     row 'keywrap.pc names the version' grep -qx "Version: $version" "$stage/usr/lib/pkgconfig/keywrap.pc"
+    row 'make uninstall-command' made uninstall-command DESTDIR="$stage" PREFIX=/usr
+    same 'it leaves the documents, which are of the library too' "$documents" \
+        "$(files_of "$stage/usr" | grep -E '/(CHANGELOG|RECIPES|SECURITY).md$')"
     row 'make uninstall' made uninstall DESTDIR="$stage" PREFIX=/usr
     same 'make uninstall leaves nothing' '' "$(files_of "$stage/usr")"
-fi
-
-### make dist-command
-
-name=keywrap-$version-x86_64-linux
-# dist FOLDER: packs into a folder.
-dist() { made dist-command DIST="$room/$1"; }
-row 'make dist-command' dist first
-row 'its checksum' env -C first sha256sum -c "$name.tar.gz.sha256"
-same 'what it makes' "$name.tar.gz"$'\n'"$name.tar.gz.sha256" "$(ls first)"
-row 'it unpacks' tar -xpzf "first/$name.tar.gz"
-same 'what it packs' "$command_files"$'\n644 README' "$(files_of "$name")"
-row 'the packed program is the program' cmp "$program" "$name/bin/keywrap"
-row 'the packed README names the version' grep -q "^keywrap $version:" "$name/README"
-# packs_of_root: each packed file is root's.
-packs_of_root() { tar -tvzf "first/$name.tar.gz" >listed && ! grep -v ' 0/0 ' listed; }
-row 'the packed files have no owner of this machine' packs_of_root
-row 'make dist-command, later and by another umask' sh -c 'umask 077; sleep 1; "$@"' sh make -s -o build -C "$root" \
-    dist-command PROGRAM="$program" DIST="$room/second"
-row 'make dist-command makes the same archive again' cmp "first/$name.tar.gz" "second/$name.tar.gz"
-
-# What the README says that the program needs, and a folder that holds nothing else.
-needs() { ldd "$name/bin/keywrap" | sed -E 's/ \(0x.*//; s/.* => //; s/^\t//'; }
-same 'the program needs the C library alone' $'ld-linux-x86-64.so.2\nlibc.so.6\nlinux-vdso.so.1' \
-    "$(needs | sed 's|.*/||')"
-newest=$(grep -aoE 'GLIBC_2\.[0-9]+' "$name/bin/keywrap" | sort -Vu | tail -n 1)
-row "the README names the C library's version" grep -qF "glibc ${newest#GLIBC_} or newer" "$name/README"
-for file in $(needs | grep ^/); do
-    install -D "$file" "alone$file"
-done
-install -D "$name/bin/keywrap" alone/bin/keywrap
-# runs_alone: the program runs in that folder, as its root.
-runs_alone() {
-    [ "$(env -i "$(command -v unshare)" -r "$(command -v chroot)" alone /bin/keywrap drill \
-        00112233445566778899aabbccddeeff)" = a6a6a6a6a6a6a6a6001122334455667f8899aabbccddeefb ]
-}
-if unshare -r true 2>/dev/null; then
-    row 'the program with nothing around it' runs_alone
-else
-    skip 'the program with nothing around it' 'unshare -r is not allowed here'
 fi
 
 ### The page for Rattle, docs/LIBRARY.md

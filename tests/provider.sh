@@ -26,6 +26,7 @@ archive=${KEYWRAP_ARCHIVES:-crates/keywrap_c/out/libkeywrap_c.a}
 archive=${archive##* } library=$room/library
 export KEYWRAP_VERSION
 KEYWRAP_VERSION=$(make -s --no-print-directory -C "$root" version)
+KEYWRAP_VERSION=${KEYWRAP_VERSION%-dev}
 
 ### The module
 
@@ -124,7 +125,7 @@ d16=00112233445566778899aabbccddeeff
 # RFC 3394, 4.3; and, as OpenSSL's own wraps it, the padded form of the same.
 wrapped=64e8c3f9ce0f5ba263e9777905818a2a93c8191e7d6e8ae7
 padded=$(echo $d16 | xxd -r -p | openssl enc -id-aes256-wrap-pad -K $kek -iv a65959a6 2>/dev/null | xxd -p -c 99)
-reserved='reserved initial value'
+reserved='initial value reserved for the padded form'
 sed -n '/^    openssl_conf = /,/^    default_properties = /s/^    //p' "$page" |
     sed "s|^module = .*|module = $module|" >ours.cnf
 row 'the configuration of the page' test "$(grep -cE '^(module|activate|providers|nodejs_conf)' ours.cnf)" = 5

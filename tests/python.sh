@@ -21,15 +21,43 @@ fi
 archive=${KEYWRAP_ARCHIVES:-crates/keywrap_c/out/libkeywrap_c.a}
 archive=${archive##* } library=$room/library
 version=$(make -s --no-print-directory -C "$root" version)
-wheel=$room/dist/keywrap-$version-cp39-abi3-linux_x86_64.whl
-row 'make wheel' in_library wheel PYTHON="$python" DIST="$room/dist"
-row 'the wheel, by its name' test -f "$wheel"
-row 'a fresh environment' "$python" -m venv --system-site-packages env
-row 'the wheel, installed' env/bin/pip install --no-index "$wheel" || { finish; exit; }
+version=${version/-dev/.dev0}
+wheel=$room/keywrap-$version-cp39-abi3-linux_x86_64.whl
+
+# without_build: a Python that lacks what it builds by is refused, with what to install, and nothing is built.
+without_build() {
+    "$python" -m venv --without-pip bare && ! in_library wheel PYTHON="$room/bare/bin/python3" >log 2>&1 &&
+        grep -q 'apt-get install python3-build python3-cffi python3-setuptools python3-wheel' log && [ ! -e "$library" ]
+}
+row 'make wheel, by a Python without build' without_build
+# named_last: the wheel is made, and its name is what is written last.
+named_last() {
+    in_library wheel PYTHON="$python" DIST="$room" >log && [ "$(tail -n 1 log)" = "$wheel" ] && [ -f "$wheel" ]
+}
+row 'make wheel' named_last
+# no_dead_link: what the wheel says of itself links to no file.
+no_dead_link() {
+    "$python" -m zipfile -e "$wheel" unpacked && grep -q '](https://' unpacked/*/METADATA &&
+        ! grep -E '\]\(' unpacked/*/METADATA | grep -v '](https://'
+}
+row 'the links of its METADATA' no_dead_link
+
+# The README's lines, as they stand there, by the Python that has cffi; the answer of the last is OpenSSL's.
+mkdir first && ln -s "$python" first/python3
+sed -n 's/^    \(python3 -m venv\|env\/bin\/\)/\1/p' "$root/python/README.md" >lines
+row "the README's lines" test "$(wc -l <lines)" = 3
+row "the README's lines run" writes b595a1c0afbe7a89ce43807cb3b2ba5737ff5d71d0a35cd7 \
+    env PATH="$room/first:$PATH" PIP_NO_INDEX=1 bash -e lines || { finish; exit; }
 export PATH=$room/env/bin:$PATH
 
-# same_version: the package has the version of the program.
-same_version() { writes "keywrap $version" python3 -c 'import keywrap; print("keywrap", keywrap.__version__)'; }
+# same_version: the package has the version of the program, and so has its METADATA; the library in it the numbers.
+same_version() {
+    writes "$version $version ${version%.dev0}" python3 -c '
+import importlib.metadata, keywrap
+number = keywrap._ffi.lib.keywrap_version()
+print(keywrap.__version__, importlib.metadata.version("keywrap"), end=" ")
+print(number >> 16, number >> 8 & 255, number & 255, sep=".")'
+}
 row 'the version' same_version
 
 row 'an extension of the stable ABI' writes _ffi.abi3.so python3 -c 'from keywrap import _ffi; print(_ffi.__file__)'
@@ -37,10 +65,12 @@ row 'an extension of the stable ABI' writes _ffi.abi3.so python3 -c 'from keywra
 # shows_nothing: the extension shows none of the library's names, so that no other takes their place.
 shows_nothing() { [ "$(nm -D --defined-only env/lib/python3*/site-packages/keywrap/_ffi.abi3.so | awk '{ print $3 }')" = PyInit__ffi ]; }
 row 'the names of the extension' shows_nothing
-
-# The README's command, as it stands there; its answer is that of OpenSSL.
-command=$(sed -n "s/^    \(python3 -c .*\)/\1/p" "$root/python/README.md")
-row "the README's command" writes b595a1c0afbe7a89ce43807cb3b2ba5737ff5d71d0a35cd7 bash -c "$command"
+# hardened: its tables are read-only once it is loaded.
+hardened() {
+    readelf -dlW env/lib/python3*/site-packages/keywrap/_ffi.abi3.so >elf && grep -q BIND_NOW elf &&
+        grep -q GNU_RELRO elf
+}
+row 'a hardened extension' hardened
 
 tests=(python3 -B -m pytest -q -p no:cacheprovider "$root/python/tests")
 row 'the tests' "${tests[@]}"

@@ -53,6 +53,17 @@ def test_checks():
         keywrap.check(b"", WRAPPED)
 
 
+def test_checks_with_the_length():
+    assert keywrap.check_with_length(KEK, WRAPPED) == (Kind.PLAIN, 16)
+    assert keywrap.check_with_length(KEK_32, PADDED_32) == (Kind.PADDED, 16)
+    assert keywrap.check_with_length(KEK_5649, FORPASI) == (Kind.PADDED, 7)
+    longest = keywrap.wrap(KEK, bytes(1048576))
+    assert keywrap.check_with_length(KEK, longest) == (Kind.PLAIN, 1048576)
+    assert keywrap.check_with_length(KEK, DAMAGED) is None
+    with pytest.raises(keywrap.BadKekLength):
+        keywrap.check_with_length(b"", WRAPPED)
+
+
 @pytest.mark.parametrize("given", [bytes, bytearray, memoryview])
 def test_every_call_takes_any_bytes_like_object(given):
     kek, key, wrapped, iv = (given(item) for item in (KEK, KEY, WRAPPED, IV))
@@ -73,7 +84,7 @@ PLAIN_LENGTHS = "it must be a multiple of 8 from 16 to 1048576 bytes"
         ("BadKekLength", "the KEK is 15 bytes long; it must be 16, 24 or 32 bytes", "wrap", (KEK[1:], KEY)),
         ("BadKekLength", "the KEK is 0 bytes long", "unwrap_padded", (b"", b"")),
         ("BadKekLength", "the KEK is 33 bytes long", "rewrap", (KEK, KEK_32 + b"0", WRAPPED)),
-        ("BadLength", f"the key is 15 bytes long; {PLAIN_LENGTHS}", "wrap", (KEK, KEY[1:])),
+        ("BadLength", f"bad length: the key is 15 bytes long; {PLAIN_LENGTHS}", "wrap", (KEK, KEY[1:])),
         ("BadLength", "the key is 1048584 bytes long", "wrap", (KEK, bytes(1048584))),
         ("BadLength", "the key is 0 bytes long; it must be from 1 to 1048576", "wrap_padded", (KEK, b"")),
         ("BadLength", "the key is 1048577 bytes long", "wrap_padded", (KEK, bytes(1048577))),
@@ -88,16 +99,22 @@ PLAIN_LENGTHS = "it must be a multiple of 8 from 16 to 1048576 bytes"
         ("BadLength", "the wrapped key is 25 bytes long", "rewrap", (KEK, KEK, WRAPPED + b"0")),
         ("BadLength", "the wrapped key is 1 bytes long; it must be a multiple of 8 from 16", "rewrap",
          (KEK, KEK, b"\0", True)),
+        # The shortest of each form has a legal length there, and not in the other.
+        ("BadLength", "the wrapped key is 16 bytes long; it must be a multiple of 8 from 24", "rewrap",
+         (KEK, KEK, FORPASI)),
+        ("BadLength", "the wrapped key is 8 bytes long; it must be a multiple of 8 from 16", "rewrap",
+         (KEK, KEK, FORPASI[:8], True)),
         ("BadLength", "the key that is wrapped cannot be plain", "rewrap", (KEK_5649, KEK, FORPASI, True)),
         ("BadLength", "the key that is wrapped cannot be plain", "rewrap", (KEK_5649, KEK, PADDED_OF_20, True)),
         ("BadInitialValue", "the initial value is 0 bytes long; it must be 8 bytes", "wrap", (KEK, KEY, b"")),
         ("BadInitialValue", "the initial value is 0 bytes long", "unwrap", (KEK, WRAPPED, b"")),
         ("BadInitialValue", "the initial value is 9 bytes long", "unwrap", (KEK, WRAPPED, IV + b"0")),
-        ("BadInitialValue", "begins with a6 59 59 a6", "wrap", (KEK, KEY, b"\xa6\x59\x59\xa6" + IV[4:])),
-        ("IntegrityFailed", "the integrity check failed", "unwrap", (KEK, DAMAGED)),
-        ("IntegrityFailed", "the integrity check failed", "unwrap", (KEK, WRAPPED, IV)),
-        ("IntegrityFailed", "the integrity check failed", "unwrap_padded", (KEK, WRAPPED)),
-        ("IntegrityFailed", "the integrity check failed", "rewrap", (KEK, KEK_32, DAMAGED)),
+        ("BadInitialValue", "reserved for the padded form: it begins with a6 59 59 a6", "wrap",
+         (KEK, KEY, b"\xa6\x59\x59\xa6" + IV[4:])),
+        ("IntegrityFailed", "integrity check failed", "unwrap", (KEK, DAMAGED)),
+        ("IntegrityFailed", "integrity check failed", "unwrap", (KEK, WRAPPED, IV)),
+        ("IntegrityFailed", "integrity check failed", "unwrap_padded", (KEK, WRAPPED)),
+        ("IntegrityFailed", "integrity check failed", "rewrap", (KEK, KEK_32, DAMAGED)),
     ],
 )
 def test_refuses(refusal, message, call, given):
@@ -107,9 +124,10 @@ def test_refuses(refusal, message, call, given):
 
 
 def test_names():
+    """What `import *` gives is what has no underscore, but for the modules that the package itself uses."""
     assert sorted(keywrap.__all__) == keywrap.__all__
-    assert re.fullmatch(r"\d+\.\d+\.\d+", keywrap.__version__)
-    assert all(hasattr(keywrap, name) for name in keywrap.__all__)
+    own = [name for name, item in vars(keywrap).items() if getattr(item, "__module__", "") == "keywrap"]
+    assert [name for name in sorted(own) if name[0] != "_"] == keywrap.__all__
     assert (pathlib.Path(keywrap.__file__).parent / "py.typed").exists()
 
 

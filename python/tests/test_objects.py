@@ -54,6 +54,7 @@ CALLS = [
     (keywrap.unwrap_padded, (KEK, keywrap.wrap_padded(KEK, KEY)), KEY),
     (keywrap.rewrap, (KEK, KEK, WRAPPED), WRAPPED),
     (keywrap.check, (KEK, WRAPPED), keywrap.Kind.PLAIN),
+    (keywrap.check_with_length, (KEK, WRAPPED), (keywrap.Kind.PLAIN, 16)),
     (pyca.aes_key_wrap, (KEK, KEY), WRAPPED),
     (pyca.aes_key_unwrap, (KEK, WRAPPED), KEY),
     (pyca.aes_key_wrap_with_padding, (KEK, KEY), keywrap.wrap_padded(KEK, KEY)),

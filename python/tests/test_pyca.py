@@ -1,6 +1,8 @@
 """keywrap.pyca beside cryptography.hazmat.primitives.keywrap: the same answers, the same exceptions."""
 
 import random
+import subprocess
+import sys
 
 import pytest
 
@@ -69,6 +71,20 @@ def test_random_keys_and_damaged_ones(padded):
         damaged[rng.randrange(len(wrapped))] ^= 1 << rng.randrange(8)
         for other in (bytes(damaged), wrapped[8:], wrapped + bytes(8)):
             assert ended(ours, unwrap, kek, other) == ended(theirs, unwrap, kek, other)
+
+
+def test_one_exception():
+    """What catches theirs catches ours, and the other way about; without theirs there is one of ours."""
+    assert ours.InvalidUnwrap is theirs.InvalidUnwrap
+    code = """if True:
+        import sys
+        sys.modules["cryptography"] = None
+        from keywrap import pyca
+        try:
+            pyca.aes_key_unwrap(bytes(16), bytes(24))
+        except pyca.InvalidUnwrap as error:
+            print(type(error).__module__)"""
+    assert subprocess.check_output([sys.executable, "-c", code], text=True) == "keywrap.pyca\n"
 
 
 @pytest.mark.parametrize("name", CALLS)

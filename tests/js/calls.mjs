@@ -179,7 +179,7 @@ const WRAPPED_PLAIN = 'it must be a multiple of 8 from 24 to 1048584 bytes';
 const WRAPPED_PADDED = 'it must be a multiple of 8 from 16 to 1048584 bytes';
 const NOT_PLAIN = 'the key that is wrapped cannot be plain: '
     + 'it is not a multiple of 8 from 16 to 1048576 bytes long';
-const FAILED = 'the integrity check failed: no wrapped key under this KEK';
+const FAILED = 'integrity check failed: no wrapped key under this KEK';
 const KEKS = 'it must be 16, 24 or 32 bytes';
 const OLD = { oldPadded: true };
 const NEW = { newPadded: true };
@@ -209,7 +209,8 @@ const REFUSED = [
         wrap, KEK, KEY, { iv: zeros(0) }],
     [BadInitialValue, 'the initial value is 9 bytes long; it must be 8 bytes',
         unwrap, KEK, WRAPPED, { iv: zeros(9) }],
-    [BadInitialValue, 'the initial value begins with a6 59 59 a6, which RFC 5649 reserves',
+    [BadInitialValue,
+        'the initial value is reserved for the padded form: it begins with a6 59 59 a6',
         wrap, KEK, KEY, { iv: RESERVED }],
     [IntegrityFailed, FAILED, unwrap, KEK, damaged(WRAPPED)],
     [IntegrityFailed, FAILED, unwrap, KEK, WRAPPED, { iv: IV }],
@@ -225,7 +226,8 @@ test('each refusal, its class and its message; and the memory after it', () => {
         assert.throws(() => call(...given), (error) => {
             assert.equal(error.constructor, refusal);
             assert.ok(error instanceof KeywrapError && error instanceof Error);
-            assert.deepEqual([error.name, error.message], [refusal.name, message]);
+            const words = refusal === BadLength ? `bad length: ${message}` : message;
+            assert.deepEqual([error.name, error.message], [refusal.name, words]);
             return true;
         });
         assert.ok(isAsMade(exports), message);

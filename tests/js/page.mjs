@@ -77,7 +77,7 @@ test('in the padded form, too', async () => {
 });
 
 test('a refusal says why, and there is no answer', async () => {
-    const failed = 'Refused: the integrity check failed: no wrapped key under this KEK.';
+    const failed = 'Refused: integrity check failed: no wrapped key under this KEK.';
     assert.deepEqual(await done(KEK_5649, WRAPPED, 'unwrap'), [failed, '', true]);
     assert.deepEqual(await done(KEK, `${WRAPPED.slice(0, -1)}4`, 'unwrap'), [failed, '', true]);
     assert.deepEqual(await done(KEK_5649, WRAPPED, 'check'),
@@ -86,7 +86,7 @@ test('a refusal says why, and there is no answer', async () => {
         ['Refused: the KEK is 15 bytes long; it must be 16, 24 or 32 bytes.', '', true]);
     const lengths = 'a multiple of 8 from 16 to 1048576 bytes';
     assert.deepEqual(await done(KEK_5649, KEY_20, 'wrap'),
-        [`Refused: the key is 20 bytes long; it must be ${lengths}.`, '', true]);
+        [`Refused: bad length: the key is 20 bytes long; it must be ${lengths}.`, '', true]);
     for (const digits of ['0g', '012', '0x', '+1']) {
         assert.deepEqual(await done(KEK, digits, 'wrap'),
             ['Refused: the second field is not hex digits in pairs.', '', true]);

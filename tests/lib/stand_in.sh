@@ -10,7 +10,8 @@
 . "$root/tests/lib/expect.sh"
 
 mkdir -p 'a tree'/{bin,tmp,tests/library} && cd 'a tree' || exit
-cp -R "$root"/{.ci,keywrap,Makefile,man,completions,include,scripts,python} .
+cp -R "$root"/{.ci,keywrap,Makefile,man,completions,include,scripts,python,docs,examples,provider,js} .
+cp "$root"/{SECURITY,CHANGELOG}.md .
 cp "$root/tests/library/build.sh" tests/library
 sed -i "1s|.*|#!${SH:-/bin/sh}|" keywrap
 # crates LINE..: crates.txt, and a folder for each crate that has none yet.
@@ -25,7 +26,7 @@ crates() {
 }
 crates block_pair: 'aes_block: block_pair byteorder' 'keywrap_c staticlib: block_pair aes_block' \
     'keywrap: block_pair aes_block clap'
-echo '    .version("1.2.3")' >crates/keywrap/src/commands.rt
+echo 1.2.3-dev >VERSION
 program=crates/keywrap/out/keywrap archive=crates/keywrap_c/out/libkeywrap_c.a
 export tree=$PWD helpers=$root/tests/lib/expect.sh PATH=$PWD/bin:$PATH TMPDIR=$PWD/tmp TERM=xterm processors=4
 unset MAKEFLAGS MAKELEVEL TESTS KEYWRAP_ARCHIVES

@@ -1,8 +1,8 @@
 #!/usr/bin/env bash
-# Builds the C library by both of the toolchain's compilers, as the archives rattle.a and llvm.a of a folder; and the
-# library for aarch64 as its folder arm64, where that is asked for and can be.
+# Builds the C library by both of the toolchain's compilers, as the archives rattle.a and llvm.a of a folder; and, where
+# that is asked for and can be, the library for aarch64 as its folder arm64, and the package for browsers as js.
 #
-# usage: tests/library/build.sh FOLDER [arm64]
+# usage: tests/library/build.sh FOLDER [arm64] [js]
 
 # of_arm FOLDER: tests/arm64.sh says why where this does not end well.
 of_arm() {
@@ -14,5 +14,6 @@ of_arm() {
 jobs=$(nproc) && [ "$jobs" -le 4 ] || jobs=4
 cd "$(dirname "${BASH_SOURCE[0]}")/../../crates/keywrap_c" &&
     rt lib --jobs "$jobs" --backend rattle && cp out/libkeywrap_c.a "$1/rattle.a" &&
-    { [ "${2:-}" != arm64 ] || of_arm "$1/arm64"; } &&
+    { [[ " $* " != *' arm64 '* ]] || of_arm "$1/arm64"; } &&
+    { [[ " $* " != *' js '* ]] || make -s -C ../.. js JS="$1/js" || rm -rf "$1/js"; } &&
     rt lib --jobs "$jobs" && cp out/libkeywrap_c.a "$1/llvm.a"

@@ -341,7 +341,7 @@ pub fn keywrap<'a>(alloc: Global) -> Result<Command<'a>, AllocError> {
 
 fn bare<'a>(alloc: Global) -> Result<Command<'a>, AllocError> {
     let command = Command::new(alloc, "keywrap")
-        .version("1.0.0")
+        .version("1.1.0-dev")
         .propagate_version(true)
         .about("Wraps and unwraps keys by AES Key Wrap (RFC 3394 and RFC 5649)")
         .after_long_help(NOTES)

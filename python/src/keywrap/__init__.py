@@ -9,7 +9,7 @@ threads run.
 from __future__ import annotations
 
 import enum
-from typing import TYPE_CHECKING, Any, Callable, Optional, TypeVar
+from typing import TYPE_CHECKING, Any, Callable, Optional, Tuple, TypeVar
 
 from . import _ffi, _refusals
 from ._refusals import BadInitialValue, BadKekLength, BadLength, IntegrityFailed, KeywrapError
@@ -25,6 +25,7 @@ __all__ = [
     "KeywrapError",
     "Kind",
     "check",
+    "check_with_length",
     "rewrap",
     "unwrap",
     "unwrap_padded",
@@ -36,8 +37,7 @@ for _refusal in (KeywrapError, BadInitialValue, BadKekLength, BadLength, Integri
     _refusal.__module__ = __name__
 
 _lib = _ffi.lib
-_number: int = _lib.keywrap_version()
-__version__ = f"{_number >> 16}.{_number >> 8 & 255}.{_number & 255}"
+__version__: str = _ffi.ffi.string(_lib.VERSION).decode("ascii")
 
 _wrap = _lib.keywrap_wrap
 _unwrap = _lib.keywrap_unwrap
@@ -59,7 +59,7 @@ class Kind(enum.Enum):
     PADDED = "padded"
 
 
-_KINDS = {_lib.IS_PLAIN: Kind.PLAIN, _lib.IS_PADDED: Kind.PADDED}
+_KINDS = (Kind.PLAIN, Kind.PADDED)
 
 
 # How the calls below use bytes objects. The library's answer is written into a new one, which nobody
@@ -222,12 +222,20 @@ def check(kek: ReadableBuffer, wrapped: ReadableBuffer) -> Optional[Kind]:
 
     The key is not given out. `BadKekLength` is the only refusal.
     """
+    found = check_with_length(kek, wrapped)
+    return found[0] if found else None
+
+
+def check_with_length(kek: ReadableBuffer, wrapped: ReadableBuffer) -> Optional[Tuple[Kind, int]]:
+    """What `check` answers, and how many bytes the key has; `None` where it is no wrapped key."""
     if type(kek) is not bytes or type(wrapped) is not bytes:
-        return _on_copies(check, kek, wrapped)
+        return _on_copies(check_with_length, kek, wrapped)
     length = len(wrapped)
     room = length - 8 if length > 8 else 0
     scratch = bytes(room)
-    status = _kind(kek, len(kek), wrapped, length, scratch, room)
-    if status == _lib.KEYWRAP_BAD_KEK:
-        raise _refusals.refusal(status, "", 0, "", kek)
-    return _KINDS.get(status)
+    found = _kind(kek, len(kek), wrapped, length, scratch, room)
+    if found >= 0:
+        return _KINDS[found & 1], found >> 1
+    if found == -_lib.KEYWRAP_BAD_KEK:
+        raise _refusals.refusal(-found, "", 0, "", kek)
+    return None

@@ -37,7 +37,7 @@ class IntegrityFailed(KeywrapError):
 
 def bad_length(what: str, length: int, legal: str) -> BadLength:
     """A length that is not legal."""
-    return BadLength(f"{what} is {length} bytes long; it must be {legal} bytes")
+    return BadLength(f"bad length: {what} is {length} bytes long; it must be {legal} bytes")
 
 
 def refusal(status: int, what: str, length: int, legal: str, *keks: bytes) -> KeywrapError:
@@ -47,19 +47,19 @@ def refusal(status: int, what: str, length: int, legal: str, *keks: bytes) -> Ke
         return BadKekLength(f"the KEK is {length} bytes long; it must be {KEKS} bytes")
     if status == lib.KEYWRAP_BAD_LENGTH:
         return bad_length(what, length, legal)
-    return IntegrityFailed("the integrity check failed: no wrapped key under this KEK")
+    return IntegrityFailed("integrity check failed: no wrapped key under this KEK")
 
 
 def bad_initial_value(iv: bytes) -> BadInitialValue:
     """An initial value that is refused."""
     if len(iv) != 8:
         return BadInitialValue(f"the initial value is {len(iv)} bytes long; it must be 8 bytes")
-    return BadInitialValue("the initial value begins with a6 59 59 a6, which RFC 5649 reserves")
+    return BadInitialValue("the initial value is reserved for the padded form: it begins with a6 59 59 a6")
 
 
 def of_rewrap(status: int, length: int, legal: str, *keks: bytes) -> KeywrapError:
     """What a rewrap of this many bytes refused: the last cause is the length of the key in them."""
     least = 16 if legal == WRAPPED_PADDED else 24
     if status == lib.KEYWRAP_BAD_LENGTH and length % 8 == 0 and least <= length <= _MAX_WRAPPED:
-        return BadLength(f"the key that is wrapped cannot be plain: it is not {PLAIN_KEYS} bytes long")
+        return BadLength(f"bad length: the key that is wrapped cannot be plain: it is not {PLAIN_KEYS} bytes long")
     return refusal(status, "the wrapped key", length, legal, *keks)

@@ -2,7 +2,8 @@
 
 They give the same answers and raise the same kinds of exception, but that keys of 0 bytes (padded) and
 of more than 1,048,576 bytes are a `ValueError`, and that what is wrapped to more than 1,048,584 bytes,
-or (padded) to no multiple of 8, is `InvalidUnwrap`.
+or (padded) to no multiple of 8, is `InvalidUnwrap`. This is theirs where `cryptography` is installed, so
+that what catches theirs, or ours, catches both.
 """
 
 from __future__ import annotations
@@ -25,6 +26,13 @@ __all__ = [
 
 class InvalidUnwrap(Exception):
     """This is no wrapped key under this wrapping key."""
+
+
+if not TYPE_CHECKING:
+    try:
+        from cryptography.hazmat.primitives.keywrap import InvalidUnwrap
+    except ImportError:
+        pass
 
 
 def aes_key_wrap(wrapping_key: ReadableBuffer, key_to_wrap: ReadableBuffer, backend: Any = None) -> bytes:

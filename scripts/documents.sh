@@ -1,0 +1,22 @@
+#!/bin/sh
+# Puts documents into FOLDER as they are handed out: a README, of its template docs/NAME.in, and the others with links
+# that work there. `make install` and `make dist` call it.
+#
+# usage: scripts/documents.sh FOLDER VERSION MACHINE NAME DOCUMENT..
+
+set -eu
+folder=${1:?} version=${2:?} machine=${3:?} readme=${4:?}
+shift 4
+case $machine in
+x86_64) processors='x86-64 (version 2 of it: processors from 2009 on)' ;;
+aarch64) processors='aarch64 (each 64-bit processor of Arm)' ;;
+esac
+install -d -- "$folder"
+sed "s|@VERSION@|$version|; s|@NUMBER@|${version%-*}|; s|@PROCESSORS@|$processors|" "docs/$readme.in" >"$folder/$readme"
+names=$(basename -s .md -a -- "$@")
+for document in "$@"; do
+    # shellcheck disable=SC2086
+    scripts/links.sh $names <"$document" >"$folder/${document##*/}"
+    chmod 644 -- "$folder/${document##*/}"
+done
+chmod 644 -- "$folder/$readme"
