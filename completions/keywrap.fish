@@ -38,7 +38,7 @@ complete -c keywrap -n '__keywrap_is rewrap; and __keywrap_lacks --padded --new-
 complete -c keywrap -n '__keywrap_is rewrap' -l pass-new -d 'Answer what is under the new KEK already as it is'
 complete -c keywrap -n '__keywrap_is wrap unwrap; and __keywrap_lacks --padded' -l iv -x \
     -d 'An initial value that both ends agreed on'
-complete -c keywrap -l raw -n '__keywrap_is wrap unwrap rewrap check; and __keywrap_lacks --lines --keep-going' \
+complete -c keywrap -l raw -n '__keywrap_is wrap unwrap rewrap check; and __keywrap_lacks --lines --keep-going --quiet' \
     -d 'Input and output are raw bytes, not hex'
 complete -c keywrap -n '__keywrap_is wrap unwrap rewrap check; and __keywrap_lacks --raw' -l lines \
     -d 'Many keys, one a line'

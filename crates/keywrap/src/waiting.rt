@@ -1,6 +1,7 @@
 //! What is said while a terminal is waited for.
 
 use crate::request::{Lines, Places, Work};
+use crate::streams::is_standard_input;
 use keywrap_cli::Notation;
 
 /// The lines that are said, each of what standard input, a terminal, is waited for.
@@ -42,11 +43,6 @@ pub fn waiting_for(work: &Work<'_>, places: &Places<'_>, lines: Option<Lines>) -
 
 fn said(is_waited_for: bool, line: &'static str) -> Option<&'static str> {
     if is_waited_for { Some(line) } else { None }
-}
-
-// The names that the system has for it.
-fn is_standard_input(name: &str) -> bool {
-    matches!(name, "/dev/stdin" | "/dev/fd/0" | "/proc/self/fd/0")
 }
 
 fn kek(notation: Notation) -> &'static str {
