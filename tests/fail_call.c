@@ -1,7 +1,8 @@
-/* An fsync, a rename, an fchmod, an fchown and a statx for tests/files.sh and tests/manners.sh, built as a shared library
-   and named in LD_PRELOAD. Each writes its name to descriptor 9, and FAIL_CALL=NAME has each call of that name fail with
-   EIO, FAIL_CALL=NAME:N the Nth alone, and NAME:N+ each from the Nth on; FAIL_ERRNO=N has it fail with that error. ONE_MODE=1 has each open file be for all, as
-   on a file system without modes. No header is included: the kit's compiler, which has none, is enough. */
+/* An fsync, a rename, an fchmod, an fchown and a statx for tests/files.sh and tests/manners.sh, built as a shared
+   library and named in LD_PRELOAD. Each writes its name to descriptor 9, and FAIL_CALL=NAME has each call of that name
+   fail with EIO, FAIL_CALL=NAME:N the Nth alone, and NAME:N+ each from the Nth on; FAIL_ERRNO=N has it fail with that
+   error. ONE_MODE=N adds the bits of N to the mode of each open file, as a file system without modes does. No header
+   is included: the kit's compiler, which has none, is enough. */
 
 extern char *getenv(const char *name);
 extern int strncmp(const char *one, const char *other, unsigned long count);
@@ -60,6 +61,6 @@ int statx(int folder, const char *path, int flags, unsigned mask, void *found) {
     if (fails("statx", ++calls) || syscall(SYS_STATX, folder, path, flags, mask, found) != 0)
         return -1;
     if (!*path && getenv("ONE_MODE"))
-        *(unsigned short *)((char *)found + MODE) |= 0777;
+        *(unsigned short *)((char *)found + MODE) |= (unsigned short)number(getenv("ONE_MODE"));
     return 0;
 }

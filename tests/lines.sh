@@ -459,8 +459,8 @@ fi
 ### How far it is, on a terminal
 
 # on_terminal WORDS: runs a line of sh on a terminal, which is standard error, and output too where the line leaves it
-# so; what is shown comes as `shown.raw`, with a ^ for each escape as `screen`, and the line's status as $status. TERM is
-# $TERM_OF, or not set where that is -.
+# so; what is shown comes as `shown.raw`, with a ^ for each escape as `screen`, and the line's status as $status. TERM
+# is $TERM_OF, or not set where that is -.
 on_terminal() {
     echo "$1" >line
     # shellcheck disable=SC2016
@@ -554,8 +554,9 @@ if [ "$(script -qec 'echo here' /dev/null 2>&1 | tr -d '\r')" = here ]; then
     on_terminal '"$program" wrap --lines --kek kek16.hex --input million >out'
     seconds=$(((${EPOCHREALTIME/.} - began) / 1000000 + 1))
     tr -d '\n' <shown.raw | tr '\r\033' '<^' >screen
-    row 'how far a file is' grep -qxE "($(once "$far, [0-9]+ % done, [0-9]+ s left"))+${erased}keywrap: 600000 lines: 600000 answered, 0 refused<" screen
-    verdict 'what is said of it' "$(grep -oE "$far, [0-9]+ % done, [0-9]+ s left" screen | is_right 600000 $seconds)"
+    far="$far, [0-9]+ % done, [0-9]+ s left" last='keywrap: 600000 lines: 600000 answered, 0 refused'
+    row 'how far a file is' grep -qxE "($(once "$far"))+$erased$last<" screen
+    verdict 'what is said of it' "$(grep -oE "$far" screen | is_right 600000 $seconds)"
     rm million
     exec 8<&-
 else

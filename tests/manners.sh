@@ -90,7 +90,7 @@ prints 'both, of check' 'plain 16\n' check --kek kek16.hex --input - --output - 
 prints 'both, of rewrap' "$wrapped32\n" rewrap --kek kek16.hex --new-kek kek32.hex -i- -o- <wrapped.hex
 prints 'the KEK file ./-' "$wrapped32\n" wrap --kek ./- <key.hex
 prints 'the KEK on standard input' "$wrapped16\n" wrap --kek /dev/stdin -i key.hex <kek16.hex
-# on_socket ARGUMENT..: the program, whose standard input is a socket with what the file `sent` holds, which no name opens.
+# on_socket ARGUMENT..: the program, whose standard input is a socket, which no name opens, with what `sent` holds.
 on_socket() {
     timeout 60 python3 -c 'import socket, subprocess, sys
 end, other = socket.socketpair()
@@ -327,6 +327,12 @@ else
     keeps 'a rename that fails' 6 "$flush_fault
   to/file: Input/output error" "${takes[@]}" --verbose
     unset FAIL_CALL
+    # An input that can't be looked at may be any file.
+    export FAIL_CALL=statx:1
+    keeps 'an input that can not be looked at, going on' 6 "$not_opened
+  to/file: may be the input, whose refused lines would be lost with --keep-going" \
+        "${takes[@]}" --lines --keep-going --verbose
+    unset FAIL_CALL
     # A mode that is right already is not set: some file systems refuse that.
     export FAIL_CALL=fchmod FAIL_ERRNO=1
     fresh old
@@ -337,15 +343,17 @@ else
     keeps 'a mode that can not be set' 6 "$not_opened
   to/file: owner, group or mode can't be kept: Operation not permitted" "${takes[@]}" --verbose
     unset FAIL_CALL FAIL_ERRNO
-    # A file system without modes lets others read a new file.
-    export ONE_MODE=1
+    # A file system without modes lets others read a new file: all, the others alone, or the group alone.
+    export ONE_MODE=511
     shared="$not_opened
   to/file: owner, group or mode can't be kept: the file system has one for all"
     fresh old
     keeps 'a file without a mode of its own' 6 "$shared" "${takes[@]}" --verbose
     keeps 'unwrap over it' 6 "$shared" "${unwraps[@]}" --verbose -o to/file
     fresh
+    ONE_MODE=4
     keeps 'a new file without a mode of its own' 6 "$shared" "${takes[@]}" --verbose
+    ONE_MODE=32
     keeps 'unwrap into a new file without one' 6 "$shared" "${unwraps[@]}" --verbose -o to/file
     unset ONE_MODE
     if [ "$(id -u)" = 0 ]; then
