@@ -39,7 +39,7 @@ complete -c keywrap -n '__keywrap_is rewrap' -l pass-new -d 'Answer what is unde
 complete -c keywrap -n '__keywrap_is wrap unwrap; and __keywrap_lacks --padded' -l iv -x \
     -d 'An initial value that both ends agreed on'
 complete -c keywrap -l raw -d 'Input and output are raw bytes, not hex' \
-    -n '__keywrap_is wrap unwrap rewrap check; and __keywrap_lacks --lines --keep-going --base64 --base64url'
+    -n '__keywrap_is wrap unwrap rewrap check; and __keywrap_lacks --lines --keep-going --quiet --base64 --base64url'
 complete -c keywrap -n '__keywrap_is wrap unwrap rewrap check; and __keywrap_lacks --raw --base64url' -l base64 \
     -d 'Input and output are base64, not hex'
 complete -c keywrap -n '__keywrap_is wrap unwrap rewrap check; and __keywrap_lacks --raw --base64' -l base64url \

@@ -495,9 +495,11 @@ guesses "a similar argument exists: '--input'" wrap --inpt kek16.hex
 guesses "'wrap --kek' exists" --kek kek16.hex wrap
 guesses "subcommand 'wrap' exists; to use it, remove the '--' before it" -- wrap
 guesses 'check looks at both forms, and says which one it found' check --kek kek16.hex --padded
-guesses 'only rewrap takes --new-kek' unwrap --kek kek16.hex --new-kek kek32.hex
-guesses 'only rewrap takes --keep-form' unwrap --kek kek16.hex --keep-form
-guesses 'only rewrap takes --pass-new' check --kek kek16.hex --pass-new
+for job in wrap unwrap check; do
+    guesses 'only rewrap takes --new-kek' $job --kek kek16.hex --new-kek kek32.hex
+    guesses 'only rewrap takes --keep-form' $job --kek kek16.hex --keep-form
+    guesses 'only rewrap takes --pass-new' $job --kek kek16.hex --pass-new
+done
 guesses '--keep-going and --quiet go with --lines' wrap --kek kek16.hex --keep-going
 guesses '--keep-going and --quiet go with --lines' check --quiet --kek kek16.hex
 guesses 'keywrap --help shows the help, and keywrap COMMAND --help that of a command' help --help

@@ -361,6 +361,15 @@ problem=$(is_new to/file wrapped32.hex 644)
 verdict 'a run beside one that waits' "$problem"
 goes_on 'the run that waited for the other' 0 '' 'file f'
 verdict 'the file of the run that ended last' "$(is_new to/file wrapped.hex 644)"
+# A new file, and each of unwrap, is for its owner alone from its first moment.
+for begun in wrap unwrap; do
+    fresh
+    [ $begun = wrap ] || echo old >to/file
+    begins
+    verdict "$begun: the new file while it waits" "$(stat -c %a to/file.part0 | grep -vx 600)"
+    ends
+done
+unset begun
 # The new file can't get its name.
 fresh
 begins
@@ -382,8 +391,8 @@ verdict 'the file that has the name stays' "$(echo other | cmp - to/file.part0 2
 
 ### Calls of the system that fail
 
-# preloaded ARGUMENT..: the program over an fsync, a rename, an fchmod and a statx that write their names to the file
-# `met`, of which those fail that $FAIL_CALL names.
+# preloaded ARGUMENT..: the program over calls of the system that write their names to the file `met`, of which those
+# fail that $FAIL_CALL names.
 preloaded() { LD_PRELOAD=$PWD/fail_call.so timeout 60 "$program" "$@" 9>>met; }
 
 # syncs NAME STATUS ANSWER LINE INPUT ARGUMENT..: the new file is on the disk before it gets its name, and
@@ -402,18 +411,20 @@ syncs() {
     done
     rm met
 }
-# looks NAME ARGUMENT..: where the program can't look at a file it refuses, each time that it looks, and
-# nothing is changed: a KEK file that it can't tell from the output is not replaced.
+# looks NAME ARGUMENT..: where the program can't look at a file it refuses, each time that it looks, once or from then
+# on, and nothing is changed: a KEK file that it can't tell from the output is not replaced, and no new file stays.
 looks() {
-    local call before problem to=out status
+    local call on before problem to=out status
     before=$(state)
     for ((call = 1; call < 99; call++)); do
-        : >met
-        FAIL_CALL=statx:$call ran "${@:2}"
-        [ "$(grep -cx statx met)" -ge "$call" ] || break
-        problem=$(quiet 6 "$(grep -xF -e "$not_opened" -e "$flush_fault" err)")
-        [ "$(state)" = "$before" ] || problem="$problem in the folder: $(state), not $before"
-        verdict "$1, its look $call fails" "$problem"
+        for on in + ''; do
+            : >met
+            FAIL_CALL=statx:$call$on ran "${@:2}" --verbose
+            [ "$(grep -cx statx met)" -ge "$call" ] || break 2
+            problem=$(quiet 6 "$(grep -xE -e "$not_opened|$flush_fault" -e '  to/.*: Input/output error' err)")
+            [ "$(wc -l <err) $(state)" = "2 $before" ] || problem="$problem in the folder: $(state), not $before"
+            verdict "$1, its look $call$on fails" "$problem"
+        done
     done
     verdict "$1: it looks" "$([ "$call" -gt 1 ] || echo 'it does not')"
     rm met

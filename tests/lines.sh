@@ -462,57 +462,80 @@ fi
 ### How far it is, on a terminal
 
 # on_terminal WORDS: runs a line of sh on a terminal, which is standard error, and output too where the line leaves it
-# so; what is shown comes as `screen`, its status as $status.
+# so; what is shown comes as `shown.raw`, with a ^ for each escape as `screen`, and the line's status as $status. TERM
+# is $TERM_OF, or not set where that is -.
 on_terminal() {
     echo "$1" >line
-    echo '. ./line; echo $? >status' >on_terminal.sh
-    program=$program TERM=${TERM_OF:-xterm} timeout 60 script -qec 'sh ./on_terminal.sh' /dev/null <&8 >shown.raw 2>&1
+    # shellcheck disable=SC2016
+    echo '[ "$TERM" != - ] || unset TERM; . ./line; echo $? >status' >on_terminal.sh
+    program=$program TERM=${TERM_OF-xterm} timeout 60 script -qec 'sh ./on_terminal.sh' /dev/null <&8 >shown.raw 2>&1
     status=$(<status)
-    tr -d '\r' <shown.raw >screen
+    tr -d '\r' <shown.raw | tr '\033' '^' >screen
 }
 
+# How far a run is, as the terminal gets it: the line before it is taken away, and it is cut, not wrapped. In the end it
+# is taken away.
+far='keywrap: [0-9]+ lines, [0-9]+ a second'
+erased='<\^\[K'
+once() { echo "$erased\\^\\[\\?7l$1\\^\\[\\?7h"; }
+
 # shows NAME STATUS PATTERN LINE WORDS: a run over 4,999 lines that come in three parts, with a pause before each,
-# ends so. The terminal showed text of this pattern (nothing, where that is empty), and LINE, once it was cleared.
+# ends so. The terminal showed this pattern once and again (nothing, where it is empty), and LINE, and nothing else.
 shows() {
     # shellcheck disable=SC2016
-    local problem='' clear=$'\x1b\\[K' parts='for n in 1 2 3; do sleep 0.6; cat part$n; done'
+    local problem='' seen parts='for n in 1 2 3; do sleep 0.6; cat part$n; done'
     on_terminal "{ $parts; } | \"\$program\" wrap --lines --kek kek16.hex $5"
     [ "$status" = "$2" ] || problem="status $status, not $2"
-    if [ -n "$3" ]; then
-        grep -qE "$3$clear" screen || problem="$problem; it shows $(shown screen)"
-        printf '%s' "$4" | cmp -s - <(sed "s/.*\x1b\[K//" screen | head -n 1 | tr -d "\n") ||
-            problem="$problem; then $(shown screen)"
-    else
-        printf '%s' "$4" | cmp -s - <(tr -d '\n' <screen) || problem="$problem; it shows $(shown screen)"
-    fi
+    seen=$(sed 's/\r$//' shown.raw | tr '\r\033\n' '<^|')
+    grep -qxE "${3:+($(once "$3"))+$erased}${4:+$4\\|}" <<<"$seen" || problem="$problem; it shows $seen"
     verdict "$1" "$problem"
+}
+
+# is_right LINES SECONDS: reads how far a run was over so many lines, in so many seconds in all, each at least half a
+# second after the one before: what is said of its pace, the part that is done and the time that is left is so.
+is_right() {
+    awk -v all="$1" -v most="$2" '{
+        lines = $2; pace = $4; done = $7; left = $10; part = lines / all; least = NR / 2
+        if (pace > lines / least || pace + 1 < lines / most) print "the pace of: " $0
+        if (done > 100 * part + 1 || done + 1 < 100 * part) print "the part of: " $0
+        if (left > most * (1 - part) / part + 1 || left + 1 < least * (1 - part) / part) print "the rest of: " $0
+    }
+    END { if (NR == 0 || NR > 2 * most) print NR " times in " most " s" }'
 }
 if [ "$(script -qec 'echo here' /dev/null 2>&1 | tr -d '\r')" = here ]; then
     exec 8<>pipe
     head -n 1000 most.keys >part1
     tail -n 1000 most.keys >part3
     sed -n 1001,3999p most.keys >part2
-    progress='keywrap: [0-9]+ lines, [0-9]+ a second'
     last='keywrap: 4999 lines: 4999 answered, 0 refused'
-    shows 'how far it is' 0 "$progress" "$last" '>out'
+    shows 'how far it is' 0 "$far" "$last" '>out'
     verdict 'what it wrote then' "$(cmp out most.wrapped 2>&1)"
     shows 'nothing with --quiet' 0 '' '' '--quiet >out'
     shows 'nothing into a file' 0 '' '' '>out 2>err'
     verdict 'nothing is in it' "$(shown err | grep -vx "''")"
-    TERM_OF=dumb shows 'the last line alone on a dumb terminal' 0 '' "$last" '>out'
+    for TERM_OF in dumb '' -; do
+        shows "the last line alone on a terminal of the name '$TERM_OF'" 0 '' "$last" '>out'
+    done
+    unset TERM_OF
     shows 'the last line alone where answers go into a pipe' 0 '' "$last" '| cat >out'
     shows 'the last line with --quiet --verbose' 0 '' "$last" '--quiet --verbose >out'
     echo g >>part3
     refused="keywrap: line 5000: $digit"
-    shows 'how far it is, and a refusal' 6 "$progress" "$refused" '>out'
-    shows 'how far it is, into a file' 6 "$progress" "$refused" '--keep-going --output other'
-    verdict 'what became of the lines then' "$(tail -n 1 screen |
-        grep -vx 'keywrap: 5000 lines: 4999 answered, 1 refused')"
+    shows 'how far it is, and a refusal' 6 "$far" "$refused\\|  standard input: not hex" '>out'
+    # A pipe has no length, of which a part were done.
+    shows 'how far it is, into a file' 6 "$far" "$refused\\|keywrap: 5000 lines: 4999 answered, 1 refused" \
+        '--keep-going --verbose --input /dev/stdin --output other'
     # Both on the terminal: each answer stands whole.
     head -n 2 most.keys | tee part1 part2 >part3
     # shellcheck disable=SC2016
     on_terminal '{ for n in 1 2 3; do sleep 0.6; cat part$n; done; } | "$program" wrap --lines --kek kek16.hex'
-    verdict 'answers to the terminal' "$(sed "s/.*\x1b\[K//" screen | cmp - <(head -n 6 most.wrapped) 2>&1)"
+    verdict 'answers to the terminal' "$(cmp screen <(head -n 6 most.wrapped) 2>&1)"
+    # Lines that are typed, in whose midst nothing is said.
+    { for n in 1 2; do sleep 0.8; echo $d16; done && printf '\004'; } >&8 &
+    # shellcheck disable=SC2016
+    on_terminal '"$program" wrap --lines --kek kek16.hex >out'
+    wait $!
+    verdict 'lines that are typed' "$(cmp out <(head -n 2 most.wrapped) 2>&1; grep -e a.second -e answered screen)"
     # shellcheck disable=SC2016
     on_terminal 'cat part1 part2 | "$program" wrap --lines --kek kek16.hex --verbose'
     verdict 'answers to the terminal, --verbose' "$(cmp screen <(head -n 4 most.wrapped) 2>&1)"
@@ -529,10 +552,14 @@ if [ "$(script -qec 'echo here' /dev/null 2>&1 | tr -d '\r')" = here ]; then
         echo "status $status, it shows $(shown screen)")"
     # A regular file has a length.
     yes $d16 | head -n 600000 >million
+    began=${EPOCHREALTIME/.}
     # shellcheck disable=SC2016
     on_terminal '"$program" wrap --lines --kek kek16.hex --input million >out'
-    verdict 'the part that is done' \
-        "$(grep -qE "$progress, [0-9]+ % done, [0-9]+ s left" screen || echo "it shows $(shown screen)")"
+    seconds=$(((${EPOCHREALTIME/.} - began) / 1000000 + 1))
+    tr -d '\n' <shown.raw | tr '\r\033' '<^' >screen
+    far="$far, [0-9]+ % done, [0-9]+ s left" last='keywrap: 600000 lines: 600000 answered, 0 refused'
+    row 'how far a file is' grep -qxE "($(once "$far"))+$erased$last<" screen
+    verdict 'what is said of it' "$(grep -oE "$far" screen | is_right 600000 $seconds)"
     rm million
     exec 8<&-
 else

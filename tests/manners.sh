@@ -102,6 +102,26 @@ prints 'both, of check' 'plain 16\n' check --kek kek16.hex --input - --output - 
 prints 'both, of rewrap' "$wrapped32\n" rewrap --kek kek16.hex --new-kek kek32.hex -i- -o- <wrapped.hex
 prints 'the KEK file ./-' "$wrapped32\n" wrap --kek ./- <key.hex
 prints 'the KEK on standard input' "$wrapped16\n" wrap --kek /dev/stdin -i key.hex <kek16.hex
+# on_socket ARGUMENT..: the program, whose standard input is a socket, which no name opens, with what `sent` holds.
+on_socket() {
+    timeout 60 python3 -c 'import socket, subprocess, sys
+end, other = socket.socketpair()
+other.sendall(open("sent", "rb").read())
+other.close()
+sys.exit(subprocess.run(sys.argv[1:], stdin=end).returncode)' "$program" "$@"
+}
+if has python3 python3 'standard input that is a socket'; then
+    keywrap=on_socket
+    cp kek16.hex sent
+    for name in /dev/stdin /dev/fd/0 /proc/self/fd/0; do
+        prints "the KEK $name, a socket" "$wrapped16\n" wrap --kek $name -i key.hex
+    done
+    lands 'the new KEK, a socket' 0 wrapped.hex to/file \
+        rewrap --kek kek32.hex --new-kek /dev/stdin -i wrapped32.hex -o to/file
+    cp key.hex sent
+    prints 'the input, a socket' "$wrapped16\n" wrap --kek kek16.hex -i /dev/stdin
+    keywrap=bounded
+fi
 refuses 'the input file ./-' 5 "$integrity" unwrap --kek kek16.hex -i ./- </dev/null
 lands 'the output file ./-' 0 wrapped.hex ./- wrap --kek kek16.hex -i key.hex -o ./-
 rm ./-
@@ -307,11 +327,24 @@ else
     ran_to "${takes[@]}"
     verdict 'an error of the folder is one of the run' "$(quiet 6 "$flush_fault")"
     verdict 'the file is the new one then' "$(cmp to/file wrapped.hex 2>&1)"
-    export FAIL_ERRNO=22
+    for FAIL_ERRNO in 22 95; do
+        export FAIL_ERRNO
+        fresh old
+        ran_to "${takes[@]}"
+        verdict "a folder that can not be synced, $FAIL_ERRNO" "$(quiet 0 '')$(cmp to/file wrapped.hex 2>&1)"
+    done
+    unset FAIL_ERRNO
+    export FAIL_CALL=rename
     fresh old
-    ran_to "${takes[@]}"
-    verdict 'a folder that can not be synced' "$(quiet 0 '')$(cmp to/file wrapped.hex 2>&1)"
-    unset FAIL_CALL FAIL_ERRNO
+    keeps 'a rename that fails' 6 "$flush_fault
+  to/file: Input/output error" "${takes[@]}" --verbose
+    unset FAIL_CALL
+    # An input that can't be looked at may be any file.
+    export FAIL_CALL=statx:1
+    keeps 'an input that can not be looked at, going on' 6 "$not_opened
+  to/file: may be the input, whose refused lines would be lost with --keep-going" \
+        "${takes[@]}" --lines --keep-going --verbose
+    unset FAIL_CALL
     # A mode that is right already is not set: some file systems refuse that.
     export FAIL_CALL=fchmod FAIL_ERRNO=1
     fresh old
@@ -322,17 +355,29 @@ else
     keeps 'a mode that can not be set' 6 "$not_opened
   to/file: owner, group or mode can't be kept: Operation not permitted" "${takes[@]}" --verbose
     unset FAIL_CALL FAIL_ERRNO
-    # A file system without modes lets others read a new file.
-    export ONE_MODE=1
+    # A file system without modes lets others read a new file: all, the others alone, or the group alone.
+    export ONE_MODE=511
     shared="$not_opened
   to/file: owner, group or mode can't be kept: the file system has one for all"
     fresh old
     keeps 'a file without a mode of its own' 6 "$shared" "${takes[@]}" --verbose
     keeps 'unwrap over it' 6 "$shared" "${unwraps[@]}" --verbose -o to/file
     fresh
+    ONE_MODE=4
     keeps 'a new file without a mode of its own' 6 "$shared" "${takes[@]}" --verbose
+    ONE_MODE=32
     keeps 'unwrap into a new file without one' 6 "$shared" "${unwraps[@]}" --verbose -o to/file
     unset ONE_MODE
+    if [ "$(id -u)" = 0 ]; then
+        fresh old
+        chmod 640 to/file
+        chown 12345:54321 to/file
+        : >met
+        ran_to "${takes[@]}"
+        verdict 'the owner is set, and then the mode' "$(printf 'fchown\nfchmod\n' | diff - <(grep -x 'fch.*' met))"
+    else
+        skip 'the owner and then the mode' 'only root can try them'
+    fi
     rm met
     keywrap=bounded
 fi
@@ -347,6 +392,18 @@ if ! "${drops[@]}" true || "${drops[@]}" ls to 2>/dev/null; then
 else
     to=out keywrap=unprivileged ran "${wraps[@]}" -o to/file
     verdict 'a folder that can not be read' "$(quiet 0 '')$(cmp to/file wrapped.hex 2>&1)"
+    # syncs_none FOLDER NAME: that one is not synced then, nor is another in its place.
+    syncs_none() {
+        LD_PRELOAD=$room/fail_call.so env -C "$1" "${drops[@]}" "$program" \
+            wrap --kek "$room/kek16.hex" -i "$room/key.hex" -o "$2" >out 2>err 9>met
+        status=$?
+        verdict "no folder but that of $2 is synced" \
+            "$(quiet 0 '')$(printf 'fsync\nrename\n' | diff - <(grep -x -e fsync -e rename met))"
+    }
+    if [ -e fail_call.so ]; then
+        syncs_none . to/file
+        syncs_none to file
+    fi
 fi
 chmod 755 to
 for name in "$room/to/file" to/file ./to//file; do
@@ -416,6 +473,8 @@ tells 'a new KEK of 15 bytes' 3 "$new_kek_length" 'kek15.hex: 15 bytes of KEK' r
 tells 'a raw KEK file' 6 'key file: no hex digit at byte 0' 'kek16.raw: not hex; for raw bytes use --raw-kek' \
     wrap --kek kek16.raw
 tells 'an odd KEK' 6 'key file: odd number of hex digits' 'odd.hex: 3 hex digits' wrap --kek odd.hex
+tells 'an odd new KEK' 6 'new key file: odd number of hex digits' 'odd.hex: 3 hex digits' \
+    rewrap --kek kek16.hex --new-kek odd.hex
 tells 'a KEK file that is too long' 6 'key file: too long' 'long.hex: more than 4194304 bytes' wrap --kek long.hex
 # Text that is no hex is no raw bytes either.
 base64_for='not hex but characters of base64; if it is base64, use'
@@ -499,6 +558,8 @@ bad() { tells "$1" 4 "$bad_length" "$2" "${@:3}"; }
 in16='a plain key has 16 or more, a multiple of 8'
 in24='a plain wrapped key has 24 or more, a multiple of 8'
 in_padded='a padded wrapped key has 16 or more, a multiple of 8'
+in_either='a wrapped key has 16 or more, a multiple of 8'
+in_its_form=(rewrap --keep-form --kek kek16.hex --new-kek kek32.hex -i)
 zeros 23 >wrapped23.hex
 zeros 24 >wrapped24.hex
 head -c 1048577 /dev/zero >key.long
@@ -513,6 +574,9 @@ bad 'a padded wrapped key of 23 bytes' "wrapped23.hex: 23 bytes; $in_padded" \
 bad 'rewrap of 23 bytes' "wrapped23.hex: 23 bytes; $in24" \
     rewrap --kek kek16.hex --new-kek kek32.hex -i wrapped23.hex
 bad 'rewrap of 16 bytes' "wrapped7.hex: 16 bytes; $in24" rewrap --kek kek16.hex --new-kek kek32.hex -i wrapped7.hex
+bad 'rewrap of 23 bytes in their form' "wrapped23.hex: 23 bytes; $in_either" "${in_its_form[@]}" wrapped23.hex
+bad 'rewrap of too long a wrapped key in its form' 'wrapped.long: 1048592 bytes; a wrapped key has 1048584 at most' \
+    "${in_its_form[@]}" wrapped.long --raw
 bad 'rewrap of 7 bytes to plain' \
     'wrapped7.hex: its key is none for the plain form, which takes 16 bytes or more, a multiple of 8' \
     rewrap --padded --kek kek5649.hex --new-kek kek32.hex -i wrapped7.hex
@@ -533,6 +597,10 @@ wrong 'a plain one, taken for padded' 'wrapped.hex: no wrapping in the padded fo
     unwrap --padded --kek kek16.hex -i wrapped.hex
 wrong 'rewrap of a wrong byte' 'wrong.hex: no wrapping in the plain form under this KEK; try keywrap check' \
     rewrap --kek kek16.hex --new-kek kek32.hex -i wrong.hex
+wrong 'rewrap of a plain one, taken for padded' \
+    'wrapped.hex: no wrapping in the padded form under this KEK; try keywrap check' \
+    rewrap --padded --kek kek16.hex --new-kek kek32.hex -i wrapped.hex
+wrong 'rewrap of a wrong byte in its form' 'wrong.hex: no wrapping in either form under this KEK' "${in_its_form[@]}" wrong.hex
 wrong 'another value' 'wrapped.hex: no wrapping under this KEK and --iv' \
     unwrap --iv "$iv" --kek kek16.hex -i wrapped.hex
 
@@ -546,6 +614,24 @@ wrong 'a KEK of hex digits, as base64' "$under hex digits read as base64; try wi
     unwrap --base64-kek --kek kek.digits -i wrapped.hex
 wrong 'a KEK of base64, as raw' "$under characters of base64 read as raw bytes; try --base64-kek" \
     unwrap --raw-kek --kek kek.base64 -i wrapped.hex
+
+# at_line NAME STATUS MESSAGE WHY ARGUMENT..: the first line is refused so. Of a line it is not said how long it is.
+at_line() { tells "lines, $1" "$2" "line 1: $3" "$4" "${@:5}" --lines; }
+from=(--kek kek16.hex -i) to_itself=(--kek kek16.hex --new-kek kek16.hex -i)
+at_line 'a bad digit' 6 'no hex digit at byte 1' 'digit.hex: not hex' wrap "${from[@]}" digit.hex
+at_line 'odd digits' 6 'odd number of hex digits' odd.hex wrap "${from[@]}" odd.hex
+at_line 'a line that is too long' 6 'too long' 'long.hex: a line of more than 4194304 bytes' wrap "${from[@]}" long.hex
+at_line 'a folder' 6 'cannot be read' 'folder: Is a directory' wrap "${from[@]}" folder
+at_line 'a key of 7 bytes' 4 "$bad_length" "key7.hex: $in16" wrap "${from[@]}" key7.hex
+at_line 'a wrapped key of 23 bytes' 4 "$bad_length" "wrapped23.hex: $in24" unwrap "${from[@]}" wrapped23.hex
+at_line 'a padded one' 4 "$bad_length" "wrapped23.hex: $in_padded" unwrap --padded "${from[@]}" wrapped23.hex
+at_line 'one in its form' 4 "$bad_length" "wrapped23.hex: $in_either" "${in_its_form[@]}" wrapped23.hex
+at_line 'one to padded' 4 "$bad_length" "wrapped23.hex: $in24" rewrap --new-padded "${to_itself[@]}" wrapped23.hex
+at_line '7 bytes to plain' 4 "$bad_length" padded7.hex rewrap --padded "${to_itself[@]}" padded7.hex
+at_line 'a wrong byte' 5 "$integrity" 'wrong.hex: no wrapping in either form under this KEK' "${in_its_form[@]}" wrong.hex
+tells 'lines, a KEK of 15 bytes' 3 "$kek_length" 'kek15.hex: 15 bytes of KEK' wrap --lines --kek kek15.hex -i key.hex
+tells 'lines, an odd new KEK' 6 'new key file: odd number of hex digits' 'odd.hex: 3 hex digits' \
+    rewrap --lines --kek kek16.hex --new-kek odd.hex -i wrapped.hex
 
 # not_to FILE WHY [ARGUMENT..]: FILE is no output.
 not_to() { tells "no output: $1" 6 'output: cannot be opened' "$2" wrap --kek kek16.hex -i key.hex "${@:3}" -o "$1"; }
@@ -588,6 +674,9 @@ fresh
 : >out
 full "${wraps[@]}" --verbose -o to/file
 verdict 'a file without room' "$(quiet 6 'keywrap: output: refused after 0 bytes
+  to/file: File too large')"
+full "${wraps[@]}" --lines --verbose -o to/file
+verdict 'a file without room for lines' "$(quiet 6 'keywrap: output: refused after 0 bytes
   to/file: File too large')"
 "$program" "${wraps[@]}" --verbose >/dev/full 2>err
 status=$?

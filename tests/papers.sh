@@ -69,6 +69,15 @@ done <<'END_OF_STATUSES'
 7 out of memory
 END_OF_STATUSES
 
+# The flags that the advice of status 3 names, and the limits, of which the rows of tests/command.sh are.
+same 'help: the flags of status 3' --raw-kek "$("$program" --help | sed -n '/^  3  /,/^  4  /p' | grep -oE -e '--[a-z-]+')"
+same 'page: the flags of status 3' $'--raw-kek\n--new-kek' \
+    "$(options_in "$(section 'EXIT STATUS' | sed -n '/^\.It 3$/,/^\.It 4$/p')")"
+same 'README: the flags of status 3' --raw-kek "$(grep '^| 3 |' "$root/README.md" | grep -oE -e '--[a-z-]+')"
+limits=$(sed -n '/^\.Ss Limits/,/^\.Sh/p' "$page" | tr '\n' ' ' | grep -oE '[0-9]+ to [0-9]+|at most [0-9]+')
+row 'page: the limits' diff <(echo "$limits") \
+    <(printf '%s\n' '16 to 1048576' '1 to 1048576' '24 to 1048584' '16 to 1048584' 'at most 4194304')
+
 if has mandoc mandoc "the page's form"; then
     # Whether the pages that it refers to are on this machine is no matter of its form.
     mandoc -T lint "$page" 2>&1 | grep -v -e 'mandoc\.db' -e 'referenced manual not found' >lint.out
@@ -196,21 +205,38 @@ completes() {
     same "$shell: a part of the output's name" b.hex "$(offered "$shell" 'keywrap wrap --kek b.hex --output b')"
     same "$shell: what begins with --in" --input "$(offered "$shell" 'keywrap check --kek b.hex --in')"
     same "$shell: nothing after --iv" '' "$(offered "$shell" 'keywrap wrap --iv ')"
-    same "$shell: no --iv beside --padded" '' "$(offered "$shell" 'keywrap wrap --padded --i' | grep -- --iv)"
-    same "$shell: no --padded beside --iv" '' "$(offered "$shell" 'keywrap unwrap --iv 00 --p')"
-    same "$shell: no --raw beside --lines" --raw-kek "$(offered "$shell" 'keywrap wrap --lines --r')"
-    same "$shell: no --raw beside --base64" --raw-kek "$(offered "$shell" 'keywrap wrap --base64 --r')"
-    same "$shell: no --base64 beside --raw" --base64-kek "$(offered "$shell" 'keywrap wrap --raw --b')"
-    same "$shell: no --base64url beside --base64" '' \
-        "$(offered "$shell" 'keywrap check --base64 --b' | grep -x -- --base64url)"
-    same "$shell: one of --base64-kek and --raw-kek" --raw "$(offered "$shell" 'keywrap rewrap --base64-kek --ra')"
-    same "$shell: no --padded beside --keep-form" '' "$(offered "$shell" 'keywrap rewrap --keep-form --pad')"
-    same "$shell: no --keep-form beside --new-padded" '' "$(offered "$shell" 'keywrap rewrap --new-padded --keep-f')"
-    same "$shell: no --lines beside --raw" '' "$(offered "$shell" 'keywrap check --raw --l')"
+    for line in beside/*; do
+        line=${line#beside/}
+        same "$shell: what goes with $line" "$(cat "beside/$line")" \
+            "$(offered "$shell" "keywrap $line --" | grep -xf flags | grep -vx -e "$(cut -d ' ' -f 2 <<<"$line")")"
+    done
     same "$shell: nothing for the HEX of drill" '' "$(offered "$shell" 'keywrap drill ' | grep -v '^-')"
     same "$shell: nothing after the HEX of drill" '' "$(offered "$shell" 'keywrap drill 00 ' | grep -v '^-')"
     same "$shell: nothing after vectors" '' "$(offered "$shell" 'keywrap vectors ' | grep -v '^-')"
 }
+
+iv=0123456789abcdef
+# goes WORD..: whether the program takes these words, which name no KEK file that is there.
+goes() {
+    # Two flags need a third.
+    [[ " $* " = *' --lines '* || ! " $* " =~ ' --keep-going '|' --quiet ' ]] || set -- "$@" --lines
+    "$program" "$@" >/dev/null 2>&1
+    [ $? = 6 ]
+}
+
+# Flags, and beside each of a command those that the program takes with it.
+printf '%s\n' --padded --new-padded --keep-form --pass-new --iv --raw --raw-kek --base64 --base64url --base64-kek --lines --keep-going --quiet --verbose >flags
+mkdir beside
+for command in wrap unwrap rewrap check; do
+    words=("$command" --kek missing)
+    [ $command != rewrap ] || words+=(--new-kek missing)
+    for flag in $(options_of $command | grep -xf flags); do
+        for other in $(options_of $command | grep -xf flags | grep -vx -e "$flag"); do
+            # shellcheck disable=SC2086
+            ! goes "${words[@]}" ${flag/--iv/--iv $iv} ${other/--iv/--iv $iv} || echo $other
+        done >"beside/$command ${flag/--iv/--iv $iv}"
+    done
+done
 
 mkdir files files/folder
 touch 'files/a key' files/b.hex

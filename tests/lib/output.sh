@@ -72,11 +72,11 @@ keeps() {
     verdict "$1" "$problem"
 }
 
-# begins ARGUMENT..: starts a run over to/file that waits for its input, which is what goes to descriptor
-# 8, and waits until the new file is there.
+# begins ARGUMENT..: starts a run over to/file, of wrap or of $begun, that waits for its input, which is what goes to
+# descriptor 8, and waits until the new file is there.
 begins() {
     exec 8<>pipe
-    env --default-signal=INT,TERM,HUP "$program" wrap --kek kek16.hex "$@" -o to/file <pipe >out 2>err 8<&- &
+    env --default-signal=INT,TERM,HUP "$program" "${begun:-wrap}" --kek kek16.hex "$@" -o to/file <pipe >out 2>err 8<&- &
     running=$!
     until_true test -e to/file.part0
 }

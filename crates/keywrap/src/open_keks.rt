@@ -3,28 +3,29 @@
 use crate::output_file::is_same;
 use crate::refused::Refused;
 use crate::request::Work;
+use crate::streams::{Opened, open};
 use crate::telling::Telling;
 use crate::watched::{Seen, Watched};
 use key_wrap::InitialValue;
 use keywrap_cli::{Keyed, ProgramFault};
-use std::fs::{self, File, Metadata};
+use std::fs::{File, Metadata};
 use std::io;
 use std::rt::Files;
 
 /// What is done with an input, with its KEK files, which are open.
 #[derive(Drop)]
-pub struct OpenKeks {
+pub struct OpenKeks<I> {
     /// What is done, over what is read of them.
-    pub keyed: Keyed<Watched<File>>,
+    pub keyed: Keyed<Watched<Opened<I>>>,
 }
 
 /// Opens the KEK file, and then the one of the new KEK where there is one. The initial value is
 /// that of the work.
-pub fn open_keks<R: Files<File = File>>(
+pub fn open_keks<R: Input + Files<File = File>>(
     rt: &R,
     telling: &Telling<'_>,
     iv: InitialValue,
-) -> Result<OpenKeks, Refused> {
+) -> Result<OpenKeks<R::Reader>, Refused> {
     let kek = open_kek(rt, telling, telling.places.kek, ProgramFault::KekOpen)?;
     let keyed = match telling.work {
         Work::Job { task, .. } => Keyed::Job { iv, task, kek },
@@ -36,27 +37,27 @@ pub fn open_keks<R: Files<File = File>>(
     Ok(OpenKeks { keyed })
 }
 
-fn open_kek<R: Files<File = File>>(
+fn open_kek<R: Input + Files<File = File>>(
     rt: &R,
     telling: &Telling<'_>,
     name: &str,
     fault: ProgramFault,
-) -> Result<Watched<File>, Refused> {
-    match fs::open(rt, name) {
+) -> Result<Watched<Opened<R::Reader>>, Refused> {
+    match open(rt, name) {
         Ok(file) => Ok(Watched::new(file, telling.says_why)),
         Err(error) => Err(telling.unopened(fault, name, &error)),
     }
 }
 
-impl OpenKeks {
+impl<I> OpenKeks<I> {
     /// Which of them a file is, under whatever name, if it is one: an output replaces none of them.
     pub fn which(&self, file: &Metadata) -> io::Result<Option<&'static str>> {
         let (Keyed::Job { kek, .. } | Keyed::Rewrap { kek, .. }) = &self.keyed;
-        if is_same(&kek.file, file)? {
+        if is_kek(&kek.file, file)? {
             return Ok(Some("the KEK file"));
         }
         match &self.keyed {
-            Keyed::Rewrap { new_kek, .. } if is_same(&new_kek.file, file)? => {
+            Keyed::Rewrap { new_kek, .. } if is_kek(&new_kek.file, file)? => {
                 Ok(Some("the new KEK file"))
             }
             _ => Ok(None),
@@ -69,5 +70,13 @@ impl OpenKeks {
             Keyed::Job { kek, .. } => (kek.seen, Seen::default()),
             Keyed::Rewrap { kek, new_kek, .. } => (kek.seen, new_kek.seen),
         }
+    }
+}
+
+// Whether a regular file is the KEK file that is open. A stream that no name opens is none.
+fn is_kek<I>(kek: &Opened<I>, file: &Metadata) -> io::Result<bool> {
+    match kek {
+        Opened::File(kek) => is_same(kek, file),
+        Opened::Stream(_) => Ok(false),
     }
 }

@@ -42,10 +42,10 @@ pub struct OutputFile<'a> {
 /// Makes the new file beside the one that is named, for its owner alone, or, where `keeps` says so,
 /// with the owner, the group and the permissions of that one. What stands under that name has to be
 /// a regular file that is no KEK file of the run and is not spared, or nothing.
-pub fn create<'a, R: AllocGlobal + Files<File = File>>(
+pub fn create<'a, R: AllocGlobal + Files<File = File>, K>(
     rt: &R,
     name: &'a str,
-    keks: &OpenKeks,
+    keks: &OpenKeks<K>,
     spared: Spared,
     keeps: bool,
 ) -> Result<OutputFile<'a>, OutputFault> {
@@ -81,10 +81,10 @@ fn create_new<'a, R: AllocGlobal + Files<File = File>>(
 }
 
 // What is replaced, if there is a file.
-fn replaced<R: Files<File = File>>(
+fn replaced<R: Files<File = File>, K>(
     rt: &R,
     name: &str,
-    keks: &OpenKeks,
+    keks: &OpenKeks<K>,
     spared: Spared,
 ) -> Result<Option<Metadata>, Why> {
     if name.is_empty() {
@@ -101,7 +101,7 @@ fn replaced<R: Files<File = File>>(
     }
 }
 
-fn may_be_replaced(old: &Metadata, keks: &OpenKeks) -> Result<(), Why> {
+fn may_be_replaced<K>(old: &Metadata, keks: &OpenKeks<K>) -> Result<(), Why> {
     if !old.is_file() {
         return Err(Why::Is(kind_of(&old.file_type())));
     }
@@ -226,8 +226,10 @@ impl OutputFile<'_> {
         if let Err(error) = self.file.file.sync_all() {
             return Err(Why::of(&error));
         }
-        if !self.has_its_name(rt) {
-            return Err(Why::Says("the new file lost its name"));
+        match self.has_its_name(rt) {
+            Ok(true) => {}
+            Ok(false) => return Err(Why::Says("the new file lost its name")),
+            Err(error) => return Err(Why::of(&error)),
         }
         match fs::rename(rt, self.part.as_str(), self.name) {
             Ok(()) => Ok(()),
@@ -237,16 +239,17 @@ impl OutputFile<'_> {
 
     // Whether the new file still has the name that it was made under: where someone removed it,
     // that of another run may have it now.
-    fn has_its_name<R: Files<File = File>>(&self, rt: &R) -> bool {
+    fn has_its_name<R: Files<File = File>>(&self, rt: &R) -> io::Result<bool> {
         match rt.symlink_metadata(self.part.as_str()) {
-            Ok(there) => matches!(is_same(&self.file.file, &there), Ok(true)),
-            Err(_) => false,
+            Ok(there) => is_same(&self.file.file, &there),
+            Err(error) if error.kind() == io::ErrorKind::NotFound => Ok(false),
+            Err(error) => Err(error),
         }
     }
 
-    /// Removes the new file, as far as that can be done.
+    /// Removes the new file, as far as that can be done. What can't be looked at is taken for it.
     pub fn give_up<R: Files<File = File>>(self, rt: &R) {
-        if self.has_its_name(rt) {
+        if !matches!(self.has_its_name(rt), Ok(false)) {
             let _ = fs::remove_file(rt, self.part.as_str());
         }
     }
@@ -272,10 +275,10 @@ fn is_not_offered(kind: io::ErrorKind) -> bool {
     )
 }
 
+// The name up to its last slash.
 fn folder_of(name: &str) -> &str {
-    match name.rsplit_once('/') {
-        Some((folder, _)) if folder.is_empty() => "/",
-        Some((folder, _)) => folder,
-        None => ".",
+    match name.trim_end_matches(|c| c != '/') {
+        "" => ".",
+        folder => folder,
     }
 }

@@ -12,6 +12,11 @@ const PAUSE: u64 = 500;
 // Moves to the start of the terminal's line, and clears it.
 const CLEARED: &str = "\r\x1b[K";
 
+// The terminal cuts a line that is longer than it is wide, and then wraps such lines again.
+const CUTS: &str = "\x1b[?7l";
+
+const WRAPS: &str = "\x1b[?7h";
+
 /// How far a run is, and whether the terminal shows it.
 #[derive(Drop)]
 pub struct Progress<'a, R> {
@@ -144,12 +149,12 @@ impl State {
 impl fmt::Display for State {
     fn fmt<W: fmt::Write>(&self, f: &mut fmt::Formatter<W>) -> fmt::Result {
         let (lines, rate) = (self.lines, self.rate());
-        write!(f, "\rkeywrap: {lines} lines, {rate} a second")?;
+        write!(f, "{CLEARED}{CUTS}keywrap: {lines} lines, {rate} a second")?;
         if let Some(total) = self.total {
             let (percent, left) = (self.percent(total), self.seconds_left(total));
             write!(f, ", {percent} % done, {left} s left")?;
         }
-        write!(f, "\x1b[K")
+        write!(f, "{WRAPS}")
     }
 }
 

@@ -1,6 +1,7 @@
-//! The standard streams, as the program starts.
+//! The standard streams, as the program starts, and standard input by its name.
 
-use std::io::{self, PipeReader};
+use std::fs::{self, File};
+use std::io::{self, PipeReader, Read};
 use std::os::fd::AsFd;
 use std::rt::Files;
 
@@ -44,4 +45,36 @@ fn hold<R: Files>(rt: &R, is_closed: bool) -> io::Result<Option<PipeReader>> {
     }
     let (reader, _writer) = io::pipe(rt)?;
     Ok(Some(reader))
+}
+
+/// A file to read, or standard input where that is named and can't be opened, as a socket can't.
+#[derive(Drop)]
+pub enum Opened<I> {
+    /// The file.
+    File(File),
+    /// Standard input itself.
+    Stream(I),
+}
+
+/// Opens a file to read it.
+pub fn open<R: Input + Files<File = File>>(rt: &R, name: &str) -> io::Result<Opened<R::Reader>> {
+    match fs::open(rt, name) {
+        Ok(file) => Ok(Opened::File(file)),
+        Err(_) if is_standard_input(name) => Ok(Opened::Stream(rt.reader())),
+        Err(error) => Err(error),
+    }
+}
+
+/// Whether it is a name that the system has for standard input.
+pub fn is_standard_input(name: &str) -> bool {
+    matches!(name, "/dev/stdin" | "/dev/fd/0" | "/proc/self/fd/0")
+}
+
+impl<I: Read> Read for Opened<I> {
+    fn read(&mut self, buf: &mut [u8]) -> io::Result<usize> {
+        match self {
+            Opened::File(file) => file.read(buf),
+            Opened::Stream(stream) => stream.read(buf),
+        }
+    }
 }

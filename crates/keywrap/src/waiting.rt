@@ -1,6 +1,7 @@
 //! What is said while a terminal is waited for.
 
 use crate::request::{Lines, Places, Work};
+use crate::streams::is_standard_input;
 use keywrap_cli::Notation;
 
 /// What is waited for, and how it is to be typed.
@@ -61,11 +62,6 @@ pub fn waiting_for(work: &Work<'_>, places: &Places<'_>, lines: Option<Lines>) -
 
 fn said(is_waited_for: bool, typed: Typed) -> Option<Typed> {
     if is_waited_for { Some(typed) } else { None }
-}
-
-// The names that the system has for it.
-fn is_standard_input(name: &str) -> bool {
-    matches!(name, "/dev/stdin" | "/dev/fd/0" | "/proc/self/fd/0")
 }
 
 /// How a notation is said of what is typed. Of base64 both alphabets are read.

@@ -6,13 +6,13 @@ use crate::output_file::create;
 use crate::refused::Refused;
 use crate::request::{Lines, Places, Work};
 use crate::spared::{Spared, spare, spare_standard_input};
-use crate::streams::{Closed, hold_closed};
+use crate::streams::{Closed, Opened, hold_closed, open};
 use crate::tally::Tally;
 use crate::telling::{SeenFiles, Telling};
 use crate::waiting::{Waiting, waiting_for};
 use crate::watched::{Seen, Watched};
 use keywrap_cli::{Done, ProgramFault, statuses};
-use std::fs::{self, File, OpenFile};
+use std::fs::{File, OpenFile};
 use std::io::{self, Read, Write};
 use std::os::unix::fs::FileTypeExt;
 use std::rt::{Env, Files};
@@ -82,7 +82,7 @@ struct Answered {
 fn run_keyed<R: Print + Eprint + Input + AllocGlobal + Files<File = File> + Env + Clock>(
     rt: &R,
     telling: &Telling<'_>,
-    keks: &mut OpenKeks,
+    keks: &mut OpenKeks<R::Reader>,
     lines: Option<Lines>,
     terminals: Terminals,
 ) -> Result<Answered, Refused> {
@@ -92,25 +92,27 @@ fn run_keyed<R: Print + Eprint + Input + AllocGlobal + Files<File = File> + Env 
         None
     };
     let places = telling.places;
-    let Some(name) = places.input else {
-        let spared = match lines {
-            Some(lines) if lines.goes_on => spare_standard_input(rt),
-            _ => Spared::Nothing,
-        };
-        let many = many(rt, lines, places, terminals, waiting, None, spared);
-        return run_from(rt, telling, keks, many, rt.reader(), waiting);
+    let opened = match places.input {
+        None => Opened::Stream(rt.reader()),
+        Some(name) => match open(rt, name) {
+            Ok(opened) => opened,
+            Err(error) => return Err(telling.unopened(ProgramFault::InputOpen, name, &error)),
+        },
     };
-    match fs::open(rt, name) {
-        Ok(input) => {
-            let spared = match lines {
-                Some(lines) if lines.goes_on => spare(&input),
-                _ => Spared::Nothing,
-            };
-            let length = length_of(lines, &input);
-            let many = many(rt, lines, places, terminals, waiting, length, spared);
-            run_from(rt, telling, keks, many, input, waiting)
-        }
-        Err(error) => Err(telling.unopened(ProgramFault::InputOpen, name, &error)),
+    let spared = match lines {
+        Some(lines) if lines.goes_on => spared(rt, &opened),
+        _ => Spared::Nothing,
+    };
+    let length = length_of(lines, &opened);
+    let many = many(rt, lines, places, terminals, waiting, length, spared);
+    run_from(rt, telling, keks, many, opened, waiting)
+}
+
+// The input, which is open, may not be replaced.
+fn spared<R: Files, I>(rt: &R, input: &Opened<I>) -> Spared {
+    match input {
+        Opened::File(file) => spare(file),
+        Opened::Stream(_) => spare_standard_input(rt),
     }
 }
 
@@ -149,8 +151,10 @@ fn is_piped<R: Files>(rt: &R) -> bool {
 }
 
 // The length of a regular file of lines.
-fn length_of<F: OpenFile>(lines: Option<Lines>, file: &F) -> Option<u64> {
-    let _lines = lines?;
+fn length_of<I>(lines: Option<Lines>, input: &Opened<I>) -> Option<u64> {
+    let (Some(_lines), Opened::File(file)) = (lines, input) else {
+        return None;
+    };
     let about = file.metadata().ok()?;
     if about.is_file() {
         Some(about.len())
@@ -160,14 +164,17 @@ fn length_of<F: OpenFile>(lines: Option<Lines>, file: &F) -> Option<u64> {
 }
 
 // Does it with an input that is open, and says first what is waited for, if anything is.
-fn run_from<R: Print + Eprint + AllocGlobal + Files<File = File> + Env + Clock, I: Read + Drop>(
+fn run_from<R, K: Read, I: Read + Drop>(
     rt: &R,
     telling: &Telling<'_>,
-    keks: &mut OpenKeks,
+    keks: &mut OpenKeks<K>,
     many: Option<Many>,
     input: I,
     waiting: Option<Waiting>,
-) -> Result<Answered, Refused> {
+) -> Result<Answered, Refused>
+where
+    R: Print + Eprint + AllocGlobal + Files<File = File> + Env + Clock,
+{
     // Of lines no digit is counted.
     let mut input = Watched::new(input, telling.says_why && many.is_none());
     match telling.places.output {
@@ -185,15 +192,18 @@ fn run_from<R: Print + Eprint + AllocGlobal + Files<File = File> + Env + Clock, 
 }
 
 // The same, into a file. Where the answer is not whole, the file stays as it is.
-fn run_into<R: Eprint + AllocGlobal + Files<File = File> + Env + Clock, I: Read>(
+fn run_into<R, K: Read, I: Read>(
     rt: &R,
     telling: &Telling<'_>,
-    keks: &mut OpenKeks,
+    keks: &mut OpenKeks<K>,
     many: Option<Many>,
     input: &mut Watched<I>,
     name: &str,
     waiting: Option<Waiting>,
-) -> Result<Answered, Refused> {
+) -> Result<Answered, Refused>
+where
+    R: Eprint + AllocGlobal + Files<File = File> + Env + Clock,
+{
     let keeps = telling.work.keeps_modes();
     let spared = many.map_or(Spared::Nothing, |many| many.spared);
     let mut new = match create(rt, name, keks, spared, keeps) {
@@ -214,10 +224,10 @@ fn run_into<R: Eprint + AllocGlobal + Files<File = File> + Env + Clock, I: Read>
 }
 
 // Answers the input, or each line of it.
-fn answer<R: Eprint + AllocGlobal + Env + Clock, I: Read, W: Write>(
+fn answer<R: Eprint + AllocGlobal + Env + Clock, K: Read, I: Read, W: Write>(
     rt: &R,
     telling: &Telling<'_>,
-    keks: &mut OpenKeks,
+    keks: &mut OpenKeks<K>,
     many: Option<Many>,
     input: &mut Watched<I>,
     out: &mut Watched<W>,
@@ -250,7 +260,7 @@ fn answer<R: Eprint + AllocGlobal + Env + Clock, I: Read, W: Write>(
     }
 }
 
-fn seen_files(keks: &OpenKeks, input: Seen, output: Seen) -> SeenFiles {
+fn seen_files<K>(keks: &OpenKeks<K>, input: Seen, output: Seen) -> SeenFiles {
     let (kek, new_kek) = keks.seen();
     SeenFiles {
         kek,

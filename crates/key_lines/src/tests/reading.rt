@@ -1,5 +1,6 @@
 //! Lines of every length about the limit and the reader's buffer, and growths that are refused.
 
+use super::doubles::Trickle;
 use crate::{Line, read_line};
 use key_files::FileFault;
 use linked_list_allocator::LocalHeap;
@@ -66,6 +67,18 @@ fn refuses_one_byte_past_the_limit(rt: HostRuntime) -> Result<(), Fail> {
             assert!(rt; last == Line::Last && line.as_slice() == b"b".as_slice());
         }
     }
+    Ok(())
+}
+
+// However many parts the line comes in.
+#[test]
+fn reads_a_line_byte_by_byte(rt: HostRuntime) -> Result<(), Fail> {
+    static TEXT: [u8; 6_000] = [b'a'; 6_000];
+    let trickle = Trickle::new(&TEXT, usize::MAX);
+    let mut reader = BufReader::with_capacity(rt.alloc(), 4_096, trickle)?;
+    let mut line = Vec::new(rt.alloc());
+    let met = read_line(&mut reader, &mut line, TEXT.len())?;
+    assert!(rt; met == Line::Last && line.as_slice() == TEXT.as_slice());
     Ok(())
 }
 

@@ -153,3 +153,17 @@ impl Write for Narrow {
         Ok(())
     }
 }
+
+/// Takes each byte, and fails where it is flushed.
+#[derive(Drop)]
+pub struct Unflushed;
+
+impl Write for Unflushed {
+    fn write(&mut self, buf: &[u8]) -> io::Result<usize> {
+        Ok(buf.len())
+    }
+
+    fn flush(&mut self) -> io::Result<()> {
+        Err(io::Error::from(io::ErrorKind::Interrupted))
+    }
+}

@@ -1,11 +1,13 @@
 //! The lines of the published vectors, and of tables in which one vector is changed.
 
-use super::doubles::Narrow;
+use super::doubles::{Narrow, Unflushed};
+use crate::convert::Direction;
 use crate::fault::ProgramFault;
-use crate::flushed::run_vectors;
+use crate::flushed::{run_drill, run_vectors, write_help};
 use crate::report::{report_on, vectors};
 use crate::vector_table::{VECTORS, Vector};
 use key_files::decode_hex;
+use key_wrap::Form;
 use std::alloc::{AllocError, Global};
 use std::process::Abort;
 use std::test::Fail;
@@ -80,4 +82,17 @@ fn ends_with_the_status_of_the_lines(rt: HostRuntime) {
     let done = run_vectors(rt.alloc(), &mut narrow);
     assert!(rt; matches!(done, Err(ProgramFault::Write { written: 15 })));
     assert!(rt; !narrow.is_flushed);
+}
+
+#[test]
+fn a_flush_that_fails_is_a_fault(rt: HostRuntime) {
+    let (mut out, padded, wrap) = (Unflushed, Form::Padded, Direction::Wrap);
+    let failed = [
+        run_vectors(rt.alloc(), &mut out),
+        run_drill(rt.alloc(), padded, wrap, "00", &mut out),
+        write_help("help", &mut out),
+    ];
+    for done in &failed {
+        assert!(rt; matches!(done, Err(ProgramFault::Flush)));
+    }
 }
