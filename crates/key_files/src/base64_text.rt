@@ -2,7 +2,7 @@
 
 ghost use Rattle.std.specs.Prelude.{◌≡◌, ◌<◌, ◌≤◌, length, not, true, IfErr, IfOk, IfSome, OnOk};
 ghost use Rattle.base64.specs.GeneralPurpose.{SameEngine, encode_of};
-ghost use Rattle.key_files.specs.Base64Text.{base64_fault_of, base64_line, before_padding};
+ghost use Rattle.key_files.specs.Base64Text.{IsBase64Of, base64_fault_of, base64_line, before_padding};
 ghost use Rattle.key_files.specs.Base64Text.{encoding, encoding_of, first_foreign, first_no_padding};
 ghost use Rattle.key_files.specs.Base64Text.{first_of_one};
 ghost use Rattle.key_files.specs.Base64Text.{is_allowed, is_standard, is_url_safe};
@@ -26,6 +26,7 @@ use std::alloc::{AllocError, Allocator};
 pub fn decode_symbols_into(text: &[u8], bytes: &mut Vec<u8>) -> Result<(), FileFault>
     ensures meaning { DecodesText (symbol_text_meaning text.now) bytes.new.items result }
     ensures within { IfErr result (λ fault. place_of fault ≤ length text.now) }
+    ensures encoding { OnOk result (IsBase64Of text.now bytes.new.items) }
 {
     if let Some(fault) = misplaced(false, text) {
         return Err(FileFault::BadBase64(fault));
