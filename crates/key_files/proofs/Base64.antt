@@ -8,7 +8,8 @@ use Rattle.base64.specs.GeneralPurpose.{IsBytes, IsStrict, SameEngine, decode_of
 use Rattle.base64.specs.declared.decode.DecodeError.{DecodeError}
 use Rattle.base64.specs.declared.engine.general_purpose.GeneralPurpose.{GeneralPurpose}
 use Rattle.base64.proofs.EngineFacts.{decode_of_strict}
-use Rattle.key_files.specs.Base64Text.{IsBase64Of, base64_meaning, decoded_meaning, encoding, encoding_of, has_padding, is_url_safe_text, kept, misplaced, placed_meaning, symbol_text_meaning, symbols_meaning}
+use Rattle.key_files.specs.Base64Text.{IsBase64Of, base64_meaning, decoded_meaning, encoding, encoding_of, has_padding, is_url_safe_text}
+use Rattle.key_files.specs.Base64Text.{kept, misplaced, placed_meaning, symbol_text_meaning, symbols_meaning}
 use Rattle.key_files.specs.declared.fault.Base64Fault.{Base64Fault}
 use Rattle.key_files.specs.declared.fault.FileFault.TheVariants.{TooLong, BadBase64}
 
@@ -76,13 +77,14 @@ filled e bytes old new n answer error is fits small written same whole = elim (c
 pub encode_of-same : (a b : GeneralPurpose) (bytes : List ℕ) → SameEngine a b → encode_of a bytes ≡ encode_of b bytes
 encode_of-same a b bytes same = rw (same.0, same.2, same.3) refl
 
--- what such an engine decodes is what the text encodes
+-- the engine of a text's encoding decodes nothing but encodings
 IsStrict-encoding : (url_safe padded : Bool) → IsStrict (encoding url_safe padded)
 IsStrict-encoding false false = (refl, refl)
 IsStrict-encoding false true = (refl, refl)
 IsStrict-encoding true false = (refl, refl)
 IsStrict-encoding true true = (refl, refl)
 
+-- what it decodes is what the text encodes
 pub IsBase64Of-decoded : (e : GeneralPurpose) (text bytes : List ℕ) → SameEngine e (encoding_of text) → IsBytes text
     → decode_of e text ≡ Ok bytes → IsBase64Of text bytes
 IsBase64Of-decoded e text bytes same fits is =

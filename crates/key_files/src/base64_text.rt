@@ -1,6 +1,6 @@
 //! The base64 notation.
 
-ghost use Rattle.std.specs.Prelude.{◌≡◌, ◌<◌, ◌≤◌, length, not, true, IfErr, IfOk, IfSome, OnOk};
+ghost use Rattle.std.specs.Prelude.{◌≡◌, ◌<◌, ◌≤◌, length, not, true, IfErr, IfOk, IfSome, Ok, OnOk};
 ghost use Rattle.base64.specs.GeneralPurpose.{SameEngine, encode_of};
 ghost use Rattle.key_files.specs.Base64Text.{IsBase64Of, base64_fault_of, base64_line, before_padding};
 ghost use Rattle.key_files.specs.Base64Text.{encoding, encoding_of, first_foreign, first_no_padding};
@@ -70,7 +70,9 @@ fn kept<A: Allocator>(alloc: A, text: &[u8]) -> Result<Vec<u8, A>, AllocError>
 /// The line that base64 output is, in `line`, whatever stood there: in the alphabet of section 4
 /// with padding, or in that of section 5 without it.
 pub fn print_base64(url_safe: bool, bytes: &[u8], line: &mut Vec<u8>) -> Result<(), AllocError>
-    ensures { OnOk result (line.new.items ≡ base64_line url_safe bytes.now) }
+    ensures whole { OnOk result (line.new.items ≡ base64_line url_safe bytes.now) }
+    // A law for callers, of the definitions alone: the line denotes the bytes.
+    ensures read_back { base64_meaning (base64_line url_safe bytes.now) ≡ Ok bytes.now }
 {
     let Some(len) = encoded_len(bytes.len(), !url_safe) else {
         return Err(AllocError);
@@ -125,8 +127,7 @@ fn first_foreign(skips: bool, text: &[u8]) -> Option<usize>
     ensures bound { IfSome result (λ at. at < length text.now) }
 {
     let url_safe = is_url_safe_text(text);
-    text.iter()
-        .position(|c| !is_allowed(skips, url_safe, *c))
+    text.iter().position(|c| !is_allowed(skips, url_safe, *c))
 }
 
 fn first_no_padding(skips: bool, text: &[u8]) -> Option<usize>
@@ -170,8 +171,7 @@ fn first_of_one(text: &[u8]) -> Option<usize>
     ensures place { result ≡ first_of_one text.now }
     ensures bound { IfSome result (λ at. at < length text.now) }
 {
-    text.iter()
-        .position(|c| is_standard(*c) || is_url_safe(*c))
+    text.iter().position(|c| is_standard(*c) || is_url_safe(*c))
 }
 
 fn is_standard(c: u8) -> bool

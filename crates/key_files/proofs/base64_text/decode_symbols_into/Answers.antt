@@ -9,7 +9,8 @@ returns-in-Some-clause-meaning c = symbol_text_meaning-misplaced _ _ (sym c.misp
 pub returns-in-Ok-clause-meaning : goal.returns-in-Ok-clause-meaning
 returns-in-Ok-clause-meaning c =
     let placed = sym c.misplaced.ensures.first ∙ not_misplaced _ c.in_default.not-Some in
-    symbol_text_meaning-placed _ placed ∙ symbols_meaning-is c.encoding_of.result c.args.text.now _ c.encoding_of.ensures (rw c.clear.ensures.len at c.in-Ok.ensures.ok)
+    symbol_text_meaning-placed _ placed
+    ∙ symbols_meaning-is c.encoding_of.result c.args.text.now _ c.encoding_of.ensures (rw c.clear.ensures.len at c.in-Ok.ensures.ok)
 
 pub returns-in-Err-DecodeError-clause-meaning : goal.returns-in-Err-DecodeError-clause-meaning
 returns-in-Err-DecodeError-clause-meaning c =
@@ -19,4 +20,5 @@ returns-in-Err-DecodeError-clause-meaning c =
 
 pub returns-in-Ok-clause-encoding : goal.returns-in-Ok-clause-encoding
 returns-in-Ok-clause-encoding c =
-    IsBase64Of-decoded c.encoding_of.result c.args.text.now _ c.encoding_of.ensures (λ k. (c.type_inv.text k).fits) (rw c.clear.ensures.len at c.in-Ok.ensures.ok)
+    IsBase64Of-decoded c.encoding_of.result c.args.text.now _ c.encoding_of.ensures (λ k. (c.type_inv.text k).fits)
+    (rw c.clear.ensures.len at c.in-Ok.ensures.ok)
