@@ -1,13 +1,15 @@
 -- What a base64 text denotes: the cases of its meaning.
-use Rattle.std.proofs.Common.{◌≡◌, ◌≢◌, ◌<◌, ◌≤◌, ℕ, true, false, List, [], ◌++◌, length, drop, nat_eq, Option, Some, None, Result, Ok, Err}
+use Rattle.std.proofs.Common.{◌≡◌, ◌≢◌, ◌<◌, ◌≤◌, ℕ, Bool, true, false, List, [], ◌++◌, length, drop, nat_eq, Option, Some, None, Result, Ok, Err}
 use Rattle.std.proofs.Common.{arith, refl, sym, ap, ◌∙◌, append-nil, inl, inr}
 use Rattle.std.proofs.lemmas.Bool.{cases_lt}
 use Rattle.std.proofs.lemmas.Bool.Decides.{nat_tests}
 use Rattle.std.proofs.lemmas.List.{drop_all}
-use Rattle.base64.specs.GeneralPurpose.{SameEngine, decode_of, encode_of, encoded_size_of}
+use Rattle.base64.specs.GeneralPurpose.{IsBytes, IsStrict, SameEngine, decode_of, encode_of, encoded_size_of}
 use Rattle.base64.specs.declared.decode.DecodeError.{DecodeError}
 use Rattle.base64.specs.declared.engine.general_purpose.GeneralPurpose.{GeneralPurpose}
-use Rattle.key_files.specs.Base64Text.{base64_fault_of, base64_meaning, decoded_meaning, encoding_of, kept, misplaced, placed_meaning, symbol_text_meaning, symbols_meaning}
+use Rattle.base64.proofs.EngineFacts.{decode_of_strict}
+use Rattle.key_files.specs.Base64Text.{IsBase64Of, base64_meaning, decoded_meaning, encoding, encoding_of, has_padding, is_url_safe_text}
+use Rattle.key_files.specs.Base64Text.{kept, misplaced, placed_meaning, symbol_text_meaning, symbols_meaning}
 use Rattle.key_files.specs.declared.fault.Base64Fault.{Base64Fault}
 use Rattle.key_files.specs.declared.fault.FileFault.TheVariants.{TooLong, BadBase64}
 
@@ -74,3 +76,19 @@ filled e bytes old new n answer error is fits small written same whole = elim (c
 -- engines with the same tables and configuration encode the same
 pub encode_of-same : (a b : GeneralPurpose) (bytes : List ℕ) → SameEngine a b → encode_of a bytes ≡ encode_of b bytes
 encode_of-same a b bytes same = rw (same.0, same.2, same.3) refl
+
+-- the engine of a text's encoding decodes nothing but encodings
+IsStrict-encoding : (url_safe padded : Bool) → IsStrict (encoding url_safe padded)
+IsStrict-encoding false false = (refl, refl)
+IsStrict-encoding false true = (refl, refl)
+IsStrict-encoding true false = (refl, refl)
+IsStrict-encoding true true = (refl, refl)
+
+-- what it decodes is what the text encodes
+pub IsBase64Of-decoded : (e : GeneralPurpose) (text bytes : List ℕ) → SameEngine e (encoding_of text) → IsBytes text
+    → decode_of e text ≡ Ok bytes → IsBase64Of text bytes
+IsBase64Of-decoded e text bytes same fits is =
+    let url_safe = is_url_safe_text text in
+    let padded = has_padding text in
+    let decoded = sym (decode_of-same e (encoding_of text) text same) ∙ is in
+    (url_safe, padded, decode_of_strict (encoding url_safe padded) text bytes (IsStrict-encoding url_safe padded) fits decoded)

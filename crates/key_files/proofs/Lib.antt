@@ -5,3 +5,4 @@ mod ReadBack
 mod Whole
 mod Strict
 mod Base64
+mod Base64Back

@@ -1,8 +1,8 @@
 //! The base64 notation.
 
-ghost use Rattle.std.specs.Prelude.{◌≡◌, ◌<◌, ◌≤◌, length, not, true, IfErr, IfOk, IfSome, OnOk};
+ghost use Rattle.std.specs.Prelude.{◌≡◌, ◌<◌, ◌≤◌, length, not, true, IfErr, IfOk, IfSome, Ok, OnOk};
 ghost use Rattle.base64.specs.GeneralPurpose.{SameEngine, encode_of};
-ghost use Rattle.key_files.specs.Base64Text.{base64_fault_of, base64_line, before_padding};
+ghost use Rattle.key_files.specs.Base64Text.{IsBase64Of, base64_fault_of, base64_line, before_padding};
 ghost use Rattle.key_files.specs.Base64Text.{encoding, encoding_of, first_foreign, first_no_padding};
 ghost use Rattle.key_files.specs.Base64Text.{first_of_one};
 ghost use Rattle.key_files.specs.Base64Text.{is_allowed, is_standard, is_url_safe};
@@ -26,6 +26,7 @@ use std::alloc::{AllocError, Allocator};
 pub fn decode_symbols_into(text: &[u8], bytes: &mut Vec<u8>) -> Result<(), FileFault>
     ensures meaning { DecodesText (symbol_text_meaning text.now) bytes.new.items result }
     ensures within { IfErr result (λ fault. place_of fault ≤ length text.now) }
+    ensures encoding { OnOk result (IsBase64Of text.now bytes.new.items) }
 {
     if let Some(fault) = misplaced(false, text) {
         return Err(FileFault::BadBase64(fault));
@@ -69,7 +70,9 @@ fn kept<A: Allocator>(alloc: A, text: &[u8]) -> Result<Vec<u8, A>, AllocError>
 /// The line that base64 output is, in `line`, whatever stood there: in the alphabet of section 4
 /// with padding, or in that of section 5 without it.
 pub fn print_base64(url_safe: bool, bytes: &[u8], line: &mut Vec<u8>) -> Result<(), AllocError>
-    ensures { OnOk result (line.new.items ≡ base64_line url_safe bytes.now) }
+    ensures whole { OnOk result (line.new.items ≡ base64_line url_safe bytes.now) }
+    // A law for callers, of the definitions alone: the line denotes the bytes.
+    ensures read_back { base64_meaning (base64_line url_safe bytes.now) ≡ Ok bytes.now }
 {
     let Some(len) = encoded_len(bytes.len(), !url_safe) else {
         return Err(AllocError);

@@ -1,6 +1,6 @@
 -- What the kit's engine of the text's encoding decodes of what is no blank, where no character is misplaced.
-use Rattle.std.proofs.Common.{◌≡◌, sym, ◌∙◌, ap}
-use Rattle.key_files.specs.Base64Text.{base64_meaning, kept, symbols_meaning}
+use Rattle.std.proofs.Common.{sym, ◌∙◌}
+use Rattle.key_files.specs.Base64Text.{kept}
 use Rattle.key_files.proofs.Base64.{base64_meaning-misplaced, base64_meaning-placed, not_misplaced, symbols_meaning-is}
 use Rattle.key_files.proofs.base64_text.decode_base64_in.Goals as goal
 
