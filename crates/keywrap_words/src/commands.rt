@@ -1,9 +1,10 @@
 //! The commands and their arguments, as the command line takes them and the help shows them.
 
 use crate::help::{
-    CHECK_EXAMPLE, CHECK_USAGE, DRILL_EXAMPLE, DRILL_USAGE, KEEP_FORM_HELP, KEEP_GOING_HELP,
-    LINES_HELP, NOTES, OUTPUT_HELP, PASS_NEW_HELP, REWRAP_EXAMPLE, REWRAP_USAGE, UNWRAP_EXAMPLE,
-    UNWRAP_USAGE, VECTORS_EXAMPLE, VECTORS_USAGE, WRAP_EXAMPLE, WRAP_USAGE,
+    BASE64_HELP, BASE64URL_HELP, CHECK_EXAMPLE, CHECK_USAGE, DRILL_EXAMPLE, DRILL_USAGE,
+    KEEP_FORM_HELP, KEEP_GOING_HELP, LINES_HELP, NOTES, OUTPUT_HELP, PASS_NEW_HELP, REWRAP_EXAMPLE,
+    REWRAP_USAGE, UNWRAP_EXAMPLE, UNWRAP_USAGE, VECTORS_EXAMPLE, VECTORS_USAGE, WRAP_EXAMPLE,
+    WRAP_USAGE,
 };
 use clap::{Arg, ArgAction, Command};
 use std::alloc::{AllocError, Global};
@@ -170,6 +171,37 @@ const RAW_WRAPPED: Argument<'static> = Argument {
     ..FLAG
 };
 
+// What is read may be in either alphabet; of the two flags each says what is written.
+const BASE64: Argument<'static> = Argument {
+    name: "base64",
+    help: "Input and output are base64, not hex",
+    long_help: Some(BASE64_HELP),
+    conflicts: &["raw", "base64url"],
+    ..FLAG
+};
+
+const BASE64URL: Argument<'static> = Argument {
+    name: "base64url",
+    help: "Input and output are base64url, not hex",
+    long_help: Some(BASE64URL_HELP),
+    conflicts: &["raw"],
+    ..FLAG
+};
+
+const BASE64_WRAPPED: Argument<'static> = Argument {
+    name: "base64",
+    help: "The wrapped key is base64 or base64url, not hex",
+    conflicts: &["raw", "base64url"],
+    ..FLAG
+};
+
+const BASE64URL_WRAPPED: Argument<'static> = Argument {
+    name: "base64url",
+    help: "The same: check writes neither",
+    conflicts: &["raw"],
+    ..FLAG
+};
+
 const RAW_KEK: Argument<'static> = Argument {
     name: "raw-kek",
     help: "The KEK file is raw bytes, not hex; every byte counts",
@@ -179,6 +211,20 @@ const RAW_KEK: Argument<'static> = Argument {
 const RAW_KEKS: Argument<'static> = Argument {
     name: "raw-kek",
     help: "Both KEK files are raw bytes, not hex; every byte counts",
+    ..FLAG
+};
+
+const BASE64_KEK: Argument<'static> = Argument {
+    name: "base64-kek",
+    help: "The KEK file is base64 or base64url, not hex",
+    conflicts: &["raw-kek"],
+    ..FLAG
+};
+
+const BASE64_KEKS: Argument<'static> = Argument {
+    name: "base64-kek",
+    help: "Both KEK files are base64 or base64url, not hex",
+    conflicts: &["raw-kek"],
     ..FLAG
 };
 
@@ -208,7 +254,8 @@ const SUBCOMMANDS: [Subcommand<'static>; 6] = [
         usage: WRAP_USAGE,
         example: WRAP_EXAMPLE,
         arguments: &[
-            KEK, INPUT, OUTPUT, PADDED, IV, RAW, RAW_KEK, LINES, KEEP_GOING, QUIET, VERBOSE,
+            KEK, INPUT, OUTPUT, PADDED, IV, RAW, BASE64, BASE64URL, RAW_KEK, BASE64_KEK, LINES,
+            KEEP_GOING, QUIET, VERBOSE,
         ],
     },
     Subcommand {
@@ -217,7 +264,8 @@ const SUBCOMMANDS: [Subcommand<'static>; 6] = [
         usage: UNWRAP_USAGE,
         example: UNWRAP_EXAMPLE,
         arguments: &[
-            KEK, INPUT, OUTPUT, PADDED, IV, RAW, RAW_KEK, LINES, KEEP_GOING, QUIET, VERBOSE,
+            KEK, INPUT, OUTPUT, PADDED, IV, RAW, BASE64, BASE64URL, RAW_KEK, BASE64_KEK, LINES,
+            KEEP_GOING, QUIET, VERBOSE,
         ],
     },
     Subcommand {
@@ -226,8 +274,23 @@ const SUBCOMMANDS: [Subcommand<'static>; 6] = [
         usage: REWRAP_USAGE,
         example: REWRAP_EXAMPLE,
         arguments: &[
-            KEK, NEW_KEK, INPUT, OUTPUT, OLD_PADDED, NEW_PADDED, KEEP_FORM, PASS_NEW, RAW,
-            RAW_KEKS, LINES, KEEP_GOING, QUIET, VERBOSE,
+            KEK,
+            NEW_KEK,
+            INPUT,
+            OUTPUT,
+            OLD_PADDED,
+            NEW_PADDED,
+            KEEP_FORM,
+            PASS_NEW,
+            RAW,
+            BASE64,
+            BASE64URL,
+            RAW_KEKS,
+            BASE64_KEKS,
+            LINES,
+            KEEP_GOING,
+            QUIET,
+            VERBOSE,
         ],
     },
     Subcommand {
@@ -240,7 +303,10 @@ const SUBCOMMANDS: [Subcommand<'static>; 6] = [
             INPUT,
             OUTPUT,
             RAW_WRAPPED,
+            BASE64_WRAPPED,
+            BASE64URL_WRAPPED,
             RAW_KEK,
+            BASE64_KEK,
             LINES,
             KEEP_GOING,
             QUIET,

@@ -1,5 +1,5 @@
-//! The longer texts of the help: the usage lines, a worked example a subcommand, what hex may hold,
-//! and the exit statuses.
+//! The longer texts of the help: the usage lines, a worked example a subcommand, what hex and base64
+//! may hold, and the exit statuses.
 
 /// The usage of `wrap`.
 pub const WRAP_USAGE: &str = "keywrap wrap [OPTIONS] --kek <FILE> < KEY > WRAPPED";
@@ -28,14 +28,25 @@ of --input, but with --keep-going; no KEK file, folder, device, pipe
 or link. A new FILE, and each of unwrap, is for its owner alone; else
 FILE keeps its owner and mode";
 
+/// What `--base64` does.
+pub const BASE64_HELP: &str = "\
+Input and output are base64, not hex. Either alphabet is read, with
+its padding or without; what is written has + and / and padding. Not
+with --raw";
+
+/// What `--base64url` does.
+pub const BASE64URL_HELP: &str = "\
+The same, but what is written has - and _ and no padding, as in JWE
+and JWK. Not with --raw or --base64";
+
 /// What `--lines` does.
 pub const LINES_HELP: &str = "\
-Many keys in one run: each line of the input holds one text of hex,
-with spaces and tabs at its ends alone, and its answer stands on the
-same line of the output. It stops at the first line that is refused,
-and names it by its number, from 1: the answers before it are written,
-and FILE of --output stays as it is. An input without a line is
-refused. Not with --raw";
+Many keys in one run: each line of the input holds one text of hex or
+base64, with spaces and tabs at its ends alone, and its answer stands
+on the same line of the output. It stops at the first line that is
+refused, and names it by its number, from 1: the answers before it are
+written, and FILE of --output stays as it is. An input without a line
+is refused. Not with --raw";
 
 /// What `--keep-going` does.
 pub const KEEP_GOING_HELP: &str = "\
@@ -55,18 +66,21 @@ What is no wrapping under the KEK, but one under the new KEK already,
 in the form of an answer, is answered as it is: a rotation that was
 cut off is begun again, and what is damaged is still refused";
 
-/// What hex may hold, what each exit status says, and what to try.
+/// What hex and base64 may hold, what each exit status says, and what to try.
 pub const NOTES: &str = "\
 Hex: two digits a byte, of either case; spaces, tabs and line ends may stand
-anywhere. No 0x, no colons, no base64: decode that with base64 -d, and use
---raw. With --raw and --raw-kek every byte counts, a newline at the end too.
+anywhere. No 0x, no colons.
+Base64, with --base64, --base64url and --base64-kek: with + and / or with - and
+_, though not both in one text; = at its end as RFC 4648 has it, or none; spaces,
+tabs and line ends may stand anywhere.
+With --raw and --raw-kek every byte counts, a newline at the end too.
 
 Exit status:
   0  done
   2  the command line was refused
   3  a KEK must be 16, 24 or 32 bytes
-     In hex that is 32, 48 or 64 digits. For a KEK file of raw bytes use
-     --raw-kek.
+     In hex that is 32, 48 or 64 digits, in base64 22, 32 or 43 characters and
+     =. For a KEK file of raw bytes use --raw-kek, for base64 --base64-kek.
   4  the key or the wrapped key has no legal length in this form
      A plain key has 16 bytes or more, a multiple of 8, and its wrapped key
      has 8 more. For a key of another length use --padded. With --lines: the
@@ -75,8 +89,9 @@ Exit status:
      It has another KEK, the other form or an --iv, or it is damaged.
      keywrap check says which form fits the KEK.
   6  a file or the output could not be opened, read or written
-     The line names it, and the first byte that is no hex digit, counted from
-     0 at the start of the file. For raw bytes use --raw.
+     The line names it, and the first byte that is no hex digit or no base64
+     character, counted from 0 at the start of the file. For raw bytes use
+     --raw, for base64 --base64.
   7  out of memory
      The files may be right: try again with more memory.
 
@@ -99,10 +114,13 @@ Example, in an empty folder, with the first vector of RFC 3394:
   $ echo 000102030405060708090a0b0c0d0e0f > kek.hex
   $ echo 00112233445566778899aabbccddeeff | keywrap wrap --kek kek.hex
   1fa68b0a8112b447aef34bd8fb5a7b829d3e862371d2cfe5
+The same in base64:
+  $ echo ABEiM0RVZneImaq7zN3u/w== | keywrap wrap --base64 --kek kek.hex
+  H6aLCoEStEeu80vY+1p7gp0+hiNx0s/l
 From file to file:
   $ keywrap wrap --kek kek.hex --input key.hex --output wrapped.hex
 
-What hex may hold, and what each exit status says: keywrap --help.
+What hex and base64 may hold, and what each status says: keywrap --help.
 A plain key has 16 to 1048576 bytes, a multiple of 8.
 With --padded it has 1 to 1048576.
 A file has at most 4194304 bytes.";
@@ -117,7 +135,7 @@ Example, in an empty folder, with the first vector of RFC 3394:
 From file to file:
   $ keywrap unwrap --kek kek.hex --input wrapped.hex --output key.hex
 
-What hex may hold, and what each exit status says: keywrap --help.
+What hex and base64 may hold, and what each status says: keywrap --help.
 A wrapped key of a legal length that is no wrapping under this KEK and in this
 form is refused with status 5, and no byte is written. keywrap check says which
 form fits the KEK.";
@@ -131,7 +149,7 @@ Example, in an empty folder, with the first and the third vector of RFC 3394:
   $ keywrap rewrap --keep-form --kek old --new-kek new < wrapped.hex
   64e8c3f9ce0f5ba263e9777905818a2a93c8191e7d6e8ae7
 
-What hex may hold, and what each exit status says: keywrap --help.
+What hex and base64 may hold, and what each status says: keywrap --help.
 The new wrapped key is as long as the old one. The key itself is not written.
 Without --keep-form and --new-padded the new one has the plain form.
 From --padded to the plain form only a key of 16 bytes or more, a multiple of
@@ -148,7 +166,7 @@ Example, in an empty folder, with the first vector of RFC 3394:
 The line is `plain N` or `padded N`, with the length of the key in bytes, or
 `none` (status 5): it was wrapped under another KEK or with an --iv, or it is
 damaged.
-What hex may hold, and what each exit status says: keywrap --help.";
+What hex and base64 may hold, and what each status says: keywrap --help.";
 
 /// An example of `drill`.
 pub const DRILL_EXAMPLE: &str = "\

@@ -56,8 +56,14 @@ pub struct CommandLine<'a> {
     pub quiet: bool,
     /// The input and the output are raw bytes.
     pub raw: bool,
+    /// They are base64; what is written has the alphabet of `+` and `/`, and padding.
+    pub base64: bool,
+    /// They are base64; what is written has the alphabet of `-` and `_`, and no padding.
+    pub base64url: bool,
     /// Each KEK file is raw bytes.
     pub raw_kek: bool,
+    /// Each KEK file is base64.
+    pub base64_kek: bool,
     /// A refusal says which file was the cause, and why.
     pub verbose: bool,
     /// The drill unwraps.
@@ -155,7 +161,10 @@ fn taken<'a>(subcommand: Option<(&'a str, &ArgMatches<'a>)>) -> Option<CommandLi
         keep_going: found.get_flag("keep-going"),
         quiet: found.get_flag("quiet"),
         raw: found.get_flag("raw"),
+        base64: found.get_flag("base64"),
+        base64url: found.get_flag("base64url"),
         raw_kek: found.get_flag("raw-kek"),
+        base64_kek: found.get_flag("base64-kek"),
         verbose: found.get_flag("verbose"),
         unwrap: found.get_flag("unwrap"),
     })

@@ -37,9 +37,18 @@ const OLD_PADDED: &str =
 
 const KEY: &str = "the KEK is --kek FILE, and the key or the wrapped key --input FILE";
 
-const HEX: &str = "there is no such flag: without --raw and --raw-kek all is hex";
+const HEX: &str = "there is no such flag: what no flag says to be raw or base64 is hex";
 
-const BASE64: &str = "there is no such flag: base64 -d decodes it, and --raw takes the bytes";
+const BASE64: &str =
+    "the input and the answer are base64 with --base64, and the KEK file with --base64-kek";
+
+const BASE64URL: &str = "--base64url writes base64url; it and --base64 read both alphabets";
+
+const BASE64_KEK: &str = "a KEK file of base64 or base64url is read with --base64-kek";
+
+const PEM: &str =
+    "there is no such flag: openssl pkcs8 -topk8 -nocrypt -outform DER makes DER of a \
+                   private key in PEM, for --raw";
 
 const VERBOSE: &str = "--verbose has no short name, and -V is the version";
 
@@ -198,7 +207,18 @@ fn tip_on_guess(named: &str) -> Option<&'static str> {
         "--old-padded" => Some(OLD_PADDED),
         "--key" | "-K" => Some(KEY),
         "--hex" => Some(HEX),
-        "--b64" | "--base64" => Some(BASE64),
+        "--b64" | "--base-64" | "--base64-in" | "--base64-out" => Some(BASE64),
+        "--base64-url"
+        | "--b64url"
+        | "--b64-url"
+        | "--url"
+        | "--urlsafe"
+        | "--url-safe"
+        | "--base64-urlsafe" => Some(BASE64URL),
+        "--b64-kek" | "--kek-base64" | "--kek-b64" | "--base64url-kek" | "--base64-keks" => {
+            Some(BASE64_KEK)
+        }
+        "--pem" | "--der" => Some(PEM),
         "-v" => Some(VERBOSE),
         "-q" => Some(QUIET),
         _ => None,
