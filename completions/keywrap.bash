@@ -6,6 +6,7 @@
 _keywrap() {
     local word=${COMP_WORDS[COMP_CWORD]} before=${COMP_WORDS[COMP_CWORD - 1]} command='' options='' at option gone
     local help='-h --help -V --version' files='-i --input -o --output' lines='--lines --keep-going --quiet'
+    local notations='--raw --base64 --base64url --raw-kek --base64-kek'
     COMPREPLY=()
     # Of --kek=FILE bash makes three words.
     case $word in =) word='' ;; *) [ "$before" = = ] && before=${COMP_WORDS[COMP_CWORD - 2]} ;; esac
@@ -23,11 +24,11 @@ _keywrap() {
         options='wrap unwrap rewrap check drill vectors help'
         [ "${word:0:1}" != - ] || options=$help
         ;;
-    wrap | unwrap) options="--kek --padded --iv --raw --raw-kek --verbose $lines $files $help" ;;
+    wrap | unwrap) options="--kek --padded --iv --verbose $notations $lines $files $help" ;;
     rewrap)
-        options="--kek --new-kek --padded --new-padded --keep-form --pass-new --raw --raw-kek --verbose $lines $files $help"
+        options="--kek --new-kek --padded --new-padded --keep-form --pass-new --verbose $notations $lines $files $help"
         ;;
-    check) options="--kek --raw --raw-kek --verbose $lines $files $help" ;;
+    check) options="--kek --verbose $notations $lines $files $help" ;;
     # What is missing may be the HEX, which only the user knows.
     drill) [ "${word:0:1}" != - ] || options="--padded --unwrap $help" ;;
     vectors) options=$help ;;
@@ -41,7 +42,9 @@ _keywrap() {
         --new-padded) gone=(--new-padded --keep-form) ;;
         --keep-form) gone=(--keep-form --padded --new-padded) ;;
         --iv) gone=(--iv --padded) ;;
-        --raw) gone=(--raw --lines --keep-going --quiet) ;;
+        --raw) gone=(--raw --base64 --base64url --lines --keep-going --quiet) ;;
+        --base64 | --base64url) gone=(--base64 --base64url --raw) ;;
+        --raw-kek | --base64-kek) gone=(--raw-kek --base64-kek) ;;
         --lines | --keep-going | --quiet) gone=("${COMP_WORDS[at]}" --raw) ;;
         *) gone=("${COMP_WORDS[at]}") ;;
         esac

@@ -38,15 +38,22 @@ complete -c keywrap -n '__keywrap_is rewrap; and __keywrap_lacks --padded --new-
 complete -c keywrap -n '__keywrap_is rewrap' -l pass-new -d 'Answer what is under the new KEK already as it is'
 complete -c keywrap -n '__keywrap_is wrap unwrap; and __keywrap_lacks --padded' -l iv -x \
     -d 'An initial value that both ends agreed on'
-complete -c keywrap -l raw -n '__keywrap_is wrap unwrap rewrap check; and __keywrap_lacks --lines --keep-going' \
-    -d 'Input and output are raw bytes, not hex'
+complete -c keywrap -l raw -d 'Input and output are raw bytes, not hex' \
+    -n '__keywrap_is wrap unwrap rewrap check; and __keywrap_lacks --lines --keep-going --base64 --base64url'
+complete -c keywrap -n '__keywrap_is wrap unwrap rewrap check; and __keywrap_lacks --raw --base64url' -l base64 \
+    -d 'Input and output are base64, not hex'
+complete -c keywrap -n '__keywrap_is wrap unwrap rewrap check; and __keywrap_lacks --raw --base64' -l base64url \
+    -d 'Input and output are base64url, not hex'
 complete -c keywrap -n '__keywrap_is wrap unwrap rewrap check; and __keywrap_lacks --raw' -l lines \
     -d 'Many keys, one a line'
 complete -c keywrap -n '__keywrap_is wrap unwrap rewrap check; and __keywrap_lacks --raw' -l keep-going \
     -d 'With --lines: write an empty line for a refused one'
 complete -c keywrap -n '__keywrap_is wrap unwrap rewrap check; and __keywrap_lacks --raw' -l quiet \
     -d 'With --lines: show no progress'
-complete -c keywrap -n '__keywrap_is wrap unwrap rewrap check' -l raw-kek -d 'Each KEK file is raw bytes, not hex'
+complete -c keywrap -n '__keywrap_is wrap unwrap rewrap check; and __keywrap_lacks --base64-kek' -l raw-kek \
+    -d 'Each KEK file is raw bytes, not hex'
+complete -c keywrap -n '__keywrap_is wrap unwrap rewrap check; and __keywrap_lacks --raw-kek' -l base64-kek \
+    -d 'Each KEK file is base64, not hex'
 complete -c keywrap -n '__keywrap_is wrap unwrap rewrap check' -s i -l input -rF \
     -d 'The input, instead of standard input'
 complete -c keywrap -n '__keywrap_is wrap unwrap rewrap check' -s o -l output -rF \

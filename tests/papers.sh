@@ -19,7 +19,7 @@ page=$root/man/keywrap.1
 
 # options_of WORD..: the options that the help of a command names; of no words, those without a command.
 options_of() {
-    "$program" "$@" --help 2>/dev/null | sed -nE 's/^ +((-[A-Za-z], )?--[a-z-]+)( <[A-Z]+>)?$/\1/p' | sed 's/, /\n/'
+    "$program" "$@" --help 2>/dev/null | sed -nE 's/^ +((-[A-Za-z], )?--[a-z0-9-]+)( <[A-Z]+>)?$/\1/p' | sed 's/, /\n/'
 }
 commands=$("$program" --help | sed -n '/^Commands:/,/^$/s/^  \([a-z]*\) .*/\1/p')
 options=$(options_of; for command in $commands; do options_of "$command"; done)
@@ -38,7 +38,7 @@ done
 section() { sed -n "/^\.Sh $1\$/,/^\.Sh /p" "$page"; }
 
 # options_in LINES: the options that lines of the page name.
-options_in() { grep -oE 'Fl (-[a-z-]+|[A-Za-z])\>' <<<"$1" | sed 's/^Fl /-/'; }
+options_in() { grep -oE 'Fl (-[a-z0-9-]+|[A-Za-z])\>' <<<"$1" | sed 's/^Fl /-/'; }
 
 items=$(sed -n '/^\.Ss Options/,/^\.El/s/^\.It //p' "$page")
 same 'help and page: the commands' "$commands" "$(sed -n '/^\.Ss Commands/,/^\.El/s/^\.It Cm //p' "$page")"
@@ -109,11 +109,11 @@ row 'the page has examples of each command that reads' test "$(grep -oE 'keywrap
 
 completions=$root/completions
 # What the files say, where their shells are not there too.
-words() { grep -v '^ *#' "$1" | grep -oE -e '--[a-z-]+'; }
+words() { grep -v '^ *#' "$1" | grep -oE -e '--[a-z0-9-]+'; }
 same 'help and bash: the options of the file' "$(grep -e -- <<<"$options")" "$(words "$completions/keywrap.bash")"
 same 'help and zsh: the options of the file' "$(grep -e -- <<<"$options")" "$(words "$completions/_keywrap")"
 same 'help and fish: the options of the file' "$(grep -e -- <<<"$options")" \
-    "$(grep '^complete' "$completions/keywrap.fish" | grep -oE -e ' -l [a-z-]+' | sed 's/ -l /--/')"
+    "$(grep '^complete' "$completions/keywrap.fish" | grep -oE -e ' -l [a-z0-9-]+' | sed 's/ -l /--/')"
 
 # offers_SHELL LINE: what the shell offers behind a line, in the folder `files`.
 offers_bash() (
@@ -198,6 +198,10 @@ completes() {
     same "$shell: no --iv beside --padded" '' "$(offered "$shell" 'keywrap wrap --padded --i' | grep -- --iv)"
     same "$shell: no --padded beside --iv" '' "$(offered "$shell" 'keywrap unwrap --iv 00 --p')"
     same "$shell: no --raw beside --lines" --raw-kek "$(offered "$shell" 'keywrap wrap --lines --r')"
+    same "$shell: no --raw beside --base64" --raw-kek "$(offered "$shell" 'keywrap wrap --base64 --r')"
+    same "$shell: no --base64 beside --raw" --base64-kek "$(offered "$shell" 'keywrap wrap --raw --b')"
+    same "$shell: no --base64url beside --base64" --base64-kek "$(offered "$shell" 'keywrap check --base64 --b')"
+    same "$shell: one of --base64-kek and --raw-kek" --raw "$(offered "$shell" 'keywrap rewrap --base64-kek --ra')"
     same "$shell: no --padded beside --keep-form" '' "$(offered "$shell" 'keywrap rewrap --keep-form --pad')"
     same "$shell: no --keep-form beside --new-padded" '' "$(offered "$shell" 'keywrap rewrap --new-padded --keep-f')"
     same "$shell: no --lines beside --raw" '' "$(offered "$shell" 'keywrap check --raw --l')"
