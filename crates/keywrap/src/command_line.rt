@@ -28,8 +28,8 @@ fn job<'a>(job: Job, line: &CommandLine<'a>) -> Request<'a> {
     let task = Task {
         job,
         form: form(line.padded),
-        input: notation(line.raw),
-        kek: notation(line.raw_kek),
+        input: notation(line),
+        kek: kek_notation(line),
     };
     let work = Work::Job { iv: line.iv, task };
     Request::Work(work, places(line), lines(line))
@@ -39,8 +39,8 @@ fn rewrap<'a>(line: &CommandLine<'a>) -> Request<'a> {
     let task = Rewrapping {
         forms: rewrap_forms(line),
         passes_new: line.pass_new,
-        input: notation(line.raw),
-        kek: notation(line.raw_kek),
+        input: notation(line),
+        kek: kek_notation(line),
     };
     let work = Work::Rewrap {
         task,
@@ -99,6 +99,26 @@ fn form(padded: bool) -> Form {
     if padded { Form::Padded } else { Form::Plain }
 }
 
-fn notation(raw: bool) -> Notation {
-    if raw { Notation::Raw } else { Notation::Hex }
+// `--raw`, `--base64` and `--base64url` exclude one another.
+fn notation(line: &CommandLine<'_>) -> Notation {
+    if line.raw {
+        Notation::Raw
+    } else if line.base64 {
+        Notation::Base64
+    } else if line.base64url {
+        Notation::Base64Url
+    } else {
+        Notation::Hex
+    }
+}
+
+// `--raw-kek` and `--base64-kek` exclude each other. Of a KEK that is read both alphabets are one.
+fn kek_notation(line: &CommandLine<'_>) -> Notation {
+    if line.raw_kek {
+        Notation::Raw
+    } else if line.base64_kek {
+        Notation::Base64
+    } else {
+        Notation::Hex
+    }
 }

@@ -1,11 +1,13 @@
 //! The command `keywrap`: AES Key Wrap (RFC 3394 and RFC 5649) of files, in hex or raw.
 #![tactic(auto)]
 
+mod advice;
 mod command_line;
 mod many;
 mod notes;
 mod open_keks;
 mod output_file;
+mod pem;
 mod program;
 mod progress;
 mod refused;

@@ -1,27 +1,12 @@
 //! What is said of a run that was answered, where it may not have done what was meant: bytes that were
-//! taken as raw are text, or the form of the wrapped key changed.
+//! taken as raw are text, characters that were taken as base64 are hex digits, or the form of the
+//! wrapped key changed.
 
-use crate::telling::{SeenFiles, Telling, raw_text};
-use crate::text::Text;
+use crate::advice::{Advice, Role};
+use crate::telling::{SeenFiles, Telling};
+use crate::text::{Text, mistaken};
 use crate::watched::Seen;
 use keywrap_cli::Notation;
-
-// What is said of text, behind its length, for a file of hex digits and for one of base64.
-#[derive(Clone, Copy)]
-struct Says {
-    hex: &'static str,
-    base64: &'static str,
-}
-
-const OF_KEK: Says = Says {
-    hex: "hex digits; without --raw-kek they are read as hex",
-    base64: "characters of base64; base64 -d decodes them",
-};
-
-const OF_KEY: Says = Says {
-    hex: "hex digits; without --raw they are read as hex",
-    base64: "characters of base64; base64 -d decodes them",
-};
 
 impl Telling<'_> {
     /// Says it on standard error, a line each, where a refusal would have a second line.
@@ -30,28 +15,50 @@ impl Telling<'_> {
             return;
         }
         let kek = self.work.kek_notation();
-        self.say_text(rt, self.places.kek, kek, &seen.kek, OF_KEK);
-        self.say_text(rt, self.work.new_kek(), kek, &seen.new_kek, OF_KEK);
+        self.say_text(rt, self.places.kek, kek, &seen.kek, Role::Kek);
+        self.say_text(rt, self.work.new_kek(), kek, &seen.new_kek, Role::Kek);
         if self.work.takes_key() {
             let key = self.work.notation();
-            self.say_text(rt, self.input_name(), key, &seen.input, OF_KEY);
+            self.say_text(rt, self.input_name(), key, &seen.input, Role::Key);
         }
         if self.work.becomes_plain() {
             let _ = rt.eprintln(BECAME_PLAIN);
         }
     }
 
-    // Says that the file is text, if it was read as raw bytes and is. Without memory it is not said.
-    fn say_text<R: Eprint>(&self, rt: &R, name: &str, notation: Notation, seen: &Seen, says: Says) {
-        let what = match raw_text(notation, seen) {
-            Some(Text::Hex) => says.hex,
-            Some(Text::Base64) => says.base64,
-            None => return,
+    // Says that the file is text, if it was read as something else and is. Without memory it is not
+    // said.
+    fn say_text<R: Eprint>(&self, rt: &R, name: &str, notation: Notation, seen: &Seen, role: Role) {
+        let Some(text) = mistaken(notation, seen) else {
+            return;
+        };
+        let Ok(name) = self.shown(name) else {
+            return;
         };
         let bytes = seen.bytes;
-        if let Ok(name) = self.shown(name) {
-            let _ = eprintln!(rt; "keywrap: {name}: its {bytes} bytes are text, {what}");
-        }
+        let flag = flag_of(notation, role);
+        let base64 = role.base64();
+        let _ = match text {
+            Text::Hex => eprintln!(rt;
+                "keywrap: {name}: its {bytes} bytes are text, hex digits; without {flag} they are read as hex"
+            ),
+            Text::Base64 => eprintln!(rt;
+                "keywrap: {name}: its {bytes} bytes are text, characters of base64; {base64} decodes them"
+            ),
+            Text::Pem(pem) => {
+                let Advice { says, flag } = pem.advice(role);
+                eprintln!(rt; "keywrap: {name}: its {bytes} bytes are text, {says} {flag}")
+            }
+        };
+    }
+}
+
+// The flag that said the notation.
+fn flag_of(notation: Notation, role: Role) -> &'static str {
+    match (notation, role) {
+        (Notation::Raw | Notation::Hex, role) => role.raw(),
+        (Notation::Base64Url, Role::Key | Role::Wrapped) => "--base64url",
+        (_, role) => role.base64(),
     }
 }
 

@@ -1,5 +1,6 @@
 //! What a command line asks for.
 
+use crate::waiting::{Typed, spelled};
 use key_wrap::{Form, InitialValue};
 use keywrap_cli::{
     Direction, Job, Notation, ProgramFault, RewrapForms, Rewrapping, Task, parse_iv,
@@ -81,16 +82,20 @@ impl<'a> Work<'a> {
         !is_check && matches!(self.notation(), Notation::Raw)
     }
 
-    /// What is said while standard input, a terminal, is waited for.
-    pub fn waiting(&self, lines: Option<Lines>) -> &'static str {
-        match (self.takes_key(), self.notation()) {
-            (true, _) if lines.is_some() => WAITING_FOR_KEYS,
-            (false, _) if lines.is_some() => WAITING_FOR_WRAPPED_KEYS,
-            (true, Notation::Hex) => WAITING_FOR_KEY,
-            (true, Notation::Raw) => WAITING_FOR_RAW_KEY,
-            (false, Notation::Hex) => WAITING_FOR_WRAPPED_KEY,
-            (false, Notation::Raw) => WAITING_FOR_RAW_WRAPPED_KEY,
-        }
+    /// What is waited for, where standard input is a terminal.
+    pub fn waiting(&self, lines: Option<Lines>) -> Typed {
+        let what = match (self.takes_key(), lines) {
+            (true, None) => "the key",
+            (true, Some(_)) => "the keys",
+            (false, None) => "the wrapped key",
+            (false, Some(_)) => "the wrapped keys",
+        };
+        let how = match (self.notation(), lines) {
+            (notation, None) => spelled(notation),
+            (Notation::Base64 | Notation::Base64Url, Some(_)) => "in base64, one a line,",
+            (Notation::Hex | Notation::Raw, Some(_)) => "in hex, one a line,",
+        };
+        Typed { what, how }
     }
 
     /// Whether the input is a key; else it is a wrapped key.
@@ -139,21 +144,3 @@ impl<'a> Work<'a> {
         }
     }
 }
-
-const WAITING_FOR_KEY: &str =
-    "keywrap: waiting for the key in hex on standard input; Ctrl-D ends it";
-
-const WAITING_FOR_RAW_KEY: &str =
-    "keywrap: waiting for the key as raw bytes on standard input; Ctrl-D ends it";
-
-const WAITING_FOR_KEYS: &str =
-    "keywrap: waiting for the keys in hex, one a line, on standard input; Ctrl-D ends it";
-
-const WAITING_FOR_WRAPPED_KEYS: &str =
-    "keywrap: waiting for the wrapped keys in hex, one a line, on standard input; Ctrl-D ends it";
-
-const WAITING_FOR_WRAPPED_KEY: &str =
-    "keywrap: waiting for the wrapped key in hex on standard input; Ctrl-D ends it";
-
-const WAITING_FOR_RAW_WRAPPED_KEY: &str =
-    "keywrap: waiting for the wrapped key as raw bytes on standard input; Ctrl-D ends it";

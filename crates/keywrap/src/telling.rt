@@ -1,12 +1,13 @@
 //! What is told of a refused run: its fault, and which of its files was the cause, and why.
 
+use crate::advice::{Advice, Role};
 use crate::output_file::OutputFault;
 use crate::refused::Refused;
 use crate::request::{Places, Work};
-use crate::text::Text;
+use crate::text::{Text, mistaken};
 use crate::watched::Seen;
 use crate::why::Why;
-use key_files::FileFault;
+use key_files::{Base64Fault, FileFault};
 use key_lines::LineFault;
 use key_wrap::{Form, InPlaceFault, MAX_KEY};
 use keywrap_cli::{Job, JobFault, Notation, ProgramFault, RefusedLine, RewrapForms};
@@ -120,7 +121,7 @@ impl<'a> Telling<'a> {
 
     // What is said in place of the value of `--kek` or `--new-kek`, where it is no name but a KEK.
     fn typed_kek(&self, name: &str) -> Option<&'static str> {
-        if !is_kek(name) {
+        if !is_kek(name, self.work.kek_notation()) {
             None
         } else if name == self.places.kek {
             Some("(the value of --kek is not shown: it looks like a KEK)")
@@ -136,18 +137,18 @@ impl<'a> Telling<'a> {
         let kek = self.work.kek_notation();
         match fault {
             JobFault::KekFile(fault) => {
-                Some((self.places.kek, of_file(fault, &seen.kek, &KEK_TIPS)))
+                Some((self.places.kek, of_file(fault, &seen.kek, Role::Kek)))
             }
             JobFault::KekLength => Some((self.places.kek, of_kek(kek, &seen.kek))),
             JobFault::NewKekFile(fault) => {
                 Some((
                     self.work.new_kek(),
-                    of_file(fault, &seen.new_kek, &KEK_TIPS),
+                    of_file(fault, &seen.new_kek, Role::Kek),
                 ))
             }
             JobFault::NewKekLength => Some((self.work.new_kek(), of_kek(kek, &seen.new_kek))),
             JobFault::InputFile(fault) => {
-                Some((self.input_name(), of_file(fault, &seen.input, &INPUT_TIPS)))
+                Some((self.input_name(), of_file(fault, &seen.input, self.role())))
             }
             JobFault::BadLength => Some((self.input_name(), self.of_length(&seen.input))),
             JobFault::Integrity => Some((self.input_name(), self.of_integrity(&seen.kek))),
@@ -167,7 +168,19 @@ impl<'a> Telling<'a> {
         self.places.output.unwrap_or("standard output")
     }
 
+    /// What the input is for.
+    pub fn role(&self) -> Role {
+        if self.work.takes_key() {
+            Role::Key
+        } else {
+            Role::Wrapped
+        }
+    }
+
     fn of_length(&self, seen: &Seen) -> Why {
+        if let Some(Text::Pem(pem)) = mistaken(self.work.notation(), seen) {
+            return Why::Advises(pem.advice(self.role()));
+        }
         let bytes = denoted(self.work.notation(), seen);
         match self.work {
             Work::Job { task, .. } if task.job == Job::Wrap => of_key(task.form, bytes),
@@ -186,8 +199,14 @@ impl<'a> Telling<'a> {
             LineFault::Refused(InPlaceFault::BadLength) => self.of_line_length(),
             LineFault::Input(FileFault::TooLong) => Why::Says("a line of more than 4194304 bytes"),
             LineFault::Input(FileFault::Read) => Why::of_number(seen.input.error),
-            LineFault::Input(FileFault::BadDigit { .. }) => Why::Says("not hex"),
-            LineFault::Input(FileFault::OddDigits | FileFault::Memory) => Why::Named,
+            LineFault::Input(FileFault::BadDigit { .. }) => {
+                Why::Says("not hex; for base64 use --base64")
+            }
+            LineFault::Input(FileFault::BadBase64(Base64Fault::Character { .. })) => {
+                Why::Says("not base64, which has one alphabet a line")
+            }
+            LineFault::Input(FileFault::BadBase64(_) | FileFault::OddDigits | FileFault::Memory) =>
+                Why::Named,
         }
     }
 
@@ -202,18 +221,23 @@ impl<'a> Telling<'a> {
         }
     }
 
-    // A KEK of text that was read as raw bytes comes first.
+    // A KEK of text that was read as something else comes first.
     fn of_integrity(&self, kek: &Seen) -> Why {
-        match raw_text(self.work.kek_notation(), kek) {
-            Some(Text::Hex) => Why::Says(
+        let notation = self.work.kek_notation();
+        match (mistaken(notation, kek), notation) {
+            (Some(Text::Hex), Notation::Raw) => Why::Says(
                 "no wrapping under this KEK, which is hex digits read as raw bytes; \
                  try without --raw-kek",
             ),
-            Some(Text::Base64) => Why::Says(
-                "no wrapping under this KEK, which is characters of base64 read as raw bytes; \
-                 decode it with base64 -d",
+            (Some(Text::Hex), _) => Why::Says(
+                "no wrapping under this KEK, which is hex digits read as base64; \
+                 try without --base64-kek",
             ),
-            None => self.of_wrapping(),
+            (Some(Text::Base64), _) => Why::Says(
+                "no wrapping under this KEK, which is characters of base64 read as raw bytes; \
+                 try --base64-kek",
+            ),
+            (Some(Text::Pem(_)) | None, _) => self.of_wrapping(),
         }
     }
 
@@ -229,42 +253,68 @@ impl<'a> Telling<'a> {
     }
 }
 
-// Whether a text is the hex of a KEK.
-fn is_kek(text: &str) -> bool {
-    matches!(text.len(), 32 | 48 | 64) && text.bytes().all(|byte| byte.is_ascii_hexdigit())
-}
-
-// What is said of a file that is no hex.
-#[derive(Clone, Copy)]
-struct Tips {
-    raw: &'static str,
-    base64: &'static str,
-}
-
-const INPUT_TIPS: Tips = Tips {
-    raw: "not hex; for raw bytes use --raw",
-    base64: "not hex but characters of base64; if it is base64, decode it with base64 -d for --raw",
-};
-
-const KEK_TIPS: Tips = Tips {
-    raw: "not hex; for raw bytes use --raw-kek",
-    base64: "not hex but characters of base64; if it is base64, decode it with base64 -d for --raw-kek",
-};
-
-// Text is no raw bytes.
-fn of_no_hex(seen: &Seen, tips: &Tips) -> &'static str {
-    match seen.text() {
-        Some(_) => tips.base64,
-        None if seen.is_shown() => "not hex but text",
-        None => tips.raw,
+// Whether a text is the hex of a KEK, or its base64: without padding only where KEK files are base64,
+// since names of files are such texts, too.
+fn is_kek(text: &str, notation: Notation) -> bool {
+    let is_base64 = matches!(notation, Notation::Base64);
+    let characters = text.trim_end_matches('=');
+    match (characters.len(), text.len()) {
+        (32 | 48 | 64, _) if text.bytes().all(|byte| byte.is_ascii_hexdigit()) => true,
+        (22, 24) | (43, 44) => is_one_word(characters),
+        (22, 22) | (32, 32) | (43, 43) => is_base64 && is_one_word(characters),
+        _ => false,
     }
 }
 
-/// What a file that was read as raw bytes is, where it is text.
-pub fn raw_text(notation: Notation, seen: &Seen) -> Option<Text> {
-    match notation {
-        Notation::Raw => seen.text(),
-        Notation::Hex => None,
+// Characters of base64 alone, in either alphabet.
+fn is_one_word(text: &str) -> bool {
+    text.bytes().all(|byte| byte.is_ascii_alphanumeric()
+        || matches!(byte, b'+' | b'/' | b'-' | b'_'))
+}
+
+// What is said of a file that is no hex. Text is no raw bytes.
+fn of_no_hex(seen: &Seen, role: Role) -> Why {
+    match seen.text() {
+        Some(Text::Pem(pem)) => Why::Not("hex", pem.advice(role)),
+        Some(_) => Why::Not(
+            "hex",
+            Advice {
+                says: "characters of base64; if it is base64, use",
+                flag: role.base64(),
+            },
+        ),
+        None if seen.is_shown() => Why::Says("not hex but text"),
+        None => Why::Advises(Advice {
+            says: "not hex; for raw bytes use",
+            flag: role.raw(),
+        }),
+    }
+}
+
+// The same of one that is no base64.
+fn of_no_base64(fault: Base64Fault, seen: &Seen, role: Role) -> Why {
+    match (seen.text(), fault) {
+        (Some(Text::Pem(pem)), _) => Why::Not("base64", pem.advice(role)),
+        (_, Base64Fault::Character { .. }) => of_no_character(seen, role),
+        (_, Base64Fault::BehindPadding { .. }) => Why::Says("more than one text of base64?"),
+        (_, Base64Fault::Length) => Why::Base64 {
+            characters: seen.base64,
+            padding: seen.padding,
+        },
+        (_, Base64Fault::TrailingBits) => Why::Says("its last character is another, or cut off"),
+    }
+}
+
+fn of_no_character(seen: &Seen, role: Role) -> Why {
+    if seen.mixes_alphabets() {
+        Why::Says("not base64 but characters of both its alphabets")
+    } else if seen.is_shown() {
+        Why::Says("not base64 but text")
+    } else {
+        Why::Advises(Advice {
+            says: "not base64; for raw bytes use",
+            flag: role.raw(),
+        })
     }
 }
 
@@ -273,24 +323,31 @@ fn denoted(notation: Notation, seen: &Seen) -> u64 {
     match notation {
         Notation::Raw => seen.bytes,
         Notation::Hex => seen.digits / 2,
+        Notation::Base64 | Notation::Base64Url => seen.base64.saturating_mul(3) / 4,
     }
 }
 
-fn of_file(fault: FileFault, seen: &Seen, tips: &Tips) -> Why {
+fn of_file(fault: FileFault, seen: &Seen, role: Role) -> Why {
     match fault {
         FileFault::Read => Why::of_number(seen.error),
         FileFault::TooLong => Why::Says("more than 4194304 bytes"),
-        FileFault::BadDigit { .. } => Why::Says(of_no_hex(seen, tips)),
+        FileFault::BadDigit { .. } => of_no_hex(seen, role),
         FileFault::OddDigits => Why::Digits(seen.digits),
+        FileFault::BadBase64(fault) => of_no_base64(fault, seen, role),
         FileFault::Memory => Why::Named,
     }
 }
 
 fn of_kek(notation: Notation, seen: &Seen) -> Why {
-    Why::Kek {
-        bytes: denoted(notation, seen),
-        text: raw_text(notation, seen),
-    }
+    let bytes = denoted(notation, seen);
+    let but = match (mistaken(notation, seen), notation) {
+        (Some(Text::Pem(pem)), _) => return Why::Advises(pem.advice(Role::Kek)),
+        (Some(Text::Hex), Notation::Raw) => "; hex digits: try without --raw-kek",
+        (Some(Text::Hex), _) => "; hex digits: try without --base64-kek",
+        (Some(Text::Base64), _) => "; characters of base64: try --base64-kek",
+        (None, _) => "",
+    };
+    Why::Kek { bytes, but }
 }
 
 fn of_key(form: Form, bytes: u64) -> Why {

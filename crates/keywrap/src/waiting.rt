@@ -3,24 +3,35 @@
 use crate::request::{Lines, Places, Work};
 use keywrap_cli::Notation;
 
-/// The lines that are said, each of what standard input, a terminal, is waited for.
+/// What is waited for, and how it is to be typed.
+#[derive(Clone, Copy)]
+pub struct Typed {
+    /// As `the key`.
+    pub what: &'static str,
+    /// As `in hex`.
+    pub how: &'static str,
+}
+
+/// What standard input, a terminal, is waited for.
 #[derive(Clone, Copy)]
 pub struct Waiting {
-    /// Of the KEK.
-    pub kek: Option<&'static str>,
-    /// Of the new KEK.
-    pub new_kek: Option<&'static str>,
-    /// Of the input.
-    pub input: Option<&'static str>,
+    /// The KEK.
+    pub kek: Option<Typed>,
+    /// The new KEK.
+    pub new_kek: Option<Typed>,
+    /// The input.
+    pub input: Option<Typed>,
 }
 
 impl Waiting {
-    /// Says them, in the order in which the files are read. Nothing is lost where standard error is
-    /// closed.
+    /// Says them, a line each, in the order in which the files are read. Nothing is lost where
+    /// standard error is closed.
     pub fn say<R: Eprint>(&self, rt: &R) {
-        for line in [self.kek, self.new_kek, self.input] {
-            if let Some(line) = line {
-                let _ = rt.eprintln(line);
+        for typed in [self.kek, self.new_kek, self.input] {
+            if let Some(Typed { what, how }) = typed {
+                let _ = eprintln!(rt;
+                    "keywrap: waiting for {what} {how} on standard input; Ctrl-D ends it"
+                );
             }
         }
     }
@@ -28,20 +39,28 @@ impl Waiting {
 
 /// What is waited for.
 pub fn waiting_for(work: &Work<'_>, places: &Places<'_>, lines: Option<Lines>) -> Waiting {
-    let notation = work.kek_notation();
     let is_typed = match places.input {
         Some(name) => is_standard_input(name),
         None => true,
     };
+    let how = spelled(work.kek_notation());
+    let kek = Typed {
+        what: "the KEK",
+        how,
+    };
+    let new_kek = Typed {
+        what: "the new KEK",
+        how,
+    };
     Waiting {
-        kek: said(is_standard_input(places.kek), kek(notation)),
-        new_kek: said(is_standard_input(work.new_kek()), new_kek(notation)),
+        kek: said(is_standard_input(places.kek), kek),
+        new_kek: said(is_standard_input(work.new_kek()), new_kek),
         input: said(is_typed, work.waiting(lines)),
     }
 }
 
-fn said(is_waited_for: bool, line: &'static str) -> Option<&'static str> {
-    if is_waited_for { Some(line) } else { None }
+fn said(is_waited_for: bool, typed: Typed) -> Option<Typed> {
+    if is_waited_for { Some(typed) } else { None }
 }
 
 // The names that the system has for it.
@@ -49,22 +68,11 @@ fn is_standard_input(name: &str) -> bool {
     matches!(name, "/dev/stdin" | "/dev/fd/0" | "/proc/self/fd/0")
 }
 
-fn kek(notation: Notation) -> &'static str {
+/// How a notation is said of what is typed. Of base64 both alphabets are read.
+pub fn spelled(notation: Notation) -> &'static str {
     match notation {
-        Notation::Hex => "keywrap: waiting for the KEK in hex on standard input; Ctrl-D ends it",
-        Notation::Raw => {
-            "keywrap: waiting for the KEK as raw bytes on standard input; Ctrl-D ends it"
-        }
-    }
-}
-
-fn new_kek(notation: Notation) -> &'static str {
-    match notation {
-        Notation::Hex => {
-            "keywrap: waiting for the new KEK in hex on standard input; Ctrl-D ends it"
-        }
-        Notation::Raw => {
-            "keywrap: waiting for the new KEK as raw bytes on standard input; Ctrl-D ends it"
-        }
+        Notation::Hex => "in hex",
+        Notation::Raw => "as raw bytes",
+        Notation::Base64 | Notation::Base64Url => "in base64",
     }
 }

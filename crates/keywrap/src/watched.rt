@@ -1,5 +1,6 @@
 //! Files that are watched while they are read and written, for the line that says why.
 
+use crate::pem::{Line, Pem};
 use std::io::{self, Read, Write};
 
 /// What was seen of a file.
@@ -9,12 +10,22 @@ pub struct Seen {
     pub bytes: u64,
     /// How many of them are hex digits.
     pub digits: u64,
-    /// How many are characters of base64, as hex digits are.
+    /// How many are characters of base64, in either alphabet, as hex digits are.
     pub base64: u64,
+    /// How many of these are of its first alphabet alone, `+` or `/`.
+    pub first_alphabet: u64,
+    /// How many of its second alphabet alone, `-` or `_`.
+    pub second_alphabet: u64,
+    /// How many are the padding of base64, `=`.
+    pub padding: u64,
+    /// How many are spaces or tabs.
+    pub blanks: u64,
     /// How many are the bytes of line ends.
     pub line_ends: u64,
     /// How many are characters of ASCII that are shown, blanks, tabs or the bytes of line ends.
     pub shown: u64,
+    /// What the first PEM block in it is, if there is one.
+    pub pem: Option<Pem>,
     /// The number of the system's last error.
     pub error: Option<i32>,
 }
@@ -27,6 +38,8 @@ pub struct Watched<F> {
     /// What was seen of it: where it is not watched the errors alone.
     pub seen: Seen,
     watches: bool,
+    // The line that is read.
+    line: Line,
 }
 
 impl<F> Watched<F> {
@@ -36,24 +49,37 @@ impl<F> Watched<F> {
             file,
             seen: Seen::default(),
             watches,
+            line: Line::default(),
+        }
+    }
+
+    fn watch(&mut self, bytes: &[u8]) {
+        self.seen.bytes = self.seen.bytes.saturating_add(bytes.len() as u64);
+        for byte in bytes {
+            self.seen.count(*byte);
+            if self.seen.pem.is_none() {
+                self.line.take(*byte);
+                self.seen.pem = self.line.pem();
+            }
         }
     }
 }
 
 impl Seen {
-    fn read(&mut self, bytes: &[u8]) {
-        self.bytes = self.bytes.saturating_add(bytes.len() as u64);
-        for byte in bytes {
-            self.digits = self.digits.saturating_add(byte.is_ascii_hexdigit() as u64);
-            self.base64 = self.base64.saturating_add(is_base64(*byte) as u64);
-            self.line_ends = self.line_ends.saturating_add(is_line_end(*byte) as u64);
-            self.shown = self.shown.saturating_add(is_shown(*byte) as u64);
-        }
+    fn count(&mut self, byte: u8) {
+        let (first, second) = (matches!(byte, b'+' | b'/'), matches!(byte, b'-' | b'_'));
+        let base64 = byte.is_ascii_alphanumeric() || first || second;
+        self.digits = self.digits.saturating_add(byte.is_ascii_hexdigit() as u64);
+        self.base64 = self.base64.saturating_add(base64 as u64);
+        self.first_alphabet = self.first_alphabet.saturating_add(first as u64);
+        self.second_alphabet = self.second_alphabet.saturating_add(second as u64);
+        self.padding = self.padding.saturating_add((byte == b'=') as u64);
+        self.blanks = self
+            .blanks
+            .saturating_add(matches!(byte, b' ' | b'\t') as u64);
+        self.line_ends = self.line_ends.saturating_add(is_line_end(byte) as u64);
+        self.shown = self.shown.saturating_add(is_shown(byte) as u64);
     }
-}
-
-fn is_base64(byte: u8) -> bool {
-    byte.is_ascii_alphanumeric() || matches!(byte, b'+' | b'/' | b'=')
 }
 
 fn is_line_end(byte: u8) -> bool {
@@ -70,7 +96,7 @@ impl<F: Read> Read for Watched<F> {
     fn read(&mut self, buf: &mut [u8]) -> io::Result<usize> {
         let answer = self.file.read(buf);
         match &answer {
-            Ok(count) if self.watches => self.seen.read(buf.get(..*count).unwrap_or(&[])),
+            Ok(count) if self.watches => self.watch(buf.get(..*count).unwrap_or(&[])),
             Ok(_) => {}
             Err(error) => self.seen.error = error.raw_os_error(),
         }

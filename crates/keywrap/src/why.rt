@@ -1,6 +1,6 @@
 //! Why a file was refused: the second line, which names what was given.
 
-use crate::text::Text;
+use crate::advice::Advice;
 use std::alloc::{AllocError, Global};
 use std::io;
 
@@ -17,11 +17,10 @@ pub enum Why {
     Is(&'static str),
     /// Which KEK file it is, as `the KEK file`.
     IsKek(&'static str),
-    /// How many bytes of KEK are in it, and what they are where they are text that was read as raw
-    /// bytes.
+    /// How many bytes of KEK are in it, and what is said behind that.
     Kek {
         bytes: u64,
-        text: Option<Text>,
+        but: &'static str,
     },
     /// How many bytes are in it, and which a legal length is.
     Length {
@@ -36,6 +35,15 @@ pub enum Why {
     },
     /// How many hex digits are in it.
     Digits(u64),
+    /// How many characters of base64 are in it, and how many of its padding.
+    Base64 {
+        characters: u64,
+        padding: u64,
+    },
+    /// What it is, and what to try.
+    Advises(Advice),
+    /// What it is not, what it is instead, and what to try.
+    Not(&'static str, Advice),
     /// A text.
     Says(&'static str),
 }
@@ -70,15 +78,21 @@ impl Why {
             Why::Unkept(number) => write_unkept(alloc, number, line),
             Why::Is(what) => write!(line, ": is {what}"),
             Why::IsKek(which) => write!(line, " is {which}"),
-            Why::Kek { bytes, text } => {
-                let text = said_of(text);
-                write!(line, ": {bytes} {} of KEK{text}", unit(bytes))
-            }
+            Why::Kek { bytes, but } => write!(line, ": {bytes} {} of KEK{but}", unit(bytes)),
             Why::Length { bytes, legal } => write!(line, ": {bytes} {}; {legal}", unit(bytes)),
             Why::TooLong { bytes, what, most } => {
                 write!(line, ": {bytes} bytes; {what} has {most} at most")
             }
             Why::Digits(digits) => write!(line, ": {digits} hex digits"),
+            Why::Base64 {
+                characters,
+                padding,
+            } => write_base64(characters, padding, line),
+            Why::Advises(advice) => write_advice(": ", advice, line),
+            Why::Not(what, advice) => {
+                write!(line, ": not {what} but ")?;
+                write_advice("", advice, line)
+            }
             Why::Says(text) => write!(line, ": {text}"),
         }
     }
@@ -102,12 +116,26 @@ fn write_system(alloc: Global, number: i32, line: &mut String) -> Result<(), All
     }
 }
 
-fn said_of(text: Option<Text>) -> &'static str {
-    match text {
-        Some(Text::Hex) => "; hex digits: try without --raw-kek",
-        Some(Text::Base64) => "; characters of base64: decode it with base64 -d",
-        None => "",
+fn write_advice(before: &str, advice: Advice, line: &mut String) -> Result<(), AllocError> {
+    let Advice { says, flag } = advice;
+    if flag.is_empty() {
+        write!(line, "{before}{says}")
+    } else {
+        write!(line, "{before}{says} {flag}")
     }
+}
+
+fn write_base64(characters: u64, padding: u64, line: &mut String) -> Result<(), AllocError> {
+    let unit = if characters == 1 {
+        "character"
+    } else {
+        "characters"
+    };
+    write!(line, ": {characters} {unit} of base64")?;
+    if padding > 0 {
+        write!(line, " and {padding} =")?;
+    }
+    Ok(())
 }
 
 fn unit(bytes: u64) -> &'static str {

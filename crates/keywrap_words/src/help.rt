@@ -70,9 +70,9 @@ cut off is begun again, and what is damaged is still refused";
 pub const NOTES: &str = "\
 Hex: two digits a byte, of either case; spaces, tabs and line ends may stand
 anywhere. No 0x, no colons.
-Base64, with --base64, --base64url and --base64-kek: with + and / or with - and
-_, though not both in one text; = at its end as RFC 4648 has it, or none; spaces,
-tabs and line ends may stand anywhere.
+Base64 (--base64, --base64url, --base64-kek): with + and / or with - and _, not
+both in one text; with its = or none; spaces, tabs and line ends may stand
+anywhere.
 With --raw and --raw-kek every byte counts, a newline at the end too.
 
 Exit status:

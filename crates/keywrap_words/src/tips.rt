@@ -47,8 +47,7 @@ const BASE64URL: &str = "--base64url writes base64url; it and --base64 read both
 const BASE64_KEK: &str = "a KEK file of base64 or base64url is read with --base64-kek";
 
 const PEM: &str =
-    "there is no such flag: openssl pkcs8 -topk8 -nocrypt -outform DER makes DER of a \
-                   private key in PEM, for --raw";
+    "openssl pkcs8 -topk8 -nocrypt -outform DER makes DER of a private key in PEM, for --raw";
 
 const VERBOSE: &str = "--verbose has no short name, and -V is the version";
 
