@@ -51,7 +51,8 @@ echo >>most
 refuses 'one of a byte more' 6 'input: too long' "${wraps[@]}" --base64 <most
 head -c 1048576 /dev/urandom >long.raw
 "$program" "${wraps[@]}" --raw <long.raw >long.wrapped
-gives 'the longest key' 0 <(basenc --base64 -w 0 long.wrapped && echo) '' "${wraps[@]}" --base64 < <(basenc --base64 long.raw)
+gives 'the longest key' 0 <(basenc --base64 -w 0 long.wrapped && echo) '' "${wraps[@]}" --base64 < <(
+    basenc --base64 long.raw)
 row 'the longest wrapped key' cmp long.raw <("$program" "${unwraps[@]}" --base64url < <(basenc --base64 long.wrapped) |
     tr -- -_ +/ | base64 -d 2>/dev/null)
 
@@ -149,7 +150,8 @@ if has python3 python3 'every text of up to 4 characters'; then
         status=$?
         [ $status != 0 ] || back=$(bytes "$(base64 -d <<<"$back" | od -An -v -tx1 | tr -d ' \n')" |
             "$program" "${unwraps[@]}" --padded --raw | od -An -v -tx1 | tr -d ' \n')
-        verdict "the text '$text'" "$([ "$wanted" = "$status $back$(<err)" ] || echo "$status $back$(<err), not $wanted")"
+        got="$status $back$(<err)"
+        verdict "the text '$text'" "$([ "$wanted" = "$got" ] || echo "$got, not $wanted")"
     done 7<texts 8<wanted
 fi
 
@@ -251,7 +253,8 @@ for python in python3 /usr/bin/python3 none; do
     "$python" -c 'import cryptography_vectors' 2>/dev/null && break
 done
 if [ "$python" != none ]; then
-    verdict "NIST's cases" "$("$python" nist.py "$program" 2>&1 | diff - <(echo '6000 cases, more than 300 refused: True'))"
+    verdict "NIST's cases" "$("$python" nist.py "$program" 2>&1 |
+        diff - <(echo '6000 cases, more than 300 refused: True'))"
 else
     skip "NIST's cases" 'no tables' python3-cryptography-vectors
 fi

@@ -549,6 +549,7 @@ explains "Usage: keywrap unwrap $usage < WRAPPED > KEY|--padded|--iv <HEX>|--raw
 explains "Usage: keywrap rewrap $usage --new-kek <FILE> < WRAPPED > NEW|$files|$wrapped16|$wrapped32" \
     rewrap --help
 explains '--padded|--new-padded|--keep-form|--pass-new|--raw|--raw-kek|--lines|--keep-going|--quiet' rewrap --help
+explains '--base64|--base64url|--base64-kek' rewrap --help
 explains "Usage: keywrap check $usage < WRAPPED|--raw|--raw-kek|$files|$wrapped16|plain 16" check --help
 explains "Usage: keywrap wrap $usage < KEY > WRAPPED" wrap -h
 explains "Usage: keywrap unwrap $usage < WRAPPED > KEY" unwrap -h

@@ -43,7 +43,10 @@ tips 'the tip on check --padded' 'check looks at both forms, and says which one 
 tips 'the tip on unwrap --new-kek' 'only rewrap takes --new-kek' unwrap --kek kek16.hex --new-kek kek32.hex
 # What others call it.
 key_tip='the KEK is --kek FILE, and the key or the wrapped key --input FILE'
-base64_tip='there is no such flag: base64 -d decodes it, and --raw takes the bytes'
+base64_tip='the input and the answer are base64 with --base64, and the KEK file with --base64-kek'
+url_tip='--base64url writes base64url; it and --base64 read both alphabets'
+kek64_tip='a KEK file of base64 or base64url is read with --base64-kek'
+pem_tip='openssl pkcs8 -topk8 -nocrypt -outform DER makes DER of a private key in PEM, for --raw'
 for command in wrap unwrap rewrap check; do
     words=("$command" --kek kek16.hex)
     tips "the tip on $command --in" 'the input is --input FILE, in short -i FILE' "${words[@]}" --in key.hex
@@ -55,9 +58,18 @@ for command in wrap unwrap rewrap check; do
         "${words[@]}" --old-padded
     tips "the tip on $command --key" "$key_tip" "$command" --key kek16.hex
     tips "the tip on $command -K" "$key_tip" "$command" -K "$kek"
-    tips "the tip on $command --hex" 'there is no such flag: without --raw and --raw-kek all is hex' "${words[@]}" --hex
-    tips "the tip on $command --b64" "$base64_tip" "${words[@]}" --b64
-    tips "the tip on $command --base64" "$base64_tip" "${words[@]}" --base64
+    tips "the tip on $command --hex" 'there is no such flag: what no flag says to be raw or base64 is hex' \
+        "${words[@]}" --hex
+    for word in --b64 --base-64 --base64-in --base64-out; do
+        tips "the tip on $command $word" "$base64_tip" "${words[@]}" $word
+    done
+    for word in --base64-url --b64url --b64-url --url --urlsafe --url-safe --base64-urlsafe; do
+        tips "the tip on $command $word" "$url_tip" "${words[@]}" $word
+    done
+    for word in --b64-kek --kek-base64 --kek-b64 --base64url-kek --base64-keks; do
+        tips "the tip on $command $word" "$kek64_tip" "${words[@]}" $word
+    done
+    for word in --pem --der; do tips "the tip on $command $word" "$pem_tip" "${words[@]}" $word; done
     tips "the tip on $command -v" '--verbose has no short name, and -V is the version' "${words[@]}" -v
     tips "the tip on $command -q" '--quiet has no short name, and goes with --lines' "${words[@]}" -q
     tips "the tip on $command -f" 'files are named by options: --kek FILE, --input FILE, --output FILE' \
@@ -378,6 +390,20 @@ for digits in 32 48 64; do
     tells "$((digits + 1)) digits are a name" 6 "$key_file" "0${digits64:0:$digits}: $no_file" \
         check --kek "0${digits64:0:$digits}"
 done
+# In base64, 16 and 32 bytes with padding, and without where KEK files are base64: all such texts are names else.
+for text in "$(base64 <kek16.raw)" "$(base64 -w 0 < <(bytes "$kek"))"; do
+    tells "$text as KEK file" 6 "$key_file" \
+        "(the value of --kek is not shown: it looks like a KEK): $no_file" check --kek "$text"
+    tells "$text as KEK file of base64, without its padding" 6 "$key_file" \
+        "(the value of --kek is not shown: it looks like a KEK): $no_file" check --base64-kek --kek "${text%%=*}"
+    tells "$text without its padding is a name" 6 "$key_file" "${text%%=*}: $no_file" check --kek "${text%%=*}"
+    tells "$text as new KEK file" 6 'new key file: cannot be opened' \
+        "(the value of --new-kek is not shown: it looks like a KEK): $no_file" \
+        rewrap --kek kek16.hex --new-kek "$text"
+done
+tells '24 bytes of base64 as KEK file' 6 "$key_file" \
+    "(the value of --kek is not shown: it looks like a KEK): $no_file" \
+    check --base64-kek --kek "$(bytes "${kek:0:48}" | base64)"
 tells 'a name of 32 characters' 6 "$key_file" "g${digits64:0:31}: $no_file" check --kek "g${digits64:0:31}"
 tells 'a folder as KEK file' 6 'key file: cannot be read' 'folder: Is a directory' wrap --kek folder
 tells 'a folder as input' 6 'input: cannot be read' 'folder: Is a directory' wrap --kek kek16.hex -i folder
@@ -392,20 +418,68 @@ tells 'a raw KEK file' 6 'key file: no hex digit at byte 0' 'kek16.raw: not hex;
 tells 'an odd KEK' 6 'key file: odd number of hex digits' 'odd.hex: 3 hex digits' wrap --kek odd.hex
 tells 'a KEK file that is too long' 6 'key file: too long' 'long.hex: more than 4194304 bytes' wrap --kek long.hex
 # Text that is no hex is no raw bytes either.
-base64_for='not hex but characters of base64; if it is base64, decode it with base64 -d for'
+base64_for='not hex but characters of base64; if it is base64, use'
 tells 'a bad digit in the new KEK' 6 'new key file: no hex digit at byte 1' \
-    "digit.hex: $base64_for --raw-kek" rewrap --kek kek16.hex --new-kek digit.hex
-tells 'a bad digit' 6 'input: no hex digit at byte 1' "digit.hex: $base64_for --raw" wrap --kek kek16.hex -i digit.hex
+    "digit.hex: $base64_for --base64-kek" rewrap --kek kek16.hex --new-kek digit.hex
+tells 'a bad digit' 6 'input: no hex digit at byte 1' "digit.hex: $base64_for --base64" \
+    wrap --kek kek16.hex -i digit.hex
 tells 'a raw input' 6 'input: no hex digit at byte 0' 'key.raw: not hex; for raw bytes use --raw' \
     wrap --kek kek16.hex -i key.raw
 echo '00:11:22' >colons
 tells 'a text that is neither' 6 'input: no hex digit at byte 2' 'colons: not hex but text' \
     wrap --kek kek16.hex -i colons
 base64 kek16.raw >kek16.base64
-tells 'a KEK in base64' 6 'key file: no hex digit at byte 5' "kek16.base64: $base64_for --raw-kek" \
+tells 'a KEK in base64' 6 'key file: no hex digit at byte 5' "kek16.base64: $base64_for --base64-kek" \
     wrap --kek kek16.base64
 tells 'a KEK in base64, as raw' 3 "$kek_length" \
-    'kek16.base64: 25 bytes of KEK; characters of base64: decode it with base64 -d' wrap --raw-kek --kek kek16.base64
+    'kek16.base64: 25 bytes of KEK; characters of base64: try --base64-kek' wrap --raw-kek --kek kek16.base64
+tells 'a KEK in hex, as base64' 3 "$kek_length" 'kek32.hex: 48 bytes of KEK; hex digits: try without --base64-kek' \
+    wrap --base64-kek --kek kek32.hex
+# no_base64 NAME FIRST SECOND TEXT: of a text as base64.
+no_base64() {
+    printf %s "$4" >in.64
+    tells "$1" 6 "input: $2" "in.64: $3" wrap --base64 --kek kek16.hex -i in.64
+    tells "$1, KEK" 6 "key file: $2" "in.64: $3" wrap --base64-kek --kek in.64
+}
+no_base64 'colons' 'no base64 character at byte 2' 'not base64 but text' 00:11
+no_base64 'both alphabets' 'no base64 character at byte 5' 'not base64 but characters of both its alphabets' 'AB +C_=='
+no_base64 'two texts' 'base64 goes on after its padding at byte 5' 'more than one text of base64?' $'AA==\nAA=='
+no_base64 'five characters' 'length is not that of base64' '5 characters of base64' AAAAA
+no_base64 'one character' 'length is not that of base64' '1 character of base64' A
+no_base64 'half of the padding' 'length is not that of base64' '2 characters of base64 and 1 =' AA=
+no_base64 'bits of no byte' 'last base64 character has bits of no byte' 'its last character is another, or cut off' AB==
+tells 'raw bytes as base64' 6 'input: no base64 character at byte 0' 'key.raw: not base64; for raw bytes use --raw' \
+    wrap --base64 --kek kek16.hex -i key.raw
+tells 'a raw KEK as base64' 6 'key file: no base64 character at byte 0' \
+    'kek16.raw: not base64; for raw bytes use --raw-kek' wrap --base64-kek --kek kek16.raw
+# PEM, and what makes bytes of it.
+# pem LABEL FILE: a block of 33 bytes, whose base64 has + in it, behind a text.
+pem() {
+    printf 'a text\n-----BEGIN %s-----\n%s\n-----END %s-----\n' "$1" "$(bytes fb"$(zeros 32)" | base64)" "$1" >"$2"
+}
+der_of() { echo "openssl $1 -outform DER makes DER of it, for --raw"; }
+pem 'PRIVATE KEY' private.pem
+pem 'EC PRIVATE KEY' ec.pem
+pem 'PUBLIC KEY' public.pem
+pem CERTIFICATE certificate.pem
+pem 'OPENSSH PRIVATE KEY' other.pem
+private='PEM of a private key' public='PEM of a public key' certificate='PEM of a certificate'
+leaves='PEM; grep -v -e ----- leaves its base64, for'
+while IFS='|' read -r file as_key as_kek as_wrapped; do
+    tells "$file as a key" 6 'input: no hex digit at byte 1' "$file: not hex but $as_key" \
+        wrap --kek kek16.hex -i "$file"
+    tells "$file as a raw key" 4 "$bad_length" "$file: $as_key" wrap --raw --kek kek16.hex -i "$file"
+    tells "$file as a KEK" 6 'key file: no hex digit at byte 1' "$file: not hex but $as_kek" wrap --kek "$file"
+    tells "$file as a raw KEK" 3 "$kek_length" "$file: $as_kek" wrap --raw-kek --kek "$file"
+    tells "$file as a wrapped key" 6 'input: no hex digit at byte 1' "$file: not hex but $as_wrapped" \
+        unwrap --kek kek16.hex -i "$file"
+done <<END_OF_PEM
+private.pem|$private; $(der_of 'pkcs8 -topk8 -nocrypt')|$private, which is no KEK|$private, which is no wrapped key
+ec.pem|$private; $(der_of 'pkcs8 -topk8 -nocrypt')|$private, which is no KEK|$private, which is no wrapped key
+public.pem|$public; $(der_of 'pkey -pubin')|$public, which is no KEK|$public, which is no wrapped key
+certificate.pem|$certificate; $(der_of x509)|$certificate, which is no KEK|$certificate, which is no wrapped key
+other.pem|$leaves --base64|$leaves --base64-kek|$leaves --base64
+END_OF_PEM
 tells 'no line' 4 'no lines' 'nothing: is empty' wrap --lines --kek kek16.hex -i nothing
 tells 'no line on standard input' 4 'no lines' 'standard input: is empty' check --lines --kek kek16.hex
 tells 'odd digits' 6 'input: odd number of hex digits' 'odd.hex: 3 hex digits' unwrap --kek kek16.hex -i odd.hex
@@ -460,7 +534,9 @@ head -c -1 kek16.base64 >kek.base64
 under='wrapped.hex: no wrapping under this KEK, which is'
 wrong 'a KEK of hex digits, as raw' "$under hex digits read as raw bytes; try without --raw-kek" \
     unwrap --raw-kek --kek kek.digits -i wrapped.hex
-wrong 'a KEK of base64, as raw' "$under characters of base64 read as raw bytes; decode it with base64 -d" \
+wrong 'a KEK of hex digits, as base64' "$under hex digits read as base64; try without --base64-kek" \
+    unwrap --base64-kek --kek kek.digits -i wrapped.hex
+wrong 'a KEK of base64, as raw' "$under characters of base64 read as raw bytes; try --base64-kek" \
     unwrap --raw-kek --kek kek.base64 -i wrapped.hex
 
 # not_to FILE WHY [ARGUMENT..]: FILE is no output.
@@ -530,7 +606,7 @@ notes() {
 # in_hex FILE: the same bytes in hex.
 in_hex() { od -An -v -tx1 <"$1" | tr -d ' \n'; }
 is_hex='hex digits; without'
-is_base64='characters of base64; base64 -d decodes them'
+is_base64='characters of base64;'
 as_kek="are text, $is_hex --raw-kek they are read as hex"
 as_key="are text, $is_hex --raw they are read as hex"
 printf '%s' "${digits64:0:16}" >kek.short
@@ -543,10 +619,11 @@ notes 'a raw KEK of 16 digits' 0 "kek.short: its 16 bytes $as_kek" wrap --raw-ke
 notes 'a raw KEK of 23 digits and a line end' 0 "kek.line: its 24 bytes $as_kek" \
     wrap --raw-kek --kek kek.line -i key.hex
 notes 'a raw KEK of 30 digits and CR LF' 0 "kek.crlf: its 32 bytes $as_kek" wrap --raw-kek --kek kek.crlf -i key.hex
-notes 'a raw KEK in base64' 0 "kek.base64: its 24 bytes are text, $is_base64" wrap --raw-kek --kek kek.base64 -i key.hex
+notes 'a raw KEK in base64' 0 "kek.base64: its 24 bytes are text, $is_base64 --base64-kek decodes them" \
+    wrap --raw-kek --kek kek.base64 -i key.hex
 notes 'a new KEK of digits' 0 "kek.digits: its 32 bytes $as_kek" \
     rewrap --raw-kek --kek kek16.raw --new-kek kek.digits -i wrapped.hex
-notes 'a check that finds none' 5 "kek.base64: its 24 bytes are text, $is_base64" \
+notes 'a check that finds none' 5 "kek.base64: its 24 bytes are text, $is_base64 --base64-kek decodes them" \
     check --raw-kek --kek kek.base64 -i wrapped.hex
 notes 'many keys under a KEK of digits' 0 "kek.digits: its 32 bytes $as_kek
 keywrap: 1 line: 1 answered, 0 refused" wrap --lines --raw-kek --kek kek.digits -i key.hex
@@ -554,10 +631,22 @@ notes 'a raw key of 33 bytes' 0 "key.hex: its 33 bytes $as_key" wrap --padded --
 stream=kek.digits
 notes 'a raw key of digits from standard input' 0 "standard input: its 32 bytes $as_key" wrap --raw --kek kek16.hex
 stream=/dev/null
-notes 'a raw key in base64' 0 "kek16.base64: its 25 bytes are text, $is_base64" \
+notes 'a raw key in base64' 0 "kek16.base64: its 25 bytes are text, $is_base64 --base64 decodes them" \
     wrap --padded --raw --kek kek16.hex -i kek16.base64
 notes 'a raw key and a KEK of digits' 0 "kek.short: its 16 bytes $as_kek
 keywrap: kek.digits: its 32 bytes $as_key" wrap --raw --raw-kek --kek kek.short -i kek.digits
+# Hex digits are base64, too; and PEM is raw bytes.
+for flag in --base64 --base64url; do
+    notes "a key of digits, $flag" 0 "kek.digits: its 32 bytes are text, $is_hex $flag they are read as hex" \
+        wrap $flag --kek kek16.hex -i kek.digits
+done
+notes 'a KEK of digits, --base64-kek' 0 "kek.digits: its 32 bytes are text, $is_hex --base64-kek they are read as hex" \
+    wrap --base64-kek --kek kek.digits -i key.hex
+notes 'a raw key in PEM' 0 "private.pem: its $(wc -c <private.pem) bytes are text, $private; $(
+    der_of 'pkcs8 -topk8 -nocrypt')" wrap --padded --raw --kek kek16.hex -i private.pem
+printf %s 'AAAA+AAAA_AAAAAA' >kek.mixed
+notes 'a KEK of both alphabets' 0 '' wrap --raw-kek --kek kek.mixed -i key.hex
+notes 'a KEK in base64, read as that' 0 '' wrap --base64-kek --kek kek16.base64 -i key.hex
 # What is no text, or in no doubt.
 printf 'correct horse ba' >kek.words
 printf '%s\0' "${digits64:0:15}" >kek.nul

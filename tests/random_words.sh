@@ -81,6 +81,7 @@ cp -a files here
 
 commands=(wrap unwrap rewrap check drill vectors help)
 flags=(--kek --padded --raw --raw-kek --unwrap --help -h --version -V -- - --kek=kek16.hex --kek= --raw=1
+    --base64 --base64url --base64-kek --base64=1
     --no-raw --ra --KEK -k -rh -hV --kek=$'\xff' --iv --secret --new-kek --new-padded --new-kek=kek32.hex --new
     -i --input -o --output --input=key.hex --output=file --output= --input= -ikey.hex -ofile -io -o=file --out)
 values=("$iv" "${iv^^}" a65959a600000010 "$d16" "$drilled" "${drilled^^}" "$key7" "$wrapped16" "$(zeros 9)" '' 0 0g 012
@@ -144,7 +145,7 @@ likely_line() {
     rewrap)
         likely_kek --kek kek16.hex
         likely_kek --new-kek kek32.hex
-        own=(--padded --new-padded --raw --raw-kek)
+        own=(--padded --new-padded --raw --raw-kek --base64 --base64url --base64-kek)
         ;;
     drill)
         pick "${values[@]}"
@@ -154,7 +155,7 @@ likely_line() {
     vectors) own=(--help) ;;
     *)
         likely_kek --kek kek16.hex
-        own=(--padded --raw --raw-kek)
+        own=(--padded --raw --raw-kek --base64 --base64url --base64-kek)
         ;;
     esac
     for flag in "${own[@]}"; do
@@ -188,9 +189,11 @@ declare -A refusal=(
     [3]="(new )?$kek_length"
     [4]="$bad_length"
     [5]="$integrity"
-    [6]="$file: (cannot be read|too long|odd number of hex digits|no hex digit at byte [0-9]+)"
+    [6]="$file: (cannot be read|too long|odd number of hex digits|no (hex digit|base64 character) at byte [0-9]+)"
     [7]="$memory"
 )
+refusal[6]+="|$file: (base64 goes on after its padding at byte [0-9]+|length is not that of base64)"
+refusal[6]+="|$file: last base64 character has bits of no byte"
 refusal[6]="(((new )?key file|input|output): cannot be opened|${refusal[6]})"
 
 # has_one_line: nothing but the one line of the status came.

@@ -142,6 +142,15 @@ waits 'raw wrap from a terminal' 4 '' "$waiting ${in_raw}keywrap: $bad_length\n"
     wrap --raw --kek kek16.hex
 waits 'wrap from a terminal into a file' 0 '' "$waiting $in_hex" "$d16\n\004" wrap --kek kek16.hex --output file
 verdict 'what is in it then' "$(cmp file wrapped.hex 2>&1)"
+in_base64='in base64 on standard input; Ctrl-D ends it\n'
+d16_64=ABEiM0RVZneImaq7zN3u/w== wrapped16_64=H6aLCoEStEeu80vY+1p7gp0+hiNx0s/l
+waits 'a key in base64 from a terminal' 0 "$wrapped16_64\n" "$waiting $in_base64" "$d16_64\n\004" \
+    wrap --base64 --kek kek16.hex
+waits 'a wrapped key in base64url from a terminal' 0 'ABEiM0RVZneImaq7zN3u_w\n' "$waiting_wrapped $in_base64" \
+    "$wrapped16_64\n\004" unwrap --base64url --kek kek16.hex
+waits 'keys in lines of base64 from a terminal' 0 "$wrapped16_64\n" \
+    "${waiting}s in base64, one a line, on standard input; Ctrl-D ends it\n" "$d16_64\n\004" \
+    wrap --lines --base64 --kek kek16.hex
 in_lines='in hex, one a line, on standard input; Ctrl-D ends it\n'
 waits 'keys in lines from a terminal' 0 "$wrapped16\n" "${waiting}s $in_lines" "$d16\n\004" \
     wrap --lines --kek kek16.hex
@@ -164,6 +173,8 @@ waits 'the KEK in lines from a terminal' 0 "$wrapped16\n" "$waiting_kek" "$typed
     wrap --lines --kek /dev/stdin -i key.hex
 waits 'a raw KEK from a terminal' 3 '' "keywrap: waiting for the KEK ${in_raw}keywrap: $kek_length\n" 'none\n\004' \
     wrap --raw-kek --kek /dev/stdin -i key.hex
+waits 'a KEK in base64 from a terminal' 0 "$wrapped16\n" "keywrap: waiting for the KEK $in_base64" \
+    'AAECAwQFBgcICQoLDA0ODw\n\004' wrap --base64-kek --kek /dev/stdin -i key.hex
 waits 'a raw new KEK from a terminal' 3 '' "keywrap: waiting for the new KEK ${in_raw}keywrap: $new_kek_length\n" \
     'none\n\004' rewrap --raw-kek --kek kek16.raw --new-kek /dev/stdin -i wrapped.hex
 waits 'the KEK and then the key from a terminal' 3 '' "$waiting_kek$waiting ${in_hex}keywrap: $kek_length\n" '\004' \

@@ -10,9 +10,17 @@ kek_files
 echo none >none
 echo "$d16" >key.hex
 bytes "$d16" >key.raw
+bytes "$d16" | base64 >key.64
+bytes "${kek:0:32}" | base64 >kek16.64
 echo "$key7" >key7.hex
 echo "$wrapped16" >wrapped.hex
 bytes "$wrapped16" >wrapped.raw
+bytes "$wrapped16" | base64 >wrapped.64
+tr +/ -_ <wrapped.64 >wrapped.url
+echo 'AA*A' >digit.64
+echo AA=A >behind.64
+echo AAAAA >length.64
+echo AB== >bits.64
 echo "$wrapped7" >wrapped7.hex
 echo "$wrapped_iv" >agreed.hex
 echo "$wrapped32" >wrapped32.hex
@@ -89,6 +97,10 @@ jobs() {
     "$1" 'rewrap of what is new already' 0 wrapped32.hex '' wrapped32.hex \
         rewrap --pass-new --kek kek16.hex --new-kek kek32.hex
     "$1" 'check of a wrong byte' 5 none '' wrong.hex check --kek kek16.hex
+    "$1" 'wrap in base64' 0 wrapped.64 '' key.64 wrap --base64 --base64-kek --kek kek16.64
+    "$1" 'unwrap in base64' 0 key.64 '' wrapped.url unwrap --base64 --base64-kek --kek kek16.64
+    "$1" 'rewrap in base64url' 0 wrapped.url '' wrapped.64 rewrap --base64url --kek kek16.hex --new-kek kek16.hex
+    "$1" 'check in base64' 0 plain16 '' wrapped.64 check --base64 --kek kek16.hex
 }
 
 # refused FUNCTION: the same for the refusals, each with its line.
@@ -108,6 +120,13 @@ refused() {
     "$1" 'an input that is too long' 6 nothing "$input too long" long.hex wrap --kek kek16.hex
     "$1" 'a bad digit' 6 nothing "$input no hex digit at byte 1" digit.hex unwrap --kek kek16.hex
     "$1" 'odd digits' 6 nothing "$input odd number of hex digits" odd.hex wrap --kek kek16.hex
+    "$1" 'no base64' 6 nothing "$input no base64 character at byte 2" digit.64 wrap --base64 --kek kek16.hex
+    "$1" 'base64 behind its padding' 6 nothing "$input base64 goes on after its padding at byte 3" behind.64 \
+        wrap --base64 --kek kek16.hex
+    "$1" 'a KEK of five characters' 6 nothing "$file length is not that of base64" - \
+        wrap --base64-kek --kek length.64
+    "$1" 'bits of no byte' 6 nothing "$input last base64 character has bits of no byte" bits.64 \
+        check --base64url --kek kek16.hex
     "$1" 'a key of 7 bytes' 4 nothing "keywrap: $bad_length" key7.hex wrap --kek kek16.hex
     "$1" 'the longest file, no digits' 4 nothing "keywrap: $bad_length" blank.hex wrap --kek kek16.hex
     "$1" 'a wrong byte' 5 nothing "keywrap: $integrity" wrong.hex unwrap --kek kek16.hex
@@ -141,6 +160,7 @@ filed() {
     "$1" 'padded unwrap into a file' 0 key7.hex '' wrapped7.hex unwrap --padded --kek kek5649.hex "${into[@]}"
     "$1" 'rewrap into a file' 0 wrapped32.hex '' - \
         rewrap --kek kek16.hex --new-kek kek32.hex -i wrapped.hex "${into[@]}"
+    "$1" 'wrap in base64 into a file' 0 wrapped.64 '' key.64 wrap --base64 --kek kek16.hex "${into[@]}"
     "$1" 'check into a file' 0 plain16 '' wrapped.hex check --kek kek16.hex "${into[@]}"
     "$1" 'check of a wrong byte into a file' 5 none '' - check --kek kek16.hex -i wrong.hex "${into[@]}"
     "$1" 'a wrong byte, no file' 5 old "keywrap: $integrity" - unwrap --kek kek16.hex -i wrong.hex "${into[@]}"

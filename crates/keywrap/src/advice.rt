@@ -41,8 +41,8 @@ pub struct Advice {
 }
 
 impl Pem {
-    /// What makes bytes of it that can be read. A KEK and a wrapped key are neither of the keys that
-    /// openssl writes as PEM, nor a certificate.
+    /// What makes bytes of it that can be read. A KEK and a wrapped key are neither of the keys
+    /// that openssl writes as PEM, nor a certificate.
     pub fn advice(self, role: Role) -> Advice {
         match (self, role) {
             (Pem::PrivateKey, Role::Key) => Advice {

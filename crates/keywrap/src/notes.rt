@@ -1,12 +1,13 @@
-//! What is said of a run that was answered, where it may not have done what was meant: bytes that were
-//! taken as raw are text, characters that were taken as base64 are hex digits, or the form of the
-//! wrapped key changed.
+//! What is said of a run that was answered, where it may not have done what was meant: bytes that
+//! were taken as raw are text, characters that were taken as base64 are hex digits, or the form of
+//! the wrapped key changed.
 
 use crate::advice::{Advice, Role};
 use crate::telling::{SeenFiles, Telling};
 use crate::text::{Text, mistaken};
 use crate::watched::Seen;
 use keywrap_cli::Notation;
+use std::alloc::AllocError;
 
 impl Telling<'_> {
     /// Says it on standard error, a line each, where a refusal would have a second line.
@@ -32,24 +33,32 @@ impl Telling<'_> {
         let Some(text) = mistaken(notation, seen) else {
             return;
         };
-        let Ok(name) = self.shown(name) else {
+        let Ok(name) = self.begun(name) else {
             return;
         };
         let bytes = seen.bytes;
         let flag = flag_of(notation, role);
         let base64 = role.base64();
         let _ = match text {
-            Text::Hex => eprintln!(rt;
-                "keywrap: {name}: its {bytes} bytes are text, hex digits; without {flag} they are read as hex"
-            ),
-            Text::Base64 => eprintln!(rt;
-                "keywrap: {name}: its {bytes} bytes are text, characters of base64; {base64} decodes them"
-            ),
+            Text::Hex => {
+                let are = "hex digits; without";
+                eprintln!(rt; "{name}{bytes} bytes are text, {are} {flag} they are read as hex")
+            }
+            Text::Base64 => {
+                let are = "characters of base64;";
+                eprintln!(rt; "{name}{bytes} bytes are text, {are} {base64} decodes them")
+            }
             Text::Pem(pem) => {
                 let Advice { says, flag } = pem.advice(role);
-                eprintln!(rt; "keywrap: {name}: its {bytes} bytes are text, {says} {flag}")
+                eprintln!(rt; "{name}{bytes} bytes are text, {says} {flag}")
             }
         };
+    }
+
+    // What such a line begins with.
+    fn begun(&self, name: &str) -> Result<String, AllocError> {
+        let name = self.shown(name)?;
+        format!(in self.alloc; "keywrap: {name}: its ")
     }
 }
 

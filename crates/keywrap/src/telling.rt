@@ -253,8 +253,8 @@ impl<'a> Telling<'a> {
     }
 }
 
-// Whether a text is the hex of a KEK, or its base64: without padding only where KEK files are base64,
-// since names of files are such texts, too.
+// Whether a text is the hex of a KEK, or its base64: without padding only where KEK files are
+// base64, since names of files are such texts, too.
 fn is_kek(text: &str, notation: Notation) -> bool {
     let is_base64 = matches!(notation, Notation::Base64);
     let characters = text.trim_end_matches('=');
