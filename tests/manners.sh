@@ -482,6 +482,14 @@ other.pem|$leaves --base64|$leaves --base64-kek|$leaves --base64
 END_OF_PEM
 tells 'no line' 4 'no lines' 'nothing: is empty' wrap --lines --kek kek16.hex -i nothing
 tells 'no line on standard input' 4 'no lines' 'standard input: is empty' check --lines --kek kek16.hex
+tells 'a line of base64, as hex' 6 'line 1: no hex digit at byte 5' \
+    'kek16.base64: not hex; for base64 use --base64' wrap --lines --kek kek16.hex -i kek16.base64
+printf 'A+_A' >in.64
+tells 'a line in both alphabets' 6 'line 1: no base64 character at byte 2' 'in.64: not base64 in one alphabet' \
+    wrap --lines --base64 --kek kek16.hex -i in.64
+printf 'AB==' >in.64
+tells 'a line with bits of no byte' 6 'line 1: last base64 character has bits of no byte' in.64 \
+    wrap --lines --base64url --kek kek16.hex -i in.64
 tells 'odd digits' 6 'input: odd number of hex digits' 'odd.hex: 3 hex digits' unwrap --kek kek16.hex -i odd.hex
 tells 'an input that is too long' 6 'input: too long' 'long.hex: more than 4194304 bytes' \
     wrap --kek kek16.hex -i long.hex

@@ -200,7 +200,8 @@ completes() {
     same "$shell: no --raw beside --lines" --raw-kek "$(offered "$shell" 'keywrap wrap --lines --r')"
     same "$shell: no --raw beside --base64" --raw-kek "$(offered "$shell" 'keywrap wrap --base64 --r')"
     same "$shell: no --base64 beside --raw" --base64-kek "$(offered "$shell" 'keywrap wrap --raw --b')"
-    same "$shell: no --base64url beside --base64" --base64-kek "$(offered "$shell" 'keywrap check --base64 --b')"
+    same "$shell: no --base64url beside --base64" '' \
+        "$(offered "$shell" 'keywrap check --base64 --b' | grep -x -- --base64url)"
     same "$shell: one of --base64-kek and --raw-kek" --raw "$(offered "$shell" 'keywrap rewrap --base64-kek --ra')"
     same "$shell: no --padded beside --keep-form" '' "$(offered "$shell" 'keywrap rewrap --keep-form --pad')"
     same "$shell: no --keep-form beside --new-padded" '' "$(offered "$shell" 'keywrap rewrap --new-padded --keep-f')"

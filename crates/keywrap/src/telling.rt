@@ -203,7 +203,7 @@ impl<'a> Telling<'a> {
                 Why::Says("not hex; for base64 use --base64")
             }
             LineFault::Input(FileFault::BadBase64(Base64Fault::Character { .. })) => {
-                Why::Says("not base64, which has one alphabet a line")
+                Why::Says("not base64 in one alphabet")
             }
             LineFault::Input(FileFault::BadBase64(_) | FileFault::OddDigits | FileFault::Memory) =>
                 Why::Named,
