@@ -52,20 +52,21 @@ impl<F> Watched<F> {
             line: Line::default(),
         }
     }
-
-    fn watch(&mut self, bytes: &[u8]) {
-        self.seen.bytes = self.seen.bytes.saturating_add(bytes.len() as u64);
-        for byte in bytes {
-            self.seen.count(*byte);
-            if self.seen.pem.is_none() {
-                self.line.take(*byte);
-                self.seen.pem = self.line.pem();
-            }
-        }
-    }
 }
 
 impl Seen {
+    // Sees the bytes that were read next, where `line` is the front of the line that they go on.
+    fn read(&mut self, line: &mut Line, bytes: &[u8]) {
+        self.bytes = self.bytes.saturating_add(bytes.len() as u64);
+        for byte in bytes {
+            self.count(*byte);
+            if self.pem.is_none() {
+                line.take(*byte);
+                self.pem = line.pem();
+            }
+        }
+    }
+
     fn count(&mut self, byte: u8) {
         let (first, second) = (matches!(byte, b'+' | b'/'), matches!(byte, b'-' | b'_'));
         let base64 = byte.is_ascii_alphanumeric() || first || second;
@@ -96,7 +97,10 @@ impl<F: Read> Read for Watched<F> {
     fn read(&mut self, buf: &mut [u8]) -> io::Result<usize> {
         let answer = self.file.read(buf);
         match &answer {
-            Ok(count) if self.watches => self.watch(buf.get(..*count).unwrap_or(&[])),
+            Ok(count) if self.watches => {
+                let read = buf.get(..*count).unwrap_or(&[]);
+                self.seen.read(&mut self.line, read);
+            }
             Ok(_) => {}
             Err(error) => self.seen.error = error.raw_os_error(),
         }
