@@ -25,7 +25,7 @@ PROVIDER ?= out/provider
 PYTHON ?= python3
 
 soname = libkeywrap.so.1
-shared = $(soname).0.0
+shared = $(soname).1.0
 wheel = $(DIST)/keywrap-$(version)-cp39-abi3-linux_$(machine).whl
 # What the library is made of: the sources of the exports' crate and of those that crates.txt names below it,
 # unless the archive is one from elsewhere.

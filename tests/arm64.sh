@@ -43,7 +43,7 @@ printf '#include <stdio.h>\n' | "$cc" -fsyntax-only -x c - 2>/dev/null ||
     { skip 'all of aarch64' 'no C library for it (apt-get install libc6-dev-arm64-cross)'; finish; exit; }
 
 row 'make library' making library || { finish; exit; }
-row 'the library is of aarch64' are_arm "$library"/libkeywrap.{a,so.1.0.0}
+row 'the library is of aarch64' are_arm "$library"/libkeywrap.{a,so.1.1.0}
 shown aarch64
 
 # shuffles: the shuffles of bytes are the processor's, and none of its instructions is one that it may lack.

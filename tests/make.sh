@@ -128,7 +128,7 @@ cp tmp/kept scripts/sysroot.sh
 ### What is made, and when again
 
 # For a compiler stands what is noted, and has a copy of the archive as the shared object.
-export PYTHON=true CC='echo linked >>notes; cp library/libkeywrap.a library/libkeywrap.so.1.0.0; :'
+export PYTHON=true CC='echo linked >>notes; cp library/libkeywrap.a library/libkeywrap.so.1.1.0; :'
 make='make -s LIBRARY=library DIST=dist DESTDIR=stage/ PREFIX=usr'
 linked=('keywrap_c: lib' 'ends keywrap_c' linked)
 rm -r crates/*/out

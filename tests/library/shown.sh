@@ -28,6 +28,6 @@ hardened() {
 shown() {
     row "$1: an archive that wants nothing else" wants "$library/libkeywrap.a"
     row "$1: the names of the archive" shows -g "$library/libkeywrap.a"
-    row "$1: the names of the shared object" versioned "$library/libkeywrap.so.1.0.0"
-    row "$1: a hardened shared object" hardened "$library/libkeywrap.so.1.0.0"
+    row "$1: the names of the shared object" versioned "$library/libkeywrap.so.1"
+    row "$1: a hardened shared object" hardened "$library/libkeywrap.so.1"
 }
