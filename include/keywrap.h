@@ -21,7 +21,7 @@
  *   - While a call runs, no other thread writes what it reads, or touches what it writes.
  *
  * Nothing is claimed of timing, nor of copies of keys that a call leaves in registers or on the
- * stack. */
+ * stack; SECURITY.md, which is installed with the documents, has what was measured of both. */
 
 #ifndef KEYWRAP_H
 #define KEYWRAP_H
@@ -31,7 +31,7 @@
 
 /* The version of this header; keywrap_version() tells that of the library that runs. */
 #define KEYWRAP_VERSION_MAJOR 1
-#define KEYWRAP_VERSION_MINOR 0
+#define KEYWRAP_VERSION_MINOR 1
 #define KEYWRAP_VERSION_PATCH 0
 #define KEYWRAP_VERSION \
     (KEYWRAP_VERSION_MAJOR << 16 | KEYWRAP_VERSION_MINOR << 8 | KEYWRAP_VERSION_PATCH)
@@ -55,25 +55,32 @@ enum keywrap_status {
     KEYWRAP_BAD_IV = 2,     /* the initial value is refused; only a _with call answers it */
     KEYWRAP_BAD_KEK = 3,    /* the KEK is not 16, 24 or 32 bytes long */
     KEYWRAP_BAD_LENGTH = 4, /* a length is not one that the call takes */
-    KEYWRAP_INTEGRITY = 5   /* no key was wrapped to this under this KEK; not from a wrap */
+    KEYWRAP_INTEGRITY = 5   /* the integrity check failed: another KEK, another form, or damage; no
+                               wrap answers it */
 };
 
 /* The flags of keywrap_rewrap_in_place: the wrapped key that is given, and the one that is
- * answered, is in the padded form; without its flag each is in the plain one. */
+ * answered, is in the padded form; without its flag each is in the plain one. KEYWRAP_KEEP_FORM
+ * stands alone: the wrapped key is in either form, and keeps it. It is of version 1.1: an older
+ * library refuses it. */
 #define KEYWRAP_OLD_PADDED 1u
 #define KEYWRAP_NEW_PADDED 2u
+#define KEYWRAP_KEEP_FORM 4u
 
 /* Where the compiler sees them, it warns of a NULL, of an answer that is not looked at, and (GCC)
  * of an overlap and of a buffer that is shorter than its length says. */
 #if defined(__GNUC__)
 #define KEYWRAP_CALL __attribute__((nonnull, nothrow, warn_unused_result))
 #define KEYWRAP_RESTRICT __restrict
+#define KEYWRAP_INLINE static __inline__
 #elif defined(__STDC_VERSION__) && __STDC_VERSION__ >= 199901L
 #define KEYWRAP_CALL
 #define KEYWRAP_RESTRICT restrict
+#define KEYWRAP_INLINE static inline
 #else
 #define KEYWRAP_CALL
 #define KEYWRAP_RESTRICT
+#define KEYWRAP_INLINE static
 #endif
 #if defined(__GNUC__) && !defined(__clang__) && __GNUC__ >= 10
 #define KEYWRAP_READS(pointer, length) __attribute__((access(read_only, pointer, length)))
@@ -92,6 +99,20 @@ extern "C" {
 /* The version of the library, in the form of KEYWRAP_VERSION. */
 KEYWRAP_CALL
 uint32_t keywrap_version(void);
+
+/* What a status says, in the words of the command: a constant string for any number, never NULL. It
+ * is a function of this header, from version 1.1 on, and no name of the library. */
+KEYWRAP_CALL
+KEYWRAP_INLINE const char *keywrap_status_text(int32_t status) {
+    switch (status) {
+    case KEYWRAP_OK: return "done";
+    case KEYWRAP_BAD_IV: return "initial value is not 8 bytes, or is reserved for the padded form";
+    case KEYWRAP_BAD_KEK: return "key length is not 16, 24 or 32 bytes";
+    case KEYWRAP_BAD_LENGTH: return "bad length";
+    case KEYWRAP_INTEGRITY: return "integrity check failed";
+    default: return "unknown status";
+    }
+}
 
 /* Plain, two buffers: key_len is a multiple of 8 from 16 to KEYWRAP_MAX_KEY, and wrapped_len is
  * KEYWRAP_TEXT_LEN(key_len).
@@ -213,8 +234,8 @@ int32_t keywrap_unwrap_padded_in_place(const uint8_t *kek, size_t kek_len,
  *   room         KEYWRAP_ROOM(wrapped_len), the size of the scratch buffer
  *   KEYWRAP_OK          *padded is 0, or 1 (KEYWRAP_OLD_PADDED), *key_len is the key's length, and
  *                       scratch is all zeros
- *   KEYWRAP_INTEGRITY   no key was wrapped to this under this KEK in either form; scratch is all
- *                       zeros, or as it was where neither form has the length
+ *   KEYWRAP_INTEGRITY   it is no wrapped key under this KEK in either form; scratch is all zeros,
+ *                       or as it was where neither form has the length
  *   any other           scratch is as it was
  * At each refusal *padded and *key_len are 0. */
 KEYWRAP_CALL KEYWRAP_READS(1, 2) KEYWRAP_READS(3, 4) KEYWRAP_WRITES(5, 6)
@@ -227,15 +248,18 @@ int32_t keywrap_kind(const uint8_t *kek, size_t kek_len, const uint8_t *wrapped,
  * while the call runs.
  *
  * keywrap_rewrap_in_place turns a key wrapped under old_kek into that key wrapped under new_kek:
- *   wrapped_len  a multiple of 8 from 24, with KEYWRAP_OLD_PADDED from 16, to KEYWRAP_MAX_TEXT
- *   forms        0, or the flags KEYWRAP_OLD_PADDED, KEYWRAP_NEW_PADDED or both, and no other bit
+ *   wrapped_len  a multiple of 8 from 24, with KEYWRAP_OLD_PADDED or KEYWRAP_KEEP_FORM from 16, to
+ *                KEYWRAP_MAX_TEXT
+ *   forms        0, or the flags KEYWRAP_OLD_PADDED, KEYWRAP_NEW_PADDED or both, or
+ *                KEYWRAP_KEEP_FORM alone, and no other bit
  *   KEYWRAP_OK          the buffer holds the new wrapped key; unwrapping it under new_kek gives the
  *                       key that the old one gave
  *   KEYWRAP_BAD_KEK     one of the KEKs is refused; the buffer is as it was
  *   KEYWRAP_BAD_LENGTH  forms or wrapped_len is refused, and the buffer is as it was; or, with
  *                       KEYWRAP_OLD_PADDED alone, the key that was wrapped is not a multiple of 8
  *                       bytes from 16 on, and the buffer is all zeros
- *   KEYWRAP_INTEGRITY   no key was wrapped to this under old_kek; the buffer is all zeros
+ *   KEYWRAP_INTEGRITY   it is no wrapped key under old_kek in this form (with KEYWRAP_KEEP_FORM in
+ *                       either form); the buffer is all zeros
  * To keep what stood there after a refusal, copy it first. */
 KEYWRAP_CALL KEYWRAP_READS(1, 2) KEYWRAP_READS(3, 4) KEYWRAP_CHANGES(5, 6)
 int32_t keywrap_rewrap_in_place(const uint8_t *old_kek, size_t old_kek_len, const uint8_t *new_kek,
@@ -248,6 +272,7 @@ int32_t keywrap_rewrap_in_place(const uint8_t *old_kek, size_t old_kek_len, cons
 
 #undef KEYWRAP_CALL
 #undef KEYWRAP_RESTRICT
+#undef KEYWRAP_INLINE
 #undef KEYWRAP_READS
 #undef KEYWRAP_WRITES
 #undef KEYWRAP_CHANGES

@@ -41,7 +41,7 @@ strict=(-Wall -Wextra -pedantic -Werror)
 printf '#include <keywrap.h>\n' >header.c
 cp header.c header.cc
 for compiler in "${compilers[@]}"; do
-    for std in c99 c11 c17 c2x; do
+    for std in c89 c99 c11 c17 c2x; do
         row "the header in $std by $compiler" \
             "$compiler" -std=$std "${strict[@]}" "${include[@]}" -fsyntax-only header.c
     done
@@ -72,13 +72,13 @@ calls=(
 )
 
 # caller NAME BUFFERS MORE SHORT ARGUMENTS: a function on one line that makes the call, with buffers of
-# their sizes but one, which is a byte short; what the call only writes is not set before.
+# their sizes but one, which is a byte short; what the call only writes is not set before, nor is $unset.
 caller() {
     local name=$1 buffers=$2 more=$3 short=$4 buffer declared='' given=''
     for buffer in ${buffers//,/ }; do
         local bytes=${buffer%:*} size=${buffer#*:} set=' = {1}'
         [ "$bytes" != "$short" ] || size=$((size - 1))
-        [[ $buffers != *"$buffer" || $name = *_in_place ]] || set=''
+        [[ $buffers != *"$buffer" || $name = *_in_place ]] && [ "$bytes" != "${unset:-}" ] || set=''
         declared+="uint8_t ${bytes}[$size]$set; "
         given+="${given:+, }$bytes, ${buffer#*:}"
     done
@@ -98,6 +98,12 @@ every() {
         unused) caller "$name" "$buffers" "$more" '' | sed 's/int32_t s = //; s/return s/return 0/' ;;
         overlap) caller "$name" "$buffers" "$more" '' "$(sed "s/\(.*\)\(wrapped\|key\), /\1kek, /" <<<"$given")" ;;
         short) for buffer in ${buffers//,/ }; do caller "$name" "$buffers" "$more" "${buffer%:*}"; done ;;
+        unset)
+            for buffer in ${buffers//,/ }; do
+                [[ $buffers = *"$buffer" && $name != *_in_place ]] ||
+                    unset=${buffer%:*} caller "$name" "$buffers" "$more" ''
+            done
+            ;;
         null)
             for buffer in ${buffers//,/ }; do
                 caller "$name" "$buffers" "$more" '' "${given/"${buffer%:*}, "/NULL, }"
@@ -124,6 +130,18 @@ warns() {
     seq 2 "$(wc -l <callers.c)" | diff - found
 }
 
+# defines: the macros that stand behind the header, KEYWRAP_H among them.
+defines() {
+    cc -std=c99 "${include[@]}" -dM -E header.c | sed -n 's/^#define \(KEYWRAP_[A-Z_]*\).*/\1/p' | sort |
+        diff - <(printf 'KEYWRAP_%s\n' H KEEP_FORM MAX_KEY MAX_TEXT NEW_PADDED OLD_PADDED PADDED_TEXT_LEN ROOM \
+            TEXT_LEN VERSION VERSION_MAJOR VERSION_MINOR VERSION_PATCH)
+}
+
+# restricts: a compiler that is not like GCC sees restrict in C99.
+restricts() { cc -std=c99 -U__GNUC__ "${include[@]}" -E header.c | grep -F '*restrict wrapped'; }
+
+row 'the macros of the header' defines
+row 'restrict in C99' restricts
 row 'the calls of the header are those of the table' header_names
 for compiler in "${compilers[@]}"; do
     { echo '#include <keywrap.h>' && every exact | sed 's/^\(.*\)(void) {/\1(void);\n&/'; } >exact.c
@@ -135,6 +153,7 @@ done
 if [ "${compilers[0]}" = gcc ]; then
     row 'gcc warns of each overlap' warns overlap gcc -Wrestrict
     row 'gcc warns of each buffer that is a byte short' warns short gcc
+    row 'gcc warns of each buffer that is read and was not set' warns unset gcc -Wuninitialized -Wmaybe-uninitialized
 fi
 
 ### The library, by each of the archives
@@ -196,7 +215,7 @@ fi
 rfc3394_41=1fa68b0a8112b447aef34bd8fb5a7b829d3e862371d2cfe5
 rfc3394_42=96778b25ae6ca435f92b5b97c050aed2468ab8a17ad84e5d
 runs_example 'the C example' $rfc3394_42 cc -std=c99 "${strict[@]}" "$root/examples/c/wrap.c" "${flags[@]}"
-row 'the C example names a refused value' writes 'reserved value: the initial value is refused' ./example
+row 'the C example names a refused value' writes 'reserved value: initial value is not 8 bytes' ./example
 
 # A program in C++ that links with every call; its answer is the last vector's.
 {
@@ -282,6 +301,19 @@ agrees() {
     [ "$found" = "$wanted" ] || { printf '%s\n' "library: $found" "command: $wanted"; false; }
 }
 
+cat >text.c <<'END'
+#include <keywrap.h>
+#include <stdio.h>
+#include <stdlib.h>
+int main(int argc, char **argv) { return argc != 2 || puts(keywrap_status_text(atoi(argv[1]))) < 0; }
+END
+
+# same_text STATUS WORD..: the command refuses by this status, in the header's words.
+same_text() {
+    "$program" "${@:2}" <key.hex 2>refusal
+    [ $? = "$1" ] && ./text "$1" | sed 's/^/keywrap: /' | diff - refusal
+}
+
 program=${KEYWRAP:-$root/crates/keywrap/out/keywrap}
 if [ -x "$program" ]; then
     echo 000102030405060708090a0b0c0d0e0f | tee kek.hex >key.hex
@@ -289,6 +321,11 @@ if [ -x "$program" ]; then
     for value in a6a6a6a6a6a6a6a6 0123456789abcdef a65959a700000010 a65959a600000010 a65959a6ffffffff; do
         row "the value $value in the library and in the command" agrees $value
     done
+    row 'the text of a status: builds' cc -std=c99 "${strict[@]}" text.c "${flags[@]}" -o text
+    echo 00 >short.hex
+    row 'the text of a refused KEK' same_text 3 wrap --kek short.hex
+    row 'the text of a refused length' same_text 4 unwrap --kek kek.hex
+    row 'the text of a failed check' same_text 5 unwrap --padded --kek kek.hex
 else
     skip 'the library against the command' "no $program (./keywrap --version builds it)"
 fi

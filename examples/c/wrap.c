@@ -6,19 +6,8 @@
 #include <stdio.h>
 #include <string.h>
 
-static const char *message(int32_t status) {
-    switch (status) {
-    case KEYWRAP_OK: return "done";
-    case KEYWRAP_BAD_IV: return "the initial value is refused";
-    case KEYWRAP_BAD_KEK: return "the KEK is not 16, 24 or 32 bytes long";
-    case KEYWRAP_BAD_LENGTH: return "bad length";
-    case KEYWRAP_INTEGRITY: return "the integrity check failed";
-    default: return "unknown status";
-    }
-}
-
 static void print(const char *what, int32_t status, const uint8_t *bytes, size_t len) {
-    printf("%s: %s", what, message(status));
+    printf("%s: %s", what, keywrap_status_text(status));
     for (size_t i = 0; i < len && status == KEYWRAP_OK; i++)
         printf("%s%02x", i == 0 ? ": " : "", bytes[i]);
     printf("\n");

@@ -18,10 +18,13 @@ import (
 
 // The refusals.
 var (
-	ErrKek       = errors.New("the KEK is not 16, 24 or 32 bytes long")
-	ErrLength    = errors.New("the key or the wrapped key has a length that this form does not take")
-	ErrIntegrity = errors.New("the integrity check failed")
+	ErrKek       = text(C.KEYWRAP_BAD_KEK)
+	ErrLength    = text(C.KEYWRAP_BAD_LENGTH)
+	ErrIntegrity = text(C.KEYWRAP_INTEGRITY)
 )
+
+// text is what a status says.
+func text(status C.int32_t) error { return errors.New(C.GoString(C.keywrap_status_text(status))) }
 
 func refusal(status C.int32_t) error {
 	switch status {

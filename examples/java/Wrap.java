@@ -20,15 +20,15 @@ public final class Wrap {
             byte[] key, NativeLong keyLen);
     }
 
-    /** The status of a refusal: BAD_KEK, BAD_LENGTH or INTEGRITY of keywrap.h. */
+    /** The status of a refusal: BAD_KEK, BAD_LENGTH or INTEGRITY of keywrap.h, in its words. */
     public static final class Refused extends Exception {
         public final int status;
 
         Refused(int status) {
             super(switch (status) {
-                case 3 -> "the KEK is not 16, 24 or 32 bytes long";
-                case 4 -> "the key or the wrapped key has a length that this form does not take";
-                default -> "the integrity check failed";
+                case 3 -> "key length is not 16, 24 or 32 bytes";
+                case 4 -> "bad length";
+                default -> "integrity check failed";
             });
             this.status = status;
         }

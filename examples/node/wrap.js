@@ -5,9 +5,9 @@ const assert = require('node:assert');
 const native = require(require('node:path').resolve(process.argv[2]));
 
 const REFUSALS = {
-    3: 'the KEK is not 16, 24 or 32 bytes long',
-    4: 'the key or the wrapped key has a length that this form does not take',
-    5: 'the integrity check failed',
+    3: 'key length is not 16, 24 or 32 bytes',
+    4: 'bad length',
+    5: 'integrity check failed',
 };
 
 // The answer of a call, or an Error whose code is its status.

@@ -13,17 +13,17 @@ pub enum Error {
     BadKek,
     /// The key or the wrapped key has a length that this form does not take.
     BadLength,
-    /// The integrity check failed: no key was wrapped to this under this KEK.
+    /// The integrity check failed: another KEK, another form, or damage.
     Integrity,
 }
 
 impl fmt::Display for Error {
     fn fmt(&self, f: &mut fmt::Formatter<'_>) -> fmt::Result {
         f.write_str(match self {
-            Error::BadValue => "the initial value is reserved for the padded form",
-            Error::BadKek => "the KEK is not 16, 24 or 32 bytes long",
-            Error::BadLength => "the length is not one that this form takes",
-            Error::Integrity => "the integrity check failed",
+            Error::BadValue => "initial value is reserved for the padded form",
+            Error::BadKek => "key length is not 16, 24 or 32 bytes",
+            Error::BadLength => "bad length",
+            Error::Integrity => "integrity check failed",
         })
     }
 }
@@ -170,6 +170,7 @@ pub fn unwrap_padded_in_place<'a>(kek: &[u8], buffer: &'a mut [u8]) -> Result<&'
 
 const OLD_PADDED: u32 = 1;
 const NEW_PADDED: u32 = 2;
+const KEEP_FORM: u32 = 4;
 
 /// The form in which a key is wrapped.
 #[derive(Clone, Copy, Debug, PartialEq, Eq)]
@@ -199,9 +200,18 @@ pub fn rewrap_in_place(
     new_form: Form,
     buffer: &mut [u8],
 ) -> Result<(), Error> {
+    let forms = old_form.flag(OLD_PADDED) | new_form.flag(NEW_PADDED);
+    rewrap_as(old_kek, new_kek, buffer, forms)
+}
+
+/// The same in whichever form the wrapped key is, which it keeps; the library is of version 1.1.
+pub fn rewrap_keeping_form(old_kek: &[u8], new_kek: &[u8], buffer: &mut [u8]) -> Result<(), Error> {
+    rewrap_as(old_kek, new_kek, buffer, KEEP_FORM)
+}
+
+fn rewrap_as(old_kek: &[u8], new_kek: &[u8], buffer: &mut [u8], forms: u32) -> Result<(), Error> {
     let (k, m) = (old_kek.as_ptr(), new_kek.as_ptr());
     let (b, len) = (buffer.as_mut_ptr(), buffer.len());
-    let forms = old_form.flag(OLD_PADDED) | new_form.flag(NEW_PADDED);
     answer(unsafe { keywrap_rewrap_in_place(k, old_kek.len(), m, new_kek.len(), b, len, forms) })
 }
 
@@ -220,8 +230,8 @@ mod tests {
     fn says_what_was_refused() {
         let said = |status: i32| answer(status).unwrap_err().to_string();
         assert!(said(2).contains("initial value") && answer(2) == Err(Error::BadValue));
-        assert!(said(3).contains("KEK") && answer(3) == Err(Error::BadKek));
-        assert!(said(4).contains("length") && answer(4) == Err(Error::BadLength));
+        assert!(said(3).contains("key length") && answer(3) == Err(Error::BadKek));
+        assert!(said(4).contains("bad length") && answer(4) == Err(Error::BadLength));
         assert!(said(5).contains("integrity") && answer(5) == Err(Error::Integrity));
     }
 }

@@ -113,7 +113,12 @@ fn rewrapped() -> Result<(), Error> {
         hex(&buffer),
         "2cef0c9e30de26016c230cb78bc60d51b1fe083ba0c79cd5"
     );
-    keywrap::rewrap_in_place(&old_kek, Form::Padded, &old_kek, Form::Plain, &mut buffer)?;
+    keywrap::rewrap_keeping_form(&old_kek, &new_kek, &mut buffer)?;
+    assert_eq!(
+        hex(&buffer),
+        "afc860015ffe2d75bedf43c444fe58f4ad9d89c4ec71e23b"
+    );
+    keywrap::rewrap_in_place(&new_kek, Form::Padded, &old_kek, Form::Plain, &mut buffer)?;
     assert_eq!(buffer, wrapped);
 
     let rewrap = |new_kek: &[u8], buffer: &mut [u8]| {

@@ -43,6 +43,20 @@ def test_rewraps_between_forms():
     assert keywrap.rewrap(KEK_5649, KEK_5649, PADDED_OF_20, True, True) == PADDED_OF_20
 
 
+def test_rewraps_in_the_form_that_it_has():
+    for given in (bytes, bytearray):
+        assert keywrap.rewrap(KEK, KEK_32, given(WRAPPED), keep_form=True) == WRAPPED_32
+        assert keywrap.rewrap(KEK_32, KEK_32, given(PADDED_32), keep_form=True) == PADDED_32
+        assert keywrap.rewrap(KEK_5649, KEK_5649, given(FORPASI), keep_form=True) == FORPASI
+    for flag in ({"old_padded": True}, {"new_padded": True}):
+        with pytest.raises(ValueError):
+            keywrap.rewrap(KEK, KEK_32, WRAPPED, keep_form=True, **flag)
+    with pytest.raises(keywrap.IntegrityFailed):
+        keywrap.rewrap(KEK, KEK_32, DAMAGED, keep_form=True)
+    with pytest.raises(keywrap.BadLength, match="the wrapped key is 8 bytes long; it must be a multiple of 8 from 16"):
+        keywrap.rewrap(KEK, KEK_32, WRAPPED[:8], keep_form=True)
+
+
 def test_checks():
     assert keywrap.check(KEK, WRAPPED) is Kind.PLAIN
     assert keywrap.check(KEK_32, PADDED_32) is Kind.PADDED

@@ -253,24 +253,24 @@ void kinds(enum form form, const uint8_t *kek, size_t kek_len, const uint8_t *te
           "kind", form, TWO_BUFFERS, kek_len, text_len, room);
 }
 
-static enum form form_of(int is_padded) {
-    return is_padded ? PADDED : PLAIN;
-}
-
 /* Whether a rewrap refuses its flags or its text's length, before it looks at the text. */
 static int32_t first_status(uint32_t flags, size_t old_kek_len, size_t new_kek_len,
                             size_t text_len) {
-    size_t least = flags & KEYWRAP_OLD_PADDED ? 16 : 24;
+    size_t least = flags & (KEYWRAP_OLD_PADDED | KEYWRAP_KEEP_FORM) ? 16 : 24;
     if (!legal_kek(old_kek_len) || !legal_kek(new_kek_len)) return KEYWRAP_BAD_KEK;
-    return flags < 4 && text_len % 8 == 0 && text_len >= least && text_len <= KEYWRAP_MAX_TEXT
+    return flags <= KEYWRAP_KEEP_FORM && text_len % 8 == 0 && text_len >= least
+                   && text_len <= KEYWRAP_MAX_TEXT
                ? KEYWRAP_OK
                : KEYWRAP_BAD_LENGTH;
 }
 
 void rewraps(uint32_t flags, const struct kek *old_kek, const struct kek *new_kek,
-             const uint8_t *text, size_t text_len, const uint8_t *key, size_t key_len) {
+             const uint8_t *text, size_t text_len, enum form form, const uint8_t *key,
+             size_t key_len) {
     static uint8_t wanted[LONGEST];
-    enum form new_form = form_of((flags & KEYWRAP_NEW_PADDED) != 0);
+    enum form new_form = flags == KEYWRAP_KEEP_FORM ? form
+                         : flags & KEYWRAP_NEW_PADDED ? PADDED
+                                                      : PLAIN;
     uint8_t *out = frame(&buffer, text_len), *k = frame(&kek_buffer, old_kek->len);
     uint8_t *new_k = frame(&new_kek_buffer, new_kek->len);
     int32_t first = first_status(flags, old_kek->len, new_kek->len, text_len), due = first, status;
@@ -290,6 +290,5 @@ void rewraps(uint32_t flags, const struct kek *old_kek, const struct kek *new_ke
     status = keywrap_rewrap_in_place(k, old_kek->len, new_k, new_kek->len, out, text_len, flags);
     count(status == due && sides_stand(&buffer) && is_kept(&kek_buffer) && is_kept(&new_kek_buffer)
               && (first == KEYWRAP_OK ? !memcmp(out, wanted, text_len) : is_kept(&buffer)),
-          "rewrap", form_of((flags & KEYWRAP_OLD_PADDED) != 0), IN_PLACE, old_kek->len, text_len,
-          key_len);
+          "rewrap", form, IN_PLACE, old_kek->len, text_len, key_len);
 }

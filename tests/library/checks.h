@@ -71,11 +71,12 @@ void unwraps_with(const struct value *iv, const uint8_t *kek, size_t kek_len, co
 void kinds(enum form form, const uint8_t *kek, size_t kek_len, const uint8_t *text, size_t text_len,
            size_t room, const uint8_t *key, size_t key_len);
 
-/* A rewrap in place answers what is due, under these flags: for the wrapping of `key` under the old
- * KEK the wrapping under the new one, or, where `key` is NULL, the failed check and zeros alone;
+/* A rewrap in place answers what is due, under these flags: for the wrapping of `key` in `form` under
+ * the old KEK the wrapping under the new one, or, where `key` is NULL, the failed check and zeros alone;
  * zeros too where the new form takes no key of this length; else a refusal, and then nothing is
  * written. */
 void rewraps(uint32_t flags, const struct kek *old_kek, const struct kek *new_kek,
-             const uint8_t *text, size_t text_len, const uint8_t *key, size_t key_len);
+             const uint8_t *text, size_t text_len, enum form form, const uint8_t *key,
+             size_t key_len);
 
 #endif

@@ -93,7 +93,15 @@ static const struct {
      "1fa68b0a8112b447aef34bd8fb5a7b829d3e862371d2cf"},
     {KEK16, KEK32, 0, "1fa68b0a8112b447aef34bd8fb5a7b82", KEYWRAP_BAD_LENGTH,
      "1fa68b0a8112b447aef34bd8fb5a7b82"},
-    {KEK16, KEK32, 4, TEXT_41, KEYWRAP_BAD_LENGTH, TEXT_41},
+    {KEK16, KEK32, KEYWRAP_KEEP_FORM, TEXT_41, KEYWRAP_OK, TEXT_43},
+    {KEK16, KEK32, KEYWRAP_KEEP_FORM, PADDED_41, KEYWRAP_OK, PADDED_43},
+    {KEK_5649, KEK_5649, 4, TEXT_OF_20, KEYWRAP_OK, TEXT_OF_20},
+    {KEK32, KEK16, 4, PADDED_41, KEYWRAP_INTEGRITY, ZEROS_24},
+    {KEK16, KEK32, 4, "1fa68b0a8112b447aef34bd8fb5a7b82", KEYWRAP_INTEGRITY, ZEROS_16},
+    {KEK16, KEK32, 4, "1fa68b0a8112b447", KEYWRAP_BAD_LENGTH, "1fa68b0a8112b447"},
+    {KEK16, KEK32, 4 | KEYWRAP_OLD_PADDED, PADDED_41, KEYWRAP_BAD_LENGTH, PADDED_41},
+    {KEK16, KEK32, 4 | KEYWRAP_NEW_PADDED, TEXT_41, KEYWRAP_BAD_LENGTH, TEXT_41},
+    {KEK16, KEK32, 8, TEXT_41, KEYWRAP_BAD_LENGTH, TEXT_41},
     {KEK16, KEK32, 0x80000000u, TEXT_41, KEYWRAP_BAD_LENGTH, TEXT_41},
     {KEK16, KEK32, UINT32_MAX, TEXT_41, KEYWRAP_BAD_LENGTH, TEXT_41},
     {"000102030405060708090a0b0c0d0e", KEK32, 0, TEXT_41, KEYWRAP_BAD_KEK, TEXT_41},
@@ -365,26 +373,37 @@ static void rewrapped_vectors(void) {
     }
 }
 
-/* The text of a key of this length, where the old form has one. */
-static void rewraps_key(uint32_t flags, size_t old_len, size_t new_len, size_t key_len) {
+/* What a rewrap with these flags is given. */
+static enum form given_form(uint32_t flags) {
+    return flags & KEYWRAP_OLD_PADDED ? PADDED : PLAIN;
+}
+
+/* The text of a key of this length in this form, where it has one. */
+static void rewraps_key_in(enum form form, uint32_t flags, size_t old_len, size_t new_len,
+                           size_t key_len) {
     struct kek old_kek = {kek, old_len}, new_kek = {kek + 20, new_len};
-    enum form old_form = flags & KEYWRAP_OLD_PADDED ? PADDED : PLAIN;
     size_t text_len = padded_len(key_len) + 8;
-    if (wrap_status(old_form, old_len, key_len, text_len) != KEYWRAP_OK) return;
-    wrap_key(old_form, kek, old_len, key, key_len, text);
-    rewraps(flags, &old_kek, &new_kek, text, text_len, key, key_len);
+    if (wrap_status(form, old_len, key_len, text_len) != KEYWRAP_OK) return;
+    wrap_key(form, kek, old_len, key, key_len, text);
+    rewraps(flags, &old_kek, &new_kek, text, text_len, form, key, key_len);
+}
+
+/* The same in the form that is asked for, or in both. */
+static void rewraps_key(uint32_t flags, size_t old_len, size_t new_len, size_t key_len) {
+    rewraps_key_in(given_form(flags), flags, old_len, new_len, key_len);
+    if (flags == KEYWRAP_KEEP_FORM) rewraps_key_in(PADDED, flags, old_len, new_len, key_len);
 }
 
 /* This many bytes that are no text. */
 static void rewraps_scattered(uint32_t flags, size_t old_len, size_t new_len, size_t len) {
     struct kek old_kek = {kek, old_len}, new_kek = {kek + 20, new_len};
-    rewraps(flags, &old_kek, &new_kek, scattered, len, NULL, 0);
+    rewraps(flags, &old_kek, &new_kek, scattered, len, given_form(flags), NULL, 0);
 }
 
 /* Every pair of forms and flags of other bits: keys and texts of short lengths, the longest, and
  * longer ones; and KEKs of every length. */
 static void rewraps_of_lengths(void) {
-    static const uint32_t flags[] = {0, 1, 2, 3, 4, 5, 7, 8, 0x80000000u};
+    static const uint32_t flags[] = {0, 1, 2, 3, 4, 5, 6, 7, 8, 0x80000000u};
     for (size_t i = 0; i < sizeof flags / sizeof *flags; i++) {
         for (size_t len = 0; len <= 88; len++)
             for (size_t kek_len = 16; kek_len <= 32; kek_len += 8) {
@@ -402,27 +421,43 @@ static void rewraps_of_lengths(void) {
 }
 
 /* Texts with one bit changed, and the right text under another KEK or as one of the other form. */
-static void rewraps_tampered(uint32_t flags, size_t key_len) {
+static void rewraps_tampered(enum form form, uint32_t flags, size_t key_len) {
     struct kek old_kek = {kek, 16}, new_kek = {kek + 20, 32}, other = {kek + 1, 16};
-    enum form old_form = flags & KEYWRAP_OLD_PADDED ? PADDED : PLAIN;
     size_t text_len = padded_len(key_len) + 8;
-    wrap_key(old_form, kek, 16, key, key_len, text);
+    wrap_key(form, kek, 16, key, key_len, text);
     for (size_t i = 0; i < 8 * text_len; i++) {
         uint8_t bit = (uint8_t)(1u << i % 8);
         text[i / 8] ^= bit;
-        rewraps(flags, &old_kek, &new_kek, text, text_len, NULL, 0);
+        rewraps(flags, &old_kek, &new_kek, text, text_len, form, NULL, 0);
         text[i / 8] ^= bit;
     }
-    rewraps(flags, &other, &new_kek, text, text_len, NULL, 0);
-    rewraps(flags, &new_kek, &old_kek, text, text_len, NULL, 0);
-    rewraps(flags ^ KEYWRAP_OLD_PADDED, &old_kek, &new_kek, text, text_len, NULL, 0);
+    rewraps(flags, &other, &new_kek, text, text_len, form, NULL, 0);
+    rewraps(flags, &new_kek, &old_kek, text, text_len, form, NULL, 0);
+    rewraps(flags ^ KEYWRAP_OLD_PADDED, &old_kek, &new_kek, text, text_len, form, NULL, 0);
 }
 
 static void rewraps_of_tampered_texts(void) {
-    for (uint32_t flags = 0; flags < 4; flags++)
-        for (size_t key_len = 16; key_len <= 48; key_len += 8) rewraps_tampered(flags, key_len);
-    rewraps_tampered(KEYWRAP_OLD_PADDED, 20);
-    rewraps_tampered(KEYWRAP_OLD_PADDED | KEYWRAP_NEW_PADDED, 7);
+    for (uint32_t flags = 0; flags <= KEYWRAP_KEEP_FORM; flags++)
+        for (size_t key_len = 16; key_len <= 48; key_len += 8)
+            rewraps_tampered(given_form(flags), flags, key_len);
+    rewraps_tampered(PADDED, KEYWRAP_OLD_PADDED, 20);
+    rewraps_tampered(PADDED, KEYWRAP_OLD_PADDED | KEYWRAP_NEW_PADDED, 7);
+    rewraps_tampered(PADDED, KEYWRAP_KEEP_FORM, 20);
+    rewraps_tampered(PADDED, KEYWRAP_KEEP_FORM, 7);
+}
+
+/* Each status has words of its own, and each other number those of one that is unknown. */
+static void status_texts(void) {
+    static const int32_t statuses[] = {KEYWRAP_OK,         KEYWRAP_BAD_IV,    KEYWRAP_BAD_KEK,
+                                       KEYWRAP_BAD_LENGTH, KEYWRAP_INTEGRITY, 6};
+    static const int32_t unknown[] = {INT32_MIN, -1, 1, 7, 70, INT32_MAX};
+    for (size_t i = 0; i < 6; i++) {
+        for (size_t j = 0; j < i; j++)
+            count(strcmp(keywrap_status_text(statuses[i]), keywrap_status_text(statuses[j])) != 0,
+                  "the text of a status", PLAIN, TWO_BUFFERS, 0, i, j);
+        count(!strcmp(keywrap_status_text(unknown[i]), keywrap_status_text(6)),
+              "the text of an unknown status", PLAIN, TWO_BUFFERS, 0, i, 6);
+    }
 }
 
 int main(int argc, char **argv) {
@@ -435,6 +470,7 @@ int main(int argc, char **argv) {
     macros_at_ends();
     macros_in_expressions();
     version();
+    status_texts();
     for (enum form form = PLAIN; form <= PADDED; form++) {
         short_lengths(form);
         longest_lengths(form);

@@ -102,7 +102,7 @@ static int32_t kind_padded(size_t kek_len, size_t len) {
 }
 
 static int32_t rewrap_in_place(size_t kek_len, size_t len) {
-    size_t text_len = forms & KEYWRAP_OLD_PADDED ? padded_len(len) : len + 8;
+    size_t text_len = padded_len(len);
     memcpy(out, text, text_len);
     return keywrap_rewrap_in_place(kek, kek_len, new_kek, kek_len, out, text_len, forms);
 }
@@ -141,6 +141,10 @@ static const struct watched {
      KEYWRAP_OLD_PADDED},
     {"keywrap_rewrap_in_place, padded", rewrap_in_place, wrap_padded, 1, 1, LONGEST,
      KEYWRAP_OLD_PADDED | KEYWRAP_NEW_PADDED},
+    {"keywrap_rewrap_in_place, plain and kept", rewrap_in_place, wrap, 16, 8, LONGEST,
+     KEYWRAP_KEEP_FORM},
+    {"keywrap_rewrap_in_place, padded and kept", rewrap_in_place, wrap_padded, 1, 1, LONGEST,
+     KEYWRAP_KEEP_FORM},
     {"tables", tables, NULL, 16, 8, 48, 0},
 };
 

@@ -1,8 +1,9 @@
 /* stack.c: how many bytes that depend on a KEK, or on the key, each call of the C library leaves
  * below the stack pointer. Each call runs on a stack of its own that is filled beforehand, and again
  * with another KEK, another new KEK, another key: a byte of the stack that differs afterwards depends
- * on what differed. Prints lines for each call, and for each that refuses a damaged text, with
- * `_refused`: its name with `:kek`, `:new_kek`, `:key` or `:copies`, and the count. Copies are those of 16 bytes in a row of a KEK or of the key. */
+ * on what differed. Each call is made with KEKs of 16, 24 and 32 bytes, and in each way in which it
+ * can end. Prints a line for each of these: the call, the way, the KEK's length, and then the count
+ * for the KEK, the new KEK, the key, and of copies: 16 bytes in a row of a KEK or of the key. */
 
 #define _XOPEN_SOURCE 700
 
@@ -14,103 +15,157 @@
 
 enum { STACK = 1 << 16, KEY_LEN = 32, TEXT_LEN = KEY_LEN + 8 };
 
-static const uint8_t IV[8] = {0x01, 0x23, 0x45, 0x67, 0x89, 0xab, 0xcd, 0xef};
+/* The ways in which a call ends, each with its status. */
+enum way { DONE, DAMAGED, BAD_IV, BAD_KEK, BAD_NEW_KEK, SHORT, BAD_FLAGS, BAD_KEY, WAYS };
+
+static const struct {
+    const char *name;
+    int32_t status;
+} ENDS[WAYS] = {
+    {"done", KEYWRAP_OK},
+    {"integrity", KEYWRAP_INTEGRITY},
+    {"bad_iv", KEYWRAP_BAD_IV},
+    {"bad_kek", KEYWRAP_BAD_KEK},
+    {"bad_new_kek", KEYWRAP_BAD_KEK},
+    {"bad_length", KEYWRAP_BAD_LENGTH},
+    {"bad_flags", KEYWRAP_BAD_LENGTH},
+    {"bad_key", KEYWRAP_BAD_LENGTH},
+};
 
 static uint8_t kek[32], new_kek[32], key[TEXT_LEN], text[TEXT_LEN], out[TEXT_LEN];
-static size_t out_len;
-static uint32_t padded;
+static uint8_t iv[8];
+static size_t kek_len, new_kek_len, text_len, key_len, out_len;
+static uint32_t forms, padded;
 static int32_t status;
 
 static void wrap(void) {
-    status = keywrap_wrap(kek, 32, key, KEY_LEN, out, TEXT_LEN);
+    status = keywrap_wrap(kek, kek_len, key, KEY_LEN, out, text_len);
 }
 
 static void wrap_with(void) {
-    status = keywrap_wrap_with(kek, 32, IV, 8, key, KEY_LEN, out, TEXT_LEN);
+    status = keywrap_wrap_with(kek, kek_len, iv, 8, key, KEY_LEN, out, text_len);
 }
 
 static void wrap_in_place(void) {
-    status = keywrap_wrap_in_place(kek, 32, out, TEXT_LEN);
+    status = keywrap_wrap_in_place(kek, kek_len, out, text_len);
 }
 
 static void wrap_padded(void) {
-    status = keywrap_wrap_padded(kek, 32, key, KEY_LEN, out, TEXT_LEN);
+    status = keywrap_wrap_padded(kek, kek_len, key, key_len, out, text_len);
 }
 
 static void wrap_padded_in_place(void) {
-    status = keywrap_wrap_padded_in_place(kek, 32, out, TEXT_LEN, KEY_LEN);
+    status = keywrap_wrap_padded_in_place(kek, kek_len, out, text_len, key_len);
 }
 
 static void unwrap(void) {
-    status = keywrap_unwrap(kek, 32, text, TEXT_LEN, out, KEY_LEN);
+    status = keywrap_unwrap(kek, kek_len, text, text_len, out, KEY_LEN);
 }
 
 static void unwrap_with(void) {
-    status = keywrap_unwrap_with(kek, 32, IV, 8, text, TEXT_LEN, out, KEY_LEN);
+    status = keywrap_unwrap_with(kek, kek_len, iv, 8, text, text_len, out, KEY_LEN);
 }
 
 static void unwrap_in_place(void) {
-    status = keywrap_unwrap_in_place(kek, 32, out, TEXT_LEN);
+    status = keywrap_unwrap_in_place(kek, kek_len, out, text_len);
 }
 
 static void unwrap_padded(void) {
-    status = keywrap_unwrap_padded(kek, 32, text, TEXT_LEN, out, KEY_LEN, &out_len);
+    status = keywrap_unwrap_padded(kek, kek_len, text, text_len, out, KEY_LEN, &out_len);
 }
 
 static void unwrap_padded_in_place(void) {
-    status = keywrap_unwrap_padded_in_place(kek, 32, out, TEXT_LEN, &out_len);
+    status = keywrap_unwrap_padded_in_place(kek, kek_len, out, text_len, &out_len);
 }
 
+/* What it refuses for its length is the scratch buffer. */
 static void kind(void) {
-    status = keywrap_kind(kek, 32, text, TEXT_LEN, out, KEY_LEN, &padded, &out_len);
+    status = keywrap_kind(kek, kek_len, text, TEXT_LEN, out, text_len - 8, &padded, &out_len);
 }
 
 static void rewrap_in_place(void) {
-    status = keywrap_rewrap_in_place(kek, 32, new_kek, 32, out, TEXT_LEN, 0);
+    status = keywrap_rewrap_in_place(kek, kek_len, new_kek, new_kek_len, out, text_len, forms);
 }
 
-/* The calls, and which one makes the text that is taken. */
+/* The calls, which one makes the text that is taken, the flags, and the ways. */
+enum {
+    WRAPS = 1 << DONE | 1 << BAD_KEK | 1 << SHORT,
+    UNWRAPS = WRAPS | 1 << DAMAGED,
+    REWRAPS = UNWRAPS | 1 << BAD_NEW_KEK | 1 << BAD_FLAGS,
+    BOTH_PADDED = KEYWRAP_OLD_PADDED | KEYWRAP_NEW_PADDED
+};
+
 static const struct watched {
     const char *name;
     void (*run)(void), (*prepare)(void);
+    uint32_t forms;
+    unsigned ways;
 } CALLS[] = {
-    {"keywrap_wrap", wrap, NULL},
-    {"keywrap_wrap_with", wrap_with, NULL},
-    {"keywrap_wrap_in_place", wrap_in_place, NULL},
-    {"keywrap_wrap_padded", wrap_padded, NULL},
-    {"keywrap_wrap_padded_in_place", wrap_padded_in_place, NULL},
-    {"keywrap_unwrap", unwrap, wrap},
-    {"keywrap_unwrap_with", unwrap_with, wrap_with},
-    {"keywrap_unwrap_in_place", unwrap_in_place, wrap},
-    {"keywrap_unwrap_padded", unwrap_padded, wrap_padded},
-    {"keywrap_unwrap_padded_in_place", unwrap_padded_in_place, wrap_padded},
-    {"keywrap_kind", kind, wrap},
-    {"keywrap_rewrap_in_place", rewrap_in_place, wrap},
+    {"wrap", wrap, NULL, 0, WRAPS},
+    {"wrap_with", wrap_with, NULL, 0, WRAPS | 1 << BAD_IV},
+    {"wrap_in_place", wrap_in_place, NULL, 0, WRAPS},
+    {"wrap_padded", wrap_padded, NULL, 0, WRAPS},
+    {"wrap_padded_in_place", wrap_padded_in_place, NULL, 0, WRAPS},
+    {"unwrap", unwrap, wrap, 0, UNWRAPS},
+    {"unwrap_with", unwrap_with, wrap_with, 0, UNWRAPS | 1 << BAD_IV},
+    {"unwrap_in_place", unwrap_in_place, wrap, 0, UNWRAPS},
+    {"unwrap_padded", unwrap_padded, wrap_padded, 0, UNWRAPS},
+    {"unwrap_padded_in_place", unwrap_padded_in_place, wrap_padded, 0, UNWRAPS},
+    {"kind,plain", kind, wrap, 0, UNWRAPS},
+    {"kind,padded", kind, wrap_padded, 0, UNWRAPS},
+    {"rewrap_in_place,plain", rewrap_in_place, wrap, 0, REWRAPS},
+    {"rewrap_in_place,to_padded", rewrap_in_place, wrap, KEYWRAP_NEW_PADDED, REWRAPS},
+    {"rewrap_in_place,to_plain", rewrap_in_place, wrap_padded, KEYWRAP_OLD_PADDED,
+     REWRAPS | 1 << BAD_KEY},
+    {"rewrap_in_place,padded", rewrap_in_place, wrap_padded, BOTH_PADDED, REWRAPS},
+    {"rewrap_in_place,keep_plain", rewrap_in_place, wrap, KEYWRAP_KEEP_FORM, REWRAPS},
+    {"rewrap_in_place,keep_padded", rewrap_in_place, wrap_padded, KEYWRAP_KEEP_FORM, REWRAPS},
 };
 
 /* What is secret, of 32 bytes each, and from which seed it is filled. */
 static const struct secret {
-    const char *name;
     uint8_t *bytes;
     unsigned seed;
-} SECRETS[] = {{"kek", kek, 1}, {"new_kek", new_kek, 3}, {"key", key, 2}};
+} SECRETS[] = {{kek, 1}, {new_kek, 3}, {key, 2}};
 
 enum { SECRET_COUNT = sizeof SECRETS / sizeof *SECRETS };
 
 /* The registers with which each call begins: a call saves some of them on its stack. */
 static ucontext_t start;
 
-/* Runs a call on the stack, which is filled beforehand. A damaged text must be refused. */
-static void run_on(uint8_t *stack, const struct watched *watched, int damaged) {
-    static ucontext_t here, there;
+/* The arguments of a call that is done, and the text that it takes. */
+static void prepare(const struct watched *watched, enum way way, size_t len) {
+    kek_len = new_kek_len = len;
+    text_len = TEXT_LEN;
+    key_len = way == BAD_KEY ? KEY_LEN - 1 : KEY_LEN;
+    forms = watched->forms;
+    memset(iv, 1, sizeof iv);
+    memcpy(out + 8, key, KEY_LEN);
     if (watched->prepare) {
-        memcpy(out + 8, key, KEY_LEN);
         watched->prepare();
-        out[3] ^= damaged;
         memcpy(text, out, sizeof text);
-    } else {
-        memcpy(out + 8, key, KEY_LEN);
     }
+}
+
+/* The one argument by which it ends in another way. */
+static void change(enum way way) {
+    static const uint8_t reserved[8] = {0xA6, 0x59, 0x59, 0xA6};
+    switch (way) {
+    case DAMAGED: text[3] ^= 1, out[3] ^= 1; break;
+    case BAD_IV: memcpy(iv, reserved, sizeof iv); break;
+    case BAD_KEK: kek_len--; break;
+    case BAD_NEW_KEK: new_kek_len--; break;
+    case SHORT: text_len--; break;
+    case BAD_FLAGS: forms |= 8; break;
+    default: break;
+    }
+}
+
+/* Runs a call on the stack, which is filled beforehand. It must end in this way. */
+static void run_on(uint8_t *stack, const struct watched *watched, enum way way, size_t len) {
+    static ucontext_t here, there;
+    prepare(watched, way, len);
+    change(way);
     memset(stack, 0x5A, STACK);
     there = start;
     there.uc_stack.ss_sp = stack;
@@ -118,7 +173,7 @@ static void run_on(uint8_t *stack, const struct watched *watched, int damaged) {
     there.uc_link = &here;
     makecontext(&there, watched->run, 0);
     if (swapcontext(&here, &there)) exit(2);
-    if (status != (damaged ? KEYWRAP_INTEGRITY : KEYWRAP_OK)) exit(3);
+    if (status != ENDS[way].status) exit(3);
 }
 
 static void fill(uint8_t *bytes, size_t len, unsigned seed) {
@@ -144,28 +199,28 @@ static unsigned copies(const uint8_t *stack) {
     return count;
 }
 
-static void watch(uint8_t *stack, const struct watched *watched, int damaged) {
+static void watch(uint8_t *stack, const struct watched *watched, enum way way, size_t len) {
     static uint8_t first[STACK];
-    const char *refused = damaged ? "_refused" : "";
-    run_on(stack, watched, damaged);
+    run_on(stack, watched, way, len);
     memcpy(first, stack, STACK);
-    printf("%s%s:copies %u\n", watched->name, refused, copies(stack));
+    printf("%s %s %u", watched->name, ENDS[way].name, (unsigned)len);
     for (const struct secret *secret = SECRETS; secret < SECRETS + SECRET_COUNT; secret++) {
         fill(secret->bytes, 32, secret->seed + 10);
-        run_on(stack, watched, damaged);
-        printf("%s%s:%s %u\n", watched->name, refused, secret->name, differing(first, stack));
+        run_on(stack, watched, way, len);
+        printf(" %u", differing(first, stack));
         fill(secret->bytes, 32, secret->seed);
     }
+    printf(" %u\n", copies(first));
 }
 
 int main(void) {
     uint8_t *stack = malloc(STACK);
     if (!stack || getcontext(&start)) return 2;
     for (int i = 0; i < SECRET_COUNT; i++) fill(SECRETS[i].bytes, 32, SECRETS[i].seed);
-    for (size_t c = 0; c < sizeof CALLS / sizeof *CALLS; c++) {
-        watch(stack, CALLS + c, 0);
-        if (CALLS[c].prepare) watch(stack, CALLS + c, 1);
-    }
+    for (size_t c = 0; c < sizeof CALLS / sizeof *CALLS; c++)
+        for (enum way way = DONE; way < WAYS; way++)
+            for (size_t len = 16; len <= 32 && CALLS[c].ways >> way & 1; len += 8)
+                watch(stack, CALLS + c, way, len);
     free(stack);
     return 0;
 }

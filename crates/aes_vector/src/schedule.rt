@@ -19,6 +19,7 @@ pub(crate) fn fill(
     ensures refused { IsErr result ↔ ¬ IsKekLength (length kek.now) }
     ensures schedule { IfOk result (λ rounds. IsVectorSchedule rounds keys.new) }
     ensures key { IfOk result (λ rounds. key_of rounds keys.new ≡ kek.now) }
+    ensures kept { IsErr result → (keys.new ≡ keys.old) × (words.new ≡ words.old) }
 {
     match kek.len() {
         16 => Ok(with_words(kek, 4, keys, words)),

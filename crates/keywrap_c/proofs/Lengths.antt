@@ -8,6 +8,7 @@ use Rattle.key_wrap.specs.declared.forms.Form.TheVariants as forms
 use Rattle.key_wrap.specs.Forms.{IsTextLength}
 use Rattle.key_wrap.specs.Lengths.{IsPlainKeyLength, IsPlainTextLength, IsPaddedTextLength}
 use Rattle.key_wrap.specs.InPlace.{IsPaddedRoom, ArePlainLengths}
+use Rattle.key_wrap.specs.KeepForm.{IsSomeTextLength}
 use Rattle.keywrap_c.specs.Kinds.{HasScratch}
 
 -- a buffer whose key has a legal length behind the first word
@@ -58,3 +59,12 @@ text_length-not_refused forms.Padded len kept =
     let least : 16 ≤ len = ≤-not_refused _ _ (λ no. kept (λ they. no they.1)) in
     let most : len ≤ MAX_KEY + 8 = ≤-not_refused _ _ (λ no. kept (λ they. no they.2)) in
     (whole, least, most)
+
+-- a length that is not refused in both forms is legal in the padded one, which takes the plain one's
+pub some_length-not_refused : (len : ℕ) → ¬ (¬ IsSomeTextLength len) → IsSomeTextLength len
+some_length-not_refused len kept =
+    (forms.Padded, text_length-not_refused forms.Padded len (λ no. kept (λ it. no (padded_length it.0 it.1))))
+  where
+    padded_length : (form : Form) → IsTextLength form len → IsTextLength forms.Padded len
+    padded_length forms.Plain they = (they.0, omega (arith, they.1), they.2)
+    padded_length forms.Padded they = they

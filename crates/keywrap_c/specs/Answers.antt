@@ -4,6 +4,7 @@ use Rattle.key_wrap.specs.declared.forms.Form.{Form}
 use Rattle.key_wrap.specs.Answer.{NoKey}
 use Rattle.key_wrap.specs.Forms.{StandsIn}
 use Rattle.key_wrap.specs.Rewrap.{AreWrappings}
+use Rattle.key_wrap.specs.KeepForm.{KeepsForm}
 
 -- the text stands with the key, and no other text does
 pub record IsWrapping (Stands : List ℕ → List ℕ → Type 0) (key text : List ℕ) : Type 0 where
@@ -28,3 +29,12 @@ pub record IsRewrapping (old : Form) (E : List ℕ → List ℕ) (new : Form) (F
   pub only_answer : (other : List ℕ) → AreWrappings old E new F text other → other ≡ answer
   pub same_key : (key : List ℕ) → StandsIn new F key answer ↔ StandsIn old E key text
   pub restores : (other : List ℕ) → AreWrappings new F old E answer other → other ≡ text
+
+-- the same where the form is kept, whichever it is: the text is the wrapping of one key alone, in one form
+pub record IsKeptRewrapping (E F : List ℕ → List ℕ) (text answer : List ℕ) : Type 0 where
+  pub one_key : KeepsForm E F text answer
+  pub only_key : (form other_form : Form) → (key other : List ℕ) → StandsIn form E key text → StandsIn other_form E other text
+      → (other_form ≡ form) × (other ≡ key)
+  pub only_answer : (other : List ℕ) → KeepsForm E F text other → other ≡ answer
+  pub same_key : (form : Form) → (key : List ℕ) → StandsIn form F key answer ↔ StandsIn form E key text
+  pub restores : (other : List ℕ) → KeepsForm F E answer other → other ≡ text

@@ -1,21 +1,57 @@
--- The two forms that the flags of a rewrapping name: bit 0 is of the old form, bit 1 of the new one.
-use Rattle.std.specs.Prelude.{ℕ, ◌<◌, ◌/◌, ◌%◌, zero, suc}
+-- What the flags of a rewrapping ask for, and what a rewrapping that is asked for answers.
+use Rattle.std.specs.Prelude.{ℕ, List, length, ◌<◌, ◌/◌, ◌%◌, zero, suc}
 use Rattle.key_wrap.specs.declared.forms.Form.{Form}
 use Rattle.key_wrap.specs.declared.forms.Form.TheVariants.{Plain, Padded}
+use Rattle.key_wrap.specs.Forms.{StandsIn, IsKeyLength, IsTextLength}
+use Rattle.key_wrap.specs.Rewrap as rewrap
+use Rattle.key_wrap.specs.KeepForm.{HasNoForm, IsSomeTextLength}
+use Rattle.keywrap_c.specs.declared.rewrapping.Asked.{Asked}
+use Rattle.keywrap_c.specs.declared.rewrapping.Asked.TheVariants.{Between, Keep}
+use Rattle.keywrap_c.specs.Answers.{IsRewrapping, IsKeptRewrapping}
 
--- no other bit is set
+-- no bit but the first two is set, or the third one alone
 abbrev pub AreFlags : ℕ → Type 0
-AreFlags flags = flags < 4
+AreFlags flags = flags < 5
 
 -- the form that a bit names: padded exactly where it is set
 abbrev pub form_of_bit : ℕ → Form
 form_of_bit zero = Plain
 form_of_bit (suc _) = Padded
 
--- the form of the text that is given
-abbrev pub old_form : ℕ → Form
-old_form flags = form_of_bit (flags % 2)
+-- bit 0 is of the old form and bit 1 of the new one
+abbrev pub between : ℕ → Asked
+between flags = Between (form_of_bit (flags % 2)) (form_of_bit (flags / 2 % 2))
 
--- the form of the text that is answered
-abbrev pub new_form : ℕ → Form
-new_form flags = form_of_bit (flags / 2 % 2)
+-- where bit 2 is set the form is kept
+abbrev pub kept_if : ℕ → Asked → Asked
+kept_if zero forms = forms
+kept_if (suc _) forms = Keep
+
+-- what the flags ask for
+abbrev pub asked : ℕ → Asked
+asked flags = kept_if (flags / 4) (between flags)
+
+-- a wrapped key may be of this length: in the old form, or in some form where it is kept
+abbrev pub IsGivenLength : Asked → ℕ → Type 0
+IsGivenLength (Between old new) len = IsTextLength old len
+IsGivenLength Keep len = IsSomeTextLength len
+
+-- a length is refused: the wrapped key's, or the key's in the new form
+abbrev pub HasBadLength : Asked → (List ℕ → List ℕ) → List ℕ → Type 0
+HasBadLength (Between old new) E text = rewrap.HasBadLength old E new text
+HasBadLength Keep E text = ¬ IsSomeTextLength (length text)
+
+-- it has a legal length, and is the wrapping of no key: in the old form, or in any form where it is kept
+abbrev pub HasNoKey : Asked → (List ℕ → List ℕ) → List ℕ → Type 0
+HasNoKey (Between old new) E text = rewrap.HasNoWrapping old E text
+HasNoKey Keep E text = HasNoForm E text
+
+-- it is the wrapping of a key that the new form takes
+abbrev pub HasGoodKey : Asked → (List ℕ → List ℕ) → List ℕ → Type 0
+HasGoodKey (Between old new) E text = (key : List ℕ) × StandsIn old E key text × IsKeyLength new (length key)
+HasGoodKey Keep E text = (form : Form) × (key : List ℕ) × StandsIn form E key text
+
+-- the answer is what is asked for
+abbrev pub Rewraps : Asked → (List ℕ → List ℕ) → (List ℕ → List ℕ) → List ℕ → List ℕ → Type 0
+Rewraps (Between old new) E F text answer = IsRewrapping old E new F text answer
+Rewraps Keep E F text answer = IsKeptRewrapping E F text answer

@@ -1,19 +1,18 @@
 //! Rewrapping in one buffer: from one KEK and form to another, the key never given out.
 
-ghost use Rattle.std.specs.Prelude.{◌≡◌, ◌↔◌, ◌⊎◌, ℕ, List, length, All, IfSome, IfNone};
+ghost use Rattle.std.specs.Prelude.{◌≡◌, ◌↔◌, ◌⊎◌, ℕ, length, All, Err, IfSome, IfNone};
+ghost use Rattle.std.specs.Prelude.{IsErr, IsOk, OnOk};
 ghost use Rattle.aes_block.specs.Cipher.{cipher};
 ghost use Rattle.aes_block.specs.KeyExpansion.{IsKekLength};
-ghost use Rattle.key_wrap.specs.Forms.{StandsIn, IsKeyLength, IsTextLength};
-ghost use Rattle.key_wrap.specs.Rewrap.{HasBadLength, HasNoWrapping};
 ghost use Rattle.keywrap_c.specs.Status.{IsDone, IsBadKek, IsBadLength, IsIntegrity};
 ghost use Rattle.keywrap_c.specs.Status.{IsUnwrapStatus};
-ghost use Rattle.keywrap_c.specs.Answers.{IsRewrapping};
-ghost use Rattle.keywrap_c.specs.Forms.{AreFlags, old_form, new_form};
+ghost use Rattle.keywrap_c.specs.Forms.{AreFlags, asked, IsGivenLength, HasBadLength};
+ghost use Rattle.keywrap_c.specs.Forms.{HasNoKey, HasGoodKey, Rewraps};
 
 use crate::status::{BAD_KEK, BAD_LENGTH, DONE, INTEGRITY};
 use aes_vector::{LentAes, Room};
-use block_pair::Meter;
-use key_wrap::{Form, InPlaceFault, rewrap_in_place};
+use block_pair::{BlockPair, Meter};
+use key_wrap::{Form, InPlaceFault, rewrap_in_place, rewrap_keeping_form_in_place};
 
 // The flag of a wrapped key that is given in the padded form.
 const OLD_PADDED: u32 = 1;
@@ -23,9 +22,19 @@ const NEW_PADDED: u32 = 2;
 
 const BOTH_PADDED: u32 = OLD_PADDED + NEW_PADDED;
 
+// The flag of a wrapped key that may be in either form, and keeps it.
+const KEEP_FORM: u32 = 4;
+
+// What the flags of a rewrapping ask for: the old form and the new one, or that the form is kept.
+enum Asked {
+    Between(Form, Form),
+    Keep,
+}
+
 /// The key in `buffer`, wrapped under `old_kek`, becomes the same key wrapped under `new_kek`, of
-/// the same length; `forms` has a flag for each of the two that is padded, as in `keywrap.h`, and
-/// no other bit (RFC 3394 and RFC 5649).
+/// the same length; `forms` has a flag for each of the two that is padded, as in `keywrap.h`, or
+/// the flag by which the wrapped key keeps its form alone, and no other bit (RFC 3394 and RFC
+/// 5649).
 ///
 /// After the integrity check has failed, and where the key has no legal length in the new form,
 /// every byte of the buffer is zero.
@@ -41,29 +50,27 @@ pub extern "C" fn keywrap_rewrap_in_place(
         ↔ (¬ IsKekLength (length old_kek.now) ⊎ ¬ IsKekLength (length new_kek.now)) }
     ensures bad_length { IsBadLength result
         ↔ (IsKekLength (length old_kek.now) × IsKekLength (length new_kek.now)
-        × (¬ AreFlags forms ⊎ HasBadLength
-        (old_form forms) (cipher old_kek.now) (new_form forms) buffer.old)) }
+        × (¬ AreFlags forms ⊎ HasBadLength (asked forms) (cipher old_kek.now) buffer.old)) }
     ensures integrity { IsIntegrity result
         ↔ (IsKekLength (length old_kek.now) × IsKekLength (length new_kek.now) × AreFlags forms
-        × HasNoWrapping (old_form forms) (cipher old_kek.now) buffer.old) }
+        × HasNoKey (asked forms) (cipher old_kek.now) buffer.old) }
     ensures done { IsDone result
         → IsKekLength (length old_kek.now) × IsKekLength (length new_kek.now) × AreFlags forms
-        × IsTextLength (old_form forms) (length buffer.old) }
+        × IsGivenLength (asked forms) (length buffer.old) }
     ensures kept_at_bad_kek { IsBadKek result → buffer.new ≡ buffer.old }
     ensures kept_at_bad_flags { ¬ AreFlags forms → buffer.new ≡ buffer.old }
-    ensures kept_at_bad_text { ¬ IsTextLength (old_form forms) (length buffer.old)
+    ensures kept_at_bad_text { ¬ IsGivenLength (asked forms) (length buffer.old)
         → buffer.new ≡ buffer.old }
     ensures cleared { IsIntegrity result → All (λ byte. byte ≡ 0) buffer.new }
     ensures cleared_at_bad_key { IsBadLength result → AreFlags forms
-        → IsTextLength (old_form forms) (length buffer.old) → All (λ byte. byte ≡ 0) buffer.new }
-    ensures answer { IsDone result → IsRewrapping (old_form forms) (cipher old_kek.now)
-        (new_form forms) (cipher new_kek.now) buffer.old buffer.new }
+        → IsGivenLength (asked forms) (length buffer.old) → All (λ byte. byte ≡ 0) buffer.new }
+    ensures answer { IsDone result
+        → Rewraps (asked forms) (cipher old_kek.now) (cipher new_kek.now) buffer.old buffer.new }
 
     // A wrapping whose key has a legal length in the new form is not refused.
-    ensures accepts { (key : List ℕ) → IsKekLength (length old_kek.now)
-        → IsKekLength (length new_kek.now) → AreFlags forms
-        → StandsIn (old_form forms) (cipher old_kek.now) key buffer.old
-        → IsKeyLength (new_form forms) (length key) → IsDone result }
+    ensures accepts { IsKekLength (length old_kek.now) → IsKekLength (length new_kek.now)
+        → AreFlags forms → HasGoodKey (asked forms) (cipher old_kek.now) buffer.old
+        → IsDone result }
 {
     let mut old_room = Room::new();
     let Ok(old) = LentAes::new(old_kek, &mut old_room) else {
@@ -74,18 +81,7 @@ pub extern "C" fn keywrap_rewrap_in_place(
         old_room.clear();
         return BAD_KEK;
     };
-    let Some((from, to)) = forms_of(forms) else {
-        old_room.clear();
-        new_room.clear();
-        return BAD_LENGTH;
-    };
-    match rewrap_in_place(
-        &mut Meter::new(&old),
-        from,
-        &mut Meter::new(&new),
-        to,
-        buffer,
-    ) {
+    match rewrap_as(&mut Meter::new(&old), &mut Meter::new(&new), forms, buffer) {
         Ok(()) => {
             old_room.clear();
             new_room.clear();
@@ -104,17 +100,48 @@ pub extern "C" fn keywrap_rewrap_in_place(
     }
 }
 
-// The old form and the new one that these flags name.
-fn forms_of(flags: u32) -> Option<(Form, Form)>
-    ensures named { IfSome result (λ forms. AreFlags flags
-        × (forms.0 ≡ old_form flags) × (forms.1 ≡ new_form flags)) }
+// Rewraps as the flags ask, under any pairs. Not inlined, its frame lies over what the making of the
+// key schedules left on the stack.
+#[inline(never)]
+fn rewrap_as<O: BlockPair, N: BlockPair>(
+    old: &mut Meter<O>,
+    new: &mut Meter<N>,
+    flags: u32,
+    buf: &mut [u8],
+) -> Result<(), InPlaceFault>
+    ensures bad_length { (result ≡ Err InPlaceFault.BadLength)
+        ↔ (¬ AreFlags flags ⊎ HasBadLength (asked flags) (O.encrypted old.old.pair) buf.old) }
+    ensures integrity { (result ≡ Err InPlaceFault.Integrity)
+        ↔ (AreFlags flags × HasNoKey (asked flags) (O.encrypted old.old.pair) buf.old) }
+    ensures done { IsOk result → AreFlags flags × IsGivenLength (asked flags) (length buf.old) }
+    ensures kept_at_bad_flags { ¬ AreFlags flags → buf.new ≡ buf.old }
+    ensures kept_at_bad_text { ¬ IsGivenLength (asked flags) (length buf.old)
+        → buf.new ≡ buf.old }
+    ensures cleared { IsErr result → AreFlags flags → IsGivenLength (asked flags) (length buf.old)
+        → All (λ byte. byte ≡ 0) buf.new }
+    ensures answer { OnOk result (Rewraps (asked flags)
+        (O.encrypted old.old.pair) (N.encrypted new.old.pair) buf.old buf.new) }
+    ensures accepts { AreFlags flags
+        → HasGoodKey (asked flags) (O.encrypted old.old.pair) buf.old → IsOk result }
+{
+    match asked_of(flags) {
+        Some(Asked::Between(from, to)) => rewrap_in_place(old, from, new, to, buf),
+        Some(Asked::Keep) => rewrap_keeping_form_in_place(old, new, buf),
+        None => Err(InPlaceFault::BadLength),
+    }
+}
+
+// What these flags ask for.
+fn asked_of(flags: u32) -> Option<Asked>
+    ensures named { IfSome result (λ found. AreFlags flags × (found ≡ asked flags)) }
     ensures refused { IfNone result (¬ AreFlags flags) }
 {
     match flags {
-        0 => Some((Form::Plain, Form::Plain)),
-        OLD_PADDED => Some((Form::Padded, Form::Plain)),
-        NEW_PADDED => Some((Form::Plain, Form::Padded)),
-        BOTH_PADDED => Some((Form::Padded, Form::Padded)),
+        0 => Some(Asked::Between(Form::Plain, Form::Plain)),
+        OLD_PADDED => Some(Asked::Between(Form::Padded, Form::Plain)),
+        NEW_PADDED => Some(Asked::Between(Form::Plain, Form::Padded)),
+        BOTH_PADDED => Some(Asked::Between(Form::Padded, Form::Padded)),
+        KEEP_FORM => Some(Asked::Keep),
         _ => None,
     }
 }
