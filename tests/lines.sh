@@ -521,7 +521,7 @@ if [ "$(script -qec 'echo here' /dev/null 2>&1 | tr -d '\r')" = here ]; then
     shows 'the last line with --quiet --verbose' 0 '' "$last" '--quiet --verbose >out'
     echo g >>part3
     refused="keywrap: line 5000: $digit"
-    shows 'how far it is, and a refusal' 6 "$far" "$refused\\|  standard input: not hex" '>out'
+    shows 'how far it is, and a refusal' 6 "$far" "$refused\\|  standard input: not hex; for base64 use --base64" '>out'
     # A pipe has no length, of which a part were done.
     shows 'how far it is, into a file' 6 "$far" "$refused\\|keywrap: 5000 lines: 4999 answered, 1 refused" \
         '--keep-going --verbose --input /dev/stdin --output other'

@@ -81,16 +81,16 @@ tips 'a usage in a word moves no tip' 'files are named by options: --kek FILE, -
 
 ### The name -
 
-for kek in kek new-kek; do
+for of in kek new-kek; do
     for command in wrap unwrap check rewrap; do
-        [ $command = rewrap ] || [ $kek = kek ] || continue
+        [ $command = rewrap ] || [ $of = kek ] || continue
         words=("$command" --kek kek16.hex)
         [ $command != rewrap ] || words+=(--new-kek kek32.hex)
-        words=("${words[@]/#--$kek/--$kek=-}")
+        words=("${words[@]/#--$of/--$of=-}")
         # The value that stood behind it goes.
-        case $kek in kek) unset 'words[2]' ;; *) unset 'words[4]' ;; esac
-        tips "$command --$kek -" \
-            "a KEK on standard input is --$kek /dev/stdin; a file of this name is ./-" "${words[@]}"
+        case $of in kek) unset 'words[2]' ;; *) unset 'words[4]' ;; esac
+        tips "$command --$of -" \
+            "a KEK on standard input is --$of /dev/stdin; a file of this name is ./-" "${words[@]}"
     done
 done
 fresh
@@ -514,7 +514,7 @@ tells 'a raw KEK as base64' 6 'key file: no base64 character at byte 0' \
 # PEM, and what makes bytes of it.
 # pem LABEL FILE: a block of 33 bytes, whose base64 has + in it, behind a text.
 pem() {
-    printf 'a text\n-----BEGIN %s-----\n%s\n-----END %s-----\n' "$1" "$(bytes fb"$(zeros 32)" | base64)" "$1" >"$2"
+    printf 'a text.\n-----BEGIN %s-----\n%s\n-----END %s-----\n' "$1" "$(bytes fb"$(zeros 32)" | base64)" "$1" >"$2"
 }
 der_of() { echo "openssl $1 -outform DER makes DER of it, for --raw"; }
 pem 'PRIVATE KEY' private.pem
@@ -525,12 +525,12 @@ pem 'OPENSSH PRIVATE KEY' other.pem
 private='PEM of a private key' public='PEM of a public key' certificate='PEM of a certificate'
 leaves='PEM; grep -v -e ----- leaves its base64, for'
 while IFS='|' read -r file as_key as_kek as_wrapped; do
-    tells "$file as a key" 6 'input: no hex digit at byte 1' "$file: not hex but $as_key" \
+    tells "$file as a key" 6 'input: no hex digit at byte 2' "$file: not hex but $as_key" \
         wrap --kek kek16.hex -i "$file"
     tells "$file as a raw key" 4 "$bad_length" "$file: $as_key" wrap --raw --kek kek16.hex -i "$file"
-    tells "$file as a KEK" 6 'key file: no hex digit at byte 1' "$file: not hex but $as_kek" wrap --kek "$file"
+    tells "$file as a KEK" 6 'key file: no hex digit at byte 2' "$file: not hex but $as_kek" wrap --kek "$file"
     tells "$file as a raw KEK" 3 "$kek_length" "$file: $as_kek" wrap --raw-kek --kek "$file"
-    tells "$file as a wrapped key" 6 'input: no hex digit at byte 1' "$file: not hex but $as_wrapped" \
+    tells "$file as a wrapped key" 6 'input: no hex digit at byte 2' "$file: not hex but $as_wrapped" \
         unwrap --kek kek16.hex -i "$file"
 done <<END_OF_PEM
 private.pem|$private; $(der_of 'pkcs8 -topk8 -nocrypt')|$private, which is no KEK|$private, which is no wrapped key
@@ -618,7 +618,7 @@ wrong 'a KEK of base64, as raw' "$under characters of base64 read as raw bytes; 
 # at_line NAME STATUS MESSAGE WHY ARGUMENT..: the first line is refused so. Of a line it is not said how long it is.
 at_line() { tells "lines, $1" "$2" "line 1: $3" "$4" "${@:5}" --lines; }
 from=(--kek kek16.hex -i) to_itself=(--kek kek16.hex --new-kek kek16.hex -i)
-at_line 'a bad digit' 6 'no hex digit at byte 1' 'digit.hex: not hex' wrap "${from[@]}" digit.hex
+at_line 'a bad digit' 6 'no hex digit at byte 1' 'digit.hex: not hex; for base64 use --base64' wrap "${from[@]}" digit.hex
 at_line 'odd digits' 6 'odd number of hex digits' odd.hex wrap "${from[@]}" odd.hex
 at_line 'a line that is too long' 6 'too long' 'long.hex: a line of more than 4194304 bytes' wrap "${from[@]}" long.hex
 at_line 'a folder' 6 'cannot be read' 'folder: Is a directory' wrap "${from[@]}" folder

@@ -70,10 +70,12 @@ done <<'END_OF_STATUSES'
 END_OF_STATUSES
 
 # The flags that the advice of status 3 names, and the limits, of which the rows of tests/command.sh are.
-same 'help: the flags of status 3' --raw-kek "$("$program" --help | sed -n '/^  3  /,/^  4  /p' | grep -oE -e '--[a-z-]+')"
-same 'page: the flags of status 3' $'--raw-kek\n--new-kek' \
+same 'help: the flags of status 3' $'--raw-kek\n--base64-kek' \
+    "$("$program" --help | sed -n '/^  3  /,/^  4  /p' | grep -oE -e '--[a-z0-9-]+')"
+same 'page: the flags of status 3' $'--base64-kek\n--raw-kek\n--new-kek' \
     "$(options_in "$(section 'EXIT STATUS' | sed -n '/^\.It 3$/,/^\.It 4$/p')")"
-same 'README: the flags of status 3' --raw-kek "$(grep '^| 3 |' "$root/README.md" | grep -oE -e '--[a-z-]+')"
+same 'README: the flags of status 3' $'--raw-kek\n--base64-kek' \
+    "$(grep '^| 3 |' "$root/README.md" | grep -oE -e '--[a-z0-9-]+')"
 limits=$(sed -n '/^\.Ss Limits/,/^\.Sh/p' "$page" | tr '\n' ' ' | grep -oE '[0-9]+ to [0-9]+|at most [0-9]+')
 row 'page: the limits' diff <(echo "$limits") \
     <(printf '%s\n' '16 to 1048576' '1 to 1048576' '24 to 1048584' '16 to 1048584' 'at most 4194304')
@@ -225,7 +227,8 @@ goes() {
 }
 
 # Flags, and beside each of a command those that the program takes with it.
-printf '%s\n' --padded --new-padded --keep-form --pass-new --iv --raw --raw-kek --base64 --base64url --base64-kek --lines --keep-going --quiet --verbose >flags
+printf '%s\n' --padded --new-padded --keep-form --pass-new --iv --raw --raw-kek --base64 --base64url --base64-kek --lines \
+    --keep-going --quiet --verbose >flags
 mkdir beside
 for command in wrap unwrap rewrap check; do
     words=("$command" --kek missing)

@@ -70,7 +70,7 @@ fn answers_the_lines_before_the_first_refused_one(rt: HostRuntime) -> Result<(),
                 TextNotation::Hex,
                 &Echo,
                 false,
-                &told,
+                &Told::new(),
                 &mut input,
                 &mut out,
             );
@@ -117,7 +117,7 @@ fn takes_blanks_at_the_ends_alone(rt: HostRuntime) -> Result<(), Fail> {
             TextNotation::Hex,
             &Echo,
             false,
-            &told,
+            &Told::new(),
             &mut input,
             &mut out,
         );
@@ -203,7 +203,7 @@ fn counts_what_a_refused_write_left_out(rt: HostRuntime) -> Result<(), Fail> {
                 TextNotation::Hex,
                 &Echo,
                 false,
-                &told,
+                &Told::new(),
                 &mut input,
                 &mut out,
             );
@@ -231,7 +231,7 @@ fn stops_where_the_writer_refuses_a_full_block(rt: HostRuntime) -> Result<(), Fa
         TextNotation::Hex,
         &Echo,
         false,
-        &told,
+        &Told::new(),
         &mut input,
         &mut out,
     );
@@ -268,7 +268,7 @@ fn stops_at_the_line_whose_read_fails(rt: HostRuntime) -> Result<(), Fail> {
             TextNotation::Hex,
             &Echo,
             false,
-            &told,
+            &Told::new(),
             &mut input,
             &mut out,
         );
