@@ -2,7 +2,7 @@
 
 use super::doubles::{Echo, Narrow, Told, Trickle};
 use crate::{LineFault, RunFault, TextNotation, run_lines};
-use key_files::FileFault;
+use key_files::{Base64Fault, FileFault};
 use std::io::BufReader;
 use std::test::Fail;
 
@@ -280,5 +280,26 @@ fn stops_at_the_line_whose_read_fails(rt: HostRuntime) -> Result<(), Fail> {
         );
         assert!(rt; text.starts_with(&out) && out.len() == reads / 3 * 3);
     }
+    Ok(())
+}
+
+#[test]
+fn answers_lines_of_base64(rt: HostRuntime) -> Result<(), Fail> {
+    let mut input = b"-_8\n\t+/8= \nZ m\n".as_slice();
+    let mut out = Vec::new(rt.alloc());
+    let told = Told::new();
+    let answer = run_lines(
+        rt.alloc(),
+        TextNotation::Base64,
+        &Echo,
+        true,
+        &told,
+        &mut input,
+        &mut out,
+    );
+    assert_eq!(rt; answer, Ok(3));
+    assert!(rt; out.as_slice() == b"fbff\nfbff\n\n".as_slice());
+    let fault = LineFault::Input(FileFault::BadBase64(Base64Fault::Character { at: 1 }));
+    assert!(rt; told.last.get() == Some((3, fault)));
     Ok(())
 }
