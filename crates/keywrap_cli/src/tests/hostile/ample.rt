@@ -151,7 +151,7 @@ fn writes_in<'a>(
 ) {
     let case = match notation {
         Notation::Raw => Case(call, [RAW_KEK, RAW_NEW_KEK, input], WRITTEN, output),
-        Notation::Hex => Case(call, [HEX_KEK, NEW_KEK, input], WRITTEN, output),
+        _ => Case(call, [HEX_KEK, NEW_KEK, input], WRITTEN, output),
     };
     case.holds(rt, alloc, size);
 }
