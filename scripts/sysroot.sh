@@ -8,7 +8,7 @@
 set -eu
 packages='python3 libpython3-dev python3-cffi-backend python3-pytest python3-cryptography python3-cryptography-vectors
     valgrind'
-[ $# -gt 0 ] || set -- "${XDG_CACHE_HOME:-$HOME/.cache}/keywrap/sysroot-aarch64-unknown-linux-gnu"
+[ $# -gt 0 ] || set -- "${XDG_CACHE_HOME:-${HOME:-}/.cache}/keywrap/sysroot-aarch64-unknown-linux-gnu"
 [ ! -d "$1" ] || exit 0
 mkdir -p -- "$(dirname -- "$1")"
 room=$(mktemp -d -- "$1.XXXXXX")
