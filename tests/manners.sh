@@ -302,7 +302,8 @@ else
     # One of the groups that it has.
     chown nobody:54321 to/file
     setpriv --reuid nobody --regid "$(id -g nobody)" --groups 54321 ./program "${wraps[@]}" -o to/file
-    verdict 'nobody, over a file of a group of its own' "$([ $? = 0 ] && owned to/file | grep -vx "${nobody% *} 54321 640")"
+    verdict 'nobody, over a file of a group of its own' \
+        "$([ $? = 0 ] && owned to/file | grep -vx "${nobody% *} 54321 640")"
 fi
 
 ### The sync of its folder
@@ -469,7 +470,8 @@ tells 'a raw KEK in hex' 3 "$kek_length" 'kek16.hex: 33 bytes of KEK; hex digits
     wrap --raw-kek --kek kek16.hex
 tells 'an empty KEK' 3 "$kek_length" '/dev/null: 0 bytes of KEK' check --kek /dev/null
 tells 'a KEK of one byte' 3 "$kek_length" 'one.hex: 1 byte of KEK' check --kek one.hex
-tells 'a new KEK of 15 bytes' 3 "$new_kek_length" 'kek15.hex: 15 bytes of KEK' rewrap --kek kek16.hex --new-kek kek15.hex
+tells 'a new KEK of 15 bytes' 3 "$new_kek_length" 'kek15.hex: 15 bytes of KEK' \
+    rewrap --kek kek16.hex --new-kek kek15.hex
 tells 'a raw KEK file' 6 'key file: no hex digit at byte 0' 'kek16.raw: not hex; for raw bytes use --raw-kek' \
     wrap --kek kek16.raw
 tells 'an odd KEK' 6 'key file: odd number of hex digits' 'odd.hex: 3 hex digits' wrap --kek odd.hex
@@ -600,7 +602,8 @@ wrong 'rewrap of a wrong byte' 'wrong.hex: no wrapping in the plain form under t
 wrong 'rewrap of a plain one, taken for padded' \
     'wrapped.hex: no wrapping in the padded form under this KEK; try keywrap check' \
     rewrap --padded --kek kek16.hex --new-kek kek32.hex -i wrapped.hex
-wrong 'rewrap of a wrong byte in its form' 'wrong.hex: no wrapping in either form under this KEK' "${in_its_form[@]}" wrong.hex
+wrong 'rewrap of a wrong byte in its form' 'wrong.hex: no wrapping in either form under this KEK' \
+    "${in_its_form[@]}" wrong.hex
 wrong 'another value' 'wrapped.hex: no wrapping under this KEK and --iv' \
     unwrap --iv "$iv" --kek kek16.hex -i wrapped.hex
 
@@ -618,7 +621,8 @@ wrong 'a KEK of base64, as raw' "$under characters of base64 read as raw bytes; 
 # at_line NAME STATUS MESSAGE WHY ARGUMENT..: the first line is refused so. Of a line it is not said how long it is.
 at_line() { tells "lines, $1" "$2" "line 1: $3" "$4" "${@:5}" --lines; }
 from=(--kek kek16.hex -i) to_itself=(--kek kek16.hex --new-kek kek16.hex -i)
-at_line 'a bad digit' 6 'no hex digit at byte 1' 'digit.hex: not hex; for base64 use --base64' wrap "${from[@]}" digit.hex
+at_line 'a bad digit' 6 'no hex digit at byte 1' 'digit.hex: not hex; for base64 use --base64' \
+    wrap "${from[@]}" digit.hex
 at_line 'odd digits' 6 'odd number of hex digits' odd.hex wrap "${from[@]}" odd.hex
 at_line 'a line that is too long' 6 'too long' 'long.hex: a line of more than 4194304 bytes' wrap "${from[@]}" long.hex
 at_line 'a folder' 6 'cannot be read' 'folder: Is a directory' wrap "${from[@]}" folder
@@ -628,7 +632,8 @@ at_line 'a padded one' 4 "$bad_length" "wrapped23.hex: $in_padded" unwrap --padd
 at_line 'one in its form' 4 "$bad_length" "wrapped23.hex: $in_either" "${in_its_form[@]}" wrapped23.hex
 at_line 'one to padded' 4 "$bad_length" "wrapped23.hex: $in24" rewrap --new-padded "${to_itself[@]}" wrapped23.hex
 at_line '7 bytes to plain' 4 "$bad_length" padded7.hex rewrap --padded "${to_itself[@]}" padded7.hex
-at_line 'a wrong byte' 5 "$integrity" 'wrong.hex: no wrapping in either form under this KEK' "${in_its_form[@]}" wrong.hex
+at_line 'a wrong byte' 5 "$integrity" 'wrong.hex: no wrapping in either form under this KEK' "${in_its_form[@]}" \
+    wrong.hex
 tells 'lines, a KEK of 15 bytes' 3 "$kek_length" 'kek15.hex: 15 bytes of KEK' wrap --lines --kek kek15.hex -i key.hex
 tells 'lines, an odd new KEK' 6 'new key file: odd number of hex digits' 'odd.hex: 3 hex digits' \
     rewrap --lines --kek kek16.hex --new-kek odd.hex -i wrapped.hex
@@ -782,7 +787,8 @@ else
         esac
     done
     verdict 'the second line without memory' "$problem"
-    verdict 'there are runs with the first line alone' "$([ "$without" -gt 0 ] && [ $call -lt 999 ] || echo "$without of $call")"
+    verdict 'there are runs with the first line alone' \
+        "$([ "$without" -gt 0 ] && [ $call -lt 999 ] || echo "$without of $call")"
     rm met
 fi
 

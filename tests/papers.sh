@@ -227,8 +227,8 @@ goes() {
 }
 
 # Flags, and beside each of a command those that the program takes with it.
-printf '%s\n' --padded --new-padded --keep-form --pass-new --iv --raw --raw-kek --base64 --base64url --base64-kek --lines \
-    --keep-going --quiet --verbose >flags
+printf '%s\n' --padded --new-padded --keep-form --pass-new --iv --raw --raw-kek --base64 --base64url --base64-kek \
+    --lines --keep-going --quiet --verbose >flags
 mkdir beside
 for command in wrap unwrap rewrap check; do
     words=("$command" --kek missing)
