@@ -452,6 +452,9 @@ if compiled fail_alloc && compiled fail_read; then
     fails_in_turn 'rewrap' "$under24_16" "$under32_16" "${rewraps[@]}"
     fails_in_turn 'rewrap in either form' "$under24_16" "$under32_16" "${rewraps[@]}" --keep-form
     fails_in_turn 'wrap in base64' "$(bytes $d16 | base64)" "$(bytes $wrapped16 | base64)" "${wraps[@]}" --base64
+    fails_in_turn 'unwrap in base64' "$(bytes $wrapped16 | base64)" "$(bytes $d16 | base64)" \
+        unwrap --lines --base64 --kek kek16.hex
+    fails_in_turn 'check in base64' "$(bytes $wrapped16 | base64)" 'plain 16' check --lines --base64 --kek kek16.hex
     fails_in_turn 'rewrap in base64url' "$(bytes $under24_16 | base64)" "$(bytes $under32_16 | basenc --base64url)" \
         "${rewraps[@]}" --base64url
     fails_in_turn 'check' "$wrapped16" 'plain 16' check --lines --kek kek16.hex
