@@ -37,6 +37,8 @@ types() {
 # on_terminal LINE [TEXT]: runs a line of sh, where $program is the program, on a terminal, and types TEXT
 # there. What is shown comes as `screen`, and the status of the line as $status.
 on_terminal() {
+    # What was typed for a program that ended before it read that is not for the next.
+    while IFS= read -r -d '' -n 1 -t 0.02 -u 8 _; do :; done
     rm -f ended
     : >err
     echo "$1" >line
