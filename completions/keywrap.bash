@@ -17,7 +17,7 @@ _keywrap() {
         mapfile -t COMPREPLY < <(compgen -f -- "$word")
         return
         ;;
-    --iv) return ;;
+    --iv | --new-iv) return ;;
     esac
     case $command in
     '')
@@ -26,9 +26,10 @@ _keywrap() {
         ;;
     wrap | unwrap) options="--kek --padded --iv --verbose $notations $lines $files $help" ;;
     rewrap)
-        options="--kek --new-kek --padded --new-padded --keep-form --pass-new --verbose $notations $lines $files $help"
+        options="--kek --new-kek --padded --new-padded --iv --new-iv --keep-form --pass-new --verbose $notations $lines"
+        options="$options $files $help"
         ;;
-    check) options="--kek --verbose $notations $lines $files $help" ;;
+    check) options="--kek --iv --verbose $notations $lines $files $help" ;;
     # What is missing may be the HEX, which only the user knows.
     drill) [ "${word:0:1}" != - ] || options="--padded --unwrap $help" ;;
     vectors) options=$help ;;
@@ -39,9 +40,10 @@ _keywrap() {
         -i | --input) gone=(-i --input) ;;
         -o | --output) gone=(-o --output) ;;
         --padded) gone=(--padded --iv --keep-form) ;;
-        --new-padded) gone=(--new-padded --keep-form) ;;
-        --keep-form) gone=(--keep-form --padded --new-padded) ;;
-        --iv) gone=(--iv --padded) ;;
+        --new-padded) gone=(--new-padded --new-iv --keep-form) ;;
+        --keep-form) gone=(--keep-form --padded --new-padded --iv --new-iv) ;;
+        --iv) gone=(--iv --padded --keep-form) ;;
+        --new-iv) gone=(--new-iv --new-padded --keep-form) ;;
         --raw) gone=(--raw --base64 --base64url --lines --keep-going --quiet) ;;
         --base64 | --base64url) gone=(--base64 --base64url --raw) ;;
         --raw-kek | --base64-kek) gone=(--raw-kek --base64-kek) ;;

@@ -21,7 +21,7 @@ complete -c keywrap -n __fish_use_subcommand -a wrap -d 'Wrap a key'
 complete -c keywrap -n __fish_use_subcommand -a unwrap -d 'Unwrap a wrapped key'
 complete -c keywrap -n __fish_use_subcommand -a rewrap -d 'Wrap the key of a wrapped key under another KEK'
 complete -c keywrap -n __fish_use_subcommand -a check -d 'Say what a wrapped key is, without the key'
-complete -c keywrap -n __fish_use_subcommand -a drill -d 'Wrap over a block that only exchanges its halves'
+complete -c keywrap -n __fish_use_subcommand -a drill -d 'Wrap under a toy cipher, to check by hand'
 complete -c keywrap -n __fish_use_subcommand -a vectors -d 'Answer the published vectors'
 complete -c keywrap -n __fish_use_subcommand -a help -d 'Show the help, or that of a command'
 complete -c keywrap -n '__keywrap_is help; and test (count (commandline -opc)) = 2' \
@@ -31,13 +31,15 @@ complete -c keywrap -n '__keywrap_is wrap unwrap rewrap check' -l kek -rF -d 'Th
 complete -c keywrap -n '__keywrap_is rewrap' -l new-kek -rF -d 'The KEK of the new wrapped key'
 complete -c keywrap -n '__keywrap_is wrap unwrap rewrap drill; and __keywrap_lacks --iv --keep-form' -l padded \
     -d 'The padded form of RFC 5649'
-complete -c keywrap -n '__keywrap_is rewrap; and __keywrap_lacks --keep-form' -l new-padded \
+complete -c keywrap -n '__keywrap_is rewrap; and __keywrap_lacks --new-iv --keep-form' -l new-padded \
     -d 'Write the padded form of RFC 5649'
-complete -c keywrap -n '__keywrap_is rewrap; and __keywrap_lacks --padded --new-padded' -l keep-form \
+complete -c keywrap -n '__keywrap_is rewrap; and __keywrap_lacks --padded --new-padded --iv --new-iv' -l keep-form \
     -d 'Take either form, and keep it'
 complete -c keywrap -n '__keywrap_is rewrap' -l pass-new -d 'Answer what is under the new KEK already as it is'
-complete -c keywrap -n '__keywrap_is wrap unwrap; and __keywrap_lacks --padded' -l iv -x \
+complete -c keywrap -n '__keywrap_is wrap unwrap rewrap check; and __keywrap_lacks --padded --keep-form' -l iv -x \
     -d 'An initial value that both ends agreed on'
+complete -c keywrap -n '__keywrap_is rewrap; and __keywrap_lacks --new-padded --keep-form' -l new-iv -x \
+    -d 'The initial value of the new wrapped key'
 complete -c keywrap -l raw -d 'Input and output are raw bytes, not hex' \
     -n '__keywrap_is wrap unwrap rewrap check; and __keywrap_lacks --lines --keep-going --quiet --base64 --base64url'
 complete -c keywrap -n '__keywrap_is wrap unwrap rewrap check; and __keywrap_lacks --raw --base64url' -l base64 \

@@ -10,7 +10,7 @@
  *     uint8_t kek[32] = .., key[16] = .., wrapped[KEYWRAP_TEXT_LEN(sizeof key)];
  *     if (keywrap_wrap(kek, sizeof kek, key, sizeof key, wrapped, sizeof wrapped) != KEYWRAP_OK) ..
  *
- * The calls take no memory, keep no state and call nothing back. Any thread may make them.
+ * The calls allocate nothing, keep no state and call nothing back. Any thread may make them.
  *
  * The caller's part, which nothing checks:
  *   - A pointer and the length after it belong together: it points to so many bytes, and is not
@@ -59,9 +59,9 @@ enum keywrap_status {
                                wrap answers it */
 };
 
-/* The flags of keywrap_rewrap_in_place: the wrapped key that is given, and the one that is
- * answered, is in the padded form; without its flag each is in the plain one. KEYWRAP_KEEP_FORM
- * stands alone: the wrapped key is in either form, and keeps it. It is of version 1.1: an older
+/* The flags of keywrap_rewrap_in_place: the old wrapped key, and the new one, is in the padded
+ * form; without its flag each is in the plain one. KEYWRAP_KEEP_FORM goes with no other flag: the
+ * wrapped key is in either form, and keeps it. It is of version 1.1: an older
  * library refuses it. */
 #define KEYWRAP_OLD_PADDED 1u
 #define KEYWRAP_NEW_PADDED 2u
@@ -70,17 +70,17 @@ enum keywrap_status {
 /* Where the compiler sees them, it warns of a NULL, of an answer that is not looked at, and (GCC)
  * of an overlap and of a buffer that is shorter than its length says. */
 #if defined(__GNUC__)
+#define KEYWRAP_NONNULL __attribute__((nonnull, nothrow))
 #define KEYWRAP_CALL __attribute__((nonnull, nothrow, warn_unused_result))
 #define KEYWRAP_RESTRICT __restrict
-#define KEYWRAP_INLINE static __inline__
 #elif defined(__STDC_VERSION__) && __STDC_VERSION__ >= 199901L
+#define KEYWRAP_NONNULL
 #define KEYWRAP_CALL
 #define KEYWRAP_RESTRICT restrict
-#define KEYWRAP_INLINE static inline
 #else
+#define KEYWRAP_NONNULL
 #define KEYWRAP_CALL
 #define KEYWRAP_RESTRICT
-#define KEYWRAP_INLINE static
 #endif
 #if defined(__GNUC__) && !defined(__clang__) && __GNUC__ >= 10
 #define KEYWRAP_READS(pointer, length) __attribute__((access(read_only, pointer, length)))
@@ -100,19 +100,14 @@ extern "C" {
 KEYWRAP_CALL
 uint32_t keywrap_version(void);
 
-/* What a status says, in the words of the command: a constant string for any number, never NULL. It
- * is a function of this header, from version 1.1 on, and no name of the library. */
-KEYWRAP_CALL
-KEYWRAP_INLINE const char *keywrap_status_text(int32_t status) {
-    switch (status) {
-    case KEYWRAP_OK: return "done";
-    case KEYWRAP_BAD_IV: return "initial value is not 8 bytes, or is reserved for the padded form";
-    case KEYWRAP_BAD_KEK: return "key length is not 16, 24 or 32 bytes";
-    case KEYWRAP_BAD_LENGTH: return "bad length";
-    case KEYWRAP_INTEGRITY: return "integrity check failed";
-    default: return "unknown status";
-    }
-}
+/* What a status says, as the command does: any number has a text. It is written to text, a
+ * buffer of capacity bytes, with a zero at its end; 80 bytes hold any. A longer text is cut to fit,
+ * zero and all, and at capacity 0 nothing is written. What follows the zero stays as it was.
+ *
+ * The answer is the length of the whole text, without the zero: it was cut where that is not less
+ * than capacity. From version 1.1 on: a program that makes this call needs a library of it. */
+KEYWRAP_NONNULL KEYWRAP_WRITES(2, 3)
+size_t keywrap_status_text(int32_t status, char *KEYWRAP_RESTRICT text, size_t capacity);
 
 /* Plain, two buffers: key_len is a multiple of 8 from 16 to KEYWRAP_MAX_KEY, and wrapped_len is
  * KEYWRAP_TEXT_LEN(key_len).
@@ -137,7 +132,7 @@ int32_t keywrap_unwrap(const uint8_t *kek, size_t kek_len, const uint8_t *wrappe
  * 2.2.3.2): the lengths are those above, and so are the answers for a6 a6 a6 a6 a6 a6 a6 a6.
  *   iv_len    8
  *   KEYWRAP_BAD_IV      iv_len is not 8, or the first four bytes are a6 59 59 a6: such values are
- *                       left to the padded form
+ *                       reserved for the padded form
  *
  * keywrap_wrap_with wraps the key:
  *   KEYWRAP_OK          wrapped holds it, wrapped
@@ -168,10 +163,10 @@ int32_t keywrap_unwrap_with(const uint8_t *kek, size_t kek_len, const uint8_t *i
  * keywrap_unwrap_padded finds the key that was wrapped:
  *   wrapped_len  a multiple of 8 from 16 to KEYWRAP_MAX_TEXT
  *   room         KEYWRAP_ROOM(wrapped_len), the size of the buffer at key
- *   KEYWRAP_OK          the first *key_len bytes at key are the key, and zeros, up to 7, stand
- *                       behind it; no other key has this wrapping
- *   KEYWRAP_INTEGRITY   there is none; the room at key is all zeros, and *key_len is 0
- *   any other           the room at key is as it was, and *key_len is 0 */
+ *   KEYWRAP_OK          the first *key_len bytes at key are the key, and zeros, up to 7, come
+ *                       after it; no other key has this wrapping
+ *   KEYWRAP_INTEGRITY   there is none; the buffer at key is all zeros, and *key_len is 0
+ *   any other           the buffer at key is as it was, and *key_len is 0 */
 KEYWRAP_CALL KEYWRAP_READS(1, 2) KEYWRAP_READS(3, 4) KEYWRAP_WRITES(5, 6)
 int32_t keywrap_wrap_padded(const uint8_t *kek, size_t kek_len, const uint8_t *key, size_t key_len,
                             uint8_t *KEYWRAP_RESTRICT wrapped, size_t wrapped_len);
@@ -182,7 +177,7 @@ int32_t keywrap_unwrap_padded(const uint8_t *kek, size_t kek_len, const uint8_t 
                               size_t *KEYWRAP_RESTRICT key_len);
 
 /* Plain, one buffer: wrapped_len, a multiple of 8 from 24 to KEYWRAP_MAX_TEXT, is its whole length,
- * and the key stands at buffer + 8.
+ * and the key begins at buffer + 8.
  *
  * keywrap_wrap_in_place wraps the key; the first 8 bytes may hold anything:
  *   KEYWRAP_OK          the buffer holds the wrapped key
@@ -190,7 +185,7 @@ int32_t keywrap_unwrap_padded(const uint8_t *kek, size_t kek_len, const uint8_t 
  *
  * keywrap_unwrap_in_place turns the wrapped key into the key:
  *   KEYWRAP_OK          8 zeros, then the key; no other key has this wrapping
- *   KEYWRAP_INTEGRITY   there is none; the buffer is all zeros: to keep what stood there, copy it
+ *   KEYWRAP_INTEGRITY   there is none; the buffer is all zeros: to keep what it held, copy it
  *                       first
  *   any other           the buffer is as it was */
 KEYWRAP_CALL KEYWRAP_READS(1, 2) KEYWRAP_CHANGES(3, 4)
@@ -201,9 +196,9 @@ KEYWRAP_CALL KEYWRAP_READS(1, 2) KEYWRAP_CHANGES(3, 4)
 int32_t keywrap_unwrap_in_place(const uint8_t *kek, size_t kek_len,
                                 uint8_t *KEYWRAP_RESTRICT buffer, size_t wrapped_len);
 
-/* Padded, one buffer: wrapped_len is its whole length, and the key stands at buffer + 8.
+/* Padded, one buffer: wrapped_len is its whole length, and the key begins at buffer + 8.
  *
- * keywrap_wrap_padded_in_place wraps the key; the first 8 bytes, and those behind the key, may hold
+ * keywrap_wrap_padded_in_place wraps the key; the first 8 bytes, and those after the key, may hold
  * anything:
  *   key_len      1 to KEYWRAP_MAX_KEY
  *   wrapped_len  KEYWRAP_PADDED_TEXT_LEN(key_len)
@@ -244,7 +239,7 @@ int32_t keywrap_kind(const uint8_t *kek, size_t kek_len, const uint8_t *wrapped,
                      uint32_t *KEYWRAP_RESTRICT padded, size_t *KEYWRAP_RESTRICT key_len);
 
 /* From one KEK to another, one buffer: wrapped_len is its whole length. The wrapped key stays as
- * long as it was, in either form, and the key is never given out: it stands in the buffer only
+ * long as it was, in either form, and the key is never given out: it is in the buffer only
  * while the call runs.
  *
  * keywrap_rewrap_in_place turns a key wrapped under old_kek into that key wrapped under new_kek:
@@ -270,9 +265,9 @@ int32_t keywrap_rewrap_in_place(const uint8_t *old_kek, size_t old_kek_len, cons
 }
 #endif
 
+#undef KEYWRAP_NONNULL
 #undef KEYWRAP_CALL
 #undef KEYWRAP_RESTRICT
-#undef KEYWRAP_INLINE
 #undef KEYWRAP_READS
 #undef KEYWRAP_WRITES
 #undef KEYWRAP_CHANGES

@@ -23,10 +23,14 @@ export interface Plain {
     iv?: Uint8Array;
 }
 
-/** Which wrapped key is in the padded form, the one that is given or the one that is answered. */
+/**
+ * Which wrapped key is in the padded form, the one that is given or the one that is answered; or,
+ * with neither of these, that it is in either form, and keeps it.
+ */
 export interface Forms {
     oldPadded?: boolean;
     newPadded?: boolean;
+    keepForm?: boolean;
 }
 
 /** In which form a key was wrapped, and how many bytes it has. */

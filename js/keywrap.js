@@ -225,9 +225,14 @@ function isLegal({ kind, bytes: { length } }) {
 }
 
 function rewrap(machine, oldKek, newKek, wrapped, options = {}) {
-    const { oldPadded = false, newPadded = false } = optionsOf(options, 'oldPadded', 'newPadded');
-    const forms = flagOf('oldPadded', oldPadded) | flagOf('newPadded', newPadded) << 1;
-    const old = taken(oldPadded ? WRAPPED_PADDED : WRAPPED_PLAIN, wrapped);
+    const { oldPadded = false, newPadded = false, keepForm = false } =
+        optionsOf(options, 'oldPadded', 'newPadded', 'keepForm');
+    const forms = flagOf('oldPadded', oldPadded) | flagOf('newPadded', newPadded) << 1
+        | flagOf('keepForm', keepForm) << 2;
+    if (forms > 4) {
+        throw new TypeError('keepForm goes with neither oldPadded nor newPadded');
+    }
+    const old = taken(oldPadded || keepForm ? WRAPPED_PADDED : WRAPPED_PLAIN, wrapped);
     const inputs = [taken(KEK, oldKek), taken(KEK, newKek), old];
     try {
         return machine.call('keywrap_rewrap_in_place', inputs, { rest: [forms] });

@@ -59,7 +59,7 @@ static const char *const VERSION = PACKAGE_VERSION;
 
 def declarations(header: str) -> str:
     """The calls, the statuses and the numbers of the header, as cffi reads them."""
-    calls = re.findall(r"^u?int32_t keywrap_\w+\([^;]*\);", header, re.M)
+    calls = re.findall(r"^(?:u?int32_t|size_t) keywrap_\w+\([^;]*\);", header, re.M)
     statuses = re.findall(r"^enum keywrap_status \{.*?\};", header, re.M | re.S)
     numbers = [f"#define KEYWRAP_{name} ..." for name in ("MAX_KEY", "MAX_TEXT", "OLD_PADDED", "NEW_PADDED", "KEEP_FORM")]
     return "\n".join([*statuses, *numbers, *calls]).replace("KEYWRAP_RESTRICT ", "")

@@ -153,6 +153,12 @@ for job in wrap unwrap; do
     spares_input "$job under a value, no KEK file" 6 'key file: cannot be opened' \
         $job --iv a65959a700000010 --kek missing
 done
+# Of rewrap that of --iv comes before that of --new-iv.
+rewraps_missing=(rewrap --kek missing --new-kek missing)
+spares_input 'rewrap, a new value that is none' 2 '--new-iv is not 16 hex digits' "${rewraps_missing[@]}" --new-iv 0
+spares_input 'rewrap, a reserved new value' 2 '--new-iv is reserved for the padded form' \
+    "${rewraps_missing[@]}" --new-iv a65959a600000010
+spares_input 'rewrap, two values that are none' 2 "$no_iv" "${rewraps_missing[@]}" --new-iv 0 --iv 0
 
 ### Refusals: the input
 
@@ -229,6 +235,18 @@ rewraps 'padded to itself, 20 bytes' kek5649.hex kek5649.hex $wrapped20 $wrapped
 rewraps 'plain to plain, keeping its form' kek16.hex kek32.hex $wrapped16 $wrapped32 --keep-form
 rewraps 'padded to padded, keeping its form' kek16.hex kek16.hex $padded16 $padded16 --keep-form
 rewraps '7 bytes, keeping their form' kek5649.hex kek16.hex $wrapped7 $padded7 --keep-form
+# Under initial values: the old one is that of --iv, the new one that of --new-iv, and where there is none the default.
+rewraps 'from a value to the default' kek16.hex kek32.hex $wrapped_iv $wrapped32 --iv $iv
+rewraps 'from the default to a value' kek32.hex kek16.hex $wrapped32 $wrapped_iv --new-iv $iv
+rewraps 'from a value to the same' kek16.hex kek16.hex $wrapped_iv $wrapped_iv --iv $iv --new-iv $iv
+rewraps 'from a value to padded' kek16.hex kek16.hex $wrapped_iv $padded16 --iv $iv --new-padded
+rewraps 'from padded to a value' kek16.hex kek16.hex $padded16 $wrapped_iv --padded --new-iv $iv
+refuses 'rewrap under another value' 5 "$integrity" rewrap --iv $iv --kek kek16.hex --new-kek kek32.hex <<<$wrapped16
+refuses 'rewrap of a value as the default' 5 "$integrity" \
+    rewrap --new-iv $iv --kek kek16.hex --new-kek kek32.hex <<<$wrapped_iv
+rewraps 'what is new under a value passes' kek32.hex kek16.hex $wrapped_iv $wrapped_iv --pass-new --new-iv $iv
+refuses 'what is new under the default does not' 5 "$integrity" \
+    rewrap --pass-new --new-iv $iv --kek kek32.hex --new-kek kek16.hex <<<$wrapped16
 rewraps 'a wrapped key in capitals' kek16.hex kek32.hex "${wrapped16^^}" $wrapped32
 
 bytes "$kek" >kek32.raw
@@ -399,6 +417,10 @@ prints 'checks a plain wrapping' 'plain 16\n' check --kek kek16.hex <<<$wrapped1
 prints 'checks a plain wrapping, raw' 'plain 16\n' check --raw --raw-kek --kek kek16.raw <wrapped.raw
 prints 'checks a padded wrapping of 20 bytes' 'padded 20\n' check --kek kek5649.hex <<<$wrapped20
 prints 'checks a padded wrapping of 7 bytes' 'padded 7\n' check --kek kek5649.hex <<<$wrapped7
+prints 'checks a wrapping under a value' 'plain 16\n' check --iv $iv --kek kek16.hex <<<$wrapped_iv
+prints 'checks a padded wrapping, whatever the value' 'padded 20\n' check --iv $iv --kek kek5649.hex <<<$wrapped20
+answers 'checks another value' 5 'none\n' '' check --iv $iv --kek kek16.hex <<<$wrapped16
+answers 'checks a value as the default' 5 'none\n' '' check --kek kek16.hex <<<$wrapped_iv
 answers 'checks a wrong byte' 5 'none\n' '' check --kek kek16.hex <<<"0f${wrapped16#1f}"
 answers 'checks 23 bytes' 5 'none\n' '' check --kek kek16.hex <<<"${wrapped16%e5}"
 answers 'checks nothing' 5 'none\n' '' check --kek kek16.hex
@@ -413,12 +435,16 @@ refuses_words wrap --kek
 refuses_words unwrap --kek kek16.hex --secret
 refuses_words unwrap --kek kek16.hex wrapped.raw
 refuses_words check --kek kek16.hex --padded
-refuses_words check --kek kek16.hex --iv $iv
 refuses_words rewrap --kek kek16.hex
 refuses_words rewrap --new-kek kek32.hex
 refuses_words rewrap --kek kek16.hex --new-kek
 refuses_words rewrap --kek kek16.hex --new-kek kek32.hex --new-kek kek32.hex
-refuses_words rewrap --kek kek16.hex --new-kek kek32.hex --iv $iv
+refuses_words wrap --kek kek16.hex --new-iv $iv
+refuses_words check --kek kek16.hex --new-iv $iv
+refuses_words rewrap --kek kek16.hex --new-kek kek32.hex --iv $iv --padded
+refuses_words rewrap --kek kek16.hex --new-kek kek32.hex --new-iv $iv --new-padded
+refuses_words rewrap --kek kek16.hex --new-kek kek32.hex --iv $iv --keep-form
+refuses_words rewrap --kek kek16.hex --new-kek kek32.hex --keep-form --new-iv $iv
 refuses_words rewrap --kek kek16.hex --new-kek kek32.hex wrapped.raw
 refuses_words wrap --kek kek16.hex --new-kek kek32.hex
 refuses_words wrap --kek kek16.hex --new-padded
@@ -430,6 +456,8 @@ refuses_words check --kek kek16.hex --raw --lines
 refuses_words rewrap --kek kek16.hex --new-kek kek32.hex --lines --raw
 refuses_words unwrap --kek kek16.hex --keep-going
 refuses_words wrap --kek kek16.hex --quiet
+refuses_words wrap --kek kek16.hex --raw --keep-going
+refuses_words check --kek kek16.hex --quiet --raw
 refuses_words drill --lines 00
 refuses_words wrap --kek kek16.hex --padded --iv $iv
 refuses_words unwrap --kek kek16.hex --iv $iv --padded
@@ -473,8 +501,8 @@ guesses() {
     )"
 }
 files_tip='files are named by options: --kek FILE, --input FILE, --output FILE'
-commands_tip='the first word is wrap, unwrap, rewrap, check, drill or vectors'
-drill_tip='drill takes one word of hex digits and no KEK; wrap takes --kek FILE'
+commands_tip='the first argument is wrap, unwrap, rewrap, check, drill or vectors'
+drill_tip='drill takes one argument, hex digits, and no KEK; wrap takes --kek FILE'
 for job in wrap unwrap rewrap check; do
     guesses "$files_tip" $job kek16.hex
     guesses "$files_tip" $job --kek kek16.hex key.hex
@@ -545,12 +573,12 @@ files='-i, --input <FILE>|-o, --output <FILE>'
 usage='[OPTIONS] --kek <FILE>'
 explains "Usage: keywrap wrap $usage < KEY > WRAPPED|--padded|--iv <HEX>|--raw|--raw-kek|$files|$d16|$wrapped16" \
     wrap --help
-explains 'has 16 to 1048576 bytes, a multiple of 8.|With --padded it has 1 to 1048576.|at most 4194304 bytes.' wrap --help
+explains 'has 16 to 1048576 bytes, a multiple of 8; with --padded 1 to 1048576.|at most 4194304 bytes.' wrap --help
 explains "Usage: keywrap unwrap $usage < WRAPPED > KEY|--padded|--iv <HEX>|--raw|--raw-kek|$files|$d16|$wrapped16" \
     unwrap --help
 explains "Usage: keywrap rewrap $usage --new-kek <FILE> < WRAPPED > NEW|$files|$wrapped16|$wrapped32" \
     rewrap --help
-explains '--padded|--new-padded|--keep-form|--pass-new|--raw|--raw-kek|--lines|--keep-going|--quiet' rewrap --help
+explains '--padded|--new-padded|--iv <HEX>|--new-iv <HEX>|--keep-form|--pass-new|--raw|--raw-kek|--lines|--keep-going|--quiet' rewrap --help
 explains '--base64|--base64url|--base64-kek' rewrap --help
 explains "Usage: keywrap check $usage < WRAPPED|--raw|--raw-kek|$files|$wrapped16|plain 16" check --help
 explains "Usage: keywrap wrap $usage < KEY > WRAPPED" wrap -h

@@ -80,7 +80,8 @@ fi
 if has tsc node-typescript 'the types of the package'; then
     types=(tsc --noEmit --strict --target es2022 --module node16 --moduleResolution node16)
     head='import { load, type Kind } from "keywrap"; const k = await load(); const b = new Uint8Array();'
-    echo "$head const kind: Kind | null = k.check(k.wrap(b, b), k.rewrap(b, b, b, { newPadded: true }));" >right.mts
+    echo "$head const kind: Kind | null = k.check(k.wrap(b, b), k.rewrap(b, b, b, { newPadded: true }));
+k.rewrap(b, b, b, { oldPadded: true, keepForm: false });" >right.mts
     echo "$head const text: string = k.wrap(b, b, { iv: b });" >wrong.mts
     row 'the types of a caller' "${types[@]}" right.mts
     row 'the types of a wrong caller' bash -c '! "$@" wrong.mts >log && grep -q "'"type 'string'"'" log' - "${types[@]}"

@@ -114,9 +114,17 @@ every() {
             ;;
         esac
     done
+    case $1 in
+    exact) texts 8 text ;;
+    short) texts 7 text ;;
+    null) texts 8 NULL ;;
+    esac
 }
 
-# header_names: the calls of the header that take a buffer are those of the table.
+# texts BYTES TEXT: a function that has a text written, whose length need not be looked at.
+texts() { echo "void f$((++callers))(void) { char text[$1]; keywrap_status_text(0, $2, 8); }"; }
+
+# header_names: the calls of the header that answer a status are those of the table.
 header_names() {
     diff <(sed -n 's/^int32_t \(keywrap_[a-z_]*\)(.*/\1/p' "$root/include/keywrap.h") \
         <(printf '%s\n' "${calls[@]%% *}")
@@ -242,7 +250,7 @@ if has go golang-go 'the Go example'; then
     row 'the Go example: builds' env GOFLAGS=-mod=mod GO111MODULE=off GOCACHE="$room/go" \
         go build -o example "$root/examples/go/wrap.go" &&
         row 'the Go example: runs' writes $rfc3394_41 ./example &&
-        row 'the Go example, padded' writes ForPasi ./example
+        row 'the Go example, padded' writes 'ForPasi <nil>' ./example
 fi
 jna=/usr/share/java/jna.jar
 if has javac default-jdk-headless 'the Java example' && { [ -f $jna ] || ! skip 'the Java example' \
@@ -305,10 +313,13 @@ cat >text.c <<'END'
 #include <keywrap.h>
 #include <stdio.h>
 #include <stdlib.h>
-int main(int argc, char **argv) { return argc != 2 || puts(keywrap_status_text(atoi(argv[1]))) < 0; }
+int main(int argc, char **argv) {
+    char text[80];
+    return argc != 2 || keywrap_status_text(atoi(argv[1]), text, sizeof text) >= sizeof text || puts(text) < 0;
+}
 END
 
-# same_text STATUS WORD..: the command refuses by this status, in the header's words.
+# same_text STATUS WORD..: the command refuses by this status, in the library's words.
 same_text() {
     "$program" "${@:2}" <key.hex 2>refusal
     [ $? = "$1" ] && ./text "$1" | sed 's/^/keywrap: /' | diff - refusal

@@ -237,10 +237,10 @@ echo $d16 >in
 to=/dev/full answers 'a full device is not counted' 6 '' "keywrap: output: refused after 0 bytes
   standard output: No space left on device" "${wraps[@]}" --verbose <in
 
-# check writes `none` and goes on; its status is 5 then.
+# check writes `none` and goes on; its status is 5 then, after an even number of them, too.
 checks=(check --lines --kek kek16.hex)
-printf '%s\n' "$wrong" '' $key7 $wrapped16 >in
-printf '%s\n' none none none 'plain 16' >answers
+printf '%s\n' "$wrong" "$wrong" '' $key7 $wrapped16 >in
+printf '%s\n' none none none none 'plain 16' >answers
 written 'none, and on' 5 answers '' answers in "${checks[@]}"
 written 'none, and on, with --keep-going' 5 answers '' answers in "${checks[@]}" --keep-going
 going_on 'a digit among none' 6 "$wrong\ng\n$wrapped16\n" 'none\n\nplain 16\n' "$(says 2 "$digit")" "${checks[@]}"

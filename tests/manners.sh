@@ -75,7 +75,7 @@ for command in wrap unwrap rewrap check; do
     tips "the tip on $command -f" 'files are named by options: --kek FILE, --input FILE, --output FILE' \
         "$command" -f kek16.hex
 done
-tips 'the tip on drill -v' 'drill takes one word of hex digits and no KEK; wrap takes --kek FILE' drill -v
+tips 'the tip on drill -v' 'drill takes one argument, hex digits, and no KEK; wrap takes --kek FILE' drill -v
 tips 'a usage in a word moves no tip' 'files are named by options: --kek FILE, --input FILE, --output FILE' \
     wrap --kek kek16.hex $'a\n\nUsage: keywrap'
 
@@ -580,7 +580,7 @@ bad 'rewrap of 23 bytes in their form' "wrapped23.hex: 23 bytes; $in_either" "${
 bad 'rewrap of too long a wrapped key in its form' 'wrapped.long: 1048592 bytes; a wrapped key has 1048584 at most' \
     "${in_its_form[@]}" wrapped.long --raw
 bad 'rewrap of 7 bytes to plain' \
-    'wrapped7.hex: its key is none for the plain form, which takes 16 bytes or more, a multiple of 8' \
+    'wrapped7.hex: its key cannot be wrapped in the plain form: 16 bytes or more, a multiple of 8' \
     rewrap --padded --kek kek5649.hex --new-kek kek32.hex -i wrapped7.hex
 bad 'a key that is too long' 'key.long: 1048577 bytes; a key has 1048576 at most' \
     wrap --padded --raw --kek kek16.hex -i key.long
@@ -606,6 +606,10 @@ wrong 'rewrap of a wrong byte in its form' 'wrong.hex: no wrapping in either for
     "${in_its_form[@]}" wrong.hex
 wrong 'another value' 'wrapped.hex: no wrapping under this KEK and --iv' \
     unwrap --iv "$iv" --kek kek16.hex -i wrapped.hex
+wrong 'rewrap of another value' 'wrapped.hex: no wrapping under this KEK and --iv' \
+    rewrap --iv "$iv" --kek kek16.hex --new-kek kek32.hex -i wrapped.hex
+wrong 'rewrap to a value' 'wrong.hex: no wrapping in the plain form under this KEK; try keywrap check' \
+    rewrap --new-iv "$iv" --kek kek16.hex --new-kek kek32.hex -i wrong.hex
 
 # The KEK of an unwrapping is text.
 printf %s "${digits64:0:32}" >kek.digits

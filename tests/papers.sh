@@ -76,9 +76,12 @@ same 'page: the flags of status 3' $'--base64-kek\n--raw-kek\n--new-kek' \
     "$(options_in "$(section 'EXIT STATUS' | sed -n '/^\.It 3$/,/^\.It 4$/p')")"
 same 'README: the flags of status 3' $'--raw-kek\n--base64-kek' \
     "$(grep '^| 3 |' "$root/README.md" | grep -oE -e '--[a-z0-9-]+')"
-limits=$(sed -n '/^\.Ss Limits/,/^\.Sh/p' "$page" | tr '\n' ' ' | grep -oE '[0-9]+ to [0-9]+|at most [0-9]+')
-row 'page: the limits' diff <(echo "$limits") \
-    <(printf '%s\n' '16 to 1048576' '1 to 1048576' '24 to 1048584' '16 to 1048584' 'at most 4194304')
+# A line's limit is the first.
+limits=$(tr '\n' ' ' <"$page" | grep -oE '[0-9]+ to [0-9]{7}|at most [0-9]+')
+row 'page: the limits' diff <(echo "$limits") <(printf '%s\n' 'at most 4194304' '16 to 1048576' '1 to 1048576' \
+    '24 to 1048584' '16 to 1048584' 'at most 4194304')
+row 'page: the digits and characters of a KEK' grep -q '32, 48 or 64 hex digits; .* 22, 32 or 43 characters and' \
+    <(section 'EXIT STATUS' | tr '\n' ' ')
 
 if has mandoc mandoc "the page's form"; then
     # Whether the pages that it refers to are on this machine is no matter of its form.
@@ -227,7 +230,7 @@ goes() {
 }
 
 # Flags, and beside each of a command those that the program takes with it.
-printf '%s\n' --padded --new-padded --keep-form --pass-new --iv --raw --raw-kek --base64 --base64url --base64-kek \
+printf '%s\n' --padded --new-padded --keep-form --pass-new --iv --new-iv --raw --raw-kek --base64 --base64url --base64-kek \
     --lines --keep-going --quiet --verbose >flags
 mkdir beside
 for command in wrap unwrap rewrap check; do
@@ -236,8 +239,8 @@ for command in wrap unwrap rewrap check; do
     for flag in $(options_of $command | grep -xf flags); do
         for other in $(options_of $command | grep -xf flags | grep -vx -e "$flag"); do
             # shellcheck disable=SC2086
-            ! goes "${words[@]}" ${flag/--iv/--iv $iv} ${other/--iv/--iv $iv} || echo $other
-        done >"beside/$command ${flag/--iv/--iv $iv}"
+            ! goes "${words[@]}" ${flag/%-iv/-iv $iv} ${other/%-iv/-iv $iv} || echo $other
+        done >"beside/$command ${flag/%-iv/-iv $iv}"
     done
 done
 
@@ -286,14 +289,17 @@ verdict 'what repeats the version' "$(repeat "$(<"$root/VERSION")" 2>&1)"
 
 ### The words of a refusal
 
-# same_words: each cause has these words in every language that can say it. A cipher of OpenSSL has one length of KEK.
+# same_words: each cause has these words in every language that can say it. A cipher of OpenSSL has one length of KEK;
+# Python asks the library for the words that it takes whole.
 same_words() {
     local words file
     for words in 'reserved for the padded form' '16, 24 or 32' 'bad length' 'integrity check failed'; do
-        for file in crates/keywrap_cli/src include/keywrap.h python/src/keywrap/_refusals.py js/keywrap.js \
-            provider/errors.c; do
-            [ "$words $file" = '16, 24 or 32 provider/errors.c' ] || grep -rqF "$words" "$root/$file" ||
-                echo "no '$words' in $file;"
+        for file in crates/keywrap_cli/src crates/keywrap_c/src/texts.rt python/src/keywrap/_refusals.py \
+            js/keywrap.js provider/errors.c; do
+            case "$words $file" in
+            '16, 24 or 32 provider/errors.c' | 'bad length python/'* | 'integrity check failed python/'*) ;;
+            *) grep -rqF "$words" "$root/$file" || echo "no '$words' in $file;" ;;
+            esac
         done
     done
 }
@@ -323,7 +329,7 @@ files_of() { find "$1" ! -type d -printf '%m %P\n'; }
 mkdir -p "stage to/opt/share/man/man1"
 echo other >"stage to/opt/share/man/man1/other.1"
 stage="$room/stage to"
-row 'make install-command' made install-command DESTDIR="$stage" PREFIX=/opt
+row 'make install-command, by a umask' eval 'umask 077; made install-command DESTDIR="$stage" PREFIX=/opt; umask 022'
 same 'what make install-command installs' "$command_files"$'\n644 share/man/man1/other.1' "$(files_of "$stage/opt")"
 row 'the installed program is the program' cmp "$program" "$stage/opt/bin/keywrap"
 row 'the installed page is the page' cmp "$page" "$stage/opt/share/man/man1/keywrap.1"
@@ -364,7 +370,7 @@ in_example() {
 
 awk '/^```/ { inside = !inside; if (inside) name = "block." ++n; next } inside { print > name }' "$rattle"
 blocks=(block.*)
-row 'docs/LIBRARY.md has its blocks' test ${#blocks[@]} -ge 8
+row 'docs/LIBRARY.md has its blocks' test ${#blocks[@]} -ge 6
 for block in "${blocks[@]}"; do
     row "docs/LIBRARY.md: $block is of the example" in_example "$block"
 done

@@ -22,7 +22,7 @@ PATH=$PWD/bin:$PATH
 # missing_tools SCRIPT: the tools that a recipe calls and this machine has not.
 missing_tools() {
     local tool
-    for tool in openssl xxd base64 basenc xargs awk softhsm2-util pkcs11-tool psql sqlite3 jq parallel; do
+    for tool in openssl xxd base64 basenc awk softhsm2-util pkcs11-tool psql sqlite3 jq; do
         if grep -qw -e "$tool" "$1" && ! command -v $tool >/dev/null; then
             echo "$tool"
         fi
@@ -41,7 +41,7 @@ follows() {
     missing=$(missing_tools "$2" | paste -sd ' ')
     if [ -n "$missing" ]; then
         skip "the recipe '$1'" "no $missing" \
-            'openssl xxd coreutils findutils mawk softhsm2 opensc postgresql sqlite3 jq parallel'
+            'openssl xxd coreutils findutils mawk softhsm2 opensc postgresql sqlite3 jq'
         return
     fi
     mkdir here

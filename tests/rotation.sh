@@ -47,7 +47,7 @@ fi
 PATH=$all exec "$real" "$@"
 END
 chmod +x stand_in
-for name in keywrap psql sqlite3 jq parallel awk cat cmp cp cut grep mv paste rm sed sync wc; do
+for name in keywrap psql sqlite3 jq awk cat cmp cp cut grep mv paste rm sed sync wc; do
     cp stand_in faulty/$name
 done
 
@@ -218,12 +218,10 @@ if can sqlite3 sqlite3 sqlite3; then
     changed 'INSERT INTO keys (key) VALUES (zeroblob(40))'
     changed 'DELETE FROM keys WHERE id = 2'
 fi
-! can json jq jq || rotation json 'Rotate keys in JSON and CSV' 1 \
+! can json jq jq || rotation json 'Rotate keys in JSON, CSV or a Secret of Kubernetes' 1 \
     "jq -r '.[] | select(.owner == \"someone\").key' keys.json"
-! can csv jq jq || only="awk" rotation csv 'Rotate keys in JSON and CSV' 2 \
+! can csv jq jq || only="awk" rotation csv 'Rotate keys in JSON, CSV or a Secret of Kubernetes' 2 \
     "sed -n 's/^[0-9]*,\(.*\),someone\$/\1/p' keys.csv"
-! can parallel parallel parallel || only='parallel\|keywrap' rotation parallel 'On more than one processor' 1 \
-    'cat keys.hex'
 # shellcheck disable=SC2016
 # The old folder stays as it is. A key may stand on more than one line, and a name begin with a dot.
 ! can folder keywrap '' || again=1 rotation folder 'Rotate a folder of wrapped keys' 2 '

@@ -7,7 +7,9 @@
 #include <string.h>
 
 static void print(const char *what, int32_t status, const uint8_t *bytes, size_t len) {
-    printf("%s: %s", what, keywrap_status_text(status));
+    char says[80];
+    keywrap_status_text(status, says, sizeof says);
+    printf("%s: %s", what, says);
     for (size_t i = 0; i < len && status == KEYWRAP_OK; i++)
         printf("%s%02x", i == 0 ? ": " : "", bytes[i]);
     printf("\n");

@@ -24,7 +24,11 @@ var (
 )
 
 // text is what a status says.
-func text(status C.int32_t) error { return errors.New(C.GoString(C.keywrap_status_text(status))) }
+func text(status C.int32_t) error {
+	var says [80]C.char
+	C.keywrap_status_text(status, &says[0], C.size_t(len(says)))
+	return errors.New(C.GoString(&says[0]))
+}
 
 func refusal(status C.int32_t) error {
 	switch status {

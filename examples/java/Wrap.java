@@ -18,6 +18,8 @@ public final class Wrap {
 
         int keywrap_unwrap(byte[] kek, NativeLong kekLen, byte[] wrapped, NativeLong wrappedLen,
             byte[] key, NativeLong keyLen);
+
+        NativeLong keywrap_status_text(int status, byte[] text, NativeLong capacity);
     }
 
     /** The status of a refusal: BAD_KEK, BAD_LENGTH or INTEGRITY of keywrap.h, in its words. */
@@ -25,12 +27,14 @@ public final class Wrap {
         public final int status;
 
         Refused(int status) {
-            super(switch (status) {
-                case 3 -> "key length is not 16, 24 or 32 bytes";
-                case 4 -> "bad length";
-                default -> "integrity check failed";
-            });
+            super(text(status));
             this.status = status;
+        }
+
+        private static String text(int status) {
+            byte[] text = new byte[80];
+            Keywrap.CALLS.keywrap_status_text(status, text, size(text));
+            return Native.toString(text);
         }
     }
 

@@ -1,4 +1,4 @@
-/* keywrap.c: wrap and unwrap for Node, by Node-API.
+/* keywrap.c: wrap, unwrap and what a status says for Node, by Node-API.
  *
  *     cc -shared -fPIC -I/usr/include/node keywrap.c $(pkg-config --cflags --libs keywrap) \
  *        -o keywrap.node */
@@ -48,11 +48,28 @@ static napi_value unwrap(napi_env env, napi_callback_info info) {
     return answer(env, info, keywrap_unwrap, -8);
 }
 
+static napi_value text(napi_env env, napi_callback_info info) {
+    napi_value given, result = NULL;
+    size_t count = 1;
+    int32_t status;
+    char says[80];
+    napi_get_cb_info(env, info, &count, &given, NULL, NULL);
+    if (napi_get_value_int32(env, given, &status) != napi_ok) {
+        napi_throw_type_error(env, NULL, "a number is required");
+        return NULL;
+    }
+    keywrap_status_text(status, says, sizeof says);
+    napi_create_string_utf8(env, says, NAPI_AUTO_LENGTH, &result);
+    return result;
+}
+
 NAPI_MODULE_INIT() {
     napi_value f;
     napi_create_function(env, "wrap", NAPI_AUTO_LENGTH, wrap, NULL, &f);
     napi_set_named_property(env, exports, "wrap", f);
     napi_create_function(env, "unwrap", NAPI_AUTO_LENGTH, unwrap, NULL, &f);
     napi_set_named_property(env, exports, "unwrap", f);
+    napi_create_function(env, "text", NAPI_AUTO_LENGTH, text, NULL, &f);
+    napi_set_named_property(env, exports, "text", f);
     return exports;
 }

@@ -4,27 +4,26 @@
 
 use std::fmt;
 
-/// A refusal.
+/// A refusal, by its status.
 #[derive(Debug, Clone, Copy, PartialEq, Eq)]
+#[repr(i32)]
 pub enum Error {
     /// The initial value is reserved for the padded form: it begins with a6 59 59 a6.
-    BadValue,
+    BadValue = 2,
     /// The KEK is not 16, 24 or 32 bytes long.
-    BadKek,
+    BadKek = 3,
     /// The key or the wrapped key has a length that this form does not take.
-    BadLength,
+    BadLength = 4,
     /// The integrity check failed: another KEK, another form, or damage.
-    Integrity,
+    Integrity = 5,
 }
 
 impl fmt::Display for Error {
     fn fmt(&self, f: &mut fmt::Formatter<'_>) -> fmt::Result {
-        f.write_str(match self {
-            Error::BadValue => "initial value is reserved for the padded form",
-            Error::BadKek => "key length is not 16, 24 or 32 bytes",
-            Error::BadLength => "bad length",
-            Error::Integrity => "integrity check failed",
-        })
+        let mut text = [0; 80];
+        // SAFETY: as of each call below.
+        let len = unsafe { keywrap_status_text(*self as i32, text.as_mut_ptr(), text.len()) };
+        f.write_str(&String::from_utf8_lossy(&text[..len.min(text.len() - 1)]))
     }
 }
 
@@ -38,6 +37,7 @@ type Call = unsafe extern "C" fn(Bytes, usize, Bytes, usize, Buffer, usize) -> i
 #[link(name = "keywrap")]
 #[rustfmt::skip]
 extern "C" {
+    fn keywrap_status_text(status: i32, text: Buffer, capacity: usize) -> usize;
     fn keywrap_wrap(k: Bytes, n: usize, key: Bytes, m: usize, wrapped: Buffer, len: usize) -> i32;
     fn keywrap_unwrap(k: Bytes, n: usize, wrapped: Bytes, len: usize, key: Buffer, m: usize) -> i32;
     fn keywrap_wrap_with(k: Bytes, n: usize, iv: Bytes, v: usize, key: Bytes, m: usize,

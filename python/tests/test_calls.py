@@ -57,6 +57,38 @@ def test_rewraps_in_the_form_that_it_has():
         keywrap.rewrap(KEK, KEK_32, WRAPPED[:8], keep_form=True)
 
 
+def test_passes_what_is_under_the_new_kek():
+    passed = (KEK, KEK_32, WRAPPED_32), (KEK_32, KEK_5649, FORPASI)
+    for given in (bytes, bytearray):
+        assert keywrap.rewrap(KEK, KEK_32, given(WRAPPED), pass_new=True) == WRAPPED_32
+        for old, new, wrapped in passed:
+            assert keywrap.rewrap(old, new, given(wrapped), keep_form=True, pass_new=True) == wrapped
+    assert keywrap.rewrap(KEK, KEK_32, WRAPPED_32, old_padded=True, pass_new=True) == WRAPPED_32
+    # Of 16 bytes, a length of the new form alone.
+    assert keywrap.rewrap(KEK, KEK_5649, FORPASI, new_padded=True, pass_new=True) == FORPASI
+
+
+@pytest.mark.parametrize(
+    "refusal, given, flags",
+    [
+        # Under the new KEK in another form than an answer's; under neither; and without the flag.
+        ("IntegrityFailed", (KEK, KEK_32, WRAPPED_32), {"new_padded": True, "pass_new": True}),
+        ("IntegrityFailed", (KEK, KEK_32, PADDED_32), {"old_padded": True, "pass_new": True}),
+        ("IntegrityFailed", (KEK, KEK_32, DAMAGED), {"keep_form": True, "pass_new": True}),
+        ("IntegrityFailed", (KEK, KEK_32, WRAPPED_32), {}),
+        ("IntegrityFailed", (KEK, KEK_32, PADDED_32), {"keep_form": True}),
+        # Under the old KEK, though its key has no length of the new form.
+        ("BadLength", (KEK_5649, KEK_5649, PADDED_OF_20), {"old_padded": True, "pass_new": True}),
+        ("BadLength", (KEK, KEK_5649, FORPASI), {"pass_new": True}),
+        ("BadKekLength", (KEK[1:], KEK_32, WRAPPED_32), {"pass_new": True}),
+        ("BadKekLength", (KEK, KEK_32[1:], WRAPPED_32), {"pass_new": True}),
+    ],
+)
+def test_passes_nothing_else(refusal, given, flags):
+    with pytest.raises(getattr(keywrap, refusal)):
+        keywrap.rewrap(*given, **flags)
+
+
 def test_checks():
     assert keywrap.check(KEK, WRAPPED) is Kind.PLAIN
     assert keywrap.check(KEK_32, PADDED_32) is Kind.PADDED

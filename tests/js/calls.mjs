@@ -71,6 +71,17 @@ test('a rewrap from each form to each', () => {
     assert.deepEqual(rewrap(KEK, KEK_32, WRAPPED, neither), WRAPPED_32);
 });
 
+test('a rewrap that keeps the form', () => {
+    const keepForm = true;
+    assert.deepEqual(rewrap(KEK, KEK_32, WRAPPED, { keepForm }), WRAPPED_32);
+    assert.deepEqual(rewrap(KEK_32, KEK, PADDED_32, { keepForm }), openssl.wrapPadded(KEK, KEY));
+    assert.deepEqual(rewrap(KEK_5649, KEK, PADDED_7, { keepForm }), openssl.wrapPadded(KEK, KEY_7));
+    assert.deepEqual(rewrap(KEK, KEK_32, WRAPPED, { keepForm: false }), WRAPPED_32);
+    for (const other of ['oldPadded', 'newPadded']) {
+        assert.equal(thrown(rewrap, KEK, KEK_32, WRAPPED, { keepForm, [other]: true }), TypeError);
+    }
+});
+
 test('a check', () => {
     assert.deepEqual(check(KEK, WRAPPED), { form: 'plain', length: 16 });
     assert.deepEqual(check(KEK_32, PADDED_32), { form: 'padded', length: 16 });
@@ -183,6 +194,7 @@ const FAILED = 'integrity check failed: no wrapped key under this KEK';
 const KEKS = 'it must be 16, 24 or 32 bytes';
 const OLD = { oldPadded: true };
 const NEW = { newPadded: true };
+const KEEP = { keepForm: true };
 
 const REFUSED = [
     [BadKekLength, `the KEK is 15 bytes long; ${KEKS}`, wrap, KEK.subarray(1), KEY],
@@ -203,6 +215,8 @@ const REFUSED = [
         rewrap, KEK, KEK, zeros(23), OLD],
     [BadLength, `the wrapped key is 1048592 bytes long; ${WRAPPED_PADDED}`,
         rewrap, KEK, KEK, zeros(1048592), OLD],
+    [BadLength, `the wrapped key is 8 bytes long; ${WRAPPED_PADDED}`,
+        rewrap, KEK, KEK, zeros(8), KEEP],
     [BadLength, NOT_PLAIN, rewrap, KEK_5649, KEK, PADDED_7, OLD],
     [BadLength, NOT_PLAIN, rewrap, KEK_5649, KEK, PADDED_20, OLD],
     [BadInitialValue, 'the initial value is 0 bytes long; it must be 8 bytes',
@@ -219,6 +233,7 @@ const REFUSED = [
     [IntegrityFailed, FAILED, unwrapPadded, KEK, WRAPPED],
     [IntegrityFailed, FAILED, rewrap, KEK, KEK_32, damaged(WRAPPED)],
     [IntegrityFailed, FAILED, rewrap, KEK, KEK_32, WRAPPED, OLD],
+    [IntegrityFailed, FAILED, rewrap, KEK, KEK_32, damaged(WRAPPED), KEEP],
 ];
 
 test('each refusal, its class and its message; and the memory after it', () => {
@@ -244,6 +259,7 @@ const CALLS = [
     [unwrapPadded, [KEK_5649, PADDED_7], KEY_7],
     [unwrapPadded, [KEK_32, PADDED_32], KEY],
     [rewrap, [KEK, KEK_32, WRAPPED, NEW], PADDED_32],
+    [rewrap, [KEK, KEK_32, WRAPPED, KEEP], WRAPPED_32],
     [check, [KEK, WRAPPED], { form: 'plain', length: 16 }],
     [check, [KEK_5649, PADDED_20], { form: 'padded', length: 20 }],
 ];

@@ -117,7 +117,7 @@ test('options that are none, or of another call, are a TypeError', () => {
         [unwrapPadded, [KEK, PADDED], [IV, null, { iv: IV }]],
         [check, [KEK, WRAPPED], [IV, null, { iv: IV }]],
         [rewrap, [KEK, KEK, WRAPPED], [true, null, { iv: IV }, { padded: true }, { newPadded: 1 },
-            { newPadded: 'false' }, { oldPadded: null }, { oldPadded: 0 }]],
+            { newPadded: 'false' }, { oldPadded: null }, { oldPadded: 0 }, { keepForm: 1 }]],
     ];
     for (const [call, given, options] of others) {
         call(...given, {});

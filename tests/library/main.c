@@ -446,18 +446,33 @@ static void rewraps_of_tampered_texts(void) {
     rewraps_tampered(PADDED, KEYWRAP_KEEP_FORM, 7);
 }
 
-/* Each status has words of its own, and each other number those of one that is unknown. */
-static void status_texts(void) {
-    static const int32_t statuses[] = {KEYWRAP_OK,         KEYWRAP_BAD_IV,    KEYWRAP_BAD_KEK,
-                                       KEYWRAP_BAD_LENGTH, KEYWRAP_INTEGRITY, 6};
-    static const int32_t unknown[] = {INT32_MIN, -1, 1, 7, 70, INT32_MAX};
-    for (size_t i = 0; i < 6; i++) {
-        for (size_t j = 0; j < i; j++)
-            count(strcmp(keywrap_status_text(statuses[i]), keywrap_status_text(statuses[j])) != 0,
-                  "the text of a status", PLAIN, TWO_BUFFERS, 0, i, j);
-        count(!strcmp(keywrap_status_text(unknown[i]), keywrap_status_text(6)),
-              "the text of an unknown status", PLAIN, TWO_BUFFERS, 0, i, 6);
+/* The text of a status: whole, cut to each capacity, and with the bytes behind it as they were. */
+static void status_text(int32_t status, const char *text) {
+    const size_t len = strlen(text);
+    for (size_t capacity = 0; capacity <= 80; capacity++) {
+        char found[81], due[81];
+        memset(found, '~', sizeof found);
+        memset(due, '~', sizeof due);
+        if (capacity > 0) {
+            size_t cut = len < capacity ? len : capacity - 1;
+            memcpy(due, text, cut);
+            due[cut] = 0;
+        }
+        const size_t answer = keywrap_status_text(status, found, capacity);
+        count(answer == len && !memcmp(found, due, sizeof due), text, PLAIN, TWO_BUFFERS, 0, len,
+              capacity);
     }
+}
+
+/* Each status has its text, and each other number that of one that is unknown. */
+static void status_texts(void) {
+    static const int32_t unknown[] = {INT32_MIN, -1, 1, 6, 70, INT32_MAX};
+    status_text(KEYWRAP_OK, "done");
+    status_text(KEYWRAP_BAD_IV, "initial value is not 8 bytes, or is reserved for the padded form");
+    status_text(KEYWRAP_BAD_KEK, "key length is not 16, 24 or 32 bytes");
+    status_text(KEYWRAP_BAD_LENGTH, "bad length");
+    status_text(KEYWRAP_INTEGRITY, "integrity check failed");
+    for (size_t i = 0; i < 6; i++) status_text(unknown[i], "unknown status");
 }
 
 int main(int argc, char **argv) {

@@ -25,6 +25,11 @@ enum StepFault<R> {
 // A run stops after so many lines, so that each has a number.
 const MOST: u64 = u64::MAX - 1;
 
+// A law that ties the constant to its number: a run gives up after no fewer lines.
+fn most_value()
+    ensures { MOST ≡ 18446744073709551614 }
+{}
+
 /// Answers each line of the input on a line of the output, and says how many there were. Does not
 /// flush.
 ///

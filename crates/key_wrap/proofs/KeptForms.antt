@@ -8,7 +8,7 @@ use Rattle.key_wrap.specs.declared.faults.UnwrapFault.{UnwrapFault}
 use Rattle.key_wrap.specs.declared.faults.UnwrapFault.TheVariants as unwrap_faults
 use Rattle.key_wrap.specs.declared.forms.Form.{Form}
 use Rattle.key_wrap.specs.declared.forms.Form.TheVariants.{Plain, Padded}
-use Rattle.key_wrap.specs.Forms.{StandsIn, IsTextLength}
+use Rattle.key_wrap.specs.Forms.{StandsIn, IsTextLength, by_default}
 use Rattle.key_wrap.specs.Faults.{unwrap_fault}
 use Rattle.key_wrap.specs.Lengths.{IsPaddedTextLength}
 use Rattle.key_wrap.specs.KeepForm.{KeepsForm, FormKept, HasNoForm, IsSomeTextLength}
@@ -19,8 +19,8 @@ use Rattle.key_wrap.proofs.Rewraps.{only_text, only_key, text_legal, refusal}
 -- a text stands with one key, in one form
 pub one_key : {E D : List ℕ → List ℕ} (form other_form : Form) (key other text : List ℕ) → AreInverse E D → StandsIn form E key text
     → StandsIn other_form E other text → (other_form ≡ form) × (other ≡ key)
-one_key Plain Plain key other text inv h k = (refl, only_key Plain key other text inv h k)
-one_key Padded Padded key other text inv h k = (refl, only_key Padded key other text inv h k)
+one_key Plain Plain key other text inv h k = (refl, only_key (by_default Plain) key other text inv h k)
+one_key Padded Padded key other text inv h k = (refl, only_key (by_default Padded) key other text inv h k)
 one_key Plain Padded key other text inv h k = absurd (not_both_forms inv default_free h k)
 one_key Padded Plain key other text inv h k = absurd (not_both_forms inv default_free k h)
 
@@ -29,7 +29,7 @@ pub one_answer : {E D F : List ℕ → List ℕ} (form : Form) (key text answer 
     → StandsIn form F key answer → KeepsForm E F text other → other ≡ answer
 one_answer {F = F} form key text answer other inv h wraps kept =
     let same = one_key form kept.0 key kept.1.0 text inv h kept.1.1 in
-    only_text form F key answer other wraps (rw (same.0, same.1) at kept.1.2)
+    only_text (by_default form) F key answer other wraps (rw (same.0, same.1) at kept.1.2)
 
 -- and the same keys stand with both
 pub same_keys : {E D F D' : List ℕ → List ℕ} (form : Form) (key text answer : List ℕ) → AreInverse E D → AreInverse F D' → StandsIn form E key text
@@ -52,7 +52,7 @@ some_length len h = (Padded, h)
 
 -- and the length of a text that a key stands with is one
 pub length_some : {E D : List ℕ → List ℕ} (form : Form) (key text : List ℕ) → AreInverse E D → StandsIn form E key text → IsSomeTextLength (length text)
-length_some form key text inv h = (form, text_legal form key text inv h)
+length_some form key text inv h = (form, text_legal (by_default form) key text inv h)
 
 module _ {Z : Type 0} (E F : List ℕ → List ℕ) (text : List ℕ) where
   -- no key stands with a text of no legal length

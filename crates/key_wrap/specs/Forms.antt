@@ -1,25 +1,45 @@
--- The two forms side by side: which keys stand with which wrapped keys, and the legal lengths.
+-- The two forms side by side: which keys stand with which wrapped keys, and the legal lengths. A form is agreed on with
+-- its initial value; the padded one asks for none.
 use Rattle.std.specs.Prelude.{ℕ, List}
 use Rattle.key_wrap.specs.declared.forms.Form.{Form}
 use Rattle.key_wrap.specs.declared.forms.Form.TheVariants as forms
+use Rattle.key_wrap.specs.declared.agreed_form.AgreedForm.{AgreedForm}
+use Rattle.key_wrap.specs.declared.agreed_form.AgreedForm.TheVariants.{Plain as InPlain, Padded as InPadded}
 use Rattle.key_wrap.specs.Lengths.{IsPlainKeyLength, IsPlainTextLength, IsPaddedKeyLength, IsPaddedTextLength}
 use Rattle.key_wrap.specs.Plain.{Plain, default_iv}
 use Rattle.key_wrap.specs.Padded.{Padded}
 
--- the wrapped key is the wrapping of the key in this form under E; the plain one has the initial value `iv`, and the padded
--- one asks for none
+-- the wrapped key is the wrapping of the key in this form under E
+abbrev pub StandsAs : AgreedForm → (List ℕ → List ℕ) → List ℕ → List ℕ → Type 0
+StandsAs (InPlain iv) E key text = Plain E iv key text
+StandsAs InPadded E key text = Padded E key text
+
+-- the form with this initial value, where it is the plain one
+abbrev pub with_value : Form → ℕ → AgreedForm
+with_value forms.Plain iv = InPlain iv
+with_value forms.Padded iv = InPadded
+
+-- the form with the default initial value
+abbrev pub by_default : Form → AgreedForm
+by_default form = with_value form default_iv
+
 abbrev pub Stands : Form → ℕ → (List ℕ → List ℕ) → List ℕ → List ℕ → Type 0
-Stands forms.Plain iv E key text = Plain E iv key text
-Stands forms.Padded iv E key text = Padded E key text
+Stands form iv E key text = StandsAs (with_value form iv) E key text
 
 -- the wrapped key is the standard's wrapping of the key in this form under E: the plain one has the default initial value
 abbrev pub StandsIn : Form → (List ℕ → List ℕ) → List ℕ → List ℕ → Type 0
-StandsIn form E key text = Stands form default_iv E key text
+StandsIn form E key text = StandsAs (by_default form) E key text
+
+abbrev pub IsKeyLengthAs : AgreedForm → ℕ → Type 0
+IsKeyLengthAs (InPlain iv) len = IsPlainKeyLength len
+IsKeyLengthAs InPadded len = IsPaddedKeyLength len
+
+abbrev pub IsTextLengthAs : AgreedForm → ℕ → Type 0
+IsTextLengthAs (InPlain iv) len = IsPlainTextLength len
+IsTextLengthAs InPadded len = IsPaddedTextLength len
 
 abbrev pub IsKeyLength : Form → ℕ → Type 0
-IsKeyLength forms.Plain len = IsPlainKeyLength len
-IsKeyLength forms.Padded len = IsPaddedKeyLength len
+IsKeyLength form len = IsKeyLengthAs (by_default form) len
 
 abbrev pub IsTextLength : Form → ℕ → Type 0
-IsTextLength forms.Plain len = IsPlainTextLength len
-IsTextLength forms.Padded len = IsPaddedTextLength len
+IsTextLength form len = IsTextLengthAs (by_default form) len

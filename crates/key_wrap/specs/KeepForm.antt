@@ -5,12 +5,12 @@ use Rattle.key_wrap.specs.declared.faults.UnwrapFault.{UnwrapFault}
 use Rattle.key_wrap.specs.declared.faults.UnwrapFault.TheVariants.{BadLength, Integrity, Memory}
 use Rattle.key_wrap.specs.declared.forms.Form.{Form}
 use Rattle.key_wrap.specs.Answer.{NoKey}
-use Rattle.key_wrap.specs.Forms.{StandsIn, IsTextLength}
+use Rattle.key_wrap.specs.Forms.{StandsIn, IsTextLength, by_default}
 use Rattle.key_wrap.specs.Rewrap.{AreWrappings, NoOtherForm}
 
 -- one key stands with both in one form: with the wrapped key under E, and with the answer under F
 abbrev pub KeepsForm : (List ℕ → List ℕ) → (List ℕ → List ℕ) → List ℕ → List ℕ → Type 0
-KeepsForm E F text answer = (form : Form) × AreWrappings form E form F text answer
+KeepsForm E F text answer = (form : Form) × AreWrappings (by_default form) E (by_default form) F text answer
 
 -- a length that is legal for a wrapped key in some form
 abbrev pub IsSomeTextLength : ℕ → Type 0
@@ -40,4 +40,4 @@ pub record FormKept {Z : Type 0} (E F : List ℕ → List ℕ) (text : List ℕ)
   pub same_key : IfOk answer (λ out. (form : Form) → (key : List ℕ) → StandsIn form F key out.items ↔ StandsIn form E key text)
   pub restores : IfOk answer (λ out. (other : List ℕ) → KeepsForm F E out.items other → other ≡ text)
   pub size : IfOk answer (λ out. length out.items ≡ length text)
-  pub other_form : IfOk answer (λ out. (form : Form) → (key : List ℕ) → StandsIn form F key out.items → NoOtherForm form F out.items)
+  pub other_form : IfOk answer (λ out. (form : Form) → (key : List ℕ) → StandsIn form F key out.items → NoOtherForm (by_default form) F out.items)

@@ -6,12 +6,16 @@ use Rattle.key_wrap.specs.Plain.{Plain, default_iv}
 use Rattle.key_wrap.specs.Padded.{Padded}
 use Rattle.key_wrap.specs.Answer.{NoKey, NoPlainKey}
 
--- some key of that many bytes stands with it in that form, the plain one under the default initial value, or no
--- key does in either
+-- some key of that many bytes stands with it in that form, the plain one under the initial value `iv`, or no key
+-- does in either
+abbrev pub IsKindWith : ℕ → (List ℕ → List ℕ) → List ℕ → Kind → Type 0
+IsKindWith iv E text (InPlain m) = (key : List ℕ) × (length key ≡ m) × Plain E iv key text
+IsKindWith iv E text (InPadded m) = (key : List ℕ) × (length key ≡ m) × Padded E key text
+IsKindWith iv E text Neither = NoKey (Plain E iv) text × NoKey (Padded E) text
+
+-- the same under the default initial value
 abbrev pub IsKindOf : (List ℕ → List ℕ) → List ℕ → Kind → Type 0
-IsKindOf E text (InPlain m) = (key : List ℕ) × (length key ≡ m) × Plain E default_iv key text
-IsKindOf E text (InPadded m) = (key : List ℕ) × (length key ≡ m) × Padded E key text
-IsKindOf E text Neither = NoKey (Plain E default_iv) text × NoKey (Padded E) text
+IsKindOf E text kind = IsKindWith default_iv E text kind
 
 -- no key stands with it in the form that the kind does not name, whatever the initial value
 abbrev pub NoOtherKey : (List ℕ → List ℕ) → List ℕ → Kind → Type 0
@@ -20,9 +24,9 @@ NoOtherKey E text (InPadded m) = NoPlainKey E text
 NoOtherKey E text Neither = NoKey (Padded E) text
 
 -- what is promised of the kind of a wrapped key
-pub record IsTheKind (E : List ℕ → List ℕ) (text : List ℕ) (kind : Kind) : Type 0 where
-  pub is : IsKindOf E text kind
-  pub plain : (key : List ℕ) → Plain E default_iv key text → kind ≡ InPlain (length key)
+pub record IsTheKind (iv : ℕ) (E : List ℕ → List ℕ) (text : List ℕ) (kind : Kind) : Type 0 where
+  pub is : IsKindWith iv E text kind
+  pub plain : (key : List ℕ) → Plain E iv key text → kind ≡ InPlain (length key)
   pub padded : (key : List ℕ) → Padded E key text → kind ≡ InPadded (length key)
-  pub neither : NoKey (Plain E default_iv) text → NoKey (Padded E) text → kind ≡ Neither
+  pub neither : NoKey (Plain E iv) text → NoKey (Padded E) text → kind ≡ Neither
   pub other_form : NoOtherKey E text kind

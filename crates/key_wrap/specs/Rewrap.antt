@@ -3,53 +3,53 @@
 use Rattle.std.specs.Prelude.{◌≡◌, ◌↔◌, ◌⊎◌, ℕ, List, length, Result, Ok, Err, IfOk, IsOkUnless, Vec}
 use Rattle.key_wrap.specs.declared.faults.UnwrapFault.{UnwrapFault}
 use Rattle.key_wrap.specs.declared.faults.UnwrapFault.TheVariants.{BadLength, Integrity, Memory}
-use Rattle.key_wrap.specs.declared.forms.Form.{Form}
-use Rattle.key_wrap.specs.declared.forms.Form.TheVariants as forms
+use Rattle.key_wrap.specs.declared.agreed_form.AgreedForm.{AgreedForm}
+use Rattle.key_wrap.specs.declared.agreed_form.AgreedForm.TheVariants as forms
 use Rattle.key_wrap.specs.Answer.{NoKey, NoPlainKey}
 use Rattle.key_wrap.specs.Padded.{Padded}
-use Rattle.key_wrap.specs.Forms.{StandsIn, IsKeyLength, IsTextLength}
+use Rattle.key_wrap.specs.Forms.{StandsAs, IsKeyLengthAs, IsTextLengthAs}
 
 -- one key stands with both: with the first in the old form under E, and with the answer in the new form under F
-abbrev pub AreWrappings : Form → (List ℕ → List ℕ) → Form → (List ℕ → List ℕ) → List ℕ → List ℕ → Type 0
-AreWrappings old E new F text answer = (key : List ℕ) × StandsIn old E key text × StandsIn new F key answer
+abbrev pub AreWrappings : AgreedForm → (List ℕ → List ℕ) → AgreedForm → (List ℕ → List ℕ) → List ℕ → List ℕ → Type 0
+AreWrappings old E new F text answer = (key : List ℕ) × StandsAs old E key text × StandsAs new F key answer
 
 -- it is the old wrapping of a key that has no legal length in the new form
-abbrev pub HasBadKey : Form → (List ℕ → List ℕ) → Form → List ℕ → Type 0
-HasBadKey old E new text = (key : List ℕ) × StandsIn old E key text × ¬ IsKeyLength new (length key)
+abbrev pub HasBadKey : AgreedForm → (List ℕ → List ℕ) → AgreedForm → List ℕ → Type 0
+HasBadKey old E new text = (key : List ℕ) × StandsAs old E key text × ¬ IsKeyLengthAs new (length key)
 
 -- a length is refused: the wrapped key's in the old form, or the key's in the new one
-abbrev pub HasBadLength : Form → (List ℕ → List ℕ) → Form → List ℕ → Type 0
-HasBadLength old E new text = ¬ IsTextLength old (length text) ⊎ HasBadKey old E new text
+abbrev pub HasBadLength : AgreedForm → (List ℕ → List ℕ) → AgreedForm → List ℕ → Type 0
+HasBadLength old E new text = ¬ IsTextLengthAs old (length text) ⊎ HasBadKey old E new text
 
 -- it has a legal length in the old form, and is the wrapping of no key
-abbrev pub HasNoWrapping : Form → (List ℕ → List ℕ) → List ℕ → Type 0
-HasNoWrapping old E text = IsTextLength old (length text) × NoKey (StandsIn old E) text
+abbrev pub HasNoWrapping : AgreedForm → (List ℕ → List ℕ) → List ℕ → Type 0
+HasNoWrapping old E text = IsTextLengthAs old (length text) × NoKey (StandsAs old E) text
 
 -- Rewrap's answer, by cases: the new wrapping of its key; BadLength where a length is refused; Integrity where no
 -- key stands with it; or that there is no memory.
-abbrev pub RewrapAnswer : {Z : Type 0} → Form → (List ℕ → List ℕ) → Form → (List ℕ → List ℕ) → List ℕ
+abbrev pub RewrapAnswer : {Z : Type 0} → AgreedForm → (List ℕ → List ℕ) → AgreedForm → (List ℕ → List ℕ) → List ℕ
     → Result (Vec ℕ Z) UnwrapFault → Type 0
 RewrapAnswer old E new F text (Ok answer) = AreWrappings old E new F text answer.items
 RewrapAnswer old E new F text (Err BadLength) = HasBadLength old E new text
 RewrapAnswer old E new F text (Err Integrity) = HasNoWrapping old E text
-RewrapAnswer old E new F text (Err Memory) = IsTextLength old (length text)
+RewrapAnswer old E new F text (Err Memory) = IsTextLengthAs old (length text)
 
 -- no key stands with it in the form that is not this one, whatever the initial value
-abbrev pub NoOtherForm : Form → (List ℕ → List ℕ) → List ℕ → Type 0
-NoOtherForm forms.Plain E text = NoKey (Padded E) text
+abbrev pub NoOtherForm : AgreedForm → (List ℕ → List ℕ) → List ℕ → Type 0
+NoOtherForm (forms.Plain iv) E text = NoKey (Padded E) text
 NoOtherForm forms.Padded E text = NoPlainKey E text
 
 -- what is promised of the answer of a rewrapping that takes memory
-pub record Rewrapped {Z : Type 0} (old : Form) (E : List ℕ → List ℕ) (new : Form) (F : List ℕ → List ℕ) (text : List ℕ)
+pub record Rewrapped {Z : Type 0} (old : AgreedForm) (E : List ℕ → List ℕ) (new : AgreedForm) (F : List ℕ → List ℕ) (text : List ℕ)
     (answer : Result (Vec ℕ Z) UnwrapFault) : Type 0 where
   pub rewraps : RewrapAnswer old E new F text answer
-  pub text_length : ¬ IsTextLength old (length text) → answer ≡ Err BadLength
+  pub text_length : ¬ IsTextLengthAs old (length text) → answer ≡ Err BadLength
   pub key_length : HasBadKey old E new text → (answer ≡ Err BadLength) ⊎ (answer ≡ Err Memory)
-  pub accepts : (key : List ℕ) → StandsIn old E key text → IsKeyLength new (length key) → IsOkUnless answer Memory
-  pub memory : answer ≡ Err Memory → IsTextLength old (length text)
+  pub accepts : (key : List ℕ) → StandsAs old E key text → IsKeyLengthAs new (length key) → IsOkUnless answer Memory
+  pub memory : answer ≡ Err Memory → IsTextLengthAs old (length text)
   pub only_answer : IfOk answer (λ out. (other : List ℕ) → AreWrappings old E new F text other → other ≡ out.items)
-  pub only_key : IfOk answer (λ out. (key other : List ℕ) → StandsIn old E key text → StandsIn old E other text → other ≡ key)
-  pub same_key : IfOk answer (λ out. (key : List ℕ) → StandsIn new F key out.items ↔ StandsIn old E key text)
+  pub only_key : IfOk answer (λ out. (key other : List ℕ) → StandsAs old E key text → StandsAs old E other text → other ≡ key)
+  pub same_key : IfOk answer (λ out. (key : List ℕ) → StandsAs new F key out.items ↔ StandsAs old E key text)
   pub restores : IfOk answer (λ out. (other : List ℕ) → AreWrappings new F old E out.items other → other ≡ text)
   pub size : IfOk answer (λ out. length out.items ≡ length text)
   pub other_form : IfOk answer (λ out. NoOtherForm new F out.items)

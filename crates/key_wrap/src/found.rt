@@ -9,10 +9,12 @@ ghost use Rattle.key_wrap.specs.Lengths.{IsPaddedTextLength};
 ghost use Rattle.key_wrap.specs.PaddedRegisters.{PaddedRegisters};
 ghost use Rattle.key_wrap.specs.Answer.{NoKey};
 ghost use Rattle.key_wrap.specs.Calls.{block_calls};
-ghost use Rattle.key_wrap.specs.Forms.{IsTextLength};
+ghost use Rattle.key_wrap.specs.declared.forms.Form.{Form};
+ghost use Rattle.key_wrap.specs.Forms.{IsTextLengthAs, by_default};
 ghost use Rattle.key_wrap.specs.Found.{HoldsIn};
 
-use crate::checks::{DEFAULT_IV, is_zero, padded_difference};
+use crate::agreed_form::AgreedForm;
+use crate::checks::{is_zero, padded_difference};
 use crate::forms::Form;
 use crate::lengths::WORD;
 use crate::machine::{unwrap_padded_slice, wrap_padded_slice};
@@ -44,32 +46,33 @@ pub(crate) fn wrap_found<B: BlockPair>(meter: &mut Meter<B>, iv: u64, buf: &mut 
 }
 
 // 0 where the initial value and the registers hold a key in this form.
-pub(crate) fn form_difference(form: Form, iv: u64, registers: &[u8]) -> u64
-    requires { IsTextLength form (8 + length registers.now) }
+pub(crate) fn form_difference(form: &AgreedForm, iv: u64, registers: &[u8]) -> u64
+    requires { IsTextLengthAs form.now (8 + length registers.now) }
     ensures passes { result ≡ 0
-        → (key : List ℕ) × HoldsIn form key (word_bytes iv ++ registers.now) }
-    ensures refuses { ¬ (result ≡ 0) → NoKey (HoldsIn form) (word_bytes iv ++ registers.now) }
+        → (key : List ℕ) × HoldsIn form.now key (word_bytes iv ++ registers.now) }
+    ensures refuses { ¬ (result ≡ 0) → NoKey (HoldsIn form.now) (word_bytes iv ++ registers.now) }
 {
     match form {
-        Form::Plain => iv ^ DEFAULT_IV,
-        Form::Padded => padded_difference(iv, registers),
+        AgreedForm::Plain(agreed) => iv ^ agreed.word(),
+        AgreedForm::Padded => padded_difference(iv, registers),
     }
 }
 
-// 0 where they hold a key in one of the two forms; one word of key data is wrapped in the padded
-// form alone.
+// 0 where they hold a key in one of the two forms, under the default initial value; one word of key
+// data is wrapped in the padded form alone.
 pub(crate) fn either_difference(iv: u64, registers: &[u8]) -> u64
     requires { IsPaddedTextLength (8 + length registers.now) }
     ensures passes { result ≡ 0
-        → (form : Form) × (key : List ℕ) × HoldsIn form key (word_bytes iv ++ registers.now) }
+        → (form : Form) × (key : List ℕ) × HoldsIn (by_default form) key (word_bytes iv ++ registers.now) }
     ensures refuses { ¬ (result ≡ 0)
-        → (form : Form) → NoKey (HoldsIn form) (word_bytes iv ++ registers.now) }
+        → (form : Form) → NoKey (HoldsIn (by_default form)) (word_bytes iv ++ registers.now) }
 {
-    let padded = form_difference(Form::Padded, iv, registers);
+    let padded = form_difference(&AgreedForm::Padded, iv, registers);
     if registers.len() == WORD {
         return padded;
     }
-    either(form_difference(Form::Plain, iv, registers), padded)
+    let plain = AgreedForm::by_default(Form::Plain);
+    either(form_difference(&plain, iv, registers), padded)
 }
 
 // 0 where one of the two is 0, with no branch.

@@ -1,7 +1,7 @@
 //! Rewrapping in whichever form the wrapped key is in, with one growth.
 
 ghost use Rattle.std.specs.Prelude.{◌≡◌, ◌↔◌, ℕ, List, length, Err, IfOk, IsOkUnless};
-ghost use Rattle.key_wrap.specs.Forms.{StandsIn};
+ghost use Rattle.key_wrap.specs.Forms.{StandsIn, by_default};
 ghost use Rattle.key_wrap.specs.Rewrap.{NoOtherForm};
 ghost use Rattle.key_wrap.specs.KeepForm.{FormKept, KeepsForm, KeptAnswer, IsSomeTextLength};
 
@@ -55,7 +55,7 @@ pub fn rewrap_keeping_form<O: BlockPair, N: BlockPair>(
     ensures size { IfOk result (λ answer. length answer.items ≡ length text.now) }
     ensures other_form { IfOk result (λ answer. (form : Form) → (key : List ℕ)
         → StandsIn form (N.encrypted new.now) key answer.items
-        → NoOtherForm form (N.encrypted new.now) answer.items) }
+        → NoOtherForm (by_default form) (N.encrypted new.now) answer.items) }
 {
     rewrap_keeping_form_on(alloc, old, new, text)
 }

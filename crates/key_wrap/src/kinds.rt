@@ -7,10 +7,11 @@ ghost use Rattle.key_wrap.specs.Plain.{Plain, default_iv};
 ghost use Rattle.key_wrap.specs.Padded.{Padded};
 ghost use Rattle.key_wrap.specs.Answer.{NoKey};
 ghost use Rattle.key_wrap.specs.Calls.{block_calls};
-ghost use Rattle.key_wrap.specs.Kind.{IsKindOf, IsTheKind, NoOtherKey};
+ghost use Rattle.key_wrap.specs.Kind.{IsKindOf, IsKindWith, IsTheKind, NoOtherKey};
 
 use crate::faults::{BadScratchLength, KindFault};
 use crate::forms::Kind;
+use crate::initial_value::InitialValue;
 use crate::lengths::{WORD, padded_text_length_ok};
 use crate::unwrapping::kind_of_registers;
 use block_pair::{BlockPair, Meter};
@@ -36,16 +37,17 @@ pub fn kind<B: BlockPair>(alloc: Global, pair: &B, text: &[u8]) -> Result<Kind, 
     ensures memory { result ≡ Err KindFault.Memory
         → IsPlainTextLength (length text.now) ⊎ IsPaddedTextLength (length text.now) }
 {
-    kind_on(alloc, pair, text)
+    kind_on(alloc, pair, &InitialValue::default(), text)
 }
 
-// `kind` on any allocator, so that a test can refuse its growth.
+// `kind` on any allocator, so that a test can refuse its growth, and under any initial value.
 pub(crate) fn kind_on<A: Allocator, B: BlockPair>(
     alloc: A,
     pair: &B,
+    iv: &InitialValue,
     text: &[u8],
 ) -> Result<Kind, KindFault>
-    ensures answer { IfOk result (IsTheKind (B.encrypted pair.now) text.now) }
+    ensures answer { IfOk result (IsTheKind iv.now (B.encrypted pair.now) text.now) }
     ensures memory { IsErr result → IsPaddedTextLength (length text.now) }
 {
     if !padded_text_length_ok(text.len()) {
@@ -53,7 +55,8 @@ pub(crate) fn kind_on<A: Allocator, B: BlockPair>(
     }
     let mut registers = Vec::from_slice(alloc, &text[WORD..])?;
     let c0 = BigEndian::read_u64(text);
-    Ok(kind_of_registers(&mut Meter::new(pair), c0, &mut registers))
+    let mut meter = Meter::new(pair);
+    Ok(kind_of_registers(&mut meter, iv.word(), c0, &mut registers))
 }
 
 /// What `text` is under the meter's pair, as `kind` says it. It takes no memory: the scratch buffer
@@ -89,6 +92,38 @@ pub fn kind_into<B: BlockPair>(
     ensures calls { IfOk result (λ _. IsPaddedTextLength (length text.now)
         → meter.new ≡ counted (block_calls (length text.now)) meter.old) }
 {
+    kind_into_with(meter, &InitialValue::default(), text, scratch)
+}
+
+/// `kind_into`, but the plain form has this initial value (RFC 3394, section 2.2.3.2).
+pub fn kind_into_with<B: BlockPair>(
+    meter: &mut Meter<B>,
+    iv: &InitialValue,
+    text: &[u8],
+    scratch: &mut [u8],
+) -> Result<Kind, BadScratchLength>
+    ensures bad_length { IsErr result ↔ (IsPaddedTextLength (length text.now)
+        × ¬ (length text.now ≡ length scratch.old + 8)) }
+    ensures answer { IfOk result (IsKindWith iv.now (B.encrypted meter.old.pair) text.now) }
+    ensures plain { (key : List ℕ) → Plain (B.encrypted meter.old.pair) iv.now key text.now
+        → IfOk result (λ kind. kind ≡ Kind.Plain (length key)) }
+    ensures padded { (key : List ℕ) → Padded (B.encrypted meter.old.pair) key text.now
+        → IfOk result (λ kind. kind ≡ Kind.Padded (length key)) }
+    ensures neither { NoKey (Plain (B.encrypted meter.old.pair) iv.now) text.now
+        → NoKey (Padded (B.encrypted meter.old.pair)) text.now
+        → IfOk result (λ kind. kind ≡ Kind.Neither) }
+
+    // No key stands with it in the other form, whatever the initial value.
+    ensures other_form { IfOk result (NoOtherKey (B.encrypted meter.old.pair) text.now) }
+    ensures scratch_kept { IsErr result ⊎ ¬ IsPaddedTextLength (length text.now)
+        → scratch.new ≡ scratch.old }
+    ensures meter_kept { IsErr result ⊎ ¬ IsPaddedTextLength (length text.now)
+        → meter.new ≡ meter.old }
+    ensures cleared { IfOk result (λ _. IsPaddedTextLength (length text.now)
+        → All (λ byte. byte ≡ 0) scratch.new) }
+    ensures calls { IfOk result (λ _. IsPaddedTextLength (length text.now)
+        → meter.new ≡ counted (block_calls (length text.now)) meter.old) }
+{
     if !padded_text_length_ok(text.len()) {
         return Ok(Kind::Neither);
     }
@@ -96,5 +131,6 @@ pub fn kind_into<B: BlockPair>(
         return Err(BadScratchLength);
     }
     scratch.copy_from_slice(&text[WORD..]);
-    Ok(kind_of_registers(meter, BigEndian::read_u64(text), scratch))
+    let c0 = BigEndian::read_u64(text);
+    Ok(kind_of_registers(meter, iv.word(), c0, scratch))
 }

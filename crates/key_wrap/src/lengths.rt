@@ -3,9 +3,9 @@
 ghost use Rattle.std.specs.Prelude.{◌↔◌, IsTrue};
 ghost use Rattle.key_wrap.specs.Lengths.{IsPlainKeyLength, IsPlainTextLength, IsPaddedKeyLength};
 ghost use Rattle.key_wrap.specs.Lengths.{IsPaddedTextLength};
-ghost use Rattle.key_wrap.specs.Forms.{IsTextLength};
+ghost use Rattle.key_wrap.specs.Forms.{IsTextLengthAs};
 
-use crate::forms::Form;
+use crate::agreed_form::AgreedForm;
 
 // The bytes of a word.
 pub(crate) const WORD: usize = 8;
@@ -44,11 +44,11 @@ pub fn padded_text_length_ok(len: usize) -> bool
 }
 
 // Whether `len` bytes can be a wrapping in this form.
-pub(crate) fn is_text_length(form: Form, len: usize) -> bool
-    ensures { IsTrue result ↔ IsTextLength form len }
+pub(crate) fn is_text_length(form: &AgreedForm, len: usize) -> bool
+    ensures { IsTrue result ↔ IsTextLengthAs form.now len }
 {
     match form {
-        Form::Plain => text_length_ok(len),
-        Form::Padded => padded_text_length_ok(len),
+        AgreedForm::Plain(_) => text_length_ok(len),
+        AgreedForm::Padded => padded_text_length_ok(len),
     }
 }

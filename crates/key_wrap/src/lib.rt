@@ -12,6 +12,7 @@
 //! The calls that end in `_in_place` and `_into` take no memory and count their block calls.
 #![tactic(auto)]
 
+mod agreed_form;
 mod buffers;
 mod checks;
 mod faults;
@@ -32,6 +33,7 @@ mod rewrapping;
 mod rewrapping_in_place;
 mod unwrapping;
 
+pub use agreed_form::AgreedForm;
 pub use faults::{BadScratchLength, InPlaceFault, KindFault, ReservedIv, UnwrapFault, WrapFault};
 pub use forms::{Form, Kind};
 pub use in_place::{unwrap_in_place, unwrap_padded_in_place, wrap_in_place, wrap_padded_in_place};
@@ -40,14 +42,14 @@ pub use into::{unwrap_into, unwrap_padded_into, wrap_into, wrap_padded_into};
 pub use into_with::{unwrap_into_with, wrap_into_with};
 pub use keeping_form::rewrap_keeping_form;
 pub use keeping_form_in_place::rewrap_keeping_form_in_place;
-pub use kinds::{kind, kind_into};
+pub use kinds::{kind, kind_into, kind_into_with};
 pub use lengths::{
     MAX_KEY, key_length_ok, padded_length_ok, padded_text_length_ok, text_length_ok,
 };
 pub use padded::{unwrap_padded, wrap_padded};
 pub use plain::{unwrap, unwrap_with, wrap, wrap_with};
 pub use rewrapping::rewrap;
-pub use rewrapping_in_place::rewrap_in_place;
+pub use rewrapping_in_place::{rewrap_in_place, rewrap_in_place_with};
 
 #[cfg(test)]
 mod tests;

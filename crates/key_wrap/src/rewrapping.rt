@@ -2,14 +2,15 @@
 
 ghost use Rattle.std.specs.Prelude.{◌≡◌, ◌↔◌, ◌⊎◌, ℕ, List, length, Err, IfOk};
 ghost use Rattle.std.specs.Prelude.{IsOkUnless, IsTrue};
-ghost use Rattle.key_wrap.specs.Forms.{StandsIn, IsKeyLength, IsTextLength};
+ghost use Rattle.key_wrap.specs.Forms.{StandsIn, IsKeyLength, IsTextLength, by_default};
 ghost use Rattle.key_wrap.specs.Rewrap.{AreWrappings, HasBadKey, NoOtherForm, RewrapAnswer};
 ghost use Rattle.key_wrap.specs.Rewrap.{Rewrapped};
 
+use crate::agreed_form::AgreedForm;
 use crate::faults::UnwrapFault;
 use crate::forms::Form;
 use crate::lengths::is_text_length;
-use crate::rewrapping_in_place::rewrap_in_place;
+use crate::rewrapping_in_place::rewrap_in_place_with;
 use block_pair::{BlockPair, Meter};
 use std::alloc::{Allocator, Global};
 
@@ -28,11 +29,12 @@ pub fn rewrap<O: BlockPair, N: BlockPair>(
     new_form: Form,
     text: &[u8],
 ) -> Result<Vec<u8>, UnwrapFault>
-    ensures answer { RewrapAnswer old_form (O.encrypted old.now) new_form (N.encrypted new.now)
-        text.now result }
+    ensures answer { RewrapAnswer (by_default old_form) (O.encrypted old.now)
+        (by_default new_form) (N.encrypted new.now) text.now result }
     ensures text_length { ¬ IsTextLength old_form (length text.now)
         → result ≡ Err UnwrapFault.BadLength }
-    ensures key_length { HasBadKey old_form (O.encrypted old.now) new_form text.now
+    ensures key_length { HasBadKey (by_default old_form) (O.encrypted old.now)
+        (by_default new_form) text.now
         → (result ≡ Err UnwrapFault.BadLength) ⊎ (result ≡ Err UnwrapFault.Memory) }
 
     // A wrapping whose key has a legal length in the new form is refused only where there is no
@@ -41,7 +43,8 @@ pub fn rewrap<O: BlockPair, N: BlockPair>(
         → IsKeyLength new_form (length key) → IsOkUnless result UnwrapFault.Memory }
     ensures memory { result ≡ Err UnwrapFault.Memory → IsTextLength old_form (length text.now) }
     ensures only_answer { IfOk result (λ answer. (other : List ℕ)
-        → AreWrappings old_form (O.encrypted old.now) new_form (N.encrypted new.now) text.now other
+        → AreWrappings (by_default old_form) (O.encrypted old.now) (by_default new_form)
+        (N.encrypted new.now) text.now other
         → other ≡ answer.items) }
 
     // It is the wrapping of one key alone.
@@ -56,11 +59,12 @@ pub fn rewrap<O: BlockPair, N: BlockPair>(
 
     // Rewrapping back gives the old wrapping.
     ensures restores { IfOk result (λ answer. (other : List ℕ)
-        → AreWrappings new_form (N.encrypted new.now) old_form (O.encrypted old.now)
+        → AreWrappings (by_default new_form) (N.encrypted new.now) (by_default old_form)
+        (O.encrypted old.now)
         answer.items other → other ≡ text.now) }
     ensures size { IfOk result (λ answer. length answer.items ≡ length text.now) }
     ensures other_form { IfOk result (λ answer.
-        NoOtherForm new_form (N.encrypted new.now) answer.items) }
+        NoOtherForm (by_default new_form) (N.encrypted new.now) answer.items) }
 {
     rewrap_on(alloc, old, old_form, new, new_form, text)
 }
@@ -74,14 +78,16 @@ pub(crate) fn rewrap_on<A: Allocator, O: BlockPair, N: BlockPair>(
     new_form: Form,
     text: &[u8],
 ) -> Result<Vec<u8, A>, UnwrapFault>
-    ensures { Rewrapped old_form (O.encrypted old.now) new_form (N.encrypted new.now)
-        text.now result }
+    ensures { Rewrapped (by_default old_form) (O.encrypted old.now) (by_default new_form)
+        (N.encrypted new.now) text.now result }
 {
-    if !is_text_length(old_form, text.len()) {
+    let from = AgreedForm::by_default(old_form);
+    let to = AgreedForm::by_default(new_form);
+    if !is_text_length(&from, text.len()) {
         return Err(UnwrapFault::BadLength);
     }
     let mut buffer = Vec::from_slice(alloc, text)?;
     let (mut unwraps, mut wraps) = (Meter::new(old), Meter::new(new));
-    rewrap_in_place(&mut unwraps, old_form, &mut wraps, new_form, &mut buffer)?;
+    rewrap_in_place_with(&mut unwraps, &from, &mut wraps, &to, &mut buffer)?;
     Ok(buffer)
 }

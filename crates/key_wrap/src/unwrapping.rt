@@ -12,7 +12,7 @@ ghost use Rattle.key_wrap.specs.Calls.{block_calls};
 ghost use Rattle.key_wrap.specs.InPlace.{Unwrapping};
 ghost use Rattle.key_wrap.specs.Kind.{IsTheKind};
 
-use crate::checks::{DEFAULT_IV, decide, given_length, padded_difference};
+use crate::checks::{decide, given_length, padded_difference};
 use crate::faults::InPlaceFault;
 use crate::forms::Kind;
 use crate::lengths::WORD;
@@ -67,24 +67,26 @@ pub(crate) fn unwrap_padded_registers<B: BlockPair>(
 // initial value that it finds tells which form it is.
 pub(crate) fn kind_of_registers<B: BlockPair>(
     meter: &mut Meter<B>,
+    iv: u64,
     c0: u64,
     registers: &mut [u8],
 ) -> Kind
-    requires { IsPaddedTextLength (8 + length registers.old) }
+    requires length { IsPaddedTextLength (8 + length registers.old) }
+    requires free { ¬ IsReserved iv }
     ensures answer { let text = word_bytes c0 ++ registers.old in
-        IsTheKind (B.encrypted meter.old.pair) text result }
+        IsTheKind iv (B.encrypted meter.old.pair) text result }
     ensures cleared { All (λ byte. byte ≡ 0) registers.new }
     ensures calls { meter.new ≡ counted (block_calls (8 + length registers.old)) meter.old }
 {
-    let iv = unwrap_padded_slice(meter, c0, registers);
-    let padded = padded_difference(iv, registers);
-    let is_plain = decide(iv ^ DEFAULT_IV, registers).is_ok();
+    let found = unwrap_padded_slice(meter, c0, registers);
+    let padded = padded_difference(found, registers);
+    let is_plain = decide(found ^ iv, registers).is_ok();
     let is_padded = decide(padded, registers).is_ok();
     registers.fill(0);
     if is_plain && registers.len() > WORD {
         Kind::Plain(registers.len())
     } else if is_padded {
-        Kind::Padded(given_length(iv) as usize)
+        Kind::Padded(given_length(found) as usize)
     } else {
         Kind::Neither
     }

@@ -1,8 +1,8 @@
 //! What the words of a command line ask for.
 
-use crate::request::{Lines, Places, Request, Work};
+use crate::request::{Forms, Lines, Places, Request, Rewrap, Work};
 use key_wrap::Form;
-use keywrap_cli::{Direction, Job, Notation, RewrapForms, Rewrapping, Task};
+use keywrap_cli::{Direction, Job, Notation, Task};
 use keywrap_words::{Command, CommandLine, Refusal};
 use std::alloc::Global;
 
@@ -36,25 +36,24 @@ fn job<'a>(job: Job, line: &CommandLine<'a>) -> Request<'a> {
 }
 
 fn rewrap<'a>(line: &CommandLine<'a>) -> Request<'a> {
-    let task = Rewrapping {
-        forms: rewrap_forms(line),
+    let rewrap = Rewrap {
+        forms: forms(line),
+        iv: line.iv,
+        new_iv: line.new_iv,
         passes_new: line.pass_new,
         input: notation(line),
         kek: kek_notation(line),
-    };
-    let work = Work::Rewrap {
-        task,
         new_kek: line.new_kek,
     };
-    Request::Work(work, places(line), lines(line))
+    Request::Work(Work::Rewrap(rewrap), places(line), lines(line))
 }
 
-// `--keep-form` excludes `--padded` and `--new-padded`.
-fn rewrap_forms(line: &CommandLine<'_>) -> RewrapForms {
+// `--keep-form` excludes the other forms and their initial values.
+fn forms(line: &CommandLine<'_>) -> Forms {
     if line.keep_form {
-        RewrapForms::Kept
+        Forms::Kept
     } else {
-        RewrapForms::Changed {
+        Forms::Changed {
             old: form(line.padded),
             new: form(line.new_padded),
         }

@@ -20,7 +20,7 @@ const PART: usize = 65_536;
 pub struct Many {
     /// It goes on after a line that is refused for itself.
     pub goes_on: bool,
-    /// It shows how far it is.
+    /// It shows progress.
     pub shows: bool,
     /// It ends with a line that says what became of the lines.
     pub counts: bool,

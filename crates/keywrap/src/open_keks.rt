@@ -2,11 +2,10 @@
 
 use crate::output_file::is_same;
 use crate::refused::Refused;
-use crate::request::Work;
+use crate::request::{Values, Work};
 use crate::streams::{Opened, open};
 use crate::telling::Telling;
 use crate::watched::{Seen, Watched};
-use key_wrap::InitialValue;
 use keywrap_cli::{Keyed, ProgramFault};
 use std::fs::{File, Metadata};
 use std::io;
@@ -19,19 +18,27 @@ pub struct OpenKeks<I> {
     pub keyed: Keyed<Watched<Opened<I>>>,
 }
 
-/// Opens the KEK file, and then the one of the new KEK where there is one. The initial value is
-/// that of the work.
+/// Opens the KEK file, and then the one of the new KEK where there is one. The initial values
+/// are those of the work.
 pub fn open_keks<R: Input + Files<File = File>>(
     rt: &R,
     telling: &Telling<'_>,
-    iv: InitialValue,
+    values: Values,
 ) -> Result<OpenKeks<R::Reader>, Refused> {
     let kek = open_kek(rt, telling, telling.places.kek, ProgramFault::KekOpen)?;
     let keyed = match telling.work {
-        Work::Job { task, .. } => Keyed::Job { iv, task, kek },
-        Work::Rewrap { task, new_kek } => {
-            let new_kek = open_kek(rt, telling, new_kek, ProgramFault::NewKekOpen)?;
-            Keyed::Rewrap { task, kek, new_kek }
+        Work::Job { task, .. } => Keyed::Job {
+            iv: values.old,
+            task,
+            kek,
+        },
+        Work::Rewrap(rewrap) => {
+            let new_kek = open_kek(rt, telling, rewrap.new_kek, ProgramFault::NewKekOpen)?;
+            Keyed::Rewrap {
+                task: rewrap.task(values),
+                kek,
+                new_kek,
+            }
         }
     };
     Ok(OpenKeks { keyed })

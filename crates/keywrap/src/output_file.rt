@@ -20,7 +20,7 @@ pub enum OutputFault {
     Open(Why),
     /// It can't be synced or renamed, or its folder can't be synced.
     Flush(Why),
-    /// A growth was refused.
+    /// An allocation failed.
     Memory,
 }
 

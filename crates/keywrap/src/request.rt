@@ -1,9 +1,9 @@
 //! What a command line asks for.
 
 use crate::waiting::{Typed, spelled};
-use key_wrap::{Form, InitialValue};
+use key_wrap::{AgreedForm, Form, InitialValue};
 use keywrap_cli::{
-    Direction, Job, Notation, ProgramFault, RewrapForms, Rewrapping, Task, parse_iv,
+    Direction, IvFault, Job, Notation, ProgramFault, RewrapForms, Rewrapping, Task, parse_iv,
 };
 
 /// What a command line asks for.
@@ -27,8 +27,37 @@ pub enum Request<'a> {
 pub enum Work<'a> {
     /// A job. The plain form has the initial value of the text, if there is one.
     Job { iv: Option<&'a str>, task: Task },
-    /// A rewrapping, to the KEK in another file.
-    Rewrap { task: Rewrapping, new_kek: &'a str },
+    /// A rewrapping.
+    Rewrap(Rewrap<'a>),
+}
+
+/// A rewrapping, to the KEK in another file. A plain form has the initial value of its text, if
+/// there is one.
+#[derive(Clone, Copy)]
+pub struct Rewrap<'a> {
+    pub forms: Forms,
+    pub iv: Option<&'a str>,
+    pub new_iv: Option<&'a str>,
+    pub passes_new: bool,
+    pub input: Notation,
+    pub kek: Notation,
+    pub new_kek: &'a str,
+}
+
+/// The forms of a rewrapping, without their initial values.
+#[derive(Clone, Copy)]
+pub enum Forms {
+    /// The new wrapped key keeps the form that the old one has.
+    Kept,
+    /// From one form to another, or the same.
+    Changed { old: Form, new: Form },
+}
+
+/// The initial values of a command line: of the input, and of a new wrapped key.
+#[derive(Clone, Copy)]
+pub struct Values {
+    pub old: InitialValue,
+    pub new: InitialValue,
 }
 
 /// How each line of an input is answered.
@@ -36,7 +65,7 @@ pub enum Work<'a> {
 pub struct Lines {
     /// After a line that is refused for itself it goes on.
     pub goes_on: bool,
-    /// It does not show how far it is.
+    /// It shows no progress.
     pub is_quiet: bool,
 }
 
@@ -57,19 +86,33 @@ impl<'a> Work<'a> {
     /// The file of the new KEK; of a job no name.
     pub fn new_kek(&self) -> &'a str {
         match self {
-            Work::Rewrap { new_kek, .. } => new_kek,
+            Work::Rewrap(rewrap) => rewrap.new_kek,
             Work::Job { .. } => "",
         }
     }
 
-    /// The initial value of the text of `--iv`; the default where there is none.
-    pub fn initial_value(&self) -> Result<InitialValue, ProgramFault> {
-        let Work::Job { iv: Some(iv), .. } = self else {
-            return Ok(InitialValue::default());
+    /// The initial values of the texts of `--iv` and `--new-iv`; the default where there is none.
+    pub fn values(&self) -> Result<Values, ProgramFault> {
+        let (old, new) = match self {
+            Work::Job { iv, .. } => (*iv, None),
+            Work::Rewrap(rewrap) => (rewrap.iv, rewrap.new_iv),
         };
-        match parse_iv(iv) {
-            Ok(iv) => Ok(iv),
-            Err(fault) => Err(ProgramFault::Iv(fault)),
+        let old = match value_of(old) {
+            Ok(old) => old,
+            Err(fault) => return Err(ProgramFault::Iv(fault)),
+        };
+        match value_of(new) {
+            Ok(new) => Ok(Values { old, new }),
+            Err(IvFault::NotSixteenDigits) => Err(ProgramFault::NewIvDigits),
+            Err(IvFault::Reserved) => Err(ProgramFault::NewIvReserved),
+        }
+    }
+
+    /// Whether the input was wrapped under an initial value that was agreed on.
+    pub fn has_value(&self) -> bool {
+        match self {
+            Work::Job { iv, .. } => iv.is_some(),
+            Work::Rewrap(rewrap) => rewrap.iv.is_some(),
         }
     }
 
@@ -77,7 +120,7 @@ impl<'a> Work<'a> {
     pub fn writes_raw(&self) -> bool {
         let is_check = match self {
             Work::Job { task, .. } => matches!(task.job, Job::Check),
-            Work::Rewrap { .. } => false,
+            Work::Rewrap(_) => false,
         };
         !is_check && matches!(self.notation(), Notation::Raw)
     }
@@ -102,7 +145,7 @@ impl<'a> Work<'a> {
     pub fn takes_key(&self) -> bool {
         match self {
             Work::Job { task, .. } => matches!(task.job, Job::Wrap),
-            Work::Rewrap { .. } => false,
+            Work::Rewrap(_) => false,
         }
     }
 
@@ -110,9 +153,9 @@ impl<'a> Work<'a> {
     pub fn becomes_plain(&self) -> bool {
         match self {
             Work::Job { .. } => false,
-            Work::Rewrap { task, .. } => matches!(
-                task.forms,
-                RewrapForms::Changed {
+            Work::Rewrap(rewrap) => matches!(
+                rewrap.forms,
+                Forms::Changed {
                     old: Form::Padded,
                     new: Form::Plain
                 }
@@ -124,7 +167,7 @@ impl<'a> Work<'a> {
     pub fn kek_notation(&self) -> Notation {
         match self {
             Work::Job { task, .. } => task.kek,
-            Work::Rewrap { task, .. } => task.kek,
+            Work::Rewrap(rewrap) => rewrap.kek,
         }
     }
 
@@ -132,7 +175,7 @@ impl<'a> Work<'a> {
     pub fn keeps_modes(&self) -> bool {
         match self {
             Work::Job { task, .. } => !matches!(task.job, Job::Unwrap),
-            Work::Rewrap { .. } => true,
+            Work::Rewrap(_) => true,
         }
     }
 
@@ -140,7 +183,45 @@ impl<'a> Work<'a> {
     pub fn notation(&self) -> Notation {
         match self {
             Work::Job { task, .. } => task.input,
-            Work::Rewrap { task, .. } => task.input,
+            Work::Rewrap(rewrap) => rewrap.input,
         }
+    }
+}
+
+impl Rewrap<'_> {
+    /// The rewrapping under these initial values.
+    pub fn task(&self, values: Values) -> Rewrapping {
+        Rewrapping {
+            forms: self.forms.under(values),
+            passes_new: self.passes_new,
+            input: self.input,
+            kek: self.kek,
+        }
+    }
+}
+
+impl Forms {
+    fn under(self, values: Values) -> RewrapForms {
+        match self {
+            Forms::Kept => RewrapForms::Kept,
+            Forms::Changed { old, new } => RewrapForms::Changed {
+                old: agreed(old, values.old),
+                new: agreed(new, values.new),
+            },
+        }
+    }
+}
+
+fn agreed(form: Form, value: InitialValue) -> AgreedForm {
+    match form {
+        Form::Plain => AgreedForm::Plain(value),
+        Form::Padded => AgreedForm::Padded,
+    }
+}
+
+fn value_of(text: Option<&str>) -> Result<InitialValue, IvFault> {
+    match text {
+        Some(text) => parse_iv(text),
+        None => Ok(InitialValue::default()),
     }
 }

@@ -3,14 +3,14 @@
 use crate::advice::{Advice, Role};
 use crate::output_file::OutputFault;
 use crate::refused::Refused;
-use crate::request::{Places, Work};
+use crate::request::{Forms, Places, Work};
 use crate::text::{Text, mistaken};
 use crate::watched::Seen;
 use crate::why::Why;
 use key_files::{Base64Fault, FileFault};
 use key_lines::LineFault;
 use key_wrap::{Form, InPlaceFault, MAX_KEY};
-use keywrap_cli::{Job, JobFault, Notation, ProgramFault, RefusedLine, RewrapForms};
+use keywrap_cli::{Job, JobFault, Notation, ProgramFault, RefusedLine};
 use keywrap_words::escaped;
 use std::alloc::{AllocError, Global};
 use std::io;
@@ -185,9 +185,9 @@ impl<'a> Telling<'a> {
         match self.work {
             Work::Job { task, .. } if task.job == Job::Wrap => of_key(task.form, bytes),
             Work::Job { task, .. } => of_wrapped(task.form, bytes),
-            Work::Rewrap { task, .. } => match task.forms {
-                RewrapForms::Kept => of_either(bytes),
-                RewrapForms::Changed { old, .. } => of_rewrapped(old, bytes),
+            Work::Rewrap(rewrap) => match rewrap.forms {
+                Forms::Kept => of_either(bytes),
+                Forms::Changed { old, .. } => of_rewrapped(old, bytes),
             },
         }
     }
@@ -243,11 +243,11 @@ impl<'a> Telling<'a> {
 
     fn of_wrapping(&self) -> Why {
         Why::Says(match self.work {
-            Work::Job { iv: Some(_), .. } => "no wrapping under this KEK and --iv",
+            work if work.has_value() => "no wrapping under this KEK and --iv",
             Work::Job { task, .. } => no_wrapping(task.form),
-            Work::Rewrap { task, .. } => match task.forms {
-                RewrapForms::Kept => "no wrapping in either form under this KEK",
-                RewrapForms::Changed { old, .. } => no_wrapping(old),
+            Work::Rewrap(rewrap) => match rewrap.forms {
+                Forms::Kept => "no wrapping in either form under this KEK",
+                Forms::Changed { old, .. } => no_wrapping(old),
             },
         })
     }
@@ -398,9 +398,7 @@ fn of_rewrapped(form: Form, bytes: u64) -> Why {
         Form::Padded => 16,
     };
     if bytes >= least && bytes <= MAX_WRAPPED as u64 && bytes % 8 == 0 {
-        Why::Says(
-            "its key is none for the plain form, which takes 16 bytes or more, a multiple of 8",
-        )
+        Why::Says("its key cannot be wrapped in the plain form: 16 bytes or more, a multiple of 8")
     } else {
         of_wrapped(form, bytes)
     }

@@ -17,7 +17,7 @@ pub enum Why {
     Is(&'static str),
     /// Which KEK file it is, as `the KEK file`.
     IsKek(&'static str),
-    /// How many bytes of KEK are in it, and what is said behind that.
+    /// How many bytes of KEK are in it, and what is said after that.
     Kek {
         bytes: u64,
         but: &'static str,
@@ -70,7 +70,7 @@ impl Why {
         Ok(line)
     }
 
-    // Writes what is said, behind the name.
+    // Writes what is said, after the name.
     fn write_behind(self, alloc: Global, line: &mut String) -> Result<(), AllocError> {
         match self {
             Why::Named => Ok(()),

@@ -34,9 +34,9 @@ pub struct Terminals {
 /// Does what is asked with these files, with each line of the input or with the whole, and answers
 /// the exit status.
 ///
-/// The first that applies is answered: Iv, RawToTerminal, KekOpen, NewKekOpen, InputOpen, Memory of
-/// the new file's name or OutputOpen, then what the call says, and Flush. No contract says so:
-/// `tests/files.sh` and `tests/terminal.sh` do.
+/// The first that applies is answered: Iv, that of `--new-iv`, RawToTerminal, KekOpen, NewKekOpen,
+/// InputOpen, Memory of the new file's name or OutputOpen, then what the call says, and Flush. No
+/// contract says so: `tests/files.sh` and `tests/terminal.sh` do.
 pub fn run_work<R: Print + Eprint + Input + AllocGlobal + Files<File = File> + Env + Clock>(
     rt: &R,
     work: Work<'_>,
@@ -44,7 +44,7 @@ pub fn run_work<R: Print + Eprint + Input + AllocGlobal + Files<File = File> + E
     lines: Option<Lines>,
     terminals: Terminals,
 ) -> Result<u8, Refused> {
-    let iv = work.initial_value()?;
+    let values = work.values()?;
     if terminals.output && places.output.is_none() && work.writes_raw() {
         return Err(Refused::from(ProgramFault::RawToTerminal));
     }
@@ -57,7 +57,7 @@ pub fn run_work<R: Print + Eprint + Input + AllocGlobal + Files<File = File> + E
     let Ok(_held) = hold_closed(rt, terminals.closed) else {
         return Err(Refused::from(ProgramFault::InputOpen));
     };
-    let mut keks = open_keks(rt, &telling, iv)?;
+    let mut keks = open_keks(rt, &telling, values)?;
     let answered = run_keyed(rt, &telling, &mut keks, lines, terminals)?;
     telling.say_notes(rt, &answered.seen);
     if let Some(tally) = answered.tally {
@@ -116,9 +116,8 @@ fn spared<R: Files, I>(rt: &R, input: &Opened<I>) -> Spared {
     }
 }
 
-// How the lines of an input of this length are answered. Neither how far that is nor its last line
-// stands on a terminal between answers or words that are typed; the last line, not the other, may
-// be asked for.
+// How the lines of an input of this length are answered. Progress and the last line are hidden where
+// answers or typed input share the terminal; the last line may be asked for.
 fn many<R: Files>(
     rt: &R,
     lines: Option<Lines>,

@@ -1,2 +1,3 @@
 -- Lemmas that several exports share.
 pub mod Lengths
+pub mod Endings

@@ -2,7 +2,7 @@
 use Rattle.std.specs.Prelude.{◌≡◌, ◌↔◌, ℕ, List}
 use Rattle.key_wrap.specs.declared.forms.Form.{Form}
 use Rattle.key_wrap.specs.Answer.{NoKey}
-use Rattle.key_wrap.specs.Forms.{StandsIn}
+use Rattle.key_wrap.specs.Forms.{StandsIn, by_default}
 use Rattle.key_wrap.specs.Rewrap.{AreWrappings}
 use Rattle.key_wrap.specs.KeepForm.{KeepsForm}
 
@@ -24,11 +24,11 @@ pub record IsUnwrapping (Stands Other : List ℕ → List ℕ → Type 0) (text 
 -- rewrapping back gives the text
 pub record IsRewrapping (old : Form) (E : List ℕ → List ℕ) (new : Form) (F : List ℕ → List ℕ) (text answer : List ℕ)
     : Type 0 where
-  pub one_key : AreWrappings old E new F text answer
+  pub one_key : AreWrappings (by_default old) E (by_default new) F text answer
   pub only_key : (key other : List ℕ) → StandsIn old E key text → StandsIn old E other text → other ≡ key
-  pub only_answer : (other : List ℕ) → AreWrappings old E new F text other → other ≡ answer
+  pub only_answer : (other : List ℕ) → AreWrappings (by_default old) E (by_default new) F text other → other ≡ answer
   pub same_key : (key : List ℕ) → StandsIn new F key answer ↔ StandsIn old E key text
-  pub restores : (other : List ℕ) → AreWrappings new F old E answer other → other ≡ text
+  pub restores : (other : List ℕ) → AreWrappings (by_default new) F (by_default old) E answer other → other ≡ text
 
 -- the same where the form is kept, whichever it is: the text is the wrapping of one key alone, in one form
 pub record IsKeptRewrapping (E F : List ℕ → List ℕ) (text answer : List ℕ) : Type 0 where

@@ -2,7 +2,7 @@
 use Rattle.std.specs.Prelude.{ℕ, List, length, ◌<◌, ◌/◌, ◌%◌, zero, suc}
 use Rattle.key_wrap.specs.declared.forms.Form.{Form}
 use Rattle.key_wrap.specs.declared.forms.Form.TheVariants.{Plain, Padded}
-use Rattle.key_wrap.specs.Forms.{StandsIn, IsKeyLength, IsTextLength}
+use Rattle.key_wrap.specs.Forms.{StandsIn, IsKeyLength, IsTextLength, by_default}
 use Rattle.key_wrap.specs.Rewrap as rewrap
 use Rattle.key_wrap.specs.KeepForm.{HasNoForm, IsSomeTextLength}
 use Rattle.keywrap_c.specs.declared.rewrapping.Asked.{Asked}
@@ -38,12 +38,12 @@ IsGivenLength Keep len = IsSomeTextLength len
 
 -- a length is refused: the wrapped key's, or the key's in the new form
 abbrev pub HasBadLength : Asked → (List ℕ → List ℕ) → List ℕ → Type 0
-HasBadLength (Between old new) E text = rewrap.HasBadLength old E new text
+HasBadLength (Between old new) E text = rewrap.HasBadLength (by_default old) E (by_default new) text
 HasBadLength Keep E text = ¬ IsSomeTextLength (length text)
 
 -- it has a legal length, and is the wrapping of no key: in the old form, or in any form where it is kept
 abbrev pub HasNoKey : Asked → (List ℕ → List ℕ) → List ℕ → Type 0
-HasNoKey (Between old new) E text = rewrap.HasNoWrapping old E text
+HasNoKey (Between old new) E text = rewrap.HasNoWrapping (by_default old) E text
 HasNoKey Keep E text = HasNoForm E text
 
 -- it is the wrapping of a key that the new form takes

@@ -4,3 +4,4 @@ pub mod Answers
 pub mod AgreedValue
 pub mod Forms
 pub mod Kinds
+pub mod StatusTexts

@@ -10,4 +10,5 @@ mod plain_in_place;
 mod plain_with;
 mod rewrapping;
 mod status;
+mod texts;
 mod version;

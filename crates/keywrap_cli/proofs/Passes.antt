@@ -1,9 +1,10 @@
 -- What passes a rewrapping, and that what it answers is answered as it is.
-use Rattle.std.proofs.Common.{◌≡◌, ◌⊎◌, ℕ, List, length, Ok, Err, inl, inr, refl, sym, subst}
+use Rattle.std.proofs.Common.{◌≡◌, ℕ, List, length, Err, inl, inr, refl, sym, subst}
 use Rattle.key_wrap.specs.declared.faults.InPlaceFault.{InPlaceFault}
 use Rattle.key_wrap.specs.declared.faults.InPlaceFault.TheVariants.{BadLength, Integrity}
-use Rattle.key_wrap.specs.declared.forms.Form.{Form}
-use Rattle.keywrap_cli.specs.Forms.{IsNoOld, IsNoNew, IsOldLength, IsPassed, IsRewrapped, IsRewrappedAs, IsRewrappedOrPassed, Makes, Rewraps, to_itself}
+use Rattle.key_wrap.specs.declared.agreed_form.AgreedForm.{AgreedForm}
+use Rattle.key_wrap.specs.Forms.{by_default}
+use Rattle.keywrap_cli.specs.Forms.{IsNoOld, IsOldLength, IsRewrapped, IsRewrappedAs, IsRewrappedOrPassed, Rewraps, to_itself}
 use Rattle.keywrap_cli.specs.declared.rewrapping.RewrapForms.{RewrapForms}
 use Rattle.keywrap_cli.specs.declared.rewrapping.RewrapForms.TheVariants.{Kept, Changed}
 
@@ -16,7 +17,7 @@ no_old Kept E F text BadLength h _ = inl h
 no_old Kept E F text Integrity h _ = inr h
 
 -- the answer of one key is rewrapped from the new KEK to itself
-to_its_own : (old : Form) (E : List ℕ → List ℕ) (new : Form) (F : List ℕ → List ℕ) (text answer : List ℕ)
+to_its_own : (old : AgreedForm) (E : List ℕ → List ℕ) (new : AgreedForm) (F : List ℕ → List ℕ) (text answer : List ℕ)
     → IsRewrapped old E new F text answer → IsRewrapped new F new F answer answer
 to_its_own old E new F text answer is = record {
   key = is.key;
@@ -33,7 +34,7 @@ answers_itself : (forms : RewrapForms) (E F : List ℕ → List ℕ) (text answe
 answers_itself (Changed old new) E F text answer is = to_its_own old E new F text answer is
 answers_itself Kept E F text answer is = record {
   form = is.form;
-  rewrapped = to_its_own is.form E is.form F text answer is.rewrapped;
+  rewrapped = to_its_own (by_default is.form) E (by_default is.form) F text answer is.rewrapped;
   one_form = is.same_form;
   same_form = is.same_form;
 }

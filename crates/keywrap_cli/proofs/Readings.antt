@@ -6,8 +6,8 @@ use Rattle.key_files.specs.Reading.{ReadsAs}
 use Rattle.key_files.specs.declared.fault.FileFault.{FileFault}
 use Rattle.key_files.specs.declared.fault.FileFault.TheVariants as files
 use Rattle.keywrap_cli.specs.Files.{meaning_in}
-use Rattle.keywrap_cli.specs.Readings.{ReadsKek, KekAnswer, MakesKek, ReadsInput, InputAnswer, kek_fault_of, named_fault_of}
-use Rattle.keywrap_cli.specs.declared.job.JobFault.TheVariants.{KekFile, NewKekFile, InputFile}
+use Rattle.keywrap_cli.specs.Readings.{ReadsKek, KekAnswer, MakesKek, ReadsInput, InputAnswer, named_fault_of}
+use Rattle.keywrap_cli.specs.declared.job.JobFault.TheVariants.{InputFile}
 use Rattle.keywrap_cli.specs.declared.kek_file.KekFault.{KekFault}
 use Rattle.keywrap_cli.specs.declared.kek_file.KekFault.TheVariants.{File, Length}
 use Rattle.keywrap_cli.specs.declared.job.Notation.{Notation}

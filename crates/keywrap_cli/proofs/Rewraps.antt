@@ -2,21 +2,22 @@
 -- where the form is kept.
 use Rattle.std.proofs.Common.{◌≡◌, ◌↔◌, ℕ, List, length, Result, Ok, Err, OnOk, refl}
 use Rattle.key_lines.specs.Answers.{made}
-use Rattle.key_wrap.specs.Forms.{StandsIn}
+use Rattle.key_wrap.specs.Forms.{StandsAs, StandsIn}
 use Rattle.key_wrap.specs.KeepForm.{HasNoForm, IsSomeTextLength, KeepsForm}
 use Rattle.key_wrap.specs.Rewrap.{AreWrappings, HasBadLength, HasNoWrapping}
 use Rattle.key_wrap.specs.declared.faults.InPlaceFault.{InPlaceFault}
 use Rattle.key_wrap.specs.declared.faults.InPlaceFault.TheVariants.{BadLength, Integrity}
+use Rattle.key_wrap.specs.declared.agreed_form.AgreedForm.{AgreedForm}
 use Rattle.key_wrap.specs.declared.forms.Form.{Form}
 use Rattle.keywrap_cli.specs.Forms.{IsRewrapped, IsRewrappedInForm, Rewraps}
 use Rattle.keywrap_cli.specs.declared.rewrapping.RewrapForms.TheVariants.{Kept, Changed}
 
 -- what the clauses of the call that changes the form say of its answer
-is_rewrapped : (old : Form) (E : List ℕ → List ℕ) (new : Form) (F : List ℕ → List ℕ) (text answer : List ℕ)
+is_rewrapped : (old : AgreedForm) (E : List ℕ → List ℕ) (new : AgreedForm) (F : List ℕ → List ℕ) (text answer : List ℕ)
     → AreWrappings old E new F text answer
     → ((other : List ℕ) → AreWrappings old E new F text other → other ≡ answer)
-    → ((key other : List ℕ) → StandsIn old E key text → StandsIn old E other text → other ≡ key)
-    → ((key : List ℕ) → StandsIn new F key answer ↔ StandsIn old E key text)
+    → ((key other : List ℕ) → StandsAs old E key text → StandsAs old E other text → other ≡ key)
+    → ((key : List ℕ) → StandsAs new F key answer ↔ StandsAs old E key text)
     → ((other : List ℕ) → AreWrappings new F old E answer other → other ≡ text)
     → IsRewrapped old E new F text answer
 is_rewrapped old E new F text answer both only one same restores = record {
@@ -29,11 +30,11 @@ is_rewrapped old E new F text answer both only one same restores = record {
   restores = λ other h. restores other (both.0, both.2, h);
 }
 
-pub made_changed : (old : Form) (E : List ℕ → List ℕ) (new : Form) (F : List ℕ → List ℕ) (text buffer : List ℕ) (answer : Result Unit InPlaceFault)
+pub made_changed : (old : AgreedForm) (E : List ℕ → List ℕ) (new : AgreedForm) (F : List ℕ → List ℕ) (text buffer : List ℕ) (answer : Result Unit InPlaceFault)
     → OnOk answer (AreWrappings old E new F text buffer)
     → OnOk answer ((other : List ℕ) → AreWrappings old E new F text other → other ≡ buffer)
-    → OnOk answer ((key other : List ℕ) → StandsIn old E key text → StandsIn old E other text → other ≡ key)
-    → OnOk answer ((key : List ℕ) → StandsIn new F key buffer ↔ StandsIn old E key text)
+    → OnOk answer ((key other : List ℕ) → StandsAs old E key text → StandsAs old E other text → other ≡ key)
+    → OnOk answer ((key : List ℕ) → StandsAs new F key buffer ↔ StandsAs old E key text)
     → OnOk answer ((other : List ℕ) → AreWrappings new F old E buffer other → other ≡ text)
     → (answer ≡ Err BadLength) ↔ HasBadLength old E new text → (answer ≡ Err Integrity) ↔ HasNoWrapping old E text
     → Rewraps (Changed old new) E F text (made buffer answer)

@@ -6,7 +6,7 @@ use Rattle.key_lines.specs.declared.job.Outcome.{Outcome}
 use Rattle.key_lines.specs.declared.job.Outcome.TheVariants.{Answer, Refused, Memory}
 use Rattle.key_wrap.specs.Answer.{NoKey}
 use Rattle.key_wrap.specs.Forms.{Stands}
-use Rattle.key_wrap.specs.Kind.{IsKindOf}
+use Rattle.key_wrap.specs.Kind.{IsKindWith}
 use Rattle.key_wrap.specs.declared.faults.InPlaceFault.{InPlaceFault}
 use Rattle.key_wrap.specs.declared.faults.InPlaceFault.TheVariants.{BadLength, Integrity}
 use Rattle.key_wrap.specs.declared.faults.UnwrapFault.{UnwrapFault}
@@ -33,13 +33,13 @@ kind_line (kinds.Padded m) = codes "padded " ++ decimal m ++ 10 ∷ []
 kind_line kinds.Neither = codes "none\n"
 
 -- what a job in a form writes for the bytes X: the wrapping of the key, the key of the wrapping, or the line that says
--- what X is a wrapping of; a check looks at the default value alone
+-- what X is a wrapping of
 abbrev pub WritesFor : Job → ℕ → Task → (List ℕ → List ℕ) → List ℕ → List ℕ → Type 0
 WritesFor Wrap iv task E X output =
     (text : List ℕ) × IsTextOf task.form iv E X text × (output ≡ printed task.input text)
 WritesFor Unwrap iv task E X output =
     (key : List ℕ) × IsKeyOf task.form iv E X key × (output ≡ printed task.input key)
-WritesFor Check iv task E X output = (kind : Kind) × IsKindOf E X kind × (output ≡ kind_line kind)
+WritesFor Check iv task E X output = (kind : Kind) × IsKindWith iv E X kind × (output ≡ kind_line kind)
 
 -- the bytes X have no legal length for the job; a check asks for none
 abbrev pub HasBadLength : Job → Form → List ℕ → Type 0

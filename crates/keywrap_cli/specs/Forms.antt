@@ -1,10 +1,11 @@
 -- Rewrappings that change the form of a wrapped key, and those that keep it: under E before, under F after.
 use Rattle.std.specs.Prelude.{◌≡◌, ◌⊎◌, Bool, true, false, ℕ, List, length, Result, Ok, Err}
-use Rattle.key_wrap.specs.Forms.{StandsIn, IsTextLength}
+use Rattle.key_wrap.specs.Forms.{IsTextLengthAs, StandsAs, StandsIn, by_default}
 use Rattle.key_wrap.specs.KeepForm.{HasNoForm, IsSomeTextLength}
 use Rattle.key_wrap.specs.Rewrap.{HasBadLength, HasNoWrapping}
 use Rattle.key_wrap.specs.declared.faults.InPlaceFault.{InPlaceFault}
 use Rattle.key_wrap.specs.declared.faults.InPlaceFault.TheVariants.{BadLength, Integrity}
+use Rattle.key_wrap.specs.declared.agreed_form.AgreedForm.{AgreedForm}
 use Rattle.key_wrap.specs.declared.forms.Form.{Form}
 use Rattle.keywrap_cli.specs.declared.rewrapping.RewrapForms.{RewrapForms}
 use Rattle.keywrap_cli.specs.declared.rewrapping.RewrapForms.TheVariants.{Kept, Changed}
@@ -12,20 +13,20 @@ use Rattle.keywrap_cli.specs.declared.rewrapping.RewrapForms.TheVariants.{Kept, 
 -- The answer is the new wrapping, under F, of the one key whose old wrapping, under E, `text` is: that key alone
 -- stands with `text`, and it alone with the answer; it has no other new wrapping, and no other old one. So unwrapping
 -- the answer gives exactly the old key, and rewrapping back gives `text` again.
-pub record IsRewrapped (old_form : Form) (E : List ℕ → List ℕ) (new_form : Form) (F : List ℕ → List ℕ)
+pub record IsRewrapped (old_form : AgreedForm) (E : List ℕ → List ℕ) (new_form : AgreedForm) (F : List ℕ → List ℕ)
     (text answer : List ℕ) : Type 0 where
   pub key : List ℕ
-  pub stood : StandsIn old_form E key text
-  pub stands : StandsIn new_form F key answer
-  pub one_key : (other : List ℕ) → StandsIn old_form E other text → other ≡ key
-  pub same_key : (other : List ℕ) → StandsIn new_form F other answer → other ≡ key
-  pub alone : (other : List ℕ) → StandsIn new_form F key other → other ≡ answer
-  pub restores : (other : List ℕ) → StandsIn old_form E key other → other ≡ text
+  pub stood : StandsAs old_form E key text
+  pub stands : StandsAs new_form F key answer
+  pub one_key : (other : List ℕ) → StandsAs old_form E other text → other ≡ key
+  pub same_key : (other : List ℕ) → StandsAs new_form F other answer → other ≡ key
+  pub alone : (other : List ℕ) → StandsAs new_form F key other → other ≡ answer
+  pub restores : (other : List ℕ) → StandsAs old_form E key other → other ≡ text
 
 -- the answer is the rewrapped text in the form in which the text is a wrapping, which is one form alone
 pub record IsRewrappedInForm (E F : List ℕ → List ℕ) (text answer : List ℕ) : Type 0 where
   pub form : Form
-  pub rewrapped : IsRewrapped form E form F text answer
+  pub rewrapped : IsRewrapped (by_default form) E (by_default form) F text answer
   pub one_form : (other : Form) → (key : List ℕ) → StandsIn other E key text → other ≡ form
   pub same_form : (other : Form) → (key : List ℕ) → StandsIn other F key answer → other ≡ form
 
@@ -52,12 +53,12 @@ Rewraps forms E F text (Err Integrity) = HasNoWrappingAs forms E text
 
 -- a length that is legal for the text where it has one old form
 abbrev pub IsOldLength : RewrapForms → ℕ → Type 0
-IsOldLength (Changed old new) len = IsTextLength old len
+IsOldLength (Changed old new) len = IsTextLengthAs old len
 IsOldLength Kept len = ⊥
 
 -- the text is no wrapping under the old KEK: its length is legal in no old form, or no key stands with it
 abbrev pub IsNoOld : RewrapForms → (List ℕ → List ℕ) → List ℕ → Type 0
-IsNoOld (Changed old new) E text = (¬ IsTextLength old (length text)) ⊎ HasNoWrapping old E text
+IsNoOld (Changed old new) E text = (¬ IsTextLengthAs old (length text)) ⊎ HasNoWrapping old E text
 IsNoOld Kept E text = (¬ IsSomeTextLength (length text)) ⊎ HasNoForm E text
 
 -- the forms of a rewrapping from the new KEK to itself: the answer's on both sides

@@ -1,7 +1,7 @@
 //! The engine of every run: an input, as a whole or line by line, is read, answered by a job, and
 //! the answer is written.
 
-ghost use Rattle.std.specs.Prelude.{◌≡◌, OnOk};
+ghost use Rattle.std.specs.Prelude.{◌≡◌, IfOk, OnOk};
 ghost use Rattle.keywrap_cli.specs.Answers.{IsDone};
 ghost use Rattle.keywrap_cli.specs.Engine.{IsAnswerOf, IsDoneAs, RunsInput, WritesAnswer};
 ghost use Rattle.keywrap_cli.specs.Engine.{job_fault_of, output_of};
@@ -114,7 +114,8 @@ pub fn lines_answer(
     passed: u64,
     done: Done,
 ) -> Result<LinesDone, LinesFault>
-    ensures { IsAnswerOf answer result }
+    ensures answer { IsAnswerOf answer result }
+    ensures done { IfOk result (λ answered. answered.done ≡ done) }
 {
     match answer {
         Ok(lines) => Ok(LinesDone {

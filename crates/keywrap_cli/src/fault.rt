@@ -19,6 +19,12 @@ pub enum ProgramFault {
     /// The text of `--iv` was refused.
     #[error("{0}")]
     Iv(IvFault),
+    /// The text of `--new-iv` is not 16 hex digits.
+    #[error("--new-iv is not 16 hex digits")]
+    NewIvDigits,
+    /// The value of `--new-iv` begins as that of the padded form.
+    #[error("--new-iv is reserved for the padded form")]
+    NewIvReserved,
     /// The KEK file can't be opened.
     #[error("key file: cannot be opened")]
     KekOpen,
@@ -97,7 +103,10 @@ impl ProgramFault {
     /// The exit status that says the fault.
     pub fn status(&self) -> u8 {
         match self {
-            ProgramFault::Iv(_) | ProgramFault::RawToTerminal => statuses::REFUSED_WORDS,
+            ProgramFault::Iv(_)
+            | ProgramFault::NewIvDigits
+            | ProgramFault::NewIvReserved
+            | ProgramFault::RawToTerminal => statuses::REFUSED_WORDS,
             ProgramFault::KekOpen
             | ProgramFault::NewKekOpen
             | ProgramFault::InputOpen

@@ -10,7 +10,7 @@ use crate::engine::print_in;
 use crate::job::{Job, Task};
 use block_pair::{BlockPair, Meter};
 use key_lines::{LineJob, Outcome};
-use key_wrap::{InPlaceFault, InitialValue, Kind, UnwrapFault, kind_into};
+use key_wrap::{InPlaceFault, InitialValue, Kind, UnwrapFault, kind_into_with};
 use std::alloc::{AllocError, Global};
 use std::cell::Cell;
 
@@ -111,7 +111,7 @@ fn answer_check<B: BlockPair>(
     if output.resize(text.len().saturating_sub(8), 0).is_err() {
         return Outcome::Memory;
     }
-    let Ok(found) = kind_into(&mut Meter::new(pair), text, output) else {
+    let Ok(found) = kind_into_with(&mut Meter::new(pair), iv, text, output) else {
         return Outcome::Memory;
     };
     if let Kind::Neither = found {

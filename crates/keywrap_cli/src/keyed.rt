@@ -43,7 +43,7 @@ impl<K: Read> Keyed<K> {
     {
         match self {
             Keyed::Job { iv, task, kek } => run(alloc, iv, *task, kek, input, out),
-            Keyed::Rewrap { task, kek, new_kek } => rewrap(alloc, *task, kek, new_kek, input, out),
+            Keyed::Rewrap { task, kek, new_kek } => rewrap(alloc, task, kek, new_kek, input, out),
         }
     }
 
@@ -67,7 +67,7 @@ impl<K: Read> Keyed<K> {
                 run_job_lines(alloc, iv, *task, goes_on, log, kek, input, out)
             }
             Keyed::Rewrap { task, kek, new_kek } => {
-                rewrap_lines(alloc, *task, goes_on, log, kek, new_kek, input, out)
+                rewrap_lines(alloc, task, goes_on, log, kek, new_kek, input, out)
             }
         }
     }

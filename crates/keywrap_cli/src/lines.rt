@@ -1,7 +1,7 @@
 //! Many keys in one run: each line of the input is a key or a wrapped key, and its answer stands on
 //! the same line of the output.
 
-ghost use Rattle.std.specs.Prelude.{◌≡◌, IfSome};
+ghost use Rattle.std.specs.Prelude.{◌≡◌, ◌≢◌, IfOk, IfSome};
 ghost use Rattle.keywrap_cli.specs.Answers.{in_lines, lines_of};
 ghost use Rattle.keywrap_cli.specs.Files.{line_notation, text_notation};
 ghost use Rattle.keywrap_cli.specs.Rewrapping.{rewrapping};
@@ -10,7 +10,7 @@ ghost use Rattle.keywrap_cli.specs.Lines.{RunsJobLines, RunsRewrapLines, WritesJ
 ghost use Rattle.keywrap_cli.specs.Lines.{WritesRewrapLines};
 
 use crate::engine::lines_answer;
-use crate::job::{Done, JobFault, Notation, Task, kek_fault};
+use crate::job::{Done, Job, JobFault, Notation, Task, kek_fault};
 use crate::kek_file::read_kek;
 use crate::key_job::KeyJob;
 use crate::rewrap::new_kek_fault;
@@ -29,7 +29,7 @@ pub struct LinesDone {
     pub lines: u64,
     /// How many of them were wrapped under the new KEK already. No contract says so: tests do.
     pub passed: u64,
-    /// Neither where a check wrote `none` for some line. No contract says so: tests do.
+    /// Neither where a check wrote `none` for some line, which tests show, and else Written.
     pub done: Done,
 }
 
@@ -67,6 +67,7 @@ pub fn run_job_lines<K: Read, L: RefusalLog<InPlaceFault>, R: BufRead, W: Write>
     ensures headline { IsPastKeks result → IfSome (R.remaining input.old) (λ text.
         WritesJobLines iv.now task goes_on (K.remaining kek.old) (K.remaining kek.new) text
         (W.contents out.old) (W.contents out.new) result) }
+    ensures done { task.job ≢ Job.Check → IfOk result (λ answered. answered.done ≡ Done.Written) }
 {
     let pair = match read_kek(alloc, task.kek, kek) {
         Ok(pair) => pair,
@@ -88,12 +89,17 @@ pub fn run_job_lines<K: Read, L: RefusalLog<InPlaceFault>, R: BufRead, W: Write>
         input,
         out,
     );
-    let done = if job.neither.get() {
-        Done::Neither
-    } else {
-        Done::Written
-    };
-    lines_answer(answer, 0, done)
+    lines_answer(answer, 0, done_of(task.job, job.neither.get()))
+}
+
+// What a run of a job has done, where `none` was written for some line, or for none.
+fn done_of(job: Job, neither: bool) -> Done
+    ensures { job ≢ Job.Check → result ≡ Done.Written }
+{
+    match job {
+        Job::Check if neither => Done::Neither,
+        _ => Done::Written,
+    }
 }
 
 /// Reads the old KEK and the new one, and then answers each line of the input as `run_rewrap`
@@ -122,6 +128,7 @@ pub fn run_rewrap_lines<K: Read, N: Read, L: RefusalLog<InPlaceFault>, R: BufRea
         (K.remaining old_kek.old) (K.remaining old_kek.new)
         (N.remaining new_kek.old) (N.remaining new_kek.new) text
         (W.contents out.old) (W.contents out.new) result) }
+    ensures done { IfOk result (λ answered. answered.done ≡ Done.Written) }
 {
     let task = Rewrapping {
         forms,
@@ -129,13 +136,13 @@ pub fn run_rewrap_lines<K: Read, N: Read, L: RefusalLog<InPlaceFault>, R: BufRea
         input: Notation::Hex,
         kek: kek_notation,
     };
-    rewrap_lines(alloc, task, goes_on, log, old_kek, new_kek, input, out)
+    rewrap_lines(alloc, &task, goes_on, log, old_kek, new_kek, input, out)
 }
 
 /// A rewrapping of lines, in hex where the task's notation of the input is raw.
 pub fn rewrap_lines<K: Read, N: Read, L: RefusalLog<InPlaceFault>, R: BufRead, W: Write>(
     alloc: Global,
-    task: Rewrapping,
+    task: &Rewrapping,
     goes_on: bool,
     log: &L,
     old_kek: &mut K,
@@ -143,14 +150,15 @@ pub fn rewrap_lines<K: Read, N: Read, L: RefusalLog<InPlaceFault>, R: BufRead, W
     input: &mut R,
     out: &mut W,
 ) -> Result<LinesDone, LinesFault>
-    ensures run { RunsRewrapLines task goes_on (K.remaining old_kek.old) (K.remaining old_kek.new)
+    ensures run { RunsRewrapLines task.now goes_on (K.remaining old_kek.old) (K.remaining old_kek.new)
         (N.remaining new_kek.old) (N.remaining new_kek.new)
         (R.remaining input.old) (R.remaining input.new) (W.contents out.old) (W.contents out.new)
         result }
     ensures headline { IsPastKeks result → IfSome (R.remaining input.old) (λ text.
-        WritesRewrapLines task goes_on (K.remaining old_kek.old) (K.remaining old_kek.new)
+        WritesRewrapLines task.now goes_on (K.remaining old_kek.old) (K.remaining old_kek.new)
         (N.remaining new_kek.old) (N.remaining new_kek.new) text
         (W.contents out.old) (W.contents out.new) result) }
+    ensures done { IfOk result (λ answered. answered.done ≡ Done.Written) }
 {
     let old = match read_kek(alloc, task.kek, old_kek) {
         Ok(old) => old,
@@ -189,8 +197,8 @@ fn in_lines(task: Task) -> Task
     }
 }
 
-fn lines_of(task: Rewrapping) -> Rewrapping
-    ensures { result ≡ lines_of task }
+fn lines_of(task: &Rewrapping) -> Rewrapping
+    ensures { result ≡ lines_of task.now }
 {
     Rewrapping {
         forms: task.forms,

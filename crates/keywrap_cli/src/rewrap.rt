@@ -1,6 +1,7 @@
 //! Rewrapping one key: from one KEK to another, with no key written.
 
 ghost use Rattle.std.specs.Prelude.{◌≡◌, IsOk};
+ghost use Rattle.key_wrap.specs.Forms.{by_default};
 ghost use Rattle.keywrap_cli.specs.Answers.{IsWritten};
 ghost use Rattle.keywrap_cli.specs.Engine.{IsDoneAs, output_of};
 ghost use Rattle.keywrap_cli.specs.Readings.{new_kek_fault_of};
@@ -12,7 +13,7 @@ use crate::kek_file::{KekFault, read_kek};
 use crate::rewrap_job::RewrapJob;
 use crate::rewrapping::{RewrapForms, Rewrapping};
 use key_files::FileFault;
-use key_wrap::Form;
+use key_wrap::{AgreedForm, Form};
 use std::alloc::Global;
 use std::cell::Cell;
 use std::io::{Read, Write};
@@ -39,7 +40,8 @@ pub fn run_rewrap<K: Read, N: Read, R: Read, W: Write>(
     out: &mut W,
 ) -> Result<Done, JobFault>
     ensures run { RunsRewrap
-        (rewrapping (RewrapForms.Changed old_form new_form) input_notation kek_notation)
+        (rewrapping (RewrapForms.Changed (by_default old_form) (by_default new_form))
+        input_notation kek_notation)
         (K.remaining old_kek.old) (K.remaining old_kek.new)
         (N.remaining new_kek.old) (N.remaining new_kek.new)
         (R.remaining input.old) (R.remaining input.new)
@@ -47,15 +49,16 @@ pub fn run_rewrap<K: Read, N: Read, R: Read, W: Write>(
 
     // What is written wraps exactly the key that the input was the wrapping of.
     ensures headline { IsOk result → WritesTheNewText
-        (rewrapping (RewrapForms.Changed old_form new_form) input_notation kek_notation)
+        (rewrapping (RewrapForms.Changed (by_default old_form) (by_default new_form))
+        input_notation kek_notation)
         (K.remaining old_kek.old) (K.remaining old_kek.new)
         (N.remaining new_kek.old) (N.remaining new_kek.new)
         (R.remaining input.old) (R.remaining input.new)
         (W.contents out.old) (W.contents out.new) }
 {
     let forms = RewrapForms::Changed {
-        old: old_form,
-        new: new_form,
+        old: AgreedForm::by_default(old_form),
+        new: AgreedForm::by_default(new_form),
     };
     let task = Rewrapping {
         forms,
@@ -63,7 +66,7 @@ pub fn run_rewrap<K: Read, N: Read, R: Read, W: Write>(
         input: input_notation,
         kek: kek_notation,
     };
-    rewrap(alloc, task, old_kek, new_kek, input, out)
+    rewrap(alloc, &task, old_kek, new_kek, input, out)
 }
 
 /// `run_rewrap`, but the wrapped key is taken in whichever form it is a wrapping, and keeps that
@@ -101,23 +104,23 @@ pub fn run_rewrap_keeping_form<K: Read, N: Read, R: Read, W: Write>(
         input: input_notation,
         kek: kek_notation,
     };
-    rewrap(alloc, task, old_kek, new_kek, input, out)
+    rewrap(alloc, &task, old_kek, new_kek, input, out)
 }
 
 /// A rewrapping of one key.
 pub fn rewrap<K: Read, N: Read, R: Read, W: Write>(
     alloc: Global,
-    task: Rewrapping,
+    task: &Rewrapping,
     old_kek: &mut K,
     new_kek: &mut N,
     input: &mut R,
     out: &mut W,
 ) -> Result<Done, JobFault>
-    ensures run { RunsRewrap task (K.remaining old_kek.old) (K.remaining old_kek.new)
+    ensures run { RunsRewrap task.now (K.remaining old_kek.old) (K.remaining old_kek.new)
         (N.remaining new_kek.old) (N.remaining new_kek.new)
         (R.remaining input.old) (R.remaining input.new)
         (W.contents out.old) (W.contents out.new) result }
-    ensures headline { IsOk result → WritesTheNewText task
+    ensures headline { IsOk result → WritesTheNewText task.now
         (K.remaining old_kek.old) (K.remaining old_kek.new)
         (N.remaining new_kek.old) (N.remaining new_kek.new)
         (R.remaining input.old) (R.remaining input.new)
@@ -132,7 +135,7 @@ pub fn rewrap<K: Read, N: Read, R: Read, W: Write>(
         Err(fault) => return Err(new_kek_fault(fault)),
     };
     let job = RewrapJob {
-        task,
+        task: *task,
         old,
         new,
         passed: Cell::new(0),

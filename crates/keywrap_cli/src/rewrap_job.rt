@@ -10,8 +10,8 @@ use crate::rewrapping::{RewrapForms, Rewrapping};
 use block_pair::{BlockPair, Meter};
 use key_lines::{LineJob, Outcome};
 use key_wrap::{
-    Form, InPlaceFault, padded_text_length_ok, rewrap_in_place, rewrap_keeping_form_in_place,
-    text_length_ok,
+    AgreedForm, InPlaceFault, padded_text_length_ok, rewrap_in_place_with,
+    rewrap_keeping_form_in_place, text_length_ok,
 };
 use std::cell::Cell;
 
@@ -32,7 +32,14 @@ impl<O: BlockPair, N: BlockPair> LineJob for RewrapJob<O, N> {
         (O.encrypted job.old) (N.encrypted job.new) text answer };
 
     fn answer(&self, bytes: &mut Vec<u8>, output: &mut Vec<u8>) -> Outcome<InPlaceFault> {
-        let outcome = make(self.task, &self.old, &self.new, &self.passed, bytes, output);
+        let outcome = make(
+            &self.task,
+            &self.old,
+            &self.new,
+            &self.passed,
+            bytes,
+            output,
+        );
         if !matches!(outcome, Outcome::Answer) {
             return outcome;
         }
@@ -45,20 +52,20 @@ impl<O: BlockPair, N: BlockPair> LineJob for RewrapJob<O, N> {
 
 // Makes the answer in the buffer of the text.
 fn make<O: BlockPair, N: BlockPair>(
-    task: Rewrapping,
+    task: &Rewrapping,
     old: &O,
     new: &N,
     passed: &Cell<u64>,
     text: &mut Vec<u8>,
     spare: &mut Vec<u8>,
 ) -> Outcome<InPlaceFault>
-    ensures { OutcomeIs (Makes task.passes_new task.forms (O.encrypted old.now)
+    ensures { OutcomeIs (Makes task.now.passes_new task.now.forms (O.encrypted old.now)
         (N.encrypted new.now) text.old.items) text.new.items result }
 {
     if task.passes_new {
-        return rewrap_or_pass(task.forms, old, new, passed, text, spare);
+        return rewrap_or_pass(&task.forms, old, new, passed, text, spare);
     }
-    match rewrap_bytes(task.forms, old, new, text) {
+    match rewrap_bytes(&task.forms, old, new, text) {
         Ok(()) => Outcome::Answer,
         Err(refusal) => Outcome::Refused(refusal),
     }
@@ -66,14 +73,14 @@ fn make<O: BlockPair, N: BlockPair>(
 
 // The same where what is new passes. A refused rewrapping clears its buffer, so the text is kept.
 fn rewrap_or_pass<O: BlockPair, N: BlockPair>(
-    forms: RewrapForms,
+    forms: &RewrapForms,
     old: &O,
     new: &N,
     passed: &Cell<u64>,
     text: &mut Vec<u8>,
     spare: &mut Vec<u8>,
 ) -> Outcome<InPlaceFault>
-    ensures { OutcomeIs (Makes true forms (O.encrypted old.now) (N.encrypted new.now)
+    ensures { OutcomeIs (Makes true forms.now (O.encrypted old.now) (N.encrypted new.now)
         text.old.items) text.new.items result }
 {
     spare.clear();
@@ -87,7 +94,7 @@ fn rewrap_or_pass<O: BlockPair, N: BlockPair>(
     if has_old_length(forms, refusal, spare.len()) {
         return Outcome::Refused(refusal);
     }
-    match rewrap_bytes(to_itself(forms), new, new, spare) {
+    match rewrap_bytes(&to_itself(forms), new, new, spare) {
         Ok(()) => {
             passed.set(passed.get().saturating_add(1));
             std::mem::swap(text, spare);
@@ -98,35 +105,38 @@ fn rewrap_or_pass<O: BlockPair, N: BlockPair>(
 }
 
 // Whether what was refused is a wrapping under the old KEK: its key's length was.
-fn has_old_length(forms: RewrapForms, refusal: InPlaceFault, len: usize) -> bool
-    ensures { IsTrue result ↔ ((refusal ≡ InPlaceFault.BadLength) × IsOldLength forms len) }
+fn has_old_length(forms: &RewrapForms, refusal: InPlaceFault, len: usize) -> bool
+    ensures { IsTrue result ↔ ((refusal ≡ InPlaceFault.BadLength) × IsOldLength forms.now len) }
 {
     match (refusal, forms) {
         (InPlaceFault::BadLength, RewrapForms::Changed { old, .. }) => match old {
-            Form::Plain => text_length_ok(len),
-            Form::Padded => padded_text_length_ok(len),
+            AgreedForm::Plain(_) => text_length_ok(len),
+            AgreedForm::Padded => padded_text_length_ok(len),
         },
         _ => false,
     }
 }
 
-fn to_itself(forms: RewrapForms) -> RewrapForms
-    ensures { result ≡ to_itself forms }
+fn to_itself(forms: &RewrapForms) -> RewrapForms
+    ensures { result ≡ to_itself forms.now }
 {
     match forms {
         RewrapForms::Kept => RewrapForms::Kept,
-        RewrapForms::Changed { new, .. } => RewrapForms::Changed { old: new, new },
+        RewrapForms::Changed { new, .. } => {
+            let old = *new;
+            RewrapForms::Changed { old, new: *new }
+        }
     }
 }
 
 // Rewraps the text in the buffer.
 fn rewrap_bytes<O: BlockPair, N: BlockPair>(
-    forms: RewrapForms,
+    forms: &RewrapForms,
     old: &O,
     new: &N,
     text: &mut [u8],
 ) -> Result<(), InPlaceFault>
-    ensures { Rewraps forms (O.encrypted old.now) (N.encrypted new.now) text.old
+    ensures { Rewraps forms.now (O.encrypted old.now) (N.encrypted new.now) text.old
         (made text.new result) }
 {
     match forms {
@@ -139,17 +149,17 @@ fn rewrap_bytes<O: BlockPair, N: BlockPair>(
 }
 
 fn rewrap_changed<O: BlockPair, N: BlockPair>(
-    old_form: Form,
-    new_form: Form,
+    old_form: &AgreedForm,
+    new_form: &AgreedForm,
     old: &O,
     new: &N,
     text: &mut [u8],
 ) -> Result<(), InPlaceFault>
-    ensures { Rewraps (RewrapForms.Changed old_form new_form) (O.encrypted old.now)
+    ensures { Rewraps (RewrapForms.Changed old_form.now new_form.now) (O.encrypted old.now)
         (N.encrypted new.now) text.old (made text.new result) }
 {
     let (mut unwraps, mut wraps) = (Meter::new(old), Meter::new(new));
-    rewrap_in_place(&mut unwraps, old_form, &mut wraps, new_form, text)
+    rewrap_in_place_with(&mut unwraps, old_form, &mut wraps, new_form, text)
 }
 
 fn rewrap_kept<O: BlockPair, N: BlockPair>(

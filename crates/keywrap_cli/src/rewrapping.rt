@@ -1,19 +1,19 @@
 //! What a rewrapping goes from and to.
 
 use crate::job::Notation;
-use key_wrap::Form;
+use key_wrap::AgreedForm;
 
 /// Which forms wrapped keys are rewrapped from and to.
 #[derive(Clone, Copy, Debug)]
 pub enum RewrapForms {
-    /// From the form in which it is a wrapping, to the same.
+    /// From the form in which it is a wrapping, to the same, with the default initial value.
     Kept,
     /// From one form to another, or the same.
     Changed {
         /// The form of the wrapped keys.
-        old: Form,
+        old: AgreedForm,
         /// The form of the answers.
-        new: Form,
+        new: AgreedForm,
     },
 }
 

@@ -1,5 +1,6 @@
 //! Worked rows and published vectors, through the public calls.
 
+mod block_calls;
 mod cases;
 mod checks;
 mod doubles;

@@ -99,7 +99,7 @@ const PADDED: Argument<'static> = Argument {
 
 const OLD_PADDED: Argument<'static> = Argument {
     name: "padded",
-    help: "The wrapped key has the padded form of RFC 5649",
+    help: "The old wrapped key has the padded form of RFC 5649",
     ..FLAG
 };
 
@@ -118,7 +118,30 @@ const IV: Argument<'static> = Argument {
     ..FLAG
 };
 
-// Raw bytes have no lines.
+// A check looks at both forms.
+const CHECK_IV: Argument<'static> = Argument {
+    conflicts: &[],
+    ..IV
+};
+
+const OLD_IV: Argument<'static> = Argument {
+    name: "iv",
+    kind: Kind::Optional("HEX"),
+    help: "The initial value of the old wrapped key, 16 hex digits",
+    conflicts: &["padded", "keep-form"],
+    ..FLAG
+};
+
+const NEW_IV: Argument<'static> = Argument {
+    name: "new-iv",
+    kind: Kind::Optional("HEX"),
+    help: "The initial value of the new one, if not the default",
+    conflicts: &["new-padded", "keep-form"],
+    ..FLAG
+};
+
+// Raw bytes have no lines. What needs `--lines` says so too: beside an argument that excludes
+// `--lines` the need is waived.
 const LINES: Argument<'static> = Argument {
     name: "lines",
     help: "Many keys, one a line: each is answered on its line",
@@ -131,6 +154,7 @@ const KEEP_GOING: Argument<'static> = Argument {
     name: "keep-going",
     help: "With --lines: writes an empty line for a refused one",
     long_help: Some(KEEP_GOING_HELP),
+    conflicts: &["raw"],
     needs: Some("lines"),
     ..FLAG
 };
@@ -138,6 +162,7 @@ const KEEP_GOING: Argument<'static> = Argument {
 const QUIET: Argument<'static> = Argument {
     name: "quiet",
     help: "With --lines: no progress on a terminal",
+    conflicts: &["raw"],
     needs: Some("lines"),
     ..FLAG
 };
@@ -154,7 +179,7 @@ const KEEP_FORM: Argument<'static> = Argument {
 // A rotation that was cut off is begun again with it.
 const PASS_NEW: Argument<'static> = Argument {
     name: "pass-new",
-    help: "Answers what is under the new KEK already as it is",
+    help: "Writes what is under the new KEK already as it is",
     long_help: Some(PASS_NEW_HELP),
     ..FLAG
 };
@@ -270,7 +295,7 @@ const SUBCOMMANDS: [Subcommand<'static>; 6] = [
     },
     Subcommand {
         name: "rewrap",
-        about: "Takes a wrapped key from one KEK to another; no key is written",
+        about: "Rewraps a key under another KEK; the key itself is not written",
         usage: REWRAP_USAGE,
         example: REWRAP_EXAMPLE,
         arguments: &[
@@ -280,6 +305,8 @@ const SUBCOMMANDS: [Subcommand<'static>; 6] = [
             OUTPUT,
             OLD_PADDED,
             NEW_PADDED,
+            OLD_IV,
+            NEW_IV,
             KEEP_FORM,
             PASS_NEW,
             RAW,
@@ -302,6 +329,7 @@ const SUBCOMMANDS: [Subcommand<'static>; 6] = [
             KEK,
             INPUT,
             OUTPUT,
+            CHECK_IV,
             RAW_WRAPPED,
             BASE64_WRAPPED,
             BASE64URL_WRAPPED,
@@ -315,14 +343,14 @@ const SUBCOMMANDS: [Subcommand<'static>; 6] = [
     },
     Subcommand {
         name: "drill",
-        about: "Wraps over a block that exchanges its halves, to be worked by hand",
+        about: "Wraps under a toy cipher that swaps the halves of a block",
         usage: DRILL_USAGE,
         example: DRILL_EXAMPLE,
         arguments: &[HEX, PADDED, UNWRAP],
     },
     Subcommand {
         name: "vectors",
-        about: "Answers the vectors of RFC 3394, RFC 5649 and FIPS 197: ok or failed",
+        about: "Runs the vectors of RFC 3394, RFC 5649 and FIPS 197: ok or failed",
         usage: VECTORS_USAGE,
         example: VECTORS_EXAMPLE,
         arguments: &[],

@@ -23,10 +23,10 @@ pub const VECTORS_USAGE: &str = "keywrap vectors";
 /// What `--output` does.
 pub const OUTPUT_HELP: &str = "\
 Writes FILE, not standard output (-). FILE is replaced only by the
-whole answer, and stays as it is after a refusal. It may be the file
-of --input, but with --keep-going; no KEK file, folder, device, pipe
-or link. A new FILE, and each of unwrap, is for its owner alone; else
-FILE keeps its owner and mode";
+whole answer, and stays as it is after a refusal. It may be that of
+--input, though not with --keep-going; a KEK file, folder, device,
+pipe or symlink is refused. A new FILE, and each that unwrap writes,
+has mode 0600; else FILE keeps its owner, group and mode";
 
 /// What `--base64` does.
 pub const BASE64_HELP: &str = "\
@@ -41,37 +41,38 @@ and JWK. Not with --raw or --base64";
 
 /// What `--lines` does.
 pub const LINES_HELP: &str = "\
-Many keys in one run: each line of the input holds one text of hex or
-base64, with spaces and tabs at its ends alone, and its answer stands
-on the same line of the output. It stops at the first line that is
-refused, and names it by its number, from 1: the answers before it are
-written, and FILE of --output stays as it is. An input without a line
-is refused. Not with --raw";
+Many keys in one run: each line of the input is one key or wrapped key
+in hex or base64, with spaces and tabs only at its ends, and its
+answer is on the same line of the output. The run stops at the first
+line that is refused, and names it by its number, from 1: standard
+output has the answers before it, FILE of --output stays as it is. An
+input without a line is refused. Not with --raw";
 
 /// What `--keep-going` does.
 pub const KEEP_GOING_HELP: &str = "\
 With --lines: a line that is refused gets an empty line as its answer
 and a line on standard error, and the run goes on. At its end the
-status is that of the first refusal. The input is not replaced: FILE
-of --output is another";
+status is that of the first refusal. FILE of --output may not be the
+file of the input";
 
 /// What `--keep-form` does.
 pub const KEEP_FORM_HELP: &str = "\
-Takes the wrapped key in whichever form it is a wrapping, and the new
-one keeps that form. Not with --padded or --new-padded";
+Takes either form, and the new wrapped key keeps it. Not with
+--padded, --new-padded, --iv or --new-iv";
 
 /// What `--pass-new` does.
 pub const PASS_NEW_HELP: &str = "\
-What is no wrapping under the KEK, but one under the new KEK already,
-in the form of an answer, is answered as it is: a rotation that was
-cut off is begun again, and what is damaged is still refused";
+A wrapped key that is not under the KEK, but under the new KEK
+already, in the form that an answer would have, is written as it is:
+so a rotation that was cut off can be begun again. What is damaged is
+still refused";
 
 /// What hex and base64 may hold, what each exit status says, and what to try.
 pub const NOTES: &str = "\
 Hex: two digits a byte, of either case; spaces, tabs and line ends may stand
 anywhere. No 0x, no colons.
 Base64 (--base64, --base64url, --base64-kek): with + and / or with - and _, not
-both in one text; with its = or none; spaces, tabs and line ends may stand
+both in one file; with its = or none; spaces, tabs and line ends may stand
 anywhere.
 With --raw and --raw-kek every byte counts, a newline at the end too.
 
@@ -79,14 +80,14 @@ Exit status:
   0  done
   2  the command line was refused
   3  a KEK must be 16, 24 or 32 bytes
-     In hex that is 32, 48 or 64 digits, in base64 22, 32 or 43 characters and
+     In hex 32, 48 or 64 digits, in base64 22, 32 or 43 characters before any
      =. For a KEK file of raw bytes use --raw-kek, for base64 --base64-kek.
   4  the key or the wrapped key has no legal length in this form
      A plain key has 16 bytes or more, a multiple of 8, and its wrapped key
      has 8 more. For a key of another length use --padded. With --lines: the
      input has no line.
   5  the integrity check failed; check found no wrapping; a vector failed
-     It has another KEK, the other form or an --iv, or it is damaged.
+     It was wrapped with another KEK, form or initial value, or it is damaged.
      keywrap check says which form fits the KEK.
   6  a file or the output could not be opened, read or written
      The line names it, and the first byte that is no hex digit or no base64
@@ -97,15 +98,15 @@ Exit status:
 
 A refusal is one line on standard error; a refused command line is a message
 with the usage, and one line where the value of --iv or raw bytes to a terminal
-are the cause. Where standard error is a terminal, and with --verbose, a second
-line names the file and says why; and after an answer a line says what may not
-have been meant: raw bytes that are text, a padded form that became plain. With
---lines the last line says how many were answered.
+are the cause. Where standard error is a terminal, or with --verbose, a second
+line names the file and says why; and after an answer a line names a likely
+mistake: raw bytes that are text, a padded form that became plain. With --lines
+the last line says how many were answered.
 wrap, unwrap, rewrap, check and drill write nothing before their whole answer
 is right; vectors writes its lines, those that say failed too, once all are
-made. With --lines both are said of each line of the input: the refusal names
-it, and the answers to the lines before it are written.
-Status 5 without a line comes from check, which wrote none, and from vectors,
+made. With --lines this applies line by line: the refusal names the line, and
+the answers to the lines before it are written.
+Status 5 without a line comes from check, which wrote `none`, and vectors,
 whose lines say which one failed.";
 
 /// An example of `wrap`.
@@ -121,9 +122,8 @@ From file to file:
   $ keywrap wrap --kek kek.hex --input key.hex --output wrapped.hex
 
 What hex and base64 may hold, and what each status says: keywrap --help.
-A plain key has 16 to 1048576 bytes, a multiple of 8.
-With --padded it has 1 to 1048576.
-A file has at most 4194304 bytes.";
+A key has 16 to 1048576 bytes, a multiple of 8; with --padded 1 to 1048576.
+A file, with --lines a line, has at most 4194304 bytes.";
 
 /// An example of `unwrap`.
 pub const UNWRAP_EXAMPLE: &str = "\
@@ -151,9 +151,9 @@ Example, in an empty folder, with the first and the third vector of RFC 3394:
 
 What hex and base64 may hold, and what each status says: keywrap --help.
 The new wrapped key is as long as the old one. The key itself is not written.
-Without --keep-form and --new-padded the new one has the plain form.
-From --padded to the plain form only a key of 16 bytes or more, a multiple of
-8, can go; another is status 4.";
+Without --keep-form or --new-padded the new one has the plain form.
+From --padded to the plain form the key must have 16 bytes or more, a multiple
+of 8; any other is refused with status 4.";
 
 /// An example of `check`.
 pub const CHECK_EXAMPLE: &str = "\
@@ -164,7 +164,7 @@ Example, in an empty folder, with the first vector of RFC 3394:
   plain 16
 
 The line is `plain N` or `padded N`, with the length of the key in bytes, or
-`none` (status 5): it was wrapped under another KEK or with an --iv, or it is
+`none` (status 5): it was wrapped with another KEK or initial value, or is
 damaged.
 What hex and base64 may hold, and what each status says: keywrap --help.";
 
@@ -174,8 +174,8 @@ Example:
   $ keywrap drill 00112233445566778899aabbccddeeff
   a6a6a6a6a6a6a6a6001122334455667f8899aabbccddeefb
 
-The drill block turns A | X into X | A, so each answer can be worked by hand.
-It hides nothing.";
+In place of AES a toy cipher turns A | X into X | A, so that each answer can be
+checked by hand. It hides nothing.";
 
 /// An example of `vectors`.
 pub const VECTORS_EXAMPLE: &str = "\

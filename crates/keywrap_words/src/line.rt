@@ -38,6 +38,8 @@ pub struct CommandLine<'a> {
     pub output: Option<&'a str>,
     /// The text of the initial value, where one is given.
     pub iv: Option<&'a str>,
+    /// The text of the initial value of the new wrapped key, where one is given.
+    pub new_iv: Option<&'a str>,
     /// The text of the drill.
     pub hex: &'a str,
     /// The padded form; of a rewrapping, that of the old wrapped key.
@@ -77,7 +79,7 @@ pub enum Refusal {
     Help(String),
     /// What is wrong with the words, which goes to standard error.
     Words(String),
-    /// A growth was refused.
+    /// An allocation failed.
     Memory,
 }
 
@@ -152,6 +154,7 @@ fn taken<'a>(subcommand: Option<(&'a str, &ArgMatches<'a>)>) -> Option<CommandLi
         input: file_of(found, "input"),
         output: file_of(found, "output"),
         iv: found.get_str("iv"),
+        new_iv: found.get_str("new-iv"),
         hex: text_of(found, "hex"),
         padded: found.get_flag("padded"),
         new_padded: found.get_flag("new-padded"),

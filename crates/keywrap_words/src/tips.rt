@@ -1,15 +1,15 @@
-//! What is said of words that were refused: clap's message, and a tip on what users guess.
+//! What is said of arguments that were refused: clap's message, and a tip on what users guess.
 
 use crate::line::{Command, command_of, read};
 use clap::Error;
 use clap::error::ErrorKind;
 use std::alloc::{AllocError, Global};
 
-const COMMANDS: &str = "the first word is wrap, unwrap, rewrap, check, drill or vectors";
+const COMMANDS: &str = "the first argument is wrap, unwrap, rewrap, check, drill or vectors";
 
 const FILES: &str = "files are named by options: --kek FILE, --input FILE, --output FILE";
 
-const DRILL: &str = "drill takes one word of hex digits and no KEK; wrap takes --kek FILE";
+const DRILL: &str = "drill takes one argument, hex digits, and no KEK; wrap takes --kek FILE";
 
 const CHECK: &str = "check looks at both forms, and says which one it found";
 
@@ -55,7 +55,7 @@ const QUIET: &str = "--quiet has no short name, and goes with --lines";
 
 const HELP: &str = "keywrap --help shows the help, and keywrap COMMAND --help that of a command";
 
-// Where the usage begins in a message of clap, behind what it says of the words.
+// Where the usage begins in a message of clap, after what it says of the arguments.
 const USAGE: &str = "\n\nUsage: ";
 
 // Where clap's own tip begins.

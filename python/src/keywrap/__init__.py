@@ -197,30 +197,36 @@ def rewrap(
     new_padded: bool = False,
     *,
     keep_form: bool = False,
+    pass_new: bool = False,
 ) -> bytes:
     """The wrapping under the new KEK of the key that is wrapped under the old one; as long as it was.
 
     Each is in the plain form, or padded where the flag says so; with `keep_form`, which goes with no
-    other flag (`ValueError`), in whichever form it is, and keeps it. `BadLength` where the new form
-    takes no key of this length; the other refusals are those of `unwrap` and `unwrap_padded`.
+    other form's flag (`ValueError`), in whichever form it is, and keeps it. With `pass_new` what is no
+    wrapping under the old KEK, but one under the new KEK in the form of an answer, is answered as it
+    is. `BadLength` where the new form takes no key of this length; the other refusals are those of
+    `unwrap` and `unwrap_padded`.
     """
     if keep_form and (old_padded or new_padded):
         raise ValueError("keep_form goes with neither old_padded nor new_padded")
     if type(old_kek) is not bytes or type(new_kek) is not bytes or type(wrapped) is not bytes:
-        flags = {"old_padded": old_padded, "new_padded": new_padded, "keep_form": keep_form}
+        flags = {"old_padded": old_padded, "new_padded": new_padded, "keep_form": keep_form, "pass_new": pass_new}
         return _on_copies(rewrap, old_kek, new_kek, wrapped, **flags)
     length = len(wrapped)
     answer = bytes(max(length, 16))
-    forms = (
-        (_lib.KEYWRAP_OLD_PADDED if old_padded else 0)
-        | (_lib.KEYWRAP_NEW_PADDED if new_padded else 0)
-        | (_lib.KEYWRAP_KEEP_FORM if keep_form else 0)
-    )
+    old = _lib.KEYWRAP_OLD_PADDED if old_padded else 0
+    new = _lib.KEYWRAP_NEW_PADDED if new_padded else 0
+    forms = _lib.KEYWRAP_KEEP_FORM if keep_form else old | new
     status = _rewrap(old_kek, len(old_kek), new_kek, len(new_kek), wrapped, length, answer, forms)
-    if status:
-        legal = _refusals.WRAPPED_PADDED if old_padded or keep_form else _refusals.WRAPPED_PLAIN
-        raise _refusals.of_rewrap(status, length, legal, old_kek, new_kek)
-    return answer
+    if not status:
+        return answer
+    legal = _refusals.WRAPPED_PADDED if old_padded or keep_form else _refusals.WRAPPED_PLAIN
+    if pass_new and status != _lib.KEYWRAP_BAD_KEK and not _refusals.is_of_key(status, length, legal):
+        # From the new KEK to itself, in the form of an answer on both sides.
+        forms = forms if keep_form else (new | _lib.KEYWRAP_OLD_PADDED if new_padded else 0)
+        if not _rewrap(new_kek, len(new_kek), new_kek, len(new_kek), wrapped, length, answer, forms):
+            return answer
+    raise _refusals.of_rewrap(status, length, legal, old_kek, new_kek)
 
 
 def check(kek: ReadableBuffer, wrapped: ReadableBuffer) -> Optional[Kind]:

@@ -2,7 +2,7 @@
 
 from __future__ import annotations
 
-from ._ffi import lib
+from ._ffi import ffi, lib
 
 _MAX_KEY: int = lib.KEYWRAP_MAX_KEY
 _MAX_WRAPPED: int = lib.KEYWRAP_MAX_TEXT
@@ -13,6 +13,18 @@ PLAIN_KEYS = f"a multiple of 8 from 16 to {_MAX_KEY}"
 PADDED_KEYS = f"from 1 to {_MAX_KEY}"
 WRAPPED_PLAIN = f"a multiple of 8 from 24 to {_MAX_WRAPPED}"
 WRAPPED_PADDED = f"a multiple of 8 from 16 to {_MAX_WRAPPED}"
+
+
+def _text(status: int) -> str:
+    """What a status says."""
+    text = ffi.new("char[]", 80)
+    lib.keywrap_status_text(status, text, len(text))
+    said: bytes = ffi.string(text)
+    return said.decode("ascii")
+
+
+_BAD_LENGTH = _text(lib.KEYWRAP_BAD_LENGTH)
+_INTEGRITY = _text(lib.KEYWRAP_INTEGRITY)
 
 
 class KeywrapError(Exception):
@@ -37,7 +49,7 @@ class IntegrityFailed(KeywrapError):
 
 def bad_length(what: str, length: int, legal: str) -> BadLength:
     """A length that is not legal."""
-    return BadLength(f"bad length: {what} is {length} bytes long; it must be {legal} bytes")
+    return BadLength(f"{_BAD_LENGTH}: {what} is {length} bytes long; it must be {legal} bytes")
 
 
 def refusal(status: int, what: str, length: int, legal: str, *keks: bytes) -> KeywrapError:
@@ -47,7 +59,7 @@ def refusal(status: int, what: str, length: int, legal: str, *keks: bytes) -> Ke
         return BadKekLength(f"the KEK is {length} bytes long; it must be {KEKS} bytes")
     if status == lib.KEYWRAP_BAD_LENGTH:
         return bad_length(what, length, legal)
-    return IntegrityFailed("integrity check failed: no wrapped key under this KEK")
+    return IntegrityFailed(f"{_INTEGRITY}: no wrapped key under this KEK")
 
 
 def bad_initial_value(iv: bytes) -> BadInitialValue:
@@ -57,9 +69,14 @@ def bad_initial_value(iv: bytes) -> BadInitialValue:
     return BadInitialValue("the initial value is reserved for the padded form: it begins with a6 59 59 a6")
 
 
-def of_rewrap(status: int, length: int, legal: str, *keks: bytes) -> KeywrapError:
-    """What a rewrap of this many bytes refused: the last cause is the length of the key in them."""
+def is_of_key(status: int, length: int, legal: str) -> bool:
+    """Whether a rewrap of this many bytes refused the length of the key in them."""
     least = 16 if legal == WRAPPED_PADDED else 24
-    if status == lib.KEYWRAP_BAD_LENGTH and length % 8 == 0 and least <= length <= _MAX_WRAPPED:
-        return BadLength(f"bad length: the key that is wrapped cannot be plain: it is not {PLAIN_KEYS} bytes long")
+    return bool(status == lib.KEYWRAP_BAD_LENGTH) and length % 8 == 0 and least <= length <= _MAX_WRAPPED
+
+
+def of_rewrap(status: int, length: int, legal: str, *keks: bytes) -> KeywrapError:
+    """What a rewrap of this many bytes refused."""
+    if is_of_key(status, length, legal):
+        return BadLength(f"{_BAD_LENGTH}: the key that is wrapped cannot be plain: it is not {PLAIN_KEYS} bytes long")
     return refusal(status, "the wrapped key", length, legal, *keks)

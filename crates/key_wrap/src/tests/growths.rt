@@ -60,13 +60,13 @@ fn rewraps_after_one_growth(rt: HostRuntime) -> Result<(), Fail> {
     let key = vec![in rt.alloc(); 0x5A; KEY]?;
     let plain = wrap(rt.alloc(), &SwapHalves, &key)?;
     let padded = wrap_padded(rt.alloc(), &SwapHalves, &key)?;
-    let (old, new) = (Tally::new(), Tally::new());
+    let (iv, old, new) = (InitialValue::default(), Tally::new(), Tally::new());
     for size in (0..=TEXT).step_by(STEP) {
         let heap = LocalHeap::new(rt.alloc(), size)?;
         let serves = size >= TEXT;
         let blocks = if serves { BLOCKS } else { 0 };
         for text in [&plain, &padded] {
-            let answer = kind_on(&heap, &old, text).is_ok();
+            let answer = kind_on(&heap, &old, &iv, text).is_ok();
             assert!(rt; answer == serves && old.take() == blocks, "{size} bytes");
             let answer = rewrap_keeping_form_on(&heap, &old, &new, text).is_ok();
             assert!(rt; answer == serves && old.take() == blocks, "{size} bytes");
@@ -180,7 +180,7 @@ fn takes_no_memory_at_an_illegal_length(rt: HostRuntime) -> Result<(), Fail> {
     assert!(rt; unwrap_on(&heap, &tally, &iv, &bytes).err() == Some(UnwrapFault::BadLength));
     assert!(rt; wrap_padded_on(&heap, &tally, &[]).err() == Some(WrapFault::BadLength));
     assert!(rt; unwrap_padded_on(&heap, &tally, &bytes).err() == Some(UnwrapFault::BadLength));
-    assert!(rt; kind_on(&heap, &tally, &bytes) == Ok(Kind::Neither));
+    assert!(rt; kind_on(&heap, &tally, &iv, &bytes) == Ok(Kind::Neither));
     let answer = rewrap_on(&heap, &tally, Form::Plain, &tally, Form::Plain, &bytes).err();
     assert!(rt; answer == Some(UnwrapFault::BadLength));
     let answer = rewrap_keeping_form_on(&heap, &tally, &tally, &bytes).err();

@@ -1,7 +1,7 @@
 //! Initial values other than the default, over the drill block.
 
 use super::memory::FAR;
-use super::rows::KEY;
+use super::rows::{KEY, PADDED, is_cleared, spelled};
 use crate::*;
 use block_pair::{Meter, SwapHalves};
 use std::test::Fail;
@@ -23,15 +23,21 @@ const VALUES: [[u8; 8]; 6] = [
     *b"\xA6\x59\x59\xA7\0\0\0\0",
 ];
 
+/// The wrapping of the key under this value.
+pub fn wrapping_under(value: [u8; 8]) -> [u8; 24] {
+    let mut text = [0; 24];
+    text[..8].copy_from_slice(&value);
+    text[8..].copy_from_slice(&REST);
+    text
+}
+
 #[test]
 fn wraps_under_other_initial_values_and_back(rt: HostRuntime) -> Result<(), Fail> {
     let alloc = rt.alloc();
     for bytes in VALUES {
         let iv = InitialValue::new(bytes)?;
         let mut meter = Meter::new(&SwapHalves);
-        let mut want = [0; 24];
-        want[..8].copy_from_slice(&iv.bytes());
-        want[8..].copy_from_slice(&REST);
+        let want = wrapping_under(bytes);
         let text = wrap_with(alloc, &SwapHalves, &iv, &KEY)?;
         let key = unwrap_with(alloc, &SwapHalves, &iv, &text)?;
         assert!(rt;
@@ -60,6 +66,62 @@ fn gives_up_for_memory_at_no_length_under_another_value(rt: HostRuntime) -> Resu
         let text = wrap_with(alloc, &SwapHalves, &iv, key)?;
         let again = unwrap_with(alloc, &SwapHalves, &iv, &text)?;
         assert!(rt; again.as_slice() == key, "{len} bytes");
+    }
+    Ok(())
+}
+
+// Another.
+const NEXT: [u8; 8] = [0xFF; 8];
+
+// What is rewrapped once is no wrapping as that which it was.
+#[test]
+fn rewraps_from_value_to_value(rt: HostRuntime) -> Result<(), Fail> {
+    let padded = spelled(rt.alloc(), &PADDED)?;
+    let (old, new) = (InitialValue::new(OTHER)?, InitialValue::new(NEXT)?);
+    let (old, new) = (AgreedForm::Plain(old), AgreedForm::Plain(new));
+    let default = AgreedForm::by_default(Form::Plain);
+    let (under_old, under_new) = (wrapping_under(OTHER), wrapping_under(NEXT));
+    let under_default = wrapping_under([0xA6; 8]);
+    for (from, to, text, want) in [
+        (old, new, under_old.as_slice(), under_new.as_slice()),
+        (new, old, &under_new, &under_old),
+        (old, default, &under_old, &under_default),
+        (default, old, &under_default, &under_old),
+        (old, AgreedForm::Padded, &under_old, &padded),
+        (AgreedForm::Padded, new, &padded, &under_new),
+    ] {
+        let (mut unwraps, mut wraps) = (Meter::new(&SwapHalves), Meter::new(&SwapHalves));
+        let mut buffer = Vec::from_slice(rt.alloc(), text)?;
+        let answer = rewrap_in_place_with(&mut unwraps, &from, &mut wraps, &to, &mut buffer);
+        assert!(rt; answer == Ok(()) && buffer.as_slice() == want, "{text:?}");
+        let mut buffer = Vec::from_slice(rt.alloc(), want)?;
+        let answer = rewrap_in_place_with(&mut unwraps, &from, &mut wraps, &to, &mut buffer);
+        assert!(rt;
+            answer == Err(InPlaceFault::Integrity) && is_cleared(&buffer),
+            "{text:?}"
+        );
+    }
+    Ok(())
+}
+
+#[test]
+fn finds_the_kind_under_a_value(rt: HostRuntime) -> Result<(), Fail> {
+    let (mut meter, mut room) = (Meter::new(&SwapHalves), [0x5A; 16]);
+    let padded = spelled(rt.alloc(), &PADDED)?;
+    for value in VALUES {
+        let iv = InitialValue::new(value)?;
+        let text = wrapping_under(value);
+        let other = wrapping_under([0xA6; 8]);
+        let is = kind_into_with(&mut meter, &iv, &text, &mut room);
+        assert!(rt; is == Ok(Kind::Plain(16)) && room == [0; 16], "{value:?}");
+        assert!(rt;
+            kind_into(&mut meter, &text, &mut room) == Ok(Kind::Neither),
+            "{value:?}"
+        );
+        let is = kind_into_with(&mut meter, &iv, &other, &mut room);
+        assert!(rt; is == Ok(Kind::Neither) && room == [0; 16], "{value:?}");
+        let is = kind_into_with(&mut meter, &iv, &padded, &mut room);
+        assert!(rt; is == Ok(Kind::Padded(16)), "{value:?}");
     }
     Ok(())
 }

@@ -7,7 +7,7 @@ use crate::job::JobFault;
 use key_files::FileFault;
 use std::test::Fail;
 
-static FAULTS: [(ProgramFault, &str, u8); 32] = [
+static FAULTS: [(ProgramFault, &str, u8); 34] = [
     (ProgramFault::NoLines, "keywrap: no lines", 4),
     (
         ProgramFault::Job(JobFault::KekLength),
@@ -92,6 +92,16 @@ static FAULTS: [(ProgramFault, &str, u8); 32] = [
     (
         ProgramFault::Iv(IvFault::Reserved),
         "keywrap: --iv is reserved for the padded form",
+        2,
+    ),
+    (
+        ProgramFault::NewIvDigits,
+        "keywrap: --new-iv is not 16 hex digits",
+        2,
+    ),
+    (
+        ProgramFault::NewIvReserved,
+        "keywrap: --new-iv is reserved for the padded form",
         2,
     ),
     (

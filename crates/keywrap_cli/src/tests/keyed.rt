@@ -9,29 +9,24 @@ use crate::keyed::Keyed;
 use crate::lines::LinesDone;
 use crate::rewrapping::{RewrapForms, Rewrapping};
 use key_lines::{LineFault, RefusalLog};
-use key_wrap::{Form, InPlaceFault};
+use key_wrap::{AgreedForm, Form, InPlaceFault};
 use std::io::BufReader;
 use std::test::Fail;
 
-const KEPT: RewrapForms = RewrapForms::Kept;
+// The forms of a rewrapping, the old one and the new, under the default initial value; or the form
+// is kept.
+type Forms = Option<(Form, Form)>;
 
-const PLAIN: RewrapForms = RewrapForms::Changed {
-    old: Form::Plain,
-    new: Form::Plain,
-};
+const KEPT: Forms = None;
 
-const TO_PADDED: RewrapForms = RewrapForms::Changed {
-    old: Form::Plain,
-    new: Form::Padded,
-};
+const PLAIN: Forms = Some((Form::Plain, Form::Plain));
 
-const TO_PLAIN: RewrapForms = RewrapForms::Changed {
-    old: Form::Padded,
-    new: Form::Plain,
-};
+const TO_PADDED: Forms = Some((Form::Plain, Form::Padded));
+
+const TO_PLAIN: Forms = Some((Form::Padded, Form::Plain));
 
 // Forms, the KEK, the input, the answer and the output; the new KEK is one for all.
-static ROWS: [(RewrapForms, &[u8], &[u8], Answer, &[u8]); 10] = [
+static ROWS: [(Forms, &[u8], &[u8], Answer, &[u8]); 10] = [
     (PLAIN, HEX_KEK, HEX_TEXT, WRITTEN, NEW_TEXT),
     (PLAIN, HEX_KEK, NEW_TEXT, WRITTEN, NEW_TEXT),
     (PLAIN, HEX_KEK, NEW_PADDED, INTEGRITY, b""),
@@ -46,16 +41,26 @@ static ROWS: [(RewrapForms, &[u8], &[u8], Answer, &[u8]); 10] = [
     (TO_PLAIN, PADDED_KEK, TEXT_OF_20, BAD_LENGTH, b""),
 ];
 
-fn keyed(forms: RewrapForms, kek: &'static [u8]) -> Keyed<Trickle<'static>> {
+fn keyed(forms: Forms, kek: &'static [u8]) -> Keyed<Trickle<'static>> {
     Keyed::Rewrap {
         task: Rewrapping {
-            forms,
+            forms: rewrap_forms(forms),
             passes_new: true,
             input: HEX,
             kek: HEX,
         },
         kek: Trickle::in_pieces(kek, 7),
         new_kek: Trickle::in_pieces(NEW_KEK, 7),
+    }
+}
+
+fn rewrap_forms(forms: Forms) -> RewrapForms {
+    match forms {
+        None => RewrapForms::Kept,
+        Some((old, new)) => RewrapForms::Changed {
+            old: AgreedForm::by_default(old),
+            new: AgreedForm::by_default(new),
+        },
     }
 }
 

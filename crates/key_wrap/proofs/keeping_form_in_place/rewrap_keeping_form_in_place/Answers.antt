@@ -5,7 +5,7 @@ use Rattle.key_wrap.specs.declared.faults.InPlaceFault.TheVariants.{Integrity}
 use Rattle.key_wrap.specs.declared.forms.Form.{Form}
 use Rattle.key_wrap.specs.Words.{word_bytes}
 use Rattle.key_wrap.specs.Answer.{NoKey}
-use Rattle.key_wrap.specs.Forms.{StandsIn}
+use Rattle.key_wrap.specs.Forms.{StandsIn, by_default}
 use Rattle.key_wrap.specs.Found.{HoldsIn}
 use Rattle.key_wrap.specs.KeepForm.{IsSomeTextLength}
 use Rattle.key_wrap.proofs.FoundForms.{found_stands, stands_found, behind_first, refused_as}
@@ -43,10 +43,10 @@ returns-in_err-decide g c =
     let inv = g.met.O.BlockPair.lawful c.args.old.now.pair in
     let legal : IsSomeTextLength (length text) = some_length (length text) (c.padded_text_length_ok.ensures.0 c.if-not-padded_text_length_ok.false) in
     let d = c.in_err-decide.ensures in
-    let differs : (form : Form) → NoKey (HoldsIn form) before = rw (behind_first c.unwrap_found-found.new.buf) at
+    let differs : (form : Form) → NoKey (HoldsIn (by_default form)) before = rw (behind_first c.unwrap_found-found.new.buf) at
     (c.either_difference.ensures.refuses (λ zero. absurd (let ok = d.passes.1 zero in cc))) in
     let none : (form : Form) → NoKey (StandsIn form E) text = λ form key h.
-    differs form key (stands_found form key before text inv c.unwrap_found-found.ensures.found h) in
+    differs form key (stands_found (by_default form) key before text inv c.unwrap_found-found.ensures.found h) in
     let told = refused_as c.from_residual.result c.in_err-decide.field-0.0 Integrity c.from_residual.ensures d.only_fault in
     record {
       bad_length = (λ e. cc, λ bad. absurd (bad legal));
@@ -79,8 +79,8 @@ returns g c =
     let held = rw (behind_first c.unwrap_found-found.new.buf) at (c.either_difference.ensures.passes (d.passes.0 refl)) in
     let form : Form = held.0 in
     let key : List ℕ = held.1 in
-    let stands : StandsIn form E key text = found_stands form key before text held.2 c.unwrap_found-found.ensures.found in
-    let wraps : StandsIn form F key answer = found_stands form key before answer held.2 (rw d.kept at c.wrap_found.ensures.wrapped) in
+    let stands : StandsIn form E key text = found_stands (by_default form) key before text held.2 c.unwrap_found-found.ensures.found in
+    let wraps : StandsIn form F key answer = found_stands (by_default form) key before answer held.2 (rw d.kept at c.wrap_found.ensures.wrapped) in
     record {
       bad_length = (λ e. cc, λ bad. absurd (bad legal));
       integrity = (λ e. cc, λ none. absurd (none.1 form key stands));

@@ -5,7 +5,7 @@ use Rattle.key_wrap.proofs.kinds.kind.Goals as goal
 
 pub returns : goal.returns
 returns g c =
-    let w = c.kind_on.ensures.answer in
+    let w = rw c.default.ensures at c.kind_on.ensures.answer in
     record {
       answer = IfOk-weaker c.kind_on.result _ _ (λ kind k. k.is) w;
       plain = λ key h. IfOk-weaker c.kind_on.result _ _ (λ kind k. k.plain key h) w;

@@ -1,50 +1,18 @@
--- The machine was given the text: its first word, and the rest copied into the scratch buffer.
-use Rattle.std.proofs.Common.{rules, ◌≡◌, ℕ, List, length, take, arith, ◌+◌, ◌++◌, ◌∙◌, ap, length-append}
-use Rattle.block_pair.specs.Metered.{counted}
-use Rattle.key_wrap.specs.Words.{word_bytes}
-use Rattle.key_wrap.specs.Calls.{block_calls}
-use Rattle.key_wrap.proofs.Spelling.{read_word, each_byte, length-word_bytes}
-use Rattle.key_wrap.proofs.InPlaceForm.{text_again}
-use Rattle.key_wrap.proofs.KindForms.{kind_illegal}
+-- The initial value is the default.
 use Rattle.key_wrap.proofs.kinds.kind_into.Goals as goal
-
-pub returns-then-not-padded_text_length_ok : goal.returns-then-not-padded_text_length_ok
-returns-then-not-padded_text_length_ok g c =
-    let k = kind_illegal c.args.text.now (g.met.B.BlockPair.lawful c.args.meter.now.pair) (search rules) in
-    record {
-      bad_length = search rules;
-      answer = k.is;
-      plain = k.plain;
-      padded = k.padded;
-      neither = k.neither;
-      other_form = k.other_form;
-      scratch_kept = search rules;
-      meter_kept = search rules;
-      cleared = search rules;
-      calls = search rules;
-    }
 
 pub returns : goal.returns
 returns g c =
-    let text : List ℕ = c.args.text.now in
-    let A : ℕ = c.read_u64.result in
-    let legal = c.padded_text_length_ok.ensures.0 c.if-not-padded_text_length_ok.false in
-    let front : word_bytes A ≡ take 8 text = read_word text A (omega arith) (each_byte text (search rules)) c.read_u64.ensures in
-    let whole : word_bytes A ++ c.copy_from_slice.new.self ≡ text =
-    text_again A text c.copy_from_slice.new.self (omega arith) front c.copy_from_slice.ensures.after in
-    let size : 8 + length c.copy_from_slice.new.self ≡ length text =
-    omega (arith, ap length whole, length-append (word_bytes A) c.copy_from_slice.new.self, length-word_bytes A) in
-    let w = c.kind_of_registers.ensures in
-    let k = rw whole at w.answer in
+    let w = c.kind_into_with.ensures in
     record {
-      bad_length = search rules;
-      answer = k.is;
-      plain = k.plain;
-      padded = k.padded;
-      neither = k.neither;
-      other_form = k.other_form;
-      scratch_kept = search rules;
-      meter_kept = search rules;
-      cleared = λ _. w.cleared;
-      calls = λ _. w.calls ∙ ap (λ (len : ℕ). counted (block_calls len) c.args.meter.now) size;
+      bad_length = w.bad_length;
+      answer = rw c.default.ensures at w.answer;
+      plain = rw c.default.ensures at w.plain;
+      padded = w.padded;
+      neither = rw c.default.ensures at w.neither;
+      other_form = w.other_form;
+      scratch_kept = w.scratch_kept;
+      meter_kept = w.meter_kept;
+      cleared = w.cleared;
+      calls = w.calls;
     }

@@ -8,7 +8,7 @@ use Rattle.key_wrap.proofs.kinds.kind_on.Goals as goal
 
 pub returns-then-not-padded_text_length_ok-clause-answer : goal.returns-then-not-padded_text_length_ok-clause-answer
 returns-then-not-padded_text_length_ok-clause-answer g c =
-    kind_illegal c.args.text.now (g.met.B.BlockPair.lawful c.args.pair.now) (search rules)
+    kind_illegal c.args.iv.now c.args.text.now (g.met.B.BlockPair.lawful c.args.pair.now) (search rules)
 
 pub returns-clause-answer : goal.returns-clause-answer
 returns-clause-answer g c =
@@ -18,5 +18,5 @@ returns-clause-answer g c =
     let front : word_bytes A ≡ take 8 text = read_word text A (omega arith) (each_byte text (search rules)) c.read_u64-c0.ensures in
     let copied = c.deref_mut.ensures.value ∙ c.in_ok-registers.ensures.items in
     let whole : word_bytes A ++ c.deref_mut.result.now ≡ text = text_again A text c.deref_mut.result.now (omega arith) front copied in
-    let own = ap (λ m. m.pair) c.new.ensures in
-    rw (own, whole) at c.kind_of_registers.ensures.answer
+    let own = ap (λ m. m.pair) c.new-meter.ensures in
+    rw (own, whole, c.word.ensures.value) at c.kind_of_registers.ensures.answer

@@ -1,6 +1,7 @@
 -- The whole difference is 0 where the key fills its words, two and more.
-use Rattle.std.proofs.Common.{rules, ◌≡◌, ◌⊎◌, ℕ, ◌+◌, ◌%◌, ◌^◌, ◌-◌, List, length, drop, refl, sym, ◌∙◌, arith, length-drop, inl, inr, bit_xor}
+use Rattle.std.proofs.Common.{rules, ◌≡◌, ◌⊎◌, ℕ, ◌%◌, ◌^◌, ◌-◌, List, length, drop, refl, sym, ◌∙◌, arith, length-drop, inl, inr, bit_xor}
 use Rattle.std.proofs.Math.Nat.{eq-or-lt_of_le}
+use Rattle.block_pair.specs.Words.{IsWord}
 use Rattle.key_wrap.proofs.Behind.{behind_legal, fills_words}
 use Rattle.key_wrap.proofs.Differences.{or_both, same_xor}
 use Rattle.key_wrap.proofs.FoundForms.{to_plain, not_plain}
@@ -11,7 +12,10 @@ returns-in-Ok-clause-bad_length c = λ key holds.
     let buf : List ℕ = c.args.buf.now in
     let fits = fills_words c.is_zero-one_word.result c.given_length.result buf c.requires
     (λ zero. c.is_zero-one_word.ensures.zero (omega (arith, zero, c.requires))) (c.in-Ok.ensures.passes.0 refl) in
-    let plain = to_plain c.args.found (drop 8 buf) key (search rules) (behind_legal buf c.requires) fits.0 (sym c.given_length.ensures ∙ fits.1) holds in
+    let small : IsWord c.word.result = search rules in
+    let word : IsWord c.args.iv.now = rw c.word.ensures.value at small in
+    let plain = to_plain c.args.iv.now c.args.found (drop 8 buf) key (search rules) word (behind_legal buf c.requires) fits.0
+    (sym c.given_length.ensures ∙ fits.1) holds in
     (λ e. cc, λ illegal. absurd (illegal plain.0))
 
 pub returns-in-Ok-clause-answer : goal.returns-in-Ok-clause-answer
@@ -19,8 +23,10 @@ returns-in-Ok-clause-answer c = λ key holds.
     let buf : List ℕ = c.args.buf.now in
     let fits = fills_words c.is_zero-one_word.result c.given_length.result buf c.requires
     (λ zero. c.is_zero-one_word.ensures.zero (omega (arith, zero, c.requires))) (c.in-Ok.ensures.passes.0 refl) in
-    rw c.in-Ok.ensures.kept
-    (to_plain c.args.found (drop 8 buf) key (search rules) (behind_legal buf c.requires) fits.0 (sym c.given_length.ensures ∙ fits.1) holds)
+    let small : IsWord c.word.result = search rules in
+    let word : IsWord c.args.iv.now = rw c.word.ensures.value at small in
+    rw (c.in-Ok.ensures.kept, c.word.ensures.value)
+    (to_plain c.args.iv.now c.args.found (drop 8 buf) key (search rules) word (behind_legal buf c.requires) fits.0 (sym c.given_length.ensures ∙ fits.1) holds)
 
 pub returns-in-Err-clause-bad_length : goal.returns-in-Err-clause-bad_length
 returns-in-Err-clause-bad_length c = λ key holds.

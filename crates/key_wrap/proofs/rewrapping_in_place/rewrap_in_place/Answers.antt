@@ -1,116 +1,22 @@
--- The key that the registers hold stands with the text under the old pair, and they are wrapped under the new one.
-use Rattle.std.proofs.Common.{rules, ℕ, List, length, ◌++◌, drop, refl, ap, inr, Err}
-use Rattle.key_wrap.specs.declared.faults.InPlaceFault.TheVariants.{BadLength, Integrity}
-use Rattle.key_wrap.specs.Words.{word_bytes}
-use Rattle.key_wrap.specs.Answer.{NoKey}
-use Rattle.key_wrap.specs.Forms.{StandsIn, IsKeyLength, IsTextLength}
-use Rattle.key_wrap.specs.Found.{HoldsIn}
-use Rattle.key_wrap.proofs.FoundForms.{found_stands, stands_found, behind_first, refused_as}
-use Rattle.key_wrap.proofs.Rewraps.{text_legal, no_bad_length, key_illegal, rewrapped}
+-- The initial values are the default.
 use Rattle.key_wrap.proofs.rewrapping_in_place.rewrap_in_place.Goals as goal
-
-pub returns-then-not-is_text_length-clause-accepts : goal.returns-then-not-is_text_length-clause-accepts
-returns-then-not-is_text_length-clause-accepts g c = λ key h fits.
-    let legal = c.is_text_length.ensures.1 (text_legal c.args.old_form key c.args.buf.now (g.met.O.BlockPair.lawful c.args.old.now.pair) h) in
-    cc
-
-pub returns-in_err-decide : goal.returns-in_err-decide
-returns-in_err-decide g c =
-    let old = c.args.old_form in
-    let E = g.O.BlockPair.encrypted c.args.old.now.pair in
-    let text : List ℕ = c.args.buf.now in
-    let before : List ℕ = word_bytes c.unwrap_found-found.result ++ drop 8 c.unwrap_found-found.new.buf in
-    let inv = g.met.O.BlockPair.lawful c.args.old.now.pair in
-    let legal : IsTextLength old (length text) = c.is_text_length.ensures.0 c.if-not-is_text_length.false in
-    let d = c.in_err-decide.ensures in
-    let differs : NoKey (HoldsIn old) before = rw (behind_first c.unwrap_found-found.new.buf) at
-    (c.form_difference.ensures.refuses (λ zero. absurd (let ok = d.passes.1 zero in cc))) in
-    let none : NoKey (StandsIn old E) text = λ key h.
-    differs key (stands_found old key before text inv c.unwrap_found-found.ensures.found h) in
-    let told = refused_as c.from_residual.result c.in_err-decide.field-0.0 Integrity c.from_residual.ensures d.only_fault in
-    record {
-      bad_length = (λ e. cc, λ bad. absurd (no_bad_length E old c.args.new_form text legal none bad));
-      integrity = (λ e. (legal, none), λ h. told);
-      answer = rw told tt;
-      accepts = λ key h fits. absurd (none key h);
-      only_answer = rw told tt;
-      only_key = rw told tt;
-      same_key = rw told tt;
-      restores = rw told tt;
-      buffer_kept = λ bad. absurd (bad legal);
-      old_meter_kept = λ bad. absurd (bad legal);
-      cleared = λ h e. d.cleared refl;
-      unwrap_calls = λ h. c.unwrap_found-found.ensures.calls;
-      wrap_calls = rw told tt;
-      new_meter_kept = λ e. refl;
-    }
-
-pub returns-in_err-iv : goal.returns-in_err-iv
-returns-in_err-iv g c =
-    let old = c.args.old_form in
-    let new = c.args.new_form in
-    let E = g.O.BlockPair.encrypted c.args.old.now.pair in
-    let text : List ℕ = c.args.buf.now in
-    let registers : List ℕ = drop 8 c.unwrap_found-found.new.buf in
-    let before : List ℕ = word_bytes c.unwrap_found-found.result ++ registers in
-    let inv = g.met.O.BlockPair.lawful c.args.old.now.pair in
-    let legal : IsTextLength old (length text) = c.is_text_length.ensures.0 c.if-not-is_text_length.false in
-    let d = c.in_ok-decide.ensures in
-    let held = rw (behind_first c.unwrap_found-found.new.buf) at (c.form_difference.ensures.passes (d.passes.0 refl)) in
-    let key : List ℕ = held.0 in
-    let stands : StandsIn old E key text = found_stands old key before text held.1 c.unwrap_found-found.ensures.found in
-    let n = c.in_err-iv.ensures in
-    let illegal : ¬ IsKeyLength new (length key) = ((rw d.kept at (n.bad_length key)) held.1).0 (ap Err n.only_fault) in
-    let told = refused_as c.from_residual-in_err-iv.result c.in_err-iv.field-0.0 BadLength c.from_residual-in_err-iv.ensures n.only_fault in
-    record {
-      bad_length = (λ e. inr (key, stands, illegal), λ bad. told);
-      integrity = (λ e. cc, λ none. absurd (none.1 key stands));
-      answer = rw told tt;
-      accepts = λ other h fits. absurd (key_illegal old new key other text inv stands illegal h fits);
-      only_answer = rw told tt;
-      only_key = rw told tt;
-      same_key = rw told tt;
-      restores = rw told tt;
-      buffer_kept = λ bad. absurd (bad legal);
-      old_meter_kept = λ bad. absurd (bad legal);
-      cleared = λ h e. n.cleared refl;
-      unwrap_calls = λ h. c.unwrap_found-found.ensures.calls;
-      wrap_calls = rw told tt;
-      new_meter_kept = λ e. refl;
-    }
 
 pub returns : goal.returns
 returns g c =
-    let old = c.args.old_form in
-    let new = c.args.new_form in
-    let E = g.O.BlockPair.encrypted c.args.old.now.pair in
-    let F = g.N.BlockPair.encrypted c.args.new.now.pair in
-    let text : List ℕ = c.args.buf.now in
-    let answer : List ℕ = c.wrap_found.new.buf in
-    let registers : List ℕ = drop 8 c.unwrap_found-found.new.buf in
-    let before : List ℕ = word_bytes c.unwrap_found-found.result ++ registers in
-    let legal : IsTextLength old (length text) = c.is_text_length.ensures.0 c.if-not-is_text_length.false in
-    let d = c.in_ok-decide.ensures in
-    let held = rw (behind_first c.unwrap_found-found.new.buf) at (c.form_difference.ensures.passes (d.passes.0 refl)) in
-    let key : List ℕ = held.0 in
-    let stands : StandsIn old E key text = found_stands old key before text held.1 c.unwrap_found-found.ensures.found in
-    let after = (rw d.kept at (c.in_ok-iv.ensures.answer key)) held.1 in
-    let wraps : StandsIn new F key answer =
-    found_stands new key (word_bytes c.in_ok-iv.iv ++ drop 8 c.new_value.new.buf) answer after c.wrap_found.ensures.wrapped in
-    let w = rewrapped old new key text answer (g.met.O.BlockPair.lawful c.args.old.now.pair) (g.met.N.BlockPair.lawful c.args.new.now.pair) stands wraps in
+    let w = rw (c.by_default-from.ensures, c.by_default-to.ensures) at c.rewrap_in_place_with.ensures in
     record {
-      bad_length = (λ e. cc, λ bad. absurd (w.fits bad));
-      integrity = (λ e. cc, λ none. absurd (none.1 key stands));
-      answer = (key, stands, wraps);
-      accepts = λ other h fits. refl;
+      bad_length = w.bad_length;
+      integrity = w.integrity;
+      answer = w.answer;
+      accepts = w.accepts;
       only_answer = w.only_answer;
-      only_key = w.only_one;
+      only_key = w.only_key;
       same_key = w.same_key;
       restores = w.restores;
-      buffer_kept = λ bad. absurd (bad legal);
-      old_meter_kept = λ bad. absurd (bad legal);
-      cleared = λ h e. cc;
-      unwrap_calls = λ h. c.unwrap_found-found.ensures.calls;
-      wrap_calls = search rules;
-      new_meter_kept = λ e. cc;
+      buffer_kept = w.buffer_kept;
+      old_meter_kept = w.old_meter_kept;
+      cleared = w.cleared;
+      unwrap_calls = w.unwrap_calls;
+      wrap_calls = w.wrap_calls;
+      new_meter_kept = w.new_meter_kept;
     }

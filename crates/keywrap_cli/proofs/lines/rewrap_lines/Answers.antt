@@ -7,13 +7,17 @@ use Rattle.keywrap_cli.proofs.lines.rewrap_lines.Goals as goal
 pub returns : goal.returns
 returns g c =
     let over = rw c.text_notation.ensures at (rw c.lines_of.ensures at c.run_lines-answer.ensures) in
-    let run : RunsRewrapLines c.args.task c.args.goes_on _ _ _ _ _ _ _ _ c.lines_answer.result = record {
+    let run : RunsRewrapLines c.args.task.now c.args.goes_on _ _ _ _ _ _ _ _ c.lines_answer.result = record {
       found = Ok c.in-Ok.old;
       read = c.in-Ok.ensures;
       rest = record {
         found = Ok c.in-Ok-read_kek.new;
         read = c.in-Ok-read_kek.ensures;
-        rest = (c.run_lines-answer.result, record { run = over.run; written = over.headline }, c.lines_answer.ensures);
+        rest = (c.run_lines-answer.result, record { run = over.run; written = over.headline }, c.lines_answer.ensures.answer);
       };
     } in
-    record { run = run; headline = rewrap_lines_headline c.args.task c.args.goes_on _ _ _ _ _ _ _ _ c.lines_answer.result run }
+    record {
+      run = run;
+      headline = rewrap_lines_headline c.args.task.now c.args.goes_on _ _ _ _ _ _ _ _ c.lines_answer.result run;
+      done = c.lines_answer.ensures.done;
+    }

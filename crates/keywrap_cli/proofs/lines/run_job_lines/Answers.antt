@@ -10,6 +10,10 @@ returns g c =
     let run : RunsJobLines c.args.iv.now c.args.task c.args.goes_on _ _ _ _ _ _ c.lines_answer.result = record {
       found = Ok c.in-Ok.pair;
       read = c.in-Ok.ensures;
-      rest = (c.run_lines-answer.result, record { run = over.run; written = over.headline }, c.lines_answer.ensures);
+      rest = (c.run_lines-answer.result, record { run = over.run; written = over.headline }, c.lines_answer.ensures.answer);
     } in
-    record { run = run; headline = job_lines_headline c.args.iv.now c.args.task c.args.goes_on _ _ _ _ _ _ c.lines_answer.result run }
+    record {
+      run = run;
+      headline = job_lines_headline c.args.iv.now c.args.task c.args.goes_on _ _ _ _ _ _ c.lines_answer.result run;
+      done = λ other. rw (c.done_of.ensures other) at c.lines_answer.ensures.done;
+    }

@@ -7,7 +7,7 @@ use Rattle.keywrap_cli.proofs.rewrap.rewrap.Goals as goal
 
 pub returns : goal.returns
 returns g c =
-    let run : RunsRewrap c.args.task _ _ _ _ _ _ _ _ c.rewrap_answer.result = record {
+    let run : RunsRewrap c.args.task.now _ _ _ _ _ _ _ _ c.rewrap_answer.result = record {
       found = Ok c.in-Ok.old;
       read = c.in-Ok.ensures;
       rest = record {
@@ -16,4 +16,4 @@ returns g c =
         rest = (output_of c.run_input-outcome.result, c.run_input-outcome.ensures, c.rewrap_answer.ensures);
       };
     } in
-    record { run = run; headline = new_text_headline c.args.task _ _ _ _ _ _ _ _ c.rewrap_answer.result run }
+    record { run = run; headline = new_text_headline c.args.task.now _ _ _ _ _ _ _ _ c.rewrap_answer.result run }

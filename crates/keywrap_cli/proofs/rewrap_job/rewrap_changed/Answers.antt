@@ -7,5 +7,5 @@ pub returns : goal.returns
 returns g c =
     let own = ap (λ m. m.pair) c.new-unwraps.ensures in
     let own' = ap (λ m. m.pair) c.new-wraps.ensures in
-    let e = rw (own, own') at c.rewrap_in_place.ensures in
-    made_changed _ _ _ _ _ _ c.rewrap_in_place.result e.answer e.only_answer e.only_key e.same_key e.restores e.bad_length e.integrity
+    let e = rw (own, own') at c.rewrap_in_place_with.ensures in
+    made_changed _ _ _ _ _ _ c.rewrap_in_place_with.result e.answer e.only_answer e.only_key e.same_key e.restores e.bad_length e.integrity
