@@ -1,30 +1,20 @@
 //! The command `keywrap`: AES Key Wrap (RFC 3394 and RFC 5649) of files, in hex or raw.
 #![tactic(auto)]
 
-mod advice;
 mod command_line;
 mod many;
 mod notes;
 mod open_keks;
-mod output_file;
-mod pem;
 mod program;
-mod progress;
 mod refused;
 mod request;
-mod spared;
-mod streams;
-mod tally;
 mod telling;
-mod text;
 mod waiting;
-mod watched;
-mod why;
 mod work;
 
+use keywrap_io::{Closed, is_closed};
 use std::io::{IsTerminal, Write};
 use std::process::ExitCode;
-use streams::{Closed, is_closed};
 use work::Terminals;
 
 fn main(rt: HostRuntime) -> ExitCode {

@@ -1,12 +1,10 @@
 //! Many keys in one run: the lines of an input, from the files that are open to the exit status.
 
-use crate::progress::{Counted, Progress};
-use crate::spared::Spared;
-use crate::tally::Tally;
 use crate::work::status_of;
 use key_lines::{LineFault, RefusalLog, RunFault};
 use key_wrap::InPlaceFault;
 use keywrap_cli::{Keyed, LinesDone, LinesFault, ProgramFault, RefusedLine};
+use keywrap_io::{Counted, Progress, Spared, Tally};
 use std::cell::Cell;
 use std::io::{self, BufReader, Read, Write};
 use std::rt::Env;

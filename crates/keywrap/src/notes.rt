@@ -2,11 +2,9 @@
 //! were taken as raw are text, characters that were taken as base64 are hex digits, or the form of
 //! the wrapped key changed.
 
-use crate::advice::{Advice, Role};
 use crate::telling::{SeenFiles, Telling};
-use crate::text::{Text, mistaken};
-use crate::watched::Seen;
 use keywrap_cli::Notation;
+use keywrap_io::{Advice, Role, Seen, Text};
 use std::alloc::AllocError;
 
 impl Telling<'_> {
@@ -73,3 +71,13 @@ fn flag_of(notation: Notation, role: Role) -> &'static str {
 
 const BECAME_PLAIN: &str =
     "keywrap: the new wrapping is plain; with --keep-form or --new-padded it is padded";
+
+/// What a file is that was read in another notation, which took it: raw bytes may be any text, and
+/// hex digits and PEM may be base64.
+pub fn mistaken(notation: Notation, seen: &Seen) -> Option<Text> {
+    match (notation, seen.text()) {
+        (Notation::Hex, _) => None,
+        (Notation::Base64 | Notation::Base64Url, Some(Text::Base64)) => None,
+        (_, text) => text,
+    }
+}

@@ -1,8 +1,8 @@
 //! What is said while a terminal is waited for.
 
 use crate::request::{Lines, Places, Work};
-use crate::streams::is_standard_input;
 use keywrap_cli::Notation;
+use keywrap_io::is_standard_input;
 
 /// What is waited for, and how it is to be typed.
 #[derive(Clone, Copy)]

@@ -1,17 +1,16 @@
 //! A job from its files to its exit status.
 
 use crate::many::{Many, answer_lines};
-use crate::open_keks::{OpenKeks, open_keks};
-use crate::output_file::create;
+use crate::open_keks::{OpenKeyed, kek_files, open_keks, seen_of};
 use crate::refused::Refused;
 use crate::request::{Lines, Places, Work};
-use crate::spared::{Spared, spare, spare_standard_input};
-use crate::streams::{Closed, Opened, hold_closed, open};
-use crate::tally::Tally;
 use crate::telling::{SeenFiles, Telling};
 use crate::waiting::{Waiting, waiting_for};
-use crate::watched::{Seen, Watched};
 use keywrap_cli::{Done, ProgramFault, statuses};
+use keywrap_io::{
+    Closed, Opened, Seen, Spared, Tally, Watched, create, hold_closed, open, spare,
+    spare_standard_input,
+};
 use std::fs::{File, OpenFile};
 use std::io::{self, Read, Write};
 use std::os::unix::fs::FileTypeExt;
@@ -57,8 +56,8 @@ pub fn run_work<R: Print + Eprint + Input + AllocGlobal + Files<File = File> + E
     let Ok(_held) = hold_closed(rt, terminals.closed) else {
         return Err(Refused::from(ProgramFault::InputOpen));
     };
-    let mut keks = open_keks(rt, &telling, values)?;
-    let answered = run_keyed(rt, &telling, &mut keks, lines, terminals)?;
+    let mut keyed = open_keks(rt, &telling, values)?;
+    let answered = run_keyed(rt, &telling, &mut keyed, lines, terminals)?;
     telling.say_notes(rt, &answered.seen);
     if let Some(tally) = answered.tally {
         // Nothing is left to do where standard error is closed.
@@ -82,7 +81,7 @@ struct Answered {
 fn run_keyed<R: Print + Eprint + Input + AllocGlobal + Files<File = File> + Env + Clock>(
     rt: &R,
     telling: &Telling<'_>,
-    keks: &mut OpenKeks<R::Reader>,
+    keyed: &mut OpenKeyed<R::Reader>,
     lines: Option<Lines>,
     terminals: Terminals,
 ) -> Result<Answered, Refused> {
@@ -105,7 +104,7 @@ fn run_keyed<R: Print + Eprint + Input + AllocGlobal + Files<File = File> + Env 
     };
     let length = length_of(lines, &opened);
     let many = many(rt, lines, places, terminals, waiting, length, spared);
-    run_from(rt, telling, keks, many, opened, waiting)
+    run_from(rt, telling, keyed, many, opened, waiting)
 }
 
 // The input, which is open, may not be replaced.
@@ -166,7 +165,7 @@ fn length_of<I>(lines: Option<Lines>, input: &Opened<I>) -> Option<u64> {
 fn run_from<R, K: Read, I: Read + Drop>(
     rt: &R,
     telling: &Telling<'_>,
-    keks: &mut OpenKeks<K>,
+    keyed: &mut OpenKeyed<K>,
     many: Option<Many>,
     input: I,
     waiting: Option<Waiting>,
@@ -177,11 +176,11 @@ where
     // Of lines no digit is counted.
     let mut input = Watched::new(input, telling.says_why && many.is_none());
     match telling.places.output {
-        Some(name) => run_into(rt, telling, keks, many, &mut input, name, waiting),
+        Some(name) => run_into(rt, telling, keyed, many, &mut input, name, waiting),
         None => {
             announce(rt, waiting);
             let mut out = Watched::new(io::writer(rt), telling.says_why);
-            let answered = answer(rt, telling, keks, many, &mut input, &mut out)?;
+            let answered = answer(rt, telling, keyed, many, &mut input, &mut out)?;
             match out.flush() {
                 Ok(()) => Ok(answered),
                 Err(_) => Err(telling.unflushed(out.seen)),
@@ -194,7 +193,7 @@ where
 fn run_into<R, K: Read, I: Read>(
     rt: &R,
     telling: &Telling<'_>,
-    keks: &mut OpenKeks<K>,
+    keyed: &mut OpenKeyed<K>,
     many: Option<Many>,
     input: &mut Watched<I>,
     name: &str,
@@ -205,12 +204,12 @@ where
 {
     let keeps = telling.work.keeps_modes();
     let spared = many.map_or(Spared::Nothing, |many| many.spared);
-    let mut new = match create(rt, name, keks, spared, keeps) {
+    let mut new = match create(rt, name, &kek_files(keyed), spared, keeps) {
         Ok(new) => new,
         Err(fault) => return Err(telling.no_output(fault)),
     };
     announce(rt, waiting);
-    match answer(rt, telling, keks, many, input, &mut new.file) {
+    match answer(rt, telling, keyed, many, input, &mut new.file) {
         Ok(answered) => match new.finish(rt) {
             Ok(()) => Ok(answered),
             Err(fault) => Err(telling.no_output(fault)),
@@ -226,15 +225,15 @@ where
 fn answer<R: Eprint + AllocGlobal + Env + Clock, K: Read, I: Read, W: Write>(
     rt: &R,
     telling: &Telling<'_>,
-    keks: &mut OpenKeks<K>,
+    keyed: &mut OpenKeyed<K>,
     many: Option<Many>,
     input: &mut Watched<I>,
     out: &mut Watched<W>,
 ) -> Result<Answered, Refused> {
     match many {
         Some(many) => {
-            let done = answer_lines(rt, &mut keks.keyed, many, input, out);
-            let seen = seen_files(keks, input.seen, out.seen);
+            let done = answer_lines(rt, keyed, many, input, out);
+            let seen = seen_files(keyed, input.seen, out.seen);
             match done {
                 Ok((status, tally)) => Ok(Answered {
                     status,
@@ -245,8 +244,8 @@ fn answer<R: Eprint + AllocGlobal + Env + Clock, K: Read, I: Read, W: Write>(
             }
         }
         None => {
-            let done = keks.keyed.run(rt.alloc(), input, out);
-            let seen = seen_files(keks, input.seen, out.seen);
+            let done = keyed.run(rt.alloc(), input, out);
+            let seen = seen_files(keyed, input.seen, out.seen);
             match done {
                 Ok(done) => Ok(Answered {
                     status: status_of(done),
@@ -259,8 +258,8 @@ fn answer<R: Eprint + AllocGlobal + Env + Clock, K: Read, I: Read, W: Write>(
     }
 }
 
-fn seen_files<K>(keks: &OpenKeks<K>, input: Seen, output: Seen) -> SeenFiles {
-    let (kek, new_kek) = keks.seen();
+fn seen_files<K>(keyed: &OpenKeyed<K>, input: Seen, output: Seen) -> SeenFiles {
+    let (kek, new_kek) = seen_of(keyed);
     SeenFiles {
         kek,
         new_kek,

@@ -2,7 +2,6 @@
 
 use crate::pem::Pem;
 use crate::watched::Seen;
-use keywrap_cli::Notation;
 
 /// What a file is that was read whole, where its bytes but for line ends are of one kind.
 #[derive(Clone, Copy)]
@@ -47,15 +46,5 @@ impl Seen {
 
     fn base64_characters(&self) -> u64 {
         self.base64.saturating_add(self.padding)
-    }
-}
-
-/// What a file is that was read in another notation, which took it: raw bytes may be any text, and
-/// hex digits and PEM may be base64.
-pub fn mistaken(notation: Notation, seen: &Seen) -> Option<Text> {
-    match (notation, seen.text()) {
-        (Notation::Hex, _) => None,
-        (Notation::Base64 | Notation::Base64Url, Some(Text::Base64)) => None,
-        (_, text) => text,
     }
 }

@@ -1,11 +1,11 @@
 //! The file of --output: written whole beside the old one, and then put in its place.
 
-use crate::open_keks::OpenKeks;
+use crate::kek_files::{KekFiles, is_same};
 use crate::spared::Spared;
 use crate::watched::Watched;
 use crate::why::Why;
 use std::alloc::{AllocError, Global};
-use std::fs::{self, File, FileType, Metadata, OpenFile, OpenOptions, Permissions};
+use std::fs::{self, File, FileType, Metadata, OpenOptions, Permissions};
 use std::io;
 use std::os::unix::fs::{FileTypeExt, MetadataExt, OpenOptionsExt, PermissionsExt, fchown};
 use std::rt::Files;
@@ -45,7 +45,7 @@ pub struct OutputFile<'a> {
 pub fn create<'a, R: AllocGlobal + Files<File = File>, K>(
     rt: &R,
     name: &'a str,
-    keks: &OpenKeks<K>,
+    keks: &KekFiles<'_, K>,
     spared: Spared,
     keeps: bool,
 ) -> Result<OutputFile<'a>, OutputFault> {
@@ -84,7 +84,7 @@ fn create_new<'a, R: AllocGlobal + Files<File = File>>(
 fn replaced<R: Files<File = File>, K>(
     rt: &R,
     name: &str,
-    keks: &OpenKeks<K>,
+    keks: &KekFiles<'_, K>,
     spared: Spared,
 ) -> Result<Option<Metadata>, Why> {
     if name.is_empty() {
@@ -101,7 +101,7 @@ fn replaced<R: Files<File = File>, K>(
     }
 }
 
-fn may_be_replaced<K>(old: &Metadata, keks: &OpenKeks<K>) -> Result<(), Why> {
+fn may_be_replaced<K>(old: &Metadata, keks: &KekFiles<'_, K>) -> Result<(), Why> {
     if !old.is_file() {
         return Err(Why::Is(kind_of(&old.file_type())));
     }
@@ -124,12 +124,6 @@ fn kind_of(kind: &FileType) -> &'static str {
     } else {
         "a device"
     }
-}
-
-/// Whether a file is the one that is open.
-pub fn is_same<F: OpenFile>(open: &F, file: &Metadata) -> io::Result<bool> {
-    let open = open.metadata()?;
-    Ok(open.dev() == file.dev() && open.ino() == file.ino())
 }
 
 fn part_name(alloc: Global, name: &str, number: u8) -> Result<String, AllocError> {
