@@ -14,7 +14,7 @@ pub enum Error {
     BadKek = 3,
     /// The key or the wrapped key has a length that this form does not take.
     BadLength = 4,
-    /// The integrity check failed: another KEK, another form, or damage.
+    /// The integrity check failed: another KEK, form or initial value, or damage.
     Integrity = 5,
 }
 
