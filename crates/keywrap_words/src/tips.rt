@@ -37,7 +37,7 @@ const OLD_PADDED: &str =
 
 const KEY: &str = "the KEK is --kek FILE, and the key or the wrapped key --input FILE";
 
-const HEX: &str = "there is no such flag: what no flag says to be raw or base64 is hex";
+const HEX: &str = "hex needs no flag: files are hex unless a flag says raw or base64";
 
 const BASE64: &str =
     "the input and the answer are base64 with --base64, and the KEK file with --base64-kek";
