@@ -22,7 +22,7 @@ complete -c keywrap -n __fish_use_subcommand -a unwrap -d 'Unwrap a wrapped key'
 complete -c keywrap -n __fish_use_subcommand -a rewrap -d 'Wrap the key of a wrapped key under another KEK'
 complete -c keywrap -n __fish_use_subcommand -a check -d 'Say what a wrapped key is, without the key'
 complete -c keywrap -n __fish_use_subcommand -a drill -d 'Wrap under a toy cipher, to check by hand'
-complete -c keywrap -n __fish_use_subcommand -a vectors -d 'Answer the published vectors'
+complete -c keywrap -n __fish_use_subcommand -a vectors -d 'Run the published vectors'
 complete -c keywrap -n __fish_use_subcommand -a help -d 'Show the help, or that of a command'
 complete -c keywrap -n '__keywrap_is help; and test (count (commandline -opc)) = 2' \
     -a 'wrap unwrap rewrap check drill vectors help'
@@ -35,7 +35,7 @@ complete -c keywrap -n '__keywrap_is rewrap; and __keywrap_lacks --new-iv --keep
     -d 'Write the padded form of RFC 5649'
 complete -c keywrap -n '__keywrap_is rewrap; and __keywrap_lacks --padded --new-padded --iv --new-iv' -l keep-form \
     -d 'Take either form, and keep it'
-complete -c keywrap -n '__keywrap_is rewrap' -l pass-new -d 'Answer what is under the new KEK already as it is'
+complete -c keywrap -n '__keywrap_is rewrap' -l pass-new -d 'Write unchanged what is under the new KEK already'
 complete -c keywrap -n '__keywrap_is wrap unwrap rewrap check; and __keywrap_lacks --padded --keep-form' -l iv -x \
     -d 'An initial value that both ends agreed on'
 complete -c keywrap -n '__keywrap_is rewrap; and __keywrap_lacks --new-padded --keep-form' -l new-iv -x \
@@ -61,5 +61,5 @@ complete -c keywrap -n '__keywrap_is wrap unwrap rewrap check' -s i -l input -rF
 complete -c keywrap -n '__keywrap_is wrap unwrap rewrap check' -s o -l output -rF \
     -d 'The file for the answer, written whole'
 complete -c keywrap -n '__keywrap_is wrap unwrap rewrap check' -l verbose \
-    -d 'A refusal says which file was the cause, and why'
+    -d 'As on a terminal, say why it refuses, and likely mistakes'
 complete -c keywrap -n '__keywrap_is drill' -l unwrap -d 'Unwrap instead of wrapping'

@@ -46,7 +46,7 @@
 #define KEYWRAP_PADDED_TEXT_LEN(key_len) (((key_len) + 7) / 8 * 8 + 8)
 #define KEYWRAP_ROOM(wrapped_len) ((wrapped_len) < 8 ? 0 : (wrapped_len) - 8)
 
-/* What each call answers: where several refusals apply, the first of them. The causes of
+/* What each call answers: where several refusals apply, the first in this list. The causes of
  * KEYWRAP_BAD_KEK and KEYWRAP_BAD_LENGTH are in the lengths alone, and at these and at
  * KEYWRAP_BAD_IV no buffer is written; but keywrap_rewrap_in_place, at the end of this file, has
  * more causes of KEYWRAP_BAD_LENGTH, after one of which its buffer is all zeros. */
@@ -55,20 +55,20 @@ enum keywrap_status {
     KEYWRAP_BAD_IV = 2,     /* the initial value is refused; only a _with call answers it */
     KEYWRAP_BAD_KEK = 3,    /* the KEK is not 16, 24 or 32 bytes long */
     KEYWRAP_BAD_LENGTH = 4, /* a length is not one that the call takes */
-    KEYWRAP_INTEGRITY = 5   /* the integrity check failed: another KEK, another form, or damage; no
-                               wrap answers it */
+    KEYWRAP_INTEGRITY = 5   /* the integrity check failed: another KEK, form or initial value, or
+                               damage; no wrap answers it */
 };
 
 /* The flags of keywrap_rewrap_in_place: the old wrapped key, and the new one, is in the padded
  * form; without its flag each is in the plain one. KEYWRAP_KEEP_FORM goes with no other flag: the
- * wrapped key is in either form, and keeps it. It is of version 1.1: an older
- * library refuses it. */
+ * wrapped key is in either form, and keeps it. It is of version 1.1: an older library refuses
+ * it. */
 #define KEYWRAP_OLD_PADDED 1u
 #define KEYWRAP_NEW_PADDED 2u
 #define KEYWRAP_KEEP_FORM 4u
 
-/* Where the compiler sees them, it warns of a NULL, of an answer that is not looked at, and (GCC)
- * of an overlap and of a buffer that is shorter than its length says. */
+/* Where the compiler sees them, it warns of a NULL, of an unused status, and (GCC) of an overlap
+ * and of a buffer that is shorter than its length says. */
 #if defined(__GNUC__)
 #define KEYWRAP_NONNULL __attribute__((nonnull, nothrow))
 #define KEYWRAP_CALL __attribute__((nonnull, nothrow, warn_unused_result))
@@ -100,12 +100,13 @@ extern "C" {
 KEYWRAP_CALL
 uint32_t keywrap_version(void);
 
-/* What a status says, as the command does: any number has a text. It is written to text, a
- * buffer of capacity bytes, with a zero at its end; 80 bytes hold any. A longer text is cut to fit,
- * zero and all, and at capacity 0 nothing is written. What follows the zero stays as it was.
+/* What a status says: any number has a text. It is written to text, a buffer of capacity bytes,
+ * with a zero at its end; 80 bytes hold any. A longer text is cut so that it fits with its zero,
+ * and at capacity 0 nothing is written. What follows the zero stays as it was.
  *
  * The answer is the length of the whole text, without the zero: it was cut where that is not less
- * than capacity. From version 1.1 on: a program that makes this call needs a library of it. */
+ * than capacity. From version 1.1 on: a program that makes this call does not start with an older
+ * library. */
 KEYWRAP_NONNULL KEYWRAP_WRITES(2, 3)
 size_t keywrap_status_text(int32_t status, char *KEYWRAP_RESTRICT text, size_t capacity);
 

@@ -12,7 +12,7 @@ export class BadKekLength extends KeywrapError {}
 /** The key or the wrapped key has a length that this form does not take. */
 export class BadLength extends KeywrapError {}
 
-/** The integrity check failed: nothing was wrapped to this under this KEK. */
+/** The integrity check failed: another KEK, form or initial value, or damage. */
 export class IntegrityFailed extends KeywrapError {}
 
 /** The WebAssembly of this host has no 64-bit memory. `load` alone throws it. */
@@ -79,7 +79,7 @@ export interface Keywrap {
         oldKek: Uint8Array, newKek: Uint8Array, wrapped: Uint8Array, options?: Forms,
     ): Uint8Array;
 
-    /** The form in which a key was wrapped to this, or null where it is no wrapped key. */
+    /** The form of the wrapped key, and its key's length; null where it is none under the KEK. */
     check(kek: Uint8Array, wrapped: Uint8Array): Kind | null;
 }
 

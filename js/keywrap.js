@@ -119,7 +119,7 @@ function refusalOf(status, call, inputs) {
 /* The calls over the module's memory */
 
 // An instance, with a memory that nobody else has. Up to #start it is as the module is made, its
-// stack among that; there the module writes two numbers, and behind them are copies of what a call
+// stack among that; there the module writes two numbers, and after them are copies of what a call
 // is given, and room for its answer.
 class Machine {
     #exports;
@@ -151,7 +151,7 @@ class Machine {
 
     copy(at, length) { return this.#memory.slice(at, at + length); }
 
-    // Calls over copies of the inputs with `room` behind them, if any, and answers what `answer`
+    // Calls over copies of the inputs with `room` after them, if any, and answers what `answer`
     // makes of the last of these places. Whatever happens, the memory is then as it was made. Of an
     // input that is too long the module gets one byte more than is legal, and refuses that.
     call(name, inputs, { room, rest = [], answer = (at, length) => this.copy(at, length) }) {

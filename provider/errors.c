@@ -9,7 +9,7 @@ const OSSL_ITEM REASONS[] = {
     {REASON_PARAMETER_READ, "a parameter cannot be read"},
     {REASON_PARAMETER_WRITTEN, "a parameter cannot be written"},
     {REASON_KEK_LENGTH, "bad KEK length"},
-    {REASON_ROOM, "the output's room is shorter than the input"},
+    {REASON_ROOM, "the output buffer is shorter than the input"},
     {REASON_IV_LENGTH, "bad length of the initial value"},
     {REASON_NO_KEK, "no KEK was given"},
     {REASON_LENGTH, "bad length"},

@@ -125,7 +125,7 @@ else
     skip 'each allocation failing in turn' 'no C compiler' gcc
 fi
 
-### Each growth of a call refused in turn, alone and with all that come after it
+### Each allocation of a call failing in turn, alone and with all that come after it
 
 # holds_at_each PROGRAM TEST [COUNT]: one row, of as many runs of a test as there are allocations,
 # twice. The test fails where a call answers anything but Memory, or all that it answers with ample
@@ -145,21 +145,21 @@ holds_at_each() {
         [ $call -gt 1 ] || problem="$problem; no allocation was met"
         [ $((call - 1)) = "${3:-$((call - 1))}" ] || problem="$problem; $((call - 1)) allocations, not $3"
     done
-    verdict "each of $((call - 1)) growths of $2" "${problem:0:600}"
+    verdict "each of $((call - 1)) allocations of $2" "${problem:0:600}"
 }
 
 # holds_in CRATE [COUNT]: the same for each test of a crate that is named for it.
 holds_in() {
     local tests=$TESTS/$1/out/$1_tests growths test
     growths=$("$tests" --list | sed -n 's/^\(.*::refuses_each_growth_.*\): test$/\1/p')
-    [ -n "$growths" ] || verdict 'each growth of a call' "no test refuses_each_growth_.. in $tests"
+    [ -n "$growths" ] || verdict 'each allocation of a call' "no test refuses_each_growth_.. in $tests"
     for test in $growths; do
         holds_at_each "$tests" "$test" "${@:2}"
     done
 }
 
 if [ -n "${TESTS:-}" ] && $has_compiler; then
-    # Five calls, and one growth in each.
+    # Five calls, and one allocation in each.
     beside holds_in key_wrap 5
     beside holds_in keywrap_cli
 fi

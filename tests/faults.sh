@@ -2,7 +2,7 @@
 # Runs the built program under faults of the system: KEK files that are pipes, inputs that come
 # in pieces, outputs that take some bytes and no more, streams that are closed. Each run has to
 # end with the status and the line of README's table, never with a wrong answer, with no more
-# than a counted front of the answer out, and with no file left behind.
+# than a counted prefix of the answer out, and with no file left behind.
 #
 # It is long since no contract reaches the system: each fault here meets every command and every refusal of
 # tests/lib/commands.sh.

@@ -406,7 +406,7 @@ yes $wrapped16 | head -n 1000000 >answers
 ended "1,000,000 lines in the $most KB of 1,000" 0 answers ''
 rm million answers
 
-### Each growth and each read refused in turn
+### Each allocation and each read refused in turn
 
 # stopped WORDS: the run that ended with $status and left `out` and `err` named the line at which it stopped, and wrote
 # the answers before it; or it stopped before the first line.
@@ -433,7 +433,7 @@ in_turn() {
     verdict "$name, each $what that fails" "${problem:0:600}"
 }
 
-# fails_in_turn NAME KEY ANSWER ARGUMENT..: of 6 lines of a key each growth, and of 4,000 each read; the second line
+# fails_in_turn NAME KEY ANSWER ARGUMENT..: of 6 lines of a key each allocation, and of 4,000 each read; the second line
 # has blanks at its ends.
 fails_in_turn() {
     yes "$2" | head -n 4000 | sed '2s/.*/ &\t/' >most
@@ -459,7 +459,7 @@ if compiled fail_alloc && compiled fail_read; then
         "${rewraps[@]}" --base64url
     fails_in_turn 'check' "$wrapped16" 'plain 16' check --lines --kek kek16.hex
 else
-    skip 'each growth and each read of a run' 'no C compiler' gcc
+    skip 'each allocation and each read of a run' 'no C compiler' gcc
 fi
 
 ### How far it is, on a terminal

@@ -58,7 +58,7 @@ for command in wrap unwrap rewrap check; do
         "${words[@]}" --old-padded
     tips "the tip on $command --key" "$key_tip" "$command" --key kek16.hex
     tips "the tip on $command -K" "$key_tip" "$command" -K "$kek"
-    tips "the tip on $command --hex" 'there is no such flag: what no flag says to be raw or base64 is hex' \
+    tips "the tip on $command --hex" 'hex needs no flag: files are hex unless a flag says raw or base64' \
         "${words[@]}" --hex
     for word in --b64 --base-64 --base64-in --base64-out; do
         tips "the tip on $command $word" "$base64_tip" "${words[@]}" $word
@@ -508,7 +508,7 @@ no_base64 'two texts' 'base64 goes on after its padding at byte 5' 'more than on
 no_base64 'five characters' 'length is not that of base64' '5 characters of base64' AAAAA
 no_base64 'one character' 'length is not that of base64' '1 character of base64' A
 no_base64 'half of the padding' 'length is not that of base64' '2 characters of base64 and 1 =' AA=
-no_base64 'bits of no byte' 'last base64 character has bits of no byte' 'its last character is another, or cut off' AB==
+no_base64 'bits of no byte' 'last base64 character has bits of no byte' 'its last character is wrong or cut off' AB==
 tells 'raw bytes as base64' 6 'input: no base64 character at byte 0' 'key.raw: not base64; for raw bytes use --raw' \
     wrap --base64 --kek kek16.hex -i key.raw
 tells 'a raw KEK as base64' 6 'key file: no base64 character at byte 0' \

@@ -14,7 +14,7 @@ pub enum Error {
     BadKek = 3,
     /// The key or the wrapped key has a length that this form does not take.
     BadLength = 4,
-    /// The integrity check failed: another KEK, another form, or damage.
+    /// The integrity check failed: another KEK, form or initial value, or damage.
     Integrity = 5,
 }
 
@@ -139,7 +139,7 @@ pub fn unwrap_padded(kek: &[u8], wrapped: &[u8]) -> Result<Vec<u8>, Error> {
     Ok(key)
 }
 
-/// Wraps the key behind the first 8 bytes of the buffer in the plain form, into the whole buffer.
+/// Wraps the key after the first 8 bytes of the buffer in the plain form, into the whole buffer.
 pub fn wrap_in_place(kek: &[u8], buffer: &mut [u8]) -> Result<(), Error> {
     let (k, b) = (kek.as_ptr(), buffer.as_mut_ptr());
     answer(unsafe { keywrap_wrap_in_place(k, kek.len(), b, buffer.len()) })
@@ -152,7 +152,7 @@ pub fn unwrap_in_place<'a>(kek: &[u8], buffer: &'a mut [u8]) -> Result<&'a mut [
     Ok(&mut buffer[8..])
 }
 
-/// Wraps the key of `key_len` bytes behind the first 8 of the buffer in the padded form, into the
+/// Wraps the key of `key_len` bytes after the first 8 of the buffer in the padded form, into the
 /// whole buffer.
 pub fn wrap_padded_in_place(kek: &[u8], buffer: &mut [u8], key_len: usize) -> Result<(), Error> {
     let (k, b) = (kek.as_ptr(), buffer.as_mut_ptr());

@@ -1,4 +1,4 @@
-//! The cipher and the inverse cipher (FIPS 197, sections 5.1 and 5.3): AES as a block pair.
+//! The cipher and the inverse cipher (FIPS 197, sections 5.1 and 5.3): AES as a block permutation.
 //!
 //! The state is four words, its columns. A round makes each column of the next state from the four
 //! columns in which ShiftRows, or its inverse, finds the column's rows.

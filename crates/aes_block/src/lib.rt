@@ -1,5 +1,5 @@
 //! AES (FIPS 197), proved: its field, its S-boxes, its key schedule, and the cipher with its
-//! inverse, as a block pair.
+//! inverse, as a block permutation.
 //!
 //! ```rust
 //! use aes_block::{Aes, BadKekLength};

@@ -1,4 +1,4 @@
-//! The cipher and the inverse cipher: AES as a block pair.
+//! The cipher and the inverse cipher: AES as a block permutation.
 
 ghost use Rattle.aes_block.specs.Cipher.{cipher, inv_cipher};
 ghost use Rattle.aes_block.specs.CipherLaw.{cipher_inverse};

@@ -1,4 +1,4 @@
-//! AES under one key, in room that is lent, and its round keys.
+//! AES under one key, in a buffer that is lent, and its round keys.
 
 ghost use Rattle.std.specs.Prelude.{◌≡◌, ◌<◌, ◌↔◌, List, ℕ, length, map};
 ghost use Rattle.std.specs.Prelude.{IsOk, IsErr, IfOk};
@@ -18,7 +18,7 @@ use aes_block::BadKekLength;
 use std::marker::Model;
 use std::simd::prelude::*;
 
-/// AES under one key, whose schedule stands in room of the caller's, which clears it afterwards.
+/// AES under one key, whose schedule stands in a buffer of the caller's, who clears it afterwards.
 /// Contracts see it as the key, as `VectorAes`.
 #[derive(Drop)]
 pub struct LentAes<'a> {
@@ -39,7 +39,8 @@ impl<'a> Model for LentAes<'a> {
 }
 
 impl<'a> LentAes<'a> {
-    /// AES under the key-encryption key `kek`, in this room. Refused where the key is not of 16, 24 or 32 bytes.
+    /// AES under the key-encryption key `kek`, in this buffer. Refused where the key is not of 16,
+    /// 24 or 32 bytes.
     pub fn new(kek: &[u8], room: &'a mut Room) -> Result<LentAes<'a>, BadKekLength>
         ensures accepted { IsOk result ↔ IsKekLength (length kek.now) }
         ensures refused { IsErr result ↔ ¬ IsKekLength (length kek.now) }

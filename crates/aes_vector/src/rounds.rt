@@ -56,7 +56,7 @@ pub(crate) fn inv_first_state(key: u8x16, block: u8x16) -> u8x16
     linear(by_low, by_high, block) ^ key
 }
 
-// A round of the inverse cipher, from its InvShiftRows to the AddRoundKey behind InvMixColumns.
+// A round of the inverse cipher, from its InvShiftRows to the AddRoundKey after InvMixColumns.
 #[inline(always)]
 pub(crate) fn inv_round(rows: InvRows, key: u8x16, state: u8x16) -> u8x16
     requires by_0 { rows.by_0 ≡ INV_ROWS_0 }

@@ -6,8 +6,8 @@ ghost use Rattle.block_pair.specs.HalvesLaw.{swap_halves_lawful};
 
 use crate::BlockPair;
 
-/// The drill block: it exchanges the two halves of a block, so that answers can be worked by hand.
-/// It is a block pair and hides nothing.
+/// The drill block: a toy cipher that swaps the halves of a block, so that answers can be checked
+/// by hand. It hides nothing.
 #[derive(Clone, Copy, Debug)]
 pub struct SwapHalves;
 

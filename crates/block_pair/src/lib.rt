@@ -1,4 +1,4 @@
-//! Block pairs: a permutation of 16-byte blocks, given with its inverse.
+//! Block permutations: a permutation of 16-byte blocks, given with its inverse.
 #![tactic(auto)]
 
 ghost use Rattle.std.specs.Prelude.{◌≡◌, ℕ, List};

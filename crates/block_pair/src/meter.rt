@@ -1,11 +1,11 @@
-//! A block pair whose calls are counted.
+//! A block permutation whose calls are counted.
 
 ghost use Rattle.std.specs.Prelude.{◌≡◌, ◌+◌, min};
 
 use crate::BlockPair;
 use std::marker::Model;
 
-/// A block pair that counts its calls. Contracts see it as its pair and its count.
+/// A block permutation that counts its calls. Contracts see it as its `pair` and its count.
 ///
 /// The pair stays the one that the meter was made with. What is asked of the pair beside the meter
 /// is not counted.

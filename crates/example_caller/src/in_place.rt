@@ -11,7 +11,7 @@ use aes_block::Aes;
 use block_pair::Meter;
 use key_wrap::{InPlaceFault, unwrap_in_place, wrap_in_place};
 
-/// Wraps the key that stands behind the first 8 bytes of the buffer: the wrapped key fills it.
+/// Wraps the key that stands after the first 8 bytes of the buffer: the wrapped key fills it.
 /// Answers the number of block calls: 6 for each 8 bytes of key.
 pub fn wrap_here(aes: &Aes, buffer: &mut [u8]) -> Result<u64, InPlaceFault>
     ensures bad_length { (result ≡ Err InPlaceFault.BadLength)
@@ -26,7 +26,7 @@ pub fn wrap_here(aes: &Aes, buffer: &mut [u8]) -> Result<u64, InPlaceFault>
     Ok(meter.count())
 }
 
-/// Unwraps the wrapped key that fills the buffer: its key then stands behind the first 8 bytes.
+/// Unwraps the wrapped key that fills the buffer: its key then stands after the first 8 bytes.
 /// Answers the number of block calls.
 pub fn unwrap_here(aes: &Aes, buffer: &mut [u8]) -> Result<u64, InPlaceFault>
     ensures bad_length { (result ≡ Err InPlaceFault.BadLength)

@@ -1,11 +1,11 @@
-//! A block pair of one's own, with its law.
+//! A block permutation of one's own, with its law.
 
 ghost use Rattle.std.specs.Prelude.{reverse};
 ghost use Rattle.example_caller.specs.ReversalLaw.{reversal_lawful};
 
 use block_pair::BlockPair;
 
-/// A block of 16 bytes, read backward. It is a block pair, and hides nothing.
+/// A block of 16 bytes, read backward. It is a block permutation, and hides nothing.
 #[derive(Clone, Copy, Debug)]
 pub struct Reversal;
 

@@ -71,7 +71,7 @@ prefix_len-all p (c ∷ xs) ys h =
     let rest = prefix_len-all p xs ys a.1 in
     rw a.0 (omega (arith, rest))
 
--- what stands behind a front whose elements all pass
+-- what stands after a front whose elements all pass
 all-behind : (p q : ℕ → Bool) (xs ys : List ℕ) → list_all p xs ≡ true → list_all q ys ≡ true
     → list_all q (drop (prefix_len p (xs ++ ys)) (xs ++ ys)) ≡ true
 all-behind p q xs ys hp hq =

@@ -40,7 +40,7 @@ ReadsAs-long {meaning = meaning} {limit = limit} bytes p past = record {
   to_end = tt;
 }
 
--- a growth that was refused within the limit
+-- an allocation that failed within the limit
 pub ReadsAs-memory : {Z : Type 0} {meaning : List ℕ → Result (List ℕ) FileFault} {limit : ℕ} {old new : Option (List ℕ)} (bytes : List ℕ)
     (answer : Result (Vec ℕ Z) FileFault) → IsErrAnd answer (λ fault. fault ≡ Memory) → Consumes old new bytes → length bytes ≤ limit
     → ReadsAs meaning limit old new (answer_of answer)

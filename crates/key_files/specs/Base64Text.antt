@@ -90,7 +90,7 @@ decoded_meaning (Err error) = Err (BadBase64 (base64_fault_of error))
 abbrev pub symbols_meaning : List ℕ → Result (List ℕ) FileFault
 symbols_meaning text = decoded_meaning (decode_of (encoding_of text) text)
 
--- why a text denotes no bytes for the place of a character: that of one that may not stand in it, or behind its padding
+-- why a text denotes no bytes for the place of a character: that of one that may not stand in it, or after its padding
 abbrev pub place_fault : Option ℕ → ℕ → Option ℕ → Option Base64Fault
 place_fault (Some at) before behind = Some (Character at)
 place_fault None before (Some at) = Some (BehindPadding (before + at))

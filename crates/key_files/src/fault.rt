@@ -26,7 +26,7 @@ pub enum FileFault {
     /// The text is no base64.
     #[error("{0}")]
     BadBase64(Base64Fault),
-    /// A growth was refused.
+    /// An allocation failed.
     #[error("out of memory")]
     Memory,
 }
@@ -61,7 +61,7 @@ pub struct WriteFault {
 /// Why a hex text was not written whole.
 #[derive(Clone, Copy, Debug, PartialEq, Eq, Error)]
 pub enum HexWriteFault {
-    /// A growth was refused, and nothing was written.
+    /// An allocation failed, and nothing was written.
     #[error("out of memory")]
     Memory,
     /// The writer failed, or took no byte of those that were left.

@@ -50,7 +50,7 @@ fn decode_strict(text: &[u8], bytes: &mut [u8]) -> bool
     hex::decode_to_slice(text, bytes).is_ok()
 }
 
-// `decode_hex` on any allocator, so that a test can refuse each growth.
+// `decode_hex` on any allocator, so that a test can refuse each allocation.
 pub(crate) fn decode_hex_in<A: Allocator + Copy>(
     alloc: A,
     text: &[u8],

@@ -1,5 +1,5 @@
 //! Key files: what is read is what the file denotes, raw or hex, and what is written is the text,
-//! or a counted front of it.
+//! or a counted prefix of it.
 
 #![tactic(auto)]
 

@@ -26,7 +26,7 @@ const CHUNK: usize = 4_096;
 /// The bytes of a file, up to the end of input: a read of no bytes into a buffer that is not empty.
 ///
 /// At most `limit + 1` bytes are taken from the reader, and none is put back. Read comes where a
-/// read answers any error, an interrupted one too, and Memory where a growth was refused, each as
+/// read answers any error, an interrupted one too, and Memory where an allocation failed, each as
 /// it is met; TooLong where `limit + 1` bytes came.
 pub fn read_raw<R: Read>(alloc: Global, reader: &mut R, limit: usize) -> Result<Vec<u8>, FileFault>
     requires { limit < usize.MAX }
@@ -36,7 +36,7 @@ pub fn read_raw<R: Read>(alloc: Global, reader: &mut R, limit: usize) -> Result<
     read_raw_in(alloc, reader, limit)
 }
 
-// `read_raw` on any allocator, so that a test can refuse each growth.
+// `read_raw` on any allocator, so that a test can refuse each allocation.
 pub(crate) fn read_raw_in<A: Allocator, R: Read>(
     alloc: A,
     reader: &mut R,

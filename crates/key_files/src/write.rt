@@ -65,7 +65,7 @@ pub fn print_hex(bytes: &[u8], line: &mut Vec<u8>) -> Result<(), AllocError>
     Ok(())
 }
 
-// `write_hex` on any allocator, so that a test can refuse each growth.
+// `write_hex` on any allocator, so that a test can refuse each allocation.
 pub(crate) fn write_hex_in<A: Allocator, W: Write>(
     alloc: A,
     writer: &mut W,

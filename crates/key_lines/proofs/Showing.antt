@@ -86,7 +86,7 @@ none_taken front len none h = length-nil (take len front) (omega (arith, length-
 pub nothing_shown : (n : ℕ) → (n == 0) ≡ true → n ≡ 0
 nothing_shown n h = grind (arith, nat_tests)
 
--- a growth that was refused
+-- an allocation that failed
 pub MovesPart-memory : (limit : ℕ) (old mid : Option (List ℕ)) (before after : List ℕ) (answer : Result Part FileFault)
     → IsErrAnd answer (λ fault. fault ≡ Memory) → Keeps old mid → after ≡ before → MovesPart limit old mid before after answer
 MovesPart-memory limit old mid before after (Ok part) is kept same = absurd is

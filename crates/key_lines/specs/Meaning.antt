@@ -25,7 +25,7 @@ abbrev pub text_meaning : TextNotation → List ℕ → Result (List ℕ) FileFa
 text_meaning Hex text = digit_text_meaning text
 text_meaning Base64 text = symbol_text_meaning text
 
--- the meaning of what stands behind so many bytes: the place of a fault counts these too
+-- the meaning of what stands after so many bytes: the place of a fault counts these too
 abbrev pub meaning_behind : ℕ → Result (List ℕ) FileFault → Result (List ℕ) FileFault
 meaning_behind n (Ok bytes) = Ok bytes
 meaning_behind n (Err fault) = Err (fault_behind n fault)

@@ -14,7 +14,7 @@ const BLOCK: usize = 65_536;
 // Why a text was not put, or the block was not written whole.
 #[derive(Clone, Copy)]
 pub(crate) enum PutFault {
-    // A growth was refused, and the block is as it was.
+    // An allocation failed, and the block is as it was.
     Memory,
     // The writer refused what is left in the block.
     Write,

@@ -9,7 +9,7 @@ pub enum Outcome<R> {
     Answer,
     /// The bytes have no answer.
     Refused(R),
-    /// A growth was refused.
+    /// An allocation failed.
     Memory,
 }
 

@@ -34,7 +34,7 @@ pub enum Line {
 /// end, and need not be asked again.
 ///
 /// At most `limit + 1` bytes of the line are taken; TooLong comes where they have no LF. Read comes
-/// where a read answers any error, an interrupted one too, and Memory where a growth was refused,
+/// where a read answers any error, an interrupted one too, and Memory where an allocation failed,
 /// each as it is met; `line` then holds what was taken.
 pub fn read_line<R: BufRead, A: Allocator>(
     reader: &mut R,

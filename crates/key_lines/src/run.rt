@@ -36,7 +36,7 @@ fn most_value()
 /// It stops at the first line that is not answered, and nothing of an answer to it is written. Where
 /// it `goes_on`, it stops at no line that is refused for itself: an empty line stands for its
 /// answer, and `log` is told, once, before the line is written. It still stops at a line that is too
-/// long or cannot be read, and where a growth or a write was refused.
+/// long or cannot be read, and where an allocation or a write was refused.
 ///
 /// The answers are gathered in a block of their own, so that `out` needs no buffer, and what is said
 /// of the bytes that went out is true of `out`.

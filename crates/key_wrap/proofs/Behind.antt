@@ -1,4 +1,4 @@
--- The lengths behind a word: of the registers behind C0, and of a buffer behind its first word.
+-- The lengths after a word: of the registers after C0, and of a buffer after its first word.
 use Rattle.std.proofs.Common.{◌≡◌, ℕ, ◌+◌, ◌-◌, ◌<◌, List, ◌++◌, length, drop, arith, length-append, length-drop, bit_xor}
 use Rattle.std.specs.Prelude.{bit_or}
 use Rattle.key_wrap.specs.Words.{word_bytes}
@@ -9,7 +9,7 @@ use Rattle.key_wrap.proofs.Differences.{or_parts, xor_same}
 pub length-behind : (w : ℕ) (registers : List ℕ) → length (word_bytes w ++ registers) ≡ 8 + length registers
 length-behind w registers = omega (arith, length-append (word_bytes w) registers, length-word_bytes w)
 
--- more than one word behind C0
+-- more than one word after C0
 pub long_legal : (w : ℕ) (registers : List ℕ) → IsPaddedTextLength (8 + length registers) → 8 < length registers
     → IsPlainTextLength (length (word_bytes w ++ registers))
 long_legal w registers legal long = rw (length-behind w registers) (legal.0, omega (arith, legal), legal.2)
@@ -19,7 +19,7 @@ behind_legal buf legal =
     let size : 8 + length (drop 8 buf) ≡ length buf = omega (arith, length-drop 8 buf, legal) in
     rw size legal
 
--- the key fills the words behind the first, two and more
+-- the key fills the words after the first, two and more
 pub fills_words : (one_word given : ℕ) (buf : List ℕ) → IsPaddedTextLength (length buf) → (length buf - 16 ≡ 0 → one_word ≡ 1)
     → bit_or one_word (bit_xor given (length buf - 8)) ≡ 0 → ¬ (length (drop 8 buf) ≡ 8) × (given ≡ length (drop 8 buf))
 fills_words one_word given buf legal short zero =

@@ -115,7 +115,7 @@ not_plain found registers key word legal (inr other) holds plain =
     let h = held_word found registers key word holds.0 holds.1 in
     other (omega (arith, h.1, h.2, h.3, plain.0, legal.0))
 
--- the registers lent are all behind the first word
+-- the registers lent are all after the first word
 pub behind_first : (buf : List ℕ) → take (length buf - 8) (drop 8 buf) ≡ drop 8 buf
 behind_first buf = take_all (length buf - 8) (drop 8 buf) (omega (arith, length-drop 8 buf))
 

@@ -83,7 +83,7 @@ padded_key_in key buffer held =
     let zeros : List ℕ = replicate (8 * word_count (length key) - length key) 0 in
     ap (key_in (length key)) held ∙ take_at key zeros (length key) refl
 
--- a key that was copied behind the first word
+-- a key that was copied after the first word
 pub copied_key : (k : ℕ) (buffer key : List ℕ) → 8 ≤ length buffer → key_in (length key) (put_mid 8 k buffer key) ≡ key
 copied_key k buffer key some =
     ap (take (length key)) (drop_at (take 8 buffer) (key ++ drop k (drop 8 buffer)) 8 (omega (arith, length-take 8 buffer)))

@@ -1,4 +1,4 @@
--- What an initial value and the registers behind it hold, before they are wrapped and after they were unwrapped.
+-- What an initial value and the registers after it hold, before they are wrapped and after they were unwrapped.
 use Rattle.std.specs.Prelude.{◌≡◌, ℕ, List, ◌++◌, length}
 use Rattle.key_wrap.specs.declared.agreed_form.AgreedForm.{AgreedForm}
 use Rattle.key_wrap.specs.declared.agreed_form.AgreedForm.TheVariants.{Plain, Padded}

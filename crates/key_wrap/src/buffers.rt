@@ -9,7 +9,7 @@ use crate::lengths::MAX_KEY;
 use std::alloc::{AllocError, Allocator};
 
 // Room for the first word of the wrapped key, the key and its zero padding (none where the key
-// fills its words). Takes its memory in one growth.
+// fills its words). Takes its memory in one allocation.
 pub(crate) fn room_for<A: Allocator>(alloc: A, key: &[u8]) -> Result<Vec<u8, A>, AllocError>
     requires { length key.now ≤ MAX_KEY }
     ensures { IfOk result (λ buffer. buffer.items ≡ replicate 8 0 ++ padded key.now) }
@@ -23,7 +23,7 @@ pub(crate) fn room_for<A: Allocator>(alloc: A, key: &[u8]) -> Result<Vec<u8, A>,
     Ok(buffer)
 }
 
-// The first `len` bytes of key data behind the first word, cut out of the same buffer. By
+// The first `len` bytes of key data after the first word, cut out of the same buffer. By
 // `rotate_left`, since a move to the front would leave a second copy of the key's last bytes behind
 // the end of the vector, where now the zeros of the first word stand.
 pub(crate) fn key_of<A: Allocator>(mut buffer: Vec<u8, A>, len: usize) -> Vec<u8, A>

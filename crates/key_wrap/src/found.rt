@@ -21,7 +21,7 @@ use crate::machine::{unwrap_padded_slice, wrap_padded_slice};
 use block_pair::{BlockPair, Meter};
 use byteorder::{BigEndian, ByteOrder};
 
-// C1 .. Cn behind the first word of the buffer become the registers that the machine runs back to,
+// C1 .. Cn after the first word of the buffer become the registers that the machine runs back to,
 // and the answer is the initial value. For two words and more both forms unwrap by the same steps.
 pub(crate) fn unwrap_found<B: BlockPair>(meter: &mut Meter<B>, buf: &mut [u8]) -> u64
     requires { IsPaddedTextLength (length buf.old) }
@@ -33,7 +33,7 @@ pub(crate) fn unwrap_found<B: BlockPair>(meter: &mut Meter<B>, buf: &mut [u8]) -
     unwrap_padded_slice(meter, c0, &mut buf[WORD..])
 }
 
-// The registers behind the first word of the buffer become what they are wrapped to under this
+// The registers after the first word of the buffer become what they are wrapped to under this
 // initial value, the whole buffer.
 pub(crate) fn wrap_found<B: BlockPair>(meter: &mut Meter<B>, iv: u64, buf: &mut [u8])
     requires { IsPaddedTextLength (length buf.old) }

@@ -1,4 +1,4 @@
-//! Rewrapping in whichever form the wrapped key is in, with one growth.
+//! Rewrapping in whichever form the wrapped key is in, with one allocation.
 
 ghost use Rattle.std.specs.Prelude.{◌≡◌, ◌↔◌, ℕ, List, length, Err, IfOk, IsOkUnless};
 ghost use Rattle.key_wrap.specs.Forms.{StandsIn, by_default};
@@ -60,7 +60,7 @@ pub fn rewrap_keeping_form<O: BlockPair, N: BlockPair>(
     rewrap_keeping_form_on(alloc, old, new, text)
 }
 
-// `rewrap_keeping_form` on any allocator, so that a test can refuse its growth.
+// `rewrap_keeping_form` on any allocator, so that a test can refuse its allocation.
 pub(crate) fn rewrap_keeping_form_on<A: Allocator, O: BlockPair, N: BlockPair>(
     alloc: A,
     old: &O,

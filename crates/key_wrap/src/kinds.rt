@@ -40,7 +40,7 @@ pub fn kind<B: BlockPair>(alloc: Global, pair: &B, text: &[u8]) -> Result<Kind, 
     kind_on(alloc, pair, &InitialValue::default(), text)
 }
 
-// `kind` on any allocator, so that a test can refuse its growth, and under any initial value.
+// `kind` on any allocator, so that a test can refuse its allocation, and under any initial value.
 pub(crate) fn kind_on<A: Allocator, B: BlockPair>(
     alloc: A,
     pair: &B,

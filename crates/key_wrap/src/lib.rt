@@ -1,7 +1,7 @@
-//! The AES Key Wrap of RFC 3394 and RFC 5649 over any block pair.
+//! The AES Key Wrap of RFC 3394 and RFC 5649 over any block permutation.
 //!
-//! A key is wrapped under a pair, AES under a KEK for one, and unwrapped again; `rt` is the runtime
-//! that `main` is given:
+//! A key is wrapped under a block permutation, a `pair`, AES under a KEK for one, and unwrapped
+//! again; `rt` is the runtime that `main` is given:
 //!
 //! ```
 //! let pair = Aes::new(&kek)?;

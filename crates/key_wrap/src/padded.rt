@@ -32,7 +32,7 @@ pub fn wrap_padded<B: BlockPair>(alloc: Global, pair: &B, key: &[u8]) -> Result<
     wrap_padded_on(alloc, pair, key)
 }
 
-// `wrap_padded` on any allocator, so that a test can refuse its growth.
+// `wrap_padded` on any allocator, so that a test can refuse its allocation.
 pub(crate) fn wrap_padded_on<A: Allocator, B: BlockPair>(
     alloc: A,
     pair: &B,
@@ -82,7 +82,7 @@ pub fn unwrap_padded<B: BlockPair>(
     unwrap_padded_on(alloc, pair, text)
 }
 
-// `unwrap_padded` on any allocator, so that a test can refuse its growth.
+// `unwrap_padded` on any allocator, so that a test can refuse its allocation.
 pub(crate) fn unwrap_padded_on<A: Allocator, B: BlockPair>(
     alloc: A,
     pair: &B,

@@ -54,7 +54,7 @@ pub fn wrap_with<B: BlockPair>(
     wrap_on(alloc, pair, iv, key)
 }
 
-// `wrap_with` on any allocator, so that a test can refuse its growth.
+// `wrap_with` on any allocator, so that a test can refuse its allocation.
 pub(crate) fn wrap_on<A: Allocator, B: BlockPair>(
     alloc: A,
     pair: &B,
@@ -135,7 +135,7 @@ pub fn unwrap_with<B: BlockPair>(
     unwrap_on(alloc, pair, iv, text)
 }
 
-// `unwrap_with` on any allocator, so that a test can refuse its growth.
+// `unwrap_with` on any allocator, so that a test can refuse its allocation.
 pub(crate) fn unwrap_on<A: Allocator, B: BlockPair>(
     alloc: A,
     pair: &B,

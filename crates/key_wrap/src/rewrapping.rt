@@ -1,4 +1,4 @@
-//! Rewrapping from one pair and form to another, with one growth.
+//! Rewrapping from one pair and form to another, with one allocation.
 
 ghost use Rattle.std.specs.Prelude.{◌≡◌, ◌↔◌, ◌⊎◌, ℕ, List, length, Err, IfOk};
 ghost use Rattle.std.specs.Prelude.{IsOkUnless, IsTrue};
@@ -69,7 +69,7 @@ pub fn rewrap<O: BlockPair, N: BlockPair>(
     rewrap_on(alloc, old, old_form, new, new_form, text)
 }
 
-// `rewrap` on any allocator, so that a test can refuse its growth.
+// `rewrap` on any allocator, so that a test can refuse its allocation.
 pub(crate) fn rewrap_on<A: Allocator, O: BlockPair, N: BlockPair>(
     alloc: A,
     old: &O,

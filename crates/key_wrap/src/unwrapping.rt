@@ -1,4 +1,4 @@
-//! The checked unwrapping of the registers, wherever they lie: in a buffer behind C0, or in one of
+//! The checked unwrapping of the registers, wherever they lie: in a buffer after C0, or in one of
 //! their own.
 
 ghost use Rattle.std.specs.Prelude.{◌≡◌, ◌+◌, ◌*◌, ◌++◌, length, take, All, Err, IfOk};

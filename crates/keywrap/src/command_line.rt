@@ -1,4 +1,4 @@
-//! What the words of a command line ask for.
+//! What the arguments of a command line ask for.
 
 use crate::request::{Forms, Lines, Places, Request, Rewrap, Work};
 use key_wrap::Form;
@@ -6,7 +6,7 @@ use keywrap_cli::{Direction, Job, Notation, Task};
 use keywrap_words::{Command, CommandLine, Refusal};
 use std::alloc::Global;
 
-/// Reads the words, of which the first is the program's name.
+/// Reads the arguments, of which the first is the program's name.
 pub fn parse<'a>(alloc: Global, words: &'a [String]) -> Result<Request<'a>, Refusal> {
     let line = keywrap_words::parse(alloc, words)?;
     Ok(request(&line))

@@ -1,4 +1,4 @@
-//! The program: from its words to its exit status.
+//! The program: from its arguments to its exit status.
 
 use crate::command_line::parse;
 use crate::refused::Refused;
@@ -12,7 +12,7 @@ use std::rt::{Env, Files};
 use std::time::Clock;
 use std::{env, io};
 
-/// Runs the program on the words that it was started with, and answers its exit status.
+/// Runs the program on the arguments that it was started with, and answers its exit status.
 pub fn run<R: Print + Eprint + Input + AllocGlobal + Files<File = File> + Env + Clock>(
     rt: &R,
     terminals: Terminals,
@@ -79,7 +79,7 @@ fn refuse<R: Eprint>(rt: &R, fault: &ProgramFault) -> u8 {
     fault.status()
 }
 
-// Help goes to standard output, and what is wrong with the words to standard error.
+// Help goes to standard output, and what is wrong with the arguments to standard error.
 fn explain<R: Print + Eprint>(rt: &R, refusal: &Refusal) -> u8 {
     match refusal {
         Refusal::Help(text) => end(rt, write_help(text.as_str(), &mut io::writer(rt))),

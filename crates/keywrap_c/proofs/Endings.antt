@@ -1,4 +1,4 @@
--- A text's start is copied into a buffer, and a zero written behind it.
+-- A text's start is copied into a buffer, and a zero written after it.
 use Rattle.std.proofs.Common.{◌≡◌, ℕ, List, length, take, drop, ◌∷◌, ◌++◌, ◌+◌, ◌-◌, ◌<◌, min, suc, slice_set, ap, ap₂, sym, ◌∙◌, arith}
 use Rattle.std.proofs.lemmas.List.{set_split, take_at, drop_at, drop-drop, take_min, length-take, length-drop, length-append}
 use Rattle.keywrap_c.specs.StatusTexts.{fitting, begun_with}

@@ -11,7 +11,7 @@ use Rattle.key_wrap.specs.InPlace.{IsPaddedRoom, ArePlainLengths}
 use Rattle.key_wrap.specs.KeepForm.{IsSomeTextLength}
 use Rattle.keywrap_c.specs.Kinds.{HasScratch}
 
--- a buffer whose key has a legal length behind the first word
+-- a buffer whose key has a legal length after the first word
 pub plain_text_length : (buffer : List ℕ) → IsPlainKeyLength (length (drop 8 buffer)) → IsPlainTextLength (length buffer)
 plain_text_length buffer (whole, least, most) =
     let behind = length-drop 8 buffer in

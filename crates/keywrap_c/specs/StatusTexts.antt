@@ -12,10 +12,10 @@ text_of status =
     else (if int_eq status (pos 5) then codes "integrity check failed"
     else codes "unknown status"))))
 
--- as much of a text as a buffer has room for, with a zero behind it
+-- as much of a text as a buffer has room for, with a zero after it
 abbrev pub fitting : List ℕ → List ℕ → List ℕ
 fitting text buffer = take (length buffer - 1) text
 
--- the buffer with a text at its start, a zero behind that, and what stood there behind the zero
+-- the buffer with a text at its start, a zero after that, and what stood there after the zero
 abbrev pub begun_with : List ℕ → List ℕ → List ℕ
 begun_with text buffer = text ++ 0 ∷ drop (length text + 1) buffer

@@ -45,7 +45,7 @@ pub extern "C" fn keywrap_wrap_padded(kek: &[u8], key: &[u8], text: &mut [u8]) -
 }
 
 /// The key of which `text` is the padded wrapping under `kek`, into the first `*key_len` bytes of
-/// `key`, with zero bytes behind it (RFC 5649, section 4.2); at `INTEGRITY` every byte of `key` is
+/// `key`, with zero bytes after it (RFC 5649, section 4.2); at `INTEGRITY` every byte of `key` is
 /// zero. `*key_len` is 0 at each refusal.
 #[unsafe(no_mangle)]
 pub extern "C" fn keywrap_unwrap_padded(

@@ -1,4 +1,4 @@
-//! The padded form in one buffer of the wrapped key's length: the key stands behind the first 8
+//! The padded form in one buffer of the wrapped key's length: the key stands after the first 8
 //! bytes.
 
 ghost use Rattle.std.specs.Prelude.{◌≡◌, ◌↔◌, ◌++◌, ℕ, List, length, replicate, All};
@@ -18,7 +18,7 @@ use aes_vector::{LentAes, Room};
 use block_pair::Meter;
 use key_wrap::{InPlaceFault, unwrap_padded_in_place, wrap_padded_in_place};
 
-/// Wraps the key of `key_len` bytes behind the first 8 bytes of `buffer`, which are ignored as what
+/// Wraps the key of `key_len` bytes after the first 8 bytes of `buffer`, which are ignored as what
 /// follows it is, under `kek` in the padded form, into the whole buffer (RFC 5649, section 4.1).
 #[unsafe(no_mangle)]
 pub extern "C" fn keywrap_wrap_padded_in_place(kek: &[u8], buffer: &mut [u8], key_len: usize) -> i32

@@ -1,4 +1,4 @@
-//! The plain form in one buffer of the wrapped key's length: the key stands behind the first 8
+//! The plain form in one buffer of the wrapped key's length: the key stands after the first 8
 //! bytes.
 
 ghost use Rattle.std.specs.Prelude.{◌≡◌, ◌↔◌, ℕ, List, length, drop, take, replicate, All};
@@ -17,7 +17,7 @@ use aes_vector::{LentAes, Room};
 use block_pair::Meter;
 use key_wrap::{InPlaceFault, unwrap_in_place, wrap_in_place};
 
-/// Wraps the key behind the first 8 bytes of `buffer`, which are ignored, under `kek` in the plain
+/// Wraps the key after the first 8 bytes of `buffer`, which are ignored, under `kek` in the plain
 /// form, into the whole buffer (RFC 3394, section 2.2.1).
 #[unsafe(no_mangle)]
 pub extern "C" fn keywrap_wrap_in_place(kek: &[u8], buffer: &mut [u8]) -> i32

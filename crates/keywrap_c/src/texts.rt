@@ -5,7 +5,7 @@ ghost use Rattle.keywrap_c.specs.StatusTexts.{text_of, fitting, begun_with};
 
 use crate::status::{BAD_IV, BAD_KEK, BAD_LENGTH, DONE, INTEGRITY};
 
-/// Writes what `status` says into `text`, cut to fit, and a zero byte behind it; into no bytes it
+/// Writes what `status` says into `text`, cut to fit, and a zero byte after it; into no bytes it
 /// writes nothing. Answers the length of the whole text without the zero, which is not less than
 /// the buffer's where the text was cut.
 #[unsafe(no_mangle)]

@@ -25,7 +25,7 @@ unwrapped form iv E text (Err unwraps.BadLength) answer alone restores one = ans
 unwrapped form iv E text (Err unwraps.Integrity) answer alone restores one = answer
 unwrapped form iv E text (Err unwraps.Memory) answer alone restores one = answer
 
--- what a wrapping call says, by cases, behind the change of its fault
+-- what a wrapping call says, by cases, after the change of its fault
 pub wrapped : (form : Form) (iv : ℕ) (E : List ℕ → List ℕ) (key : List ℕ) (r : Result (Vec ℕ Global) WrapFault)
     (s : Result (Vec ℕ Global) UnwrapFault)
     → (r ≡ Err wraps.BadLength) ↔ ¬ IsInputLength Wrap form (length key)

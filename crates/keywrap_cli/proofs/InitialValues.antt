@@ -31,7 +31,7 @@ all_digits [] h = tt
 all_digits (c ∷ text) h =
     (digit_small c (All-head (λ d. is_hex_digit d ≡ true) c text h), all_digits text (All-tail (λ d. is_hex_digit d ≡ true) c text h))
 
--- digits in pairs decode to the bytes of the number that they write, behind a number n
+-- digits in pairs decode to the bytes of the number that they write, after a number n
 decoded : (i n : ℕ) (text : List ℕ) → length text % 2 ≡ 0 → AllDigits 16 text
     → (bytes : List ℕ) × (decode_pairs i text ≡ Ok bytes) × (number_from_digits_after 256 n bytes ≡ digits_value_after 16 n text)
 unfolding decode_pairs

@@ -55,7 +55,7 @@ pub record ReadsInput (notation : Notation) (old new : Option (List ℕ)) (answe
   pub too_long : (answer ≡ Err (InputFile files.TooLong)) ↔ (4194304 < length taken)
   pub answers : InputAnswer notation taken new answer
 
--- a job's fault for a file's: a growth that is refused is the job's own fault, and any other bears the file's name
+-- a job's fault for a file's: an allocation that failed is the job's own fault, and any other bears the file's name
 abbrev pub named_fault_of : (FileFault → JobFault) → FileFault → JobFault
 named_fault_of name files.Memory = Memory
 named_fault_of name fault = name fault

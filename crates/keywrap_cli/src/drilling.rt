@@ -1,5 +1,5 @@
-//! The drill: wrapping over a block that only exchanges its halves, so that answers can be worked
-//! by hand.
+//! The drill: wrapping under a toy cipher that swaps the halves of a block, so that answers can be
+//! checked by hand.
 
 ghost use Rattle.std.specs.Prelude.{◌≡◌, ◌↔◌, ℕ, Err};
 ghost use Rattle.key_files.specs.declared.fault.FileFault.TheVariants as FileFaults;
@@ -31,7 +31,7 @@ pub enum DrillFault {
     /// The input is no wrapping in this form.
     #[error("integrity check failed")]
     Integrity,
-    /// A growth was refused.
+    /// An allocation failed.
     #[error("out of memory")]
     Memory,
 }

@@ -58,7 +58,7 @@ pub enum ProgramFault {
     /// Standard output can't be flushed, or the new file not be put in its place.
     #[error("output: cannot be flushed")]
     Flush,
-    /// A growth was refused.
+    /// An allocation failed.
     #[error("out of memory")]
     Memory,
 }

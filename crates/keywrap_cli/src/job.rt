@@ -94,7 +94,7 @@ pub enum JobFault {
         /// How many bytes of the output went out.
         written: usize,
     },
-    /// A growth was refused.
+    /// An allocation failed.
     #[error("out of memory")]
     Memory,
 }

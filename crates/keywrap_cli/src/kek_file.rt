@@ -14,7 +14,7 @@ pub use aes_vector::VectorAes as Aes;
 /// Why a file gives no KEK. Its caller names which KEK it is.
 #[derive(Clone, Copy)]
 pub enum KekFault {
-    /// The file denotes no bytes, or a growth was refused while it was read.
+    /// The file denotes no bytes, or an allocation failed while it was read.
     File(FileFault),
     /// What the file denotes is not 16, 24 or 32 bytes long.
     Length,

@@ -17,7 +17,7 @@ use thiserror::Error;
 /// Why the vectors were not written.
 #[derive(Clone, Copy, Debug, PartialEq, Eq, Error)]
 pub enum VectorsFault {
-    /// A growth was refused, and nothing was written.
+    /// An allocation failed, and nothing was written.
     #[error("out of memory")]
     Memory,
     /// The writer took `written` bytes of the lines, and no more.

@@ -18,5 +18,5 @@ pub const FAILED: u8 = 5;
 /// A file or the output could not be opened, read or written.
 pub const INPUT_OUTPUT: u8 = 6;
 
-/// A growth was refused.
+/// An allocation failed.
 pub const MEMORY: u8 = 7;

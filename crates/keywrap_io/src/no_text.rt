@@ -47,7 +47,7 @@ fn of_no_base64(fault: Base64Fault, seen: &Seen, role: Role) -> Why {
             characters: seen.base64,
             padding: seen.padding,
         },
-        (_, Base64Fault::TrailingBits) => Why::Says("its last character is another, or cut off"),
+        (_, Base64Fault::TrailingBits) => Why::Says("its last character is wrong or cut off"),
     }
 }
 

@@ -179,7 +179,7 @@ const KEEP_FORM: Argument<'static> = Argument {
 // A rotation that was cut off is begun again with it.
 const PASS_NEW: Argument<'static> = Argument {
     name: "pass-new",
-    help: "Writes what is under the new KEK already as it is",
+    help: "Writes unchanged what is under the new KEK already",
     long_help: Some(PASS_NEW_HELP),
     ..FLAG
 };
@@ -222,7 +222,7 @@ const BASE64_WRAPPED: Argument<'static> = Argument {
 
 const BASE64URL_WRAPPED: Argument<'static> = Argument {
     name: "base64url",
-    help: "The same: check writes neither",
+    help: "The same as --base64: check writes no base64",
     conflicts: &["raw"],
     ..FLAG
 };
@@ -255,7 +255,7 @@ const BASE64_KEKS: Argument<'static> = Argument {
 
 const VERBOSE: Argument<'static> = Argument {
     name: "verbose",
-    help: "A refusal has a second line: which file, and why",
+    help: "As on a terminal: why it refuses, and likely mistakes",
     ..FLAG
 };
 
@@ -396,7 +396,7 @@ fn named<'a>(alloc: Global, wanted: Subcommand<'a>) -> Result<Command<'a>, Alloc
     command.display_name("keywrap")
 }
 
-// Each but a word stands behind its name.
+// The value of each but a word stands after its name.
 fn arg<'a>(alloc: Global, wanted: Argument<'a>) -> Result<Arg<'a>, AllocError> {
     let arg = Arg::new(alloc, wanted.name)
         .help(wanted.help)

@@ -63,9 +63,10 @@ Takes either form, and the new wrapped key keeps it. Not with
 /// What `--pass-new` does.
 pub const PASS_NEW_HELP: &str = "\
 A wrapped key that is not under the KEK, but under the new KEK
-already, in the form that an answer would have, is written as it is:
+already, in the form that the new one would have, is written as it is:
 so a rotation that was cut off can be begun again. What is damaged is
-still refused";
+still refused. With the KEKs exchanged by mistake all stays under the
+old one: before it goes, run check under the new one";
 
 /// What hex and base64 may hold, what each exit status says, and what to try.
 pub const NOTES: &str = "\
@@ -97,15 +98,14 @@ Exit status:
      The files may be right: try again with more memory.
 
 A refusal is one line on standard error; a refused command line is a message
-with the usage, and one line where the value of --iv or raw bytes to a terminal
+with the usage, but one line where an initial value or raw bytes to a terminal
 are the cause. Where standard error is a terminal, or with --verbose, a second
 line names the file and says why; and after an answer a line names a likely
-mistake: raw bytes that are text, a padded form that became plain. With --lines
-the last line says how many were answered.
-wrap, unwrap, rewrap, check and drill write nothing before their whole answer
-is right; vectors writes its lines, those that say failed too, once all are
-made. With --lines this applies line by line: the refusal names the line, and
-the answers to the lines before it are written.
+mistake: raw bytes that are hex digits, base64 or PEM, a padded form that
+became plain. With --lines the last line says how many were answered.
+Nothing is written before the whole answer is made. With --lines this applies
+line by line: the refusal names the line, and the answers to the lines before
+it are written.
 Status 5 without a line comes from check, which wrote `none`, and vectors,
 whose lines say which one failed.";
 

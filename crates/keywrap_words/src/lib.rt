@@ -1,5 +1,5 @@
-//! The words of the command `keywrap`: its subcommands and their arguments, the help, and what is
-//! said of words that were refused. What it reads and says is tested over the built program.
+//! The command line of `keywrap`: its subcommands and their arguments, the help, and what is said
+//! of arguments that were refused. What it reads and says is tested over the built program.
 #![tactic(auto)]
 
 mod commands;

@@ -1,4 +1,4 @@
-//! A command line, from its words: a subcommand with its arguments, or what is said instead.
+//! A command line, from its arguments: a subcommand with its own, or what is said instead.
 
 use crate::commands::keywrap;
 use crate::tips::message;
@@ -72,18 +72,18 @@ pub struct CommandLine<'a> {
     pub unwrap: bool,
 }
 
-/// What is said in place of what the words ask for.
+/// What is said in place of what the arguments ask for.
 #[derive(Drop)]
 pub enum Refusal {
     /// The help or the version that was asked for, which goes to standard output.
     Help(String),
-    /// What is wrong with the words, which goes to standard error.
+    /// What is wrong with the arguments, which goes to standard error.
     Words(String),
     /// An allocation failed.
     Memory,
 }
 
-/// Reads the words, of which the first is the program's name.
+/// Reads the arguments, of which the first is the program's name.
 pub fn parse<'a>(alloc: Global, words: &'a [String]) -> Result<CommandLine<'a>, Refusal> {
     match read(alloc, words) {
         Ok(line) => Ok(line),
@@ -91,7 +91,7 @@ pub fn parse<'a>(alloc: Global, words: &'a [String]) -> Result<CommandLine<'a>, 
     }
 }
 
-/// What is said of words that are not UTF-8.
+/// What is said of arguments that are not UTF-8.
 pub fn not_text(alloc: Global) -> Refusal {
     match not_text_message(alloc) {
         Ok(text) => Refusal::Words(text),
@@ -117,7 +117,7 @@ fn refused(alloc: Global, words: &[String], error: &Error) -> Refusal {
     text.unwrap_or(Refusal::Memory)
 }
 
-/// Reads the words as `clap` takes them.
+/// Reads the arguments as `clap` takes them.
 pub fn read<'a>(alloc: Global, words: &'a [String]) -> Result<CommandLine<'a>, Error> {
     let matches = keywrap(alloc)?.try_get_matches_from(words)?;
     checked(alloc, taken(matches.subcommand()))

@@ -37,7 +37,7 @@ const OLD_PADDED: &str =
 
 const KEY: &str = "the KEK is --kek FILE, and the key or the wrapped key --input FILE";
 
-const HEX: &str = "there is no such flag: what no flag says to be raw or base64 is hex";
+const HEX: &str = "hex needs no flag: files are hex unless a flag says raw or base64";
 
 const BASE64: &str =
     "the input and the answer are base64 with --base64, and the KEK file with --base64-kek";
@@ -61,9 +61,9 @@ const USAGE: &str = "\n\nUsage: ";
 // Where clap's own tip begins.
 const TIP: &str = "\n\n  tip: ";
 
-/// The message on words that were refused, the first of which is the program's name. A tip stands
-/// where clap has its own, and there is one at most. The message shows a refused word: its control
-/// characters stand there escaped, since it goes to a terminal.
+/// The message on arguments that were refused, the first of which is the program's name. A tip
+/// stands where clap has its own, and there is one at most. The message shows a refused argument:
+/// its control characters stand there escaped, since it goes to a terminal.
 pub fn message(alloc: Global, words: &[String], error: &Error) -> Result<String, AllocError> {
     let mut shown = Vec::new(alloc);
     for word in words {
@@ -83,8 +83,8 @@ fn on_shown(alloc: Global, shown: &[String], error: &Error) -> Result<String, Al
     with_tip(alloc, shown, error)
 }
 
-/// The word with `\x1b` for an escape and `\u{202e}` for a character that turns the text around, and
-/// the like.
+/// The argument with `\x1b` for an escape and `\u{202e}` for a character that turns the text
+/// around, and the like.
 pub fn escaped(alloc: Global, word: &str) -> Result<String, AllocError> {
     let mut shown = String::new(alloc);
     for c in word.chars() {
@@ -224,7 +224,7 @@ fn tip_on_guess(named: &str) -> Option<&'static str> {
     }
 }
 
-// The command that the first word after the program's name is, if it is one.
+// The command that the first argument after the program's name is, if it is one.
 fn first_word(words: &[String]) -> Option<Command> {
     command_of(words.get(1)?.as_str())
 }

@@ -230,7 +230,7 @@ def rewrap(
 
 
 def check(kek: ReadableBuffer, wrapped: ReadableBuffer) -> Optional[Kind]:
-    """The form in which a key was wrapped to this under the KEK; `None` where it is no wrapped key.
+    """The form of the wrapped key under the KEK; `None` where it is no wrapped key under it.
 
     The key is not given out. `BadKekLength` is the only refusal.
     """

@@ -44,7 +44,7 @@ class BadLength(KeywrapError, ValueError):
 
 
 class IntegrityFailed(KeywrapError):
-    """The integrity check failed: nothing was wrapped to this under this KEK."""
+    """The integrity check failed: another KEK, form or initial value, or damage."""
 
 
 def bad_length(what: str, length: int, legal: str) -> BadLength:

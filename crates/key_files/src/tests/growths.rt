@@ -1,4 +1,4 @@
-//! Heaps of every size, so that each growth in turn is the first that is refused: the answer is
+//! Heaps of every size, so that each allocation in turn is the first that is refused: the answer is
 //! Memory, or the one that there is with ample memory.
 
 use super::doubles::{Narrow, Trickle};

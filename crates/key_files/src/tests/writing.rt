@@ -66,7 +66,7 @@ fn each_refused_write_is_counted(rt: HostRuntime) -> Result<(), Fail> {
     Ok(())
 }
 
-// The line as raw bytes, and the bytes as this line. A stop behind the last byte is not met.
+// The line as raw bytes, and the bytes as this line. A stop after the last byte is not met.
 fn stops_after(
     rt: &impl Abort,
     alloc: Global,

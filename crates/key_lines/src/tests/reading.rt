@@ -1,4 +1,4 @@
-//! Lines of every length about the limit and the reader's buffer, and growths that are refused.
+//! Lines of every length about the limit and the reader's buffer, and allocations that are refused.
 
 use super::doubles::Trickle;
 use crate::{Line, read_line};

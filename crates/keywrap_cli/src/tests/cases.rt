@@ -83,7 +83,7 @@ impl<'a> Case<'a> {
     }
 
     /// Whether the call reads the file at this place: only a `Rewrap` reads a new KEK, and none
-    /// what stands behind a refused KEK.
+    /// what stands after a refused KEK.
     pub fn reads(&self, at: usize) -> bool {
         match self.2 {
             Err(JobFault::KekFile(_) | JobFault::KekLength) => at == 0,

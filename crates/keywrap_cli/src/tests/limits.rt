@@ -99,7 +99,7 @@ fn takes_files_of_the_largest_size_and_no_more(rt: HostRuntime) -> Result<(), Fa
     Ok(())
 }
 
-// The bytes, and behind them another up to a length.
+// The bytes, and after them another up to a length.
 fn filled(alloc: Global, bytes: &[u8], (byte, len): (u8, usize)) -> Result<Vec<u8>, AllocError> {
     let mut file = bytes.to_vec(alloc)?;
     file.resize(bytes.len().max(len), byte)?;

@@ -67,7 +67,7 @@ pub static CASES: [Case; 23] = [
     Case(TO_PADDED, [HEX_KEK, NEW_KEK, HEX_TEXT], WRITTEN, NEW_PADDED),
     Case(TO_PLAIN, [NEW_KEK, HEX_KEK, NEW_PADDED], WRITTEN, HEX_TEXT),
     Case(PADDED, [PADDED_KEK, NEW_KEK, TEXT_OF_7], WRITTEN, NEW_OF_7),
-    // a refused KEK, whatever stands behind it
+    // a refused KEK, whatever stands after it
     Case(PLAIN, [b"", NEW_KEK, HEX_TEXT], KEK_LENGTH, b""),
     Case(PLAIN, [FIFTEEN, b"0g", HEX_TEXT], KEK_LENGTH, b""),
     Case(PLAIN, [b"0g", b"", HEX_TEXT], KEK_DIGIT, b""),

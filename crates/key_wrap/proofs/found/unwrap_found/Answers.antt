@@ -1,4 +1,4 @@
--- The machine was given the text, its first word and the rest, and leaves the registers behind the first word.
+-- The machine was given the text, its first word and the rest, and leaves the registers after the first word.
 use Rattle.std.proofs.Common.{rules, ◌≡◌, ℕ, List, length, take, drop, ◌-◌, ◌++◌, arith, refl}
 use borrow.Rule.Slice.PartMut.{put_mid}
 use Rattle.key_wrap.specs.Words.{word_bytes}

@@ -1,4 +1,4 @@
--- The machine runs from the initial value and the registers behind the first word, and C0 is written before them.
+-- The machine runs from the initial value and the registers after the first word, and C0 is written before them.
 use Rattle.std.proofs.Common.{rules, ◌≡◌, ℕ, List, length, take, drop, ◌++◌, ◌-◌, arith, ap, ◌∙◌, length-drop}
 use Rattle.std.proofs.lemmas.List.{take_all}
 use Rattle.key_wrap.specs.Words.{word_bytes}

@@ -1,4 +1,4 @@
--- The machine runs from the initial value and the key behind the first word, and C0 is written before it.
+-- The machine runs from the initial value and the key after the first word, and C0 is written before it.
 use Rattle.std.proofs.Common.{rules, ◌≡◌, ℕ, List, length, take, drop, ◌++◌, ◌-◌, arith, ap, ◌∙◌, length-drop}
 use Rattle.std.proofs.lemmas.List.{take_all}
 use borrow.Rule.Slice.PartMut.{put_mid}

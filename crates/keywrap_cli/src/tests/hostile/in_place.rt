@@ -70,7 +70,7 @@ fn calls_for(text: &[u8]) -> u64 {
     }
 }
 
-// So many bytes `other`, with the key behind the first 8.
+// So many bytes `other`, with the key after the first 8.
 fn room_for(alloc: Global, key: &[u8], other: u8, len: usize) -> Result<Vec<u8>, AllocError> {
     let mut buf = vec![in alloc; other; 8]?;
     buf.extend_from_slice(key)?;
@@ -78,7 +78,7 @@ fn room_for(alloc: Global, key: &[u8], other: u8, len: usize) -> Result<Vec<u8>,
     Ok(buf)
 }
 
-// Unwraps a copy of a text, and says that the copy becomes the key behind zeros, or that the text
+// Unwraps a copy of a text, and says that the copy becomes the key after zeros, or that the text
 // is refused and the copy cleared.
 pub(super) fn unwraps_to<B: BlockPair>(
     rt: &impl Abort,

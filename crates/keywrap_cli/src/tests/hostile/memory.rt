@@ -1,4 +1,4 @@
-//! Each growth refused in turn: a call answers Memory and has written nothing, or answers all.
+//! Each allocation refused in turn: a call answers Memory and has written nothing, or answers all.
 //! tests/allocations.sh runs these tests over an allocator that refuses; the gate's refuses none.
 
 use super::super::cases::{Case, run};

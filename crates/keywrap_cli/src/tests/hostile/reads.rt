@@ -14,7 +14,7 @@ static READ_FAULTS: [JobFault; 3] = [
     JobFault::InputFile(FileFault::Read),
 ];
 
-// Nothing is written then, and the files behind are not read. The fault comes before what the bytes
+// Nothing is written then, and the later files are not read. The fault comes before what the bytes
 // denote, and a reader that would go on is not asked again.
 pub(super) fn fail_each_read(rt: &impl Abort, alloc: Global, case: &Case) {
     let Case(call, bytes, ..) = *case;

@@ -8,7 +8,7 @@ use crate::report::{VectorsFault, vectors};
 use std::alloc::Global;
 use std::process::Abort;
 
-// A writer that would go on is not asked again, and one that stops behind the output is not met.
+// A writer that would go on is not asked again, and one that stops after the output is not met.
 pub(super) fn stop_each_write(rt: &impl Abort, alloc: Global, case: &Case) {
     let Case(call, _, wanted, output) = *case;
     for room in 0..=output.len() {
