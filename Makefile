@@ -137,10 +137,13 @@ js:
 test:
 	scripts/tests.sh
 
-# The scripts run the program that rt ci proved and built, and the launcher finds it built of its sources. One that
-# is changed meanwhile is no longer what was written down before. They run its test programs, too.
+# The scripts run the program that rt ci proved and built, by the compiler of the first use, and the launcher finds
+# it built of its sources. One that is changed meanwhile is no longer what was written down before. They run its
+# test programs, too.
 gate:
 	built_from=$$(scripts/sources.sh) && rt ci && \
+	    { [ ! -e crates/keywrap/out/keywrap.by-rattle ] || \
+	        install -m 755 crates/keywrap/out/keywrap.by-rattle crates/keywrap/out/keywrap; } && \
 	    printf '%s\n' "$$built_from" >crates/keywrap/out/built_from
 	TESTS=crates $(MAKE) --no-print-directory test
 

@@ -58,6 +58,15 @@ mkdir bare
 row 'the archive of the command' is_installed command "$command" README
 row 'the packed program is the program' cmp "$program" "bare/$command/bin/keywrap"
 row 'the archive of the library' is_installed library "$packed" README.library
+# says_where: pkg-config finds the header and the library where the archive was unpacked.
+says_where() {
+    local header library
+    read -r header library < <(PKG_CONFIG_PATH=bare/$packed/lib/pkgconfig pkg-config \
+        --cflags-only-I --libs-only-L keywrap)
+    [ "${header#-I}/keywrap.h" -ef "bare/$packed/include/keywrap.h" ] &&
+        [ "${library#-L}/libkeywrap.so" -ef "bare/$packed/lib/libkeywrap.so" ]
+}
+! has pkg-config pkg-config 'its keywrap.pc' || row 'its keywrap.pc' says_where
 
 # links FOLDER: each link of its documents that leads to no page of the web leads to a file there, and to its heading.
 links() {

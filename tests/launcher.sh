@@ -119,20 +119,19 @@ begins=('first_four: lib --jobs 4' 'fourth_four: lib --jobs 4' 'second_four: lib
 sorted_notes() { LC_ALL=C sort -o notes notes; }
 # most_at_once: how many were at work at once.
 most_at_once() { awk '/^[a-z_]*: /{ n++ } /^end/{ n-- } n > most { most = n } END { print most + 0 }' notes; }
-# at_once PROCESSORS N EVENT: so many are at work at once, each with as many jobs, and the program comes last.
+# at_once PROCESSORS JOBS N EVENT: N are at work at once, each with so many jobs, and the program comes last.
 at_once() {
     fresh
-    processors=$1 at='.*_four' event=$3 launch
-    verdict "$1 processors" "$([ "$status" = 5 ] || cat err; [ "$(most_at_once)" = "$2" ] || cat notes
+    processors=$1 at='.*_four' event=$4 launch
+    verdict "$1 processors" "$([ "$status" = 5 ] || cat err; [ "$(most_at_once)" = "$3" ] || cat notes
         sed -n 's/.* --jobs \([0-9]*\).*/\1/p' notes | grep -vx "$2")"
     verdict "$1 processors: what is built" "$(LC_ALL=C sort notes | sed -n 's/: lib .*//p' | paste -sd ' ' |
         diff - <(echo above_second first_four fourth_four second_four third_four)
-        tail -n 2 notes | diff - <(printf '%s\n' "keywrap: run --jobs $2 -- --version" 'ends keywrap'))"
+        tail -n 2 notes | diff - <(printf '%s\n' "keywrap: run --backend rattle --jobs $2 -- --version" 'ends keywrap'))"
 }
-at_once 1 1 ''
-at_once 2 2 'until_true begun 2; sleep 0.2'
-at_once 4 4 'until_true begun 4; sleep 0.2'
-at_once 9 4 'until_true begun 4; sleep 0.2'
+at_once 1 1 3 'until_true begun 3; sleep 0.2'
+at_once 2 2 4 'until_true begun 4; sleep 0.2'
+at_once 9 4 4 'until_true begun 4; sleep 0.2'
 
 fresh; at='(first|third|fourth)_four' event='until_true grep -q "^ends above" "$tree/notes"' launch
 verdict 'a crate begins where those below it are proved' "$([ "$status" = 5 ] || cat err

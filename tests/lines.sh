@@ -248,6 +248,13 @@ going_on 'a digit among none' 6 "$wrong\ng\n$wrapped16\n" 'none\n\nplain 16\n' "
 # Of a long run too, with LF at its end and without.
 yes $d16 | head -n 4999 >most.keys
 yes $wrapped16 | head -n 4999 >most.wrapped
+# Each is said once, in the order of the lines, and before the answer to its line goes out.
+sed '0~999s/.*/g/' most.keys >in
+"$program" "${wraps[@]}" --keep-going <in >met 2>&1
+verdict 'each refusal as its line is met' "$(awk -v says=": $digit" '
+    /^keywrap/ { line += 999; if ($0 != "keywrap: line " line says || answers >= line) print; next }
+    { answers++ }
+    END { if (line != 4995 || answers != 4999) print answers " answers, refused up to " line }' met)"
 { cat most.keys && echo 0; } >in
 written 'the last of 5,000 lines' 6 most.wrapped 'keywrap: line 5000: odd number of hex digits' old in "${wraps[@]}"
 truncate -s -1 in
@@ -494,16 +501,16 @@ shows() {
     verdict "$1" "$problem"
 }
 
-# is_right LINES SECONDS: reads how far a run was over so many lines, in so many seconds in all, each at least half a
-# second after the one before: what is said of its pace, the part that is done and the time that is left is so.
+# is_right LINES SECONDS PAUSE: reads how far a run was over so many lines, in so many seconds in all, each at least the
+# pause after the one before: what is said of its pace, the part that is done and the time that is left is so.
 is_right() {
-    awk -v all="$1" -v most="$2" '{
-        lines = $2; pace = $4; done = $7; left = $10; part = lines / all; least = NR / 2
+    awk -v all="$1" -v most="$2" -v pause="$3" '{
+        lines = $2; pace = $4; done = $7; left = $10; part = lines / all; least = NR * pause
         if (pace > lines / least || pace + 1 < lines / most) print "the pace of: " $0
         if (done > 100 * part + 1 || done + 1 < 100 * part) print "the part of: " $0
         if (left > most * (1 - part) / part + 1 || left + 1 < least * (1 - part) / part) print "the rest of: " $0
     }
-    END { if (NR == 0 || NR > 2 * most) print NR " times in " most " s" }'
+    END { if (NR < 5 || NR * pause > most) print NR " times in " most " s" }'
 }
 if [ "$(script -qec 'echo here' /dev/null 2>&1 | tr -d '\r')" = here ]; then
     exec 8<>pipe
@@ -553,17 +560,20 @@ if [ "$(script -qec 'echo here' /dev/null 2>&1 | tr -d '\r')" = here ]; then
     verdict 'answers to one terminal of two' "$(cmp inner.shown <(head -n 6 most.wrapped) 2>&1)"
     verdict 'the refusal on the other' "$([ "$status $(head -n 1 screen)" = "6 keywrap: line 7: $digit" ] ||
         echo "status $status, it shows $(shown screen)")"
-    # A regular file has a length.
-    yes $d16 | head -n 600000 >million
-    began=${EPOCHREALTIME/.}
-    # shellcheck disable=SC2016
-    on_terminal '"$program" wrap --lines --kek kek16.hex --input million >out'
-    seconds=$(((${EPOCHREALTIME/.} - began) / 1000000 + 1))
-    tr -d '\n' <shown.raw | tr '\r\033' '<^' >screen
-    far="$far, [0-9]+ % done, [0-9]+ s left" last='keywrap: 600000 lines: 600000 answered, 0 refused'
-    row 'how far a file is' grep -qxE "($(once "$far"))+$erased$last<" screen
-    verdict 'what is said of it' "$(grep -oE "$far" screen | is_right 600000 $seconds)"
-    rm million
+    # A regular file has a length. It is read in five parts of 65,536 bytes, each of which takes a while.
+    if [ -e fail_read.so ]; then
+        yes $d16 | head -n 9900 >in
+        began=${EPOCHREALTIME/.}
+        # shellcheck disable=SC2016
+        on_terminal 'LD_PRELOAD=./fail_read.so SLOW_READ=600 "$program" wrap --lines --kek kek16.hex --input in >out'
+        seconds=$(((${EPOCHREALTIME/.} - began) / 1000000 + 1))
+        tr -d '\n' <shown.raw | tr '\r\033' '<^' >screen
+        far="$far, [0-9]+ % done, [0-9]+ s left" last='keywrap: 9900 lines: 9900 answered, 0 refused'
+        row 'how far a file is' grep -qxE "($(once "$far"))+$erased$last<" screen
+        verdict 'what is said of it' "$(grep -oE "$far" screen | is_right 9900 $seconds 0.6)"
+    else
+        skip 'how far a file is' 'no C compiler' gcc
+    fi
     exec 8<&-
 else
     skip 'the progress on a terminal' 'no script, or it makes no terminal' bsdutils

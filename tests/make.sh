@@ -94,6 +94,7 @@ scripts; fresh
 at='a tree' event=$ci does 'make gate' 0 '42 passed, 0 failed, 1 skipped' make gate -- "${in_gate[@]}"
 same 'the gate comes first' 'a tree: ci' "$(head -n 1 notes)"
 does 'the program after the gate' 5 '' ./keywrap --
+verdict 'it is that of the compiler of the first use' "$(tail -n 1 $program | grep -v 'by the other compiler$')"
 script command '1 passed, 1 failed, 0 skipped' 1
 at='a tree' event=$ci does 'a gate whose script fails' 2 '41 passed, 1 failed, 0 skipped' make gate -- "${in_gate[@]}"
 fresh

@@ -11,7 +11,7 @@
 
 #include "one_table.h"
 
-enum { LONGEST = 1024, ROOM = LONGEST + 8 };
+enum { LONGEST = 1024, ROOM = LONGEST + 8, LONGEST_DAMAGED = 40 };
 
 /* One call on the bytes below, at a KEK and a key of so many bytes: what it answers. */
 typedef int32_t call(size_t kek_len, size_t len);
@@ -157,16 +157,19 @@ static void mark(int undefined) {
     }
 }
 
-/* The reports of one call on secrets, whose answer must be the one on bytes that are none. */
-static unsigned reports(const struct watched *watched, size_t kek_len, size_t len) {
+/* The reports of one call on secrets, whose answer must be the one on bytes that are none; with
+ * damage the text that it takes fails its integrity check. */
+static unsigned reports(const struct watched *watched, size_t kek_len, size_t len, int damage) {
     static uint8_t expected[ROOM];
+    int32_t wanted = damage ? KEYWRAP_INTEGRITY : KEYWRAP_OK;
     forms = watched->forms;
     mark(0);
     if (watched->prepare) {
         if (watched->prepare(kek_len, len) != KEYWRAP_OK) exit(2);
         memcpy(text, out, sizeof text);
     }
-    if (watched->run(kek_len, len) != KEYWRAP_OK) exit(2);
+    if (damage) text[0] ^= 1;
+    if (watched->run(kek_len, len) != wanted) exit(2);
     memcpy(expected, out, sizeof expected);
 
     mark(1);
@@ -175,11 +178,22 @@ static unsigned reports(const struct watched *watched, size_t kek_len, size_t le
     unsigned found = (unsigned)VALGRIND_COUNT_ERRORS - before;
     (void)VALGRIND_MAKE_MEM_DEFINED(&status, sizeof status);
     (void)VALGRIND_MAKE_MEM_DEFINED(out, sizeof out);
-    if (status != KEYWRAP_OK || memcmp(out, expected, sizeof out)) exit(3);
+    if (status != wanted || memcmp(out, expected, sizeof out)) exit(3);
     return found;
 }
 
-/* usage: secrets LENGTHS        keys of up to so many bytes */
+/* Watches a call at all sizes of KEK and at keys of up to so many bytes, and prints its line. */
+static void watch(const struct watched *watched, size_t longest, int damage) {
+    unsigned found = 0, calls = 0;
+    for (size_t kek_len = 16; kek_len <= 32; kek_len += 8)
+        for (size_t len = watched->shortest; len <= longest && len <= watched->most;
+             len += watched->step, calls++)
+            found += reports(watched, kek_len, len, damage);
+    printf("%s%s: %u reports in %u calls\n", watched->name, damage ? ", damaged" : "", found, calls);
+    fflush(stdout);
+}
+
+/* usage: secrets LENGTHS        keys of up to so many bytes, damaged ones of up to 40 */
 int main(int argc, char **argv) {
     size_t longest = argc == 2 ? strtoul(argv[1], NULL, 10) : 0;
     if (longest < 16 || longest > LONGEST || !RUNNING_ON_VALGRIND) return 64;
@@ -190,13 +204,8 @@ int main(int argc, char **argv) {
     }
     for (size_t i = 0; i < sizeof key; i++) key[i] = (uint8_t)(11 * i + 3);
     for (size_t c = 0; c < sizeof CALLS / sizeof *CALLS; c++) {
-        unsigned found = 0, calls = 0;
-        for (size_t kek_len = 16; kek_len <= 32; kek_len += 8)
-            for (size_t len = CALLS[c].shortest; len <= longest && len <= CALLS[c].most;
-                 len += CALLS[c].step, calls++)
-                found += reports(CALLS + c, kek_len, len);
-        printf("%s: %u reports in %u calls\n", CALLS[c].name, found, calls);
-        fflush(stdout);
+        watch(CALLS + c, longest, 0);
+        if (CALLS[c].prepare) watch(CALLS + c, longest < LONGEST_DAMAGED ? longest : LONGEST_DAMAGED, 1);
     }
     return 0;
 }

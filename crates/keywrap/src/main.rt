@@ -3,6 +3,7 @@
 
 mod command_line;
 mod many;
+mod no_text;
 mod notes;
 mod open_keks;
 mod program;

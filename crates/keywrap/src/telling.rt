@@ -1,5 +1,6 @@
 //! What is told of a refused run: its fault, and which of its files was the cause, and why.
 
+use crate::no_text::of_file;
 use crate::notes::mistaken;
 use crate::refused::Refused;
 use crate::request::{Forms, Places, Work};
@@ -7,7 +8,7 @@ use key_files::{Base64Fault, FileFault};
 use key_lines::LineFault;
 use key_wrap::{Form, InPlaceFault, MAX_KEY};
 use keywrap_cli::{Job, JobFault, Notation, ProgramFault, RefusedLine};
-use keywrap_io::{OutputFault, Role, Seen, Text, Why, of_file};
+use keywrap_io::{OutputFault, Role, Seen, Text, Why};
 use keywrap_words::escaped;
 use std::alloc::{AllocError, Global};
 use std::io;

@@ -10,7 +10,6 @@ mod hostile;
 mod initial_values;
 mod jobs;
 mod keyed;
-mod limits;
 mod rewraps;
 mod standards;
 mod vectors;

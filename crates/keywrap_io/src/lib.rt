@@ -5,7 +5,6 @@
 
 mod advice;
 mod kek_files;
-mod no_text;
 mod output_file;
 mod pem;
 mod progress;
@@ -18,7 +17,6 @@ mod why;
 
 pub use advice::{Advice, Role};
 pub use kek_files::KekFiles;
-pub use no_text::of_file;
 pub use output_file::{OutputFault, OutputFile, create};
 pub use pem::Pem;
 pub use progress::{Counted, Progress};

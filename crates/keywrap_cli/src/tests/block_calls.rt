@@ -5,9 +5,11 @@ ghost use Rattle.block_pair.specs.HalvesLaw.{swap_halves_lawful};
 
 use crate::job::{Job, Notation, Task};
 use crate::key_job::KeyJob;
+use crate::rewrap_job::RewrapJob;
+use crate::rewrapping::{RewrapForms, Rewrapping};
 use block_pair::{BlockPair, SwapHalves};
 use key_lines::LineJob;
-use key_wrap::{Form, InitialValue};
+use key_wrap::{AgreedForm, Form, InitialValue, wrap, wrap_padded};
 use std::cell::Cell;
 use std::test::Fail;
 
@@ -18,6 +20,12 @@ struct Tally {
 }
 
 impl Tally {
+    fn new() -> Self {
+        Tally {
+            blocks: Cell::new(0),
+        }
+    }
+
     fn tick(&self) {
         self.blocks.set(self.blocks.get().saturating_add(1));
     }
@@ -68,15 +76,90 @@ fn a_line_costs_six_calls_for_eight_bytes(rt: HostRuntime) -> Result<(), Fail> {
                 input: Notation::Hex,
                 kek: Notation::Hex,
             },
-            pair: Tally {
-                blocks: Cell::new(0),
-            },
+            pair: Tally::new(),
             neither: Cell::new(false),
         };
         let (mut bytes, mut output) = (Vec::new(rt.alloc()), Vec::new(rt.alloc()));
         bytes.resize(len, 0)?;
         let _outcome = run.answer(&mut bytes, &mut output);
         assert_eq!(rt; run.pair.blocks.get(), calls, "{job:?} of {len} bytes");
+    }
+    Ok(())
+}
+
+// Whether the form is kept, and else from which form to which.
+type Change = (bool, Form, Form);
+
+const KEPT: Change = (true, Form::Plain, Form::Plain);
+
+const PLAIN: Change = (false, Form::Plain, Form::Plain);
+
+const TO_PADDED: Change = (false, Form::Plain, Form::Padded);
+
+const TO_PLAIN: Change = (false, Form::Padded, Form::Plain);
+
+const PADDED: Change = (false, Form::Padded, Form::Padded);
+
+fn forms_of((kept, old, new): Change) -> RewrapForms {
+    if kept {
+        return RewrapForms::Kept;
+    }
+    RewrapForms::Changed {
+        old: AgreedForm::by_default(old),
+        new: AgreedForm::by_default(new),
+    }
+}
+
+// The forms, whether what is new passes, the form of the wrapped key and the zeros in it, and the
+// calls under the old KEK and under the new one. An unwrapping and a wrapping cost what they do
+// above, a refused one too, and what is not made costs nothing. What is new is unwrapped under the
+// new KEK, and wrapped again.
+static REWRAPS: [(Change, bool, Form, usize, [u64; 2]); 13] = [
+    (KEPT, false, Form::Plain, 24, [18, 18]),
+    (KEPT, false, Form::Padded, 8, [1, 1]),
+    (KEPT, true, Form::Padded, 17, [18, 18]),
+    (PLAIN, false, Form::Plain, 16, [12, 12]),
+    (TO_PADDED, true, Form::Plain, 24, [18, 18]),
+    (TO_PLAIN, false, Form::Padded, 24, [18, 18]),
+    (PADDED, false, Form::Padded, 8, [1, 1]),
+    // no key for the plain form, and the wrong form
+    (TO_PLAIN, false, Form::Padded, 8, [1, 0]),
+    (TO_PLAIN, true, Form::Padded, 17, [18, 0]),
+    (PLAIN, false, Form::Padded, 24, [18, 0]),
+    (PLAIN, true, Form::Padded, 24, [18, 18]),
+    // no wrapping in the old form, but one in the new
+    (TO_PLAIN, true, Form::Plain, 24, [18, 36]),
+    (TO_PADDED, true, Form::Padded, 24, [18, 36]),
+];
+
+#[test]
+fn a_rewrapped_line_costs_an_unwrapping_and_a_wrapping(rt: HostRuntime) -> Result<(), Fail> {
+    for (change, passes_new, form, len, calls) in REWRAPS {
+        let run = RewrapJob {
+            task: Rewrapping {
+                forms: forms_of(change),
+                passes_new,
+                input: Notation::Hex,
+                kek: Notation::Hex,
+            },
+            old: Tally::new(),
+            new: Tally::new(),
+            passed: Cell::new(0),
+        };
+        let mut key = Vec::new(rt.alloc());
+        key.resize(len, 0)?;
+        let mut bytes = match form {
+            Form::Plain => wrap(rt.alloc(), &SwapHalves, &key)?,
+            Form::Padded => wrap_padded(rt.alloc(), &SwapHalves, &key)?,
+        };
+        let mut output = Vec::new(rt.alloc());
+        let _outcome = run.answer(&mut bytes, &mut output);
+        assert_eq!(rt;
+            [run.old.blocks.get(), run.new.blocks.get()],
+            calls,
+            "{:?}, passing {passes_new}, of {form:?} {len}",
+            change
+        );
     }
     Ok(())
 }

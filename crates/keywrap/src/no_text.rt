@@ -1,10 +1,7 @@
 //! Why a file denotes no bytes: what it is instead, and what to try.
 
-use crate::advice::{Advice, Role};
-use crate::text::Text;
-use crate::watched::Seen;
-use crate::why::Why;
 use key_files::{Base64Fault, FileFault};
+use keywrap_io::{Advice, Role, Seen, Text, Why};
 
 /// Why a file of which this was seen denotes no bytes.
 pub fn of_file(fault: FileFault, seen: &Seen, role: Role) -> Why {
