@@ -12,7 +12,7 @@
 
 # What needs nothing of the longest chain is proved in the time that the chain leaves.
 beside = $(filter keywrap_io keywrap_words,$(CRATES))
-$(beside): gently = nice -n 5
+$(beside): gently = nice -n 19
 
 keywrap: WORDS = run --backend rattle --jobs $(JOBS) -- --version
 $(CRATES): WORDS = lib --jobs $(JOBS)

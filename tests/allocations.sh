@@ -172,7 +172,7 @@ grows() {
     local input kilobytes problem=''
     input=$(file_of "$5")
     rm -f to/*
-    for ((kilobytes = start; kilobytes < start + 8192; kilobytes += 4)); do
+    for ((kilobytes = start; kilobytes < start + 12288; kilobytes += 4)); do
         echo old >to/file
         limited "$kind" $kilobytes "${@:6}" <"$input" >out 2>err
         status=$?
