@@ -1,7 +1,7 @@
 # Proves the crates of the program side by side, each after those below it, and then builds the program: what
 # the launcher calls, from the top of the repository. rt's own locks let those wait that share a crate.
 #
-# CRATES are the crates below the program that have a folder here, and JOBS is how many jobs each rt takes. Into
+# CRATES are the crates below the program that have a folder here, and JOBS is how many jobs rt takes at most. Into
 # the folder LOGS, of the environment, goes what each says: as NAME.log while it is at work on crates/NAME, and where
 # it failed, and as NAME.proved afterwards.
 #
@@ -10,12 +10,16 @@
 
 .PHONY: keywrap $(CRATES)
 
-# What needs nothing of the longest chain is proved in the time that the chain leaves.
-beside = $(filter keywrap_io keywrap_words,$(CRATES))
-$(beside): gently = nice -n 19
+# Four jobs of one crate do nearly twice the work of one, so what is proved beside others has one, and the longest
+# chain two. What needs nothing of that chain is proved in the time that it leaves.
+keywrap: jobs = $(JOBS)
+$(CRATES): jobs = 1
+aes_block aes_vector key_wrap: jobs = $(if $(filter 1,$(JOBS)),1,2)
+keywrap_cli: jobs = $(JOBS)
+keywrap_io keywrap_words: gently = nice -n 19
 
-keywrap: WORDS = run --backend rattle --jobs $(JOBS) -- --version
-$(CRATES): WORDS = lib --jobs $(JOBS)
+keywrap: WORDS = run --backend rattle --jobs $(jobs) -- --version
+$(CRATES): WORDS = lib --jobs $(jobs)
 
 # A signal to make ends rt: no shell stands between them.
 keywrap $(CRATES):

@@ -114,17 +114,17 @@ mv kept.mk scripts/first_use.mk
 # Four that need no other of these, and a fifth above the second.
 crates first_four: second_four: third_four: fourth_four: 'above_second: second_four' 'keywrap_c staticlib:' \
     'keywrap: first_four second_four third_four fourth_four above_second'
-begins=('first_four: lib --jobs 4' 'fourth_four: lib --jobs 4' 'second_four: lib --jobs 4' 'third_four: lib --jobs 4')
+begins=('first_four: lib --jobs 1' 'fourth_four: lib --jobs 1' 'second_four: lib --jobs 1' 'third_four: lib --jobs 1')
 # sorted_notes: the notes of those that are at work side by side may come in any order.
 sorted_notes() { LC_ALL=C sort -o notes notes; }
 # most_at_once: how many were at work at once.
 most_at_once() { awk '/^[a-z_]*: /{ n++ } /^end/{ n-- } n > most { most = n } END { print most + 0 }' notes; }
-# at_once PROCESSORS JOBS N EVENT: N are at work at once, each with so many jobs, and the program comes last.
+# at_once PROCESSORS JOBS N EVENT: N are at work at once, with a job each, and the program comes last, with JOBS.
 at_once() {
     fresh
     processors=$1 at='.*_four' event=$4 launch
     verdict "$1 processors" "$([ "$status" = 5 ] || cat err; [ "$(most_at_once)" = "$3" ] || cat notes
-        sed -n 's/.* --jobs \([0-9]*\).*/\1/p' notes | grep -vx "$2")"
+        sed -n 's/.*lib --jobs \([0-9]*\).*/\1/p' notes | grep -vx 1)"
     verdict "$1 processors: what is built" "$(LC_ALL=C sort notes | sed -n 's/: lib .*//p' | paste -sd ' ' |
         diff - <(echo above_second first_four fourth_four second_four third_four)
         tail -n 2 notes | diff - <(printf '%s\n' "keywrap: run --backend rattle --jobs $2 -- --version" 'ends keywrap'))"
@@ -136,7 +136,7 @@ at_once 9 4 4 'until_true begun 4; sleep 0.2'
 fresh; at='(first|third|fourth)_four' event='until_true grep -q "^ends above" "$tree/notes"' launch
 verdict 'a crate begins where those below it are proved' "$([ "$status" = 5 ] || cat err
     grep -e '^ends second' -e above notes |
-        diff - <(printf '%s\n' 'ends second_four' 'above_second: lib --jobs 4' 'ends above_second')
+        diff - <(printf '%s\n' 'ends second_four' 'above_second: lib --jobs 1' 'ends above_second')
     grep -A 9 '^ends above' notes | grep -c '^ends .*_four' | grep -vx 3)"
 
 # What is at work when a proof fails ends, and no other begins.
@@ -152,7 +152,7 @@ sorted_notes
 launched 'two proofs fail' 70 '' "$starts
 $(said first_four)
 $(said third_four)
-keywrap: the build failed: first_four third_four" 'above_second: lib --jobs 4' 'ends above_second' \
+keywrap: the build failed: first_four third_four" 'above_second: lib --jobs 1' 'ends above_second' \
     'ends fourth_four' 'ends second_four' "${begins[@]}"
 
 for signal in HUP INT QUIT TERM; do

@@ -84,5 +84,5 @@ rebuilds() {
     done
 }
 
-steps=('block_pair: lib --jobs 4' 'ends block_pair' 'aes_block: lib --jobs 4' 'ends aes_block'
+steps=('block_pair: lib --jobs 1' 'ends block_pair' 'aes_block: lib --jobs 2' 'ends aes_block'
     'keywrap: run --backend rattle --jobs 4 -- --version' 'ends keywrap')

@@ -3,7 +3,7 @@
 use key_files::FileFault;
 
 /// Why a line has no answer.
-#[derive(Clone, Copy, Debug, PartialEq, Eq)]
+#[derive(Clone, Copy, Debug, PartialEq)]
 pub enum LineFault<R> {
     /// The line denotes no bytes or cannot be read, or an allocation failed.
     Input(FileFault),
@@ -12,7 +12,7 @@ pub enum LineFault<R> {
 }
 
 /// Why a run did not answer each line, or not all of its answers were written.
-#[derive(Clone, Copy, Debug, PartialEq, Eq)]
+#[derive(Clone, Copy, Debug, PartialEq)]
 pub enum RunFault<R> {
     /// The lines before this one were answered, and it was not.
     AtLine {

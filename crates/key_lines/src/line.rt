@@ -20,7 +20,7 @@ pub(crate) enum Part {
 }
 
 /// What stands where the next line is looked for.
-#[derive(Clone, Copy, Debug, PartialEq, Eq)]
+#[derive(Clone, Copy, Debug, PartialEq)]
 pub enum Line {
     /// A line that an LF ends.
     Ended,

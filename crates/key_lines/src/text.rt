@@ -8,7 +8,7 @@ ghost use Rattle.key_lines.specs.Meaning.{blank_ended_meaning, is_blank, text_me
 use key_files::{Base64Fault, FileFault, decode_digits_into, decode_symbols_into};
 
 /// How the text of a line denotes bytes.
-#[derive(Clone, Copy, Debug, PartialEq, Eq)]
+#[derive(Clone, Copy)]
 pub enum TextNotation {
     /// By two hex digits each.
     Hex,

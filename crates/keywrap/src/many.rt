@@ -48,7 +48,7 @@ where
         Err(_) => return Err(ProgramFault::Memory),
     };
     let mut out = Sent { out, written: 0 };
-    let log = Refused {
+    let log = RefusedLines {
         progress: &progress,
         first: Cell::new(None),
         count: Cell::new(0),
@@ -86,13 +86,13 @@ fn program_fault(fault: LinesFault, written: usize) -> ProgramFault {
 
 // Says each line that is passed, counts them, and keeps the status of the first.
 #[derive(Drop)]
-struct Refused<'p, 'r, R> {
+struct RefusedLines<'p, 'r, R> {
     progress: &'p Progress<'r, R>,
     first: Cell<Option<u8>>,
     count: Cell<u64>,
 }
 
-impl<R> Refused<'_, '_, R> {
+impl<R> RefusedLines<'_, '_, R> {
     // What became of the lines.
     fn tally(&self, done: &LinesDone, passes_new: bool) -> Tally {
         Tally {
@@ -103,7 +103,7 @@ impl<R> Refused<'_, '_, R> {
     }
 }
 
-impl<R: Eprint + AllocGlobal + Env + Clock> RefusalLog<InPlaceFault> for Refused<'_, '_, R> {
+impl<R: Eprint + AllocGlobal + Env + Clock> RefusalLog<InPlaceFault> for RefusedLines<'_, '_, R> {
     fn tell(&self, line: u64, fault: &LineFault<InPlaceFault>) {
         let refused = ProgramFault::Line(RefusedLine {
             line,

@@ -7,7 +7,7 @@ use crate::request::{Forms, Places, Work};
 use key_files::{Base64Fault, FileFault};
 use key_lines::LineFault;
 use key_wrap::{Form, InPlaceFault, MAX_KEY};
-use keywrap_cli::{Job, JobFault, Notation, ProgramFault, RefusedLine};
+use keywrap_cli::{JobFault, Notation, ProgramFault, RefusedLine};
 use keywrap_io::{OutputFault, Role, Seen, Text, Why};
 use keywrap_words::escaped;
 use std::alloc::{AllocError, Global};
@@ -181,7 +181,7 @@ impl<'a> Telling<'a> {
         }
         let bytes = denoted(self.work.notation(), seen);
         match self.work {
-            Work::Job { task, .. } if task.job == Job::Wrap => of_key(task.form, bytes),
+            Work::Job { task, .. } if self.work.takes_key() => of_key(task.form, bytes),
             Work::Job { task, .. } => of_wrapped(task.form, bytes),
             Work::Rewrap(rewrap) => match rewrap.forms {
                 Forms::Kept => of_either(bytes),

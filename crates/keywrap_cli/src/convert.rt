@@ -11,7 +11,7 @@ use key_wrap::{
 use std::alloc::Global;
 
 /// Which way a conversion goes.
-#[derive(Clone, Copy, Debug, PartialEq, Eq)]
+#[derive(Clone, Copy)]
 pub enum Direction {
     /// From a key to its wrapping.
     Wrap,

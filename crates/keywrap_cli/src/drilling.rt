@@ -14,7 +14,7 @@ use std::alloc::Global;
 use thiserror::Error;
 
 /// Why a drill has no answer.
-#[derive(Clone, Copy, Debug, PartialEq, Eq, Error)]
+#[derive(Clone, Copy, Debug, PartialEq, Error)]
 pub enum DrillFault {
     /// The text has more than `MAX_FILE` bytes.
     #[error("input: too long")]

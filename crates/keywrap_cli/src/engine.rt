@@ -59,8 +59,8 @@ fn write_answer<J: LineJob<Refusal = InPlaceFault>, W: Write>(
     }
 }
 
-/// The fault of a job for a refusal of its bytes.
-pub fn job_fault(refusal: InPlaceFault) -> JobFault
+// The fault of a job for a refusal of its bytes.
+fn job_fault(refusal: InPlaceFault) -> JobFault
     ensures { result ≡ job_fault_of refusal }
 {
     match refusal {

@@ -1,7 +1,6 @@
 //! Why the program ends without its answer: the line on standard error and the exit status.
 
 use crate::drilling::DrillFault;
-use crate::engine::job_fault;
 use crate::initial_value::IvFault;
 use crate::job::JobFault;
 use crate::report::VectorsFault;
@@ -75,10 +74,7 @@ impl fmt::Display for RefusedLine {
         let line = self.line;
         match self.fault {
             LineFault::Input(fault) => write!(f, "line {line}: {fault}"),
-            LineFault::Refused(refusal) => {
-                let fault = job_fault(refusal);
-                write!(f, "line {line}: {fault}")
-            }
+            LineFault::Refused(refusal) => write!(f, "line {line}: {refusal}"),
         }
     }
 }
@@ -137,7 +133,8 @@ fn job_status(fault: &JobFault) -> u8 {
 
 fn line_status(fault: LineFault<InPlaceFault>) -> u8 {
     match fault {
-        LineFault::Refused(refusal) => job_status(&job_fault(refusal)),
+        LineFault::Refused(InPlaceFault::BadLength) => statuses::BAD_LENGTH,
+        LineFault::Refused(InPlaceFault::Integrity) => statuses::FAILED,
         LineFault::Input(FileFault::Memory) => statuses::MEMORY,
         LineFault::Input(_) => statuses::INPUT_OUTPUT,
     }

@@ -18,7 +18,7 @@ use std::io::{Read, Write};
 use thiserror::Error;
 
 /// What is done with the input.
-#[derive(Clone, Copy, Debug, PartialEq, Eq)]
+#[derive(Clone, Copy)]
 pub enum Job {
     /// The input is a key, and the output its wrapping.
     Wrap,
@@ -29,7 +29,7 @@ pub enum Job {
 }
 
 /// How a file denotes its bytes.
-#[derive(Clone, Copy, Debug, PartialEq, Eq)]
+#[derive(Clone, Copy)]
 pub enum Notation {
     /// By themselves.
     Raw,
@@ -43,7 +43,7 @@ pub enum Notation {
 }
 
 /// A job, with the form of the wrapping and the notations of its files.
-#[derive(Clone, Copy, Debug, PartialEq, Eq)]
+#[derive(Clone, Copy)]
 pub struct Task {
     /// What is done.
     pub job: Job,
@@ -56,7 +56,7 @@ pub struct Task {
 }
 
 /// What a job that was not refused did.
-#[derive(Clone, Copy, Debug, PartialEq, Eq)]
+#[derive(Clone, Copy, Debug, PartialEq)]
 pub enum Done {
     /// The answer was written.
     Written,
@@ -65,7 +65,7 @@ pub enum Done {
 }
 
 /// Why a job has no answer.
-#[derive(Clone, Copy, Debug, PartialEq, Eq, Error)]
+#[derive(Clone, Copy, Debug, PartialEq, Error)]
 pub enum JobFault {
     /// The KEK file denotes no bytes.
     #[error("key file: {0}")]

@@ -15,7 +15,7 @@ use std::io::Write;
 use thiserror::Error;
 
 /// Why the vectors were not written.
-#[derive(Clone, Copy, Debug, PartialEq, Eq, Error)]
+#[derive(Clone, Copy, Debug, PartialEq, Error)]
 pub enum VectorsFault {
     /// An allocation failed, and nothing was written.
     #[error("out of memory")]

@@ -4,7 +4,7 @@ use crate::job::Notation;
 use key_wrap::AgreedForm;
 
 /// Which forms wrapped keys are rewrapped from and to.
-#[derive(Clone, Copy, Debug)]
+#[derive(Clone, Copy)]
 pub enum RewrapForms {
     /// From the form in which it is a wrapping, to the same, with the default initial value.
     Kept,

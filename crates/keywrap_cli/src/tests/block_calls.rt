@@ -82,7 +82,7 @@ fn a_line_costs_six_calls_for_eight_bytes(rt: HostRuntime) -> Result<(), Fail> {
         let (mut bytes, mut output) = (Vec::new(rt.alloc()), Vec::new(rt.alloc()));
         bytes.resize(len, 0)?;
         let _outcome = run.answer(&mut bytes, &mut output);
-        assert_eq!(rt; run.pair.blocks.get(), calls, "{job:?} of {len} bytes");
+        assert_eq!(rt; run.pair.blocks.get(), calls, "{len} bytes");
     }
     Ok(())
 }

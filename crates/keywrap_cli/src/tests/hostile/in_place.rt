@@ -1,7 +1,7 @@
 //! Wrapping and unwrapping in a buffer: what the buffer holds and how many block calls were made,
 //! also where the text is refused.
 
-use super::super::standards::WRAPPINGS;
+use super::super::standards::wrappings;
 use aes_block::Aes;
 use block_pair::{BlockPair, Meter};
 use key_wrap::{
@@ -15,21 +15,18 @@ use std::test::Fail;
 // There and back in one buffer over one meter.
 #[test]
 fn wraps_and_unwraps_in_place_and_counts(rt: HostRuntime) -> Result<(), Fail> {
-    for wrapping in &WRAPPINGS {
-        let aes = Aes::new(wrapping.kek)?;
+    for wrapping in &wrappings(rt.alloc())? {
+        let aes = Aes::new(&wrapping.kek)?;
         let mut meter = Meter::new(&aes);
-        let (key, text) = (wrapping.key, wrapping.text);
+        let (key, text) = (wrapping.key.as_slice(), wrapping.text.as_slice());
         let mut buf = room_for(rt.alloc(), key, 0xFF, text.len())?;
         let wraps = wrap_here(&mut meter, wrapping.form, &mut buf, key.len());
         assert!(rt; wraps == Ok(()) && buf.as_slice() == text, "{text:?}");
-        assert!(rt; meter.count() == wrapping.calls, "{text:?}");
+        assert!(rt; meter.count() == calls_for(text), "{text:?}");
         let unwraps = unwrap_here(&mut meter, wrapping.form, &mut buf);
         let room = room_for(rt.alloc(), key, 0, text.len())?;
         assert!(rt; unwraps == Ok(key.len()) && buf == room, "{text:?}");
-        assert!(rt;
-            meter.count() == wrapping.calls.saturating_mul(2),
-            "{text:?}"
-        );
+        assert!(rt; meter.count() == calls_for(text).saturating_mul(2), "{text:?}");
     }
     Ok(())
 }

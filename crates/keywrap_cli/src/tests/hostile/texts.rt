@@ -3,35 +3,50 @@
 
 use super::super::cases::{Call, Case, RAW};
 use super::super::jobs::{BAD_LENGTH, INTEGRITY};
-use super::super::standards::{WRAPPINGS, Wrapping};
+use super::super::standards::{Wrapping, wrappings};
 use super::change_bit;
 use super::in_place::unwraps_to;
 use crate::job::Job;
 use aes_block::Aes;
+use key_wrap::Form;
 use std::alloc::Global;
 use std::process::Abort;
 use std::test::Fail;
 
-// For its length, or, where that is legal, for its bytes.
 #[test]
-fn refuses_each_proper_prefix_of_a_text(rt: HostRuntime) {
-    for wrapping in &WRAPPINGS {
-        let unwrap = Call::Job(Job::Unwrap, wrapping.form, RAW, RAW);
-        for len in 0..wrapping.text.len() {
-            let done = if wrapping.legal.contains(&len) {
-                INTEGRITY
-            } else {
-                BAD_LENGTH
-            };
-            let files = [wrapping.kek, b"", &wrapping.text[..len]];
-            Case(unwrap, files, done, b"").holds(&rt, rt.alloc(), usize::MAX);
-        }
+fn refuses_each_proper_prefix_of_a_text(rt: HostRuntime) -> Result<(), Fail> {
+    for wrapping in &wrappings(rt.alloc())? {
+        refuse_each_prefix(&rt, rt.alloc(), wrapping);
     }
+    Ok(())
+}
+
+// For its length, or, where that is legal, for its bytes.
+fn refuse_each_prefix(rt: &impl Abort, alloc: Global, wrapping: &Wrapping) {
+    let unwrap = Call::Job(Job::Unwrap, wrapping.form, RAW, RAW);
+    for len in 0..wrapping.text.len() {
+        let done = if is_legal(wrapping.form, len) {
+            INTEGRITY
+        } else {
+            BAD_LENGTH
+        };
+        let files = [wrapping.kek.as_slice(), b"", &wrapping.text[..len]];
+        Case(unwrap, files, done, b"").holds(rt, alloc, usize::MAX);
+    }
+}
+
+// RFC 3394, section 2.2.2, and RFC 5649, section 4.2.
+fn is_legal(form: Form, len: usize) -> bool {
+    let least = match form {
+        Form::Plain => 24,
+        Form::Padded => 16,
+    };
+    len >= least && len % 8 == 0
 }
 
 #[test]
 fn refuses_each_changed_bit_of_a_kek_or_a_text(rt: HostRuntime) -> Result<(), Fail> {
-    for wrapping in &WRAPPINGS {
+    for wrapping in &wrappings(rt.alloc())? {
         refuse_each_changed_bit(&rt, rt.alloc(), wrapping)?;
     }
     Ok(())
@@ -44,7 +59,7 @@ fn refuse_each_changed_bit(
 ) -> Result<(), Fail> {
     let unwrap = Call::Job(Job::Unwrap, wrapping.form, RAW, RAW);
     let mut bytes = wrapping.kek.to_vec(alloc)?;
-    bytes.extend_from_slice(wrapping.text)?;
+    bytes.extend_from_slice(&wrapping.text)?;
     for bit in 0..bytes.len().saturating_mul(8) {
         change_bit(&mut bytes, bit);
         let (kek, text) = bytes.split_at(wrapping.kek.len().min(bytes.len()));
