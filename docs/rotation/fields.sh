@@ -1,7 +1,7 @@
 #!/usr/bin/env bash
-# Rewraps the wrapped keys in a file, as of JSON or CSV, from kek.hex to new-kek.hex. The store.sh of the current folder
-# says where: store=FILE, `get FILE` writes its keys, one a line, `put FILE KEYS` writes FILE with those of KEYS in their
-# place, and base64=--base64 says that they are base64. It leaves old.hex and new.hex, which hold wrapped keys.
+# Rewraps the wrapped keys in a file, as of JSON or CSV, from kek.hex to new-kek.hex. store.sh of the current folder
+# says where: store=FILE; `get FILE` writes its keys, one a line; `put FILE KEYS` writes FILE with those of KEYS in
+# their place; base64=--base64 where they are base64. It leaves old.hex and new.hex, which hold wrapped keys.
 
 # shellcheck disable=SC1091,SC2086,SC2154
 set -eEuo pipefail

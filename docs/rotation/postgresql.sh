@@ -1,7 +1,7 @@
 #!/usr/bin/env bash
-# Rewraps the column `key` of the table `keys` (id bigint, key bytea), which psql finds, in one transaction, from kek.hex
-# to new-kek.hex of the current folder. It calls postgresql_rewrap.sh, which lies beside it, and leaves rows, old.hex and
-# new.hex, which hold wrapped keys.
+# Rewraps the column `key` of the table `keys` (id bigint, key bytea) that psql finds, in one transaction, from kek.hex
+# to new-kek.hex of the current folder. It calls postgresql_rewrap.sh, which lies beside it, and leaves rows, old.hex
+# and new.hex, which hold wrapped keys.
 
 set -euo pipefail
 

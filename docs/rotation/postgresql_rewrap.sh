@@ -1,5 +1,5 @@
 #!/usr/bin/env bash
-# postgresql.sh calls it: of the file rows, an id and a wrapped key a line, it writes the rows with the new wrapped keys,
+# postgresql.sh calls it: of the file rows, an id and a wrapped key a line, it writes the rows with new wrapped keys,
 # or, where all are new, as they are.
 
 set -euo pipefail
