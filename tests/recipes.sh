@@ -12,7 +12,8 @@ set -u
 # shellcheck source=tests/lib/expect.sh
 . "$root/tests/lib/expect.sh"
 
-recipes=$root/docs/RECIPES.md
+export DOC=$root/docs
+recipes=$DOC/RECIPES.md
 mkdir bin
 ln -s "$launcher" bin/keywrap
 PATH=$PWD/bin:$PATH
@@ -65,6 +66,8 @@ for ((i = 1; i < n; i++)); do
     echo "$(<name.$i) $(tr A-Z\  a-z- <name.$i | tr -cd 'a-z0-9-')"
 done >wanted
 verdict 'the list of the recipes' "$(diff listed wanted)"
+same 'the rotations that a recipe links' "$(cd "$DOC" && ls rotation/*.sh)" \
+    "$(grep -oE '\]\(rotation/[^)]*' "$recipes" | cut -c 3-)"
 
 # The README's, up to its second heading, in one folder.
 sed -n '1,/^## /s/^    //p' "$root/README.md" >lines
