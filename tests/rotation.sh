@@ -174,6 +174,7 @@ rotation() {
     cp both_forms made/set_up
     sed -n "/^## $2\$/,/^## /s/^    [\$>] //p" "$recipes" | sed 's/320000\|64000/3200/' >typed
     awk -v n="$3" '/^"\$DOC\/rotation\// && !--n { exit } 1' typed >>made/set_up
+    # shellcheck disable=SC2016
     script=$(sed -n 's|^"$DOC/rotation/\([a-z]*\.sh\)".*|\1|p' typed | sed -n "$3p")
     row "$name: the recipe's script" test -f "made/$script"
     (cd made && bash -u set_up && eval "${5:-}") >set_up.out 2>&1 || verdict "$name: the store" "$(shown set_up.out)"
