@@ -229,7 +229,7 @@ fi
     "sed -n 's/^[0-9]*,\(.*\),someone\$/\1/p' keys.csv"
 # shellcheck disable=SC2016
 # The old folder stays as it is. A key may stand on more than one line, and a name begin with a dot.
-! can folder keywrap '' || again=1 rotation folder 'Rotate a folder of wrapped keys' 2 '
+! can folder keywrap '' || again=1 rotation folder 'Rotate a folder of wrapped keys' 1 '
     diff -r wrapped ../made/wrapped
     cd rewrapped 2>&- || cd wrapped
     find . -type f ! -perm 640 -printf "%m %p\n"
