@@ -152,11 +152,11 @@ install: install-command install-library
 uninstall: uninstall-command uninstall-library
 
 # What the program's folder of documents and the library's have both, and what the library's has beside.
-documents = docs/RECIPES.md SECURITY.md CHANGELOG.md
+documents = docs/RECIPES.md docs/rotation SECURITY.md CHANGELOG.md
 of_library = docs/C_LIBRARY.md docs/OPENSSL.md
 install_documents = scripts/documents.sh '$(doc)' '$(version)' '$(machine)'
 # gone NAME..: takes these away from the documents, and what both have where the file $(2) of the other is not there.
-gone = rm -rf $(1:%='$(doc)/%'); [ -e '$(2)' ] || rm -f $(patsubst %,'$(doc)/%',$(notdir $(documents))); \
+gone = rm -rf $(1:%='$(doc)/%'); [ -e '$(2)' ] || rm -rf $(patsubst %,'$(doc)/%',$(notdir $(documents))); \
     rmdir '$(doc)' 2>/dev/null || true
 
 install-command: build

@@ -1,6 +1,6 @@
 #!/bin/sh
 # Puts documents into FOLDER as they are handed out: a README, of its template docs/NAME.in, and the others with links
-# that work there. `make install` and `make dist` call it.
+# that work there, or, of a folder of scripts, its files as they are. `make install` and `make dist` call it.
 #
 # usage: scripts/documents.sh FOLDER VERSION MACHINE NAME DOCUMENT..
 
@@ -15,8 +15,14 @@ install -d -- "$folder"
 sed "s|@VERSION@|$version|; s|@NUMBER@|${version%-*}|; s|@PROCESSORS@|$processors|" "docs/$readme.in" >"$folder/$readme"
 names=$(basename -s .md -a -- "$@")
 for document in "$@"; do
-    # shellcheck disable=SC2086
-    scripts/links.sh $names <"$document" >"$folder/${document##*/}"
-    chmod 644 -- "$folder/${document##*/}"
+    copy=$folder/${document##*/}
+    if [ -d "$document" ]; then
+        install -d -- "$copy"
+        install -m 755 -- "$document"/*.sh "$copy"
+    else
+        # shellcheck disable=SC2086
+        scripts/links.sh $names <"$document" >"$copy"
+        chmod 644 -- "$copy"
+    fi
 done
 chmod 644 -- "$folder/$readme"

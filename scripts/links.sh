@@ -1,6 +1,7 @@
 #!/bin/sh
 # Writes the document of its standard input as it is packed beside others, in the folder share/doc/keywrap: a link
-# to one of these, to the header or to an example leads there, and of a link to what is not packed the words stay.
+# to one of these, to the header, to an example or to a rotation leads there, and of a link to what is not packed the
+# words stay.
 #
 # usage: scripts/links.sh [NAME..] <DOCUMENT        (NAME: of the documents beside it, without .md)
 
@@ -13,5 +14,6 @@ sed -z -E "
     s/\]\((\.\.\/|docs\/)?((${names#|})\.md[^)]*\))/]$mark\2/g
     s/\]\(\.\.\/(include\/[^)]*\))/]$mark..\/..\/..\/\1/g
     s/\]\(\.\.\/(examples\/[^)]*\))/]$mark\1/g
+    s/\]\((docs\/)?(rotation\/[^)]*\))/]$mark\2/g
     s/\[([^]]*)\]\([^)]*\)/\1/g
     s/$mark/(/g"

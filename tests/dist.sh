@@ -83,10 +83,10 @@ links() {
 # headings DOCUMENT: their anchors.
 headings() { sed -n 's/^#* //p' "$1" | tr '[:upper:]' '[:lower:]' | tr -cd 'a-z0-9 _\n-' | tr ' ' -; }
 row "the command's documents" test "$(cd "bare/$command/share/doc/keywrap" && echo *)" = \
-    'CHANGELOG.md README RECIPES.md SECURITY.md'
+    'CHANGELOG.md README RECIPES.md SECURITY.md rotation'
 row 'the links of its documents' links "bare/$command/share/doc/keywrap"
 row "the library's documents" test "$(cd "bare/$packed/share/doc/keywrap" && echo *)" = \
-    'CHANGELOG.md C_LIBRARY.md OPENSSL.md README.library RECIPES.md SECURITY.md examples provider'
+    'CHANGELOG.md C_LIBRARY.md OPENSSL.md README.library RECIPES.md SECURITY.md examples provider rotation'
 row 'the links of its documents' links "bare/$packed/share/doc/keywrap"
 row 'some links stay' grep -q ']([A-Z]*\.md#' "bare/$packed/share/doc/keywrap/SECURITY.md"
 

@@ -314,7 +314,13 @@ made() {
 }
 documents='644 share/doc/keywrap/CHANGELOG.md
 644 share/doc/keywrap/RECIPES.md
-644 share/doc/keywrap/SECURITY.md'
+644 share/doc/keywrap/SECURITY.md
+755 share/doc/keywrap/rotation/fields.sh
+755 share/doc/keywrap/rotation/folder.sh
+755 share/doc/keywrap/rotation/lines.sh
+755 share/doc/keywrap/rotation/postgresql.sh
+755 share/doc/keywrap/rotation/postgresql_rewrap.sh
+755 share/doc/keywrap/rotation/sqlite.sh'
 command_files='755 bin/keywrap
 644 share/bash-completion/completions/keywrap
 644 share/doc/keywrap/README
@@ -349,7 +355,7 @@ if has cc gcc 'make install with the C library'; then
     row 'keywrap.pc names the version' grep -qx "Version: $version" "$stage/usr/lib/pkgconfig/keywrap.pc"
     row 'make uninstall-command' made uninstall-command DESTDIR="$stage" PREFIX=/usr
     same 'it leaves the documents, which are of the library too' "$documents" \
-        "$(files_of "$stage/usr" | grep -E '/(CHANGELOG|RECIPES|SECURITY).md$')"
+        "$(files_of "$stage/usr" | grep -E '/(CHANGELOG|RECIPES|SECURITY).md$|/rotation/')"
     row 'make uninstall' made uninstall DESTDIR="$stage" PREFIX=/usr
     same 'make uninstall leaves nothing' '' "$(files_of "$stage/usr")"
 fi
@@ -370,7 +376,7 @@ in_example() {
 
 awk '/^```/ { inside = !inside; if (inside) name = "block." ++n; next } inside { print > name }' "$rattle"
 blocks=(block.*)
-row 'docs/LIBRARY.md has its blocks' test ${#blocks[@]} -ge 6
+row 'docs/LIBRARY.md has its blocks' test ${#blocks[@]} -ge 1
 for block in "${blocks[@]}"; do
     row "docs/LIBRARY.md: $block is of the example" in_example "$block"
 done

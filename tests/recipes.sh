@@ -12,7 +12,8 @@ set -u
 # shellcheck source=tests/lib/expect.sh
 . "$root/tests/lib/expect.sh"
 
-recipes=$root/docs/RECIPES.md
+export DOC=$root/docs
+recipes=$DOC/RECIPES.md
 mkdir bin
 ln -s "$launcher" bin/keywrap
 PATH=$PWD/bin:$PATH
@@ -54,6 +55,22 @@ follows() {
 # Of each section: its name, the lines that are typed, and those that come back.
 awk '/^## / { name = substr($0, 4); n++; print name >("name." n); printf "" >("script." n); printf "" >("answer." n) }
     n && sub(/^    (  )?/, "") { if (sub(/^[$>] /, "")) print >("script." n); else print >("answer." n) }' "$recipes"
+# What a key store does, after its recipe: each file that is for a store holds the key.
+cat >importing <<'END'
+# imported HASH FILE: the first part is as long as the store's key.
+imported() {
+    local oaep="-pkeyopt rsa_padding_mode:oaep -pkeyopt rsa_oaep_md:$1 -pkeyopt rsa_mgf1_md:$1" ephemeral
+    ephemeral=$(head -c 384 "$2" | openssl pkeyutl -decrypt -inkey store.pem $oaep | xxd -p -c 64)
+    tail -c +385 "$2" | openssl enc -d -id-aes256-wrap-pad -iv A65959A6 -K "$ephemeral" | cmp - key.der
+}
+imported sha256 EncryptedKeyMaterial.bin
+imported sha256 wrapped.bin
+jq -r .ciphertext key.byok | tr -- -_ +/ | base64 -di 2>>log >theirs.bin
+imported sha1 theirs.bin
+END
+n=$(grep -lx 'Import a key into .*' name.*) || verdict 'the recipe of the key stores' 'it is not there'
+cat importing >>"script.${n#name.}"
+
 for ((n = 1; ; n++)); do
     [ -f name.$n ] || break
     follows "$(<name.$n)" script.$n answer.$n
@@ -65,6 +82,8 @@ for ((i = 1; i < n; i++)); do
     echo "$(<name.$i) $(tr A-Z\  a-z- <name.$i | tr -cd 'a-z0-9-')"
 done >wanted
 verdict 'the list of the recipes' "$(diff listed wanted)"
+same 'the rotations that a recipe links' "$(cd "$DOC" && ls rotation/*.sh)" \
+    "$(grep -oE '\]\(rotation/[^)]*' "$recipes" | cut -c 3-)"
 
 # The README's, up to its second heading, in one folder.
 sed -n '1,/^## /s/^    //p' "$root/README.md" >lines

@@ -1,8 +1,8 @@
 #!/usr/bin/env bash
-# Runs each rotation of docs/RECIPES.md, as it stands there, while one of its steps goes wrong: it fails, is cut off, or
-# is killed after its work; the disk is full; another process has the table locked. Whatever goes wrong, the store holds
-# the old wrapped keys or the new ones, all of them, and the status is 0 only where these are the new ones. Begun again,
-# undisturbed, the rotation ends well. And the README's line.
+# Runs each script of docs/rotation, over the store that its recipe of docs/RECIPES.md sets up, while one of its steps
+# goes wrong: it fails, is cut off, or is killed after its work; the disk is full; another process has the table locked.
+# Whatever goes wrong, the store holds the old wrapped keys or the new ones, all of them, and the status is 0 only where
+# these are the new ones. Begun again, undisturbed, the rotation ends well. And the README's line.
 #
 # usage: tests/rotation.sh [NAME..]        (KEYWRAP=PATH tries another program, as an installed one)
 #
@@ -14,7 +14,8 @@ set -u
 # shellcheck source=tests/lib/answers.sh
 . "${BASH_SOURCE[0]%/*}/lib/answers.sh"
 kek_files
-recipes=$root/docs/RECIPES.md
+export DOC=$root/docs
+recipes=$DOC/RECIPES.md
 mkdir bin faulty
 ln -s "$program" bin/keywrap
 PATH=$room/bin:$PATH
@@ -61,14 +62,14 @@ keywrap() {
 }
 END
 
-# rotates [LIMIT]: runs the script in the folder `here`, and sets $status. No file gets longer than LIMIT kilobytes.
+# rotates [LIMIT]: runs $script in the folder `here`, and sets $status. No file gets longer than LIMIT kilobytes.
 export calls=$room/calls tool=none at=0 how=none meanwhile=
 rotates() {
     (
         cd here || exit
         trap '' XFSZ
         ulimit -f "${1:-unlimited}"
-        PATH=$room/faulty:$PATH timeout 60 bash rotate.sh >../out 2>../err
+        PATH=$room/faulty:$PATH timeout 60 bash "$script" >../out 2>../err
     )
     status=$?
 }
@@ -143,7 +144,7 @@ locked() {
     local other=$COPROC_PID
     echo "$1; SELECT 'locked';" >&"${COPROC[1]}"
     read -r _ <&"${COPROC[0]}"
-    sed -i "s/10000/100/; s/10s/100ms/" here/rotate.sh
+    sed -i "s/10000/100/; s/10s/100ms/" "here/$script"
     rotates
     row "$name: status where it is locked by $1" test $status != 0
     eval "exec ${COPROC[1]}>&-"
@@ -163,15 +164,19 @@ changed() {
     verdict "$name: meanwhile $1" "$problem"
 }
 
-# rotation NAME RECIPE N DUMP [COMMAND]: the Nth run of the script in that recipe. DUMP writes the keys, and COMMAND
-# adds to the store.
+# rotation NAME RECIPE N DUMP [COMMAND]: the script that this recipe runs as its Nth, over what stands before that. DUMP
+# writes the keys, and COMMAND adds to the store.
 rotation() {
     name=$1 dump=$4
     rm -rf made
     mkdir made
+    cp "$DOC"/rotation/*.sh made
     cp both_forms made/set_up
-    sed -n "/^## $2\$/,/^## /s/^    [\$>] //p" "$recipes" |
-        awk -v n="$3" '/^bash rotate.sh/ && !--n { exit } 1' | sed 's/320000\|64000/3200/' >>made/set_up
+    sed -n "/^## $2\$/,/^## /s/^    [\$>] //p" "$recipes" | sed 's/320000\|64000/3200/' >typed
+    awk -v n="$3" '/^"\$DOC\/rotation\// && !--n { exit } 1' typed >>made/set_up
+    # shellcheck disable=SC2016
+    script=$(sed -n 's|^"$DOC/rotation/\([a-z]*\.sh\)".*|\1|p' typed | sed -n "$3p")
+    row "$name: the recipe's script" test -f "made/$script"
     (cd made && bash -u set_up && eval "${5:-}") >set_up.out 2>&1 || verdict "$name: the store" "$(shown set_up.out)"
     rm -rf here
     cp -a made here
@@ -224,7 +229,7 @@ fi
     "sed -n 's/^[0-9]*,\(.*\),someone\$/\1/p' keys.csv"
 # shellcheck disable=SC2016
 # The old folder stays as it is. A key may stand on more than one line, and a name begin with a dot.
-! can folder keywrap '' || again=1 rotation folder 'Rotate a folder of wrapped keys' 2 '
+! can folder keywrap '' || again=1 rotation folder 'Rotate a folder of wrapped keys' 1 '
     diff -r wrapped ../made/wrapped
     cd rewrapped 2>&- || cd wrapped
     find . -type f ! -perm 640 -printf "%m %p\n"
