@@ -5,7 +5,7 @@ use key_files::FileFault;
 /// Why a line has no answer.
 #[derive(Clone, Copy, Debug, PartialEq)]
 pub enum LineFault<R> {
-    /// The line denotes no bytes or cannot be read, or an allocation failed.
+    /// The line denotes no bytes or cannot be read, or an allocation failed, of its answer too.
     Input(FileFault),
     /// The bytes of the line have no answer.
     Refused(R),

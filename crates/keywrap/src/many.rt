@@ -28,9 +28,9 @@ pub struct Many {
     pub spared: Spared,
 }
 
-/// Answers each line of the input, and answers the exit status with what became of the lines. A line
-/// that is passed is said on standard error as it is met, and the status is then that of the first.
-/// An input without a line is refused.
+/// Answers each line of the input, and returns the exit status with what became of the lines. A line
+/// that is refused and passed over is said on standard error as it is met, and the status is then
+/// that of the first. An input without a line is refused.
 pub fn answer_lines<R, K: Read, I: Read, W: Write>(
     rt: &R,
     keyed: &mut Keyed<K>,
@@ -84,7 +84,7 @@ fn program_fault(fault: LinesFault, written: usize) -> ProgramFault {
     }
 }
 
-// Says each line that is passed, counts them, and keeps the status of the first.
+// Says each line that is refused and passed over, counts them, and keeps the status of the first.
 #[derive(Drop)]
 struct RefusedLines<'p, 'r, R> {
     progress: &'p Progress<'r, R>,

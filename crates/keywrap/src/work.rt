@@ -33,9 +33,10 @@ pub struct Terminals {
 /// Does what is asked with these files, with each line of the input or with the whole, and answers
 /// the exit status.
 ///
-/// The first that applies is answered: Iv, that of `--new-iv`, RawToTerminal, KekOpen, NewKekOpen,
-/// InputOpen, Memory of the new file's name or OutputOpen, then what the call says, and Flush. No
-/// contract says so: `tests/files.sh` and `tests/terminal.sh` do.
+/// The first that applies is answered: Iv, that of `--new-iv`, RawToTerminal, InputOpen where no
+/// pipe can stand for a closed stream, KekOpen, NewKekOpen, InputOpen, Memory of the new file's name
+/// or OutputOpen, then what `Keyed::run` or `many::answer_lines` says, and Flush. No contract says
+/// so: `tests/files.sh` and `tests/terminal.sh` do.
 pub fn run_work<R: Print + Eprint + Input + AllocGlobal + Files<File = File> + Env + Clock>(
     rt: &R,
     work: Work<'_>,
@@ -77,7 +78,7 @@ struct Answered {
     seen: SeenFiles,
 }
 
-// Does it with KEK files that are open.
+// The run, with KEK files that are open.
 fn run_keyed<R: Print + Eprint + Input + AllocGlobal + Files<File = File> + Env + Clock>(
     rt: &R,
     telling: &Telling<'_>,
@@ -161,7 +162,7 @@ fn length_of<I>(lines: Option<Lines>, input: &Opened<I>) -> Option<u64> {
     }
 }
 
-// Does it with an input that is open, and says first what is waited for, if anything is.
+// The run, with an input that is open. It says first what is waited for, if anything is.
 fn run_from<R, K: Read, I: Read + Drop>(
     rt: &R,
     telling: &Telling<'_>,
@@ -189,7 +190,7 @@ where
     }
 }
 
-// The same, into a file. Where the answer is not whole, the file stays as it is.
+// The run, into a file. Where the answer is not whole, the file stays as it is.
 fn run_into<R, K: Read, I: Read>(
     rt: &R,
     telling: &Telling<'_>,

@@ -1,5 +1,5 @@
-//! The engine of every run: an input, as a whole or line by line, is read, answered by a job, and
-//! the answer is written.
+//! The engine of a run over one input, which is read, answered by a job, and its answer written; and
+//! what it shares with a run over lines, whose loop is that of `key_lines`.
 
 ghost use Rattle.std.specs.Prelude.{◌≡◌, IfOk, OnOk};
 ghost use Rattle.keywrap_cli.specs.Answers.{IsDone};

@@ -73,10 +73,10 @@ pub enum JobFault {
     /// The KEK is not 16, 24 or 32 bytes long.
     #[error("key length is not 16, 24 or 32 bytes")]
     KekLength,
-    /// The file of the new KEK denotes no bytes. Only `run_rewrap` answers this.
+    /// The file of the new KEK denotes no bytes. Only a rewrapping answers this.
     #[error("new key file: {0}")]
     NewKekFile(FileFault),
-    /// The new KEK is not 16, 24 or 32 bytes long. Only `run_rewrap` answers this.
+    /// The new KEK is not 16, 24 or 32 bytes long. Only a rewrapping answers this.
     #[error("new key length is not 16, 24 or 32 bytes")]
     NewKekLength,
     /// The input denotes no bytes.

@@ -77,6 +77,7 @@ fn answer_conversion<B: BlockPair>(
     if let Err(fault) = convert_into(direction, task.form, iv, pair, bytes, output) {
         return refused(fault);
     }
+    // The answer stands in `output`, and is written into `bytes`.
     if print_in(task.input, output, bytes).is_err() {
         return Outcome::Memory;
     }

@@ -29,14 +29,14 @@ pub enum Keyed<K> {
 }
 
 impl<K: Read> Keyed<K> {
-    /// Does it, by the one call with a contract that does.
+    /// Answers the whole input.
     pub fn run<I: Read, W: Write>(
         &mut self,
         alloc: Global,
         input: &mut I,
         out: &mut W,
     ) -> Result<Done, JobFault>
-        // What the contract of that call says, of the fields.
+        // What the contracts of these calls say, of the fields.
         ensures { RunsKeyed K.remaining self.old self.new
             (I.remaining input.old) (I.remaining input.new)
             (W.contents out.old) (W.contents out.new) result }
@@ -47,8 +47,7 @@ impl<K: Read> Keyed<K> {
         }
     }
 
-    /// Does it with each line of the input, by the one call with a contract that does. `log` is
-    /// told of the lines that are passed.
+    /// Answers each line of the input. `log` is told of the lines that are refused and passed over.
     pub fn run_lines<L: RefusalLog<InPlaceFault>, I: BufRead, W: Write>(
         &mut self,
         alloc: Global,
