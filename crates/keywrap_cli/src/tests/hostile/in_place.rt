@@ -26,7 +26,10 @@ fn wraps_and_unwraps_in_place_and_counts(rt: HostRuntime) -> Result<(), Fail> {
         let unwraps = unwrap_here(&mut meter, wrapping.form, &mut buf);
         let room = room_for(rt.alloc(), key, 0, text.len())?;
         assert!(rt; unwraps == Ok(key.len()) && buf == room, "{text:?}");
-        assert!(rt; meter.count() == calls_for(text).saturating_mul(2), "{text:?}");
+        assert!(rt;
+            meter.count() == calls_for(text).saturating_mul(2),
+            "{text:?}"
+        );
     }
     Ok(())
 }
