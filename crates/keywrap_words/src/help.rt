@@ -63,10 +63,10 @@ Takes either form, and the new wrapped key keeps it. Not with
 /// What `--pass-new` does.
 pub const PASS_NEW_HELP: &str = "\
 A wrapped key that is not under the KEK, but under the new KEK
-already, in the form that the new one would have, is written as it is:
-so a rotation that was cut off can be begun again. What is damaged is
-still refused. With the KEKs exchanged by mistake all stays under the
-old one: before it goes, run check under the new one";
+already, in the form that the answer would have, is written as it is:
+so a rotation that was cut off can be begun again. What is neither is
+still refused. With the KEKs swapped by mistake all stays under the old
+one: run check under the new one before the old one goes";
 
 /// What hex and base64 may hold, what each exit status says, and what to try.
 pub const NOTES: &str = "\
@@ -92,7 +92,7 @@ Exit status:
      keywrap check says which form fits the KEK.
   6  a file or the output could not be opened, read or written
      The line names it, and the first byte that is no hex digit or no base64
-     character, counted from 0 at the start of the file. For raw bytes use
+     character, counted from 0 in the file or the line. For raw bytes use
      --raw, for base64 --base64.
   7  out of memory
      The files may be right: try again with more memory.
