@@ -41,6 +41,8 @@ if [ "$name" = "$tool" ] && [ "$(grep -cx "$name" "$calls")" = "$at" ]; then
         [ "$name" != cp ] || [ ! -f "${!#}" ] || { half "${!#}" >"$calls.out"; cat "$calls.out" >"${!#}"; }
         ;;
     'is killed late') runs "$@" ;;
+    # A check that does nothing would be believed.
+    'does nothing') [ "$name $1" = 'keywrap check' ] && PATH=$all exec "$real" "$@"; exit 0 ;;
     meanwhile) eval "$meanwhile"; runs "$@"; exit ;;
     esac
     kill -KILL $$
@@ -114,8 +116,9 @@ goes_wrong() {
     sort calls | uniq -c | grep "$1" >steps
     while read -r count tool <&3; do
         for ((at = 1; at <= count; at += count > 8 ? 4 : 1)); do
-            for how in fails 'is cut off' 'is killed late'; do
+            for how in fails 'is cut off' 'is killed late' 'does nothing'; do
                 [[ $how != *late || $tool =~ keywrap|psql|sqlite3|cp|mv ]] || continue
+                [[ $how != *nothing || $tool =~ keywrap|awk|cat|cp|cut|jq|paste|sed|wc ]] || continue
                 restored
                 rotates
                 endures "call $at of $tool $how"
