@@ -70,11 +70,11 @@ one: run check under the new one before the old one goes";
 
 /// What hex and base64 may hold, what each exit status says, and what to try.
 pub const NOTES: &str = "\
-Hex: two digits a byte, of either case; spaces, tabs and line ends may stand
-anywhere. No 0x, no colons.
+Hex: two digits a byte, of either case. No 0x, no colons.
 Base64 (--base64, --base64url, --base64-kek): with + and / or with - and _, not
-both in one file; with its = or none; spaces, tabs and line ends may stand
-anywhere.
+both in one file; with its = or none.
+In both spaces, tabs and line ends may stand anywhere; with --lines blanks at
+the ends of a line alone.
 With --raw and --raw-kek every byte counts, a newline at the end too.
 
 Exit status:
@@ -104,8 +104,8 @@ line names the file and says why; and after an answer a line names a likely
 mistake: raw bytes that are hex digits, base64 or PEM, a padded form that
 became plain. With --lines the last line says how many were answered.
 Nothing is written before the whole answer is made. With --lines this applies
-line by line: the refusal names the line, and the answers to the lines before
-it are written.
+line by line: the refusal names the line, and standard output has the answers
+to the lines before it.
 Status 5 without a line comes from check, which wrote `none`, and vectors,
 whose lines say which one failed.";
 
