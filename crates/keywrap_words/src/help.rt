@@ -65,8 +65,8 @@ pub const PASS_NEW_HELP: &str = "\
 A wrapped key that is not under the KEK, but under the new KEK
 already, in the form that the answer would have, is written as it is:
 so a rotation that was cut off can be begun again. What is neither is
-still refused. With the KEKs swapped by mistake all stays under the old
-one: run check under the new one before the old one goes";
+still refused. With the KEKs swapped by mistake all stays under the
+old one: run check under the new one before the old one goes";
 
 /// What hex and base64 may hold, what each exit status says, and what to try.
 pub const NOTES: &str = "\
