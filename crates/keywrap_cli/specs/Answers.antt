@@ -9,8 +9,6 @@ use Rattle.key_wrap.specs.Forms.{Stands}
 use Rattle.key_wrap.specs.Kind.{IsKindWith}
 use Rattle.key_wrap.specs.declared.faults.InPlaceFault.{InPlaceFault}
 use Rattle.key_wrap.specs.declared.faults.InPlaceFault.TheVariants.{BadLength, Integrity}
-use Rattle.key_wrap.specs.declared.faults.UnwrapFault.{UnwrapFault}
-use Rattle.key_wrap.specs.declared.faults.UnwrapFault.TheVariants as unwraps
 use Rattle.key_wrap.specs.declared.forms.Form.{Form}
 use Rattle.key_wrap.specs.declared.forms.Kind.{Kind}
 use Rattle.key_wrap.specs.declared.forms.Kind.TheVariants as kinds
@@ -91,22 +89,15 @@ lines_of task = record { forms = task.forms; passes_new = task.passes_new; input
 abbrev pub IsWritten : List ℕ → Done → Type 0
 IsWritten output done = done ≡ Written
 
--- what a conversion of the bytes X makes, by cases; Memory is not said of them
-abbrev pub MakesConversion : Direction → Form → ℕ → (List ℕ → List ℕ) → List ℕ → Result (List ℕ) UnwrapFault → Type 0
+-- what a conversion makes of the bytes X, by cases
+abbrev pub MakesConversion : Direction → Form → ℕ → (List ℕ → List ℕ) → List ℕ → Result (List ℕ) InPlaceFault → Type 0
 MakesConversion direction form iv E X (Ok Y) = IsAnswer direction form iv E X Y
-MakesConversion direction form iv E X (Err unwraps.BadLength) = ¬ IsInputLength direction form (length X)
-MakesConversion direction form iv E X (Err unwraps.Integrity) =
+MakesConversion direction form iv E X (Err BadLength) = ¬ IsInputLength direction form (length X)
+MakesConversion direction form iv E X (Err Integrity) =
     IsInputLength direction form (length X) × HasNoAnswer direction form iv E X
-MakesConversion direction form iv E X (Err unwraps.Memory) = ⊤
 
 -- this is said of an outcome with its output: Memory is not said of the bytes
 abbrev pub OutcomeIs : {R : Type 0} → (Result (List ℕ) R → Type 0) → List ℕ → Outcome R → Type 0
 OutcomeIs Is output Answer = Is (Ok output)
 OutcomeIs Is output (Refused refusal) = Is (Err refusal)
 OutcomeIs Is output Memory = ⊤
-
--- the outcome for the fault of a conversion
-abbrev pub outcome_of : UnwrapFault → Outcome InPlaceFault
-outcome_of unwraps.BadLength = Refused BadLength
-outcome_of unwraps.Integrity = Refused Integrity
-outcome_of unwraps.Memory = Memory

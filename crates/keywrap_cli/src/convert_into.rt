@@ -1,13 +1,12 @@
 //! Wrapping and unwrapping into a buffer that may be used again.
 
-ghost use Rattle.std.specs.Prelude.{◌≡◌};
-ghost use Rattle.key_lines.specs.Answers.{made};
-ghost use Rattle.keywrap_cli.specs.Answers.{MakesConversion};
+ghost use Rattle.keywrap_cli.specs.Answers.{MakesConversion, OutcomeIs};
 
 use crate::convert::Direction;
 use block_pair::{BlockPair, Meter};
+use key_lines::Outcome;
 use key_wrap::{
-    Form, InitialValue, UnwrapFault, key_length_ok, padded_length_ok, padded_text_length_ok,
+    Form, InPlaceFault, InitialValue, key_length_ok, padded_length_ok, padded_text_length_ok,
     text_length_ok, unwrap_into_with, unwrap_padded_into, wrap_into_with, wrap_padded_into,
 };
 
@@ -22,9 +21,9 @@ pub fn convert_into<B: BlockPair>(
     pair: &B,
     input: &[u8],
     output: &mut Vec<u8>,
-) -> Result<(), UnwrapFault>
-    ensures { MakesConversion direction form iv.now (B.encrypted pair.now) input.now
-        (made output.new.items result) }
+) -> Outcome<InPlaceFault>
+    ensures { OutcomeIs (MakesConversion direction form iv.now (B.encrypted pair.now)
+        input.now) output.new.items result }
 {
     match (direction, form) {
         (Direction::Wrap, Form::Plain) => wrap_plain(iv, pair, input, output),
@@ -39,16 +38,20 @@ fn wrap_plain<B: BlockPair>(
     pair: &B,
     key: &[u8],
     text: &mut Vec<u8>,
-) -> Result<(), UnwrapFault>
-    ensures { MakesConversion Direction.Wrap Form.Plain iv.now (B.encrypted pair.now) key.now
-        (made text.new.items result) }
+) -> Outcome<InPlaceFault>
+    ensures { OutcomeIs (MakesConversion Direction.Wrap Form.Plain iv.now (B.encrypted pair.now)
+        key.now) text.new.items result }
 {
     if !key_length_ok(key.len()) {
-        return Err(UnwrapFault::BadLength);
+        return Outcome::Refused(InPlaceFault::BadLength);
     }
-    text.resize(key.len() + WORD, 0)?;
-    wrap_into_with(&mut Meter::new(pair), iv, key, text)?;
-    Ok(())
+    if text.resize(key.len() + WORD, 0).is_err() {
+        return Outcome::Memory;
+    }
+    match wrap_into_with(&mut Meter::new(pair), iv, key, text) {
+        Ok(()) => Outcome::Answer,
+        Err(refusal) => Outcome::Refused(refusal),
+    }
 }
 
 // The initial value is that of the plain form, and is not asked for.
@@ -57,16 +60,21 @@ fn wrap_padded<B: BlockPair>(
     pair: &B,
     key: &[u8],
     text: &mut Vec<u8>,
-) -> Result<(), UnwrapFault>
-    ensures { MakesConversion Direction.Wrap Form.Padded iv.now (B.encrypted pair.now) key.now
-        (made text.new.items result) }
+) -> Outcome<InPlaceFault>
+    ensures { OutcomeIs (MakesConversion Direction.Wrap Form.Padded iv.now (B.encrypted pair.now)
+        key.now) text.new.items result }
 {
     if !padded_length_ok(key.len()) {
-        return Err(UnwrapFault::BadLength);
+        return Outcome::Refused(InPlaceFault::BadLength);
     }
-    text.resize(WORD + key.len().next_multiple_of(WORD), 0)?;
-    wrap_padded_into(&mut Meter::new(pair), key, text)?;
-    Ok(())
+    let len = WORD + key.len().next_multiple_of(WORD);
+    if text.resize(len, 0).is_err() {
+        return Outcome::Memory;
+    }
+    match wrap_padded_into(&mut Meter::new(pair), key, text) {
+        Ok(()) => Outcome::Answer,
+        Err(refusal) => Outcome::Refused(refusal),
+    }
 }
 
 fn unwrap_plain<B: BlockPair>(
@@ -74,16 +82,20 @@ fn unwrap_plain<B: BlockPair>(
     pair: &B,
     text: &[u8],
     key: &mut Vec<u8>,
-) -> Result<(), UnwrapFault>
-    ensures { MakesConversion Direction.Unwrap Form.Plain iv.now (B.encrypted pair.now) text.now
-        (made key.new.items result) }
+) -> Outcome<InPlaceFault>
+    ensures { OutcomeIs (MakesConversion Direction.Unwrap Form.Plain iv.now (B.encrypted pair.now)
+        text.now) key.new.items result }
 {
     if !text_length_ok(text.len()) {
-        return Err(UnwrapFault::BadLength);
+        return Outcome::Refused(InPlaceFault::BadLength);
     }
-    key.resize(text.len() - WORD, 0)?;
-    unwrap_into_with(&mut Meter::new(pair), iv, text, key)?;
-    Ok(())
+    if key.resize(text.len() - WORD, 0).is_err() {
+        return Outcome::Memory;
+    }
+    match unwrap_into_with(&mut Meter::new(pair), iv, text, key) {
+        Ok(()) => Outcome::Answer,
+        Err(refusal) => Outcome::Refused(refusal),
+    }
 }
 
 fn unwrap_padded<B: BlockPair>(
@@ -91,15 +103,21 @@ fn unwrap_padded<B: BlockPair>(
     pair: &B,
     text: &[u8],
     key: &mut Vec<u8>,
-) -> Result<(), UnwrapFault>
-    ensures { MakesConversion Direction.Unwrap Form.Padded iv.now (B.encrypted pair.now) text.now
-        (made key.new.items result) }
+) -> Outcome<InPlaceFault>
+    ensures { OutcomeIs (MakesConversion Direction.Unwrap Form.Padded iv.now (B.encrypted pair.now)
+        text.now) key.new.items result }
 {
     if !padded_text_length_ok(text.len()) {
-        return Err(UnwrapFault::BadLength);
+        return Outcome::Refused(InPlaceFault::BadLength);
     }
-    key.resize(text.len() - WORD, 0)?;
-    let len = unwrap_padded_into(&mut Meter::new(pair), text, key)?;
-    key.truncate(len);
-    Ok(())
+    if key.resize(text.len() - WORD, 0).is_err() {
+        return Outcome::Memory;
+    }
+    match unwrap_padded_into(&mut Meter::new(pair), text, key) {
+        Ok(len) => {
+            key.truncate(len);
+            Outcome::Answer
+        }
+        Err(refusal) => Outcome::Refused(refusal),
+    }
 }

@@ -4,11 +4,10 @@ ghost use Rattle.std.specs.Prelude.{◌≡◌, IsOk};
 ghost use Rattle.keywrap_cli.specs.Job.{RunsJob, RunsJobWith, WritesTheKey, WritesTheKeyWith};
 ghost use Rattle.keywrap_cli.specs.Job.{plain_task};
 ghost use Rattle.keywrap_cli.specs.Answers.{job_of};
-ghost use Rattle.keywrap_cli.specs.Readings.{kek_fault_of};
 
 use crate::convert::Direction;
 use crate::engine::{job_answer, run_input};
-use crate::kek_file::{KekFault, read_kek};
+use crate::kek_file::{kek_fault, read_kek};
 use crate::key_job::KeyJob;
 use key_files::FileFault;
 use key_wrap::{Form, InitialValue};
@@ -195,15 +194,4 @@ pub fn run<K: Read, R: Read, W: Write>(
     };
     let outcome = run_input(alloc, task.input, &job, input, out);
     job_answer(task.job, outcome)
-}
-
-/// The fault of a job for one of its KEK.
-pub fn kek_fault(fault: KekFault) -> JobFault
-    ensures { result ≡ kek_fault_of fault }
-{
-    match fault {
-        KekFault::File(FileFault::Memory) => JobFault::Memory,
-        KekFault::File(fault) => JobFault::KekFile(fault),
-        KekFault::Length => JobFault::KekLength,
-    }
 }

@@ -1,9 +1,11 @@
 //! The KEK that a file denotes.
 
+ghost use Rattle.std.specs.Prelude.{◌≡◌};
 ghost use Rattle.keywrap_cli.specs.Readings.{MakesKek, ReadsKek};
+ghost use Rattle.keywrap_cli.specs.Readings.{kek_fault_of, new_kek_fault_of};
 
 use crate::files::read_file;
-use crate::job::Notation;
+use crate::job::{JobFault, Notation};
 use key_files::FileFault;
 use std::alloc::Global;
 use std::io::Read;
@@ -36,5 +38,27 @@ fn under_kek(kek: &[u8]) -> Result<Aes, KekFault>
     match Aes::new(kek) {
         Ok(aes) => Ok(aes),
         Err(_) => Err(KekFault::Length),
+    }
+}
+
+/// The fault of a job for one of its KEK.
+pub fn kek_fault(fault: KekFault) -> JobFault
+    ensures { result ≡ kek_fault_of fault }
+{
+    match fault {
+        KekFault::File(FileFault::Memory) => JobFault::Memory,
+        KekFault::File(fault) => JobFault::KekFile(fault),
+        KekFault::Length => JobFault::KekLength,
+    }
+}
+
+/// The fault of a rewrapping for one of its new KEK.
+pub fn new_kek_fault(fault: KekFault) -> JobFault
+    ensures { result ≡ new_kek_fault_of fault }
+{
+    match fault {
+        KekFault::File(FileFault::Memory) => JobFault::Memory,
+        KekFault::File(fault) => JobFault::NewKekFile(fault),
+        KekFault::Length => JobFault::NewKekLength,
     }
 }

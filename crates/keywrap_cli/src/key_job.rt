@@ -2,7 +2,6 @@
 
 ghost use Rattle.std.specs.Prelude.{◌≡◌, IfOk, string_bytes};
 ghost use Rattle.keywrap_cli.specs.Answers.{AnswerOfJob, JobAnswer, OutcomeIs, job_of, kind_line};
-ghost use Rattle.keywrap_cli.specs.Answers.{outcome_of};
 
 use crate::convert::Direction;
 use crate::convert_into::convert_into;
@@ -10,7 +9,7 @@ use crate::engine::print_in;
 use crate::job::{Job, Task};
 use block_pair::{BlockPair, Meter};
 use key_lines::{LineJob, Outcome};
-use key_wrap::{InPlaceFault, InitialValue, Kind, UnwrapFault, kind_into_with};
+use key_wrap::{InPlaceFault, InitialValue, Kind, kind_into_with};
 use std::alloc::{AllocError, Global};
 use std::cell::Cell;
 
@@ -74,8 +73,9 @@ fn answer_conversion<B: BlockPair>(
     ensures { OutcomeIs (AnswerOfJob (job_of direction) iv.now task (B.encrypted pair.now)
         bytes.old.items) output.new.items result }
 {
-    if let Err(fault) = convert_into(direction, task.form, iv, pair, bytes, output) {
-        return refused(fault);
+    let outcome = convert_into(direction, task.form, iv, pair, bytes, output);
+    if !matches!(outcome, Outcome::Answer) {
+        return outcome;
     }
     // The answer stands in `output`, and is written into `bytes`.
     if print_in(task.input, output, bytes).is_err() {
@@ -83,17 +83,6 @@ fn answer_conversion<B: BlockPair>(
     }
     std::mem::swap(bytes, output);
     Outcome::Answer
-}
-
-/// The outcome for the fault of a conversion.
-pub fn refused(fault: UnwrapFault) -> Outcome<InPlaceFault>
-    ensures { result ≡ outcome_of fault }
-{
-    match fault {
-        UnwrapFault::BadLength => Outcome::Refused(InPlaceFault::BadLength),
-        UnwrapFault::Integrity => Outcome::Refused(InPlaceFault::Integrity),
-        UnwrapFault::Memory => Outcome::Memory,
-    }
 }
 
 // The answer of a check, with room for the registers in `output`.

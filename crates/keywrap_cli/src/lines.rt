@@ -10,10 +10,9 @@ ghost use Rattle.keywrap_cli.specs.Lines.{RunsJobLines, RunsRewrapLines, WritesJ
 ghost use Rattle.keywrap_cli.specs.Lines.{WritesRewrapLines};
 
 use crate::engine::lines_answer;
-use crate::job::{Done, Job, JobFault, Notation, Task, kek_fault};
-use crate::kek_file::read_kek;
+use crate::job::{Done, Job, JobFault, Notation, Task};
+use crate::kek_file::{kek_fault, new_kek_fault, read_kek};
 use crate::key_job::KeyJob;
-use crate::rewrap::new_kek_fault;
 use crate::rewrap_job::RewrapJob;
 use crate::rewrapping::{RewrapForms, Rewrapping};
 use key_lines::{RefusalLog, RunFault, TextNotation, run_lines};

@@ -1,18 +1,16 @@
 //! Rewrapping one key: from one KEK to another, with no key written.
 
-ghost use Rattle.std.specs.Prelude.{◌≡◌, IsOk};
+ghost use Rattle.std.specs.Prelude.{IsOk};
 ghost use Rattle.key_wrap.specs.Forms.{by_default};
 ghost use Rattle.keywrap_cli.specs.Answers.{IsWritten};
 ghost use Rattle.keywrap_cli.specs.Engine.{IsDoneAs, output_of};
-ghost use Rattle.keywrap_cli.specs.Readings.{new_kek_fault_of};
 ghost use Rattle.keywrap_cli.specs.Rewrapping.{RunsRewrap, WritesTheNewText, rewrapping};
 
 use crate::engine::run_input;
-use crate::job::{Done, JobFault, Notation, kek_fault};
-use crate::kek_file::{KekFault, read_kek};
+use crate::job::{Done, JobFault, Notation};
+use crate::kek_file::{kek_fault, new_kek_fault, read_kek};
 use crate::rewrap_job::RewrapJob;
 use crate::rewrapping::{RewrapForms, Rewrapping};
-use key_files::FileFault;
 use key_wrap::{AgreedForm, Form};
 use std::alloc::Global;
 use std::cell::Cell;
@@ -142,17 +140,6 @@ pub fn rewrap<K: Read, N: Read, R: Read, W: Write>(
     };
     let outcome = run_input(alloc, task.input, &job, input, out);
     rewrap_answer(outcome)
-}
-
-/// The fault of a rewrapping for one of its new KEK.
-pub fn new_kek_fault(fault: KekFault) -> JobFault
-    ensures { result ≡ new_kek_fault_of fault }
-{
-    match fault {
-        KekFault::File(FileFault::Memory) => JobFault::Memory,
-        KekFault::File(fault) => JobFault::NewKekFile(fault),
-        KekFault::Length => JobFault::NewKekLength,
-    }
 }
 
 fn rewrap_answer(outcome: Result<Vec<u8>, JobFault>) -> Result<Done, JobFault>

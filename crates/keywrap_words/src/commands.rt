@@ -63,7 +63,7 @@ const FLAG: Argument<'static> = Argument {
 const KEK: Argument<'static> = Argument {
     name: "kek",
     kind: Kind::Required("FILE"),
-    help: "The key-encryption key: 16, 24 or 32 bytes, in hex",
+    help: "The file of the KEK: 16, 24 or 32 bytes, in hex",
     ..FLAG
 };
 

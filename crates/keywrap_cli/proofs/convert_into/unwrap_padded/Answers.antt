@@ -6,20 +6,19 @@ use Rattle.key_wrap.specs.declared.forms.Form.TheVariants as forms
 use Rattle.keywrap_cli.proofs.UnwrapRefusals.{refused_unwrap}
 use Rattle.keywrap_cli.proofs.convert_into.unwrap_padded.Goals as goal
 
-pub returns-in_err-len : goal.returns-in_err-len
-returns-in_err-len g c =
+pub returns-in-Err : goal.returns-in-Err
+returns-in-Err g c =
     let own = ap (λ m. m.pair) c.new.ensures in
     let given : List ℕ = c.deref_mut.result.now in
     refused_unwrap {A = ℕ} forms.Padded c.args.iv.now (Padded (g.B.BlockPair.encrypted c.new.result.pair))
-    (g.B.BlockPair.encrypted c.args.pair.now) c.args.text.now _ (ArePaddedLengths (length given) (length c.args.text.now))
-    (λ (m : ℕ). take m c.unwrap_padded_into.new.key) c.in_err-len.field-0.0 c.from_residual-in_err-len.result
-    (search rules) (search rules) (λ key h. rw own h) c.in_err-len.ensures.answer c.from_residual-in_err-len.ensures
+    (g.B.BlockPair.encrypted c.args.pair.now) c.args.text.now (ArePaddedLengths (length given) (length c.args.text.now))
+    (λ (m : ℕ). take m c.unwrap_padded_into.new.key) c.in-Err.refusal (search rules) (search rules) (λ key h. rw own h) c.in-Err.ensures.answer
 
-pub returns : goal.returns
-returns g c =
+pub returns-in-Ok : goal.returns-in-Ok
+returns-in-Ok g c =
     let own = ap (λ m. m.pair) c.new.ensures in
     let new : List ℕ = c.unwrap_padded_into.new.key in
     let back = take_at new (drop (length new) c.resize.new.self.items) c.resize.new.self.len (omega arith) in
-    let key : c.truncate.new.self.items ≡ take c.in_ok-len.len new = c.truncate.ensures.items ∙ ap (take c.in_ok-len.len) back in
-    let w = rw own at c.in_ok-len.ensures in
+    let key : c.truncate.new.self.items ≡ take c.in-Ok.len new = c.truncate.ensures.items ∙ ap (take c.in-Ok.len) back in
+    let w = rw own at c.in-Ok.ensures in
     record { stands = rw key w.answer.1; alone = rw key w.only_key; restores = rw key w.restores; one_form = w.other_form }

@@ -6,19 +6,18 @@ use Rattle.key_wrap.specs.declared.forms.Form.TheVariants as forms
 use Rattle.keywrap_cli.proofs.UnwrapRefusals.{refused_unwrap}
 use Rattle.keywrap_cli.proofs.convert_into.unwrap_plain.Goals as goal
 
-pub returns-in_err-unwrap_into_with : goal.returns-in_err-unwrap_into_with
-returns-in_err-unwrap_into_with g c =
+pub returns-in-Err : goal.returns-in-Err
+returns-in-Err g c =
     let own = ap (λ m. m.pair) c.new.ensures in
     let given : List ℕ = c.deref_mut.result.now in
     refused_unwrap {A = Unit {0}} forms.Plain c.args.iv.now (Plain (g.B.BlockPair.encrypted c.new.result.pair) c.args.iv.now)
-    (g.B.BlockPair.encrypted c.args.pair.now) c.args.text.now _ (ArePlainLengths (length given) (length c.args.text.now))
-    (λ (_ : Unit {0}). c.unwrap_into_with.new.key) c.in_err-unwrap_into_with.field-0.0 c.from_residual-in_err-unwrap_into_with.result
-    (search rules) (search rules) (λ key h. rw own h) c.in_err-unwrap_into_with.ensures.answer c.from_residual-in_err-unwrap_into_with.ensures
+    (g.B.BlockPair.encrypted c.args.pair.now) c.args.text.now (ArePlainLengths (length given) (length c.args.text.now))
+    (λ (_ : Unit {0}). c.unwrap_into_with.new.key) c.in-Err.refusal (search rules) (search rules) (λ key h. rw own h) c.in-Err.ensures.answer
 
-pub returns : goal.returns
-returns g c =
+pub returns-in-Ok : goal.returns-in-Ok
+returns-in-Ok g c =
     let own = ap (λ m. m.pair) c.new.ensures in
     let new : List ℕ = c.unwrap_into_with.new.key in
     let back = take_at new (drop (length new) c.resize.new.self.items) c.resize.new.self.len (omega arith) in
-    let w = rw own at c.in_ok-unwrap_into_with.ensures in
+    let w = rw own at c.in-Ok.ensures in
     record { stands = rw back w.answer.1; alone = rw back w.only_key; restores = rw back w.restores; one_form = w.other_form }

@@ -2,9 +2,9 @@ use Rattle.std.proofs.Common.{arith, ap, length, drop}
 use Rattle.std.proofs.lemmas.List.{take_at}
 use Rattle.keywrap_cli.proofs.convert_into.wrap_padded.Goals as goal
 
-pub returns : goal.returns
-returns g c =
+pub returns-in-Ok : goal.returns-in-Ok
+returns-in-Ok g c =
     let own = ap (λ m. m.pair) c.new.ensures in
     let back = take_at c.wrap_padded_into.new.text (drop (length c.wrap_padded_into.new.text) c.resize.new.self.items) c.resize.new.self.len (omega arith) in
-    let w = rw own at c.in_ok-wrap_padded_into.ensures in
+    let w = rw own at c.in-Ok.ensures in
     record { stands = rw back w.answer; alone = rw back w.only_text }
