@@ -67,8 +67,8 @@ impl<'a> Telling<'a> {
 
     /// The refusal of a job.
     pub fn refused_job(&self, fault: JobFault, seen: &SeenFiles) -> Refused {
-        match self.cause(fault, seen) {
-            Some((name, why)) => self.refused(ProgramFault::Job(fault), name, why),
+        match self.cause(fault) {
+            Some(name) => self.refused(ProgramFault::Job(fault), name, self.why(fault, seen)),
             None => Refused::from(ProgramFault::Job(fault)),
         }
     }
@@ -130,30 +130,32 @@ impl<'a> Telling<'a> {
         }
     }
 
-    // The file that was the cause, and what is said of it.
-    fn cause(&self, fault: JobFault, seen: &SeenFiles) -> Option<(&'a str, Why)> {
+    // The file that was the cause.
+    fn cause(&self, fault: JobFault) -> Option<&'a str> {
+        match fault {
+            JobFault::KekFile(_) | JobFault::KekLength => Some(self.places.kek),
+            JobFault::NewKekFile(_) | JobFault::NewKekLength => Some(self.work.new_kek()),
+            JobFault::InputFile(_) | JobFault::BadLength | JobFault::Integrity => {
+                Some(self.input_name())
+            }
+            JobFault::Write { .. } => Some(self.output_name()),
+            JobFault::Memory => None,
+        }
+    }
+
+    // What is said of it.
+    fn why(&self, fault: JobFault, seen: &SeenFiles) -> Why {
         let kek = self.work.kek_notation();
         match fault {
-            JobFault::KekFile(fault) => {
-                Some((self.places.kek, of_file(fault, &seen.kek, Role::Kek)))
-            }
-            JobFault::KekLength => Some((self.places.kek, of_kek(kek, &seen.kek))),
-            JobFault::NewKekFile(fault) => {
-                Some((
-                    self.work.new_kek(),
-                    of_file(fault, &seen.new_kek, Role::Kek),
-                ))
-            }
-            JobFault::NewKekLength => Some((self.work.new_kek(), of_kek(kek, &seen.new_kek))),
-            JobFault::InputFile(fault) => {
-                Some((self.input_name(), of_file(fault, &seen.input, self.role())))
-            }
-            JobFault::BadLength => Some((self.input_name(), self.of_length(&seen.input))),
-            JobFault::Integrity => Some((self.input_name(), self.of_integrity(&seen.kek))),
-            JobFault::Write { .. } => {
-                Some((self.output_name(), Why::of_number(seen.output.error)))
-            }
-            JobFault::Memory => None,
+            JobFault::KekFile(fault) => of_file(fault, &seen.kek, Role::Kek),
+            JobFault::KekLength => of_kek(kek, &seen.kek),
+            JobFault::NewKekFile(fault) => of_file(fault, &seen.new_kek, Role::Kek),
+            JobFault::NewKekLength => of_kek(kek, &seen.new_kek),
+            JobFault::InputFile(fault) => of_file(fault, &seen.input, self.role()),
+            JobFault::BadLength => self.of_length(&seen.input),
+            JobFault::Integrity => self.of_integrity(&seen.kek),
+            JobFault::Write { .. } => Why::of_number(seen.output.error),
+            JobFault::Memory => Why::Named,
         }
     }
 

@@ -91,21 +91,36 @@ fn run_keyed<R: Print + Eprint + Input + AllocGlobal + Files<File = File> + Env 
     } else {
         None
     };
-    let places = telling.places;
-    let opened = match places.input {
-        None => Opened::Stream(rt.reader()),
-        Some(name) => match open(rt, name) {
-            Ok(opened) => opened,
-            Err(error) => return Err(telling.unopened(ProgramFault::InputOpen, name, &error)),
-        },
-    };
+    let opened = open_input(rt, telling)?;
     let spared = match lines {
         Some(lines) if lines.goes_on => spared(rt, &opened),
         _ => Spared::Nothing,
     };
     let length = length_of(lines, &opened);
-    let many = many(rt, lines, places, terminals, waiting, length, spared);
+    let many = many(
+        rt,
+        lines,
+        telling.places,
+        terminals,
+        waiting,
+        length,
+        spared,
+    );
     run_from(rt, telling, keyed, many, opened, waiting)
+}
+
+// The input: a file, or standard input.
+fn open_input<R: Eprint + Input + AllocGlobal + Files<File = File> + Env>(
+    rt: &R,
+    telling: &Telling<'_>,
+) -> Result<Opened<R::Reader>, Refused> {
+    let Some(name) = telling.places.input else {
+        return Ok(Opened::Stream(rt.reader()));
+    };
+    match open(rt, name) {
+        Ok(opened) => Ok(opened),
+        Err(error) => Err(telling.unopened(ProgramFault::InputOpen, name, &error)),
+    }
 }
 
 // The input, which is open, may not be replaced.

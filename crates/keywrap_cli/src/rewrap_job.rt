@@ -32,21 +32,36 @@ impl<O: BlockPair, N: BlockPair> LineJob for RewrapJob<O, N> {
         (O.encrypted job.old) (N.encrypted job.new) text answer };
 
     fn answer(&self, bytes: &mut Vec<u8>, output: &mut Vec<u8>) -> Outcome<InPlaceFault> {
-        let outcome = make(
+        answer_rewrapping(
             &self.task,
             &self.old,
             &self.new,
             &self.passed,
             bytes,
             output,
-        );
-        if !matches!(outcome, Outcome::Answer) {
-            return outcome;
-        }
-        match print_in(self.task.input, bytes, output) {
-            Ok(()) => Outcome::Answer,
-            Err(_) => Outcome::Memory,
-        }
+        )
+    }
+}
+
+// The answer, in the notation of the task.
+fn answer_rewrapping<O: BlockPair, N: BlockPair>(
+    task: &Rewrapping,
+    old: &O,
+    new: &N,
+    passed: &Cell<u64>,
+    bytes: &mut Vec<u8>,
+    output: &mut Vec<u8>,
+) -> Outcome<InPlaceFault>
+    ensures { OutcomeIs (RewrappingAnswer task.now (O.encrypted old.now) (N.encrypted new.now)
+        bytes.old.items) output.new.items result }
+{
+    let outcome = make(task, old, new, passed, bytes, output);
+    if !matches!(outcome, Outcome::Answer) {
+        return outcome;
+    }
+    match print_in(task.input, bytes, output) {
+        Ok(()) => Outcome::Answer,
+        Err(_) => Outcome::Memory,
     }
 }
 
