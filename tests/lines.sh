@@ -560,6 +560,12 @@ if [ "$(script -qec 'echo here' /dev/null 2>&1 | tr -d '\r')" = here ]; then
     verdict 'answers to one terminal of two' "$(cmp inner.shown <(head -n 6 most.wrapped) 2>&1)"
     verdict 'the refusal on the other' "$([ "$status $(head -n 1 screen)" = "6 keywrap: line 7: $digit" ] ||
         echo "status $status, it shows $(shown screen)")"
+    # What takes less than half a second shows nothing on its way.
+    yes $d16 | head -n 30000 >in
+    # shellcheck disable=SC2016
+    on_terminal '"$program" wrap --lines --kek kek16.hex --input in >out'
+    last='keywrap: 30000 lines: 30000 answered, 0 refused'
+    verdict 'nothing in the first half second' "$(diff <(echo "$last") screen)"
     # A regular file has a length. It is read in five parts of 65,536 bytes, each of which takes a while.
     if [ -e fail_read.so ]; then
         yes $d16 | head -n 9900 >in
