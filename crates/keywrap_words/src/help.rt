@@ -104,8 +104,8 @@ line names the file and says why; and after an answer a line names a likely
 mistake: raw bytes that are hex digits, base64 or PEM, a padded form that
 became plain. With --lines the last line says how many were answered.
 Nothing is written before the whole answer is made. With --lines this applies
-line by line: the refusal names the line, and standard output has the answers
-to the lines before it.
+to each line's answer: the refusal names the line, and standard output has the
+answers to the lines before it.
 Status 5 without a line comes from check, which wrote `none`, and vectors,
 whose lines say which one failed.";
 
