@@ -70,7 +70,7 @@ const KEK: Argument<'static> = Argument {
 const NEW_KEK: Argument<'static> = Argument {
     name: "new-kek",
     kind: Kind::Required("FILE"),
-    help: "The file with the KEK of the new wrapped key, in hex",
+    help: "The file of the KEK of the new wrapped key, in hex",
     ..FLAG
 };
 

@@ -73,7 +73,7 @@ pub const NOTES: &str = "\
 Hex: two digits a byte, of either case. No 0x, no colons.
 Base64 (--base64, --base64url, --base64-kek): with + and / or with - and _, not
 both in one file; with its = or none.
-In both spaces, tabs and line ends may stand anywhere; with --lines blanks at
+In either, spaces, tabs and line ends may stand anywhere; with --lines blanks at
 the ends of a line alone.
 With --raw and --raw-kek every byte counts, a newline at the end too.
 
