@@ -1,35 +1,60 @@
 # Thin calls of rt and of the scripts beside this file.
 
+# Directories, by their GNU names. Upper case does as well: PREFIX, LIBDIR and so on.
 PREFIX ?= /usr/local
 DESTDIR ?=
+prefix = $(PREFIX)
+exec_prefix = $(prefix)
+bindir = $(or $(BINDIR),$(exec_prefix)/bin)
+libdir = $(or $(LIBDIR),$(exec_prefix)/lib)
+includedir = $(or $(INCLUDEDIR),$(prefix)/include)
+datarootdir = $(or $(DATAROOTDIR),$(prefix)/share)
+mandir = $(or $(MANDIR),$(datarootdir)/man)
+docdir = $(or $(DOCDIR),$(datarootdir)/doc/keywrap)
+# Where OpenSSL looks for providers.
+MODULESDIR ?= $(shell openssl version -m 2>/dev/null | sed -n 's/^MODULESDIR: "\(.*\)"/\1/p')
+
 CC ?= cc
+CFLAGS ?= -O2
+# The time of each file in what `make dist` packs, so that two builds give the same bytes: 1 January 2026.
+export SOURCE_DATE_EPOCH ?= 1767225600
+compile = $(CC) $(CPPFLAGS) $(CFLAGS) $(LDFLAGS)
+link = $(CC) $(CFLAGS) $(LDFLAGS)
+# With STRIP=1 programs and shared objects are stripped as they are installed.
+install_stripped = install $(if $(STRIP),-s --strip-program=$(strip_program))
 # For which machine the C library and the wheel are: scripts/target.mk has the two.
 TARGET ?= x86_64-unknown-linux-gnu
 include scripts/target.mk
+include scripts/hardware.mk
 
 # The program as it was built, which `make build` makes.
 PROGRAM ?= crates/keywrap/out/keywrap
-# The version stands in one file: what is not released ends in -dev. What is numbers alone, as the header and the
-# shared object's name, leaves that out, and Python has a way of its own to write it.
+# The file VERSION holds the version, which ends in -dev between releases. Debian and pkg-config write ~dev, which sorts
+# before the release, and Python .dev0. CMake compares numbers only.
 version := $(shell cat VERSION)
 number = $(patsubst %-dev,%,$(version))
+of_debian = $(subst -,~,$(version))
 of_python = $(patsubst %-dev,%.dev0,$(version))
 # Where `make dist` puts what is handed out; in a folder that is never committed.
 DIST ?= out
-# Where the C library is put together; in a folder that is never committed.
+# The directory in which the C library is put together; never committed.
 LIBRARY ?= out/library$(other)
-# Where the package for browsers, Node and Deno is put together.
+# The directory of the package for browsers, Node and Deno.
 JS ?= out/js
 # What the C library is made of: the archive that rt builds of the exports.
 ARCHIVE ?= crates/keywrap_c/out/libkeywrap_c.a
-# Where the provider for OpenSSL is put; in a folder that is never committed.
+# The directory of the provider for OpenSSL; never committed.
 PROVIDER ?= out/provider
+# The directory of the example in C.
+EXAMPLES ?= out/examples
+# With HARDWARE=1 the library and the provider use the processor's AES: scripts/hardware.mk.
+HARDWARE ?=
 # What builds the Python package: scripts/wheel_needs.sh says what it needs.
 PYTHON ?= python3
 
 soname = libkeywrap.so.1
-shared = libkeywrap.so.$(number)
-wheel = $(DIST)/keywrap-$(of_python)-cp39-abi3-linux_$(machine).whl
+shared = libkeywrap.so.$(of_debian)
+wheel = $(DIST)/$(call wheel_of,$(machine))
 # What the library is made of: the sources of the exports' crate and of those that crates.txt names below it,
 # unless the archive is one from elsewhere.
 of_exports = $(filter crates/%,$(ARCHIVE))
@@ -39,43 +64,52 @@ crates = keywrap_c $(shell sed -n 's/^keywrap_c staticlib: *//p' crates.txt)
 folders = $(wildcard $(foreach crate,$(crates),$(addprefix crates/$(crate)/,src specs proofs)))
 made_of = include/keywrap.map $(if $(of_exports),$(shell find crates.txt $(folders) -type f),'$(ARCHIVE)')
 
-bin = $(DESTDIR)$(PREFIX)/bin
-lib = $(DESTDIR)$(PREFIX)/lib
-include = $(DESTDIR)$(PREFIX)/include
-share = $(DESTDIR)$(PREFIX)/share
-man = $(share)/man/man1
-doc = $(share)/doc/keywrap
+bin = $(DESTDIR)$(bindir)
+lib = $(DESTDIR)$(libdir)
+include = $(DESTDIR)$(includedir)
+share = $(DESTDIR)$(datarootdir)
+man = $(DESTDIR)$(mandir)/man1
+doc = $(DESTDIR)$(docdir)
+modules = $(DESTDIR)$(or $(MODULESDIR),$(error no openssl here: MODULESDIR= names its folder of modules))
 for_bash = $(share)/bash-completion/completions
 for_zsh = $(share)/zsh/site-functions
 for_fish = $(share)/fish/vendor_completions.d
 
 .PHONY: help version build library library-anew test gate install uninstall install-command uninstall-command \
-    install-library uninstall-library provider needs needs-wheel wheel js dist dist-each dist-command dist-library \
-    dist-wheel dist-js packed bench clean
+    install-library uninstall-library install-provider uninstall-provider provider examples needs needs-wheel wheel js \
+    dist dist-each dist-command dist-library dist-wheel dist-js packed bench pictures clean
 # What a goal needs is looked at before anything is built for it; and what rt builds of the exports has one place.
 .NOTPARALLEL:
 
 help:
-	@echo 'make build              proves and builds the program, where that is not done'
+	@echo 'make build              proves and builds the program, if its sources changed'
 	@echo 'make library            proves and builds the C library, as $(LIBRARY)/libkeywrap.a and $(shared)'
 	@echo 'make provider           builds the provider for OpenSSL 3, as $(PROVIDER)/keywrap.so: docs/OPENSSL.md'
+	@echo '                        With HARDWARE=1 library also makes libkeywrap_hw.a and .so, by the AES instructions of'
+	@echo '                        the processor, and the provider is built over it: docs/C_LIBRARY.md'
+	@echo 'make examples           builds the example in C, as $(EXAMPLES)/wrap'
 	@echo 'make wheel              builds the Python package, as $(wheel)'
 	@echo 'make js                 builds the package for browsers, Node and Deno, as $(JS)'
 	@echo 'make test               runs the tests of the built command and the C library, as a user does'
 	@echo 'make gate               runs rt ci, which proves all from nothing and tries each edit, and then make test'
-	@echo 'make install            installs the two below, under $$(DESTDIR)$$(PREFIX), with their documents'
+	@echo 'make install            installs the two below, under $$(DESTDIR)$$(prefix), with their documents'
 	@echo 'make install-command    installs the program, its manual page, and completions for bash, zsh and fish'
-	@echo 'make install-library    installs the C library: in lib, include and lib/pkgconfig'
-	@echo 'make uninstall          removes what make install put there (uninstall-command, uninstall-library: theirs)'
+	@echo 'make install-library    installs the C library: in lib, include, lib/pkgconfig and lib/cmake'
+	@echo 'make install-provider   installs the provider in $$(DESTDIR)$$(MODULESDIR): OpenSSL'"'"'s folder of modules'
+	@echo 'make uninstall          removes what make install put there; uninstall-command, uninstall-library and'
+	@echo '                        uninstall-provider remove theirs'
+	@echo '                        These take the names of GNU: prefix, bindir, libdir, includedir, mandir, docdir;'
+	@echo '                        CC, CPPFLAGS, CFLAGS, LDFLAGS; and STRIP=1'
 	@echo 'make dist               packs all of it in $(DIST), for machines without the kit, with SHA256SUMS: what the'
 	@echo '                        two below pack, the wheels and the package for npm, for x86-64 and for aarch64'
 	@echo 'make dist-command       packs what make install-command installs, as'
 	@echo '                        $(DIST)/keywrap-$(version)-x86_64-linux.tar.gz'
 	@echo 'make dist-library       packs what make install-library installs, there'
 	@echo '                        With TARGET=aarch64-unknown-linux-gnu library, wheel, install-library and dist'
-	@echo '                        are for aarch64 alone, and without the program'
+	@echo '                        are only for aarch64, and without the program'
 	@echo 'make version            writes the version'
 	@echo 'make bench              how long a wrap takes, beside OpenSSL, nettle, C and pyca'
+	@echo 'make pictures           draws docs/pictures and the map of the crates'
 	@echo 'make clean              removes what was built'
 
 version:
@@ -84,22 +118,24 @@ version:
 build:
 	@./keywrap --version >/dev/null
 
-# Made where that is not done, or where a file that it is made of, or one of its own, has another content than
-# then: what comes out of an archive keeps its old time.
+# Built if that is not done, or if the flags or the content of a file have changed since: files out of an archive have
+# old times. b2sum ignores the line of the flags.
 library:
-	@b2sum --check --status '$(record)' 2>/dev/null || $(MAKE) --no-print-directory library-anew
+	@{ grep -qxF '# $(link)' '$(record)' && b2sum --check --status '$(record)'; } 2>/dev/null || \
+	    $(MAKE) --no-print-directory library-anew
+	$(if $(HARDWARE),@$(MAKE) --no-print-directory library-hardware)
 
 # A source that is changed while rt works is no longer what was written down before. The loader finds the
-# shared object by its soname; a hard link, since no symbolic one stands in this folder.
+# shared object by its soname; a hard link, since rt accepts no symbolic link here.
 library-anew:
 	$(needs_compiler)
 	install -d '$(LIBRARY)'
-	b2sum $(made_of) >'$(LIBRARY)/begun'
+	{ echo '# $(link)' && b2sum $(made_of); } >'$(LIBRARY)/begun'
 	$(set_aside)
 	$(if $(of_exports),cd crates/keywrap_c && rt lib $(rt_target))
 	install -m 644 '$(ARCHIVE)' '$(LIBRARY)/libkeywrap.a'
 	$(put_back)
-	$(CC) -shared -o '$(LIBRARY)/$(shared)' -Wl,--whole-archive '$(LIBRARY)/libkeywrap.a' -Wl,--no-whole-archive \
+	$(link) -shared -o '$(LIBRARY)/$(shared)' -Wl,--whole-archive '$(LIBRARY)/libkeywrap.a' -Wl,--no-whole-archive \
 	    -Wl,-soname,$(soname) -Wl,--version-script,include/keywrap.map -Wl,-z,defs,-z,relro,-z,now
 	ln -f '$(LIBRARY)/$(shared)' '$(LIBRARY)/$(soname)'
 	b2sum '$(LIBRARY)/libkeywrap.a' '$(LIBRARY)/$(shared)' '$(LIBRARY)/$(soname)' >>'$(LIBRARY)/begun'
@@ -108,26 +144,26 @@ library-anew:
 # Nothing of libcrypto is linked: what it needs of it the core hands over.
 provider: library
 	install -d '$(PROVIDER)'
-	$(CC) -std=c99 -O2 -fPIC -shared -Iinclude -o '$(PROVIDER)/keywrap.so' provider/*.c '$(LIBRARY)/libkeywrap.a' \
-	    -Wl,--version-script,provider/provider.map -Wl,-z,defs,-z,relro,-z,now
+	$(compile) -std=c99 -fPIC -shared -Iinclude -o '$(PROVIDER)/keywrap.so' provider/*.c \
+	    '$(LIBRARY)/libkeywrap$(if $(HARDWARE),_hw).a' -Wl,--version-script,provider/provider.map \
+	    -Wl,-z,defs,-z,relro,-z,now
 
-# What is not there is said before anything is built.
+examples: library
+	install -d '$(EXAMPLES)'
+	$(compile) -std=c99 -Iinclude -o '$(EXAMPLES)/wrap' examples/c/wrap.c '$(LIBRARY)/libkeywrap.a'
+
+# A missing tool is named before anything is built.
 needs: needs-wheel
 	$(needs_compiler)
+	$(if $(filter dist-js,$(packed)),@scripts/js.sh --needs)
 
 needs-wheel:
 	$(needs_headers)
 	@scripts/wheel_needs.sh '$(PYTHON)' $(if $(other),,Python.h)
 
-# The package is built beside the header and the archive, in a folder of its own. The wheel's name is the last line.
+# The wheel's name is the last line.
 wheel: needs-wheel library
-	rm -rf '$(LIBRARY)/python'
-	cp -R python '$(LIBRARY)/python'
-	cp VERSION include/keywrap.h '$(LIBRARY)/libkeywrap.a' '$(LIBRARY)/python'
-	scripts/links.sh <python/README.md >'$(LIBRARY)/python/README.md'
-	$(copy_headers)
-	$(built_for) $(PYTHON) -m build --wheel --no-isolation --outdir '$(abspath $(DIST))' '$(LIBRARY)/python' \
-	    >'$(LIBRARY)/wheel.log' || { cat '$(LIBRARY)/wheel.log'; exit 1; }
+	$(for_machine) scripts/wheel.sh '$(PYTHON)' '$(LIBRARY)' '$(machine)' '$(DIST)' $(if $(other),'$(SYSROOT)')
 	@echo '$(wheel)'
 
 js:
@@ -161,7 +197,7 @@ gone = rm -rf $(1:%='$(doc)/%'); [ -e '$(2)' ] || rm -rf $(patsubst %,'$(doc)/%'
 
 install-command: build
 	install -d '$(bin)' '$(man)' '$(for_bash)' '$(for_zsh)' '$(for_fish)'
-	install -m 755 '$(PROGRAM)' '$(bin)/keywrap'
+	$(install_stripped) -m 755 '$(PROGRAM)' '$(bin)/keywrap'
 	install -m 644 man/keywrap.1 '$(man)/keywrap.1'
 	install -m 644 completions/keywrap.bash '$(for_bash)/keywrap'
 	install -m 644 completions/_keywrap '$(for_zsh)/_keywrap'
@@ -173,31 +209,47 @@ uninstall-command:
 	    '$(for_fish)/keywrap.fish'
 	$(call gone,README,$(include)/keywrap.h)
 
-# What stands for something else in what sed puts in.
-as_written = $(subst |,\|,$(subst &,\&,$(subst \,\\,$(PREFIX))))
+# Values for pkg-config and CMake. sed gives these three characters a meaning.
+as_written = $(subst |,\|,$(subst &,\&,$(subst \,\\,$(1))))
+below_prefix = $(call as_written,$(patsubst $(prefix)/%,$${prefix}/%,$(1)))
+for_packages = pkgconfig/keywrap.pc cmake/keywrap/keywrap-config.cmake cmake/keywrap/keywrap-config-version.cmake
+fill_in = sed -i -e 's|@PREFIX@|$(call as_written,$(prefix))|; s|@LIBDIR@|$(call below_prefix,$(libdir))|' \
+    -e 's|@INCLUDEDIR@|$(call below_prefix,$(includedir))|; s|@VERSION@|$(of_debian)|; s|@NUMBER@|$(number)|' \
+    -e "s|@TO_INCLUDEDIR@|$$(realpath -ms --relative-to='$(libdir)/cmake/keywrap' '$(includedir)')|"
 
-# The links are for the loader and the linker; they stand there alone, never in this folder.
+# The links are for the loader and the linker; they exist only there, never in this directory.
 install-library: library
-	install -d '$(lib)/pkgconfig' '$(include)'
+	install -d '$(lib)/pkgconfig' '$(lib)/cmake/keywrap' '$(include)'
 	install -m 644 '$(LIBRARY)/libkeywrap.a' '$(lib)/libkeywrap.a'
-	install -m 755 '$(LIBRARY)/$(shared)' '$(lib)/$(shared)'
+	$(install_stripped) -m 644 '$(LIBRARY)/$(shared)' '$(lib)/$(shared)'
 	ln -sf $(shared) '$(lib)/$(soname)'
 	ln -sf $(soname) '$(lib)/libkeywrap.so'
-	install -m 644 include/keywrap.h '$(include)/keywrap.h'
-	install -m 644 include/keywrap.pc.in '$(lib)/pkgconfig/keywrap.pc'
-	sed -i 's|@PREFIX@|$(as_written)|; s|@VERSION@|$(version)|' '$(lib)/pkgconfig/keywrap.pc'
+	install -m 644 include/keywrap.h include/keywrap_steps.h '$(include)'
+	$(if $(HARDWARE),$(install_hardware))
+	for file in $(for_packages); do install -m 644 "include/$${file##*/}.in" '$(lib)'/$$file || exit; done
+	cd '$(lib)' && $(fill_in) $(for_packages)
 	$(install_documents) README.library $(of_library) $(documents)
 	find examples provider -type d -exec install -d '$(doc)/{}' ';' -o -exec install -m 644 {} '$(doc)/{}' ';'
 
 uninstall-library:
 	rm -f '$(lib)/libkeywrap.a' '$(lib)/$(shared)' '$(lib)/$(soname)' '$(lib)/libkeywrap.so' \
-	    '$(include)/keywrap.h' '$(lib)/pkgconfig/keywrap.pc'
+	    '$(include)/keywrap.h' '$(include)/keywrap_steps.h' $(for_packages:%='$(lib)/%') \
+	    '$(lib)/libkeywrap_hw.a' '$(lib)/$(hw_shared)' '$(lib)/$(hw_soname)' '$(lib)/libkeywrap_hw.so'
+	rmdir '$(lib)/cmake/keywrap' '$(lib)/cmake' 2>/dev/null || true
 	$(call gone,README.library examples provider $(notdir $(of_library)),$(bin)/keywrap)
 
-# Without TARGET for each machine, each in a make of its own.
-dist: $(if $(filter file,$(origin TARGET)),dist-each,needs $(packed))
-	cd '$(DIST)' && sha256sum $(if $(filter file,$(origin TARGET)),$(all_handed_out),$(handed_out)) >SHA256SUMS.new && \
-	    mv SHA256SUMS.new SHA256SUMS
+install-provider: provider
+	install -d '$(modules)'
+	$(install_stripped) -m 644 '$(PROVIDER)/keywrap.so' '$(modules)/keywrap.so'
+
+uninstall-provider:
+	rm -f '$(modules)/keywrap.so'
+
+# Without TARGET for each machine, each in a make of its own. What lists the files is made whole or not at all.
+all_machines = $(filter file,$(origin TARGET))
+dist: $(if $(all_machines),dist-each,needs $(packed))
+	cd '$(DIST)' && $(PYTHON) '$(CURDIR)/scripts/sbom.py' '$(version)' $(packed_files) >sbom.new && mv sbom.new '$(sbom)'
+	cd '$(DIST)' && sha256sum $(packed_files) $(sbom) >SHA256SUMS.new && mv SHA256SUMS.new SHA256SUMS
 	@echo '$(DIST)/SHA256SUMS'
 
 each = @set -e; for target in $(targets); do $(MAKE) --no-print-directory $(1) TARGET=$$target; done
@@ -225,6 +277,12 @@ bench: build library provider wheel
 	bench/startup '$(PROGRAM)'
 	bench/lines '$(PROGRAM)' '$(PYTHON)'
 	$(PYTHON) python/bench.py '$(wheel)'
+	$(PYTHON) bench/rotation '$(PROGRAM)' '$(wheel)'
+
+# The drawings of docs/pictures, the map of the crates in docs/ARCHITECTURE.md and the tables of docs/TRUST.md.
+pictures:
+	scripts/pictures.py
+	scripts/trust.py
 
 clean:
 	rm -rf crates/*/out out

@@ -9,7 +9,7 @@ static uint8_t sbox[256], inv_sbox[256];
 /* For a byte x: 02 S(x), S(x), S(x), 03 S(x), which joins SubBytes and MixColumns. */
 static uint32_t forward[256];
 
-/* For a byte x: 0e x, 09 x, 0d x, 0b x, the inverse of MixColumns alone. */
+/* For a byte x: 0e x, 09 x, 0d x, 0b x, only for the inverse of MixColumns. */
 static uint32_t inverse[256];
 
 static uint8_t product(uint8_t a, uint8_t b) {

@@ -1,5 +1,5 @@
-/* peers.c: the plain wrap by this library, by OpenSSL and nettle where they are there, and by the
- * same algorithm in C. */
+/* peers.c: the plain wrap by this library, by OpenSSL, nettle and libgcrypt if they are installed,
+ * and by the same algorithm in C. */
 
 #define OPENSSL_SUPPRESS_DEPRECATED
 
@@ -16,6 +16,9 @@
 #include <nettle/aes.h>
 #include <nettle/nist-keywrap.h>
 #endif
+#ifdef HAVE_GCRYPT
+#include <gcrypt.h>
+#endif
 
 static int wrap_ours(const uint8_t *kek, size_t kek_len, const uint8_t *key, size_t len,
                      uint8_t *text) {
@@ -26,6 +29,22 @@ static int unwrap_ours(const uint8_t *kek, size_t kek_len, const uint8_t *text, 
                        uint8_t *key) {
     return keywrap_unwrap(kek, kek_len, text, KEYWRAP_TEXT_LEN(len), key, len) == KEYWRAP_OK;
 }
+
+#ifdef HAVE_HARDWARE
+/* The calls of libkeywrap_hw, as bench/wrap renames them. */
+int32_t hw_wrap(const uint8_t *, size_t, const uint8_t *, size_t, uint8_t *, size_t);
+int32_t hw_unwrap(const uint8_t *, size_t, const uint8_t *, size_t, uint8_t *, size_t);
+
+static int wrap_hardware(const uint8_t *kek, size_t kek_len, const uint8_t *key, size_t len,
+                         uint8_t *text) {
+    return hw_wrap(kek, kek_len, key, len, text, KEYWRAP_TEXT_LEN(len)) == KEYWRAP_OK;
+}
+
+static int unwrap_hardware(const uint8_t *kek, size_t kek_len, const uint8_t *text, size_t len,
+                           uint8_t *key) {
+    return hw_unwrap(kek, kek_len, text, KEYWRAP_TEXT_LEN(len), key, len) == KEYWRAP_OK;
+}
+#endif
 
 #ifdef HAVE_OPENSSL
 static int wrap_openssl(const uint8_t *kek, size_t kek_len, const uint8_t *key, size_t len,
@@ -78,6 +97,32 @@ static int unwrap_nettle(const uint8_t *kek, size_t kek_len, const uint8_t *text
 }
 #endif
 
+#ifdef HAVE_GCRYPT
+static int gcrypt_open(gcry_cipher_hd_t *handle, const uint8_t *kek, size_t kek_len) {
+    int cipher = kek_len == 16 ? GCRY_CIPHER_AES128 : GCRY_CIPHER_AES256;
+    return gcry_cipher_open(handle, cipher, GCRY_CIPHER_MODE_AESWRAP, 0) == 0
+           && gcry_cipher_setkey(*handle, kek, kek_len) == 0;
+}
+
+static int wrap_gcrypt(const uint8_t *kek, size_t kek_len, const uint8_t *key, size_t len,
+                       uint8_t *text) {
+    gcry_cipher_hd_t handle = NULL;
+    int done = gcrypt_open(&handle, kek, kek_len)
+               && gcry_cipher_encrypt(handle, text, len + 8, key, len) == 0;
+    gcry_cipher_close(handle);
+    return done;
+}
+
+static int unwrap_gcrypt(const uint8_t *kek, size_t kek_len, const uint8_t *text, size_t len,
+                         uint8_t *key) {
+    gcry_cipher_hd_t handle = NULL;
+    int done = gcrypt_open(&handle, kek, kek_len)
+               && gcry_cipher_decrypt(handle, key, len, text, len + 8) == 0;
+    gcry_cipher_close(handle);
+    return done;
+}
+#endif
+
 static int wrap_one_table(const uint8_t *kek, size_t kek_len, const uint8_t *key, size_t len,
                           uint8_t *text) {
     struct one_table keys;
@@ -94,14 +139,36 @@ static int unwrap_one_table(const uint8_t *kek, size_t kek_len, const uint8_t *t
 }
 
 const struct peer PEERS[] = {
-    {"keywrap", wrap_ours, unwrap_ours},
+    {"keywrap", SOFTWARE, wrap_ours, unwrap_ours},
+#ifdef HAVE_HARDWARE
+    {"hardware", INSTRUCTIONS, wrap_hardware, unwrap_hardware},
+#endif
 #ifdef HAVE_OPENSSL
-    {"openssl", wrap_openssl, unwrap_openssl},
+    {"openssl", SOFTWARE, wrap_openssl, unwrap_openssl},
 #endif
 #ifdef HAVE_NETTLE
-    {"nettle", wrap_nettle, unwrap_nettle},
+    {"nettle", INSTRUCTIONS, wrap_nettle, unwrap_nettle},
 #endif
-    {"C", wrap_one_table, unwrap_one_table},
+#ifdef HAVE_GCRYPT
+    {"gcrypt", INSTRUCTIONS, wrap_gcrypt, unwrap_gcrypt},
+#endif
+    {"C", SOFTWARE, wrap_one_table, unwrap_one_table},
 };
 
 const int PEER_COUNT = sizeof PEERS / sizeof *PEERS;
+
+void start_peers(void) {
+    one_table_start();
+#ifdef HAVE_GCRYPT
+    gcry_check_version(NULL);
+    gcry_control(GCRYCTL_DISABLE_SECMEM, 0);
+    gcry_control(GCRYCTL_INITIALIZATION_FINISHED, 0);
+#endif
+}
+
+const char *blocks_of(const struct peer *peer) {
+#ifdef __x86_64__
+    if (!__builtin_cpu_supports("aes")) return "software";
+#endif
+    return peer->blocks == INSTRUCTIONS ? "AES inst." : "software";
+}

@@ -1,5 +1,5 @@
 /* provider.c: how long a wrap and an unwrap by EVP take, each with a context of its own, by
- * OpenSSL's own provider and by ours, which stands as keywrap.so in the folder that is given. Both
+ * OpenSSL's own provider and by ours, which is keywrap.so in the directory that is given. Both
  * must answer the same bytes. They take turns, and the best time of each counts, by the processor
  * time of this thread. bench/provider compiles and runs it. */
 

@@ -2,12 +2,15 @@
  * its key schedule. First all must answer the same bytes. Then they take turns at every length, for
  * many short rounds (in only some of them where a call is long), and the best time of each counts,
  * by the processor time of this thread: so a busy machine troubles all alike. bench/wrap compiles
- * and runs it. */
+ * and runs it.
+ *
+ * usage: wrap SECONDS        (at least five rounds) */
 
 #define _POSIX_C_SOURCE 200809L
 
 #include <keywrap.h>
 #include <stdio.h>
+#include <stdlib.h>
 #include <string.h>
 #include <time.h>
 
@@ -21,7 +24,6 @@ static const size_t LENS[] = {16, 32, 256, 4096, KEYWRAP_MAX_KEY};
 enum { LEN_COUNT = KEYWRAP_MAX_KEY > 4096 ? 5 : 4 };
 
 enum { ROUNDS_AT_LEAST = 5, TURN_NS = 300000, LONG_NS = 3000000 };
-static const double ALL_NS = 20e9;
 
 /* One row of the answer: what is timed, in one of how many rounds, how often in a turn, and the
  * best time of a call. */
@@ -113,6 +115,8 @@ static void print_head(void) {
     printf("\nKEK  key      call   ");
     for (int p = 0; p < PEER_COUNT; p++) printf(" %9s", PEERS[p].name);
     for (int p = 1; p < PEER_COUNT; p++) printf("  to %-7s", PEERS[p].name);
+    printf("\nAES by               ");
+    for (int p = 0; p < PEER_COUNT; p++) printf(" %9s", blocks_of(PEERS + p));
     printf("\n");
 }
 
@@ -171,19 +175,19 @@ static void print_all(unsigned rounds) {
     }
 }
 
-int main(void) {
+int main(int argc, char **argv) {
     unsigned rounds = 0;
-    double begun;
+    double begun, all_ns = argc == 2 ? atof(argv[1]) * 1e9 : 0;
     for (size_t i = 0; i < sizeof kek; i++) kek[i] = (uint8_t)(3 * i + 1);
     for (size_t i = 0; i < sizeof key; i++) key[i] = (uint8_t)(7 * i);
-    one_table_start();
+    start_peers();
     for (int r = 0; r < ROW_COUNT; r++) {
         rows[r].kek_len = r < ROW_COUNT / 2 ? 16 : 32;
         rows[r].direction = r / LEN_COUNT % 2 == 0 ? WRAP : UNWRAP;
         rows[r].len = LENS[r % LEN_COUNT];
         if (!start(rows + r)) return 1;
     }
-    for (begun = now(); rounds < ROUNDS_AT_LEAST || now() - begun < ALL_NS; rounds++)
+    for (begun = now(); rounds < ROUNDS_AT_LEAST || now() - begun < all_ns; rounds++)
         for (int r = 0; r < ROW_COUNT; r++)
             if (rounds % rows[r].every == 0) take_turns(rows + r);
     print_all(rounds);

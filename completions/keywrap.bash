@@ -1,6 +1,6 @@
 # shellcheck shell=bash
 # Completion of keywrap for bash: the commands, the options of each, and file names after those that
-# take one. An option that stands already is not offered again, in neither of its forms, nor one that it
+# take one. An option that was given already is not offered again, in neither of its forms, nor one that it
 # excludes, as --padded and --iv do.
 
 _keywrap() {

@@ -20,7 +20,7 @@ complete -c keywrap -s V -l version -d 'Show the version' -n 'not __keywrap_is h
 complete -c keywrap -n __fish_use_subcommand -a wrap -d 'Wrap a key'
 complete -c keywrap -n __fish_use_subcommand -a unwrap -d 'Unwrap a wrapped key'
 complete -c keywrap -n __fish_use_subcommand -a rewrap -d 'Wrap the key of a wrapped key under another KEK'
-complete -c keywrap -n __fish_use_subcommand -a check -d 'Say what a wrapped key is, without the key'
+complete -c keywrap -n __fish_use_subcommand -a check -d 'Print the form of a wrapped key, not the key'
 complete -c keywrap -n __fish_use_subcommand -a drill -d 'Wrap under a toy cipher, to check by hand'
 complete -c keywrap -n __fish_use_subcommand -a vectors -d 'Run the published vectors'
 complete -c keywrap -n __fish_use_subcommand -a help -d 'Show the help, or that of a command'
@@ -35,9 +35,9 @@ complete -c keywrap -n '__keywrap_is rewrap; and __keywrap_lacks --new-iv --keep
     -d 'Write the padded form of RFC 5649'
 complete -c keywrap -n '__keywrap_is rewrap; and __keywrap_lacks --padded --new-padded --iv --new-iv' -l keep-form \
     -d 'Take either form, and keep it'
-complete -c keywrap -n '__keywrap_is rewrap' -l pass-new -d 'Write unchanged what is under the new KEK already'
+complete -c keywrap -n '__keywrap_is rewrap' -l pass-new -d 'Copy a wrapped key that is already under the new KEK'
 complete -c keywrap -n '__keywrap_is wrap unwrap rewrap check; and __keywrap_lacks --padded --keep-form' -l iv -x \
-    -d 'An initial value that both ends agreed on'
+    -d 'The initial value that both ends agreed on'
 complete -c keywrap -n '__keywrap_is rewrap; and __keywrap_lacks --new-padded --keep-form' -l new-iv -x \
     -d 'The initial value of the new wrapped key'
 complete -c keywrap -l raw -d 'Input and output are raw bytes, not hex' \
@@ -61,5 +61,5 @@ complete -c keywrap -n '__keywrap_is wrap unwrap rewrap check' -s i -l input -rF
 complete -c keywrap -n '__keywrap_is wrap unwrap rewrap check' -s o -l output -rF \
     -d 'The file for the answer, written whole'
 complete -c keywrap -n '__keywrap_is wrap unwrap rewrap check' -l verbose \
-    -d 'As on a terminal, say why it refuses, and likely mistakes'
+    -d 'Print reasons and warnings, as on a terminal'
 complete -c keywrap -n '__keywrap_is drill' -l unwrap -d 'Unwrap instead of wrapping'

@@ -12,11 +12,14 @@
  *
  * The calls allocate nothing, keep no state and call nothing back. Any thread may make them.
  *
+ * On x86-64 the processor must have SSSE3 and SSE4.1; on aarch64 any will do. The calls do not check
+ * this, and end the program with SIGILL on an older x86-64: KEYWRAP_CPU_SUPPORTED() checks it.
+ *
  * The caller's part, which nothing checks:
  *   - A pointer and the length after it belong together: it points to so many bytes, and is not
  *     NULL, not even at length 0 (malloc(0) may be).
  *   - What a call writes overlaps none of its other arguments. With an overlap the calls of two
- *     buffers can answer KEYWRAP_OK and a wrong wrapped key. To wrap a key where it stands, call
+ *     buffers can answer KEYWRAP_OK and a wrong wrapped key. To wrap a key in place, call
  *     the _in_place ones.
  *   - While a call runs, no other thread writes what it reads, or touches what it writes.
  *
@@ -29,12 +32,23 @@
 #include <stddef.h>
 #include <stdint.h>
 
-/* The version of this header; keywrap_version() tells that of the library that runs. */
+/* The version of this header. keywrap_version() returns the library's. What is built between two
+ * releases has the numbers of the next release. */
 #define KEYWRAP_VERSION_MAJOR 1
 #define KEYWRAP_VERSION_MINOR 1
 #define KEYWRAP_VERSION_PATCH 0
+#define KEYWRAP_PRERELEASE "dev" /* not defined in a release */
 #define KEYWRAP_VERSION \
     (KEYWRAP_VERSION_MAJOR << 16 | KEYWRAP_VERSION_MINOR << 8 | KEYWRAP_VERSION_PATCH)
+
+/* 1 if this processor has the instructions that the library needs, else 0: check it before the first
+ * call if the program may run on an old x86-64. GCC and clang only. */
+#if defined(__GNUC__) && defined(__x86_64__)
+#define KEYWRAP_CPU_SUPPORTED() \
+    (__builtin_cpu_supports("ssse3") && __builtin_cpu_supports("sse4.1"))
+#elif defined(__GNUC__)
+#define KEYWRAP_CPU_SUPPORTED() 1
+#endif
 
 /* Lengths, in bytes: of the longest key and the longest wrapped key (a thread's stack may be
  * shorter), of a key's plain and padded wrapping, and of the buffer that an unwrap fills, in either
@@ -47,7 +61,7 @@
 #define KEYWRAP_ROOM(wrapped_len) ((wrapped_len) < 8 ? 0 : (wrapped_len) - 8)
 
 /* What each call answers: where several refusals apply, the first in this list. The causes of
- * KEYWRAP_BAD_KEK and KEYWRAP_BAD_LENGTH are in the lengths alone, and at these and at
+ * KEYWRAP_BAD_KEK and KEYWRAP_BAD_LENGTH are only in the lengths, and at these and at
  * KEYWRAP_BAD_IV no buffer is written; but keywrap_rewrap_in_place, at the end of this file, has
  * more causes of KEYWRAP_BAD_LENGTH, after one of which its buffer is all zeros. */
 enum keywrap_status {
@@ -67,7 +81,7 @@ enum keywrap_status {
 #define KEYWRAP_NEW_PADDED 2u
 #define KEYWRAP_KEEP_FORM 4u
 
-/* Where the compiler sees them, it warns of a NULL, of an unused status, and (GCC) of an overlap
+/* If the compiler sees them, it warns of a NULL, of an unused status, and (GCC) of an overlap
  * and of a buffer that is shorter than its length says. */
 #if defined(__GNUC__)
 #define KEYWRAP_NONNULL __attribute__((nonnull, nothrow))
@@ -104,7 +118,7 @@ uint32_t keywrap_version(void);
  * with a zero at its end; 80 bytes hold any. A longer text is cut so that it fits with its zero,
  * and at capacity 0 nothing is written. What follows the zero stays as it was.
  *
- * The answer is the length of the whole text, without the zero: it was cut where that is not less
+ * The answer is the length of the whole text, without the zero: it was cut if that is not less
  * than capacity. From version 1.1 on: a program that makes this call does not start with an older
  * library. */
 KEYWRAP_NONNULL KEYWRAP_WRITES(2, 3)
@@ -247,16 +261,16 @@ int32_t keywrap_kind(const uint8_t *kek, size_t kek_len, const uint8_t *wrapped,
  *   wrapped_len  a multiple of 8 from 24, with KEYWRAP_OLD_PADDED or KEYWRAP_KEEP_FORM from 16, to
  *                KEYWRAP_MAX_TEXT
  *   forms        0, or the flags KEYWRAP_OLD_PADDED, KEYWRAP_NEW_PADDED or both, or
- *                KEYWRAP_KEEP_FORM alone, and no other bit
+ *                only KEYWRAP_KEEP_FORM, and no other bit
  *   KEYWRAP_OK          the buffer holds the new wrapped key; unwrapping it under new_kek gives the
  *                       key that the old one gave
  *   KEYWRAP_BAD_KEK     one of the KEKs is refused; the buffer is as it was
  *   KEYWRAP_BAD_LENGTH  forms or wrapped_len is refused, and the buffer is as it was; or, with
- *                       KEYWRAP_OLD_PADDED alone, the key that was wrapped is not a multiple of 8
+ *                       only KEYWRAP_OLD_PADDED, the key that was wrapped is not a multiple of 8
  *                       bytes from 16 on, and the buffer is all zeros
  *   KEYWRAP_INTEGRITY   it is no wrapped key under old_kek in this form (with KEYWRAP_KEEP_FORM in
  *                       either form); the buffer is all zeros
- * To keep what stood there after a refusal, copy it first. */
+ * To keep the old wrapped key after a refusal, copy it first. */
 KEYWRAP_CALL KEYWRAP_READS(1, 2) KEYWRAP_READS(3, 4) KEYWRAP_CHANGES(5, 6)
 int32_t keywrap_rewrap_in_place(const uint8_t *old_kek, size_t old_kek_len, const uint8_t *new_kek,
                                 size_t new_kek_len, uint8_t *KEYWRAP_RESTRICT buffer,

@@ -15,7 +15,10 @@ export class BadLength extends KeywrapError {}
 /** The integrity check failed: another KEK, form or initial value, or damage. */
 export class IntegrityFailed extends KeywrapError {}
 
-/** The WebAssembly of this host has no 64-bit memory. `load` alone throws it. */
+/**
+ * Nothing throws it any more: the module needs no 64-bit memory.
+ * @deprecated
+ */
 export class NoMemory64 extends Error {}
 
 /** An initial value of 8 bytes that both ends agreed on (RFC 3394, 2.2.3.2), or the default. */
@@ -54,7 +57,7 @@ export interface Keywrap {
     wrap(kek: Uint8Array, key: Uint8Array, options?: Plain): Uint8Array;
 
     /**
-     * The key whose plain wrapping this is (RFC 3394, 2.2.2): `IntegrityFailed` where there is
+     * The key whose plain wrapping this is (RFC 3394, 2.2.2): `IntegrityFailed` if there is
      * none. What is wrapped is a multiple of 8 bytes from 24 to 1,048,584.
      */
     unwrap(kek: Uint8Array, wrapped: Uint8Array, options?: Plain): Uint8Array;
@@ -66,20 +69,20 @@ export interface Keywrap {
     wrapPadded(kek: Uint8Array, key: Uint8Array): Uint8Array;
 
     /**
-     * The key whose padded wrapping this is (RFC 5649, 4.2): `IntegrityFailed` where there is none.
+     * The key whose padded wrapping this is (RFC 5649, 4.2): `IntegrityFailed` if there is none.
      * What is wrapped is a multiple of 8 bytes from 16 to 1,048,584.
      */
     unwrapPadded(kek: Uint8Array, wrapped: Uint8Array): Uint8Array;
 
     /**
      * The wrapping under the new KEK of the key wrapped under the old one; as long as it was.
-     * `BadLength` also where the new form takes no key of this length. The key is not given out.
+     * `BadLength` also if the new form has no key of this length. The key is never returned.
      */
     rewrap(
         oldKek: Uint8Array, newKek: Uint8Array, wrapped: Uint8Array, options?: Forms,
     ): Uint8Array;
 
-    /** The form of the wrapped key, and its key's length; null where it is none under the KEK. */
+    /** The form of the wrapped key, and its key's length; null if it is not one under the KEK. */
     check(kek: Uint8Array, wrapped: Uint8Array): Kind | null;
 }
 

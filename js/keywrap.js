@@ -1,31 +1,25 @@
-// AES Key Wrap (RFC 3394) and AES Key Wrap with Padding (RFC 5649), by the module keywrap.wasm that
-// lies beside this file: the refusals, what a call takes, the calls over the module's memory, and
-// `load`. keywrap.d.ts says what each of them takes and answers.
+// AES Key Wrap (RFC 3394) and AES Key Wrap with Padding (RFC 5649), by the module keywrap.wasm beside
+// this file: the refusals, the arguments of a call, the calls over the module's memory, and `load`.
+// keywrap.d.ts documents them. Newer syntax than hosts of the README have is avoided: static blocks,
+// private members, `at`.
 
 /* The refusals */
 
-export class KeywrapError extends Error {
-    static { this.prototype.name = 'KeywrapError'; }
-}
+export class KeywrapError extends Error {}
+export class BadInitialValue extends KeywrapError {}
+export class BadKekLength extends KeywrapError {}
+export class BadLength extends KeywrapError {}
+export class IntegrityFailed extends KeywrapError {}
 
-export class BadInitialValue extends KeywrapError {
-    static { this.prototype.name = 'BadInitialValue'; }
-}
+// Nothing throws it: versions up to 1.1.0 did, in a host without 64-bit memory.
+export class NoMemory64 extends Error {}
 
-export class BadKekLength extends KeywrapError {
-    static { this.prototype.name = 'BadKekLength'; }
-}
-
-export class BadLength extends KeywrapError {
-    static { this.prototype.name = 'BadLength'; }
-}
-
-export class IntegrityFailed extends KeywrapError {
-    static { this.prototype.name = 'IntegrityFailed'; }
-}
-
-export class NoMemory64 extends Error {
-    static { this.prototype.name = 'NoMemory64'; }
+// Minifiers rename a class, but not a string.
+const ERRORS = {
+    KeywrapError, BadInitialValue, BadKekLength, BadLength, IntegrityFailed, NoMemory64,
+};
+for (const [name, error] of Object.entries(ERRORS)) {
+    error.prototype.name = name;
 }
 
 /* What a call takes: the longest that is legal, in bytes, and all that are */
@@ -108,7 +102,7 @@ function refusalOf(status, call, inputs) {
         return new BadKekLength(lengthIs(kek));
     }
     if (status === BAD_LENGTH) {
-        return new BadLength(`bad length: ${lengthIs(inputs.at(-1))}`);
+        return new BadLength(`bad length: ${lengthIs(inputs[inputs.length - 1])}`);
     }
     if (status === INTEGRITY) {
         return new IntegrityFailed('integrity check failed: no wrapped key under this KEK');
@@ -118,60 +112,56 @@ function refusalOf(status, call, inputs) {
 
 /* The calls over the module's memory */
 
-// An instance, with a memory that nobody else has. Up to #start it is as the module is made, its
-// stack among that; there the module writes two numbers, and after them are copies of what a call
-// is given, and room for its answer.
+// An instance and its memory, which nothing else uses. Up to `start` the memory stays as it was made,
+// the stack included. The module writes two numbers at `start`. After them are copies of the inputs
+// of a call, and room for its answer. No caller sees a machine.
 class Machine {
-    #exports;
-    #memory;
-    #made;
-    #start;
-
     constructor(exports) {
-        this.#exports = exports;
-        this.#memory = new Uint8Array(exports.memory.buffer);
-        this.#start = Math.ceil(Number(exports.__heap_base.value) / 8) * 8;
-        this.#made = this.#memory.slice(0, this.#start);
+        this.exports = exports;
+        this.memory = new Uint8Array(exports.memory.buffer);
+        this.start = Math.ceil(Number(exports.__heap_base.value) / 8) * 8;
+        this.made = this.memory.slice(0, this.start);
     }
 
     get version() {
-        const number = this.#exports.keywrap_version();
+        const number = this.exports.keywrap_version();
         return [number >>> 16, number >>> 8 & 255, number & 255].join('.');
     }
 
-    // The two numbers, and where they stand.
-    get atLength() { return BigInt(this.#start); }
-    get atPadded() { return BigInt(this.#start + 8); }
-    get length() { return this.#number(0); }
-    get isPadded() { return this.#number(8) === 1; }
+    // The two numbers, and their addresses.
+    get atLength() { return BigInt(this.start); }
+    get atPadded() { return BigInt(this.start + 8); }
+    get length() { return this.number(0); }
+    get isPadded() { return this.number(8) === 1; }
 
-    #number(at) {
-        return new DataView(this.#memory.buffer, this.#start + at).getUint32(0, true);
+    number(at) {
+        return new DataView(this.memory.buffer, this.start + at).getUint32(0, true);
     }
 
-    copy(at, length) { return this.#memory.slice(at, at + length); }
+    copy(at, length) { return this.memory.slice(at, at + length); }
 
-    // Calls over copies of the inputs with `room` after them, if any, and answers what `answer`
-    // makes of the last of these places. Whatever happens, the memory is then as it was made. Of an
-    // input that is too long the module gets one byte more than is legal, and refuses that.
+    // Calls the module with copies of the inputs, and `room` for the answer after them if there is
+    // any. Returns what `answer` makes of the last of these places. Whatever happens, the memory is
+    // then as it was made. An input that is too long is cut to one byte more than is legal, which
+    // the module refuses.
     call(name, inputs, { room, rest = [], answer = (at, length) => this.copy(at, length) }) {
         const copied = inputs.map(({ kind, bytes }) => bytes.subarray(0, kind.longest + 1));
         const lengths = copied.map(({ length }) => length);
         if (room) {
-            lengths.push(room(lengths.at(-1)));
+            lengths.push(room(lengths[lengths.length - 1]));
         }
-        let end = this.#start + 16;
+        let end = this.start + 16;
         const places = lengths.map((length) => [(end += length) - length, length]);
         try {
-            copied.forEach((bytes, of) => this.#memory.set(bytes, places[of][0]));
-            const status = this.#exports[name](...places.flat().map(BigInt), ...rest);
+            copied.forEach((bytes, of) => this.memory.set(bytes, places[of][0]));
+            const status = this.exports[name](...places.flat().map(BigInt), ...rest);
             if (status !== 0) {
                 throw refusalOf(status, name, inputs);
             }
-            return answer(...places.at(-1));
+            return answer(...places[places.length - 1]);
         } finally {
-            this.#memory.fill(0, this.#start, end);
-            this.#memory.set(this.#made);
+            this.memory.fill(0, this.start, end);
+            this.memory.set(this.made);
         }
     }
 }
@@ -262,11 +252,8 @@ function check(machine, kek, wrapped, options = {}) {
 
 /* Loading the module */
 
-// The smallest module with a 64-bit memory.
-const MEMORY64 = Uint8Array.of(0x00, 0x61, 0x73, 0x6d, 1, 0, 0, 0, 5, 3, 1, 4, 0);
-
-// The bytes of keywrap.wasm: Node fetches no file. The name of what reads one there is no literal,
-// so that a bundler for browsers leaves it alone.
+// Returns the bytes of keywrap.wasm. Node cannot fetch a file. The module that reads one there is not
+// named by a literal, so that bundlers for browsers do not follow it.
 async function beside() {
     const url = new URL('keywrap.wasm', import.meta.url);
     if (url.protocol === 'file:') {
@@ -281,8 +268,8 @@ async function beside() {
 }
 
 export async function load(source) {
-    if (typeof WebAssembly !== 'object' || !WebAssembly.validate(MEMORY64)) {
-        throw new NoMemory64("no 64-bit WebAssembly memory here: keywrap's README says who has it");
+    if (typeof WebAssembly !== 'object') {
+        throw new Error('this host has no WebAssembly');
     }
     const module = source instanceof WebAssembly.Module
         ? source : await WebAssembly.compile(source === undefined ? await beside() : source);

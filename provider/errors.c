@@ -18,21 +18,36 @@ const OSSL_ITEM REASONS[] = {
     {REASON_PADDED_IV, "not the initial value of the padded form"},
     {REASON_TOO_LONG, "longer than 1048576 bytes of key"},
     {REASON_NO_MEMORY, "out of memory"},
+    {REASON_CPU, "this processor lacks SSSE3 or SSE4.1"},
     {0, NULL},
 };
 
-/* The core takes what follows the reason as a list of arguments; here it is empty. */
+/* The core takes the arguments of the format as a list. */
 static void set_error(const struct provider *provider, uint32_t reason, const char *format, ...) {
-    va_list none;
-    va_start(none, format);
-    provider->vset_error(provider->core, reason, format, none);
-    va_end(none);
+    va_list arguments;
+    va_start(arguments, format);
+    provider->vset_error(provider->core, reason, format, arguments);
+    va_end(arguments);
+}
+
+static void begin_error(const struct provider *provider, const char *file, int line,
+                        const char *function) {
+    provider->new_error(provider->core);
+    provider->set_error_debug(provider->core, file, line, function);
 }
 
 int refuse(const struct provider *provider, enum reason reason, const char *file, int line,
            const char *function) {
-    provider->new_error(provider->core);
-    provider->set_error_debug(provider->core, file, line, function);
+    begin_error(provider, file, line, function);
     set_error(provider, reason, NULL);
+    return 0;
+}
+
+int refuse_load(const struct provider *provider, enum reason reason, const char *file, int line,
+                const char *function) {
+    const OSSL_ITEM *item = REASONS;
+    while (item->id != (unsigned)reason) item++;
+    begin_error(provider, file, line, function);
+    set_error(provider, reason, "%s", (const char *)item->ptr);
     return 0;
 }

@@ -1,4 +1,4 @@
-/* parameters.c: reads and writes parameters, as OSSL_PARAM_locate and its like do. Numbers stand in
+/* parameters.c: reads and writes parameters, as OSSL_PARAM_locate and its like do. Numbers are in
  * them with the least byte first: the library is for x86-64. */
 
 #include <limits.h>

@@ -9,7 +9,11 @@
 #define TEXT_OF(number) #number
 #define DOTTED(major, minor, patch) TEXT_OF(major) "." TEXT_OF(minor) "." TEXT_OF(patch)
 static const char VERSION[] =
-    DOTTED(KEYWRAP_VERSION_MAJOR, KEYWRAP_VERSION_MINOR, KEYWRAP_VERSION_PATCH);
+    DOTTED(KEYWRAP_VERSION_MAJOR, KEYWRAP_VERSION_MINOR, KEYWRAP_VERSION_PATCH)
+#ifdef KEYWRAP_PRERELEASE
+    "-" KEYWRAP_PRERELEASE
+#endif
+    ;
 static const char NAME[] = "keywrap: AES Key Wrap, proved";
 
 static const OSSL_PARAM PARAMETERS[] = {
@@ -64,7 +68,7 @@ static const OSSL_DISPATCH CALLS[] = {
     {0, NULL},
 };
 
-/* Takes those of the core's functions that are needed here. */
+/* Takes the core's functions that are needed here. */
 static void borrow(struct provider *provider, const OSSL_DISPATCH *from) {
     for (; from->function_id != 0; from++) switch (from->function_id) {
         case OSSL_FUNC_CORE_NEW_ERROR: provider->new_error = OSSL_FUNC_core_new_error(from); break;
@@ -97,8 +101,9 @@ int OSSL_provider_init(const OSSL_CORE_HANDLE *core, const OSSL_DISPATCH *lent,
     found.core = core;
     borrow(&found, lent);
     if (!complete(&found)) return 0;
+    if (!KEYWRAP_CPU_SUPPORTED()) return REFUSE_LOAD(&found, REASON_CPU);
     provider = found.zalloc(sizeof *provider, __FILE__, __LINE__);
-    if (provider == NULL) return REFUSE(&found, REASON_NO_MEMORY);
+    if (provider == NULL) return REFUSE_LOAD(&found, REASON_NO_MEMORY);
     *provider = found;
     *calls = CALLS;
     *context = provider;

@@ -48,7 +48,8 @@ enum reason {
     REASON_PLAIN_IV = 4002,
     REASON_PADDED_IV = 4003,
     REASON_TOO_LONG = 4004,
-    REASON_NO_MEMORY = 4005
+    REASON_NO_MEMORY = 4005,
+    REASON_CPU = 4006
 };
 
 /* errors.c */
@@ -57,6 +58,11 @@ extern const OSSL_ITEM REASONS[];
 int refuse(const struct provider *provider, enum reason reason, const char *file, int line,
            const char *function);
 #define REFUSE(provider, reason) refuse(provider, reason, __FILE__, __LINE__, __func__)
+/* The same while the provider is loaded. OpenSSL does not have its texts yet, so the error carries
+ * its text as data. */
+int refuse_load(const struct provider *provider, enum reason reason, const char *file, int line,
+                const char *function);
+#define REFUSE_LOAD(provider, reason) refuse_load(provider, reason, __FILE__, __LINE__, __func__)
 
 /* parameters.c: like OpenSSL's calls of such names. */
 OSSL_PARAM *find(const OSSL_PARAM params[], const char *name);

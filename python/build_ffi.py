@@ -14,6 +14,7 @@ int32_t rewrap(const uint8_t *old_kek, size_t old_kek_len, const uint8_t *new_ke
 int64_t kind(const uint8_t *kek, size_t kek_len, const uint8_t *wrapped, size_t wrapped_len,
              uint8_t *scratch, size_t room);
 void wipe(uint8_t *bytes, size_t len);
+int cpu_supported(void);
 static const char *const VERSION;
 """
 
@@ -44,13 +45,17 @@ static void wipe(uint8_t *bytes, size_t len) {
     while (len-- > 0) *at++ = 0;
 }
 
-/* The key's length, doubled, and 1 more where it is padded; or the status of the refusal, negated. */
+/* The key's length, doubled, and 1 more if it is padded; or the status of the refusal, negated. */
 static int64_t kind(const uint8_t *kek, size_t kek_len, const uint8_t *wrapped, size_t wrapped_len,
                     uint8_t *scratch, size_t room) {
     uint32_t padded;
     size_t key_len;
     int32_t status = keywrap_kind(kek, kek_len, wrapped, wrapped_len, scratch, room, &padded, &key_len);
     return status == KEYWRAP_OK ? (int64_t)(2 * key_len + padded) : -(int64_t)status;
+}
+
+static int cpu_supported(void) {
+    return KEYWRAP_CPU_SUPPORTED();
 }
 
 static const char *const VERSION = PACKAGE_VERSION;
@@ -75,8 +80,9 @@ ffi.set_source(
     include_dirs=["."],
     extra_objects=["libkeywrap.a"],
     define_macros=[("PACKAGE_VERSION", f'"{VERSION}"')],
-    extra_compile_args=["-std=c99"],
+    # Without debugging information, which names the folder, and stripped.
+    extra_compile_args=["-std=c99", "-g0"],
     # The package calls the library that is in it, whatever another one in the process shows.
-    extra_link_args=["-Wl,--exclude-libs,ALL", "-Wl,-z,relro,-z,now"],
+    extra_link_args=["-s", "-Wl,--exclude-libs,ALL", "-Wl,-z,relro,-z,now"],
     py_limited_api=True,
 )

@@ -13,7 +13,8 @@ cd -- "$(dirname -- "$0")/.."
 room=$(mktemp -d)
 trap 'rm -rf "$room"' EXIT
 trap 'exit 1' HUP INT TERM
-make -s -o build -o library "$goal" "$@" DESTDIR="$room/$name" PREFIX=
+make -s -o build -o library "$goal" "$@" DESTDIR="$room/$name" prefix= exec_prefix= bindir=/bin libdir=/lib \
+    includedir=/include datarootdir=/share mandir=/share/man docdir=/share/doc/keywrap
 # The library is found where it lies.
 pc=$room/$name/lib/pkgconfig/keywrap.pc
 # shellcheck disable=SC2016

@@ -8,11 +8,12 @@ set -eu
 folder=${1:?} version=${2:?} machine=${3:?} readme=${4:?}
 shift 4
 case $machine in
-x86_64) processors='x86-64 (version 2 of it: processors from 2009 on)' ;;
-aarch64) processors='aarch64 (each 64-bit processor of Arm)' ;;
+x86_64) processors='x86-64 with SSE4.1' ;;
+aarch64) processors='aarch64 (any 64-bit Arm processor)' ;;
 esac
+shared=libkeywrap.so.$(echo "$version" | tr - '~')
 install -d -- "$folder"
-sed "s|@VERSION@|$version|; s|@NUMBER@|${version%-*}|; s|@PROCESSORS@|$processors|" "docs/$readme.in" >"$folder/$readme"
+sed "s|@VERSION@|$version|; s|@SHARED@|$shared|; s|@PROCESSORS@|$processors|" "docs/$readme.in" >"$folder/$readme"
 names=$(basename -s .md -a -- "$@")
 for document in "$@"; do
     copy=$folder/${document##*/}

@@ -16,12 +16,12 @@ keywrap: jobs = $(JOBS)
 $(CRATES): jobs = 1
 aes_block aes_vector key_wrap: jobs = $(if $(filter 1,$(JOBS)),1,2)
 keywrap_cli: jobs = $(JOBS)
-keywrap_io keywrap_words: gently = nice -n 19
+keywrap_io keywrap_args: gently = nice -n 19
 
 keywrap: WORDS = run --backend rattle --jobs $(jobs) -- --version
 $(CRATES): WORDS = lib --jobs $(jobs)
 
-# A signal to make ends rt: no shell stands between them.
+# A signal to make ends rt: no shell is between them.
 keywrap $(CRATES):
 	@cd 'crates/$@' && exec $(gently) rt $(WORDS) >"$$LOGS/$@.log" 2>&1
 	@mv "$$LOGS/$@.log" "$$LOGS/$@.proved"

@@ -1,34 +1,34 @@
 #!/bin/sh
-# Puts the package for browsers, Node and Deno together, as FOLDER: the module, which rt builds of
-# the exports for C and rattle-link links, with what stands in js/. `make js` calls it.
+# Builds the package for browsers, Node and Deno in FOLDER. rt builds the exports for WebAssembly,
+# rattle-link links them into a module with 64-bit memory, the only one that the kit has, and
+# wasm-opt makes that one with 32-bit memory, which every engine has. `make js` calls it.
 #
 # usage: scripts/js.sh VERSION FOLDER
+#        scripts/js.sh --needs           (fails if a tool is missing; builds nothing)
 
 set -eu
+rt=$(command -v rt) || { echo 'js.sh: no rt on the PATH: it needs the Rattle kit' >&2 && exit 1; }
+wasm_opt=${WASM_OPT:-wasm-opt}
+command -v "$wasm_opt" >/dev/null || { echo "js.sh: no $wasm_opt: apt-get install binaryen" >&2 && exit 1; }
+[ "$1" != --needs ] || exit 0
 mkdir -p -- "${2:?}"
 folder=$(cd -- "$2" && pwd)
 cd -- "$(dirname -- "$0")/.."
-rt=$(command -v rt) || { echo 'js.sh: no rt on the PATH: it needs the Rattle kit' >&2 && exit 1; }
 kit=$(readlink -f -- "$rt")
 kit=${kit%/bin/rt}
 target=wasm64-unknown-unknown
-archive=crates/keywrap_c/out/libkeywrap_c.a
 
-# The archive for this machine's own library, which rt writes under the same name, is put back.
 room=$(mktemp -d)
-ended() {
-    [ ! -e "$room/kept.a" ] || mv -- "$room/kept.a" "$archive"
-    rm -rf "$room"
-}
-trap ended EXIT
+trap 'rm -rf "$room"' EXIT
 trap 'exit 1' HUP INT TERM
-[ ! -e "$archive" ] || mv -- "$archive" "$room/kept.a"
-(cd crates/keywrap_c && rt lib --target $target --backend llvm)
-mv -- "$archive" "$room/wasm.a"
+(cd crates/keywrap_wasm && rt lib --target $target --backend llvm)
 
 # A memory that never grows: the stack, which comes first, and twice the longest wrapped key.
-"$kit/bin/rattle-link" --target $target --toolchain "$kit/toolchain" \
-    --memory 2228224 --stack 65536 -o "$folder/keywrap.wasm" "$room/wasm.a"
+"$kit/bin/rattle-link" --target $target --toolchain "$kit/toolchain" --memory 2228224 --stack 65536 \
+    -o "$room/wide.wasm" crates/keywrap_wasm/out/libkeywrap_wasm.a
+# The features that the module uses. A host needs the second.
+"$wasm_opt" --mvp-features --enable-memory64 --enable-bulk-memory --memory64-lowering \
+    "$room/wide.wasm" -o "$folder/keywrap.wasm"
 cp js/keywrap.js js/keywrap.d.ts js/example.html "$folder"
 scripts/links.sh <js/README.md >"$folder/README.md"
 sed "s|@VERSION@|$1|" js/package.json.in >"$folder/package.json"

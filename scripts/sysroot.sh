@@ -1,7 +1,7 @@
 #!/bin/sh
 # Unpacks of Debian's arm64 what the wheel for aarch64 is built with and its tests run under qemu: Python with what
 # the tests import, and valgrind. Any user may call it: apt-get has its lists and its state in a folder of its own, so
-# that the machine's stay as they are. FOLDER is made whole or not at all, and left as it is where it is there.
+# that the machine's stay as they are. FOLDER is made whole or not at all, and left as it is if it exists.
 #
 # usage: scripts/sysroot.sh [FOLDER]        (if none: where scripts/target.mk looks for it)
 

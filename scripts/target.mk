@@ -1,19 +1,22 @@
 # What differs with the machine that TARGET names. Another than x86-64 is built for by Debian's cross compiler, of what
-# scripts/sysroot.sh unpacks, and has the C library and the wheel alone: the kit has no archive there for a program
-# to stand on.
+# scripts/sysroot.sh unpacks, and only the C library and the wheel are built: the kit has no archive there for
+# programs.
 
 of_program = build test gate install install-command dist-command bench
 targets = x86_64-unknown-linux-gnu aarch64-unknown-linux-gnu
 
 # What `make dist` hands out, by goal and by name: what is for no one machine, the package for npm, goes with x86-64's.
-of_machine = keywrap-library-$(version)-$(1)-linux.tar.gz keywrap-$(of_python)-cp39-abi3-linux_$(1).whl
+wheel_of = keywrap-$(of_python)-cp39-abi3-manylinux_2_17_$(1).whl
+of_machine = keywrap-library-$(version)-$(1)-linux.tar.gz $(call wheel_of,$(1))
 of_command = keywrap-$(version)-x86_64-linux
 of_x86_64 = $(of_command).tar.gz keywrap-$(version).tgz
 all_handed_out = $(of_x86_64) $(call of_machine,x86_64) $(call of_machine,aarch64)
-handed_out = $(of_$(machine)) $(call of_machine,$(machine))
+packed_files = $(if $(all_machines),$(all_handed_out),$(of_$(machine)) $(call of_machine,$(machine)))
+sbom = keywrap-$(version).cdx.json
 
 ifeq ($(TARGET),x86_64-unknown-linux-gnu)
 machine = x86_64
+strip_program = strip
 packed = dist-command dist-library dist-wheel dist-js
 other =
 else ifeq ($(TARGET),aarch64-unknown-linux-gnu)
@@ -21,6 +24,7 @@ machine = aarch64
 packed = dist-library dist-wheel
 other = -$(TARGET)
 CC = aarch64-linux-gnu-gcc
+strip_program = aarch64-linux-gnu-strip
 ifneq ($(filter $(of_program),$(MAKECMDGOALS)),)
 $(error make $(firstword $(filter $(of_program),$(MAKECMDGOALS))): the program is for x86-64 alone, not for $(TARGET))
 endif
@@ -29,10 +33,9 @@ $(error TARGET='$(TARGET)' is none of x86_64-unknown-linux-gnu and aarch64-unkno
 endif
 
 # Of another machine: what must be there; what rt builds for it by, which has one place for the archive of each
-# machine, so that x86-64's comes back there; the headers of its Python, beside the package's sources, and what the
-# wheel is built of them by.
+# machine, so that x86-64's comes back there; and its compiler, for the wheel.
 ifneq ($(other),)
-# Outside of this folder, in which rt lets no symbolic link stand.
+# Outside of this folder, in which rt accepts no symbolic link.
 SYSROOT ?= $(or $(XDG_CACHE_HOME),$(HOME)/.cache)/keywrap/sysroot$(other)
 needs_compiler = @command -v $(firstword $(CC)) >/dev/null || \
     { echo 'no $(firstword $(CC)): apt-get install gcc-aarch64-linux-gnu libc6-dev-arm64-cross' >&2; exit 1; }
@@ -41,8 +44,5 @@ needs_headers = @[ -d '$(SYSROOT)/usr/include' ] || \
 rt_target = --target $(TARGET)
 set_aside = $(if $(of_exports),@cp -p '$(ARCHIVE)' '$(LIBRARY)/x86_64.a' 2>/dev/null || rm -f '$(LIBRARY)/x86_64.a')
 put_back = $(if $(of_exports),@mv '$(LIBRARY)/x86_64.a' '$(ARCHIVE)' 2>/dev/null || rm -f '$(ARCHIVE)')
-copy_headers = install -d '$(LIBRARY)/python/include/$(machine)-linux-gnu' && \
-    cp -R '$(SYSROOT)'/usr/include/python3.*/. '$(LIBRARY)/python/include' && \
-    cp -R '$(SYSROOT)/usr/include/$(machine)-linux-gnu'/python3.* '$(LIBRARY)/python/include/$(machine)-linux-gnu'
-built_for = CC='$(CC)' LDSHARED='$(CC) -shared' CFLAGS=-Iinclude _PYTHON_HOST_PLATFORM=linux-$(machine)
+for_machine = CC='$(CC)'
 endif

@@ -1,24 +1,48 @@
 #!/usr/bin/env bash
-# Runs the scripts tests/*.sh side by side, shows what each wrote, and ends with one line of what passed,
-# failed and was skipped in all of them; before it stands what to install, so that nothing is skipped.
-# Each script stands alone, and ends with such a line of its own: a new one needs no line here.
+# Runs the tests of tests/: test_*.py by pytest, in parallel if pytest-xdist is installed, and beside them the scripts
+# *.sh. Shows what each wrote, and ends with one line of what passed, failed and was skipped in all of them. The line
+# before it says what to install, so that nothing is skipped.
+# Each script ends with such a line of its own: a new one needs no line here.
 #
-# usage: scripts/tests.sh [NAME..]        the scripts tests/NAME.sh; all of them, if none is named
+# usage: scripts/tests.sh [NAME..]        tests/test_NAME.py or tests/NAME.sh; all of them, if none is named
 
 set -u
 cd "$(dirname "${BASH_SOURCE[0]}")/.." || exit
 logs=$(mktemp -d) && built=$(mktemp -d) || exit
 trap 'rm -rf "$logs" "$built"' EXIT
-[ $# -gt 0 ] || set -- tests/*.sh
-scripts=("${@##*/}")
-scripts=("${scripts[@]%.sh}")
+[ $# -gt 0 ] || set -- tests/test_*.py tests/*.sh
+scripts=() files=()
+for name in "$@"; do
+    name=${name##*/} name=${name%.*}
+    if [ -e "tests/test_${name#test_}.py" ]; then
+        files+=("tests/test_${name#test_}.py")
+    elif [ "$name" != 'test_*' ]; then
+        scripts+=("$name")
+    fi
+done
 
-# run_script NAME: its lines go to a file, and its status as the last of them.
-run_script() {
+# run NAME COMMAND..: its lines go to a file, and its status as the last of them.
+run() {
     local began=$SECONDS status
-    bash "tests/$1.sh" </dev/null >"$logs/$1" 2>&1
+    "${@:2}" </dev/null >"$logs/$1" 2>&1
     status=$?
-    echo "tests/$1.sh: $((SECONDS - began)) s, status $status" >>"$logs/$1"
+    echo "$1: $((SECONDS - began)) s, status $status" >>"$logs/$1"
+}
+run_script() { run "$1" bash "tests/$1.sh"; }
+
+# run_files: the tests of pytest, by the first Python that has it. Debian's need not be the first on the PATH.
+run_files() {
+    local python parallel=()
+    for python in "${PYTHON:-python3}" /usr/bin/python3 none; do
+        "$python" -c 'import pytest' 2>/dev/null && break
+    done
+    if [ "$python" = none ]; then
+        echo 'SKIPPED: the tests of the program: no pytest (apt-get install python3-pytest)'
+        echo '0 passed, 0 failed, 1 skipped'
+        return
+    fi
+    ! "$python" -c 'import xdist' 2>/dev/null || parallel=(-n "$(nproc)")
+    "$python" -m pytest "${parallel[@]}" "${files[@]}"
 }
 
 # over_library NAME..: builds the archives of the C library, and then runs these over them. Where they can't be
@@ -35,19 +59,18 @@ over_library() {
     wait
 }
 
-# They share the program, which is built before the first of them. Those over the C library are one of the jobs;
-# of the others the longest begin first.
+# They share the program, which is built before the first of them. Those over the C library are one of the jobs.
 ./keywrap --version || exit
-over_archives=() long=() short=()
+over_archives=() others=()
+[ ${#files[@]} = 0 ] || run pytest run_files &
 for script in "${scripts[@]}"; do
     case $script in
-    arm64 | dist | js | library | provider | python | secrets) over_archives+=("$script") ;;
-    allocations | faults | files) long+=("$script") ;;
-    *) short+=("$script") ;;
+    arm64 | debian | dist | hardware | js | library | provider | python | secrets) over_archives+=("$script") ;;
+    *) others+=("$script") ;;
     esac
 done
 [ ${#over_archives[@]} = 0 ] || over_library "${over_archives[@]}" &
-for script in "${long[@]}" "${short[@]}"; do
+for script in "${others[@]}"; do
     while [ "$(jobs -pr | wc -l)" -ge "$(nproc)" ]; do wait -n; done
     run_script "$script" &
 done
@@ -55,6 +78,7 @@ wait
 
 passed=0 failed=0 skipped=0
 counts='^([0-9]+) passed, ([0-9]+) failed, ([0-9]+) skipped'$'\n''.* status ([0-9]+)$'
+[ ${#files[@]} = 0 ] || scripts=(pytest "${scripts[@]}")
 for script in "${scripts[@]}"; do
     echo
     cat "$logs/$script"
@@ -64,7 +88,7 @@ for script in "${scripts[@]}"; do
         [ "$((BASH_REMATCH[2] == 0))" = "$((BASH_REMATCH[4] == 0))" ] || failed=$((failed + 1))
     else
         failed=$((failed + 1))
-        echo "FAILED: tests/$script.sh did not end with what it counted"
+        echo "FAILED: $script did not end with what it counted"
     fi
 done
 echo

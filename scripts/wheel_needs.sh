@@ -1,7 +1,7 @@
 #!/bin/sh
-# Says what a Python lacks to build the wheel by, as Debian's packages, and ends with 1 where it lacks any.
+# Prints what a Python lacks to build the wheel, as Debian's packages, and ends with 1 if it lacks any.
 #
-# usage: scripts/wheel_needs.sh PYTHON [Python.h]        (Python.h: where the wheel is for this machine)
+# usage: scripts/wheel_needs.sh PYTHON [Python.h]        (Python.h: if the wheel is for this machine)
 
 lacks=$("${1:?}" -c 'import importlib.util as find, os, sys, sysconfig
 has_headers = os.path.exists(os.path.join(sysconfig.get_path("include"), "Python.h"))

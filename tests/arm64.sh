@@ -71,7 +71,7 @@ if [ -d "$sysroot" ]; then row 'what depends on secrets' secrets; else skip 'wha
 ### What is packed
 
 version=$(make -s --no-print-directory -C "$root" version)
-packed=keywrap-library-$version-aarch64-linux wheel=keywrap-${version/-dev/.dev0}-cp39-abi3-linux_aarch64.whl
+packed=keywrap-library-$version-aarch64-linux wheel=keywrap-${version/-dev/.dev0}-cp39-abi3-manylinux_2_17_aarch64.whl
 needed='python3-cffi python3-setuptools python3-wheel python3-build'
 if ! has_python cffi,setuptools,wheel,build; then
     skip 'the wheel' "no Python with its modules (apt-get install $needed)"
@@ -79,14 +79,16 @@ elif [ ! -d "$sysroot" ]; then
     skip 'the wheel' "$of_debian"
 else
     row 'make dist' making dist PYTHON="$python"
-    row 'what it makes' diff <(ls dist) <(printf '%s\n' SHA256SUMS "$wheel" "$packed.tar.gz")
+    row 'what it makes' diff <(ls dist) \
+        <(printf '%s\n' SHA256SUMS "$wheel" "keywrap-$version.cdx.json" "$packed.tar.gz" | sort)
     row 'its checksums' env -C dist sha256sum -c --strict SHA256SUMS
     row 'the wheel, unpacked' "$python" -m zipfile -e "dist/$wheel" site
 fi
 [ -d dist ] || row 'make dist-library' making dist-library
 row 'it unpacks' tar -xzf "dist/$packed.tar.gz"
 row 'what it packs, but for documents' diff <(cd "$packed" && find . -path ./share -prune -o ! -type d -print | sort) \
-    <(printf './%s\n' README include/keywrap.h lib/libkeywrap.{a,so,so.1,"so.${version%-dev}"} lib/pkgconfig/keywrap.pc)
+    <(printf './%s\n' README include/keywrap{,_steps}.h lib/cmake/keywrap/keywrap-config{-version,}.cmake \
+        lib/libkeywrap.{a,so,so.1,"so.${version/-/\~}"} lib/pkgconfig/keywrap.pc)
 row 'its documents' test -s "$packed/share/doc/keywrap/C_LIBRARY.md"
 row 'it is of aarch64' are_arm "$packed"/lib/libkeywrap.{a,so}
 row 'its README says so' grep -q 'Linux on aarch64' "$packed/README"
@@ -105,17 +107,18 @@ takes() {
 assert utils.parse_wheel_filename(sys.argv[1])[3] & set(tags.sys_tags())' "$wheel"
 }
 
-# package_tests: none of the package's tests fails, or lacks what it needs. What threads do is Python's, and one test
-# starts another Python, which qemu does not.
+# package_tests: none of the package's tests fails, or lacks what it needs. What threads do is Python's. One test, and
+# the tests of keywrap.rotate, start other programs, which qemu does not.
 package_tests() {
     PYTHONPATH=$room/site KEYWRAP_CALLS=10000 "${arm_python[@]}" -m pytest -q -p no:cacheprovider \
-        -k 'not thread and not one_exception' "$root/python/tests" >tests.log
+        -k 'not thread and not one_exception' "$root"/python/tests/test_[!r]*.py >tests.log
     grep -E '^[0-9]+ passed' tests.log | grep -vE 'skipped|failed|error' || { cat tests.log && false; }
 }
 
 if [ -d site ]; then
     arm_python=(qemu-aarch64 -L "$sysroot" "$sysroot/usr/bin/python3" -B)
     row 'the extension is of aarch64' are_arm site/keywrap/_ffi.abi3.so
+    row 'the symbols of glibc' of_glibc_2_17 site/keywrap/_ffi.abi3.so
     row 'the names of the extension' test \
         "$("${tools}nm" -D --defined-only site/keywrap/_ffi.abi3.so | awk '{ print $3 }')" = PyInit__ffi
     row 'Python takes the wheel' takes

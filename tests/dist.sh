@@ -3,7 +3,8 @@
 # built there runs in a root folder that holds the archive and the system's C library alone. tests/arm64.sh tries what
 # is packed for aarch64, tests/python.sh the lines of the wheel's README, tests/make.sh that one run packs all.
 #
-# usage: tests/dist.sh        (KEYWRAP_ARCHIVES='PATH ..', KEYWRAP_JS=FOLDER: what was built before)
+# usage: tests/dist.sh        (KEYWRAP_ARCHIVES='PATH ..', KEYWRAP_JS=FOLDER: what was built before;
+#        KEYWRAP_REBUILD=1: the second `make dist` has rt build again, too, over the proofs that it keeps)
 
 set -u
 # shellcheck disable=SC2034,SC2154
@@ -16,8 +17,38 @@ archive=${KEYWRAP_ARCHIVES:-crates/keywrap_c/out/libkeywrap_c.a}
 archive=${archive##* } library=$room/library
 js=${KEYWRAP_JS:-$room/js}
 command=keywrap-$version-x86_64-linux packed=keywrap-library-$version-x86_64-linux package=keywrap-$version.tgz
-wheel=keywrap-${version/-dev/.dev0}-cp39-abi3-linux_x86_64.whl
+wheel=keywrap-${version/-dev/.dev0}-cp39-abi3-manylinux_2_17_x86_64.whl bom=keywrap-$version.cdx.json
 tarballs=("$command.tar.gz" "$package" "$packed.tar.gz")
+
+# elsewhere: make dist in a copy of the tree, of another path, umask and time, gives the same checksums.
+elsewhere() (
+    umask 077
+    mkdir -p another/tree
+    tar -C "$root" --exclude=.git --exclude=out -cf - . | tar -C another/tree -xf -
+    find another -exec touch -d 2001-02-03 {} +
+    built=(-o build -o js PROGRAM="$program" JS="$js" ARCHIVE="$(cd "$root" && readlink -f "$archive")")
+    [ -z "${KEYWRAP_REBUILD:-}" ] || built=()
+    make -s -C another/tree dist PYTHON="$python" TARGET=x86_64-unknown-linux-gnu "${built[@]}"
+    diff dist/SHA256SUMS another/tree/out/SHA256SUMS
+)
+
+# of_materials: the bill has this version, the kit's, the kit's crates of crates.txt and the hash of each file.
+of_materials() {
+    "$python" - "dist/$bom" "$version" "$(cat "$(dirname "$(readlink -f "$(command -v rt)")")/../KIT-ID")" <<'END'
+import hashlib, json, pathlib, sys
+bill = json.load(open(sys.argv[1]))
+assert (bill["bomFormat"], bill["specVersion"]) == ("CycloneDX", "1.4"), bill
+assert bill["metadata"]["component"]["version"] == sys.argv[2]
+kit, *parts = bill["components"]
+assert sys.argv[3].startswith("rattle-kit-" + kit["version"] + " ") and len(kit["hashes"][0]["content"]) == 64
+crates = {part["name"] for part in parts if part["type"] == "library"}
+assert crates == {"std", "base64", "byteorder", "clap", "hex", "linked_list_allocator", "memchr", "thiserror"}, crates
+files = {part["name"]: part["hashes"][0]["content"] for part in parts if part["type"] == "file"}
+folder = pathlib.Path(sys.argv[1]).parent
+assert files == {file.name: hashlib.sha256(file.read_bytes()).hexdigest() for file in folder.iterdir()
+                 if file.suffix in (".gz", ".tgz", ".whl")}, files
+END
+}
 
 # packs FOLDER GOAL..: has this packed there.
 packs() {
@@ -30,20 +61,20 @@ packs() {
 built_js=${KEYWRAP_JS:-}
 if has_python cffi,setuptools,wheel,build; then
     row 'make dist' packs dist dist || { finish; exit; }
-    row 'what it makes' diff <(ls dist) <(printf '%s\n' SHA256SUMS "${tarballs[@]}" "$wheel" | LC_ALL=C sort)
+    row 'what it makes' diff <(ls dist) <(printf '%s\n' SHA256SUMS "${tarballs[@]}" "$wheel" "$bom" | LC_ALL=C sort)
     row 'its checksums' env -C dist sha256sum -c --strict SHA256SUMS
-    row 'they are of all' test "$(wc -l <dist/SHA256SUMS)" = 4
+    row 'they are of all' test "$(wc -l <dist/SHA256SUMS)" = 5
     sed -n '/^### From an archive/,$s/^    //p' "$root/docs/INSTALLING.md" >lines
     row 'the lines of docs/INSTALLING.md' env -C dist bash -e "$room/lines"
+    row 'the bill of materials' of_materials
+    row 'make dist in another folder' elsewhere
 else
     skip 'the wheel, and make dist' \
         'no Python with its modules (apt-get install python3-cffi python3-setuptools python3-wheel python3-build)'
     row 'make dist, but for the wheel' packs dist dist-command dist-library dist-js || { finish; exit; }
 fi
 built_js=yes
-row 'later, and by another umask' eval 'umask 077; sleep 1; packs again dist-command dist-library dist-js; umask 022'
 for file in "${tarballs[@]}"; do
-    row "$file is the same again" cmp {dist,again}/"$file"
     row "$file has no owner of this machine" eval "tar -tvzf dist/$file >listed && ! grep -v ' 0/0 ' listed"
 done
 
@@ -98,6 +129,14 @@ row 'the program needs the C library alone' diff <(needs | sed 's|.*/||' | sort)
     <<<$'ld-linux-x86-64.so.2\nlibc.so.6\nlinux-vdso.so.1'
 newest=$(grep -aoE 'GLIBC_2\.[0-9]+' "bare/$command/bin/keywrap" | sort -Vu | tail -n 1)
 row "the README names the C library's version" grep -qF "glibc ${newest#GLIBC_} or newer" "bare/$command/README"
+row 'the library needs no new glibc' of_glibc_2_17 "bare/$packed/lib/libkeywrap.so"
+row "the library's README asks for no glibc" fails grep -i glibc "bare/$packed/README"
+# processors: the READMEs name what the processor must have, and no year.
+processors() {
+    grep -q 'x86-64 with SSE4\.1' "bare/$packed/README" && grep -q 'x86-64-v2 (SSE4\.2' "bare/$command/README" &&
+        ! grep -E '(19|20)[0-9]{2} on' bare/*/README
+}
+row 'the READMEs name the processor' processors
 for file in $(needs | grep ^/); do
     install -D "$file" "bare$file"
 done
@@ -148,7 +187,7 @@ fi
 if printf '#include <openssl/provider.h>\n' | cc -fsyntax-only -x c - 2>/dev/null && has openssl openssl 'the provider'
 then
     row "the library's README builds the provider" env -C "bare/$packed" bash -e "$room/provider.typed"
-    row 'OpenSSL lists it' writes "version: ${version%-dev}" openssl list -providers \
+    row 'OpenSSL lists it' writes "version: $version" openssl list -providers \
         -provider-path "bare/$packed" -provider keywrap
 else
     skip "the library's README on the provider" 'no headers of OpenSSL 3 (apt-get install libssl-dev)'

@@ -1,8 +1,8 @@
-/* An fsync, a rename, an fchmod, an fchown and a statx for tests/files.sh and tests/manners.sh, built as a shared
-   library and named in LD_PRELOAD. Each writes its name to descriptor 9, and FAIL_CALL=NAME has each call of that name
-   fail with EIO, FAIL_CALL=NAME:N the Nth alone, and NAME:N+ each from the Nth on; FAIL_ERRNO=N has it fail with that
+/* fsync, rename, fchmod, fchown and statx for tests/test_filesystem.py, built as a shared library that LD_PRELOAD
+   names. Each call writes its name to the descriptor that MET names. FAIL_CALL=NAME makes each call of that name fail
+   with EIO, FAIL_CALL=NAME:N only the Nth, and NAME:N+ each from the Nth on. FAIL_ERRNO=N makes it fail with that
    error. ONE_MODE=N adds the bits of N to the mode of each open file, as a file system without modes does. No header
-   is included: the kit's compiler, which has none, is enough. */
+   is included, since the kit's compiler has none. */
 
 extern char *getenv(const char *name);
 extern int strncmp(const char *one, const char *other, unsigned long count);
@@ -25,8 +25,8 @@ static int fails(const char *name, long call) {
     const char *error = getenv("FAIL_ERRNO");
     unsigned long length = strlen(name);
     long wanted;
-    (void)!write(9, name, length);
-    (void)!write(9, "\n", 1);
+    (void)!write((int)number(getenv("MET")), name, length);
+    (void)!write((int)number(getenv("MET")), "\n", 1);
     if (!wish || strncmp(wish, name, length) != 0)
         return 0;
     wanted = number(wish + length);

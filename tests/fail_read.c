@@ -1,6 +1,6 @@
-/* A read for tests/lines.sh, built as a shared library and named in LD_PRELOAD: FAIL_READ=N has the Nth fail
-   with EIO, and then a byte goes to descriptor 9; SLOW_READ=N has each wait N milliseconds. No header is included:
-   the kit's compiler, which has none, is enough. */
+/* A read for the tests of --lines, built as a shared library that LD_PRELOAD names. FAIL_READ=N makes the Nth call
+   fail with EIO, and then a byte goes to the descriptor that MET names. SLOW_READ=N makes each call wait N
+   milliseconds. No header is included, since the kit's compiler has none. */
 
 extern char *getenv(const char *name);
 extern int usleep(unsigned microseconds);
@@ -23,7 +23,7 @@ long read(int descriptor, void *bytes, unsigned long count) {
     usleep(1000 * (unsigned)wish("SLOW_READ"));
     if (++calls != wish("FAIL_READ"))
         return syscall(SYS_READ, descriptor, bytes, count);
-    (void)!write(9, ".", 1);
+    (void)!write((int)wish("MET"), ".", 1);
     *__errno_location() = EIO;
     return -1;
 }

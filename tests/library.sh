@@ -98,6 +98,10 @@ every() {
         unused) caller "$name" "$buffers" "$more" '' | sed 's/int32_t s = //; s/return s/return 0/' ;;
         overlap) caller "$name" "$buffers" "$more" '' "$(sed "s/\(.*\)\(wrapped\|key\), /\1kek, /" <<<"$given")" ;;
         short) for buffer in ${buffers//,/ }; do caller "$name" "$buffers" "$more" "${buffer%:*}"; done ;;
+        in_place)
+            buffer=${buffers##*,}
+            [[ $name != *_in_place ]] || caller "$name" "$buffers" "$more" "${buffer%:*}"
+            ;;
         unset)
             for buffer in ${buffers//,/ }; do
                 [[ $buffers = *"$buffer" && $name != *_in_place ]] ||
@@ -124,7 +128,7 @@ every() {
 # texts BYTES TEXT: a function that has a text written, whose length need not be looked at.
 texts() { echo "void f$((++callers))(void) { char text[$1]; keywrap_status_text(0, $2, 8); }"; }
 
-# header_names: the calls of the header that answer a status are those of the table.
+# header_names: the calls of the header that return a status are the table's.
 header_names() {
     diff <(sed -n 's/^int32_t \(keywrap_[a-z_]*\)(.*/\1/p' "$root/include/keywrap.h") \
         <(printf '%s\n' "${calls[@]%% *}")
@@ -138,11 +142,11 @@ warns() {
     seq 2 "$(wc -l <callers.c)" | diff - found
 }
 
-# defines: the macros that stand behind the header, KEYWRAP_H among them.
+# defines: the macros that the header defines, KEYWRAP_H among them.
 defines() {
     cc -std=c99 "${include[@]}" -dM -E header.c | sed -n 's/^#define \(KEYWRAP_[A-Z_]*\).*/\1/p' | sort |
-        diff - <(printf 'KEYWRAP_%s\n' H KEEP_FORM MAX_KEY MAX_TEXT NEW_PADDED OLD_PADDED PADDED_TEXT_LEN ROOM \
-            TEXT_LEN VERSION VERSION_MAJOR VERSION_MINOR VERSION_PATCH)
+        diff - <(printf 'KEYWRAP_%s\n' CPU_SUPPORTED H KEEP_FORM MAX_KEY MAX_TEXT NEW_PADDED OLD_PADDED \
+            PADDED_TEXT_LEN PRERELEASE ROOM TEXT_LEN VERSION VERSION_MAJOR VERSION_MINOR VERSION_PATCH)
 }
 
 # restricts: a compiler that is not like GCC sees restrict in C99.
@@ -161,6 +165,7 @@ done
 if [ "${compilers[0]}" = gcc ]; then
     row 'gcc warns of each overlap' warns overlap gcc -Wrestrict
     row 'gcc warns of each buffer that is a byte short' warns short gcc
+    row 'gcc warns of each buffer that is written in place and is too short' warns in_place gcc -Wno-stringop-overread
     row 'gcc warns of each buffer that is read and was not set' warns unset gcc -Wuninitialized -Wmaybe-uninitialized
 fi
 
@@ -201,15 +206,23 @@ prefix=$room/prefix
 row 'make install-library' in_library install-library PREFIX="$prefix"
 export LD_LIBRARY_PATH=$prefix/lib
 
-# same_version: the header's version is that of the program and of keywrap.pc, but for -dev, and names the file.
+# same_version: the header's version is the program's, and with ~dev for -dev keywrap.pc's and the shared object's.
+version=$(make -s --no-print-directory -C "$root" version)
+number=${version%-dev} of_debian=${version/-/\~}
 same_version() {
-    local version header
-    version=$(make -s --no-print-directory -C "$root" version)
+    local header
     header=$(sed -n 's/^#define KEYWRAP_VERSION_[A-Z]* \([0-9]*\)$/\1/p' "$prefix/include/keywrap.h" | paste -sd .)
-    [ "${version%-dev}" = "$header" ] && grep -qx "Version: $version" "$prefix/lib/pkgconfig/keywrap.pc" &&
-        [ "$(readlink -f "$prefix/lib/libkeywrap.so")" = "$(readlink -f "$prefix/lib/libkeywrap.so.$header")" ]
+    [ "$number" = "$header" ] && grep -qx "Version: $of_debian" "$prefix/lib/pkgconfig/keywrap.pc" &&
+        [ "$(readlink -f "$prefix/lib/libkeywrap.so")" = "$prefix/lib/libkeywrap.so.$of_debian" ]
 }
 row 'one version' same_version
+row 'the mode of the shared object' test "$(stat -c %a "$prefix/lib/libkeywrap.so.$of_debian")" = 644
+# comes_before: what is not released comes before the release.
+comes_before() {
+    [ "$version" = "$number" ] || { pkg-config --atleast-version="${number%.*}" keywrap &&
+        ! pkg-config --atleast-version="$number" keywrap &&
+        { ! command -v dpkg || dpkg --compare-versions "$of_debian" lt "$number"; }; }
+}
 
 # runs_example NAME TEXT COMPILER WORD..: an example builds, runs, and writes the text.
 runs_example() { row "$1: builds" "${@:3}" -o example && row "$1: runs" writes "$2" ./example; }
@@ -219,6 +232,7 @@ if has pkg-config pkg-config 'keywrap.pc'; then
     export PKG_CONFIG_PATH=$prefix/lib/pkgconfig
     read -ra flags < <(pkg-config --cflags --libs keywrap)
     row 'pkg-config names a version' pkg-config --atleast-version=1 keywrap
+    row 'a version before the release' comes_before
 fi
 rfc3394_41=1fa68b0a8112b447aef34bd8fb5a7b829d3e862371d2cfe5
 rfc3394_42=96778b25ae6ca435f92b5b97c050aed2468ab8a17ad84e5d
@@ -227,7 +241,7 @@ row 'the C example names a refused value' writes 'reserved value: initial value 
 
 # A program in C++ that links with every call; its answer is the last vector's.
 {
-    printf '#include <cstdio>\n#include <keywrap.h>\nvolatile void *calls[] = {\n'
+    printf '#include <cstdio>\n#include <keywrap.h>\n#include <keywrap_steps.h>\nvolatile void *calls[] = {\n'
     for name in $names; do echo "    reinterpret_cast<void *>($name),"; done
     printf '};\nint main() {\n'
     printf '    uint8_t kek[16], key[16], wrapped[KEYWRAP_TEXT_LEN(16)];\n'
@@ -269,6 +283,102 @@ if command -v rustc >/dev/null; then
     rm "$prefix/lib/libkeywrap.so"
     LD_LIBRARY_PATH='' runs_example 'the Rust example, static' $rfc3394_41 "${rust[@]}" "$root/examples/rust/wrap.rs"
     ln -s libkeywrap.so.1 "$prefix/lib/libkeywrap.so"
+fi
+
+### By CMake, and in other directories
+
+cat >CMakeLists.txt <<'END'
+cmake_minimum_required(VERSION 3.13)
+project(wrap C)
+find_package(keywrap ${asked} REQUIRED CONFIG)
+add_executable(shared ${example})
+target_link_libraries(shared keywrap::keywrap)
+add_executable(static ${example})
+target_link_libraries(static keywrap::keywrap_static)
+END
+# by_cmake LIBDIR [VERSION]: the example builds by the package file there, both ways, and runs.
+by_cmake() {
+    rm -rf by_cmake && cmake -S . -B by_cmake -Dasked="${2:-}" -Dexample="$root/examples/c/wrap.c" \
+        -Dkeywrap_DIR="$1/cmake/keywrap" && cmake --build by_cmake && writes $rfc3394_42 by_cmake/static &&
+        LD_LIBRARY_PATH=$1 writes $rfc3394_42 by_cmake/shared
+}
+# lies WORDS FILE..: installed by these words, these files are there, and nothing else is but the documents.
+lies() {
+    rm -rf stage && in_library install-library DESTDIR="$room/stage" $1 &&
+        diff <(cd stage && find . -name doc -prune -o ! -type d -print | sort) <(printf './%s\n' "${@:2}" | sort)
+}
+shared=libkeywrap.so.$of_debian
+of_lib() {
+    printf "$1/%s\n" libkeywrap.{a,so,so.1} $shared pkgconfig/keywrap.pc cmake/keywrap/keywrap-config{,-version}.cmake
+}
+row 'prefix, libdir' lies 'prefix=/usr libdir=/usr/lib64' usr/include/keywrap{,_steps}.h $(of_lib usr/lib64)
+row 'keywrap.pc in another libdir' diff <(head -n 3 stage/usr/lib64/pkgconfig/keywrap.pc) \
+    <(printf '%s\n' prefix=/usr 'libdir=${prefix}/lib64' 'includedir=${prefix}/include')
+row 'PREFIX, LIBDIR' lies 'PREFIX=/usr LIBDIR=/usr/lib64' usr/include/keywrap{,_steps}.h $(of_lib usr/lib64)
+row 'includedir, docdir' lies 'prefix=/a libdir=/b/lib includedir=/c docdir=/d/doc' c/keywrap{,_steps}.h $(of_lib b/lib)
+row 'keywrap.pc outside the prefix' diff <(head -n 3 stage/b/lib/pkgconfig/keywrap.pc) \
+    <(printf '%s\n' prefix=/a libdir=/b/lib includedir=/c)
+row 'the documents in docdir' test -f stage/d/doc/C_LIBRARY.md
+if has cmake cmake 'the package file of CMake'; then
+    row 'CMake, include elsewhere' by_cmake "$room/stage/b/lib" 1
+    row 'CMake' by_cmake "$prefix/lib" "$number"
+    row 'CMake, a version that is not there' fails by_cmake "$prefix/lib" 1.99
+    row 'CMake, another major version' fails by_cmake "$prefix/lib" 2
+fi
+row 'uninstalled by the same words' eval 'in_library uninstall-library DESTDIR="$room/stage" prefix=/a libdir=/b/lib \
+    includedir=/c docdir=/d/doc && [ -z "$(find stage ! -type d)" ]'
+# stripped: the shared object has no symbols but those that it shows, and the archive all.
+stripped() {
+    lies 'prefix= STRIP=1' include/keywrap{,_steps}.h $(of_lib lib) && nm stage/lib/libkeywrap.so 2>&1 | grep 'no symbols' &&
+        shows -D --without-symbol-versions stage/lib/libkeywrap.so && shows -g stage/lib/libkeywrap.a
+}
+row 'STRIP=1' stripped
+
+### What it needs of the processor
+
+# at_most_sse41: no instruction in the archive is of SSE4.2, POPCNT, AES or AVX: all that the header's check looks for.
+at_most_sse41() {
+    objdump -d --no-show-raw-insn "$library/libkeywrap.a" | awk -F '\t' 'NF > 1 { sub(/ .*/, "", $2); print $2 }' >used
+    grep -qx pshufb used &&
+        ! grep -xE 'popcnt|crc32.*|pcmpgtq|pcmp.str.|aes.*|pclmul.*|v[a-z].*|[lt]zcnt|bextr|pdep|pext' used
+}
+printf '#include <keywrap.h>\nint main(void) { return KEYWRAP_CPU_SUPPORTED() ? 0 : 7; }\n' >supported.c
+# ends STATUS COMMAND..
+ends() { "${@:2}"; [ $? = "$1" ]; }
+if [ "$(uname -m)" = x86_64 ] && has qemu-x86_64 qemu-user 'old processors'; then
+    row 'the instructions of the archive' at_most_sse41
+    for compiler in "${compilers[@]}"; do
+        row "KEYWRAP_CPU_SUPPORTED by $compiler" \
+            $compiler -std=c99 "${strict[@]}" "${include[@]}" supported.c -o supported
+        row "KEYWRAP_CPU_SUPPORTED by $compiler, without SSE4.1" ends 7 "${without_sse41[@]}" ./supported
+        row "KEYWRAP_CPU_SUPPORTED by $compiler, with SSSE3 only" \
+            ends 7 qemu-x86_64 -cpu 'qemu64,+ssse3,-sse4.1,-sse4.2,-popcnt' ./supported
+        row "KEYWRAP_CPU_SUPPORTED by $compiler, with SSE4.1" "${with_sse41[@]}" ./supported
+    done
+    cc "${include[@]}" "$root/examples/c/wrap.c" "$library/libkeywrap.a" -o example
+    row 'the C example with SSE4.1' writes $rfc3394_42 "${with_sse41[@]}" ./example
+fi
+
+### The bench
+
+# as_installed: nettle may use the processor's AES instructions, libgcrypt is there, and each column is labelled.
+as_installed() {
+    NETTLE_FAT_VERBOSE=1 "$root/bench/wrap" "$library/libkeywrap.a" 0 >bench.log 2>&1 &&
+        grep -q '^libnettle: cpu features: .*aesni' bench.log &&
+        [ "$(awk '/^KEK/ { print $4, $5, $6, $7, $8 } /^AES by/ { print $3, $4, $5, $7, $9 }' bench.log | sort -u)" = \
+            'keywrap openssl nettle gcrypt C
+software software AES AES software' ]
+}
+# of_library HEADER: whether the headers of a library are there.
+of_library() {
+    printf '#include <stddef.h>\n#include <stdint.h>\n#include <%s>\n' "$1" | cc -fsyntax-only -x c - 2>/dev/null
+}
+if ! grep -qw aes /proc/cpuinfo; then
+    skip 'the bench' 'the processor has no AES instructions'
+elif of_library nettle/aes.h && of_library gcrypt.h && of_library openssl/aes.h; then
+    row 'the bench times each library as it is installed' as_installed
+else
+    skip 'the bench' 'no headers (apt-get install libgcrypt20-dev libssl-dev nettle-dev)'
 fi
 
 ### Under an agreed initial value, against the command

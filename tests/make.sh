@@ -8,10 +8,11 @@
 set -u
 # shellcheck source=tests/lib/stand_in.sh
 . "${BASH_SOURCE[0]%/*}/lib/stand_in.sh"
-# The paths of the archives stand in one word of the environment.
-export TMPDIR=$room
+# The paths of the archives are in one word of the environment, so this path has no space.
+mkdir "$room/temporary"
+export TMPDIR=$room/temporary
 
-# script NAME COUNTS STATUS: a stand-in for tests/NAME.sh. It notes what it is given.
+# script NAME COUNTS STATUS: a stand-in for tests/NAME.sh. It records its arguments.
 script() {
     cat >"tests/$1.sh" <<END_OF_SCRIPT
 echo "$1: \${KEYWRAP_ARCHIVES:+over \$(cat \$KEYWRAP_ARCHIVES | wc -l) lines}\${TESTS:+the programs of \$TESTS}" \
@@ -26,7 +27,7 @@ scripts() {
     script command '2 passed, 0 failed, 1 skipped' 0
     script library '40 passed, 0 failed, 0 skipped' 0
 }
-# ends STATUS LAST COMMAND..: the command ends so, and what it writes with this line (any, where that is empty).
+# ends STATUS LAST COMMAND..: the command ends so, and its output with this line (any, if LAST is empty).
 ends() {
     local status wanted=$1 last=$2
     "${@:3}" >wrote 2>err
@@ -102,7 +103,7 @@ built="($ci && install -D ../../bin/nproc out/keywrap)"
 at='a tree' event="$built; exit 1" does 'a gate that fails' 2 '' make gate -- 'a tree: ci'
 verdict 'a gate that fails records nothing' "$(find crates -name 'built_from*')"
 
-# The packages are installed one by one where all together can't be. What is asked for is noted.
+# The packages are installed one by one where all together can't be. The requests are recorded.
 printf '# A comment.\none\ntwo\n' >tests/packages.txt
 install -m 755 /dev/stdin bin/apt-get <<'END_OF_APT'
 #!/bin/sh
@@ -128,21 +129,24 @@ cp tmp/kept scripts/sysroot.sh
 
 ### What is made, and when again
 
-# For a compiler stands what is noted, and has a copy of the archive as the shared object; for Python what makes a wheel
+# The stand-in for a compiler records its arguments, and has a copy of the archive as the shared object; for Python what makes a wheel
 # of the right name, and for the linker of the kit what makes its file.
 install -m 755 /dev/stdin bin/linker <<'END_OF_LINKER'
 #!/bin/sh
 echo linked >>"$tree/notes"
+echo "$* " >"$tree/linked"
 while [ "$1" != -o ]; do shift; done
 cp "${2%/*}/libkeywrap.a" "$2"
 END_OF_LINKER
 install -m 755 /dev/stdin bin/python <<'END_OF_PYTHON'
 #!/bin/sh
 [ "$1" = -m ] || exit 0
+[ -z "${no_wheel:-}" ] || { echo "no wheel here" && exit 1; }
 mkdir -p "$6"
-echo wheel >"$6/keywrap-1.2.3.dev0-cp39-abi3-$(echo "${_PYTHON_HOST_PLATFORM:-linux-x86_64}" | tr - _).whl"
+echo wheel >"$6/keywrap-1.2.3.dev0-cp39-abi3-$(sed -n 's/^plat_name = //p' "$7/setup.cfg").whl"
 END_OF_PYTHON
-printf '#!/bin/sh\nwhile [ "$1" != -o ]; do shift; done\necho wasm >"$2"\n' | install -m 755 /dev/stdin bin/rattle-link
+printf '#!/bin/sh\nwhile [ "$1" != -o ]; do shift; done\necho wasm >"$2"\n' | tee bin/wasm-opt | install -m 755 /dev/stdin bin/rattle-link
+chmod 755 bin/wasm-opt
 export PYTHON=python CC=linker
 make='make -s LIBRARY=library DIST=dist DESTDIR=stage/ PREFIX=usr'
 linked=('keywrap_c: lib' 'ends keywrap_c' linked)
@@ -166,11 +170,19 @@ append crates/block_pair/src/lib.rt; at=keywrap_c event='exit 1' $make library
 END_OF_CHANGES
 rebuilds "$make library ARCHIVE=another.a" linked <<<'rm -r library; append another.a'
 
+# The flags, and the flags of a library that was built with others.
+flags="CPPFLAGS=-DX CFLAGS=-O1 LDFLAGS=-Wl,-x"
+rebuilds "$make library $flags && grep -q -- '-O1 -Wl,-x ' linked" "${linked[@]}" <<<"$make library"
+for goal in provider examples; do
+    row "the flags of make $goal" eval "$make $goal PROVIDER=provider EXAMPLES=built $flags; grep -- '-DX -O1 -Wl,-x ' linked"
+done
+$make library
+
 rm -r library && $make wheel >row.log 2>&1
 echo 'gone from the sources' >library/python/gone.py
 $make wheel >row.log 2>&1
 verdict 'the wheel is packed of the sources alone' "$(diff -r -x README.md library/python python |
-    grep -vE '^Only in library/python: (VERSION|keywrap.h|libkeywrap.a)$')"
+    grep -vE '^Only in library/python: (VERSION|keywrap.h|libkeywrap.a|setup.cfg)$')"
 for prefix in '/opt/R&D' '/opt/a|b' '/opt/a\1b' '/opt/a/b'; do
     $make install-library PREFIX="$prefix"
     same "PREFIX='$prefix'" "prefix=$prefix" "$(head -n 1 "stage/$prefix/lib/pkgconfig/keywrap.pc")"
@@ -210,19 +222,32 @@ of() {
         diff <(printf '%s\n' "$@" | sort) <(sed 's/.* //' dist/SHA256SUMS | sort) &&
         (cd dist && sha256sum -c --quiet SHA256SUMS)
 }
-x86=TARGET=x86_64-unknown-linux-gnu wheel=keywrap-1.2.3.dev0-cp39-abi3-linux
-wasm=('keywrap_c: lib --target wasm64-unknown-unknown --backend llvm' 'ends keywrap_c')
+x86=TARGET=x86_64-unknown-linux-gnu wheel=keywrap-1.2.3.dev0-cp39-abi3-manylinux_2_17
+wasm=('keywrap_wasm: lib --target wasm64-unknown-unknown --backend llvm' 'ends keywrap_wasm')
 mkdir -p sysroot/usr/include/{,aarch64-linux-gnu/}python3.11
 all='make -s DIST=dist CC=linker SYSROOT=sysroot'
 rm -r dist; fresh
 does 'make dist' 0 dist/SHA256SUMS $all dist -- "${steps[@]}" "${linked[@]}" "${wasm[@]}" "${linked_for_arm[@]}"
-row 'what it hands out' of keywrap-1.2.3-dev{-x86_64-linux.tar.gz,.tgz} \
+row 'what it hands out' of keywrap-1.2.3-dev{-x86_64-linux.tar.gz,.tgz,.cdx.json} \
     keywrap-library-1.2.3-dev-{x86_64,aarch64}-linux.tar.gz ${wheel}_{x86_64,aarch64}.whl
 does 'make dist, again' 0 dist/SHA256SUMS $all dist -- "${wasm[@]}"
 rm -r dist
 does 'make dist for one machine' 0 dist/SHA256SUMS $all dist $arm --
-row 'what that hands out' of keywrap-library-1.2.3-dev-aarch64-linux.tar.gz ${wheel}_aarch64.whl
-# What is not there is said before anything is built.
+row 'what that hands out' of keywrap-library-1.2.3-dev-aarch64-linux.tar.gz ${wheel}_aarch64.whl keywrap-1.2.3-dev.cdx.json
+# keeps_sums COMMAND..: if this fails, the old checksums stay, whole, and nothing half written takes their place.
+keeps_sums() {
+    local status
+    cp dist/SHA256SUMS old.sums
+    printf '#!/bin/sh\n%s\nexit 1\n' "$1" | install -m 755 /dev/stdin "bin/$2"
+    "${@:3}"
+    status=$?
+    rm "bin/$2"
+    [ $status = 2 ] && cmp old.sums dist/SHA256SUMS
+}
+row 'make dist, where sha256sum fails' keeps_sums 'echo half' sha256sum $all dist $arm
+row 'make dist, where a file is not packed' keeps_sums '' gzip $all dist $arm
+verdict 'make dist leaves nothing in the folder of temporary files' "$(ls "$TMPDIR")"
+# A missing tool is named before anything is built.
 fresh
 while IFS=: read -r lacks says; do
     does "make dist $lacks" 2 '' $all dist $lacks --
@@ -231,7 +256,14 @@ done <<'END_OF_LACKS'
 CC=none:no none: apt-get install
 SYSROOT=none:scripts/sysroot.sh 'none'
 PYTHON=false:apt-get install python3
+WASM_OPT=none:no none: apt-get install binaryen
 END_OF_LACKS
+does 'make js, without wasm-opt' 2 '' $make js WASM_OPT=none --
+row 'make js, without wasm-opt: what to install' grep -q 'no none: apt-get install binaryen' err
+mkdir -p "${archive%/*}" && echo kept | tee kept.a >$archive
+does 'make js' 0 "$PWD/out/js" $make js -- "${wasm[@]}"
+verdict 'make js leaves the archive of the C library' "$(cmp $archive kept.a 2>&1)"
+rm $archive kept.a
 does 'make wheel, without what builds it' 2 '' $make wheel PYTHON=false --
 { ./keywrap --version; $make library; } >/dev/null 2>&1
 
@@ -240,6 +272,11 @@ does 'make wheel, without what builds it' 2 '' $make wheel PYTHON=false --
 rm -r stage dist
 { ./keywrap --version; $make library; } >/dev/null 2>&1
 does 'no wheel' 2 '' $make wheel PYTHON=false --
+no_wheel=1 does 'a wheel that cannot be built' 2 '' $make wheel --
+verdict 'it is not named, and what the build wrote is shown' "$(grep whl wrote; grep -qx 'no wheel here' err || cat err)"
+no_wheel=1 does 'nor is one packed' 2 '' $make dist $x86 --
+verdict 'no checksums of it' "$(ls dist/SHA256SUMS 2>/dev/null)"
+rm -r dist
 CC=false does 'no linker' 2 '' $make library LIBRARY=other -- 'keywrap_c: lib' 'ends keywrap_c'
 verdict 'no linker: what is recorded' "$(ls other/built_from 2>/dev/null)"
 does 'no program to pack' 2 '' $make -o build dist-command PROGRAM=missing --

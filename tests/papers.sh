@@ -5,7 +5,7 @@
 # docs/LIBRARY.md against the crate that it shows. A part whose tool is not there is skipped, with a line that says
 # what to install.
 #
-# It is long since it has a part for each of them; three shells are asked what they offer, each in its own way.
+# It is long because it has a part for each of them, and queries three shells for their completions.
 #
 # usage: tests/papers.sh        (KEYWRAP=PATH tries another program)
 
@@ -152,7 +152,7 @@ offers_fish() (
         cut -f 1
 )
 
-# zsh completes on a terminal alone, where each offer passes through compadd.
+# zsh completes only on a terminal; each offer passes through compadd.
 cat >setup.zsh <<'ZSH'
 PS1= PS2= RPS1=
 fpath=($completions $fpath)
@@ -183,14 +183,14 @@ zpty -d child
 ZSH
 offers_zsh() (
     cd files || exit
-    HOME=$room TERM=dumb completions=$completions timeout 30 zsh -f ../offers.zsh "$1" |
+    HOME=$room TERM=dumb completions=$completions timeout 120 zsh -f ../offers.zsh "$1" |
         tr -d '\r' | sed -n 's/^offered: //p'
 )
 
-# offered SHELL LINE: what it offers, with names of files as they stand in the folder.
+# offered SHELL LINE: what it offers, with names of files as they are in the directory.
 offered() { "offers_$1" "$2" | sed 's/\\//g; s|/$||'; }
 
-# completes SHELL: the shell offers what the help names, and names of files where one is wanted.
+# completes SHELL: the shell offers what the help names, and names of files if one is expected.
 completes() {
     local shell=$1 command line
     same "$shell: the commands" "$commands" "$(offered "$shell" 'keywrap ')"
@@ -247,7 +247,7 @@ done
 mkdir files files/folder
 touch 'files/a key' files/b.hex
 completes bash
-# Names of files are quoted by bash, and folders get a slash, where it is told that they are such names.
+# Names of files are quoted by bash, and folders get a slash, if it knows that they are such names.
 : >compopt
 offered bash 'keywrap wrap --kek ' >/dev/null
 same 'bash: files are offered as files' '-o filenames' "$(<compopt)"
@@ -273,16 +273,19 @@ fi
 ### The version
 
 # repeat VERSION: what repeats what the file VERSION holds: the program, the one place in its sources, the header (its
-# numbers) and the newest changes; and nothing else does.
+# numbers), debian/changelog and the newest changes; and nothing else does.
 repeat() {
-    local sources=crates/keywrap_words/src/commands.rt
+    local sources=crates/keywrap_args/src/subcommands.rt
     diff <("$program" --version) <(echo "keywrap $1")
     (cd "$root" && diff <(grep -F ".version(\"$1\")" $sources) <(grep '\.version(' $sources) &&
         diff <(sed -n 's/^#define KEYWRAP_VERSION_[A-Z]* \([0-9]*\)$/\1/p' include/keywrap.h | paste -sd .) \
             <(echo "${1%-dev}") &&
+        diff <(sed -n 's/^#define KEYWRAP_PRERELEASE "\(.*\)" .*/-\1/p' include/keywrap.h) \
+            <([ "$1" = "${1%-dev}" ] || echo -dev) &&
         grep -m 1 '^## ' CHANGELOG.md | diff - <(echo "## $1") &&
+        head -n 1 debian/changelog | diff - <(echo "keywrap (${1/-/\~}) unstable; urgency=medium") &&
         grep -rlIFs --exclude-dir=out -e "$1" -e "${1/-dev/.dev0}" keywrap Makefile man completions scripts python js \
-            crates/keywrap{,_cli,_words} | diff - <(echo $sources))
+            crates/keywrap{,_cli,_args} | diff - <(echo $sources))
 }
 row 'the version is three numbers, or these with -dev' grep -qxE '[0-9]+\.[0-9]+\.[0-9]+(-dev)?' "$root/VERSION"
 verdict 'what repeats the version' "$(repeat "$(<"$root/VERSION")" 2>&1)"
@@ -294,7 +297,7 @@ verdict 'what repeats the version' "$(repeat "$(<"$root/VERSION")" 2>&1)"
 same_words() {
     local words file
     for words in 'reserved for the padded form' '16, 24 or 32' 'bad length' 'integrity check failed'; do
-        for file in crates/keywrap_cli/src crates/keywrap_c/src/texts.rt python/src/keywrap/_refusals.py \
+        for file in crates/keywrap_cli/src crates/keywrap_calls/src/texts.rt python/src/keywrap/_refusals.py \
             js/keywrap.js provider/errors.c; do
             case "$words $file" in
             '16, 24 or 32 provider/errors.c' | 'bad length python/'* | 'integrity check failed python/'*) ;;
@@ -307,7 +310,7 @@ verdict 'the words of a refusal are the same in every language' "$(same_words)"
 
 ### make install, make uninstall
 
-# An archive that stands for that of the exports: tests/library.sh tries the real one, and what is installed of it.
+# An archive in place of the exports': tests/library.sh tries the real one, and what is installed of it.
 made() {
     make -s --no-print-directory -o build -C "$root" "$@" PROGRAM="$program" \
         LIBRARY="$room/library" ARCHIVE="$room/library.a"
@@ -315,12 +318,10 @@ made() {
 documents='644 share/doc/keywrap/CHANGELOG.md
 644 share/doc/keywrap/RECIPES.md
 644 share/doc/keywrap/SECURITY.md
-755 share/doc/keywrap/rotation/fields.sh
-755 share/doc/keywrap/rotation/folder.sh
 755 share/doc/keywrap/rotation/lines.sh
+755 share/doc/keywrap/rotation/lines_parallel.sh
 755 share/doc/keywrap/rotation/postgresql.sh
-755 share/doc/keywrap/rotation/postgresql_rewrap.sh
-755 share/doc/keywrap/rotation/sqlite.sh'
+755 share/doc/keywrap/rotation/postgresql_batches.sh'
 command_files='755 bin/keywrap
 644 share/bash-completion/completions/keywrap
 644 share/doc/keywrap/README
@@ -352,7 +353,7 @@ if has cc gcc 'make install with the C library'; then
     same 'it leaves what is of the command, and its documents' "$command_files" "$(files_of "$stage/usr")"
     row 'make install-library' made install-library DESTDIR="$stage" PREFIX=/usr
     row 'make install installs the C library' test -e "$stage/usr/lib/libkeywrap.so"
-    row 'keywrap.pc names the version' grep -qx "Version: $version" "$stage/usr/lib/pkgconfig/keywrap.pc"
+    row 'keywrap.pc names the version' grep -qx "Version: ${version/-/\~}" "$stage/usr/lib/pkgconfig/keywrap.pc"
     row 'make uninstall-command' made uninstall-command DESTDIR="$stage" PREFIX=/usr
     same 'it leaves the documents, which are of the library too' "$documents" \
         "$(files_of "$stage/usr" | grep -E '/(CHANGELOG|RECIPES|SECURITY).md$|/rotation/')"
@@ -364,7 +365,7 @@ fi
 
 rattle=$root/docs/LIBRARY.md
 
-# in_example FILE: its lines stand together, as they are, in a file of the crate that the page shows.
+# in_example FILE: its lines are together, unchanged, in a file of the crate that the page shows.
 in_example() {
     local source
     for source in "$root"/crates/example_caller/{src,specs}/*; do

@@ -26,7 +26,6 @@ archive=${KEYWRAP_ARCHIVES:-crates/keywrap_c/out/libkeywrap_c.a}
 archive=${archive##* } library=$room/library
 export KEYWRAP_VERSION
 KEYWRAP_VERSION=$(make -s --no-print-directory -C "$root" version)
-KEYWRAP_VERSION=${KEYWRAP_VERSION%-dev}
 
 ### The module
 
@@ -117,7 +116,19 @@ if has valgrind valgrind 'memcheck'; then
     row 'memcheck: random sequences' "${memcheck[@]}" ./compared modules sequences 300
 fi
 
-### By openssl.cnf alone
+### Installed
+
+# installs FOLDER WORDS: make install-provider puts it there, and nothing else; make uninstall-provider removes it.
+installs() {
+    rm -rf stage && in_library install-provider PROVIDER="$room/modules" DESTDIR="$room/stage" ${2:-} &&
+        [ "$(find stage -type f -printf '%m %p\n')" = "644 stage$1/keywrap.so" ] &&
+        in_library uninstall-provider DESTDIR="$room/stage" ${2:-} && [ -z "$(find stage ! -type d)" ]
+}
+modulesdir=$(openssl version -m 2>/dev/null | sed 's/.*"\(.*\)"/\1/')
+[ -z "$modulesdir" ] || row "in OpenSSL's folder of modules" installs "$modulesdir"
+row 'in MODULESDIR' installs /opt/modules MODULESDIR=/opt/modules
+
+### Only by openssl.cnf
 
 page=$root/docs/OPENSSL.md
 kek=000102030405060708090a0b0c0d0e0f101112131415161718191a1b1c1d1e1f
@@ -152,6 +163,17 @@ if has openssl openssl 'openssl' && has xxd xxd 'openssl'; then
         test "$(OPENSSL_CONF=$room/none.cnf bash -c "$command" | wc -c)" = 24
     row 'a refused unwrapping has its reason' refuses 'integrity check failed' \
         ours enc -d -id-aes256-wrap -iv a6a6a6a6a6a6a6a6 < <(echo "${wrapped%7}8")
+fi
+
+# On an old processor: loading it by name fails with the reason, and OpenSSL's own ciphers serve.
+if has qemu-x86_64 qemu-user 'a processor without SSE4.1' && has openssl openssl 'a processor without SSE4.1'; then
+    openssl=$(command -v openssl)
+    row 'without SSE4.1 it is refused' refuses 'this processor lacks SSSE3 or SSE4.1' \
+        "${without_sse41[@]}" "$openssl" list -providers -provider-path modules -provider keywrap
+    wrap=("$openssl" enc -id-aes256-wrap -iv a65959a600000010 -K $kek -in d16)
+    xxd -r -p <<<$d16 >d16
+    row "without SSE4.1 OpenSSL's own serve" test "$(ours "${without_sse41[@]}" "${wrap[@]}" | wc -c)" = 24
+    row 'with SSE4.1 it serves' refuses "$reserved" ours "${with_sse41[@]}" "${wrap[@]}"
 fi
 
 # cms_from_to WRITER READER: a message of the one is read by the other: under a KEK of both, and under one that

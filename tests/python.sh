@@ -22,7 +22,7 @@ archive=${KEYWRAP_ARCHIVES:-crates/keywrap_c/out/libkeywrap_c.a}
 archive=${archive##* } library=$room/library
 version=$(make -s --no-print-directory -C "$root" version)
 version=${version/-dev/.dev0}
-wheel=$room/keywrap-$version-cp39-abi3-linux_x86_64.whl
+wheel=$room/keywrap-$version-cp39-abi3-manylinux_2_17_x86_64.whl
 
 # without_build: a Python that lacks what it builds by is refused, with what to install, and nothing is built.
 without_build() {
@@ -41,8 +41,31 @@ no_dead_link() {
         ! grep -E '\]\(' unpacked/*/METADATA | grep -v '](https://'
 }
 row 'the links of its METADATA' no_dead_link
+# classified: it has classifiers, but neither a licence nor URLs, since there are none.
+classified() {
+    [ "$(grep -c '^Classifier: ' unpacked/*/METADATA)" -ge 5 ] &&
+        ! grep -iE '^(Classifier: )?Licen[cs]e' unpacked/*/METADATA &&
+        ! grep -E '^(Home-page|Project-URL|Download-URL)' unpacked/*/METADATA
+}
+row 'what its METADATA has' classified
+row 'its tag' grep -qx 'Tag: cp39-abi3-manylinux_2_17_x86_64' unpacked/*/WHEEL
+row 'the symbols of glibc' of_glibc_2_17 unpacked/keywrap/_ffi.abi3.so
+row 'a stripped extension' eval 'nm unpacked/keywrap/_ffi.abi3.so 2>&1 | grep "no symbols" &&
+    ! readelf -S unpacked/keywrap/_ffi.abi3.so | grep -F .debug'
 
-# The README's lines, as they stand there, by the Python that has cffi; the answer of the last is OpenSSL's.
+# same_again: another folder, umask and time, and old sources, make the same bytes.
+same_again() (
+    umask 077
+    mkdir -p 'elsewhere/tree/crates/keywrap_c/src'
+    cp -R "$root"/{Makefile,VERSION,crates.txt,include,python,scripts,docs} elsewhere/tree
+    find elsewhere -exec touch -d 2001-02-03 {} +
+    make -s -C elsewhere/tree wheel PYTHON="$python" DIST="$room/elsewhere" LIBRARY="$room/elsewhere/library" \
+        ARCHIVE="$(readlink -f "$library/libkeywrap.a")"
+    cmp "$wheel" elsewhere/"${wheel##*/}"
+)
+row 'the same wheel in another folder, at another time' same_again
+
+# The README's lines, unchanged, by the Python that has cffi; the result of the last is OpenSSL's.
 mkdir first && ln -s "$python" first/python3
 sed -n 's/^    \(python3 -m venv\|env\/bin\/\)/\1/p' "$root/python/README.md" >lines
 row "the README's lines" test "$(wc -l <lines)" = 3
@@ -72,9 +95,34 @@ hardened() {
 }
 row 'a hardened extension' hardened
 
+# needs_sse41: an import says why it cannot work on an old processor. A call would end the process.
+needs_sse41() {
+    ! "${without_sse41[@]}" env/bin/python3 -c 'import keywrap' 2>import.log &&
+        grep -qx 'ImportError: this processor lacks SSSE3 or SSE4.1, which keywrap needs' import.log &&
+        writes 1fa68b "${with_sse41[@]}" env/bin/python3 -c \
+            'import keywrap; print(keywrap.wrap(bytes(range(16)), bytes(range(0, 256, 17))).hex())'
+}
+! has qemu-x86_64 qemu-user 'a processor without SSE4.1' || row 'a processor without SSE4.1' needs_sse41
+
 tests=(python3 -B -m pytest -q -p no:cacheprovider "$root/python/tests")
 row 'the tests' "${tests[@]}"
 sed -n '/SKIPPED/p; $p' "$room/row.log"
+
+# pyca's own tests of these calls, out of Debian's source package, over keywrap.pyca by their one import. The package's
+# own tests compare the messages, which three of pyca's match, where there is no source package.
+if ! has_python cryptography,cryptography_vectors,pytest_subtests; then
+    skip "pyca's own tests" 'no subtests (apt-get install python3-cryptography-vectors python3-pytest-subtests)'
+elif mkdir source && env -C source timeout 60 apt-get -qq source --download-only python-cryptography >source.log 2>&1
+then
+    mkdir pyca && tar -C pyca -xf source/*.orig.tar.gz --strip-components=1 --wildcards '*/tests'
+    file=tests/hazmat/primitives/test_keywrap.py
+    row "the import of pyca's own tests" sed -i \
+        '/^from cryptography.hazmat.primitives import keywrap$/{s//from keywrap import pyca as keywrap/;h};${x;/./!q9;x}' \
+        pyca/$file
+    row "pyca's own tests" env -C pyca "$room/env/bin/python3" -B -m pytest -q -p no:cacheprovider $file
+else
+    skip "pyca's own tests" 'apt-get has no source packages here (deb-src)'
+fi
 
 # The system's allocator has each object in a block of its own, whose ends the sanitizer watches.
 sanitizer=$(gcc -print-file-name=libasan.so 2>/dev/null)

@@ -51,20 +51,20 @@ options=(-std=c99 -O1 -g -Wall -Wextra -pedantic -Werror "-I$root/include" "-I$r
 
 ### Copies on the stack
 
-# leaves FIELD MOST REFUSED: no count in this field of a line is above the most, or above that of a failed check.
+# leaves FIELD MOST REFUSED: no count in this field of a line is above the most, or above the count of a failed check.
 leaves() {
     awk -v field="$1" -v most="$2" -v refused="$3" '
         $field > ($2 == "integrity" ? refused : most) { print; bad = 1 }
         END { exit bad || NR != 246 }' left
 }
 
-# exports: the calls that take a KEK are those of the header.
+# exports: the calls that take a KEK are the header's.
 exports() {
     diff <(sed 's/[, ].*//; s/^/keywrap_/' left | sort -u) \
         <(sed -n 's/^int32_t \(keywrap_[a-z_]*\)(.*/\1/p' "$root/include/keywrap.h" | sort)
 }
 
-# What SECURITY.md says of them. The loader's own work would stand there too, but for -z now.
+# What SECURITY.md says of them. Without -z now, the loader's own work would be there too.
 row 'the stack: compiles' "$cc" "${options[@]}" "$root/tests/secrets/stack.c" "$archive" -Wl,-z,now -o stack
 row 'the stack: runs' "${runs[@]}" ./stack
 cp row.log left

@@ -60,7 +60,7 @@ static int agreed(const uint8_t *kek, size_t kek_len, const uint8_t key[16]) {
     return status == KEYWRAP_BAD_IV;
 }
 
-/* One buffer for both: the key stands 8 bytes after its start. */
+/* One buffer for both: the key begins 8 bytes after its start. */
 static int in_place(const uint8_t *kek, size_t kek_len, const uint8_t key[16]) {
     uint8_t buffer[KEYWRAP_TEXT_LEN(16)];
     int32_t status;

@@ -44,7 +44,7 @@ func refusal(status C.int32_t) error {
 
 var nothing C.uint8_t
 
-// first points to the bytes, and is not nil where there are none.
+// first points to the bytes, and is not nil if there are none.
 func first(b []byte) *C.uint8_t {
 	if len(b) == 0 {
 		return &nothing

@@ -11,7 +11,7 @@ typedef int32_t call(const uint8_t *, size_t, const uint8_t *, size_t, uint8_t *
 
 static uint8_t nothing;
 
-/* The bytes of a Buffer, which may have a NULL where it has none; false where it is no Buffer. */
+/* The bytes of a Buffer, which may have a NULL if it has none; false if it is not a Buffer. */
 static bool take(napi_env env, napi_value value, uint8_t **bytes, size_t *len) {
     void *data;
     bool is_buffer = false;

@@ -64,7 +64,7 @@ def test_passes_what_is_under_the_new_kek():
         for old, new, wrapped in passed:
             assert keywrap.rewrap(old, new, given(wrapped), keep_form=True, pass_new=True) == wrapped
     assert keywrap.rewrap(KEK, KEK_32, WRAPPED_32, old_padded=True, pass_new=True) == WRAPPED_32
-    # Of 16 bytes, a length of the new form alone.
+    # 16 bytes: a length of only the new form.
     assert keywrap.rewrap(KEK, KEK_5649, FORPASI, new_padded=True, pass_new=True) == FORPASI
 
 
@@ -178,7 +178,7 @@ def test_names():
 
 
 def test_the_readme_says_what_is_so():
-    """Its prompts, run as they stand there."""
+    """Its prompts, run as they are."""
     doctest = pytest.importorskip("doctest")
     readme = pathlib.Path(__file__).parents[1] / "README.md"
     failed, tried = doctest.testfile(str(readme), module_relative=False)

@@ -29,6 +29,15 @@ def ended(module, name, *given):
         return "TypeError"
 
 
+def said(module, name, *given):
+    """The message of the exception that a call raises, or None."""
+    try:
+        getattr(module, name)(*given)
+    except (module.InvalidUnwrap, ValueError) as error:
+        return str(error)
+    return None
+
+
 def is_ours_alone(name, given):
     """Where ours refuses what theirs does not, or with another exception."""
     length = len(given)
@@ -45,6 +54,21 @@ def test_kek_lengths_and_lengths(name):
             given = rng.randbytes(length)
             if not is_ours_alone(name, given):
                 assert ended(ours, name, kek, given) == ended(theirs, name, kek, given), (kek_length, length)
+
+
+@pytest.mark.parametrize("name", CALLS)
+def test_messages_contain_theirs(name):
+    """The tests of pyca, and of programs that are written for it, match messages."""
+    refused = set()
+    for kek_length in (0, 6, 16, 24, 32, 33):
+        for length in (0, 1, 8, 15, 16, 17, 20, 23, 24, 27, 32):
+            given = (bytes(kek_length), bytes(length))
+            words = said(theirs, name, *given)
+            if words is not None and not is_ours_alone(name, given[1]):
+                refused.add(words)
+                assert words in said(ours, name, *given), (kek_length, length)
+    # A wrapping key's length, and of the plain form two lengths of key, of the padded one of a wrapped key.
+    assert len(refused - {""}) == {"aes_key_wrap_with_padding": 1, "aes_key_unwrap_with_padding": 2}.get(name, 3)
 
 
 def test_what_ours_alone_refuses():

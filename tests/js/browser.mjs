@@ -71,16 +71,16 @@ export class Browser {
         return result.value;
     }
 
-    // Opens a page, and waits until the expression holds there, 20 seconds at most.
+    // Opens a page, and waits until the expression holds there, 120 seconds at most.
     async open(url, expression) {
         await this.send('Page.navigate', { url });
-        for (let turn = 0; turn < 200; turn++) {
+        for (let turn = 0; turn < 1200; turn++) {
             if (await this.evaluate(expression).catch(() => false)) {
                 return;
             }
             await later(100);
         }
-        throw new Error(`${expression}: not within 20 seconds`);
+        throw new Error(`${expression}: not within 120 seconds`);
     }
 
     // Presses the middle of what has this id.
@@ -96,7 +96,7 @@ export class Browser {
         await this.send('Input.dispatchMouseEvent', { type: 'mouseReleased', ...left });
     }
 
-    // Types a text into the field of this id, in the place of what stands there.
+    // Types a text into the field of this id, in place of the old text.
     async type(id, text) {
         await this.press(id);
         const commands = ['selectAll', 'delete'];

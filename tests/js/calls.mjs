@@ -1,21 +1,28 @@
-// The calls of the package, in Node: the standards' vectors, OpenSSL's and Web Crypto's answers,
-// each refusal, what the module's memory holds afterwards, and how a module is loaded.
+// The calls of the package, in Node and in a page: the standards' vectors, the answers of OpenSSL
+// and of Web Crypto, each refusal, the module's memory afterwards, and how a module is loaded.
 
 import assert from 'node:assert/strict';
-import { randomBytes, webcrypto } from 'node:crypto';
-import { readFile } from 'node:fs/promises';
-import { createRequire } from 'node:module';
 import { test } from 'node:test';
+import * as keywrapModule from 'keywrap';
+import { readModule, webcrypto } from './host.mjs';
 import * as openssl from './openssl.mjs';
 import {
-    BadInitialValue, BadKekLength, BadLength, IntegrityFailed, KeywrapError, isAsMade, watched,
+    BadInitialValue, BadKekLength, BadLength, IntegrityFailed, KeywrapError, NoMemory64, isAsMade,
+    isEqual, watched,
 } from './watched.mjs';
 
-const bytes = (hex) => new Uint8Array(Buffer.from(hex, 'hex'));
-const random = (length) => new Uint8Array(randomBytes(length));
+const bytes = (hex) => Uint8Array.from(hex.match(/../g), (digits) => parseInt(digits, 16));
 const zeros = (length) => new Uint8Array(length);
 
-const MODULE = await readFile(createRequire(import.meta.url).resolve('keywrap/keywrap.wasm'));
+function random(length) {
+    const made = zeros(length);
+    for (let at = 0; at < length; at += 65536) {
+        webcrypto.getRandomValues(made.subarray(at, at + 65536));
+    }
+    return made;
+}
+
+const MODULE = await readModule();
 const MAX_KEY = 1048576;
 const KEK = bytes('000102030405060708090a0b0c0d0e0f');
 const KEK_32 = bytes('000102030405060708090a0b0c0d0e0f101112131415161718191a1b1c1d1e1f');
@@ -34,6 +41,32 @@ const damaged = (wrapped) => wrapped.map((byte, at) => at ? byte : byte ^ 1);
 
 const { keywrap, exports } = await watched();
 const { wrap, unwrap, wrapPadded, unwrapPadded, rewrap, check } = keywrap;
+
+// The flags of the memory of a module, from the bytes of its memory section.
+function memoryFlags(module) {
+    let at = 8;
+    const number = () => {
+        let value = 0, shift = 0, byte;
+        do {
+            byte = module[at++];
+            value |= (byte & 127) << shift;
+            shift += 7;
+        } while (byte & 128);
+        return value;
+    };
+    for (;;) {
+        const [id, size] = [module[at++], number()];
+        if (id === 5) {
+            assert.equal(number(), 1);
+            return number();
+        }
+        at += size;
+    }
+}
+
+test('the module has a memory with 32-bit addresses and a largest size', () => {
+    assert.equal(memoryFlags(MODULE), 1);
+});
 
 test('the module imports nothing, and its memory never grows', async () => {
     assert.deepEqual(WebAssembly.Module.imports(await WebAssembly.compile(MODULE)), []);
@@ -111,7 +144,8 @@ test('random keys, as OpenSSL answers', () => {
 test('random keys, as Web Crypto answers', async () => {
     const { subtle } = webcrypto;
     for (let turn = 0; turn < 60; turn++) {
-        const kek = random([16, 24, 32][turn % 3]);
+        // Chromium's Web Crypto has no AES-192.
+        const kek = random([16, 32][turn % 2]);
         const key = random(16 + 8 * turn);
         const theirs = await subtle.importKey('raw', kek, 'AES-KW', false, ['wrapKey']);
         const secret = await subtle.importKey(
@@ -164,13 +198,13 @@ test('every length to 80 bytes', () => {
 test('the longest keys, and longer ones', () => {
     const key = random(MAX_KEY);
     const wrapped = openssl.wrap(KEK_32, key);
-    assert.ok(Buffer.from(wrap(KEK_32, key)).equals(wrapped));
-    assert.ok(Buffer.from(unwrap(KEK_32, wrapped)).equals(key));
+    assert.ok(isEqual(wrap(KEK_32, key), wrapped));
+    assert.ok(isEqual(unwrap(KEK_32, wrapped), key));
     assert.ok(isAsMade(exports));
     const odd = key.subarray(1);
     const padded = openssl.wrapPadded(KEK, odd);
-    assert.ok(Buffer.from(wrapPadded(KEK, odd)).equals(padded));
-    assert.ok(Buffer.from(unwrapPadded(KEK, padded)).equals(odd));
+    assert.ok(isEqual(wrapPadded(KEK, odd), padded));
+    assert.ok(isEqual(unwrapPadded(KEK, padded), odd));
     assert.ok(isAsMade(exports));
     for (const length of [MAX_KEY + 1, MAX_KEY + 8, MAX_KEY + 16, 5 * MAX_KEY]) {
         assert.equal(thrown(wrap, KEK, zeros(length)), BadLength);
@@ -279,27 +313,6 @@ test('after each call the memory is as it was made, and what was given and answe
     }
 });
 
-test('10,000 calls in a row take no memory', () => {
-    const size = () => {
-        globalThis.gc();
-        const { heapUsed, arrayBuffers } = process.memoryUsage();
-        return heapUsed + arrayBuffers;
-    };
-    const calls = (count) => {
-        for (let turn = 0; turn < count; turn++) {
-            const [call, given] = CALLS[turn % CALLS.length];
-            call(...given);
-            thrown(unwrap, KEK_32, WRAPPED);
-        }
-    };
-    calls(1000);
-    const [before, length] = [size(), exports.memory.buffer.byteLength];
-    calls(10000);
-    assert.ok(size() - before < 1 << 20);
-    assert.equal(exports.memory.buffer.byteLength, length);
-    assert.ok(isAsMade(exports));
-});
-
 /* How a module is loaded, and one that is not as it should be */
 
 test('a module is loaded from its bytes, or compiled, each with a memory of its own', async () => {
@@ -335,12 +348,38 @@ test('a module that stops leaves no secret in its memory', async () => {
     assert.ok(isAsMade(other.exports));
 });
 
-test('a host without 64-bit memory', async () => {
-    const { validate } = WebAssembly;
-    WebAssembly.validate = () => false;
+test('a host without WebAssembly', async () => {
+    const { WebAssembly: kept } = globalThis;
+    globalThis.WebAssembly = undefined;
     try {
-        await assert.rejects(watched(), { name: 'NoMemory64' });
+        await assert.rejects(keywrapModule.load(), { message: 'this host has no WebAssembly' });
     } finally {
-        WebAssembly.validate = validate;
+        globalThis.WebAssembly = kept;
     }
+});
+
+/* What the package exports */
+
+test('the exports, and the classes of the errors', () => {
+    assert.deepEqual(Object.keys(keywrapModule).sort(), [
+        'BadInitialValue', 'BadKekLength', 'BadLength', 'IntegrityFailed', 'KeywrapError',
+        'NoMemory64', 'load',
+    ]);
+    for (const refusal of [BadInitialValue, BadKekLength, BadLength, IntegrityFailed]) {
+        assert.equal(Object.getPrototypeOf(refusal), KeywrapError);
+    }
+    for (const error of [KeywrapError, NoMemory64]) {
+        assert.equal(Object.getPrototypeOf(error), Error);
+    }
+    assert.equal(new NoMemory64('words').name, 'NoMemory64');
+});
+
+test('the object that load returns cannot be changed', () => {
+    const names = ['version', 'wrap', 'unwrap', 'wrapPadded', 'unwrapPadded', 'rewrap', 'check'];
+    assert.deepEqual(Object.keys(keywrap), names);
+    for (const name of [...names, 'other']) {
+        assert.throws(() => { keywrap[name] = () => KEY; }, TypeError);
+    }
+    assert.throws(() => { delete keywrap.wrap; }, TypeError);
+    assert.deepEqual(keywrap.wrap(KEK, KEY), WRAPPED);
 });

@@ -1,4 +1,4 @@
-// The answers of OpenSSL, by node:crypto, to which those of the package are compared.
+// The results of OpenSSL, by node:crypto, to which the package's are compared.
 
 import { createCipheriv } from 'node:crypto';
 

@@ -1,19 +1,21 @@
 // NIST's tables (CAVP, SP 800-38F), with AES as the cipher function, both ways.
 //
 // usage: node vectors.mjs FOLDER        (the one that has KW_AE_128.txt and the others)
+// In a page, too.
 
 import assert from 'node:assert/strict';
-import { readFile } from 'node:fs/promises';
 import { test } from 'node:test';
 import { IntegrityFailed, load } from 'keywrap';
+import { readTable } from './host.mjs';
 
 const k = await load();
 const CALLS = { KW: [k.wrap, k.unwrap], KWP: [k.wrapPadded, k.unwrapPadded] };
-const bytes = (hex) => new Uint8Array(Buffer.from(hex, 'hex'));
+const bytes = (hex) =>
+    Uint8Array.from({ length: hex.length / 2 }, (_, at) => parseInt(hex.substr(2 * at, 2), 16));
 
-// Each block of lines: its words and their bytes; `FAIL` alone has none.
+// Each block of lines: its words and their bytes; only `FAIL` has none.
 async function rowsOf(name) {
-    const text = await readFile(`${process.argv[2]}/${name}.txt`, 'utf8');
+    const text = await readTable(`${name}.txt`);
     return text.split(/\r?\n\r?\n/).filter((block) => block.includes('COUNT =')).map((block) =>
         Object.fromEntries([...block.matchAll(/^(K|P|C|FAIL)(?: = ([0-9A-Fa-f]+))?\r?$/gm)].map(
             ([, word, digits]) => [word, bytes(digits ?? '')])));

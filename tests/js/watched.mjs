@@ -1,12 +1,14 @@
 // Loads the package so that the exports of each instance of its module can be seen, and replaced.
 
-export { BadInitialValue, BadKekLength, BadLength, IntegrityFailed, KeywrapError } from 'keywrap';
+export {
+    BadInitialValue, BadKekLength, BadLength, IntegrityFailed, KeywrapError, NoMemory64,
+} from 'keywrap';
 import { load } from 'keywrap';
 
 const { instantiate } = WebAssembly;
 
-// The calls of an instance, and its exports; where `replaced` is given, the calls are over what it
-// makes of them.
+// The calls of an instance, and its exports. If `replaced` is given, the calls use what it returns
+// for these exports.
 export async function watched(source, replaced = (exports) => exports) {
     let exports;
     WebAssembly.instantiate = async (...given) => {
@@ -21,7 +23,15 @@ export async function watched(source, replaced = (exports) => exports) {
     }
 }
 
-const made = Buffer.from((await watched()).exports.memory.buffer.slice(0));
+const words = (buffer) => new BigUint64Array(buffer);
+const made = words((await watched()).exports.memory.buffer.slice(0));
 
-// Whether all of the memory is as that of an instance that has done nothing yet.
-export const isAsMade = ({ memory }) => made.equals(Buffer.from(memory.buffer));
+// Whether all of the memory is as in an instance that has done nothing yet.
+export function isAsMade({ memory }) {
+    const now = words(memory.buffer);
+    return now.length === made.length && now.every((word, at) => word === made[at]);
+}
+
+// Whether both have the same bytes.
+export const isEqual = (one, other) =>
+    one.length === other.length && one.every((byte, at) => byte === other[at]);

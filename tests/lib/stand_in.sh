@@ -25,6 +25,7 @@ crates() {
     done
 }
 crates block_pair: 'aes_block: block_pair byteorder' 'keywrap_c staticlib: block_pair aes_block' \
+    'keywrap_wasm staticlib: block_pair aes_block' \
     'keywrap: block_pair aes_block clap'
 echo 1.2.3-dev >VERSION
 program=crates/keywrap/out/keywrap archive=crates/keywrap_c/out/libkeywrap_c.a
@@ -32,7 +33,7 @@ export tree=$PWD helpers=$root/tests/lib/expect.sh PATH=$PWD/bin:$PATH TMPDIR=$P
 unset MAKEFLAGS MAKELEVEL TESTS KEYWRAP_ARCHIVES
 
 # The stand-in for rt: in the crates that the pattern $at names it runs $event, where $launcher is the process above
-# its make, and it waits until the file $screen says that it alone is at work. Each program and archive that it
+# its make, and it waits until the file $screen says that only it is at work. Each program and archive that it
 # builds is another. The program says who called it, and with which words.
 install -m 755 /dev/stdin bin/rt <<'END_OF_RT'
 #!/bin/bash
@@ -57,7 +58,7 @@ echo "child of \$PPID, \$# words: \$*"
 [ "\$1" = --version ] || exit 5
 # $(date +%N)
 END_OF_PROGRAM
-cp out/keywrap out/libkeywrap_c.a
+cp out/keywrap "out/lib$crate.a"
 [ "$1" != ci ] || sed '$ s/$/ by the other compiler/' out/keywrap | install -m 755 /dev/stdin out/keywrap.by-rattle
 echo "ends $crate" >>"$tree/notes"
 END_OF_RT

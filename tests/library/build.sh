@@ -4,7 +4,7 @@
 #
 # usage: tests/library/build.sh FOLDER [arm64] [js]
 
-# of_arm FOLDER: tests/arm64.sh says why where this does not end well.
+# of_arm FOLDER: tests/arm64.sh says why, if this fails.
 of_arm() {
     command -v aarch64-linux-gnu-gcc || return 0
     make -s -C ../.. library TARGET=aarch64-unknown-linux-gnu LIBRARY="$1" || rm -rf "$1"

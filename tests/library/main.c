@@ -184,7 +184,7 @@ static void macros_in_expressions(void) {
         count(found[i][0] == found[i][1], "a macro in an expression", PLAIN, TWO_BUFFERS, 0, i, 0);
 }
 
-/* The library is that of the header. */
+/* The library has the header's version. */
 static void version(void) {
     uint32_t found = keywrap_version();
     count(found == KEYWRAP_VERSION && found >> 16 == KEYWRAP_VERSION_MAJOR
@@ -209,7 +209,7 @@ static void lengths(enum form form, size_t kek_len, size_t key_len, size_t text_
     }
 }
 
-/* Every pair of short lengths, where they are right under each length of KEK. */
+/* Every pair of short lengths, if they are right under each length of KEK. */
 static void short_lengths(enum form form) {
     for (size_t key_len = 0; key_len <= 72; key_len++)
         for (size_t text_len = 0; text_len <= 88; text_len++) {
@@ -221,7 +221,7 @@ static void short_lengths(enum form form) {
 }
 
 /* The longest keys, and longer ones, with texts about theirs: the first pair is right in the padded
- * form alone, and the second in both. */
+ * form only, and the second in both. */
 static void longest_lengths(enum form form) {
     enum { MAX = KEYWRAP_MAX_KEY };
     static const size_t lens[][2] = {
@@ -378,7 +378,7 @@ static enum form given_form(uint32_t flags) {
     return flags & KEYWRAP_OLD_PADDED ? PADDED : PLAIN;
 }
 
-/* The text of a key of this length in this form, where it has one. */
+/* The wrapped key of a key of this length in this form, if it has one. */
 static void rewraps_key_in(enum form form, uint32_t flags, size_t old_len, size_t new_len,
                            size_t key_len) {
     struct kek old_kek = {kek, old_len}, new_kek = {kek + 20, new_len};
@@ -388,7 +388,7 @@ static void rewraps_key_in(enum form form, uint32_t flags, size_t old_len, size_
     rewraps(flags, &old_kek, &new_kek, text, text_len, form, key, key_len);
 }
 
-/* The same in the form that is asked for, or in both. */
+/* The same in this form, or in both. */
 static void rewraps_key(uint32_t flags, size_t old_len, size_t new_len, size_t key_len) {
     rewraps_key_in(given_form(flags), flags, old_len, new_len, key_len);
     if (flags == KEYWRAP_KEEP_FORM) rewraps_key_in(PADDED, flags, old_len, new_len, key_len);
@@ -464,7 +464,7 @@ static void status_text(int32_t status, const char *text) {
     }
 }
 
-/* Each status has its text, and each other number that of one that is unknown. */
+/* Each status has its text, and each other number the text of an unknown one. */
 static void status_texts(void) {
     static const int32_t unknown[] = {INT32_MIN, -1, 1, 6, 70, INT32_MAX};
     status_text(KEYWRAP_OK, "done");

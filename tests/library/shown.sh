@@ -3,16 +3,16 @@
 # $tools is how the names of the tools of its machine begin.
 
 tools=
-names=$(sed -nE 's/^(u?int32_t|size_t) (keywrap_[a-z_]*)\(.*/\2/p' "$root/include/keywrap.h" | sort)
+names=$(sed -nE 's/^(u?int32_t|size_t) (keywrap_[a-z_]*)\(.*/\2/p' "$root"/include/keywrap{,_steps}.h | sort)
 
-# shows NM_OPTION.. FILE: the names that the file shows are those of the header, and no others.
+# shows NM_OPTION.. FILE: the file shows the headers' names, and no others.
 shows() { diff <("${tools}nm" "$@" --defined-only | awk 'NF == 3 && $2 != "A" { print $3 }' | sort) - <<<"$names"; }
 
-# versioned FILE: each name of the shared object stands under the version node of its version.
+# versioned FILE: each name of the shared object is under the node of its version.
 versioned() {
     shows -D --without-symbol-versions "$1" &&
         diff <("${tools}nm" -D --defined-only "$1" | awk '$2 != "A" { print $3 }' | sort) \
-            <(sed 's/$/@@KEYWRAP_1/; /^keywrap_status_text@/s/$/.1/' <<<"$names" | sort)
+            <(sed -E 's/$/@@KEYWRAP_1/; /^keywrap_(status_text|(begin|step|end)_.*)@/s/$/.1/' <<<"$names" | sort)
 }
 
 # wants FILE: the archive wants nothing but these of the C library.

@@ -19,7 +19,7 @@ enum { PLACE_COUNT = sizeof PLACES / sizeof *PLACES };
 
 static const uint8_t *const NO_VALUE = NULL;
 
-/* A wrapping of so many bytes as OpenSSL's own makes it; any bytes where there is none. */
+/* A wrapping of so many bytes as OpenSSL's own makes it; any bytes if there is none. */
 static void wrapping(int which, const uint8_t *kek, const uint8_t *iv, int len, uint8_t *text) {
     uint8_t key[LONGEST], room[LONGEST + 32];
     int short_by = is_padded(which) ? (int)below(8) : 0, text_len = 0;

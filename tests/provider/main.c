@@ -1,4 +1,4 @@
-/* main.c: compares OpenSSL's own provider with ours, which stands as keywrap.so in the folder.
+/* main.c: compares OpenSSL's own provider with ours, which is keywrap.so in the directory.
  *
  * usage: provider FOLDER PART [COUNT]        (PART: lengths, sequences, parameters, refusals,
  * vectors) */

@@ -47,7 +47,7 @@ static void get(struct side *side, int which, const char *name, unsigned type, s
     record_number(side, status);
     if (of_context) record_number(side, first_reason());
     first_reason();
-    /* What stands there after a refusal is no answer. */
+    /* The value after a refusal does not count. */
     if (status == 1) record_param(side, params, data);
 }
 
@@ -63,7 +63,7 @@ static void try_gets(int which, const char *name, int of_context) {
             }
 }
 
-/* The KEK's length, as it is said in each type and size. */
+/* The KEK's length in each type and size. */
 static void set(struct side *side, unsigned type, size_t size, const uint8_t *value) {
     uint8_t data[16];
     OSSL_PARAM params[2] = {{OSSL_CIPHER_PARAM_KEYLEN, type, data, size, OSSL_PARAM_UNMODIFIED},
@@ -105,7 +105,7 @@ static void try_names(int which) {
           CIPHER_NAMES[which], names[1] != NULL ? names[1] : "none");
 }
 
-/* Each parameter of the one list stands in the other, but for those of TLS. */
+/* Each parameter of one list is in the other, except the parameters of TLS. */
 static void try_list(int which, const OSSL_PARAM *list, const OSSL_PARAM *other) {
     check(list != NULL && other != NULL, "%s: no list", CIPHER_NAMES[which]);
     for (; list != NULL && list->key != NULL; list++) {

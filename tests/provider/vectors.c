@@ -29,7 +29,7 @@ static int answer(struct side *side, enum way way, const uint8_t *input, int len
     return out_len;
 }
 
-/* Whether the side answers this, by this way; or refuses, where the length due is -1. */
+/* Whether the side returns this, in this way; or refuses, if the length due is -1. */
 static int answers(struct side *side, int which, enum way way, int wraps, const uint8_t *kek,
                    const uint8_t *input, int len, const uint8_t *due, int due_len) {
     uint8_t out[2 * LONGEST];

@@ -19,7 +19,7 @@ typedef int32_t call(size_t kek_len, size_t len);
 #ifdef __aarch64__
 /* As it is compiled here the decision answers its outcome without a constant, and its callers branch
  * on that again. The outcome is what the status tells, so that what depends on it alone is no report:
- * this stands between them and the decision. It has the outcome in both registers of an answer. */
+ * this is between them and the decision. It has the outcome in both registers of an answer. */
 struct outcome {
     uint64_t first, second;
 };

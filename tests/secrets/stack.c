@@ -189,7 +189,7 @@ static unsigned differing(const uint8_t *a, const uint8_t *b) {
     return count;
 }
 
-/* How often 16 bytes of a secret stand there, at the secret's start or in its middle. */
+/* How often 16 bytes of a secret are there, at the secret's start or in its middle. */
 static unsigned copies(const uint8_t *stack) {
     unsigned count = 0;
     for (size_t i = 0; i + 16 <= STACK; i++)

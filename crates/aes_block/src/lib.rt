@@ -16,10 +16,12 @@
 mod cipher;
 mod columns;
 pub mod field;
+mod key_init;
 mod s_box;
 mod schedule;
 mod word_tables;
 
+pub use key_init::KeyInit;
 pub use s_box::{inv_sbox, sbox};
 pub use schedule::{Aes, BadKekLength};
 

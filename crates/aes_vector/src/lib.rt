@@ -9,6 +9,7 @@
 
 mod cipher;
 mod expansion;
+mod key_init;
 mod keys;
 mod lanes;
 mod lent;

@@ -9,6 +9,7 @@ use Rattle.key_files.specs.Meaning.{file_meaning}
 use Rattle.key_files.specs.declared.fault.Base64Fault.TheVariants.{Character, BehindPadding, Length, TrailingBits}
 use Rattle.key_files.specs.declared.fault.FileFault.{FileFault}
 use Rattle.key_files.specs.declared.fault.FileFault.TheVariants.{Read, TooLong, BadDigit, OddDigits, BadBase64, Memory}
+use Rattle.key_lines.specs.Answers.{Answer}
 use Rattle.key_lines.specs.Meaning.{blank_ended_meaning, is_blank, line_limit, line_meaning, meaning_behind, text_meaning, text_of}
 use Rattle.key_lines.specs.Running.{MakesAnswer}
 use Rattle.key_lines.specs.declared.fault.LineFault.TheVariants.{Input}
@@ -61,7 +62,7 @@ unfolding file_meaning
 line_meaning-within notation line fits = grind (arith, nat_tests)
 
 -- why a line denotes no bytes
-pub MakesAnswer-input : {R : Type 0} (notation : TextNotation) (answers : List ℕ → Result (List ℕ) R → Type 0) (line bytes : List ℕ)
+pub MakesAnswer-input : {R : Type 0} (notation : TextNotation) (answers : List ℕ → Result Answer R → Type 0) (line bytes : List ℕ)
     (fault : FileFault) → length line ≤ line_limit → DecodesText (blank_ended_meaning notation line) bytes (Err fault)
     → MakesAnswer notation answers line (Err (Input fault))
 MakesAnswer-input notation answers line bytes Memory fits d = tt

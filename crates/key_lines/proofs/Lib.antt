@@ -6,4 +6,5 @@ mod Passing
 mod Runs
 mod Showing
 mod Splitting
+mod Summaries
 mod Takings

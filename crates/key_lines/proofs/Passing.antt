@@ -1,21 +1,16 @@
--- What is written for a line that is passed, and why a line is not passed.
-use Rattle.std.proofs.Common.{◌≡◌, ℕ, Bool, true, false, ◌&&◌, List, Result, Ok, Err, inl, inr, refl, sym, subst}
+-- What is written for a line that is skipped, and why a line is not skipped.
+use Rattle.std.proofs.Common.{◌≡◌, ℕ, Bool, true, false, ◌&&◌, List, [], ◌∷◌, Result, Ok, Err, inl, inr, refl, sym, subst}
 use Rattle.key_files.specs.declared.fault.FileFault.TheVariants.{Read, TooLong, BadDigit, OddDigits, BadBase64, Memory}
-use Rattle.key_lines.specs.Answers.{made}
-use Rattle.key_lines.specs.Running.{LineAnswer, MakesAnswer, MakesOutput, Passes, is_own}
-use Rattle.key_lines.specs.declared.text.TextNotation.{TextNotation}
+use Rattle.key_lines.specs.Answers.{Answer, answered, output_of}
+use Rattle.key_lines.specs.Running.{LineAnswer, LineResult, MakesAnswer, MakesOutput, Skips, is_own}
 use Rattle.key_lines.specs.declared.fault.LineFault.{LineFault}
 use Rattle.key_lines.specs.declared.fault.LineFault.TheVariants.{Input, Refused}
+use Rattle.key_lines.specs.declared.job.Mark.{Mark}
+use Rattle.key_lines.specs.declared.run.RunOptions.{RunOptions}
 
-module _ {R : Type 0} (notation : TextNotation) (answers : List ℕ → Result (List ℕ) R → Type 0) where
-  -- an answer
-  pub MakesOutput-answered : (goes_on : Bool) (line output : List ℕ) → LineAnswer notation answers line (Ok output)
-      → MakesOutput goes_on notation answers line (Ok output)
-  MakesOutput-answered false line output h = h
-  MakesOutput-answered true line output h = inl h
-
-  own_answer : (line : List ℕ) (fault : LineFault R) → is_own fault ≡ true → MakesAnswer notation answers line (Err fault)
-      → LineAnswer notation answers line (Err fault)
+module _ {R : Type 0} (options : RunOptions) (answers : List ℕ → Result Answer R → Type 0) where
+  own_answer : (line : List ℕ) (fault : LineFault R) → is_own fault ≡ true → MakesAnswer options.notation answers line (Err fault)
+      → LineAnswer options.notation answers line (Err fault)
   own_answer line (Refused refusal) own m = m
   own_answer line (Input (BadDigit at)) own m = m
   own_answer line (Input OddDigits) own m = m
@@ -24,26 +19,26 @@ module _ {R : Type 0} (notation : TextNotation) (answers : List ℕ → Result (
   own_answer line (Input TooLong) own m = cc own
   own_answer line (Input Memory) own m = cc own
 
-  stays : (goes_on : Bool) → (goes_on && true) ≡ false → goes_on ≡ false
+  stays : (keep_going : Bool) → (keep_going && true) ≡ false → keep_going ≡ false
   stays false is = refl
   stays true is = is
 
   -- a line that stops the run
-  stopped : (goes_on : Bool) (line : List ℕ) (fault : LineFault R) → (goes_on && is_own fault) ≡ false → MakesAnswer notation answers line (Err fault)
-      → MakesOutput goes_on notation answers line (Err fault)
-  stopped goes_on line (Refused refusal) is m = (m, stays goes_on is)
-  stopped goes_on line (Input (BadDigit at)) is m = (m, stays goes_on is)
-  stopped goes_on line (Input OddDigits) is m = (m, stays goes_on is)
-  stopped goes_on line (Input (BadBase64 wrong)) is m = (m, stays goes_on is)
-  stopped goes_on line (Input Read) is m = m
-  stopped goes_on line (Input TooLong) is m = m
-  stopped goes_on line (Input Memory) is m = m
+  stopped : (line output : List ℕ) (fault : LineFault R) → (options.keep_going && is_own fault) ≡ false → MakesAnswer options.notation answers line (Err fault)
+      → MakesOutput options answers line output (Err fault)
+  stopped line output (Refused refusal) is m = (m, stays options.keep_going is)
+  stopped line output (Input (BadDigit at)) is m = (m, stays options.keep_going is)
+  stopped line output (Input OddDigits) is m = (m, stays options.keep_going is)
+  stopped line output (Input (BadBase64 wrong)) is m = (m, stays options.keep_going is)
+  stopped line output (Input Read) is m = m
+  stopped line output (Input TooLong) is m = m
+  stopped line output (Input Memory) is m = m
 
-  pub MakesOutput-passed : (goes_on : Bool) (line output : List ℕ) (fault : LineFault R) (answer : Result Unit (LineFault R))
-      → MakesAnswer notation answers line (Err fault) → Passes goes_on fault output answer → MakesOutput goes_on notation answers line (made output answer)
-  MakesOutput-passed true line output fault (Ok done) m p = inr (fault, p.1, own_answer line fault p.1 m, p.2)
-  MakesOutput-passed false line output fault (Ok done) m p = cc p.0
-  MakesOutput-passed goes_on line output fault (Err other) m (inl is) =
-      subst (λ e. MakesOutput goes_on notation answers line (Err e)) (sym is) tt
-  MakesOutput-passed goes_on line output fault (Err other) m (inr is) =
-      subst (λ e. MakesOutput goes_on notation answers line (Err e)) (sym is.0) (stopped goes_on line fault is.1 m)
+  pub MakesOutput-skipped : (line output : List ℕ) (fault : LineFault R) (answer : Result (Result Mark (LineFault R)) (LineFault R))
+      → MakesAnswer options.notation answers line (Err fault) → Skips options.keep_going fault output answer → MakesOutput options answers line output answer
+  MakesOutput-skipped line output fault (Ok (Ok mark)) m p = absurd p
+  MakesOutput-skipped line output fault (Ok (Err same)) m p =
+      (subst (λ f. LineResult options answers line (Err f)) (sym p.2) (p.0, p.1, own_answer line fault p.1 m), p.3)
+  MakesOutput-skipped line output fault (Err other) m (inl is) = subst (λ e. MakesOutput options answers line output (Err e)) (sym is) tt
+  MakesOutput-skipped line output fault (Err other) m (inr is) =
+      subst (λ e. MakesOutput options answers line output (Err e)) (sym is.0) (stopped line output fault is.1 m)

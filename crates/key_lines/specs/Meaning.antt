@@ -6,7 +6,7 @@ use Rattle.key_files.specs.Decoding.{fault_behind}
 use Rattle.key_files.specs.Meaning.{digit_text_meaning, file_meaning}
 use Rattle.key_files.specs.declared.fault.FileFault.{FileFault}
 use Rattle.key_lines.specs.declared.text.TextNotation.{TextNotation}
-use Rattle.key_lines.specs.declared.text.TextNotation.TheVariants.{Hex, Base64}
+use Rattle.key_lines.specs.declared.text.TextNotation.TheVariants.{Hex, Base64, Base64Url}
 
 -- blanks are space, tab and CR
 abbrev pub is_blank : ℕ → Bool
@@ -24,6 +24,7 @@ text_of line = take (length (behind_blanks line) - suffix_len is_blank (behind_b
 abbrev pub text_meaning : TextNotation → List ℕ → Result (List ℕ) FileFault
 text_meaning Hex text = digit_text_meaning text
 text_meaning Base64 text = symbol_text_meaning text
+text_meaning Base64Url text = symbol_text_meaning text
 
 -- the meaning of what stands after so many bytes: the place of a fault counts these too
 abbrev pub meaning_behind : ℕ → Result (List ℕ) FileFault → Result (List ℕ) FileFault

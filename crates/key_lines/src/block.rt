@@ -2,7 +2,6 @@
 //! whether it went out.
 
 ghost use Rattle.std.specs.Prelude.{◌≡◌, ◌-◌, ◌<◌, ◌≤◌, [], length, drop, vec_len, true, false};
-ghost use Rattle.std.specs.Prelude.{OnOk, Err};
 ghost use Rattle.key_lines.specs.Block.{Sends};
 
 use key_files::write_raw;
@@ -10,15 +9,6 @@ use std::io::Write;
 
 // So many bytes are written together.
 const BLOCK: usize = 65_536;
-
-// Why a text was not put, or the block was not written whole.
-#[derive(Clone, Copy)]
-pub(crate) enum PutFault {
-    // An allocation failed, and the block is as it was.
-    Memory,
-    // The writer refused what is left in the block.
-    Write,
-}
 
 // Writes the block. Where the writer refuses, what it did not take is left in the block.
 pub(crate) fn send<W: Write>(out: &mut W, block: &mut Vec<u8>) -> bool
@@ -49,24 +39,11 @@ fn remove_front(block: &mut Vec<u8>, n: usize)
     block.truncate(len - n);
 }
 
-// Puts a text after the block, and writes them where they are large enough.
-pub(crate) fn put<W: Write>(out: &mut W, block: &mut Vec<u8>, text: &[u8]) -> Result<(), PutFault>
-    ensures put { OnOk result (Sends (W.contents out.old) (W.contents out.new)
-        block.old.items block.new.items text.now) }
-    ensures refused { result ≡ Err PutFault.Write → Sends (W.contents out.old) (W.contents out.new)
-        block.old.items block.new.items text.now }
-    ensures left { result ≡ Err PutFault.Write → 0 < length block.new.items }
-    ensures untouched { result ≡ Err PutFault.Memory → W.contents out.new ≡ W.contents out.old }
-    ensures unchanged { result ≡ Err PutFault.Memory → block.new.items ≡ block.old.items }
+// Writes the block if it is large enough.
+pub(crate) fn send_if_large<W: Write>(out: &mut W, block: &mut Vec<u8>) -> bool
+    ensures sends { Sends (W.contents out.old) (W.contents out.new)
+        block.old.items block.new.items [] }
+    ensures left { result ≡ false → 0 < length block.new.items }
 {
-    if block.extend_from_slice(text).is_err() {
-        return Err(PutFault::Memory);
-    }
-    if block.len() < BLOCK {
-        return Ok(());
-    }
-    if send(out, block) {
-        return Ok(());
-    }
-    Err(PutFault::Write)
+    block.len() < BLOCK || send(out, block)
 }

@@ -1,7 +1,7 @@
 //! Many keys in one run: each line of the input is answered on the same line of the output.
 //!
 //! A line is one text of hex digits or of base64, with blanks at its ends alone. What is done with
-//! the bytes that it denotes is a [`LineJob`]'s; [`run_lines`] reads the lines, writes the answers,
+//! the bytes that it denotes is a [`LineJob`]'s; a [`LineRun`] reads the lines, writes the answers,
 //! and stops at the first line that is refused, or writes an empty line for it and goes on.
 
 #![tactic(auto)]
@@ -12,13 +12,15 @@ mod job;
 mod line;
 mod log;
 mod run;
+mod summary;
 mod text;
 
-pub use fault::{LineFault, RunFault};
-pub use job::{LineJob, Outcome};
+pub use fault::{LineFault, RefusedLine, RunFault};
+pub use job::{LineJob, Mark};
 pub use line::{Line, read_line};
 pub use log::RefusalLog;
-pub use run::run_lines;
+pub use run::{LineRun, RunOptions};
+pub use summary::RunSummary;
 pub use text::TextNotation;
 
 #[cfg(test)]

@@ -1,9 +1,17 @@
-//! Who is told of refused lines.
+//! The log of refused lines.
 
-use crate::fault::LineFault;
+ghost use Rattle.std.specs.Prelude.{List, Option, None, [], ◌∷◌};
+ghost use Rattle.key_lines.specs.Answers.{Logs};
+ghost use Rattle.key_lines.specs.declared.fault.RefusedLine.{RefusedLine};
 
-/// Who is told of the lines that a run passes, each as it is met.
+use crate::fault::RefusedLine;
+
+/// Receives the lines that a run skips, each as it is met.
 pub trait RefusalLog<F> {
-    /// The line, counted from 1, and why it was refused.
-    fn tell(&self, line: u64, fault: &LineFault<F>);
+    /// The lines that it received, in order, if that is known.
+    ghost received: { Self → Option (List (RefusedLine F)) } = { λ _. None };
+
+    /// Receives a line.
+    fn receive(&mut self, refused: &RefusedLine<F>)
+        ensures { Logs (received self.old) (received self.new) (refused.now ∷ []) };
 }

@@ -12,8 +12,11 @@ use key_files::{Base64Fault, FileFault, decode_digits_into, decode_symbols_into}
 pub enum TextNotation {
     /// By two hex digits each.
     Hex,
-    /// By base64 (RFC 4648), in either alphabet, with padding or without it.
+    /// By base64 (RFC 4648). Either alphabet is read, with padding or without it. The alphabet of
+    /// section 4 is written, with padding.
     Base64,
+    /// The same, but the alphabet of section 5 is written, without padding.
+    Base64Url,
 }
 
 /// The bytes that a line denotes, in `bytes`, whatever stood there.
@@ -40,7 +43,7 @@ fn decode_text(notation: TextNotation, text: &[u8], bytes: &mut Vec<u8>) -> Resu
 {
     match notation {
         TextNotation::Hex => decode_digits_into(text, bytes),
-        TextNotation::Base64 => decode_symbols_into(text, bytes),
+        TextNotation::Base64 | TextNotation::Base64Url => decode_symbols_into(text, bytes),
     }
 }
 

@@ -5,11 +5,13 @@ pub mod Tapes
 pub mod Counting
 pub mod Registering
 pub mod Places
-pub mod Passes
+pub mod Stepping
 pub mod Filling
 pub mod FormLengths
 pub mod PlainForm
 pub mod PaddedForm
+pub mod WrapStepping
+pub mod UnwrapStepping
 pub mod BothForms
 pub mod Differences
 pub mod ThreeChecks

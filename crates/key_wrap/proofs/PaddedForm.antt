@@ -34,6 +34,12 @@ one_block {E = E} before after block e =
       text_words = ap E w.bytes ∙ e;
     }
 
+-- a text is as long as the registers that are wrapped to it
+pub padded_registers_length : {E D : List ℕ → List ℕ} {before after : List ℕ} → AreInverse E D → PaddedRegisters E before after
+    → length after ≡ length before
+padded_registers_length {after = after} inv r =
+    omega (arith, padded_words_length r.iv r.P after inv r.text_words, ap length r.key_words, length-spelled (r.iv ∷ r.P))
+
 -- for more words the text is the wrapping of RFC 3394
 many_text : {E : List ℕ → List ℕ} (iv : ℕ) (P C : List ℕ) (text : List ℕ) → 2 ≤ length P → spelled C ≡ text → Wraps E iv P C → PaddedText E iv P text
 many_text iv [] C text more e w = (C, e, w)

@@ -30,14 +30,6 @@ pub record After (n t : ℕ) (x a : List ℕ) (A : ℕ) (registers : List ℕ) :
   pub value : at a t ≡ A
   pub lie : Lie n t x R
 
--- The steps s + 1 to e lead from A | before to A' | after: they hold on some tape of which these are the states.
-pub record Run (E : List ℕ → List ℕ) (n s e A : ℕ) (before : List ℕ) (A' : ℕ) (after : List ℕ) : Type 0 where
-  pub x : List ℕ
-  pub a : List ℕ
-  pub part : Part E n s e x a
-  pub start : After n s x a A before
-  pub end : After n e x a A' after
-
 -- two places less than n apart lie in two registers
 pub places_apart : (n t p : ℕ) → t < p → p < t + n → p % n ≢ t % n
 places_apart n t p more less same =
@@ -74,26 +66,6 @@ lie_before n t w x R some room size lie p from below =
           rw (first, get_or-set_same R (t % n) w 0 inside, get_or-set_same x t w 0 room) refl
     ]
 
--- What a step writes at place n + t of x and place t + 1 of a leaves every earlier state as it was.
-after_later : {n s t A : ℕ} (w v : ℕ) {x a registers : List ℕ} → s ≤ t → After n s x a A registers → After n s (set x (n + t) w) (set a (t + 1) v) A registers
-after_later {n = n} {s = s} {t = t} w v {x = x} {a = a} early h = record {
-  R = h.R;
-  size = h.size;
-  bytes = h.bytes;
-  value = get_or-set_other a (t + 1) s v 0 (omega arith) ∙ h.value;
-  lie = λ p from below. h.lie p from below ∙ sym (get_or-set_other x (n + t) p w 0 (omega arith));
-}
-
--- What a step undone writes at place t of x and of a leaves every later state as it was.
-after_earlier : {n e t A : ℕ} (w v : ℕ) {x a registers : List ℕ} → t < e → After n e x a A registers → After n e (set x t w) (set a t v) A registers
-after_earlier {n = n} {e = e} {t = t} w v {x = x} {a = a} late h = record {
-  R = h.R;
-  size = h.size;
-  bytes = h.bytes;
-  value = get_or-set_other a t e v 0 (omega arith) ∙ h.value;
-  lie = λ p from below. h.lie p from below ∙ sym (get_or-set_other x t p w 0 (omega arith));
-}
-
 -- the bytes with one register of them replaced
 abbrev pub with_register : (i : ℕ) (registers register : List ℕ) → List ℕ
 with_register i registers register = take (8 * i) registers ++ (register ++ drop 8 (drop (8 * i) registers))
@@ -103,13 +75,13 @@ abbrev pub register_of : (i : ℕ) (registers : List ℕ) → List ℕ
 register_of i registers = take 8 (drop (8 * i) registers)
 
 -- the register that is written next holds the word at place t, and the one that was written last that at n + t
-after_reads : {n t p A : ℕ} {x a registers : List ℕ} → 0 < n → t ≤ p → p < t + n → After n t x a A registers
+pub after_reads : {n t p A : ℕ} {x a registers : List ℕ} → 0 < n → t ≤ p → p < t + n → After n t x a A registers
     → register_of (p % n) registers ≡ word_bytes (at x p)
 after_reads {n = n} {p = p} some from below h =
     let inside : p % n < length h.R = omega (arith, mod-lt p some, h.size) in
     ap (λ (bs : List ℕ). register_of (p % n) bs) (sym h.bytes) ∙ register_bytes h.R (p % n) inside ∙ ap word_bytes (h.lie p from below)
 
-after_next : {n t A : ℕ} (w v : ℕ) {x a registers : List ℕ} → 0 < n → n + t < length x → t + 1 < length a
+pub after_next : {n t A : ℕ} (w v : ℕ) {x a registers : List ℕ} → 0 < n → n + t < length x → t + 1 < length a
     → After n t x a A registers → After n (t + 1) (set x (n + t) w) (set a (t + 1) v) v (with_register (t % n) registers (word_bytes w))
 after_next {n = n} {t = t} w v {x = x} {a = a} {registers = registers} some room_x room_a h =
     let inside : t % n < length h.R = omega (arith, mod-lt t some, h.size) in
@@ -121,7 +93,7 @@ after_next {n = n} {t = t} w v {x = x} {a = a} {registers = registers} some room
       lie = lie_next n t w x h.R some room_x h.size h.lie;
     }
 
-after_before : {n t A : ℕ} (w v : ℕ) {x a registers : List ℕ} → 0 < n → t < length x → t < length a
+pub after_before : {n t A : ℕ} (w v : ℕ) {x a registers : List ℕ} → 0 < n → t < length x → t < length a
     → After n (t + 1) x a A registers → After n t (set x t w) (set a t v) v (with_register (t % n) registers (word_bytes w))
 after_before {n = n} {t = t} w v {x = x} {a = a} {registers = registers} some room_x room_a h =
     let inside : t % n < length h.R = omega (arith, mod-lt t some, h.size) in
@@ -133,7 +105,7 @@ after_before {n = n} {t = t} w v {x = x} {a = a} {registers = registers} some ro
       lie = lie_before n t w x h.R some room_x h.size h.lie;
     }
 
-part_next : {E : List ℕ → List ℕ} {n s t : ℕ} (w v : ℕ) {x a : List ℕ} → 0 < n → t < 6 * n → IsWord w → IsWord v
+pub part_next : {E : List ℕ → List ℕ} {n s t : ℕ} (w v : ℕ) {x a : List ℕ} → 0 < n → t < 6 * n → IsWord w → IsWord v
     → E (joined (at a t) (at x t)) ≡ joined (bit_xor v (t + 1)) w → Part E n s t x a → Part E n s (t + 1) (set x (n + t) w) (set a (t + 1) v)
 part_next {n = n} {t = t} w v {x = x} {a = a} some inside word_w word_v one h =
     let x' : List ℕ = set x (n + t) w in
@@ -155,7 +127,7 @@ part_next {n = n} {t = t} w v {x = x} {a = a} some inside word_w word_v one h =
       ];
     }
 
-part_before : {E : List ℕ → List ℕ} {n t e : ℕ} (w v : ℕ) {x a : List ℕ} → 0 < n → t < 6 * n → IsWord w → IsWord v
+pub part_before : {E : List ℕ → List ℕ} {n t e : ℕ} (w v : ℕ) {x a : List ℕ} → 0 < n → t < 6 * n → IsWord w → IsWord v
     → E (joined v w) ≡ joined (bit_xor (at a (t + 1)) (t + 1)) (at x (n + t)) → Part E n (t + 1) e x a → Part E n t e (set x t w) (set a t v)
 part_before {n = n} {t = t} w v {x = x} {a = a} some inside word_w word_v one h =
     let x' : List ℕ = set x t w in
@@ -175,45 +147,4 @@ part_before {n = n} {t = t} w v {x = x} {a = a} some inside word_w word_v one h 
             let low_a : at a' t ≡ v = get_or-set_same a t v 0 (omega (arith, h.length_a)) in
             rw (first, other_a (t + 1) (omega arith), other_x (n + t) (omega arith), low_a, low_x) one
       ];
-    }
-
--- one more step after the last
-pub run_next : {E : List ℕ → List ℕ} {n s t A A' v : ℕ} {before after : List ℕ} (register : List ℕ) → 0 < n → s ≤ t → t < 6 * n → IsWord v
-    → length register ≡ 8 → AllByRecursion IsByte register
-    → E (word_bytes A' ++ register_of (t % n) after) ≡ word_bytes (bit_xor v (t + 1)) ++ register
-    → Run E n s t A before A' after → Run E n s (t + 1) A before v (with_register (t % n) after register)
-run_next {E = E} {n = n} {s = s} {t = t} {A = A} {A' = A'} {v = v} {before = before} {after = after} register some from inside word_v eight bytes step h =
-    let new = word_of_bytes register eight bytes in
-    let w : ℕ = new.w in
-    let read : register_of (t % n) after ≡ word_bytes (at h.x t) = after_reads some (omega arith) (omega arith) h.end in
-    let one : E (joined (at h.a t) (at h.x t)) ≡ joined (bit_xor v (t + 1)) w =
-    rw (h.end.value, ← read, new.bytes) step in
-    record {
-      x = set h.x (n + t) w;
-      a = set h.a (t + 1) v;
-      part = part_next w v some inside new.word word_v one h.part;
-      start = after_later w v from h.start;
-      end = subst (λ (bs : List ℕ). After n (t + 1) (set h.x (n + t) w) (set h.a (t + 1) v) v (with_register (t % n) after bs)) new.bytes
-          (after_next w v some (omega (arith, h.part.length_x)) (omega (arith, h.part.length_a)) h.end);
-    }
-
--- one more step before the first
-pub run_before : {E : List ℕ → List ℕ} {n t e A A' v : ℕ} {before after : List ℕ} (register : List ℕ) → 0 < n → t < e → t < 6 * n → IsWord v
-    → length register ≡ 8 → AllByRecursion IsByte register
-    → E (word_bytes v ++ register) ≡ word_bytes (bit_xor A (t + 1)) ++ register_of (t % n) before
-    → Run E n (t + 1) e A before A' after → Run E n t e v (with_register (t % n) before register) A' after
-run_before {E = E} {n = n} {t = t} {e = e} {A = A} {A' = A'} {v = v} {before = before} {after = after} register some to inside word_v eight bytes step h =
-    let new = word_of_bytes register eight bytes in
-    let w : ℕ = new.w in
-    let read : register_of (t % n) before ≡ word_bytes (at h.x (n + t)) =
-    ap (λ (i : ℕ). register_of i before) (sym (add-mod_left n t)) ∙ after_reads some (omega arith) (omega arith) h.start in
-    let one : E (joined v w) ≡ joined (bit_xor (at h.a (t + 1)) (t + 1)) (at h.x (n + t)) =
-    rw (h.start.value, ← read, new.bytes) step in
-    record {
-      x = set h.x t w;
-      a = set h.a t v;
-      part = part_before w v some inside new.word word_v one h.part;
-      start = subst (λ (bs : List ℕ). After n t (set h.x t w) (set h.a t v) v (with_register (t % n) before bs)) new.bytes
-          (after_before w v some (omega (arith, h.part.length_x)) (omega (arith, h.part.length_a)) h.start);
-      end = after_earlier w v to h.end;
     }

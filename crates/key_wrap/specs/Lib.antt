@@ -9,6 +9,7 @@ pub mod PaddedRegisters
 pub mod Answer
 pub mod Kind
 pub mod Calls
+pub mod Steps
 pub mod InPlace
 pub mod Faults
 pub mod Forms

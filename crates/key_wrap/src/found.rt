@@ -17,7 +17,7 @@ use crate::agreed_form::AgreedForm;
 use crate::checks::{is_zero, padded_difference};
 use crate::forms::Form;
 use crate::lengths::WORD;
-use crate::machine::{unwrap_padded_slice, wrap_padded_slice};
+use crate::machine::{unwrap_slice, wrap_slice};
 use block_pair::{BlockPair, Meter};
 use byteorder::{BigEndian, ByteOrder};
 
@@ -30,7 +30,7 @@ pub(crate) fn unwrap_found<B: BlockPair>(meter: &mut Meter<B>, buf: &mut [u8]) -
     ensures calls { meter.new ≡ counted (block_calls (length buf.old)) meter.old }
 {
     let c0 = BigEndian::read_u64(buf);
-    unwrap_padded_slice(meter, c0, &mut buf[WORD..])
+    unwrap_slice(meter, c0, &mut buf[WORD..])
 }
 
 // The registers after the first word of the buffer become what they are wrapped to under this
@@ -41,7 +41,7 @@ pub(crate) fn wrap_found<B: BlockPair>(meter: &mut Meter<B>, iv: u64, buf: &mut 
         (word_bytes iv ++ drop 8 buf.old) buf.new }
     ensures calls { meter.new ≡ counted (block_calls (length buf.old)) meter.old }
 {
-    let c0 = wrap_padded_slice(meter, iv, &mut buf[WORD..]);
+    let c0 = wrap_slice(meter, iv, &mut buf[WORD..]);
     BigEndian::write_u64(buf, c0);
 }
 

@@ -13,7 +13,7 @@ ghost use Rattle.key_wrap.specs.InPlace.{KeyAnswer, Unwrapping, IsPaddedRoom, ke
 use crate::checks::{DEFAULT_IV, initial_value};
 use crate::faults::InPlaceFault;
 use crate::lengths::{WORD, padded_length_ok, padded_text_length_ok, text_length_ok};
-use crate::machine::{wrap_padded_slice, wrap_slice};
+use crate::machine::wrap_slice;
 use crate::unwrapping::{unwrap_padded_registers, unwrap_registers};
 use block_pair::{BlockPair, Meter};
 use byteorder::{BigEndian, ByteOrder};
@@ -139,7 +139,7 @@ pub fn wrap_padded_in_place<B: BlockPair>(
         return Err(InPlaceFault::BadLength);
     }
     buf[WORD + m..].fill(0);
-    let c0 = wrap_padded_slice(meter, initial_value(m), &mut buf[WORD..]);
+    let c0 = wrap_slice(meter, initial_value(m), &mut buf[WORD..]);
     BigEndian::write_u64(buf, c0);
     Ok(())
 }

@@ -31,7 +31,11 @@ mod padded;
 mod plain;
 mod rewrapping;
 mod rewrapping_in_place;
+mod steps;
+mod unwrap_steps;
 mod unwrapping;
+mod whole_runs;
+mod wrap_steps;
 
 pub use agreed_form::AgreedForm;
 pub use faults::{BadScratchLength, InPlaceFault, KindFault, ReservedIv, UnwrapFault, WrapFault};
@@ -50,6 +54,11 @@ pub use padded::{unwrap_padded, wrap_padded};
 pub use plain::{unwrap, unwrap_with, wrap, wrap_with};
 pub use rewrapping::rewrap;
 pub use rewrapping_in_place::{rewrap_in_place, rewrap_in_place_with};
+pub use unwrap_steps::{
+    begin_unwrap, begin_unwrap_padded, end_unwrap, end_unwrap_padded, step_unwrap,
+};
+pub use whole_runs::{whole_unwrap_law, whole_wrap_law};
+pub use wrap_steps::{begin_wrap, begin_wrap_padded, end_wrap, step_wrap};
 
 #[cfg(test)]
 mod tests;

@@ -1,34 +1,24 @@
-//! The command `keywrap`: AES Key Wrap (RFC 3394 and RFC 5649) of files, in hex or raw.
+//! The command `keywrap`: AES Key Wrap (RFC 3394 and RFC 5649) of files.
 #![tactic(auto)]
 
-mod command_line;
-mod many;
-mod no_text;
-mod notes;
-mod open_keks;
+mod cli;
+mod command;
+mod explain;
+mod host;
+mod lines;
 mod program;
-mod refused;
-mod request;
-mod telling;
-mod waiting;
-mod work;
+mod prompt;
+mod session;
+mod warnings;
 
-use keywrap_io::{Closed, is_closed};
-use std::io::{IsTerminal, Write};
+use keywrap_io::{Streams, stream_kind};
 use std::process::ExitCode;
-use work::Terminals;
 
 fn main(rt: HostRuntime) -> ExitCode {
-    let terminals = Terminals {
-        output: rt.stdout().is_terminal(),
-        error: rt.stderr().is_terminal(),
-        // A write of no bytes is refused where standard error is closed.
-        input: rt.stdin().is_terminal() && rt.stderr().write(&[]).is_ok(),
-        closed: Closed {
-            input: is_closed(&rt.stdin()),
-            output: is_closed(&rt.stdout()),
-            error: is_closed(&rt.stderr()),
-        },
+    let streams = Streams {
+        input: stream_kind(&rt.stdin()),
+        output: stream_kind(&rt.stdout()),
+        error: stream_kind(&rt.stderr()),
     };
-    ExitCode::from(program::run(&rt, terminals))
+    ExitCode::from(program::run(&rt, streams))
 }

@@ -1,93 +1,61 @@
-//! The program: from its arguments to its exit status.
+//! The program, from its arguments to its exit status.
 
-use crate::command_line::parse;
-use crate::refused::Refused;
-use crate::request::Request;
-use crate::work::{Terminals, run_work};
+use crate::cli::{Stop, read_command};
+use crate::command::Command;
+use crate::explain::print_fault;
+use crate::host::Host;
+use crate::session::Session;
+use keywrap_args::invalid_utf8;
 use keywrap_cli::{ProgramFault, run_drill, run_vectors, statuses, write_help};
-use keywrap_words::{Refusal, not_text};
+use keywrap_io::Streams;
 use std::alloc::AllocError;
-use std::fs::File;
-use std::rt::{Env, Files};
-use std::time::Clock;
 use std::{env, io};
 
-/// Runs the program on the arguments that it was started with, and answers its exit status.
-pub fn run<R: Print + Eprint + Input + AllocGlobal + Files<File = File> + Env + Clock>(
-    rt: &R,
-    terminals: Terminals,
-) -> u8 {
-    let words = match env::args(rt) {
+/// Runs the program on the arguments that it was started with, and returns its exit status.
+pub fn run<R: Host>(rt: &R, streams: Streams) -> u8 {
+    let args = match env::args(rt) {
         Ok(args) => args.collect::<Vec<String>>(rt.alloc()),
         Err(error) if error.kind() == io::ErrorKind::OutOfMemory => Err(AllocError),
-        Err(_) => return explain(rt, &not_text(rt.alloc())),
+        Err(_) => return stop(rt, &Stop::from(invalid_utf8(rt.alloc()))),
     };
-    let Ok(words) = words else {
-        return refuse(rt, &ProgramFault::Memory);
+    let Ok(args) = args else {
+        return print_fault(rt, &ProgramFault::Memory);
     };
-    match parse(rt.alloc(), words.as_slice()) {
-        Ok(wanted) => answer(rt, wanted, terminals),
-        Err(refusal) => explain(rt, &refusal),
+    match read_command(rt.alloc(), args.as_slice()) {
+        Ok(command) => run_command(rt, &command, streams),
+        Err(reason) => stop(rt, &reason),
     }
 }
 
-// Answers a request, and says what stood in the way on standard error.
-fn answer<R: Print + Eprint + Input + AllocGlobal + Files<File = File> + Env + Clock>(
-    rt: &R,
-    wanted: Request<'_>,
-    terminals: Terminals,
-) -> u8 {
-    let done = match wanted {
-        Request::Drill {
+fn run_command<R: Host>(rt: &R, command: &Command<'_>, streams: Streams) -> u8 {
+    let done = match command {
+        Command::Run(run) => return Session::new(rt, run, streams).run(),
+        Command::Drill {
             form,
             direction,
-            text,
-        } => run_drill(rt.alloc(), form, direction, text, &mut io::writer(rt)),
-        Request::Work(work, places, lines) => {
-            return end_work(rt, run_work(rt, work, places, lines, terminals));
-        }
-        Request::Vectors => run_vectors(rt.alloc(), &mut io::writer(rt)),
+            hex,
+        } => run_drill(rt.alloc(), *form, *direction, hex, &mut io::writer(rt)),
+        Command::Vectors => run_vectors(rt.alloc(), &mut io::writer(rt)),
     };
     end(rt, done)
 }
 
-// The exit status of a request that was answered or refused.
 fn end<R: Eprint>(rt: &R, done: Result<u8, ProgramFault>) -> u8 {
     match done {
         Ok(status) => status,
-        Err(fault) => refuse(rt, &fault),
+        Err(fault) => print_fault(rt, &fault),
     }
 }
 
-// The same of a request with files, whose refusal may say why on a second line.
-fn end_work<R: Eprint>(rt: &R, done: Result<u8, Refused>) -> u8 {
-    match done {
-        Ok(status) => status,
-        Err(refused) => {
-            let status = refuse(rt, &refused.fault);
-            if let Some(why) = &refused.why {
-                let _ = rt.eprintln(why.as_str());
-            }
-            status
-        }
-    }
-}
-
-// Says what stood in the way. Nothing is left to do where standard error is closed too.
-fn refuse<R: Eprint>(rt: &R, fault: &ProgramFault) -> u8 {
-    let _ = rt.eprintln(fault.line());
-    fault.status()
-}
-
-// Help goes to standard output, and what is wrong with the arguments to standard error.
-fn explain<R: Print + Eprint>(rt: &R, refusal: &Refusal) -> u8 {
-    match refusal {
-        Refusal::Help(text) => end(rt, write_help(text.as_str(), &mut io::writer(rt))),
-        Refusal::Words(text) => {
-            // Nothing is left to do where standard error is closed too.
+// Help goes to standard output, and a message on the arguments to standard error.
+fn stop<R: Print + Eprint>(rt: &R, reason: &Stop) -> u8 {
+    match reason {
+        Stop::Help(text) => end(rt, write_help(text.as_str(), &mut io::writer(rt))),
+        Stop::Usage(text) => {
+            // Nothing is left to do if standard error is closed.
             let _ = rt.eprint(text.as_str());
             statuses::REFUSED_WORDS
         }
-        Refusal::Memory => refuse(rt, &ProgramFault::Memory),
+        Stop::Fault(fault) => print_fault(rt, fault),
     }
 }

@@ -1,5 +1,5 @@
-//! The key wrap for C: calls over the caller's own buffers, without memory and without
-//! state. `include/keywrap.h` declares them.
+//! The exports for C, over AES by byte shuffles, whose round keys are in a buffer of the call's own
+//! that is cleared last. `include/keywrap.h` declares them.
 #![tactic(auto)]
 
 mod kinds;
@@ -9,6 +9,7 @@ mod plain;
 mod plain_in_place;
 mod plain_with;
 mod rewrapping;
-mod status;
 mod texts;
+mod unwrap_steps;
 mod version;
+mod wrap_steps;

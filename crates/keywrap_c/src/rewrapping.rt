@@ -1,43 +1,16 @@
 //! Rewrapping in one buffer: from one KEK and form to another, the key never given out.
 
-ghost use Rattle.std.specs.Prelude.{◌≡◌, ◌↔◌, ◌⊎◌, ℕ, length, All, Err, IfSome, IfNone};
-ghost use Rattle.std.specs.Prelude.{IsErr, IsOk, OnOk};
 ghost use Rattle.aes_block.specs.Cipher.{cipher};
-ghost use Rattle.aes_block.specs.KeyExpansion.{IsKekLength};
-ghost use Rattle.keywrap_c.specs.Status.{IsDone, IsBadKek, IsBadLength, IsIntegrity};
-ghost use Rattle.keywrap_c.specs.Status.{IsUnwrapStatus};
-ghost use Rattle.keywrap_c.specs.Forms.{AreFlags, asked, IsGivenLength, HasBadLength};
-ghost use Rattle.keywrap_c.specs.Forms.{HasNoKey, HasGoodKey, Rewraps};
+ghost use Rattle.keywrap_calls.specs.Forms.{RewrapsInPlace};
 
-use crate::status::{BAD_KEK, BAD_LENGTH, DONE, INTEGRITY};
 use aes_vector::{LentAes, Room};
-use block_pair::{BlockPair, Meter};
-use key_wrap::{Form, InPlaceFault, rewrap_in_place, rewrap_keeping_form_in_place};
 
-// The flag of a wrapped key that is given in the padded form.
-const OLD_PADDED: u32 = 1;
-
-// The flag of a wrapped key that is to be answered in the padded form.
-const NEW_PADDED: u32 = 2;
-
-const BOTH_PADDED: u32 = OLD_PADDED + NEW_PADDED;
-
-// The flag of a wrapped key that may be in either form, and keeps it.
-const KEEP_FORM: u32 = 4;
-
-// What the flags of a rewrapping ask for: the old form and the new one, or that the form is kept.
-enum Asked {
-    Between(Form, Form),
-    Keep,
-}
-
-/// The key in `buffer`, wrapped under `old_kek`, becomes the same key wrapped under `new_kek`, of
-/// the same length; `forms` has a flag for each of the two that is padded, as in `keywrap.h`, or
-/// the flag by which the wrapped key keeps its form alone, and no other bit (RFC 3394 and RFC
-/// 5649).
+/// Replaces the wrapped key in `buffer`, under `old_kek`, by the same key wrapped under `new_kek`, of
+/// the same length. `forms` has a flag for each of the two that is padded, as in `keywrap.h`, or only
+/// the flag by which the wrapped key keeps its form, and no other bit (RFC 3394 and RFC 5649).
 ///
-/// After the integrity check has failed, and where the key has no legal length in the new form,
-/// every byte of the buffer is zero.
+/// After the integrity check has failed, and if the key has no legal length in the new form, every
+/// byte of the buffer is zero.
 #[unsafe(no_mangle)]
 pub extern "C" fn keywrap_rewrap_in_place(
     old_kek: &[u8],
@@ -45,103 +18,20 @@ pub extern "C" fn keywrap_rewrap_in_place(
     buffer: &mut [u8],
     forms: u32,
 ) -> i32
-    ensures statuses { IsUnwrapStatus result }
-    ensures bad_kek { IsBadKek result
-        ↔ (¬ IsKekLength (length old_kek.now) ⊎ ¬ IsKekLength (length new_kek.now)) }
-    ensures bad_length { IsBadLength result
-        ↔ (IsKekLength (length old_kek.now) × IsKekLength (length new_kek.now)
-        × (¬ AreFlags forms ⊎ HasBadLength (asked forms) (cipher old_kek.now) buffer.old)) }
-    ensures integrity { IsIntegrity result
-        ↔ (IsKekLength (length old_kek.now) × IsKekLength (length new_kek.now) × AreFlags forms
-        × HasNoKey (asked forms) (cipher old_kek.now) buffer.old) }
-    ensures done { IsDone result
-        → IsKekLength (length old_kek.now) × IsKekLength (length new_kek.now) × AreFlags forms
-        × IsGivenLength (asked forms) (length buffer.old) }
-    ensures kept_at_bad_kek { IsBadKek result → buffer.new ≡ buffer.old }
-    ensures kept_at_bad_flags { ¬ AreFlags forms → buffer.new ≡ buffer.old }
-    ensures kept_at_bad_text { ¬ IsGivenLength (asked forms) (length buffer.old)
-        → buffer.new ≡ buffer.old }
-    ensures cleared { IsIntegrity result → All (λ byte. byte ≡ 0) buffer.new }
-    ensures cleared_at_bad_key { IsBadLength result → AreFlags forms
-        → IsGivenLength (asked forms) (length buffer.old) → All (λ byte. byte ≡ 0) buffer.new }
-    ensures answer { IsDone result
-        → Rewraps (asked forms) (cipher old_kek.now) (cipher new_kek.now) buffer.old buffer.new }
-
-    // A wrapping whose key has a legal length in the new form is not refused.
-    ensures accepts { IsKekLength (length old_kek.now) → IsKekLength (length new_kek.now)
-        → AreFlags forms → HasGoodKey (asked forms) (cipher old_kek.now) buffer.old
-        → IsDone result }
+    ensures { RewrapsInPlace (cipher old_kek.now) (cipher new_kek.now)
+        old_kek.now new_kek.now forms buffer.old buffer.new result }
 {
     let mut old_room = Room::new();
-    let Ok(old) = LentAes::new(old_kek, &mut old_room) else {
-        return BAD_KEK;
-    };
     let mut new_room = Room::new();
-    let Ok(new) = LentAes::new(new_kek, &mut new_room) else {
-        old_room.clear();
-        return BAD_KEK;
-    };
-    match rewrap_as(&mut Meter::new(&old), &mut Meter::new(&new), forms, buffer) {
-        Ok(()) => {
-            old_room.clear();
-            new_room.clear();
-            DONE
-        }
-        Err(InPlaceFault::BadLength) => {
-            old_room.clear();
-            new_room.clear();
-            BAD_LENGTH
-        }
-        Err(InPlaceFault::Integrity) => {
-            old_room.clear();
-            new_room.clear();
-            INTEGRITY
-        }
-    }
-}
-
-// Rewraps as the flags ask, under any pairs. Not inlined, its frame lies over what the making of the
-// key schedules left on the stack.
-#[inline(never)]
-fn rewrap_as<O: BlockPair, N: BlockPair>(
-    old: &mut Meter<O>,
-    new: &mut Meter<N>,
-    flags: u32,
-    buf: &mut [u8],
-) -> Result<(), InPlaceFault>
-    ensures bad_length { (result ≡ Err InPlaceFault.BadLength)
-        ↔ (¬ AreFlags flags ⊎ HasBadLength (asked flags) (O.encrypted old.old.pair) buf.old) }
-    ensures integrity { (result ≡ Err InPlaceFault.Integrity)
-        ↔ (AreFlags flags × HasNoKey (asked flags) (O.encrypted old.old.pair) buf.old) }
-    ensures done { IsOk result → AreFlags flags × IsGivenLength (asked flags) (length buf.old) }
-    ensures kept_at_bad_flags { ¬ AreFlags flags → buf.new ≡ buf.old }
-    ensures kept_at_bad_text { ¬ IsGivenLength (asked flags) (length buf.old)
-        → buf.new ≡ buf.old }
-    ensures cleared { IsErr result → AreFlags flags → IsGivenLength (asked flags) (length buf.old)
-        → All (λ byte. byte ≡ 0) buf.new }
-    ensures answer { OnOk result (Rewraps (asked flags)
-        (O.encrypted old.old.pair) (N.encrypted new.old.pair) buf.old buf.new) }
-    ensures accepts { AreFlags flags
-        → HasGoodKey (asked flags) (O.encrypted old.old.pair) buf.old → IsOk result }
-{
-    match asked_of(flags) {
-        Some(Asked::Between(from, to)) => rewrap_in_place(old, from, new, to, buf),
-        Some(Asked::Keep) => rewrap_keeping_form_in_place(old, new, buf),
-        None => Err(InPlaceFault::BadLength),
-    }
-}
-
-// What these flags ask for.
-fn asked_of(flags: u32) -> Option<Asked>
-    ensures named { IfSome result (λ found. AreFlags flags × (found ≡ asked flags)) }
-    ensures refused { IfNone result (¬ AreFlags flags) }
-{
-    match flags {
-        0 => Some(Asked::Between(Form::Plain, Form::Plain)),
-        OLD_PADDED => Some(Asked::Between(Form::Padded, Form::Plain)),
-        NEW_PADDED => Some(Asked::Between(Form::Plain, Form::Padded)),
-        BOTH_PADDED => Some(Asked::Between(Form::Padded, Form::Padded)),
-        KEEP_FORM => Some(Asked::Keep),
-        _ => None,
-    }
+    let status = keywrap_calls::rewrap_in_place::<LentAes>(
+        &mut old_room,
+        &mut new_room,
+        old_kek,
+        new_kek,
+        buffer,
+        forms,
+    );
+    old_room.clear();
+    new_room.clear();
+    status
 }

@@ -1,38 +1,17 @@
-//! What a status says.
+//! The text of a status.
 
 ghost use Rattle.std.specs.Prelude.{◌≡◌, ◌<◌, length};
-ghost use Rattle.keywrap_c.specs.StatusTexts.{text_of, fitting, begun_with};
-
-use crate::status::{BAD_IV, BAD_KEK, BAD_LENGTH, DONE, INTEGRITY};
+ghost use Rattle.keywrap_calls.specs.StatusTexts.{text_of, fitting, begun_with};
 
 /// Writes what `status` says into `text`, cut to fit, and a zero byte after it; into no bytes it
-/// writes nothing. Answers the length of the whole text without the zero, which is not less than
-/// the buffer's where the text was cut.
+/// writes nothing. Returns the length of the whole text without the zero, which is not less than
+/// the buffer's if the text was cut.
 #[unsafe(no_mangle)]
 pub extern "C" fn keywrap_status_text(status: i32, text: &mut [u8]) -> usize
     ensures whole_length { result ≡ length (text_of status) }
+    ensures short { result < 80 }
     ensures written { 0 < length text.old
         → text.new ≡ begun_with (fitting (text_of status) text.old) text.old }
 {
-    let words = words_of(status);
-    if let Some(room) = text.len().checked_sub(1) {
-        let cut = room.min(words.len());
-        text[..cut].copy_from_slice(&words[..cut]);
-        text[cut] = 0;
-    }
-    words.len()
-}
-
-// The text of a status.
-fn words_of(status: i32) -> &'static [u8]
-    ensures text { result.now ≡ text_of status }
-{
-    match status {
-        DONE => b"done",
-        BAD_IV => b"initial value is not 8 bytes, or is reserved for the padded form",
-        BAD_KEK => b"key length is not 16, 24 or 32 bytes",
-        BAD_LENGTH => b"bad length",
-        INTEGRITY => b"integrity check failed",
-        _ => b"unknown status",
-    }
+    keywrap_calls::status_text(status, text)
 }

@@ -1,11 +1,12 @@
 //! Which library this is.
 
 ghost use Rattle.std.specs.Prelude.{◌≡◌};
+ghost use Rattle.keywrap_calls.specs.Version.{version};
 
-/// The version 1.1.0, as `KEYWRAP_VERSION` of `keywrap.h`: 16, 8 and 8 bits.
+/// Returns the version, as `KEYWRAP_VERSION` of `keywrap.h`: 16, 8 and 8 bits.
 #[unsafe(no_mangle)]
 pub extern "C" fn keywrap_version() -> u32
-    ensures version { result ≡ 0x1_0100 }
+    ensures version { result ≡ version }
 {
-    0x0001_0100
+    keywrap_calls::version()
 }

@@ -2,6 +2,7 @@ pub mod Conversions
 pub mod Drills
 pub mod Headlines
 pub mod InitialValues
+pub mod Opens
 pub mod Passes
 pub mod Readings
 pub mod Reports

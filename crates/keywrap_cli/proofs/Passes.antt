@@ -4,7 +4,7 @@ use Rattle.key_wrap.specs.declared.faults.InPlaceFault.{InPlaceFault}
 use Rattle.key_wrap.specs.declared.faults.InPlaceFault.TheVariants.{BadLength, Integrity}
 use Rattle.key_wrap.specs.declared.agreed_form.AgreedForm.{AgreedForm}
 use Rattle.key_wrap.specs.Forms.{by_default}
-use Rattle.keywrap_cli.specs.Forms.{IsNoOld, IsOldLength, IsRewrapped, IsRewrappedAs, IsRewrappedOrPassed, Rewraps, to_itself}
+use Rattle.keywrap_cli.specs.Forms.{IsNoOld, IsOldLength, IsPassed, IsRewrapped, IsRewrappedAs, IsRewrappedOrPassed, Rewraps, to_itself}
 use Rattle.keywrap_cli.specs.declared.rewrapping.RewrapForms.{RewrapForms}
 use Rattle.keywrap_cli.specs.declared.rewrapping.RewrapForms.TheVariants.{Kept, Changed}
 
@@ -43,6 +43,18 @@ answers_itself Kept E F text answer is = record {
 as_it_is : (forms : RewrapForms) (F : List ℕ → List ℕ) (text answer : List ℕ) → IsRewrappedAs (to_itself forms) F F text answer → answer ≡ text
 as_it_is (Changed old new) F text answer is = sym (is.alone text is.stood)
 as_it_is Kept F text answer is = sym (is.rewrapped.alone text is.rewrapped.stood)
+
+-- what was rewrapped passes again
+pub rewrapped : (forms : RewrapForms) (E F : List ℕ → List ℕ) (text answer : List ℕ) → IsRewrappedAs forms E F text answer
+    → IsRewrappedOrPassed forms E F text answer
+rewrapped forms E F text answer is = record {
+  rewrapped = inl is;
+  again = λ none. record { no_old = none; new = answers_itself forms E F text answer is; as_it_is = refl };
+}
+
+pub is_passed : (forms : RewrapForms) (E F : List ℕ → List ℕ) (text answer : List ℕ) → IsNoOld forms E text
+    → IsRewrappedAs (to_itself forms) F F text answer → IsPassed forms E F text answer
+is_passed forms E F text answer none is = record { no_old = none; new = is; as_it_is = as_it_is forms F text answer is }
 
 pub passed : (forms : RewrapForms) (E F : List ℕ → List ℕ) (text answer : List ℕ) → IsNoOld forms E text
     → IsRewrappedAs (to_itself forms) F F text answer → IsRewrappedOrPassed forms E F text answer

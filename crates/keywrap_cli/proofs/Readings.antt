@@ -1,21 +1,22 @@
 -- What reading a file answers is what its bytes denote: a fault bears the file's name, bytes are taken as they are,
 -- and those of the KEK file for a KEK. Each lemma goes by the cases of an answer.
-use Rattle.std.proofs.Common.{◌≡◌, ◌↔◌, ℕ, List, Vec, Option, Result, Ok, Err, refl, sym, subst}
+use Rattle.std.proofs.Common.{◌≡◌, ◌↔◌, ℕ, List, length, Vec, Option, Some, None, Result, Ok, Err, refl, sym, subst}
 use Rattle.std.specs.declared.alloc.Global.{Global}
+use Rattle.aes_block.specs.KeyExpansion.{IsKekLength}
 use Rattle.key_files.specs.Reading.{ReadsAs}
 use Rattle.key_files.specs.declared.fault.FileFault.{FileFault}
 use Rattle.key_files.specs.declared.fault.FileFault.TheVariants as files
 use Rattle.keywrap_cli.specs.Files.{meaning_in}
-use Rattle.keywrap_cli.specs.Readings.{ReadsKek, KekAnswer, MakesKek, ReadsInput, InputAnswer, named_fault_of}
+use Rattle.keywrap_cli.specs.Readings.{ReadsKek, KekAnswer, MakesKek, OpensKek, ReadsInput, InputAnswer, named_fault_of}
+use Rattle.keywrap_cli.specs.declared.job.JobFault.{JobFault}
 use Rattle.keywrap_cli.specs.declared.job.JobFault.TheVariants.{InputFile}
-use Rattle.keywrap_cli.specs.declared.kek_file.KekFault.{KekFault}
-use Rattle.keywrap_cli.specs.declared.kek_file.KekFault.TheVariants.{File, Length}
+use Rattle.keywrap_cli.specs.declared.kek_file.KekRole.{KekRole}
 use Rattle.keywrap_cli.specs.declared.job.Notation.{Notation}
 
 -- a fault of a KEK file, by cases
 kek_fault_answer : (notation : Notation) (old new : Option (List ℕ)) (fault : FileFault)
     → (reads : ReadsAs (meaning_in notation) 4194304 old new (Err fault))
-    → KekAnswer notation reads.taken new (Err (File fault))
+    → KekAnswer notation reads.taken new (Err (Some fault))
 kek_fault_answer notation old new files.Read reads = tt
 kek_fault_answer notation old new files.TooLong reads = reads.means
 kek_fault_answer notation old new (files.BadDigit at) reads = (reads.means, reads.to_end)
@@ -25,7 +26,7 @@ kek_fault_answer notation old new files.Memory reads = tt
 
 -- a KEK file denotes no bytes, or could not be read
 pub kek_of_fault : (notation : Notation) (old new : Option (List ℕ)) (fault : FileFault)
-    → ReadsAs (meaning_in notation) 4194304 old new (Err fault) → ReadsKek notation old new (Err (File fault))
+    → ReadsAs (meaning_in notation) 4194304 old new (Err fault) → ReadsKek notation old new (Err (Some fault))
 kek_of_fault notation old new fault reads = record {
   taken = reads.taken;
   stands_after = reads.stands_after;
@@ -37,29 +38,32 @@ kek_of_fault notation old new fault reads = record {
   answers = kek_fault_answer notation old new fault reads;
 }
 
--- the KEK that bytes are, or the refusal of their length
-kek_of_made : (notation : Notation) (old new : Option (List ℕ)) (bytes : List ℕ) (answer : Result (List ℕ) KekFault)
-    (reads : ReadsAs (meaning_in notation) 4194304 old new (Ok bytes)) → MakesKek bytes answer
-    → KekAnswer notation reads.taken new answer
-kek_of_made notation old new bytes (Ok K) reads made =
-    subst (λ (k : List ℕ). KekAnswer notation reads.taken new (Ok k)) (sym made.0)
-    (record { denoted = reads.means; legal = made.1 }, reads.to_end)
-kek_of_made notation old new bytes (Err Length) reads made = ((bytes, reads.means, made), reads.to_end)
-kek_of_made notation old new bytes (Err (File fault)) reads made = absurd made
-
--- a KEK file denotes bytes, and they are a KEK or of no legal length
-pub kek_of_bytes : (notation : Notation) (old new : Option (List ℕ)) (bytes : List ℕ) (answer : Result (List ℕ) KekFault)
-    → ReadsAs (meaning_in notation) 4194304 old new (Ok bytes) → MakesKek bytes answer → ReadsKek notation old new answer
-kek_of_bytes notation old new bytes answer reads made = record {
+-- a KEK file denotes bytes, and they are a KEK
+kek_of_legal : (notation : Notation) (old new : Option (List ℕ)) (bytes : List ℕ) → IsKekLength (length bytes)
+    → ReadsAs (meaning_in notation) 4194304 old new (Ok bytes) → ReadsKek notation old new (Ok bytes)
+kek_of_legal notation old new bytes legal reads = record {
   taken = reads.taken;
   stands_after = reads.stands_after;
   at_most = reads.at_most;
-  too_long = (
-    λ e. absurd (subst (λ (a : Result (List ℕ) KekFault). MakesKek bytes a) e made),
-    λ more. let e = reads.too_long.1 more in cc,
-  );
-  answers = kek_of_made notation old new bytes answer reads made;
+  too_long = (λ e. cc e, λ more. let e = reads.too_long.1 more in cc);
+  answers = (record { denoted = reads.means; legal = legal }, reads.to_end);
 }
+
+-- or they are of no legal length
+kek_of_illegal : (notation : Notation) (old new : Option (List ℕ)) (bytes : List ℕ) → ¬ IsKekLength (length bytes)
+    → ReadsAs (meaning_in notation) 4194304 old new (Ok bytes) → ReadsKek notation old new (Err None)
+kek_of_illegal notation old new bytes illegal reads = record {
+  taken = reads.taken;
+  stands_after = reads.stands_after;
+  at_most = reads.at_most;
+  too_long = (λ e. cc e, λ more. let e = reads.too_long.1 more in cc);
+  answers = ((bytes, reads.means, illegal), reads.to_end);
+}
+
+pub kek_of_bytes : (role : KekRole) (notation : Notation) (old new : Option (List ℕ)) (bytes : List ℕ) (answer : Result (List ℕ) JobFault)
+    → ReadsAs (meaning_in notation) 4194304 old new (Ok bytes) → MakesKek role bytes answer → OpensKek role notation old new answer
+kek_of_bytes role notation old new bytes (Ok K) reads made = (Ok bytes, kek_of_legal notation old new bytes made.1 reads, made.0)
+kek_of_bytes role notation old new bytes (Err fault) reads made = (Err None, kek_of_illegal notation old new bytes made.1 reads, made.0)
 
 -- the input's fault is TooLong exactly where its file's is
 input_too_long : (fault : FileFault)

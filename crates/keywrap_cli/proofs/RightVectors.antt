@@ -13,8 +13,8 @@ pub record Denoted (v : TestVector) (K X Y : List ℕ) : Type 0 where
   pub output : hex_meaning v.output ≡ Ok Y
   pub legal : IsKekLength (length K)
 
--- a right vector's operation takes the bytes that its texts denote to one another
-takes_denoted : (v : TestVector) (K X Y : List ℕ) → Denoted v K X Y → IsRight v → Takes v.operation (cipher K) X Y
+-- a right vector's algorithm takes the bytes that its texts denote to one another
+takes_denoted : (v : TestVector) (K X Y : List ℕ) → Denoted v K X Y → IsRight v → Takes v.algorithm (cipher K) X Y
 takes_denoted v K X Y d right =
     let k = d.key in
     let x = d.input in
@@ -28,7 +28,7 @@ takes_denoted v K X Y d right =
     rw (sym same_key, sym same_input, sym same_output) right.takes
 
 pub right_as_denoted : (v : TestVector) (K X Y : List ℕ) → Denoted v K X Y → (r : Result Bool AllocError)
-    → IfOk r (λ right. IsTrue right ↔ Takes v.operation (cipher K) X Y) → IfOk r (λ right. IsTrue right ↔ IsRight v)
+    → IfOk r (λ right. IsTrue right ↔ Takes v.algorithm (cipher K) X Y) → IfOk r (λ right. IsTrue right ↔ IsRight v)
 right_as_denoted v K X Y d (Err error) said = tt
 right_as_denoted v K X Y d (Ok right) said = (
   λ h. record {

@@ -2,8 +2,10 @@
 -- output is in the notation of the input. The plain form has the initial value `iv`.
 use Rattle.std.specs.Prelude.{◌≡◌, ⊤, ℕ, List, [], ◌∷◌, ◌++◌, length, codes, Result, Ok, Err}
 use Rattle.std.specs.Fmt.{decimal}
-use Rattle.key_lines.specs.declared.job.Outcome.{Outcome}
-use Rattle.key_lines.specs.declared.job.Outcome.TheVariants.{Answer, Refused, Memory}
+use Rattle.key_lines.specs.Answers.{Answer}
+use Rattle.key_lines.specs.declared.job.Mark.{Mark}
+use Rattle.key_lines.specs.declared.job.Mark.TheVariants.{Unmarked, Marked}
+use Rattle.key_lines.specs.declared.text.TextNotation.{TextNotation}
 use Rattle.key_wrap.specs.Answer.{NoKey}
 use Rattle.key_wrap.specs.Forms.{Stands}
 use Rattle.key_wrap.specs.Kind.{IsKindWith}
@@ -14,7 +16,7 @@ use Rattle.key_wrap.specs.declared.forms.Kind.{Kind}
 use Rattle.key_wrap.specs.declared.forms.Kind.TheVariants as kinds
 use Rattle.keywrap_cli.specs.Conversion.{HasNoAnswer, IsAnswer, IsInputLength, IsKeyOf, IsTextOf}
 use Rattle.keywrap_cli.specs.Files.{line_notation, printed}
-use Rattle.keywrap_cli.specs.Forms.{Makes}
+use Rattle.keywrap_cli.specs.Forms.{Makes, MakesMarked}
 use Rattle.keywrap_cli.specs.declared.convert.Direction.{Direction}
 use Rattle.keywrap_cli.specs.declared.convert.Direction.TheVariants as directions
 use Rattle.keywrap_cli.specs.declared.job.Done.{Done}
@@ -51,24 +53,39 @@ HasNoKey Wrap form iv E X = ⊥
 HasNoKey Unwrap form iv E X = IsInputLength directions.Unwrap form (length X) × NoKey (Stands form iv E) X
 HasNoKey Check form iv E X = ⊥
 
+-- an answer is marked exactly if it is that of a check that found none
+abbrev pub HasMark : Job → List ℕ → Mark → Type 0
+HasMark job text Unmarked = ¬ ((job ≡ Check) × (text ≡ kind_line kinds.Neither))
+HasMark job text Marked = (job ≡ Check) × (text ≡ kind_line kinds.Neither)
+
+abbrev pub mark_of : Kind → Mark
+mark_of (kinds.Plain m) = Unmarked
+mark_of (kinds.Padded m) = Unmarked
+mark_of kinds.Neither = Marked
+
 -- what this job, with the form and the notation of the task, answers to the bytes X, by cases
-abbrev pub AnswerOfJob : Job → ℕ → Task → (List ℕ → List ℕ) → List ℕ → Result (List ℕ) InPlaceFault → Type 0
-AnswerOfJob job iv task E X (Ok output) = WritesFor job iv task E X output
+abbrev pub AnswerOfJob : Job → ℕ → Task → (List ℕ → List ℕ) → List ℕ → Result Answer InPlaceFault → Type 0
+AnswerOfJob job iv task E X (Ok answer) = WritesFor job iv task E X answer.text × HasMark job answer.text answer.mark
 AnswerOfJob job iv task E X (Err BadLength) = HasBadLength job task.form X
 AnswerOfJob job iv task E X (Err Integrity) = HasNoKey job task.form iv E X
 
 -- what the job of the task answers to the bytes X
-abbrev pub JobAnswer : ℕ → Task → (List ℕ → List ℕ) → List ℕ → Result (List ℕ) InPlaceFault → Type 0
+abbrev pub JobAnswer : ℕ → Task → (List ℕ → List ℕ) → List ℕ → Result Answer InPlaceFault → Type 0
 JobAnswer iv task E X answer = AnswerOfJob task.job iv task E X answer
 
--- the task with its input and output as lines are
-abbrev pub in_lines : Task → Task
-in_lines task = record { job = task.job; form = task.form; input = line_notation task.input; kek = task.kek }
+-- the task with its input and output as lines in this notation
+abbrev pub in_lines : TextNotation → Task → Task
+in_lines notation task = record { job = task.job; form = task.form; input = line_notation notation; kek = task.kek }
 
 -- a job is done as Neither exactly if it is a check that wrote `none`
 abbrev pub IsDone : Job → List ℕ → Done → Type 0
 IsDone job output Written = ¬ ((job ≡ Check) × (output ≡ kind_line kinds.Neither))
 IsDone job output Neither = (job ≡ Check) × (output ≡ kind_line kinds.Neither)
+
+-- what is done where an answer has this mark
+abbrev pub done_of : Mark → Done
+done_of Unmarked = Written
+done_of Marked = Neither
 
 -- the job that goes in a direction
 abbrev pub job_of : Direction → Job
@@ -76,14 +93,15 @@ job_of directions.Wrap = Wrap
 job_of directions.Unwrap = Unwrap
 
 -- what a rewrapping answers to the text: what it makes of it, in a notation
-abbrev pub RewrappingAnswer : Rewrapping → (List ℕ → List ℕ) → (List ℕ → List ℕ) → List ℕ → Result (List ℕ) InPlaceFault → Type 0
-RewrappingAnswer task E F text (Ok output) =
-    (answer : List ℕ) × Makes task.passes_new task.forms E F text (Ok answer) × (output ≡ printed task.input answer)
-RewrappingAnswer task E F text (Err refusal) = Makes task.passes_new task.forms E F text (Err refusal)
+abbrev pub RewrappingAnswer : Rewrapping → (List ℕ → List ℕ) → (List ℕ → List ℕ) → List ℕ → Result Answer InPlaceFault → Type 0
+RewrappingAnswer task E F text (Ok answer) =
+    (made : List ℕ) × MakesMarked task.pass_new task.forms E F text (Ok (record { text = made; mark = answer.mark }))
+    × (answer.text ≡ printed task.input made)
+RewrappingAnswer task E F text (Err refusal) = Makes task.pass_new task.forms E F text (Err refusal)
 
--- the rewrapping with its input and output as lines are
-abbrev pub lines_of : Rewrapping → Rewrapping
-lines_of task = record { forms = task.forms; passes_new = task.passes_new; input = line_notation task.input; kek = task.kek }
+-- the rewrapping with its input and output as lines in this notation
+abbrev pub lines_of : TextNotation → Rewrapping → Rewrapping
+lines_of notation task = record { forms = task.forms; pass_new = task.pass_new; input = line_notation notation; kek = task.kek }
 
 -- a rewrapping that wrote its output is done
 abbrev pub IsWritten : List ℕ → Done → Type 0
@@ -96,8 +114,14 @@ MakesConversion direction form iv E X (Err BadLength) = ¬ IsInputLength directi
 MakesConversion direction form iv E X (Err Integrity) =
     IsInputLength direction form (length X) × HasNoAnswer direction form iv E X
 
--- this is said of an outcome with its output: Memory is not said of the bytes
-abbrev pub OutcomeIs : {R : Type 0} → (Result (List ℕ) R → Type 0) → List ℕ → Outcome R → Type 0
-OutcomeIs Is output Answer = Is (Ok output)
-OutcomeIs Is output (Refused refusal) = Is (Err refusal)
-OutcomeIs Is output Memory = ⊤
+-- this is said of what a call made: of no allocation that failed
+abbrev pub OutcomeIs : {R E : Type 0} → (Result (List ℕ) R → Type 0) → List ℕ → Result (Result Unit R) E → Type 0
+OutcomeIs Is output (Ok (Ok done)) = Is (Ok output)
+OutcomeIs Is output (Ok (Err refusal)) = Is (Err refusal)
+OutcomeIs Is output (Err fault) = ⊤
+
+-- the same of an answer with its mark
+abbrev pub AnswerIs : {R E : Type 0} → (Result Answer R → Type 0) → List ℕ → Result (Result Mark R) E → Type 0
+AnswerIs Is output (Ok (Ok mark)) = Is (Ok (record { text = output; mark = mark }))
+AnswerIs Is output (Ok (Err refusal)) = Is (Err refusal)
+AnswerIs Is output (Err fault) = ⊤

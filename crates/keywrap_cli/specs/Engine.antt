@@ -1,28 +1,29 @@
 -- A run, put together from its steps: the KEKs are read in their order, then the input, or each line of it, is read, a
 -- job answers its bytes, and the answer is written. It ends at the first step that is refused, and the later ones are not
 -- begun. A job is known by what it answers to bytes: an output to be written, or a refusal.
-use Rattle.std.specs.Prelude.{◌≡◌, ◌<◌, ⊤, Bool, ℕ, List, length, take, Option, Result, Ok, Err, Vec, IfSome, MatchResult}
+use Rattle.std.specs.Prelude.{◌≡◌, ◌<◌, ℕ, List, length, take, Option, Result, Ok, Err, Vec, IfSome, MatchResult}
 use Rattle.std.specs.Io.KnownBytes.{Appends, Keeps}
 use Rattle.std.specs.declared.alloc.Global.{Global}
 use Rattle.key_lines.specs.Running.{RunsLines, WritesAnswers}
-use Rattle.key_lines.specs.declared.text.TextNotation.{TextNotation}
+use Rattle.key_files.specs.declared.fault.FileFault.{FileFault}
+use Rattle.key_lines.specs.Answers.{Answer}
+use Rattle.key_lines.specs.declared.fault.RefusedLine.{RefusedLine}
 use Rattle.key_lines.specs.declared.fault.RunFault.{RunFault}
+use Rattle.key_lines.specs.declared.run.RunOptions.{RunOptions}
+use Rattle.key_lines.specs.declared.summary.RunSummary.{RunSummary}
 use Rattle.key_wrap.specs.declared.faults.InPlaceFault.{InPlaceFault}
 use Rattle.key_wrap.specs.declared.faults.InPlaceFault.TheVariants as refusals
-use Rattle.keywrap_cli.specs.Readings.{ReadsInput, ReadsKek, kek_fault_of, new_kek_fault_of}
+use Rattle.keywrap_cli.specs.Readings.{ReadsInput, ReadsKek, kek_fault_of}
 use Rattle.keywrap_cli.specs.declared.job.Done.{Done}
 use Rattle.keywrap_cli.specs.declared.job.JobFault.{JobFault}
 use Rattle.keywrap_cli.specs.declared.job.JobFault.TheVariants.{BadLength, Integrity, Write, Memory}
 use Rattle.keywrap_cli.specs.declared.job.Notation.{Notation}
-use Rattle.keywrap_cli.specs.declared.kek_file.KekFault.{KekFault}
-use Rattle.keywrap_cli.specs.declared.lines.LinesDone.{LinesDone}
-use Rattle.keywrap_cli.specs.declared.lines.LinesFault.{LinesFault}
-use Rattle.keywrap_cli.specs.declared.lines.LinesFault.TheVariants.{Kek, Run}
+use Rattle.keywrap_cli.specs.declared.kek_file.KekRole.TheVariants.{Kek, NewKek}
 
 -- What is done under the KEK of a file: `Then` is said of the KEK that it denotes, and `Refused` of why it denotes none.
-pub record UnderKek (notation : Notation) (file file' : Option (List ℕ)) (Then : List ℕ → Type 0) (Refused : KekFault → Type 0)
+pub record UnderKek (notation : Notation) (file file' : Option (List ℕ)) (Then : List ℕ → Type 0) (Refused : (Option FileFault) → Type 0)
     : Type 0 where
-  pub found : Result (List ℕ) KekFault
+  pub found : Result (List ℕ) (Option FileFault)
   pub read : ReadsKek notation file file' found
   pub rest : MatchResult found Then Refused
 
@@ -31,8 +32,8 @@ abbrev pub UnderKeks : Notation → Option (List ℕ) → Option (List ℕ) → 
     → (List ℕ → List ℕ → Type 0) → (JobFault → Type 0) → Type 0
 UnderKeks notation kek kek' new new' Then Refused =
     UnderKek notation kek kek'
-    (λ K. UnderKek notation new new' (λ L. Then K L) (λ fault. Refused (new_kek_fault_of fault)))
-    (λ fault. (new' ≡ new) × Refused (kek_fault_of fault))
+    (λ K. UnderKek notation new new' (λ L. Then K L) (λ fault. Refused (kek_fault_of NewKek fault)))
+    (λ fault. (new' ≡ new) × Refused (kek_fault_of Kek fault))
 
 -- the run ends with this fault before its input: nothing was read of it, and nothing written
 abbrev pub IsRefusedBefore : {T E : Type 0} → E → Option (List ℕ) → Option (List ℕ) → Option (List ℕ) → Option (List ℕ)
@@ -41,69 +42,54 @@ IsRefusedBefore fault input input' out out' answer = (answer ≡ Err fault) × (
 
 -- What is left in the writer for the bytes X, by cases: the whole output that the job answers, or the first `written`
 -- bytes of it, or nothing.
-abbrev pub WritesAnswer : (List ℕ → Result (List ℕ) InPlaceFault → Type 0) → List ℕ → Option (List ℕ) → Option (List ℕ)
-    → Result (List ℕ) JobFault → Type 0
-WritesAnswer answers X old new (Ok output) = answers X (Ok output) × Appends old new output
+abbrev pub WritesAnswer : (List ℕ → Result Answer InPlaceFault → Type 0) → List ℕ → Option (List ℕ) → Option (List ℕ)
+    → Result Answer JobFault → Type 0
+WritesAnswer answers X old new (Ok answer) = answers X (Ok answer) × Appends old new answer.text
 WritesAnswer answers X old new (Err (Write written)) =
-    (output : List ℕ) × answers X (Ok output) × (written < length output) × Appends old new (take written output)
+    (answer : Answer) × answers X (Ok answer) × (written < length answer.text) × Appends old new (take written answer.text)
 WritesAnswer answers X old new (Err BadLength) = answers X (Err refusals.BadLength) × Keeps old new
 WritesAnswer answers X old new (Err Integrity) = answers X (Err refusals.Integrity) × Keeps old new
 WritesAnswer answers X old new (Err Memory) = Keeps old new
 WritesAnswer answers X old new (Err fault) = ⊥
 
 -- the same, once the input was read or refused
-abbrev pub WritesFrom : (List ℕ → Result (List ℕ) InPlaceFault → Type 0) → Result (Vec ℕ Global) JobFault → Option (List ℕ)
-    → Option (List ℕ) → Result (List ℕ) JobFault → Type 0
+abbrev pub WritesFrom : (List ℕ → Result Answer InPlaceFault → Type 0) → Result (Vec ℕ Global) JobFault → Option (List ℕ)
+    → Option (List ℕ) → Result Answer JobFault → Type 0
 WritesFrom answers (Ok X) out out' outcome = WritesAnswer answers X.items out out' outcome
 WritesFrom answers (Err fault) out out' outcome = (outcome ≡ Err fault) × (out' ≡ out)
 
 -- What a run over an input as a whole does.
-pub record RunsInput (notation : Notation) (answers : List ℕ → Result (List ℕ) InPlaceFault → Type 0)
-    (input input' out out' : Option (List ℕ)) (outcome : Result (List ℕ) JobFault) : Type 0 where
+pub record RunsInput (notation : Notation) (answers : List ℕ → Result Answer InPlaceFault → Type 0)
+    (input input' out out' : Option (List ℕ)) (outcome : Result Answer JobFault) : Type 0 where
   pub text : Result (Vec ℕ Global) JobFault
   pub read : ReadsInput notation input input' text
   pub rest : WritesFrom answers text out out' outcome
 
--- the output that a run wrote, or its fault
-abbrev pub output_of : Result (Vec ℕ Global) JobFault → Result (List ℕ) JobFault
-output_of (Ok output) = Ok output.items
-output_of (Err fault) = Err fault
-
 -- the outcome of a run, as the answer of the call: `Is` says what is done where an output was written
-abbrev pub IsDoneAs : (List ℕ → Done → Type 0) → Result (List ℕ) JobFault → Result Done JobFault → Type 0
-IsDoneAs Is (Ok output) (Ok done) = Is output done
+abbrev pub IsDoneAs : (List ℕ → Done → Type 0) → Result Answer JobFault → Result Done JobFault → Type 0
+IsDoneAs Is (Ok output) (Ok done) = Is output.text done
 IsDoneAs Is (Err fault) (Err other) = other ≡ fault
 IsDoneAs Is outcome answer = ⊥
 
 -- the input is answered as a whole, and so is the call
-abbrev pub AnswersInput : Notation → (List ℕ → Result (List ℕ) InPlaceFault → Type 0) → (List ℕ → Done → Type 0)
+abbrev pub AnswersInput : Notation → (List ℕ → Result Answer InPlaceFault → Type 0) → (List ℕ → Done → Type 0)
     → Option (List ℕ) → Option (List ℕ) → Option (List ℕ) → Option (List ℕ) → Result Done JobFault → Type 0
 AnswersInput notation answers Is input input' out out' answer =
-    (outcome : Result (List ℕ) JobFault) × RunsInput notation answers input input' out out' outcome × IsDoneAs Is outcome answer
+    (outcome : Result Answer JobFault) × RunsInput notation answers input input' out out' outcome × IsDoneAs Is outcome answer
 
 -- What a run over lines of at most 4,194,304 bytes does. Where it is known what the input had left, what was written are
 -- the answers to its first lines, in order.
-pub record RunsOver {R : Type 0} (goes_on : Bool) (notation : TextNotation) (answers : List ℕ → Result (List ℕ) R → Type 0)
-    (input input' out out' : Option (List ℕ)) (answer : Result ℕ (RunFault R)) : Type 0 where
-  pub run : RunsLines goes_on notation answers input input' out out' answer
-  pub written : IfSome input (λ text. WritesAnswers goes_on notation answers text out out' answer)
-
--- the answer of a run to its lines, as that of the call: with how many lines it answered
-abbrev pub IsAnswerOf : Result ℕ (RunFault InPlaceFault) → Result LinesDone LinesFault → Type 0
-IsAnswerOf (Ok lines) (Ok done) = done.lines ≡ lines
-IsAnswerOf (Err fault) (Err other) = other ≡ Run fault
-IsAnswerOf run answer = ⊥
+pub record RunsOver {R : Type 0} (options : RunOptions) (answers : List ℕ → Result Answer R → Type 0)
+    (input input' out out' : Option (List ℕ)) (log log' : Option (List (RefusedLine R))) (answer : Result (RunSummary R) (RunFault R)) : Type 0 where
+  pub run : RunsLines options answers input input' out out' log log' answer
+  pub written : IfSome input (λ text. WritesAnswers options answers text out out' answer)
 
 -- each line is answered, and so is the call
-abbrev pub AnswersLines : Bool → TextNotation → (List ℕ → Result (List ℕ) InPlaceFault → Type 0) → Option (List ℕ) → Option (List ℕ)
-    → Option (List ℕ) → Option (List ℕ) → Result LinesDone LinesFault → Type 0
-AnswersLines goes_on notation answers input input' out out' answer =
-    (run : Result ℕ (RunFault InPlaceFault)) × RunsOver goes_on notation answers input input' out out' run × IsAnswerOf run answer
-
--- the call came to its lines: no KEK was refused
-abbrev pub IsPastKeks : Result LinesDone LinesFault → Type 0
-IsPastKeks (Err (Kek fault)) = ⊥
-IsPastKeks answer = ⊤
+abbrev pub AnswersLines : RunOptions → (List ℕ → Result Answer InPlaceFault → Type 0) → Option (List ℕ) → Option (List ℕ)
+    → Option (List ℕ) → Option (List ℕ) → Option (List (RefusedLine InPlaceFault)) → Option (List (RefusedLine InPlaceFault))
+    → Result (Result (RunSummary InPlaceFault) (RunFault InPlaceFault)) JobFault → Type 0
+AnswersLines options answers input input' out out' log log' answer =
+    (run : Result (RunSummary InPlaceFault) (RunFault InPlaceFault)) × RunsOver options answers input input' out out' log log' run × (answer ≡ Ok run)
 
 -- a job's fault for a refusal of its bytes
 abbrev pub job_fault_of : InPlaceFault → JobFault

@@ -36,14 +36,8 @@ printed Hex bytes = hex_line bytes
 printed Base64 bytes = base64_line false bytes
 printed Base64Url bytes = base64_line true bytes
 
--- lines are texts: raw bytes are none, and hex is in their place
-abbrev pub line_notation : Notation → Notation
-line_notation Raw = Hex
-line_notation notation = notation
-
--- how a line denotes bytes in the notation
-abbrev pub text_notation : Notation → TextNotation
-text_notation Raw = texts.Hex
-text_notation Hex = texts.Hex
-text_notation Base64 = texts.Base64
-text_notation Base64Url = texts.Base64
+-- the notation of lines, as one of files
+abbrev pub line_notation : TextNotation → Notation
+line_notation texts.Hex = Hex
+line_notation texts.Base64 = Base64
+line_notation texts.Base64Url = Base64Url

@@ -1,5 +1,8 @@
 -- Rewrappings that change the form of a wrapped key, and those that keep it: under E before, under F after.
 use Rattle.std.specs.Prelude.{◌≡◌, ◌⊎◌, Bool, true, false, ℕ, List, length, Result, Ok, Err}
+use Rattle.key_lines.specs.Answers.{Answer}
+use Rattle.key_lines.specs.declared.job.Mark.{Mark}
+use Rattle.key_lines.specs.declared.job.Mark.TheVariants.{Unmarked, Marked}
 use Rattle.key_wrap.specs.Forms.{IsTextLengthAs, StandsAs, StandsIn, by_default}
 use Rattle.key_wrap.specs.KeepForm.{HasNoForm, IsSomeTextLength}
 use Rattle.key_wrap.specs.Rewrap.{HasBadLength, HasNoWrapping}
@@ -89,3 +92,14 @@ abbrev pub Makes : Bool → RewrapForms → (List ℕ → List ℕ) → (List �
 Makes false forms E F text answer = Rewraps forms E F text answer
 Makes true forms E F text (Ok answer) = IsRewrappedOrPassed forms E F text answer
 Makes true forms E F text (Err refusal) = Rewraps forms E F text (Err refusal) × (IsNoOld forms E text → IsNoNew forms F text)
+
+-- how the answer is marked: what was rewrapped is not, and what was passed is
+abbrev pub HasPassMark : RewrapForms → (List ℕ → List ℕ) → (List ℕ → List ℕ) → List ℕ → List ℕ → Mark → Type 0
+HasPassMark forms E F text answer Unmarked = IsRewrappedAs forms E F text answer
+HasPassMark forms E F text answer Marked = IsPassed forms E F text answer
+
+-- what a rewrapping makes of the text, with its mark
+abbrev pub MakesMarked : Bool → RewrapForms → (List ℕ → List ℕ) → (List ℕ → List ℕ) → List ℕ → Result Answer InPlaceFault → Type 0
+MakesMarked pass_new forms E F text (Ok answer) =
+    Makes pass_new forms E F text (Ok answer.text) × HasPassMark forms E F text answer.text answer.mark
+MakesMarked pass_new forms E F text (Err refusal) = Makes pass_new forms E F text (Err refusal)

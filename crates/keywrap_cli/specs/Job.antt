@@ -5,11 +5,12 @@ use Rattle.std.specs.Io.KnownBytes.{Appends, Consumes}
 use Rattle.aes_block.specs.Cipher.{cipher}
 use Rattle.key_wrap.specs.Plain.{default_iv}
 use Rattle.key_wrap.specs.declared.forms.Form.TheVariants.{Plain}
-use Rattle.keywrap_cli.specs.Answers.{IsDone, JobAnswer, job_of}
+use Rattle.keywrap_cli.specs.Answers.{IsDone, JobAnswer, WritesFor, job_of}
 use Rattle.keywrap_cli.specs.Conversion.{IsKeyOf}
 use Rattle.keywrap_cli.specs.Engine.{AnswersInput, IsRefusedBefore, UnderKek}
 use Rattle.keywrap_cli.specs.Files.{Denotes, DenotesKek, printed}
 use Rattle.keywrap_cli.specs.Readings.{kek_fault_of}
+use Rattle.keywrap_cli.specs.declared.kek_file.KekRole.TheVariants.{Kek}
 use Rattle.keywrap_cli.specs.declared.convert.Direction.{Direction}
 use Rattle.keywrap_cli.specs.declared.job.Done.{Done}
 use Rattle.keywrap_cli.specs.declared.job.JobFault.{JobFault}
@@ -28,14 +29,28 @@ abbrev pub RunsJobWith : ℕ → Task → Option (List ℕ) → Option (List ℕ
 RunsJobWith iv task kek kek' input input' out out' answer =
     UnderKek task.kek kek kek'
     (λ K. AnswersInput task.input (JobAnswer iv task (cipher K)) (IsDone task.job) input input' out out' answer)
-    (λ fault. IsRefusedBefore (kek_fault_of fault) input input' out out' answer)
+    (λ fault. IsRefusedBefore (kek_fault_of Kek fault) input input' out out' answer)
 
 -- what a call of a job does under the default initial value
 abbrev pub RunsJob : Task → Option (List ℕ) → Option (List ℕ) → Option (List ℕ) → Option (List ℕ) → Option (List ℕ)
     → Option (List ℕ) → Result Done JobFault → Type 0
 RunsJob task kek kek' input input' out out' answer = RunsJobWith default_iv task kek kek' input input' out out' answer
 
--- The headline, of the bytes that a call took and wrote. The input was the wrapping, under AES of the KEK, of the
+-- The headline of each job, of the bytes that a call took and wrote. What was written is the job's answer to the bytes X of
+-- the input, under AES of the KEK: of a key its one wrapping, of a wrapping its one key, of a check the form of X.
+pub record WritesTheAnswer (iv : ℕ) (task : Task) (kek kek' input input' out out' : Option (List ℕ)) : Type 0 where
+  pub F : List ℕ
+  pub G : List ℕ
+  pub K : List ℕ
+  pub X : List ℕ
+  pub output : List ℕ
+  pub kek_taken : Consumes kek kek' F
+  pub input_taken : Consumes input input' G
+  pub files : DenoteBoth task F G K X
+  pub answer : WritesFor task.job iv task (cipher K) X output
+  pub written : Appends out out' output
+
+-- The headline of an unwrap, of the bytes that a call took and wrote. The input was the wrapping, under AES of the KEK, of the
 -- key that was written: that key alone has this wrapping, the key has no other, and no key has it in the other
 -- form. So wrapping the written key again restores the input.
 pub record WritesTheKeyWith (iv : ℕ) (task : Task) (kek kek' input input' out out' : Option (List ℕ)) : Type 0 where

@@ -6,7 +6,7 @@ pub mod Files
 pub mod Forms
 pub mod InitialValue
 pub mod Job
-pub mod Keyed
+pub mod Operation
 pub mod Lines
 pub mod Published
 pub mod Readings

@@ -3,14 +3,14 @@
 use Prim.Native.String.{String}
 use Rattle.std.specs.Prelude.{List, [], ◌∷◌, codes}
 use Rattle.key_wrap.specs.declared.forms.Form.TheVariants.{Plain, Padded}
-use Rattle.keywrap_cli.specs.declared.vector_table.Operation.{Operation}
-use Rattle.keywrap_cli.specs.declared.vector_table.Operation.TheVariants.{KeyWrap, Encryption}
+use Rattle.keywrap_cli.specs.declared.vector_table.Algorithm.{Algorithm}
+use Rattle.keywrap_cli.specs.declared.vector_table.Algorithm.TheVariants.{KeyWrap, Encryption}
 use Rattle.keywrap_cli.specs.Vectors.{TestVector}
 
-abbrev vector : String → Operation → String → String → String → TestVector
-vector name operation key input output = record {
+abbrev vector : String → Algorithm → String → String → String → TestVector
+vector name algorithm key input output = record {
   name = codes name;
-  operation = operation;
+  algorithm = algorithm;
   key = codes key;
   input = codes input;
   output = codes output;

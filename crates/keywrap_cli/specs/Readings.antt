@@ -1,5 +1,5 @@
 -- What the first two steps of a job answer: its KEK file is read to a KEK, and its input file to bytes.
-use Rattle.std.specs.Prelude.{◌≡◌, ◌<◌, ◌≤◌, ◌+◌, ◌↔◌, ⊤, ℕ, List, length, Option, Result, Ok, Err, Vec}
+use Rattle.std.specs.Prelude.{◌≡◌, ◌<◌, ◌≤◌, ◌+◌, ◌↔◌, ⊤, ℕ, List, length, Option, Some, None, Result, Ok, Err, Vec}
 use Rattle.std.specs.Io.KnownBytes.{Consumes, IsAtEnd}
 use Rattle.std.specs.declared.alloc.Global.{Global}
 use Rattle.aes_block.specs.KeyExpansion.{IsKekLength}
@@ -8,32 +8,26 @@ use Rattle.key_files.specs.declared.fault.FileFault.TheVariants as files
 use Rattle.keywrap_cli.specs.Files.{Denotes, IsRefused, DenotesKek}
 use Rattle.keywrap_cli.specs.declared.job.JobFault.{JobFault}
 use Rattle.keywrap_cli.specs.declared.job.JobFault.TheVariants.{KekFile, KekLength, NewKekFile, NewKekLength, InputFile, Memory}
-use Rattle.keywrap_cli.specs.declared.kek_file.KekFault.{KekFault}
-use Rattle.keywrap_cli.specs.declared.kek_file.KekFault.TheVariants.{File, Length}
+use Rattle.keywrap_cli.specs.declared.kek_file.KekRole.{KekRole}
+use Rattle.keywrap_cli.specs.declared.kek_file.KekRole.TheVariants.{Kek, NewKek}
 use Rattle.keywrap_cli.specs.declared.job.Notation.{Notation}
 
--- the KEK, or why there is none, for the bytes F that were taken, with what is left in the reader
-abbrev pub KekAnswer : Notation → List ℕ → Option (List ℕ) → Result (List ℕ) KekFault → Type 0
+-- the KEK, or why there is none (the file's fault, or its length), for the bytes F that were taken, with what is left in the reader
+abbrev pub KekAnswer : Notation → List ℕ → Option (List ℕ) → Result (List ℕ) (Option FileFault) → Type 0
 KekAnswer notation F left (Ok K) = DenotesKek notation F K × IsAtEnd left
-KekAnswer notation F left (Err (File files.Read)) = ⊤
-KekAnswer notation F left (Err (File files.Memory)) = ⊤
-KekAnswer notation F left (Err (File files.TooLong)) = IsRefused notation F files.TooLong
-KekAnswer notation F left (Err (File fault)) = IsRefused notation F fault × IsAtEnd left
-KekAnswer notation F left (Err Length) =
+KekAnswer notation F left (Err (Some files.Read)) = ⊤
+KekAnswer notation F left (Err (Some files.Memory)) = ⊤
+KekAnswer notation F left (Err (Some files.TooLong)) = IsRefused notation F files.TooLong
+KekAnswer notation F left (Err (Some fault)) = IsRefused notation F fault × IsAtEnd left
+KekAnswer notation F left (Err None) =
     ((K : List ℕ) × Denotes notation F K × ¬ IsKekLength (length K)) × IsAtEnd left
 
--- the KEK that bytes are, or their refusal
-abbrev pub MakesKek : List ℕ → Result (List ℕ) KekFault → Type 0
-MakesKek bytes (Ok K) = (K ≡ bytes) × IsKekLength (length bytes)
-MakesKek bytes (Err Length) = ¬ IsKekLength (length bytes)
-MakesKek bytes (Err (File fault)) = ⊥
-
 -- what the call that reads a KEK file takes from it, and answers
-pub record ReadsKek (notation : Notation) (old new : Option (List ℕ)) (answer : Result (List ℕ) KekFault) : Type 0 where
+pub record ReadsKek (notation : Notation) (old new : Option (List ℕ)) (answer : Result (List ℕ) (Option FileFault)) : Type 0 where
   pub taken : List ℕ
   pub stands_after : Consumes old new taken
   pub at_most : length taken ≤ 4194304 + 1
-  pub too_long : (answer ≡ Err (File files.TooLong)) ↔ (4194304 < length taken)
+  pub too_long : (answer ≡ Err (Some files.TooLong)) ↔ (4194304 < length taken)
   pub answers : KekAnswer notation taken new answer
 
 -- the input's bytes, or why there are none
@@ -60,11 +54,24 @@ abbrev pub named_fault_of : (FileFault → JobFault) → FileFault → JobFault
 named_fault_of name files.Memory = Memory
 named_fault_of name fault = name fault
 
--- a job's fault for that of its KEK, and a rewrapping's for that of its new KEK
-abbrev pub kek_fault_of : KekFault → JobFault
-kek_fault_of (File fault) = named_fault_of (λ f. KekFile f) fault
-kek_fault_of Length = KekLength
+-- an operation's fault for why there is no KEK
+abbrev pub kek_fault_of : KekRole → Option FileFault → JobFault
+kek_fault_of Kek (Some fault) = named_fault_of (λ f. KekFile f) fault
+kek_fault_of Kek None = KekLength
+kek_fault_of NewKek (Some fault) = named_fault_of (λ f. NewKekFile f) fault
+kek_fault_of NewKek None = NewKekLength
 
-abbrev pub new_kek_fault_of : KekFault → JobFault
-new_kek_fault_of (File fault) = named_fault_of (λ f. NewKekFile f) fault
-new_kek_fault_of Length = NewKekLength
+-- the KEK that bytes are, or the refusal of their length
+abbrev pub MakesKek : KekRole → List ℕ → Result (List ℕ) JobFault → Type 0
+MakesKek role bytes (Ok K) = (K ≡ bytes) × IsKekLength (length bytes)
+MakesKek role bytes (Err fault) = (fault ≡ kek_fault_of role None) × ¬ IsKekLength (length bytes)
+
+-- what the call answers that reads a KEK file: the KEK, or the operation's fault for why there is none
+abbrev pub IsOpened : KekRole → Result (List ℕ) (Option FileFault) → Result (List ℕ) JobFault → Type 0
+IsOpened role (Ok K) (Ok pair) = pair ≡ K
+IsOpened role (Err why) (Err fault) = fault ≡ kek_fault_of role why
+IsOpened role found answer = ⊥
+
+abbrev pub OpensKek : KekRole → Notation → Option (List ℕ) → Option (List ℕ) → Result (List ℕ) JobFault → Type 0
+OpensKek role notation old new answer =
+    (found : Result (List ℕ) (Option FileFault)) × ReadsKek notation old new found × IsOpened role found answer

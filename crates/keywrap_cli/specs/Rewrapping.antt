@@ -15,7 +15,7 @@ use Rattle.keywrap_cli.specs.declared.rewrapping.Rewrapping.{Rewrapping}
 
 -- a rewrapping in these forms that passes nothing, with the notations of the input and of both KEK files
 abbrev pub rewrapping : RewrapForms → Notation → Notation → Rewrapping
-rewrapping forms input kek = record { forms = forms; passes_new = false; input = input; kek = kek }
+rewrapping forms input kek = record { forms = forms; pass_new = false; input = input; kek = kek }
 
 -- What a call does. Of the old KEK's file, the new one's, the input and the writer it is said what is known before the call
 -- and after it.
@@ -48,5 +48,5 @@ pub record WritesTheNewText (task : Rewrapping) (kek kek' new new' input input' 
   pub new_kek_taken : Consumes new new' H
   pub input_taken : Consumes input input' G
   pub files : DenoteAll task F H G K L X
-  pub rewrapped : Makes task.passes_new task.forms (cipher K) (cipher L) X (Ok answer)
+  pub rewrapped : Makes task.pass_new task.forms (cipher K) (cipher L) X (Ok answer)
   pub written : Appends out out' (printed task.input answer)

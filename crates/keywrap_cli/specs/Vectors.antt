@@ -6,14 +6,14 @@ use Rattle.block_pair.specs.Words.{IsBlock}
 use Rattle.key_files.specs.Meaning.{hex_meaning}
 use Rattle.key_wrap.specs.Forms.{Stands}
 use Rattle.key_wrap.specs.Plain.{default_iv}
-use Rattle.keywrap_cli.specs.declared.vector_table.Operation.{Operation}
-use Rattle.keywrap_cli.specs.declared.vector_table.Operation.TheVariants.{KeyWrap, Encryption}
+use Rattle.keywrap_cli.specs.declared.vector_table.Algorithm.{Algorithm}
+use Rattle.keywrap_cli.specs.declared.vector_table.Algorithm.TheVariants.{KeyWrap, Encryption}
 use Rattle.keywrap_cli.specs.declared.vector_table.Vector.{Vector}
 
 -- a vector: its name, what takes its input to its output, and the hex texts of its key, its input and its output
 pub record TestVector : Type 0 where
   pub name : List ℕ
-  pub operation : Operation
+  pub algorithm : Algorithm
   pub key : List ℕ
   pub input : List ℕ
   pub output : List ℕ
@@ -22,18 +22,18 @@ pub record TestVector : Type 0 where
 abbrev pub shown : Vector → TestVector
 shown v = record {
   name = v.name.now;
-  operation = v.operation;
+  algorithm = v.algorithm;
   key = v.key.now;
   input = v.input.now;
   output = v.output.now;
 }
 
--- the operation takes the input to the output, under E
-abbrev pub Takes : Operation → (List ℕ → List ℕ) → List ℕ → List ℕ → Type 0
+-- the algorithm takes the input to the output, under E
+abbrev pub Takes : Algorithm → (List ℕ → List ℕ) → List ℕ → List ℕ → Type 0
 Takes (KeyWrap form) E input output = Stands form default_iv E input output
 Takes Encryption E input output = IsBlock input × (E input ≡ output)
 
--- a vector is right: its texts denote a KEK of legal length, an input, and the output to which its operation takes
+-- a vector is right: its texts denote a KEK of legal length, an input, and the output to which its algorithm takes
 -- the input under AES of the KEK
 pub record IsRight (v : TestVector) : Type 0 where
   pub K : List ℕ
@@ -43,7 +43,7 @@ pub record IsRight (v : TestVector) : Type 0 where
   pub input : hex_meaning v.input ≡ Ok X
   pub output : hex_meaning v.output ≡ Ok Y
   pub legal : IsKekLength (length K)
-  pub takes : Takes v.operation (cipher K) X Y
+  pub takes : Takes v.algorithm (cipher K) X Y
 
 -- how a line ends
 abbrev pub verdict : Bool → List ℕ

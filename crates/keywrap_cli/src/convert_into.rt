@@ -4,11 +4,11 @@ ghost use Rattle.keywrap_cli.specs.Answers.{MakesConversion, OutcomeIs};
 
 use crate::convert::Direction;
 use block_pair::{BlockPair, Meter};
-use key_lines::Outcome;
 use key_wrap::{
     Form, InPlaceFault, InitialValue, key_length_ok, padded_length_ok, padded_text_length_ok,
     text_length_ok, unwrap_into_with, unwrap_padded_into, wrap_into_with, wrap_padded_into,
 };
+use std::alloc::AllocError;
 
 // The bytes of a word.
 const WORD: usize = 8;
@@ -21,7 +21,7 @@ pub fn convert_into<B: BlockPair>(
     pair: &B,
     input: &[u8],
     output: &mut Vec<u8>,
-) -> Outcome<InPlaceFault>
+) -> Result<Result<(), InPlaceFault>, AllocError>
     ensures { OutcomeIs (MakesConversion direction form iv.now (B.encrypted pair.now)
         input.now) output.new.items result }
 {
@@ -38,19 +38,17 @@ fn wrap_plain<B: BlockPair>(
     pair: &B,
     key: &[u8],
     text: &mut Vec<u8>,
-) -> Outcome<InPlaceFault>
+) -> Result<Result<(), InPlaceFault>, AllocError>
     ensures { OutcomeIs (MakesConversion Direction.Wrap Form.Plain iv.now (B.encrypted pair.now)
         key.now) text.new.items result }
 {
     if !key_length_ok(key.len()) {
-        return Outcome::Refused(InPlaceFault::BadLength);
+        return Ok(Err(InPlaceFault::BadLength));
     }
-    if text.resize(key.len() + WORD, 0).is_err() {
-        return Outcome::Memory;
-    }
+    text.resize(key.len() + WORD, 0)?;
     match wrap_into_with(&mut Meter::new(pair), iv, key, text) {
-        Ok(()) => Outcome::Answer,
-        Err(refusal) => Outcome::Refused(refusal),
+        Ok(()) => Ok(Ok(())),
+        Err(refusal) => Ok(Err(refusal)),
     }
 }
 
@@ -60,20 +58,18 @@ fn wrap_padded<B: BlockPair>(
     pair: &B,
     key: &[u8],
     text: &mut Vec<u8>,
-) -> Outcome<InPlaceFault>
+) -> Result<Result<(), InPlaceFault>, AllocError>
     ensures { OutcomeIs (MakesConversion Direction.Wrap Form.Padded iv.now (B.encrypted pair.now)
         key.now) text.new.items result }
 {
     if !padded_length_ok(key.len()) {
-        return Outcome::Refused(InPlaceFault::BadLength);
+        return Ok(Err(InPlaceFault::BadLength));
     }
     let len = WORD + key.len().next_multiple_of(WORD);
-    if text.resize(len, 0).is_err() {
-        return Outcome::Memory;
-    }
+    text.resize(len, 0)?;
     match wrap_padded_into(&mut Meter::new(pair), key, text) {
-        Ok(()) => Outcome::Answer,
-        Err(refusal) => Outcome::Refused(refusal),
+        Ok(()) => Ok(Ok(())),
+        Err(refusal) => Ok(Err(refusal)),
     }
 }
 
@@ -82,19 +78,17 @@ fn unwrap_plain<B: BlockPair>(
     pair: &B,
     text: &[u8],
     key: &mut Vec<u8>,
-) -> Outcome<InPlaceFault>
+) -> Result<Result<(), InPlaceFault>, AllocError>
     ensures { OutcomeIs (MakesConversion Direction.Unwrap Form.Plain iv.now (B.encrypted pair.now)
         text.now) key.new.items result }
 {
     if !text_length_ok(text.len()) {
-        return Outcome::Refused(InPlaceFault::BadLength);
+        return Ok(Err(InPlaceFault::BadLength));
     }
-    if key.resize(text.len() - WORD, 0).is_err() {
-        return Outcome::Memory;
-    }
+    key.resize(text.len() - WORD, 0)?;
     match unwrap_into_with(&mut Meter::new(pair), iv, text, key) {
-        Ok(()) => Outcome::Answer,
-        Err(refusal) => Outcome::Refused(refusal),
+        Ok(()) => Ok(Ok(())),
+        Err(refusal) => Ok(Err(refusal)),
     }
 }
 
@@ -103,21 +97,19 @@ fn unwrap_padded<B: BlockPair>(
     pair: &B,
     text: &[u8],
     key: &mut Vec<u8>,
-) -> Outcome<InPlaceFault>
+) -> Result<Result<(), InPlaceFault>, AllocError>
     ensures { OutcomeIs (MakesConversion Direction.Unwrap Form.Padded iv.now (B.encrypted pair.now)
         text.now) key.new.items result }
 {
     if !padded_text_length_ok(text.len()) {
-        return Outcome::Refused(InPlaceFault::BadLength);
+        return Ok(Err(InPlaceFault::BadLength));
     }
-    if key.resize(text.len() - WORD, 0).is_err() {
-        return Outcome::Memory;
-    }
+    key.resize(text.len() - WORD, 0)?;
     match unwrap_padded_into(&mut Meter::new(pair), text, key) {
         Ok(len) => {
             key.truncate(len);
-            Outcome::Answer
+            Ok(Ok(()))
         }
-        Err(refusal) => Outcome::Refused(refusal),
+        Err(refusal) => Ok(Err(refusal)),
     }
 }

@@ -6,7 +6,7 @@ use crate::job::JobFault;
 use crate::report::VectorsFault;
 use crate::statuses;
 use key_files::{FileFault, HexWriteFault, WriteFault};
-use key_lines::LineFault;
+use key_lines::{LineFault, RefusedLine};
 use key_wrap::InPlaceFault;
 use std::alloc::AllocError;
 use std::fmt;
@@ -16,14 +16,11 @@ use thiserror::Error;
 #[derive(Debug, Drop, Error)]
 pub enum ProgramFault {
     /// The text of `--iv` was refused.
-    #[error("{0}")]
+    #[error("--iv {0}")]
     Iv(IvFault),
-    /// The text of `--new-iv` is not 16 hex digits.
-    #[error("--new-iv is not 16 hex digits")]
-    NewIvDigits,
-    /// The value of `--new-iv` begins as that of the padded form.
-    #[error("--new-iv is reserved for the padded form")]
-    NewIvReserved,
+    /// The text of `--new-iv` was refused.
+    #[error("--new-iv {0}")]
+    NewIv(IvFault),
     /// The KEK file can't be opened.
     #[error("key file: cannot be opened")]
     KekOpen,
@@ -44,7 +41,7 @@ pub enum ProgramFault {
     Job(JobFault),
     /// A line of the input was refused.
     #[error("{0}")]
-    Line(RefusedLine),
+    Line(RefusedLine<InPlaceFault>),
     /// The input has no line.
     #[error("no lines")]
     NoLines,
@@ -60,23 +57,6 @@ pub enum ProgramFault {
     /// An allocation failed.
     #[error("out of memory")]
     Memory,
-}
-
-/// A line of the input, counted from 1, and why it was refused.
-#[derive(Clone, Copy, Debug)]
-pub struct RefusedLine {
-    pub line: u64,
-    pub fault: LineFault<InPlaceFault>,
-}
-
-impl fmt::Display for RefusedLine {
-    fn fmt<W: fmt::Write>(&self, f: &mut fmt::Formatter<W>) -> fmt::Result {
-        let line = self.line;
-        match self.fault {
-            LineFault::Input(fault) => write!(f, "line {line}: {fault}"),
-            LineFault::Refused(refusal) => write!(f, "line {line}: {refusal}"),
-        }
-    }
 }
 
 /// A fault's line on standard error: the program's name, and the fault's message.
@@ -99,10 +79,8 @@ impl ProgramFault {
     /// The exit status that says the fault.
     pub fn status(&self) -> u8 {
         match self {
-            ProgramFault::Iv(_)
-            | ProgramFault::NewIvDigits
-            | ProgramFault::NewIvReserved
-            | ProgramFault::RawToTerminal => statuses::REFUSED_WORDS,
+            ProgramFault::Iv(_) | ProgramFault::NewIv(_) | ProgramFault::RawToTerminal =>
+                statuses::REFUSED_WORDS,
             ProgramFault::KekOpen
             | ProgramFault::NewKekOpen
             | ProgramFault::InputOpen

@@ -11,10 +11,10 @@ use thiserror::Error;
 #[derive(Clone, Copy, Debug, PartialEq, Error)]
 pub enum IvFault {
     /// The text is not 16 hex digits.
-    #[error("--iv is not 16 hex digits")]
+    #[error("is not 16 hex digits")]
     NotSixteenDigits,
     /// The value begins as that of the padded form (RFC 5649, section 3).
-    #[error("--iv is reserved for the padded form")]
+    #[error("is reserved for the padded form")]
     Reserved,
 }
 

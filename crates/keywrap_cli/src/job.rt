@@ -1,18 +1,18 @@
 //! The jobs: what is done with an input under a KEK.
 
 ghost use Rattle.std.specs.Prelude.{◌≡◌, IsOk};
-ghost use Rattle.keywrap_cli.specs.Job.{RunsJob, RunsJobWith, WritesTheKey, WritesTheKeyWith};
-ghost use Rattle.keywrap_cli.specs.Job.{plain_task};
-ghost use Rattle.keywrap_cli.specs.Answers.{job_of};
+ghost use Rattle.keywrap_cli.specs.Job.{RunsJob, RunsJobWith, WritesTheAnswer, WritesTheKey};
+ghost use Rattle.keywrap_cli.specs.Job.{WritesTheKeyWith, plain_task};
+ghost use Rattle.keywrap_cli.specs.Answers.{done_of, job_of};
 
 use crate::convert::Direction;
-use crate::engine::{job_answer, run_input};
-use crate::kek_file::{kek_fault, read_kek};
+use crate::engine::run_input;
+use crate::kek_file::{KekRole, read_kek};
 use crate::key_job::KeyJob;
 use key_files::FileFault;
+use key_lines::Mark;
 use key_wrap::{Form, InitialValue};
 use std::alloc::Global;
-use std::cell::Cell;
 use std::io::{Read, Write};
 use thiserror::Error;
 
@@ -177,21 +177,35 @@ pub fn run<K: Read, R: Read, W: Write>(
     ensures run { RunsJobWith iv.now task (K.remaining kek.old) (K.remaining kek.new)
         (R.remaining input.old) (R.remaining input.new)
         (W.contents out.old) (W.contents out.new) result }
+    ensures answer { IsOk result → WritesTheAnswer iv.now task
+        (K.remaining kek.old) (K.remaining kek.new) (R.remaining input.old) (R.remaining input.new)
+        (W.contents out.old) (W.contents out.new) }
     ensures headline { task.job ≡ Job.Unwrap → IsOk result
         → WritesTheKeyWith iv.now task (K.remaining kek.old) (K.remaining kek.new)
         (R.remaining input.old) (R.remaining input.new) (W.contents out.old) (W.contents out.new) }
 {
-    let pair = match read_kek(alloc, task.kek, kek) {
+    let pair = match read_kek(alloc, KekRole::Kek, task.kek, kek) {
         Ok(pair) => pair,
-        Err(fault) => return Err(kek_fault(fault)),
+        Err(fault) => return Err(fault),
     };
     let job = KeyJob {
         alloc,
         iv: *iv,
         task,
         pair,
-        neither: Cell::new(false),
     };
-    let outcome = run_input(alloc, task.input, &job, input, out);
-    job_answer(task.job, outcome)
+    match run_input(alloc, task.input, &job, input, out) {
+        Ok(mark) => Ok(done_of(mark)),
+        Err(fault) => Err(fault),
+    }
+}
+
+// What is done where an answer has this mark.
+fn done_of(mark: Mark) -> Done
+    ensures { result ≡ done_of mark }
+{
+    match mark {
+        Mark::Unmarked => Done::Written,
+        Mark::Marked => Done::Neither,
+    }
 }

@@ -1,8 +1,7 @@
 //! The KEK that a file denotes.
 
-ghost use Rattle.std.specs.Prelude.{◌≡◌};
-ghost use Rattle.keywrap_cli.specs.Readings.{MakesKek, ReadsKek};
-ghost use Rattle.keywrap_cli.specs.Readings.{kek_fault_of, new_kek_fault_of};
+ghost use Rattle.std.specs.Prelude.{◌≡◌, Some, None};
+ghost use Rattle.keywrap_cli.specs.Readings.{MakesKek, OpensKek, kek_fault_of};
 
 use crate::files::read_file;
 use crate::job::{JobFault, Notation};
@@ -13,52 +12,54 @@ use std::io::Read;
 /// The block cipher of the program, which is named here alone.
 pub use aes_vector::VectorAes as Aes;
 
-/// Why a file gives no KEK. Its caller names which KEK it is.
+/// Which KEK of an operation it is.
 #[derive(Clone, Copy)]
-pub enum KekFault {
-    /// The file denotes no bytes, or an allocation failed while it was read.
-    File(FileFault),
-    /// What the file denotes is not 16, 24 or 32 bytes long.
-    Length,
+pub enum KekRole {
+    /// The KEK.
+    Kek,
+    /// The new KEK of a rewrap.
+    NewKek,
 }
 
-/// AES under the KEK that a file denotes.
-pub fn read_kek<K: Read>(alloc: Global, notation: Notation, kek: &mut K) -> Result<Aes, KekFault>
-    ensures { ReadsKek notation (K.remaining kek.old) (K.remaining kek.new) result }
+/// Reads a KEK file, and returns AES under its KEK.
+pub fn read_kek<K: Read>(
+    alloc: Global,
+    role: KekRole,
+    notation: Notation,
+    file: &mut K,
+) -> Result<Aes, JobFault>
+    ensures { OpensKek role notation (K.remaining file.old) (K.remaining file.new) result }
 {
-    match read_file(alloc, notation, kek) {
-        Ok(bytes) => under_kek(&bytes),
-        Err(fault) => Err(KekFault::File(fault)),
+    match read_file(alloc, notation, file) {
+        Ok(bytes) => aes_under(role, &bytes),
+        Err(fault) => Err(file_fault(role, fault)),
     }
 }
 
-fn under_kek(kek: &[u8]) -> Result<Aes, KekFault>
-    ensures { MakesKek kek.now result }
+fn aes_under(role: KekRole, kek: &[u8]) -> Result<Aes, JobFault>
+    ensures { MakesKek role kek.now result }
 {
     match Aes::new(kek) {
         Ok(aes) => Ok(aes),
-        Err(_) => Err(KekFault::Length),
+        Err(_) => Err(length_fault(role)),
     }
 }
 
-/// The fault of a job for one of its KEK.
-pub fn kek_fault(fault: KekFault) -> JobFault
-    ensures { result ≡ kek_fault_of fault }
+fn file_fault(role: KekRole, fault: FileFault) -> JobFault
+    ensures { result ≡ kek_fault_of role (Some fault) }
 {
-    match fault {
-        KekFault::File(FileFault::Memory) => JobFault::Memory,
-        KekFault::File(fault) => JobFault::KekFile(fault),
-        KekFault::Length => JobFault::KekLength,
+    match (role, fault) {
+        (_, FileFault::Memory) => JobFault::Memory,
+        (KekRole::Kek, fault) => JobFault::KekFile(fault),
+        (KekRole::NewKek, fault) => JobFault::NewKekFile(fault),
     }
 }
 
-/// The fault of a rewrapping for one of its new KEK.
-pub fn new_kek_fault(fault: KekFault) -> JobFault
-    ensures { result ≡ new_kek_fault_of fault }
+fn length_fault(role: KekRole) -> JobFault
+    ensures { result ≡ kek_fault_of role None }
 {
-    match fault {
-        KekFault::File(FileFault::Memory) => JobFault::Memory,
-        KekFault::File(fault) => JobFault::NewKekFile(fault),
-        KekFault::Length => JobFault::NewKekLength,
+    match role {
+        KekRole::Kek => JobFault::KekLength,
+        KekRole::NewKek => JobFault::NewKekLength,
     }
 }

@@ -2,18 +2,15 @@
 
 ghost use Rattle.std.specs.Prelude.{IsOk};
 ghost use Rattle.key_wrap.specs.Forms.{by_default};
-ghost use Rattle.keywrap_cli.specs.Answers.{IsWritten};
-ghost use Rattle.keywrap_cli.specs.Engine.{IsDoneAs, output_of};
 ghost use Rattle.keywrap_cli.specs.Rewrapping.{RunsRewrap, WritesTheNewText, rewrapping};
 
 use crate::engine::run_input;
 use crate::job::{Done, JobFault, Notation};
-use crate::kek_file::{kek_fault, new_kek_fault, read_kek};
+use crate::kek_file::{KekRole, read_kek};
 use crate::rewrap_job::RewrapJob;
 use crate::rewrapping::{RewrapForms, Rewrapping};
 use key_wrap::{AgreedForm, Form};
 use std::alloc::Global;
-use std::cell::Cell;
 use std::io::{Read, Write};
 
 /// Reads the old KEK, the new KEK and a wrapped key under the old one, and writes the wrapping of
@@ -60,45 +57,7 @@ pub fn run_rewrap<K: Read, N: Read, R: Read, W: Write>(
     };
     let task = Rewrapping {
         forms,
-        passes_new: false,
-        input: input_notation,
-        kek: kek_notation,
-    };
-    rewrap(alloc, &task, old_kek, new_kek, input, out)
-}
-
-/// `run_rewrap`, but the wrapped key is taken in whichever form it is a wrapping, and keeps that
-/// form.
-///
-/// It answers as `run_rewrap` does: BadLength where the wrapped key's length is legal in neither
-/// form, and Integrity where it is a wrapping in neither.
-pub fn run_rewrap_keeping_form<K: Read, N: Read, R: Read, W: Write>(
-    alloc: Global,
-    input_notation: Notation,
-    kek_notation: Notation,
-    old_kek: &mut K,
-    new_kek: &mut N,
-    input: &mut R,
-    out: &mut W,
-) -> Result<Done, JobFault>
-    ensures run { RunsRewrap (rewrapping RewrapForms.Kept input_notation kek_notation)
-        (K.remaining old_kek.old) (K.remaining old_kek.new)
-        (N.remaining new_kek.old) (N.remaining new_kek.new)
-        (R.remaining input.old) (R.remaining input.new)
-        (W.contents out.old) (W.contents out.new) result }
-
-    // What is written wraps exactly the key that the input was the wrapping of, in the form of the
-    // input, which is one form alone.
-    ensures headline { IsOk result
-        → WritesTheNewText (rewrapping RewrapForms.Kept input_notation kek_notation)
-        (K.remaining old_kek.old) (K.remaining old_kek.new)
-        (N.remaining new_kek.old) (N.remaining new_kek.new)
-        (R.remaining input.old) (R.remaining input.new)
-        (W.contents out.old) (W.contents out.new) }
-{
-    let task = Rewrapping {
-        forms: RewrapForms::Kept,
-        passes_new: false,
+        pass_new: false,
         input: input_notation,
         kek: kek_notation,
     };
@@ -124,28 +83,20 @@ pub fn rewrap<K: Read, N: Read, R: Read, W: Write>(
         (R.remaining input.old) (R.remaining input.new)
         (W.contents out.old) (W.contents out.new) }
 {
-    let old = match read_kek(alloc, task.kek, old_kek) {
+    let old = match read_kek(alloc, KekRole::Kek, task.kek, old_kek) {
         Ok(old) => old,
-        Err(fault) => return Err(kek_fault(fault)),
+        Err(fault) => return Err(fault),
     };
-    let new = match read_kek(alloc, task.kek, new_kek) {
+    let new = match read_kek(alloc, KekRole::NewKek, task.kek, new_kek) {
         Ok(new) => new,
-        Err(fault) => return Err(new_kek_fault(fault)),
+        Err(fault) => return Err(fault),
     };
     let job = RewrapJob {
         task: *task,
         old,
         new,
-        passed: Cell::new(0),
     };
-    let outcome = run_input(alloc, task.input, &job, input, out);
-    rewrap_answer(outcome)
-}
-
-fn rewrap_answer(outcome: Result<Vec<u8>, JobFault>) -> Result<Done, JobFault>
-    ensures { IsDoneAs IsWritten (output_of outcome) result }
-{
-    match outcome {
+    match run_input(alloc, task.input, &job, input, out) {
         Ok(_) => Ok(Done::Written),
         Err(fault) => Err(fault),
     }

@@ -2,18 +2,18 @@
 
 ghost use Rattle.std.specs.Prelude.{◌≡◌, ◌↔◌, IsTrue, length, true};
 ghost use Rattle.key_lines.specs.Answers.{made};
-ghost use Rattle.keywrap_cli.specs.Answers.{OutcomeIs, RewrappingAnswer};
-ghost use Rattle.keywrap_cli.specs.Forms.{IsOldLength, Makes, Rewraps, to_itself};
+ghost use Rattle.keywrap_cli.specs.Answers.{AnswerIs, RewrappingAnswer};
+ghost use Rattle.keywrap_cli.specs.Forms.{IsOldLength, MakesMarked, Rewraps, to_itself};
 
 use crate::engine::print_in;
 use crate::rewrapping::{RewrapForms, Rewrapping};
 use block_pair::{BlockPair, Meter};
-use key_lines::{LineJob, Outcome};
+use key_lines::{LineJob, Mark};
 use key_wrap::{
     AgreedForm, InPlaceFault, padded_text_length_ok, rewrap_in_place_with,
     rewrap_keeping_form_in_place, text_length_ok,
 };
-use std::cell::Cell;
+use std::alloc::AllocError;
 
 /// A rewrapping from the old pair to the new one.
 #[derive(Drop)]
@@ -21,8 +21,6 @@ pub struct RewrapJob<O: BlockPair, N: BlockPair> {
     pub task: Rewrapping,
     pub old: O,
     pub new: N,
-    /// How many were passed.
-    pub passed: Cell<u64>,
 }
 
 impl<O: BlockPair, N: BlockPair> LineJob for RewrapJob<O, N> {
@@ -31,15 +29,12 @@ impl<O: BlockPair, N: BlockPair> LineJob for RewrapJob<O, N> {
     ghost answers = { λ job text answer. RewrappingAnswer job.task
         (O.encrypted job.old) (N.encrypted job.new) text answer };
 
-    fn answer(&self, bytes: &mut Vec<u8>, output: &mut Vec<u8>) -> Outcome<InPlaceFault> {
-        answer_rewrapping(
-            &self.task,
-            &self.old,
-            &self.new,
-            &self.passed,
-            bytes,
-            output,
-        )
+    fn answer(
+        &self,
+        bytes: &mut Vec<u8>,
+        output: &mut Vec<u8>,
+    ) -> Result<Result<Mark, InPlaceFault>, AllocError> {
+        answer_rewrapping(&self.task, &self.old, &self.new, bytes, output)
     }
 }
 
@@ -48,21 +43,19 @@ fn answer_rewrapping<O: BlockPair, N: BlockPair>(
     task: &Rewrapping,
     old: &O,
     new: &N,
-    passed: &Cell<u64>,
     bytes: &mut Vec<u8>,
     output: &mut Vec<u8>,
-) -> Outcome<InPlaceFault>
-    ensures { OutcomeIs (RewrappingAnswer task.now (O.encrypted old.now) (N.encrypted new.now)
+) -> Result<Result<Mark, InPlaceFault>, AllocError>
+    ensures { AnswerIs (RewrappingAnswer task.now (O.encrypted old.now) (N.encrypted new.now)
         bytes.old.items) output.new.items result }
 {
-    let outcome = make(task, old, new, passed, bytes, output);
-    if !matches!(outcome, Outcome::Answer) {
-        return outcome;
-    }
-    match print_in(task.input, bytes, output) {
-        Ok(()) => Outcome::Answer,
-        Err(_) => Outcome::Memory,
-    }
+    let mark = match make(task, old, new, bytes, output) {
+        Ok(Ok(mark)) => mark,
+        Ok(Err(refusal)) => return Ok(Err(refusal)),
+        Err(fault) => return Err(fault),
+    };
+    print_in(task.input, bytes, output)?;
+    Ok(Ok(mark))
 }
 
 // Makes the answer in the buffer of the text.
@@ -70,19 +63,18 @@ fn make<O: BlockPair, N: BlockPair>(
     task: &Rewrapping,
     old: &O,
     new: &N,
-    passed: &Cell<u64>,
     text: &mut Vec<u8>,
     spare: &mut Vec<u8>,
-) -> Outcome<InPlaceFault>
-    ensures { OutcomeIs (Makes task.now.passes_new task.now.forms (O.encrypted old.now)
+) -> Result<Result<Mark, InPlaceFault>, AllocError>
+    ensures { AnswerIs (MakesMarked task.now.pass_new task.now.forms (O.encrypted old.now)
         (N.encrypted new.now) text.old.items) text.new.items result }
 {
-    if task.passes_new {
-        return rewrap_or_pass(&task.forms, old, new, passed, text, spare);
+    if task.pass_new {
+        return rewrap_or_pass(&task.forms, old, new, text, spare);
     }
     match rewrap_bytes(&task.forms, old, new, text) {
-        Ok(()) => Outcome::Answer,
-        Err(refusal) => Outcome::Refused(refusal),
+        Ok(()) => Ok(Ok(Mark::Unmarked)),
+        Err(refusal) => Ok(Err(refusal)),
     }
 }
 
@@ -91,31 +83,27 @@ fn rewrap_or_pass<O: BlockPair, N: BlockPair>(
     forms: &RewrapForms,
     old: &O,
     new: &N,
-    passed: &Cell<u64>,
     text: &mut Vec<u8>,
     spare: &mut Vec<u8>,
-) -> Outcome<InPlaceFault>
-    ensures { OutcomeIs (Makes true forms.now (O.encrypted old.now) (N.encrypted new.now)
+) -> Result<Result<Mark, InPlaceFault>, AllocError>
+    ensures { AnswerIs (MakesMarked true forms.now (O.encrypted old.now) (N.encrypted new.now)
         text.old.items) text.new.items result }
 {
     spare.clear();
-    if spare.extend_from_slice(text).is_err() {
-        return Outcome::Memory;
-    }
+    spare.extend_from_slice(text)?;
     let refusal = match rewrap_bytes(forms, old, new, text) {
-        Ok(()) => return Outcome::Answer,
+        Ok(()) => return Ok(Ok(Mark::Unmarked)),
         Err(refusal) => refusal,
     };
     if has_old_length(forms, refusal, spare.len()) {
-        return Outcome::Refused(refusal);
+        return Ok(Err(refusal));
     }
     match rewrap_bytes(&to_itself(forms), new, new, spare) {
         Ok(()) => {
-            passed.set(passed.get().saturating_add(1));
             std::mem::swap(text, spare);
-            Outcome::Answer
+            Ok(Ok(Mark::Marked))
         }
-        Err(_) => Outcome::Refused(refusal),
+        Err(_) => Ok(Err(refusal)),
     }
 }
 

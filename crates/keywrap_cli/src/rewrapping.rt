@@ -23,7 +23,7 @@ pub struct Rewrapping {
     /// The forms of the wrapped key and of the new one.
     pub forms: RewrapForms,
     /// What is wrapped under the new KEK already, in the form of an answer, is answered as it is.
-    pub passes_new: bool,
+    pub pass_new: bool,
     /// The notation of the input and of the output.
     pub input: Notation,
     /// The notation of both KEK files.

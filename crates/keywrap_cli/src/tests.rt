@@ -9,7 +9,7 @@ mod faults;
 mod hostile;
 mod initial_values;
 mod jobs;
-mod keyed;
+mod operations;
 mod rewraps;
 mod standards;
 mod vectors;

@@ -10,13 +10,13 @@ ghost use Rattle.keywrap_cli.specs.Vectors.{IsRight, Takes, shown};
 
 use crate::convert::{Direction, convert};
 use crate::kek_file::Aes;
-use crate::vector_table::{Operation, Vector};
+use crate::vector_table::{Algorithm, Vector};
 use block_pair::BlockPair;
 use key_files::{FileFault, decode_hex};
 use key_wrap::{Form, InitialValue, UnwrapFault};
 use std::alloc::{AllocError, Global};
 
-/// Whether a vector's texts denote a KEK, an input and the output to which its operation takes the
+/// Whether a vector's texts denote a KEK, an input and the output to which its algorithm takes the
 /// input under AES of the KEK.
 pub fn is_right(alloc: Global, vector: &Vector<'_>) -> Result<bool, AllocError>
     ensures { IfOk result (λ right. IsTrue right ↔ IsRight (shown vector.now)) }
@@ -33,7 +33,7 @@ pub fn is_right(alloc: Global, vector: &Vector<'_>) -> Result<bool, AllocError>
     let Ok(aes) = Aes::new(&key) else {
         return Ok(false);
     };
-    takes(alloc, vector.operation, &aes, &input, &output)
+    takes(alloc, vector.algorithm, &aes, &input, &output)
 }
 
 // The bytes that a hex text denotes, if it denotes any.
@@ -51,20 +51,20 @@ fn bytes_of(alloc: Global, text: &str) -> Result<Option<Vec<u8>>, AllocError>
     }
 }
 
-// Whether an operation takes the input to the output, and its inverse takes the output back.
+// Whether an algorithm takes the input to the output, and its inverse takes the output back.
 fn takes<B: BlockPair>(
     alloc: Global,
-    operation: Operation,
+    algorithm: Algorithm,
     pair: &B,
     input: &[u8],
     output: &[u8],
 ) -> Result<bool, AllocError>
     ensures { IfOk result (λ right. IsTrue right
-        ↔ Takes operation (B.encrypted pair.now) input.now output.now) }
+        ↔ Takes algorithm (B.encrypted pair.now) input.now output.now) }
 {
-    match operation {
-        Operation::KeyWrap(form) => wraps(alloc, form, pair, input, output),
-        Operation::Encryption => Ok(encrypts(pair, input, output)),
+    match algorithm {
+        Algorithm::KeyWrap(form) => wraps(alloc, form, pair, input, output),
+        Algorithm::Encryption => Ok(encrypts(pair, input, output)),
     }
 }
 

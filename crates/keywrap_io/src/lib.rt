@@ -1,28 +1,24 @@
-//! The files and streams of the command `keywrap`: what is read is watched, so that a second line can
-//! say why it was refused; the file of `--output`, and what it may not replace; the progress of a run.
-//! What they do is tested over the built program.
+//! The files and streams of the command `keywrap`: what was read of a file, the reason of a refusal,
+//! the output file and the files that it must not replace, and the progress of a run. No contract
+//! covers them: the tests of the program do.
 #![tactic(auto)]
 
-mod advice;
-mod kek_files;
+mod file_role;
+mod inspected;
+mod line_counts;
+mod output;
 mod output_file;
-mod pem;
 mod progress;
-mod spared;
+mod protected;
+mod reason;
 mod streams;
-mod tally;
-mod text;
-mod watched;
-mod why;
 
-pub use advice::{Advice, Role};
-pub use kek_files::KekFiles;
-pub use output_file::{OutputFault, OutputFile, create};
-pub use pem::Pem;
-pub use progress::{Counted, Progress};
-pub use spared::{Spared, spare, spare_standard_input};
-pub use streams::{Closed, Held, Opened, hold_closed, is_closed, is_standard_input, open};
-pub use tally::Tally;
-pub use text::Text;
-pub use watched::{Seen, Watched};
-pub use why::Why;
+pub use file_role::FileRole;
+pub use inspected::{Inspected, Inspection, LooksLike};
+pub use line_counts::LineCounts;
+pub use output::Output;
+pub use output_file::{Access, OutputFault, OutputFile};
+pub use progress::{CountingReader, Progress};
+pub use protected::{FileId, Protected};
+pub use reason::Reason;
+pub use streams::{InputSource, StreamKind, Streams, is_standard_input, occupy, open, stream_kind};

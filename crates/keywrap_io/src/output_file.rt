@@ -1,25 +1,29 @@
-//! The file of --output: written whole beside the old one, and then put in its place.
+//! The file of --output: written whole beside the old file, and then renamed to its name.
 
-use crate::kek_files::{KekFiles, is_same};
-use crate::spared::Spared;
-use crate::watched::Watched;
-use crate::why::Why;
+use crate::protected::Protected;
+use crate::reason::Reason;
 use std::alloc::{AllocError, Global};
-use std::fs::{self, File, FileType, Metadata, OpenOptions, Permissions};
+use std::fs::{self, File, FileType, Metadata, OpenFile, OpenOptions, Permissions};
 use std::io;
 use std::os::unix::fs::{FileTypeExt, MetadataExt, OpenOptionsExt, PermissionsExt, fchown};
 use std::rt::Files;
 
-// How many names a new file may have, one after another.
-const PARTS: u8 = 100;
+// The new file has one of this many names until it is whole.
+const MAX_TEMPORARIES: u8 = 100;
+
+// The bits of a mode that say who may read, write and execute a file.
+const PERMISSIONS: u32 = 0o777;
+
+// Those of them for other users than the owner.
+const NOT_OWNER: u32 = 0o077;
 
 /// Why there is no new file, or why it did not take its place.
 #[derive(Clone, Copy)]
 pub enum OutputFault {
-    /// It can't be made, or may not replace what is there.
-    Open(Why),
-    /// It can't be synced or renamed, or its folder can't be synced.
-    Flush(Why),
+    /// It cannot be made, or must not replace the file that exists.
+    Open(Reason),
+    /// It cannot be synced or renamed, or its directory cannot be synced.
+    Flush(Reason),
     /// An allocation failed.
     Memory,
 }
@@ -30,249 +34,217 @@ impl From<AllocError> for OutputFault {
     }
 }
 
-/// A new file, which takes the place of a file or of none once it is whole.
+/// Who may use a new file.
+#[derive(Clone, Copy)]
+pub enum Access {
+    /// Only its owner.
+    Private,
+    /// It gets the owner, group and mode of the file that it replaces, if there is one.
+    LikeOld,
+}
+
+/// A new file, which takes the place of an old file or of none once it is whole.
 #[derive(Drop)]
 pub struct OutputFile<'a> {
-    /// The writer.
-    pub file: Watched<File>,
+    /// The new file.
+    pub file: File,
     name: &'a str,
-    part: String,
+    temporary: String,
 }
 
-/// Makes the new file beside the one that is named, for its owner alone, or, where `keeps` says so,
-/// with the owner, the group and the permissions of that one. What stands under that name has to be
-/// a regular file that is no KEK file of the run and is not spared, or nothing.
-pub fn create<'a, R: AllocGlobal + Files<File = File>, K>(
-    rt: &R,
-    name: &'a str,
-    keks: &KekFiles<'_, K>,
-    spared: Spared,
-    keeps: bool,
-) -> Result<OutputFile<'a>, OutputFault> {
-    let old = match replaced(rt, name, keks, spared) {
-        Ok(old) => old,
-        Err(why) => return Err(OutputFault::Open(why)),
-    };
-    let new = create_new(rt, name)?;
-    let made = match old {
-        Some(old) if keeps => make_like(&new.file.file, &old),
-        _ => look_private(&new.file.file),
-    };
-    new.unless(rt, made)
-}
-
-// Makes the first of its names that is free.
-fn create_new<'a, R: AllocGlobal + Files<File = File>>(
-    rt: &R,
-    name: &'a str,
-) -> Result<OutputFile<'a>, OutputFault> {
-    for number in 0..PARTS {
-        let part = part_name(rt.alloc(), name, number)?;
-        match open_new(rt, part.as_str()) {
-            Ok(file) => {
-                let file = Watched::new(file, true);
-                return Ok(OutputFile { file, name, part });
-            }
-            Err(error) if error.kind() == io::ErrorKind::AlreadyExists => {}
-            Err(error) => return Err(OutputFault::Open(Why::of(&error))),
-        }
-    }
-    Err(OutputFault::Open(Why::Says("files of its name with .part0 to .part99 are there")))
-}
-
-// What is replaced, if there is a file.
-fn replaced<R: Files<File = File>, K>(
-    rt: &R,
-    name: &str,
-    keks: &KekFiles<'_, K>,
-    spared: Spared,
-) -> Result<Option<Metadata>, Why> {
-    if name.is_empty() {
-        return Err(Why::Named);
-    }
-    match rt.symlink_metadata(name) {
-        Ok(old) => {
-            may_be_replaced(&old, keks)?;
-            spared.may_go(&old)?;
-            Ok(Some(old))
-        }
-        Err(error) if error.kind() == io::ErrorKind::NotFound => Ok(None),
-        Err(error) => Err(Why::of(&error)),
-    }
-}
-
-fn may_be_replaced<K>(old: &Metadata, keks: &KekFiles<'_, K>) -> Result<(), Why> {
-    if !old.is_file() {
-        return Err(Why::Is(kind_of(&old.file_type())));
-    }
-    match keks.which(old) {
-        Ok(None) => Ok(()),
-        Ok(Some(which)) => Err(Why::IsKek(which)),
-        Err(error) => Err(Why::of(&error)),
-    }
-}
-
-fn kind_of(kind: &FileType) -> &'static str {
-    if kind.is_dir() {
-        "a folder"
-    } else if kind.is_symlink() {
-        "a link"
-    } else if kind.is_fifo() {
-        "a pipe"
-    } else if kind.is_socket() {
-        "a socket"
-    } else {
-        "a device"
-    }
-}
-
-fn part_name(alloc: Global, name: &str, number: u8) -> Result<String, AllocError> {
-    format!(in alloc; "{name}.part{number}")
-}
-
-// Opens a file that was not there, for its owner alone.
-fn open_new<R: Files<File = File>>(rt: &R, name: &str) -> io::Result<File> {
-    let mut how = OpenOptions::new();
-    how.write(true);
-    how.create_new(true);
-    how.mode(0o600);
-    how.open(rt, name)
-}
-
-// The bits of a mode that say who may read, write and run a file.
-const PERMISSIONS: u32 = 0o777;
-
-// Gives a new file the owner, the group and then the permissions of an old one.
-fn make_like(new: &File, old: &Metadata) -> Result<(), Why> {
-    let made = new.metadata().map_err(unkept)?;
-    let owner = (made.uid() != old.uid()).then_some(old.uid());
-    let group = (made.gid() != old.gid()).then_some(old.gid());
-    if owner.is_some() || group.is_some() {
-        fchown(new, owner, group).map_err(unkept)?;
-    }
-    let permissions = old.mode() & PERMISSIONS;
-    if made.mode() & PERMISSIONS != permissions {
-        new.set_permissions(Permissions::from_mode(permissions))
-            .map_err(unkept)?;
-    }
-    if is_like(&new.metadata().map_err(unkept)?, old) {
-        Ok(())
-    } else {
-        Err(Why::Unkept(None))
-    }
-}
-
-// The bits of them that are for others than the owner.
-const OF_OTHERS: u32 = 0o077;
-
-// Looks whether a new file is for its owner alone: some file systems have one mode for all.
-fn look_private(new: &File) -> Result<(), Why> {
-    let made = new.metadata().map_err(unkept)?;
-    if made.mode() & OF_OTHERS == 0 {
-        Ok(())
-    } else {
-        Err(Why::Unkept(None))
-    }
-}
-
-fn unkept(error: io::Error) -> Why {
-    Why::Unkept(error.raw_os_error())
-}
-
-// Some file systems take a change and leave the file as it is.
-fn is_like(made: &Metadata, old: &Metadata) -> bool {
-    made.uid() == old.uid()
-        && made.gid() == old.gid()
-        && made.mode() & PERMISSIONS == old.mode() & PERMISSIONS
-}
-
-impl OutputFile<'_> {
-    // The new file, if it was made as it has to be; else it is removed.
-    fn unless<R: Files<File = File>>(
-        self,
+impl<'a> OutputFile<'a> {
+    /// Makes the new file beside the name. A file that has this name already must be a regular file
+    /// and not protected.
+    pub fn create<R: AllocGlobal + Files<File = File>>(
         rt: &R,
-        made: Result<(), Why>,
-    ) -> Result<Self, OutputFault> {
-        match made {
-            Ok(()) => Ok(self),
-            Err(why) => {
-                self.give_up(rt);
-                Err(OutputFault::Open(why))
+        name: &'a str,
+        protected: &Protected,
+        access: Access,
+    ) -> Result<OutputFile<'a>, OutputFault> {
+        let old = match existing_target(rt, name, protected) {
+            Ok(old) => old,
+            Err(reason) => return Err(OutputFault::Open(reason)),
+        };
+        let new = create_temporary(rt, name)?;
+        let set = match (old, access) {
+            (Some(old), Access::LikeOld) => copy_ownership(&new.file, &old),
+            (_, Access::LikeOld | Access::Private) => check_private(&new.file),
+        };
+        match set {
+            Ok(()) => Ok(new),
+            Err(reason) => {
+                new.discard(rt);
+                Err(OutputFault::Open(reason))
             }
         }
     }
 
-    /// Puts the new file, which is whole, in its place.
-    pub fn finish<R: Files<File = File>>(self, rt: &R) -> Result<(), OutputFault> {
-        match self.put(rt) {
-            Ok(()) => match sync_folder(rt, self.name) {
-                Ok(()) => Ok(()),
-                Err(why) => Err(OutputFault::Flush(why)),
-            },
-            Err(why) => {
-                self.give_up(rt);
-                Err(OutputFault::Flush(why))
+    /// Renames the new file, which is whole, to its name, and syncs its directory.
+    pub fn commit<R: Files<File = File>>(self, rt: &R) -> Result<(), OutputFault> {
+        match self.replace_target(rt) {
+            Ok(()) => sync_parent_directory(rt, self.name).map_err(OutputFault::Flush),
+            Err(reason) => {
+                self.discard(rt);
+                Err(OutputFault::Flush(reason))
             }
         }
     }
 
-    fn put<R: Files<File = File>>(&self, rt: &R) -> Result<(), Why> {
-        if let Err(error) = self.file.file.sync_all() {
-            return Err(Why::of(&error));
+    fn replace_target<R: Files<File = File>>(&self, rt: &R) -> Result<(), Reason> {
+        self.file.sync_all()?;
+        if !self.has_its_name(rt)? {
+            return Err(Reason::Text("the new file lost its name"));
         }
-        match self.has_its_name(rt) {
-            Ok(true) => {}
-            Ok(false) => return Err(Why::Says("the new file lost its name")),
-            Err(error) => return Err(Why::of(&error)),
-        }
-        match fs::rename(rt, self.part.as_str(), self.name) {
-            Ok(()) => Ok(()),
-            Err(error) => Err(Why::of(&error)),
-        }
+        fs::rename(rt, self.temporary.as_str(), self.name)?;
+        Ok(())
     }
 
-    // Whether the new file still has the name that it was made under: where someone removed it,
-    // that of another run may have it now.
+    // Returns whether the new file still has the name that it was made under. If someone removed
+    // it, the file of another run may have this name now.
     fn has_its_name<R: Files<File = File>>(&self, rt: &R) -> io::Result<bool> {
-        match rt.symlink_metadata(self.part.as_str()) {
-            Ok(there) => is_same(&self.file.file, &there),
+        match rt.symlink_metadata(self.temporary.as_str()) {
+            Ok(found) => {
+                let own = self.file.metadata()?;
+                Ok(own.dev() == found.dev() && own.ino() == found.ino())
+            }
             Err(error) if error.kind() == io::ErrorKind::NotFound => Ok(false),
             Err(error) => Err(error),
         }
     }
 
-    /// Removes the new file, as far as that can be done. What can't be looked at is taken for it.
-    pub fn give_up<R: Files<File = File>>(self, rt: &R) {
+    /// Removes the new file if possible, also if it is unknown whether it still has its name.
+    pub fn discard<R: Files<File = File>>(self, rt: &R) {
         if !matches!(self.has_its_name(rt), Ok(false)) {
-            let _ = fs::remove_file(rt, self.part.as_str());
+            let _ = fs::remove_file(rt, self.temporary.as_str());
         }
     }
 }
 
-// Syncs the folder of a file, so that its name is on the disk. Not each folder can be opened, nor each
-// that is open be synced.
-fn sync_folder<R: Files<File = File>>(rt: &R, name: &str) -> Result<(), Why> {
-    let Ok(folder) = fs::open(rt, folder_of(name)) else {
-        return Ok(());
-    };
-    match folder.sync_all() {
-        Ok(()) => Ok(()),
-        Err(error) if is_not_offered(error.kind()) => Ok(()),
-        Err(error) => Err(Why::of(&error)),
+// Makes a file with the first temporary name that is free.
+fn create_temporary<'a, R: AllocGlobal + Files<File = File>>(
+    rt: &R,
+    name: &'a str,
+) -> Result<OutputFile<'a>, OutputFault> {
+    for number in 0..MAX_TEMPORARIES {
+        let temporary = temporary_name(rt.alloc(), name, number)?;
+        match open_new(rt, temporary.as_str()) {
+            Ok(file) => {
+                return Ok(OutputFile {
+                    file,
+                    name,
+                    temporary,
+                });
+            }
+            Err(error) if error.kind() == io::ErrorKind::AlreadyExists => {}
+            Err(error) => return Err(OutputFault::Open(Reason::from(error))),
+        }
+    }
+    Err(OutputFault::Open(Reason::Text("files of its name with .part0 to .part99 are there")))
+}
+
+fn temporary_name(alloc: Global, name: &str, number: u8) -> Result<String, AllocError> {
+    format!(in alloc; "{name}.part{number}")
+}
+
+// Opens a file that did not exist, for its owner only.
+fn open_new<R: Files<File = File>>(rt: &R, name: &str) -> io::Result<File> {
+    let mut options = OpenOptions::new();
+    options.write(true);
+    options.create_new(true);
+    options.mode(0o600);
+    options.open(rt, name)
+}
+
+// Returns the file that will be replaced, if one exists.
+fn existing_target<R: Files<File = File>>(
+    rt: &R,
+    name: &str,
+    protected: &Protected,
+) -> Result<Option<Metadata>, Reason> {
+    if name.is_empty() {
+        return Err(Reason::NameOnly);
+    }
+    match rt.symlink_metadata(name) {
+        Ok(old) if !old.is_file() => Err(Reason::Text(describe_type(&old.file_type()))),
+        Ok(old) => {
+            protected.check(&old)?;
+            Ok(Some(old))
+        }
+        Err(error) if error.kind() == io::ErrorKind::NotFound => Ok(None),
+        Err(error) => Err(Reason::from(error)),
     }
 }
 
-fn is_not_offered(kind: io::ErrorKind) -> bool {
-    matches!(
-        kind,
-        io::ErrorKind::InvalidInput | io::ErrorKind::Unsupported
-    )
+fn describe_type(file_type: &FileType) -> &'static str {
+    if file_type.is_dir() {
+        "is a directory"
+    } else if file_type.is_symlink() {
+        "is a link"
+    } else if file_type.is_fifo() {
+        "is a pipe"
+    } else if file_type.is_socket() {
+        "is a socket"
+    } else {
+        "is a device"
+    }
 }
 
-// The name up to its last slash.
-fn folder_of(name: &str) -> &str {
+// Gives a new file the owner, the group and then the permissions of an old one. What is right already
+// is not set, since some file systems refuse that.
+fn copy_ownership(new: &File, old: &Metadata) -> Result<(), Reason> {
+    let made = new.metadata().map_err(ownership_error)?;
+    let owner = (made.uid() != old.uid()).then_some(old.uid());
+    let group = (made.gid() != old.gid()).then_some(old.gid());
+    if owner.is_some() || group.is_some() {
+        fchown(new, owner, group).map_err(ownership_error)?;
+    }
+    let permissions = old.mode() & PERMISSIONS;
+    if made.mode() & PERMISSIONS != permissions {
+        new.set_permissions(Permissions::from_mode(permissions))
+            .map_err(ownership_error)?;
+    }
+    // Some file systems accept a change and do nothing.
+    let set = new.metadata().map_err(ownership_error)?;
+    if set.uid() == old.uid() && set.gid() == old.gid() && set.mode() & PERMISSIONS == permissions {
+        Ok(())
+    } else {
+        Err(Reason::OwnershipNotKept(None))
+    }
+}
+
+// Checks that a new file is for its owner only: some file systems have one mode for all files.
+fn check_private(new: &File) -> Result<(), Reason> {
+    let made = new.metadata().map_err(ownership_error)?;
+    if made.mode() & NOT_OWNER == 0 {
+        Ok(())
+    } else {
+        Err(Reason::OwnershipNotKept(None))
+    }
+}
+
+fn ownership_error(error: io::Error) -> Reason {
+    Reason::OwnershipNotKept(error.raw_os_error())
+}
+
+// Syncs the directory of a file, so that the new name is on the disk. Some directories cannot be
+// opened, and some file systems cannot sync a directory.
+fn sync_parent_directory<R: Files<File = File>>(rt: &R, name: &str) -> Result<(), Reason> {
+    let Ok(directory) = fs::open(rt, parent_directory(name)) else {
+        return Ok(());
+    };
+    match directory.sync_all() {
+        Ok(()) => Ok(()),
+        Err(error) => match error.kind() {
+            io::ErrorKind::InvalidInput | io::ErrorKind::Unsupported => Ok(()),
+            _ => Err(Reason::from(error)),
+        },
+    }
+}
+
+// Returns the name up to its last slash.
+fn parent_directory(name: &str) -> &str {
     match name.trim_end_matches(|c| c != '/') {
         "" => ".",
-        folder => folder,
+        directory => directory,
     }
 }

@@ -1,80 +1,108 @@
-//! The standard streams, as the program starts, and standard input by its name.
+//! The standard streams as the program starts, and opening a file or standard input by name.
 
+use crate::protected::FileId;
 use std::fs::{self, File};
-use std::io::{self, PipeReader, Read};
+use std::io::{self, IsTerminal, PipeReader, Read};
 use std::os::fd::AsFd;
 use std::rt::Files;
 
-/// Which of the standard streams are closed.
+/// The standard streams as the program starts.
 #[derive(Clone, Copy)]
-pub struct Closed {
+pub struct Streams {
     /// Standard input.
-    pub input: bool,
+    pub input: StreamKind,
     /// Standard output.
-    pub output: bool,
+    pub output: StreamKind,
     /// Standard error.
-    pub error: bool,
+    pub error: StreamKind,
 }
 
-/// A closed descriptor can't be doubled.
-pub fn is_closed<F: AsFd>(stream: &F) -> bool {
-    stream.as_fd().try_clone_to_owned().is_err()
+/// What a standard stream is.
+#[derive(Clone, Copy)]
+pub enum StreamKind {
+    /// A terminal.
+    Terminal,
+    /// Closed.
+    Closed,
+    /// Something else, as a file or a pipe.
+    Other,
 }
 
-/// What stands in the place of the standard streams that are closed, so that no file that is opened
-/// later does: pipes without a writer, which read as empty and take no byte.
-#[derive(Drop)]
-pub struct Held {
-    _input: Option<PipeReader>,
-    _output: Option<PipeReader>,
-    _error: Option<PipeReader>,
-}
-
-/// Takes the places of those that are closed. A pipe's reader takes the lowest that is free.
-pub fn hold_closed<R: Files>(rt: &R, closed: Closed) -> io::Result<Held> {
-    Ok(Held {
-        _input: hold(rt, closed.input)?,
-        _output: hold(rt, closed.output)?,
-        _error: hold(rt, closed.error)?,
-    })
-}
-
-fn hold<R: Files>(rt: &R, is_closed: bool) -> io::Result<Option<PipeReader>> {
-    if !is_closed {
-        return Ok(None);
+impl StreamKind {
+    /// Returns whether the stream is a terminal.
+    pub fn is_terminal(self) -> bool {
+        matches!(self, StreamKind::Terminal)
     }
-    let (reader, _writer) = io::pipe(rt)?;
-    Ok(Some(reader))
 }
 
-/// A file to read, or standard input where that is named and can't be opened, as a socket can't.
+// The error of a descriptor that is not open.
+const EBADF: i32 = 9;
+
+/// Looks at a stream: a closed descriptor cannot be duplicated.
+pub fn stream_kind<S: AsFd + IsTerminal>(stream: &S) -> StreamKind {
+    if stream.is_terminal() {
+        return StreamKind::Terminal;
+    }
+    match stream.as_fd().try_clone_to_owned() {
+        Err(error) if error.raw_os_error() == Some(EBADF) => StreamKind::Closed,
+        Ok(_) | Err(_) => StreamKind::Other,
+    }
+}
+
+/// Takes the place of a standard stream that is closed, so that no file that is opened later gets it:
+/// the reader of a pipe gets the lowest free descriptor. A pipe without a writer reads as empty, and
+/// writes to its reader fail.
+pub fn occupy<R: Files>(rt: &R, stream: StreamKind) -> io::Result<Option<PipeReader>> {
+    match stream {
+        StreamKind::Closed => {
+            let (reader, _writer) = io::pipe(rt)?;
+            Ok(Some(reader))
+        }
+        StreamKind::Terminal | StreamKind::Other => Ok(None),
+    }
+}
+
+/// A file to read, or standard input. A socket has names there, but cannot be opened by them.
 #[derive(Drop)]
-pub enum Opened<I> {
+pub enum InputSource<I> {
     /// The file.
     File(File),
     /// Standard input itself.
-    Stream(I),
+    Stdin(I),
+}
+
+impl<I> InputSource<I> {
+    /// Identifies the file.
+    pub fn id<R: Files>(&self, rt: &R) -> FileId {
+        match self {
+            InputSource::File(file) => FileId::from_file(file),
+            InputSource::Stdin(_) => FileId::standard_input(rt),
+        }
+    }
 }
 
 /// Opens a file to read it.
-pub fn open<R: Input + Files<File = File>>(rt: &R, name: &str) -> io::Result<Opened<R::Reader>> {
+pub fn open<R: Input + Files<File = File>>(
+    rt: &R,
+    name: &str,
+) -> io::Result<InputSource<R::Reader>> {
     match fs::open(rt, name) {
-        Ok(file) => Ok(Opened::File(file)),
-        Err(_) if is_standard_input(name) => Ok(Opened::Stream(rt.reader())),
+        Ok(file) => Ok(InputSource::File(file)),
+        Err(_) if is_standard_input(name) => Ok(InputSource::Stdin(rt.reader())),
         Err(error) => Err(error),
     }
 }
 
-/// Whether it is a name that the system has for standard input.
+/// Returns whether the system has this name for standard input.
 pub fn is_standard_input(name: &str) -> bool {
     matches!(name, "/dev/stdin" | "/dev/fd/0" | "/proc/self/fd/0")
 }
 
-impl<I: Read> Read for Opened<I> {
+impl<I: Read> Read for InputSource<I> {
     fn read(&mut self, buf: &mut [u8]) -> io::Result<usize> {
         match self {
-            Opened::File(file) => file.read(buf),
-            Opened::Stream(stream) => stream.read(buf),
+            InputSource::File(file) => file.read(buf),
+            InputSource::Stdin(stdin) => stdin.read(buf),
         }
     }
 }

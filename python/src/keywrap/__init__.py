@@ -11,7 +11,13 @@ from __future__ import annotations
 import enum
 from typing import TYPE_CHECKING, Any, Callable, Optional, Tuple, TypeVar
 
-from . import _ffi, _refusals
+from . import _ffi
+
+# Before the first call of the library, which would end the process with SIGILL.
+if not _ffi.lib.cpu_supported():
+    raise ImportError("this processor lacks SSSE3 or SSE4.1, which keywrap needs", name=__name__)
+
+from . import _refusals
 from ._refusals import BadInitialValue, BadKekLength, BadLength, IntegrityFailed, KeywrapError
 
 if TYPE_CHECKING:

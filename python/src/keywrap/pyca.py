@@ -1,16 +1,16 @@
 """The functions of `cryptography.hazmat.primitives.keywrap`, over the same arguments.
 
-They give the same answers and raise the same kinds of exception, but that keys of 0 bytes (padded) and
-of more than 1,048,576 bytes are a `ValueError`, and that what is wrapped to more than 1,048,584 bytes,
-or (padded) to no multiple of 8, is `InvalidUnwrap`. This is theirs where `cryptography` is installed, so
-that what catches theirs, or ours, catches both.
+They return the same bytes and raise the same kinds of exception, with messages that contain pyca's words. There
+are two differences: keys of 0 bytes (padded) and of more than 1,048,576 bytes are a `ValueError`, and a wrapped
+key of more than 1,048,584 bytes, or (padded) not of a multiple of 8, is `InvalidUnwrap`. If `cryptography` is
+installed, this is its `InvalidUnwrap`, so a handler of either catches both.
 """
 
 from __future__ import annotations
 
 from typing import TYPE_CHECKING, Any
 
-from . import BadKekLength, KeywrapError, unwrap, unwrap_padded, wrap, wrap_padded
+from . import BadKekLength, BadLength, KeywrapError, unwrap, unwrap_padded, wrap, wrap_padded
 
 if TYPE_CHECKING:
     from _typeshed import ReadableBuffer
@@ -35,37 +35,61 @@ if not TYPE_CHECKING:
         pass
 
 
+# pyca's words, which each message contains.
+_KEK_WORDS = "The wrapping key must be a valid AES key length"
+_MULTIPLE = "must be a multiple of 8 bytes"
+
+
 def aes_key_wrap(wrapping_key: ReadableBuffer, key_to_wrap: ReadableBuffer, backend: Any = None) -> bytes:
-    """The wrapping of a key (RFC 3394). A length that is not legal is a `ValueError`."""
-    return wrap(wrapping_key, key_to_wrap)
+    """Wraps a key (RFC 3394). A length that is not legal is a `ValueError`."""
+    try:
+        return wrap(wrapping_key, key_to_wrap)
+    except BadLength as error:
+        length = memoryview(key_to_wrap).nbytes
+        if length < 16:
+            raise BadLength(f"The key to wrap must be at least 16 bytes: {error}") from None
+        if length % 8:
+            raise BadLength(f"The key to wrap {_MULTIPLE}: {error}") from None
+        raise
+    except BadKekLength as error:
+        raise BadKekLength(f"{_KEK_WORDS}: {error}") from None
 
 
 def aes_key_unwrap(wrapping_key: ReadableBuffer, wrapped_key: ReadableBuffer, backend: Any = None) -> bytes:
-    """The key (RFC 3394). A wrapping key of a wrong length is a `ValueError`, else `InvalidUnwrap`."""
+    """Unwraps a key (RFC 3394). A wrapping key of a wrong length is a `ValueError`, else `InvalidUnwrap`."""
     try:
         return unwrap(wrapping_key, wrapped_key)
     except KeywrapError as error:
         length = memoryview(wrapped_key).nbytes
-        raise _refused(error, length >= 24 and length % 8 == 0) from None
+        if length >= 24 and length % 8:
+            raise InvalidUnwrap(f"The wrapped key {_MULTIPLE}: it is {length} bytes long") from None
+        raise _unwrap_refused(error, length, 24) from None
 
 
 def aes_key_wrap_with_padding(
     wrapping_key: ReadableBuffer, key_to_wrap: ReadableBuffer, backend: Any = None
 ) -> bytes:
-    """The wrapping of a key (RFC 5649). A length that is not legal is a `ValueError`."""
-    return wrap_padded(wrapping_key, key_to_wrap)
+    """Wraps a key (RFC 5649). A length that is not legal is a `ValueError`."""
+    try:
+        return wrap_padded(wrapping_key, key_to_wrap)
+    except BadKekLength as error:
+        raise BadKekLength(f"{_KEK_WORDS}: {error}") from None
 
 
 def aes_key_unwrap_with_padding(
     wrapping_key: ReadableBuffer, wrapped_key: ReadableBuffer, backend: Any = None
 ) -> bytes:
-    """The key (RFC 5649). A wrapping key of a wrong length is a `ValueError`, else `InvalidUnwrap`."""
+    """Unwraps a key (RFC 5649). A wrapping key of a wrong length is a `ValueError`, else `InvalidUnwrap`."""
     try:
         return unwrap_padded(wrapping_key, wrapped_key)
     except KeywrapError as error:
-        raise _refused(error, memoryview(wrapped_key).nbytes >= 16) from None
+        raise _unwrap_refused(error, memoryview(wrapped_key).nbytes, 16) from None
 
 
-def _refused(error: KeywrapError, is_long_enough: bool) -> Exception:
-    """What is raised: the wrapping key is looked at only where what is wrapped is long enough."""
-    return error if isinstance(error, BadKekLength) and is_long_enough else InvalidUnwrap(str(error))
+def _unwrap_refused(error: KeywrapError, length: int, least: int) -> Exception:
+    """What is raised for a wrapped key of this length. pyca checks the wrapping key only if it has the least one."""
+    if length < least:
+        return InvalidUnwrap(f"Must be at least {least} bytes: it is {length} bytes long")
+    if isinstance(error, BadKekLength):
+        return BadKekLength(f"{_KEK_WORDS}: {error}")
+    return InvalidUnwrap(str(error))

@@ -2,10 +2,9 @@
 
 ghost use Rattle.std.specs.Prelude.{⊤};
 
-use crate::{LineFault, LineJob, Outcome, RefusalLog};
+use crate::{LineJob, Mark, RefusalLog, RefusedLine};
 use key_files::print_hex;
-use std::alloc::Global;
-use std::cell::Cell;
+use std::alloc::{AllocError, Global};
 use std::io::{self, Read, Write};
 
 /// Gives one byte a read. One read fails, and those after it go on.
@@ -77,7 +76,7 @@ impl Write for Narrow {
 }
 
 /// Answers the bytes in hex, but for FF alone, which has no answer, and FE alone, for which it has
-/// no memory.
+/// no memory. It marks the answer to no bytes.
 #[derive(Clone, Copy)]
 pub struct Echo;
 
@@ -86,35 +85,46 @@ impl LineJob for Echo {
 
     ghost answers = { λ _ _ _. ⊤ };
 
-    fn answer(&self, bytes: &mut Vec<u8>, output: &mut Vec<u8>) -> Outcome<u8> {
+    fn answer(
+        &self,
+        bytes: &mut Vec<u8>,
+        output: &mut Vec<u8>,
+    ) -> Result<Result<Mark, u8>, AllocError> {
         match bytes.as_slice() {
-            [0xff] => Outcome::Refused(0xff),
-            [0xfe] => Outcome::Memory,
-            text if print_hex(text, output).is_ok() => Outcome::Answer,
-            _ => Outcome::Memory,
+            [0xff] => Ok(Err(0xff)),
+            [0xfe] => Err(AllocError),
+            text => {
+                let mark = if text.is_empty() {
+                    Mark::Marked
+                } else {
+                    Mark::Unmarked
+                };
+                print_hex(text, output)?;
+                Ok(Ok(mark))
+            }
         }
     }
 }
 
-/// Counts the refusals that it is told, and keeps the last: its line, and why.
+/// Counts the refusals that it receives, and keeps the last.
 #[derive(Drop)]
 pub struct Told {
-    pub count: Cell<u64>,
-    pub last: Cell<Option<(u64, LineFault<u8>)>>,
+    pub count: u64,
+    pub last: Option<RefusedLine<u8>>,
 }
 
 impl Told {
     pub fn new() -> Self {
         Told {
-            count: Cell::new(0),
-            last: Cell::new(None),
+            count: 0,
+            last: None,
         }
     }
 }
 
 impl RefusalLog<u8> for Told {
-    fn tell(&self, line: u64, fault: &LineFault<u8>) {
-        self.count.set(self.count.get().saturating_add(1));
-        self.last.set(Some((line, *fault)));
+    fn receive(&mut self, refused: &RefusedLine<u8>) {
+        self.count = self.count.saturating_add(1);
+        self.last = Some(*refused);
     }
 }

@@ -1,10 +1,19 @@
 //! Runs that answer each line, that stop at one, and whose output is refused at each byte.
 
 use super::doubles::{Echo, Narrow, Told, Trickle};
-use crate::{LineFault, RunFault, TextNotation, run_lines};
+use crate::{LineFault, LineRun, RefusedLine, RunFault, RunOptions, TextNotation};
 use key_files::{Base64Fault, FileFault};
 use std::io::BufReader;
 use std::test::Fail;
+
+// A run of the job of the tests.
+fn run_of(notation: TextNotation, keep_going: bool) -> LineRun<Echo> {
+    let options = RunOptions {
+        notation,
+        keep_going,
+    };
+    LineRun { options, job: Echo }
+}
 
 static RUNS: [(&[u8], Result<u64, RunFault<u8>>, &[u8]); 11] = [
     (b"", Ok(0), b""),
@@ -65,17 +74,14 @@ fn answers_the_lines_before_the_first_refused_one(rt: HostRuntime) -> Result<(),
         for capacity in [1, 4_096] {
             let mut input = BufReader::with_capacity(rt.alloc(), capacity, *text)?;
             let mut out = Vec::new(rt.alloc());
-            let answer = run_lines(
+            let answer = run_of(TextNotation::Hex, false).run(
                 rt.alloc(),
-                TextNotation::Hex,
-                &Echo,
-                false,
-                &Told::new(),
+                &mut Told::new(),
                 &mut input,
                 &mut out,
             );
             assert!(rt;
-                answer == *want && out.as_slice() == *written,
+                answer.map(|summary| summary.lines) == *want && out.as_slice() == *written,
                 "of {text:?}"
             );
         }
@@ -112,12 +118,9 @@ fn takes_blanks_at_the_ends_alone(rt: HostRuntime) -> Result<(), Fail> {
     for (line, want, refused) in &BLANKS {
         let mut input: &[u8] = line;
         let mut out = Vec::new(rt.alloc());
-        let answer = run_lines(
+        let answer = run_of(TextNotation::Hex, false).run(
             rt.alloc(),
-            TextNotation::Hex,
-            &Echo,
-            false,
-            &Told::new(),
+            &mut Told::new(),
             &mut input,
             &mut out,
         );
@@ -128,7 +131,10 @@ fn takes_blanks_at_the_ends_alone(rt: HostRuntime) -> Result<(), Fail> {
                 fault: LineFault::Input(FileFault::BadDigit { at: *at }),
             }),
         };
-        assert!(rt; answer == wanted && out.as_slice() == *want, "of {line:?}");
+        assert!(rt;
+            answer.map(|summary| summary.lines) == wanted && out.as_slice() == *want,
+            "of {line:?}"
+        );
     }
     Ok(())
 }
@@ -140,7 +146,7 @@ static PASSED: [(
     Result<u64, RunFault<u8>>,
     &[u8],
     u64,
-    Option<(u64, LineFault<u8>)>,
+    Option<RefusedLine<u8>>,
 ); 4] = [
     (b"00\n01", Ok(2), b"00\n01\n", 0, None),
     (
@@ -148,9 +154,21 @@ static PASSED: [(
         Ok(5),
         b"00\n\n\n\n01\n",
         3,
-        Some((4, LineFault::Input(FileFault::OddDigits))),
+        Some(RefusedLine {
+            line: 4,
+            fault: LineFault::Input(FileFault::OddDigits),
+        }),
     ),
-    (b"ff", Ok(1), b"\n", 1, Some((1, LineFault::Refused(0xff)))),
+    (
+        b"ff",
+        Ok(1),
+        b"\n",
+        1,
+        Some(RefusedLine {
+            line: 1,
+            fault: LineFault::Refused(0xff),
+        }),
+    ),
     (
         b"0g\nfe\n00\n",
         Err(RunFault::AtLine {
@@ -159,7 +177,10 @@ static PASSED: [(
         }),
         b"\n",
         1,
-        Some((1, LineFault::Input(FileFault::BadDigit { at: 1 }))),
+        Some(RefusedLine {
+            line: 1,
+            fault: LineFault::Input(FileFault::BadDigit { at: 1 }),
+        }),
     ),
 ];
 
@@ -168,24 +189,18 @@ fn goes_on_after_refused_lines(rt: HostRuntime) -> Result<(), Fail> {
     for (text, want, written, count, last) in &PASSED {
         let mut input: &[u8] = text;
         let mut out = Vec::new(rt.alloc());
-        let told = Told::new();
-        let answer = run_lines(
+        let mut told = Told::new();
+        let answer = run_of(TextNotation::Hex, true).run(
             rt.alloc(),
-            TextNotation::Hex,
-            &Echo,
-            true,
-            &told,
+            &mut told,
             &mut input,
             &mut out,
         );
         assert!(rt;
-            answer == *want && out.as_slice() == *written,
+            answer.map(|summary| summary.lines) == *want && out.as_slice() == *written,
             "of {text:?}"
         );
-        assert!(rt;
-            told.count.get() == *count && told.last.get() == *last,
-            "of {text:?}"
-        );
+        assert!(rt; told.count == *count && told.last == *last, "of {text:?}");
     }
     Ok(())
 }
@@ -198,17 +213,16 @@ fn counts_what_a_refused_write_left_out(rt: HostRuntime) -> Result<(), Fail> {
         for room in 0..whole.len() {
             let mut input = text;
             let mut out = Narrow::new(rt.alloc(), room);
-            let answer = run_lines(
+            let answer = run_of(TextNotation::Hex, false).run(
                 rt.alloc(),
-                TextNotation::Hex,
-                &Echo,
-                false,
-                &Told::new(),
+                &mut Told::new(),
                 &mut input,
                 &mut out,
             );
             let unsent = whole.len() - room;
-            assert_eq!(rt; answer, Err(RunFault::Write { answered, unsent }));
+            assert!(rt;
+                answer.map(|summary| summary.lines) == Err(RunFault::Write { answered, unsent })
+            );
             assert_eq!(rt; out.out(), &whole[..room]);
         }
     }
@@ -226,12 +240,9 @@ fn stops_where_the_writer_refuses_a_full_block(rt: HostRuntime) -> Result<(), Fa
     }
     let mut input = text.as_slice();
     let mut out = Narrow::new(rt.alloc(), 10);
-    let answer = run_lines(
+    let answer = run_of(TextNotation::Hex, false).run(
         rt.alloc(),
-        TextNotation::Hex,
-        &Echo,
-        false,
-        &Told::new(),
+        &mut Told::new(),
         &mut input,
         &mut out,
     );
@@ -263,12 +274,9 @@ fn stops_at_the_line_whose_read_fails(rt: HostRuntime) -> Result<(), Fail> {
     ] {
         let mut input = BufReader::new(rt.alloc(), Trickle::new(text, reads))?;
         let mut out = Vec::new(rt.alloc());
-        let answer = run_lines(
+        let answer = run_of(TextNotation::Hex, false).run(
             rt.alloc(),
-            TextNotation::Hex,
-            &Echo,
-            false,
-            &Told::new(),
+            &mut Told::new(),
             &mut input,
             &mut out,
         );
@@ -287,19 +295,16 @@ fn stops_at_the_line_whose_read_fails(rt: HostRuntime) -> Result<(), Fail> {
 fn answers_lines_of_base64(rt: HostRuntime) -> Result<(), Fail> {
     let mut input = b"-_8\n\t+/8= \nZ m\n".as_slice();
     let mut out = Vec::new(rt.alloc());
-    let told = Told::new();
-    let answer = run_lines(
+    let mut told = Told::new();
+    let answer = run_of(TextNotation::Base64, true).run(
         rt.alloc(),
-        TextNotation::Base64,
-        &Echo,
-        true,
-        &told,
+        &mut told,
         &mut input,
         &mut out,
     );
-    assert_eq!(rt; answer, Ok(3));
+    assert!(rt; answer.map(|summary| summary.lines) == Ok(3));
     assert!(rt; out.as_slice() == b"fbff\nfbff\n\n".as_slice());
     let fault = LineFault::Input(FileFault::BadBase64(Base64Fault::Character { at: 1 }));
-    assert!(rt; told.last.get() == Some((3, fault)));
+    assert!(rt; told.last == Some(RefusedLine { line: 3, fault }));
     Ok(())
 }

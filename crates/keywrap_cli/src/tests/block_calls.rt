@@ -77,7 +77,6 @@ fn a_line_costs_six_calls_for_eight_bytes(rt: HostRuntime) -> Result<(), Fail> {
                 kek: Notation::Hex,
             },
             pair: Tally::new(),
-            neither: Cell::new(false),
         };
         let (mut bytes, mut output) = (Vec::new(rt.alloc()), Vec::new(rt.alloc()));
         bytes.resize(len, 0)?;
@@ -134,17 +133,16 @@ static REWRAPS: [(Change, bool, Form, usize, [u64; 2]); 13] = [
 
 #[test]
 fn a_rewrapped_line_costs_an_unwrapping_and_a_wrapping(rt: HostRuntime) -> Result<(), Fail> {
-    for (change, passes_new, form, len, calls) in REWRAPS {
+    for (change, pass_new, form, len, calls) in REWRAPS {
         let run = RewrapJob {
             task: Rewrapping {
                 forms: forms_of(change),
-                passes_new,
+                pass_new,
                 input: Notation::Hex,
                 kek: Notation::Hex,
             },
             old: Tally::new(),
             new: Tally::new(),
-            passed: Cell::new(0),
         };
         let mut key = Vec::new(rt.alloc());
         key.resize(len, 0)?;
@@ -157,7 +155,7 @@ fn a_rewrapped_line_costs_an_unwrapping_and_a_wrapping(rt: HostRuntime) -> Resul
         assert_eq!(rt;
             [run.old.blocks.get(), run.new.blocks.get()],
             calls,
-            "{:?}, passing {passes_new}, of {form:?} {len}",
+            "{:?}, passing {pass_new}, of {form:?} {len}",
             change
         );
     }

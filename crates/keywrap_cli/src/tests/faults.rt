@@ -95,12 +95,12 @@ static FAULTS: [(ProgramFault, &str, u8); 34] = [
         2,
     ),
     (
-        ProgramFault::NewIvDigits,
+        ProgramFault::NewIv(IvFault::NotSixteenDigits),
         "keywrap: --new-iv is not 16 hex digits",
         2,
     ),
     (
-        ProgramFault::NewIvReserved,
+        ProgramFault::NewIv(IvFault::Reserved),
         "keywrap: --new-iv is reserved for the padded form",
         2,
     ),

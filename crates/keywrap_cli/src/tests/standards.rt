@@ -1,6 +1,6 @@
 //! The wrappings among the published vectors, as bytes.
 
-use crate::vector_table::{Operation, VECTORS};
+use crate::vector_table::{Algorithm, VECTORS};
 use key_files::decode_hex;
 use key_wrap::Form;
 use std::alloc::Global;
@@ -19,7 +19,7 @@ pub struct Wrapping {
 pub fn wrappings(alloc: Global) -> Result<Vec<Wrapping>, Fail> {
     let mut wrappings = Vec::new(alloc);
     for vector in &VECTORS {
-        if let Operation::KeyWrap(form) = vector.operation {
+        if let Algorithm::KeyWrap(form) = vector.algorithm {
             wrappings.push(Wrapping {
                 form,
                 kek: decode_hex(alloc, vector.key.as_bytes())?,

@@ -9,8 +9,8 @@ pub returns-clause-wrapped : goal.returns-clause-wrapped
 unfolding word_bytes
 returns-clause-wrapped g c =
     let old : List ℕ = c.args.buf.now in
-    let registers : List ℕ = c.wrap_padded_slice-c0.new.registers in
+    let registers : List ℕ = c.wrap_slice-c0.new.registers in
     let all : take (length old - 8) (drop 8 old) ≡ drop 8 old = take_all (length old - 8) (drop 8 old) (omega (arith, length-drop 8 old)) in
-    let text : c.write_u64.new.buf ≡ word_bytes c.wrap_padded_slice-c0.result ++ registers =
-    c.write_u64.ensures ∙ ap (λ (bs : List ℕ). word_bytes c.wrap_padded_slice-c0.result ++ bs) (registers_now old registers (omega arith) (search rules)) in
-    rw (text, ← all) c.wrap_padded_slice-c0.ensures.wrapped
+    let text : c.write_u64.new.buf ≡ word_bytes c.wrap_slice-c0.result ++ registers =
+    c.write_u64.ensures ∙ ap (λ (bs : List ℕ). word_bytes c.wrap_slice-c0.result ++ bs) (registers_now old registers (omega arith) (search rules)) in
+    rw (text, ← all) c.wrap_slice-c0.ensures.wrapped

@@ -11,8 +11,8 @@ use Rattle.key_wrap.proofs.unwrapping.kind_of_registers.Goals as goal
 pub returns-then-registers-gt-WORD-clause-answer : goal.returns-then-registers-gt-WORD-clause-answer
 returns-then-registers-gt-WORD-clause-answer g c =
     let iv : ℕ = c.args.iv in
-    let found : ℕ = c.unwrap_padded_slice-found.result in
-    let registers : List ℕ = c.unwrap_padded_slice-found.new.registers in
+    let found : ℕ = c.unwrap_slice-found.result in
+    let registers : List ℕ = c.unwrap_slice-found.new.registers in
     let text : List ℕ = word_bytes c.args.c0 ++ c.args.registers.now in
     let kept : length registers ≡ length c.args.registers.now = search rules in
     let count : length c.fill.new.self ≡ length registers = search rules in
@@ -20,23 +20,23 @@ returns-then-registers-gt-WORD-clause-answer g c =
     let legal = long_legal c.args.c0 c.args.registers.now c.requires.length (omega arith) in
     let same : found ≡ iv = xor_same found iv (c.decide.ensures.passes.0 (search rules)) in
     rw count (kind_plain iv found registers text (g.met.B.BlockPair.lawful c.args.meter.now.pair) (search rules) c.requires.free same
-    (omega (arith, c.requires.length)) legal c.unwrap_padded_slice-found.ensures.wrapped)
+    (omega (arith, c.requires.length)) legal c.unwrap_slice-found.ensures.wrapped)
 
 pub returns-then-is_padded-clause-answer : goal.returns-then-is_padded-clause-answer
 returns-then-is_padded-clause-answer g c =
     let iv : ℕ = c.args.iv in
-    let found : ℕ = c.unwrap_padded_slice-found.result in
+    let found : ℕ = c.unwrap_slice-found.result in
     let text : List ℕ = word_bytes c.args.c0 ++ c.args.registers.now in
     let size : length text ≡ 8 + length c.args.registers.now = length-behind c.args.c0 c.args.registers.now in
     let legal : IsPaddedTextLength (length text) = rw size c.requires.length in
     let held = c.padded_difference-padded.ensures.passes (c.decide-2.ensures.passes.0 (search rules)) in
-    rw c.given_length.ensures (kind_padded iv found (found % 2 ^ 32) c.unwrap_padded_slice-found.new.registers text
-    (g.met.B.BlockPair.lawful c.args.meter.now.pair) (search rules) c.requires.free legal c.unwrap_padded_slice-found.ensures.wrapped held)
+    rw c.given_length.ensures (kind_padded iv found (found % 2 ^ 32) c.unwrap_slice-found.new.registers text
+    (g.met.B.BlockPair.lawful c.args.meter.now.pair) (search rules) c.requires.free legal c.unwrap_slice-found.ensures.wrapped held)
 
 pub returns-else-is_padded-clause-answer : goal.returns-else-is_padded-clause-answer
 returns-else-is_padded-clause-answer g c =
     let iv : ℕ = c.args.iv in
-    let found : ℕ = c.unwrap_padded_slice-found.result in
+    let found : ℕ = c.unwrap_slice-found.result in
     let text : List ℕ = word_bytes c.args.c0 ++ c.args.registers.now in
     let size : length text ≡ 8 + length c.args.registers.now = length-behind c.args.c0 c.args.registers.now in
     let other : found ≡ iv → ¬ IsPlainTextLength (length text) = elim c.else-is_plain.branch [
@@ -50,5 +50,5 @@ returns-else-is_padded-clause-answer g c =
     ] in
     let differs = c.padded_difference-padded.ensures.refuses
     (λ e. absurd (let ok = c.decide-2.ensures.passes.1 e in let no = c.if-is_padded.false in let told = c.is_ok-is_padded.ensures.value in cc)) in
-    kind_neither iv found c.unwrap_padded_slice-found.new.registers text (g.met.B.BlockPair.lawful c.args.meter.now.pair) (search rules)
-    c.unwrap_padded_slice-found.ensures.wrapped other differs
+    kind_neither iv found c.unwrap_slice-found.new.registers text (g.met.B.BlockPair.lawful c.args.meter.now.pair) (search rules)
+    c.unwrap_slice-found.ensures.wrapped other differs

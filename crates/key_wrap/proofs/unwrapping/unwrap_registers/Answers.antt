@@ -1,17 +1,16 @@
--- The machine ran back to an initial value and registers; the key stands with the text where it is the one asked for.
-use Rattle.std.proofs.Common.{rules, ◌≡◌, ℕ, List, length, ◌+◌, ◌++◌}
+-- The machine ran back to an initial value and registers.
+use Rattle.std.proofs.Common.{rules, ◌≡◌, ℕ, List, length, ◌++◌, arith, length-append}
 use Rattle.key_wrap.specs.Words.{word_bytes}
-use Rattle.key_wrap.specs.Lengths.{IsPlainTextLength}
-use Rattle.key_wrap.proofs.Behind.{length-behind}
-use Rattle.key_wrap.proofs.Unwrappings.{plain_decided}
+use Rattle.key_wrap.proofs.Spelling.{length-word_bytes}
+use Rattle.key_wrap.proofs.PaddedForm.{registers_many}
 use Rattle.key_wrap.proofs.unwrapping.unwrap_registers.Goals as goal
 
 pub returns-clause-answer : goal.returns-clause-answer
 returns-clause-answer g c =
     let text : List ℕ = word_bytes c.args.c0 ++ c.args.registers.now in
-    let size : length text ≡ 8 + length c.args.registers.now = length-behind c.args.c0 c.args.registers.now in
-    let legal : IsPlainTextLength (length text) = rw size c.requires.length in
-    let d = c.decide.ensures in
-    plain_decided c.args.iv c.unwrap_slice-found.result c.unwrap_slice-found.new.registers c.decide.new.registers text c.decide.result
-    (g.met.B.BlockPair.lawful c.args.meter.now.pair) (search rules) (search rules) c.requires.free legal c.unwrap_slice-found.ensures.wrapped
-    d.passes d.only_fault d.kept
+    let found : ℕ = c.unwrap_slice-found.result in
+    let key : List ℕ = c.unwrap_slice-found.new.registers in
+    let size : length key ≡ length c.args.registers.now = search rules in
+    c.end_plain.ensures.answer (g.B.BlockPair.encrypted c.args.meter.now.pair) (g.B.BlockPair.decrypted c.args.meter.now.pair) text
+    (g.met.B.BlockPair.lawful c.args.meter.now.pair)
+    (registers_many (omega (arith, length-append (word_bytes found) key, length-word_bytes found, size)) c.unwrap_slice-found.ensures.wrapped)

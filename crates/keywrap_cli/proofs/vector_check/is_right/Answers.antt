@@ -1,4 +1,4 @@
--- The three texts denote the bytes that were decoded, and the operation takes those to one another.
+-- The three texts denote the bytes that were decoded, and the algorithm takes those to one another.
 use Rattle.std.proofs.Common.{refl}
 use Rattle.keywrap_cli.specs.Vectors.{shown}
 use Rattle.keywrap_cli.proofs.RightVectors.{right_as_denoted}

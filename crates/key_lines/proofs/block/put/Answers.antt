@@ -1,1 +1,0 @@
--- The text stands after the block, which was written or not.

@@ -1,0 +1,176 @@
+//! Reads the arguments into a `Command`.
+
+use crate::command::{Command, LineOptions, Run};
+use key_wrap::{AgreedForm, Form, InitialValue};
+use keywrap_args::options::{self, Argument};
+use keywrap_args::{Args, Subcommand, parse};
+use keywrap_cli::{
+    Direction, IvFault, Job, Notation, Operation, ProgramFault, RewrapForms, Rewrapping, Task,
+    parse_iv,
+};
+use std::alloc::Global;
+
+/// What the program prints instead of running a command.
+#[derive(Drop)]
+pub enum Stop {
+    /// The help or the version, for standard output.
+    Help(String),
+    /// What is wrong with the arguments, for standard error.
+    Usage(String),
+    /// An initial value was refused, or an allocation failed.
+    Fault(ProgramFault),
+}
+
+impl From<keywrap_args::Stop> for Stop {
+    fn from(stop: keywrap_args::Stop) -> Stop {
+        match stop {
+            keywrap_args::Stop::Help(text) => Stop::Help(text),
+            keywrap_args::Stop::Usage(text) => Stop::Usage(text),
+            keywrap_args::Stop::Memory => Stop::Fault(ProgramFault::Memory),
+        }
+    }
+}
+
+/// Reads the arguments. The first one is the name of the program.
+///
+/// The first of these stops is returned: the help, the version or arguments that clap refuses, `-`
+/// as a KEK file, `--iv`, `--new-iv`.
+pub fn read_command<'a>(alloc: Global, args: &'a [String]) -> Result<Command<'a>, Stop> {
+    let args = parse(alloc, args)?;
+    let operation = match args.subcommand {
+        Subcommand::Wrap => job(Job::Wrap, &args)?,
+        Subcommand::Unwrap => job(Job::Unwrap, &args)?,
+        Subcommand::Check => job(Job::Check, &args)?,
+        Subcommand::Rewrap => rewrap(&args)?,
+        Subcommand::Drill => return drill(&args),
+        Subcommand::Vectors => return Ok(Command::Vectors),
+    };
+    Ok(Command::Run(Run {
+        operation,
+        input: args.file(options::INPUT),
+        output: args.file(options::OUTPUT),
+        lines: lines(&args),
+        verbose: args.has(options::VERBOSE),
+    }))
+}
+
+// A check tries both forms, whatever its task says.
+fn job<'a>(job: Job, args: &Args<'a>) -> Result<Operation<&'a str>, Stop> {
+    let kek = args.kek_file(options::KEK)?;
+    let iv = iv(args)?;
+    let task = Task {
+        job,
+        form: form(args, options::PADDED),
+        input: notation(args),
+        kek: kek_notation(args),
+    };
+    Ok(Operation::Job { iv, task, kek })
+}
+
+fn rewrap<'a>(args: &Args<'a>) -> Result<Operation<&'a str>, Stop> {
+    let kek = args.kek_file(options::KEK)?;
+    let new_kek = args.kek_file(options::NEW_KEK)?;
+    let task = Rewrapping {
+        forms: rewrap_forms(args)?,
+        pass_new: args.has(options::PASS_NEW),
+        input: notation(args),
+        kek: kek_notation(args),
+    };
+    Ok(Operation::Rewrap { task, kek, new_kek })
+}
+
+// Clap refuses `--keep-form` with the arguments for one of the forms.
+fn rewrap_forms(args: &Args<'_>) -> Result<RewrapForms, Stop> {
+    if args.has(options::KEEP_FORM) {
+        return Ok(RewrapForms::Kept);
+    }
+    let (iv, new_iv) = (iv(args)?, new_iv(args)?);
+    Ok(RewrapForms::Changed {
+        old: agreed_form(form(args, options::PADDED), iv),
+        new: agreed_form(form(args, options::NEW_PADDED), new_iv),
+    })
+}
+
+fn agreed_form(form: Form, iv: InitialValue) -> AgreedForm {
+    match form {
+        Form::Plain => AgreedForm::Plain(iv),
+        Form::Padded => AgreedForm::Padded,
+    }
+}
+
+fn drill<'a>(args: &Args<'a>) -> Result<Command<'a>, Stop> {
+    let direction = if args.has(options::UNWRAP) {
+        Direction::Unwrap
+    } else {
+        Direction::Wrap
+    };
+    Ok(Command::Drill {
+        form: form(args, options::PADDED),
+        direction,
+        hex: args.required(options::HEX)?,
+    })
+}
+
+fn form(args: &Args<'_>, padded: Argument<'_>) -> Form {
+    if args.has(padded) {
+        Form::Padded
+    } else {
+        Form::Plain
+    }
+}
+
+// Clap refuses two of these flags.
+fn notation(args: &Args<'_>) -> Notation {
+    if args.has(options::RAW) {
+        Notation::Raw
+    } else if args.has(options::BASE64) {
+        Notation::Base64
+    } else if args.has(options::BASE64URL) {
+        Notation::Base64Url
+    } else {
+        Notation::Hex
+    }
+}
+
+// Clap refuses both flags together. A KEK is only read, and either alphabet of base64 is read.
+fn kek_notation(args: &Args<'_>) -> Notation {
+    if args.has(options::RAW_KEK) {
+        Notation::Raw
+    } else if args.has(options::BASE64_KEK) {
+        Notation::Base64
+    } else {
+        Notation::Hex
+    }
+}
+
+// Clap refuses the other two flags without `--lines`.
+fn lines(args: &Args<'_>) -> Option<LineOptions> {
+    if !args.has(options::LINES) {
+        return None;
+    }
+    Some(LineOptions {
+        keep_going: args.has(options::KEEP_GOING),
+        quiet: args.has(options::QUIET),
+    })
+}
+
+fn iv(args: &Args<'_>) -> Result<InitialValue, Stop> {
+    match initial_value(args, options::IV) {
+        Ok(iv) => Ok(iv),
+        Err(fault) => Err(Stop::Fault(ProgramFault::Iv(fault))),
+    }
+}
+
+fn new_iv(args: &Args<'_>) -> Result<InitialValue, Stop> {
+    match initial_value(args, options::NEW_IV) {
+        Ok(iv) => Ok(iv),
+        Err(fault) => Err(Stop::Fault(ProgramFault::NewIv(fault))),
+    }
+}
+
+fn initial_value(args: &Args<'_>, option: Argument<'_>) -> Result<InitialValue, IvFault> {
+    match args.value(option) {
+        Some(digits) => parse_iv(digits),
+        None => Ok(InitialValue::default()),
+    }
+}

@@ -1,3 +1,0 @@
--- Lemmas that several exports share.
-pub mod Lengths
-pub mod Endings

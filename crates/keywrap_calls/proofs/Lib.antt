@@ -1,0 +1,6 @@
+-- Lemmas that several calls share.
+pub mod Calls
+pub mod Finding
+pub mod Rewraps
+pub mod Lengths
+pub mod Endings

@@ -1,0 +1,47 @@
+//! In which form a key was wrapped.
+
+ghost use Rattle.aes_block.specs.Cipher.{cipher};
+ghost use Rattle.keywrap_calls.specs.Kinds.{FindsKind};
+
+use crate::status::{BAD_KEK, BAD_LENGTH, DONE, INTEGRITY};
+use aes_block::KeyInit;
+use block_pair::Meter;
+use key_wrap::{Kind, kind_into};
+
+/// Finds the form in which `text` is a wrapping under `kek`, and the length of its key: `*padded` is
+/// 0 in the plain form, under the default initial value, and 1 in the padded form (RFC 3394, RFC
+/// 5649).
+///
+/// The key is not given out: `scratch` is `text` without its first word in length, and where that
+/// length is legal in a form every byte of it is zero then. Both numbers are 0 at each refusal;
+/// `INTEGRITY` is that of both forms, or a length that neither has.
+pub fn kind<A: KeyInit>(
+    room: A::Room,
+    kek: &[u8],
+    text: &[u8],
+    scratch: &mut [u8],
+    padded: &mut u32,
+    key_len: &mut usize,
+) -> i32
+    ensures { FindsKind (cipher kek.now)
+        kek.now text.now scratch.old scratch.new padded.new key_len.new result }
+{
+    *padded = 0;
+    *key_len = 0;
+    let Ok(aes) = A::new_in(kek, room) else {
+        return BAD_KEK;
+    };
+    match kind_into(&mut Meter::new(&aes), text, scratch) {
+        Ok(Kind::Plain(m)) => {
+            *key_len = m;
+            DONE
+        }
+        Ok(Kind::Padded(m)) => {
+            *key_len = m;
+            *padded = 1;
+            DONE
+        }
+        Ok(Kind::Neither) => INTEGRITY,
+        Err(_) => BAD_LENGTH,
+    }
+}

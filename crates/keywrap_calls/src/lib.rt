@@ -1,0 +1,25 @@
+//! The calls of the libraries, each with its status: over the caller's own buffers, without memory
+//! and without state. The AES is a parameter, so that each library brings its own.
+#![tactic(auto)]
+
+mod kinds;
+mod padded;
+mod padded_in_place;
+mod plain;
+mod plain_in_place;
+mod plain_with;
+mod rewrapping;
+mod status;
+mod texts;
+mod version_number;
+
+pub use kinds::kind;
+pub use padded::{unwrap_padded, wrap_padded};
+pub use padded_in_place::{unwrap_padded_in_place, wrap_padded_in_place};
+pub use plain::{unwrap, wrap};
+pub use plain_in_place::{unwrap_in_place, wrap_in_place};
+pub use plain_with::{initial_value, unwrap_with, wrap_with};
+pub use rewrapping::rewrap_in_place;
+pub use status::{BAD_IV, BAD_KEK, BAD_LENGTH, DONE, INTEGRITY};
+pub use texts::status_text;
+pub use version_number::version;

@@ -1,0 +1,54 @@
+//! The padded form in one buffer of the wrapped key's length: the key stands after the first 8
+//! bytes.
+
+ghost use Rattle.std.specs.Prelude.{replicate};
+ghost use Rattle.aes_block.specs.Cipher.{cipher};
+ghost use Rattle.key_wrap.specs.InPlace.{key_in};
+ghost use Rattle.keywrap_calls.specs.Calls.{WrapsPaddedInPlace, UnwrapsPaddedInPlace, IsPaddedKey};
+
+use crate::status::{BAD_KEK, DONE, fault_status, status_of};
+use aes_block::KeyInit;
+use block_pair::Meter;
+
+/// Wraps the key of `key_len` bytes after the first 8 bytes of `buffer` under `kek` in the padded
+/// form, into the whole buffer (RFC 5649, section 4.1). Other bytes of the buffer are ignored.
+pub fn wrap_padded_in_place<A: KeyInit>(
+    room: A::Room,
+    kek: &[u8],
+    buffer: &mut [u8],
+    key_len: usize,
+) -> i32
+    ensures { WrapsPaddedInPlace (cipher kek.now) kek.now key_len buffer.old buffer.new result }
+{
+    let Ok(aes) = A::new_in(kek, room) else {
+        return BAD_KEK;
+    };
+    status_of(key_wrap::wrap_padded_in_place(&mut Meter::new(&aes), buffer, key_len))
+}
+
+/// Unwraps the padded wrapping in `buffer`, which becomes 8 zero bytes, its key under `kek`, of
+/// `*key_len` bytes, and zero bytes to the end (RFC 5649, section 4.2). At `INTEGRITY` every byte
+/// of the buffer is zero. `*key_len` is 0 at each refusal.
+pub fn unwrap_padded_in_place<A: KeyInit>(
+    room: A::Room,
+    kek: &[u8],
+    buffer: &mut [u8],
+    key_len: &mut usize,
+) -> i32
+    ensures unwraps { UnwrapsPaddedInPlace (cipher kek.now)
+        kek.now buffer.old buffer.new key_len.new result }
+    ensures key { IsPaddedKey (cipher kek.now)
+        buffer.old (key_in key_len.new buffer.new) (replicate 8 0) buffer.new key_len.new result }
+{
+    *key_len = 0;
+    let Ok(aes) = A::new_in(kek, room) else {
+        return BAD_KEK;
+    };
+    match key_wrap::unwrap_padded_in_place(&mut Meter::new(&aes), buffer) {
+        Ok(m) => {
+            *key_len = m;
+            DONE
+        }
+        Err(fault) => fault_status(fault),
+    }
+}

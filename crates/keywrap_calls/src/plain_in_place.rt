@@ -1,0 +1,34 @@
+//! The plain form in one buffer of the wrapped key's length: the key stands after the first 8
+//! bytes.
+
+ghost use Rattle.std.specs.Prelude.{◌≡◌, take, replicate};
+ghost use Rattle.aes_block.specs.Cipher.{cipher};
+ghost use Rattle.keywrap_calls.specs.Status.{IsDone};
+ghost use Rattle.keywrap_calls.specs.Calls.{WrapsInPlace, UnwrapsInPlace};
+
+use crate::status::{BAD_KEK, status_of};
+use aes_block::KeyInit;
+use block_pair::Meter;
+
+/// Wraps the key after the first 8 bytes of `buffer`, which are ignored, under `kek` in the plain
+/// form, into the whole buffer (RFC 3394, section 2.2.1).
+pub fn wrap_in_place<A: KeyInit>(room: A::Room, kek: &[u8], buffer: &mut [u8]) -> i32
+    ensures { WrapsInPlace (cipher kek.now) kek.now buffer.old buffer.new result }
+{
+    let Ok(aes) = A::new_in(kek, room) else {
+        return BAD_KEK;
+    };
+    status_of(key_wrap::wrap_in_place(&mut Meter::new(&aes), buffer))
+}
+
+/// Unwraps the plain wrapping in `buffer`, which becomes 8 zero bytes and its key under `kek` (RFC
+/// 3394, section 2.2.2). At `INTEGRITY` every byte of the buffer is zero.
+pub fn unwrap_in_place<A: KeyInit>(room: A::Room, kek: &[u8], buffer: &mut [u8]) -> i32
+    ensures unwraps { UnwrapsInPlace (cipher kek.now) kek.now buffer.old buffer.new result }
+    ensures first_word { IsDone result → take 8 buffer.new ≡ replicate 8 0 }
+{
+    let Ok(aes) = A::new_in(kek, room) else {
+        return BAD_KEK;
+    };
+    status_of(key_wrap::unwrap_in_place(&mut Meter::new(&aes), buffer))
+}

@@ -1,0 +1,62 @@
+//! The plain form from one buffer into another, under an initial value that both ends agreed on.
+
+ghost use Rattle.std.specs.Prelude.{◌≡◌, IfSome, IfNone};
+ghost use Rattle.aes_block.specs.Cipher.{cipher};
+ghost use Rattle.keywrap_calls.specs.AgreedValue.{IsIv, iv_word};
+ghost use Rattle.keywrap_calls.specs.Calls.{WrapsWith, UnwrapsWith};
+
+use crate::status::{BAD_IV, BAD_KEK, status_of};
+use aes_block::KeyInit;
+use block_pair::Meter;
+use key_wrap::{InitialValue, unwrap_into_with, wrap_into_with};
+
+/// Wraps `key` under `kek` and the initial value `iv` in the plain form, into `text` (RFC 3394,
+/// sections 2.2.1 and 2.2.3.2).
+pub fn wrap_with<A: KeyInit>(
+    room: A::Room,
+    kek: &[u8],
+    iv: &[u8],
+    key: &[u8],
+    text: &mut [u8],
+) -> i32
+    ensures { WrapsWith (cipher kek.now) kek.now iv.now key.now text.old text.new result }
+{
+    let Some(value) = initial_value(iv) else {
+        return BAD_IV;
+    };
+    let Ok(aes) = A::new_in(kek, room) else {
+        return BAD_KEK;
+    };
+    status_of(wrap_into_with(&mut Meter::new(&aes), &value, key, text))
+}
+
+/// Unwraps `text`, in the plain form under `kek` and the initial value `iv`, into `key` (RFC 3394,
+/// sections 2.2.2 and 2.2.3.2). At `INTEGRITY` every byte of `key` is zero.
+pub fn unwrap_with<A: KeyInit>(
+    room: A::Room,
+    kek: &[u8],
+    iv: &[u8],
+    text: &[u8],
+    key: &mut [u8],
+) -> i32
+    ensures { UnwrapsWith (cipher kek.now) kek.now iv.now text.now key.old key.new result }
+{
+    let Some(value) = initial_value(iv) else {
+        return BAD_IV;
+    };
+    let Ok(aes) = A::new_in(kek, room) else {
+        return BAD_KEK;
+    };
+    status_of(unwrap_into_with(&mut Meter::new(&aes), &value, text, key))
+}
+
+/// Returns the initial value of these bytes. `None` if they are not 8 bytes, or are reserved for the
+/// padded form.
+#[tactic(auto, unfolding(crate::specs::AgreedValue::iv_word, crate::specs::AgreedValue::IsIv))]
+pub fn initial_value(bytes: &[u8]) -> Option<InitialValue>
+    ensures given { IfSome result (λ value. IsIv bytes.now × (value ≡ iv_word bytes.now)) }
+    ensures refused { IfNone result (¬ IsIv bytes.now) }
+{
+    let bytes = <[u8; 8]>::try_from(bytes).ok()?;
+    InitialValue::new(bytes).ok()
+}

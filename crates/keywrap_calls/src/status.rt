@@ -1,0 +1,41 @@
+//! The statuses of the calls: the exit statuses of the command.
+
+ghost use Rattle.std.specs.Prelude.{◌≡◌};
+ghost use Rattle.keywrap_calls.specs.Status.{fault_status, outcome_status};
+
+use key_wrap::InPlaceFault;
+
+/// Done.
+pub const DONE: i32 = 0;
+
+/// The initial value is not 8 bytes long, or is reserved for the padded form.
+pub const BAD_IV: i32 = 2;
+
+/// The key-encryption key (KEK) is not 16, 24 or 32 bytes long.
+pub const BAD_KEK: i32 = 3;
+
+/// A length is not legal, or a buffer does not have the length that goes with it.
+pub const BAD_LENGTH: i32 = 4;
+
+/// The integrity check failed: no key was wrapped to this under the KEK.
+pub const INTEGRITY: i32 = 5;
+
+// The status of an outcome.
+pub(crate) fn status_of(outcome: Result<(), InPlaceFault>) -> i32
+    ensures { result ≡ outcome_status outcome }
+{
+    match outcome {
+        Ok(()) => DONE,
+        Err(fault) => fault_status(fault),
+    }
+}
+
+// The status of a refusal.
+pub(crate) fn fault_status(fault: InPlaceFault) -> i32
+    ensures { result ≡ fault_status fault }
+{
+    match fault {
+        InPlaceFault::BadLength => BAD_LENGTH,
+        InPlaceFault::Integrity => INTEGRITY,
+    }
+}

@@ -1,0 +1,111 @@
+//! Rewrappings from open KEK files, as the program makes them: what is new already passes.
+
+use super::cases::{Answer, HEX, WRITTEN};
+use super::doubles::{Narrow, Trickle};
+use super::jobs::{BAD_LENGTH, HEX_KEK, HEX_TEXT, INTEGRITY, PADDED_KEK, TEXT_OF_20};
+use super::rewraps::{NEW_KEK, NEW_OF_7, NEW_PADDED, NEW_TEXT};
+use crate::operation::Operation;
+use crate::rewrapping::{RewrapForms, Rewrapping};
+use key_lines::{LineFault, RefusalLog, RefusedLine, RunOptions, RunSummary, TextNotation};
+use key_wrap::{AgreedForm, Form, InPlaceFault};
+use std::io::BufReader;
+use std::test::Fail;
+
+// The forms of a rewrapping, the old one and the new, under the default initial value; or the form
+// is kept.
+type Forms = Option<(Form, Form)>;
+
+const KEPT: Forms = None;
+
+const PLAIN: Forms = Some((Form::Plain, Form::Plain));
+
+const TO_PADDED: Forms = Some((Form::Plain, Form::Padded));
+
+const TO_PLAIN: Forms = Some((Form::Padded, Form::Plain));
+
+// Forms, the KEK, the input, the answer and the output; the new KEK is one for all.
+static ROWS: [(Forms, &[u8], &[u8], Answer, &[u8]); 10] = [
+    (PLAIN, HEX_KEK, HEX_TEXT, WRITTEN, NEW_TEXT),
+    (PLAIN, HEX_KEK, NEW_TEXT, WRITTEN, NEW_TEXT),
+    (PLAIN, HEX_KEK, NEW_PADDED, INTEGRITY, b""),
+    (TO_PADDED, HEX_KEK, NEW_PADDED, WRITTEN, NEW_PADDED),
+    (TO_PADDED, HEX_KEK, NEW_TEXT, INTEGRITY, b""),
+    // its length is legal in the new form alone
+    (TO_PADDED, HEX_KEK, NEW_OF_7, WRITTEN, NEW_OF_7),
+    (PLAIN, HEX_KEK, NEW_OF_7, BAD_LENGTH, b""),
+    (KEPT, HEX_KEK, NEW_TEXT, WRITTEN, NEW_TEXT),
+    (KEPT, HEX_KEK, NEW_OF_7, WRITTEN, NEW_OF_7),
+    // under the old KEK, and of a key that has no plain wrapping
+    (TO_PLAIN, PADDED_KEK, TEXT_OF_20, BAD_LENGTH, b""),
+];
+
+fn operation(forms: Forms, kek: &'static [u8]) -> Operation<Trickle<'static>> {
+    Operation::Rewrap {
+        task: Rewrapping {
+            forms: rewrap_forms(forms),
+            pass_new: true,
+            input: HEX,
+            kek: HEX,
+        },
+        kek: Trickle::in_pieces(kek, 7),
+        new_kek: Trickle::in_pieces(NEW_KEK, 7),
+    }
+}
+
+fn rewrap_forms(forms: Forms) -> RewrapForms {
+    match forms {
+        None => RewrapForms::Kept,
+        Some((old, new)) => RewrapForms::Changed {
+            old: AgreedForm::by_default(old),
+            new: AgreedForm::by_default(new),
+        },
+    }
+}
+
+#[test]
+fn passes_what_is_new_already(rt: HostRuntime) {
+    for (forms, kek, text, wanted, output) in ROWS {
+        let mut out = Narrow::in_pieces(rt.alloc(), 7);
+        let mut input = Trickle::in_pieces(text, 7);
+        let done = operation(forms, kek).run(rt.alloc(), &mut input, &mut out);
+        assert!(rt; done == wanted && out.out() == output, "{wanted:?}");
+    }
+}
+
+// Keeps no refusal.
+#[derive(Drop)]
+struct NoLog;
+
+impl RefusalLog<InPlaceFault> for NoLog {
+    fn receive(&mut self, _refused: &RefusedLine<InPlaceFault>) {}
+}
+
+#[test]
+fn counts_the_lines_that_pass(rt: HostRuntime) -> Result<(), Fail> {
+    let lines = b"1fa68b0a8112b447aef34bd8fb5a7b829d3e862371d2cfe5\n\
+        64e8c3f9ce0f5ba263e9777905818a2a93c8191e7d6e8ae7\n00\n";
+    let wanted = b"64e8c3f9ce0f5ba263e9777905818a2a93c8191e7d6e8ae7\n\
+        64e8c3f9ce0f5ba263e9777905818a2a93c8191e7d6e8ae7\n\n";
+    let mut input = BufReader::with_capacity(rt.alloc(), 16, Trickle::in_pieces(lines, 7))?;
+    let mut out = Narrow::in_pieces(rt.alloc(), 7);
+    let options = RunOptions {
+        notation: TextNotation::Hex,
+        keep_going: true,
+    };
+    let mut operation = operation(PLAIN, HEX_KEK);
+    let run = operation.run_lines(rt.alloc(), options, &mut NoLog, &mut input, &mut out);
+    let first_refused = Some(RefusedLine {
+        line: 3,
+        fault: LineFault::Refused(InPlaceFault::BadLength),
+    });
+    assert!(rt;
+        run == Ok(Ok(RunSummary {
+            lines: 3,
+            marked: 1,
+            refused: 1,
+            first_refused,
+        }))
+    );
+    assert!(rt; out.out() == wanted.as_slice());
+    Ok(())
+}

@@ -1,0 +1,27 @@
+//! What a file is for in a run.
+
+use std::fmt;
+
+/// What a file is for in a run.
+#[derive(Clone, Copy)]
+pub enum FileRole {
+    /// It has the KEK.
+    Kek,
+    /// It has the new KEK of a rewrap.
+    NewKek,
+    /// It has the key or the wrapped key.
+    Input,
+    /// It gets the answer.
+    Output,
+}
+
+impl fmt::Display for FileRole {
+    fn fmt<W: fmt::Write>(&self, f: &mut fmt::Formatter<W>) -> fmt::Result {
+        f.write_str(match self {
+            FileRole::Kek => "the KEK",
+            FileRole::NewKek => "the new KEK",
+            FileRole::Input => "the input",
+            FileRole::Output => "the output",
+        })
+    }
+}

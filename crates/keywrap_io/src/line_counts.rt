@@ -1,0 +1,30 @@
+//! The last line of a run over the lines of an input: how many there were, and what became of them.
+
+use std::fmt;
+
+/// What became of the lines of a run.
+#[derive(Clone, Copy)]
+pub struct LineCounts {
+    /// The number of lines.
+    pub lines: u64,
+    /// The number of refused lines, which the run skipped.
+    pub refused: u64,
+    /// With --pass-new: the number of lines that were already wrapped under the new KEK.
+    pub passed: Option<u64>,
+}
+
+impl fmt::Display for LineCounts {
+    fn fmt<W: fmt::Write>(&self, f: &mut fmt::Formatter<W>) -> fmt::Result {
+        let (lines, refused) = (self.lines, self.refused);
+        let rest = lines.saturating_sub(refused);
+        let unit = if lines == 1 { "line" } else { "lines" };
+        write!(f, "keywrap: {lines} {unit}: ")?;
+        match self.passed {
+            Some(passed) => {
+                let answered = rest.saturating_sub(passed);
+                write!(f, "{answered} answered, {passed} passed, {refused} refused")
+            }
+            None => write!(f, "{rest} answered, {refused} refused"),
+        }
+    }
+}

@@ -1,0 +1,68 @@
+//! The files of a run that its output must not replace.
+
+use crate::file_role::FileRole;
+use crate::reason::Reason;
+use std::fs::{Metadata, OpenFile};
+use std::io;
+use std::os::unix::fs::MetadataExt;
+use std::rt::Files;
+
+/// The files of a run that its output must not replace, under any name.
+#[derive(Clone, Copy)]
+pub struct Protected {
+    /// The KEK file.
+    pub kek: FileId,
+    /// The new KEK file.
+    pub new_kek: Option<FileId>,
+    /// The input, if it has the only copy of the refused lines.
+    pub input: Option<FileId>,
+}
+
+/// Which file of the system this is.
+#[derive(Clone, Copy)]
+pub enum FileId {
+    /// The file with these numbers.
+    Known { device: u64, inode: u64 },
+    /// It cannot be identified, so it may be any file.
+    Unknown,
+}
+
+impl FileId {
+    /// Identifies an open file.
+    pub fn from_file<F: OpenFile>(file: &F) -> FileId {
+        FileId::from_metadata(file.metadata())
+    }
+
+    /// Identifies the file that is standard input.
+    pub fn standard_input<R: Files>(rt: &R) -> FileId {
+        FileId::from_metadata(rt.metadata("/proc/self/fd/0"))
+    }
+
+    fn from_metadata(metadata: io::Result<Metadata>) -> FileId {
+        match metadata {
+            Ok(metadata) => FileId::Known {
+                device: metadata.dev(),
+                inode: metadata.ino(),
+            },
+            Err(_) => FileId::Unknown,
+        }
+    }
+}
+
+impl Protected {
+    /// Refuses a target that is one of these files, or may be.
+    pub fn check(&self, target: &Metadata) -> Result<(), Reason> {
+        check_file(Some(self.kek), FileRole::Kek, target)?;
+        check_file(self.new_kek, FileRole::NewKek, target)?;
+        check_file(self.input, FileRole::Input, target)
+    }
+}
+
+fn check_file(file: Option<FileId>, role: FileRole, target: &Metadata) -> Result<(), Reason> {
+    match file {
+        Some(FileId::Known { device, inode }) if device == target.dev() && inode == target.ino() =>
+            { Err(Reason::IsProtected(role)) }
+        Some(FileId::Unknown) => Err(Reason::MayBeProtected(role)),
+        Some(FileId::Known { .. }) | None => Ok(()),
+    }
+}

@@ -1,0 +1,27 @@
+//! In which form a key was wrapped.
+
+ghost use Rattle.aes_block.specs.Cipher.{cipher};
+ghost use Rattle.keywrap_calls.specs.Kinds.{FindsKind};
+
+use aes_block::Aes;
+
+/// Finds the form in which `text` is a wrapping under `kek`, and the length of its key: `*padded` is
+/// 0 in the plain form, under the default initial value, and 1 in the padded form (RFC 3394, RFC
+/// 5649).
+///
+/// The key is not given out: `scratch` is `text` without its first word in length, and where that
+/// length is legal in a form every byte of it is zero then. Both numbers are 0 at each refusal;
+/// `INTEGRITY` is that of both forms, or a length that neither has.
+#[unsafe(no_mangle)]
+pub extern "C" fn keywrap_kind(
+    kek: &[u8],
+    text: &[u8],
+    scratch: &mut [u8],
+    padded: &mut u32,
+    key_len: &mut usize,
+) -> i32
+    ensures { FindsKind (cipher kek.now)
+        kek.now text.now scratch.old scratch.new padded.new key_len.new result }
+{
+    keywrap_calls::kind::<Aes>((), kek, text, scratch, padded, key_len)
+}

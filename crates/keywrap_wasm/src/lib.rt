@@ -1,0 +1,13 @@
+//! The exports for WebAssembly, over AES by word tables: the same as those for C. The host clears
+//! the memory of the module after each call.
+#![tactic(auto)]
+
+mod kinds;
+mod padded;
+mod padded_in_place;
+mod plain;
+mod plain_in_place;
+mod plain_with;
+mod rewrapping;
+mod texts;
+mod version;

@@ -1,0 +1,91 @@
+/* aes.c: the key schedules, and the known-answer test before the first use. */
+
+#include "aes.h"
+
+#include <string.h>
+
+void wipe(void *memory, size_t len) {
+    memset(memory, 0, len);
+    __asm__ volatile("" : : "r"(memory) : "memory");
+}
+
+/* Key expansion (FIPS 197, section 5.2). Words are in the order of their bytes in memory. */
+int aes_set_encrypt(struct aes *aes, const uint8_t *kek, size_t kek_len) {
+    if (kek_len != 16 && kek_len != 24 && kek_len != 32) return 0;
+    unsigned n = (unsigned)kek_len / 4;
+    uint32_t words[SCHEDULE / 4], constant = 1;
+    aes->rounds = n + 6;
+    memcpy(words, kek, kek_len);
+    for (unsigned i = n; i < 4 * (aes->rounds + 1); i++) {
+        uint32_t word = words[i - 1];
+        if (i % n == 0) {
+            word = sub_word(word >> 8 | word << 24) ^ constant;
+            constant = constant << 1 ^ (constant >> 7) * 0x11b;
+        } else if (n == 8 && i % n == 4) {
+            word = sub_word(word);
+        }
+        words[i] = words[i - n] ^ word;
+    }
+    memcpy(aes->keys, words, BLOCK * (aes->rounds + 1));
+    wipe(words, sizeof words);
+    return 1;
+}
+
+/* The schedule of the equivalent inverse cipher (section 5.3.5). */
+int aes_set_decrypt(struct aes *aes, const uint8_t *kek, size_t kek_len) {
+    struct aes forward;
+    if (!aes_set_encrypt(&forward, kek, kek_len)) return 0;
+    aes->rounds = forward.rounds;
+    for (unsigned i = 0; i <= aes->rounds; i++) {
+        uint8_t *round_key = aes->keys + BLOCK * i;
+        memcpy(round_key, forward.keys + BLOCK * (aes->rounds - i), BLOCK);
+        if (i > 0 && i < aes->rounds) inverse_mix(round_key);
+    }
+    wipe(&forward, sizeof forward);
+    return 1;
+}
+
+void aes_encrypt(const struct aes *aes, uint8_t block[BLOCK]) {
+    encrypt_block(aes, block);
+}
+
+void aes_decrypt(const struct aes *aes, uint8_t block[BLOCK]) {
+    decrypt_block(aes, block);
+}
+
+/* The ciphertexts of 00112233445566778899aabbccddeeff under 00 01 02 .. (FIPS 197, appendix C). */
+static const uint8_t CIPHERTEXTS[3][BLOCK] = {
+    {0x69, 0xc4, 0xe0, 0xd8, 0x6a, 0x7b, 0x04, 0x30, 0xd8, 0xcd, 0xb7, 0x80, 0x70, 0xb4, 0xc5,
+     0x5a},
+    {0xdd, 0xa9, 0x7c, 0xa4, 0x86, 0x4c, 0xdf, 0xe0, 0x6e, 0xaf, 0x70, 0xa0, 0xec, 0x0d, 0x71,
+     0x91},
+    {0x8e, 0xa2, 0xb7, 0xca, 0x51, 0x67, 0x45, 0xbf, 0xea, 0xfc, 0x49, 0x90, 0x4b, 0x49, 0x60,
+     0x89},
+};
+
+static int known_answers(void) {
+    uint8_t kek[32], plaintext[BLOCK], block[BLOCK];
+    for (unsigned i = 0; i < sizeof kek; i++) kek[i] = (uint8_t)i;
+    for (unsigned i = 0; i < BLOCK; i++) block[i] = plaintext[i] = (uint8_t)(0x11 * i);
+    for (unsigned i = 0; i < 3; i++) {
+        struct aes aes;
+        if (!aes_set_encrypt(&aes, kek, 16 + 8 * i)) return 0;
+        encrypt_block(&aes, block);
+        if (memcmp(block, CIPHERTEXTS[i], BLOCK) != 0) return 0;
+        if (!aes_set_decrypt(&aes, kek, 16 + 8 * i)) return 0;
+        decrypt_block(&aes, block);
+        if (memcmp(block, plaintext, BLOCK) != 0) return 0;
+    }
+    return 1;
+}
+
+int aes_works(void) {
+    enum { UNKNOWN, WORKS, MISSING };
+    static int state = UNKNOWN;
+    int known = __atomic_load_n(&state, __ATOMIC_ACQUIRE);
+    if (known == UNKNOWN) {
+        known = has_instructions() && known_answers() ? WORKS : MISSING;
+        __atomic_store_n(&state, known, __ATOMIC_RELEASE);
+    }
+    return known == WORKS;
+}

@@ -1,0 +1,39 @@
+/* aes.h: AES by the processor's instructions, chosen at run time (FIPS 197). */
+
+#ifndef HARDWARE_AES_H
+#define HARDWARE_AES_H
+
+#include <stddef.h>
+#include <stdint.h>
+
+enum { BLOCK = 16, ROUNDS_AT_MOST = 14, SCHEDULE = BLOCK * (ROUNDS_AT_MOST + 1) };
+
+/* The round keys in the order of the cipher, or of the inverse cipher. */
+struct aes {
+    uint8_t keys[SCHEDULE];
+    unsigned rounds;
+};
+
+/* aes_works returns whether the processor has the instructions and they passed a known-answer test.
+ * The first call decides. Threads may make it at once. */
+int aes_works(void);
+
+/* aes_set_encrypt and aes_set_decrypt expand a KEK of 16, 24 or 32 bytes. Any other length is
+ * refused: they return 0. */
+int aes_set_encrypt(struct aes *aes, const uint8_t *kek, size_t kek_len);
+int aes_set_decrypt(struct aes *aes, const uint8_t *kek, size_t kek_len);
+
+void aes_encrypt(const struct aes *aes, uint8_t block[BLOCK]);
+void aes_decrypt(const struct aes *aes, uint8_t block[BLOCK]);
+
+/* wipe clears memory even if nothing reads it afterwards. */
+void wipe(void *memory, size_t len);
+
+/* What each processor provides, in x86_64.c and aarch64.c. */
+int has_instructions(void);
+uint32_t sub_word(uint32_t word);
+void inverse_mix(uint8_t round_key[BLOCK]);
+void encrypt_block(const struct aes *aes, uint8_t block[BLOCK]);
+void decrypt_block(const struct aes *aes, uint8_t block[BLOCK]);
+
+#endif

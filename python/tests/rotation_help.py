@@ -1,0 +1,46 @@
+"""What the tests of keywrap.rotate share. Expected bytes are made by `cryptography`."""
+
+import os
+import random
+
+import pytest
+from cryptography.hazmat.primitives import keywrap as pyca
+
+KEK = bytes(range(16))
+NEW_KEK = bytes(range(100, 132))
+SECRETS = (KEK.hex().encode(), NEW_KEK.hex().encode(), KEK, NEW_KEK)
+
+
+def skip_if_busy():
+    """Skips a test that kills processes at the right moment: they need a machine that has time for them."""
+    if os.getloadavg()[0] > 1.5 * os.cpu_count():
+        pytest.skip("the machine is too busy to disturb a rotation at the right moment")
+
+
+def wrapped_under(kek, key):
+    """The wrapped key: a key of a length that the plain form does not take is padded."""
+    if len(key) % 8 == 0 and len(key) >= 16:
+        return pyca.aes_key_wrap(kek, key)
+    return pyca.aes_key_wrap_with_padding(kek, key)
+
+
+def make_keys(count, seed=0):
+    """Keys of both forms."""
+    source = random.Random(seed)
+    return [source.randbytes(32 if number % 3 else 21) for number in range(count)]
+
+
+def lines_under(kek, keys):
+    return b"".join(wrapped_under(kek, key).hex().encode() + b"\n" for key in keys)
+
+
+def set_keks(directory, monkeypatch, kek=KEK, new_kek=NEW_KEK):
+    """Writes both KEKs into files, which the environment names."""
+    for name, variable, content in (("kek.hex", "KEYWRAP_KEK", kek), ("new-kek.hex", "KEYWRAP_NEW_KEK", new_kek)):
+        path = directory / name
+        path.write_text(content.hex() + "\n", encoding="ascii")
+        monkeypatch.setenv(variable, str(path))
+
+
+def left_over(directory):
+    return [name for _, _, names in os.walk(directory) for name in names if name.startswith(".rotating.")]

@@ -1,0 +1,30 @@
+#!/bin/sh
+# Builds the Python package as a wheel in DIST, out of a copy of its sources beside the header and the archive. The same
+# sources and SOURCE_DATE_EPOCH give the same bytes, whatever the folder and the umask. `make wheel` calls it.
+#
+# usage: scripts/wheel.sh PYTHON LIBRARY MACHINE DIST [SYSROOT]
+#        (LIBRARY: what `make library` made; SYSROOT: for another machine than this, where its Python is, with its
+#        compiler in CC)
+
+set -eu
+python=${1:?} library=${2:?} machine=${3:?} sysroot=${5:-}
+mkdir -p -- "${4:?}"
+dist=$(cd -- "$4" && pwd)
+package=$library/python
+
+umask 022
+rm -rf "$package"
+cp -R --no-preserve=mode python "$package"
+cp --no-preserve=mode VERSION include/keywrap.h "$library/libkeywrap.a" "$package"
+scripts/links.sh <python/README.md >"$package/README.md"
+# No symbol of glibc that it needs is newer than 2.17: tests/python.sh looks.
+printf '[bdist_wheel]\nplat_name = manylinux_2_17_%s\n' "$machine" >"$package/setup.cfg"
+if [ -n "$sysroot" ]; then
+    headers=include/$machine-linux-gnu
+    mkdir -p "$package/$headers"
+    cp -R "$sysroot"/usr/include/python3.*/. "$package/include"
+    cp -R "$sysroot/usr/$headers"/python3.* "$package/$headers"
+    export LDSHARED="$CC -shared" CFLAGS="-Iinclude ${CFLAGS:-}" _PYTHON_HOST_PLATFORM="linux-$machine"
+fi
+"$python" -m build --wheel --no-isolation --outdir "$dist" "$package" >"$library/wheel.log" 2>&1 ||
+    { cat "$library/wheel.log" >&2; exit 1; }

@@ -1,0 +1,7 @@
+// An entry for a bundler: the module's bytes are in the bundle, which need not be an ES module.
+
+import { load } from 'keywrap';
+import module from 'keywrap/keywrap.wasm';
+import { wrapped } from './wrapped.mjs';
+
+globalThis.inside = async () => wrapped(await load(module));

@@ -1,0 +1,28 @@
+// What the tests take from their host, here a page.
+
+export const webcrypto = crypto;
+
+async function read(path, as) {
+    const response = await fetch(path);
+    if (!response.ok) {
+        throw new Error(`${path}: ${response.status}`);
+    }
+    return response[as]();
+}
+
+export const readModule = async () =>
+    new Uint8Array(await read('/keywrap/keywrap.wasm', 'arrayBuffer'));
+
+export const readTable = (name) => read(`/tables/${name}`, 'text');
+
+// The same bytes, as a Uint8Array of another realm.
+export function inOtherRealm(given) {
+    const frame = document.body.appendChild(document.createElement('iframe'));
+    return frame.contentWindow.Uint8Array.from(given);
+}
+
+// The bundles, each as a call that wraps.
+export async function readBundles() {
+    await import('/bundles/inside.js');
+    return { beside: (await import('/bundles/beside.mjs')).beside, inside: globalThis.inside };
+}

@@ -1,0 +1,100 @@
+"""Runs in which allocations fail, each in turn, and runs in ever more memory.
+
+Each run ends with status 7 and `out of memory`, and writes nothing, or ends as it does with ample memory. With --output
+the file is as it was, or has the answer, and nothing is beside it."""
+
+import os
+import pathlib
+import subprocess
+
+import pytest
+
+from commands import ANSWERS, FILES, INTO_FILES, REFUSALS, Command
+from program import Ended, refused
+from vectors import MEMORY
+
+OUT_OF_MEMORY = refused(7, MEMORY)
+# Command lines that are refused, the last with bytes that are not UTF-8.
+ARGUMENTS = [Command(" ".join(map(repr, args)), args, None, 2, b"", None) for args in (
+    [], ["rewind"], ["wrap", "--kek", "kek16.hex", "--secret"], ["wrap"], ["drill", "00", "11"], ["drill", b"\xff"])]
+# The commands that are run in ever more memory: one of each kind.
+SOME = ["wrap", "padded rewrap", "check", "vectors", "wrong byte", "unwrap into a file"]
+EACH = pytest.mark.parametrize("command", ANSWERS + REFUSALS + ARGUMENTS + INTO_FILES, ids=lambda command: command.name)
+
+
+@pytest.fixture
+def ends(keywrap, command):
+    """ends(program, ..) is how a run ends with ample memory, or OUT_OF_MEMORY, after which no file is changed."""
+    own = keywrap(*command.args, text=False)
+    into_file = command in INTO_FILES
+    answer = own.stdout if command.stdout is None else command.stdout
+    complete = Ended(command.status, b"" if into_file else answer, own.stderr if command.stderr is None else command.stderr)
+    os.mkdir("to")
+
+    def run(program, **options):
+        pathlib.Path("to/file").write_bytes(FILES["old"])
+        ended = program(*command.args, stdin=command.given, text=False, **options)
+        held = pathlib.Path("to/file").read_bytes()
+        assert os.listdir("to") == ["file"], options
+        if ended[0] == 7 and ended != complete:
+            assert (ended, held) == ((7, b"", OUT_OF_MEMORY.stderr), FILES["old"]), options
+            return OUT_OF_MEMORY
+        assert (ended, held) == (complete, answer if into_file else FILES["old"]), options
+        return complete
+
+    run.complete = complete
+    return run
+
+
+@pytest.mark.parametrize("after", ["", "+"], ids=["one", "all after it"])
+@EACH
+def test_each_allocation(preloaded, command, ends, after):
+    """Each fails in turn, by itself or with all later ones."""
+    program = preloaded("fail_alloc")
+    for number in range(1, 9999):
+        ended = ends(program, FAIL_ALLOC=f"{number}{after}")
+        if not program.met:
+            assert ended == ends.complete
+            break
+    assert number > 1
+
+
+@pytest.mark.parametrize("command", [command for command in ANSWERS + REFUSALS + ARGUMENTS + INTO_FILES if command.name
+                                     in SOME], ids=lambda command: command.name)
+def test_ever_more_memory(keywrap, starving, command, ends):
+    """The C library takes pages of their own for each allocation, so that each step of a page allows one more."""
+    pages = {"GLIBC_TUNABLES": "glibc.malloc.mmap_threshold=1:glibc.malloc.mmap_max=1000000"}
+    (kind, start), = starving.items()
+    for limit in range(start, start + (12 << 20), 4096):
+        if ends(keywrap, env=pages, limits={kind: limit}) == ends.complete:
+            break
+    assert limit > start
+
+
+def calls(crates):
+    """The tests refuses_each_growth_.. of the test programs that `rt test` leaves in the crates there."""
+    for crate in ["key_wrap", "keywrap_cli"]:
+        program = os.path.abspath(f"{crates}/{crate}/out/{crate}_tests")
+        listed = subprocess.run([program, "--list"], capture_output=True, text=True).stdout
+        names = [line.removesuffix(": test") for line in listed.splitlines() if "::refuses_each_growth_" in line]
+        assert names, f"no test refuses_each_growth_.. in {program}"
+        yield from (pytest.param(program, name, 5 if crate == "key_wrap" else None, id=name) for name in names)
+
+
+if "TESTS" in os.environ:
+    @pytest.mark.parametrize("after", ["", "+"], ids=["one", "all after it"])
+    @pytest.mark.parametrize("program, name, count", list(calls(os.environ["TESTS"])))
+    def test_each_allocation_of_a_call(compiled, program, name, count, after):
+        """The test fails if a call returns anything but Memory, or all that it returns with ample memory, and if a call
+        that returns Memory has written something, or given its pair a block. The tests of key_wrap make five calls, and
+        one allocation in each."""
+        for number in range(1, 9999):
+            with open("met", "w+b") as met:
+                env = {**os.environ, "LD_PRELOAD": str(compiled("fail_alloc")), "FAIL_ALLOC": f"{number}{after}",
+                       "MET": str(met.fileno())}
+                ended = subprocess.run([program, name], env=env, pass_fds=[met.fileno()], capture_output=True, text=True)
+                met.seek(0)
+                assert ended.returncode == 0, (number, ended.stderr)
+                if not met.read():
+                    break
+        assert number - 1 == count if count else number > 1

@@ -1,0 +1,262 @@
+"""--base64, --base64url and --base64-kek: which texts denote which bytes, what is written, what is refused.
+
+Expected values are the vectors of RFC 3394, RFC 4648 and RFC 5649, of JOSE (RFC 7516 and 7517), NIST's cases, and a
+model of base64 in base64_model.py."""
+
+import base64
+import collections
+import os
+import pathlib
+import random
+import re
+
+import pytest
+
+import base64_model
+from commands import MAX_FILE
+from program import Ended, refused
+from vectors import (BAD_LENGTH, KEY16, INTEGRITY, IV, KEK16, KEK32, KEK_LENGTH, NEW_KEK_LENGTH, PADDED16, WRAPPED16,
+                     WRAPPED32, WRAPPED_IV, in_base64, in_url, raw)
+
+D16_64, W16_64, W32_64 = in_base64(KEY16), in_base64(WRAPPED16), in_base64(WRAPPED32)
+D16_URL, W16_URL, W32_URL = in_url(KEY16), in_url(WRAPPED16), in_url(WRAPPED32)
+WRAP = ["wrap", "--kek", "kek16.hex"]
+UNWRAP = ["unwrap", "--kek", "kek16.hex"]
+REWRAP = ["rewrap", "--kek", "kek16.hex", "--new-kek", "kek32.hex"]
+CHECK = ["check", "--kek", "kek16.hex"]
+
+
+def answered(text):
+    return Ended(0, text + "\n", "")
+
+
+@pytest.mark.parametrize("given", [
+    D16_64, D16_URL, D16_64.rstrip("="), D16_URL + "==",
+    f" \t{D16_64[:5]} {D16_64[5]}\r\n{D16_64[6:]}"])
+def test_wrap_reads_both_alphabets(keywrap, given):
+    assert keywrap(*WRAP, "--base64", stdin=given + "\n") == answered(W16_64)
+    assert keywrap(*WRAP, "--base64url", stdin=given + "\n") == answered(W16_URL)
+    assert keywrap(*WRAP, "--base64", stdin=given) == answered(W16_64)
+
+
+@pytest.mark.parametrize("given", [W16_64, W16_URL])
+@pytest.mark.parametrize("job, flag, answer", [
+    (UNWRAP, "--base64", D16_64), (UNWRAP, "--base64url", D16_URL),
+    (REWRAP, "--base64", W32_64), (REWRAP, "--base64url", W32_URL),
+    (CHECK, "--base64", "plain 16"), (CHECK, "--base64url", "plain 16")])
+def test_wrapped_keys_are_read_in_both_alphabets(keywrap, job, flag, answer, given):
+    assert D16_64 + W16_64 != D16_URL + "==" + W16_URL, "the two alphabets differ here"
+    assert keywrap(*job, flag, stdin=given + "\n") == answered(answer)
+
+
+def test_initial_value(keywrap):
+    assert keywrap(*WRAP, "--iv", IV, "--base64", stdin=D16_64) == answered(in_base64(WRAPPED_IV))
+    assert keywrap(*UNWRAP, "--iv", IV, "--base64url", stdin=in_base64(WRAPPED_IV)) == answered(D16_URL)
+
+
+def test_check_of_nothing(keywrap):
+    assert keywrap(*CHECK, "--base64", stdin="") == Ended(5, "none\n", "")
+
+
+def test_answer_goes_into_a_file(keywrap):
+    assert keywrap(*WRAP, "--base64", "-o", "file", stdin=D16_64) == Ended(0, "", "")
+    assert pathlib.Path("file").read_text() == W16_64 + "\n"
+
+
+def test_longest_key(keywrap):
+    """base64 breaks its lines at 76 columns; the file is read as one text, and the answer is one line."""
+    key = random.Random(1).randbytes(1048576)
+    wrapped = keywrap(*WRAP, "--raw", stdin=key, text=False).stdout
+    given = base64.encodebytes(key)
+    assert keywrap(*WRAP, "--base64", stdin=given) == answered(base64.b64encode(wrapped).decode())
+    back = keywrap(*UNWRAP, "--base64url", stdin=base64.encodebytes(wrapped))
+    assert back == answered(base64.urlsafe_b64encode(key).decode().rstrip("="))
+
+
+def test_longest_file(keywrap):
+    assert keywrap(*WRAP, "--base64", stdin=D16_64.ljust(MAX_FILE)) == answered(W16_64)
+    assert keywrap(*WRAP, "--base64", stdin=D16_64.ljust(MAX_FILE + 1)) == refused(6, "input: too long")
+
+
+@pytest.mark.parametrize("text", [in_base64(KEK16), in_url(KEK16), " ".join(in_base64(KEK16))])
+def test_kek_file(keywrap, text):
+    pathlib.Path("kek").write_text(text + "\n")
+    assert keywrap("wrap", "--base64-kek", "--kek", "kek", stdin=KEY16) == answered(WRAPPED16)
+
+
+def test_kek_and_input_have_their_own_notation(keywrap):
+    pathlib.Path("kek32.url").write_text(in_url(KEK32))
+    keks = ["--base64-kek", "--kek", "kek16.64", "--new-kek", "kek32.url"]
+    assert keywrap("rewrap", *keks, stdin=WRAPPED16) == answered(WRAPPED32)
+    wraps_raw = ["wrap", "--raw", "--base64-kek", "--kek", "kek16.64"]
+    assert keywrap(*wraps_raw, stdin=raw(KEY16), text=False) == Ended(0, raw(WRAPPED16), "")
+    assert keywrap("wrap", "--base64", "--raw-kek", "--kek", "kek16.raw", stdin=D16_64) == answered(W16_64)
+
+
+@pytest.mark.parametrize("kek, new_kek, status, message", [
+    ("kek32.hex", "kek16.64", 3, KEK_LENGTH),
+    ("kek3.64", None, 3, KEK_LENGTH),
+    ("kek16.64", "kek3.64", 3, NEW_KEK_LENGTH),
+    ("after.64", None, 6, "key file: base64 goes on after its padding at byte 3"),
+    ("kek16.64", "after.64", 6, "new key file: base64 goes on after its padding at byte 3")])
+def test_refused_kek(keywrap, kek, new_kek, status, message):
+    pathlib.Path("kek3.64").write_text("AAAA")
+    job = ["rewrap", "--new-kek", new_kek] if new_kek else ["wrap"]
+    assert keywrap(*job, "--base64-kek", "--kek", kek, stdin=WRAPPED16) == refused(status, message)
+
+
+@pytest.mark.parametrize("digits, in_64, in_64_url", [
+    ("66", "Zg==", "Zg"), ("666f", "Zm8=", "Zm8"), ("666f6f", "Zm9v", "Zm9v"),
+    ("666f6f62", "Zm9vYg==", "Zm9vYg"), ("666f6f6261", "Zm9vYmE=", "Zm9vYmE"),
+    ("666f6f626172", "Zm9vYmFy", "Zm9vYmFy"), ("14fb9c03d97e", "FPucA9l+", "FPucA9l-"),
+    ("14fb9c03d9", "FPucA9k=", "FPucA9k"), ("14fb9c03", "FPucAw==", "FPucAw")])
+def test_rfc_4648(keywrap, digits, in_64, in_64_url):
+    """The texts of section 10, and the bytes of section 9."""
+    wrapped = in_base64(keywrap(*WRAP, "--padded", stdin=digits).stdout.strip())
+    for text in in_64, in_64_url:
+        assert keywrap(*WRAP, "--padded", "--base64", stdin=text) == answered(wrapped)
+    assert keywrap(*UNWRAP, "--padded", "--base64", stdin=wrapped) == answered(in_64)
+    assert keywrap(*UNWRAP, "--padded", "--base64url", stdin=wrapped) == answered(in_64_url)
+
+
+def test_jose(keywrap):
+    """The A128KW key of RFC 7517 wraps the content key of RFC 7516, A.3."""
+    pathlib.Path("k").write_text("GawgguFyGrWKav7AX4VKUg\n")
+    cek = "BNMfxVSd_P4LZJ36P6pqzmt81C1vawnbyLEA8I-cLM8"
+    encrypted_key = "6KB707dM9YTIgHtLvtgWQ8mKwboJW3of9locizkDTHzBC2IlrT1oOQ"
+    flags = ["--base64url", "--base64-kek", "--kek", "k"]
+    assert keywrap("wrap", *flags, stdin=cek) == answered(encrypted_key)
+    assert keywrap("unwrap", *flags, stdin=encrypted_key) == answered(cek)
+
+
+def test_every_text_of_up_to_4_characters_in_lines(keywrap):
+    lines = list(base64_model.texts())
+    assert len(lines) == 1 + 11 + 121 + 1331 + 14641
+    wanted = [base64_model.line_denoted(line) or BAD_LENGTH for line in lines]
+    refusals = [f"keywrap: line {at}: {answer}\n" for at, answer in enumerate(wanted, 1) if isinstance(answer, str)]
+    assert len({re.sub(" at byte .*", "", line.split(": ", 2)[2]) for line in refusals}) == 5
+    flags = ["--lines", "--keep-going", "--padded"]
+    ended = keywrap(*WRAP, *flags, "--base64url", stdin="\n".join(lines) + "\n")
+    assert (ended.status, ended.stderr) == (4, "".join(refusals))
+    in_hex = "".join(base64.urlsafe_b64decode(line + "==").hex() + "\n" for line in ended.stdout.split("\n")[:-1])
+    back = keywrap(*UNWRAP, *flags, stdin=in_hex).stdout
+    assert back == "".join("\n" if isinstance(answer, str) else answer.hex() + "\n" for answer in wanted)
+
+
+@pytest.mark.parametrize("part", range(4))
+def test_text_of_up_to_4_characters_as_one_key(keywrap, part):
+    """A sample. Blanks are allowed anywhere."""
+    sample = list(base64_model.texts(base64_model.LETTERS + "\n"))[97 * part::388]
+    for text in sample:
+        answer = base64_model.denoted(text) or BAD_LENGTH
+        ended = keywrap(*WRAP, "--padded", "--base64", stdin=text)
+        if isinstance(answer, bytes):
+            back = keywrap(*UNWRAP, "--padded", "--raw", stdin=base64.b64decode(ended.stdout), text=False)
+            assert (ended.stderr, back) == ("", Ended(0, answer, "")), text
+        elif answer == BAD_LENGTH:
+            assert ended == refused(4, answer), text
+        else:
+            assert ended == refused(6, f"input: {answer}"), text
+
+
+FAULTS = [
+    ("AA*A", 6, "no base64 character at byte 2"),
+    (" \tA.", 6, "no base64 character at byte 3"),
+    (" AA AA ", 6, "no base64 character at byte 3"),
+    ("A+A_", 6, "no base64 character at byte 3"),
+    (" AAA==AAA", 6, "base64 goes on after its padding at byte 6"),
+    ("AAAAA", 6, "length is not that of base64"),
+    ("AA=", 6, "length is not that of base64"),
+    ("AB==", 6, "last base64 character has bits of no byte")]
+LENGTH = ("AAAA", 4, BAD_LENGTH)
+
+
+@pytest.mark.parametrize("at", [0, 1, 2])
+@pytest.mark.parametrize("job, good, answer, faults", [
+    (WRAP + ["--base64"], D16_64, W16_64, FAULTS + [LENGTH]),
+    (WRAP + ["--base64url"], D16_64, W16_URL, FAULTS + [LENGTH]),
+    (UNWRAP + ["--base64"], W16_64, D16_64, FAULTS + [LENGTH, (W32_64, 5, INTEGRITY)]),
+    (REWRAP + ["--base64url"], W16_URL, W32_URL, FAULTS + [LENGTH, (W32_64, 5, INTEGRITY)]),
+    (CHECK + ["--base64"], W16_URL, "plain 16", FAULTS)], ids=["wrap", "wrap-url", "unwrap", "rewrap", "check"])
+def test_refused_line(keywrap, job, good, answer, faults, at):
+    job = job + ["--lines"]
+    for bad, status, message in faults:
+        lines, answers = [good] * 3, [answer] * 3
+        lines[at], answers[at] = bad, ""
+        given, error = "\n".join(lines) + "\n", f"keywrap: line {at + 1}: {message}\n"
+        assert keywrap(*job, stdin=given) == Ended(status, (answer + "\n") * at, error)
+        assert keywrap(*job, "--keep-going", stdin=given) == Ended(status, "\n".join(answers) + "\n", error)
+        pathlib.Path("in").write_text(given)
+        assert keywrap(*job, "-i", "in", "-o", "old") == Ended(status, "", error)
+        assert pathlib.Path("old").read_text() == "old\n"
+
+
+@pytest.mark.parametrize("job, given, answer", [
+    pytest.param([*WRAP, "--base64url"], f"{D16_64}\r\n\t{D16_URL} ", [W16_URL, W16_URL], id="blanks at the ends"),
+    pytest.param([*REWRAP, "--pass-new", "--base64"], f"{W16_64}\n{W32_URL}\n", [W32_64, W32_64], id="a new one")])
+def test_lines(keywrap, job, given, answer):
+    assert keywrap(*job, "--lines", stdin=given) == answered("\n".join(answer))
+
+
+def test_lines_of_both_forms(keywrap):
+    in_hex = keywrap(*REWRAP, "--keep-form", "--lines", stdin=f"{WRAPPED16}\n{PADDED16}\n").stdout.split()
+    given = f"{W16_64}\n{in_base64(PADDED16)}\n"
+    wanted = [W32_64, in_base64(in_hex[1])]
+    assert keywrap(*REWRAP, "--keep-form", "--base64", "--lines", stdin=given) == answered("\n".join(wanted))
+
+
+def test_line_too_long(keywrap):
+    given = " " * MAX_FILE + "A\n"
+    assert keywrap(*WRAP, "--lines", "--base64", stdin=given) == refused(6, "line 1: too long")
+
+
+def test_many_lines_as_in_hex(keywrap):
+    keys = [random.Random(at).randbytes(16 + 8 * (at % 4)).hex() for at in range(1000)]
+    wrapped = keywrap(*WRAP, "--lines", stdin="\n".join(keys)).stdout.split()
+    keys_64, wrapped_64 = "\n".join(map(in_base64, keys)), "\n".join(map(in_base64, wrapped))
+    assert len(wrapped) == 1000
+    assert keywrap(*WRAP, "--lines", "--base64", stdin=keys_64) == answered(wrapped_64)
+    assert keywrap(*UNWRAP, "--lines", "--base64", stdin=wrapped_64) == answered(keys_64)
+
+
+@pytest.mark.parametrize("bits", [128, 192, 256])
+@pytest.mark.parametrize("table", ["KW_AE", "KW_AD", "KWP_AE", "KWP_AD"])
+def test_nist(keywrap, table, bits):
+    """NIST's cases (CAVP, SP 800-38F, with AES as the cipher function), each through base64."""
+    tables = pytest.importorskip("cryptography_vectors",
+                                 reason="no tables of NIST (apt-get install python3-cryptography-vectors)")
+    name = f"keywrap/kwtestvectors/{table}_{bits}.txt"
+    text = (pathlib.Path(tables.__file__).parent / name).read_text()
+    job, given, wanted = ("wrap", "P", "C") if table.endswith("AE") else ("unwrap", "C", "P")
+    statuses = collections.Counter()
+    for block in text.replace("\r", "").split("\n\n"):
+        case = dict(re.findall(r"^(\w+)(?: = ([0-9A-Fa-f]+))?$", block, re.M))
+        if "COUNT" not in case:
+            continue
+        # The KEK comes through a pipe of its own.
+        reading, writing = os.pipe()
+        os.write(writing, in_base64(case["K"]).encode())
+        os.close(writing)
+        args = [job, "--base64", "--base64-kek", "--kek", f"/dev/fd/{reading}", *["--padded"] * ("KWP" in table)]
+        ended = keywrap(*args, stdin=in_base64(case[given]), pass_fds=[reading])
+        os.close(reading)
+        assert ended == (refused(5, INTEGRITY) if "FAIL" in case else answered(in_base64(case[wanted]))), case
+        statuses[ended.status] += 1
+    assert statuses.total() == 500
+    assert statuses[5] > 25 or job == "wrap"
+
+
+@pytest.mark.parametrize("one, other", [
+    ("--base64", "--raw"), ("--base64url", "--raw"), ("--base64", "--base64url"), ("--base64-kek", "--raw-kek")])
+@pytest.mark.parametrize("job", [WRAP, UNWRAP, REWRAP, CHECK], ids=["wrap", "unwrap", "rewrap", "check"])
+def test_notations_exclude_one_another(keywrap, job, one, other):
+    for flags in [one, other], [other, one]:
+        ended = keywrap(*job, *flags)
+        assert (ended.status, ended.stdout) == (2, "")
+        assert ended.stderr.startswith(f"error: the argument '{flags[0]}' cannot be used with")
+
+
+@pytest.mark.parametrize("args", [["drill", "--base64", "00"], [*WRAP, "--base64", "--base64"]])
+def test_refused_arguments(keywrap, args):
+    ended = keywrap(*args)
+    assert (ended.status, ended.stdout, ended.stderr[:7]) == (2, "", "error: ")

@@ -1,0 +1,92 @@
+"""The documents: links and paths lead to what is there, no term of docs/DEFINITIONS.md's last column is used, no line is
+longer than 120 columns, and what a script makes from the sources is up to date."""
+
+import pathlib
+import re
+import subprocess
+
+import pytest
+
+ROOT = pathlib.Path(__file__).resolve().parent.parent
+DOCUMENTS = [path.relative_to(ROOT) for path in [
+    *sorted(ROOT.glob("*.md")), *sorted(ROOT.glob("docs/*.md")), ROOT / "python/README.md", ROOT / "js/README.md"]]
+DIRECTORIES = (r"\.ci|bench|completions|crates|docs|examples|include|man|provider|python|scripts|specs|src|tests"
+               "|[a-z_]+/(?:specs|src|proofs)")
+EACH = pytest.mark.parametrize("document", DOCUMENTS, ids=str)
+
+
+def text_of(document):
+    return (ROOT / document).read_text()
+
+
+def headings(document):
+    """The anchors of the headings."""
+    return {re.sub("[^a-z0-9 _-]", "", line.lstrip("# ").lower()).replace(" ", "-")
+            for line in text_of(document).splitlines() if line.startswith("#")}
+
+
+def prose(document):
+    """The text without code, tables of terms, and what a link leads to, on one line."""
+    text = re.sub(r"^```.*?^```", "", text_of(document), flags=re.M | re.S)
+    text = re.sub(r"^    .*", "", text, flags=re.M)
+    text = re.sub(r"`[^`]*`", "`", text)
+    text = re.sub(r"\]\([^)]*\)", "]", text)
+    text = re.sub(r"^\| Term \| Is \| not \|$.*?^$", "", text, flags=re.M | re.S)
+    return " ".join(text.split())
+
+
+def terms():
+    """The terms that no document uses."""
+    table = re.search(r"^\| Term \| Is \| not \|\n\|.*?\n(.*?)^$", text_of("docs/DEFINITIONS.md"), re.M | re.S)[1]
+    return [term for row in table.splitlines() for term in row.split("|")[3].strip().split(", ") if term]
+
+
+@EACH
+def test_links(document):
+    for target in re.findall(r"\]\(([^)]*)\)", text_of(document).replace("\n", " ")):
+        if not re.match("https?:", target):
+            name, _, anchor = target.partition("#")
+            file = document.parent / name if name else document
+            assert (ROOT / file).exists(), target
+            assert not anchor or anchor in headings(file), target
+
+
+@EACH
+def test_paths(document):
+    """Files that are named with their directory are there: in the repository, or in the directory of a crate."""
+    for path in re.findall(r"`([^` ]+)`", text_of(document)):
+        if re.fullmatch(f"(?:{DIRECTORIES})/[A-Za-z0-9_./*-]*", path) and not re.search("NAME|MODULE|TOPIC", path):
+            assert any(any(ROOT.glob(place + path.rstrip("/"))) for place in ("", "crates/", "crates/*/")), path
+
+
+@EACH
+def test_width(document):
+    assert [line for line in text_of(document).splitlines() if len(line) > 120] == []
+
+
+@EACH
+def test_terms(document):
+    assert terms()
+    found = re.findall(rf"(?i).{{0,30}}\b(?:{'|'.join(map(re.escape, terms()))})\b.{{0,20}}", prose(document))
+    assert found == []
+
+
+def test_number_of_edits():
+    edits = len(list(ROOT.glob("crates/*/must-fail/*.edit")))
+    assert re.search(rf"\b{edits} edits\b", text_of("docs/ARCHITECTURE.md")), edits
+
+
+def test_no_licence():
+    """README says that there is none, and no file gives one."""
+    assert "No licence has been given yet: the owner decides." in " ".join(text_of("README.md").split())
+    tracked = subprocess.run(["git", "-C", ROOT, "ls-files"], capture_output=True, text=True).stdout.splitlines()
+    assert [name for name in tracked if re.match(r"(?i)licen[cs]e|copying|copyright$", name.split("/")[-1])] == []
+    for name in "python/pyproject.toml", "python/setup.py", "js/package.json.in":
+        assert not re.search(r'(?im)^ *"?licen[cs]e|License ::', text_of(name)), name
+
+
+@pytest.mark.parametrize("script", ["pictures.py", "trust.py"])
+def test_what_scripts_make(script):
+    """The pictures and the map of the crates, and the definitions that a reader has to read."""
+    ended = subprocess.run([ROOT / "scripts" / script, "--check"], capture_output=True, text=True)
+    assert (ended.returncode, ended.stdout) == (0, "")

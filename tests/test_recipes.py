@@ -1,0 +1,110 @@
+"""Each recipe of docs/RECIPES.md unchanged, and README's lines on keys in files: what comes back."""
+
+import os
+import pathlib
+import re
+import shutil
+import subprocess
+
+import pytest
+
+ROOT = pathlib.Path(__file__).resolve().parent.parent
+RECIPES = (ROOT / "docs/RECIPES.md").read_text()
+TOOLS = {"openssl": "openssl", "xxd": "xxd", "basenc": "coreutils", "awk": "mawk", "softhsm2-util": "softhsm2",
+         "pkcs11-tool": "opensc", "psql": "postgresql", "jq": "jq", "parallel": "parallel"}
+# What a key store does, after its recipe: each file that is for a store has the key.
+IMPORT = """
+# imported HASH FILE: the first part is as long as the store's key.
+imported() {
+    local oaep="-pkeyopt rsa_padding_mode:oaep -pkeyopt rsa_oaep_md:$1 -pkeyopt rsa_mgf1_md:$1" ephemeral
+    ephemeral=$(head -c 384 "$2" | openssl pkeyutl -decrypt -inkey store.pem $oaep | xxd -p -c 64)
+    tail -c +385 "$2" | openssl enc -d -id-aes256-wrap-pad -iv A65959A6 -K "$ephemeral" | cmp - key.der
+}
+imported sha256 EncryptedKeyMaterial.bin
+imported sha256 wrapped.bin
+jq -r .ciphertext key.byok | tr -- -_ +/ | base64 -di 2>>log >theirs.bin
+imported sha1 theirs.bin
+"""
+
+
+def typed_and_shown(section):
+    """The lines that are typed, and the lines that come back, without their indentation."""
+    typed, shown, indent = [], [], 4
+    for line in section.splitlines():
+        prompt = re.match(r"    (?: {1,3})?[$>] ", line)
+        if prompt:
+            indent = len(prompt[0]) - 2
+            typed.append(line[len(prompt[0]):])
+        elif line.startswith("    "):
+            shown.append(line[indent:])
+    return "".join(f"{line}\n" for line in typed), "".join(f"{line}\n" for line in shown)
+
+
+SECTIONS = dict(section.split("\n", 1) for section in re.split(r"^## ", RECIPES, flags=re.M)[1:])
+
+
+@pytest.fixture(scope="module")
+def server():
+    """What psql finds a PostgreSQL server by."""
+    pytest.importorskip("cryptography", reason="no cryptography (apt-get install python3-cryptography)")
+    from rotation_store import Server
+    if not list(pathlib.Path("/usr/lib/postgresql").glob("*/bin/initdb")):
+        pytest.skip("no PostgreSQL server (apt-get install postgresql)")
+    started = Server()
+    yield started.environment
+    started.end()
+
+
+def follow(request, keywrap, files, script):
+    """Runs the lines in an empty directory, and returns what they write."""
+    for tool, package in TOOLS.items():
+        if re.search(rf"\b{tool}\b|_{tool}\.", script) and not shutil.which(tool):
+            pytest.skip(f"no {tool} (apt-get install {package})")
+    environment = {**os.environ, "DOC": str(ROOT / "docs"), "PATH": f"{files}/bin:{os.environ['PATH']}"}
+    if "psql" in script or "postgresql" in script:
+        environment.update(request.getfixturevalue("server"))
+    if re.search("wrap-pad|cipher-pad", script):
+        ciphers = subprocess.run(["openssl", "enc", "-list"], capture_output=True, text=True).stdout
+        if "id-aes256-wrap-pad" not in ciphers:
+            pytest.skip("no openssl with id-aes256-wrap-pad (apt-get install openssl)")
+    os.mkdir("bin")
+    os.symlink(keywrap.path, "bin/keywrap")
+    os.mkdir("here")
+    pathlib.Path("script").write_text(script)
+    ended = subprocess.run(["bash", "-u", "../script"], cwd="here", env=environment, stdin=subprocess.DEVNULL,
+                           stdout=subprocess.PIPE, stderr=subprocess.STDOUT, text=True, timeout=300)
+    assert ended.returncode == 0, ended.stdout
+    return ended.stdout
+
+
+# What calls the Python package is tested with it: python/tests/test_rotate_recipes.py. tests/hardware.sh has the recipe
+# that compiles a program with the C library.
+@pytest.mark.parametrize("name", [name for name, section in SECTIONS.items()
+                                  if not re.search("keywrap.rotate|pkg-config", typed_and_shown(section)[0])])
+def test_recipe(request, keywrap, files, name):
+    script, shown = typed_and_shown(SECTIONS[name])
+    if name.startswith("Import a key into "):
+        script += IMPORT
+    assert follow(request, keywrap, files, script) == shown
+
+
+def test_key_stores_have_a_recipe():
+    assert len([name for name in SECTIONS if name.startswith("Import a key into ")]) == 1
+
+
+def test_list_of_the_recipes():
+    """Each recipe's name with its anchor, in their order."""
+    listed = re.findall(r"^- \[(.*)\]\(#(.*)\)$", RECIPES, re.M)
+    assert listed == [(name, re.sub("[^a-z0-9-]", "", name.lower().replace(" ", "-"))) for name in SECTIONS]
+
+
+def test_every_rotation_has_a_recipe():
+    linked = set(re.findall(r"\]\((rotation/[^)]*)", RECIPES))
+    assert linked == {f"rotation/{path.name}" for path in (ROOT / "docs/rotation").glob("*.sh")}
+
+
+def test_readme(request, keywrap, files):
+    """README's lines before its first section, in one directory."""
+    typed, shown = typed_and_shown((ROOT / "README.md").read_text().split("\n## ")[0])
+    assert typed
+    assert follow(request, keywrap, files, typed.replace("./keywrap", "keywrap")) == shown
