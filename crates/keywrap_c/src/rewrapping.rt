@@ -1,5 +1,6 @@
 //! Rewrapping in one buffer: from one KEK and form to another, the key never given out.
 
+ghost use Rattle.std.specs.Prelude.{◌≡◌, All};
 ghost use Rattle.aes_block.specs.Cipher.{cipher};
 ghost use Rattle.keywrap_calls.specs.Forms.{RewrapsInPlace};
 
@@ -31,7 +32,19 @@ pub extern "C" fn keywrap_rewrap_in_place(
         buffer,
         forms,
     );
-    old_room.clear();
-    new_room.clear();
+    clear_rooms(&mut old_room, &mut new_room);
     status
+}
+
+// Writes zeros over both rooms, and over what the making of the key schedules left on the stack:
+// its own room lies there.
+#[inline(never)]
+fn clear_rooms(old: &mut Room, new: &mut Room)
+    ensures old { All (λ x. x ≡ 0) old.new }
+    ensures new { All (λ x. x ≡ 0) new.new }
+{
+    let mut cover = Room::new();
+    cover.clear();
+    old.clear();
+    new.clear();
 }
