@@ -282,6 +282,32 @@ def test_a_killed_run_is_begun_again(store, sent):
     assert state(store) == ["new"] * FILES
 
 
+def test_workers_end_with_a_run_that_is_killed_before_they_begin(store):
+    """They do not keep the pipe of standard error open either."""
+    program = SLOW.replace("sys.exit(", """
+from keywrap import _rotation_engines
+begin = _rotation_engines._end_with_parent
+_rotation_engines._end_with_parent = lambda parent: time.sleep(1) or begin(parent)
+sys.exit(""")
+    command = [sys.executable, "-B", "-c", program, "--jobs", "2", *names(store)]
+    running = subprocess.Popen(command, stderr=subprocess.PIPE)
+    wait_for(lambda: len(children(running)) == 2)
+    workers = children(running)
+    running.kill()
+    assert running.communicate(timeout=60)[1] == b""
+    wait_for(lambda: not any(map(alive, workers)))
+    assert state(store) == ["old"] * FILES
+
+
+def test_workers_hold_no_stream_of_the_run(store):
+    running = slowly(store)
+    streams = {f"/proc/{worker}/fd/{stream}" for worker in children(running) for stream in (0, 1, 2)}
+    wait_for(lambda: {os.readlink(stream) for stream in streams} == {"/dev/null"})
+    assert len(streams) == 6
+    running.kill()
+    running.communicate(timeout=60)
+
+
 def test_an_interrupted_run_leaves_nothing(store):
     signal.signal(signal.SIGINT, signal.default_int_handler)  # A shell that starts pytest in the background ignores it.
     running = slowly(store)

@@ -5,8 +5,12 @@ from __future__ import annotations
 import contextlib
 import ctypes
 import importlib
+import multiprocessing
+import os
 import signal
 import sys
+from concurrent.futures import ProcessPoolExecutor, as_completed
+from concurrent.futures.process import BrokenProcessPool
 from typing import Any, Callable, Dict, Iterator, Optional, Sequence
 
 from ._rotation_keks import WrongKeks
@@ -18,22 +22,35 @@ HandOut = Callable[[Sequence[str]], Iterator[Answer]]
 _PR_SET_PDEATHSIG = 1
 
 
-def _die_with_parent() -> None:
-    """Without this, a worker of a killed run would wait for its next file for ever."""
+def _end_with_parent(parent: int) -> None:
+    """Ends this worker when its parent ends, and gives back the parent's standard streams.
+
+    Without this a worker of a killed run would wait for its next file for ever. Whoever reads the output of the run
+    would wait too.
+    """
     ctypes.CDLL(None).prctl(_PR_SET_PDEATHSIG, signal.SIGKILL)
+    if os.getppid() != parent:  # The parent ended before the call: no signal comes.
+        os._exit(1)
+    null = os.open(os.devnull, os.O_RDWR)
+    for stream in (0, 1, 2):
+        os.dup2(null, stream)
+    os.close(null)
+
+
+def _pool(jobs: int) -> ProcessPoolExecutor:
+    # A worker has to be a child of this process: a fork server would be its parent otherwise.
+    fork = multiprocessing.get_context("fork")
+    return ProcessPoolExecutor(jobs, mp_context=fork, initializer=_end_with_parent, initargs=(os.getpid(),))
 
 
 def by_jobs(jobs: int, work: Work) -> HandOut:
     """Hands out to this many processes."""
-    from concurrent.futures import ProcessPoolExecutor, as_completed
-    from concurrent.futures.process import BrokenProcessPool
-
     broken = False
 
     def hand_out(paths: Sequence[str]) -> Iterator[Answer]:
         nonlocal broken
         # A worker that dies breaks the pool. In the end the file that kills its worker is by itself.
-        pool = ProcessPoolExecutor(1 if broken and len(paths) <= jobs else jobs, initializer=_die_with_parent)
+        pool = _pool(1 if broken and len(paths) <= jobs else jobs)
         try:
             for future in as_completed([pool.submit(work, path) for path in paths]):
                 if future.exception() is None:
