@@ -1,5 +1,5 @@
 -- A column after each kind of round, byte by byte.
--- The word tables' columns, turned and summed, are the matrix times the column; the bytes of that sum with the key are then those of its parts.
+-- The sum of the turned columns of the word tables is the matrix times the column. Adding the key adds it byte by byte.
 use Rattle.std.proofs.Common.{◌≡◌, ℕ, ◌+◌, ◌*◌, ◌^◌, ◌<◌, bit_xor, w32, List, [], ◌∷◌, refl, ap, ◌∙◌}
 use Rattle.std.specs.Int.{to_be_bytes}
 use Rattle.std.specs.List.{slice_index}

@@ -86,7 +86,7 @@ pub joined : (a b c d : ℕ) (v w x y : List ℕ) → to_be_bytes w32 a ≡ v �
 joined a b c d v w x y ea eb ec ed =
     ap₂ (λ (s t : List ℕ). s ++ t) ea (ap₂ (λ (s t : List ℕ). s ++ t) eb (ap₂ (λ (s t : List ℕ). s ++ t) ec (ap (λ (s : List ℕ). s ++ []) ed)))
 
--- the four words that stand at round key k
+-- the four words of round key k
 pub words_key : (K s : List ℕ) (k : ℕ) → IsKekLength (length K) → take (4 * (rounds_of K + 1)) s ≡ key_expansion K → k ≤ rounds_of K
     → block_of (slice_index s (4 * k) ∷ slice_index s (4 * k + 1) ∷ slice_index s (4 * k + 2) ∷ slice_index s (4 * k + 3) ∷ []) ≡ round_key K k
 unfolding round_key

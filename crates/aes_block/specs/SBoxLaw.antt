@@ -15,8 +15,8 @@ place_of y table = position_or_len (λ s. s == y) table
 abbrev pub entry : List ℕ → ℕ → ℕ
 entry table x = get_or table x 0
 
--- the tests of a table: each entry is a byte; the place of each byte is a byte, its entry is that byte, and the place
--- of each entry is where it stands
+-- the tests of a table: each entry is a byte; each byte has a place, which is a byte, and its entry there is the byte;
+-- the place of each entry is the index of the entry
 abbrev pub bytes_test : List ℕ → Bool
 bytes_test table = passes_below 256 (λ x. nat_lt (entry table x) 256)
 

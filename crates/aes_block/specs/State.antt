@@ -1,5 +1,5 @@
--- The state (FIPS 197, section 3.4): the 16 bytes of a block in four rows and four columns, where row r, column c
--- stands at place r + 4c.
+-- The state (FIPS 197, section 3.4): the 16 bytes of a block in four rows and four columns. The entry of row r and
+-- column c is byte r + 4c.
 use Rattle.std.specs.Prelude.{ℕ, ◌+◌, ◌*◌, ◌/◌, ◌%◌, List, map, slice_index}
 use Rattle.std.specs.List.{range_with_len}
 

@@ -26,7 +26,7 @@ impl BlockPair for Aes {
         let last = self.rounds() as usize;
         let mut state = add_round_key(self.round_key(0), columns_of(&b));
         for k in 1..last {
-            // The check doesn't cover a call's result laid straight into an array that stands.
+            // A result that is written straight into an existing array is not checked.
             let next = round(self.round_key(k), state);
             state = next;
         }

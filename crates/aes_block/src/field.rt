@@ -8,7 +8,7 @@ pub fn mul(a: u8, b: u8) -> u8
     ensures only_product { (p : ℕ) → IsFieldProduct a b p ↔ (p ≡ result) }
     ensures value { result ≡ product a b }
 
-    // A law for callers, on the definition alone.
+    // A law for callers, about the definition only.
     ensures distributes { DistributesOverXor product }
 {
     let mut sum = 0;

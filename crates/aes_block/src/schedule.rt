@@ -47,7 +47,7 @@ const MAX_WORDS: usize = 60;
 /// bytes.
 #[derive(Drop)]
 pub struct Aes {
-    // The words past those of the rounds are not used.
+    // Words past the last round key are not used.
     schedule: [u32; MAX_WORDS],
     rounds: u8,
 }
@@ -70,8 +70,8 @@ impl Aes {
         ensures refused { IsErr result ↔ ¬ IsKekLength (length kek.now) }
         ensures key { IfOk result (λ aes. aes ≡ kek.now) }
 
-        // A law for callers, on definitions alone: the key has one key schedule, that of the
-        // standard's equations, from which its round keys come.
+        // A law for callers, about definitions only: the key has one key schedule, given by the
+        // standard's equations, and the round keys come from it.
         ensures schedule { IsKekLength (length kek.now)
             → (w : List ℕ) → IsKeyExpansion kek.now w ↔ (w ≡ key_expansion kek.now) }
     {

@@ -1,8 +1,9 @@
 //! The columns that MixColumns makes of the S-box of each byte, and InvMixColumns of each byte
-//! (FIPS 197, sections 5.1.1, 5.1.3 and 5.3.3), as words, the byte of row 0 the most significant.
+//! (FIPS 197, sections 5.1.1, 5.1.3 and 5.3.3). A column is a word, with row 0 as the most
+//! significant byte.
 //!
-//! The byte stands in row 0. In another row r it makes the same column turned by r bytes, since
-//! each row of the two matrices is the row above it turned by one place.
+//! The tables are for a byte in row 0. A byte in row r makes the same column turned by r bytes,
+//! since each row of the two matrices is the row above it turned by one place.
 
 ghost use Rattle.std.specs.Prelude.{◌≡◌};
 ghost use Rattle.aes_block.specs.SBox.{s_box};

@@ -1,4 +1,4 @@
--- A key stands in the first two blocks of its schedule.
+-- The first two blocks of a schedule contain its key.
 use Rattle.std.proofs.Common.{◌≡◌, ◌⊎◌, inl, inr, ℕ, suc, ◌+◌, ◌-◌, ◌*◌, ◌<◌, ◌≤◌, w32, List, [], ◌∷◌, ◌++◌, length, take, slice_index, refl, ◌∙◌, arith}
 use Rattle.std.specs.Int.{to_be_bytes}
 use Rattle.std.specs.List.{flat_map, AllByRecursion}

@@ -1,4 +1,4 @@
--- Room in which zeros stand.
+-- Room filled with zeros.
 use Rattle.std.proofs.Common.{◌≡◌, ℕ, List, All, replicate, refl, subst, sym, ap₂, ◌∙◌}
 use Rattle.std.proofs.lemmas.List.Elements.{All-replicate}
 use Rattle.aes_vector.specs.declared.keys.RoundKey.{RoundKey}

@@ -14,7 +14,7 @@ use Rattle.aes_vector.proofs.EveryByte.{same_test, agree, at_byte}
 abbrev pub of_halves : (ℕ → ℕ) → ℕ → ℕ
 of_halves f x = bit_xor (f (x % 16)) (f (x / 16 * 16))
 
--- the map distributes over xor, where the halves are multiples of m
+-- the map distributes over xor, if the halves are multiples of m
 pub sum_test : (ℕ → ℕ) → ℕ → ℕ → ℕ → Bool
 sum_test f m a b = f (bit_xor a b * m) == bit_xor (f (a * m)) (f (b * m))
 

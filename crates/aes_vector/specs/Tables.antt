@@ -1,5 +1,5 @@
 -- What the tables of 16 bytes hold, and how a byte is looked up in them: by its halves, or by its element's inverse.
--- A place from 128 on stands for infinity, the inverse of 0: it is past each table, and there a shuffle gives 0.
+-- An index of 128 or more means infinity, the inverse of 0: it is past each table, and a shuffle gives 0 for it.
 use Rattle.std.specs.Prelude.{◌≡◌, ◌≢◌, ◌<◌, ℕ, Bool, true, ◌||◌, nat_lt, nat_le, List, slice_index, bit_xor}
 use Rattle.block_pair.specs.Words.{IsByte}
 use Rattle.aes_block.specs.Field.{product, inverse}
@@ -21,7 +21,7 @@ pub record IsInversion (table : List ℕ) (a : ℕ) : Type 0 where
   pub zero : slice_index table 0 ≡ 0x80
   pub inverts : (n : ℕ) → n < 16 → n ≢ 0 → subfield (slice_index table n) ≡ product a (inverse (subfield n))
 
--- 1 / i + a / (i + j) and 1 / j + a / (i + j), where a = ed is u / v + v / u
+-- 1 / i + a / (i + j) and 1 / j + a / (i + j), with a = ed equal to u / v + v / u
 unfoldable pub over_i : ℕ → ℕ
 over_i x = bit_xor (slice_index INV (high x)) (slice_index INVA (low x))
 

@@ -1,4 +1,4 @@
--- What stands in the room for a key schedule.
+-- The contents of the room for a key schedule.
 use Rattle.std.specs.Prelude.{ℕ, List, ◌++◌, replicate}
 use Rattle.std.specs.List.{flat_map}
 use Rattle.aes_vector.specs.declared.keys.RoundKey.{RoundKey}

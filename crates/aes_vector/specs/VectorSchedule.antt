@@ -24,12 +24,12 @@ pub record IsFirstKey (key : RoundKey) (block : List ℕ) : Type 0 where
   pub enc : map key_byte key.enc ≡ block
   pub dec : key.dec ≡ block
 
--- those of a round key between the first and the last: the inverse cipher adds it after InvMixColumns (5.3.5)
+-- the forms of a round key between the first and the last: the inverse cipher adds it after InvMixColumns (5.3.5)
 pub record IsMiddleKey (key : RoundKey) (block : List ℕ) : Type 0 where
   pub enc : map key_byte key.enc ≡ block
   pub dec : map affine_element key.dec ≡ inv_mix_columns block
 
--- those of the last: the cipher ends with it, and the inverse cipher begins
+-- the forms of the last round key: the cipher ends with it, and the inverse cipher begins with it
 pub record IsLastKey (key : RoundKey) (block : List ℕ) : Type 0 where
   pub enc : map last_key_byte key.enc ≡ block
   pub dec : map affine_element key.dec ≡ block

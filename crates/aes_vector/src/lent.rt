@@ -18,8 +18,8 @@ use aes_block::BadKekLength;
 use std::marker::Model;
 use std::simd::prelude::*;
 
-/// AES under one key, whose schedule stands in a buffer of the caller's, who clears it afterwards.
-/// Contracts see it as the key, as `VectorAes`.
+/// AES under one key, with its schedule in a buffer of the caller, who clears it afterwards.
+/// Contracts see it as the key, like `VectorAes`.
 #[derive(Drop)]
 pub struct LentAes<'a> {
     // Those past the rounds are not used.
@@ -39,15 +39,15 @@ impl<'a> Model for LentAes<'a> {
 }
 
 impl<'a> LentAes<'a> {
-    /// AES under the key-encryption key `kek`, in this buffer. Refused where the key is not of 16,
-    /// 24 or 32 bytes.
+    /// Returns AES under the key-encryption key `kek`, with its schedule in this buffer. Refuses a
+    /// key that is not of 16, 24 or 32 bytes.
     pub fn new(kek: &[u8], room: &'a mut Room) -> Result<LentAes<'a>, BadKekLength>
         ensures accepted { IsOk result ↔ IsKekLength (length kek.now) }
         ensures refused { IsErr result ↔ ¬ IsKekLength (length kek.now) }
         ensures key { IfOk result (λ aes. aes ≡ kek.now) }
 
-        // A law for callers, on definitions alone: the key has one key schedule, that of the
-        // standard's equations, from which its round keys come.
+        // A law for callers, about definitions only: the key has one key schedule, given by the
+        // standard's equations, and the round keys come from it.
         ensures schedule { IsKekLength (length kek.now)
             → (w : List ℕ) → IsKeyExpansion kek.now w ↔ (w ≡ key_expansion kek.now) }
     {

@@ -36,14 +36,15 @@ impl Model for VectorAes {
 }
 
 impl VectorAes {
-    /// AES under the key-encryption key `kek`. Refused where the key is not of 16, 24 or 32 bytes.
+    /// Returns AES under the key-encryption key `kek`. Refuses a key that is not of 16, 24 or 32
+    /// bytes.
     pub fn new(kek: &[u8]) -> Result<VectorAes, BadKekLength>
         ensures accepted { IsOk result ↔ IsKekLength (length kek.now) }
         ensures refused { IsErr result ↔ ¬ IsKekLength (length kek.now) }
         ensures key { IfOk result (λ aes. aes ≡ kek.now) }
 
-        // A law for callers, on definitions alone: the key has one key schedule, that of the
-        // standard's equations, from which its round keys come.
+        // A law for callers, about definitions only: the key has one key schedule, given by the
+        // standard's equations, and the round keys come from it.
         ensures schedule { IsKekLength (length kek.now)
             → (w : List ℕ) → IsKeyExpansion kek.now w ↔ (w ≡ key_expansion kek.now) }
     {

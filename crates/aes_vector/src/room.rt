@@ -8,8 +8,8 @@ use crate::keys::{MAX_KEYS, RoundKey};
 use std::marker::Model;
 use std::simd::prelude::*;
 
-/// Room for the key schedule of one key, and for the words that it is made of. Contracts see the
-/// numbers that stand there.
+/// Room for the key schedule of one key, and for the words from which it is made. Contracts see the
+/// numbers in it.
 #[derive(Drop)]
 pub struct Room {
     pub(crate) keys: [RoundKey; MAX_KEYS],
@@ -26,7 +26,7 @@ impl Model for Room {
 }
 
 impl Room {
-    /// Room where zeros stand.
+    /// Room filled with zeros.
     #[inline(always)]
     pub fn new() -> Room
         ensures zeros { All (λ x. x ≡ 0) result }
@@ -37,7 +37,7 @@ impl Room {
         }
     }
 
-    /// Writes zeros over all that stands there.
+    /// Overwrites the whole room with zeros.
     #[inline(always)]
     pub fn clear(&mut self)
         ensures zeros { All (λ x. x ≡ 0) self.new }

@@ -1,5 +1,5 @@
-//! The tables of the shuffles, each of 16 bytes. What each holds stands in `specs/Tables.antt`, and
-//! `proofs/Computed.antt` shows it.
+//! The tables of the shuffles, each of 16 bytes. `specs/Tables.antt` defines their contents, and
+//! `proofs/Computed.antt` proves that they have them.
 
 // The inversion in the field of 16: `1 / n`, and `a / n` for the tower's constant `a`; 80 is
 // infinity.
@@ -95,7 +95,7 @@ pub(crate) const S_J: [u8; 16] = [
     0x00, 0x99, 0x0A, 0xEF, 0x64, 0x12, 0xE5, 0x8B, 0x18, 0x93, 0xF7, 0x6E, 0x81, 0x76, 0xFD, 0x7C,
 ];
 
-// Those of the inverse cipher: the multiples of the inverse for InvMixColumns.
+// Of the inverse cipher: the multiples of the inverse for InvMixColumns.
 pub(crate) const FOURTEEN_I: [u8; 16] = [
     0x00, 0x42, 0x78, 0x39, 0x4C, 0x37, 0x41, 0x75, 0x4F, 0x3A, 0x76, 0x34, 0x0D, 0x7B, 0x0E, 0x03,
 ];

@@ -8,7 +8,7 @@ use crate::lanes::{high, look, low};
 use crate::tables::{INV, INVA};
 use std::simd::prelude::*;
 
-// Where the output tables keep what they give for the inverse of each byte.
+// The places at which the output tables keep their result for the inverse of each byte.
 #[derive(Clone, Copy)]
 pub(crate) struct Inverse {
     pub(crate) i: u8x16,

@@ -7,8 +7,7 @@ use std::marker::Model;
 
 /// A block permutation that counts its calls. Contracts see it as its `pair` and its count.
 ///
-/// The pair stays the one that the meter was made with. What is asked of the pair beside the meter
-/// is not counted.
+/// The block permutation never changes. Calls made on it directly are not counted.
 #[derive(Drop)]
 pub struct Meter<'a, B: BlockPair> {
     pair: &'a B,
@@ -24,7 +23,7 @@ impl<'a, B: BlockPair> Model for Meter<'a, B> {
 }
 
 impl<'a, B: BlockPair> Meter<'a, B> {
-    /// A meter of this pair that stands at 0.
+    /// A meter of this block permutation, with the count 0.
     pub fn new(pair: &'a B) -> Self
         ensures { result ≡ record { pair = pair.now; count = 0 } }
     {

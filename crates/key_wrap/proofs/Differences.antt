@@ -71,7 +71,7 @@ low_mask word (suc (suc (suc (suc (suc (suc zero)))))) few = and_mask word 48
 low_mask word (suc (suc (suc (suc (suc (suc (suc zero))))))) few = and_mask word 56
 low_mask word (suc (suc (suc (suc (suc (suc (suc (suc n)))))))) few = absurd (omega arith)
 
--- the last bytes of registers, fewer than eight, are zeros where the number in the last word says so
+-- the last bytes of registers, fewer than eight, are zeros if the number in the last word says so
 module _ (registers : List ℕ) (p : ℕ) (some : 8 ≤ length registers) (few : p < 8) (bytes : (k : ℕ) → get_or registers k 0 < 256) where
   abbrev pub word : List ℕ
   word = drop (length registers - 8) registers

@@ -1,4 +1,4 @@
--- The length of a text that stands with a key.
+-- The length of a text that wraps a key.
 use Rattle.std.proofs.Common.{◌≡◌, ℕ, ◌+◌, ◌-◌, ◌*◌, List, [], ◌∷◌, length, replicate, ap, arith, length-append}
 use Rattle.std.proofs.lemmas.List.{length-replicate}
 use Rattle.block_pair.specs.Pair.{AreInverse}

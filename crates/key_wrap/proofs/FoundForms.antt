@@ -24,7 +24,7 @@ use Rattle.key_wrap.proofs.PaddedForm.{aiv_word, many_registers, registers_many,
 use Rattle.key_wrap.proofs.ThreeChecks.{held_word}
 use Rattle.key_wrap.proofs.Differences.{xor_same, same_xor}
 
--- what holds a key is wrapped to a text that the key stands with
+-- registers that hold a key are wrapped to a text to which the key belongs
 pub found_stands : {E : List ℕ → List ℕ} (form : AgreedForm) (key before text : List ℕ) → HoldsIn form key before → PaddedRegisters E before text
     → StandsAs form E key text
 found_stands {E = E} (Plain iv) key before text holds run =
@@ -33,7 +33,7 @@ found_stands {E = E} (Plain iv) key before text holds run =
     registers_plain iv key text holds.2 holds.0 (rw holds.1 at (registers_many size run))
 found_stands Padded key before text holds run = registers_padded key before text holds.0 holds.1 run
 
--- and a text that a key stands with is unwrapped to what holds it
+-- and a text to which a key belongs is unwrapped to registers that hold it
 pub stands_found : {E D : List ℕ → List ℕ} (form : AgreedForm) (key before text : List ℕ) → AreInverse E D → PaddedRegisters E before text
     → StandsAs form E key text → HoldsIn form key before
 stands_found (Plain iv) key before text inv run h =
@@ -75,7 +75,7 @@ pub no_form : (buffer : List ℕ) → NoKey (HoldsIn (Plain default_iv)) buffer 
 no_form buffer plain padded forms.Plain = plain
 no_form buffer plain padded forms.Padded = padded
 
--- so where one word holds no padded key, it holds none
+-- so if one word holds no padded key, it holds none
 pub one_word_none : (iv : ℕ) (registers : List ℕ) → length registers ≡ 8 → NoKey (HoldsIn Padded) (word_bytes iv ++ registers)
     → (form : Form) → NoKey (HoldsIn (by_default form)) (word_bytes iv ++ registers)
 one_word_none iv registers short none = no_form (word_bytes iv ++ registers) (one_word default_iv iv registers short) none

@@ -55,7 +55,7 @@ padded_room m old zeroed room blank =
     ap (drop 8) shape ∙ drop_at (take 8 old) (key_in m old ++ zeros) 8 (omega (arith, length-take 8 old, room.1))
 
 -- The first word of the text was read and cleared, and the machine was lent the rest: it was given the text, and
--- what it leaves stands after eight zeros.
+-- its result follows eight zeros.
 pub record FirstCleared (A : ℕ) (text zeros registers : List ℕ) : Type 0 where
   pub given : word_bytes A ++ take (length (zeros ++ drop 8 text) - 8) (drop 8 (zeros ++ drop 8 text)) ≡ text
   pub long : 8 + length (take (length (zeros ++ drop 8 text) - 8) (drop 8 (zeros ++ drop 8 text))) ≡ length text

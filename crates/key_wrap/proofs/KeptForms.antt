@@ -16,7 +16,7 @@ use Rattle.key_wrap.proofs.PlainForm.{default_free}
 use Rattle.key_wrap.proofs.BothForms.{not_both_forms}
 use Rattle.key_wrap.proofs.Rewraps.{only_text, only_key, text_legal, refusal}
 
--- a text stands with one key, in one form
+-- one key belongs to a text, in one form
 pub one_key : {E D : List ℕ → List ℕ} (form other_form : Form) (key other text : List ℕ) → AreInverse E D → StandsIn form E key text
     → StandsIn other_form E other text → (other_form ≡ form) × (other ≡ key)
 one_key Plain Plain key other text inv h k = (refl, only_key (by_default Plain) key other text inv h k)
@@ -31,7 +31,7 @@ one_answer {F = F} form key text answer other inv h wraps kept =
     let same = one_key form kept.0 key kept.1.0 text inv h kept.1.1 in
     only_text (by_default form) F key answer other wraps (rw (same.0, same.1) at kept.1.2)
 
--- and the same keys stand with both
+-- and the same keys belong to both
 pub same_keys : {E D F D' : List ℕ → List ℕ} (form : Form) (key text answer : List ℕ) → AreInverse E D → AreInverse F D' → StandsIn form E key text
     → StandsIn form F key answer → (other_form : Form) (other : List ℕ) → StandsIn other_form F other answer ↔ StandsIn other_form E other text
 same_keys form key text answer inv inv' h wraps other_form other = (
@@ -50,12 +50,12 @@ padded_of len some = padded_length some.0 len some.1
 pub some_length : (len : ℕ) → IsPaddedTextLength len → IsSomeTextLength len
 some_length len h = (Padded, h)
 
--- and the length of a text that a key stands with is one
+-- and the length of a text to which a key belongs is one
 pub length_some : {E D : List ℕ → List ℕ} (form : Form) (key text : List ℕ) → AreInverse E D → StandsIn form E key text → IsSomeTextLength (length text)
 length_some form key text inv h = (form, text_legal (by_default form) key text inv h)
 
 module _ {Z : Type 0} (E F : List ℕ → List ℕ) (text : List ℕ) where
-  -- no key stands with a text of no legal length
+  -- no key belongs to a text of no legal length
   pub kept_refused : {D : List ℕ → List ℕ} → AreInverse E D → ¬ IsSomeTextLength (length text) → FormKept {Z = Z} E F text (Err unwrap_faults.BadLength)
   kept_refused inv illegal = record {
     bad_length = (λ e. illegal, λ bad. refl);
@@ -104,7 +104,7 @@ module _ {Z : Type 0} (E F : List ℕ → List ℕ) (text : List ℕ) where
     other_form = tt;
   }
 
-  -- where the call in the buffer refused, the call that takes memory says so
+  -- if the call in the buffer refused, the call that takes memory reports it
   pub kept_fault : (fault : InPlaceFault) (answer : Result (Vec ℕ Z) UnwrapFault) → IsSomeTextLength (length text)
       → (refusal fault ≡ Err BadLength) ↔ ¬ IsSomeTextLength (length text) → (refusal fault ≡ Err Integrity) ↔ HasNoForm E text
       → IsErr answer × IsErrAnd answer (λ e. e ≡ unwrap_fault fault) → FormKept E F text answer

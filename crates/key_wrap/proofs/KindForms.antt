@@ -69,7 +69,7 @@ kind_neither {E = E} iv found registers text inv word run other none =
     absurd (other (sym front.0) (plain_text_legal h)) in
     neither iv text no_plain (padded_refused (word_bytes found ++ registers) text inv run refl refl none)
 
--- no key stands with a text of no legal length
+-- no key belongs to a text of no legal length
 pub kind_illegal : {E D : List ℕ → List ℕ} (iv : ℕ) (text : List ℕ) → AreInverse E D → ¬ IsPaddedTextLength (length text)
     → IsTheKind iv E text Neither
 kind_illegal iv text inv illegal =

@@ -64,7 +64,7 @@ many_words iv [] text more t = t
 many_words iv (p ∷ []) text more t = absurd (omega arith)
 many_words iv (p ∷ q ∷ P) text more t = t
 
--- and the registers of the wrapping are those of RFC 3394
+-- and the registers of the wrapping are the registers of RFC 3394
 pub registers_many : {E : List ℕ → List ℕ} {before after : List ℕ} → 24 ≤ length before → PaddedRegisters E before after → Registers E before after
 registers_many {after = after} size r =
     let words : 2 ≤ length r.P = omega (arith, ap length r.key_words, length-spelled (r.iv ∷ r.P)) in
@@ -166,7 +166,7 @@ padded_wrapped {E = E} key before after text legal holds run ends =
     let h : Padded E key text = rw ends (registers_padded key before after legal holds run) in
     (h, λ other k. padded_only_text h k)
 
--- the buffer that the registers run back to holds the key, and no other key stands with the text
+-- the buffer to which the registers run back holds the key, and no other key belongs to the text
 pub padded_unwrapped : {E D : List ℕ → List ℕ} {buffer after : List ℕ} (read text key : List ℕ) (len : ℕ) → AreInverse E D → PaddedRegisters E buffer after
     → after ≡ text → read ≡ buffer → HoldsLength read len → key ≡ take len (drop 8 read)
     → Padded E key text × ((other : List ℕ) → Padded E other text → other ≡ key) × ((other : List ℕ) → Padded E key other → other ≡ text)
@@ -176,7 +176,7 @@ padded_unwrapped {E = E} read text key len inv back ends same held cut =
     let h : Padded E key text = rw cut (registers_padded (take len (drop 8 read)) read text legal held.holds run) in
     (h, λ other k. padded_only_key inv h k, λ other k. padded_only_text h k)
 
--- and where it holds no key, none stands with the text
+-- and if it holds no key, none belongs to the text
 pub padded_refused : {E D : List ℕ → List ℕ} {buffer after : List ℕ} (read text : List ℕ) → AreInverse E D → PaddedRegisters E buffer after → after ≡ text
     → read ≡ buffer → ((key : List ℕ) → IsPaddedKeyLength (length key) → ¬ Holds read key) → NoKey (Padded E) text
 padded_refused {E = E} read text inv back ends same none key h =

@@ -1,4 +1,4 @@
--- Where the words of a tape lie in the registers: after t steps each register holds the word, among places t to
+-- The places of a tape's words in the registers: after t steps each register holds the word, among places t to
 -- t + n - 1, whose place is the register's number modulo n (places and registers counted from 0).
 use Rattle.std.proofs.Common.{◌≡◌, ◌≢◌, ℕ, ◌+◌, ◌*◌, ◌/◌, ◌%◌, ◌≤◌, ◌<◌, List, ◌++◌, length, take, drop, set, bit_xor, refl, sym, ap}
 use Rattle.std.proofs.Common.{subst, ◌∙◌, arith, inl, inr, length-set, get_or-set_other, get_or-set_same}

@@ -33,13 +33,13 @@ pub text_legal : {E D : List ℕ → List ℕ} (form : AgreedForm) (key text : L
 text_legal (Plain iv) key text inv h = plain_text_legal h
 text_legal Padded key text inv h = padded_text_legal inv h
 
--- where no key stands with a text of a legal length, no length is refused
+-- if no key belongs to a text of a legal length, no length is refused
 pub no_bad_length : (E : List ℕ → List ℕ) (old new : AgreedForm) (text : List ℕ) → IsTextLengthAs old (length text) → NoKey (StandsAs old E) text
     → ¬ HasBadLength old E new text
 no_bad_length E old new text legal none (inl short) = short legal
 no_bad_length E old new text legal none (inr bad) = none bad.0 bad.1
 
--- the answer is the wrapping of the key that stands with the text
+-- the answer is the wrapping of the key that belongs to the text
 pub record Answered (old : AgreedForm) (E : List ℕ → List ℕ) (new : AgreedForm) (F : List ℕ → List ℕ) (text answer : List ℕ) : Type 0 where
   pub fits : ¬ HasBadLength old E new text
   pub only_answer : (other : List ℕ) → AreWrappings old E new F text other → other ≡ answer
@@ -146,7 +146,7 @@ module _ {Z : Type 0} (old : AgreedForm) (E : List ℕ → List ℕ) (new : Agre
     other_form = tt;
   }
 
-  -- no key stands with the text
+  -- no key belongs to the text
   no_wrapping : HasNoWrapping old E text → Rewrapped {Z = Z} old E new F text (Err unwrap_faults.Integrity)
   no_wrapping none = record {
     rewraps = none;
@@ -162,7 +162,7 @@ module _ {Z : Type 0} (old : AgreedForm) (E : List ℕ → List ℕ) (new : Agre
     other_form = tt;
   }
 
-  -- where the call in the buffer refused, the call that takes memory says so
+  -- if the call in the buffer refused, the call that takes memory reports it
   pub refused_rewrap : {D : List ℕ → List ℕ} (fault : InPlaceFault) (answer : Result (Vec ℕ Z) UnwrapFault) → AreInverse E D
       → IsTextLengthAs old (length text) → (refusal fault ≡ Err BadLength) ↔ HasBadLength old E new text
       → (refusal fault ≡ Err Integrity) ↔ HasNoWrapping old E text → IsErr answer × IsErrAnd answer (λ e. e ≡ unwrap_fault fault)

@@ -96,7 +96,7 @@ no_step E n j A registers passes word_A size bytes =
       state = state;
     }
 
--- the register after that of place t, and before it
+-- the register after the register of place t, and before it
 pub after_turn : (n t : ℕ) → 0 < n → (t % n + 1) % n ≡ (t + 1) % n
 after_turn n t some =
     let whole : t + 1 ≡ n * (t / n) + (t % n + 1) = omega (arith, div-add-mod t n) in

@@ -150,7 +150,7 @@ wraps_backward {E = E} {D = D} {P = P} {P' = P'} law w w' =
 pub registers_of : {E : List ℕ → List ℕ} {iv : ℕ} {P C : List ℕ} → Wraps E iv P C → Registers E (spelled (iv ∷ P)) (spelled C)
 registers_of {iv = iv} {P = P} {C = C} w = record { iv = iv; P = P; C = C; key_words = refl; text_words = refl; wraps = w }
 
--- the words that stand in a wrapping with this initial value, for bytes of key data and of text
+-- the words of a wrapping with this initial value, for bytes of key data and of text
 pub record WrapsBytes (E : List ℕ → List ℕ) (iv : ℕ) (key text : List ℕ) : Type 0 where
   pub P : List ℕ
   pub C : List ℕ

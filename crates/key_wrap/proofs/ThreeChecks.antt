@@ -14,7 +14,7 @@ use Rattle.key_wrap.proofs.Spelling.{length-word_bytes, word_front}
 use Rattle.key_wrap.proofs.PaddedForm.{aiv_word}
 use Rattle.key_wrap.proofs.FormLengths.{length-padded}
 
--- zeros alone
+-- zeros only
 pub zeros : (xs : List ℕ) → All (λ x. x ≡ 0) xs → xs ≡ replicate (length xs) 0
 zeros [] h = refl
 zeros (x ∷ xs) h =

@@ -26,7 +26,7 @@ use Rattle.key_wrap.proofs.PaddedForm.{padded_unwrapped, padded_refused}
 use Rattle.key_wrap.proofs.BothForms.{not_both_forms}
 use Rattle.key_wrap.proofs.Differences.{xor_same, same_xor}
 
--- no key stands with the text
+-- no key belongs to the text
 none_found : {A : Type 0} {Legal : Type 0} {Stands : List ℕ → List ℕ → Type 0} {NoOther : List ℕ → Type 0} {text : List ℕ} {key : A → List ℕ}
     → Legal → NoKey Stands text → Unwrapping Legal Stands NoOther text key (Err Integrity)
 none_found legal none = record {
@@ -68,7 +68,7 @@ plain_found {E = E} iv key text inv word free legal run =
       other_form = λ other k. not_both_forms inv free stands k;
     }
 
--- and where they run back to another initial value, no key stands with the text
+-- and if they run back to another initial value, no key belongs to the text
 pub plain_none : {E D : List ℕ → List ℕ} {found : ℕ} (iv : ℕ) (registers key text : List ℕ) → AreInverse E D → IsPlainTextLength (length text) → IsWord found
     → ¬ (found ≡ iv) → Registers E (word_bytes found ++ registers) text
     → Unwrapping (IsPlainTextLength (length text)) (Plain E iv) (NoKey (Padded E)) text (λ (_ : Unit {0}). key) (Err Integrity)
@@ -105,7 +105,7 @@ padded_found {len = len} iv registers text inv legal run held =
       other_form = λ iv' word free other k. not_both_forms inv free k w.0;
     }
 
--- and where they hold no key, none stands with the text
+-- and if they hold no key, none belongs to the text
 pub padded_none : {E D : List ℕ → List ℕ} (iv : ℕ) (registers : List ℕ) (key : ℕ → List ℕ) (text : List ℕ) → AreInverse E D → IsPaddedTextLength (length text)
     → PaddedRegisters E (word_bytes iv ++ registers) text
     → ((other : List ℕ) → IsPaddedKeyLength (length other) → ¬ Holds (word_bytes iv ++ registers) other)
@@ -121,7 +121,7 @@ renamed L {Stands = Stands} {NoOther = NoOther} {text' = text'} {key = key} {ans
     subst (λ k. Unwrapping (L (length text')) Stands NoOther text' k answer) own
     (subst (λ (t : List ℕ). Unwrapping (L (length t)) Stands NoOther t key answer) same u)
 
--- where the call in the buffer refused a text of a legal length, no key stands with it, and the call that takes memory says so
+-- if the call in the buffer refused a text of a legal length, no key belongs to it, and the call that takes memory reports it
 pub refused : {Z : Type 0} (Stands : List ℕ → List ℕ → Type 0) (Legal : Type 0) {A : Type 0} (key : A → List ℕ) (text : List ℕ) (fault : InPlaceFault)
     (answer : Result (Vec ℕ Z) UnwrapFault)
     → Legal → KeyAnswer Legal Stands text key (Err fault) → IsErr answer × IsErrAnd answer (λ e. e ≡ unwrap_fault fault)
@@ -143,7 +143,7 @@ passed_on (Ok m) fault r is u = let no = r.0 in cc
 passed_on (Err BadLength) fault r is u = let no = r.1 in cc
 passed_on (Err Integrity) fault r is u = u
 
--- the key that a call answers stands with the text
+-- the key that a call returns belongs to the text
 pub answered : {Z : Type 0} (IsTextLength : ℕ → Type 0) (Stands : List ℕ → List ℕ → Type 0) (text : List ℕ) (answer : Result (Vec ℕ Z) UnwrapFault)
     → UnwrapAnswer IsTextLength Stands text answer → IfOk answer (λ key. Stands key.items text)
 answered IsTextLength Stands text (Ok key) a = a.1

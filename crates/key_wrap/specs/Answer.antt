@@ -7,25 +7,25 @@ use Rattle.key_wrap.specs.declared.faults.WrapFault.{WrapFault}
 use Rattle.key_wrap.specs.declared.faults.WrapFault.TheVariants as wrap_faults
 use Rattle.key_wrap.specs.Plain.{Plain, IsReserved}
 
--- no key stands with the wrapped key
+-- no key belongs to the wrapped key
 abbrev pub NoKey : (List ℕ → List ℕ → Type 0) → List ℕ → Type 0
 NoKey Stands text = (key : List ℕ) → ¬ Stands key text
 
--- no key stands with the wrapped key in the plain form, whatever its initial value
+-- no key belongs to the wrapped key in the plain form, whatever its initial value
 abbrev pub NoPlainKey : (List ℕ → List ℕ) → List ℕ → Type 0
 NoPlainKey E text = (iv : ℕ) → IsWord iv → ¬ IsReserved iv → NoKey (Plain E iv) text
 
--- Unwrap's answer in the form that has these lengths of wrapped keys, and in which these keys stand with
--- them: BadLength for one of no legal length; for any other a key that stands with it, or Integrity where
--- no key does, or that there is no memory.
+-- The answer of an unwrap, in a form that has these lengths of wrapped keys and relates these keys to wrapped keys.
+-- BadLength for a wrapped key of no legal length; for any other its key, or Integrity if it has none, or that there is
+-- no memory.
 abbrev pub UnwrapAnswer : {Z : Type 0} → (ℕ → Type 0) → (List ℕ → List ℕ → Type 0) → List ℕ → Result (Vec ℕ Z) UnwrapFault → Type 0
 UnwrapAnswer IsTextLength Stands text (Ok key) = IsTextLength (length text) × Stands key.items text
 UnwrapAnswer IsTextLength Stands text (Err BadLength) = ¬ IsTextLength (length text)
 UnwrapAnswer IsTextLength Stands text (Err Integrity) = IsTextLength (length text) × NoKey Stands text
 UnwrapAnswer IsTextLength Stands text (Err Memory) = IsTextLength (length text)
 
--- What each wrapping call that takes memory promises of its answer: these wrapped keys stand with the key, and of these none is
--- a wrapping in the other form.
+-- The promise of each wrapping call that takes memory about its answer: the key belongs to these wrapped keys, and none
+-- of them is a wrapping in the other form.
 pub record Wrapped {Z : Type 0} (Legal : Type 0) (Stands NoOther : List ℕ → Type 0) (answer : Result (Vec ℕ Z) WrapFault) : Type 0 where
   pub bad_length : (answer ≡ Err wrap_faults.BadLength) ↔ ¬ Legal
   pub memory : answer ≡ Err wrap_faults.Memory → Legal

@@ -1,5 +1,5 @@
--- The two forms side by side: which keys stand with which wrapped keys, and the legal lengths. A form is agreed on with
--- its initial value; the padded one asks for none.
+-- The two forms side by side: which keys belong to which wrapped keys, and the legal lengths. Both ends agree on a form
+-- and, in the plain form, on its initial value.
 use Rattle.std.specs.Prelude.{ℕ, List}
 use Rattle.key_wrap.specs.declared.forms.Form.{Form}
 use Rattle.key_wrap.specs.declared.forms.Form.TheVariants as forms
@@ -14,7 +14,7 @@ abbrev pub StandsAs : AgreedForm → (List ℕ → List ℕ) → List ℕ → Li
 StandsAs (InPlain iv) E key text = Plain E iv key text
 StandsAs InPadded E key text = Padded E key text
 
--- the form with this initial value, where it is the plain one
+-- the form, with this initial value if it is the plain form
 abbrev pub with_value : Form → ℕ → AgreedForm
 with_value forms.Plain iv = InPlain iv
 with_value forms.Padded iv = InPadded

@@ -22,9 +22,8 @@ ArePaddedLengths room text = IsPaddedTextLength text × (text ≡ room + 8)
 abbrev pub key_in : (m : ℕ) (buffer : List ℕ) → List ℕ
 key_in m buffer = take m (drop 8 buffer)
 
--- Unwrap's answer in the form in which these keys stand with these wrapped keys, where the call takes no memory:
--- BadLength where the lengths are not legal; where they are, a key that stands with the wrapped key, found from what is
--- answered, or Integrity where no key does.
+-- The answer of an unwrap that takes no memory, in the form that relates these keys to wrapped keys. BadLength if the
+-- lengths are not legal; else the key of the wrapped key, found from the result, or Integrity if it has none.
 abbrev pub KeyAnswer : {A : Type 0} → (Legal : Type 0) → (Stands : List ℕ → List ℕ → Type 0) → (text : List ℕ) → (key : A → List ℕ)
     → Result A InPlaceFault → Type 0
 KeyAnswer Legal Stands text key (Ok m) = Legal × Stands (key m) text

@@ -8,7 +8,7 @@ use Rattle.key_wrap.specs.Answer.{NoKey}
 use Rattle.key_wrap.specs.Forms.{StandsIn, IsTextLength, by_default}
 use Rattle.key_wrap.specs.Rewrap.{AreWrappings, NoOtherForm}
 
--- one key stands with both in one form: with the wrapped key under E, and with the answer under F
+-- one key belongs to both in one form: to the wrapped key under E, and to the answer under F
 abbrev pub KeepsForm : (List ℕ → List ℕ) → (List ℕ → List ℕ) → List ℕ → List ℕ → Type 0
 KeepsForm E F text answer = (form : Form) × AreWrappings (by_default form) E (by_default form) F text answer
 
@@ -20,8 +20,8 @@ IsSomeTextLength len = (form : Form) × IsTextLength form len
 abbrev pub HasNoForm : (List ℕ → List ℕ) → List ℕ → Type 0
 HasNoForm E text = IsSomeTextLength (length text) × ((form : Form) → NoKey (StandsIn form E) text)
 
--- The answer, by cases: the wrapping of its key in its form; BadLength where the length is legal in neither
--- form; Integrity where no key stands with it in either; or that there is no memory.
+-- The answer, by cases: the wrapping of its key in its form; BadLength if the length is legal in neither form;
+-- Integrity if no key belongs to it in either form; or that there is no memory.
 abbrev pub KeptAnswer : {Z : Type 0} → (List ℕ → List ℕ) → (List ℕ → List ℕ) → List ℕ → Result (Vec ℕ Z) UnwrapFault → Type 0
 KeptAnswer E F text (Ok answer) = KeepsForm E F text answer.items
 KeptAnswer E F text (Err BadLength) = ¬ IsSomeTextLength (length text)

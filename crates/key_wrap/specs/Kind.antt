@@ -6,8 +6,8 @@ use Rattle.key_wrap.specs.Plain.{Plain, default_iv}
 use Rattle.key_wrap.specs.Padded.{Padded}
 use Rattle.key_wrap.specs.Answer.{NoKey, NoPlainKey}
 
--- some key of that many bytes stands with it in that form, the plain one under the initial value `iv`, or no key
--- does in either
+-- some key of that many bytes belongs to it in that form, the plain form under the initial value `iv`, or no key
+-- belongs to it in either form
 abbrev pub IsKindWith : ℕ → (List ℕ → List ℕ) → List ℕ → Kind → Type 0
 IsKindWith iv E text (InPlain m) = (key : List ℕ) × (length key ≡ m) × Plain E iv key text
 IsKindWith iv E text (InPadded m) = (key : List ℕ) × (length key ≡ m) × Padded E key text
@@ -17,7 +17,7 @@ IsKindWith iv E text Neither = NoKey (Plain E iv) text × NoKey (Padded E) text
 abbrev pub IsKindOf : (List ℕ → List ℕ) → List ℕ → Kind → Type 0
 IsKindOf E text kind = IsKindWith default_iv E text kind
 
--- no key stands with it in the form that the kind does not name, whatever the initial value
+-- no key belongs to it in the form that the kind does not name, whatever the initial value
 abbrev pub NoOtherKey : (List ℕ → List ℕ) → List ℕ → Kind → Type 0
 NoOtherKey E text (InPlain m) = NoKey (Padded E) text
 NoOtherKey E text (InPadded m) = NoPlainKey E text

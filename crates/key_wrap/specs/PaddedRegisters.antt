@@ -18,7 +18,7 @@ pub record PaddedRegisters (E : List ℕ → List ℕ) (before after : List ℕ)
 abbrev pub Holds : List ℕ → List ℕ → Type 0
 Holds buffer key = buffer ≡ word_bytes (aiv (length key)) ++ padded key
 
--- the buffer holds a key of that many bytes, which stands after its initial value
+-- the buffer holds a key of that many bytes, which follows its initial value
 pub record HoldsLength (buffer : List ℕ) (len : ℕ) : Type 0 where
   pub legal : IsPaddedKeyLength len
   pub size : length (take len (drop 8 buffer)) ≡ len

@@ -13,7 +13,7 @@ default_iv = 0xA6A6_A6A6_A6A6_A6A6
 abbrev pub IsReserved : ℕ → Type 0
 IsReserved iv = iv / 2 ^ 32 ≡ 0xA659_59A6
 
--- the wrapped key is the plain wrapping of the key under this initial value: their words stand in the wrapping with it
+-- the wrapped key is the plain wrapping of the key under this initial value: a wrapping with it relates their words
 pub record Plain (E : List ℕ → List ℕ) (iv : ℕ) (key text : List ℕ) : Type 0 where
   pub legal : IsPlainKeyLength (length key)
   pub P : List ℕ

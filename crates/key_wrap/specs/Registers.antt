@@ -4,7 +4,7 @@ use Rattle.key_wrap.specs.Words.{spelled}
 use Rattle.key_wrap.specs.Tape.{Wraps}
 
 -- the bytes before spell an initial value and words of key data, the bytes after spell the words of the wrapped key,
--- and these stand in the wrapping
+-- and a wrapping relates them
 pub record Registers (E : List ℕ → List ℕ) (before after : List ℕ) : Type 0 where
   pub iv : ℕ
   pub P : List ℕ

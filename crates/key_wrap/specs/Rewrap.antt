@@ -9,7 +9,7 @@ use Rattle.key_wrap.specs.Answer.{NoKey, NoPlainKey}
 use Rattle.key_wrap.specs.Padded.{Padded}
 use Rattle.key_wrap.specs.Forms.{StandsAs, IsKeyLengthAs, IsTextLengthAs}
 
--- one key stands with both: with the first in the old form under E, and with the answer in the new form under F
+-- one key belongs to both: to the first in the old form under E, and to the answer in the new form under F
 abbrev pub AreWrappings : AgreedForm → (List ℕ → List ℕ) → AgreedForm → (List ℕ → List ℕ) → List ℕ → List ℕ → Type 0
 AreWrappings old E new F text answer = (key : List ℕ) × StandsAs old E key text × StandsAs new F key answer
 
@@ -25,8 +25,8 @@ HasBadLength old E new text = ¬ IsTextLengthAs old (length text) ⊎ HasBadKey 
 abbrev pub HasNoWrapping : AgreedForm → (List ℕ → List ℕ) → List ℕ → Type 0
 HasNoWrapping old E text = IsTextLengthAs old (length text) × NoKey (StandsAs old E) text
 
--- Rewrap's answer, by cases: the new wrapping of its key; BadLength where a length is refused; Integrity where no
--- key stands with it; or that there is no memory.
+-- The answer of a rewrap, by cases: the new wrapping of its key; BadLength if a length is refused; Integrity if no
+-- key belongs to it; or that there is no memory.
 abbrev pub RewrapAnswer : {Z : Type 0} → AgreedForm → (List ℕ → List ℕ) → AgreedForm → (List ℕ → List ℕ) → List ℕ
     → Result (Vec ℕ Z) UnwrapFault → Type 0
 RewrapAnswer old E new F text (Ok answer) = AreWrappings old E new F text answer.items
@@ -34,7 +34,7 @@ RewrapAnswer old E new F text (Err BadLength) = HasBadLength old E new text
 RewrapAnswer old E new F text (Err Integrity) = HasNoWrapping old E text
 RewrapAnswer old E new F text (Err Memory) = IsTextLengthAs old (length text)
 
--- no key stands with it in the form that is not this one, whatever the initial value
+-- no key belongs to it in the form that is not this one, whatever the initial value
 abbrev pub NoOtherForm : AgreedForm → (List ℕ → List ℕ) → List ℕ → Type 0
 NoOtherForm (forms.Plain iv) E text = NoKey (Padded E) text
 NoOtherForm forms.Padded E text = NoPlainKey E text

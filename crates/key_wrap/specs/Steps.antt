@@ -1,5 +1,5 @@
--- The steps of a wrapping and of an unwrapping, one by one, for an E that may stand outside: what the registers and the next
--- block are after some of them (RFC 3394, section 2.2; RFC 5649, section 4).
+-- The steps of a wrapping and of an unwrapping, one by one, for an E outside the program. They define what the
+-- registers and the next block are after some of them (RFC 3394, section 2.2; RFC 5649, section 4).
 use Rattle.std.specs.Prelude.{◌≡◌, ◌⊎◌, ℕ, ◌+◌, ◌-◌, ◌*◌, ◌%◌, ◌≤◌, ◌<◌, List, ◌∷◌, length, take, drop, bit_xor}
 use Rattle.block_pair.specs.Words.{IsWord, IsBlock}
 use Rattle.key_wrap.specs.Calls.{block_calls}

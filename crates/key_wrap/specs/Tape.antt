@@ -13,8 +13,8 @@ pub record Tape (E : List ℕ → List ℕ) (n : ℕ) (x a : List ℕ) : Type 0 
   pub step : (t : ℕ) → 1 ≤ t → t ≤ 6 * n
       → E (joined (at a (t - 1)) (at x (t - 1))) ≡ joined (bit_xor (at a t) t) (at x (n + t - 1))
 
--- The n words P of key data and the n + 1 words C stand in the wrapping with this initial value: some tape
--- has A0 = iv, X1 .. Xn = P, C0 = A6n and C1 .. Cn = X(6n+1) .. X7n.
+-- A wrapping with this initial value relates the n words P of key data to the n + 1 words C: some tape has A0 = iv,
+-- X1 .. Xn = P, C0 = A6n and C1 .. Cn = X(6n+1) .. X7n.
 pub record Wraps (E : List ℕ → List ℕ) (iv : ℕ) (P C : List ℕ) : Type 0 where
   pub x : List ℕ
   pub a : List ℕ

@@ -11,7 +11,7 @@ use crate::initial_value::InitialValue;
 pub enum AgreedForm {
     /// RFC 3394, with this initial value (section 2.2.3).
     Plain(InitialValue),
-    /// RFC 5649, where the initial value holds the key's length.
+    /// RFC 5649: the initial value holds the key's length.
     Padded,
 }
 

@@ -8,8 +8,8 @@ ghost use Rattle.key_wrap.specs.Padded.{padded};
 use crate::lengths::MAX_KEY;
 use std::alloc::{AllocError, Allocator};
 
-// Room for the first word of the wrapped key, the key and its zero padding (none where the key
-// fills its words). Takes its memory in one allocation.
+// Room for the first word of the wrapped key, the key and its zero padding (none if the key fills
+// its words). Takes its memory in one allocation.
 pub(crate) fn room_for<A: Allocator>(alloc: A, key: &[u8]) -> Result<Vec<u8, A>, AllocError>
     requires { length key.now ≤ MAX_KEY }
     ensures { IfOk result (λ buffer. buffer.items ≡ replicate 8 0 ++ padded key.now) }
@@ -25,7 +25,7 @@ pub(crate) fn room_for<A: Allocator>(alloc: A, key: &[u8]) -> Result<Vec<u8, A>,
 
 // The first `len` bytes of key data after the first word, cut out of the same buffer. By
 // `rotate_left`, since a move to the front would leave a second copy of the key's last bytes behind
-// the end of the vector, where now the zeros of the first word stand.
+// the end of the vector. After the rotation these bytes are the zeros of the first word.
 pub(crate) fn key_of<A: Allocator>(mut buffer: Vec<u8, A>, len: usize) -> Vec<u8, A>
     requires { 8 + len ≤ vec_len buffer }
     ensures { result.items ≡ take len (drop 8 buffer.items) }

@@ -27,10 +27,10 @@ pub(crate) fn initial_value(len: usize) -> u64
     (u64::from(AIV_PREFIX) << 32) + len as u64
 }
 
-// The one decision of an unwrapping, in either form: where what was found differs from what it must
-// be, the registers become zeros. Each caller has computed the whole difference before, so that
-// which check failed, and at which byte, shows in nothing. Not inlined, so that a tool that follows
-// secrets can name the one place where control hangs on them.
+// The only decision of an unwrapping, in either form: if the value found differs from the value
+// expected, the registers become zeros. Each caller has computed the whole difference before, so
+// nothing shows which check failed, or at which byte. Not inlined, so that a tool that follows
+// secrets can name the one place in which control depends on them.
 #[inline(never)]
 pub(crate) fn decide(difference: u64, registers: &mut [u8]) -> Result<(), InPlaceFault>
     ensures passes { IsOk result ↔ (difference ≡ 0) }
@@ -60,9 +60,9 @@ pub(crate) fn given_length(iv: u64) -> u64
     iv % (1 << 32)
 }
 
-// 0 where the registers pass, under this initial value, the three checks of RFC 5649, section 3:
-// the prefix, the range of the length, the zero padding. All three are computed, with no branch and
-// no index that depends on the registers or the initial value.
+// 0 if the registers pass, under this initial value, the three checks of RFC 5649, section 3: the
+// prefix, the range of the length, the zero padding. All three are computed, with no branch and no
+// index that depends on the registers or the initial value.
 pub(crate) fn padded_difference(iv: u64, registers: &[u8]) -> u64
     requires whole_words { length registers.now % 8 ≡ 0 }
     requires some { 8 ≤ length registers.now }
@@ -72,7 +72,7 @@ pub(crate) fn padded_difference(iv: u64, registers: &[u8]) -> u64
         → ¬ Holds (word_bytes iv ++ registers.now) key }
 {
     let prefix = (iv >> 32) ^ u64::from(AIV_PREFIX);
-    // At least 8, and far more, where the length is not in its range.
+    // At least 8, and far more, if the length is not in its range.
     let padding = (registers.len() as u64).wrapping_sub(given_length(iv));
     let last = BigEndian::read_u64(&registers[registers.len() - WORD..]);
     prefix | (padding / 8) | last_bytes(last, padding % 8)

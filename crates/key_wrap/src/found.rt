@@ -45,7 +45,7 @@ pub(crate) fn wrap_found<B: BlockPair>(meter: &mut Meter<B>, iv: u64, buf: &mut 
     BigEndian::write_u64(buf, c0);
 }
 
-// 0 where the initial value and the registers hold a key in this form.
+// 0 if the initial value and the registers hold a key in this form.
 pub(crate) fn form_difference(form: &AgreedForm, iv: u64, registers: &[u8]) -> u64
     requires { IsTextLengthAs form.now (8 + length registers.now) }
     ensures passes { result ≡ 0
@@ -58,8 +58,8 @@ pub(crate) fn form_difference(form: &AgreedForm, iv: u64, registers: &[u8]) -> u
     }
 }
 
-// 0 where they hold a key in one of the two forms, under the default initial value; one word of key
-// data is wrapped in the padded form alone.
+// 0 if they hold a key in one of the two forms, under the default initial value; one word of key
+// data is wrapped only in the padded form.
 pub(crate) fn either_difference(iv: u64, registers: &[u8]) -> u64
     requires { IsPaddedTextLength (8 + length registers.now) }
     ensures passes { result ≡ 0
@@ -75,7 +75,7 @@ pub(crate) fn either_difference(iv: u64, registers: &[u8]) -> u64
     either(form_difference(&plain, iv, registers), padded)
 }
 
-// 0 where one of the two is 0, with no branch.
+// 0 if one of the two is 0, with no branch.
 fn either(first: u64, second: u64) -> u64
     ensures { (result ≡ 0) ↔ ((first ≡ 0) ⊎ (second ≡ 0)) }
 {

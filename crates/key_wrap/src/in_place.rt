@@ -54,11 +54,12 @@ pub(crate) fn wrap_buffer<B: BlockPair>(meter: &mut Meter<B>, iv: u64, buf: &mut
     BigEndian::write_u64(buf, c0);
 }
 
-/// The plain wrapping in the buffer becomes 8 zero bytes and its key (RFC 3394, section 2.2.2).
+/// Unwraps the plain wrapping in the buffer, which becomes 8 zero bytes and the key (RFC 3394,
+/// section 2.2.2).
 ///
-/// `BadLength`, with the buffer and the meter as they were, where `text_length_ok` says no to the
-/// buffer's length; `Integrity` where it holds the plain wrapping of no key, and then every byte
-/// of the buffer is zero. The meter counts as many calls then as for a key.
+/// `BadLength`, with the buffer and the meter unchanged, if `text_length_ok` is false for the
+/// buffer's length. `Integrity` if the buffer holds the plain wrapping of no key; then every byte
+/// of it becomes zero, and the meter counts as many calls as for a key.
 pub fn unwrap_in_place<B: BlockPair>(
     meter: &mut Meter<B>,
     buf: &mut [u8],
@@ -94,8 +95,8 @@ pub fn unwrap_in_place<B: BlockPair>(
     unwrap_buffer(meter, DEFAULT_IV, buf)
 }
 
-// The plain wrapping in the buffer becomes 8 zero bytes and the key whose wrapping under this
-// initial value it is, and zeros where there is none.
+// The plain wrapping in the buffer becomes 8 zero bytes and the key whose wrapping it is under this
+// initial value, or only zeros if there is none.
 pub(crate) fn unwrap_buffer<B: BlockPair>(
     meter: &mut Meter<B>,
     iv: u64,
@@ -144,12 +145,12 @@ pub fn wrap_padded_in_place<B: BlockPair>(
     Ok(())
 }
 
-/// The padded wrapping in the buffer becomes 8 zero bytes, its key, of as many bytes as the answer
-/// says, and zero bytes to the end (RFC 5649, section 4.2).
+/// Unwraps the padded wrapping in the buffer, which becomes 8 zero bytes, the key, and zero bytes
+/// to the end (RFC 5649, section 4.2). Returns the length of the key.
 ///
-/// `BadLength`, with the buffer and the meter as they were, where `padded_text_length_ok` says no
-/// to the buffer's length; `Integrity` where it holds the padded wrapping of no key, and then
-/// every byte of the buffer is zero. The meter counts as many calls then as for a key.
+/// `BadLength`, with the buffer and the meter unchanged, if `padded_text_length_ok` is false for
+/// the buffer's length. `Integrity` if the buffer holds the padded wrapping of no key; then every
+/// byte of it becomes zero, and the meter counts as many calls as for a key.
 pub fn unwrap_padded_in_place<B: BlockPair>(
     meter: &mut Meter<B>,
     buf: &mut [u8],

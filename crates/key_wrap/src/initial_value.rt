@@ -32,8 +32,8 @@ impl Model for InitialValue {
 }
 
 impl InitialValue {
-    /// The initial value of these bytes. Refused exactly where the first four are A65959A6: those
-    /// values are left to the padded form, so that no wrapped key is one in both forms.
+    /// Returns the initial value of these bytes. Refuses exactly the values whose first four bytes
+    /// are A65959A6: the padded form uses them, so no wrapped key is valid in both forms.
     pub fn new(bytes: [u8; 8]) -> Result<InitialValue, ReservedIv>
         ensures reserved { IsErr result ↔ IsReserved (big_number 8 bytes) }
         ensures value { IfOk result (λ iv. iv ≡ big_number 8 bytes) }

@@ -61,7 +61,7 @@ pub fn unwrap_into<B: BlockPair>(
     ensures answer { KeyAnswer (ArePlainLengths (length key.old) (length text.now))
         (Plain (B.encrypted meter.old.pair) default_iv) text.now (λ _. key.new) result }
 
-    // A wrapping is refused for its lengths alone.
+    // A wrapping is refused only for its lengths.
     ensures accepts { (wrapped : List ℕ)
         → Plain (B.encrypted meter.old.pair) default_iv wrapped text.now
         → IsOkUnless result InPlaceFault.BadLength }
@@ -129,7 +129,7 @@ pub fn unwrap_padded_into<B: BlockPair>(
     ensures answer { KeyAnswer (ArePaddedLengths (length key.old) (length text.now))
         (Padded (B.encrypted meter.old.pair)) text.now (λ m. take m key.new) result }
 
-    // A wrapping is refused for its lengths alone.
+    // A wrapping is refused only for its lengths.
     ensures accepts { (wrapped : List ℕ) → Padded (B.encrypted meter.old.pair) wrapped text.now
         → IsOkUnless result InPlaceFault.BadLength }
     ensures only_key { IfOk result (λ m.

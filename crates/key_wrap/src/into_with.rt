@@ -69,7 +69,7 @@ pub fn unwrap_into_with<B: BlockPair>(
     ensures answer { KeyAnswer (ArePlainLengths (length key.old) (length text.now))
         (Plain (B.encrypted meter.old.pair) iv.now) text.now (λ _. key.new) result }
 
-    // A wrapping is refused for its lengths alone.
+    // A wrapping is refused only for its lengths.
     ensures accepts { (wrapped : List ℕ)
         → Plain (B.encrypted meter.old.pair) iv.now wrapped text.now
         → IsOkUnless result InPlaceFault.BadLength }

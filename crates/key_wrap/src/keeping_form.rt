@@ -28,7 +28,7 @@ pub fn rewrap_keeping_form<O: BlockPair, N: BlockPair>(
         ↔ ¬ IsSomeTextLength (length text.now) }
     ensures answer { KeptAnswer (O.encrypted old.now) (N.encrypted new.now) text.now result }
 
-    // A wrapping in either form is refused only where there is no memory.
+    // A wrapping in either form is refused only if there is no memory.
     ensures accepts { (form : Form) → (key : List ℕ)
         → StandsIn form (O.encrypted old.now) key text.now
         → IsOkUnless result UnwrapFault.Memory }
@@ -37,7 +37,7 @@ pub fn rewrap_keeping_form<O: BlockPair, N: BlockPair>(
         → KeepsForm (O.encrypted old.now) (N.encrypted new.now) text.now other
         → other ≡ answer.items) }
 
-    // It is the wrapping of one key alone, in one form.
+    // It is the wrapping of only one key, in one form.
     ensures only_key { IfOk result (λ answer. (form other_form : Form) → (key other : List ℕ)
         → StandsIn form (O.encrypted old.now) key text.now
         → StandsIn other_form (O.encrypted old.now) other text.now

@@ -14,13 +14,13 @@ use crate::found::{either_difference, unwrap_found, wrap_found};
 use crate::lengths::{WORD, padded_text_length_ok};
 use block_pair::{BlockPair, Meter};
 
-/// The wrapped key in the buffer, a wrapping under the old pair in one of the two forms, becomes
-/// the wrapping of the same key in that form under the new pair. No wrapped key is one in both
-/// forms, so there is one answer. No branch and no index hangs on the form, or on the key's length.
+/// Rewraps the wrapped key in the buffer in place, from the old pair to the new one, in the form in
+/// which it is wrapped. No wrapped key is valid in both forms, so there is one result. No branch
+/// and no index depends on the form, or on the key's length.
 ///
-/// `BadLength` where the buffer's length is legal in neither form, with the buffer and both meters
-/// as they were; `Integrity` where it holds a wrapping in neither form, and then every byte of the
-/// buffer is zero, and the new pair was not asked. Each meter counts as for its call alone.
+/// `BadLength`, with the buffer and both meters unchanged, if the buffer's length is legal in
+/// neither form. `Integrity` if the buffer holds a wrapping in neither form; then every byte of it
+/// becomes zero, and the new pair is not called. Each meter counts only its own calls.
 pub fn rewrap_keeping_form_in_place<O: BlockPair, N: BlockPair>(
     old: &mut Meter<O>,
     new: &mut Meter<N>,
@@ -40,7 +40,7 @@ pub fn rewrap_keeping_form_in_place<O: BlockPair, N: BlockPair>(
         → KeepsForm (O.encrypted old.old.pair) (N.encrypted new.old.pair) buf.old other
         → other ≡ buf.new) }
 
-    // It is the wrapping of one key alone, in one form.
+    // It is the wrapping of only one key, in one form.
     ensures only_key { OnOk result ((form other_form : Form) → (key other : List ℕ)
         → StandsIn form (O.encrypted old.old.pair) key buf.old
         → StandsIn other_form (O.encrypted old.old.pair) other buf.old

@@ -32,7 +32,7 @@ pub fn kind<B: BlockPair>(alloc: Global, pair: &B, text: &[u8]) -> Result<Kind, 
         → NoKey (Padded (B.encrypted pair.now)) text.now
         → IfOk result (λ kind. kind ≡ Kind.Neither) }
 
-    // No key stands with it in the other form, whatever the initial value.
+    // No key belongs to it in the other form, whatever the initial value.
     ensures other_form { IfOk result (NoOtherKey (B.encrypted pair.now) text.now) }
     ensures memory { result ≡ Err KindFault.Memory
         → IsPlainTextLength (length text.now) ⊎ IsPaddedTextLength (length text.now) }
@@ -81,7 +81,7 @@ pub fn kind_into<B: BlockPair>(
         → NoKey (Padded (B.encrypted meter.old.pair)) text.now
         → IfOk result (λ kind. kind ≡ Kind.Neither) }
 
-    // No key stands with it in the other form, whatever the initial value.
+    // No key belongs to it in the other form, whatever the initial value.
     ensures other_form { IfOk result (NoOtherKey (B.encrypted meter.old.pair) text.now) }
     ensures scratch_kept { IsErr result ⊎ ¬ IsPaddedTextLength (length text.now)
         → scratch.new ≡ scratch.old }
@@ -113,7 +113,7 @@ pub fn kind_into_with<B: BlockPair>(
         → NoKey (Padded (B.encrypted meter.old.pair)) text.now
         → IfOk result (λ kind. kind ≡ Kind.Neither) }
 
-    // No key stands with it in the other form, whatever the initial value.
+    // No key belongs to it in the other form, whatever the initial value.
     ensures other_form { IfOk result (NoOtherKey (B.encrypted meter.old.pair) text.now) }
     ensures scratch_kept { IsErr result ⊎ ¬ IsPaddedTextLength (length text.now)
         → scratch.new ≡ scratch.old }

@@ -1,5 +1,5 @@
-//! The machine of RFC 3394, section 2.2, in its indexed form: A as a word, and the registers R[1]
-//! .. R[n] in a slice, where they stay.
+//! The machine of RFC 3394, section 2.2, in its indexed form: A is a word, and the registers R[1]
+//! .. R[n] stay in place in a slice.
 
 ghost use Rattle.std.specs.Prelude.{◌≡◌, ◌+◌, ◌%◌, ◌≤◌, ◌++◌, length};
 ghost use Rattle.block_pair.specs.Metered.{counted};

@@ -14,10 +14,10 @@ use crate::lengths::{padded_length_ok, padded_text_length_ok};
 use block_pair::{BlockPair, Meter};
 use std::alloc::{Allocator, Global};
 
-/// The padded wrapping of `key` (RFC 5649, section 4.1): 8 bytes more than the key and its zero
-/// padding.
+/// Returns the padded wrapping of `key` (RFC 5649, section 4.1): 8 bytes more than the key and its
+/// zero padding.
 ///
-/// `BadLength` where `padded_length_ok` says no, before any memory is taken; else `Memory` alone.
+/// `BadLength` if `padded_length_ok` is false, before any memory is taken; else only `Memory`.
 pub fn wrap_padded<B: BlockPair>(alloc: Global, pair: &B, key: &[u8]) -> Result<Vec<u8>, WrapFault>
     ensures bad_length { (result ≡ Err WrapFault.BadLength) ↔ ¬ IsPaddedKeyLength (length key.now) }
     ensures memory { result ≡ Err WrapFault.Memory → IsPaddedKeyLength (length key.now) }
@@ -64,7 +64,7 @@ pub fn unwrap_padded<B: BlockPair>(
     ensures answer { UnwrapAnswer IsPaddedTextLength (Padded (B.encrypted pair.now))
         text.now result }
 
-    // A wrapping is refused only where there is no memory.
+    // A wrapping is refused only if there is no memory.
     ensures accepts { (key : List ℕ) → Padded (B.encrypted pair.now) key text.now
         → IsOkUnless result UnwrapFault.Memory }
     ensures only_key { IfOk result (λ key.

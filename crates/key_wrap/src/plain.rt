@@ -15,9 +15,9 @@ use crate::lengths::{key_length_ok, text_length_ok};
 use block_pair::{BlockPair, Meter};
 use std::alloc::{Allocator, Global};
 
-/// The plain wrapping of `key` (RFC 3394, section 2.2.1): 8 bytes more than the key.
+/// Returns the plain wrapping of `key` (RFC 3394, section 2.2.1): 8 bytes more than the key.
 ///
-/// `BadLength` where `key_length_ok` says no, before any memory is taken; else `Memory` alone.
+/// `BadLength` if `key_length_ok` is false, before any memory is taken; else only `Memory`.
 pub fn wrap<B: BlockPair>(alloc: Global, pair: &B, key: &[u8]) -> Result<Vec<u8>, WrapFault>
     ensures bad_length { (result ≡ Err WrapFault.BadLength) ↔ ¬ IsPlainKeyLength (length key.now) }
     ensures memory { result ≡ Err WrapFault.Memory → IsPlainKeyLength (length key.now) }
@@ -32,10 +32,10 @@ pub fn wrap<B: BlockPair>(alloc: Global, pair: &B, key: &[u8]) -> Result<Vec<u8>
     wrap_on(alloc, pair, &InitialValue::default(), key)
 }
 
-/// The plain wrapping of `key` under this initial value (RFC 3394, sections 2.2.1 and 2.2.3.2): 8
-/// bytes more than the key.
+/// Returns the plain wrapping of `key` under this initial value (RFC 3394, sections 2.2.1 and
+/// 2.2.3.2): 8 bytes more than the key.
 ///
-/// `BadLength` where `key_length_ok` says no, before any memory is taken; else `Memory` alone.
+/// `BadLength` if `key_length_ok` is false, before any memory is taken; else only `Memory`.
 pub fn wrap_with<B: BlockPair>(
     alloc: Global,
     pair: &B,
@@ -83,7 +83,7 @@ pub fn unwrap<B: BlockPair>(alloc: Global, pair: &B, text: &[u8]) -> Result<Vec<
     ensures answer { UnwrapAnswer IsPlainTextLength (Plain (B.encrypted pair.now) default_iv)
         text.now result }
 
-    // A wrapping is refused only where there is no memory.
+    // A wrapping is refused only if there is no memory.
     ensures accepts { (key : List ℕ) → Plain (B.encrypted pair.now) default_iv key text.now
         → IsOkUnless result UnwrapFault.Memory }
     ensures only_key { IfOk result (λ key.
@@ -117,7 +117,7 @@ pub fn unwrap_with<B: BlockPair>(
     ensures answer { UnwrapAnswer IsPlainTextLength (Plain (B.encrypted pair.now) iv.now)
         text.now result }
 
-    // A wrapping is refused only where there is no memory.
+    // A wrapping is refused only if there is no memory.
     ensures accepts { (key : List ℕ) → Plain (B.encrypted pair.now) iv.now key text.now
         → IsOkUnless result UnwrapFault.Memory }
     ensures only_key { IfOk result (λ key.

@@ -37,7 +37,7 @@ pub fn rewrap<O: BlockPair, N: BlockPair>(
         (by_default new_form) text.now
         → (result ≡ Err UnwrapFault.BadLength) ⊎ (result ≡ Err UnwrapFault.Memory) }
 
-    // A wrapping whose key has a legal length in the new form is refused only where there is no
+    // A wrapping whose key has a legal length in the new form is refused only if there is no
     // memory.
     ensures accepts { (key : List ℕ) → StandsIn old_form (O.encrypted old.now) key text.now
         → IsKeyLength new_form (length key) → IsOkUnless result UnwrapFault.Memory }
@@ -47,7 +47,7 @@ pub fn rewrap<O: BlockPair, N: BlockPair>(
         (N.encrypted new.now) text.now other
         → other ≡ answer.items) }
 
-    // It is the wrapping of one key alone.
+    // It is the wrapping of only one key.
     ensures only_key { IfOk result (λ answer. (key other : List ℕ)
         → StandsIn old_form (O.encrypted old.now) key text.now
         → StandsIn old_form (O.encrypted old.now) other text.now → other ≡ key) }

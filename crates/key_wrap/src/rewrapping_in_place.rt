@@ -20,14 +20,14 @@ use crate::initial_value::InitialValue;
 use crate::lengths::{WORD, is_text_length};
 use block_pair::{BlockPair, Meter};
 
-/// The wrapped key in the buffer, a wrapping in the old form under the old pair, becomes the
-/// wrapping of the same key in the new form under the new pair, of the same length.
+/// Rewraps the wrapped key in the buffer in place: from the old form under the old pair to the new
+/// form under the new pair. The length stays the same.
 ///
-/// `BadLength` where the buffer has no legal length of a wrapped key in the old form, with the
-/// buffer and both meters as they were; `Integrity` where it is no old wrapping; `BadLength` where
-/// its key has no legal length in the new form (only from padded to plain). After these two every
-/// byte of the buffer is zero, and the new pair was not asked. Each meter counts as for its call
-/// alone.
+/// `BadLength`, with the buffer and both meters unchanged, if the buffer's length is not legal in
+/// the old form. `Integrity` if the buffer holds no wrapping in the old form. `BadLength` if the
+/// key's length is not legal in the new form (only from padded to plain). After the last two every
+/// byte of the buffer is zero, and the new pair was not called. Each meter counts only its own
+/// calls.
 pub fn rewrap_in_place<O: BlockPair, N: BlockPair>(
     old: &mut Meter<O>,
     old_form: Form,
@@ -50,7 +50,7 @@ pub fn rewrap_in_place<O: BlockPair, N: BlockPair>(
         → AreWrappings (by_default old_form) (O.encrypted old.old.pair)
         (by_default new_form) (N.encrypted new.old.pair) buf.old other → other ≡ buf.new) }
 
-    // It is the wrapping of one key alone.
+    // It is the wrapping of only one key.
     ensures only_key { OnOk result ((key other : List ℕ)
         → StandsIn old_form (O.encrypted old.old.pair) key buf.old
         → StandsIn old_form (O.encrypted old.old.pair) other buf.old → other ≡ key) }
@@ -101,7 +101,7 @@ pub fn rewrap_in_place_with<O: BlockPair, N: BlockPair>(
         → AreWrappings old_form.now (O.encrypted old.old.pair)
         new_form.now (N.encrypted new.old.pair) buf.old other → other ≡ buf.new) }
 
-    // It is the wrapping of one key alone.
+    // It is the wrapping of only one key.
     ensures only_key { OnOk result ((key other : List ℕ)
         → StandsAs old_form.now (O.encrypted old.old.pair) key buf.old
         → StandsAs old_form.now (O.encrypted old.old.pair) other buf.old → other ≡ key) }
@@ -161,7 +161,7 @@ fn new_value(
 }
 
 // The same from the padded form to the plain one. A padded key may have a length that no plain key
-// has: one that does not fill its words, or fills one word alone.
+// has: it does not fill its words, or has only one word.
 fn plain_value(found: u64, iv: &InitialValue, buf: &mut [u8]) -> Result<u64, InPlaceFault>
     requires { IsPaddedTextLength (length buf.old) }
     ensures bad_length { (key : List ℕ)

@@ -1,5 +1,5 @@
-//! One step of a wrapping, and one step undone, over the registers and the block. The cipher may
-//! stand outside: the block is encrypted, or decrypted, between two steps.
+//! One step of a wrapping, and one step undone, over the registers and the block. The caller
+//! encrypts or decrypts the block between two steps, so the cipher may be outside the program.
 
 ghost use Rattle.std.specs.Prelude.{◌≡◌, ◌↔◌, ◌+◌, ◌*◌, ◌/◌, ◌-◌, ◌%◌, ◌≤◌, ◌<◌, ◌++◌, ℕ, List, length};
 ghost use Rattle.std.specs.Prelude.{IsTrue};
@@ -12,7 +12,7 @@ ghost use Rattle.key_wrap.specs.Steps.{WrapSteps, WrapState, UnwrapSteps, Unwrap
 use crate::lengths::{MAX_KEY, WORD};
 use byteorder::{BigEndian, ByteOrder};
 
-// Whether registers of `len` bytes are those of a wrapping, in either form.
+// Whether a wrapping, in either form, can have registers of `len` bytes.
 pub(crate) fn registers_ok(len: usize) -> bool
     ensures { IsTrue result ↔ IsPaddedTextLength (8 + len) }
 {

@@ -24,7 +24,7 @@ use crate::machine::unwrap_slice;
 use block_pair::{BlockPair, Meter};
 
 // C1 .. Cn in the registers become the key whose plain wrapping under this initial value they are
-// with C0 (RFC 3394, section 2.2.2), and zeros where there is none.
+// with C0 (RFC 3394, section 2.2.2), or zeros if there is none.
 pub(crate) fn unwrap_registers<B: BlockPair>(
     meter: &mut Meter<B>,
     iv: u64,
@@ -59,8 +59,7 @@ pub(crate) fn end_plain(found: u64, iv: u64, registers: &mut [u8]) -> Result<(),
 }
 
 // C1 .. Cn in the registers become the key whose padded wrapping they are with C0 (RFC 5649,
-// section 4.2), of as many bytes as the answer says, and its padding; and zeros where there is
-// none.
+// section 4.2), and its padding, or zeros if there is none. Returns the length of the key.
 pub(crate) fn unwrap_padded_registers<B: BlockPair>(
     meter: &mut Meter<B>,
     c0: u64,
@@ -99,8 +98,8 @@ pub(crate) fn end_padded(found: u64, registers: &mut [u8]) -> Result<usize, InPl
 }
 
 // The kind of C0, C1 .. Cn, whose registers become zeros. For two words and more both forms unwrap
-// by the same steps, and one word has a padded wrapping alone: so one unwrapping is enough, and the
-// initial value that it finds tells which form it is.
+// by the same steps, and one word has only a padded wrapping. So one unwrapping is enough, and the
+// initial value found tells the form.
 pub(crate) fn kind_of_registers<B: BlockPair>(
     meter: &mut Meter<B>,
     iv: u64,

@@ -1,4 +1,4 @@
-//! The theorem of the steps, over the definitions alone: a whole run makes the standard's wrapping,
+//! The theorem of the steps, about the definitions only: a whole run makes the standard's wrapping,
 //! and a whole unwrapping leads back from it.
 
 ghost use Rattle.std.specs.Prelude.{ℕ, ◌+◌, ◌++◌, List, length, take};

@@ -1,8 +1,8 @@
 //! A wrapping step by step, for a block permutation that is not a value in memory: the AES of a
 //! token, or of the processor.
 //!
-//! The caller holds the registers, which are the key where it stands, the number of steps done, and
-//! a block. It begins, and then encrypts the block and makes the next step, until all steps are done:
+//! The caller holds the registers, which contain the key at first, the number of steps done, and a
+//! block. It begins, and then encrypts the block and makes the next step, until all steps are done:
 //! six for each 8 bytes of the key, or one for a padded key of up to 8 bytes. A block that was not
 //! encrypted, or a number that the caller changed, cannot be noticed.
 

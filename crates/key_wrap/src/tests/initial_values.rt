@@ -10,8 +10,8 @@ use std::test::Fail;
 pub const OTHER: [u8; 8] = *b"\x01\x23\x45\x67\x89\xAB\xCD\xEF";
 
 // Under each value the plain wrapping of the 16-byte key is the value and these two words, which do
-// not hang on it. Beside the agreed one: the smallest, the largest, the top bit alone, and the
-// neighbours of the reserved ones.
+// not depend on it. Besides the default value: the smallest, the largest, only the top bit, and the
+// neighbours of the reserved values.
 const REST: [u8; 16] = *b"\x00\x11\x22\x33\x44\x55\x66\x7F\x88\x99\xAA\xBB\xCC\xDD\xEE\xFB";
 
 const VALUES: [[u8; 8]; 6] = [

@@ -115,7 +115,8 @@ fn gives_up_for_memory_at_no_length_or_content(rt: HostRuntime) -> Result<(), Fa
     Ok(())
 }
 
-// What is no wrapping is refused for that alone, with ample memory: zeros of each length to 528.
+// A text that is not a wrapping is refused for that reason only, with ample memory: zeros of each
+// length to 528.
 #[test]
 fn gives_up_for_memory_at_no_length_of_what_is_none(rt: HostRuntime) -> Result<(), Fail> {
     let (alloc, refused) = (rt.alloc(), Some(UnwrapFault::Integrity));

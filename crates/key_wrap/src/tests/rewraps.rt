@@ -6,7 +6,7 @@ use crate::*;
 use block_pair::{Meter, SwapHalves};
 use std::test::Fail;
 
-// The old form and the new, the words of a wrapping, and those of its rewrapping.
+// The old form and the new, the words of a wrapping, and the words of its rewrapping.
 const ANSWERS: [(Form, Form, &[u64], &[u64]); 5] = [
     (Form::Plain, Form::Padded, &PLAIN, &PADDED),
     (Form::Padded, Form::Plain, &PADDED, &PLAIN),

@@ -37,7 +37,7 @@ pub const CHANGED: [u64; 3] = [
     0x8899_AABB_CCDD_EEFB,
 ];
 
-/// That of the nine bytes with a padding byte 01.
+/// The padded wrapping of the nine bytes with a padding byte 01.
 pub const PADDING: [u64; 3] = [
     0xA659_59A6_0000_0009,
     0x1122_3344_5566_7780,

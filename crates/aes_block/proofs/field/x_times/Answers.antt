@@ -1,4 +1,4 @@
--- A shift, reduced where the top bit was set, is the product with x.
+-- A shift, reduced if the top bit was set, is the product with x.
 use Rattle.aes_block.proofs.Multiplying.{shifted_low, shifted_high}
 use Rattle.aes_block.proofs.field.x_times.Goals as goal
 

@@ -1,5 +1,5 @@
 -- The loop computes the key expansion.
--- The words below i are those of the definition, and each step makes the next from them by the standard's equation.
+-- The words below i agree with the definition, and each step makes the next from them by the standard's equation.
 use Rattle.std.proofs.Common.{◌≡◌, ◌≢◌, ◌+◌, ◌-◌, ◌*◌, ◌<◌, length, take, sym, ap, ap₂, ◌∙◌, arith, below_more, bit_xor, length-append, length-drop}
 use Rattle.std.proofs.Common.{length-take, length-set}
 use Rattle.std.proofs.lemmas.List.{ext_get_or, get_or_append_left, get_or-set_same, get_or-set_other, get_or-take, length-take-le}

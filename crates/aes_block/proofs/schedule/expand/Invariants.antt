@@ -1,4 +1,4 @@
--- The words below i are those of the key expansion.
+-- The words below i agree with the key expansion.
 use Rattle.std.proofs.Common.{◌≡◌, ℕ, ◌<◌, length, slice_index}
 use Rattle.aes_block.specs.KeyExpansion.{key_expansion}
 use Rattle.aes_block.proofs.schedule.expand.Given as goal

@@ -1,4 +1,4 @@
--- The S-box on each byte of a word is SubWord: the word stands four times in the vector, and the lowest is taken.
+-- The S-box on each byte of a word is SubWord: the vector has four copies of the word, and the lowest is taken.
 use Rattle.std.proofs.Common.{◌≡◌, ℕ, ◌+◌, ◌*◌, ◌/◌, ◌%◌, ◌<◌, List, ap, ap₂, ◌∙◌, arith}
 use lib.Lanes.{number_l}
 use Rattle.aes_block.specs.KeyExpansion.{sub_word}

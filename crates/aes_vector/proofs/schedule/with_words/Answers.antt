@@ -1,4 +1,4 @@
--- The round keys are those of the key expansion, and the first two keep the key.
+-- The round keys agree with the key expansion, and the first two keep the key.
 use Rattle.std.proofs.Common.{◌≡◌, ℕ, ◌+◌, ◌-◌, ◌*◌, ◌≤◌, ◌++◌, ◌∙◌, List, length, take, ap, ap₂, sym, subst, arith}
 use Rattle.std.specs.List.{AllByRecursion}
 use Rattle.block_pair.specs.Words.{IsByte}

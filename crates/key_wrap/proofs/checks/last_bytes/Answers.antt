@@ -1,4 +1,4 @@
--- The mask has as many bytes as are asked for.
+-- The mask covers the requested number of bytes.
 use Rattle.key_wrap.proofs.Differences.{low_mask}
 use Rattle.key_wrap.proofs.checks.last_bytes.Goals as goal
 

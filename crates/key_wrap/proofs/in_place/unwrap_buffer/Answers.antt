@@ -1,4 +1,4 @@
--- The machine was given the text, and leaves the key after eight zeros, or zeros alone.
+-- The machine was given the text, and leaves the key after eight zeros, or only zeros.
 use Rattle.std.proofs.Common.{rules, ◌≡◌, ℕ, List, take, drop, replicate, All, arith, sym, ap, subst}
 use Rattle.std.proofs.lemmas.List.Elements.{All-append, All-replicate}
 use Rattle.key_wrap.specs.Words.{word_bytes}

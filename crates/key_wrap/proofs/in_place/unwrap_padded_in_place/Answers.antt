@@ -1,4 +1,4 @@
--- The machine was given the text, and leaves the padded key after eight zeros, or zeros alone.
+-- The machine was given the text, and leaves the padded key after eight zeros, or only zeros.
 use Rattle.std.proofs.Common.{rules, ◌≡◌, ℕ, List, length, ◌-◌, take, replicate, All, ◌++◌, arith, sym, ap, subst, ◌∙◌}
 use Rattle.std.proofs.lemmas.Result.{IfOk-weaker}
 use Rattle.std.proofs.lemmas.List.Elements.{All-append, All-replicate}

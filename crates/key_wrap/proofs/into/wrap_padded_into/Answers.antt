@@ -1,4 +1,4 @@
--- The key stands after the first word of the text's buffer.
+-- The key follows the first word of the text's buffer.
 use Rattle.std.proofs.Common.{◌≡◌, ℕ, List, length, ◌+◌, ◌-◌, arith, ap, ◌∙◌}
 use borrow.Rule.Slice.PartMut.{put_mid}
 use Rattle.key_wrap.specs.InPlace.{key_in}

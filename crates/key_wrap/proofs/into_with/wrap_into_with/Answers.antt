@@ -1,4 +1,4 @@
--- The key stands after the first word of the text's buffer, and it has one text.
+-- The key follows the first word of the text's buffer, and it has one text.
 use Rattle.std.proofs.Common.{rules, ◌≡◌, ℕ, List, length, drop, ◌-◌, arith, ◌∙◌}
 use borrow.Rule.Slice.PartMut.{put_mid}
 use Rattle.key_wrap.specs.Plain.{Plain}

@@ -1,5 +1,5 @@
--- The key that the registers hold, in whichever form, stands with the text under the old pair, and they are wrapped again as
--- they are under the new one.
+-- The key that the registers hold, in whichever form, belongs to the text under the old pair. They are wrapped again as
+-- they are under the new pair.
 use Rattle.std.proofs.Common.{rules, ℕ, List, length, ◌++◌, drop, refl}
 use Rattle.key_wrap.specs.declared.faults.InPlaceFault.TheVariants.{Integrity}
 use Rattle.key_wrap.specs.declared.forms.Form.{Form}

@@ -1,4 +1,4 @@
--- Each block that is encrypted is that of the next step.
+-- Each block that is encrypted is the block of the next step.
 use Rattle.std.proofs.Common.{rules, ◌≡◌, ◌+◌, ◌*◌, ◌/◌, ℕ, List, length, ◌++◌, take, arith, refl, ap, subst}
 use Rattle.block_pair.specs.Metered.{counted}
 use Rattle.block_pair.specs.Words.{IsBlock}

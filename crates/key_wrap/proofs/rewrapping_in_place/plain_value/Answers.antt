@@ -1,4 +1,4 @@
--- The whole difference is 0 where the key fills its words, two and more.
+-- The whole difference is 0 if the key fills two words or more exactly.
 use Rattle.std.proofs.Common.{rules, ◌≡◌, ◌⊎◌, ℕ, ◌%◌, ◌^◌, ◌-◌, List, length, drop, refl, sym, ◌∙◌, arith, length-drop, inl, inr, bit_xor}
 use Rattle.std.proofs.Math.Nat.{eq-or-lt_of_le}
 use Rattle.block_pair.specs.Words.{IsWord}

@@ -1,4 +1,4 @@
--- The key that the registers hold stands with the text under the old pair, and they are wrapped under the new one.
+-- The key that the registers hold belongs to the text under the old pair, and they are wrapped under the new pair.
 use Rattle.std.proofs.Common.{rules, ℕ, List, length, ◌++◌, drop, refl, ap, inr, Err}
 use Rattle.key_wrap.specs.declared.faults.InPlaceFault.TheVariants.{BadLength, Integrity}
 use Rattle.key_wrap.specs.Words.{word_bytes}

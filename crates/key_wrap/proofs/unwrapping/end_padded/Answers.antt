@@ -1,4 +1,4 @@
--- The key stands with the text if the initial value found and the registers hold one.
+-- The key belongs to the text if the initial value found and the registers hold one.
 use Rattle.std.proofs.Common.{rules, ◌≡◌, ℕ, List, length, take, ◌+◌, ◌++◌, ◌%◌, ◌^◌, arith, refl, ap, length-append}
 use Rattle.key_wrap.specs.Words.{word_bytes}
 use Rattle.key_wrap.specs.Lengths.{IsPaddedTextLength}

@@ -1,4 +1,4 @@
--- The key stands with the text if the initial value found is the one asked for.
+-- The key belongs to the text if the initial value found is the expected one.
 use Rattle.std.proofs.Common.{rules, ◌≡◌, ℕ, List, length, ◌+◌, ◌++◌, arith, length-append}
 use Rattle.key_wrap.specs.Words.{word_bytes}
 use Rattle.key_wrap.specs.Lengths.{IsPlainTextLength}

@@ -1,4 +1,4 @@
--- The state stands for what the rounds below k have made of the block.
+-- The state represents the block after the rounds below k.
 use Rattle.std.proofs.Common.{◌≡◌, ◌-◌, map}
 use Rattle.aes_block.specs.KeyExpansion.{round_key}
 use Rattle.aes_block.specs.Rounds.{add_round_key}
