@@ -39,11 +39,11 @@ fn remove_front(block: &mut Vec<u8>, n: usize)
     block.truncate(len - n);
 }
 
-// Writes the block if it is large enough.
-pub(crate) fn send_if_large<W: Write>(out: &mut W, block: &mut Vec<u8>) -> bool
+// Writes the block if it is large enough, or if the run may wait for its next line.
+pub(crate) fn send_if_due<W: Write>(out: &mut W, block: &mut Vec<u8>, may_wait: bool) -> bool
     ensures sends { Sends (W.contents out.old) (W.contents out.new)
         block.old.items block.new.items [] }
     ensures left { result ≡ false → 0 < length block.new.items }
 {
-    block.len() < BLOCK || send(out, block)
+    !may_wait && block.len() < BLOCK || send(out, block)
 }

@@ -12,6 +12,7 @@ mod job;
 mod line;
 mod log;
 mod run;
+mod source;
 mod summary;
 mod text;
 
@@ -20,6 +21,7 @@ pub use job::{LineJob, Mark};
 pub use line::{Line, read_line};
 pub use log::RefusalLog;
 pub use run::{LineRun, RunOptions};
+pub use source::LineSource;
 pub use summary::RunSummary;
 pub use text::TextNotation;
 

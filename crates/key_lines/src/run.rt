@@ -7,16 +7,17 @@ ghost use Rattle.key_lines.specs.Running.{StepsLine, WritesAnswers, answered_of,
 ghost use Rattle.key_lines.specs.Running.{run_fault_of};
 ghost use Rattle.key_lines.specs.Summary.{HasRoom};
 
-use crate::block::{send, send_if_large};
+use crate::block::{send, send_if_due};
 use crate::fault::{LineFault, RunFault};
 use crate::job::{LineJob, Mark};
 use crate::line::{Line, read_line};
 use crate::log::RefusalLog;
+use crate::source::LineSource;
 use crate::summary::{RunSummary, add_line};
 use crate::text::{TextNotation, decode_line};
 use key_files::{FileFault, MAX_FILE};
 use std::alloc::Global;
-use std::io::{BufRead, Write};
+use std::io::Write;
 
 // Why the next line was not answered, or that the writer refused the block.
 enum StepFault<R> {
@@ -69,8 +70,9 @@ impl<J: LineJob> LineRun<J> {
     /// in place of its answer, and `log` receives the refusal. It still stops at a line that is too
     /// long or cannot be read, and if an allocation or a write fails.
     ///
-    /// The answers are gathered in a block, so `out` needs no buffer.
-    pub fn run<L: RefusalLog<J::Refusal>, R: BufRead, W: Write>(
+    /// The answers are gathered in a block, so `out` needs no buffer. They are written before each
+    /// read that may wait, so whoever asks line by line is answered.
+    pub fn run<L: RefusalLog<J::Refusal>, R: LineSource, W: Write>(
         &self,
         alloc: Global,
         log: &mut L,
@@ -106,7 +108,7 @@ impl<J: LineJob> LineRun<J> {
     }
 
     // Answers each line. The block at the end is not written.
-    fn gather<L: RefusalLog<J::Refusal>, R: BufRead, W: Write>(
+    fn gather<L: RefusalLog<J::Refusal>, R: LineSource, W: Write>(
         &self,
         log: &mut L,
         input: &mut R,
@@ -140,7 +142,7 @@ impl<J: LineJob> LineRun<J> {
     }
 
     // Answers the next line, if there is one.
-    fn step<L: RefusalLog<J::Refusal>, R: BufRead, W: Write>(
+    fn step<L: RefusalLog<J::Refusal>, R: LineSource, W: Write>(
         &self,
         log: &mut L,
         input: &mut R,
@@ -170,7 +172,7 @@ impl<J: LineJob> LineRun<J> {
             return Err(StepFault::Line(LineFault::Input(FileFault::Memory)));
         }
         add_line(summary, log, made);
-        if send_if_large(out, &mut buffers.block) {
+        if send_if_due(out, &mut buffers.block, input.may_wait()) {
             return Ok(met);
         }
         Err(StepFault::Write)

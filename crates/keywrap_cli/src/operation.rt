@@ -11,10 +11,10 @@ use crate::lines::{in_lines, lines_of};
 use crate::rewrap::rewrap;
 use crate::rewrap_job::RewrapJob;
 use crate::rewrapping::{RewrapForms, Rewrapping};
-use key_lines::{LineRun, RefusalLog, RunFault, RunOptions, RunSummary};
+use key_lines::{LineRun, LineSource, RefusalLog, RunFault, RunOptions, RunSummary};
 use key_wrap::{AgreedForm, InPlaceFault, InitialValue};
 use std::alloc::Global;
-use std::io::{BufRead, Read, Write};
+use std::io::{Read, Write};
 
 /// What is done with an input, with its KEK files: their names, or open files.
 #[derive(Drop)]
@@ -143,7 +143,7 @@ impl<K: Read> Operation<K> {
     ///
     /// The first `Err` is the fault of a KEK file: then nothing was read of the input, and nothing
     /// written. In the summary, the `none` of a check and what a rewrap passed are marked.
-    pub fn run_lines<L: RefusalLog<InPlaceFault>, I: BufRead, W: Write>(
+    pub fn run_lines<L: RefusalLog<InPlaceFault>, I: LineSource, W: Write>(
         &mut self,
         alloc: Global,
         options: RunOptions,
