@@ -191,7 +191,7 @@ uninstall: uninstall-command uninstall-library
 documents = docs/RECIPES.md docs/rotation SECURITY.md CHANGELOG.md
 of_library = docs/C_LIBRARY.md docs/OPENSSL.md
 install_documents = scripts/documents.sh '$(doc)' '$(version)' '$(machine)'
-# gone NAME..: takes these away from the documents, and what both have where the file $(2) of the other is not there.
+# gone NAME..: removes these from the documents, and also what both share if the file $(2) of the other is missing.
 gone = rm -rf $(1:%='$(doc)/%'); [ -e '$(2)' ] || rm -rf $(patsubst %,'$(doc)/%',$(notdir $(documents))); \
     rmdir '$(doc)' 2>/dev/null || true
 

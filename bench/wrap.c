@@ -1,8 +1,8 @@
-/* wrap.c: how long the library takes to wrap and to unwrap, beside its peers (peers.c), each with
- * its key schedule. First all must answer the same bytes. Then they take turns at every length, for
- * many short rounds (in only some of them where a call is long), and the best time of each counts,
- * by the processor time of this thread: so a busy machine troubles all alike. bench/wrap compiles
- * and runs it.
+/* wrap.c: measures how long the library takes to wrap and to unwrap, beside its peers (peers.c),
+ * each with its key schedule. First all must return the same bytes. Then they take turns at every
+ * length, for many short rounds (a long call only in some of them), and the best time of each
+ * counts. Time is the processor time of this thread, so a busy machine slows all of them equally.
+ * bench/wrap compiles and runs it.
  *
  * usage: wrap SECONDS        (at least five rounds) */
 
@@ -19,7 +19,7 @@
 
 enum direction { WRAP, UNWRAP };
 
-/* The lengths of key: the last is the longest, where it is not the one before. */
+/* The lengths of key. The last is the longest, unless the one before it is. */
 static const size_t LENS[] = {16, 32, 256, 4096, KEYWRAP_MAX_KEY};
 enum { LEN_COUNT = KEYWRAP_MAX_KEY > 4096 ? 5 : 4 };
 

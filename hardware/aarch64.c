@@ -1,5 +1,5 @@
 /* aarch64.c: AES by the Arm cryptographic extension. AESE and AESD add the round key first, so the
- * last one is added alone. */
+ * last round key needs an addition of its own. */
 
 #ifdef __aarch64__
 

@@ -49,8 +49,8 @@ const bufferOf = getter('buffer');
 const offsetOf = getter('byteOffset');
 const lengthOf = getter('length');
 
-// The bytes of a Uint8Array, by a view whose length stays. No property is asked that the object may
-// have made its own; a detached buffer is a TypeError, too.
+// The bytes of a Uint8Array, as a view whose length cannot change. Reads no property that the
+// object may have replaced; a detached buffer is a TypeError, too.
 function taken(kind, given) {
     if (tagOf(given) !== 'Uint8Array') {
         throw new TypeError(`${kind.what} must be a Uint8Array`);

@@ -33,8 +33,8 @@ struct context {
     uint8_t iv[PLAIN_IV], kek[LONGEST_KEK];
 };
 
-/* Why a call is refused. Where OpenSSL's own refuses for the same cause, the number is that of its
- * reason (openssl/proverr.h), or of the reason that all its libraries have. */
+/* Why a call is refused. If OpenSSL's own provider refuses for the same cause, the number is the
+ * number of its reason (openssl/proverr.h), or of the reason that all its libraries have. */
 enum reason {
     REASON_PARAMETER_READ = 103,
     REASON_PARAMETER_WRITTEN = 104,

@@ -1,7 +1,7 @@
 #!/bin/sh
-# Packs what `make install-command` or `make install-library` installs into an archive for machines that have no kit,
-# which can be used where it is unpacked: FOLDER/NAME.tar.gz, with its README at the top too. `make dist-command` and
-# `make dist-library` call it.
+# Packs what `make install-command` or `make install-library` installs into an archive for machines that have no kit:
+# FOLDER/NAME.tar.gz, with its README at the top too. The archive can be used in the directory in which it is unpacked.
+# `make dist-command` and `make dist-library` call this script.
 #
 # usage: scripts/dist.sh GOAL NAME README FOLDER VARIABLE=VALUE..     (for make: what is built already)
 
@@ -15,7 +15,7 @@ trap 'rm -rf "$room"' EXIT
 trap 'exit 1' HUP INT TERM
 make -s -o build -o library "$goal" "$@" DESTDIR="$room/$name" prefix= exec_prefix= bindir=/bin libdir=/lib \
     includedir=/include datarootdir=/share mandir=/share/man docdir=/share/doc/keywrap
-# The library is found where it lies.
+# The library is found relative to this file.
 pc=$room/$name/lib/pkgconfig/keywrap.pc
 # shellcheck disable=SC2016
 [ ! -f "$pc" ] || sed -i 's|^prefix=.*|prefix=${pcfiledir}/../..|' "$pc"

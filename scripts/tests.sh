@@ -45,8 +45,8 @@ run_files() {
     "$python" -m pytest "${parallel[@]}" "${files[@]}"
 }
 
-# over_library NAME..: builds the archives of the C library, and then runs these over them. Where they can't be
-# built, each says so by itself.
+# over_library NAME..: builds the archives of the C library, and then runs these tests over them. If the archives
+# cannot be built, each test reports it.
 over_library() {
     local script more=()
     [[ " $* " != *' arm64 '* ]] || more+=(arm64)

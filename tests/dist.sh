@@ -1,7 +1,7 @@
 #!/usr/bin/env bash
-# Packs what `make dist` hands out for x86-64, and does what the README of each archive says, line by line: what is
-# built there runs in a root folder that holds the archive and the system's C library alone. tests/arm64.sh tries what
-# is packed for aarch64, tests/python.sh the lines of the wheel's README, tests/make.sh that one run packs all.
+# Packs what `make dist` hands out for x86-64, and does what the README of each archive says, line by line. What it
+# builds there runs in a root directory that has only the archive and the system's C library. tests/arm64.sh tries the
+# archive for aarch64, tests/python.sh the lines of the wheel's README, tests/make.sh that one run packs all.
 #
 # usage: tests/dist.sh        (KEYWRAP_ARCHIVES='PATH ..', KEYWRAP_JS=FOLDER: what was built before;
 #        KEYWRAP_REBUILD=1: the second `make dist` has rt build again, too, over the proofs that it keeps)
@@ -79,7 +79,7 @@ for file in "${tarballs[@]}"; do
 done
 
 # is_installed GOAL NAME README: the archive holds what the goal installs, and its README at the top; but keywrap.pc
-# finds the library from where it lies.
+# finds the library relative to itself.
 is_installed() {
     tar -C bare -xpzf "dist/$2.tar.gz" && packs dist "install-$1" DESTDIR="$room/installed.$1" PREFIX= &&
         diff -r "installed.$1" "bare/$2" -x keywrap.pc -x README && cmp "bare/$2"/{README,"share/doc/keywrap/$3"} &&
@@ -89,7 +89,7 @@ mkdir bare
 row 'the archive of the command' is_installed command "$command" README
 row 'the packed program is the program' cmp "$program" "bare/$command/bin/keywrap"
 row 'the archive of the library' is_installed library "$packed" README.library
-# says_where: pkg-config finds the header and the library where the archive was unpacked.
+# says_where: pkg-config finds the header and the library in the unpacked archive.
 says_where() {
     local header library
     read -r header library < <(PKG_CONFIG_PATH=bare/$packed/lib/pkgconfig pkg-config \
@@ -149,9 +149,9 @@ typed() {
 }
 answers() { awk '/^    \$ / { on = 1; next } !/^    / { on = 0 } on && !/^          / { print substr($0, 5) }' "$1"; }
 
-# done_there NAME COMMANDS: runs what is typed in the archive's folder, over a /usr/local that is empty and a list of
-# the loader that is nobody's else. Programs run in the root folder `bare`, which has /proc, by which the loader knows
-# where they lie, until there is a copy in /usr/local.
+# done_there NAME COMMANDS: runs typed commands in the archive's directory, with an empty /usr/local and a loader list
+# of their own. Programs run in the root directory `bare`, which has /proc: the loader uses it to find their
+# directory, until there is a copy in /usr/local.
 done_there() {
     sed -E '/^cp -r /a bare() { "$@"; }' "$2" | sed -E 's#(^|\| )(bin/keywrap|\./wrap)#\1bare \2#' >script
     # shellcheck disable=SC2016

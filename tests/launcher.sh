@@ -1,6 +1,6 @@
 #!/usr/bin/env bash
-# Runs the launcher keywrap over a stand-in for rt, which proves nothing and notes what it is called for: what is
-# built, in which order, and when again; what is said, where; what is left behind.
+# Runs the launcher keywrap over a fake rt, which proves nothing and records its calls: what is built, in which order,
+# and when again; which messages are printed, and to which stream; what is left behind.
 #
 # usage: tests/launcher.sh
 # SH=PATH tests/launcher.sh has another shell than /bin/sh run the launcher.
@@ -17,8 +17,8 @@ launch() {
     /usr/bin/env --default-signal "$tree/keywrap" "$@" >out 2>err
     status=$?
 }
-# left: what a run left: temporary files, an rt, a make over this tree. What the stand-in had just begun when it was
-# ended, as a grep, ends by itself.
+# left: what a run left: temporary files, an rt, a make over this tree. A process that the fake rt had just started
+# when it was ended, such as a grep, ends by itself.
 left() {
     local make
     ls tmp

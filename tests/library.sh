@@ -87,7 +87,7 @@ caller() {
     echo "int32_t f$((++callers))(void) { ${declared}int32_t s = $name(${5:-$given${more:+, $more}}); return s; }"
 }
 
-# every KIND: a caller of this kind for each place in each call where it can be.
+# every KIND: a caller of this kind for each place in each call that can have one.
 every() {
     local call name buffers more buffer given callers=0
     for call in "${calls[@]}"; do

@@ -1,6 +1,6 @@
 #!/usr/bin/env bash
-# Runs the Makefile and the scripts beside it over a stand-in for rt and over stand-ins for the scripts of tests/:
-# what is built of what, and when again; and that what fails ends in no status 0.
+# Runs the Makefile and the scripts beside it over a fake rt and fake scripts of tests/: what is built of what, and
+# when again; and that a failure never ends with status 0.
 #
 # usage: tests/make.sh
 
@@ -12,7 +12,7 @@ set -u
 mkdir "$room/temporary"
 export TMPDIR=$room/temporary
 
-# script NAME COUNTS STATUS: a stand-in for tests/NAME.sh. It records its arguments.
+# script NAME COUNTS STATUS: a fake tests/NAME.sh. It records its arguments.
 script() {
     cat >"tests/$1.sh" <<END_OF_SCRIPT
 echo "$1: \${KEYWRAP_ARCHIVES:+over \$(cat \$KEYWRAP_ARCHIVES | wc -l) lines}\${TESTS:+the programs of \$TESTS}" \
@@ -87,7 +87,7 @@ at=keywrap_c event='[[ ! "$*" =~ rattle ]] || exit 1' \
 
 ### make gate, and what CI runs
 
-# The stand-in builds the program as rt ci does.
+# The fake rt builds the program as rt ci does.
 ci='cd crates/keywrap'
 in_gate=('a tree: ci' 'ends a tree' "${archives[@]}" 'command: the programs of crates'
     "library: ${over}the programs of crates")
@@ -129,8 +129,8 @@ cp tmp/kept scripts/sysroot.sh
 
 ### What is made, and when again
 
-# The stand-in for a compiler records its arguments, and has a copy of the archive as the shared object; for Python what makes a wheel
-# of the right name, and for the linker of the kit what makes its file.
+# The fake compiler records its arguments, and copies the archive as the shared object. The fake for Python makes a
+# wheel of the right name, and the fake linker of the kit makes its file.
 install -m 755 /dev/stdin bin/linker <<'END_OF_LINKER'
 #!/bin/sh
 echo linked >>"$tree/notes"

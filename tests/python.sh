@@ -1,6 +1,6 @@
 #!/usr/bin/env bash
-# Builds the Python package as a wheel, installs it in a fresh environment, and runs its tests there, those
-# of hostile objects under the address sanitizer too.
+# Builds the Python package as a wheel, installs it in a fresh environment, and runs its tests there. The tests of
+# hostile objects also run under the address sanitizer.
 #
 # usage: tests/python.sh        (KEYWRAP_ARCHIVES='PATH ..': over the last of these, which was built before)
 
@@ -108,8 +108,8 @@ tests=(python3 -B -m pytest -q -p no:cacheprovider "$root/python/tests")
 row 'the tests' "${tests[@]}"
 sed -n '/SKIPPED/p; $p' "$room/row.log"
 
-# pyca's own tests of these calls, out of Debian's source package, over keywrap.pyca by their one import. The package's
-# own tests compare the messages, which three of pyca's match, where there is no source package.
+# pyca's own tests of these calls, from Debian's source package, over keywrap.pyca by their one import. If there is no
+# source package, the package's own tests compare the messages, three of which match pyca's.
 if ! has_python cryptography,cryptography_vectors,pytest_subtests; then
     skip "pyca's own tests" 'no subtests (apt-get install python3-cryptography-vectors python3-pytest-subtests)'
 elif mkdir source && env -C source timeout 60 apt-get -qq source --download-only python-cryptography >source.log 2>&1
@@ -133,7 +133,7 @@ else
     skip 'hostile objects under the address sanitizer' 'no libasan (apt-get install gcc)'
 fi
 
-# Where the package's sources lie for mypy: beside a copy, so that it leaves no cache.
+# The directory of the package's sources for mypy: beside a copy, so that it leaves no cache.
 if has_python mypy; then
     row 'the types' "$python" -m mypy --strict --cache-dir="$room/mypy" --config-file= "$root/python/src/keywrap"
     printf 'import keywrap\nx: int = keywrap.wrap(b"", b"")\n' >wrong.py

@@ -1,4 +1,4 @@
-"""What the tests of docs/rotation share: keys, wrapped by `cryptography`; stand-ins for tools; a PostgreSQL server."""
+"""What the tests of docs/rotation share: keys, wrapped by `cryptography`; fake tools; a PostgreSQL server."""
 
 import os
 import pathlib
@@ -69,7 +69,7 @@ def lines(kek, keys):
 
 
 class Room:
-    """A directory for the runs of scripts, with the program and stand-ins on its PATH."""
+    """A directory for the runs of scripts, with the program and fake tools on its PATH."""
 
     def __init__(self, path, program):
         self.path, self.here, self.calls = path, path / "here", path / "calls"

@@ -23,7 +23,7 @@ CLOSINGS = ["", "0", "1", "2", "01", "02", "12", "012"]
 
 @pytest.fixture(autouse=True)
 def nothing_is_left(files, monkeypatch):
-    """No file is changed, and none is left behind, in the places where a program could leave one."""
+    """No file is changed, and none is left behind in any place that a program could use."""
     for name in "home", "temporary", "to":
         os.mkdir(name)
     monkeypatch.setenv("HOME", str(files / "home"))

@@ -69,9 +69,9 @@ fn answer(status: i32) -> Result<(), Error> {
     }
 }
 
-// SAFETY, of each call below: a pointer comes with the length of its own slice, is not null even
-// where the slice is empty, and what is written is borrowed by `&mut`, so that nothing overlaps it
-// and no other thread touches it.
+// SAFETY, of each call below: a pointer comes with the length of its own slice, which may be empty
+// but is not null. What is written is borrowed by `&mut`, so nothing overlaps it and no other
+// thread touches it.
 
 fn filled(call: Call, kek: &[u8], given: &[u8], len: usize) -> Result<Vec<u8>, Error> {
     let mut out = vec![0; len];
@@ -190,9 +190,8 @@ impl Form {
     }
 }
 
-/// Turns the key in the buffer, wrapped under the old KEK, into the same key wrapped under the new
-/// one; at `Integrity`, and where the new form takes no key of this length, the buffer is all
-/// zeros.
+/// Rewraps the key in the buffer from the old KEK to the new one. At `Integrity`, and if the new
+/// form takes no key of this length, the buffer becomes all zeros.
 pub fn rewrap_in_place(
     old_kek: &[u8],
     old_form: Form,

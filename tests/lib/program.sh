@@ -3,9 +3,9 @@
 # if it is missing, and goes to an empty folder that is removed at the end.
 #
 # $root is the repository, $launcher the command as a user starts it, and $program the built
-# program itself, which starts faster and alone: a fault of the system that a row makes meets no
-# shell before it. KEYWRAP=PATH tries another program in the place of both. $version is the one that
-# the sources name.
+# program. $program starts faster, and a system error that a row causes meets no shell before it.
+# KEYWRAP=PATH tries another program in the place of both. $version is the version that the
+# sources name.
 
 root=$(cd "$(dirname "${BASH_SOURCE[0]}")/../.." && pwd)
 case ${KEYWRAP:-} in

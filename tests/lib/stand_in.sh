@@ -1,6 +1,6 @@
 # shellcheck shell=bash disable=SC2034,SC2154
-# A small tree of this repository, and a stand-in for rt, which proves nothing and notes what it is called for.
-# Sourced, it goes to the tree, whose path holds a space, and whose rt is the first on the PATH.
+# A small tree of this repository, and a fake rt, which proves nothing and records its calls. Sourced, it goes to the
+# tree, whose path holds a space, and whose rt is the first on the PATH.
 #
 # SH=PATH has another shell than /bin/sh run the launcher.
 
@@ -32,9 +32,9 @@ program=crates/keywrap/out/keywrap archive=crates/keywrap_c/out/libkeywrap_c.a
 export tree=$PWD helpers=$root/tests/lib/expect.sh PATH=$PWD/bin:$PATH TMPDIR=$PWD/tmp TERM=xterm processors=4
 unset MAKEFLAGS MAKELEVEL TESTS KEYWRAP_ARCHIVES
 
-# The stand-in for rt: in the crates that the pattern $at names it runs $event, where $launcher is the process above
-# its make, and it waits until the file $screen says that only it is at work. Each program and archive that it
-# builds is another. The program says who called it, and with which words.
+# The fake rt: in the crates that the pattern $at names it runs $event, with $launcher as the process above its make,
+# and it waits until the file $screen says that no other crate is being built. Each program and archive that it
+# builds is another. The program prints its caller and its arguments.
 install -m 755 /dev/stdin bin/rt <<'END_OF_RT'
 #!/bin/bash
 . "$helpers"

@@ -1,6 +1,6 @@
 #!/usr/bin/env bash
-# Builds the C library by both of the toolchain's compilers, as the archives rattle.a and llvm.a of a folder; and, where
-# that is asked for and can be, the library for aarch64 as its folder arm64, and the package for browsers as js.
+# Builds the C library by both of the toolchain's compilers, as the archives rattle.a and llvm.a of a directory. If
+# asked and possible, it also builds the library for aarch64 as its directory arm64, and the package for browsers as js.
 #
 # usage: tests/library/build.sh FOLDER [arm64] [js]
 

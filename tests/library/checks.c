@@ -1,6 +1,6 @@
-/* checks.c: what is due follows from the rules of the lengths, and from another AES
- * (bench/one_table.c) over the loop of RFC 3394. Every buffer that a call writes stands between
- * bytes that it may not write, at a place of another alignment each time. */
+/* checks.c: the expected results follow from the rules of the lengths, and from another AES
+ * (bench/one_table.c) over the loop of RFC 3394. Every buffer that a call writes is between bytes
+ * that it must not write, at a different alignment each time. */
 
 #include "checks.h"
 

@@ -49,14 +49,14 @@ void wrap_words(const uint8_t *kek, size_t kek_len, uint64_t a, const uint8_t *w
 void wrap_key(enum form form, const uint8_t *kek, size_t kek_len, const uint8_t *key,
               size_t key_len, uint8_t *text);
 
-/* A wrap answers what is due: the key's wrapping, or a refusal, and then nothing is written. For a
- * plain wrap in place the text's length tells the key's. */
+/* A wrap does what is expected: it returns the key's wrapping, or it refuses and writes nothing.
+ * For a plain wrap in place the length of the text gives the length of the key. */
 void wraps(enum form form, enum place place, const uint8_t *kek, size_t kek_len, const uint8_t *key,
            size_t key_len, size_t text_len);
 
-/* An unwrap answers what is due: where the lengths are right, `key` and zeros behind it, or, where
- * `key` is NULL, the failed check and zeros alone; else a refusal, and then nothing is written. In
- * place the text's length tells the room. */
+/* An unwrap does what is expected. If the lengths are right, it writes `key` and zeros behind it,
+ * or, if `key` is NULL, it fails the check and writes only zeros. Else it refuses and writes
+ * nothing. In place the length of the text gives the room. */
 void unwraps(enum form form, enum place place, const uint8_t *kek, size_t kek_len,
              const uint8_t *text, size_t text_len, size_t room, const uint8_t *key, size_t key_len);
 
@@ -66,15 +66,15 @@ void wraps_with(const struct value *iv, const uint8_t *kek, size_t kek_len, cons
 void unwraps_with(const struct value *iv, const uint8_t *kek, size_t kek_len, const uint8_t *text,
                   size_t text_len, size_t room, const uint8_t *key);
 
-/* The kind is what is due: where the KEK and the room are right, `key` in this form, or, where `key`
- * is NULL, the failed check; and zeros alone, where the text has a legal length. */
+/* The kind is as expected. If the KEK and the room are right, it is `key` in this form or, if `key`
+ * is NULL, the failed check. The scratch buffer is all zeros if the text has a legal length. */
 void kinds(enum form form, const uint8_t *kek, size_t kek_len, const uint8_t *text, size_t text_len,
            size_t room, const uint8_t *key, size_t key_len);
 
-/* A rewrap in place answers what is due, under these flags: for the wrapping of `key` in `form` under
- * the old KEK the wrapping under the new one, or, where `key` is NULL, the failed check and zeros alone;
- * zeros too where the new form takes no key of this length; else a refusal, and then nothing is
- * written. */
+/* A rewrap in place does what is expected, under these flags. From the wrapping of `key` in `form`
+ * under the old KEK it makes the wrapping under the new KEK or, if `key` is NULL, it fails the
+ * check and writes only zeros. It also writes zeros if the new form takes no key of this length. Else it
+ * refuses and writes nothing. */
 void rewraps(uint32_t flags, const struct kek *old_kek, const struct kek *new_kek,
              const uint8_t *text, size_t text_len, enum form form, const uint8_t *key,
              size_t key_len);

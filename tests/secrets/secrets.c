@@ -1,6 +1,6 @@
-/* secrets.c: what valgrind's memcheck says of each call of the C library where the KEK, the key and
- * the wrapped key are marked as undefined. A branch or an address that depends on an undefined byte
- * is a report. tests/secrets.sh compiles it, runs it and reads what it prints: a line for each call
+/* secrets.c: runs each call of the C library under valgrind's memcheck, with the KEK, the key and
+ * the wrapped key marked as undefined. A branch or an address that depends on an undefined byte is
+ * a report. tests/secrets.sh compiles it, runs it and reads what it prints: a line for each call
  * with the reports that no suppression took, over all KEK sizes and lengths of key. */
 
 #include <keywrap.h>
@@ -17,9 +17,10 @@ enum { LONGEST = 1024, ROOM = LONGEST + 8, LONGEST_DAMAGED = 40 };
 typedef int32_t call(size_t kek_len, size_t len);
 
 #ifdef __aarch64__
-/* As it is compiled here the decision answers its outcome without a constant, and its callers branch
- * on that again. The outcome is what the status tells, so that what depends on it alone is no report:
- * this is between them and the decision. It has the outcome in both registers of an answer. */
+/* In this build the decision returns its outcome as a value, and its callers branch on it again.
+ * The status reveals the outcome anyway, so a branch that depends only on the outcome is not
+ * reported: this wrapper is between the callers and the decision. The outcome is in both registers
+ * of the result. */
 struct outcome {
     uint64_t first, second;
 };

@@ -11,8 +11,8 @@ use aes_block::Aes;
 use block_pair::Meter;
 use key_wrap::{InPlaceFault, unwrap_in_place, wrap_in_place};
 
-/// Wraps the key that stands after the first 8 bytes of the buffer: the wrapped key fills it.
-/// Answers the number of block calls: 6 for each 8 bytes of key.
+/// Wraps the key after the first 8 bytes of the buffer. Afterwards the wrapped key fills it. Returns
+/// the number of block calls: 6 for each 8 bytes of key.
 pub fn wrap_here(aes: &Aes, buffer: &mut [u8]) -> Result<u64, InPlaceFault>
     ensures bad_length { (result ≡ Err InPlaceFault.BadLength)
         ↔ ¬ IsPlainTextLength (length buffer.old) }
@@ -26,8 +26,8 @@ pub fn wrap_here(aes: &Aes, buffer: &mut [u8]) -> Result<u64, InPlaceFault>
     Ok(meter.count())
 }
 
-/// Unwraps the wrapped key that fills the buffer: its key then stands after the first 8 bytes.
-/// Answers the number of block calls.
+/// Unwraps the wrapped key that fills the buffer. Afterwards its key follows the first 8 bytes.
+/// Returns the number of block calls.
 pub fn unwrap_here(aes: &Aes, buffer: &mut [u8]) -> Result<u64, InPlaceFault>
     ensures bad_length { (result ≡ Err InPlaceFault.BadLength)
         ↔ ¬ IsPlainTextLength (length buffer.old) }

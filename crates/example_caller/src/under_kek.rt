@@ -37,7 +37,7 @@ pub fn wrap_under(alloc: Global, kek: &[u8], key: &[u8]) -> Result<Vec<u8>, Refu
     wrap(alloc, &aes, key).map_err(Refusal::Wrap)
 }
 
-/// The key that `text` wraps under the KEK `kek`, or `None` where it wraps no key.
+/// Returns the key that `text` wraps under the KEK `kek`, or `None` if it wraps no key.
 pub fn unwrap_under(alloc: Global, kek: &[u8], text: &[u8]) -> Result<Option<Vec<u8>>, Refusal>
     ensures answer { IfOk result (λ found. IsKekLength (length kek.now) × MatchOption found
         (NoKey (Plain (cipher kek.now) default_iv) text.now)

@@ -68,13 +68,13 @@ class Kind(enum.Enum):
 _KINDS = (Kind.PLAIN, Kind.PADDED)
 
 
-# How the calls below use bytes objects. The library's answer is written into a new one, which nobody
-# else has: so there is no second copy of a key. Only an exact `bytes` is read where it stands, since
-# only its `len` is surely its size.
+# How the calls below use bytes objects. The library writes its result into a new bytes object, which
+# nothing else refers to, so there is no second copy of a key. Only an exact `bytes` is read in place,
+# since only its `len` is certain to be its size.
 
 
 def _copied(given: object) -> bytes:
-    """A new bytes object of what stands in the object's buffer."""
+    """Returns a new bytes object with the content of the object's buffer."""
     try:
         return bytes(_ffi.ffi.buffer(_ffi.ffi.from_buffer("uint8_t[]", given)))
     except (TypeError, ValueError, BufferError):
@@ -83,7 +83,7 @@ def _copied(given: object) -> bytes:
 
 
 def _on_copies(call: Callable[..., _Answer], *given: object, **more: Any) -> _Answer:
-    """The call on copies of what is given, which are wiped; those of 0 and 1 bytes are Python's own."""
+    """Calls it on copies of the arguments, which are wiped, except the shared ones of 0 and 1 bytes."""
     copies = []
     try:
         for item in given:
@@ -96,11 +96,11 @@ def _on_copies(call: Callable[..., _Answer], *given: object, **more: Any) -> _An
 
 
 def wrap(kek: ReadableBuffer, key: ReadableBuffer, iv: Optional[ReadableBuffer] = None) -> bytes:
-    """The plain wrapping of a key (RFC 3394, 2.2.1), which is 8 bytes longer.
+    """Returns the plain wrapping of a key (RFC 3394, 2.2.1), which is 8 bytes longer.
 
-    The key is a multiple of 8 bytes from 16 to 1,048,576 (`BadLength`), the KEK 16, 24 or 32 bytes
-    (`BadKekLength`). `iv` is an initial value of 8 bytes that both ends agreed on, where it is not the
-    default (RFC 3394, 2.2.3.2): `BadInitialValue` where it is refused.
+    The key has a multiple of 8 bytes from 16 to 1,048,576 (else `BadLength`), the KEK 16, 24 or 32
+    bytes (else `BadKekLength`). `iv` is an initial value of 8 bytes that both ends agreed on instead of
+    the default (RFC 3394, 2.2.3.2); a value that is not allowed raises `BadInitialValue`.
     """
     if iv is not None:
         return _wrap_under(kek, iv, key)
@@ -115,9 +115,9 @@ def wrap(kek: ReadableBuffer, key: ReadableBuffer, iv: Optional[ReadableBuffer] 
 
 
 def unwrap(kek: ReadableBuffer, wrapped: ReadableBuffer, iv: Optional[ReadableBuffer] = None) -> bytes:
-    """The key whose plain wrapping this is (RFC 3394, 2.2.2): `IntegrityFailed` where there is none.
+    """Returns the key whose plain wrapping this is (RFC 3394, 2.2.2), or raises `IntegrityFailed`.
 
-    What is wrapped is a multiple of 8 bytes from 24 to 1,048,584; `kek` and `iv` are those of `wrap`.
+    The wrapped key has a multiple of 8 bytes from 24 to 1,048,584. For `kek` and `iv` see `wrap`.
     """
     if iv is not None:
         return _unwrap_under(kek, iv, wrapped)
@@ -160,7 +160,7 @@ def _unwrap_under(kek: ReadableBuffer, iv: ReadableBuffer, wrapped: ReadableBuff
 
 
 def wrap_padded(kek: ReadableBuffer, key: ReadableBuffer) -> bytes:
-    """The padded wrapping of a key (RFC 5649, 4.1), 8 bytes longer than the next multiple of 8.
+    """Returns the padded wrapping of a key (RFC 5649, 4.1), 8 bytes longer than the next multiple of 8.
 
     The key is 1 to 1,048,576 bytes (`BadLength`), the KEK 16, 24 or 32 bytes (`BadKekLength`).
     """
@@ -176,9 +176,9 @@ def wrap_padded(kek: ReadableBuffer, key: ReadableBuffer) -> bytes:
 
 
 def unwrap_padded(kek: ReadableBuffer, wrapped: ReadableBuffer) -> bytes:
-    """The key whose padded wrapping this is (RFC 5649, 4.2): `IntegrityFailed` where there is none.
+    """Returns the key whose padded wrapping this is (RFC 5649, 4.2), or raises `IntegrityFailed`.
 
-    What is wrapped is a multiple of 8 bytes from 16 to 1,048,584; `kek` is that of `wrap_padded`.
+    The wrapped key has a multiple of 8 bytes from 16 to 1,048,584. For `kek` see `wrap_padded`.
     """
     if type(kek) is not bytes or type(wrapped) is not bytes:
         return _on_copies(unwrap_padded, kek, wrapped)
@@ -205,12 +205,12 @@ def rewrap(
     keep_form: bool = False,
     pass_new: bool = False,
 ) -> bytes:
-    """The wrapping under the new KEK of the key that is wrapped under the old one; as long as it was.
+    """Rewraps a wrapped key from the old KEK to the new one. The result is as long as the wrapped key.
 
-    Each is in the plain form, or padded where the flag says so; with `keep_form`, which goes with no
-    other form's flag (`ValueError`), in whichever form it is, and keeps it. With `pass_new` what is no
-    wrapping under the old KEK, but one under the new KEK in the form of an answer, is answered as it
-    is. `BadLength` where the new form takes no key of this length; the other refusals are those of
+    Both wrapped keys are in the plain form, unless a flag makes one padded. With `keep_form` the old
+    form may be either, and is kept; another form's flag beside it raises `ValueError`. With `pass_new`
+    a wrapped key that is already under the new KEK, in the form of a result, is returned unchanged.
+    `BadLength` if the new form takes no key of this length. The other exceptions are described at
     `unwrap` and `unwrap_padded`.
     """
     if keep_form and (old_padded or new_padded):
@@ -236,16 +236,16 @@ def rewrap(
 
 
 def check(kek: ReadableBuffer, wrapped: ReadableBuffer) -> Optional[Kind]:
-    """The form of the wrapped key under the KEK; `None` where it is no wrapped key under it.
+    """Returns the form of the wrapped key under the KEK, or `None` if it is not valid under it.
 
-    The key is not given out. `BadKekLength` is the only refusal.
+    The key is not returned. `BadKekLength` is the only exception.
     """
     found = check_with_length(kek, wrapped)
     return found[0] if found else None
 
 
 def check_with_length(kek: ReadableBuffer, wrapped: ReadableBuffer) -> Optional[Tuple[Kind, int]]:
-    """What `check` answers, and how many bytes the key has; `None` where it is no wrapped key."""
+    """Returns the result of `check` and the length of the key in bytes, or `None`."""
     if type(kek) is not bytes or type(wrapped) is not bytes:
         return _on_copies(check_with_length, kek, wrapped)
     length = len(wrapped)
