@@ -1,5 +1,5 @@
 """The documents: links and paths lead to what is there, no term of docs/DEFINITIONS.md's last column is used, no line is
-longer than 120 columns, and what a script makes from the sources is up to date."""
+longer than 120 columns, phrases that cost a second pass do not grow, and what a script makes is up to date."""
 
 import pathlib
 import re
@@ -13,6 +13,8 @@ DOCUMENTS = [path.relative_to(ROOT) for path in [
 DIRECTORIES = (r"\.ci|bench|completions|crates|docs|examples|include|man|provider|python|scripts|specs|src|tests"
                "|[a-z_]+/(?:specs|src|proofs)")
 EACH = pytest.mark.parametrize("document", DOCUMENTS, ids=str)
+# How many phrases that scripts/plain_english.py counts are left. It may only get smaller.
+FOREIGN_PHRASES = 233
 
 
 def text_of(document):
@@ -90,3 +92,9 @@ def test_what_scripts_make(script):
     """The pictures and the map of the crates, and the definitions that a reader has to read."""
     ended = subprocess.run([ROOT / "scripts" / script, "--check"], capture_output=True, text=True)
     assert (ended.returncode, ended.stdout) == (0, "")
+
+
+def test_plain_english():
+    """scripts/plain_english.py --list shows the phrases."""
+    counts = subprocess.run([ROOT / "scripts/plain_english.py", ROOT], capture_output=True, text=True).stdout
+    assert int(re.search(r"(\d+) in all", counts)[1]) <= FOREIGN_PHRASES, counts
