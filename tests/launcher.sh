@@ -32,8 +32,8 @@ left() {
 # launched NAME STATUS ANSWER LINES NOTE..: the run ended so, and left nothing at work or behind.
 launched() {
     sed -i '/^mktemp: /d; s/(logs: .*)/(logs: LOGS)/' err
-    printf '%s' "$3" >wanted.out
-    ended "$1" "$2" wanted.out "$4"
+    verdict "$1" "$([ "$status" = "$2" ] || echo "status $status, not $2"
+        diff out <(printf %s "$3"); diff err <(printf %s "${4:+$4$'\n'}"))"
     noted "$1" "${@:5}"
     verdict "$1: what is left" "$(left)"
 }
