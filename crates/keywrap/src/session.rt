@@ -8,10 +8,10 @@ use crate::prompt::prompt;
 use crate::warnings::warn;
 use keywrap_cli::{Operation, ProgramFault};
 use keywrap_io::{
-    Access, FileRole, InputSource, Inspected, LineCounts, Output, OutputFile, Protected,
-    StreamKind, Streams, occupy, open,
+    Access, FileRole, InputSource, Inspected, LineCounts, Occupied, Output, OutputFile, Protected,
+    Streams, occupy_closed, open,
 };
-use std::io::{self, PipeReader};
+use std::io;
 
 /// A run on files, with what each of its steps needs.
 #[derive(Drop)]
@@ -25,6 +25,14 @@ pub struct Session<'a, R> {
 
 // An open file to read.
 type Source<I> = Inspected<InputSource<I>>;
+
+// The open files of a run.
+#[derive(Drop)]
+struct OpenFiles<'a, R: Host> {
+    operation: Operation<Source<R::Reader>>,
+    input: Source<R::Reader>,
+    output: Inspected<Output<'a, R>>,
+}
 
 // A run that was not refused.
 #[derive(Clone, Copy)]
@@ -58,23 +66,10 @@ impl<'a, R: Host> Session<'a, R> {
     // operation, Flush.
     fn answer(&self) -> Result<Answer, Refusal> {
         self.check_terminal()?;
-        let _stdin = self.occupy(FileRole::Input, self.streams.input)?;
-        let _stdout = self.occupy(FileRole::Output, self.streams.output)?;
-        let _stderr = self.occupy(FileRole::Output, self.streams.error)?;
-        let mut operation = self.open_operation()?;
-        let mut input = self.open_input()?;
-        let mut output = self.open_output(&operation, &input.file)?;
+        let _occupied = self.occupy_closed()?;
+        let files = self.open_files()?;
         prompt(self.rt, self.run, self.streams);
-        match self.operate(&mut operation, &mut input, &mut output) {
-            Ok(answer) => {
-                output.file.commit(self.rt)?;
-                Ok(answer)
-            }
-            Err(refusal) => {
-                output.file.discard(self.rt);
-                Err(refusal)
-            }
-        }
+        self.operate_and_commit(files)
     }
 
     fn check_terminal(&self) -> Result<(), Refusal> {
@@ -86,12 +81,23 @@ impl<'a, R: Host> Session<'a, R> {
         }
     }
 
-    fn occupy(&self, role: FileRole, stream: StreamKind) -> Result<Option<PipeReader>, Refusal> {
-        match occupy(self.rt, stream) {
-            Ok(reader) => Ok(reader),
-            // No file of the run caused this, so there is no second line.
-            Err(_) => Err(Refusal::from(open_fault(role))),
+    // No file of the run causes such a fault, so there is no second line.
+    fn occupy_closed(&self) -> Result<Occupied, Refusal> {
+        match occupy_closed(self.rt, self.streams) {
+            Ok(occupied) => Ok(occupied),
+            Err(role) => Err(Refusal::from(open_fault(role))),
         }
+    }
+
+    fn open_files(&self) -> Result<OpenFiles<'a, R>, Refusal> {
+        let operation = self.open_operation()?;
+        let input = self.open_input()?;
+        let output = self.open_output(&operation, &input.file)?;
+        Ok(OpenFiles {
+            operation,
+            input,
+            output,
+        })
     }
 
     fn open_operation(&self) -> Result<Operation<Source<R::Reader>>, Refusal> {
@@ -187,13 +193,28 @@ impl<'a, R: Host> Session<'a, R> {
         }
     }
 
+    // The output file takes its place only if the operation was not refused.
+    fn operate_and_commit(&self, files: OpenFiles<'a, R>) -> Result<Answer, Refusal> {
+        let mut files = files;
+        match self.operate(&mut files) {
+            Ok(answer) => {
+                files.output.file.commit(self.rt)?;
+                Ok(answer)
+            }
+            Err(refusal) => {
+                files.output.file.discard(self.rt);
+                Err(refusal)
+            }
+        }
+    }
+
     // Answers the input, or each line of it.
-    fn operate(
-        &self,
-        operation: &mut Operation<Source<R::Reader>>,
-        input: &mut Source<R::Reader>,
-        output: &mut Inspected<Output<'a, R>>,
-    ) -> Result<Answer, Refusal> {
+    fn operate(&self, files: &mut OpenFiles<'a, R>) -> Result<Answer, Refusal> {
+        let OpenFiles {
+            operation,
+            input,
+            output,
+        } = files;
         let lines = LineRun::new(self.rt, self.run, self.streams, &input.file);
         let done = match lines {
             Some(lines) => lines.answer(self.rt, operation, input, output),
@@ -202,23 +223,14 @@ impl<'a, R: Host> Session<'a, R> {
                 Err(fault) => Err(ProgramFault::Job(fault)),
             },
         };
-        let (kek, new_kek) = match operation {
-            Operation::Job { kek, .. } => (kek.inspection, None),
-            Operation::Rewrap { kek, new_kek, .. } => (kek.inspection, Some(new_kek.inspection)),
-        };
-        let seen = Inspections {
-            kek,
-            new_kek,
-            input: input.inspection,
-            output: output.inspection,
-        };
+        let seen = inspections(files);
         match done {
             Ok((status, counts)) => Ok(Answer {
                 status,
                 counts,
                 seen,
             }),
-            Err(fault) => Err(Refusal::from_fault(operation, fault, &seen)),
+            Err(fault) => Err(Refusal::from_fault(&files.operation, fault, &seen)),
         }
     }
 
@@ -243,5 +255,18 @@ impl<'a, R: Host> Session<'a, R> {
             let _ = eprintln!(self.rt; "  {name}{reason}");
         }
         status
+    }
+}
+
+fn inspections<R: Host>(files: &OpenFiles<'_, R>) -> Inspections {
+    let (kek, new_kek) = match &files.operation {
+        Operation::Job { kek, .. } => (kek.inspection, None),
+        Operation::Rewrap { kek, new_kek, .. } => (kek.inspection, Some(new_kek.inspection)),
+    };
+    Inspections {
+        kek,
+        new_kek,
+        input: files.input.inspection,
+        output: files.output.inspection,
     }
 }

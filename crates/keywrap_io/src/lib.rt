@@ -21,4 +21,6 @@ pub use output_file::{Access, OutputFault, OutputFile};
 pub use progress::{CountingReader, Progress};
 pub use protected::{FileId, Protected};
 pub use reason::Reason;
-pub use streams::{InputSource, StreamKind, Streams, is_standard_input, occupy, open, stream_kind};
+pub use streams::{
+    InputSource, Occupied, StreamKind, Streams, is_standard_input, occupy_closed, open, stream_kind,
+};

@@ -1,5 +1,6 @@
 //! The standard streams as the program starts, and opening a file or standard input by name.
 
+use crate::file_role::FileRole;
 use crate::protected::FileId;
 use std::fs::{self, File};
 use std::io::{self, IsTerminal, PipeReader, Read};
@@ -49,16 +50,40 @@ pub fn stream_kind<S: AsFd + IsTerminal>(stream: &S) -> StreamKind {
     }
 }
 
-/// Takes the place of a standard stream that is closed, so that no file that is opened later gets it:
-/// the reader of a pipe gets the lowest free descriptor. A pipe without a writer reads as empty, and
-/// writes to its reader fail.
-pub fn occupy<R: Files>(rt: &R, stream: StreamKind) -> io::Result<Option<PipeReader>> {
-    match stream {
-        StreamKind::Closed => {
-            let (reader, _writer) = io::pipe(rt)?;
-            Ok(Some(reader))
-        }
-        StreamKind::Terminal | StreamKind::Other => Ok(None),
+/// Holds the places of the standard streams that are closed.
+#[derive(Drop)]
+pub struct Occupied {
+    _input: Option<PipeReader>,
+    _output: Option<PipeReader>,
+    _error: Option<PipeReader>,
+}
+
+/// Takes the places of the standard streams that are closed, so that no file that is opened later
+/// gets one of them. If that fails, returns which file of a run would be lost.
+pub fn occupy_closed<R: Files>(rt: &R, streams: Streams) -> Result<Occupied, FileRole> {
+    let input = occupy(rt, streams.input, FileRole::Input)?;
+    let output = occupy(rt, streams.output, FileRole::Output)?;
+    let error = occupy(rt, streams.error, FileRole::Output)?;
+    Ok(Occupied {
+        _input: input,
+        _output: output,
+        _error: error,
+    })
+}
+
+// The reader of a pipe gets the lowest free descriptor. A pipe without a writer reads as empty, and
+// writes to its reader fail.
+fn occupy<R: Files>(
+    rt: &R,
+    stream: StreamKind,
+    role: FileRole,
+) -> Result<Option<PipeReader>, FileRole> {
+    if !matches!(stream, StreamKind::Closed) {
+        return Ok(None);
+    }
+    match io::pipe(rt) {
+        Ok((reader, _writer)) => Ok(Some(reader)),
+        Err(_) => Err(role),
     }
 }
 
