@@ -1,10 +1,10 @@
--- Base64 output denotes the bytes that it was made of: each of its characters may stand in it, and it decodes to them.
-use Rattle.std.proofs.Common.{◌≡◌, ◌<◌, ◌+◌, ◌*◌, ◌/◌, ◌%◌, ◌==◌, ◌||◌, ◌⊎◌, inl, inr, not, Bool, true, false, ℕ, zero, suc, List, [], ◌∷◌, ◌++◌, length}
-use Rattle.std.proofs.Common.{drop, replicate, slice_index, Option, Some, None, Ok, arith, refl, sym, ap, ◌∙◌, append-nil, subst}
+-- Base64 files and texts denote exactly the bytes that they encode.
+use Rattle.std.proofs.Common.{◌≡◌, ◌<◌, ◌+◌, ◌*◌, ◌/◌, ◌%◌, ◌==◌, ◌||◌, ◌&&◌, ◌⊎◌, inl, inr, not, Bool, true, false, ℕ, zero, suc, List, [], ◌∷◌, ◌++◌, length}
+use Rattle.std.proofs.Common.{drop, replicate, slice_index, Option, Some, None, Result, Ok, Err, arith, refl, sym, ap, ◌∙◌, append-nil, subst}
 use Rattle.std.specs.List.{filter, list_all, position, position_from, prefix_len}
 use Rattle.std.proofs.lemmas.Bool.{and_from, and_parts, cases_Bool, eqb-true, le-ltb, lt-ltb, not-true, or_cases}
 use Rattle.std.proofs.lemmas.Iterator.Adapters.{position_from-zero}
-use Rattle.std.proofs.lemmas.List.{append_assoc, drop-drop, drop_at, length-append}
+use Rattle.std.proofs.lemmas.List.{drop-drop, drop_at, length-append}
 use Rattle.std.proofs.lemmas.List.Elements.{All-drop, filter-append}
 use Rattle.std.proofs.lemmas.List.Folds.{list_all-append}
 use Rattle.std.proofs.lemmas.List.Quantifiers.{position-Some}
@@ -16,11 +16,13 @@ use Rattle.base64.specs.Tables.{all_below}
 use Rattle.base64.specs.declared.engine.general_purpose.GeneralPurpose.{GeneralPurpose}
 use Rattle.base64.proofs.EngineFacts.{decode_of-encode_of}
 use Rattle.base64.proofs.Tables.{all_below_at}
-use Rattle.key_files.specs.Base64Text.{base64_line, base64_meaning, before_padding, decoded_meaning, encoding, encoding_of}
+use Rattle.base64.specs.declared.decode.DecodeError.{DecodeError}
+use Rattle.key_files.specs.Base64Text.{IsBase64Of, base64_line, base64_meaning, before_padding, decoded_meaning, encoding, encoding_of}
 use Rattle.key_files.specs.Base64Text.{first_foreign, first_no_padding, first_of_one, has_padding, is_allowed, is_padding, is_standard, is_url_safe}
-use Rattle.key_files.specs.Base64Text.{is_url_safe_at, is_url_safe_text, kept, misplaced, place_fault, symbols_meaning}
+use Rattle.key_files.specs.Base64Text.{is_url_safe_at, is_url_safe_text, kept, misplaced, place_fault, symbol_text_meaning, symbols_meaning}
+use Rattle.key_files.specs.declared.fault.Base64Fault.{Base64Fault}
 use Rattle.key_files.specs.HexText.{is_skipped}
-use Rattle.key_files.proofs.Base64.{base64_meaning-placed}
+use Rattle.key_files.proofs.Base64.{IsBase64Of-decoded, base64_meaning-misplaced, base64_meaning-placed, symbol_text_meaning-placed}
 
 -- ---- lists whose elements all pass a test
 
@@ -175,8 +177,8 @@ of_one-url_safe c allowed one = elim (or_cases (is_standard c) (is_url_safe c) o
   | inr safe ↦ safe
 ]
 
-of_none-allowed : (c : ℕ) → is_allowed true true c ≡ true → not (is_of_one c) ≡ true → is_allowed true false c ≡ true
-of_none-allowed c allowed none = elim (cases_Bool (is_standard c)) [
+of_none-allowed : (skips : Bool) (c : ℕ) → is_allowed skips true c ≡ true → not (is_of_one c) ≡ true → is_allowed skips false c ≡ true
+of_none-allowed skips c allowed none = elim (cases_Bool (is_standard c)) [
   | inl standard ↦ cc (rw standard at none)
   | inr other ↦ elim (cases_Bool (is_url_safe c)) [
     | inl safe ↦ cc (rw (other, safe) at none)
@@ -199,31 +201,60 @@ is_url_safe_at-told text (Some at) is all =
 is_url_safe_text-told : (text : List ℕ) → list_all (is_allowed true true) text ≡ true → IsTold text (is_url_safe_text text)
 is_url_safe_text-told text all = is_url_safe_at-told text (first_of_one text) refl all
 
--- ---- the line: symbols, padding and LF
+-- ---- a text whose blanks are left out
 
-kept-line : (symbols : List ℕ) (n : ℕ) → list_all (λ c. not (is_skipped c)) symbols ≡ true
-    → kept ((symbols ++ replicate n 61) ++ 10 ∷ []) ≡ symbols ++ replicate n 61
-kept-line symbols n none =
-    let p : ℕ → Bool = λ c. not (is_skipped c) in
-    let text : List ℕ = symbols ++ replicate n 61 in
-    let all : list_all p text ≡ true = all-append p symbols (replicate n 61) none (all-replicate p n 61 refl) in
-    filter-append p text (10 ∷ []) ∙ append-nil (filter p text) ∙ filter-all p text all
+-- what all kept bytes pass, and all others
+all-unfiltered : (p q : ℕ → Bool) (xs : List ℕ) → ((c : ℕ) → q c ≡ false → p c ≡ true) → list_all p (filter q xs) ≡ true → list_all p xs ≡ true
+all-unfiltered p q [] other h = refl
+all-unfiltered p q (c ∷ xs) other h = elim (cases_Bool (q c)) [
+  | inl keeps ↦
+      let a = and_parts (p c) (list_all p (filter q xs)) (rw keeps at h) in
+      and_from (p c) (list_all p xs) a.0 (all-unfiltered p q xs other a.1)
+  | inr drops ↦ and_from (p c) (list_all p xs) (other c drops) (all-unfiltered p q xs other (rw drops at h))
+]
+
+drop_one : (n c : ℕ) (xs : List ℕ) → drop (1 + n) (c ∷ xs) ≡ drop n xs
+drop_one n c xs = sym (drop-drop n 1 (c ∷ xs))
+
+behind-unfiltered : (p q r : ℕ → Bool) (xs : List ℕ) → ((c : ℕ) → q c ≡ false → p c ≡ true) → ((c : ℕ) → q c ≡ false → r c ≡ true)
+    → list_all r (drop (prefix_len p (filter q xs)) (filter q xs)) ≡ true → list_all r (drop (prefix_len p xs) xs) ≡ true
+behind-unfiltered p q r [] before other h = refl
+behind-unfiltered p q r (c ∷ xs) before other h = elim (cases_Bool (q c)) [
+  | inl keeps ↦ elim (cases_Bool (p c)) [
+    | inl goes ↦
+        let rest : list_all r (drop (1 + prefix_len p (filter q xs)) (c ∷ filter q xs)) ≡ true = rw (keeps, goes) at h in
+        rw (goes, drop_one (prefix_len p xs) c xs)
+        (behind-unfiltered p q r xs before other (rw (drop_one (prefix_len p (filter q xs)) c (filter q xs)) at rest))
+    | inr stops ↦ rw stops (all-unfiltered r q (c ∷ xs) other (rw keeps (rw (keeps, stops) at h)))
+  ]
+  | inr drops ↦ rw (before c drops, drop_one (prefix_len p xs) c xs) (behind-unfiltered p q r xs before other (rw drops at h))
+]
+
+-- a byte that is left out is one of four
+of_blanks : (P : ℕ → Type 0) → P 32 → P 9 → P 13 → P 10 → (c : ℕ) → not (is_skipped c) ≡ false → P c
+of_blanks P a b d e c h = elim (cases_Bool (c == 32)) [
+  | inl is ↦ subst P (sym (eqb-true c 32 is)) a
+  | inr no32 ↦ elim (cases_Bool (c == 9)) [
+    | inl is ↦ subst P (sym (eqb-true c 9 is)) b
+    | inr no9 ↦ elim (cases_Bool (c == 13)) [
+      | inl is ↦ subst P (sym (eqb-true c 13 is)) d
+      | inr no13 ↦ elim (cases_Bool (c == 10)) [
+        | inl is ↦ subst P (sym (eqb-true c 10 is)) e
+        | inr no10 ↦ cc (rw (no32, no9, no13, no10) at h)
+      ]
+    ]
+  ]
+]
 
 no_fault : (foreign behind : Option ℕ) (before : ℕ) → foreign ≡ None → behind ≡ None → place_fault foreign before behind ≡ None
 no_fault foreign behind before f b = rw (f, b) refl
 
-misplaced-line : (symbols : List ℕ) (n : ℕ) (line : List ℕ) → line ≡ (symbols ++ replicate n 61) ++ 10 ∷ []
-    → list_all (is_allowed true (is_url_safe_text line)) line ≡ true → list_all (λ c. not (is_padding c)) symbols ≡ true
-    → misplaced true line ≡ None
-misplaced-line symbols n line is allowed none =
-    let p : ℕ → Bool = λ c. not (is_padding c) in
-    let q : ℕ → Bool = λ c. is_padding c || is_skipped c in
-    let end : List ℕ = replicate n 61 ++ 10 ∷ [] in
-    let split : line ≡ symbols ++ end = is ∙ append_assoc symbols (replicate n 61) (10 ∷ []) in
-    let all : list_all q end ≡ true = all-append q (replicate n 61) (10 ∷ []) (all-replicate q n 61 refl) refl in
-    let behind : list_all q (drop (before_padding line) line) ≡ true = rw split (all-behind p q symbols end none all) in
-    no_fault (first_foreign true line) (first_no_padding true (drop (before_padding line) line)) (before_padding line)
-    (position-none (is_allowed true (is_url_safe_text line)) line allowed) (position-none q (drop (before_padding line) line) behind)
+misplaced-none : (skips : Bool) (text : List ℕ) → list_all (is_allowed skips (is_url_safe_text text)) text ≡ true
+    → list_all (λ c. is_padding c || (skips && is_skipped c)) (drop (before_padding text) text) ≡ true → misplaced skips text ≡ None
+misplaced-none skips text allowed behind =
+    no_fault (first_foreign skips text) (first_no_padding skips (drop (before_padding text) text)) (before_padding text)
+    (position-none (is_allowed skips (is_url_safe_text text)) text allowed)
+    (position-none (λ c. is_padding c || (skips && is_skipped c)) (drop (before_padding text) text) behind)
 
 -- ---- the text decodes to the bytes
 
@@ -252,27 +283,53 @@ has_padding-some symbols n none =
     lt-ltb (before_padding (symbols ++ replicate (suc n) 61)) (length (symbols ++ replicate (suc n) 61))
     (omega (arith, prefix_len-all (λ c. not (is_padding c)) symbols (replicate (suc n) 61) none, length-append symbols (replicate (suc n) 61)))
 
-abbrev standard_symbols : List ℕ → List ℕ
-standard_symbols bytes = encode_symbols (engine_symbols standard) bytes
+-- ---- a text that encodes bytes, in one alphabet, with padding or without it
 
-abbrev url_safe_symbols : List ℕ → List ℕ
-url_safe_symbols bytes = encode_symbols (engine_symbols url_safe_no_pad) bytes
+abbrev alphabet : Bool → List ℕ
+alphabet false = engine_symbols standard
+alphabet true = engine_symbols url_safe_no_pad
 
--- with padding, unless the bytes are whole groups
-symbols_meaning-standard : (bytes : List ℕ) (n : ℕ) → padding_len (length bytes) ≡ n → list_all (λ c. not (is_padding c)) (standard_symbols bytes) ≡ true
-    → list_all (λ c. not (is_url_safe c)) (standard_symbols bytes) ≡ true → IsBytes bytes
-    → symbols_meaning (standard_symbols bytes ++ replicate n 61) ≡ Ok bytes
-symbols_meaning-standard bytes zero len none other fits =
-    let text : List ℕ = standard_symbols bytes ++ [] in
-    let all : list_all (λ c. not (is_url_safe c)) text ≡ true = all-append (λ c. not (is_url_safe c)) (standard_symbols bytes) [] other refl in
-    symbols_meaning-encoded text bytes false false (is_url_safe_text-none text all) (has_padding-none (standard_symbols bytes) none) refl fits
-symbols_meaning-standard bytes (suc n) len none other fits =
-    let end : List ℕ = replicate (suc n) 61 in
-    let text : List ℕ = standard_symbols bytes ++ end in
-    let p : ℕ → Bool = λ c. not (is_url_safe c) in
-    let all : list_all p text ≡ true = all-append p (standard_symbols bytes) end other (all-replicate p (suc n) 61 refl) in
-    symbols_meaning-encoded text bytes false true (is_url_safe_text-none text all) (has_padding-some (standard_symbols bytes) n none)
-    (ap (λ (k : ℕ). standard_symbols bytes ++ replicate k 61) (sym len)) fits
+abbrev symbols_of : Bool → List ℕ → List ℕ
+symbols_of u bytes = encode_symbols (alphabet u) bytes
+
+abbrev text_in : Bool → ℕ → List ℕ → List ℕ
+text_in u n bytes = symbols_of u bytes ++ replicate n 61
+
+abbrev IsPadding : ℕ → List ℕ → Type 0
+IsPadding n bytes = (n ≡ 0) ⊎ (n ≡ padding_len (length bytes))
+
+encoded-text : (u p : Bool) (bytes : List ℕ) → (n : ℕ) × IsPadding n bytes × (encode_of (encoding u p) bytes ≡ text_in u n bytes)
+encoded-text false false bytes = (0, inl refl, refl)
+encoded-text false true bytes = (padding_len (length bytes), inr refl, refl)
+encoded-text true false bytes = (0, inl refl, refl)
+encoded-text true true bytes = (padding_len (length bytes), inr refl, refl)
+
+-- by the test of each symbol, and of the padding
+all-text : (p : ℕ → Bool) (u : Bool) (n : ℕ) (bytes : List ℕ) → all_below (λ v. p (slice_index (alphabet u) v)) 64 ≡ true → p 61 ≡ true → IsBytes bytes
+    → list_all p (text_in u n bytes) ≡ true
+all-text p u n bytes test pad fits = all-append p (symbols_of u bytes) (replicate n 61) (all-encoded p (alphabet u) bytes test fits) (all-replicate p n 61 pad)
+
+unpadded : (u : Bool) (bytes : List ℕ) → IsBytes bytes → list_all (λ c. not (is_padding c)) (symbols_of u bytes) ≡ true
+unpadded false bytes fits = all-encoded (λ c. not (is_padding c)) (alphabet false) bytes refl fits
+unpadded true bytes fits = all-encoded (λ c. not (is_padding c)) (alphabet true) bytes refl fits
+
+bare : (u : Bool) (bytes : List ℕ) → text_in u 0 bytes ≡ encode_of (encoding u false) bytes
+bare false bytes = refl
+bare true bytes = refl
+
+full : (u : Bool) (bytes : List ℕ) → text_in u (padding_len (length bytes)) bytes ≡ encode_of (encoding u true) bytes
+full false bytes = refl
+full true bytes = refl
+
+symbols_meaning-in : (u : Bool) (n : ℕ) (bytes text : List ℕ) → text ≡ text_in u n bytes → is_url_safe_text text ≡ u → IsPadding n bytes → IsBytes bytes
+    → symbols_meaning text ≡ Ok bytes
+symbols_meaning-in u zero bytes text is told pad fits =
+    let none : has_padding text ≡ false = ap (λ (l : List ℕ). has_padding l) is ∙ has_padding-none (symbols_of u bytes) (unpadded u bytes fits) in
+    symbols_meaning-encoded text bytes u false told none (is ∙ bare u bytes) fits
+symbols_meaning-in u (suc n) bytes text is told (inl none) fits = absurd (omega (arith, none))
+symbols_meaning-in u (suc n) bytes text is told (inr len) fits =
+    let some : has_padding text ≡ true = ap (λ (l : List ℕ). has_padding l) is ∙ has_padding-some (symbols_of u bytes) n (unpadded u bytes fits) in
+    symbols_meaning-encoded text bytes u true told some (is ∙ ap (λ k. text_in u k bytes) len ∙ full u bytes) fits
 
 -- by the test of each symbol of two tables
 agree_from : (t u : List ℕ) → all_below (λ v. is_of_one (slice_index t v) || (slice_index t v == slice_index u v)) 64 ≡ true
@@ -285,63 +342,139 @@ agree_from t u h v lt none =
     ]
 
 -- Where no character tells the alphabet, the text is in both.
-symbols_meaning-url_safe : (bytes : List ℕ) → list_all (λ c. not (is_padding c)) (url_safe_symbols bytes) ≡ true
-    → list_all (is_allowed true true) (url_safe_symbols bytes) ≡ true → IsBytes bytes → symbols_meaning (url_safe_symbols bytes ++ []) ≡ Ok bytes
-symbols_meaning-url_safe bytes none allowed fits =
-    let symbols : List ℕ = url_safe_symbols bytes in
-    let padding = has_padding-none symbols none in
-    elim (is_url_safe_text-told (symbols ++ []) (all-append (is_allowed true true) symbols [] allowed refl)) [
-      | inl told ↦ symbols_meaning-encoded (symbols ++ []) bytes true false told padding refl fits
+symbols_meaning-text : (u : Bool) (n : ℕ) (bytes : List ℕ) → IsPadding n bytes → IsBytes bytes → symbols_meaning (text_in u n bytes) ≡ Ok bytes
+symbols_meaning-text false n bytes pad fits =
+    let told = is_url_safe_text-none (text_in false n bytes) (all-text (λ c. not (is_url_safe c)) false n bytes refl refl fits) in
+    symbols_meaning-in false n bytes (text_in false n bytes) refl told pad fits
+symbols_meaning-text true n bytes pad fits =
+    let text : List ℕ = text_in true n bytes in
+    elim (is_url_safe_text-told text (all-text (is_allowed true true) true n bytes refl refl fits)) [
+      | inl told ↦ symbols_meaning-in true n bytes text refl told pad fits
       | inr untold ↦
           let p : ℕ → Bool = λ c. not (is_of_one c) in
-          let all : list_all p symbols ≡ true = subst (λ (l : List ℕ). list_all p l ≡ true) (append-nil symbols) untold.1 in
-          let agree = agree_from (engine_symbols url_safe_no_pad) (engine_symbols standard) refl in
-          let same = symbols-agree p (engine_symbols url_safe_no_pad) (engine_symbols standard) bytes agree fits all in
-          symbols_meaning-encoded (symbols ++ []) bytes false false untold.0 padding (ap (λ (l : List ℕ). l ++ []) same) fits
+          let all : list_all p (symbols_of true bytes) ≡ true =
+          (and_parts (list_all p (symbols_of true bytes)) (list_all p (replicate n 61)) (sym (list_all-append p (symbols_of true bytes) (replicate n 61)) ∙ untold.1)).0 in
+          let same = symbols-agree p (alphabet true) (alphabet false) bytes (agree_from (alphabet true) (alphabet false) refl) fits all in
+          symbols_meaning-in false n bytes text (ap (λ (l : List ℕ). l ++ replicate n 61) same) untold.0 pad fits
     ]
 
--- ---- the line is read back
+-- which characters may stand in a text, by those of its alphabet
+allowed-standard : (skips : Bool) (text : List ℕ) → list_all (λ c. not (is_url_safe c)) text ≡ true → list_all (is_allowed skips false) text ≡ true
+    → list_all (is_allowed skips (is_url_safe_text text)) text ≡ true
+allowed-standard skips text none all =
+    subst (λ (b : Bool). list_all (is_allowed skips b) text ≡ true) (sym (is_url_safe_text-none text none)) all
 
-all-line : (p : ℕ → Bool) (symbols : List ℕ) (n : ℕ) → p 61 ≡ true → p 10 ≡ true → list_all p symbols ≡ true
-    → list_all p ((symbols ++ replicate n 61) ++ 10 ∷ []) ≡ true
-all-line p symbols n pad lf h =
-    all-append p (symbols ++ replicate n 61) (10 ∷ []) (all-append p symbols (replicate n 61) h (all-replicate p n 61 pad)) (and_from (p 10) true lf refl)
-
-base64_meaning-of_line : (symbols : List ℕ) (n : ℕ) (bytes line : List ℕ) → line ≡ (symbols ++ replicate n 61) ++ 10 ∷ []
-    → list_all (is_allowed true (is_url_safe_text line)) line ≡ true → list_all (λ c. not (is_padding c)) symbols ≡ true
-    → list_all (λ c. not (is_skipped c)) symbols ≡ true → symbols_meaning (symbols ++ replicate n 61) ≡ Ok bytes → base64_meaning line ≡ Ok bytes
-base64_meaning-of_line symbols n bytes line is allowed unpadded unskipped decoded =
-    let same : kept line ≡ symbols ++ replicate n 61 = ap (λ (l : List ℕ). kept l) is ∙ kept-line symbols n unskipped in
-    base64_meaning-placed line (misplaced-line symbols n line is allowed unpadded) ∙ ap (λ (l : List ℕ). symbols_meaning l) same ∙ decoded
-
--- which characters may stand in a line of symbols of the URL-safe alphabet
-allowed-told : (line : List ℕ) → list_all (is_allowed true true) line ≡ true → list_all (is_allowed true (is_url_safe_text line)) line ≡ true
-allowed-told line all = elim (is_url_safe_text-told line all) [
-  | inl told ↦ subst (λ (b : Bool). list_all (is_allowed true b) line ≡ true) (sym told) all
+allowed-told : (skips : Bool) (text : List ℕ) → list_all (is_allowed true true) text ≡ true → list_all (is_allowed skips true) text ≡ true
+    → list_all (is_allowed skips (is_url_safe_text text)) text ≡ true
+allowed-told skips text some all = elim (is_url_safe_text-told text some) [
+  | inl told ↦ subst (λ (b : Bool). list_all (is_allowed skips b) text ≡ true) (sym told) all
   | inr untold ↦
-      let both = all-both (is_allowed true true) (λ c. not (is_of_one c)) (is_allowed true false) line of_none-allowed all untold.1 in
-      subst (λ (b : Bool). list_all (is_allowed true b) line ≡ true) (sym untold.0) both
+      let both = all-both (is_allowed skips true) (λ c. not (is_of_one c)) (is_allowed skips false) text (of_none-allowed skips) all untold.1 in
+      subst (λ (b : Bool). list_all (is_allowed skips b) text ≡ true) (sym untold.0) both
 ]
 
+-- a text in which no blank stands
+placed-text : (u : Bool) (n : ℕ) (bytes : List ℕ) → IsBytes bytes → misplaced false (text_in u n bytes) ≡ None
+placed-text u n bytes fits =
+    misplaced-none false (text_in u n bytes) (allowed u)
+    (all-behind (λ c. not (is_padding c)) q (symbols_of u bytes) (replicate n 61) (unpadded u bytes fits) (all-replicate q n 61 refl))
+  where
+    q : ℕ → Bool
+    q c = is_padding c || (false && is_skipped c)
+
+    allowed : (b : Bool) → list_all (is_allowed false (is_url_safe_text (text_in b n bytes))) (text_in b n bytes) ≡ true
+    allowed false = allowed-standard false (text_in false n bytes) (all-text (λ c. not (is_url_safe c)) false n bytes refl refl fits)
+        (all-text (is_allowed false false) false n bytes refl refl fits)
+    allowed true = allowed-told false (text_in true n bytes) (all-text (is_allowed true true) true n bytes refl refl fits)
+        (all-text (is_allowed false true) true n bytes refl refl fits)
+
+-- a file with blanks anywhere
+placed-file : (u : Bool) (n : ℕ) (bytes file : List ℕ) → IsBytes bytes → kept file ≡ text_in u n bytes → misplaced true file ≡ None
+placed-file u n bytes file fits is =
+    misplaced-none true file (allowed u is)
+    (behind-unfiltered p keeps q file (of_blanks (λ c. p c ≡ true) refl refl refl refl) (of_blanks (λ c. q c ≡ true) refl refl refl refl)
+    (subst (λ (l : List ℕ). list_all q (drop (prefix_len p l) l) ≡ true) (sym is)
+    (all-behind p q (symbols_of u bytes) (replicate n 61) (unpadded u bytes fits) (all-replicate q n 61 refl))))
+  where
+    keeps : ℕ → Bool
+    keeps c = not (is_skipped c)
+
+    p : ℕ → Bool
+    p c = not (is_padding c)
+
+    q : ℕ → Bool
+    q c = is_padding c || is_skipped c
+
+    each : (r : ℕ → Bool) (b : Bool) → kept file ≡ text_in b n bytes → ((c : ℕ) → keeps c ≡ false → r c ≡ true) → list_all r (text_in b n bytes) ≡ true
+        → list_all r file ≡ true
+    each r b same other h = all-unfiltered r keeps file other (subst (λ (l : List ℕ). list_all r l ≡ true) (sym same) h)
+
+    allowed : (b : Bool) → kept file ≡ text_in b n bytes → list_all (is_allowed true (is_url_safe_text file)) file ≡ true
+    allowed false same = allowed-standard true file
+        (each (λ c. not (is_url_safe c)) false same (of_blanks (λ c. not (is_url_safe c) ≡ true) refl refl refl refl)
+        (all-text (λ c. not (is_url_safe c)) false n bytes refl refl fits))
+        (each (is_allowed true false) false same (of_blanks (λ c. is_allowed true false c ≡ true) refl refl refl refl)
+        (all-text (is_allowed true false) false n bytes refl refl fits))
+    allowed true same =
+        let all = each (is_allowed true true) true same (of_blanks (λ c. is_allowed true true c ≡ true) refl refl refl refl)
+        (all-text (is_allowed true true) true n bytes refl refl fits) in
+        allowed-told true file all all
+
+-- ---- each encoding is read, and nothing else
+
+pub symbol_text_meaning-accepts : (text bytes : List ℕ) → IsBytes bytes → IsBase64Of text bytes → symbol_text_meaning text ≡ Ok bytes
+symbol_text_meaning-accepts text bytes fits (u, p, is) =
+    let (n, pad, same) = encoded-text u p bytes in
+    let whole : text ≡ text_in u n bytes = is ∙ same in
+    subst (λ (l : List ℕ). symbol_text_meaning l ≡ Ok bytes) (sym whole)
+    (symbol_text_meaning-placed (text_in u n bytes) (placed-text u n bytes fits) ∙ symbols_meaning-text u n bytes pad fits)
+
+pub base64_meaning-accepts : (file bytes : List ℕ) → IsBytes bytes → IsBase64Of (kept file) bytes → base64_meaning file ≡ Ok bytes
+base64_meaning-accepts file bytes fits (u, p, is) =
+    let (n, pad, same) = encoded-text u p bytes in
+    let whole : kept file ≡ text_in u n bytes = is ∙ same in
+    base64_meaning-placed file (placed-file u n bytes file fits whole) ∙ ap (λ (l : List ℕ). symbols_meaning l) whole ∙ symbols_meaning-text u n bytes pad fits
+
+IsBytes-more : (c : ℕ) (xs : List ℕ) → c < 256 → IsBytes xs → IsBytes (c ∷ xs)
+IsBytes-more c xs fits rest zero = fits
+IsBytes-more c xs fits rest (suc k) = rest k
+
+IsBytes-filter : (p : ℕ → Bool) (xs : List ℕ) → IsBytes xs → IsBytes (filter p xs)
+IsBytes-filter p [] fits = fits
+IsBytes-filter p (c ∷ xs) fits =
+    let rest = IsBytes-filter p xs (λ k. fits (suc k)) in
+    elim (cases_Bool (p c)) [
+      | inl keeps ↦ rw keeps (IsBytes-more c (filter p xs) (fits 0) rest)
+      | inr drops ↦ rw drops rest
+    ]
+
+pub base64_meaning-sound : (file bytes : List ℕ) → IsBytes file → base64_meaning file ≡ Ok bytes → IsBase64Of (kept file) bytes
+base64_meaning-sound file bytes fits h = at (misplaced true file) refl
+  where
+    encoded : (d : Result (List ℕ) DecodeError) → decode_of (encoding_of (kept file)) (kept file) ≡ d → decoded_meaning d ≡ Ok bytes → IsBase64Of (kept file) bytes
+    encoded (Ok x) is same =
+        let e : x ≡ bytes = cc same in
+        IsBase64Of-decoded (encoding_of (kept file)) (kept file) bytes (refl, refl, refl, refl) (IsBytes-filter (λ c. not (is_skipped c)) file fits) (is ∙ ap Ok e)
+    encoded (Err error) is same = cc same
+
+    at : (found : Option Base64Fault) → misplaced true file ≡ found → IsBase64Of (kept file) bytes
+    at None is = encoded (decode_of (encoding_of (kept file)) (kept file)) refl (sym (base64_meaning-placed file is) ∙ h)
+    at (Some fault) is = cc (sym (base64_meaning-misplaced file fault is) ∙ h)
+
+-- no symbol is left out
+kept-text : (u : Bool) (n : ℕ) (bytes : List ℕ) → IsBytes bytes → list_all (λ c. not (is_skipped c)) (text_in u n bytes) ≡ true
+kept-text false n bytes fits = all-text (λ c. not (is_skipped c)) false n bytes refl refl fits
+kept-text true n bytes fits = all-text (λ c. not (is_skipped c)) true n bytes refl refl fits
+
+pub kept-encoded : (text bytes : List ℕ) → IsBytes bytes → IsBase64Of text bytes → kept text ≡ text
+kept-encoded text bytes fits (u, p, is) =
+    let (n, pad, same) = encoded-text u p bytes in
+    filter-all (λ c. not (is_skipped c)) text (subst (λ (l : List ℕ). list_all (λ c. not (is_skipped c)) l ≡ true) (sym (is ∙ same)) (kept-text u n bytes fits))
+
 pub base64_meaning-line : (url_safe : Bool) (bytes : List ℕ) → IsBytes bytes → base64_meaning (base64_line url_safe bytes) ≡ Ok bytes
-base64_meaning-line false bytes fits =
-    let t : List ℕ = engine_symbols standard in
-    let symbols : List ℕ = standard_symbols bytes in
-    let n : ℕ = padding_len (length bytes) in
-    let line : List ℕ = base64_line false bytes in
-    let other = all-encoded (λ c. not (is_url_safe c)) t bytes refl fits in
-    let unpadded = all-encoded (λ c. not (is_padding c)) t bytes refl fits in
-    let unskipped = all-encoded (λ c. not (is_skipped c)) t bytes refl fits in
-    let allowed = all-line (is_allowed true false) symbols n refl refl (all-encoded (is_allowed true false) t bytes refl fits) in
-    let told = is_url_safe_text-none line (all-line (λ c. not (is_url_safe c)) symbols n refl refl other) in
-    base64_meaning-of_line symbols n bytes line refl (subst (λ (b : Bool). list_all (is_allowed true b) line ≡ true) (sym told) allowed)
-    unpadded unskipped (symbols_meaning-standard bytes n refl unpadded other fits)
-base64_meaning-line true bytes fits =
-    let t : List ℕ = engine_symbols url_safe_no_pad in
-    let symbols : List ℕ = url_safe_symbols bytes in
-    let line : List ℕ = base64_line true bytes in
-    let unpadded = all-encoded (λ c. not (is_padding c)) t bytes refl fits in
-    let unskipped = all-encoded (λ c. not (is_skipped c)) t bytes refl fits in
-    let each = all-encoded (is_allowed true true) t bytes refl fits in
-    let allowed = allowed-told line (all-line (is_allowed true true) symbols 0 refl refl each) in
-    base64_meaning-of_line symbols 0 bytes line refl allowed unpadded unskipped (symbols_meaning-url_safe bytes unpadded each fits)
+base64_meaning-line url_safe bytes fits =
+    let text : List ℕ = encode_of (encoding url_safe (not url_safe)) bytes in
+    let own : IsBase64Of text bytes = (url_safe, not url_safe, refl) in
+    let q : ℕ → Bool = λ c. not (is_skipped c) in
+    let same : kept (text ++ 10 ∷ []) ≡ text = filter-append q text (10 ∷ []) ∙ append-nil (filter q text) ∙ kept-encoded text bytes fits own in
+    base64_meaning-accepts (base64_line url_safe bytes) bytes fits (subst (λ (l : List ℕ). IsBase64Of l bytes) (sym same) own)

@@ -1,7 +1,8 @@
 //! The base64 notation.
 
-ghost use Rattle.std.specs.Prelude.{◌≡◌, ◌<◌, ◌≤◌, length, not, true, IfErr, IfOk, IfSome, Ok, OnOk};
-ghost use Rattle.base64.specs.GeneralPurpose.{SameEngine, encode_of};
+ghost use Rattle.std.specs.Prelude.{◌≡◌, ◌<◌, ◌≤◌, ℕ, List, length, false, not, true, None, Err};
+ghost use Rattle.std.specs.Prelude.{IfErr, IfOk, IfSome, Ok, OnOk};
+ghost use Rattle.base64.specs.GeneralPurpose.{IsBytes, SameEngine, encode_of};
 ghost use Rattle.key_files.specs.Base64Text.{IsBase64Of, base64_fault_of, base64_line, before_padding};
 ghost use Rattle.key_files.specs.Base64Text.{encoding, encoding_of, first_foreign, first_no_padding};
 ghost use Rattle.key_files.specs.Base64Text.{first_of_one};
@@ -21,12 +22,15 @@ use std::alloc::{AllocError, Allocator};
 
 /// The bytes that a base64 text in which no blank stands denotes, in `bytes`, whatever stood there.
 ///
-/// The first that applies is answered: BadBase64 of a Character or of one BehindPadding, Memory,
-/// BadBase64 of the Length or of TrailingBits.
+/// Returns the first error that applies: BadBase64 with Character or BehindPadding, Memory,
+/// BadBase64 with Length or TrailingBits.
 pub fn decode_symbols_into(text: &[u8], bytes: &mut Vec<u8>) -> Result<(), FileFault>
     ensures meaning { DecodesText (symbol_text_meaning text.now) bytes.new.items result }
     ensures within { IfErr result (λ fault. place_of fault ≤ length text.now) }
     ensures encoding { OnOk result (IsBase64Of text.now bytes.new.items) }
+    ensures accepted { (encoded : List ℕ) → IsBytes encoded → IsBase64Of text.now encoded
+        → symbol_text_meaning text.now ≡ Ok encoded }
+    ensures memory { result ≡ Err FileFault.Memory → misplaced false text.now ≡ None }
 {
     if let Some(fault) = misplaced(false, text) {
         return Err(FileFault::BadBase64(fault));

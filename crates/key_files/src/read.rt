@@ -1,8 +1,9 @@
 //! Files that are read whole.
 
-ghost use Rattle.std.specs.Prelude.{◌≡◌, ◌<◌, ◌≤◌, length, take, IfOk, IfErr};
+ghost use Rattle.std.specs.Prelude.{◌≡◌, ◌<◌, ◌≤◌, ℕ, List, length, take, IfOk, IfErr, Ok};
 ghost use Rattle.std.specs.Io.KnownBytes.{Consumes, IsAtEnd, Keeps};
-ghost use Rattle.key_files.specs.Base64Text.{base64_meaning};
+ghost use Rattle.base64.specs.GeneralPurpose.{IsBytes};
+ghost use Rattle.key_files.specs.Base64Text.{IsBase64Of, base64_meaning, kept};
 ghost use Rattle.key_files.specs.Meaning.{raw_meaning, hex_meaning};
 ghost use Rattle.key_files.specs.Reading.{ReadsAs, answer_of};
 
@@ -112,8 +113,13 @@ pub fn read_base64<R: Read>(
     limit: usize,
 ) -> Result<Vec<u8>, FileFault>
     requires { limit < usize.MAX }
-    ensures { ReadsAs base64_meaning limit (R.remaining reader.old) (R.remaining reader.new)
+    ensures read { ReadsAs base64_meaning limit (R.remaining reader.old) (R.remaining reader.new)
         (answer_of result) }
+    // Laws of the definitions: a file denotes exactly the bytes that its text encodes.
+    ensures accepted { (file : List ℕ) → (bytes : List ℕ) → IsBytes bytes
+        → IsBase64Of (kept file) bytes → base64_meaning file ≡ Ok bytes }
+    ensures sound { (file : List ℕ) → (bytes : List ℕ) → IsBytes file
+        → base64_meaning file ≡ Ok bytes → IsBase64Of (kept file) bytes }
 {
     read_base64_in(alloc, reader, limit)
 }

@@ -1,6 +1,7 @@
 -- What the kit's engine of the text's encoding decodes, where no character is misplaced.
 use Rattle.std.proofs.Common.{sym, ◌∙◌}
 use Rattle.key_files.proofs.Base64.{IsBase64Of-decoded, not_misplaced, symbol_text_meaning-misplaced, symbol_text_meaning-placed, symbols_meaning-is}
+use Rattle.key_files.proofs.Base64Back.{symbol_text_meaning-accepts}
 use Rattle.key_files.proofs.base64_text.decode_symbols_into.Goals as goal
 
 pub returns-in-Some-clause-meaning : goal.returns-in-Some-clause-meaning
@@ -22,3 +23,18 @@ pub returns-in-Ok-clause-encoding : goal.returns-in-Ok-clause-encoding
 returns-in-Ok-clause-encoding c =
     IsBase64Of-decoded c.encoding_of.result c.args.text.now _ c.encoding_of.ensures (λ k. (c.type_inv.text k).fits)
     (rw c.clear.ensures.len at c.in-Ok.ensures.ok)
+
+pub returns-in-Some-clause-accepted : goal.returns-in-Some-clause-accepted
+returns-in-Some-clause-accepted c = symbol_text_meaning-accepts c.args.text.now
+
+pub returns-in-Ok-clause-accepted : goal.returns-in-Ok-clause-accepted
+returns-in-Ok-clause-accepted c = symbol_text_meaning-accepts c.args.text.now
+
+pub returns-in-Err-OutOfMemory-clause-accepted : goal.returns-in-Err-OutOfMemory-clause-accepted
+returns-in-Err-OutOfMemory-clause-accepted c = symbol_text_meaning-accepts c.args.text.now
+
+pub returns-in-Err-DecodeError-clause-accepted : goal.returns-in-Err-DecodeError-clause-accepted
+returns-in-Err-DecodeError-clause-accepted c = symbol_text_meaning-accepts c.args.text.now
+
+pub returns-in-Err-OutOfMemory-clause-memory : goal.returns-in-Err-OutOfMemory-clause-memory
+returns-in-Err-OutOfMemory-clause-memory c = λ _. sym c.misplaced.ensures.first ∙ not_misplaced _ c.in_default.not-Some
