@@ -271,12 +271,15 @@ dist-wheel: wheel
 dist-js: js
 	scripts/dist_js.sh '$(JS)' '$(version)' '$(DIST)'
 
+# With BENCH=FOLDER it also writes FOLDER/*.csv; `make bench BENCH=docs/pictures` renews the data of the plots.
+export BENCH
 bench: build library provider wheel
 	bench/wrap '$(LIBRARY)/libkeywrap.a'
 	bench/provider '$(PROVIDER)/keywrap.so'
 	bench/startup '$(PROGRAM)'
 	bench/lines '$(PROGRAM)' '$(PYTHON)'
 	$(PYTHON) python/bench.py '$(wheel)'
+	bench/js '$(JS)'
 	$(PYTHON) bench/rotation '$(PROGRAM)' '$(wheel)'
 
 # The drawings of docs/pictures, the map of the crates in docs/ARCHITECTURE.md and the tables of docs/TRUST.md.

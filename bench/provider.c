@@ -30,6 +30,9 @@ static const struct row ROWS[] = {{"AES-128-WRAP", 1, 16},     {"AES-128-WRAP", 
 
 static uint8_t kek[32], key[LONGEST], text[LONGEST + 16];
 
+/* The file of the times as CSV, if it was asked for. */
+static FILE *csv;
+
 static double now(void) {
     struct timespec t;
     clock_gettime(CLOCK_THREAD_CPUTIME_ID, &t);
@@ -92,12 +95,17 @@ static int time_row(const struct row *row) {
         }
     printf("%-17s %5d  %-6s %9.0f %9.0f  %6.2f\n", row->name, row->len,
            row->wraps ? "wrap" : "unwrap", best[THEIRS], best[OURS], best[OURS] / best[THEIRS]);
+    if (csv != NULL)
+        fprintf(csv, "%s,%s,%d,%.0f,%.0f\n", row->name, row->wraps ? "wrap" : "unwrap", row->len,
+                best[THEIRS], best[OURS]);
     for (int i = 0; i < SIDES; i++) EVP_CIPHER_free(ciphers[i]);
     return 1;
 }
 
 int main(int argc, char **argv) {
-    if (argc != 2 || !OSSL_PROVIDER_set_default_search_path(NULL, argv[1])) return 2;
+    if (argc < 2 || !OSSL_PROVIDER_set_default_search_path(NULL, argv[1])) return 2;
+    if (argc == 3 && (csv = fopen(argv[2], "w")) == NULL) return 2;
+    if (csv != NULL) fprintf(csv, "cipher,call,key,default_ns,keywrap_ns\n");
     for (int i = 0; i < SIDES; i++)
         if (OSSL_PROVIDER_load(NULL, PROVIDERS[i]) == NULL) {
             printf("the provider %s can't be loaded\n", PROVIDERS[i]);
@@ -115,5 +123,5 @@ int main(int argc, char **argv) {
             printf("%s: not the same bytes\n", ROWS[i].name);
             return 1;
         }
-    return 0;
+    return csv != NULL && fclose(csv) != 0;
 }

@@ -4,7 +4,7 @@
  * counts. Time is the processor time of this thread, so a busy machine slows all of them equally.
  * bench/wrap compiles and runs it.
  *
- * usage: wrap SECONDS        (at least five rounds) */
+ * usage: wrap SECONDS [FILE]        (at least five rounds; FILE gets the times as CSV) */
 
 #define _POSIX_C_SOURCE 200809L
 
@@ -175,9 +175,21 @@ static void print_all(unsigned rounds) {
     }
 }
 
+static int write_csv(const char *name) {
+    FILE *file = fopen(name, "w");
+    if (file == NULL) return 0;
+    fprintf(file, "library,blocks,kek,call,key,ns_per_block\n");
+    for (const struct row *row = rows; row < rows + ROW_COUNT; row++)
+        for (int p = 0; p < PEER_COUNT; p++)
+            fprintf(file, "%s,%s,%zu,%s,%zu,%.1f\n", PEERS[p].name, blocks_of(PEERS + p),
+                    row->kek_len, row->direction == WRAP ? "wrap" : "unwrap", row->len,
+                    a_block(row, p));
+    return fclose(file) == 0;
+}
+
 int main(int argc, char **argv) {
     unsigned rounds = 0;
-    double begun, all_ns = argc == 2 ? atof(argv[1]) * 1e9 : 0;
+    double begun, all_ns = argc >= 2 ? atof(argv[1]) * 1e9 : 0;
     for (size_t i = 0; i < sizeof kek; i++) kek[i] = (uint8_t)(3 * i + 1);
     for (size_t i = 0; i < sizeof key; i++) key[i] = (uint8_t)(7 * i);
     start_peers();
@@ -191,5 +203,5 @@ int main(int argc, char **argv) {
         for (int r = 0; r < ROW_COUNT; r++)
             if (rounds % rows[r].every == 0) take_turns(rows + r);
     print_all(rounds);
-    return 0;
+    return argc == 3 && !write_csv(argv[2]);
 }

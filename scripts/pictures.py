@@ -4,8 +4,8 @@
 usage: scripts/pictures.py           writes docs/pictures/*.svg and the map in docs/ARCHITECTURE.md
        scripts/pictures.py --check   fails if one of them is not what its input gives
 
-Each picture has the SHA-256 of its input in a comment. The input of a drawing is its part of this file, and of the
-terminal the recording that scripts/record_rotation.py made.
+Each picture has the SHA-256 of its input in a comment. The input of a drawing is its part of this file, with the
+recording that scripts/record_rotation.py made for the terminal. The input of a plot is scripts/plots.py and its CSV.
 """
 
 import hashlib
@@ -15,6 +15,8 @@ import textwrap
 from html import escape
 from pathlib import Path
 
+import plots
+
 TOP = Path(__file__).resolve().parent.parent
 PICTURES = TOP / "docs" / "pictures"
 MAP = TOP / "docs" / "ARCHITECTURE.md"
@@ -23,6 +25,7 @@ MAP_BEGIN, MAP_END = "<!-- scripts/pictures.py: begin -->", "<!-- scripts/pictur
 STYLE = """\
 text { font: 14px system-ui, sans-serif; fill: #1f2328 }
 .small { font-size: 13px }
+.tiny { font-size: 13px }
 .mono { font-family: ui-monospace, monospace }
 .strong { font-weight: 600 }
 .middle { text-anchor: middle }
@@ -33,6 +36,12 @@ text { font: 14px system-ui, sans-serif; fill: #1f2328 }
 .shade { fill: #d0d7de; stroke: #1f2328; stroke-width: 1.5 }
 .line { fill: none; stroke: #57606a; stroke-width: 1.5 }
 .tip { fill: #57606a }
+.grid { fill: none; stroke: #d0d7de; stroke-width: 1 }
+.leader { fill: none; stroke: #8c959f; stroke-width: 1 }
+.curve { fill: none; stroke: #57606a; stroke-width: 2 }
+.ours { fill: none; stroke: #0969da; stroke-width: 4 }
+.bar { fill: #d0d7de; stroke: #57606a; stroke-width: 1 }
+.ours_bar { fill: #0969da; stroke: #0969da; stroke-width: 1 }
 .screen { fill: #0d1117; stroke: #57606a; stroke-width: 1.5 }
 .shown { font: 12px ui-monospace, monospace; fill: #e6edf3 }
 .faint { font: 12px ui-monospace, monospace; fill: #9198a1 }
@@ -43,6 +52,11 @@ text { fill: #e6edf3 }
 .shade { fill: #3d444d; stroke: #e6edf3 }
 .line { stroke: #9198a1 }
 .tip { fill: #9198a1 }
+.grid { stroke: #3d444d }
+.curve { stroke: #b1bac4 }
+.ours { stroke: #58a6ff }
+.bar { fill: #3d444d; stroke: #9198a1 }
+.ours_bar { fill: #58a6ff; stroke: #58a6ff }
 }"""
 
 
@@ -52,11 +66,17 @@ class Drawing:
     def __init__(self, width, height, title):
         self.size, self.title, self.elements = (width, height), title, []
 
-    def box(self, x, y, width, height, kind="box"):
-        self.elements.append(f'<rect class="{kind}" x="{x}" y="{y}" width="{width}" height="{height}" rx="4"/>')
+    def box(self, x, y, width, height, kind="box", radius=4):
+        self.elements.append(
+            f'<rect class="{kind}" x="{x}" y="{y}" width="{width}" height="{height}" rx="{radius}"/>')
 
     def text(self, x, y, words, kind=""):
         self.elements.append(f'<text class="{kind}" x="{x}" y="{y}">{escape(words)}</text>')
+
+    def line(self, kind, *points, dash=None):
+        path = " ".join(f"{x},{y}" for x, y in points)
+        dashes = f' stroke-dasharray="{dash}"' if dash else ""
+        self.elements.append(f'<polyline class="{kind}" points="{path}"{dashes}/>')
 
     def arrow(self, *points):
         """A line through these points with a tip at its end; its last part is vertical or horizontal."""
@@ -229,6 +249,9 @@ def results():
         recorded = PICTURES / f"{name}.txt"
         data = recorded.read_text(encoding="utf-8") if recorded.exists() else ""
         yield PICTURES / f"{name}.svg", draw().svg(shared + inspect.getsource(draw) + data)
+    for name, draw in plots.PLOTS.items():
+        data = (PICTURES / f"{name}.csv").read_text(encoding="utf-8")
+        yield PICTURES / f"{name}.svg", draw(Drawing, data).svg(shared + inspect.getsource(plots) + data)
     page = MAP.read_text(encoding="utf-8")
     head, rest = page.split(MAP_BEGIN)
     yield MAP, f"{head}{MAP_BEGIN}\n{crate_map()}\n{MAP_END}{rest.split(MAP_END)[1]}"
