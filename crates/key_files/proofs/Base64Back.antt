@@ -1,6 +1,6 @@
 -- Base64 files and texts denote exactly the bytes that they encode.
-use Rattle.std.proofs.Common.{◌≡◌, ◌<◌, ◌+◌, ◌*◌, ◌/◌, ◌%◌, ◌==◌, ◌||◌, ◌&&◌, ◌⊎◌, inl, inr, not, Bool, true, false, ℕ, zero, suc, List, [], ◌∷◌, ◌++◌, length}
-use Rattle.std.proofs.Common.{drop, replicate, slice_index, Option, Some, None, Result, Ok, Err, arith, refl, sym, ap, ◌∙◌, append-nil, subst}
+use Rattle.std.proofs.Common.{◌≡◌, ◌≢◌, ◌<◌, ◌+◌, ◌*◌, ◌/◌, ◌%◌, ◌==◌, ◌||◌, ◌&&◌, ◌⊎◌, inl, inr, not, Bool, true, false, ℕ, zero, suc, List, [], ◌∷◌, ◌++◌, length}
+use Rattle.std.proofs.Common.{drop, get_or, replicate, slice_index, Option, Some, None, Result, Ok, Err, arith, refl, sym, ap, ◌∙◌, append-nil, subst}
 use Rattle.std.specs.List.{filter, list_all, position, position_from, prefix_len}
 use Rattle.std.proofs.lemmas.Bool.{and_from, and_parts, cases_Bool, eqb-true, le-ltb, lt-ltb, not-true, or_cases}
 use Rattle.std.proofs.lemmas.Iterator.Adapters.{position_from-zero}
@@ -22,6 +22,7 @@ use Rattle.key_files.specs.Base64Text.{first_foreign, first_no_padding, first_of
 use Rattle.key_files.specs.Base64Text.{is_url_safe_at, is_url_safe_text, kept, misplaced, place_fault, symbol_text_meaning, symbols_meaning}
 use Rattle.key_files.specs.declared.fault.Base64Fault.{Base64Fault}
 use Rattle.key_files.specs.HexText.{is_skipped}
+use Rattle.key_files.specs.Writing.{IsLine}
 use Rattle.key_files.proofs.Base64.{IsBase64Of-decoded, base64_meaning-misplaced, base64_meaning-placed, symbol_text_meaning-placed}
 
 -- ---- lists whose elements all pass a test
@@ -466,10 +467,13 @@ kept-text : (u : Bool) (n : ℕ) (bytes : List ℕ) → IsBytes bytes → list_a
 kept-text false n bytes fits = all-text (λ c. not (is_skipped c)) false n bytes refl refl fits
 kept-text true n bytes fits = all-text (λ c. not (is_skipped c)) true n bytes refl refl fits
 
-pub kept-encoded : (text bytes : List ℕ) → IsBytes bytes → IsBase64Of text bytes → kept text ≡ text
-kept-encoded text bytes fits (u, p, is) =
+unskipped : (text bytes : List ℕ) → IsBytes bytes → IsBase64Of text bytes → list_all (λ c. not (is_skipped c)) text ≡ true
+unskipped text bytes fits (u, p, is) =
     let (n, pad, same) = encoded-text u p bytes in
-    filter-all (λ c. not (is_skipped c)) text (subst (λ (l : List ℕ). list_all (λ c. not (is_skipped c)) l ≡ true) (sym (is ∙ same)) (kept-text u n bytes fits))
+    subst (λ (l : List ℕ). list_all (λ c. not (is_skipped c)) l ≡ true) (sym (is ∙ same)) (kept-text u n bytes fits)
+
+pub kept-encoded : (text bytes : List ℕ) → IsBytes bytes → IsBase64Of text bytes → kept text ≡ text
+kept-encoded text bytes fits own = filter-all (λ c. not (is_skipped c)) text (unskipped text bytes fits own)
 
 pub base64_meaning-line : (url_safe : Bool) (bytes : List ℕ) → IsBytes bytes → base64_meaning (base64_line url_safe bytes) ≡ Ok bytes
 base64_meaning-line url_safe bytes fits =
@@ -478,3 +482,10 @@ base64_meaning-line url_safe bytes fits =
     let q : ℕ → Bool = λ c. not (is_skipped c) in
     let same : kept (text ++ 10 ∷ []) ≡ text = filter-append q text (10 ∷ []) ∙ append-nil (filter q text) ∙ kept-encoded text bytes fits own in
     base64_meaning-accepts (base64_line url_safe bytes) bytes fits (subst (λ (l : List ℕ). IsBase64Of l bytes) (sym same) own)
+
+pub IsLine-base64_line : (url_safe : Bool) (bytes : List ℕ) → IsBytes bytes → IsLine (base64_line url_safe bytes)
+IsLine-base64_line url_safe bytes fits =
+    let text : List ℕ = encode_of (encoding url_safe (not url_safe)) bytes in
+    let all = unskipped text bytes fits (url_safe, not url_safe, refl) in
+    let no_lf : (c : ℕ) → not (is_skipped c) ≡ true → c ≢ 10 = λ c is lf. cc (subst (λ d. not (is_skipped d) ≡ true) lf is) in
+    (text, refl, λ k d lt. no_lf (get_or text k d) (AllPass-from_list_all (λ c. not (is_skipped c)) text all k d lt))

@@ -1,9 +1,13 @@
--- What a call that writes bytes as a line of hex digits leaves in the writer, and answers.
-use Rattle.std.specs.Prelude.{◌≡◌, ℕ, ◌<◌, List, length, take, Option, Result, Err, OnOk}
+-- What a call that writes bytes as a line leaves in the writer, and answers.
+use Rattle.std.specs.Prelude.{◌≡◌, ◌≢◌, ℕ, ◌<◌, List, [], ◌∷◌, ◌++◌, All, length, take, Option, Result, Err, OnOk}
 use Rattle.std.specs.Io.KnownBytes.{Appends, Keeps}
 use Rattle.key_files.specs.HexText.{hex_line}
 use Rattle.key_files.specs.declared.fault.HexWriteFault.{HexWriteFault}
 use Rattle.key_files.specs.declared.fault.HexWriteFault.TheVariants.{Memory, Write}
+
+-- one line: it has one LF, at its end
+abbrev pub IsLine : List ℕ → Type 0
+IsLine text = (front : List ℕ) × (text ≡ front ++ 10 ∷ []) × All (λ byte. byte ≢ 10) front
 
 -- the line stands whole in the writer, or a counted front of it; none of it at Memory
 pub record WritesHex (old new : Option (List ℕ)) (bytes : List ℕ) (answer : Result Unit HexWriteFault) : Type 0 where

@@ -12,6 +12,7 @@ ghost use Rattle.key_files.specs.Base64Text.{base64_meaning, symbol_text_meaning
 ghost use Rattle.key_files.specs.Decoding.{DecodesText, place_of};
 ghost use Rattle.key_files.specs.declared.fault.FileFault.{FileFault};
 ghost use Rattle.key_files.specs.Reading.{IsMeaning, answer_of};
+ghost use Rattle.key_files.specs.Writing.{IsLine};
 
 use crate::fault::{Base64Fault, FileFault};
 use crate::hex_text::is_skipped;
@@ -71,11 +72,12 @@ fn kept<A: Allocator>(alloc: A, text: &[u8]) -> Result<Vec<u8, A>, AllocError>
     Ok(kept)
 }
 
-/// The line that base64 output is, in `line`, whatever stood there: in the alphabet of section 4
-/// with padding, or in that of section 5 without it.
+/// Makes the line of base64 output, in `line`: in the alphabet of section 4 with padding, or in that
+/// of section 5 without it. The old contents of `line` are dropped.
 pub fn print_base64(url_safe: bool, bytes: &[u8], line: &mut Vec<u8>) -> Result<(), AllocError>
     ensures whole { OnOk result (line.new.items ≡ base64_line url_safe bytes.now) }
-    // A law for callers, of the definitions alone: the line denotes the bytes.
+    // Laws of the definitions: the text is one line, and denotes the bytes.
+    ensures one_line { IsLine (base64_line url_safe bytes.now) }
     ensures read_back { base64_meaning (base64_line url_safe bytes.now) ≡ Ok bytes.now }
 {
     let Some(len) = encoded_len(bytes.len(), !url_safe) else {

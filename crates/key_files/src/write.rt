@@ -4,7 +4,7 @@ ghost use Rattle.std.specs.Prelude.{◌≡◌, ◌<◌, ℕ, length, take, OnOk,
 ghost use Rattle.std.specs.Io.KnownBytes.{Appends, Keeps};
 ghost use Rattle.key_files.specs.HexText.{hex_line};
 ghost use Rattle.key_files.specs.Meaning.{hex_meaning};
-ghost use Rattle.key_files.specs.Writing.{WritesHex};
+ghost use Rattle.key_files.specs.Writing.{IsLine, WritesHex};
 
 use crate::fault::{HexWriteFault, WriteFault};
 use std::alloc::{AllocError, Allocator, Global};
@@ -50,9 +50,12 @@ pub fn write_hex<W: Write>(alloc: Global, writer: &mut W, bytes: &[u8]) -> Resul
     write_hex_in(alloc, writer, bytes)
 }
 
-/// The line that [`write_hex`] writes, in `line`, whatever stood there.
+/// Makes the line that [`write_hex`] writes, in `line`. Its old contents are dropped.
 pub fn print_hex(bytes: &[u8], line: &mut Vec<u8>) -> Result<(), AllocError>
-    ensures { OnOk result (line.new.items ≡ hex_line bytes.now) }
+    ensures whole { OnOk result (line.new.items ≡ hex_line bytes.now) }
+    // Laws of the definitions: the text is one line, and denotes the bytes.
+    ensures one_line { IsLine (hex_line bytes.now) }
+    ensures read_back { hex_meaning (hex_line bytes.now) ≡ Ok bytes.now }
 {
     let Some(len) = bytes.len().checked_mul(2) else {
         return Err(AllocError);
