@@ -2,6 +2,7 @@
 
 KEYWRAP=PATH tries another program. --reversed runs the tests in the opposite order: none depends on another."""
 
+import bisect
 import os
 import pathlib
 import pwd
@@ -122,7 +123,7 @@ def compiled(tmp_path_factory):
 def preloaded(keywrap, compiled):
     """preloaded("fail_alloc") is the program over that library: a function with its variables, as FAIL_ALLOC="3+".
 
-    `met` of the function is what the library wrote during the last run."""
+    `met` of the function is what the library wrote during the last run. `count(*args)` is how many calls can fail."""
     def over(name):
         library = compiled(name)
 
@@ -136,6 +137,16 @@ def preloaded(keywrap, compiled):
                 run.met = met.read().decode()
             return ended
 
+        def count(*args, **options):
+            def met(number):
+                run(*args, **{name.upper(): str(number)}, **options)
+                return bool(run.met)
+
+            found = bisect.bisect(range(1, 9999), False, key=lambda number: not met(number))
+            assert 0 < found < 9998
+            return found
+
+        run.count = count
         return run
 
     return over

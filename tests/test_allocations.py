@@ -17,9 +17,17 @@ OUT_OF_MEMORY = refused(7, MEMORY)
 # Command lines that are refused, the last with bytes that are not UTF-8.
 ARGUMENTS = [Command(" ".join(map(repr, args)), args, None, 2, b"", None) for args in (
     [], ["rewind"], ["wrap", "--kek", "kek16.hex", "--secret"], ["wrap"], ["drill", "00", "11"], ["drill", b"\xff"])]
-# The commands that are run in ever more memory: one of each kind.
-SOME = ["wrap", "padded rewrap", "check", "vectors", "wrong byte", "unwrap into a file"]
-EACH = pytest.mark.parametrize("command", ANSWERS + REFUSALS + ARGUMENTS + INTO_FILES, ids=lambda command: command.name)
+COMMANDS = ANSWERS + REFUSALS + ARGUMENTS + INTO_FILES
+# One of each subcommand: every allocation fails, also those of the parser. Of the others only the last ones fail, which
+# are at most 40 (the parser makes 110 to 190 before them, as it does for these).
+WHOLE = ["wrap", "unwrap", "rewrap", "check", "drill", "vectors", "help", *(command.name for command in ARGUMENTS)]
+LAST = 48
+# These differ from another command in no step that allocates.
+LIKE_ANOTHER = ["raw check", "rewrap keeping plain", "check in base64", "raw rewrap of a file", "check of a file",
+                "odd KEK", "empty KEK", "directory as new KEK file", "new KEK file too long", "odd new KEK", "odd digits",
+                "bad digit in the new KEK", "base64 after its padding", "drill of nothing", "drill of a bad digit",
+                "raw wrap into a file", "wrap under an IV into a file", "padded unwrap into a file",
+                "new KEK of 15 bytes, no file", "no input, no file", "bad digit, no file"]
 
 
 @pytest.fixture
@@ -46,21 +54,21 @@ def ends(keywrap, command):
     return run
 
 
-@pytest.mark.parametrize("after", ["", "+"], ids=["one", "all after it"])
-@EACH
-def test_each_allocation(preloaded, command, ends, after):
-    """Each fails in turn, by itself or with all later ones."""
+@pytest.mark.parametrize("command", [each for each in COMMANDS if each.name not in LIKE_ANOTHER],
+                         ids=lambda command: command.name)
+def test_each_allocation(preloaded, command, ends):
+    """Each fails in turn, by itself and with all later ones."""
     program = preloaded("fail_alloc")
-    for number in range(1, 9999):
-        ended = ends(program, FAIL_ALLOC=f"{number}{after}")
-        if not program.met:
-            assert ended == ends.complete
-            break
-    assert number > 1
+    count = program.count(*command.args, stdin=command.given)
+    for number in range(1 if command.name in WHOLE else max(count - LAST, 1), count + 1):
+        for after in "", "+":
+            ends(program, FAIL_ALLOC=f"{number}{after}")
+            assert program.met
+    assert ends(program, FAIL_ALLOC=str(count + 1)) == ends.complete
 
 
-@pytest.mark.parametrize("command", [command for command in ANSWERS + REFUSALS + ARGUMENTS + INTO_FILES if command.name
-                                     in SOME], ids=lambda command: command.name)
+@pytest.mark.parametrize("command", [each for each in COMMANDS if each.name in ("padded rewrap", "unwrap into a file")],
+                         ids=lambda command: command.name)
 def test_ever_more_memory(keywrap, starving, command, ends):
     """The C library takes pages of their own for each allocation, so that each step of a page allows one more."""
     pages = {"GLIBC_TUNABLES": "glibc.malloc.mmap_threshold=1:glibc.malloc.mmap_max=1000000"}

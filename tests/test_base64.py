@@ -222,7 +222,8 @@ def test_many_lines_as_in_hex(keywrap):
 @pytest.mark.parametrize("bits", [128, 192, 256])
 @pytest.mark.parametrize("table", ["KW_AE", "KW_AD", "KWP_AE", "KWP_AD"])
 def test_nist(keywrap, table, bits):
-    """NIST's cases (CAVP, SP 800-38F, with AES as the cipher function), each through base64."""
+    """A fifth of NIST's cases (CAVP, SP 800-38F, with AES as the cipher function), through base64. The tests of the C
+    library, the Python package and the package for browsers try all."""
     tables = pytest.importorskip("cryptography_vectors",
                                  reason="no tables of NIST (apt-get install python3-cryptography-vectors)")
     name = f"keywrap/kwtestvectors/{table}_{bits}.txt"
@@ -231,7 +232,7 @@ def test_nist(keywrap, table, bits):
     statuses = collections.Counter()
     for block in text.replace("\r", "").split("\n\n"):
         case = dict(re.findall(r"^(\w+)(?: = ([0-9A-Fa-f]+))?$", block, re.M))
-        if "COUNT" not in case:
+        if int(case.get("COUNT", 1)) % 5:
             continue
         # The KEK comes through a pipe of its own.
         reading, writing = os.pipe()
@@ -242,8 +243,8 @@ def test_nist(keywrap, table, bits):
         os.close(reading)
         assert ended == (refused(5, INTEGRITY) if "FAIL" in case else answered(in_base64(case[wanted]))), case
         statuses[ended.status] += 1
-    assert statuses.total() == 500
-    assert statuses[5] > 25 or job == "wrap"
+    assert statuses.total() == 100
+    assert statuses[5] > 5 or job == "wrap"
 
 
 @pytest.mark.parametrize("one, other", [
