@@ -13,15 +13,15 @@ use Rattle.key_files.specs.declared.fault.Base64Fault.TheVariants.{Character, Be
 use Rattle.key_files.specs.declared.fault.FileFault.{FileFault}
 use Rattle.key_files.specs.declared.fault.FileFault.TheVariants.{BadBase64}
 
--- the characters of section 4 alone, `+` and `/`
+-- the characters that only section 4 has, `+` and `/`
 abbrev pub is_standard : ℕ → Bool
 is_standard c = c == 43 || c == 47
 
--- those of section 5 alone, `-` and `_`
+-- the characters that only section 5 has, `-` and `_`
 abbrev pub is_url_safe : ℕ → Bool
 is_url_safe c = c == 45 || c == 95
 
--- those of both: letters and digits
+-- the characters of both sections: letters and digits
 abbrev pub is_shared : ℕ → Bool
 is_shared c = (nat_le 65 c && nat_le c 90) || ((nat_le 97 c && nat_le c 122) || (nat_le 48 c && nat_le c 57))
 
@@ -29,7 +29,7 @@ is_shared c = (nat_le 65 c && nat_le c 90) || ((nat_le 97 c && nat_le c 122) || 
 abbrev pub is_padding : ℕ → Bool
 is_padding c = c == 61
 
--- the first character that one alphabet alone has says which it is
+-- the first character that only one alphabet has decides which it is
 abbrev pub is_url_safe_at : List ℕ → Option ℕ → Bool
 is_url_safe_at text (Some at) = is_url_safe (slice_index text at)
 is_url_safe_at text None = false
@@ -44,15 +44,15 @@ is_url_safe_text text = is_url_safe_at text (first_of_one text)
 abbrev pub is_base64 : Bool → ℕ → Bool
 is_base64 url_safe c = is_padding c || (is_shared c || (if url_safe then is_url_safe c else is_standard c))
 
--- a character that may stand in such a text: where blanks are skipped, space, tab, CR and LF may, too
+-- a character that is allowed in such a text: also space, tab, CR and LF, if blanks are skipped
 abbrev pub is_allowed : Bool → Bool → ℕ → Bool
 is_allowed skips url_safe c = is_base64 url_safe c || (skips && is_skipped c)
 
--- the place, over all bytes of the text, of the first character that may not stand in it
+-- the place, over all bytes of the text, of the first character that is not allowed in it
 abbrev pub first_foreign : Bool → List ℕ → Option ℕ
 first_foreign skips text = position (λ c. not (is_allowed skips (is_url_safe_text text) c)) text
 
--- how many bytes stand before the first padding
+-- the number of bytes before the first padding
 abbrev pub before_padding : List ℕ → ℕ
 before_padding text = prefix_len (λ c. not (is_padding c)) text
 
@@ -64,7 +64,7 @@ first_no_padding skips text = position (λ c. not (is_padding c || (skips && is_
 abbrev pub kept : List ℕ → List ℕ
 kept text = filter (λ c. not (is_skipped c)) text
 
--- the encoding of a text: by its alphabet, with padding where it has some
+-- the encoding of a text: by its alphabet, with padding if it has some
 abbrev pub encoding : Bool → Bool → GeneralPurpose
 encoding false false = standard_no_pad
 encoding false true = standard
@@ -77,7 +77,7 @@ has_padding text = nat_lt (before_padding text) (length text)
 abbrev pub encoding_of : List ℕ → GeneralPurpose
 encoding_of text = encoding (is_url_safe_text text) (has_padding text)
 
--- the fault of a text whose characters may all stand in it, and which is no encoding
+-- the fault of a text whose characters are all allowed, and which is not an encoding
 abbrev pub base64_fault_of : DecodeError → Base64Fault
 base64_fault_of (InvalidLastSymbol at symbol value) = TrailingBits
 base64_fault_of error = Length
@@ -90,7 +90,7 @@ decoded_meaning (Err error) = Err (BadBase64 (base64_fault_of error))
 abbrev pub symbols_meaning : List ℕ → Result (List ℕ) FileFault
 symbols_meaning text = decoded_meaning (decode_of (encoding_of text) text)
 
--- why a text denotes no bytes for the place of a character: that of one that may not stand in it, or after its padding
+-- why a text denotes no bytes: the place of a character that is not allowed in it, or that follows its padding
 abbrev pub place_fault : Option ℕ → ℕ → Option ℕ → Option Base64Fault
 place_fault (Some at) before behind = Some (Character at)
 place_fault None before (Some at) = Some (BehindPadding (before + at))
@@ -104,12 +104,12 @@ abbrev pub placed_meaning : Option Base64Fault → List ℕ → Result (List ℕ
 placed_meaning (Some fault) text = Err (BadBase64 fault)
 placed_meaning None text = symbols_meaning text
 
--- A text denotes the bytes that it encodes, in either alphabet, with its padding whole or left out. Blanks may stand
--- anywhere in it.
+-- A text denotes the bytes that it encodes, in either alphabet, with its padding complete or omitted. Blanks are
+-- allowed anywhere in it.
 unfoldable pub base64_meaning : List ℕ → Result (List ℕ) FileFault
 base64_meaning text = placed_meaning (misplaced true text) (kept text)
 
--- the same of a text in which no blank stands
+-- the same for a text without blanks
 unfoldable pub symbol_text_meaning : List ℕ → Result (List ℕ) FileFault
 symbol_text_meaning text = placed_meaning (misplaced false text) text
 

@@ -12,7 +12,7 @@ pub record DecodesHex {Z : Type 0} (text : List ℕ) (answer : Result (Vec ℕ Z
   pub refused : (fault : FileFault) → fault ≢ Memory → (answer ≡ Err fault) ↔ (hex_meaning text ≡ Err fault)
   pub memory : answer ≡ Err Memory → IsOk (hex_meaning text)
 
--- What a call that decodes into a vector answers, and leaves in it, where the text has this meaning.
+-- The result of a call that decodes into a vector, and what it leaves in the vector, if the text has this meaning.
 abbrev pub Decodes : Result (List ℕ) FileFault → List ℕ → Result Unit FileFault → Type 0
 Decodes meaning bytes (Ok done) = meaning ≡ Ok bytes
 Decodes meaning bytes (Err (BadDigit at)) = meaning ≡ Err (BadDigit at)

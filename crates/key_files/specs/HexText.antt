@@ -7,7 +7,7 @@ use Rattle.hex.specs.Hex.{encode_lower}
 abbrev pub is_hex_digit : ℕ → Bool
 is_hex_digit c = is_digit c 16
 
--- space, tab, CR and LF may stand anywhere, and are skipped
+-- space, tab, CR and LF are allowed anywhere, and are skipped
 abbrev pub is_skipped : ℕ → Bool
 is_skipped c = (c == 32 || c == 9) || (c == 13 || c == 10)
 

@@ -17,10 +17,10 @@ digits_meaning None digits = if length digits % 2 == 1 then Err OddDigits else O
 unfoldable pub hex_meaning : List ℕ → Result (List ℕ) FileFault
 hex_meaning text = digits_meaning (first_bad text) (digits_of text)
 
--- the same of a text in which nothing stands but digits
+-- the same for a text of digits only
 unfoldable pub digit_text_meaning : List ℕ → Result (List ℕ) FileFault
 digit_text_meaning text = digits_meaning (first_no_digit text) text
 
--- what a file denotes in a notation, where it may have `limit` bytes
+-- what a file denotes in a notation, if it may have `limit` bytes
 unfoldable pub file_meaning : (List ℕ → Result (List ℕ) FileFault) → ℕ → List ℕ → Result (List ℕ) FileFault
 file_meaning meaning limit file = if nat_lt limit (length file) then Err TooLong else meaning file

@@ -24,12 +24,12 @@ ReadsToEnd (Err Read) left = ⊤
 ReadsToEnd (Err Memory) left = ⊤
 ReadsToEnd answer left = IsAtEnd left
 
--- The answer is what the bytes that the call took from the reader denote. `old` is what the reader
--- had left before the call, and `new` what it has left after it, where it tells.
+-- The answer is what the bytes that the call took from the reader denote. `old` is the rest of the reader's input
+-- before the call, and `new` its rest after it, if the reader reveals it.
 pub record ReadsAs (meaning : List ℕ → Result (List ℕ) FileFault) (limit : ℕ) (old new : Option (List ℕ))
     (answer : Result (List ℕ) FileFault) : Type 0 where
   pub taken : List ℕ
-  -- the reader stands after the bytes that were taken
+  -- the reader is after the bytes that were taken
   pub stands_after : Consumes old new taken
   -- no more than one byte past the limit is taken
   pub at_most : length taken ≤ limit + 1

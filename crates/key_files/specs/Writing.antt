@@ -9,7 +9,7 @@ use Rattle.key_files.specs.declared.fault.HexWriteFault.TheVariants.{Memory, Wri
 abbrev pub IsLine : List ℕ → Type 0
 IsLine text = (front : List ℕ) × (text ≡ front ++ 10 ∷ []) × All (λ byte. byte ≢ 10) front
 
--- the line stands whole in the writer, or a counted front of it; none of it at Memory
+-- the writer has the whole line, or a counted front of it; none of it at Memory
 pub record WritesHex (old new : Option (List ℕ)) (bytes : List ℕ) (answer : Result Unit HexWriteFault) : Type 0 where
   pub whole : OnOk answer (Appends old new (hex_line bytes))
   pub untouched : answer ≡ Err Memory → Keeps old new

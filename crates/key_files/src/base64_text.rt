@@ -21,7 +21,7 @@ use base64::engine::general_purpose::{STANDARD, STANDARD_NO_PAD, URL_SAFE, URL_S
 use base64::{DecodeAllocError, DecodeError, encoded_len};
 use std::alloc::{AllocError, Allocator};
 
-/// The bytes that a base64 text in which no blank stands denotes, in `bytes`, whatever stood there.
+/// Replaces `bytes` with the bytes that a base64 text without blanks denotes.
 ///
 /// Returns the first error that applies: BadBase64 with Character or BehindPadding, Memory,
 /// BadBase64 with Length or TrailingBits.
@@ -72,8 +72,8 @@ fn kept<A: Allocator>(alloc: A, text: &[u8]) -> Result<Vec<u8, A>, AllocError>
     Ok(kept)
 }
 
-/// Makes the line of base64 output, in `line`: in the alphabet of section 4 with padding, or in that
-/// of section 5 without it. The old contents of `line` are dropped.
+/// Replaces `line` with the line of base64 output: in the alphabet of section 4 with padding, or in
+/// the alphabet of section 5 without it.
 pub fn print_base64(url_safe: bool, bytes: &[u8], line: &mut Vec<u8>) -> Result<(), AllocError>
     ensures whole { OnOk result (line.new.items ≡ base64_line url_safe bytes.now) }
     // Laws of the definitions: the text is one line, and denotes the bytes.
@@ -101,7 +101,7 @@ fn fills(url_safe: bool, bytes: &[u8], output: &mut [u8]) -> bool
     }
 }
 
-// The fault of a text whose characters may all stand in it.
+// The fault of a text whose characters are all allowed.
 fn fault_of(error: DecodeError) -> Base64Fault
     ensures fault { result ≡ base64_fault_of error }
     ensures placeless { place_of (FileFault.BadBase64 result) ≡ 0 }
@@ -112,7 +112,7 @@ fn fault_of(error: DecodeError) -> Base64Fault
     }
 }
 
-// The first character that stands where it may not.
+// The first character that is not allowed at its place.
 fn misplaced(skips: bool, text: &[u8]) -> Option<Base64Fault>
     ensures first { result ≡ misplaced skips text.now }
     ensures within { IfSome result (λ fault. place_of (FileFault.BadBase64 fault)
@@ -151,7 +151,7 @@ fn before_padding(text: &[u8]) -> usize
     text.iter().take_while(|c| **c != b'=').count()
 }
 
-// A character that may stand in a text of this alphabet.
+// Whether a character is allowed in a text of this alphabet.
 fn is_allowed(skips: bool, url_safe: bool, c: u8) -> bool
     ensures { result ≡ is_allowed skips url_safe c }
 {
@@ -163,7 +163,7 @@ fn is_allowed(skips: bool, url_safe: bool, c: u8) -> bool
     }
 }
 
-// Whether the first character that one alphabet alone has is of the URL-safe one.
+// Whether the first character that only one alphabet has is URL-safe.
 fn is_url_safe_text(text: &[u8]) -> bool
     ensures { result ≡ is_url_safe_text text.now }
 {

@@ -16,8 +16,8 @@ pub enum FileFault {
     /// The file has more bytes than the limit.
     #[error("too long")]
     TooLong,
-    /// The byte at offset `at`, counted from 0 over all bytes, is the first that is no hex digit,
-    /// nor a space, tab, CR or LF that may stand there.
+    /// The byte at offset `at`, counted from 0 over all bytes, is the first that is not a hex
+    /// digit, nor an allowed space, tab, CR or LF.
     #[error("no hex digit at byte {at}")]
     BadDigit { at: usize },
     /// The number of hex digits is odd.
@@ -35,8 +35,8 @@ pub enum FileFault {
 /// all bytes.
 #[derive(Clone, Copy, Debug, PartialEq, Eq, Error)]
 pub enum Base64Fault {
-    /// The byte at `at` is the first that is no character of the text's alphabet, no padding, and
-    /// no space, tab, CR or LF that may stand there.
+    /// The byte at `at` is the first that is not a character of the text's alphabet, not padding,
+    /// and not an allowed space, tab, CR or LF.
     #[error("no base64 character at byte {at}")]
     Character { at: usize },
     /// The byte at `at` is the first that is no padding after the padding began.
@@ -45,7 +45,7 @@ pub enum Base64Fault {
     /// The characters, with their padding, are not so many as encode whole bytes.
     #[error("length is not that of base64")]
     Length,
-    /// The last character has bits that are not 0 after those of the last byte.
+    /// The last character has bits after the last byte that are not 0.
     #[error("last base64 character has bits of no byte")]
     TrailingBits,
 }

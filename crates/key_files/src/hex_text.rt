@@ -11,24 +11,24 @@ ghost use Rattle.key_files.specs.declared.fault.FileFault.{FileFault};
 use crate::fault::FileFault;
 use std::alloc::{AllocError, Allocator, Global};
 
-/// The bytes that the hex text `text` denotes: its digits, of either case, in order and in pairs.
-/// Space, tab, CR and LF may stand anywhere.
+/// Returns the bytes that the hex text `text` denotes: its digits, of either case, in pairs. Space,
+/// tab, CR and LF are allowed anywhere.
 ///
-/// The first that applies is answered: BadDigit, OddDigits, Memory. The first two take no memory.
+/// Returns the first error that applies: BadDigit, OddDigits, Memory. The first two take no memory.
 pub fn decode_hex(alloc: Global, text: &[u8]) -> Result<Vec<u8>, FileFault>
     ensures bytes { IfOk result (λ v. hex_meaning text.now ≡ Ok v.items) }
     ensures refused { (fault : FileFault) → fault ≢ FileFault.Memory
         → (result ≡ Err fault) ↔ (hex_meaning text.now ≡ Err fault) }
-    // Memory stands in the place of bytes, and never of a refusal.
+    // Memory replaces bytes, and never a refusal.
     ensures memory { result ≡ Err FileFault.Memory → IsOk (hex_meaning text.now) }
 {
     decode_hex_in(alloc, text)
 }
 
-/// The bytes that a text of digits alone denotes, in `bytes`, whatever stood there: they are
-/// decoded in the room that `bytes` has.
+/// Replaces `bytes` with the bytes that a text of digits only denotes, decoded into the room that
+/// `bytes` has.
 ///
-/// The first that applies is answered: BadDigit, OddDigits, Memory.
+/// Returns the first error that applies: BadDigit, OddDigits, Memory.
 pub fn decode_digits_into(text: &[u8], bytes: &mut Vec<u8>) -> Result<(), FileFault>
     ensures meaning { Decodes (digit_text_meaning text.now) bytes.new.items result }
     ensures within { IfErr result (λ fault. place_of fault ≤ length text.now) }
@@ -43,7 +43,7 @@ pub fn decode_digits_into(text: &[u8], bytes: &mut Vec<u8>) -> Result<(), FileFa
     }
 }
 
-// Whether the text is digits alone, two for each of the bytes, which they then spell.
+// Whether the text has only digits, two for each of the bytes, which they then spell.
 fn decode_strict(text: &[u8], bytes: &mut [u8]) -> bool
     ensures { result ≡ true → digit_text_meaning text.now ≡ Ok bytes.new }
 {
@@ -66,7 +66,7 @@ pub(crate) fn decode_hex_in<A: Allocator + Copy>(
     Ok(decode_digits(alloc, text)?)
 }
 
-// Space, tab, CR and LF may stand between digits.
+// Space, tab, CR and LF are allowed between digits.
 pub(crate) fn is_skipped(c: u8) -> bool
     ensures { result ≡ is_skipped c }
 {
@@ -107,7 +107,7 @@ fn digits<A: Allocator>(alloc: A, text: &[u8]) -> Result<Vec<u8, A>, AllocError>
     Ok(digits)
 }
 
-// An even number of digits is refused for memory alone.
+// An even number of digits is refused only for memory.
 fn decode_digits<A: Allocator + Copy>(alloc: A, text: &[u8]) -> Result<Vec<u8, A>, AllocError>
     ensures { IfOk result (λ v. v.items ≡ paired (digits_of text.now)) }
 {

@@ -24,11 +24,12 @@ fn max_file_value()
 // How many bytes one read may give.
 const CHUNK: usize = 4_096;
 
-/// The bytes of a file, up to the end of input: a read of no bytes into a buffer that is not empty.
+/// Reads the bytes of a file, up to the end of input: a read of no bytes into a buffer that is not
+/// empty.
 ///
-/// At most `limit + 1` bytes are taken from the reader, and none is put back. Read comes where a
-/// read answers any error, an interrupted one too, and Memory where an allocation failed, each as
-/// it is met; TooLong where `limit + 1` bytes came.
+/// Takes at most `limit + 1` bytes from the reader, and puts none back. Read is for any error of a
+/// read, an interrupted one too, and Memory for a failed allocation, each as it is met; TooLong if
+/// `limit + 1` bytes came.
 pub fn read_raw<R: Read>(alloc: Global, reader: &mut R, limit: usize) -> Result<Vec<u8>, FileFault>
     requires { limit < usize.MAX }
     ensures { ReadsAs raw_meaning limit (R.remaining reader.old) (R.remaining reader.new)

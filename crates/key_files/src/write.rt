@@ -44,7 +44,7 @@ pub fn write_hex<W: Write>(alloc: Global, writer: &mut W, bytes: &[u8]) -> Resul
         (take written (hex_line bytes.now)) }
     ensures short { (written : ℕ) → result ≡ Err (HexWriteFault.Write written)
         → written < length (hex_line bytes.now) }
-    // A law for callers, of the definitions alone: the line denotes the bytes.
+    // A law for callers, about the definitions only: the line denotes the bytes.
     ensures read_back { hex_meaning (hex_line bytes.now) ≡ Ok bytes.now }
 {
     write_hex_in(alloc, writer, bytes)

@@ -1,4 +1,4 @@
--- What a line denotes, from what its text does, and the answer where it denotes no bytes.
+-- What a line denotes, from what its text denotes, and the answer if it denotes no bytes.
 use Rattle.std.proofs.Common.{◌≡◌, ℕ, ◌+◌, ◌≤◌, List, length, Result, Ok, Err, arith, ap, ◌∙◌}
 use Rattle.std.proofs.lemmas.List.{length-take, length-drop}
 use Rattle.std.proofs.lemmas.List.Sums.{prefix_len-le-length}
@@ -21,7 +21,7 @@ length-text_of line =
     let front = prefix_len-le-length is_blank line in
     omega (arith, length-take {A = ℕ}, length-drop {A = ℕ})
 
--- where Memory is said of no text, it need not be said of this one
+-- if Memory is possible for no text, it is not possible for this one
 pub DecodesText-of : (meaning : Result (List ℕ) FileFault) (bytes : List ℕ) (answer : Result Unit FileFault) → Decodes meaning bytes answer
     → DecodesText meaning bytes answer
 DecodesText-of meaning bytes (Ok done) d = d

@@ -15,7 +15,7 @@ use Rattle.key_lines.specs.Reading.{IsAllOf, MovesPart}
 use Rattle.key_lines.specs.declared.line.Part.{Part}
 use Rattle.key_lines.proofs.Takings.{length-nil}
 
--- what a reader had left before it showed these bytes, after that, and after it was told to drop as many
+-- the rest of a reader's input before it showed these bytes, after that, and after as many were dropped
 pub record Shows (old mid new : Option (List ℕ)) (most : Option ℕ) (shown : List ℕ) (amount : ℕ) : Type 0 where
   pub front : IfSome old (λ xs. StartsWith xs shown)
   pub kept : Keeps old mid

@@ -38,7 +38,7 @@ first_ended (x ∷ xs) =
     ] in
     at (x == 10)
 
--- after an LF the lines are those of what stands before and of what comes
+-- after an LF the lines are the lines before it and the lines after it
 pub lines_of-append_front : (front rest : List ℕ) → lines_of (front ++ 10 ∷ rest) ≡ lines_of (front ++ 10 ∷ []) ++ lines_of rest
 unfolding lines_of
 lines_of-append_front [] rest = refl

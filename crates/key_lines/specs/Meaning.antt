@@ -1,4 +1,4 @@
--- What a line denotes: one text of hex digits or of base64, with blanks at the ends of the line alone.
+-- What a line denotes: one text of hex digits or of base64, with blanks only at the ends of the line.
 use Rattle.std.specs.Prelude.{ℕ, ◌-◌, ◌==◌, ◌||◌, Bool, List, length, take, drop, Result, Ok, Err}
 use Rattle.std.specs.List.{prefix_len, suffix_len}
 use Rattle.key_files.specs.Base64Text.{symbol_text_meaning}
@@ -16,23 +16,22 @@ is_blank c = c == 32 || (c == 9 || c == 13)
 abbrev pub behind_blanks : List ℕ → List ℕ
 behind_blanks line = drop (prefix_len is_blank line) line
 
--- the text of a line: what stands between the blanks at its ends
+-- the text of a line: the bytes between the blanks at its ends
 abbrev pub text_of : List ℕ → List ℕ
 text_of line = take (length (behind_blanks line) - suffix_len is_blank (behind_blanks line)) (behind_blanks line)
 
--- what a text denotes in a notation, where no blank stands in it
+-- what a text without blanks denotes in a notation
 abbrev pub text_meaning : TextNotation → List ℕ → Result (List ℕ) FileFault
 text_meaning Hex text = digit_text_meaning text
 text_meaning Base64 text = symbol_text_meaning text
 text_meaning Base64Url text = symbol_text_meaning text
 
--- the meaning of what stands after so many bytes: the place of a fault counts these too
+-- the meaning of a text that follows so many bytes: the place of a fault counts these too
 abbrev pub meaning_behind : ℕ → Result (List ℕ) FileFault → Result (List ℕ) FileFault
 meaning_behind n (Ok bytes) = Ok bytes
 meaning_behind n (Err fault) = Err (fault_behind n fault)
 
--- A line denotes what its text does, in which no blank stands. The place of what is wrong in it is counted from the front
--- of the line.
+-- A line denotes what its text without blanks denotes. The place of a fault is counted from the front of the line.
 unfoldable pub blank_ended_meaning : TextNotation → List ℕ → Result (List ℕ) FileFault
 blank_ended_meaning notation line = meaning_behind (prefix_len is_blank line) (text_meaning notation (text_of line))
 

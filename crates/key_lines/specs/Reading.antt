@@ -13,7 +13,7 @@ use Rattle.key_lines.specs.declared.line.Part.TheVariants.{More, Ended, Missing}
 abbrev pub HasNoLf : List ℕ → Type 0
 HasNoLf text = All (λ byte. byte ≢ 10) text
 
--- where it is known what the reader had left, it was exactly these bytes
+-- if the rest of the reader's input is known, it was exactly these bytes
 abbrev pub IsAllOf : List ℕ → Option (List ℕ) → Type 0
 IsAllOf taken old = IfSome old (λ xs. xs ≡ taken)
 
@@ -39,7 +39,7 @@ ReadsLine limit old new line (Err Read) = TakesPart old new line × (length line
 ReadsLine limit old new line (Err Memory) = TakesPart old new line × (length line ≤ limit)
 ReadsLine limit old new line (Err fault) = ⊥
 
--- what the call that takes what a reader shows of a line does: `before` stood in the buffer, and `after` does
+-- the call that takes the part of a line that a reader shows: the buffer held `before`, and holds `after`
 abbrev pub MovesPart : ℕ → Option (List ℕ) → Option (List ℕ) → List ℕ → List ℕ → Result Part FileFault → Type 0
 MovesPart limit old new before after (Ok Ended) =
     (part : List ℕ) × HasNoLf part × Consumes old new (part ++ 10 ∷ []) × (after ≡ before ++ part) × (length after ≤ limit)

@@ -44,7 +44,7 @@ LineResult options answers line (Ok answer) = LineAnswer options.notation answer
 LineResult options answers line (Err fault) =
     (options.keep_going ≡ true) × (is_own fault ≡ true) × LineAnswer options.notation answers line (Err fault)
 
--- the results are those of the lines, one for each and in order
+-- the results of the lines, one for each and in order
 abbrev pub AreResults : {R : Type 0} → RunOptions → (List ℕ → Result Answer R → Type 0) → List (List ℕ) → List (Result Answer (LineFault R)) → Type 0
 AreResults options answers [] [] = ⊤
 AreResults options answers (line ∷ lines) (result ∷ results) = LineResult options answers line result × AreResults options answers lines results
@@ -118,7 +118,7 @@ RunEnds options answers results at_end input input' (Err (AtLine line fault)) =
 RunEnds options answers results at_end input input' (Err (Write answered unsent)) =
     (answered ≡ length results) × ((next : List ℕ) × Consumes input input' next)
 
--- The bytes of the answers that did not go out: none, but where the writer refused them.
+-- The bytes of the answers that did not go out: none, unless the writer refused them.
 abbrev pub AreUnsent : {R : Type 0} → List ℕ → Result (RunSummary R) (RunFault R) → Type 0
 AreUnsent bytes (Err (Write answered unsent)) = (length bytes ≡ unsent) × (0 < unsent)
 AreUnsent bytes answer = bytes ≡ []
@@ -181,15 +181,15 @@ pub record Gathers {R : Type 0} (options : RunOptions) (answers : List ℕ → R
   pub sends : Sends out out' block block' (written_for lines.results)
   pub refused : IsRefused block' answer
 
--- the results are those of all lines, with a summary of them, or of those before a line
+-- the results of all lines, with a summary of them, or of the lines before a line
 abbrev pub Counts : {R : Type 0} → List (Result Answer (LineFault R)) → List (List ℕ) → Result (RunSummary R) (RunFault R) → Type 0
 Counts results more (Ok summary) = Summarizes results summary × (more ≡ [])
 Counts results more (Err (AtLine line fault)) = line ≡ length results + 1
 Counts results more (Err (Write answered unsent)) = answered ≡ length results
 
 -- The headline, for an input of these bytes. What was written are the answers to its first lines, in order, and each is
--- the answer of the job to that line alone: all lines where the run ended well, and else those before the line at which
--- it stopped. Where the writer refused, the last bytes of these answers did not go out, as many as are counted.
+-- the answer of the job to only that line: all lines if the run ended well, else the lines before the line at which it
+-- stopped. If the writer refused, the last bytes of these answers did not go out, as many as are counted.
 pub record WritesAnswers {R : Type 0} (options : RunOptions) (answers : List ℕ → Result Answer R → Type 0) (text : List ℕ)
     (out out' : Option (List ℕ)) (answer : Result (RunSummary R) (RunFault R)) : Type 0 where
   pub lines : List (List ℕ)

@@ -10,7 +10,7 @@ use std::io::Write;
 // So many bytes are written together.
 const BLOCK: usize = 65_536;
 
-// Writes the block. Where the writer refuses, what it did not take is left in the block.
+// Writes the block. If the writer refuses, the rest stays in the block.
 pub(crate) fn send<W: Write>(out: &mut W, block: &mut Vec<u8>) -> bool
     ensures sends { Sends (W.contents out.old) (W.contents out.new)
         block.old.items block.new.items [] }

@@ -22,9 +22,9 @@ pub trait LineJob {
     /// What is answered to the bytes of a line: a text to be written, with its mark, or a refusal.
     ghost answers: { Self → List ℕ → Result Answer Self.Refusal → Type 0 };
 
-    /// Makes the answer to `bytes` in `output`, with the LF that ends it, whatever stood there.
-    /// Returns its mark, or why the bytes have no answer. The call may work in `bytes`: what they
-    /// are afterwards is not said.
+    /// Replaces `output` with the answer to `bytes` and the LF that ends it. Returns its mark, or
+    /// why the bytes have no answer. The call may work in `bytes`: their content afterwards is not
+    /// specified.
     fn answer(
         &self,
         bytes: &mut Vec<u8>,

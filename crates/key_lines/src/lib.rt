@@ -1,8 +1,8 @@
 //! Many keys in one run: each line of the input is answered on the same line of the output.
 //!
-//! A line is one text of hex digits or of base64, with blanks at its ends alone. What is done with
-//! the bytes that it denotes is a [`LineJob`]'s; a [`LineRun`] reads the lines, writes the answers,
-//! and stops at the first line that is refused, or writes an empty line for it and goes on.
+//! A line is one text of hex digits or of base64, with blanks only at its ends. A [`LineJob`]
+//! answers the bytes that it denotes. A [`LineRun`] reads the lines, writes the answers, and stops
+//! at the first line that is refused, or writes an empty line for it and goes on.
 
 #![tactic(auto)]
 

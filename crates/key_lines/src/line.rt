@@ -19,7 +19,7 @@ pub(crate) enum Part {
     Missing,
 }
 
-/// What stands where the next line is looked for.
+/// What follows at the place at which the next line is looked for.
 #[derive(Clone, Copy, Debug, PartialEq)]
 pub enum Line {
     /// A line that an LF ends.
@@ -31,11 +31,11 @@ pub enum Line {
 }
 
 /// Reads the next line into `line`, without its LF. After `Last` and `Missing` the reader is at its
-/// end, and need not be asked again.
+/// end, and need not be called again.
 ///
-/// At most `limit + 1` bytes of the line are taken; TooLong comes where they have no LF. Read comes
-/// where a read answers any error, an interrupted one too, and Memory where an allocation failed,
-/// each as it is met; `line` then holds what was taken.
+/// Takes at most `limit + 1` bytes of the line; TooLong if they have no LF. Read is for any error
+/// of a read, an interrupted one too, and Memory for a failed allocation, each as it is met; `line`
+/// then holds what was taken.
 pub fn read_line<R: BufRead, A: Allocator>(
     reader: &mut R,
     line: &mut Vec<u8, A>,
@@ -92,7 +92,7 @@ fn move_part<R: BufRead, A: Allocator>(
     Ok(Part::More)
 }
 
-// How many bytes stand before the first LF, or all.
+// The number of bytes before the first LF, or of all.
 fn before_lf(front: &[u8]) -> usize
     ensures bound { result ≤ length front.now }
     ensures lf { result < length front.now → slice_index front.now result ≡ 10 }

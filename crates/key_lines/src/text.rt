@@ -19,10 +19,10 @@ pub enum TextNotation {
     Base64Url,
 }
 
-/// The bytes that a line denotes, in `bytes`, whatever stood there.
+/// Replaces `bytes` with the bytes that a line denotes.
 ///
-/// Blanks may stand at its ends alone: one in the text is refused as no character of it. The place
-/// of what is refused is counted from the front of the line.
+/// Blanks are allowed only at its ends: one in the text is refused as no character of it. The place
+/// of a refused character is counted from the front of the line.
 pub(crate) fn decode_line(
     notation: TextNotation,
     line: &[u8],
@@ -64,7 +64,7 @@ fn fault_behind(before: usize, fault: FileFault) -> FileFault
     }
 }
 
-// What stands between the blanks at the ends of a line.
+// The bytes between the blanks at the ends of a line.
 fn text_of(line: &[u8]) -> &[u8]
     ensures { result.now ≡ text_of line.now }
 {

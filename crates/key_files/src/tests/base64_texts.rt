@@ -59,7 +59,7 @@ fn decodes_base64_texts_and_files(rt: HostRuntime) {
     }
 }
 
-// Says what a text denotes as a file, and what as a text in which no blank may stand.
+// Checks what a text denotes as a file, and as a text in which blanks are not allowed.
 fn means(
     rt: &impl Abort,
     alloc: Global,

@@ -78,8 +78,8 @@ fn decodes_hex_texts_and_files(rt: HostRuntime) {
     }
 }
 
-// Files of digits about the limit: so many bytes, of which the first and the last are these, and
-// the fault, or none where the digits are read.
+// Files of digits about the limit: their number, the first and the last of them, and the fault, or
+// none if the digits are read.
 static LARGE: [(usize, u8, u8, Option<FileFault>); 5] = [
     (4_194_304, b'5', b'5', None),
     (4_194_303, b'5', b'5', Some(FileFault::OddDigits)),
@@ -170,7 +170,7 @@ pub const FAR: [usize; 4] = [100, 4_095, 4_096, 4_097];
 
 static DIGITS: [u8; 4_100] = [b'5'; 4_100];
 
-// The first fault is answered, and the reader not asked again, even where it would go on.
+// The first fault is returned, and the reader is not called again, even if it would go on.
 fn fails_after(
     rt: &impl Abort,
     alloc: Global,

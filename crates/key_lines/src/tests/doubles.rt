@@ -75,8 +75,8 @@ impl Write for Narrow {
     }
 }
 
-/// Answers the bytes in hex, but for FF alone, which has no answer, and FE alone, for which it has
-/// no memory. It marks the answer to no bytes.
+/// Answers the bytes in hex, except for a single FF, which has no answer, and a single FE, for
+/// which it has no memory. It marks the answer to no bytes.
 #[derive(Clone, Copy)]
 pub struct Echo;
 

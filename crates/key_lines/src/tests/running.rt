@@ -89,7 +89,7 @@ fn answers_the_lines_before_the_first_refused_one(rt: HostRuntime) -> Result<(),
     Ok(())
 }
 
-// Blanks at the ends of a line and within it: the line, its answer, and where it is refused.
+// Blanks at the ends of a line and within it: the line, its answer, and the place of its refusal.
 static BLANKS: [(&[u8], &[u8], Option<usize>); 20] = [
     (b" 0a0b", b"0a0b\n", None),
     (b"\t0a0b", b"0a0b\n", None),
