@@ -1,5 +1,4 @@
-//! The plain form in one buffer of the wrapped key's length: the key stands after the first 8
-//! bytes.
+//! The plain form in one buffer of the wrapped key's length: the key follows the first 8 bytes.
 
 ghost use Rattle.std.specs.Prelude.{◌≡◌, take, replicate};
 ghost use Rattle.aes_block.specs.Cipher.{cipher};

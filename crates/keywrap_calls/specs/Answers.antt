@@ -1,4 +1,4 @@
--- What a call that is done leaves in the buffers, in the form in which these keys stand with these texts.
+-- What a finished call leaves in the buffers, in the form that relates these keys to these texts.
 use Rattle.std.specs.Prelude.{◌≡◌, ◌↔◌, ℕ, List}
 use Rattle.key_wrap.specs.declared.forms.Form.{Form}
 use Rattle.key_wrap.specs.Answer.{NoKey}
@@ -6,22 +6,22 @@ use Rattle.key_wrap.specs.Forms.{StandsIn, by_default}
 use Rattle.key_wrap.specs.Rewrap.{AreWrappings}
 use Rattle.key_wrap.specs.KeepForm.{KeepsForm}
 
--- the text stands with the key, and no other text does
+-- the text wraps the key, and no other text does
 pub record IsWrapping (Stands : List ℕ → List ℕ → Type 0) (key text : List ℕ) : Type 0 where
   pub stands : Stands key text
   pub only_text : (other : List ℕ) → Stands key other → other ≡ text
 
--- the key stands with the text, and no other key does; wrapping the key again restores the text; and no key stands
--- with the text in the other form
+-- the key belongs to the text, and no other key does; wrapping the key again restores the text; and no key belongs to
+-- the text in the other form
 pub record IsUnwrapping (Stands Other : List ℕ → List ℕ → Type 0) (text key : List ℕ) : Type 0 where
   pub stands : Stands key text
   pub only_key : (other : List ℕ) → Stands other text → other ≡ key
   pub restores : (other : List ℕ) → Stands key other → other ≡ text
   pub other_form : NoKey Other text
 
--- one key stands with both, with the text in the old form under E and with the answer in the new form under F; no other
--- key stands with the text, and no other answer has this; unwrapping the answer gives exactly the text's key; and
--- rewrapping back gives the text
+-- one key belongs to both, to the text in the old form under E and to the answer in the new form under F; no other key
+-- belongs to the text, and no other answer has this; unwrapping the answer gives exactly the text's key; and rewrapping
+-- back gives the text
 pub record IsRewrapping (old : Form) (E : List ℕ → List ℕ) (new : Form) (F : List ℕ → List ℕ) (text answer : List ℕ)
     : Type 0 where
   pub one_key : AreWrappings (by_default old) E (by_default new) F text answer
@@ -30,7 +30,7 @@ pub record IsRewrapping (old : Form) (E : List ℕ → List ℕ) (new : Form) (F
   pub same_key : (key : List ℕ) → StandsIn new F key answer ↔ StandsIn old E key text
   pub restores : (other : List ℕ) → AreWrappings (by_default new) F (by_default old) E answer other → other ≡ text
 
--- the same where the form is kept, whichever it is: the text is the wrapping of one key alone, in one form
+-- the same if the form is kept, whichever it is: the text is the wrapping of only one key, in one form
 pub record IsKeptRewrapping (E F : List ℕ → List ℕ) (text answer : List ℕ) : Type 0 where
   pub one_key : KeepsForm E F text answer
   pub only_key : (form other_form : Form) → (key other : List ℕ) → StandsIn form E key text → StandsIn other_form E other text

@@ -11,7 +11,7 @@ use Rattle.keywrap_calls.specs.Status.{IsDone, IsBadIv, IsBadKek, IsBadLength, I
 use Rattle.keywrap_calls.specs.Answers.{IsWrapping, IsUnwrapping}
 use Rattle.keywrap_calls.specs.AgreedValue.{IsIv, iv_word}
 
--- a call that wraps the key, in the form in which these keys stand with these texts, where the lengths of its buffers are
+-- a call that wraps the key, in the form that relates these keys to these texts, if the lengths of its buffers are
 -- legal
 pub record IsWrapCall (Legal : Type 0) (Stands : List ℕ → List ℕ → Type 0) (kek key old new : List ℕ) (status : ℤ) : Type 0 where
   pub statuses : IsWrapStatus status
@@ -21,8 +21,8 @@ pub record IsWrapCall (Legal : Type 0) (Stands : List ℕ → List ℕ → Type 
   pub kept : ¬ IsDone status → new ≡ old
   pub answer : IsDone status → IsWrapping Stands key new
 
--- a call that unwraps the text and finds the key; no key stands with the text in the other form. A wrapping is refused
--- for its lengths only
+-- a call that unwraps the text and finds the key; no key belongs to the text in the other form. A wrapping is refused
+-- only for its lengths
 pub record IsUnwrapCall (Legal : Type 0) (Stands Other : List ℕ → List ℕ → Type 0) (kek text key old new : List ℕ) (status : ℤ)
     : Type 0 where
   pub statuses : IsUnwrapStatus status
@@ -43,7 +43,7 @@ pub record IsCallWith (Call : Type 0) (iv old new : List ℕ) (status : ℤ) : T
   pub call : IsIv iv → Call
 
 -- the key that an unwrapping of the padded form finds, of so many bytes: in the buffer after these bytes, with its
--- padding; and no key stands with the text in the plain form, whatever the initial value
+-- padding; and no key belongs to the text in the plain form, whatever the initial value
 pub record IsPaddedKey (E : List ℕ → List ℕ) (text key front new : List ℕ) (key_len : ℕ) (status : ℤ) : Type 0 where
   pub no_key : ¬ IsDone status → key_len ≡ 0
   pub other_values : IsDone status → NoPlainKey E text
@@ -68,7 +68,7 @@ UnwrapsWith E kek iv text old new status =
     IsCallWith (IsUnwrapCall (ArePlainLengths (length old) (length text)) (Plain E (iv_word iv)) (Padded E) kek text new old new status)
     iv old new status
 
--- the plain form in one buffer, where the key stands after the first 8 bytes, which an unwrapping leaves zero
+-- the plain form in one buffer: the key follows the first 8 bytes, which an unwrapping leaves zero
 abbrev pub WrapsInPlace : (E : List ℕ → List ℕ) (kek old new : List ℕ) (status : ℤ) → Type 0
 WrapsInPlace E kek old new status =
     IsWrapCall (IsPlainTextLength (length old)) (Plain E default_iv) kek (drop 8 old) old new status
@@ -77,7 +77,7 @@ abbrev pub UnwrapsInPlace : (E : List ℕ → List ℕ) (kek old new : List ℕ)
 UnwrapsInPlace E kek old new status =
     IsUnwrapCall (IsPlainTextLength (length old)) (Plain E default_iv) (Padded E) kek old (drop 8 new) old new status
 
--- the padded form, from one buffer into another, where the key is what the buffer begins with
+-- the padded form, from one buffer into another: the buffer begins with the key
 abbrev pub WrapsPadded : (E : List ℕ → List ℕ) (kek key old new : List ℕ) (status : ℤ) → Type 0
 WrapsPadded E kek key old new status = IsWrapCall (IsPaddedRoom (length key) (length old)) (Padded E) kek key old new status
 
@@ -85,7 +85,7 @@ abbrev pub UnwrapsPadded : (E : List ℕ → List ℕ) (kek text old new : List 
 UnwrapsPadded E kek text old new key_len status =
     IsUnwrapCall (ArePaddedLengths (length old) (length text)) (Padded E) (Plain E default_iv) kek text (take key_len new) old new status
 
--- the padded form in one buffer, where the key of so many bytes stands after the first 8 bytes
+-- the padded form in one buffer: the key of so many bytes follows the first 8 bytes
 abbrev pub WrapsPaddedInPlace : (E : List ℕ → List ℕ) (kek : List ℕ) (key_len : ℕ) (old new : List ℕ) (status : ℤ) → Type 0
 WrapsPaddedInPlace E kek key_len old new status =
     IsWrapCall (IsPaddedRoom key_len (length old)) (Padded E) kek (key_in key_len old) old new status

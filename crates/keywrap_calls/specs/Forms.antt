@@ -1,4 +1,4 @@
--- What the flags of a rewrapping ask for, and what a rewrapping that is asked for answers.
+-- What the flags of a rewrapping request, and the result of such a rewrapping.
 use Rattle.std.specs.Prelude.{◌≡◌, ◌↔◌, ◌⊎◌, ℕ, ℤ, List, length, All, ◌<◌, ◌/◌, ◌%◌, zero, suc}
 use Rattle.aes_block.specs.KeyExpansion.{IsKekLength}
 use Rattle.key_wrap.specs.declared.forms.Form.{Form}
@@ -11,11 +11,11 @@ use Rattle.keywrap_calls.specs.declared.rewrapping.Asked.TheVariants.{Between, K
 use Rattle.keywrap_calls.specs.Status.{IsDone, IsBadKek, IsBadLength, IsIntegrity, IsUnwrapStatus}
 use Rattle.keywrap_calls.specs.Answers.{IsRewrapping, IsKeptRewrapping}
 
--- no bit but the first two is set, or the third one alone
+-- only bits of the first two are set, or only the third one
 abbrev pub AreFlags : ℕ → Type 0
 AreFlags flags = flags < 5
 
--- the form that a bit names: padded exactly where it is set
+-- the form that a bit names: padded exactly if it is set
 abbrev pub form_of_bit : ℕ → Form
 form_of_bit zero = Plain
 form_of_bit (suc _) = Padded
@@ -33,7 +33,7 @@ kept_if (suc _) forms = Keep
 abbrev pub asked : ℕ → Asked
 asked flags = kept_if (flags / 4) (between flags)
 
--- a wrapped key may be of this length: in the old form, or in some form where it is kept
+-- a wrapped key may be of this length: in the old form, or in some form if the form is kept
 abbrev pub IsGivenLength : Asked → ℕ → Type 0
 IsGivenLength (Between old new) len = IsTextLength old len
 IsGivenLength Keep len = IsSomeTextLength len
@@ -43,7 +43,7 @@ abbrev pub HasBadLength : Asked → (List ℕ → List ℕ) → List ℕ → Typ
 HasBadLength (Between old new) E text = rewrap.HasBadLength (by_default old) E (by_default new) text
 HasBadLength Keep E text = ¬ IsSomeTextLength (length text)
 
--- it has a legal length, and is the wrapping of no key: in the old form, or in any form where it is kept
+-- it has a legal length, and is the wrapping of no key: in the old form, or in any form if the form is kept
 abbrev pub HasNoKey : Asked → (List ℕ → List ℕ) → List ℕ → Type 0
 HasNoKey (Between old new) E text = rewrap.HasNoWrapping (by_default old) E text
 HasNoKey Keep E text = HasNoForm E text
@@ -53,7 +53,7 @@ abbrev pub HasGoodKey : Asked → (List ℕ → List ℕ) → List ℕ → Type 
 HasGoodKey (Between old new) E text = (key : List ℕ) × StandsIn old E key text × IsKeyLength new (length key)
 HasGoodKey Keep E text = (form : Form) × (key : List ℕ) × StandsIn form E key text
 
--- the answer is what is asked for
+-- the answer is the requested one
 abbrev pub Rewraps : Asked → (List ℕ → List ℕ) → (List ℕ → List ℕ) → List ℕ → List ℕ → Type 0
 Rewraps (Between old new) E F text answer = IsRewrapping old E new F text answer
 Rewraps Keep E F text answer = IsKeptRewrapping E F text answer

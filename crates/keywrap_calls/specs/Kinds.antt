@@ -10,7 +10,7 @@ use Rattle.key_wrap.specs.Answer.{NoKey}
 use Rattle.key_wrap.specs.Kind.{IsKindOf, NoOtherKey}
 use Rattle.keywrap_calls.specs.Status.{IsDone, IsBadKek, IsBadLength, IsIntegrity, IsUnwrapStatus}
 
--- a scratch buffer is 8 bytes shorter than what is wrapped, where that has a length that is legal in a form
+-- a scratch buffer is 8 bytes shorter than the wrapped key, if that has a length that is legal in a form
 abbrev pub HasScratch : ℕ → ℕ → Type 0
 HasScratch text scratch = IsPaddedTextLength text → text ≡ scratch + 8
 

@@ -19,7 +19,7 @@ IsBadKek status = status ≡ pos 3
 abbrev pub IsBadLength : ℤ → Type 0
 IsBadLength status = status ≡ pos 4
 
--- the integrity check failed: no key stands with the text
+-- the integrity check failed: no key belongs to the text
 abbrev pub IsIntegrity : ℤ → Type 0
 IsIntegrity status = status ≡ pos 5
 

@@ -16,6 +16,6 @@ text_of status =
 abbrev pub fitting : List ℕ → List ℕ → List ℕ
 fitting text buffer = take (length buffer - 1) text
 
--- the buffer with a text at its start, a zero after that, and what stood there after the zero
+-- the buffer with a text at its start, a zero after that, and the old bytes after the zero
 abbrev pub begun_with : List ℕ → List ℕ → List ℕ
 begun_with text buffer = text ++ 0 ∷ drop (length text + 1) buffer

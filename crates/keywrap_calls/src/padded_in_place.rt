@@ -1,5 +1,4 @@
-//! The padded form in one buffer of the wrapped key's length: the key stands after the first 8
-//! bytes.
+//! The padded form in one buffer of the wrapped key's length: the key follows the first 8 bytes.
 
 ghost use Rattle.std.specs.Prelude.{replicate};
 ghost use Rattle.aes_block.specs.Cipher.{cipher};

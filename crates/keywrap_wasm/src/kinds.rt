@@ -9,9 +9,9 @@ use aes_block::Aes;
 /// 0 in the plain form, under the default initial value, and 1 in the padded form (RFC 3394, RFC
 /// 5649).
 ///
-/// The key is not given out: `scratch` is `text` without its first word in length, and where that
-/// length is legal in a form every byte of it is zero then. Both numbers are 0 at each refusal;
-/// `INTEGRITY` is that of both forms, or a length that neither has.
+/// The key is not given out. `scratch` has the length of `text` without its first word. If the
+/// length is legal in a form, every byte of `scratch` is zero afterwards. Both numbers are 0 at
+/// each refusal. `INTEGRITY` means that neither form fits, or a length that neither form has.
 #[unsafe(no_mangle)]
 pub extern "C" fn keywrap_kind(
     kek: &[u8],

@@ -1,4 +1,4 @@
--- What is asked for is what the flags name (`is`), and a length that is not refused is right.
+-- The request is what the flags name (`is`), and a length that is not refused is right.
 use Rattle.std.proofs.Common.{◌≡◌, length, subst, sym, ◌∙◌, inl, true, false}
 use Rattle.keywrap_calls.specs.Forms.{asked, IsGivenLength}
 use Rattle.keywrap_calls.specs.declared.rewrapping.Asked.{Asked}
