@@ -1,4 +1,3 @@
-pub mod Conversions
 pub mod Drills
 pub mod Headlines
 pub mod InitialValues

@@ -1,5 +1,5 @@
 -- Runs whose KEK files were read, and runs that a KEK file ended.
-use Rattle.std.proofs.Common.{◌≡◌, ℕ, List, Option, None, Some, Result, Ok, Err, Vec, IfOk, ◌∙◌, refl, sym, subst, ap}
+use Rattle.std.proofs.Common.{◌≡◌, ℕ, List, Option, Result, Ok, Err, Vec, IfOk, ◌∙◌, refl, sym, subst, ap}
 use Rattle.std.proofs.KnownBytes.{Keeps-refl}
 use Rattle.std.specs.declared.alloc.Global.{Global}
 use Rattle.aes_block.specs.Cipher.{cipher}
@@ -16,11 +16,11 @@ use Rattle.key_wrap.specs.declared.faults.InPlaceFault.TheVariants.{BadLength, I
 use Rattle.key_wrap.specs.declared.forms.Kind.{Kind}
 use Rattle.key_wrap.specs.declared.forms.Kind.TheVariants as kinds
 use Rattle.keywrap_cli.specs.Answers.{AnswerIs, AnswerOfJob, HasMark, IsDone, IsWritten, JobAnswer, MakesConversion, RewrappingAnswer, done_of, in_lines, job_of, kind_line, lines_of, mark_of}
-use Rattle.keywrap_cli.specs.Engine.{AnswersInput, AnswersLines, IsDoneAs, IsRefusedBefore, RunsInput, RunsOver, UnderKek, UnderKeks, WritesAnswer, WritesFrom, job_fault_of}
+use Rattle.keywrap_cli.specs.Engine.{AnswersInput, AnswersLines, IsRefusedBefore, RunsInput, RunsOver, UnderKek, UnderKeks, WritesAnswer, WritesFrom, job_fault_of}
 use Rattle.keywrap_cli.specs.Files.{printed}
 use Rattle.keywrap_cli.specs.Job.{RunsJobWith}
 use Rattle.keywrap_cli.specs.Lines.{RunsJobLines, RunsRewrapLines}
-use Rattle.keywrap_cli.specs.Readings.{IsOpened, OpensKek, kek_fault_of}
+use Rattle.keywrap_cli.specs.Readings.{OpensKek, kek_fault_of}
 use Rattle.keywrap_cli.specs.Rewrapping.{RunsRewrap}
 use Rattle.keywrap_cli.specs.declared.convert.Direction.{Direction}
 use Rattle.keywrap_cli.specs.declared.convert.Direction.TheVariants as directions

@@ -1,13 +1,8 @@
 -- Wrapping and unwrapping in either form, in the words of key_wrap. The plain form has an initial value `iv`, and the
 -- padded form asks for none.
-use Rattle.std.specs.Prelude.{◌≡◌, ℕ, List, length, Result, Ok, Err, Vec}
-use Rattle.std.specs.declared.alloc.Global.{Global}
+use Rattle.std.specs.Prelude.{◌≡◌, ℕ, List, length}
 use Rattle.key_wrap.specs.declared.forms.Form.{Form}
 use Rattle.key_wrap.specs.declared.forms.Form.TheVariants as forms
-use Rattle.key_wrap.specs.declared.faults.UnwrapFault.{UnwrapFault}
-use Rattle.key_wrap.specs.declared.faults.UnwrapFault.TheVariants.{BadLength, Integrity, Memory}
-use Rattle.key_wrap.specs.declared.faults.WrapFault.{WrapFault}
-use Rattle.key_wrap.specs.declared.faults.WrapFault.TheVariants as wraps
 use Rattle.key_wrap.specs.Answer.{NoKey}
 use Rattle.key_wrap.specs.Forms.{Stands, IsKeyLength, IsTextLength}
 use Rattle.key_wrap.specs.Plain.{default_iv}
@@ -23,8 +18,9 @@ abbrev pub IsInputLength : Direction → Form → ℕ → Type 0
 IsInputLength Wrap form len = IsKeyLength form len
 IsInputLength Unwrap form len = IsTextLength form len
 
--- `text` is the wrapping of the key, and nothing else is
+-- `text` is the wrapping of the key, of a legal length, and nothing else is
 pub record IsTextOf (form : Form) (iv : ℕ) (E : List ℕ → List ℕ) (key text : List ℕ) : Type 0 where
+  pub legal : IsTextLength form (length text)
   pub stands : Stands form iv E key text
   pub alone : (other : List ℕ) → Stands form iv E key other → other ≡ text
 
@@ -42,26 +38,7 @@ abbrev pub IsAnswer : Direction → Form → ℕ → (List ℕ → List ℕ) →
 IsAnswer Wrap form iv E X Y = IsTextOf form iv E X Y
 IsAnswer Unwrap form iv E X Y = IsKeyOf form iv E X Y
 
--- a wrapping's fault among those of an unwrapping
-abbrev pub unwrap_fault_of : WrapFault → UnwrapFault
-unwrap_fault_of wraps.BadLength = BadLength
-unwrap_fault_of wraps.Memory = Memory
-
 -- only an unwrapping is refused for its integrity: no key stands with the wrapped key
 abbrev pub HasNoAnswer : Direction → Form → ℕ → (List ℕ → List ℕ) → List ℕ → Type 0
 HasNoAnswer Wrap form iv E X = ⊥
 HasNoAnswer Unwrap form iv E X = NoKey (Stands form iv E) X
-
--- a conversion takes the bytes X to the bytes Y
-abbrev pub Converts : Direction → Form → ℕ → (List ℕ → List ℕ) → List ℕ → List ℕ → Type 0
-Converts Wrap form iv E X Y = Stands form iv E X Y
-Converts Unwrap form iv E X Y = Stands form iv E Y X
-
--- what a conversion of the bytes X answers, by cases
-abbrev pub ConversionAnswer : Direction → Form → ℕ → (List ℕ → List ℕ) → List ℕ → Result (Vec ℕ Global) UnwrapFault
-    → Type 0
-ConversionAnswer direction form iv E X (Ok Y) = IsAnswer direction form iv E X Y.items
-ConversionAnswer direction form iv E X (Err BadLength) = ¬ IsInputLength direction form (length X)
-ConversionAnswer direction form iv E X (Err Integrity) =
-    IsInputLength direction form (length X) × HasNoAnswer direction form iv E X
-ConversionAnswer direction form iv E X (Err Memory) = IsInputLength direction form (length X)

@@ -7,8 +7,6 @@ use Rattle.key_files.specs.declared.fault.FileFault.{FileFault}
 use Rattle.key_files.specs.declared.fault.FileFault.TheVariants as files
 use Rattle.key_wrap.specs.Plain.{default_iv}
 use Rattle.key_wrap.specs.declared.forms.Form.{Form}
-use Rattle.key_wrap.specs.declared.faults.UnwrapFault.{UnwrapFault}
-use Rattle.key_wrap.specs.declared.faults.UnwrapFault.TheVariants as unwraps
 use Rattle.keywrap_cli.specs.declared.convert.Direction.{Direction}
 use Rattle.keywrap_cli.specs.declared.drilling.DrillFault.{DrillFault}
 use Rattle.keywrap_cli.specs.declared.drilling.DrillFault.TheVariants.{TooLong, BadDigit, OddDigits, BadLength, Integrity, Memory}
@@ -28,7 +26,7 @@ TextAnswer text (Err BadLength) = ⊥
 TextAnswer text (Err Integrity) = ⊥
 TextAnswer text (Err Memory) = (X : List ℕ) × (drill_meaning text ≡ Ok X)
 
--- a drill's fault for what a text does not denote, and for a conversion's
+-- a drill's fault for what a text does not denote
 abbrev pub text_fault_of : FileFault → DrillFault
 text_fault_of (files.BadDigit at) = BadDigit at
 text_fault_of files.OddDigits = OddDigits
@@ -36,11 +34,6 @@ text_fault_of files.Read = Memory
 text_fault_of files.TooLong = Memory
 text_fault_of (files.BadBase64 wrong) = Memory
 text_fault_of files.Memory = Memory
-
-abbrev pub drill_fault_of : UnwrapFault → DrillFault
-drill_fault_of unwraps.BadLength = BadLength
-drill_fault_of unwraps.Integrity = Integrity
-drill_fault_of unwraps.Memory = Memory
 
 -- The answer over the drill block, by cases, under the default initial value. Memory comes only where the text
 -- denotes bytes.

@@ -1,14 +1,16 @@
 //! Wrapping and unwrapping in a direction and a form.
 
-ghost use Rattle.std.specs.Prelude.{◌≡◌, ℕ, List, IsOkUnless};
-ghost use Rattle.keywrap_cli.specs.Conversion.{ConversionAnswer, Converts};
-ghost use Rattle.keywrap_cli.specs.Conversion.{unwrap_fault_of};
+ghost use Rattle.keywrap_cli.specs.Answers.{MakesConversion, OutcomeIs};
 
-use block_pair::BlockPair;
+use block_pair::{BlockPair, Meter};
 use key_wrap::{
-    Form, InitialValue, UnwrapFault, WrapFault, unwrap_padded, unwrap_with, wrap_padded, wrap_with,
+    Form, InPlaceFault, InitialValue, key_length_ok, padded_length_ok, padded_text_length_ok,
+    text_length_ok, unwrap_into_with, unwrap_padded_into, wrap_into_with, wrap_padded_into,
 };
-use std::alloc::Global;
+use std::alloc::AllocError;
+
+// The bytes of a word.
+const WORD: usize = 8;
 
 /// Which way a conversion goes.
 #[derive(Clone, Copy)]
@@ -19,41 +21,104 @@ pub enum Direction {
     Unwrap,
 }
 
-/// The wrapping of a key, or the key of a wrapping. The plain form has this initial value. To wrap
-/// has the faults of an unwrapping, but for `Integrity`.
-pub fn convert<B: BlockPair>(
-    alloc: Global,
+/// Puts the wrapping of a key, or the key of a wrapping, into `output`, whatever it held. The plain
+/// form has this initial value.
+pub fn convert_into<B: BlockPair>(
     direction: Direction,
     form: Form,
     iv: &InitialValue,
     pair: &B,
     input: &[u8],
-) -> Result<Vec<u8>, UnwrapFault>
-    ensures answer { ConversionAnswer direction form iv.now (B.encrypted pair.now) input.now
-        result }
-
-    // What has an answer is refused only where memory runs out.
-    ensures accepts { (output : List ℕ)
-        → Converts direction form iv.now (B.encrypted pair.now) input.now output
-        → IsOkUnless result UnwrapFault.Memory }
+    output: &mut Vec<u8>,
+) -> Result<Result<(), InPlaceFault>, AllocError>
+    ensures { OutcomeIs (MakesConversion direction form iv.now (B.encrypted pair.now)
+        input.now) output.new.items result }
 {
     match (direction, form) {
-        (Direction::Wrap, Form::Plain) => {
-            wrap_with(alloc, pair, iv, input).map_err(as_unwrap_fault)
-        }
-        (Direction::Wrap, Form::Padded) => {
-            wrap_padded(alloc, pair, input).map_err(as_unwrap_fault)
-        }
-        (Direction::Unwrap, Form::Plain) => unwrap_with(alloc, pair, iv, input),
-        (Direction::Unwrap, Form::Padded) => unwrap_padded(alloc, pair, input),
+        (Direction::Wrap, Form::Plain) => wrap_plain(iv, pair, input, output),
+        (Direction::Wrap, Form::Padded) => wrap_padded(iv, pair, input, output),
+        (Direction::Unwrap, Form::Plain) => unwrap_plain(iv, pair, input, output),
+        (Direction::Unwrap, Form::Padded) => unwrap_padded(iv, pair, input, output),
     }
 }
 
-fn as_unwrap_fault(fault: WrapFault) -> UnwrapFault
-    ensures { result ≡ unwrap_fault_of fault }
+fn wrap_plain<B: BlockPair>(
+    iv: &InitialValue,
+    pair: &B,
+    key: &[u8],
+    text: &mut Vec<u8>,
+) -> Result<Result<(), InPlaceFault>, AllocError>
+    ensures { OutcomeIs (MakesConversion Direction.Wrap Form.Plain iv.now (B.encrypted pair.now)
+        key.now) text.new.items result }
 {
-    match fault {
-        WrapFault::BadLength => UnwrapFault::BadLength,
-        WrapFault::Memory => UnwrapFault::Memory,
+    if !key_length_ok(key.len()) {
+        return Ok(Err(InPlaceFault::BadLength));
+    }
+    text.resize(key.len() + WORD, 0)?;
+    match wrap_into_with(&mut Meter::new(pair), iv, key, text) {
+        Ok(()) => Ok(Ok(())),
+        Err(refusal) => Ok(Err(refusal)),
+    }
+}
+
+// The initial value is that of the plain form, and is not asked for.
+fn wrap_padded<B: BlockPair>(
+    iv: &InitialValue,
+    pair: &B,
+    key: &[u8],
+    text: &mut Vec<u8>,
+) -> Result<Result<(), InPlaceFault>, AllocError>
+    ensures { OutcomeIs (MakesConversion Direction.Wrap Form.Padded iv.now (B.encrypted pair.now)
+        key.now) text.new.items result }
+{
+    if !padded_length_ok(key.len()) {
+        return Ok(Err(InPlaceFault::BadLength));
+    }
+    let len = WORD + key.len().next_multiple_of(WORD);
+    text.resize(len, 0)?;
+    match wrap_padded_into(&mut Meter::new(pair), key, text) {
+        Ok(()) => Ok(Ok(())),
+        Err(refusal) => Ok(Err(refusal)),
+    }
+}
+
+fn unwrap_plain<B: BlockPair>(
+    iv: &InitialValue,
+    pair: &B,
+    text: &[u8],
+    key: &mut Vec<u8>,
+) -> Result<Result<(), InPlaceFault>, AllocError>
+    ensures { OutcomeIs (MakesConversion Direction.Unwrap Form.Plain iv.now (B.encrypted pair.now)
+        text.now) key.new.items result }
+{
+    if !text_length_ok(text.len()) {
+        return Ok(Err(InPlaceFault::BadLength));
+    }
+    key.resize(text.len() - WORD, 0)?;
+    match unwrap_into_with(&mut Meter::new(pair), iv, text, key) {
+        Ok(()) => Ok(Ok(())),
+        Err(refusal) => Ok(Err(refusal)),
+    }
+}
+
+fn unwrap_padded<B: BlockPair>(
+    iv: &InitialValue,
+    pair: &B,
+    text: &[u8],
+    key: &mut Vec<u8>,
+) -> Result<Result<(), InPlaceFault>, AllocError>
+    ensures { OutcomeIs (MakesConversion Direction.Unwrap Form.Padded iv.now (B.encrypted pair.now)
+        text.now) key.new.items result }
+{
+    if !padded_text_length_ok(text.len()) {
+        return Ok(Err(InPlaceFault::BadLength));
+    }
+    key.resize(text.len() - WORD, 0)?;
+    match unwrap_padded_into(&mut Meter::new(pair), text, key) {
+        Ok(len) => {
+            key.truncate(len);
+            Ok(Ok(()))
+        }
+        Err(refusal) => Ok(Err(refusal)),
     }
 }

@@ -3,13 +3,12 @@
 
 ghost use Rattle.std.specs.Prelude.{◌≡◌, ◌↔◌, ℕ, Err};
 ghost use Rattle.key_files.specs.declared.fault.FileFault.TheVariants as FileFaults;
-ghost use Rattle.keywrap_cli.specs.Drill.{DrillAnswer, TextAnswer, drill_meaning, drill_fault_of};
-ghost use Rattle.keywrap_cli.specs.Drill.{text_fault_of};
+ghost use Rattle.keywrap_cli.specs.Drill.{DrillAnswer, TextAnswer, drill_meaning, text_fault_of};
 
-use crate::convert::{Direction, convert};
+use crate::convert::{Direction, convert_into};
 use block_pair::SwapHalves;
 use key_files::{FileFault, MAX_FILE, decode_hex};
-use key_wrap::{Form, InitialValue, UnwrapFault};
+use key_wrap::{Form, InPlaceFault, InitialValue};
 use std::alloc::Global;
 use thiserror::Error;
 
@@ -56,7 +55,13 @@ pub fn drill(
 {
     let input = bytes_of(alloc, text)?;
     let iv = InitialValue::default();
-    convert(alloc, direction, form, &iv, &SwapHalves, &input).map_err(drill_fault)
+    let mut output = Vec::new(alloc);
+    match convert_into(direction, form, &iv, &SwapHalves, &input, &mut output) {
+        Ok(Ok(())) => Ok(output),
+        Ok(Err(InPlaceFault::BadLength)) => Err(DrillFault::BadLength),
+        Ok(Err(InPlaceFault::Integrity)) => Err(DrillFault::Integrity),
+        Err(_) => Err(DrillFault::Memory),
+    }
 }
 
 // The bytes that the text denotes, where it is no longer than a file may be.
@@ -78,15 +83,5 @@ fn text_fault(fault: FileFault) -> DrillFault
         FileFault::OddDigits => DrillFault::OddDigits,
         FileFault::Read | FileFault::TooLong | FileFault::BadBase64(_) | FileFault::Memory =>
             DrillFault::Memory,
-    }
-}
-
-fn drill_fault(fault: UnwrapFault) -> DrillFault
-    ensures { result ≡ drill_fault_of fault }
-{
-    match fault {
-        UnwrapFault::BadLength => DrillFault::BadLength,
-        UnwrapFault::Integrity => DrillFault::Integrity,
-        UnwrapFault::Memory => DrillFault::Memory,
     }
 }

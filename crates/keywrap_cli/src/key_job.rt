@@ -4,8 +4,7 @@ ghost use Rattle.std.specs.Prelude.{◌≡◌, IfOk, string_bytes};
 ghost use Rattle.keywrap_cli.specs.Answers.{AnswerIs, AnswerOfJob, JobAnswer, job_of, kind_line};
 ghost use Rattle.keywrap_cli.specs.Answers.{mark_of};
 
-use crate::convert::Direction;
-use crate::convert_into::convert_into;
+use crate::convert::{Direction, convert_into};
 use crate::engine::print_in;
 use crate::job::{Job, Task};
 use block_pair::{BlockPair, Meter};

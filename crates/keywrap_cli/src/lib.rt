@@ -4,7 +4,6 @@
 #![tactic(auto)]
 
 mod convert;
-mod convert_into;
 mod drilling;
 mod engine;
 mod fault;

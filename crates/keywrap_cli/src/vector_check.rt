@@ -5,15 +5,14 @@ ghost use Rattle.block_pair.specs.Words.{IsBlock};
 ghost use Rattle.key_files.specs.Meaning.{hex_meaning};
 ghost use Rattle.key_wrap.specs.Plain.{default_iv};
 ghost use Rattle.key_wrap.specs.Forms.{Stands};
-ghost use Rattle.keywrap_cli.specs.Conversion.{Converts};
 ghost use Rattle.keywrap_cli.specs.Vectors.{IsRight, Takes, shown};
 
-use crate::convert::{Direction, convert};
+use crate::convert::{Direction, convert_into};
 use crate::kek_file::Aes;
 use crate::vector_table::{Algorithm, Vector};
 use block_pair::BlockPair;
 use key_files::{FileFault, decode_hex};
-use key_wrap::{Form, InitialValue, UnwrapFault};
+use key_wrap::{Form, InitialValue};
 use std::alloc::{AllocError, Global};
 
 /// Whether a vector's texts denote a KEK, an input and the output to which its algorithm takes the
@@ -78,29 +77,14 @@ fn wraps<B: BlockPair>(
     ensures { IfOk result (λ right. IsTrue right
         ↔ Stands form default_iv (B.encrypted pair.now) key.now text.now) }
 {
-    let there = converts(alloc, Direction::Wrap, form, pair, key, text)?;
-    let back = converts(alloc, Direction::Unwrap, form, pair, text, key)?;
-    Ok(there && back)
-}
-
-// Whether the conversion of the one answers the other.
-fn converts<B: BlockPair>(
-    alloc: Global,
-    direction: Direction,
-    form: Form,
-    pair: &B,
-    input: &[u8],
-    output: &[u8],
-) -> Result<bool, AllocError>
-    ensures { IfOk result (λ right. IsTrue right
-        ↔ Converts direction form default_iv (B.encrypted pair.now) input.now output.now) }
-{
     let iv = InitialValue::default();
-    match convert(alloc, direction, form, &iv, pair, input) {
-        Ok(answer) => Ok(answer.as_slice() == output),
-        Err(UnwrapFault::Memory) => Err(AllocError),
-        Err(UnwrapFault::BadLength | UnwrapFault::Integrity) => Ok(false),
+    let mut output = Vec::new(alloc);
+    let wrapped = convert_into(Direction::Wrap, form, &iv, pair, key, &mut output)?;
+    if wrapped.is_err() || output.as_slice() != text {
+        return Ok(false);
     }
+    let unwrapped = convert_into(Direction::Unwrap, form, &iv, pair, text, &mut output)?;
+    Ok(unwrapped.is_ok() && output.as_slice() == key)
 }
 
 // Whether the cipher takes one block to the other, and the inverse cipher takes it back.

@@ -4,7 +4,7 @@ use Rattle.key_wrap.specs.InPlace.{ArePlainLengths}
 use Rattle.key_wrap.specs.Plain.{Plain}
 use Rattle.key_wrap.specs.declared.forms.Form.TheVariants as forms
 use Rattle.keywrap_cli.proofs.UnwrapRefusals.{refused_unwrap}
-use Rattle.keywrap_cli.proofs.convert_into.unwrap_plain.Goals as goal
+use Rattle.keywrap_cli.proofs.convert.unwrap_plain.Goals as goal
 
 pub returns-in-Err : goal.returns-in-Err
 returns-in-Err g c =

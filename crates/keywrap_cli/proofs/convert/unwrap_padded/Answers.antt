@@ -4,7 +4,7 @@ use Rattle.key_wrap.specs.InPlace.{ArePaddedLengths}
 use Rattle.key_wrap.specs.Padded.{Padded}
 use Rattle.key_wrap.specs.declared.forms.Form.TheVariants as forms
 use Rattle.keywrap_cli.proofs.UnwrapRefusals.{refused_unwrap}
-use Rattle.keywrap_cli.proofs.convert_into.unwrap_padded.Goals as goal
+use Rattle.keywrap_cli.proofs.convert.unwrap_padded.Goals as goal
 
 pub returns-in-Err : goal.returns-in-Err
 returns-in-Err g c =
