@@ -209,12 +209,15 @@ class Terminal:
             time.sleep(0.01)
 
     def types(self, text):
+        self.child.delaybeforesend = None
         self.child.send(text)
         self.child.sendeof()
 
     def ended(self):
         """The status, and what the terminal shows until the end."""
         self.child.expect(self.child.EOF)
+        self.child.wait()
+        self.child.ptyproc.delayafterclose = 0
         self.child.close()
         return Ended(self.child.exitstatus, self.child.before.replace("\r\n", "\n"))
 

@@ -11,12 +11,25 @@ import pytest
 from program import Ended
 from vectors import KEY16, WRAPPED16
 
-MANY_KEYS, MANY_WRAPPED = (KEY16 + "\n") * 4999, (WRAPPED16 + "\n") * 4999
+MANY_WRAPPED = (WRAPPED16 + "\n") * 4999
 RUN = "keywrap wrap --lines --kek kek16.hex"
-# The lines come in three parts, with a pause before each.
-SLOWLY = "{ for part in 1 2 3; do sleep 0.6; cat part$part; done; } |"
 FAR = r"keywrap: (\d+) lines, (\d+) a second"
 COUNTS = "keywrap: 4999 lines: 4999 answered, 0 refused\n"
+REFUSAL = "keywrap: line {}: no hex digit at byte 0\n"
+
+
+def slowly(*parts):
+    """The start of a pipe: each part comes after a pause."""
+    return f"{{ for part in {' '.join(parts)}; do sleep 0.6; cat $part; done; }} |"
+
+
+SLOWLY, REFUSED, FEW = slowly("first", "middle", "last"), slowly("first", "middle", "bad"), slowly("few", "few", "few")
+
+
+@pytest.fixture(autouse=True)
+def parts():
+    for name, lines in ("first", 1000), ("middle", 2999), ("last", 1000), ("bad", 1000), ("few", 2):
+        pathlib.Path(name).write_text(f"{KEY16}\n" * lines + "g\n" * (name == "bad"))
 
 
 def rewritten(pattern):
@@ -24,99 +37,58 @@ def rewritten(pattern):
     return rf"(\r\x1b\[K\x1b\[\?7l{pattern}\x1b\[\?7h)+\r\x1b\[K"
 
 
-@pytest.fixture
-def parts():
-    lines = MANY_KEYS.splitlines(keepends=True)
-    for number, part in enumerate([lines[:1000], lines[1000:3999], lines[3999:]], 1):
-        pathlib.Path(f"part{number}").write_text("".join(part))
-
-
-@pytest.fixture
-def few():
-    """Parts of two lines."""
-    for number in 1, 2, 3:
-        pathlib.Path(f"part{number}").write_text(f"{KEY16}\n" * 2)
-
-
-def refuse_the_last_line():
-    with open("part3", "a", encoding="ascii") as part:
-        part.write("g\n")
-
-
-def test_how_far_it_is(terminal, parts):
-    status, screen, _ = terminal(f"{SLOWLY} {RUN} >out").ended()
-    assert status == 0
-    assert re.fullmatch(rewritten(FAR) + re.escape(COUNTS), screen)
+def test_how_far_it_is(terminal):
+    """Of a pipe, which has no length of which a part can be done. The runs are beside one another."""
+    rows = [(f"{SLOWLY} {RUN} >out", 0, COUNTS),
+            (f"{REFUSED} {RUN} >refused", 6, REFUSAL.format(5000) + "  standard input: not hex; for base64 use --base64\n"),
+            (f"{REFUSED} {RUN} --keep-going --verbose --input /dev/stdin --output other", 6,
+             REFUSAL.format(5000) + "keywrap: 5000 lines: 4999 answered, 1 refused\n")]
+    for run, (line, status, rest) in zip([terminal(line) for line, *_ in rows], rows):
+        ended = run.ended()
+        assert ended.status == status, line
+        assert re.fullmatch(rewritten(FAR) + re.escape(rest), ended.stdout), line
     assert pathlib.Path("out").read_text() == MANY_WRAPPED
 
 
-def test_before_a_refusal(terminal, parts):
-    refuse_the_last_line()
-    status, screen, _ = terminal(f"{SLOWLY} {RUN} >out").ended()
-    assert status == 6
-    refusal = "keywrap: line 5000: no hex digit at byte 0\n  standard input: not hex; for base64 use --base64\n"
-    assert re.fullmatch(rewritten(FAR) + re.escape(refusal), screen)
+def test_no_progress(terminal):
+    """Quiet, standard error into a file, answers into a pipe, or a terminal that cannot rewrite a line."""
+    rows = [("--quiet >out", "", "xterm"), (">out 2>err", "", "xterm"), ("| cat >out", COUNTS, "xterm"),
+            ("--quiet --verbose >out", COUNTS, "xterm"), (">out", COUNTS, "dumb"), (">out", COUNTS, ""),
+            (">out", COUNTS, None)]
+    runs = [terminal(f"{SLOWLY} {RUN} {rest.replace('out', f'out{at}')}", TERM=TERM)
+            for at, (rest, _, TERM) in enumerate(rows)]
+    for at, run in enumerate(runs):
+        assert run.ended() == Ended(0, rows[at][1]), rows[at]
+        assert pathlib.Path(f"out{at}").read_text() == MANY_WRAPPED
+    assert pathlib.Path("err").read_text() == ""
 
 
-def test_into_a_file(terminal, parts):
-    """A pipe has no length of which a part can be done."""
-    refuse_the_last_line()
-    line = f"{SLOWLY} {RUN} --keep-going --verbose --input /dev/stdin --output other"
-    status, screen, _ = terminal(line).ended()
-    assert status == 6
-    lines = "keywrap: line 5000: no hex digit at byte 0\nkeywrap: 5000 lines: 4999 answered, 1 refused\n"
-    assert re.fullmatch(rewritten(FAR) + re.escape(lines), screen)
-
-
-@pytest.mark.parametrize("rest, screen", [
-    pytest.param("--quiet >out", "", id="quiet"),
-    pytest.param(">out 2>err", "", id="error into a file"),
-    pytest.param("| cat >out", COUNTS, id="answers into a pipe"),
-    pytest.param("--quiet --verbose >out", COUNTS, id="quiet and verbose")])
-def test_no_progress(terminal, parts, rest, screen):
-    assert terminal(f"{SLOWLY} {RUN} {rest}").ended() == Ended(0, screen)
-    assert pathlib.Path("out").read_text() == MANY_WRAPPED
-    assert not pathlib.Path("err").exists() or pathlib.Path("err").read_text() == ""
-
-
-@pytest.mark.parametrize("TERM", ["dumb", "", None])
-def test_terminal_that_cannot_rewrite_a_line(terminal, parts, TERM):
-    assert terminal(f"{SLOWLY} {RUN} >out", TERM=TERM).ended() == Ended(0, COUNTS)
-
-
-def test_answers_on_the_terminal(terminal, few):
-    """Each is shown whole, and nothing else."""
-    assert terminal(f"{SLOWLY} {RUN}").ended() == Ended(0, f"{WRAPPED16}\n" * 6)
-    assert terminal(f"cat part1 part2 | {RUN} --verbose").ended() == Ended(0, f"{WRAPPED16}\n" * 4)
+def test_answers_on_the_terminal(terminal):
+    """Each is shown whole, and nothing else. With two, a refusal is reported on the other one."""
+    pathlib.Path("inner").write_text(f"{slowly('few', 'few', 'few', 'refused')} {RUN} 2>$outer")
+    pathlib.Path("refused").write_text("g\n")
+    slow = terminal(f"{FEW} {RUN}")
+    screens = terminal("outer=$(tty) script -qec '. ./inner' inner.raw >/dev/null").ended()
+    assert (screens.status, screens.stdout.splitlines()[0]) == (6, REFUSAL.format(7).strip())
+    inner = pathlib.Path("inner.raw").read_text().replace("\r", "").splitlines()
+    assert [line for line in inner if line and not line.startswith("Script ")] == [WRAPPED16] * 6
+    assert slow.ended() == Ended(0, f"{WRAPPED16}\n" * 6)
+    assert terminal(f"cat few few | {RUN} --verbose").ended() == Ended(0, f"{WRAPPED16}\n" * 4)
 
 
 def test_typed_lines(terminal):
     """Nothing is shown while lines are typed."""
-    run = terminal(f"{RUN} 2>err")
+    shown, written = terminal(f"{RUN} 2>err"), terminal(f"{RUN} >out")
+    written.child.expect("Ctrl-D ends it\r\n")
     for _ in 1, 2:
         time.sleep(0.8)
-        run.child.sendline(KEY16)
-    run.child.sendeof()
-    assert run.ended() == Ended(0, f"{WRAPPED16}\n" * 2)
-    run = terminal(f"{RUN} >out")
-    run.child.expect("Ctrl-D ends it\r\n")
-    for _ in 1, 2:
-        time.sleep(0.8)
-        run.child.sendline(KEY16)
-    run.child.sendeof()
-    assert run.ended() == Ended(0, "")
+        shown.child.sendline(KEY16)
+        written.child.sendline(KEY16)
+    shown.child.sendeof()
+    written.child.sendeof()
+    assert shown.ended() == Ended(0, f"{WRAPPED16}\n" * 2)
+    assert written.ended() == Ended(0, "")
     assert pathlib.Path("out").read_text() == f"{WRAPPED16}\n" * 2
-
-
-def test_two_terminals(terminal, few):
-    """Answers go to the inner one; a refusal is reported on the outer one, and nothing else."""
-    refuse_the_last_line()
-    pathlib.Path("inner").write_text(f"{SLOWLY} {RUN} 2>$outer")
-    screens = terminal("outer=$(tty) script -qec '. ./inner' inner.raw >/dev/null").ended()
-    assert screens.status == 6
-    assert screens.stdout.splitlines()[0] == "keywrap: line 7: no hex digit at byte 0"
-    inner = pathlib.Path("inner.raw").read_text().replace("\r", "").splitlines()
-    assert [line for line in inner if line and not line.startswith("Script ")] == [WRAPPED16] * 6
 
 
 def test_nothing_in_the_first_half_second(terminal):
