@@ -43,6 +43,8 @@ LIBRARY ?= out/library$(other)
 JS ?= out/js
 # What the C library is made of: the archive that rt builds of the exports.
 ARCHIVE ?= crates/keywrap_c/out/libkeywrap_c.a
+# The directory of the portable C library.
+PORTABLE ?= out/portable
 # The directory of the provider for OpenSSL; never committed.
 PROVIDER ?= out/provider
 # The directory of the example in C.
@@ -76,7 +78,7 @@ for_zsh = $(share)/zsh/site-functions
 for_fish = $(share)/fish/vendor_completions.d
 
 .PHONY: help version build library library-anew test gate install uninstall install-command uninstall-command \
-    install-library uninstall-library install-provider uninstall-provider provider examples needs needs-wheel wheel js \
+    install-library uninstall-library install-provider uninstall-provider provider examples needs needs-wheel wheel js portable \
     dist dist-each dist-command dist-library dist-wheel dist-js packed bench pictures clean
 # What a goal needs is looked at before anything is built for it; and what rt builds of the exports has one place.
 .NOTPARALLEL:
@@ -90,6 +92,7 @@ help:
 	@echo 'make examples           builds the example in C, as $(EXAMPLES)/wrap'
 	@echo 'make wheel              builds the Python package, as $(wheel)'
 	@echo 'make js                 builds the package for browsers, Node and Deno, as $(JS)'
+	@echo 'make portable           builds the library as one file of C for other machines, as $(PORTABLE)'
 	@echo 'make test               runs the tests of the built command and the C library, as a user does'
 	@echo 'make gate               runs rt ci, which proves all from nothing and tries each edit, and then make test'
 	@echo 'make install            installs the two below, under $$(DESTDIR)$$(prefix), with their documents'
@@ -168,6 +171,9 @@ wheel: needs-wheel library
 
 js:
 	scripts/js.sh '$(version)' '$(JS)'
+
+portable: js
+	$(PYTHON) scripts/portable.py '$(JS)/keywrap.wasm' '$(version)' '$(PORTABLE)'
 
 # The scripts prove and build what is not built yet, and nothing else.
 test:

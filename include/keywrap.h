@@ -41,9 +41,17 @@
 #define KEYWRAP_VERSION \
     (KEYWRAP_VERSION_MAJOR << 16 | KEYWRAP_VERSION_MINOR << 8 | KEYWRAP_VERSION_PATCH)
 
+/* Define KEYWRAP_PORTABLE if you build the portable library (keywrap.c). It runs on any processor.
+ * Each call copies its buffers. For a key of more than 4096 bytes it allocates memory for them with
+ * malloc, and returns KEYWRAP_NO_MEMORY if it gets none: then no buffer is written, and the numbers
+ * that the call returns are 0. */
+#ifdef KEYWRAP_PORTABLE
+#define KEYWRAP_NO_MEMORY 7
+#endif
+
 /* 1 if this processor has the instructions that the library needs, else 0: check it before the first
  * call if the program may run on an old x86-64. GCC and clang only. */
-#if defined(__GNUC__) && defined(__x86_64__)
+#if defined(__GNUC__) && defined(__x86_64__) && !defined(KEYWRAP_PORTABLE)
 #define KEYWRAP_CPU_SUPPORTED() \
     (__builtin_cpu_supports("ssse3") && __builtin_cpu_supports("sse4.1"))
 #elif defined(__GNUC__)

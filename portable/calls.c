@@ -1,0 +1,317 @@
+/*** The calls of keywrap.h ***/
+
+/* The memory of a call: the module's stack, its constants, the two numbers that it may return beside
+ * a status, and the copies of the buffers. */
+enum {
+    CONSTANTS = STACK,
+    NUMBERS = CONSTANTS + DATA,
+    COPIES = NUMBERS + 16,
+    STACK_ROOM = COPIES + 2 * 32 + 8 + 2 * KEYWRAP_STACK_KEY + 16
+};
+
+/* A buffer that the module reads, and writes too if there is an `out`. One that is longer than
+ * `longest` is refused for its length, and not copied. */
+struct buffer {
+    const u8 *in;
+    u8 *out;
+    size_t len, longest;
+};
+
+enum { MOST_BUFFERS = 4 };
+
+struct call {
+    u64 (*run)(struct instance *module, const struct call *call);
+    struct buffer buffers[MOST_BUFFERS];
+    u64 addresses[MOST_BUFFERS];
+    u64 number;        /* an argument that is no buffer */
+    int always_writes; /* whether a refusal may change a buffer, too */
+    size_t *key_len;   /* where the numbers go, if there are any */
+    uint32_t *padded;
+};
+
+#define READS(bytes, len, longest) {(bytes), NULL, (len), (longest)}
+#define WRITES(bytes, len, longest) {(bytes), (bytes), (len), (longest)}
+#define KEK(bytes, len) READS(bytes, len, 32)
+#define BUFFER(n) call->addresses[n], call->buffers[n].len
+
+static size_t copied_len(const struct buffer *buffer) {
+    return buffer->len > buffer->longest ? 0 : buffer->len;
+}
+
+/* Gives each buffer its address, and returns the size of the memory. */
+static size_t lay_out(struct call *call) {
+    size_t size = COPIES;
+    for (int i = 0; i < MOST_BUFFERS; i++) {
+        call->addresses[i] = FIRST + size;
+        size += copied_len(&call->buffers[i]);
+    }
+    return size;
+}
+
+static void copy_in(const struct call *call, struct memory memory) {
+    memset(memory.bytes, 0, COPIES);
+    memcpy(memory.bytes + CONSTANTS, constants, DATA);
+    for (int i = 0; i < MOST_BUFFERS; i++) {
+        const struct buffer *buffer = &call->buffers[i];
+        size_t len = copied_len(buffer);
+        if (len > 0) memcpy(at(memory, call->addresses[i], len), buffer->in, len);
+    }
+}
+
+static void copy_numbers_out(const struct call *call, u64 key_len, u32 padded) {
+    if (call->key_len) *call->key_len = (size_t)key_len;
+    if (call->padded) *call->padded = padded;
+}
+
+/* Only a call that is done and a failed check write a buffer. */
+static void copy_out(const struct call *call, struct memory memory, u64 status) {
+    copy_numbers_out(call, i64_load(memory, FIRST + NUMBERS),
+                     i32_load(memory, FIRST + NUMBERS + 8));
+    if (status != KEYWRAP_OK && status != KEYWRAP_INTEGRITY && !call->always_writes) return;
+    for (int i = 0; i < MOST_BUFFERS; i++) {
+        const struct buffer *buffer = &call->buffers[i];
+        size_t len = copied_len(buffer);
+        if (buffer->out && len > 0) memcpy(buffer->out, at(memory, call->addresses[i], len), len);
+    }
+}
+
+/* Clears the memory; the compiler may not leave this out. */
+static void wipe(u64 *words, size_t size) {
+    volatile u64 *word = words;
+    for (size_t i = 0; i < (size + 7) / 8; i++) word[i] = 0;
+}
+
+static u64 run_in(u64 *words, size_t size, const struct call *call) {
+    struct instance module = {FIRST + STACK, 0, {(u8 *)words, size}};
+    u64 status;
+    copy_in(call, module.w2c_memory);
+    status = call->run(&module, call);
+    copy_out(call, module.w2c_memory, status);
+    wipe(words, size);
+    return status;
+}
+
+static u64 run_on_stack(size_t size, const struct call *call) {
+    u64 words[(STACK_ROOM + 7) / 8];
+    return run_in(words, size, call);
+}
+
+static u64 perform(struct call *call) {
+    size_t size = lay_out(call);
+    u64 *words = NULL, status;
+    if (size <= STACK_ROOM) return run_on_stack(size, call);
+#ifndef KEYWRAP_NO_MALLOC
+    words = malloc(size + 7);
+#endif
+    if (!words) {
+        copy_numbers_out(call, 0, 0);
+        return KEYWRAP_NO_MEMORY;
+    }
+    status = run_in(words, size, call);
+#ifndef KEYWRAP_NO_MALLOC
+    free(words);
+#endif
+    return status;
+}
+
+static u64 run_version(struct instance *module, const struct call *call) {
+    (void)call;
+    return w2c_keywrap_version(module);
+}
+
+uint32_t keywrap_version(void) {
+    struct call call = {.run = run_version};
+    return (uint32_t)perform(&call);
+}
+
+static u64 run_status_text(struct instance *module, const struct call *call) {
+    return w2c_keywrap_status_text(module, (u32)call->number, BUFFER(0));
+}
+
+size_t keywrap_status_text(int32_t status, char *text, size_t capacity) {
+    enum { LONGEST = 80 };
+    u8 *bytes = (u8 *)text;
+    struct call call = {
+        .run = run_status_text,
+        .buffers = {WRITES(bytes, capacity < LONGEST ? capacity : LONGEST, LONGEST)},
+        .number = (u32)status,
+        .always_writes = 1,
+    };
+    return (size_t)perform(&call);
+}
+
+static u64 run_wrap(struct instance *module, const struct call *call) {
+    return w2c_keywrap_wrap(module, BUFFER(0), BUFFER(1), BUFFER(2));
+}
+
+int32_t keywrap_wrap(const uint8_t *kek, size_t kek_len, const uint8_t *key, size_t key_len,
+                     uint8_t *wrapped, size_t wrapped_len) {
+    struct call call = {
+        .run = run_wrap,
+        .buffers = {KEK(kek, kek_len), READS(key, key_len, KEYWRAP_MAX_KEY),
+                    WRITES(wrapped, wrapped_len, KEYWRAP_MAX_TEXT)},
+    };
+    return (int32_t)perform(&call);
+}
+
+static u64 run_unwrap(struct instance *module, const struct call *call) {
+    return w2c_keywrap_unwrap(module, BUFFER(0), BUFFER(1), BUFFER(2));
+}
+
+int32_t keywrap_unwrap(const uint8_t *kek, size_t kek_len, const uint8_t *wrapped,
+                       size_t wrapped_len, uint8_t *key, size_t key_len) {
+    struct call call = {
+        .run = run_unwrap,
+        .buffers = {KEK(kek, kek_len), READS(wrapped, wrapped_len, KEYWRAP_MAX_TEXT),
+                    WRITES(key, key_len, KEYWRAP_MAX_KEY)},
+    };
+    return (int32_t)perform(&call);
+}
+
+static u64 run_wrap_with(struct instance *module, const struct call *call) {
+    return w2c_keywrap_wrap_with(module, BUFFER(0), BUFFER(1), BUFFER(2), BUFFER(3));
+}
+
+int32_t keywrap_wrap_with(const uint8_t *kek, size_t kek_len, const uint8_t *iv, size_t iv_len,
+                          const uint8_t *key, size_t key_len, uint8_t *wrapped,
+                          size_t wrapped_len) {
+    struct call call = {
+        .run = run_wrap_with,
+        .buffers = {KEK(kek, kek_len), READS(iv, iv_len, 8), READS(key, key_len, KEYWRAP_MAX_KEY),
+                    WRITES(wrapped, wrapped_len, KEYWRAP_MAX_TEXT)},
+    };
+    return (int32_t)perform(&call);
+}
+
+static u64 run_unwrap_with(struct instance *module, const struct call *call) {
+    return w2c_keywrap_unwrap_with(module, BUFFER(0), BUFFER(1), BUFFER(2), BUFFER(3));
+}
+
+int32_t keywrap_unwrap_with(const uint8_t *kek, size_t kek_len, const uint8_t *iv, size_t iv_len,
+                            const uint8_t *wrapped, size_t wrapped_len, uint8_t *key,
+                            size_t key_len) {
+    struct call call = {
+        .run = run_unwrap_with,
+        .buffers = {KEK(kek, kek_len), READS(iv, iv_len, 8),
+                    READS(wrapped, wrapped_len, KEYWRAP_MAX_TEXT),
+                    WRITES(key, key_len, KEYWRAP_MAX_KEY)},
+    };
+    return (int32_t)perform(&call);
+}
+
+static u64 run_wrap_padded(struct instance *module, const struct call *call) {
+    return w2c_keywrap_wrap_padded(module, BUFFER(0), BUFFER(1), BUFFER(2));
+}
+
+int32_t keywrap_wrap_padded(const uint8_t *kek, size_t kek_len, const uint8_t *key, size_t key_len,
+                            uint8_t *wrapped, size_t wrapped_len) {
+    struct call call = {
+        .run = run_wrap_padded,
+        .buffers = {KEK(kek, kek_len), READS(key, key_len, KEYWRAP_MAX_KEY),
+                    WRITES(wrapped, wrapped_len, KEYWRAP_MAX_TEXT)},
+    };
+    return (int32_t)perform(&call);
+}
+
+static u64 run_unwrap_padded(struct instance *module, const struct call *call) {
+    return w2c_keywrap_unwrap_padded(module, BUFFER(0), BUFFER(1), BUFFER(2), FIRST + NUMBERS);
+}
+
+int32_t keywrap_unwrap_padded(const uint8_t *kek, size_t kek_len, const uint8_t *wrapped,
+                              size_t wrapped_len, uint8_t *key, size_t room, size_t *key_len) {
+    struct call call = {
+        .run = run_unwrap_padded,
+        .buffers = {KEK(kek, kek_len), READS(wrapped, wrapped_len, KEYWRAP_MAX_TEXT),
+                    WRITES(key, room, KEYWRAP_MAX_KEY)},
+        .key_len = key_len,
+    };
+    return (int32_t)perform(&call);
+}
+
+static u64 run_wrap_in_place(struct instance *module, const struct call *call) {
+    return w2c_keywrap_wrap_in_place(module, BUFFER(0), BUFFER(1));
+}
+
+int32_t keywrap_wrap_in_place(const uint8_t *kek, size_t kek_len, uint8_t *buffer,
+                              size_t wrapped_len) {
+    struct call call = {
+        .run = run_wrap_in_place,
+        .buffers = {KEK(kek, kek_len), WRITES(buffer, wrapped_len, KEYWRAP_MAX_TEXT)},
+    };
+    return (int32_t)perform(&call);
+}
+
+static u64 run_unwrap_in_place(struct instance *module, const struct call *call) {
+    return w2c_keywrap_unwrap_in_place(module, BUFFER(0), BUFFER(1));
+}
+
+int32_t keywrap_unwrap_in_place(const uint8_t *kek, size_t kek_len, uint8_t *buffer,
+                                size_t wrapped_len) {
+    struct call call = {
+        .run = run_unwrap_in_place,
+        .buffers = {KEK(kek, kek_len), WRITES(buffer, wrapped_len, KEYWRAP_MAX_TEXT)},
+    };
+    return (int32_t)perform(&call);
+}
+
+static u64 run_wrap_padded_in_place(struct instance *module, const struct call *call) {
+    return w2c_keywrap_wrap_padded_in_place(module, BUFFER(0), BUFFER(1), call->number);
+}
+
+int32_t keywrap_wrap_padded_in_place(const uint8_t *kek, size_t kek_len, uint8_t *buffer,
+                                     size_t wrapped_len, size_t key_len) {
+    struct call call = {
+        .run = run_wrap_padded_in_place,
+        .buffers = {KEK(kek, kek_len), WRITES(buffer, wrapped_len, KEYWRAP_MAX_TEXT)},
+        .number = key_len,
+    };
+    return (int32_t)perform(&call);
+}
+
+static u64 run_unwrap_padded_in_place(struct instance *module, const struct call *call) {
+    return w2c_keywrap_unwrap_padded_in_place(module, BUFFER(0), BUFFER(1), FIRST + NUMBERS);
+}
+
+int32_t keywrap_unwrap_padded_in_place(const uint8_t *kek, size_t kek_len, uint8_t *buffer,
+                                       size_t wrapped_len, size_t *key_len) {
+    struct call call = {
+        .run = run_unwrap_padded_in_place,
+        .buffers = {KEK(kek, kek_len), WRITES(buffer, wrapped_len, KEYWRAP_MAX_TEXT)},
+        .key_len = key_len,
+    };
+    return (int32_t)perform(&call);
+}
+
+static u64 run_kind(struct instance *module, const struct call *call) {
+    return w2c_keywrap_kind(module, BUFFER(0), BUFFER(1), BUFFER(2), FIRST + NUMBERS + 8,
+                            FIRST + NUMBERS);
+}
+
+int32_t keywrap_kind(const uint8_t *kek, size_t kek_len, const uint8_t *wrapped, size_t wrapped_len,
+                     uint8_t *scratch, size_t room, uint32_t *padded, size_t *key_len) {
+    struct call call = {
+        .run = run_kind,
+        .buffers = {KEK(kek, kek_len), READS(wrapped, wrapped_len, KEYWRAP_MAX_TEXT),
+                    WRITES(scratch, room, KEYWRAP_MAX_KEY)},
+        .key_len = key_len,
+        .padded = padded,
+    };
+    return (int32_t)perform(&call);
+}
+
+static u64 run_rewrap_in_place(struct instance *module, const struct call *call) {
+    return w2c_keywrap_rewrap_in_place(module, BUFFER(0), BUFFER(1), BUFFER(2), (u32)call->number);
+}
+
+int32_t keywrap_rewrap_in_place(const uint8_t *old_kek, size_t old_kek_len, const uint8_t *new_kek,
+                                size_t new_kek_len, uint8_t *buffer, size_t wrapped_len,
+                                uint32_t forms) {
+    struct call call = {
+        .run = run_rewrap_in_place,
+        .buffers = {KEK(old_kek, old_kek_len), KEK(new_kek, new_kek_len),
+                    WRITES(buffer, wrapped_len, KEYWRAP_MAX_TEXT)},
+        .number = forms,
+        .always_writes = 1,
+    };
+    return (int32_t)perform(&call);
+}
