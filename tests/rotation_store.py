@@ -10,45 +10,11 @@ import time
 
 from cryptography.hazmat.primitives import keywrap as pyca
 
-SCRIPTS = pathlib.Path(__file__).resolve().parent.parent / "docs/rotation"
+TESTS = pathlib.Path(__file__).resolve().parent
+SCRIPTS, FAKE_TOOL = TESTS.parent / "docs/rotation", TESTS / "lib/fake_tool.sh"
 KEK, NEW_KEK = bytes(range(16)), bytes(range(100, 132))
-
-# In the place of a tool: call number $at of $tool goes wrong as $how says; if it says `copies`, each rewrap writes its
-# input. Each call is a line of $calls.
-STAND_IN = r"""#!/bin/bash
-name=${0##*/} all=$PATH
-PATH=${PATH#*:}
-# Several processes may call at once.
-count=$({ flock 8; echo "$name $*" >>"$calls"; grep -c "^$name " "$calls"; } 8>>"$calls.lock")
-real=$(command -v "$name")
-runs() { PATH=$all "$real" "$@"; }
-half() { head -c $(($(stat -c %s "$1") / 2)) "$1"; }
-if [ "$how $name $1" = 'copies keywrap rewrap' ]; then
-    case $* in
-    *--input*) exec cp "${@: -3:1}" "${!#}" ;;
-    *) exec cat ;;
-    esac
-fi
-if [ "$name" = "$tool" ] && [ "$count" = "$at" ]; then
-    case $how in
-    fails) exit 1 ;;
-    'is cut off')
-        cat >"$calls.in"
-        half "$calls.in" | runs "$@" >"$calls.out"
-        half "$calls.out"
-        # The file that cp writes is cut off too.
-        [ "$name" != cp ] || [ ! -f "${!#}" ] || { half "${!#}" >"$calls.out"; cat "$calls.out" >"${!#}"; }
-        ;;
-    'is killed late') runs "$@" ;;
-    # A check that does nothing would be believed.
-    'does nothing') [ "$name $1" = 'keywrap check' ] && PATH=$all exec "$real" "$@"; exit 0 ;;
-    meanwhile) eval "$meanwhile"; runs "$@"; exit ;;
-    esac
-    kill -KILL $$
-fi
-PATH=$all exec "$real" "$@"
-"""
 TOOLS = "keywrap psql parallel b2sum cp cut flock grep head mktemp mv od paste realpath rm sed stat sync wc".split()
+NOBODY = ["setpriv", "--reuid", "nobody", "--regid", "nogroup", "--clear-groups"]
 WRITERS = ["keywrap", "psql", "parallel", "cp", "mv"]
 
 
@@ -77,8 +43,7 @@ class Room:
             (path / name).mkdir()
         (path / "bin/keywrap").symlink_to(program)
         for tool in TOOLS:
-            (path / "faulty" / tool).write_text(STAND_IN)
-            (path / "faulty" / tool).chmod(0o755)
+            shutil.copy(FAKE_TOOL, path / "faulty" / tool)
         self.write_keks()
 
     def write_keks(self, kek=KEK, new_kek=NEW_KEK):
@@ -95,15 +60,12 @@ class Room:
         for old, new in changes:
             assert old in content
             content = content.replace(old, new)
-        copy = self.path / script
-        copy.write_text(content)
+        (self.path / script).write_text(content)
         self.calls.write_text("")
-        command = [*prefix, "bash", copy, *words]
-        return subprocess.run(command, cwd=self.here, env=self.environment(**more), stdin=subprocess.DEVNULL,
-                              capture_output=True, text=True, timeout=360)
+        return subprocess.run([*prefix, "bash", self.path / script, *words], cwd=self.here, stdin=subprocess.DEVNULL,
+                              env=self.environment(**more), capture_output=True, text=True, timeout=360)
 
     def called(self):
-        """The calls of the last run, each with its arguments."""
         return self.calls.read_text().splitlines()
 
     def faults(self, *tools):
@@ -118,17 +80,19 @@ class Room:
                     yield {"tool": tool, "at": str(at), "how": "does nothing"}
 
 
+def server_programs():
+    return list(pathlib.Path("/usr/lib/postgresql").glob("*/bin")) if shutil.which("psql") else []
+
+
 class Server:
     """A PostgreSQL server of its own, which psql finds by `environment`. It refuses to run as root."""
 
     def __init__(self):
-        programs = sorted(pathlib.Path("/usr/lib/postgresql").glob("*/bin/initdb"))
         self.directory = pathlib.Path(tempfile.mkdtemp())
         self.environment = {"PGHOST": str(self.directory), "PGPORT": "5432", "PGUSER": "keywrap",
                             "PGDATABASE": "postgres", "PSQLRC": "/dev/null"}
-        bin, user = programs[-1].parent, []
-        if os.geteuid() == 0:
-            user = ["setpriv", "--reuid", "nobody", "--regid", "nogroup", "--clear-groups"]
+        bin, user = sorted(server_programs())[-1], NOBODY if os.geteuid() == 0 else []
+        if user:
             shutil.chown(self.directory, "nobody")
         with open(self.directory / "log", "wb") as log:
             here = {"cwd": self.directory, "stdout": log, "stderr": log, "stdin": subprocess.DEVNULL}
@@ -150,14 +114,14 @@ class Server:
     def fill(self, keys):
         """Makes the table `keys`: the keys with the ids 10, 20 and so on."""
         self.sql("DROP TABLE IF EXISTS keys, keys_rotation")
-        rows = "".join(f"{number * 10}\t\\\\x{wrapped(KEK, key)}\n" for number, key in enumerate(keys, 1))
+        copied = "".join(f"{number}\t\\\\x{key}\n" for number, key in rows(KEK, keys).items())
         self.sql("CREATE TABLE keys (id bigint PRIMARY KEY, key bytea NOT NULL);\n"
-                 f"COPY keys FROM STDIN;\n{rows}\\.\nANALYZE keys;")
+                 f"COPY keys FROM STDIN;\n{copied}\\.\nANALYZE keys;")
 
     def held(self):
         """The wrapped key of each id."""
-        rows = self.sql("SELECT id, encode(key, 'hex') FROM keys ORDER BY id").splitlines()
-        return {int(row.split("|")[0]): row.split("|")[1] for row in rows}
+        found = self.sql("SELECT id, encode(key, 'hex') FROM keys ORDER BY id").splitlines()
+        return {int(row.split("|")[0]): row.split("|")[1] for row in found}
 
     def end(self):
         self.process.send_signal(2)

@@ -47,8 +47,8 @@ SECTIONS = dict(section.split("\n", 1) for section in re.split(r"^## ", RECIPES,
 def server():
     """What psql finds a PostgreSQL server by."""
     pytest.importorskip("cryptography", reason="no cryptography (apt-get install python3-cryptography)")
-    from rotation_store import Server
-    if not list(pathlib.Path("/usr/lib/postgresql").glob("*/bin/initdb")):
+    from rotation_store import Server, server_programs
+    if not server_programs():
         pytest.skip("no PostgreSQL server (apt-get install postgresql)")
     started = Server()
     yield started.environment

@@ -1,5 +1,5 @@
-"""docs/rotation/lines.sh and lines_parallel.sh: whatever goes wrong, keys.hex holds all old wrapped keys or all new
-ones, the exit status is 0 only if they are the new ones, and a second run ends well."""
+"""docs/rotation/lines.sh and lines_parallel.sh: whatever goes wrong, keys.hex has all old wrapped keys or all new ones,
+the exit status is 0 only for the new ones, and a second run ends well."""
 
 import os
 import shutil
@@ -10,33 +10,31 @@ import pytest
 
 pytest.importorskip("cryptography", reason="no cryptography (apt-get install python3-cryptography)")
 
-from rotation_store import KEK, NEW_KEK, SCRIPTS, Room, lines, make_keys, wrapped
+from rotation_store import KEK, NEW_KEK, NOBODY, SCRIPTS, Room, lines, make_keys, wrapped
 
 KEYS = make_keys(40)
 OLD, NEW = lines(KEK, KEYS), lines(NEW_KEK, KEYS)
-# Blocks of about nine lines.
-PARALLEL = ("lines_parallel.sh", "2", [("--block 8M", "--block 700")])
+ADDED = wrapped(KEK, make_keys(2, 9)[1])
+only_parallel = pytest.mark.parametrize("rotation", ["lines_parallel.sh"], indirect=True)
+only_root = pytest.mark.skipif(os.geteuid() != 0, reason="not root")
 
 
 @pytest.fixture(params=["lines.sh", "lines_parallel.sh"])
 def rotation(request, tmp_path, pytestconfig):
-    """rotation(tool=.., at=.., how=..) runs the script over keys.hex of 40 keys in room.here."""
-    if request.param == "lines_parallel.sh" and shutil.which("parallel") is None:
+    """rotation(tool=.., at=.., how=..) runs the script over keys.hex of 40 keys in rotation.room.here."""
+    parallel = request.param == "lines_parallel.sh"
+    if parallel and shutil.which("parallel") is None:
         pytest.skip("no GNU parallel (apt-get install parallel)")
-    room = Room(tmp_path, pytestconfig.program)
-    store = room.here / "keys.hex"
-    store.write_text(OLD)
-    script, words, changes = PARALLEL if request.param == PARALLEL[0] else (request.param, None, [])
+    # Blocks of about nine lines.
+    words, changes = (["2"], [("--block 8M", "--block 700")]) if parallel else ([], [])
 
     def rotate(**more):
-        return room.run(script, *([words] if words else []), changes=changes, **more)
+        return rotate.room.run(request.param, *words, changes=changes, **more)
 
-    rotate.room, rotate.store, rotate.parallel = room, store, script == PARALLEL[0]
+    rotate.room, rotate.parallel = Room(tmp_path, pytestconfig.program), parallel
+    rotate.store = rotate.room.here / "keys.hex"
+    rotate.store.write_text(OLD)
     return rotate
-
-
-def left_over(rotation):
-    return [name for name in os.listdir(rotation.room.here) if name.startswith(".rotating.")]
 
 
 def endures(rotation, done, fault):
@@ -48,11 +46,19 @@ def endures(rotation, done, fault):
     assert (again.returncode, rotation.store.read_text()) == (0, NEW), (fault, again.stderr)
 
 
+def refused(rotation, content=OLD, **more):
+    """How a run ended that left the store as it is, and no other file."""
+    done = rotation(**more)
+    assert done.returncode != 0
+    assert (rotation.store.read_text() if rotation.store.exists() else None) == content
+    assert not list(rotation.room.here.glob(".rotating.*"))
+    return done
+
+
 def test_undisturbed_and_again(rotation):
     for _ in range(2):
         done = rotation()
-        assert (done.returncode, done.stdout, done.stderr) == (0, "", "")
-        assert rotation.store.read_text() == NEW
+        assert (done.returncode, done.stdout, done.stderr, rotation.store.read_text()) == (0, "", "", NEW)
         assert sorted(os.listdir(rotation.room.here)) == ["kek.hex", "keys.hex", "new-kek.hex"]
 
 
@@ -60,221 +66,137 @@ def test_every_call_goes_wrong_in_turn(rotation):
     assert rotation().returncode == 0
     # The other calls of lines_parallel.sh are the same as in lines.sh.
     faults = list(rotation.room.faults(*(["keywrap", "parallel", "mv"] if rotation.parallel else [])))
-    expected = "keywrap parallel mv" if rotation.parallel else "keywrap cp mv sync b2sum stat mktemp flock grep"
-    assert {fault["tool"] for fault in faults} >= set(expected.split())
+    assert len({fault["tool"] for fault in faults}) >= (3 if rotation.parallel else 9)
     for fault in faults:
         rotation.store.write_text(OLD)
         endures(rotation, rotation(**fault), fault)
 
 
 def test_new_keys_are_checked(rotation):
-    """The file is not replaced by one whose keys are under the old KEK."""
-    done = rotation(how="copies")
-    assert (done.returncode, "stopped at line" in done.stderr) == (5, True)
-    assert rotation.store.read_text() == OLD
-    assert any(call.startswith("keywrap check --lines") for call in rotation.room.called())
-    assert left_over(rotation) == []
+    assert "stopped at line" in refused(rotation, how="copies").stderr
 
 
-def test_the_disk_is_full(rotation):
-    limits = [100, 1000, len(NEW) - 100]
-    for limit in limits:
-        rotation.store.write_text(OLD)
-        done = rotation(prefix=["prlimit", f"--fsize={limit}"])
-        assert done.returncode != 0
-        assert rotation.store.read_text() == OLD
-        endures(rotation, done, limit)
+@pytest.mark.parametrize("limit", [100, 1000, len(NEW) - 100])
+def test_the_disk_is_full(rotation, limit):
+    endures(rotation, refused(rotation, prefix=["prlimit", f"--fsize={limit}"]), limit)
 
 
-@pytest.mark.parametrize(
-    "content, keys",
-    [
-        ("".join(line + "\r\n" for line in OLD.splitlines()), KEYS),
-        (OLD[:-1], KEYS),
-        (lines(KEK, KEYS[:7]) + lines(NEW_KEK, KEYS[7:]), KEYS),
-        (lines(KEK, KEYS[:1]), KEYS[:1]),
-    ],
-    ids=["CRLF", "no end of the last line", "keys under both KEKs", "one key"],
-)
+@pytest.mark.parametrize("content, keys", [
+    ("".join(line + "\r\n" for line in OLD.splitlines()), KEYS), (OLD[:-1], KEYS),
+    (lines(KEK, KEYS[:7]) + lines(NEW_KEK, KEYS[7:]), KEYS), (lines(KEK, KEYS[:1]), KEYS[:1]),
+], ids=["CRLF", "no end of the last line", "keys under both KEKs", "one key"])
 def test_other_contents(rotation, content, keys):
     rotation.store.write_text(content)
     assert rotation().returncode == 0
     assert rotation.store.read_text() == lines(NEW_KEK, keys)
 
 
-@pytest.mark.parametrize(
-    "number, line, message",
-    [
-        (17, "00" * 40, "keywrap: line 17: integrity check failed"),
-        (40, "0g", "keywrap: input: line 40: "),
-        (5, "", "keywrap: line 5: bad length"),
-    ],
-)
+@pytest.mark.parametrize("number, line, message", [
+    (17, "00" * 40, "integrity check failed"), (40, "0g", "no hex digit"), (5, "", "bad length")])
 def test_a_refused_line_is_named(rotation, number, line, message):
-    content = OLD.splitlines()
-    content[number - 1] = line
-    content = "\n".join(content) + "\n"
-    rotation.store.write_text(content)
-    done = rotation()
-    assert done.returncode != 0
-    assert message.split(": line")[-1].split(" ")[1].rstrip(":") in done.stderr
-    assert f"line {number}" in done.stderr
-    assert rotation.store.read_text() == content
-    assert left_over(rotation) == []
+    content = OLD.splitlines(keepends=True)
+    content[number - 1] = line + "\n"
+    rotation.store.write_text("".join(content))
+    assert f"line {number}: {message}" in refused(rotation, "".join(content)).stderr
 
 
-def test_no_keys_and_no_file(rotation):
-    rotation.store.write_text("")
-    assert rotation().returncode != 0
-    assert rotation.store.read_text() == ""
-    rotation.store.unlink()
-    assert rotation().returncode != 0
-    assert not rotation.store.exists()
+@pytest.mark.parametrize("change, content", [
+    (": >keys.hex", ""), ("rm keys.hex", None), ("chmod 777 keys.hex; mv keys.hex real; ln -s real keys.hex", OLD),
+    ("ln keys.hex other", OLD), ("rm new-kek.hex", OLD), ("rm kek.hex", OLD),
+], ids=["empty", "missing", "a symbolic link", "a hard link", "no new KEK", "no KEK"])
+def test_what_is_no_store_or_has_no_kek(rotation, change, content):
+    subprocess.run(["sh", "-e", "-c", change], cwd=rotation.room.here, check=True)
+    refused(rotation, content)
 
 
-def test_keks(rotation):
-    rotation.room.write_keks(KEK, KEK)
-    done = rotation()
-    assert (done.returncode, done.stderr) == (2, "kek.hex and new-kek.hex are the same key\n")
-    for old, new in ((bytes(16), NEW_KEK), (bytes(16), bytes(32))):
-        rotation.room.write_keks(old, new)
-        assert rotation().returncode == 5
-    (rotation.room.here / "new-kek.hex").unlink()
-    assert rotation().returncode == 6
-    assert rotation.store.read_text() == OLD
-    assert left_over(rotation) == []
-
-
-ADDED = make_keys(2, 9)[1]
+@pytest.mark.parametrize("keks, status", [((KEK, KEK), 2), ((bytes(16), NEW_KEK), 5), ((bytes(16), bytes(32)), 5),
+                                          ((KEK, b""), 3)])
+def test_keks(rotation, keks, status):
+    rotation.room.write_keks(*keks)
+    done = refused(rotation)
+    assert done.returncode == status
+    assert (status == 2) == (done.stderr == "kek.hex and new-kek.hex are the same key\n")
 
 
 @pytest.mark.parametrize("at", ["3", "4"])
-@pytest.mark.parametrize(
-    "change",
-    [
-        f"echo {wrapped(KEK, ADDED)} >>keys.hex",
-        f"sed -i '2s/.*/{wrapped(KEK, ADDED)}/' keys.hex",
-        "sed -i 2d keys.hex",
-        f"exec 8<>keys.hex; echo {wrapped(KEK, ADDED)} >&8",
-    ],
-    ids=["appended", "changed", "removed", "changed in place"],
-)
+@pytest.mark.parametrize("change", [
+    f"echo {ADDED} >>keys.hex", f"sed -i '2s/.*/{ADDED}/' keys.hex", "sed -i 2d keys.hex",
+    f"exec 8<>keys.hex; echo {ADDED} >&8"], ids=["appended", "changed", "removed", "changed in place"])
 def test_a_change_meanwhile_is_kept(rotation, change, at):
     """The store is as the other process left it."""
-    fault = {"tool": "keywrap", "at": at, "how": "meanwhile", "meanwhile": change}
-    done = rotation(**fault)
-    assert done.returncode != 0
     expected = rotation.room.path / "expected"
     shutil.copytree(rotation.room.here, expected)
-    (expected / "keys.hex").write_text(OLD)
     subprocess.run(["bash", "-c", change], cwd=expected, check=True)
-    assert rotation.store.read_text() == (expected / "keys.hex").read_text() != OLD
-    assert left_over(rotation) == []
+    content = (expected / "keys.hex").read_text()
+    refused(rotation, content, tool="keywrap", at=at, how="meanwhile", meanwhile=change)
 
 
-@pytest.mark.skipif(os.geteuid() != 0, reason="not root")
+@only_root
 def test_owner_group_and_mode_are_kept(rotation):
     os.chown(rotation.store, 12, 34)
     rotation.store.chmod(0o640)
     assert rotation().returncode == 0
     after = rotation.store.stat()
     assert (after.st_uid, after.st_gid, stat.S_IMODE(after.st_mode)) == (12, 34, 0o640)
-    assert rotation.store.read_text() == NEW
 
 
-@pytest.mark.skipif(os.geteuid() != 0, reason="not root")
+@only_root
 def test_an_owner_that_cannot_be_kept_is_refused(rotation):
-    """Another user may write the directory, not own its files."""
-    rotation.store.chmod(0o644)
-    for path in (rotation.room.path, rotation.room.here):
-        path.chmod(0o777)
+    """Another user may write the directory, but does not own its files."""
     rotation.room.calls.write_text("")
-    rotation.room.calls.chmod(0o666)
-    parents = [path for path in rotation.room.path.parents if not os.stat(path).st_mode & 0o001]
-    for path in parents:
+    room = rotation.room
+    for path, mode in ((rotation.store, 0o644), (room.calls, 0o666), (room.path, 0o777), (room.here, 0o777)):
+        path.chmod(mode)
+    for path in [path for path in rotation.room.path.parents if not os.stat(path).st_mode & 0o001]:
         path.chmod(0o711)
-    done = rotation(prefix=["setpriv", "--reuid", "nobody", "--regid", "nogroup", "--clear-groups"])
-    assert done.returncode != 0
-    assert (rotation.store.read_text(), rotation.store.stat().st_uid) == (OLD, 0)
-    assert left_over(rotation) == []
-
-
-def test_links_are_refused(rotation):
-    real = rotation.room.here / "real"
-    rotation.store.chmod(0o777)  # as a symbolic link
-    rotation.store.rename(real)
-    rotation.store.symlink_to("real")
-    assert rotation().returncode != 0
-    assert rotation.store.is_symlink()
-    rotation.store.unlink()
-    os.link(real, rotation.store)
-    assert rotation().returncode != 0
-    assert real.read_text() == rotation.store.read_text() == OLD
+    refused(rotation, prefix=NOBODY)
+    assert rotation.store.stat().st_uid == 0
 
 
 def test_a_second_rotation_at_once_is_refused(rotation):
     with subprocess.Popen(["flock", rotation.store, "-c", "read _"], stdin=subprocess.PIPE) as other:
         while subprocess.run(["flock", "-n", rotation.store, "true"], check=False).returncode == 0:
             pass
-        done = rotation()
+        done = refused(rotation)
         assert (done.returncode, done.stderr.splitlines()[0]) == (1, "another rotation of keys.hex is running")
-        assert rotation.store.read_text() == OLD
         other.communicate(b"\n")
     assert rotation().returncode == 0
 
 
-def test_working_files_belong_to_their_owner(rotation):
-    """The new file has the mode of the old one from the start, and nothing else is left or readable."""
+def test_the_new_file_is_private_and_synced_before_it_replaces_the_old(rotation):
+    """It has the mode of the old one from the start."""
     rotation.store.chmod(0o600)
     fault = {"tool": "keywrap", "at": "4", "how": "meanwhile", "meanwhile": "stat -c '%a %n' .rotating.* >../modes"}
     assert rotation(**fault).returncode == 0
     assert {line.split()[0] for line in (rotation.room.path / "modes").read_text().splitlines()} == {"600"}
-
-
-def test_the_new_file_is_synced_before_it_replaces_the_old(rotation):
-    assert rotation().returncode == 0
     calls = [call.split(" ") for call in rotation.room.called() if call.split(" ")[0] in ("sync", "mv")]
     new = calls[0][1]
     assert new.startswith(".rotating.")
     assert calls == [["sync", new], ["mv", "-f", new, "keys.hex"], ["sync", "."]]
 
 
-# What GNU parallel would do by itself.
-
-only_parallel = pytest.mark.parametrize("rotation", ["lines_parallel.sh"], indirect=True)
-
-
 @only_parallel
-def test_options_of_the_user_are_not_added(rotation, tmp_path):
+def test_blocks_without_options_of_the_user(rotation, tmp_path):
     (tmp_path / ".parallel").mkdir()
     (tmp_path / ".parallel/config").write_text("--dry-run\n")
     done = rotation(PARALLEL="--tag", HOME=str(tmp_path))
-    assert (done.returncode, done.stderr) == (0, "")
-    assert rotation.store.read_text() == NEW
-
-
-@only_parallel
-def test_there_are_several_blocks(rotation):
-    assert rotation().returncode == 0
+    assert (done.returncode, done.stderr, rotation.store.read_text()) == (0, "", NEW)
     rewraps = [call for call in rotation.room.called() if call.startswith("keywrap rewrap")]
-    assert len(rewraps) >= 4
-    assert not any("--input" in call for call in rewraps)
+    assert (len(rewraps) >= 4, any("--input" in call for call in rewraps)) == (True, False)
 
 
 @only_parallel
 @pytest.mark.parametrize("how", ["fails", "is killed late", "is cut off"])
 def test_one_process_repeats_what_went_wrong_in_blocks(rotation, how):
     done = rotation(tool="keywrap", at="4", how=how)
-    assert (done.returncode, done.stderr) == (0, "not in blocks: one process begins again\n")
-    assert rotation.store.read_text() == NEW
+    assert (done.returncode, done.stderr, rotation.store.read_text()) == (
+        0, "not in blocks: one process begins again\n", NEW)
 
 
-def test_the_line_of_the_readme(tmp_path, pytestconfig):
+def test_the_lines_of_the_readme(tmp_path, pytestconfig):
     room = Room(tmp_path, pytestconfig.program)
     (room.here / "wrapped.hex").write_text(OLD)
-    readme = (SCRIPTS.parent.parent / "README.md").read_text()
-    section = readme.split("\n## Rotating a KEK\n")[1].split("\n## ")[0]
+    section = (SCRIPTS.parent.parent / "README.md").read_text().split("\n## Rotating a KEK\n")[1].split("\n## ")[0]
     typed = [line[4:] for line in section.splitlines() if line.startswith("    ")]
-    assert len(typed) == 2
     subprocess.run(["sh", "-e", "-c", "\n".join(typed)], cwd=room.here, env=room.environment(), check=True)
     assert (room.here / "rewrapped.hex").read_text() == NEW

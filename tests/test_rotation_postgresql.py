@@ -1,9 +1,9 @@
 """docs/rotation/postgresql.sh and postgresql_batches.sh, with a PostgreSQL server of their own and a live writer."""
 
+import contextlib
+import itertools
 import os
-import pathlib
 import random
-import shutil
 import signal
 import subprocess
 import threading
@@ -13,13 +13,13 @@ import pytest
 
 pytest.importorskip("cryptography", reason="no cryptography (apt-get install python3-cryptography)")
 
-from rotation_store import KEK, NEW_KEK, Room, Server, make_keys, rows, wrapped
+from rotation_store import KEK, NEW_KEK, Room, Server, make_keys, rows, server_programs, wrapped
 
-if shutil.which("psql") is None or not list(pathlib.Path("/usr/lib/postgresql").glob("*/bin/initdb")):
+if not server_programs():
     pytest.skip("no PostgreSQL server (apt-get install postgresql)", allow_module_level=True)
 
-KEYS = make_keys(60)
-ADDED = make_keys(2, 9)[1]
+KEYS, MANY, ADDED = make_keys(60), make_keys(1500, 3), make_keys(2, 9)[1]
+OLD, NEW = rows(KEK, KEYS), rows(NEW_KEK, KEYS)
 
 
 @pytest.fixture(scope="module")
@@ -42,22 +42,39 @@ def room(tmp_path, pytestconfig, table, monkeypatch):
     return Room(tmp_path, pytestconfig.program)
 
 
-def new_rows(keys=KEYS):
-    return rows(NEW_KEK, keys)
-
-
 def set_row(number, key, kek=KEK):
     return f"UPDATE keys SET key = '\\x{wrapped(kek, key)}' WHERE id = {number};"
 
 
-# One transaction.
+@contextlib.contextmanager
+def holding(table, statement):
+    """Another process with a transaction that has done this."""
+    process = subprocess.Popen(["psql", "-qAtX"], stdin=subprocess.PIPE, stdout=subprocess.PIPE, text=True,
+                               env={**os.environ, **table.environment})
+    process.stdin.write(f"BEGIN; {statement}; SELECT 'done';\n")
+    process.stdin.flush()
+    assert process.stdout.readline() == "done\n"
+    yield
+    process.communicate("COMMIT;\n", timeout=240)
 
 
-def test_one_transaction(room, table):
+def batches(room, *words, status=0, stderr="", script="postgresql_batches.sh", **more):
+    done = room.run(script, *words, **more)
+    assert (done.returncode, done.stdout) == (status, ""), (words, done.stderr)
+    assert stderr is None or done.stderr.endswith(stderr and stderr + "\n"), words
+
+
+def test_undisturbed_and_again(room, table):
     for _ in range(2):
-        done = room.run("postgresql.sh")
-        assert (done.returncode, done.stdout, done.stderr) == (0, "", "")
-        assert table.held() == new_rows()
+        for words in (["begin", "7"], ["work"], ["end"]):
+            batches(room, *words)
+        assert table.held() == NEW
+        assert table.sql("SELECT to_regclass('keys_rotation')") == "\n"
+    assert sorted(os.listdir(room.here)) == ["kek.hex", "new-kek.hex"]
+    table.fill(KEYS)
+    for _ in range(2):
+        batches(room, script="postgresql.sh")
+        assert table.held() == NEW
     assert {path.stat().st_mode & 0o777 for path in room.here.iterdir() if "kek" not in path.name} == {0o600}
 
 
@@ -68,14 +85,9 @@ def test_every_call_goes_wrong_in_turn(room, table):
         table.fill(KEYS)
         done = room.run("postgresql.sh", **fault)
         held = table.held()
-        assert held in (rows(KEK, KEYS), new_rows()), fault
-        assert done.returncode != 0 or held == new_rows(), fault
-        assert (room.run("postgresql.sh").returncode, table.held()) == (0, new_rows()), fault
-
-
-def test_the_disk_is_full(room, table):
-    done = room.run("postgresql.sh", prefix=["prlimit", "--fsize=2000"])
-    assert (done.returncode != 0, table.held()) == (True, rows(KEK, KEYS))
+        assert held in (OLD, NEW), fault
+        assert done.returncode != 0 or held == NEW, fault
+        assert (room.run("postgresql.sh").returncode, table.held()) == (0, NEW), fault
 
 
 def test_writers_wait_for_the_transaction(room, table):
@@ -85,174 +97,111 @@ def test_writers_wait_for_the_transaction(room, table):
         table.fill(KEYS)
         meanwhile = f'psql -qXc "{write}" 2>>../writer'.replace("\\", "\\\\")
         done = room.run("postgresql.sh", tool="keywrap", at=at, how="meanwhile", meanwhile=meanwhile)
-        assert (done.returncode, table.held()) == (0, new_rows())
+        assert (done.returncode, table.held()) == (0, NEW)
     assert (room.path / "writer").read_text().count("lock timeout") == 2
 
 
-def test_a_lock_of_another_process_ends_it(room, table):
+def test_a_lock_or_a_full_disk_ends_it(room, table):
     with holding(table, "LOCK TABLE keys IN SHARE MODE"):
-        began = time.monotonic()
-        done = room.run("postgresql.sh", changes=[("'10s'", "'1s'")])
-        assert (done.returncode, "lock timeout" in done.stderr) == (3, True)
-        assert 0.9 < time.monotonic() - began < 30
-    assert table.held() == rows(KEK, KEYS)
-
-
-class holding:
-    """Another process with a transaction that has done this."""
-
-    def __init__(self, table, statement):
-        self.statement, self.environment = statement, {**os.environ, **table.environment}
-
-    def __enter__(self):
-        self.process = subprocess.Popen(["psql", "-qAtX"], stdin=subprocess.PIPE, stdout=subprocess.PIPE, text=True,
-                                        env=self.environment)
-        self.process.stdin.write(f"BEGIN; {self.statement}; SELECT 'done';\n")
-        self.process.stdin.flush()
-        while self.process.stdout.readline() != "done\n":
-            pass
-        return self
-
-    def __exit__(self, *_):
-        self.process.communicate("COMMIT;\n", timeout=240)
+        assert "lock timeout" in room.run("postgresql.sh", changes=[("'10s'", "'1s'")]).stderr
+    assert room.run("postgresql.sh", prefix=["prlimit", "--fsize=2000"]).returncode != 0
+    assert table.held() == OLD
 
 
 def test_a_refused_row_is_found_by_its_line(room, table):
     table.sql(set_row(170, KEYS[3], bytes(16)))
     before = table.held()
-    done = room.run("postgresql.sh")
-    assert (done.returncode != 0, "line 17: integrity check failed" in done.stderr) == (True, True)
+    assert "line 17: integrity check failed" in room.run("postgresql.sh").stderr
     assert (room.here / "rows").read_text().splitlines()[16].split("\t") == ["170", before[170]]
     assert table.held() == before
-
-
-@pytest.mark.parametrize("script, words", [("postgresql.sh", []), ("postgresql_batches.sh", ["begin"])])
-def test_keks(room, table, script, words):
-    room.write_keks(KEK, KEK)
-    done = room.run(script, *words)
-    assert (done.returncode, done.stderr) == (2, "kek.hex and new-kek.hex are the same key\n")
-    (room.here / "new-kek.hex").unlink()
-    assert room.run(script, *words).returncode != 0
-    assert table.held() == rows(KEK, KEYS)
-
-
-# Batches.
-
-
-def batches(room, *words, **more):
-    return room.run("postgresql_batches.sh", *words, **more)
-
-
-def rotate_in_batches(room):
-    for words in (["begin", "7"], ["work"], ["end"]):
-        done = batches(room, *words)
-        assert (done.returncode, done.stdout, done.stderr) == (0, "", ""), words
-
-
-def test_batches_and_again(room, table):
-    for _ in range(2):
-        rotate_in_batches(room)
-        assert table.held() == new_rows()
-        assert table.sql("SELECT to_regclass('keys_rotation')") == "\n"
-    assert sorted(os.listdir(room.here)) == ["kek.hex", "new-kek.hex"]
 
 
 @pytest.mark.parametrize("command", ["work", "end"])
 def test_every_call_in_batches_goes_wrong_in_turn(room, table, command):
     """No key is lost. What ended with 0 is done, and it can be started again."""
-    before = [["begin", "30"], *([["work"]] if command == "end" else [])]
+    before = [["begin", "60"], *([["work"]] if command == "end" else [])]
     for words in [*before, [command]]:
-        assert batches(room, *words).returncode == 0
+        batches(room, *words)
     for fault in room.faults("keywrap", "psql", "cut", "sed", "paste"):
-        table.sql("DROP TABLE IF EXISTS keys_rotation")
         table.fill(KEYS)
         for words in before:
-            assert batches(room, *words).returncode == 0
-        done = batches(room, command, **fault)
+            batches(room, *words)
+        done = room.run("postgresql_batches.sh", command, **fault)
         held = table.held()
-        assert all(held[number] in (old, new_rows()[number]) for number, old in rows(KEK, KEYS).items()), fault
-        assert done.returncode != 0 or held == new_rows(), fault
+        assert all(held[number] in (old, NEW[number]) for number, old in OLD.items()), fault
+        assert done.returncode != 0 or held == NEW, fault
         if table.sql("SELECT to_regclass('keys_rotation')") == "keys_rotation\n":
             table.sql("UPDATE keys_rotation SET refused = false")
-            assert batches(room, "work").returncode == 0
-            assert batches(room, "end").returncode == 0
-        assert table.held() == new_rows(), fault
+            batches(room, "work")
+            batches(room, "end")
+        assert table.held() == NEW, fault
 
 
 def test_new_keys_are_checked_before_a_row_is_written(room, table):
     batches(room, "begin", "30")
-    for script, words in (("postgresql.sh", []), ("postgresql_batches.sh", ["work"])):
-        done = room.run(script, *words, how="copies")
-        assert done.returncode == 3, done.stderr
-        assert table.held() == rows(KEK, KEYS)
+    assert room.run("postgresql.sh", how="copies").returncode == 3
+    batches(room, "work", how="copies", status=3, stderr=None)
+    assert table.held() == OLD
 
 
-def test_a_command_is_needed(room, table):
+def test_the_order_of_the_commands(room, table):
     for words in ([], ["works"]):
-        done = batches(room, *words)
-        assert (done.returncode, done.stderr) == (2, "usage: postgresql_batches.sh begin [ROWS] | work | end\n")
-
-
-def test_work_needs_the_keks_of_the_beginning(room, table):
+        batches(room, *words, status=2, stderr="usage: postgresql_batches.sh begin [ROWS] | work | end")
     batches(room, "begin", "7")
-    for keks in ((KEK, bytes(32)), (bytes(16), NEW_KEK), (NEW_KEK, KEK)):
+    batches(room, "end", status=6, stderr="ranges are left: start work again")
+    batches(room, "begin", status=3, stderr=None)
+    assert table.held() == OLD
+
+
+def test_keks(room, table):
+    """Every machine needs those of the beginning."""
+    batches(room, "begin", "7")
+    for keks in (KEK, bytes(32)), (bytes(16), NEW_KEK), (NEW_KEK, KEK), (KEK, b""):
         room.write_keks(*keks)
-        for command in ("work", "end"):
-            assert batches(room, command).returncode == 6
-    assert table.held() == rows(KEK, KEYS)
-
-
-def test_end_needs_all_ranges(room, table):
-    batches(room, "begin", "7")
-    done = batches(room, "end")
-    assert (done.returncode, done.stderr) == (6, "ranges are left: start work again\n")
-    assert batches(room, "begin").returncode != 0
+        for command in "work", "end":
+            batches(room, command, status=6, stderr="other KEKs than those that the rotation began with")
+    table.sql("DROP TABLE keys_rotation")
+    room.write_keks(KEK, KEK)
+    for script, words in ("postgresql.sh", []), ("postgresql_batches.sh", ["begin"]):
+        batches(room, *words, script=script, status=2, stderr="kek.hex and new-kek.hex are the same key")
+    assert table.held() == OLD
 
 
 def test_refused_rows_are_named_and_the_others_rotated(room, table):
     table.sql(set_row(170, KEYS[3], bytes(16)) + "UPDATE keys SET key = '\\x00' WHERE id = 400;")
     before = table.held()
-    assert batches(room, "begin", "7").returncode == 0
-    assert batches(room, "work").returncode == 0
+    batches(room, "begin", "7")
     for _ in range(2):
-        done = batches(room, "end")
-        assert (done.returncode, done.stderr) == (5, "refused rows: 170 400\n")
-        assert table.held() == {**new_rows(), 170: before[170], 400: before[400]}
-        assert batches(room, "work").returncode == 0
+        batches(room, "work", stderr=None)
+        batches(room, "end", status=5, stderr="refused rows: 170 400")
+        assert table.held() == {**NEW, 170: before[170], 400: before[400]}
     table.sql(set_row(170, KEYS[16]) + set_row(400, KEYS[39], NEW_KEK))
+    batches(room, "work")
     batches(room, "end")
-    assert batches(room, "work").returncode == 0
-    assert batches(room, "end").returncode == 0
-    assert table.held() == new_rows()
+    assert table.held() == NEW
 
 
-def test_end_finds_a_row_under_another_kek(room, table):
+def test_end_checks_every_row(room, table):
     batches(room, "begin", "7")
     batches(room, "work")
     table.sql(set_row(170, KEYS[16]))
-    done = batches(room, "end")
-    assert (done.returncode, done.stderr.splitlines()[-1]) == (
-        5, "a row is under another KEK: DROP TABLE keys_rotation, then begin again")
-    table.sql("DROP TABLE keys_rotation")
-    rotate_in_batches(room)
-    assert table.held() == new_rows()
+    batches(room, "end", status=5, stderr="a row is under another KEK: DROP TABLE keys_rotation, then begin again")
+    assert table.held() == {**NEW, 170: OLD[170]}
 
 
 @pytest.mark.parametrize("statement, change", [
     (set_row(20, ADDED, NEW_KEK), {20: wrapped(NEW_KEK, ADDED)}),
     (f"INSERT INTO keys VALUES (25, '\\x{wrapped(NEW_KEK, ADDED)}');", {25: wrapped(NEW_KEK, ADDED)}),
-    ("DELETE FROM keys WHERE id = 20;", {20: None}),
-], ids=["changed", "added", "removed"])
+    ("DELETE FROM keys WHERE id = 20;", {20: None})], ids=["changed", "added", "removed"])
 def test_a_row_that_changes_meanwhile_is_kept(room, table, statement, change):
     """No lock is held while keys are rewrapped: the other process does not wait."""
     batches(room, "begin", "7")
     write = f"SET lock_timeout = '1ms'; {statement}".replace("\\", "\\\\")
-    meanwhile = f"[ ! -e {room.path}/done ] || exit 0; psql -qXc \"{write}\" && touch {room.path}/done"
-    done = batches(room, "work", tool="keywrap", at="3", how="meanwhile",
-                   meanwhile=meanwhile.replace(" || exit 0;", " || return 0;").replace("[ ! -e", "[ ! -e"))
-    assert done.returncode == 0, done.stderr
-    assert batches(room, "end").returncode == 0
-    assert table.held() == {number: key for number, key in {**new_rows(), **change}.items() if key is not None}
+    meanwhile = f'psql -qXc "{write}" && touch {room.path}/done'
+    batches(room, "work", tool="keywrap", at="3", how="meanwhile", meanwhile=meanwhile)
+    assert (room.path / "done").exists()
+    batches(room, "end")
+    assert table.held() == {number: key for number, key in {**NEW, **change}.items() if key is not None}
 
 
 def test_a_row_that_another_process_has_locked_is_rotated_later(room, table):
@@ -261,19 +210,14 @@ def test_a_row_that_another_process_has_locked_is_rotated_later(room, table):
         working = threading.Thread(target=batches, args=(room, "work"))
         working.start()
         until = time.monotonic() + 60
-        while len([1 for number, key in table.held().items() if key == new_rows()[number]]) < len(KEYS) - 2:
+        while sum(key == NEW[number] for number, key in table.held().items()) < len(KEYS) - 2:
             assert time.monotonic() < until
             time.sleep(0.05)
         assert working.is_alive()
     working.join(timeout=240)
     assert not working.is_alive()
-    assert batches(room, "end").returncode == 0
-    assert table.held() == new_rows()
-
-
-# Beside a live writer, killed and begun again.
-
-MANY = make_keys(1500, 3)
+    batches(room, "end")
+    assert table.held() == NEW
 
 
 class Writer(threading.Thread):
@@ -281,26 +225,16 @@ class Writer(threading.Thread):
 
     def __init__(self, table):
         super().__init__()
-        self.acknowledged, self.going, self.source = {}, True, random.Random(7)
-        self.environment = {**os.environ, **table.environment}
+        self.acknowledged, self.going, self.source, self.table = {}, True, random.Random(7), table
 
     def run(self):
-        with subprocess.Popen(["psql", "-qAtX", "-v", "ON_ERROR_STOP=1"], stdin=subprocess.PIPE,
-                              stdout=subprocess.PIPE, text=True, env=self.environment) as client:
-            fresh = 1_000_000
-            while self.going:
-                fresh += 1
-                written = {self.source.randint(1, len(MANY)) * 10: wrapped(NEW_KEK, self.source.randbytes(32))
-                           for _ in range(3)}
-                statements = [f"UPDATE keys SET key = '\\x{key}' WHERE id = {number};"
-                              for number, key in written.items()]
-                written[fresh] = wrapped(NEW_KEK, self.source.randbytes(32))
-                client.stdin.write(f"BEGIN; {' '.join(statements)} INSERT INTO keys VALUES ({fresh}, "
-                                   f"'\\x{written[fresh]}'); COMMIT; SELECT 'done';\n")
-                client.stdin.flush()
-                assert client.stdout.readline() == "done\n"
-                self.acknowledged.update(written)
-                time.sleep(0.002)
+        for fresh in itertools.takewhile(lambda _: self.going, itertools.count(1_000_000)):
+            written = {self.source.randint(1, len(MANY)) * 10: wrapped(NEW_KEK, self.source.randbytes(32))
+                       for _ in range(3)}
+            updates = [f"UPDATE keys SET key = '\\x{key}' WHERE id = {number};" for number, key in written.items()]
+            written[fresh] = wrapped(NEW_KEK, self.source.randbytes(32))
+            self.table.sql(f"BEGIN; {' '.join(updates)} INSERT INTO keys VALUES ({fresh}, '\\x{written[fresh]}'); COMMIT;")
+            self.acknowledged.update(written)
 
 
 @pytest.mark.parametrize("kills", [0, 3])
@@ -308,14 +242,13 @@ def test_beside_a_live_writer(room, server, kills):
     """Three workers, killed with all that they started and begun again. Every row is its old key, rewrapped, or what
     the writer last got acknowledged."""
     server.fill(MANY)
-    assert batches(room, "begin", "50").returncode == 0
+    batches(room, "begin", "50")
     writer = Writer(server)
     writer.start()
-    script = room.path / "postgresql_batches.sh"
-    command = ["bash", script, "work"]
-    here = {"cwd": room.here, "env": room.environment(), "stdin": subprocess.DEVNULL, "stderr": subprocess.PIPE}
+    command, environment = ["bash", room.path / "postgresql_batches.sh", "work"], room.environment()
     for kill in range(kills + 1):
-        workers = [subprocess.Popen(command, start_new_session=True, **here) for _ in range(3)]
+        workers = [subprocess.Popen(command, cwd=room.here, env=environment, start_new_session=True,
+                                    stderr=subprocess.PIPE) for _ in range(3)]
         if kill < kills:
             left = server.sql("SELECT count(*) FROM keys_rotation")
             while left != "0\n" and server.sql("SELECT count(*) FROM keys_rotation") == left:
@@ -326,7 +259,6 @@ def test_beside_a_live_writer(room, server, kills):
     writer.going = False
     writer.join(timeout=240)
     assert ends == [(b"", 0)] * 3
-    done = batches(room, "end")
-    assert (done.returncode, done.stderr) == (0, "")
+    batches(room, "end")
     assert len(writer.acknowledged) > 20
     assert server.held() == {**rows(NEW_KEK, MANY), **writer.acknowledged}
