@@ -1,0 +1,89 @@
+# shellcheck shell=bash disable=SC2034,SC2154
+# A small tree of this repository, and a fake rt, which proves nothing and records its calls. Sourced, it goes to the
+# tree, whose path holds a space, and whose rt is the first on the PATH.
+#
+# SH=PATH has another shell than /bin/sh run the launcher.
+
+# shellcheck source=tests/lib/room.sh
+. "${BASH_SOURCE[0]%/*}/room.sh"
+# shellcheck source=tests/lib/expect.sh
+. "$root/tests/lib/expect.sh"
+
+mkdir -p 'a tree'/{bin,tmp,tests/library} && cd 'a tree' || exit
+cp -R "$root"/{.ci,keywrap,Makefile,man,completions,include,scripts,python,docs,examples,provider,js} .
+cp "$root"/{SECURITY,CHANGELOG}.md .
+cp "$root/tests/library/build.sh" tests/library
+sed -i "1s|.*|#!${SH:-/bin/sh}|" keywrap
+# crates LINE..: crates.txt, and a folder for each crate that has none yet.
+crates() {
+    local crate
+    printf '%s\n' "$@" >crates.txt
+    for crate in "${@%%[: ]*}"; do
+        [ -d "crates/$crate" ] && continue
+        mkdir -p "crates/$crate"/{src,specs,proofs/part}
+        echo first | tee "crates/$crate"/{src/lib.rt,specs/Lib.antt,proofs/part/Answers.antt} >/dev/null
+    done
+}
+crates block_pair: 'aes_block: block_pair byteorder' 'keywrap_c staticlib: block_pair aes_block' \
+    'keywrap_wasm staticlib: block_pair aes_block' \
+    'keywrap: block_pair aes_block clap'
+echo 1.2.3-dev >VERSION
+program=crates/keywrap/out/keywrap archive=crates/keywrap_c/out/libkeywrap_c.a
+export tree=$PWD helpers=$root/tests/lib/expect.sh PATH=$PWD/bin:$PATH TMPDIR=$PWD/tmp TERM=xterm processors=4
+unset MAKEFLAGS MAKELEVEL TESTS KEYWRAP_ARCHIVES
+
+# The fake rt: in the crates that the pattern $at names it runs $event, with $launcher as the process above its make,
+# and it waits until the file $screen says that no other crate is being built. Each program and archive that it
+# builds is another. The program prints its caller and its arguments.
+install -m 755 /dev/stdin bin/rt <<'END_OF_RT'
+#!/bin/bash
+. "$helpers"
+crate=${PWD##*/}
+launcher=$(sed -n 's/^PPid:\t//p' /proc/$PPID/status)
+# begun N: N crates began.
+begun() {
+    local line count=0
+    while read -r line; do [[ $line != *': '* ]] || count=$((count + 1)); done <"$tree/notes"
+    [ $count -ge "$1" ]
+}
+trap 'echo "ended $crate" >>"$tree/notes"; exit 143' INT TERM
+echo "$crate: $*" >>"$tree/notes"
+echo "the first line of $crate"
+echo 'so far: 3 of 9 functions checked' >&2
+[ -z "${screen:-}" ] || until_true grep -q "at work: $crate (" "$screen"
+[[ ! $crate =~ ^(${at:-})$ ]] || eval "$event"
+install -D -m 755 /dev/stdin out/keywrap <<END_OF_PROGRAM
+#!/bin/sh
+echo "child of \$PPID, \$# words: \$*"
+[ "\$1" = --version ] || exit 5
+# $(date +%N)
+END_OF_PROGRAM
+cp out/keywrap "out/lib$crate.a"
+[ "$1" != ci ] || sed '$ s/$/ by the other compiler/' out/keywrap | install -m 755 /dev/stdin out/keywrap.by-rattle
+echo "ends $crate" >>"$tree/notes"
+END_OF_RT
+install -m 755 /dev/stdin bin/nproc <<'END_OF_NPROC'
+#!/bin/sh
+echo "$processors"
+END_OF_NPROC
+
+fresh() { rm -rf crates/*/out && : >notes; }
+# append FILE: makes it another.
+append() { echo other >>"$1"; }
+# noted NAME NOTE..: these are the notes, in this order.
+noted() { verdict "$1: what is built" "$(diff notes <([ $# = 1 ] || printf '%s\n' "${@:2}"))"; }
+# rebuilds COMMAND NOTE..: after each change that a line of its input makes, the command has this done, and
+# not a second time. The sources are old, as what comes out of an archive is.
+rebuilds() {
+    local change
+    while read -r change; do
+        eval "$change" >/dev/null 2>&1
+        find crates.txt include crates/*/{src,specs,proofs} -exec touch -d 2020-01-01 {} + 2>/dev/null
+        : >notes
+        row "$1, twice after $change" eval "$1 && echo again >>notes && $1"
+        noted "$1, twice after $change" "${@:2}" again
+    done
+}
+
+steps=('block_pair: lib --jobs 1' 'ends block_pair' 'aes_block: lib --jobs 2' 'ends aes_block'
+    'keywrap: run --backend rattle --jobs 4 -- --version' 'ends keywrap')
