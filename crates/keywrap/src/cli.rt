@@ -2,8 +2,7 @@
 
 use crate::command::{Command, LineOptions, Run};
 use key_wrap::{AgreedForm, Form, InitialValue};
-use keywrap_args::options::{self, Argument};
-use keywrap_args::{Args, Subcommand, parse};
+use keywrap_args::{Args, Subcommand, names, parse};
 use keywrap_cli::{
     Direction, IvFault, Job, Notation, Operation, ProgramFault, RewrapForms, Rewrapping, Task,
     parse_iv,
@@ -37,30 +36,34 @@ impl From<keywrap_args::Stop> for Stop {
 /// as a KEK file, `--iv`, `--new-iv`.
 pub fn read_command<'a>(alloc: Global, args: &'a [String]) -> Result<Command<'a>, Stop> {
     let args = parse(alloc, args)?;
+    command(&args)
+}
+
+fn command<'a>(args: &Args<'a>) -> Result<Command<'a>, Stop> {
     let operation = match args.subcommand {
-        Subcommand::Wrap => job(Job::Wrap, &args)?,
-        Subcommand::Unwrap => job(Job::Unwrap, &args)?,
-        Subcommand::Check => job(Job::Check, &args)?,
-        Subcommand::Rewrap => rewrap(&args)?,
-        Subcommand::Drill => return drill(&args),
+        Subcommand::Wrap => job(Job::Wrap, args)?,
+        Subcommand::Unwrap => job(Job::Unwrap, args)?,
+        Subcommand::Check => job(Job::Check, args)?,
+        Subcommand::Rewrap => rewrap(args)?,
+        Subcommand::Drill => return drill(args),
         Subcommand::Vectors => return Ok(Command::Vectors),
     };
     Ok(Command::Run(Run {
         operation,
-        input: args.file(options::INPUT),
-        output: args.file(options::OUTPUT),
-        lines: lines(&args),
-        verbose: args.has(options::VERBOSE),
+        input: args.file(names::INPUT),
+        output: args.file(names::OUTPUT),
+        lines: lines(args),
+        verbose: args.has(names::VERBOSE),
     }))
 }
 
 // A check tries both forms, whatever its task says.
 fn job<'a>(job: Job, args: &Args<'a>) -> Result<Operation<&'a str>, Stop> {
-    let kek = args.kek_file(options::KEK)?;
+    let kek = args.kek_file(names::KEK)?;
     let iv = iv(args)?;
     let task = Task {
         job,
-        form: form(args, options::PADDED),
+        form: form(args, names::PADDED),
         input: notation(args),
         kek: kek_notation(args),
     };
@@ -68,11 +71,11 @@ fn job<'a>(job: Job, args: &Args<'a>) -> Result<Operation<&'a str>, Stop> {
 }
 
 fn rewrap<'a>(args: &Args<'a>) -> Result<Operation<&'a str>, Stop> {
-    let kek = args.kek_file(options::KEK)?;
-    let new_kek = args.kek_file(options::NEW_KEK)?;
+    let kek = args.kek_file(names::KEK)?;
+    let new_kek = args.kek_file(names::NEW_KEK)?;
     let task = Rewrapping {
         forms: rewrap_forms(args)?,
-        pass_new: args.has(options::PASS_NEW),
+        pass_new: args.has(names::PASS_NEW),
         input: notation(args),
         kek: kek_notation(args),
     };
@@ -81,13 +84,13 @@ fn rewrap<'a>(args: &Args<'a>) -> Result<Operation<&'a str>, Stop> {
 
 // Clap refuses `--keep-form` with the arguments for one of the forms.
 fn rewrap_forms(args: &Args<'_>) -> Result<RewrapForms, Stop> {
-    if args.has(options::KEEP_FORM) {
+    if args.has(names::KEEP_FORM) {
         return Ok(RewrapForms::Kept);
     }
     let (iv, new_iv) = (iv(args)?, new_iv(args)?);
     Ok(RewrapForms::Changed {
-        old: agreed_form(form(args, options::PADDED), iv),
-        new: agreed_form(form(args, options::NEW_PADDED), new_iv),
+        old: agreed_form(form(args, names::PADDED), iv),
+        new: agreed_form(form(args, names::NEW_PADDED), new_iv),
     })
 }
 
@@ -99,19 +102,19 @@ fn agreed_form(form: Form, iv: InitialValue) -> AgreedForm {
 }
 
 fn drill<'a>(args: &Args<'a>) -> Result<Command<'a>, Stop> {
-    let direction = if args.has(options::UNWRAP) {
+    let direction = if args.has(names::UNWRAP) {
         Direction::Unwrap
     } else {
         Direction::Wrap
     };
     Ok(Command::Drill {
-        form: form(args, options::PADDED),
+        form: form(args, names::PADDED),
         direction,
-        hex: args.required(options::HEX)?,
+        hex: args.required(names::HEX)?,
     })
 }
 
-fn form(args: &Args<'_>, padded: Argument<'_>) -> Form {
+fn form(args: &Args<'_>, padded: &str) -> Form {
     if args.has(padded) {
         Form::Padded
     } else {
@@ -121,11 +124,11 @@ fn form(args: &Args<'_>, padded: Argument<'_>) -> Form {
 
 // Clap refuses two of these flags.
 fn notation(args: &Args<'_>) -> Notation {
-    if args.has(options::RAW) {
+    if args.has(names::RAW) {
         Notation::Raw
-    } else if args.has(options::BASE64) {
+    } else if args.has(names::BASE64) {
         Notation::Base64
-    } else if args.has(options::BASE64URL) {
+    } else if args.has(names::BASE64URL) {
         Notation::Base64Url
     } else {
         Notation::Hex
@@ -134,9 +137,9 @@ fn notation(args: &Args<'_>) -> Notation {
 
 // Clap refuses both flags together. A KEK is only read, and either alphabet of base64 is read.
 fn kek_notation(args: &Args<'_>) -> Notation {
-    if args.has(options::RAW_KEK) {
+    if args.has(names::RAW_KEK) {
         Notation::Raw
-    } else if args.has(options::BASE64_KEK) {
+    } else if args.has(names::BASE64_KEK) {
         Notation::Base64
     } else {
         Notation::Hex
@@ -145,30 +148,30 @@ fn kek_notation(args: &Args<'_>) -> Notation {
 
 // Clap refuses the other two flags without `--lines`.
 fn lines(args: &Args<'_>) -> Option<LineOptions> {
-    if !args.has(options::LINES) {
+    if !args.has(names::LINES) {
         return None;
     }
     Some(LineOptions {
-        keep_going: args.has(options::KEEP_GOING),
-        quiet: args.has(options::QUIET),
+        keep_going: args.has(names::KEEP_GOING),
+        quiet: args.has(names::QUIET),
     })
 }
 
 fn iv(args: &Args<'_>) -> Result<InitialValue, Stop> {
-    match initial_value(args, options::IV) {
+    match initial_value(args, names::IV) {
         Ok(iv) => Ok(iv),
         Err(fault) => Err(Stop::Fault(ProgramFault::Iv(fault))),
     }
 }
 
 fn new_iv(args: &Args<'_>) -> Result<InitialValue, Stop> {
-    match initial_value(args, options::NEW_IV) {
+    match initial_value(args, names::NEW_IV) {
         Ok(iv) => Ok(iv),
         Err(fault) => Err(Stop::Fault(ProgramFault::NewIv(fault))),
     }
 }
 
-fn initial_value(args: &Args<'_>, option: Argument<'_>) -> Result<InitialValue, IvFault> {
+fn initial_value(args: &Args<'_>, option: &str) -> Result<InitialValue, IvFault> {
     match args.value(option) {
         Some(digits) => parse_iv(digits),
         None => Ok(InitialValue::default()),

@@ -5,7 +5,8 @@
 mod escape;
 mod help;
 mod hints;
-pub mod options;
+pub mod names;
+mod options;
 mod parser;
 mod subcommands;
 

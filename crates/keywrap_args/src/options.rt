@@ -1,14 +1,14 @@
-//! The arguments of the subcommands. A constant names each; its help says what it does.
+//! The definitions of the arguments, as clap takes them and the help shows them.
 
-use crate::help;
+use crate::{help, names};
 use clap::{Arg, ArgAction};
 use std::alloc::{AllocError, Global};
 
-/// An argument of a subcommand.
+// An argument of a subcommand.
 #[derive(Clone, Copy)]
-pub struct Argument<'a> {
-    /// The long name, or for a positional argument any name.
-    pub id: &'a str,
+pub(crate) struct Argument<'a> {
+    // The long name, or for a positional argument any name.
+    id: &'a str,
     value: Value<'a>,
     short: Option<char>,
     help: &'a str,
@@ -32,8 +32,8 @@ enum Value<'a> {
 }
 
 impl<'a> Argument<'a> {
-    /// Returns the argument as clap takes it.
-    pub fn to_clap(self, alloc: Global) -> Result<Arg<'a>, AllocError> {
+    // Returns the argument as clap takes it.
+    pub(crate) fn to_clap(self, alloc: Global) -> Result<Arg<'a>, AllocError> {
         let mut arg = Arg::new(alloc, self.id)
             .help(self.help)
             .long_help(self.long_help.unwrap_or(self.help))
@@ -68,124 +68,126 @@ const FLAG: Argument<'static> = Argument {
     needs: &[],
 };
 
-pub const KEK: Argument<'static> = argument! {
-    "kek", "The file of the KEK: 16, 24 or 32 bytes, in hex", value: Value::Required("FILE")
+pub(crate) const KEK: Argument<'static> = argument! {
+    names::KEK, "The file of the KEK: 16, 24 or 32 bytes, in hex", value: Value::Required("FILE")
 };
 
-pub const NEW_KEK: Argument<'static> = argument! {
-    "new-kek", "The file of the KEK of the new wrapped key, in hex", value: Value::Required("FILE")
+pub(crate) const NEW_KEK: Argument<'static> = argument! {
+    names::NEW_KEK, "The file of the KEK of the new wrapped key, in hex",
+    value: Value::Required("FILE")
 };
 
-pub const INPUT: Argument<'static> = argument! {
-    "input", "Reads FILE instead of standard input (-)",
+pub(crate) const INPUT: Argument<'static> = argument! {
+    names::INPUT, "Reads FILE instead of standard input (-)",
     short: Some('i'), value: Value::Optional("FILE")
 };
 
-pub const OUTPUT: Argument<'static> = argument! {
-    "output", "Writes FILE instead of standard output (-)",
+pub(crate) const OUTPUT: Argument<'static> = argument! {
+    names::OUTPUT, "Writes FILE instead of standard output (-)",
     short: Some('o'), value: Value::Optional("FILE"), long_help: Some(help::OUTPUT)
 };
 
-pub const PADDED: Argument<'static> = argument! {
-    "padded", "The padded form of RFC 5649 (KWP), for keys of any length"
+pub(crate) const PADDED: Argument<'static> = argument! {
+    names::PADDED, "The padded form of RFC 5649 (KWP), for keys of any length"
 };
 
-pub const NEW_PADDED: Argument<'static> = argument! {
-    "new-padded", "The new one gets the padded form of RFC 5649"
+pub(crate) const NEW_PADDED: Argument<'static> = argument! {
+    names::NEW_PADDED, "The new one gets the padded form of RFC 5649"
 };
 
-pub const KEEP_FORM: Argument<'static> = argument! {
-    "keep-form", "Takes either form, and the new wrapped key keeps it",
-    long_help: Some(help::KEEP_FORM), conflicts: &["padded", "new-padded"]
+pub(crate) const KEEP_FORM: Argument<'static> = argument! {
+    names::KEEP_FORM, "Takes either form, and the new wrapped key keeps it",
+    long_help: Some(help::KEEP_FORM), conflicts: &[names::PADDED, names::NEW_PADDED]
 };
 
-pub const PASS_NEW: Argument<'static> = argument! {
-    "pass-new", "Copies a wrapped key that is already under the new KEK",
+pub(crate) const PASS_NEW: Argument<'static> = argument! {
+    names::PASS_NEW, "Copies a wrapped key that is already under the new KEK",
     long_help: Some(help::PASS_NEW)
 };
 
 // The padded form has its own initial value. Clap ignores the arguments that a subcommand lacks.
-pub const IV: Argument<'static> = argument! {
-    "iv", "The initial value that both ends agreed on, 16 hex digits",
-    value: Value::Optional("HEX"), conflicts: &["padded", "keep-form"]
+pub(crate) const IV: Argument<'static> = argument! {
+    names::IV, "The initial value that both ends agreed on, 16 hex digits",
+    value: Value::Optional("HEX"), conflicts: &[names::PADDED, names::KEEP_FORM]
 };
 
-pub const NEW_IV: Argument<'static> = argument! {
-    "new-iv", "The initial value of the new one, if not the default",
-    value: Value::Optional("HEX"), conflicts: &["new-padded", "keep-form"]
+pub(crate) const NEW_IV: Argument<'static> = argument! {
+    names::NEW_IV, "The initial value of the new one, if not the default",
+    value: Value::Optional("HEX"), conflicts: &[names::NEW_PADDED, names::KEEP_FORM]
 };
 
-pub const RAW: Argument<'static> = argument! {
-    "raw", "Raw bytes instead of hex; every byte counts"
+pub(crate) const RAW: Argument<'static> = argument! {
+    names::RAW, "Raw bytes instead of hex; every byte counts"
 };
 
-pub const BASE64URL: Argument<'static> = argument! {
-    "base64url", "Base64url instead of hex",
-    long_help: Some(help::BASE64URL), conflicts: &["raw"]
+pub(crate) const BASE64URL: Argument<'static> = argument! {
+    names::BASE64URL, "Base64url instead of hex",
+    long_help: Some(help::BASE64URL), conflicts: &[names::RAW]
 };
 
 // Both alphabets are read. The flag selects the alphabet that is written.
-pub const BASE64: Argument<'static> = argument! {
-    "base64", "Base64 instead of hex",
-    long_help: Some(help::BASE64), conflicts: &["raw", "base64url"]
+pub(crate) const BASE64: Argument<'static> = argument! {
+    names::BASE64, "Base64 instead of hex",
+    long_help: Some(help::BASE64), conflicts: &[names::RAW, names::BASE64URL]
 };
 
-pub const RAW_KEK: Argument<'static> = argument! {
-    "raw-kek", "KEK files are raw bytes, not hex; every byte counts"
+pub(crate) const RAW_KEK: Argument<'static> = argument! {
+    names::RAW_KEK, "KEK files are raw bytes, not hex; every byte counts"
 };
 
-pub const BASE64_KEK: Argument<'static> = argument! {
-    "base64-kek", "KEK files are base64 or base64url, not hex", conflicts: &["raw-kek"]
+pub(crate) const BASE64_KEK: Argument<'static> = argument! {
+    names::BASE64_KEK, "KEK files are base64 or base64url, not hex", conflicts: &[names::RAW_KEK]
 };
 
 // Raw bytes have no lines. What needs `--lines` excludes `--raw` too, because clap waives a need if
 // another argument excludes what is needed.
-pub const LINES: Argument<'static> = argument! {
-    "lines", "Many keys, one per line: each is answered on its line",
-    long_help: Some(help::LINES), conflicts: &["raw"]
+pub(crate) const LINES: Argument<'static> = argument! {
+    names::LINES, "Many keys, one per line: each is answered on its line",
+    long_help: Some(help::LINES), conflicts: &[names::RAW]
 };
 
-pub const KEEP_GOING: Argument<'static> = argument! {
-    "keep-going", "With --lines: writes an empty line for a refused one",
-    long_help: Some(help::KEEP_GOING), conflicts: &["raw"], needs: &["lines"]
+pub(crate) const KEEP_GOING: Argument<'static> = argument! {
+    names::KEEP_GOING, "With --lines: writes an empty line for a refused one",
+    long_help: Some(help::KEEP_GOING), conflicts: &[names::RAW], needs: &[names::LINES]
 };
 
-pub const QUIET: Argument<'static> = argument! {
-    "quiet", "With --lines: no progress on a terminal", conflicts: &["raw"], needs: &["lines"]
+pub(crate) const QUIET: Argument<'static> = argument! {
+    names::QUIET, "With --lines: no progress on a terminal",
+    conflicts: &[names::RAW], needs: &[names::LINES]
 };
 
-pub const VERBOSE: Argument<'static> = argument! {
-    "verbose", "Prints reasons and warnings, as on a terminal"
+pub(crate) const VERBOSE: Argument<'static> = argument! {
+    names::VERBOSE, "Prints reasons and warnings, as on a terminal"
 };
 
-pub const HEX: Argument<'static> = argument! {
-    "hex", "The key or the wrapped key, in hex", value: Value::Positional("HEX")
+pub(crate) const HEX: Argument<'static> = argument! {
+    names::HEX, "The key or the wrapped key, in hex", value: Value::Positional("HEX")
 };
 
-pub const UNWRAP: Argument<'static> = argument! {
-    "unwrap", "Unwraps a wrapped key instead of wrapping a key"
+pub(crate) const UNWRAP: Argument<'static> = argument! {
+    names::UNWRAP, "Unwraps a wrapped key instead of wrapping a key"
 };
 
 // A check writes no base64, so its help does not say which alphabet is written.
-pub const READ_BASE64: Argument<'static> = Argument {
+pub(crate) const READ_BASE64: Argument<'static> = Argument {
     long_help: None,
     ..BASE64
 };
 
-pub const READ_BASE64URL: Argument<'static> = Argument {
+pub(crate) const READ_BASE64URL: Argument<'static> = Argument {
     help: "The same as --base64: either alphabet is read",
     long_help: None,
     ..BASE64URL
 };
 
 // Rewrap's text for `--padded`.
-pub const OLD_PADDED: Argument<'static> = Argument {
+pub(crate) const OLD_PADDED: Argument<'static> = Argument {
     help: "The old wrapped key has the padded form of RFC 5649",
     ..PADDED
 };
 
 // Rewrap's text for `--iv`.
-pub const OLD_IV: Argument<'static> = Argument {
+pub(crate) const OLD_IV: Argument<'static> = Argument {
     help: "The initial value of the old wrapped key, 16 hex digits",
     ..IV
 };

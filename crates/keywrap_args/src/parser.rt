@@ -1,7 +1,6 @@
 //! Parses the arguments with clap.
 
 use crate::hints::message;
-use crate::options::Argument;
 use crate::subcommands::{Subcommand, keywrap, matches_of, subcommand_named};
 use clap::error::ErrorKind;
 use clap::{ArgMatches, Error};
@@ -61,19 +60,19 @@ pub fn invalid_utf8(alloc: Global) -> Stop {
 
 impl<'a> Args<'a> {
     /// Returns whether a flag is given.
-    pub fn has(&self, flag: Argument<'_>) -> bool {
-        self.matches.get_flag(flag.id)
+    pub fn has(&self, flag: &str) -> bool {
+        self.matches.get_flag(flag)
     }
 
     /// Returns the value of an argument, if it is given.
-    pub fn value(&self, argument: Argument<'_>) -> Option<&'a str> {
-        self.matches.get_str(argument.id)
+    pub fn value(&self, name: &str) -> Option<&'a str> {
+        self.matches.get_str(name)
     }
 
     /// Returns the value of a required argument. Clap has refused arguments without it.
-    pub fn required(&self, argument: Argument<'_>) -> Result<&'a str, Stop> {
+    pub fn required(&self, name: &str) -> Result<&'a str, Stop> {
         let kind = ErrorKind::MissingRequiredArgument;
-        match self.value(argument) {
+        match self.value(name) {
             Some(value) => Ok(value),
             None => Err(refused(self.alloc, kind, "a required argument was not provided")),
         }
@@ -81,7 +80,7 @@ impl<'a> Args<'a> {
 
     /// Returns the file of an option, or `None` for the standard stream: the option is not given,
     /// or its value is `-`.
-    pub fn file(&self, option: Argument<'_>) -> Option<&'a str> {
+    pub fn file(&self, option: &str) -> Option<&'a str> {
         match self.value(option) {
             Some("-") | None => None,
             name => name,
@@ -90,15 +89,14 @@ impl<'a> Args<'a> {
 
     /// Returns the KEK file of an option. `-` is rejected: elsewhere it means standard input, here
     /// it would be a file name.
-    pub fn kek_file(&self, option: Argument<'_>) -> Result<&'a str, Stop> {
+    pub fn kek_file(&self, option: &str) -> Result<&'a str, Stop> {
         let name = self.required(option)?;
         if name != "-" {
             return Ok(name);
         }
-        let id = option.id;
         let said = format!(in self.alloc;
-            "invalid value '-' for '--{id} <FILE>'\n\n  tip: a KEK on standard input is \
-             --{id} /dev/stdin; a file of this name is ./-"
+            "invalid value '-' for '--{option} <FILE>'\n\n  tip: a KEK on standard input is \
+             --{option} /dev/stdin; a file of this name is ./-"
         )?;
         Err(refused(self.alloc, ErrorKind::InvalidValue, said.as_str()))
     }
