@@ -3,9 +3,9 @@
 use crate::command::Run;
 use crate::host::Host;
 use crate::prompt::is_typed;
-use key_lines::{RefusalLog, RefusedLine, RunFault, RunOptions, RunSummary, TextNotation};
+use key_lines::{RefusalLog, RefusedLine, RunFault, RunSummary};
 use key_wrap::InPlaceFault;
-use keywrap_cli::{Done, Job, Notation, Operation, ProgramFault, statuses};
+use keywrap_cli::{Done, Job, Operation, ProgramFault, statuses};
 use keywrap_io::{CountingReader, FileRole, InputSource, Inspected, LineCounts, Progress, Streams};
 use std::fs::OpenFile;
 use std::io::{BufReader, Read, Write};
@@ -71,11 +71,7 @@ impl LineRun {
         let mut log = RefusedLines {
             progress: &progress,
         };
-        let options = RunOptions {
-            notation: notation_of(operation),
-            keep_going: self.keep_going,
-        };
-        let run = operation.run_lines(rt.alloc(), options, &mut log, &mut reader, out);
+        let run = operation.run_lines(rt.alloc(), self.keep_going, &mut log, &mut reader, out);
         progress.clear();
         let summary = match run {
             Ok(Ok(summary)) if summary.lines == 0 => return Err(ProgramFault::NoLines),
@@ -102,15 +98,6 @@ fn lines_status<K>(operation: &Operation<K>, summary: &RunSummary<InPlaceFault>)
     match operation.job() {
         Some(Job::Check) if summary.marked > 0 => statuses::FAILED,
         _ => statuses::DONE,
-    }
-}
-
-// Returns the notation of the lines. --lines and --raw exclude each other.
-fn notation_of<K>(operation: &Operation<K>) -> TextNotation {
-    match operation.input_notation() {
-        Notation::Raw | Notation::Hex => TextNotation::Hex,
-        Notation::Base64 => TextNotation::Base64,
-        Notation::Base64Url => TextNotation::Base64Url,
     }
 }
 

@@ -1,10 +1,11 @@
 -- What the two kinds of job answer to bytes, an input's or a line's: a task under a KEK, and a rewrapping under two. An
 -- output is in the notation of the input. The plain form has the initial value `iv`.
-use Rattle.std.specs.Prelude.{◌≡◌, ⊤, ℕ, List, [], ◌∷◌, ◌++◌, length, codes, Result, Ok, Err}
+use Rattle.std.specs.Prelude.{◌≡◌, ⊤, Bool, ℕ, List, [], ◌∷◌, ◌++◌, length, codes, Result, Ok, Err}
 use Rattle.std.specs.Fmt.{decimal}
 use Rattle.key_lines.specs.Answers.{Answer}
 use Rattle.key_lines.specs.declared.job.Mark.{Mark}
 use Rattle.key_lines.specs.declared.job.Mark.TheVariants.{Unmarked, Marked}
+use Rattle.key_lines.specs.declared.run.RunOptions.{RunOptions}
 use Rattle.key_lines.specs.declared.text.TextNotation.{TextNotation}
 use Rattle.key_wrap.specs.Answer.{NoKey}
 use Rattle.key_wrap.specs.Forms.{Stands}
@@ -15,7 +16,7 @@ use Rattle.key_wrap.specs.declared.forms.Form.{Form}
 use Rattle.key_wrap.specs.declared.forms.Kind.{Kind}
 use Rattle.key_wrap.specs.declared.forms.Kind.TheVariants as kinds
 use Rattle.keywrap_cli.specs.Conversion.{HasNoAnswer, IsAnswer, IsInputLength, IsKeyOf, IsTextOf}
-use Rattle.keywrap_cli.specs.Files.{line_notation, printed}
+use Rattle.keywrap_cli.specs.Files.{line_notation, printed, text_notation}
 use Rattle.keywrap_cli.specs.Forms.{Makes, MakesMarked}
 use Rattle.keywrap_cli.specs.declared.convert.Direction.{Direction}
 use Rattle.keywrap_cli.specs.declared.convert.Direction.TheVariants as directions
@@ -23,6 +24,7 @@ use Rattle.keywrap_cli.specs.declared.job.Done.{Done}
 use Rattle.keywrap_cli.specs.declared.job.Done.TheVariants.{Written, Neither}
 use Rattle.keywrap_cli.specs.declared.job.Job.{Job}
 use Rattle.keywrap_cli.specs.declared.job.Job.TheVariants.{Wrap, Unwrap, Check}
+use Rattle.keywrap_cli.specs.declared.job.Notation.{Notation}
 use Rattle.keywrap_cli.specs.declared.job.Task.{Task}
 use Rattle.keywrap_cli.specs.declared.rewrapping.Rewrapping.{Rewrapping}
 
@@ -72,6 +74,10 @@ AnswerOfJob job iv task E X (Err Integrity) = HasNoKey job task.form iv E X
 -- what the job of the task answers to the bytes X
 abbrev pub JobAnswer : ℕ → Task → (List ℕ → List ℕ) → List ℕ → Result Answer InPlaceFault → Type 0
 JobAnswer iv task E X answer = AnswerOfJob task.job iv task E X answer
+
+-- how a run over lines reads an input in this notation
+abbrev pub line_options : Notation → Bool → RunOptions
+line_options notation keep_going = record { notation = text_notation notation; keep_going = keep_going }
 
 -- the task with its input and output as lines in this notation
 abbrev pub in_lines : TextNotation → Task → Task

@@ -1,11 +1,11 @@
 -- What is done with an input, once the KEK files are open: what the call says that does it, of its fields. `known` is what
 -- is known of a KEK file.
-use Rattle.std.specs.Prelude.{◌≡◌, ℕ, List, Option, Result}
+use Rattle.std.specs.Prelude.{◌≡◌, Bool, ℕ, List, Option, Result}
 use Rattle.key_lines.specs.declared.fault.RefusedLine.{RefusedLine}
 use Rattle.key_lines.specs.declared.fault.RunFault.{RunFault}
-use Rattle.key_lines.specs.declared.run.RunOptions.{RunOptions}
 use Rattle.key_lines.specs.declared.summary.RunSummary.{RunSummary}
 use Rattle.key_wrap.specs.declared.faults.InPlaceFault.{InPlaceFault}
+use Rattle.keywrap_cli.specs.Answers.{line_options}
 use Rattle.keywrap_cli.specs.Job.{RunsJobWith, WritesTheAnswer}
 use Rattle.keywrap_cli.specs.Lines.{RunsJobLines, RunsRewrapLines, WritesJobLines, WritesRewrapLines}
 use Rattle.keywrap_cli.specs.Rewrapping.{RunsRewrap, WritesTheNewText}
@@ -39,20 +39,20 @@ IsSameTask (Rewrap task kek new) (Rewrap task' kek' new') = task' ≡ task
 IsSameTask old new = ⊥
 
 -- the same line by line
-abbrev pub RunsOperationLines : {K : Type 0} → (K → Option (List ℕ)) → RunOptions → Operation K → Operation K → Option (List ℕ)
+abbrev pub RunsOperationLines : {K : Type 0} → (K → Option (List ℕ)) → Bool → Operation K → Operation K → Option (List ℕ)
     → Option (List ℕ) → Option (List ℕ) → Option (List ℕ) → Option (List (RefusedLine InPlaceFault)) → Option (List (RefusedLine InPlaceFault))
     → Result (Result (RunSummary InPlaceFault) (RunFault InPlaceFault)) JobFault → Type 0
-RunsOperationLines known options (Job iv task kek) (Job iv' task' kek') input input' out out' log log' answer =
-    RunsJobLines iv task options (known kek) (known kek') input input' out out' log log' answer
-RunsOperationLines known options (Rewrap task kek new) (Rewrap task' kek' new') input input' out out' log log' answer =
-    RunsRewrapLines task options (known kek) (known kek') (known new) (known new') input input' out out' log log' answer
-RunsOperationLines known options old new input input' out out' log log' answer = ⊥
+RunsOperationLines known keep_going (Job iv task kek) (Job iv' task' kek') input input' out out' log log' answer =
+    RunsJobLines iv task (line_options task.input keep_going) (known kek) (known kek') input input' out out' log log' answer
+RunsOperationLines known keep_going (Rewrap task kek new) (Rewrap task' kek' new') input input' out out' log log' answer =
+    RunsRewrapLines task (line_options task.input keep_going) (known kek) (known kek') (known new) (known new') input input' out out' log log' answer
+RunsOperationLines known keep_going old new input input' out out' log log' answer = ⊥
 
 -- the headline of lines, for an input of these bytes
-abbrev pub WritesTheLinesOf : {K : Type 0} → (K → Option (List ℕ)) → RunOptions → Operation K → Operation K → List ℕ → Option (List ℕ)
+abbrev pub WritesTheLinesOf : {K : Type 0} → (K → Option (List ℕ)) → Bool → Operation K → Operation K → List ℕ → Option (List ℕ)
     → Option (List ℕ) → Result (RunSummary InPlaceFault) (RunFault InPlaceFault) → Type 0
-WritesTheLinesOf known options (Job iv task kek) (Job iv' task' kek') text out out' run =
-    WritesJobLines iv task options (known kek) (known kek') text out out' run
-WritesTheLinesOf known options (Rewrap task kek new) (Rewrap task' kek' new') text out out' run =
-    WritesRewrapLines task options (known kek) (known kek') (known new) (known new') text out out' run
-WritesTheLinesOf known options old new text out out' run = ⊥
+WritesTheLinesOf known keep_going (Job iv task kek) (Job iv' task' kek') text out out' run =
+    WritesJobLines iv task (line_options task.input keep_going) (known kek) (known kek') text out out' run
+WritesTheLinesOf known keep_going (Rewrap task kek new) (Rewrap task' kek' new') text out out' run =
+    WritesRewrapLines task (line_options task.input keep_going) (known kek) (known kek') (known new) (known new') text out out' run
+WritesTheLinesOf known keep_going old new text out out' run = ⊥

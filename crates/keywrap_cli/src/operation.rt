@@ -7,11 +7,11 @@ ghost use Rattle.keywrap_cli.specs.Operation.{WritesTheAnswerOf, WritesTheLinesO
 use crate::job::{Done, Job, JobFault, Notation, Task, run};
 use crate::kek_file::{KekRole, read_kek};
 use crate::key_job::KeyJob;
-use crate::lines::{in_lines, lines_of};
+use crate::lines::{in_lines, line_options, lines_of};
 use crate::rewrap::rewrap;
 use crate::rewrap_job::RewrapJob;
 use crate::rewrapping::{RewrapForms, Rewrapping};
-use key_lines::{LineRun, LineSource, RefusalLog, RunFault, RunOptions, RunSummary};
+use key_lines::{LineRun, LineSource, RefusalLog, RunFault, RunSummary};
 use key_wrap::{AgreedForm, InPlaceFault, InitialValue};
 use std::alloc::Global;
 use std::io::{Read, Write};
@@ -34,6 +34,13 @@ pub enum Operation<K> {
 }
 
 impl<K> Operation<K> {
+    /// Returns the KEK.
+    pub fn kek(&self) -> &K {
+        match self {
+            Operation::Job { kek, .. } | Operation::Rewrap { kek, .. } => kek,
+        }
+    }
+
     /// Returns the new KEK of a rewrap.
     pub fn new_kek(&self) -> Option<&K> {
         match self {
@@ -138,20 +145,20 @@ impl<K: Read> Operation<K> {
         }
     }
 
-    /// Answers each line of the input on a line of the output, as [`LineRun::run`] says. The
-    /// notation of the input is that of the options.
+    /// Answers each line of the input on a line of the output, as [`LineRun::run`] says. Lines of a
+    /// raw input are read as hex. With `keep_going` the run continues after a refused line.
     ///
     /// The first `Err` is the fault of a KEK file: then nothing was read of the input, and nothing
     /// written. In the summary, the `none` of a check and what a rewrap passed are marked.
     pub fn run_lines<L: RefusalLog<InPlaceFault>, I: LineSource, W: Write>(
         &mut self,
         alloc: Global,
-        options: RunOptions,
+        keep_going: bool,
         log: &mut L,
         input: &mut I,
         out: &mut W,
     ) -> Result<Result<RunSummary<InPlaceFault>, RunFault<InPlaceFault>>, JobFault>
-        ensures run { RunsOperationLines K.remaining options self.old self.new
+        ensures run { RunsOperationLines K.remaining keep_going self.old self.new
             (I.remaining input.old) (I.remaining input.new)
             (W.contents out.old) (W.contents out.new)
             (L.received log.old) (L.received log.new) result }
@@ -159,7 +166,7 @@ impl<K: Read> Operation<K> {
         // What was written are the answers to the first lines, in order, each under the KEKs that
         // the KEK files denote.
         ensures headline { IfOk result (λ run. IfSome (I.remaining input.old) (λ text.
-            WritesTheLinesOf K.remaining options self.old self.new text
+            WritesTheLinesOf K.remaining keep_going self.old self.new text
             (W.contents out.old) (W.contents out.new) run)) }
         ensures same_task { IsSameTask self.old self.new }
     {
@@ -169,6 +176,7 @@ impl<K: Read> Operation<K> {
                     Ok(pair) => pair,
                     Err(fault) => return Err(fault),
                 };
+                let options = line_options(task.input, keep_going);
                 let job = KeyJob {
                     alloc,
                     iv: *iv,
@@ -186,6 +194,7 @@ impl<K: Read> Operation<K> {
                     Ok(new) => new,
                     Err(fault) => return Err(fault),
                 };
+                let options = line_options(task.input, keep_going);
                 let job = RewrapJob {
                     task: lines_of(options.notation, task),
                     old,

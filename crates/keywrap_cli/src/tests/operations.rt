@@ -6,7 +6,7 @@ use super::jobs::{BAD_LENGTH, HEX_KEK, HEX_TEXT, INTEGRITY, PADDED_KEK, TEXT_OF_
 use super::rewraps::{NEW_KEK, NEW_OF_7, NEW_PADDED, NEW_TEXT};
 use crate::operation::Operation;
 use crate::rewrapping::{RewrapForms, Rewrapping};
-use key_lines::{LineFault, RefusalLog, RefusedLine, RunOptions, RunSummary, TextNotation};
+use key_lines::{LineFault, RefusalLog, RefusedLine, RunSummary};
 use key_wrap::{AgreedForm, Form, InPlaceFault};
 use std::io::BufReader;
 use std::test::Fail;
@@ -88,12 +88,8 @@ fn counts_the_lines_that_pass(rt: HostRuntime) -> Result<(), Fail> {
         64e8c3f9ce0f5ba263e9777905818a2a93c8191e7d6e8ae7\n\n";
     let mut input = BufReader::with_capacity(rt.alloc(), 16, Trickle::in_pieces(lines, 7))?;
     let mut out = Narrow::in_pieces(rt.alloc(), 7);
-    let options = RunOptions {
-        notation: TextNotation::Hex,
-        keep_going: true,
-    };
     let mut operation = operation(PLAIN, HEX_KEK);
-    let run = operation.run_lines(rt.alloc(), options, &mut NoLog, &mut input, &mut out);
+    let run = operation.run_lines(rt.alloc(), true, &mut NoLog, &mut input, &mut out);
     let first_refused = Some(RefusedLine {
         line: 3,
         fault: LineFault::Refused(InPlaceFault::BadLength),
