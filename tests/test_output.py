@@ -12,13 +12,21 @@ import time
 import pytest
 
 from commands import ANSWERS, INTO_FILES, REFUSALS
-from program import CLOSED, UNREAD, Ended, in_pieces, refused
+from program import CLOSED, UNREAD, Ended, refused
 from vectors import BAD_LENGTH, KEY16, DRILLED, FULL, MEMORY, VECTOR_LINES, WRAPPED16, drilled_zeros, zeros
 
 NOTHING_TAKEN = f"keywrap: {FULL.format(0)}\n"
 LONG_DRILL, LONG_ANSWER = ["drill", zeros(4096)], drilled_zeros(512) + "\n"
 SIGPIPE = pytest.mark.parametrize("ignoring", [[], [signal.SIGPIPE]], ids=["SIGPIPE", "no SIGPIPE"])
-CLOSINGS = ["", "0", "1", "2", "01", "02", "12", "012"]
+CLOSINGS = pytest.mark.parametrize("closed", ["", "0", "1", "2", "01", "02", "12", "012"])
+STREAMS = ["stdin", "stdout", "stderr"]
+# One command for each way in which something is written, and for each step at which a line comes.
+ANSWERED = ["wrap", "raw wrap", "unwrap", "rewrap", "check", "check of a wrong byte", "wrap in base64", "wrap of a file",
+            "drill", "vectors", "help", "version"]
+REFUSED = ["IV of 15 digits", "no KEK file", "KEK of 15 bytes", "bad digit", "key of 7 bytes", "wrong byte",
+           "no input file", "drill of a wrong byte"]
+FILED = ["wrap into a file", "unwrap into a file", "check of a wrong byte into a file", "wrong byte, no file",
+         "directory as output"]
 
 
 @pytest.fixture(autouse=True)
@@ -39,20 +47,15 @@ def nothing_is_left(files, monkeypatch):
     assert state() == before
 
 
-def complete(keywrap, command):
-    """The command with its output, if that is the program's own words."""
-    return command if command.stdout is not None else command._replace(stdout=keywrap(*command.args).stdout.encode())
-
-
-@pytest.fixture(params=ANSWERS, ids=lambda command: command.name)
-def answer(request, keywrap):
-    """A command that writes something."""
-    return complete(keywrap, request.param)
-
-
-@pytest.fixture(params=ANSWERS + REFUSALS, ids=lambda command: command.name)
+@pytest.fixture
 def command(request, keywrap):
-    return complete(keywrap, request.param)
+    """The command of this name, with its output, if that is the program's own words."""
+    found, = [each for each in ANSWERS + REFUSALS + INTO_FILES if each.name == request.param]
+    return found if found.stdout is not None else found._replace(stdout=keywrap(*found.args).stdout.encode())
+
+
+EACH_ANSWER = pytest.mark.parametrize("command", ANSWERED, indirect=True)
+EACH = pytest.mark.parametrize("command", ANSWERED + REFUSED, indirect=True)
 
 
 def full_after(keywrap, taken, *args, stdin=None):
@@ -61,23 +64,22 @@ def full_after(keywrap, taken, *args, stdin=None):
     return ended._replace(stdout=pathlib.Path("out").read_bytes())
 
 
-def test_output_that_takes_some_bytes(keywrap, answer):
-    size = len(answer.stdout)
+@EACH_ANSWER
+def test_output_that_takes_some_bytes(keywrap, command):
+    size = len(command.stdout)
     for taken in {0, 1, size // 3, size // 2, size - 2, size - 1}:
-        ended = full_after(keywrap, taken, *answer.args, stdin=answer.given)
-        assert ended == Ended(6, answer.stdout[:taken], f"keywrap: {FULL.format(taken)}\n")
+        ended = full_after(keywrap, taken, *command.args, stdin=command.given)
+        assert ended == Ended(6, command.stdout[:taken], f"keywrap: {FULL.format(taken)}\n")
     for taken in size, size + 1:
-        assert full_after(keywrap, taken, *answer.args, stdin=answer.given) == answer[3:]
+        assert full_after(keywrap, taken, *command.args, stdin=command.given) == command[3:]
 
 
 def test_every_count_of_bytes(keywrap):
-    args, wanted = ["wrap", "--kek", "kek16.hex"], WRAPPED16.encode() + b"\n"
-    for taken in range(49):
-        ended = full_after(keywrap, taken, *args, stdin=KEY16)
-        assert ended == Ended(6, wanted[:taken], f"keywrap: {FULL.format(taken)}\n")
-    for taken in 1024, 4095, 4096, 4097, 8192, 8208:
-        ended = full_after(keywrap, taken, *LONG_DRILL)
-        assert ended == Ended(6, LONG_ANSWER[:taken].encode(), f"keywrap: {FULL.format(taken)}\n")
+    for args, whole, counts in [(["wrap", "--kek", "kek16.hex"], WRAPPED16 + "\n", range(49)),
+                                (LONG_DRILL, LONG_ANSWER, [1024, 4095, 4096, 4097, 8192, 8208])]:
+        for taken in counts:
+            ended = full_after(keywrap, taken, *args, stdin=KEY16)
+            assert ended == Ended(6, whole[:taken].encode(), f"keywrap: {FULL.format(taken)}\n")
     assert full_after(keywrap, 8209, *LONG_DRILL) == Ended(0, LONG_ANSWER.encode(), "")
 
 
@@ -92,9 +94,10 @@ def full_pipe():
     return reading, writing
 
 
-def test_pipe_without_room(keywrap, answer):
+@EACH_ANSWER
+def test_pipe_without_room(keywrap, command):
     reading, writing = full_pipe()
-    assert keywrap(*answer.args, stdin=answer.given, stdout=writing) == Ended(6, "", NOTHING_TAKEN)
+    assert keywrap(*command.args, stdin=command.given, stdout=writing) == Ended(6, "", NOTHING_TAKEN)
     os.close(reading)
     os.close(writing)
 
@@ -102,36 +105,36 @@ def test_pipe_without_room(keywrap, answer):
 def test_pipe_with_some_room(keywrap):
     reading, writing = full_pipe()
     os.read(reading, 4096)
-    ended = keywrap(*LONG_DRILL, stdout=writing)
-    assert ended == refused(6, FULL.format(4096))
+    assert keywrap(*LONG_DRILL, stdout=writing) == refused(6, FULL.format(4096))
     os.close(writing)
     with open(reading, "rb") as pipe:
         assert pipe.read()[-4096:] == LONG_ANSWER[:4096].encode()
 
 
 @SIGPIPE
+@EACH
 def test_nobody_reads(keywrap, command, ignoring):
     ended = keywrap(*command.args, stdin=command.given, stdout=UNREAD, ignoring=ignoring)
-    assert ended == (Ended(6, "", NOTHING_TAKEN) if command.stdout else Ended(*command[3:4], "", command.stderr))
+    assert ended == (Ended(6, "", NOTHING_TAKEN) if command.stdout else Ended(command.status, "", command.stderr))
 
 
 @pytest.mark.parametrize("args, whole", [(LONG_DRILL, LONG_ANSWER), (["vectors"], VECTOR_LINES)],
                          ids=["drill", "vectors"])
-@pytest.mark.parametrize("taken", [0, 1, 100, 4096, 8208])
 @SIGPIPE
-def test_reader_that_goes_away(keywrap, args, whole, taken, ignoring):
+def test_reader_that_goes_away(keywrap, args, whole, ignoring):
     """The run is done, or says how many bytes were taken: fewer than the whole."""
-    with keywrap.started(*args, stdout=subprocess.PIPE, stderr=subprocess.PIPE, ignoring=ignoring) as run:
-        read = run.stdout.read(taken).decode()
-        run.stdout.close()
-        error = run.stderr.read().decode()
-    assert read == whole[:taken]
-    if run.returncode:
-        count = int(error.removeprefix("keywrap: output: refused after ").removesuffix(" bytes\n"))
-        assert (run.returncode, error) == (6, f"keywrap: {FULL.format(count)}\n")
-        assert count < len(whole)
-    else:
-        assert error == ""
+    for taken in 0, 1, 100, 4096, 8208:
+        with keywrap.started(*args, stdout=subprocess.PIPE, stderr=subprocess.PIPE, ignoring=ignoring) as run:
+            read = run.stdout.read(taken).decode()
+            run.stdout.close()
+            error = run.stderr.read().decode()
+        assert read == whole[:taken]
+        if run.returncode:
+            count = int(error.removeprefix("keywrap: output: refused after ").removesuffix(" bytes\n"))
+            assert (run.returncode, error) == (6, f"keywrap: {FULL.format(count)}\n")
+            assert count < len(whole)
+        else:
+            assert error == ""
 
 
 @SIGPIPE
@@ -147,6 +150,7 @@ def test_reader_that_goes_away_while_the_program_waits(keywrap, ignoring):
     assert run.returncode == 6
 
 
+@EACH
 def test_full_device(keywrap, command):
     ended = keywrap(*command.args, stdin=command.given, stdout="/dev/full")
     assert ended == (Ended(6, "", NOTHING_TAKEN) if command.stdout else Ended(command.status, "", command.stderr))
@@ -154,19 +158,36 @@ def test_full_device(keywrap, command):
     assert ended == (command.status, command.stdout, "")
 
 
-@pytest.mark.parametrize("closed", CLOSINGS)
+@CLOSINGS
+@pytest.mark.parametrize("command", ["wrap", "check", "wrap of a file", "vectors", "no KEK file", "wrong byte", *FILED],
+                         indirect=True)
 def test_closed_streams(keywrap, command, closed):
-    """From a closed input nothing comes, and a closed standard error takes no line."""
+    """From a closed input nothing comes, and a closed standard error takes no line.
+
+    The file of --output is as it was, or has the answer, and nothing is beside it."""
     status, answer, line = command[3:]
+    filed = command in INTO_FILES
     if "0" in closed and command.stdin and command.args[0] == "check":
         status, answer, line = 5, b"none\n", ""
     elif "0" in closed and command.stdin:
-        status, answer, line = 4, b"", f"keywrap: {BAD_LENGTH}\n"
-    if "1" in closed and answer:
+        status, answer, line = 4, b"old\n" if filed else b"", f"keywrap: {BAD_LENGTH}\n"
+    if "1" in closed and answer and not filed:
         status, answer, line = 6, b"", NOTHING_TAKEN
-    assert keywrap(*command.args, text=False, stdin=CLOSED if "0" in closed else command.given,
-                   stdout=CLOSED if "1" in closed else None,
-                   stderr=CLOSED if "2" in closed else None) == (status, answer, "" if "2" in closed else line)
+    options = {name: CLOSED for number, name in enumerate(STREAMS) if str(number) in closed}
+    ended = keywrap(*command.args, text=False, **{"stdin": command.given, **options})
+    assert ended == (status, b"" if filed else answer, "" if "2" in closed else line)
+    assert pathlib.Path("to/file").read_bytes() == (answer if filed else b"old\n")
+    assert os.listdir("to") == ["file"]
+
+
+@pytest.mark.parametrize("stdout, stderr", [("/dev/full", None), (UNREAD, None), (None, "/dev/full")],
+                         ids=["full", "unread", "no error"])
+@pytest.mark.parametrize("command", FILED, indirect=True)
+def test_streams_beside_a_file(keywrap, command, stdout, stderr):
+    """Nothing that is wrong with the standard streams concerns the file of --output."""
+    ended = keywrap(*command.args, stdin=command.given, stdout=stdout, stderr=stderr)
+    assert ended == Ended(command.status, "", "" if stderr else command.stderr)
+    assert (os.listdir("to"), pathlib.Path("to/file").read_bytes()) == (["file"], command.stdout)
 
 
 def test_refused_arguments_with_closed_streams(keywrap):
@@ -202,41 +223,6 @@ class TestDescriptors:
         args = ["check", "--lines", "--keep-going", "--kek", "kek16.hex", "-o", "to/file"]
         assert keywrap(*args, stdin=f"{WRAPPED16}\ng\n", stdout=CLOSED, stderr=CLOSED).status == 6
         assert pathlib.Path("to/file").read_text() == "plain 16\n\n"
-
-
-class TestIntoFiles:
-    """Nothing that is wrong with the standard streams concerns the file of --output."""
-
-    @pytest.fixture(params=INTO_FILES, ids=lambda command: command.name)
-    def command(self, request):
-        yield request.param
-        assert os.listdir("to") == ["file"]
-
-    def into_file(self, keywrap, command, **options):
-        """The status, what the file holds and what standard error gets; standard output gets nothing."""
-        pathlib.Path("to/file").write_bytes(b"old\n")
-        ended = keywrap(*command.args, **{"stdin": command.given, **options})
-        assert ended.stdout == ""
-        return ended.status, pathlib.Path("to/file").read_bytes(), ended.stderr
-
-    def test_streams(self, keywrap, command):
-        assert self.into_file(keywrap, command) == command[3:]
-        with in_pieces(command.given, 7) as given:
-            assert self.into_file(keywrap, command, stdin=given) == command[3:]
-        assert self.into_file(keywrap, command, stdout="/dev/full") == command[3:]
-        assert self.into_file(keywrap, command, stdout=UNREAD) == command[3:]
-        assert self.into_file(keywrap, command, stderr="/dev/full") == (*command[3:5], "")
-
-    @pytest.mark.parametrize("closed", CLOSINGS[1:])
-    def test_closed_streams(self, keywrap, command, closed):
-        status, answer, line = command[3:]
-        if "0" in closed and command.stdin and command.args[0] == "check":
-            status, answer, line = 5, b"none\n", ""
-        elif "0" in closed and command.stdin:
-            status, answer, line = 4, b"old\n", f"keywrap: {BAD_LENGTH}\n"
-        options = {name: CLOSED for number, name in enumerate(["stdin", "stdout", "stderr"]) if str(number) in closed}
-        ended = self.into_file(keywrap, command, **options)
-        assert ended == (status, answer, "" if "2" in closed else line)
 
 
 @pytest.mark.parametrize("args, stdin", [
