@@ -30,7 +30,7 @@ static const struct row ROWS[] = {{"AES-128-WRAP", 1, 16},     {"AES-128-WRAP", 
 
 static uint8_t kek[32], key[LONGEST], text[LONGEST + 16];
 
-/* The file of the times as CSV, if it was asked for. */
+/* The file of the times as CSV, if it was requested. */
 static FILE *csv;
 
 static double now(void) {

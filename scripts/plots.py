@@ -92,7 +92,7 @@ def wrap(drawing_of, text):
 
 
 def bars(drawing, y, rows, most):
-    """A bar for each label and value; those of keywrap are shaded."""
+    """A bar for each label and value; keywrap's are blue."""
     for label, value, shown, is_ours in rows:
         width = max(2, round(188 * value / most, 1))
         drawing.text(172, y + 15, label, "tiny end")

@@ -22,7 +22,7 @@ pub symbols_meaning-is : (e : GeneralPurpose) (text : List ℕ) (decoded : Resul
     → decode_of e text ≡ decoded → symbols_meaning text ≡ decoded_meaning decoded
 symbols_meaning-is e text decoded same is = ap decoded_meaning (sym (decode_of-same e (encoding_of text) text same) ∙ is)
 
--- a character stands where it may not
+-- a character is not allowed at its place
 pub symbol_text_meaning-misplaced : (text : List ℕ) (fault : Base64Fault) → misplaced false text ≡ Some fault
     → symbol_text_meaning text ≡ Err (BadBase64 fault)
 unfolding symbol_text_meaning

@@ -74,7 +74,7 @@ prefix_len-all p (c ∷ xs) ys h =
     let rest = prefix_len-all p xs ys a.1 in
     rw a.0 (omega (arith, rest))
 
--- what stands after a front whose elements all pass
+-- the rest after a front whose elements all pass
 all-behind : (p q : ℕ → Bool) (xs ys : List ℕ) → list_all p xs ≡ true → list_all q ys ≡ true
     → list_all q (drop (prefix_len p (xs ++ ys)) (xs ++ ys)) ≡ true
 all-behind p q xs ys hp hq =
@@ -146,11 +146,11 @@ symbols-agree p t u (a ∷ b ∷ c ∷ rest) agree fits h =
 
 -- ---- the alphabet of a text
 
--- one alphabet alone has it
+-- only one alphabet has it
 abbrev is_of_one : ℕ → Bool
 is_of_one c = is_standard c || is_url_safe c
 
--- no character of the URL-safe one alone
+-- no character that only the URL-safe one has
 is_url_safe_at-none : (text : List ℕ) (found : Option ℕ) → first_of_one text ≡ found → list_all (λ c. not (is_url_safe c)) text ≡ true
     → is_url_safe_at text found ≡ false
 is_url_safe_at-none text None is none = refl
@@ -161,7 +161,7 @@ is_url_safe_at-none text (Some at) is none =
 is_url_safe_text-none : (text : List ℕ) → list_all (λ c. not (is_url_safe c)) text ≡ true → is_url_safe_text text ≡ false
 is_url_safe_text-none text none = is_url_safe_at-none text (first_of_one text) refl none
 
--- no character of the standard one alone
+-- no character that only the standard one has
 is_standard-foreign : (c : ℕ) → is_standard c ≡ true → is_allowed true true c ≡ false
 is_standard-foreign c h = elim (or_cases (c == 43) (c == 47) h) [
   | inl plus ↦
@@ -187,7 +187,7 @@ of_none-allowed skips c allowed none = elim (cases_Bool (is_standard c)) [
   ]
 ]
 
--- either it is told to be the URL-safe one, or no character tells which it is
+-- either it is known to be the URL-safe one, or no character tells which it is
 abbrev IsTold : List ℕ → Bool → Type 0
 IsTold text told = (told ≡ true) ⊎ ((told ≡ false) × (list_all (λ c. not (is_of_one c)) text ≡ true))
 
@@ -342,7 +342,7 @@ agree_from t u h v lt none =
       | inr same ↦ eqb-true (slice_index t v) (slice_index u v) same
     ]
 
--- Where no character tells the alphabet, the text is in both.
+-- If no character tells the alphabet, the text is in both.
 symbols_meaning-text : (u : Bool) (n : ℕ) (bytes : List ℕ) → IsPadding n bytes → IsBytes bytes → symbols_meaning (text_in u n bytes) ≡ Ok bytes
 symbols_meaning-text false n bytes pad fits =
     let told = is_url_safe_text-none (text_in false n bytes) (all-text (λ c. not (is_url_safe c)) false n bytes refl refl fits) in
@@ -359,7 +359,7 @@ symbols_meaning-text true n bytes pad fits =
           symbols_meaning-in false n bytes text (ap (λ (l : List ℕ). l ++ replicate n 61) same) untold.0 pad fits
     ]
 
--- which characters may stand in a text, by those of its alphabet
+-- which characters are allowed in a text, by the characters of its alphabet
 allowed-standard : (skips : Bool) (text : List ℕ) → list_all (λ c. not (is_url_safe c)) text ≡ true → list_all (is_allowed skips false) text ≡ true
     → list_all (is_allowed skips (is_url_safe_text text)) text ≡ true
 allowed-standard skips text none all =
@@ -374,7 +374,7 @@ allowed-told skips text some all = elim (is_url_safe_text-told text some) [
       subst (λ (b : Bool). list_all (is_allowed skips b) text ≡ true) (sym untold.0) both
 ]
 
--- a text in which no blank stands
+-- a text without blanks
 placed-text : (u : Bool) (n : ℕ) (bytes : List ℕ) → IsBytes bytes → misplaced false (text_in u n bytes) ≡ None
 placed-text u n bytes fits =
     misplaced-none false (text_in u n bytes) (allowed u)

@@ -37,7 +37,7 @@ pub hex_meaning-even : (text : List ℕ) → first_bad text ≡ None → length 
 unfolding hex_meaning
 hex_meaning-even text h even = rw h (grind (arith, nat_tests))
 
--- the same of a text of digits alone
+-- the same of a text of digits only
 pub digit_text_meaning-bad : (text : List ℕ) (at : ℕ) → first_no_digit text ≡ Some at → digit_text_meaning text ≡ Err (BadDigit at)
 unfolding digit_text_meaning
 digit_text_meaning-bad text at h = rw h
@@ -86,7 +86,7 @@ DecodesHex-memory {Z} text answer bytes is m = subst (DecodesHex {Z = Z} text) (
   memory = λ _. rw m refl;
 }
 
--- bytes, where the text denotes bytes
+-- bytes, if the text denotes bytes
 pub DecodesHex-bytes : {Z : Type 0} (text : List ℕ) (v : Vec ℕ Z) → hex_meaning text ≡ Ok v.items → DecodesHex text (Ok v)
 DecodesHex-bytes text v m = record {
   bytes = m;

@@ -37,7 +37,7 @@ no_bad i (b ∷ rest) h =
     let low = is_allowed-digit (slice_index lower_digits (b % 16)) (is_hex_digit-written (b % 16) (omega arith)) in
     rw (high, low) (no_bad (i + 1 + 1) rest (λ k. h (suc k)))
 
--- its digits are those of the bytes
+-- its digits are the digits of the bytes
 digits_of-line : (bytes : List ℕ) → IsBytes bytes → digits_of (encode_with lower_digits bytes ++ 10 ∷ []) ≡ encode_with lower_digits bytes
 unfolding encode_with
 digits_of-line [] h = refl

@@ -1,4 +1,4 @@
--- A text that `hex` decodes is digits alone, and denotes what is decoded.
+-- A text that `hex` decodes has only digits, and denotes the decoded bytes.
 use Rattle.std.proofs.Common.{◌≡◌, ℕ, ◌+◌, ◌%◌, ◌<◌, not, Bool, true, false, cond, List, [], ◌∷◌, length, nat_lt, Option, Some, None, Result, Ok, Err, arith, refl, sym, ap, ◌∙◌, subst}
 use Rattle.std.specs.Prelude.{MatchResult, is_ok}
 use Rattle.std.specs.List.{position_from}
@@ -52,7 +52,7 @@ sized true fits pairs bytes h = cc h
 sized false true pairs bytes h = h
 sized false false pairs bytes h = cc h
 
--- where it was decoded into room for its bytes
+-- if it was decoded into room for its bytes
 pub sized-meaning : (text : List ℕ) (n : ℕ) (out : List ℕ) (answer : Result Unit FromHexError)
     → MatchResult (decode_sized text n) (λ bytes. (answer ≡ Ok tt) × (out ≡ bytes)) (λ e. answer ≡ Err e)
     → is_ok answer ≡ true → digit_text_meaning text ≡ Ok out

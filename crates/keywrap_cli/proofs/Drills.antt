@@ -1,5 +1,5 @@
--- What the text of a drill denotes: within the limit, what its digits do, and a text by itself is refused for its
--- digits alone. So the decoding's answer is the text's, by cases.
+-- The bytes that the text of a drill denotes: within the limit, the bytes of its digits. Such a text is refused only for
+-- its digits. So the decoding's answer is the text's answer, by cases.
 use Rattle.std.proofs.Common.{◌≡◌, ◌≢◌, ◌↔◌, ℕ, ◌<◌, ◌≤◌, List, length, Vec, Bool, true, false, Option, Some, None, Result, Ok, Err, IfOk, IsOk, MatchResult}
 use Rattle.std.proofs.Common.{IsErrAnd, refl, sym, ◌∙◌, ap, subst, cond}
 use Rattle.std.specs.declared.alloc.Global.{Global}
@@ -18,7 +18,7 @@ odd_or_paired : (odd : Bool) (bytes : List ℕ) (fault : FileFault) → fault �
 odd_or_paired true bytes fault other e = other (cc)
 odd_or_paired false bytes fault other e = cc
 
--- a text by itself is refused for a bad digit or for odd digits alone
+-- such a text is refused only for a bad digit or for odd digits
 spelled_faults : (bad : Option ℕ) (digits : List ℕ) (fault : FileFault) → ((at : ℕ) → fault ≢ files.BadDigit at)
     → fault ≢ files.OddDigits → digits_meaning bad digits ≢ Err fault
 spelled_faults (Some at) digits fault not_bad not_odd e = not_bad at (cc)

@@ -1,5 +1,5 @@
--- What 16 hex digits denote is what `hex` decodes: the digits of each byte stand in the number at their place. Then what
--- is answered for a text, in each of the three cases.
+-- 16 hex digits denote what `hex` decodes: the digits of each byte are the byte of the number at their place. Then the
+-- answer for a text, in each of the three cases.
 use Rattle.std.proofs.Common.{◌≡◌, ◌↔◌, ◌<◌, ◌+◌, ◌*◌, ◌%◌, ℕ, true, List, [], ◌∷◌, length, Some, Result, Ok, Err, MatchResult, false}
 use Rattle.std.proofs.Common.{refl, sym, ap, ◌∙◌, arith}
 use Rattle.std.specs.Char.{digit_value}

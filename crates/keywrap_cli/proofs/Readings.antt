@@ -1,5 +1,5 @@
--- What reading a file answers is what its bytes denote: a fault bears the file's name, bytes are taken as they are,
--- and those of the KEK file for a KEK. Each lemma goes by the cases of an answer.
+-- Reading a file returns what its bytes denote: a fault has the file's name, and the bytes are taken unchanged, also as
+-- a KEK. Each lemma goes by the cases of an answer.
 use Rattle.std.proofs.Common.{◌≡◌, ◌↔◌, ℕ, List, length, Vec, Option, Some, None, Result, Ok, Err, refl}
 use Rattle.std.specs.declared.alloc.Global.{Global}
 use Rattle.aes_block.specs.KeyExpansion.{IsKekLength}

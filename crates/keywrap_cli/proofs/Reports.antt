@@ -50,7 +50,7 @@ report_step f xs i d text text' all_ok all_ok' ok h report right line all =
     ap (map f) (take_more xs i d h) ∙ map-append f (take i xs) (get_or xs i d ∷ []) in
     rw (vectors, line, all) (report_more (map f (take i xs)) (f (get_or xs i d)) text all_ok ok report right)
 
--- all are said to be right exactly where all are
+-- all are reported as right exactly if all are right
 all_said : (vectors : List TestVector) (oks : List Bool) → length oks ≡ length vectors → AreVerdicts vectors oks
     → IsTrue (all_true oks) ↔ AllByRecursion IsRight vectors
 all_said [] [] e each = (λ said. tt, λ right. refl)

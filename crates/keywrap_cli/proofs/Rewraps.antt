@@ -1,5 +1,5 @@
--- What a rewrapping makes of a text, from what the call in the caller's buffer promises: by the cases of its fault, and
--- where the form is kept.
+-- The rewrapping of a text, from the promises of the call in the caller's buffer: by the cases of its fault, and for a
+-- form that is kept.
 use Rattle.std.proofs.Common.{◌≡◌, ◌↔◌, ℕ, List, length, Result, Ok, Err, OnOk, refl}
 use Rattle.key_lines.specs.Answers.{made}
 use Rattle.key_wrap.specs.Forms.{StandsAs, StandsIn}

@@ -9,7 +9,7 @@ use Rattle.keywrap_cli.specs.Answers.{MakesConversion}
 use Rattle.keywrap_cli.specs.Conversion.{IsInputLength}
 use Rattle.keywrap_cli.specs.declared.convert.Direction.TheVariants.{Unwrap}
 
--- an unwrapping of a text whose length is legal, as is that of the buffer: where these keys stand with texts in the form
+-- an unwrapping of a text with a legal length, in a buffer with a legal length, in the form that relates these keys to texts
 pub refused_unwrap : {A : Type 0} (form : Form) (iv : ℕ) (Fits : List ℕ → List ℕ → Type 0) (E : List ℕ → List ℕ) (text : List ℕ)
     (Legal : Type 0) (key : A → List ℕ) (fault : InPlaceFault) → Legal → IsInputLength Unwrap form (length text)
     → ((wrapped : List ℕ) → Stands form iv E wrapped text → Fits wrapped text) → KeyAnswer Legal Fits text key (Err fault)

@@ -49,13 +49,13 @@ HasBadLength Wrap form X = ¬ IsInputLength directions.Wrap form (length X)
 HasBadLength Unwrap form X = ¬ IsInputLength directions.Unwrap form (length X)
 HasBadLength Check form X = ⊥
 
--- the bytes X have a legal length, and no key stands with them; only an unwrapping is refused for that
+-- the bytes X have a legal length, and no key belongs to them; only an unwrapping is refused for that
 abbrev pub HasNoKey : Job → Form → ℕ → (List ℕ → List ℕ) → List ℕ → Type 0
 HasNoKey Wrap form iv E X = ⊥
 HasNoKey Unwrap form iv E X = IsInputLength directions.Unwrap form (length X) × NoKey (Stands form iv E) X
 HasNoKey Check form iv E X = ⊥
 
--- an answer is marked exactly if it is that of a check that found none
+-- an answer is marked exactly if it is a check that found none
 abbrev pub HasMark : Job → List ℕ → Mark → Type 0
 HasMark job text Unmarked = ¬ ((job ≡ Check) × (text ≡ kind_line kinds.Neither))
 HasMark job text Marked = (job ≡ Check) × (text ≡ kind_line kinds.Neither)
@@ -88,7 +88,7 @@ abbrev pub IsDone : Job → List ℕ → Done → Type 0
 IsDone job output Written = ¬ ((job ≡ Check) × (output ≡ kind_line kinds.Neither))
 IsDone job output Neither = (job ≡ Check) × (output ≡ kind_line kinds.Neither)
 
--- what is done where an answer has this mark
+-- what a call has done if the answer has this mark
 abbrev pub done_of : Mark → Done
 done_of Unmarked = Written
 done_of Marked = Neither
@@ -120,7 +120,7 @@ MakesConversion direction form iv E X (Err BadLength) = ¬ IsInputLength directi
 MakesConversion direction form iv E X (Err Integrity) =
     IsInputLength direction form (length X) × HasNoAnswer direction form iv E X
 
--- this is said of what a call made: of no allocation that failed
+-- this holds for the result of a call, unless an allocation failed
 abbrev pub OutcomeIs : {R E : Type 0} → (Result (List ℕ) R → Type 0) → List ℕ → Result (Result Unit R) E → Type 0
 OutcomeIs Is output (Ok (Ok done)) = Is (Ok output)
 OutcomeIs Is output (Ok (Err refusal)) = Is (Err refusal)

@@ -24,9 +24,8 @@ pub record IsTextOf (form : Form) (iv : ℕ) (E : List ℕ → List ℕ) (key te
   pub stands : Stands form iv E key text
   pub alone : (other : List ℕ) → Stands form iv E key other → other ≡ text
 
--- `text` is the wrapping of this key, and of no other: the key stands with it, it alone does, wrapping it again
--- restores the wrapped key, and no key stands with that in the other form, which for the padded form is the plain
--- one under the default value.
+-- `text` is the wrapping of this key, and of no other. Wrapping the key again restores the wrapped key. No key belongs
+-- to the wrapped key in the other form; for the padded form this is the plain form under the default value.
 pub record IsKeyOf (form : Form) (iv : ℕ) (E : List ℕ → List ℕ) (text key : List ℕ) : Type 0 where
   pub stands : Stands form iv E key text
   pub alone : (other : List ℕ) → Stands form iv E other text → other ≡ key
@@ -38,7 +37,7 @@ abbrev pub IsAnswer : Direction → Form → ℕ → (List ℕ → List ℕ) →
 IsAnswer Wrap form iv E X Y = IsTextOf form iv E X Y
 IsAnswer Unwrap form iv E X Y = IsKeyOf form iv E X Y
 
--- only an unwrapping is refused for its integrity: no key stands with the wrapped key
+-- only an unwrapping is refused for its integrity: no key belongs to the wrapped key
 abbrev pub HasNoAnswer : Direction → Form → ℕ → (List ℕ → List ℕ) → List ℕ → Type 0
 HasNoAnswer Wrap form iv E X = ⊥
 HasNoAnswer Unwrap form iv E X = NoKey (Stands form iv E) X

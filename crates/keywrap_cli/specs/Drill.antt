@@ -35,7 +35,7 @@ text_fault_of files.TooLong = Memory
 text_fault_of (files.BadBase64 wrong) = Memory
 text_fault_of files.Memory = Memory
 
--- The answer over the drill block, by cases, under the default initial value. Memory comes only where the text
+-- The answer over the drill block, by cases, under the default initial value. Memory is only possible if the text
 -- denotes bytes.
 abbrev pub DrillAnswer : Direction → Form → List ℕ → Result (Vec ℕ Global) DrillFault → Type 0
 DrillAnswer direction form text (Ok Y) =

@@ -1,6 +1,6 @@
 -- A run, put together from its steps: the KEKs are read in their order, then the input, or each line of it, is read, a
--- job answers its bytes, and the answer is written. It ends at the first step that is refused, and the later ones are not
--- begun. A job is known by what it answers to bytes: an output to be written, or a refusal.
+-- job answers its bytes, and the answer is written. It ends at the first step that is refused, and the later ones are
+-- not begun. A job is known by what it answers to bytes: an output to be written, or a refusal.
 use Rattle.std.specs.Prelude.{◌≡◌, ◌<◌, ℕ, List, length, take, Option, Result, Ok, Err, Vec, IfSome, MatchResult}
 use Rattle.std.specs.Io.KnownBytes.{Appends, Keeps}
 use Rattle.std.specs.declared.alloc.Global.{Global}
@@ -20,7 +20,8 @@ use Rattle.keywrap_cli.specs.declared.job.JobFault.TheVariants.{BadLength, Integ
 use Rattle.keywrap_cli.specs.declared.job.Notation.{Notation}
 use Rattle.keywrap_cli.specs.declared.kek_file.KekRole.TheVariants.{Kek, NewKek}
 
--- What is done under the KEK of a file: `Then` is said of the KEK that it denotes, and `Refused` of why it denotes none.
+-- The effect of a call under the KEK of a file: `Then` holds for the KEK that it denotes, `Refused` for the reason if
+-- none.
 pub record UnderKek (notation : Notation) (file file' : Option (List ℕ)) (Then : List ℕ → Type 0) (Refused : (Option FileFault) → Type 0)
     : Type 0 where
   pub found : Result (List ℕ) (Option FileFault)
@@ -65,7 +66,7 @@ pub record RunsInput (notation : Notation) (answers : List ℕ → Result Answer
   pub read : ReadsInput notation input input' text
   pub rest : WritesFrom answers text out out' outcome
 
--- the outcome of a run, as the answer of the call: `Is` says what is done where an output was written
+-- the outcome of a run, as the answer of the call: `Is` gives what was done if an output was written
 abbrev pub IsDoneAs : (List ℕ → Done → Type 0) → Result Answer JobFault → Result Done JobFault → Type 0
 IsDoneAs Is (Ok output) (Ok done) = Is output.text done
 IsDoneAs Is (Err fault) (Err other) = other ≡ fault
@@ -77,7 +78,7 @@ abbrev pub AnswersInput : Notation → (List ℕ → Result Answer InPlaceFault 
 AnswersInput notation answers Is input input' out out' answer =
     (outcome : Result Answer JobFault) × RunsInput notation answers input input' out out' outcome × IsDoneAs Is outcome answer
 
--- What a run over lines of at most 4,194,304 bytes does. Where it is known what the input had left, what was written are
+-- The effect of a run over lines of at most 4,194,304 bytes. If the rest of the input is known, what was written are
 -- the answers to its first lines, in order.
 pub record RunsOver {R : Type 0} (options : RunOptions) (answers : List ℕ → Result Answer R → Type 0)
     (input input' out out' : Option (List ℕ)) (log log' : Option (List (RefusedLine R))) (answer : Result (RunSummary R) (RunFault R)) : Type 0 where

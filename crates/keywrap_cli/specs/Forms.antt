@@ -13,9 +13,9 @@ use Rattle.key_wrap.specs.declared.forms.Form.{Form}
 use Rattle.keywrap_cli.specs.declared.rewrapping.RewrapForms.{RewrapForms}
 use Rattle.keywrap_cli.specs.declared.rewrapping.RewrapForms.TheVariants.{Kept, Changed}
 
--- The answer is the new wrapping, under F, of the one key whose old wrapping, under E, `text` is: that key alone
--- stands with `text`, and it alone with the answer; it has no other new wrapping, and no other old one. So unwrapping
--- the answer gives exactly the old key, and rewrapping back gives `text` again.
+-- The answer is the new wrapping, under F, of the only key whose old wrapping, under E, is `text`. That key is also the
+-- only key of the answer; it has no other new wrapping, and no other old one. So unwrapping the answer gives exactly
+-- the old key, and rewrapping back gives `text` again.
 pub record IsRewrapped (old_form : AgreedForm) (E : List ℕ → List ℕ) (new_form : AgreedForm) (F : List ℕ → List ℕ)
     (text answer : List ℕ) : Type 0 where
   pub key : List ℕ
@@ -26,7 +26,7 @@ pub record IsRewrapped (old_form : AgreedForm) (E : List ℕ → List ℕ) (new_
   pub alone : (other : List ℕ) → StandsAs new_form F key other → other ≡ answer
   pub restores : (other : List ℕ) → StandsAs old_form E key other → other ≡ text
 
--- the answer is the rewrapped text in the form in which the text is a wrapping, which is one form alone
+-- the answer is the rewrapped text in the only form in which the text is a wrapping
 pub record IsRewrappedInForm (E F : List ℕ → List ℕ) (text answer : List ℕ) : Type 0 where
   pub form : Form
   pub rewrapped : IsRewrapped (by_default form) E (by_default form) F text answer
@@ -54,12 +54,12 @@ Rewraps forms E F text (Ok answer) = IsRewrappedAs forms E F text answer
 Rewraps forms E F text (Err BadLength) = HasNoLengthAs forms E text
 Rewraps forms E F text (Err Integrity) = HasNoWrappingAs forms E text
 
--- a length that is legal for the text where it has one old form
+-- a length that is legal for the text, if it has one old form
 abbrev pub IsOldLength : RewrapForms → ℕ → Type 0
 IsOldLength (Changed old new) len = IsTextLengthAs old len
 IsOldLength Kept len = ⊥
 
--- the text is no wrapping under the old KEK: its length is legal in no old form, or no key stands with it
+-- the text is no wrapping under the old KEK: its length is legal in no old form, or no key belongs to it
 abbrev pub IsNoOld : RewrapForms → (List ℕ → List ℕ) → List ℕ → Type 0
 IsNoOld (Changed old new) E text = (¬ IsTextLengthAs old (length text)) ⊎ HasNoWrapping old E text
 IsNoOld Kept E text = (¬ IsSomeTextLength (length text)) ⊎ HasNoForm E text
@@ -80,9 +80,8 @@ pub record IsPassed (forms : RewrapForms) (E F : List ℕ → List ℕ) (text an
   pub new : IsRewrappedAs (to_itself forms) F F text answer
   pub as_it_is : answer ≡ text
 
--- The answer is the wrapping under the new KEK of the one key whose wrapping the text is under the old KEK or, where there
--- is none, under the new one. So what an answer is answered is the answer again, unless it is a wrapping under the old
--- KEK, too.
+-- The answer is the wrapping under the new KEK of the only key whose wrapping the text is under the old KEK or, if
+-- there is none, under the new KEK. So an answer is its own answer, unless it is also a wrapping under the old KEK.
 pub record IsRewrappedOrPassed (forms : RewrapForms) (E F : List ℕ → List ℕ) (text answer : List ℕ) : Type 0 where
   pub rewrapped : IsRewrappedAs forms E F text answer ⊎ IsPassed forms E F text answer
   pub again : IsNoOld forms E answer → IsPassed forms E F answer answer

@@ -22,8 +22,8 @@ pub record DenoteBoth (task : Task) (F G K X : List ℕ) : Type 0 where
   pub kek : DenotesKek task.kek F K
   pub input : Denotes task.input G X
 
--- What a call does under an initial value. Of the KEK file, the input and the writer it is said what is known before the
--- call and after it.
+-- The effect of a call under an initial value. The KEK file, the input and the writer each appear twice: as known
+-- before the call and after it.
 abbrev pub RunsJobWith : ℕ → Task → Option (List ℕ) → Option (List ℕ) → Option (List ℕ) → Option (List ℕ) → Option (List ℕ)
     → Option (List ℕ) → Result Done JobFault → Type 0
 RunsJobWith iv task kek kek' input input' out out' answer =
@@ -36,8 +36,8 @@ abbrev pub RunsJob : Task → Option (List ℕ) → Option (List ℕ) → Option
     → Option (List ℕ) → Result Done JobFault → Type 0
 RunsJob task kek kek' input input' out out' answer = RunsJobWith default_iv task kek kek' input input' out out' answer
 
--- The headline of each job, of the bytes that a call took and wrote. What was written is the job's answer to the bytes X of
--- the input, under AES of the KEK: of a key its one wrapping, of a wrapping its one key, of a check the form of X.
+-- The headline of each job, of the bytes that a call took and wrote. What was written is the job's answer to the bytes
+-- X of the input, under AES of the KEK: of a key its one wrapping, of a wrapping its one key, of a check the form of X.
 pub record WritesTheAnswer (iv : ℕ) (task : Task) (kek kek' input input' out out' : Option (List ℕ)) : Type 0 where
   pub F : List ℕ
   pub G : List ℕ
@@ -50,9 +50,9 @@ pub record WritesTheAnswer (iv : ℕ) (task : Task) (kek kek' input input' out o
   pub answer : WritesFor task.job iv task (cipher K) X output
   pub written : Appends out out' output
 
--- The headline of an unwrap, of the bytes that a call took and wrote. The input was the wrapping, under AES of the KEK, of the
--- key that was written: that key alone has this wrapping, the key has no other, and no key has it in the other
--- form. So wrapping the written key again restores the input.
+-- The headline of an unwrap, about the bytes that a call took and wrote. The input was the wrapping, under AES of the
+-- KEK, of the key that was written. Only that key has this wrapping, the key has no other, and no key has it in the
+-- other form. So wrapping the written key again restores the input.
 pub record WritesTheKeyWith (iv : ℕ) (task : Task) (kek kek' input input' out out' : Option (List ℕ)) : Type 0 where
   pub F : List ℕ
   pub G : List ℕ

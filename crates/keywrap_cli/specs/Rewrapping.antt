@@ -1,5 +1,5 @@
--- What a call that rewraps one key does: it reads the old KEK, the new KEK and the wrapped key, in that order, and writes
--- the new wrapped key.
+-- What a call that rewraps one key does: it reads the old KEK, the new KEK and the wrapped key, in that order, and
+-- writes the new wrapped key.
 use Rattle.std.specs.Prelude.{ℕ, false, List, Option, Result, Ok}
 use Rattle.std.specs.Io.KnownBytes.{Appends, Consumes}
 use Rattle.aes_block.specs.Cipher.{cipher}
@@ -17,8 +17,8 @@ use Rattle.keywrap_cli.specs.declared.rewrapping.Rewrapping.{Rewrapping}
 abbrev pub rewrapping : RewrapForms → Notation → Notation → Rewrapping
 rewrapping forms input kek = record { forms = forms; pass_new = false; input = input; kek = kek }
 
--- What a call does. Of the old KEK's file, the new one's, the input and the writer it is said what is known before the call
--- and after it.
+-- The effect of a call. The old KEK's file, the new KEK's file, the input and the writer each appear twice: as known
+-- before the call and after it.
 abbrev pub RunsRewrap : Rewrapping → Option (List ℕ) → Option (List ℕ) → Option (List ℕ) → Option (List ℕ) → Option (List ℕ)
     → Option (List ℕ) → Option (List ℕ) → Option (List ℕ) → Result Done JobFault → Type 0
 RunsRewrap task kek kek' new new' input input' out out' answer =
@@ -32,9 +32,9 @@ pub record DenoteAll (task : Rewrapping) (F H G K L X : List ℕ) : Type 0 where
   pub new_kek : DenotesKek task.kek H L
   pub input : Denotes task.input G X
 
--- The headline, of the bytes that a call took and wrote. The input was the old wrapping, under AES of the old KEK, of
--- one key; what was written is that key's new wrapping, under AES of the new KEK. Where the form is kept, it is the one
--- form in which the input is a wrapping. Where what is new passes, the input may have been that new wrapping.
+-- The headline, about the bytes that a call took and wrote. The input was the old wrapping, under AES of the old KEK,
+-- of one key; what was written is that key's new wrapping, under AES of the new KEK. If the form is kept, it is the one
+-- form in which the input is a wrapping. If new wrappings pass, the input may have been that new wrapping.
 pub record WritesTheNewText (task : Rewrapping) (kek kek' new new' input input' out out' : Option (List ℕ))
     : Type 0 where
   pub F : List ℕ

@@ -50,7 +50,7 @@ abbrev pub verdict : Bool → List ℕ
 verdict true = codes " ok\n"
 verdict false = codes " failed\n"
 
--- a line for each vector, with its name and what is said of it
+-- a line for each vector, with its name and its verdict
 abbrev pub lines_of : List TestVector → List Bool → List ℕ
 lines_of [] oks = []
 lines_of (v ∷ vectors) [] = []
@@ -61,14 +61,14 @@ abbrev pub all_true : List Bool → Bool
 all_true [] = true
 all_true (ok ∷ oks) = ok && all_true oks
 
--- of each vector `ok` is said exactly where it is right
+-- the verdict of each vector is `ok` exactly if the vector is right
 abbrev pub AreVerdicts : List TestVector → List Bool → Type 0
 AreVerdicts [] oks = ⊤
 AreVerdicts (v ∷ vectors) [] = ⊤
 AreVerdicts (v ∷ vectors) (ok ∷ oks) = (IsTrue ok ↔ IsRight v) × AreVerdicts vectors oks
 
--- the text has a line for each vector, which says `ok` exactly where the vector is right, and all_ok says whether
--- each of them says `ok`
+-- the text has a line for each vector, with `ok` exactly if the vector is right, and all_ok is true exactly if each
+-- line has `ok`
 pub record IsReport (vectors : List TestVector) (text : List ℕ) (all_ok : Bool) : Type 0 where
   pub oks : List Bool
   pub one_each : length oks ≡ length vectors

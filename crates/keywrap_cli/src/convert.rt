@@ -61,7 +61,7 @@ fn wrap_plain<B: BlockPair>(
     }
 }
 
-// The initial value is that of the plain form, and is not asked for.
+// The initial value belongs to the plain form, and is not used.
 fn wrap_padded<B: BlockPair>(
     iv: &InitialValue,
     pair: &B,

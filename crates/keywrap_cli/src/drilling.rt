@@ -64,7 +64,7 @@ pub fn drill(
     }
 }
 
-// The bytes that the text denotes, where it is no longer than a file may be.
+// The bytes that the text denotes, if it is no longer than a file may be.
 fn bytes_of(alloc: Global, text: &str) -> Result<Vec<u8>, DrillFault>
     ensures { TextAnswer text.now result }
 {
@@ -74,7 +74,7 @@ fn bytes_of(alloc: Global, text: &str) -> Result<Vec<u8>, DrillFault>
     decode_hex(alloc, text.as_bytes()).map_err(text_fault)
 }
 
-// A slice is neither read nor too long, and no base64 is asked of it.
+// A slice cannot fail to be read and is not too long, and it is never read as base64.
 fn text_fault(fault: FileFault) -> DrillFault
     ensures { result ≡ text_fault_of fault }
 {

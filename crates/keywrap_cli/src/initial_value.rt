@@ -13,7 +13,7 @@ pub enum IvFault {
     /// The text is not 16 hex digits.
     #[error("is not 16 hex digits")]
     NotSixteenDigits,
-    /// The value begins as that of the padded form (RFC 5649, section 3).
+    /// The value begins like an initial value of the padded form (RFC 5649, section 3).
     #[error("is reserved for the padded form")]
     Reserved,
 }

@@ -34,8 +34,8 @@ pub enum Notation {
     Raw,
     /// By two hex digits each.
     Hex,
-    /// By base64 (RFC 4648). Either alphabet is read, with padding or without it; that of section 4
-    /// is written, with padding.
+    /// By base64 (RFC 4648). Either alphabet is read, with padding or without it. The alphabet of
+    /// section 4 is written, with padding.
     Base64,
     /// The same, but written is the alphabet of section 5, without padding.
     Base64Url,
@@ -100,11 +100,11 @@ pub enum JobFault {
 
 /// Runs a job: reads the KEK and the input, and writes the answer in the notation of the input.
 ///
-/// The first that applies is answered: KekFile, KekLength, InputFile, BadLength, Memory of the
-/// answer, Integrity, Memory of the hex output or of the check's line, Write. Where memory runs out
-/// while a file is read, Memory is answered where that file's fault would be. After a refusal for
-/// the KEK file or the KEK the input has not been read. Nothing is written before the whole
-/// output is made, and the call does not flush. No contract says where Memory stands: tests do.
+/// Returns the first error that applies: KekFile, KekLength, InputFile, BadLength, Memory for the
+/// answer, Integrity, Memory for the hex output or the line of a check, Write. If memory runs out
+/// while a file is read, the error is Memory instead of this file's error. The input is not read
+/// after an error of the KEK file or the KEK. Nothing is written before the whole output is made,
+/// and the call does not flush. Tests, not a contract, show the place of Memory in this order.
 pub fn run_job<K: Read, R: Read, W: Write>(
     alloc: Global,
     task: Task,
@@ -200,7 +200,7 @@ pub fn run<K: Read, R: Read, W: Write>(
     }
 }
 
-// What is done where an answer has this mark.
+// What was done if an answer has this mark.
 fn done_of(mark: Mark) -> Done
     ensures { result ≡ done_of mark }
 {

@@ -9,7 +9,7 @@ use key_files::FileFault;
 use std::alloc::Global;
 use std::io::Read;
 
-/// The block cipher of the program, which is named here alone.
+/// The block cipher of the program, which is named only here.
 pub use aes_vector::VectorAes as Aes;
 
 /// Which KEK of an operation it is.

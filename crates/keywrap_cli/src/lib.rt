@@ -1,6 +1,6 @@
-//! What the command `keywrap` does, as calls over readers and writers: jobs over a whole input and
-//! line by line, rewrapping, the drill, the published vectors. Beside them stand the line and the
-//! exit status of each fault, which tests show and no contract.
+//! The command `keywrap`, as calls over readers and writers: jobs over a whole input and line by
+//! line, rewrapping, the drill, the published vectors. Also the message and the exit status of each
+//! fault, which are tested and not proved.
 #![tactic(auto)]
 
 mod convert;

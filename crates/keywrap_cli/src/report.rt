@@ -28,10 +28,10 @@ pub enum VectorsFault {
     },
 }
 
-/// Writes a line for each vector: its name, and `ok` where it is right, else `failed`. True where
-/// all lines say `ok`.
+/// Writes a line for each vector: its name, and `ok` if it is right, else `failed`. Returns true if
+/// all lines have `ok`.
 ///
-/// The lines are made whole before the first write, and the call does not flush.
+/// All lines are made before the first write, and the call does not flush.
 pub fn vectors<W: Write>(alloc: Global, out: &mut W) -> Result<bool, VectorsFault>
     ensures report { IfOk result (λ all_ok. (text : List ℕ) × IsReport published_vectors text all_ok
         × Appends (W.contents out.old) (W.contents out.new) text) }
@@ -90,7 +90,7 @@ fn verdict(ok: bool) -> &'static str
     if ok { " ok\n" } else { " failed\n" }
 }
 
-/// A line for each vector of a table: `ok` where it is right, else `failed`.
+/// Returns a line for each vector of a table: `ok` if it is right, else `failed`.
 pub fn report_on(alloc: Global, table: &[Vector<'_>]) -> Result<Report, AllocError>
     ensures { IfOk result (λ report.
         IsReport (map shown table.now) (string_bytes report.text) report.all_ok) }

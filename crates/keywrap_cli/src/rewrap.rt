@@ -14,15 +14,14 @@ use std::alloc::Global;
 use std::io::{Read, Write};
 
 /// Reads the old KEK, the new KEK and a wrapped key under the old one, and writes the wrapping of
-/// the same key under the new one, in the notation of the input. The key itself is
-/// never written.
+/// the same key under the new one, in the notation of the input. The key itself is never written.
 ///
-/// The first that applies is answered: KekFile, KekLength, NewKekFile, NewKekLength, InputFile,
-/// BadLength of the wrapped key, Integrity, BadLength of the key, Memory of the output, Write.
-/// Where memory runs out while a file is read, Memory is answered where that file's fault
-/// would be. A file is read only after what comes before it has passed. Nothing is written before
-/// the whole output is made, and the call does not flush. No contract says where Memory stands:
-/// tests do.
+/// Returns the first error that applies: KekFile, KekLength, NewKekFile, NewKekLength, InputFile,
+/// BadLength for the wrapped key, Integrity, BadLength for the key, Memory for the output, Write.
+/// If memory runs out while a file is read, the error is Memory instead of this file's error. A
+/// file is read only after everything before it has passed. Nothing is written before the whole
+/// output is made, and the call does not flush. Tests, not a contract, show the place of Memory in
+/// this order.
 pub fn run_rewrap<K: Read, N: Read, R: Read, W: Write>(
     alloc: Global,
     old_form: Form,

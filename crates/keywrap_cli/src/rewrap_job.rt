@@ -78,7 +78,7 @@ fn make<O: BlockPair, N: BlockPair>(
     }
 }
 
-// The same where what is new passes. A refused rewrapping clears its buffer, so the text is kept.
+// The same if new wrappings pass. A refused rewrapping clears its buffer, so the text is kept.
 fn rewrap_or_pass<O: BlockPair, N: BlockPair>(
     forms: &RewrapForms,
     old: &O,

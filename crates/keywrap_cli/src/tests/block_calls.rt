@@ -49,8 +49,8 @@ impl BlockPair for Tally {
     ghost lawful = { λ _. swap_halves_lawful };
 }
 
-// The job, the form, how many zeros it is given, and the calls: six for each 8 bytes of key, and one
-// for a padded key of up to 8 bytes. A wrapped key of 16 bytes has the padded form alone.
+// The job, the form, the number of zeros in the input, and the number of calls: six for each 8
+// bytes of key, and one for a padded key of up to 8 bytes. A wrapped key of 16 bytes is padded.
 static COSTS: [(Job, Form, usize, u64); 10] = [
     (Job::Wrap, Form::Plain, 8, 0),
     (Job::Wrap, Form::Plain, 24, 18),

@@ -9,8 +9,8 @@ use std::alloc::Global;
 use std::io::Write;
 use std::process::Abort;
 
-/// Which call is made: of a `With` under which initial value, of a `Rewrap` from which form to
-/// which; then the notation of the input and that of the KEK files.
+/// The call that is made: a `With` has its initial value, a `Rewrap` its old and new form. Then the
+/// notation of the input and the notation of the KEK files.
 #[derive(Clone, Copy)]
 pub enum Call {
     Job(Job, Form, Notation, Notation),
@@ -82,8 +82,8 @@ impl<'a> Case<'a> {
         ]
     }
 
-    /// Whether the call reads the file at this place: only a `Rewrap` reads a new KEK, and none
-    /// what stands after a refused KEK.
+    /// Whether the call reads the file at this place: only a `Rewrap` reads a new KEK, and no call
+    /// reads a file that follows a refused KEK.
     pub fn reads(&self, at: usize) -> bool {
         match self.2 {
             Err(JobFault::KekFile(_) | JobFault::KekLength) => at == 0,

@@ -3,7 +3,7 @@
 use std::alloc::Global;
 use std::io::{self, Read, Write};
 
-/// How often a double answers its fault: once, and then it goes on, or whenever it is asked.
+/// How often a double returns its fault: once, and then it goes on, or at every call.
 pub static FAULTS: [usize; 2] = [1, usize::MAX];
 
 /// Gives its bytes in pieces, and at one place a fault.
@@ -83,7 +83,7 @@ pub static STOPPINGS: [(Stop, usize); 4] = [
 /// Takes bytes in pieces, and at one place answers a fault.
 #[derive(Drop)]
 pub struct Narrow {
-    /// Whether a flush was asked for.
+    /// Whether a flush was requested.
     pub is_flushed: bool,
     out: Vec<u8>,
     // The most bytes that a write takes.
@@ -154,7 +154,7 @@ impl Write for Narrow {
     }
 }
 
-/// Takes each byte, and fails where it is flushed.
+/// Takes each byte, and fails when it is flushed.
 #[derive(Drop)]
 pub struct Unflushed;
 

@@ -30,7 +30,7 @@ static ROWS: [(Forms, &[u8], &[u8], Answer, &[u8]); 10] = [
     (PLAIN, HEX_KEK, NEW_PADDED, INTEGRITY, b""),
     (TO_PADDED, HEX_KEK, NEW_PADDED, WRITTEN, NEW_PADDED),
     (TO_PADDED, HEX_KEK, NEW_TEXT, INTEGRITY, b""),
-    // its length is legal in the new form alone
+    // its length is legal only in the new form
     (TO_PADDED, HEX_KEK, NEW_OF_7, WRITTEN, NEW_OF_7),
     (PLAIN, HEX_KEK, NEW_OF_7, BAD_LENGTH, b""),
     (KEPT, HEX_KEK, NEW_TEXT, WRITTEN, NEW_TEXT),

@@ -16,7 +16,7 @@ pub const NEW_KEK: &[u8] = b"000102030405060708090a0b0c0d0e0f1011121314151617181
 pub const RAW_NEW_KEK: &[u8] = b"\x00\x01\x02\x03\x04\x05\x06\x07\x08\x09\x0A\x0B\x0C\x0D\x0E\x0F\
     \x10\x11\x12\x13\x14\x15\x16\x17\x18\x19\x1A\x1B\x1C\x1D\x1E\x1F";
 
-// The text of RFC 3394, section 4.3: the same key as that of section 4.1.
+// The text of RFC 3394, section 4.3. It has the same key as the text of section 4.1.
 pub const NEW_TEXT: &[u8] = b"64e8c3f9ce0f5ba263e9777905818a2a93c8191e7d6e8ae7\n";
 
 const RAW_NEW_TEXT: &[u8] = b"\x64\xE8\xC3\xF9\xCE\x0F\x5B\xA2\x63\xE9\x77\x79\
@@ -67,7 +67,7 @@ pub static CASES: [Case; 23] = [
     Case(TO_PADDED, [HEX_KEK, NEW_KEK, HEX_TEXT], WRITTEN, NEW_PADDED),
     Case(TO_PLAIN, [NEW_KEK, HEX_KEK, NEW_PADDED], WRITTEN, HEX_TEXT),
     Case(PADDED, [PADDED_KEK, NEW_KEK, TEXT_OF_7], WRITTEN, NEW_OF_7),
-    // a refused KEK, whatever stands after it
+    // a refused KEK, whatever follows it
     Case(PLAIN, [b"", NEW_KEK, HEX_TEXT], KEK_LENGTH, b""),
     Case(PLAIN, [FIFTEEN, b"0g", HEX_TEXT], KEK_LENGTH, b""),
     Case(PLAIN, [b"0g", b"", HEX_TEXT], KEK_DIGIT, b""),

@@ -1,4 +1,4 @@
--- What the kit's engine of the text's encoding decodes of what is no blank, where no character is misplaced.
+-- What the kit's engine of the text's encoding decodes of the text without blanks, if no character is misplaced.
 use Rattle.std.proofs.Common.{sym, ◌∙◌}
 use Rattle.key_files.specs.Base64Text.{kept}
 use Rattle.key_files.proofs.Base64.{base64_meaning-misplaced, base64_meaning-placed, not_misplaced, symbols_meaning-is}

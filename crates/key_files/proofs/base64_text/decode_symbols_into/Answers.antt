@@ -1,4 +1,4 @@
--- What the kit's engine of the text's encoding decodes, where no character is misplaced.
+-- What the kit's engine of the text's encoding decodes, if no character is misplaced.
 use Rattle.std.proofs.Common.{sym, ◌∙◌}
 use Rattle.key_files.proofs.Base64.{IsBase64Of-decoded, not_misplaced, symbol_text_meaning-misplaced, symbol_text_meaning-placed, symbols_meaning-is}
 use Rattle.key_files.proofs.Base64Back.{symbol_text_meaning-accepts}

@@ -1,4 +1,4 @@
--- The encoding is the output, where it is as long.
+-- The encoding is the output, if it is as long.
 use Rattle.std.proofs.Common.{not, ◌∙◌}
 use Rattle.key_files.specs.Base64Text.{encoding}
 use Rattle.base64.specs.declared.encode.EncodeSliceError.TheVariants.{OutputSliceTooSmall}

@@ -1,4 +1,4 @@
--- What `hex` decodes into the room, where it decodes at all.
+-- What `hex` decodes into the room, if it decodes at all.
 use Rattle.std.proofs.Common.{sym, ◌∙◌}
 use Rattle.key_files.proofs.Strict.{sized-meaning}
 use Rattle.key_files.proofs.hex_text.decode_strict.Goals as goal

@@ -1,4 +1,4 @@
--- What was taken from the reader stands in `bytes`, within the limit.
+-- `bytes` has what was taken from the reader, within the limit.
 use Rattle.std.proofs.Common.{◌≡◌, ◌≤◌, ◌+◌, ◌-◌, length, vec_len}
 use Rattle.std.specs.Io.KnownBytes.{Consumes}
 use Rattle.key_files.specs.declared.read.TheConstants.{CHUNK}

@@ -170,7 +170,7 @@ fn in_hex(call: Call) -> Call {
     }
 }
 
-// Whether a drill of the key is answered, and that of its wrapping by the key.
+// Whether a drill of the key, and a drill of its wrapping by the key, return an answer.
 fn drills(alloc: Global, form: Form, key: &[u8]) -> bool {
     match drilled(alloc, form, Direction::Wrap, key) {
         Some(text) => match drilled(alloc, form, Direction::Unwrap, &text) {

@@ -1,5 +1,5 @@
 //! Wrapping and unwrapping in a buffer: what the buffer holds and how many block calls were made,
-//! also where the text is refused.
+//! also if the text is refused.
 
 use super::super::standards::wrappings;
 use aes_block::Aes;

@@ -21,7 +21,7 @@ fn refuses_each_proper_prefix_of_a_text(rt: HostRuntime) -> Result<(), Fail> {
     Ok(())
 }
 
-// For its length, or, where that is legal, for its bytes.
+// For its length or, if that is legal, for its bytes.
 fn refuse_each_prefix(rt: &impl Abort, alloc: Global, wrapping: &Wrapping) {
     let unwrap = Call::Job(Job::Unwrap, wrapping.form, RAW, RAW);
     for len in 0..wrapping.text.len() {

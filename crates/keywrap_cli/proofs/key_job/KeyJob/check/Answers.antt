@@ -1,4 +1,4 @@
--- The line is that of the text's kind, in a buffer that was cleared.
+-- The line gives the text's kind, in a buffer that was cleared.
 use Rattle.std.proofs.Common.{◌≡◌, ap, ◌∙◌}
 use Rattle.keywrap_cli.specs.Answers.{kind_line}
 use Rattle.keywrap_cli.proofs.Opens.{check_mark}
