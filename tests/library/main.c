@@ -472,6 +472,7 @@ static void status_texts(void) {
     status_text(KEYWRAP_BAD_KEK, "key length is not 16, 24 or 32 bytes");
     status_text(KEYWRAP_BAD_LENGTH, "bad length");
     status_text(KEYWRAP_INTEGRITY, "integrity check failed");
+    status_text(7, "out of memory");
     for (size_t i = 0; i < 6; i++) status_text(unknown[i], "unknown status");
 }
 

@@ -20,6 +20,6 @@ pub use plain::{unwrap, wrap};
 pub use plain_in_place::{unwrap_in_place, wrap_in_place};
 pub use plain_with::{initial_value, unwrap_with, wrap_with};
 pub use rewrapping::rewrap_in_place;
-pub use status::{BAD_IV, BAD_KEK, BAD_LENGTH, DONE, INTEGRITY};
+pub use status::{BAD_IV, BAD_KEK, BAD_LENGTH, DONE, INTEGRITY, NO_MEMORY};
 pub use texts::status_text;
 pub use version_number::version;

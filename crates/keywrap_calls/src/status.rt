@@ -20,6 +20,9 @@ pub const BAD_LENGTH: i32 = 4;
 /// The integrity check failed: no key was wrapped to this under the KEK.
 pub const INTEGRITY: i32 = 5;
 
+/// There is no memory for the copies of a call. Only the portable C around the calls returns it.
+pub const NO_MEMORY: i32 = 7;
+
 // The status of an outcome.
 pub(crate) fn status_of(outcome: Result<(), InPlaceFault>) -> i32
     ensures { result ≡ outcome_status outcome }
