@@ -22,12 +22,6 @@ COMMANDS = ANSWERS + REFUSALS + ARGUMENTS + INTO_FILES
 # are at most 40 (the parser makes 110 to 190 before them, as it does for these).
 WHOLE = ["wrap", "unwrap", "rewrap", "check", "drill", "vectors", "help", *(command.name for command in ARGUMENTS)]
 LAST = 48
-# These differ from another command in no step that allocates.
-LIKE_ANOTHER = ["raw check", "rewrap keeping plain", "check in base64", "raw rewrap of a file", "check of a file",
-                "odd KEK", "empty KEK", "directory as new KEK file", "new KEK file too long", "odd new KEK", "odd digits",
-                "bad digit in the new KEK", "base64 after its padding", "drill of nothing", "drill of a bad digit",
-                "raw wrap into a file", "wrap under an IV into a file", "padded unwrap into a file",
-                "new KEK of 15 bytes, no file", "no input, no file", "bad digit, no file"]
 
 
 @pytest.fixture
@@ -54,8 +48,7 @@ def ends(keywrap, command):
     return run
 
 
-@pytest.mark.parametrize("command", [each for each in COMMANDS if each.name not in LIKE_ANOTHER],
-                         ids=lambda command: command.name)
+@pytest.mark.parametrize("command", COMMANDS, ids=lambda command: command.name)
 def test_each_allocation(preloaded, command, ends):
     """Each fails in turn, by itself and with all later ones."""
     program = preloaded("fail_alloc")

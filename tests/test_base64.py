@@ -34,33 +34,31 @@ def answered(text):
     D16_64, D16_URL, D16_64.rstrip("="), D16_URL + "==",
     f" \t{D16_64[:5]} {D16_64[5]}\r\n{D16_64[6:]}"])
 def test_wrap_reads_both_alphabets(keywrap, given):
-    assert keywrap(*WRAP, "--base64", stdin=given + "\n") == answered(W16_64)
-    assert keywrap(*WRAP, "--base64url", stdin=given + "\n") == answered(W16_URL)
-    assert keywrap(*WRAP, "--base64", stdin=given) == answered(W16_64)
+    for end in "", "\n":
+        assert keywrap(*WRAP, "--base64", stdin=given + end) == answered(W16_64)
+        assert keywrap(*WRAP, "--base64url", stdin=given + end) == answered(W16_URL)
 
 
-@pytest.mark.parametrize("given", [W16_64, W16_URL])
-@pytest.mark.parametrize("job, flag, answer", [
-    (UNWRAP, "--base64", D16_64), (UNWRAP, "--base64url", D16_URL),
-    (REWRAP, "--base64", W32_64), (REWRAP, "--base64url", W32_URL),
-    (CHECK, "--base64", "plain 16"), (CHECK, "--base64url", "plain 16")])
-def test_wrapped_keys_are_read_in_both_alphabets(keywrap, job, flag, answer, given):
-    assert D16_64 + W16_64 != D16_URL + "==" + W16_URL, "the two alphabets differ here"
-    assert keywrap(*job, flag, stdin=given + "\n") == answered(answer)
+@pytest.mark.parametrize("job, flags, given, answer", [
+    (job, flag, given, answer) for given in (W16_64, W16_URL) for job, flag, answer in [
+        (UNWRAP, "--base64", D16_64), (UNWRAP, "--base64url", D16_URL), (REWRAP, "--base64", W32_64),
+        (REWRAP, "--base64url", W32_URL), (CHECK, "--base64", "plain 16"), (CHECK, "--base64url", "plain 16")]] + [
+    (WRAP, f"--iv {IV} --base64", D16_64, in_base64(WRAPPED_IV)),
+    (UNWRAP, f"--iv {IV} --base64url", in_base64(WRAPPED_IV), D16_URL),
+    (WRAP, "--lines --base64url", f"{D16_64}\r\n\t{D16_URL} ", f"{W16_URL}\n{W16_URL}"),
+    (REWRAP, "--lines --pass-new --base64", f"{W16_64}\n{W32_URL}", f"{W32_64}\n{W32_64}")])
+def test_answers(keywrap, job, flags, given, answer):
+    assert keywrap(*job, *flags.split(), stdin=given + "\n") == answered(answer)
+    assert keywrap(*job, *flags.split(), "-o", "file", stdin=given) == Ended(0, "", "")
+    assert pathlib.Path("file").read_text() == answer + "\n"
 
 
-def test_initial_value(keywrap):
-    assert keywrap(*WRAP, "--iv", IV, "--base64", stdin=D16_64) == answered(in_base64(WRAPPED_IV))
-    assert keywrap(*UNWRAP, "--iv", IV, "--base64url", stdin=in_base64(WRAPPED_IV)) == answered(D16_URL)
+def test_alphabets_differ():
+    assert D16_64 + W16_64 != D16_URL + "==" + W16_URL
 
 
 def test_check_of_nothing(keywrap):
     assert keywrap(*CHECK, "--base64", stdin="") == Ended(5, "none\n", "")
-
-
-def test_answer_goes_into_a_file(keywrap):
-    assert keywrap(*WRAP, "--base64", "-o", "file", stdin=D16_64) == Ended(0, "", "")
-    assert pathlib.Path("file").read_text() == W16_64 + "\n"
 
 
 def test_longest_key(keywrap):
@@ -78,13 +76,10 @@ def test_longest_file(keywrap):
     assert keywrap(*WRAP, "--base64", stdin=D16_64.ljust(MAX_FILE + 1)) == refused(6, "input: too long")
 
 
-@pytest.mark.parametrize("text", [in_base64(KEK16), in_url(KEK16), " ".join(in_base64(KEK16))])
-def test_kek_file(keywrap, text):
-    pathlib.Path("kek").write_text(text + "\n")
-    assert keywrap("wrap", "--base64-kek", "--kek", "kek", stdin=KEY16) == answered(WRAPPED16)
-
-
 def test_kek_and_input_have_their_own_notation(keywrap):
+    for text in in_base64(KEK16), in_url(KEK16), " ".join(in_base64(KEK16)):
+        pathlib.Path("kek").write_text(text + "\n")
+        assert keywrap("wrap", "--base64-kek", "--kek", "kek", stdin=KEY16) == answered(WRAPPED16)
     pathlib.Path("kek32.url").write_text(in_url(KEK32))
     keks = ["--base64-kek", "--kek", "kek16.64", "--new-kek", "kek32.url"]
     assert keywrap("rewrap", *keks, stdin=WRAPPED16) == answered(WRAPPED32)
@@ -146,8 +141,7 @@ def test_every_text_of_up_to_4_characters_in_lines(keywrap):
 @pytest.mark.parametrize("part", range(4))
 def test_text_of_up_to_4_characters_as_one_key(keywrap, part):
     """A sample. Blanks are allowed anywhere."""
-    sample = list(base64_model.texts(base64_model.LETTERS + "\n"))[97 * part::388]
-    for text in sample:
+    for text in list(base64_model.texts(base64_model.LETTERS + "\n"))[97 * part::388]:
         answer = base64_model.denoted(text) or BAD_LENGTH
         ended = keywrap(*WRAP, "--padded", "--base64", stdin=text)
         if isinstance(answer, bytes):
@@ -189,13 +183,6 @@ def test_refused_line(keywrap, job, good, answer, faults, at):
         pathlib.Path("in").write_text(given)
         assert keywrap(*job, "-i", "in", "-o", "old") == Ended(status, "", error)
         assert pathlib.Path("old").read_text() == "old\n"
-
-
-@pytest.mark.parametrize("job, given, answer", [
-    pytest.param([*WRAP, "--base64url"], f"{D16_64}\r\n\t{D16_URL} ", [W16_URL, W16_URL], id="blanks at the ends"),
-    pytest.param([*REWRAP, "--pass-new", "--base64"], f"{W16_64}\n{W32_URL}\n", [W32_64, W32_64], id="a new one")])
-def test_lines(keywrap, job, given, answer):
-    assert keywrap(*job, "--lines", stdin=given) == answered("\n".join(answer))
 
 
 def test_lines_of_both_forms(keywrap):
@@ -247,17 +234,12 @@ def test_nist(keywrap, table, bits):
     assert statuses[5] > 5 or job == "wrap"
 
 
-@pytest.mark.parametrize("one, other", [
-    ("--base64", "--raw"), ("--base64url", "--raw"), ("--base64", "--base64url"), ("--base64-kek", "--raw-kek")])
 @pytest.mark.parametrize("job", [WRAP, UNWRAP, REWRAP, CHECK], ids=["wrap", "unwrap", "rewrap", "check"])
-def test_notations_exclude_one_another(keywrap, job, one, other):
-    for flags in [one, other], [other, one]:
-        ended = keywrap(*job, *flags)
-        assert (ended.status, ended.stdout) == (2, "")
-        assert ended.stderr.startswith(f"error: the argument '{flags[0]}' cannot be used with")
-
-
-@pytest.mark.parametrize("args", [["drill", "--base64", "00"], [*WRAP, "--base64", "--base64"]])
-def test_refused_arguments(keywrap, args):
-    ended = keywrap(*args)
-    assert (ended.status, ended.stdout, ended.stderr[:7]) == (2, "", "error: ")
+def test_notations_exclude_one_another(keywrap, job):
+    for one, other in [("--base64", "--raw"), ("--base64url", "--raw"), ("--base64", "--base64url"),
+                       ("--base64-kek", "--raw-kek"), ("--base64", "--base64")]:
+        for flags in [one, other], [other, one]:
+            ended = keywrap(*job, *flags)
+            assert (ended.status, ended.stdout) == (2, "")
+            assert ended.stderr.startswith(f"error: the argument '{flags[0]}' cannot be used")
+    assert keywrap("drill", "--base64", "00").status == 2

@@ -23,39 +23,32 @@ CANNOT_BE_READ = refused(6, "input: cannot be read")
 CANNOT_BE_OPENED = refused(6, "input: cannot be opened")
 
 
-@pytest.fixture(params=JOBS, ids=lambda command: command.name)
-def job(request):
-    return request.param
-
-
+@pytest.mark.parametrize("job", JOBS, ids=lambda command: command.name)
 class TestEachJob:
     """Each job takes its input from whatever can be read, or says that it cannot be read."""
 
-    @pytest.mark.parametrize("size", [1, 7])
-    def test_pieces(self, keywrap, job, size):
-        with in_pieces(job.given, size) as given:
-            assert keywrap(*job.args, stdin=given, text=False) == job[3:]
+    def test_pieces(self, keywrap, job):
+        for size in 1, 7:
+            with in_pieces(job.given, size) as given:
+                assert keywrap(*job.args, stdin=given, text=False) == job[3:]
 
     def test_stopped_while_it_waits(self, keywrap, job):
-        with keywrap.started(*job.args, stdin=subprocess.PIPE, stdout=subprocess.PIPE,
-                             stderr=subprocess.PIPE) as run:
+        with keywrap.started(*job.args, stdin=subprocess.PIPE, stdout=subprocess.PIPE, stderr=subprocess.PIPE) as run:
             run.send_signal(signal.SIGSTOP)
             run.stdin.write(job.given)
             run.send_signal(signal.SIGCONT)
             out, err = run.communicate()
         assert (run.returncode, out, err.decode()) == job[3:]
 
-    @pytest.mark.parametrize("count", [0, 5])
-    def test_read_error(self, keywrap, job, count):
-        """The pipe has no more bytes, and none can be waited for."""
-        reading, writing = os.pipe()
-        os.write(writing, job.given[:count])
-        os.set_blocking(reading, False)
-        assert keywrap(*job.args, stdin=reading) == CANNOT_BE_READ
-        os.close(reading)
-        os.close(writing)
-
-    def test_not_to_be_read(self, keywrap, job):
+    def test_read_error(self, keywrap, job):
+        """A pipe that has no more bytes, and in which none can be waited for; a directory; a file that is only written."""
+        for count in 0, 5:
+            reading, writing = os.pipe()
+            os.write(writing, job.given[:count])
+            os.set_blocking(reading, False)
+            assert keywrap(*job.args, stdin=reading) == CANNOT_BE_READ
+            os.close(reading)
+            os.close(writing)
         directory = os.open("folder", os.O_RDONLY)
         assert keywrap(*job.args, stdin=directory) == CANNOT_BE_READ
         os.close(directory)
@@ -138,30 +131,26 @@ def test_closed_standard_input(keywrap, args):
         assert keywrap(*args, *name, stdin=CLOSED) == ended
 
 
-@pytest.mark.parametrize("content, status, message", [
-    pytest.param("0g", 6, "input: no hex digit at byte 1", id="digit"),
-    pytest.param("012", 6, "input: odd number of hex digits", id="odd")])
+@pytest.mark.parametrize("content, message", [("0g", "no hex digit at byte 1"), ("012", "odd number of hex digits")])
 @EACH
-def test_text_that_is_no_hex(keywrap, args, content, status, message):
-    assert keywrap(*args, stdin=content + "\n") == refused(status, message)
+def test_text_that_is_no_hex(keywrap, args, content, message):
+    refusal = refused(6, f"input: {message}")
+    assert keywrap(*args, stdin=content + "\n") == refusal
     pathlib.Path("in").write_text(content)
     with open("key.hex", "rb") as given:
-        assert keywrap(*args, "-i", "in", stdin=given) == refused(status, message)
+        assert keywrap(*args, "-i", "in", stdin=given) == refusal
         assert given.tell() == 0
 
 
 @pytest.mark.parametrize("name, message", [
-    pytest.param("long.hex", "input: too long", id="too long"),
-    pytest.param("/dev/zero", "input: too long", id="without end"),
-    pytest.param("folder", "input: cannot be read", id="directory"),
-    pytest.param("/proc/self/mem", "input: cannot be read", id="read error")])
+    ("long.hex", "too long"), ("/dev/zero", "too long"), ("folder", "cannot be read"), ("/proc/self/mem", "cannot be read")])
 @EACH
 def test_files_that_are_refused(keywrap, args, name, message):
     flags = ["--raw"] if name == "/dev/zero" else []
-    assert keywrap(*args, *flags, "--input", name) == refused(6, message)
+    assert keywrap(*args, *flags, "--input", name) == refused(6, f"input: {message}")
     if name != "/proc/self/mem":
         descriptor = os.open(name, os.O_RDONLY)
-        assert keywrap(*args, *flags, stdin=descriptor) == refused(6, message)
+        assert keywrap(*args, *flags, stdin=descriptor) == refused(6, f"input: {message}")
         os.close(descriptor)
 
 
@@ -206,17 +195,11 @@ def test_many_pieces(keywrap):
 
 
 @pytest.mark.parametrize("args, given", [
-    pytest.param(UNWRAP, WRONG, id="changed byte"),
-    pytest.param(UNWRAP + ["--raw"], raw(WRAPPED16[:-2] + "e4"), id="changed last byte, raw"),
-    pytest.param(["unwrap", "--kek", "kek24.hex"], WRAPPED16, id="another KEK"),
-    pytest.param(["unwrap", "--kek", "kek5649.hex"], WRAPPED20, id="padded as plain"),
-    pytest.param(UNWRAP + ["--padded"], WRAPPED16, id="plain as padded"),
-    pytest.param(REWRAP, WRONG, id="rewrap of a changed byte"),
-    pytest.param(REWRAP + ["--new-padded"], WRONG, id="rewrap of a changed byte to padded"),
-    pytest.param(REWRAP + ["--keep-form"], WRONG, id="rewrap of a changed byte in its form"),
-    pytest.param(["rewrap", "--kek", "kek32.hex", "--new-kek", "kek16.hex"], WRAPPED16, id="KEKs exchanged"),
-    pytest.param(REWRAP, PADDED16, id="rewrap of padded as plain"),
-    pytest.param(REWRAP + ["--padded"], WRAPPED16, id="rewrap of plain as padded")])
+    (UNWRAP, WRONG), ([*UNWRAP, "--raw"], raw(WRAPPED16[:-2] + "e4")), (["unwrap", "--kek", "kek24.hex"], WRAPPED16),
+    (["unwrap", "--kek", "kek5649.hex"], WRAPPED20), ([*UNWRAP, "--padded"], WRAPPED16),
+    *[([*REWRAP, *flags], WRONG) for flags in ([], ["--new-padded"], ["--keep-form"])],
+    (["rewrap", "--kek", "kek32.hex", "--new-kek", "kek16.hex"], WRAPPED16), (REWRAP, PADDED16),
+    ([*REWRAP, "--padded"], WRAPPED16)])
 def test_integrity(keywrap, args, given):
     assert keywrap(*args, stdin=given) == refused(5, INTEGRITY)
 

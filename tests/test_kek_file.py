@@ -16,56 +16,31 @@ REWRAPPED = Ended(0, WRAPPED32 + "\n", "")
 NO_IV = "--iv is not 16 hex digits"
 
 
-def with_kek(command, name):
-    """The command's arguments with this KEK file."""
-    args = list(command.args)
-    args[args.index("--kek") + 1] = name
-    return args
+@pytest.mark.parametrize("job", JOBS, ids=lambda command: command.name)
+def test_each_job(keywrap, job):
+    """It takes its KEK from whatever can be read. From standard input it takes the whole, and no input is left."""
+    at = job.args.index("--kek") + 1
+    kek = pathlib.Path(job.args[at]).read_bytes()
+
+    def run(name, **options):
+        args = [*job.args[:at], name, *job.args[at + 1:]]
+        return keywrap(*args, text=False, **{"stdin": job.given, **options})
+
+    with piped(kek) as pipe:
+        assert run(f"/dev/fd/{pipe}", pass_fds=[pipe]) == job[3:]
+    with in_pieces(kek, 5) as pipe, in_pieces(job.given, 5) as given:
+        assert run(f"/dev/fd/{pipe}", stdin=given, pass_fds=[pipe]) == job[3:]
+    with open(job.args[at], "rb") as file:
+        assert run(f"/dev/fd/{file.fileno()}", pass_fds=[file.fileno()]) == job[3:]
+    with named_pipe("pipe", kek):
+        assert run("pipe") == job[3:]
+    nothing = (5, b"none\n", "") if job.args[0] == "check" else (4, b"", f"keywrap: {BAD_LENGTH}\n")
+    assert run("/dev/stdin", stdin=kek) == nothing
 
 
-def kek_of(command):
-    return pathlib.Path(command.args[command.args.index("--kek") + 1]).read_bytes()
-
-
-@pytest.fixture(params=JOBS, ids=lambda command: command.name)
-def job(request):
-    return request.param
-
-
-class TestEachJob:
-    """Each job takes its KEK from whatever can be read."""
-
-    def test_pipe(self, keywrap, job):
-        with piped(kek_of(job)) as pipe:
-            ended = keywrap(*with_kek(job, f"/dev/fd/{pipe}"), stdin=job.given, text=False, pass_fds=[pipe])
-        assert ended == job[3:]
-
-    def test_pieces(self, keywrap, job):
-        with in_pieces(kek_of(job), 5) as pipe, in_pieces(job.given, 5) as given:
-            ended = keywrap(*with_kek(job, f"/dev/fd/{pipe}"), stdin=given, text=False, pass_fds=[pipe])
-        assert ended == job[3:]
-
-    def test_descriptor(self, keywrap, job):
-        with open(job.args[job.args.index("--kek") + 1], "rb") as file:
-            args = with_kek(job, f"/dev/fd/{file.fileno()}")
-            assert keywrap(*args, stdin=job.given, text=False, pass_fds=[file.fileno()]) == job[3:]
-
-    def test_named_pipe(self, keywrap, job):
-        with named_pipe("pipe", kek_of(job)):
-            assert keywrap(*with_kek(job, "pipe"), stdin=job.given, text=False) == job[3:]
-
-    def test_standard_input(self, keywrap, job):
-        """The KEK takes the whole of it, and nothing is left as the input."""
-        ended = keywrap(*with_kek(job, "/dev/stdin"), stdin=kek_of(job))
-        assert ended == (Ended(5, "none\n", "") if job.args[0] == "check" else refused(4, BAD_LENGTH))
-
-
-def test_symbolic_link(keywrap):
+def test_link_blanks_and_either_case(keywrap):
     os.symlink("kek16.hex", "link")
     assert keywrap("wrap", "--kek", "link", stdin=KEY16) == WRAPPED
-
-
-def test_blanks_and_either_case(keywrap):
     pathlib.Path("kek").write_bytes(b"00 01 02 03\t04 05 06 07\r\n\n08090A0b0c0D0e0F\r\n")
     assert keywrap("wrap", "--kek", "kek", stdin="0011 2233 4455 6677\n8899 AABB CCDD EEFF\n") == WRAPPED
 
@@ -99,18 +74,12 @@ def test_without_end(keywrap):
 
 
 @pytest.mark.parametrize("name, flags, status, message", [
-    pytest.param("kek15.hex", [], 3, KEK_LENGTH, id="15 bytes"),
-    pytest.param("kek17.raw", ["--raw-kek"], 3, KEK_LENGTH, id="17 raw bytes"),
-    pytest.param("kek16.hex", ["--raw-kek"], 3, KEK_LENGTH, id="hex as raw"),
-    pytest.param("nothing", [], 3, KEK_LENGTH, id="nothing"),
-    pytest.param("nothing", ["--raw-kek"], 3, KEK_LENGTH, id="nothing, raw"),
-    pytest.param("/dev/null", [], 3, KEK_LENGTH, id="/dev/null"),
-    pytest.param("missing", [], 6, "key file: cannot be opened", id="missing"),
-    pytest.param("folder", [], 6, "key file: cannot be read", id="directory"),
-    pytest.param("/proc/self/mem", [], 6, "key file: cannot be read", id="read error"),
-    pytest.param("digit", [], 6, "key file: no hex digit at byte 22", id="bad digit"),
-    pytest.param("odd", [], 6, "key file: odd number of hex digits", id="odd"),
-    pytest.param("long.hex", [], 6, "key file: too long", id="too long")])
+    ("kek15.hex", [], 3, KEK_LENGTH), ("kek17.raw", ["--raw-kek"], 3, KEK_LENGTH),
+    ("kek16.hex", ["--raw-kek"], 3, KEK_LENGTH), ("nothing", [], 3, KEK_LENGTH), ("nothing", ["--raw-kek"], 3, KEK_LENGTH),
+    ("/dev/null", [], 3, KEK_LENGTH), ("missing", [], 6, "key file: cannot be opened"),
+    ("folder", [], 6, "key file: cannot be read"), ("/proc/self/mem", [], 6, "key file: cannot be read"),
+    ("digit", [], 6, "key file: no hex digit at byte 22"), ("odd", [], 6, "key file: odd number of hex digits"),
+    ("long.hex", [], 6, "key file: too long")])
 def test_refusals(keywrap, name, flags, status, message):
     """The KEK file is read before a byte of the input, which a command after it gets whole; the same for a new KEK."""
     pathlib.Path("kek17.raw").write_bytes(bytes(17))
@@ -158,10 +127,9 @@ def test_closed_standard_input(keywrap):
 class TestBothKeks:
     """4.1's wrapped key goes from KEK16 to KEK32."""
 
-    @pytest.mark.parametrize("size", [5, 100])
-    def test_pipes(self, keywrap, size):
-        with in_pieces(KEK16.encode(), size) as old, in_pieces(KEK32.encode(), size) as new, \
-                in_pieces(WRAPPED16.encode(), size) as given:
+    def test_pipes(self, keywrap):
+        with in_pieces(KEK16.encode(), 5) as old, in_pieces(KEK32.encode(), 5) as new, \
+                in_pieces(WRAPPED16.encode(), 5) as given:
             keks = ["--kek", f"/dev/fd/{old}", "--new-kek", f"/dev/fd/{new}"]
             assert keywrap("rewrap", *keks, stdin=given, pass_fds=[old, new]) == REWRAPPED
 
@@ -199,13 +167,10 @@ class TestBothKeks:
 class TestInitialValue:
     """The values of --iv and --new-iv are looked at before any file."""
 
-    @pytest.mark.parametrize("value", ["", IV[1:], IV + "0", IV[:-1] + "g", " " + IV, RESERVED_IV[:-1]])
     @pytest.mark.parametrize("job", ["wrap", "unwrap", "check"])
-    def test_no_value(self, keywrap, job, value):
-        assert keywrap(job, "--iv", value, "--kek", "missing") == refused(2, NO_IV)
-
-    @pytest.mark.parametrize("job", ["wrap", "unwrap", "check"])
-    def test_reserved(self, keywrap, job):
+    def test_value(self, keywrap, job):
+        for value in "", IV[1:], IV + "0", IV[:-1] + "g", " " + IV, RESERVED_IV[:-1]:
+            assert keywrap(job, "--iv", value, "--kek", "missing") == refused(2, NO_IV)
         ended = keywrap(job, "--iv", RESERVED_IV, "--kek", "missing")
         assert ended == refused(2, "--iv is reserved for the padded form")
         ended = keywrap(job, "--iv", "a65959a700000010", "--kek", "missing")

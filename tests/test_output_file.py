@@ -12,45 +12,38 @@ import pytest
 from commands import FILES, JOBS, LARGE, REFUSALS
 from output_file import NO_OUTPUT, fresh, keeps, lands
 from program import CLOSED, Ended, refused
-from vectors import FULL, IV, WRAPPED16
+from vectors import FULL, WRAPPED16
 
 WRAP = ["wrap", "--kek", "kek16.hex"]
 WRAP_FILE = [*WRAP, "-i", "key.hex", "-o", "to/file"]
 WRAPPED, WRAPPED32, KEY = FILES["wrapped.hex"], FILES["wrapped32.hex"], FILES["key.hex"]
-ANSWERED = [command for command in JOBS if command.status == 0]
+# One job for each way in which an answer is written, and one refusal for each step at which it comes.
+ANSWERED = [command for command in JOBS if command.name in (
+    "wrap", "raw wrap", "padded wrap", "unwrap", "check", "rewrap", "raw rewrap to padded", "rewrap in base64url")]
+REFUSED = [command for command in REFUSALS if command.name in (
+    "IV of 15 digits", "no KEK file", "KEK file too long", "KEK of 15 bytes", "no new KEK file", "new KEK of 15 bytes",
+    "rewrap of a wrong byte", "rewrap of 7 bytes to plain", "input too long", "bad digit", "bad base64", "key of 7 bytes",
+    "wrong byte", "no input file", "directory as input file")]
 
 
-@pytest.fixture(params=ANSWERED, ids=lambda command: command.name)
-def job(request):
-    return request.param
+@pytest.mark.parametrize("job", ANSWERED, ids=lambda command: command.name)
+def test_each_job(keywrap, job):
+    """A new file, one that is there, one that is the input, and closed streams. A hard link keeps the old content."""
+    fresh()
+    os.umask(0)
+    lands(keywrap, [*job.args, "--output", "to/file"], job.stdout, stdin=job.given)
+    os.umask(0o077)
+    pathlib.Path("to/file").write_bytes(b"old\n")
+    os.link("to/file", "to/link")
+    lands(keywrap, [*job.args, "-o", "to/file", "-i", job.stdin], job.stdout)
+    assert pathlib.Path("to/link").read_bytes() == b"old\n"
+    pathlib.Path("to/file").write_bytes(job.given)
+    lands(keywrap, [*job.args, "--input=to/file", "--output=to/file"], job.stdout)
+    args = [*job.args, "--input", job.stdin, "--output", "to/new"]
+    lands(keywrap, args, job.stdout, "to/new", stdin=CLOSED, stdout=CLOSED)
 
 
-class TestEachJob:
-    def test_new_file(self, keywrap, job):
-        fresh()
-        os.umask(0)
-        lands(keywrap, [*job.args, "--output", "to/file"], job.stdout, stdin=job.given)
-
-    def test_file_that_is_there(self, keywrap, job):
-        """A hard link of the old file keeps what it held."""
-        fresh(b"old\n")
-        os.link("to/file", "to/link")
-        os.umask(0o077)
-        lands(keywrap, [*job.args, "-o", "to/file", "-i", job.stdin], job.stdout)
-        assert pathlib.Path("to/link").read_bytes() == b"old\n"
-
-    def test_file_of_the_input(self, keywrap, job):
-        fresh(job.given)
-        lands(keywrap, [*job.args, "--input=to/file", "--output=to/file"], job.stdout)
-
-    def test_closed_streams(self, keywrap, job):
-        fresh()
-        args = [*job.args, "--input", job.stdin, "--output", "to/file"]
-        lands(keywrap, args, job.stdout, stdin=CLOSED, stdout=CLOSED)
-
-
-@pytest.mark.parametrize("command", [command for command in REFUSALS if command.args[0] != "drill"],
-                         ids=lambda command: command.name)
+@pytest.mark.parametrize("command", REFUSED, ids=lambda command: command.name)
 def test_refusal(keywrap, command):
     """It leaves the file as it is, also if it is the input, and nothing beside it."""
     given = command.stdin or "nothing"
@@ -119,15 +112,11 @@ class TestNames:
         for kek, answer in ("../kek16.hex", WRAPPED), ("../kek32.hex", WRAPPED32):
             lands(keywrap, ["wrap", "--kek", kek, *args], answer, f"to/{name}", cwd="to", stdin=KEY)
 
-    def test_absolute(self, keywrap, files):
-        fresh()
-        lands(keywrap, [*WRAP, "-o", f"{files}/to/file"], WRAPPED, stdin=KEY)
-        lands(keywrap, [*WRAP, "-o", "./to//file"], WRAPPED, stdin=KEY)
-
-    def test_directory_by_a_link(self, keywrap):
+    def test_other_paths(self, keywrap, files):
         fresh()
         os.symlink("to", "linked")
-        lands(keywrap, [*WRAP, "-o", "linked/file"], WRAPPED, stdin=KEY)
+        for name in f"{files}/to/file", "./to//file", "linked/file":
+            lands(keywrap, [*WRAP, "-o", name], WRAPPED, stdin=KEY)
 
     def test_standard_output(self, keywrap):
         fresh()
@@ -185,14 +174,13 @@ class TestKekFiles:
                 keeps(keywrap, args, NO_OUTPUT, stdin=KEY, pass_fds=[file.fileno()])
 
     @pytest.mark.parametrize("args", [
-        "unwrap -i wrapped.hex", "check -i wrapped.hex", f"wrap --iv {IV} -i key.hex", "wrap -i to/kek16.hex"])
-    def test_each_job(self, keywrap, args):
-        keeps(keywrap, [*args.split(), "--kek", "to/kek16.hex", "-o", "to/kek16.hex"], NO_OUTPUT)
-
-    def test_whatever_is_in_it(self, keywrap):
-        for name, flags in ("kek16.raw", ["--raw-kek"]), ("kek15.hex", []):
+        "unwrap -i wrapped.hex --kek to/kek16.hex", "check -i wrapped.hex --kek to/kek16.hex",
+        "wrap -i to/kek16.hex --kek to/kek16.hex", "wrap -i key.hex --raw-kek --kek to/kek16.raw",
+        "wrap -i key.hex --kek to/kek15.hex"])
+    def test_each_job_and_content(self, keywrap, args):
+        for name in "kek16.raw", "kek15.hex":
             shutil.copy(name, "to")
-            keeps(keywrap, ["wrap", *flags, "--kek", f"to/{name}", "-i", "key.hex", "-o", f"to/{name}"], NO_OUTPUT)
+        keeps(keywrap, [*args.split(), "-o", args.split()[-1]], NO_OUTPUT)
 
     def test_kek_that_only_standard_input_still_reads(self, as_nobody):
         """The file cannot be opened by a name, since nobody may read it any more."""
@@ -215,55 +203,35 @@ class TestKekFiles:
         lands(keywrap, ["wrap", "--kek", "to/kek16.hex", "-i", "key.hex", "-o", "to/file"], WRAPPED)
 
 
-class TestFullDisk:
-    """An answer of 2,000 bytes and more finds no room, and then enough."""
-
-    @pytest.fixture(params=["raw wrap", "wrap", "raw unwrap", "unwrap", "raw rewrap"])
-    def job(self, request, keywrap):
-        """The arguments and what goes to standard output, which the other tests show to be right."""
-        flags = ["--raw"] if "raw" in request.param.split() else []
-        key = random.Random(2048).randbytes(2048)
-        pathlib.Path("given").write_bytes(key if flags else key.hex().encode() + b"\n")
-        args = [*WRAP, *flags, "-i", "given"]
-        if not request.param.endswith(" wrap") and request.param != "wrap":
-            pathlib.Path("wrapped").write_bytes(keywrap(*args, text=False).stdout)
-            job = request.param.split()[-1]
-            new = ["--new-kek", "kek32.hex"] if job == "rewrap" else []
-            args = [job, "--kek", "kek16.hex", *new, *flags, "-i", "wrapped"]
-        return [*args, "-o", "to/file"], keywrap(*args, text=False).stdout
-
-    def test_full_after(self, keywrap, job):
-        args, answer = job
-        fresh(b"old\n")
-        for taken in 0, 1, 1024, len(answer) - 1:
-            keeps(keywrap, args, refused(6, FULL.format(taken)), limits={"FSIZE": taken})
-        lands(keywrap, args, answer, limits={"FSIZE": len(answer)})
-
-    @pytest.mark.parametrize("name", ["wrapped.hex", "wrong.hex"])
-    def test_check(self, keywrap, name):
-        fresh(b"old\n")
-        args = ["check", "--kek", "kek16.hex", "-i", name, "-o", "to/file"]
-        keeps(keywrap, args, refused(6, FULL.format(0)), limits={"FSIZE": 0})
+@pytest.mark.parametrize("args", ["wrap -i key.hex", "unwrap -i wrapped.hex", "wrap -i given", "wrap --raw -i given",
+                                  "check -i wrapped.hex", "rewrap --new-kek kek32.hex -i wrapped.hex"])
+def test_full_disk(keywrap, args):
+    """The answer finds no room, and then enough. What goes to standard output the other tests show to be right."""
+    raw = random.Random(2048).randbytes(2048)
+    pathlib.Path("given").write_bytes(raw if "--raw" in args else raw.hex().encode())
+    args = [*args.split(), "--kek", "kek16.hex"]
+    answer = keywrap(*args, text=False).stdout
+    fresh(b"old\n")
+    args += ["-o", "to/file"]
+    for taken in 0, 1, min(1024, len(answer) - 2), len(answer) - 1:
+        keeps(keywrap, args, refused(6, FULL.format(taken)), limits={"FSIZE": taken})
+    lands(keywrap, args, answer, limits={"FSIZE": len(answer)})
 
 
 class TestTemporaryFiles:
     """The new file is FILE.part0 until it gets its name; what is there already stays."""
 
-    @pytest.mark.parametrize("count", [0, 1, 2, 99])
+    @pytest.mark.parametrize("count", [0, 1, 99, 100])
     def test_others_stay(self, keywrap, count):
+        """A hundred are too many."""
         fresh(b"old\n")
         for number in range(count):
             pathlib.Path(f"to/file.part{number}").write_bytes(b"part")
-        lands(keywrap, WRAP_FILE, WRAPPED)
-
-    def test_100_are_too_many(self, keywrap):
-        fresh(b"old\n")
-        for number in range(100):
-            pathlib.Path(f"to/file.part{number}").write_bytes(b"part")
-        keeps(keywrap, WRAP_FILE, NO_OUTPUT)
-        keeps(keywrap, [*WRAP_FILE, "--verbose"], Ended(
-            6, "", NO_OUTPUT.stderr + "  to/file: files of its name with .part0 to .part99 are there\n"))
-        os.remove("to/file.part50")
+        if count == 100:
+            keeps(keywrap, WRAP_FILE, NO_OUTPUT)
+            reason = "  to/file: files of its name with .part0 to .part99 are there\n"
+            keeps(keywrap, [*WRAP_FILE, "--verbose"], Ended(6, "", NO_OUTPUT.stderr + reason))
+            os.remove("to/file.part50")
         lands(keywrap, WRAP_FILE, WRAPPED)
 
     @pytest.mark.parametrize("make", [lambda name: os.symlink("target", name), os.mkdir, os.mkfifo],
@@ -292,8 +260,8 @@ def test_refused_arguments_change_nothing(keywrap, args):
     assert (os.listdir("to"), pathlib.Path("to/file").stat()) == (["file"], before)
 
 
-@pytest.mark.parametrize("option", ["-i", "--input", "-o", "--output"])
-@pytest.mark.parametrize("args", [["drill", "00112233445566778899aabbccddeeff"], ["vectors"]], ids=["drill", "vectors"])
-def test_commands_without_files(keywrap, args, option):
-    ended = keywrap(*args, option, "to/file")
-    assert (ended.status, ended.stdout, ended.stderr[:7]) == (2, "", "error: ")
+@pytest.mark.parametrize("args", ["drill 00112233445566778899aabbccddeeff", "vectors"])
+def test_commands_without_files(keywrap, args):
+    for option in "-i", "--input", "-o", "--output":
+        ended = keywrap(*args.split(), option, "to/file")
+        assert (ended.status, ended.stdout, ended.stderr[:7]) == (2, "", "error: ")
