@@ -318,8 +318,12 @@ made() {
 documents='644 share/doc/keywrap/CHANGELOG.md
 644 share/doc/keywrap/RECIPES.md
 644 share/doc/keywrap/SECURITY.md
+644 share/doc/keywrap/rotation/csv_column.py
+644 share/doc/keywrap/rotation/json_list.py
+644 share/doc/keywrap/rotation/kubernetes_secret.py
 755 share/doc/keywrap/rotation/lines.sh
 755 share/doc/keywrap/rotation/lines_parallel.sh
+755 share/doc/keywrap/rotation/objects.sh
 755 share/doc/keywrap/rotation/postgresql.sh
 755 share/doc/keywrap/rotation/postgresql_batches.sh'
 command_files='755 bin/keywrap

@@ -80,7 +80,7 @@ def follow(request, keywrap, files, script):
 # What calls the Python package is tested with it: python/tests/test_rotate_recipes.py. tests/hardware.sh has the recipe
 # that compiles a program with the C library.
 @pytest.mark.parametrize("name", [name for name, section in SECTIONS.items()
-                                  if not re.search("keywrap.rotate|pkg-config", typed_and_shown(section)[0])])
+                                  if not re.search(r"keywrap.rotate|\.py|pkg-config", typed_and_shown(section)[0])])
 def test_recipe(request, keywrap, files, name):
     script, shown = typed_and_shown(SECTIONS[name])
     if name.startswith("Import a key into "):
@@ -100,7 +100,7 @@ def test_list_of_the_recipes():
 
 def test_every_rotation_has_a_recipe():
     linked = set(re.findall(r"\]\((rotation/[^)]*)", RECIPES))
-    assert linked == {f"rotation/{path.name}" for path in (ROOT / "docs/rotation").glob("*.sh")}
+    assert linked == {f"rotation/{path.name}" for path in (ROOT / "docs/rotation").iterdir()}
 
 
 def test_readme(request, keywrap, files):
