@@ -259,6 +259,16 @@ def test_keeps_owner_and_group(file, challenges):
 
 
 @pytest.mark.skipif(os.geteuid() != 0, reason="not root")
+def test_keeps_owner_group_and_mode_of_a_database(database, challenges):
+    os.chown(database, 12, 34)
+    database.chmod(0o640)
+    assert rotate_file(str(database), *challenges, TABLE)["refused"] is None
+    status = database.stat()
+    assert (status.st_uid, status.st_gid, stat.S_IMODE(status.st_mode)) == (12, 34, 0o640)
+    assert os.listdir(database.parent) == ["keys.db"]
+
+
+@pytest.mark.skipif(os.geteuid() != 0, reason="not root")
 def test_replace_keeps_owner_and_group(file):
     os.chown(file, 12, 34)
     file.chmod(0o640)
@@ -321,6 +331,17 @@ def test_begins_again_after_a_change(file, challenges, meanwhile, change, keys, 
     meanwhile(lambda: change(file), at=at)
     assert rotate_file(str(file), *challenges)["refused"] is None
     assert file.read_bytes() == lines_under(NEW_KEK, keys)
+    assert left_over(file.parent) == []
+
+
+@pytest.mark.parametrize("content", [b"", wrapped_under(KEK, ADDED), wrapped_under(NEW_KEK, ADDED), None])
+def test_a_file_of_one_key_that_changes_meanwhile(file, challenges, meanwhile, content):
+    """Emptied, changed under either KEK, removed: what is there afterwards is rotated, or refused as it is."""
+    file.write_bytes(wrapped_under(KEK, KEYS[0]))
+    meanwhile(lambda: file.unlink() if content is None else file.write_bytes(content))
+    refused = rotate_file(str(file), *challenges, Store("raw"))["refused"]
+    assert (refused is None) == bool(content)
+    assert (file.read_bytes() if file.exists() else None) == (wrapped_under(NEW_KEK, ADDED) if content else content)
     assert left_over(file.parent) == []
 
 
