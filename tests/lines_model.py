@@ -38,6 +38,7 @@ def comes_to(keywrap, args, given, outcomes, keep_going=False):
     pathlib.Path("in").write_bytes(given.encode() if isinstance(given, str) else given)
     os.makedirs("lines", exist_ok=True)
     pathlib.Path("lines/file").write_text("old\n")
+    os.chmod("lines/file", 0o644)
     assert keywrap(*args, "-i", "in", "-o", "lines/file") == ended._replace(stdout="")
     assert os.listdir("lines") == ["file"]
     assert pathlib.Path("lines/file").read_text() == ("old\n" if filed is None else filed)

@@ -17,17 +17,17 @@ def answered(text):
 
 
 @pytest.mark.parametrize("flags, kek, key, wrapped", [
-    pytest.param([], "kek16.hex", KEY16, WRAPPED16, id="RFC 3394 4.1"),
-    pytest.param([], "kek24.hex", KEY16, WRAPPED24, id="RFC 3394 4.2"),
-    pytest.param([], "kek32.hex", KEY16, WRAPPED32, id="RFC 3394 4.3"),
-    pytest.param([], "kek24.hex", KEY24, KEY24_UNDER_24, id="RFC 3394 4.4"),
-    pytest.param([], "kek32.hex", KEY24, KEY24_UNDER_32, id="RFC 3394 4.5"),
-    pytest.param([], "kek32.hex", KEY32, KEY32_UNDER_32, id="RFC 3394 4.6"),
-    pytest.param(["--padded"], "kek5649.hex", KEY20, WRAPPED20, id="RFC 5649, 20 octets"),
-    pytest.param(["--padded"], "kek5649.hex", KEY7, WRAPPED7, id="RFC 5649, 7 octets"),
-    pytest.param(["--padded"], "kek16.hex", KEY16, PADDED16, id="padded by OpenSSL"),
-    pytest.param(["--iv", IV], "kek16.hex", KEY16, WRAPPED_IV, id="another IV"),
-    pytest.param(["--iv", "A6A6a6a6A6A6a6a6"], "kek16.hex", KEY16, WRAPPED16, id="the default IV")])
+    ([], "kek16.hex", KEY16, WRAPPED16),
+    ([], "kek24.hex", KEY16, WRAPPED24),
+    ([], "kek32.hex", KEY16, WRAPPED32),
+    ([], "kek24.hex", KEY24, KEY24_UNDER_24),
+    ([], "kek32.hex", KEY24, KEY24_UNDER_32),
+    ([], "kek32.hex", KEY32, KEY32_UNDER_32),
+    (["--padded"], "kek5649.hex", KEY20, WRAPPED20),
+    (["--padded"], "kek5649.hex", KEY7, WRAPPED7),
+    (["--padded"], "kek16.hex", KEY16, PADDED16),
+    (["--iv", IV], "kek16.hex", KEY16, WRAPPED_IV),
+    (["--iv", "A6A6a6a6A6A6a6a6"], "kek16.hex", KEY16, WRAPPED16)])
 def test_vectors_both_ways(keywrap, tmp_path, flags, kek, key, wrapped):
     (tmp_path / "kek.raw").write_bytes(raw((tmp_path / kek).read_text()))
     for kek_flags in ["--kek", kek], ["--raw-kek", "--kek", "kek.raw"]:
@@ -67,26 +67,26 @@ def test_random_key_goes_round(keywrap, size, flags):
 
 
 @pytest.mark.parametrize("old, new, given, answer, flags", [
-    pytest.param("kek16", "kek32", WRAPPED16, WRAPPED32, "", id="4.1 to 4.3"),
-    pytest.param("kek32", "kek16", WRAPPED32, WRAPPED16, "", id="4.3 to 4.1"),
-    pytest.param("kek16", "kek16", WRAPPED16, WRAPPED16, "", id="a KEK to itself"),
-    pytest.param("kek16", "kek16", WRAPPED16, PADDED16, "--new-padded", id="plain to padded"),
-    pytest.param("kek16", "kek16", PADDED16, WRAPPED16, "--padded", id="padded to plain"),
-    pytest.param("kek32", "kek16", WRAPPED32, PADDED16, "--new-padded", id="plain to padded, another KEK"),
-    pytest.param("kek16", "kek32", PADDED16, WRAPPED32, "--padded", id="padded to plain, another KEK"),
-    pytest.param("kek5649", "kek16", WRAPPED7, PADDED7, "--padded --new-padded", id="7 bytes"),
-    pytest.param("kek16", "kek5649", PADDED7, WRAPPED7, "--padded --new-padded", id="7 bytes back"),
-    pytest.param("kek5649", "kek5649", WRAPPED20, WRAPPED20, "--padded --new-padded", id="20 bytes"),
-    pytest.param("kek16", "kek32", WRAPPED16, WRAPPED32, "--keep-form", id="keeping plain"),
-    pytest.param("kek16", "kek16", PADDED16, PADDED16, "--keep-form", id="keeping padded"),
-    pytest.param("kek5649", "kek16", WRAPPED7, PADDED7, "--keep-form", id="keeping padded, 7 bytes"),
-    pytest.param("kek16", "kek32", WRAPPED_IV, WRAPPED32, f"--iv {IV}", id="an IV to the default"),
-    pytest.param("kek32", "kek16", WRAPPED32, WRAPPED_IV, f"--new-iv {IV}", id="the default to an IV"),
-    pytest.param("kek16", "kek16", WRAPPED_IV, WRAPPED_IV, f"--iv {IV} --new-iv {IV}", id="an IV to itself"),
-    pytest.param("kek16", "kek16", WRAPPED_IV, PADDED16, f"--iv {IV} --new-padded", id="an IV to padded"),
-    pytest.param("kek16", "kek16", PADDED16, WRAPPED_IV, f"--padded --new-iv {IV}", id="padded to an IV"),
-    pytest.param("kek32", "kek16", WRAPPED_IV, WRAPPED_IV, f"--pass-new --new-iv {IV}", id="a new one passes"),
-    pytest.param("kek16", "kek32", WRAPPED16.upper(), WRAPPED32, "", id="capitals")])
+    ("kek16", "kek32", WRAPPED16, WRAPPED32, ""),
+    ("kek32", "kek16", WRAPPED32, WRAPPED16, ""),
+    ("kek16", "kek16", WRAPPED16, WRAPPED16, ""),
+    ("kek16", "kek16", WRAPPED16, PADDED16, "--new-padded"),
+    ("kek16", "kek16", PADDED16, WRAPPED16, "--padded"),
+    ("kek32", "kek16", WRAPPED32, PADDED16, "--new-padded"),
+    ("kek16", "kek32", PADDED16, WRAPPED32, "--padded"),
+    ("kek5649", "kek16", WRAPPED7, PADDED7, "--padded --new-padded"),
+    ("kek16", "kek5649", PADDED7, WRAPPED7, "--padded --new-padded"),
+    ("kek5649", "kek5649", WRAPPED20, WRAPPED20, "--padded --new-padded"),
+    ("kek16", "kek32", WRAPPED16, WRAPPED32, "--keep-form"),
+    ("kek16", "kek16", PADDED16, PADDED16, "--keep-form"),
+    ("kek5649", "kek16", WRAPPED7, PADDED7, "--keep-form"),
+    ("kek16", "kek32", WRAPPED_IV, WRAPPED32, f"--iv {IV}"),
+    ("kek32", "kek16", WRAPPED32, WRAPPED_IV, f"--new-iv {IV}"),
+    ("kek16", "kek16", WRAPPED_IV, WRAPPED_IV, f"--iv {IV} --new-iv {IV}"),
+    ("kek16", "kek16", WRAPPED_IV, PADDED16, f"--iv {IV} --new-padded"),
+    ("kek16", "kek16", PADDED16, WRAPPED_IV, f"--padded --new-iv {IV}"),
+    ("kek32", "kek16", WRAPPED_IV, WRAPPED_IV, f"--pass-new --new-iv {IV}"),
+    ("kek16", "kek32", WRAPPED16.upper(), WRAPPED32, "")])
 def test_rewrap(keywrap, tmp_path, old, new, given, answer, flags):
     args = ["rewrap", *flags.split()]
     keks = ["--kek", f"{old}.hex", "--new-kek", f"{new}.hex"]
@@ -100,12 +100,12 @@ def test_rewrap(keywrap, tmp_path, old, new, given, answer, flags):
 
 
 @pytest.mark.parametrize("old, new, given, flags, status, message", [
-    pytest.param("kek16", "kek32", WRAPPED16, f"--iv {IV}", 5, INTEGRITY, id="another IV"),
-    pytest.param("kek16", "kek32", WRAPPED_IV, f"--new-iv {IV}", 5, INTEGRITY, id="the new IV is not the old one"),
-    pytest.param("kek32", "kek16", WRAPPED16, f"--pass-new --new-iv {IV}", 5, INTEGRITY, id="new, but another IV"),
-    pytest.param("kek32", "kek16", PADDED16, "--pass-new", 5, INTEGRITY, id="new, but another form"),
-    pytest.param("kek5649", "kek32", WRAPPED20, "--padded", 4, BAD_LENGTH, id="20 bytes to plain"),
-    pytest.param("kek5649", "kek32", WRAPPED7, "--padded", 4, BAD_LENGTH, id="7 bytes to plain")])
+    ("kek16", "kek32", WRAPPED16, f"--iv {IV}", 5, INTEGRITY),
+    ("kek16", "kek32", WRAPPED_IV, f"--new-iv {IV}", 5, INTEGRITY),
+    ("kek32", "kek16", WRAPPED16, f"--pass-new --new-iv {IV}", 5, INTEGRITY),
+    ("kek32", "kek16", PADDED16, "--pass-new", 5, INTEGRITY),
+    ("kek5649", "kek32", WRAPPED20, "--padded", 4, BAD_LENGTH),
+    ("kek5649", "kek32", WRAPPED7, "--padded", 4, BAD_LENGTH)])
 def test_refused_rewrap(keywrap, old, new, given, flags, status, message):
     keks = ["--kek", f"{old}.hex", "--new-kek", f"{new}.hex"]
     assert keywrap("rewrap", *keks, *flags.split(), stdin=given) == refused(status, message)
@@ -126,17 +126,17 @@ def test_rewrap_of_a_long_key(keywrap, size, flags, rewrap_flags, unwrap_flags):
 
 
 @pytest.mark.parametrize("flags, given, ended", [
-    pytest.param("--kek kek16.hex", WRAPPED16, answered("plain 16"), id="plain"),
-    pytest.param("--kek kek32.hex", KEY32_UNDER_32, answered("plain 32"), id="plain 32"),
-    pytest.param("--kek kek5649.hex", WRAPPED20, answered("padded 20"), id="padded 20"),
-    pytest.param("--kek kek5649.hex", WRAPPED7, answered("padded 7"), id="padded 7"),
-    pytest.param(f"--iv {IV} --kek kek16.hex", WRAPPED_IV, answered("plain 16"), id="an IV"),
-    pytest.param(f"--iv {IV} --kek kek5649.hex", WRAPPED20, answered("padded 20"), id="padded, whatever the IV"),
-    pytest.param(f"--iv {IV} --kek kek16.hex", WRAPPED16, Ended(5, "none\n"), id="another IV"),
-    pytest.param("--kek kek16.hex", WRAPPED_IV, Ended(5, "none\n"), id="an IV as the default"),
-    pytest.param("--kek kek16.hex", WRONG, Ended(5, "none\n"), id="wrong byte"),
-    pytest.param("--kek kek16.hex", WRAPPED16[:-2], Ended(5, "none\n"), id="23 bytes"),
-    pytest.param("--kek kek16.hex", "", Ended(5, "none\n"), id="nothing")])
+    ("--kek kek16.hex", WRAPPED16, answered("plain 16")),
+    ("--kek kek32.hex", KEY32_UNDER_32, answered("plain 32")),
+    ("--kek kek5649.hex", WRAPPED20, answered("padded 20")),
+    ("--kek kek5649.hex", WRAPPED7, answered("padded 7")),
+    (f"--iv {IV} --kek kek16.hex", WRAPPED_IV, answered("plain 16")),
+    (f"--iv {IV} --kek kek5649.hex", WRAPPED20, answered("padded 20")),
+    (f"--iv {IV} --kek kek16.hex", WRAPPED16, Ended(5, "none\n")),
+    ("--kek kek16.hex", WRAPPED_IV, Ended(5, "none\n")),
+    ("--kek kek16.hex", WRONG, Ended(5, "none\n")),
+    ("--kek kek16.hex", WRAPPED16[:-2], Ended(5, "none\n")),
+    ("--kek kek16.hex", "", Ended(5, "none\n"))])
 def test_check(keywrap, flags, given, ended):
     assert keywrap("check", *flags.split(), stdin=given) == ended
     assert keywrap("check", "--raw", *flags.split(), stdin=raw(given)) == ended
@@ -150,17 +150,16 @@ DRILLED9 = "a65959a60000000911223344556677809900000000000004"
 
 
 @pytest.mark.parametrize("flags, given, answer", [
-    pytest.param([], KEY16, DRILLED, id="two words"),
-    pytest.param([], zeros(24), "0" * 14 + "12" + "0" * 16 + "a6a6a6a6a6a6a6b60000000000000011", id="three words"),
-    pytest.param([], zeros(344), drilled_zeros(43), id="43 words"),
-    pytest.param([], zeros(4096), drilled_zeros(512), id="512 words"),
-    pytest.param(["--padded"], KEY7, "466f725061736900a65959a600000007", id="padded, 7 bytes"),
-    pytest.param(["--padded"], "ff", "ff00000000000000a65959a600000001", id="padded, 1 byte"),
-    pytest.param(["--padded"], KEY16[:16], KEY16[:16] + "a65959a600000008", id="padded, 8 bytes"),
-    pytest.param(["--padded"], zeros(8), "0000000000000000a65959a600000008", id="padded, 8 bytes 00"),
-    pytest.param(["--padded"], "112233445566778899", DRILLED9, id="padded, 9 bytes"),
-    pytest.param(["--padded"], "11223344556677889900000000000000",
-                 "a65959a60000001011223344556677809900000000000004", id="padded, 16 bytes")])
+    ([], KEY16, DRILLED),
+    ([], zeros(24), "0" * 14 + "12" + "0" * 16 + "a6a6a6a6a6a6a6b60000000000000011"),
+    ([], zeros(344), drilled_zeros(43)),
+    ([], zeros(4096), drilled_zeros(512)),
+    (["--padded"], KEY7, "466f725061736900a65959a600000007"),
+    (["--padded"], "ff", "ff00000000000000a65959a600000001"),
+    (["--padded"], KEY16[:16], KEY16[:16] + "a65959a600000008"),
+    (["--padded"], zeros(8), "0000000000000000a65959a600000008"),
+    (["--padded"], "112233445566778899", DRILLED9),
+    (["--padded"], "11223344556677889900000000000000", "a65959a60000001011223344556677809900000000000004")])
 def test_drill(keywrap, flags, given, answer):
     assert keywrap("drill", *flags, given) == answered(answer)
     assert keywrap("drill", *flags, "--unwrap", answer) == answered(given)

@@ -24,38 +24,29 @@ ODD = (6, "odd number of hex digits")
 
 
 @pytest.mark.parametrize("args, given, answers", [
-    pytest.param("wrap --kek kek32.hex", [KEY32, KEY16, KEY24], [KEY32_UNDER_32, WRAPPED32, KEY24_UNDER_32], id="wrap"),
-    pytest.param("unwrap --kek kek32.hex", [KEY32_UNDER_32, WRAPPED32, KEY24_UNDER_32], [KEY32, KEY16, KEY24], id="unwrap"),
-    pytest.param("rewrap --kek kek24.hex --new-kek kek32.hex", [KEY24_UNDER_24, WRAPPED24], [KEY24_UNDER_32, WRAPPED32],
-                 id="rewrap"),
-    pytest.param("wrap --padded --kek kek5649.hex", [KEY20, KEY7, KEY20], [WRAPPED20, WRAPPED7, WRAPPED20],
-                 id="padded wrap"),
-    pytest.param("unwrap --padded --kek kek5649.hex", [WRAPPED20, WRAPPED7], [KEY20, KEY7], id="padded unwrap"),
-    pytest.param(f"wrap --iv {IV} --kek kek16.hex", [KEY16, KEY16], [WRAPPED_IV, WRAPPED_IV], id="wrap under an IV"),
-    pytest.param(f"unwrap --iv {IV} --kek kek16.hex", [WRAPPED_IV, WRAPPED_IV], [KEY16, KEY16], id="unwrap under an IV"),
-    pytest.param("rewrap --new-padded --kek kek16.hex --new-kek kek16.hex", [WRAPPED16, WRAPPED16],
-                 [PADDED16, PADDED16], id="rewrap to padded"),
-    pytest.param("rewrap --padded --kek kek16.hex --new-kek kek16.hex", [PADDED16, PADDED16], [WRAPPED16, WRAPPED16],
-                 id="rewrap from padded"),
-    pytest.param("rewrap --padded --new-padded --kek kek5649.hex --new-kek kek16.hex", [WRAPPED7, WRAPPED7],
-                 [PADDED7, PADDED7], id="padded rewrap"),
-    pytest.param("rewrap --keep-form --kek kek16.hex --new-kek kek16.hex", [WRAPPED16, PADDED7, PADDED16],
-                 [WRAPPED16, PADDED7, PADDED16], id="both forms"),
-    pytest.param("check --kek kek16.hex", [WRAPPED16, PADDED16, PADDED7], ["plain 16", "padded 16", "padded 7"],
-                 id="check"),
-    pytest.param("wrap --raw-kek --kek kek16.raw", [KEY16], [WRAPPED16], id="a raw KEK"),
-    pytest.param("rewrap --raw-kek --kek kek16.raw --new-kek kek16.raw", [WRAPPED16], [WRAPPED16], id="raw KEKs")])
+    ("wrap --kek kek32.hex", [KEY32, KEY16, KEY24], [KEY32_UNDER_32, WRAPPED32, KEY24_UNDER_32]),
+    ("unwrap --kek kek32.hex", [KEY32_UNDER_32, WRAPPED32, KEY24_UNDER_32], [KEY32, KEY16, KEY24]),
+    ("rewrap --kek kek24.hex --new-kek kek32.hex", [KEY24_UNDER_24, WRAPPED24], [KEY24_UNDER_32, WRAPPED32]),
+    ("wrap --padded --kek kek5649.hex", [KEY20, KEY7, KEY20], [WRAPPED20, WRAPPED7, WRAPPED20]),
+    ("unwrap --padded --kek kek5649.hex", [WRAPPED20, WRAPPED7], [KEY20, KEY7]),
+    (f"wrap --iv {IV} --kek kek16.hex", [KEY16, KEY16], [WRAPPED_IV, WRAPPED_IV]),
+    (f"unwrap --iv {IV} --kek kek16.hex", [WRAPPED_IV, WRAPPED_IV], [KEY16, KEY16]),
+    ("rewrap --new-padded --kek kek16.hex --new-kek kek16.hex", [WRAPPED16, WRAPPED16], [PADDED16, PADDED16]),
+    ("rewrap --padded --kek kek16.hex --new-kek kek16.hex", [PADDED16, PADDED16], [WRAPPED16, WRAPPED16]),
+    ("rewrap --padded --new-padded --kek kek5649.hex --new-kek kek16.hex", [WRAPPED7, WRAPPED7], [PADDED7, PADDED7]),
+    ("rewrap --keep-form --kek kek16.hex --new-kek kek16.hex", [WRAPPED16, PADDED7, PADDED16],
+     [WRAPPED16, PADDED7, PADDED16]),
+    ("check --kek kek16.hex", [WRAPPED16, PADDED16, PADDED7], ["plain 16", "padded 16", "padded 7"]),
+    ("wrap --raw-kek --kek kek16.raw", [KEY16], [WRAPPED16]),
+    ("rewrap --raw-kek --kek kek16.raw --new-kek kek16.raw", [WRAPPED16], [WRAPPED16])])
 def test_each_command(keywrap, args, given, answers):
     comes_to(keywrap, args.split(), "\n".join(given) + "\n", answers)
     comes_to(keywrap, args.split(), "\n".join(given) + "\n", answers, keep_going=True)
 
 
 @pytest.mark.parametrize("given, count", [
-    pytest.param(f"{KEY16}\n", 1, id="one line"),
-    pytest.param(f"{KEY16}\n{KEY16}", 2, id="no LF at the end"),
-    pytest.param(f"{KEY16}\r\n{KEY16}\r\n", 2, id="CR LF"),
-    pytest.param(f" \t{KEY16} \t\r\n\r\t {KEY16}\r\r", 2, id="blanks, tabs and CR at the ends"),
-    pytest.param(f"{KEY16.upper()}\n{KEY16}\n", 2, id="either case")])
+    (f"{KEY16}\n", 1), (f"{KEY16}\n{KEY16}", 2), (f"{KEY16}\r\n{KEY16}\r\n", 2),
+    (f" \t{KEY16} \t\r\n\r\t {KEY16}\r\r", 2), (f"{KEY16.upper()}\n{KEY16}\n", 2)], ids=repr)
 def test_lines_are_split(keywrap, given, count):
     comes_to(keywrap, WRAP, given, [WRAPPED16] * count)
 
@@ -107,13 +98,9 @@ def test_refusal_before_the_first_line(keywrap, args, status, message):
 
 
 # A line that no command decodes, whatever it expects.
-UNDECODABLE = [
-    pytest.param("00112g", (6, "no hex digit at byte 5"), id="bad digit"),
-    pytest.param(" \t0-", (6, "no hex digit at byte 3"), id="bad digit after blanks"),
-    pytest.param(" \t01 23 ", (6, "no hex digit at byte 4"), id="blank between digits"),
-    pytest.param(f"17 {KEY16}", (6, "no hex digit at byte 2"), id="a name and a key"),
-    pytest.param(" 001\t", ODD, id="odd digits"),
-    pytest.param(" " * (MAX_FILE + 1), (6, "too long"), id="too long")]
+UNDECODABLE = [("00112g", (6, "no hex digit at byte 5")), (" \t0-", (6, "no hex digit at byte 3")),
+               (" \t01 23 ", (6, "no hex digit at byte 4")), (f"17 {KEY16}", (6, "no hex digit at byte 2")),
+               (" 001\t", ODD), (" " * (MAX_FILE + 1), (6, "too long"))]
 GOOD = {"wrap": (WRAP, KEY16, WRAPPED16), "unwrap": (UNWRAP, WRAPPED16, KEY16), "rewrap": (REWRAP, WRAPPED24, WRAPPED32),
         "check": (CHECK, WRAPPED16, "plain 16")}
 KEEP_GOING = pytest.mark.parametrize("keep_going", [False, True], ids=["stops", "keeps going"])
@@ -128,26 +115,21 @@ def with_one(args, good, answer, bad, outcome, at):
 
 
 @pytest.mark.parametrize("job", GOOD)
-@pytest.mark.parametrize("bad, outcome", UNDECODABLE)
 @AT
 @KEEP_GOING
-def test_undecodable_line(keywrap, job, bad, outcome, at, keep_going):
-    comes_to(keywrap, *with_one(*GOOD[job], bad, outcome, at), keep_going)
+def test_undecodable_line(keywrap, job, at, keep_going):
+    for bad, outcome in UNDECODABLE:
+        comes_to(keywrap, *with_one(*GOOD[job], bad, outcome, at), keep_going)
 
 
 @pytest.mark.parametrize("args, good, answer, bad, outcome", [
-    pytest.param(WRAP, KEY16, WRAPPED16, "", LENGTH, id="wrap of nothing"),
-    pytest.param(WRAP, KEY16, WRAPPED16, KEY7, LENGTH, id="wrap of 7 bytes"),
-    pytest.param(UNWRAP, WRAPPED16, KEY16, "", LENGTH, id="unwrap of nothing"),
-    pytest.param(UNWRAP, WRAPPED16, KEY16, KEY16, LENGTH, id="unwrap of 16 bytes"),
-    pytest.param(UNWRAP, WRAPPED16, KEY16, WRONG, WRONG_LINE, id="unwrap of a wrong byte"),
-    pytest.param(UNWRAP, WRAPPED16, KEY16, PADDED16, WRONG_LINE, id="unwrap of the other form"),
-    pytest.param(REWRAP, WRAPPED24, WRAPPED32, "", LENGTH, id="rewrap of nothing"),
-    pytest.param(REWRAP, WRAPPED24, WRAPPED32, KEY16, LENGTH, id="rewrap of 16 bytes"),
-    pytest.param(REWRAP, WRAPPED24, WRAPPED32, WRAPPED16, WRONG_LINE, id="rewrap from another KEK"),
-    pytest.param(KEEP_FORM, PADDED16, PADDED16, WRAPPED32, WRONG_LINE, id="rewrap of neither form"),
-    pytest.param(KEEP_FORM, WRAPPED16, WRAPPED16, KEY7, LENGTH, id="rewrap in its form of 7 bytes"),
-    pytest.param([*SAME_KEK, "--padded"], PADDED16, WRAPPED16, PADDED7, LENGTH, id="rewrap of 7 bytes to plain")])
+    *[(WRAP, KEY16, WRAPPED16, bad, LENGTH) for bad in ("", KEY7)],
+    *[(UNWRAP, WRAPPED16, KEY16, bad, LENGTH) for bad in ("", KEY16)],
+    *[(UNWRAP, WRAPPED16, KEY16, bad, WRONG_LINE) for bad in (WRONG, PADDED16)],
+    *[(REWRAP, WRAPPED24, WRAPPED32, bad, LENGTH) for bad in ("", KEY16)],
+    (REWRAP, WRAPPED24, WRAPPED32, WRAPPED16, WRONG_LINE),
+    (KEEP_FORM, PADDED16, PADDED16, WRAPPED32, WRONG_LINE), (KEEP_FORM, WRAPPED16, WRAPPED16, KEY7, LENGTH),
+    ([*SAME_KEK, "--padded"], PADDED16, WRAPPED16, PADDED7, LENGTH)])
 @AT
 @KEEP_GOING
 def test_refused_line(keywrap, args, good, answer, bad, outcome, at, keep_going):
@@ -155,25 +137,20 @@ def test_refused_line(keywrap, args, good, answer, bad, outcome, at, keep_going)
 
 
 @pytest.mark.parametrize("given, outcomes", [
-    pytest.param(f"{KEY16}\n00\0{KEY16}\n", [WRAPPED16, (6, "no hex digit at byte 2")], id="NUL"),
-    pytest.param(f"{KEY16}\n\0", [WRAPPED16, BAD_DIGIT], id="NUL at the end"),
-    pytest.param(f"{KEY16}\n".encode() + b"\xff\n", [WRAPPED16, BAD_DIGIT], id="not ASCII"),
-    pytest.param(f"{KEY16}\f\n", [(6, "no hex digit at byte 32")], id="form feed"),
-    pytest.param(f"\ufeff{KEY16}\n", [BAD_DIGIT], id="byte order mark"),
-    pytest.param("\n", [LENGTH], id="LF alone"),
-    pytest.param(f"{KEY16}\n\n", [WRAPPED16, LENGTH], id="blank line at the end"),
-    pytest.param(f"{KEY16}\n ", [WRAPPED16, LENGTH], id="blanks at the end"),
-    pytest.param(f"{KEY16}\n0", [WRAPPED16, ODD], id="no LF at the end")])
+    (f"{KEY16}\n00\0{KEY16}\n", [WRAPPED16, (6, "no hex digit at byte 2")]), (f"{KEY16}\n\0", [WRAPPED16, BAD_DIGIT]),
+    (f"{KEY16}\n".encode() + b"\xff\n", [WRAPPED16, BAD_DIGIT]), (f"{KEY16}\f\n", [(6, "no hex digit at byte 32")]),
+    (f"\ufeff{KEY16}\n", [BAD_DIGIT]), ("\n", [LENGTH]), (f"{KEY16}\n\n", [WRAPPED16, LENGTH]),
+    (f"{KEY16}\n ", [WRAPPED16, LENGTH]), (f"{KEY16}\n0", [WRAPPED16, ODD])], ids=ascii)
 @KEEP_GOING
 def test_odd_bytes(keywrap, given, outcomes, keep_going):
     comes_to(keywrap, WRAP, given, outcomes, keep_going)
 
 
 @pytest.mark.parametrize("given, outcomes", [
-    pytest.param([WRONG, "00", WRAPPED16, "g"], [WRONG_LINE, LENGTH, KEY16, BAD_DIGIT], id="integrity first"),
-    pytest.param([WRAPPED16, "", "g", WRONG, WRAPPED16], [KEY16, LENGTH, BAD_DIGIT, WRONG_LINE, KEY16], id="length first"),
-    pytest.param(["g", WRONG, "00"], [BAD_DIGIT, WRONG_LINE, LENGTH], id="digit first"),
-    pytest.param([WRAPPED16], [KEY16], id="none")])
+    ([WRONG, "00", WRAPPED16, "g"], [WRONG_LINE, LENGTH, KEY16, BAD_DIGIT]),
+    ([WRAPPED16, "", "g", WRONG, WRAPPED16], [KEY16, LENGTH, BAD_DIGIT, WRONG_LINE, KEY16]),
+    (["g", WRONG, "00"], [BAD_DIGIT, WRONG_LINE, LENGTH]), ([WRAPPED16], [KEY16])],
+    ids=["integrity first", "length first", "digit first", "none"])
 def test_first_refusal_has_the_status(keywrap, given, outcomes):
     comes_to(keywrap, UNWRAP, "\n".join(given) + "\n", outcomes, keep_going=True)
 
@@ -188,9 +165,8 @@ def test_a_bad_digit_among_none(keywrap):
     comes_to(keywrap, CHECK, f"{WRONG}\ng\n{WRAPPED16}\n", ["none", BAD_DIGIT, "plain 16"], keep_going=True)
 
 
-@pytest.mark.parametrize("last, outcome", [
-    pytest.param("0\n", ODD, id="with LF"), pytest.param("0", ODD, id="without LF"),
-    pytest.param(" " * (MAX_FILE + 1) + "\n", (6, "too long"), id="too long")])
+@pytest.mark.parametrize("last, outcome", [("0\n", ODD), ("0", ODD), (" " * (MAX_FILE + 1) + "\n", (6, "too long"))],
+                         ids=["with LF", "without LF", "too long"])
 @KEEP_GOING
 def test_last_of_5000_lines(keywrap, last, outcome, keep_going):
     comes_to(keywrap, WRAP, f"{KEY16}\n" * 4999 + last, [WRAPPED16] * 4999 + [outcome], keep_going)
@@ -223,15 +199,14 @@ def test_only_keep_going_continues(keywrap, flags):
 
 
 @pytest.mark.parametrize("args, given, answers, report, status", [
-    pytest.param(WRAP, [KEY16] * 3, [WRAPPED16] * 3, "3 lines: 3 answered, 0 refused", 0, id="three"),
-    pytest.param(WRAP, [KEY16], [WRAPPED16], "1 line: 1 answered, 0 refused", 0, id="one"),
-    pytest.param([*WRAP, "--keep-going"], ["g"], [(6, "no hex digit at byte 0")], "1 line: 0 answered, 1 refused", 6,
-                 id="one refused"),
-    pytest.param([*UNWRAP, "--keep-going"], [WRONG, WRAPPED16, "", WRAPPED16], [WRONG_LINE, KEY16, LENGTH, KEY16],
-                 "4 lines: 2 answered, 2 refused", 5, id="two of four refused"),
-    pytest.param(CHECK, [WRONG, WRAPPED16], ["none", "plain 16"], "2 lines: 2 answered, 0 refused", 5, id="none"),
-    pytest.param([*REWRAP, "--pass-new"], [WRAPPED24, WRAPPED32, WRAPPED32], [WRAPPED32] * 3,
-                 "3 lines: 1 answered, 2 passed, 0 refused", 0, id="passed")])
+    (WRAP, [KEY16] * 3, [WRAPPED16] * 3, "3 lines: 3 answered, 0 refused", 0),
+    (WRAP, [KEY16], [WRAPPED16], "1 line: 1 answered, 0 refused", 0),
+    ([*WRAP, "--keep-going"], ["g"], [BAD_DIGIT], "1 line: 0 answered, 1 refused", 6),
+    ([*UNWRAP, "--keep-going"], [WRONG, WRAPPED16, "", WRAPPED16], [WRONG_LINE, KEY16, LENGTH, KEY16],
+     "4 lines: 2 answered, 2 refused", 5),
+    (CHECK, [WRONG, WRAPPED16], ["none", "plain 16"], "2 lines: 2 answered, 0 refused", 5),
+    ([*REWRAP, "--pass-new"], [WRAPPED24, WRAPPED32, WRAPPED32], [WRAPPED32] * 3,
+     "3 lines: 1 answered, 2 passed, 0 refused", 0)])
 @pytest.mark.parametrize("quiet", [[], ["--quiet"]], ids=["verbose", "verbose and quiet"])
 def test_verbose_counts_the_lines(keywrap, args, given, answers, report, status, quiet):
     """What became of the lines is the last line."""
