@@ -14,7 +14,7 @@ import subprocess
 
 import pytest
 
-from commands import FILES, MAX_FILE
+from commands import FILES, INTO_FILES, MAX_FILE
 from vectors import (BAD_LENGTH, KEY16, DRILLED, INTEGRITY, IV, KEK16, KEK_LENGTH, KEY7, MEMORY, RESERVED_IV, WRAPPED16,
                      WRAPPED20, zeros)
 
@@ -84,14 +84,19 @@ class Lines:
         return words
 
     def line(self):
-        """Any words, or a command that may be right, with one word left out or changed."""
+        """Any words, a command that is right, or one that may be, with one word left out or changed; and the input."""
+        given = self.random.choice(INPUTS)
         if self.random.random() < 0.25:
-            return [self.word() for _ in range(self.random.randrange(8))]
+            return [self.word() for _ in range(self.random.randrange(8))], given
+        if self.random.random() < 0.25:
+            command = self.random.choice(INTO_FILES)
+            output = self.random.choice(OUTPUTS)
+            return [word.replace("to/file", output) for word in command.args], command.stdin or given
         words = self.likely()
         if self.random.random() < 0.75:
             at = self.random.randrange(len(words))
             words[at:at + 1] = [] if self.random.random() < 0.5 else [self.word()]
-        return words
+        return words, given
 
 
 def make_files():
@@ -106,6 +111,7 @@ def make_files():
     os.symlink("kek16.hex", "here/link")
     os.symlink("loop", "here/loop")
     os.link("here/kek16.hex", "here/kek16.link")
+    os.chmod("here/file", 0o640)
 
 
 def state():
@@ -154,7 +160,7 @@ def test_random_command_lines(keywrap, part):
     make_files()
     before = state()
     for _ in range(COUNT // PARTS):
-        words, given = lines.line(), lines.random.choice(INPUTS)
+        words, given = lines.line()
         path = given if given.startswith("/") else f"here/{given}"
         args = [keywrap.path, *words]
         descriptor = os.open(path, os.O_RDONLY)
