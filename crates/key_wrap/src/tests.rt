@@ -8,6 +8,7 @@ mod padded;
 mod plain;
 mod rewraps;
 mod rows;
+mod steps;
 
 use crate::*;
 use std::test::Fail;

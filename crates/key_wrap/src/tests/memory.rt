@@ -97,14 +97,19 @@ fn goes_plain(rt: &impl Abort, alloc: Global, key: &[u8]) -> Result<(), Fail> {
 }
 
 // Every length to 520 bytes, every multiple of 8 with its neighbours to 4,105, and the lengths
-// beyond.
+// beyond. The last content has all of them, the others only the multiples of 8 above 520, and no
+// length above 262,145.
 #[test]
 fn gives_up_for_memory_at_no_length_or_content(rt: HostRuntime) -> Result<(), Fail> {
     for (multiplier, increment) in CONTENTS {
+        let is_last = multiplier > 1;
         let key = largest(rt.alloc(), multiplier, increment)?;
         for len in (1..=4_105).chain(FAR) {
             let key = key.get(..len).unwrap_or(&[]);
-            if len <= 520 || len > 4_105 || (len + 1) % 8 <= 2 {
+            if len > 262_145 && !is_last {
+                continue;
+            }
+            if len <= 520 || len > 4_105 || len % 8 == 0 || is_last && (len + 1) % 8 <= 2 {
                 goes_padded(&rt, rt.alloc(), key)?;
             }
             if key_length_ok(len) {

@@ -1,0 +1,220 @@
+//! The calls that make one step, around a cipher that is reached through a session, like a token's.
+
+use super::rows::{KEY, NOT_PADDED, NOT_PLAIN, PADDED_KEYS, PLAIN, is_cleared, spelled};
+use crate::*;
+use std::test::Fail;
+
+const REFUSED: Result<(), InPlaceFault> = Err(InPlaceFault::BadLength);
+
+// A session, which each call changes. Its cipher is the drill block.
+#[derive(Drop)]
+struct Session {
+    blocks: u64,
+}
+
+impl Session {
+    fn call(&mut self, block: &mut [u8; 16]) {
+        self.blocks = self.blocks.saturating_add(1);
+        block.rotate_left(8);
+    }
+}
+
+// What the caller holds beside the registers.
+#[derive(Drop)]
+struct Held {
+    session: Session,
+    first: [u8; 8],
+    steps: u64,
+    block: [u8; 16],
+}
+
+impl Held {
+    // With these first 8 bytes of a wrapped key.
+    fn new(first: [u8; 8]) -> Held {
+        Held {
+            session: Session { blocks: 0 },
+            first,
+            steps: 77,
+            block: [0x5A; 16],
+        }
+    }
+
+    // Nothing was written.
+    fn is_kept(&self) -> bool {
+        self.steps == 77 && self.block == [0x5A; 16]
+    }
+
+    // Makes all steps of a wrapping, and ends it.
+    fn wrap(&mut self, registers: &mut [u8], steps: u64) -> Result<(), InPlaceFault> {
+        for _ in 0..steps {
+            self.session.call(&mut self.block);
+            step_wrap(registers, &mut self.steps, &mut self.block)?;
+        }
+        end_wrap(&mut self.first, registers, self.steps, &self.block)
+    }
+
+    // Undoes all steps of an unwrapping.
+    fn unwrap(&mut self, registers: &mut [u8], steps: u64) -> Result<(), InPlaceFault> {
+        for _ in 0..steps {
+            self.session.call(&mut self.block);
+            step_unwrap(registers, &mut self.steps, &mut self.block)?;
+        }
+        Ok(())
+    }
+}
+
+// The steps over this many bytes of registers.
+fn steps_of(len: usize) -> u64 {
+    match len {
+        8 => 1,
+        16 => 12,
+        _ => 18,
+    }
+}
+
+#[test]
+fn wraps_a_plain_key_by_steps(rt: HostRuntime) -> Result<(), Fail> {
+    let mut held = Held::new([0; 8]);
+    let mut registers = KEY;
+    let iv = InitialValue::default();
+    let begun = begin_wrap(&iv, &registers, &mut held.steps, &mut held.block);
+    assert!(rt; begun == Ok(()) && held.steps == 0 && registers == KEY);
+    assert!(rt; held.wrap(&mut registers, 11) == REFUSED && held.first == [0; 8]);
+    assert!(rt; held.wrap(&mut registers, 1) == Ok(()) && held.session.blocks == 12);
+    let want = spelled(rt.alloc(), &PLAIN)?;
+    assert!(rt; want.starts_with(&held.first) && want.ends_with(&registers));
+    let after = step_wrap(&mut registers, &mut held.steps, &mut held.block);
+    assert!(rt; after == REFUSED && held.steps == 12 && want.ends_with(&registers));
+    Ok(())
+}
+
+#[test]
+fn wraps_padded_keys_by_steps(rt: HostRuntime) -> Result<(), Fail> {
+    for (key, words) in PADDED_KEYS {
+        let want = spelled(rt.alloc(), words)?;
+        let mut registers = vec![in rt.alloc(); 0xEE; want.len().saturating_sub(8)]?;
+        let m = key.len();
+        for (to, from) in registers.iter_mut().zip(key) {
+            *to = *from;
+        }
+        let mut held = Held::new([0; 8]);
+        let begun = begin_wrap_padded(m, &mut registers, &mut held.steps, &mut held.block);
+        let steps = steps_of(registers.len());
+        assert!(rt;
+            begun == Ok(()) && held.wrap(&mut registers, steps) == Ok(()),
+            "{m} bytes"
+        );
+        assert!(rt;
+            want.starts_with(&held.first) && want.ends_with(&registers),
+            "{m} bytes"
+        );
+        assert!(rt; held.session.blocks == steps, "{m} bytes");
+    }
+    Ok(())
+}
+
+#[test]
+fn unwraps_a_plain_key_by_steps(rt: HostRuntime) -> Result<(), Fail> {
+    for (words, is_key) in [
+        (PLAIN, true),
+        (NOT_PLAIN[0].0, false),
+        (NOT_PLAIN[1].0, false),
+    ] {
+        let [first, ..] = words;
+        let text = spelled(rt.alloc(), &words)?;
+        let mut registers = [0; 16];
+        for (to, from) in registers.iter_mut().zip(text.iter().skip(8)) {
+            *to = *from;
+        }
+        let mut held = Held::new(first.to_be_bytes());
+        let iv = InitialValue::default();
+        let begun = begin_unwrap(&held.first, &registers, &mut held.steps, &mut held.block);
+        assert!(rt; begun == Ok(()) && held.steps == 12);
+        assert!(rt; held.unwrap(&mut registers, 11) == Ok(()));
+        assert!(rt; end_unwrap(&iv, &mut registers, held.steps, &mut held.block) == REFUSED);
+        assert!(rt; held.unwrap(&mut registers, 1) == Ok(()) && held.steps == 0);
+        assert!(rt; held.unwrap(&mut registers, 1) == REFUSED);
+        held.session.call(&mut held.block);
+        let ended = end_unwrap(&iv, &mut registers, held.steps, &mut held.block);
+        let want = if is_key {
+            Ok(())
+        } else {
+            Err(InPlaceFault::Integrity)
+        };
+        let left = if is_key { KEY } else { [0; 16] };
+        assert!(rt; ended == want && registers == left && held.block == [0; 16]);
+    }
+    Ok(())
+}
+
+#[test]
+fn unwraps_padded_keys_by_steps(rt: HostRuntime) -> Result<(), Fail> {
+    for (key, words) in PADDED_KEYS {
+        let (first, text) = match words {
+            [first, rest @ ..] => (first.to_be_bytes(), spelled(rt.alloc(), rest)?),
+            [] => ([0; 8], spelled(rt.alloc(), &[])?),
+        };
+        let mut registers = text;
+        let (m, steps) = (key.len(), steps_of(registers.len()));
+        let mut held = Held::new(first);
+        let begun = begin_unwrap_padded(&held.first, &registers, &mut held.steps, &mut held.block);
+        assert!(rt;
+            begun == Ok(()) && held.unwrap(&mut registers, steps) == Ok(()),
+            "{m} bytes"
+        );
+        let ended = end_unwrap_padded(&mut registers, held.steps, &mut held.block);
+        assert!(rt; ended == Ok(m) && registers.starts_with(key), "{m} bytes");
+        assert!(rt; is_cleared(registers.get(m..).unwrap_or(&[1])), "{m} bytes");
+        assert!(rt;
+            held.session.blocks == steps && held.block == [0; 16],
+            "{m} bytes"
+        );
+    }
+    Ok(())
+}
+
+#[test]
+fn refuses_what_is_no_padded_wrapping_by_steps(rt: HostRuntime) -> Result<(), Fail> {
+    for (words, _, why) in NOT_PADDED {
+        let (first, text) = match words {
+            [first, rest @ ..] => (first.to_be_bytes(), spelled(rt.alloc(), rest)?),
+            [] => ([0; 8], spelled(rt.alloc(), &[])?),
+        };
+        let mut registers = text;
+        let steps = steps_of(registers.len());
+        let mut held = Held::new(first);
+        let begun = begin_unwrap_padded(&held.first, &registers, &mut held.steps, &mut held.block);
+        assert!(rt;
+            begun == Ok(()) && held.unwrap(&mut registers, steps) == Ok(()),
+            "{why}"
+        );
+        let ended = end_unwrap_padded(&mut registers, held.steps, &mut held.block);
+        assert!(rt;
+            ended == Err(InPlaceFault::Integrity) && is_cleared(&registers),
+            "{why}"
+        );
+        assert!(rt; held.block == [0; 16], "{why}");
+    }
+    Ok(())
+}
+
+#[test]
+fn refuses_registers_of_no_legal_length(rt: HostRuntime) -> Result<(), Fail> {
+    let iv = InitialValue::default();
+    for len in [0, 7, 8, 9, 12, 17] {
+        let mut registers = vec![in rt.alloc(); 0x5A; len]?;
+        let mut held = Held::new([0; 8]);
+        let begun = begin_wrap(&iv, &registers, &mut held.steps, &mut held.block);
+        assert!(rt; begun == REFUSED && held.is_kept(), "{len} bytes");
+        let begun = begin_unwrap(&held.first, &registers, &mut held.steps, &mut held.block);
+        assert!(rt; begun == REFUSED && held.is_kept(), "{len} bytes");
+        let begun = begin_wrap_padded(20, &mut registers, &mut held.steps, &mut held.block);
+        assert!(rt; begun == REFUSED && held.is_kept(), "{len} bytes");
+        assert!(rt; registers.iter().all(|byte| *byte == 0x5A), "{len} bytes");
+        let step = step_wrap(&mut registers, &mut held.steps, &mut held.block);
+        assert!(rt; step == REFUSED && held.is_kept(), "{len} bytes");
+        let step = step_unwrap(&mut registers, &mut held.steps, &mut held.block);
+        assert!(rt; step == REFUSED && held.is_kept(), "{len} bytes");
+    }
+    Ok(())
+}
