@@ -23,9 +23,12 @@ const COMMANDS = {
 const TESTS = new URL('.', import.meta.url).pathname;
 const FOLDERS = { keywrap: packed, tests: TESTS, page: `${TESTS}page`, bundles, tables };
 const NAMES = other ? [other] : [
-    'page_self', 'calls', 'objects', ...bundles ? ['bundles'] : [], ...tables ? ['vectors'] : [],
+    'page_self', 'calls', 'objects', 'example', ...bundles ? ['bundles'] : [], ...tables ? ['vectors'] : [],
 ];
-const TYPES = { '.mjs': 'text/javascript', '.js': 'text/javascript', '.wasm': 'application/wasm' };
+const TYPES = {
+    '.mjs': 'text/javascript', '.js': 'text/javascript', '.wasm': 'application/wasm',
+    '.html': 'text/html',
+};
 
 const PAGE = `<!DOCTYPE html><meta charset="utf-8"><title>tests</title><body>
 <script type="importmap">${JSON.stringify({ imports: {
