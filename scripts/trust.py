@@ -1,8 +1,12 @@
 #!/usr/bin/env python3
-"""Lists the definitions that the contract of a call rests on, computed from `use` lines.
+"""Lists the definitions that the contract of a call rests on, computed from `use` lines, and the hashes of a release.
 
-usage: scripts/trust.py           writes the tables of docs/TRUST.md
-       scripts/trust.py --check   fails if the tables in docs/TRUST.md are others
+usage: scripts/trust.py                   writes the tables of docs/TRUST.md
+       scripts/trust.py --check           fails if the tables in docs/TRUST.md are others
+       scripts/trust.py --hashes FILE     writes the hashes of SHA256SUMS, which `make dist` made, into docs/TRUST.md
+       scripts/trust.py --check-hashes FILE     fails if the hashes there are others
+
+A development version has no hashes.
 """
 
 import re
@@ -14,6 +18,7 @@ TOP = Path(__file__).resolve().parent.parent
 CRATES = TOP / "crates"
 PAGE = TOP / "docs" / "TRUST.md"
 BEGIN, END = "<!-- scripts/trust.py: begin -->", "<!-- scripts/trust.py: end -->"
+HASHES_BEGIN, HASHES_END = "<!-- scripts/trust.py --hashes: begin -->", "<!-- scripts/trust.py --hashes: end -->"
 
 # The headlines: a name, and the source files whose functions make it, each with the names of these functions.
 HEADLINES = [
@@ -100,14 +105,28 @@ def tables():
     return "\n".join(result)
 
 
+def hashes(sums):
+    """The lines of a SHA256SUMS, in order of their names."""
+    version = (TOP / "VERSION").read_text(encoding="utf-8").strip()
+    if version.endswith("-dev"):
+        return "    (none yet: this is a development version)"
+    found = sorted(Path(sums).read_text(encoding="utf-8").splitlines(), key=lambda line: line.split()[1])
+    return "\n".join(f"    {line}" for line in found)
+
+
 def main(arguments):
     page = PAGE.read_text(encoding="utf-8")
-    head, rest = page.split(BEGIN)
-    wanted = f"{head}{BEGIN}\n{tables().strip()}\n{END}{rest.split(END)[1]}"
-    if arguments != ["--check"]:
+    if arguments[:1] in (["--hashes"], ["--check-hashes"]):
+        begin, end, text = HASHES_BEGIN, HASHES_END, hashes(arguments[1])
+    else:
+        begin, end, text = BEGIN, END, tables().strip()
+    head, rest = page.split(begin)
+    wanted = f"{head}{begin}\n{text}\n{end}{rest.split(end)[1]}"
+    if not arguments or arguments[0] == "--hashes":
         PAGE.write_text(wanted, encoding="utf-8")
     elif page != wanted:
-        print("docs/TRUST.md: its tables are not what scripts/trust.py computes; run make pictures")
+        words = " ".join(arguments).replace("check-", "").replace("--check", "").strip()
+        print(f"docs/TRUST.md: stale, run scripts/trust.py {words}".strip())
         return 1
     return 0
 

@@ -67,6 +67,7 @@ if has_python cffi,setuptools,wheel,build; then
     sed -n '/^### From an archive/,$s/^    //p' "$root/docs/INSTALLING.md" >lines
     row 'the lines of docs/INSTALLING.md' env -C dist bash -e "$room/lines"
     row 'the bill of materials' of_materials
+    row 'the hashes in docs/TRUST.md' "$python" "$root/scripts/trust.py" --check-hashes dist/SHA256SUMS
     row 'make dist in another folder' elsewhere
 else
     skip 'the wheel, and make dist' \
