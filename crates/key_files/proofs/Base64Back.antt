@@ -1,14 +1,14 @@
 -- Base64 files and texts denote exactly the bytes that they encode.
 use Rattle.std.proofs.Common.{◌≡◌, ◌≢◌, ◌<◌, ◌+◌, ◌*◌, ◌/◌, ◌%◌, ◌==◌, ◌||◌, ◌&&◌, ◌⊎◌, inl, inr, not, Bool, true, false, ℕ, zero, suc, List, [], ◌∷◌, ◌++◌, length}
 use Rattle.std.proofs.Common.{drop, get_or, replicate, slice_index, Option, Some, None, Result, Ok, Err, arith, refl, sym, ap, ◌∙◌, append-nil, subst}
-use Rattle.std.specs.List.{filter, list_all, position, position_from, prefix_len}
-use Rattle.std.proofs.lemmas.Bool.{and_from, and_parts, cases_Bool, eqb-true, le-ltb, lt-ltb, not-true, or_cases}
+use Rattle.std.specs.List.{filter, list_all, prefix_len}
+use Rattle.std.proofs.lemmas.Bool.{and_parts, cases_Bool, eqb-true, le-ltb, lt-ltb, not-true, or_cases}
 use Rattle.std.proofs.lemmas.Iterator.Adapters.{position_from-zero}
-use Rattle.std.proofs.lemmas.List.{drop-drop, drop_at, length-append}
-use Rattle.std.proofs.lemmas.List.Elements.{All-drop, filter-append}
+use Rattle.std.proofs.lemmas.List.{length-append}
+use Rattle.std.proofs.lemmas.List.Elements.{filter-append}
 use Rattle.std.proofs.lemmas.List.Folds.{list_all-append}
 use Rattle.std.proofs.lemmas.List.Quantifiers.{position-Some}
-use Rattle.std.proofs.lemmas.List.Sums.{AllPass-from_list_all, list_all-from_AllPass}
+use Rattle.std.proofs.lemmas.List.Sums.{AllPass-from_list_all}
 use Rattle.base64.specs.Engines.{standard, url_safe_no_pad}
 use Rattle.base64.specs.GeneralPurpose.{IsBytes, IsConsistent, decode_of, encode_of, engine_symbols}
 use Rattle.base64.specs.Rfc4648.{encode_symbols, padding_len}
@@ -19,68 +19,12 @@ use Rattle.base64.proofs.Tables.{all_below_at}
 use Rattle.base64.specs.declared.decode.DecodeError.{DecodeError}
 use Rattle.key_files.specs.Base64Text.{IsBase64Of, base64_line, base64_meaning, before_padding, decoded_meaning, encoding, encoding_of}
 use Rattle.key_files.specs.Base64Text.{first_foreign, first_no_padding, first_of_one, has_padding, is_allowed, is_padding, is_standard, is_url_safe}
-use Rattle.key_files.specs.Base64Text.{is_url_safe_at, is_url_safe_text, kept, misplaced, place_fault, symbol_text_meaning, symbols_meaning}
+use Rattle.key_files.specs.Base64Text.{is_url_safe_at, is_url_safe_text, kept, misplaced, place_fault, placed_meaning, symbol_text_meaning, symbols_meaning}
 use Rattle.key_files.specs.declared.fault.Base64Fault.{Base64Fault}
 use Rattle.key_files.specs.HexText.{is_skipped}
 use Rattle.key_files.specs.Writing.{IsLine}
-use Rattle.key_files.proofs.Base64.{IsBase64Of-decoded, base64_meaning-misplaced, base64_meaning-placed, symbol_text_meaning-placed}
-
--- ---- lists whose elements all pass a test
-
-all-both : (p q r : ℕ → Bool) (xs : List ℕ) → ((c : ℕ) → p c ≡ true → q c ≡ true → r c ≡ true)
-    → list_all p xs ≡ true → list_all q xs ≡ true → list_all r xs ≡ true
-all-both p q r [] step hp hq = refl
-all-both p q r (c ∷ xs) step hp hq =
-    let a = and_parts (p c) (list_all p xs) hp in
-    let b = and_parts (q c) (list_all q xs) hq in
-    and_from (r c) (list_all r xs) (step c a.0 b.0) (all-both p q r xs step a.1 b.1)
-
-all-append : (p : ℕ → Bool) (xs ys : List ℕ) → list_all p xs ≡ true → list_all p ys ≡ true → list_all p (xs ++ ys) ≡ true
-all-append p xs ys hx hy = list_all-append p xs ys ∙ and_from (list_all p xs) (list_all p ys) hx hy
-
-all-replicate : (p : ℕ → Bool) (n c : ℕ) → p c ≡ true → list_all p (replicate n c) ≡ true
-all-replicate p zero c h = refl
-all-replicate p (suc n) c h = and_from (p c) (list_all p (replicate n c)) h (all-replicate p n c h)
-
-all-drop : (p : ℕ → Bool) (xs : List ℕ) (n : ℕ) → list_all p xs ≡ true → list_all p (drop n xs) ≡ true
-all-drop p xs n h = list_all-from_AllPass p (drop n xs) (All-drop (λ x. p x ≡ true) n xs (AllPass-from_list_all p xs h))
-
-filter-all : (p : ℕ → Bool) (xs : List ℕ) → list_all p xs ≡ true → filter p xs ≡ xs
-filter-all p [] h = refl
-filter-all p (c ∷ xs) h =
-    let a = and_parts (p c) (list_all p xs) h in
-    rw (a.0, filter-all p xs a.1) refl
-
-position_from-none : (p : ℕ → Bool) (i : ℕ) (xs : List ℕ) → list_all p xs ≡ true → position_from (λ c. not (p c)) i xs ≡ None
-position_from-none p i [] h = refl
-position_from-none p i (c ∷ xs) h =
-    let a = and_parts (p c) (list_all p xs) h in
-    rw a.0 (position_from-none p (i + 1) xs a.1)
-
-position-none : (p : ℕ → Bool) (xs : List ℕ) → list_all p xs ≡ true → position (λ c. not (p c)) xs ≡ None
-position-none p xs h = position_from-zero (λ c. not (p c)) xs ∙ position_from-none p 0 xs h
-
-all-from_none : (p : ℕ → Bool) (i : ℕ) (xs : List ℕ) → position_from p i xs ≡ None → list_all (λ c. not (p c)) xs ≡ true
-all-from_none p i [] h = refl
-all-from_none p i (c ∷ xs) h = elim (cases_Bool (p c)) [
-  | inl passes ↦ cc (rw passes at h)
-  | inr fails ↦ rw fails (all-from_none p (i + 1) xs (rw fails at h))
-]
-
-prefix_len-all : (p : ℕ → Bool) (xs ys : List ℕ) → list_all p xs ≡ true → prefix_len p (xs ++ ys) ≡ length xs + prefix_len p ys
-prefix_len-all p [] ys h = omega arith
-prefix_len-all p (c ∷ xs) ys h =
-    let a = and_parts (p c) (list_all p xs) h in
-    let rest = prefix_len-all p xs ys a.1 in
-    rw a.0 (omega (arith, rest))
-
--- the rest after a front whose elements all pass
-all-behind : (p q : ℕ → Bool) (xs ys : List ℕ) → list_all p xs ≡ true → list_all q ys ≡ true
-    → list_all q (drop (prefix_len p (xs ++ ys)) (xs ++ ys)) ≡ true
-all-behind p q xs ys hp hq =
-    let rest : drop (length xs + prefix_len p ys) (xs ++ ys) ≡ drop (prefix_len p ys) ys =
-    sym (drop-drop (prefix_len p ys) (length xs) (xs ++ ys)) ∙ ap (λ (l : List ℕ). drop (prefix_len p ys) l) (drop_at xs ys (length xs) refl) in
-    rw (prefix_len-all p xs ys hp, rest) (all-drop q ys (prefix_len p ys) hq)
+use Rattle.key_files.proofs.Lists.{all-both, all-append, all-replicate, all-drop, filter-all, position-none, all-from_none, prefix_len-all, all-behind, all-unfiltered, behind-unfiltered, of_blanks, IsBytes-filter}
+use Rattle.key_files.proofs.Base64.{IsBase64Of-decoded, base64_meaning-placed, symbol_text_meaning-placed}
 
 -- ---- the symbols of an encoding
 
@@ -202,50 +146,7 @@ is_url_safe_at-told text (Some at) is all =
 is_url_safe_text-told : (text : List ℕ) → list_all (is_allowed true true) text ≡ true → IsTold text (is_url_safe_text text)
 is_url_safe_text-told text all = is_url_safe_at-told text (first_of_one text) refl all
 
--- ---- a text whose blanks are left out
-
--- what all kept bytes pass, and all others
-all-unfiltered : (p q : ℕ → Bool) (xs : List ℕ) → ((c : ℕ) → q c ≡ false → p c ≡ true) → list_all p (filter q xs) ≡ true → list_all p xs ≡ true
-all-unfiltered p q [] other h = refl
-all-unfiltered p q (c ∷ xs) other h = elim (cases_Bool (q c)) [
-  | inl keeps ↦
-      let a = and_parts (p c) (list_all p (filter q xs)) (rw keeps at h) in
-      and_from (p c) (list_all p xs) a.0 (all-unfiltered p q xs other a.1)
-  | inr drops ↦ and_from (p c) (list_all p xs) (other c drops) (all-unfiltered p q xs other (rw drops at h))
-]
-
-drop_one : (n c : ℕ) (xs : List ℕ) → drop (1 + n) (c ∷ xs) ≡ drop n xs
-drop_one n c xs = sym (drop-drop n 1 (c ∷ xs))
-
-behind-unfiltered : (p q r : ℕ → Bool) (xs : List ℕ) → ((c : ℕ) → q c ≡ false → p c ≡ true) → ((c : ℕ) → q c ≡ false → r c ≡ true)
-    → list_all r (drop (prefix_len p (filter q xs)) (filter q xs)) ≡ true → list_all r (drop (prefix_len p xs) xs) ≡ true
-behind-unfiltered p q r [] before other h = refl
-behind-unfiltered p q r (c ∷ xs) before other h = elim (cases_Bool (q c)) [
-  | inl keeps ↦ elim (cases_Bool (p c)) [
-    | inl goes ↦
-        let rest : list_all r (drop (1 + prefix_len p (filter q xs)) (c ∷ filter q xs)) ≡ true = rw (keeps, goes) at h in
-        rw (goes, drop_one (prefix_len p xs) c xs)
-        (behind-unfiltered p q r xs before other (rw (drop_one (prefix_len p (filter q xs)) c (filter q xs)) at rest))
-    | inr stops ↦ rw stops (all-unfiltered r q (c ∷ xs) other (rw keeps (rw (keeps, stops) at h)))
-  ]
-  | inr drops ↦ rw (before c drops, drop_one (prefix_len p xs) c xs) (behind-unfiltered p q r xs before other (rw drops at h))
-]
-
--- a byte that is left out is one of four
-of_blanks : (P : ℕ → Type 0) → P 32 → P 9 → P 13 → P 10 → (c : ℕ) → not (is_skipped c) ≡ false → P c
-of_blanks P a b d e c h = elim (cases_Bool (c == 32)) [
-  | inl is ↦ subst P (sym (eqb-true c 32 is)) a
-  | inr no32 ↦ elim (cases_Bool (c == 9)) [
-    | inl is ↦ subst P (sym (eqb-true c 9 is)) b
-    | inr no9 ↦ elim (cases_Bool (c == 13)) [
-      | inl is ↦ subst P (sym (eqb-true c 13 is)) d
-      | inr no13 ↦ elim (cases_Bool (c == 10)) [
-        | inl is ↦ subst P (sym (eqb-true c 10 is)) e
-        | inr no10 ↦ cc (rw (no32, no9, no13, no10) at h)
-      ]
-    ]
-  ]
-]
+-- ---- no character is misplaced
 
 no_fault : (foreign behind : Option ℕ) (before : ℕ) → foreign ≡ None → behind ≡ None → place_fault foreign before behind ≡ None
 no_fault foreign behind before f b = rw (f, b) refl
@@ -436,38 +337,32 @@ base64_meaning-accepts file bytes fits (u, p, is) =
     let whole : kept file ≡ text_in u n bytes = is ∙ same in
     base64_meaning-placed file (placed-file u n bytes file fits whole) ∙ ap (λ (l : List ℕ). symbols_meaning l) whole ∙ symbols_meaning-text u n bytes pad fits
 
-IsBytes-more : (c : ℕ) (xs : List ℕ) → c < 256 → IsBytes xs → IsBytes (c ∷ xs)
-IsBytes-more c xs fits rest zero = fits
-IsBytes-more c xs fits rest (suc k) = rest k
+module _ (text bytes : List ℕ) (fits : IsBytes text) where
+  encoded : (d : Result (List ℕ) DecodeError) → decode_of (encoding_of text) text ≡ d → decoded_meaning d ≡ Ok bytes → IsBase64Of text bytes
+  encoded (Ok x) is same =
+      let e : x ≡ bytes = cc same in
+      IsBase64Of-decoded (encoding_of text) text bytes (refl, refl, refl, refl) fits (is ∙ ap Ok e)
+  encoded (Err error) is same = cc same
 
-IsBytes-filter : (p : ℕ → Bool) (xs : List ℕ) → IsBytes xs → IsBytes (filter p xs)
-IsBytes-filter p [] fits = fits
-IsBytes-filter p (c ∷ xs) fits =
-    let rest = IsBytes-filter p xs (λ k. fits (suc k)) in
-    elim (cases_Bool (p c)) [
-      | inl keeps ↦ rw keeps (IsBytes-more c (filter p xs) (fits 0) rest)
-      | inr drops ↦ rw drops rest
-    ]
+  placed-sound : (found : Option Base64Fault) → placed_meaning found text ≡ Ok bytes → IsBase64Of text bytes
+  placed-sound None h = encoded (decode_of (encoding_of text) text) refl h
+  placed-sound (Some fault) h = cc h
+
+pub symbol_text_meaning-sound : (text bytes : List ℕ) → IsBytes text → symbol_text_meaning text ≡ Ok bytes → IsBase64Of text bytes
+unfolding symbol_text_meaning
+symbol_text_meaning-sound text bytes fits h = placed-sound text bytes fits (misplaced false text) h
 
 pub base64_meaning-sound : (file bytes : List ℕ) → IsBytes file → base64_meaning file ≡ Ok bytes → IsBase64Of (kept file) bytes
-base64_meaning-sound file bytes fits h = at (misplaced true file) refl
-  where
-    encoded : (d : Result (List ℕ) DecodeError) → decode_of (encoding_of (kept file)) (kept file) ≡ d → decoded_meaning d ≡ Ok bytes → IsBase64Of (kept file) bytes
-    encoded (Ok x) is same =
-        let e : x ≡ bytes = cc same in
-        IsBase64Of-decoded (encoding_of (kept file)) (kept file) bytes (refl, refl, refl, refl) (IsBytes-filter (λ c. not (is_skipped c)) file fits) (is ∙ ap Ok e)
-    encoded (Err error) is same = cc same
-
-    at : (found : Option Base64Fault) → misplaced true file ≡ found → IsBase64Of (kept file) bytes
-    at None is = encoded (decode_of (encoding_of (kept file)) (kept file)) refl (sym (base64_meaning-placed file is) ∙ h)
-    at (Some fault) is = cc (sym (base64_meaning-misplaced file fault is) ∙ h)
+unfolding base64_meaning
+base64_meaning-sound file bytes fits h =
+    placed-sound (kept file) bytes (IsBytes-filter (λ c. not (is_skipped c)) file fits) (misplaced true file) h
 
 -- no symbol is left out
 kept-text : (u : Bool) (n : ℕ) (bytes : List ℕ) → IsBytes bytes → list_all (λ c. not (is_skipped c)) (text_in u n bytes) ≡ true
 kept-text false n bytes fits = all-text (λ c. not (is_skipped c)) false n bytes refl refl fits
 kept-text true n bytes fits = all-text (λ c. not (is_skipped c)) true n bytes refl refl fits
 
-unskipped : (text bytes : List ℕ) → IsBytes bytes → IsBase64Of text bytes → list_all (λ c. not (is_skipped c)) text ≡ true
+pub unskipped : (text bytes : List ℕ) → IsBytes bytes → IsBase64Of text bytes → list_all (λ c. not (is_skipped c)) text ≡ true
 unskipped text bytes fits (u, p, is) =
     let (n, pad, same) = encoded-text u p bytes in
     subst (λ (l : List ℕ). list_all (λ c. not (is_skipped c)) l ≡ true) (sym (is ∙ same)) (kept-text u n bytes fits)

@@ -1,8 +1,9 @@
 -- The lemmas: what digits spell, what a file denotes, what a call took, and the line that is read back.
-mod Denoting
+pub mod Denoting
+pub mod Lists
 mod Pairs
-mod ReadBack
+pub mod ReadBack
 mod Whole
-mod Strict
+pub mod Strict
 mod Base64
-mod Base64Back
+pub mod Base64Back

@@ -1,18 +1,19 @@
--- Hex output denotes the bytes that it was made of: none of its bytes is bad, and its digits are those that `hex` decodes.
-use Rattle.std.proofs.Common.{◌≡◌, ◌≢◌, ◌<◌, ◌+◌, ◌/◌, ◌%◌, ◌||◌, not, true, false, ℕ, List, [], ◌∷◌, ◌++◌, length, slice_index, suc}
-use Rattle.std.proofs.Common.{None, Ok, nat_lt, All, arith, refl, sym, ap, subst, ◌∙◌}
+-- What a file of digits and blanks denotes, and that hex output is one line and denotes the bytes that it was made of.
+use Rattle.std.proofs.Common.{◌≡◌, ◌≢◌, ◌<◌, ◌/◌, ◌%◌, ◌||◌, not, true, false, ℕ, List, [], ◌∷◌, ◌++◌, slice_index, suc}
+use Rattle.std.proofs.Common.{Bool, Option, Some, None, Ok, nat_lt, append-nil, All, arith, refl, sym, ap, subst, ◌∙◌}
 use Rattle.std.specs.Char.{digit_value}
-use Rattle.std.specs.List.{position_from}
+use Rattle.std.specs.List.{filter, list_all, position_from}
 use Rattle.std.proofs.lemmas.Bool.Decides.{nat_tests}
-use Rattle.std.proofs.lemmas.List.Elements.{All-cons}
+use Rattle.std.proofs.lemmas.List.Elements.{All-cons, filter-append}
 use Rattle.std.proofs.lemmas.Iterator.Adapters.{position_from-zero}
 use Rattle.hex.specs.Hex.{IsBytes, encode_lower, encode_with, lower_digits}
-use Rattle.hex.proofs.HexLemmas.{IsDigits-lower_digits, decode_of-encode_lower, length-encode_with}
-use Rattle.key_files.specs.HexText.{digits_of, first_bad, hex_line, is_hex_digit, is_skipped, paired}
-use Rattle.key_files.specs.Meaning.{hex_meaning}
+use Rattle.hex.proofs.HexLemmas.{IsDigits-lower_digits}
+use Rattle.key_files.specs.HexText.{digits_of, first_bad, first_no_digit, hex_line, is_hex_digit, is_skipped}
+use Rattle.key_files.specs.Meaning.{digit_text_meaning, digits_meaning, hex_meaning}
 use Rattle.key_files.specs.Writing.{IsLine}
-use Rattle.key_files.proofs.Denoting.{hex_meaning-even}
-use Rattle.key_files.proofs.Pairs.{decode_of-paired, hex_digit_value-ok}
+use Rattle.key_files.proofs.Lists.{all-both, all-filter, all-found, all-unfiltered, filter-all, of_blanks, position-none}
+use Rattle.key_files.proofs.Strict.{digit_text_meaning-lower}
+use Rattle.key_files.proofs.Pairs.{hex_digit_value-ok}
 
 below_sixteen : (v : ℕ) → v < 16 → nat_lt v 16 ≡ true
 below_sixteen v h = grind (arith, nat_tests)
@@ -23,38 +24,41 @@ is_hex_digit-written v h =
     let value : v ≡ digit_value (slice_index lower_digits v) = hex_digit_value-ok (slice_index lower_digits v) v (IsDigits-lower_digits v h) in
     ap (λ d. nat_lt d 16) (sym value) ∙ below_sixteen v h
 
-is_allowed-digit : (c : ℕ) → is_hex_digit c ≡ true → not (is_hex_digit c || is_skipped c) ≡ false
-is_allowed-digit c h = rw h refl
-
--- no byte of the line is bad
-no_bad : (i : ℕ) (bytes : List ℕ) → IsBytes bytes
-    → position_from (λ c. not (is_hex_digit c || is_skipped c)) i (encode_with lower_digits bytes ++ 10 ∷ []) ≡ None
+pub all-lower : (bytes : List ℕ) → IsBytes bytes → list_all is_hex_digit (encode_lower bytes) ≡ true
 unfolding encode_with
-no_bad i [] h = refl
-no_bad i (b ∷ rest) h =
+all-lower [] h = refl
+all-lower (b ∷ rest) h =
     let fits : b < 256 = h 0 in
-    let high = is_allowed-digit (slice_index lower_digits (b / 16)) (is_hex_digit-written (b / 16) (omega arith)) in
-    let low = is_allowed-digit (slice_index lower_digits (b % 16)) (is_hex_digit-written (b % 16) (omega arith)) in
-    rw (high, low) (no_bad (i + 1 + 1) rest (λ k. h (suc k)))
+    rw (is_hex_digit-written (b / 16) (omega arith), is_hex_digit-written (b % 16) (omega arith)) (all-lower rest (λ k. h (suc k)))
 
--- its digits are the digits of the bytes
-digits_of-line : (bytes : List ℕ) → IsBytes bytes → digits_of (encode_with lower_digits bytes ++ 10 ∷ []) ≡ encode_with lower_digits bytes
-unfolding encode_with
-digits_of-line [] h = refl
-digits_of-line (b ∷ rest) h =
-    let fits : b < 256 = h 0 in
-    let high = is_hex_digit-written (b / 16) (omega arith) in
-    let low = is_hex_digit-written (b % 16) (omega arith) in
-    rw (high, low, digits_of-line rest (λ k. h (suc k))) refl
+-- a file whose bytes are the digits of a text and blanks
+module _ (file text bytes : List ℕ) (digits : filter is_hex_digit file ≡ filter is_hex_digit text)
+    (others : filter (λ c. not (is_skipped c)) file ≡ filter (λ c. not (is_skipped c)) text) where
+  of_digits : (bad : Option ℕ) → position_from (λ c. not (is_hex_digit c)) 0 text ≡ bad → digits_meaning bad text ≡ Ok bytes
+      → hex_meaning file ≡ Ok bytes
+  unfolding hex_meaning
+  of_digits (Some at) is h = cc h
+  of_digits None is h =
+      let q : ℕ → Bool = λ c. is_hex_digit c || is_skipped c in
+      let keeps : ℕ → Bool = λ c. not (is_skipped c) in
+      let all = all-found is_hex_digit 0 text is in
+      let each : list_all q text ≡ true = all-both is_hex_digit is_hex_digit q text (λ c d _. rw d refl) all all in
+      let kept : list_all q (filter keeps file) ≡ true = subst (λ l. list_all q l ≡ true) (sym others) (all-filter q keeps text each) in
+      let none : first_bad file ≡ None =
+      position-none q file (all-unfiltered q keeps file (of_blanks (λ c. q c ≡ true) refl refl refl refl) kept) in
+      let same : digits_of file ≡ text = digits ∙ filter-all is_hex_digit text all in
+      rw (none, same) h
+
+  pub hex_meaning-of_text : digit_text_meaning text ≡ Ok bytes → hex_meaning file ≡ Ok bytes
+  unfolding digit_text_meaning
+  hex_meaning-of_text h = of_digits (first_no_digit text) (sym (position_from-zero (λ c. not (is_hex_digit c)) text)) h
 
 pub hex_meaning-hex_line : (bytes : List ℕ) → IsBytes bytes → hex_meaning (hex_line bytes) ≡ Ok bytes
 hex_meaning-hex_line bytes h =
-    let none : first_bad (hex_line bytes) ≡ None = position_from-zero _ (hex_line bytes) ∙ no_bad 0 bytes h in
-    let digits = digits_of-line bytes h in
-    let twice = length-encode_with lower_digits bytes in
-    let even : length (digits_of (hex_line bytes)) % 2 ≢ 1 = rw digits (omega (arith, twice)) in
-    let back = sym (decode_of-paired (encode_lower bytes) bytes (decode_of-encode_lower bytes h)) in
-    hex_meaning-even (hex_line bytes) none even ∙ ap Ok (ap paired digits ∙ back)
+    let text : List ℕ = encode_lower bytes in
+    let same : (q : ℕ → Bool) → q 10 ≡ false → filter q (hex_line bytes) ≡ filter q text =
+    λ q no. let none : filter q (10 ∷ []) ≡ [] = rw no refl in filter-append q text (10 ∷ []) ∙ ap (λ l. filter q text ++ l) none ∙ append-nil (filter q text) in
+    hex_meaning-of_text (hex_line bytes) text bytes (same is_hex_digit refl) (same (λ c. not (is_skipped c)) refl) (digit_text_meaning-lower bytes h)
 
 -- no digit is LF
 no_lf : (v : ℕ) → v < 16 → slice_index lower_digits v ≢ 10

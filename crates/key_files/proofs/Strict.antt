@@ -4,9 +4,10 @@ use Rattle.std.specs.Prelude.{MatchResult, is_ok}
 use Rattle.std.specs.List.{position_from}
 use Rattle.std.proofs.lemmas.Bool.Decides.{nat_tests}
 use Rattle.std.proofs.lemmas.Iterator.Adapters.{position_from-zero}
-use Rattle.hex.specs.Hex.{decode_pairs, decode_sized, digit_or_error, hex_digit_value, pair_value, value_at}
+use Rattle.hex.specs.Hex.{IsBytes, encode_lower, decode_pairs, decode_sized, digit_or_error, hex_digit_value, pair_value, value_at}
 use Rattle.hex.specs.declared.error.FromHexError.{FromHexError}
 use Rattle.hex.specs.declared.error.FromHexError.TheVariants.{OddLength, InvalidStringLength}
+use Rattle.hex.proofs.HexLemmas.{decode_of-encode_lower, decode_of-even, decode_of-ok}
 use Rattle.key_files.specs.HexText.{first_no_digit, is_hex_digit}
 use Rattle.key_files.specs.Meaning.{digit_text_meaning}
 use Rattle.key_files.proofs.Denoting.{digit_text_meaning-even}
@@ -45,6 +46,12 @@ decoded-meaning text bytes h =
     let alone = digits_alone 0 0 text bytes h in
     let none : first_no_digit text ≡ None = position_from-zero _ text ∙ alone.0 in
     digit_text_meaning-even text none (omega (arith, alone.1)) ∙ ap Ok (sym (decode_pairs-paired 0 text bytes h))
+
+-- what is printed in lower case
+pub digit_text_meaning-lower : (bytes : List ℕ) → IsBytes bytes → digit_text_meaning (encode_lower bytes) ≡ Ok bytes
+digit_text_meaning-lower bytes fits =
+    let decoded = decode_of-encode_lower bytes fits in
+    decoded-meaning (encode_lower bytes) bytes (sym (decode_of-even (encode_lower bytes) (decode_of-ok (encode_lower bytes) bytes decoded).0) ∙ decoded)
 
 sized : (odd fits : Bool) (pairs : Result (List ℕ) FromHexError) (bytes : List ℕ)
     → cond odd (Err OddLength) (cond fits pairs (Err InvalidStringLength)) ≡ Ok bytes → pairs ≡ Ok bytes

@@ -1,7 +1,7 @@
 -- The hex notation of bytes: two digits a byte, of either case, with spaces, tabs and line ends anywhere.
 use Rattle.std.specs.Prelude.{ℕ, ◌+◌, ◌*◌, ◌==◌, ◌||◌, not, Bool, List, [], ◌∷◌, ◌++◌, Option, filter, position}
 use Rattle.std.specs.Char.{digit_value, is_digit}
-use Rattle.hex.specs.Hex.{encode_lower}
+pub use Rattle.hex.specs.Hex.{IsBytes, encode_lower}
 
 -- the digits are `0` to `9`, `a` to `f` and `A` to `F`
 abbrev pub is_hex_digit : ℕ → Bool

@@ -2,6 +2,7 @@
 mod Blocks
 mod Denoting
 mod Ends
+mod Laws
 mod Passing
 mod Runs
 mod Showing

@@ -1,7 +1,7 @@
 -- What is written for a line that is skipped, and why a line is not skipped.
-use Rattle.std.proofs.Common.{◌≡◌, ℕ, Bool, true, false, ◌&&◌, List, [], ◌∷◌, Result, Ok, Err, inl, inr, refl, sym, subst}
+use Rattle.std.proofs.Common.{◌≡◌, ℕ, Bool, true, false, ◌&&◌, List, Result, Ok, Err, inl, inr, refl, sym, subst}
 use Rattle.key_files.specs.declared.fault.FileFault.TheVariants.{Read, TooLong, BadDigit, OddDigits, BadBase64, Memory}
-use Rattle.key_lines.specs.Answers.{Answer, answered, output_of}
+use Rattle.key_lines.specs.Answers.{Answer}
 use Rattle.key_lines.specs.Running.{LineAnswer, LineResult, MakesAnswer, MakesOutput, Skips, is_own}
 use Rattle.key_lines.specs.declared.fault.LineFault.{LineFault}
 use Rattle.key_lines.specs.declared.fault.LineFault.TheVariants.{Input, Refused}

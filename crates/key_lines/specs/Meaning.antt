@@ -1,9 +1,10 @@
 -- What a line denotes: one text of hex digits or of base64, with blanks only at the ends of the line.
-use Rattle.std.specs.Prelude.{ℕ, ◌-◌, ◌==◌, ◌||◌, Bool, List, length, take, drop, Result, Ok, Err}
+use Rattle.std.specs.Prelude.{◌≡◌, ℕ, ◌-◌, ◌==◌, ◌||◌, Bool, true, false, List, [], ◌∷◌, ◌++◌, length, take, drop, Result, Ok, Err}
 use Rattle.std.specs.List.{prefix_len, suffix_len}
-use Rattle.key_files.specs.Base64Text.{symbol_text_meaning}
+use Rattle.key_files.specs.Base64Text.{base64_line, base64_meaning, symbol_text_meaning}
 use Rattle.key_files.specs.Decoding.{fault_behind}
-use Rattle.key_files.specs.Meaning.{digit_text_meaning, file_meaning}
+use Rattle.key_files.specs.HexText.{IsBytes, hex_line}
+use Rattle.key_files.specs.Meaning.{digit_text_meaning, file_meaning, hex_meaning}
 use Rattle.key_files.specs.declared.fault.FileFault.{FileFault}
 use Rattle.key_lines.specs.declared.text.TextNotation.{TextNotation}
 use Rattle.key_lines.specs.declared.text.TextNotation.TheVariants.{Hex, Base64, Base64Url}
@@ -42,3 +43,25 @@ line_limit = 4194304
 -- what a line denotes, within the limit
 abbrev pub line_meaning : TextNotation → List ℕ → Result (List ℕ) FileFault
 line_meaning notation line = file_meaning (blank_ended_meaning notation) line_limit line
+
+-- what the same bytes denote as a file
+abbrev pub text_file_meaning : TextNotation → List ℕ → Result (List ℕ) FileFault
+text_file_meaning Hex file = hex_meaning file
+text_file_meaning Base64 file = base64_meaning file
+text_file_meaning Base64Url file = base64_meaning file
+
+-- what is printed for bytes
+abbrev pub printed_line : TextNotation → List ℕ → List ℕ
+printed_line Hex bytes = hex_line bytes
+printed_line Base64 bytes = base64_line false bytes
+printed_line Base64Url bytes = base64_line true bytes
+
+-- A law: a line that denotes bytes denotes them as a file, too.
+abbrev pub LinesAreFiles : TextNotation → Type 0
+LinesAreFiles notation = (line bytes : List ℕ) → IsBytes line → IsBytes bytes → blank_ended_meaning notation line ≡ Ok bytes
+    → text_file_meaning notation line ≡ Ok bytes
+
+-- A law: the line that is printed for bytes denotes them.
+abbrev pub PrintsBack : TextNotation → Type 0
+PrintsBack notation = (bytes : List ℕ) → IsBytes bytes
+    → (line : List ℕ) × (printed_line notation bytes ≡ line ++ 10 ∷ []) × (blank_ended_meaning notation line ≡ Ok bytes)

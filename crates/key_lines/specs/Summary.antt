@@ -1,8 +1,7 @@
 -- What the summary of a run says of its lines.
-use Rattle.std.specs.Prelude.{◌≡◌, ℕ, ◌+◌, ◌<◌, ◌≤◌, List, [], ◌∷◌, length, Option, Some, None, Result, Ok, Err}
+use Rattle.std.specs.Prelude.{◌≡◌, ◌+◌, ◌<◌, ◌≤◌, List, [], ◌∷◌, length, Option, Some, None, Result, Ok, Err}
 use Rattle.key_lines.specs.Answers.{Answer, mark_count, marks_of, refusals_of}
 use Rattle.key_lines.specs.declared.fault.LineFault.{LineFault}
-use Rattle.key_lines.specs.declared.fault.RefusedLine.{RefusedLine}
 use Rattle.key_lines.specs.declared.summary.RunSummary.{RunSummary}
 
 -- the first of a list

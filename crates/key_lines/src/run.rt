@@ -2,6 +2,7 @@
 
 ghost use Rattle.std.specs.Prelude.{◌≡◌, ◌≤◌, length, IfSome};
 ghost use Rattle.key_lines.specs.Answers.{answered};
+ghost use Rattle.key_lines.specs.Meaning.{LinesAreFiles, PrintsBack};
 ghost use Rattle.key_lines.specs.Running.{Gathers, MakesAnswer, MakesOutput, RunsLines, Skips};
 ghost use Rattle.key_lines.specs.Running.{StepsLine, WritesAnswers, answered_of, is_own, is_write};
 ghost use Rattle.key_lines.specs.Running.{run_fault_of};
@@ -87,6 +88,10 @@ impl<J: LineJob> LineRun<J> {
         // them, or to those before the line at which the call stopped.
         ensures headline { IfSome (R.remaining input.old) (λ text. WritesAnswers self.now.options
             (J.answers self.now.job) text (W.contents out.old) (W.contents out.new) result) }
+        // Laws of the notation: a line that denotes bytes denotes them as a file, too, and the line
+        // that is printed for bytes denotes them.
+        ensures as_files { LinesAreFiles self.now.options.notation }
+        ensures read_back { PrintsBack self.now.options.notation }
     {
         let mut buffers = Buffers {
             line: Vec::new(alloc),

@@ -1,5 +1,5 @@
 -- So many lines were answered, and then the input ended, a line stopped the run, or the writer refused the block.
-use Rattle.std.proofs.Common.{◌≡◌, ◌+◌, ◌<◌, length, arith, rules, refl, sym}
+use Rattle.std.proofs.Common.{◌≡◌, ◌<◌, length, arith, rules, refl, sym}
 use Rattle.key_lines.specs.declared.fault.LineFault.TheVariants.{Input}
 use Rattle.key_files.specs.declared.fault.FileFault.TheVariants.{Read}
 use Rattle.key_lines.proofs.Runs.{Answered-none, Answered-more, Answered-room, Gathers-missing, Gathers-last, Gathers-halted, Gathers-stopped, StopsFor-nothing, lines_after}
