@@ -4,14 +4,10 @@ use Rattle.std.specs.Prelude.{◌≡◌, ℕ, List, length}
 use Rattle.key_wrap.specs.declared.forms.Form.{Form}
 use Rattle.key_wrap.specs.declared.forms.Form.TheVariants as forms
 use Rattle.key_wrap.specs.Answer.{NoKey}
-use Rattle.key_wrap.specs.Forms.{Stands, IsKeyLength, IsTextLength}
-use Rattle.key_wrap.specs.Plain.{default_iv}
+use Rattle.key_wrap.specs.Forms.{Stands, IsKeyLength, IsTextLength, with_value}
+use Rattle.key_wrap.specs.Rewrap.{NoOtherForm}
 use Rattle.keywrap_cli.specs.declared.convert.Direction.{Direction}
 use Rattle.keywrap_cli.specs.declared.convert.Direction.TheVariants.{Wrap, Unwrap}
-
-abbrev pub other_form : Form → Form
-other_form forms.Plain = forms.Padded
-other_form forms.Padded = forms.Plain
 
 -- the legal lengths of what is wrapped or unwrapped in this form
 abbrev pub IsInputLength : Direction → Form → ℕ → Type 0
@@ -25,12 +21,12 @@ pub record IsTextOf (form : Form) (iv : ℕ) (E : List ℕ → List ℕ) (key te
   pub alone : (other : List ℕ) → Stands form iv E key other → other ≡ text
 
 -- `text` is the wrapping of this key, and of no other. Wrapping the key again restores the wrapped key. No key belongs
--- to the wrapped key in the other form; for the padded form this is the plain form under the default value.
+-- to the wrapped key in the other form, under any initial value.
 pub record IsKeyOf (form : Form) (iv : ℕ) (E : List ℕ → List ℕ) (text key : List ℕ) : Type 0 where
   pub stands : Stands form iv E key text
   pub alone : (other : List ℕ) → Stands form iv E other text → other ≡ key
   pub restores : (other : List ℕ) → Stands form iv E key other → other ≡ text
-  pub one_form : NoKey (Stands (other_form form) default_iv E) text
+  pub one_form : NoOtherForm (with_value form iv) E text
 
 -- the bytes Y are the one answer to the bytes X
 abbrev pub IsAnswer : Direction → Form → ℕ → (List ℕ → List ℕ) → List ℕ → List ℕ → Type 0

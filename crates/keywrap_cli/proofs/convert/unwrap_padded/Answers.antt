@@ -21,4 +21,4 @@ returns-in-Ok g c =
     let back = take_at new (drop (length new) c.resize.new.self.items) c.resize.new.self.len (omega arith) in
     let key : c.truncate.new.self.items ≡ take c.in-Ok.len new = c.truncate.ensures.items ∙ ap (take c.in-Ok.len) back in
     let w = rw own at c.in-Ok.ensures in
-    record { stands = rw key w.answer.1; alone = rw key w.only_key; restores = rw key w.restores; one_form = w.other_form }
+    record { stands = rw key w.answer.1; alone = rw key w.only_key; restores = rw key w.restores; one_form = w.other_values }
