@@ -78,7 +78,7 @@ for_zsh = $(share)/zsh/site-functions
 for_fish = $(share)/fish/vendor_completions.d
 
 .PHONY: help version build library library-anew test gate install uninstall install-command uninstall-command \
-    install-library uninstall-library install-provider uninstall-provider provider examples needs needs-wheel wheel js portable \
+    install-library uninstall-library install-provider uninstall-provider provider examples needs needs-wheel wheel js portable sdist \
     dist dist-each dist-command dist-library dist-wheel dist-js packed bench pictures clean
 # What a goal needs is looked at before anything is built for it; and what rt builds of the exports has one place.
 .NOTPARALLEL:
@@ -93,6 +93,7 @@ help:
 	@echo 'make wheel              builds the Python package, as $(wheel)'
 	@echo 'make js                 builds the package for browsers, Node and Deno, as $(JS)'
 	@echo 'make portable           builds the library as one file of C for other machines, as $(PORTABLE)'
+	@echo 'make sdist              packs the Python package with that file, in $(DIST), for pip to build elsewhere'
 	@echo 'make test               runs the tests of the built command and the C library, as a user does'
 	@echo 'make gate               runs rt ci, which proves all from nothing and tries each edit, and then make test'
 	@echo 'make install            installs the two below, under $$(DESTDIR)$$(prefix), with their documents'
@@ -174,6 +175,10 @@ js:
 
 portable: js
 	$(PYTHON) scripts/portable.py '$(JS)/keywrap.wasm' '$(version)' '$(PORTABLE)'
+
+sdist: portable
+	@scripts/wheel_needs.sh '$(PYTHON)'
+	scripts/sdist.sh '$(PYTHON)' '$(PORTABLE)' '$(of_python)' '$(DIST)'
 
 # The scripts prove and build what is not built yet, and nothing else.
 test:

@@ -1,5 +1,7 @@
-"""The extension keywrap._ffi: the calls of keywrap.h, with libkeywrap.a linked in."""
+"""The extension keywrap._ffi: the calls of keywrap.h, with libkeywrap.a linked in. In the source distribution, which has
+keywrap.c instead, they are the portable ones."""
 
+import os
 import re
 from pathlib import Path
 
@@ -74,15 +76,23 @@ VERSION = Path("VERSION").read_text(encoding="utf-8").strip().replace("-dev", ".
 
 ffi = FFI()
 ffi.cdef(declarations(Path("keywrap.h").read_text(encoding="utf-8")) + HELPERS)
+# Of the library: without debugging information, which names the folder, and stripped. The package calls the library
+# that is in it, whatever another one in the process shows.
+NATIVE = {
+    "extra_objects": ["libkeywrap.a"],
+    "extra_compile_args": ["-std=c99", "-g0"],
+    "extra_link_args": ["-s", "-Wl,--exclude-libs,ALL", "-Wl,-z,relro,-z,now"],
+}
+PORTABLE = {
+    "sources": ["keywrap.c"],
+    "extra_compile_args": ["-std=c99", "-O2", "-fvisibility=hidden"] if os.name == "posix" else [],
+}
+portable = Path("keywrap.c").exists()
 ffi.set_source(
     "keywrap._ffi",
     SOURCE,
     include_dirs=["."],
-    extra_objects=["libkeywrap.a"],
-    define_macros=[("PACKAGE_VERSION", f'"{VERSION}"')],
-    # Without debugging information, which names the folder, and stripped.
-    extra_compile_args=["-std=c99", "-g0"],
-    # The package calls the library that is in it, whatever another one in the process shows.
-    extra_link_args=["-s", "-Wl,--exclude-libs,ALL", "-Wl,-z,relro,-z,now"],
+    define_macros=[("PACKAGE_VERSION", f'"{VERSION}"'), *([("KEYWRAP_PORTABLE", None)] if portable else [])],
     py_limited_api=True,
+    **(PORTABLE if portable else NATIVE),
 )

@@ -254,6 +254,6 @@ def check_with_length(kek: ReadableBuffer, wrapped: ReadableBuffer) -> Optional[
     found = _kind(kek, len(kek), wrapped, length, scratch, room)
     if found >= 0:
         return _KINDS[found & 1], found >> 1
-    if found == -_lib.KEYWRAP_BAD_KEK:
+    if found in (-_lib.KEYWRAP_BAD_KEK, -_refusals.NO_MEMORY):
         raise _refusals.refusal(-found, "", 0, "", kek)
     return None

@@ -7,6 +7,9 @@ from ._ffi import ffi, lib
 _MAX_KEY: int = lib.KEYWRAP_MAX_KEY
 _MAX_WRAPPED: int = lib.KEYWRAP_MAX_TEXT
 
+#: Only the portable library returns it: malloc failed.
+NO_MEMORY = 7
+
 #: What the lengths must be, in bytes.
 KEKS = "16, 24 or 32"
 PLAIN_KEYS = f"a multiple of 8 from 16 to {_MAX_KEY}"
@@ -53,7 +56,9 @@ def bad_length(what: str, length: int, legal: str) -> BadLength:
 
 
 def refusal(status: int, what: str, length: int, legal: str, *keks: bytes) -> KeywrapError:
-    """What a call on these KEKs refused by its status, where `what` is of that length."""
+    """What a call on these KEKs refused by its status, where `what` is of that length. Raises `MemoryError` itself."""
+    if status == NO_MEMORY:
+        raise MemoryError
     if status == lib.KEYWRAP_BAD_KEK:
         length = next(len(kek) for kek in keks if len(kek) not in (16, 24, 32))
         return BadKekLength(f"the KEK is {length} bytes long; it must be {KEKS} bytes")

@@ -1,0 +1,271 @@
+"""The portable C library: the checks of tests/library and NIST's cases by each compiler and machine, the memory of a
+call, and what the object needs. KEYWRAP_JS=FOLDER takes the module from there instead of building it, and
+KEYWRAP_ALL=1 also runs the combinations that are slow."""
+
+import os
+import pathlib
+import re
+import shutil
+import subprocess
+import sys
+
+import pytest
+
+ROOT = pathlib.Path(__file__).resolve().parent.parent
+LIBRARY = [*sorted(map(str, (ROOT / "tests/library").glob("*.c"))), f"{ROOT}/bench/one_table.c"]
+STRICT = ["-std=c99", "-Wall", "-Wextra", "-pedantic", "-Werror"]
+WATCHED = ["-Dmalloc=watched_malloc", "-Dfree=watched_free"]
+ALL = bool(os.environ.get("KEYWRAP_ALL"))
+
+# Each compiler: its command, what runs its programs here, and the package.
+MACHINES = {
+    "gcc": (["gcc"], [], "gcc"),
+    "clang": (["clang"], [], "clang"),
+    "aarch64": (["aarch64-linux-gnu-gcc", "-static"], ["qemu-aarch64"], "gcc-aarch64-linux-gnu libc6-dev-arm64-cross"),
+    "riscv64": (["riscv64-linux-gnu-gcc", "-static"], ["qemu-riscv64"],
+                "gcc-riscv64-linux-gnu libc6-dev-riscv64-cross"),
+    "arm": (["arm-linux-gnueabihf-gcc", "-static"], ["qemu-arm"], "gcc-arm-linux-gnueabihf libc6-dev-armhf-cross"),
+}
+NATIVE = ["gcc", "clang"]
+
+
+def slow(*values):
+    """Parameters that only KEYWRAP_ALL=1 tries."""
+    return values if ALL else ()
+
+
+# Of the compiler: 64-bit division on 32-bit Arm.
+HELPERS = ["__aeabi_ldivmod", "__aeabi_uldivmod"]
+CORTEX_M = ["arm-none-eabi-gcc", "-mcpu=cortex-m0", "-mthumb", "-ffreestanding"]
+
+
+def needs(*commands, package):
+    for command in commands:
+        if not shutil.which(command):
+            pytest.skip(f"no {command} (apt-get install {package})")
+
+
+def run(*command, **options):
+    """The standard output of a command that succeeds."""
+    ended = subprocess.run(list(map(str, command)), capture_output=True, text=True, **options)
+    assert ended.returncode == 0, f"{command[0]}: {ended.returncode}\n{ended.stdout[-2000:]}{ended.stderr[-2000:]}"
+    return ended.stdout
+
+
+class Builder:
+    """Builds programs with keywrap.c by one compiler, and runs them."""
+
+    def __init__(self, folder, name):
+        self.folder = folder
+        self.compiler, self.runner, package = MACHINES[name]
+        needs(self.compiler[0], package=package)
+        if self.runner:
+            needs(self.runner[0], package="qemu-user")
+
+    def program(self, sources, *options, library=()):
+        includes = [f"-I{folder}" for folder in (self.folder, ROOT / "bench", ROOT / "tests/portable")]
+        run(*self.compiler, *STRICT, *includes, *options, *library, "-c", self.folder / "keywrap.c", "-o", "keywrap.o")
+        run(*self.compiler, *STRICT, *includes, *options, "-DKEYWRAP_PORTABLE", *sources, "keywrap.o", "-o", "program")
+        return [*self.runner, "./program"]
+
+
+@pytest.fixture(scope="session")
+def portable(tmp_path_factory):
+    """The directory that `make portable` makes."""
+    folder = tmp_path_factory.mktemp("portable")
+    needs("wasm2c", package="wabt")
+    if os.environ.get("KEYWRAP_JS"):
+        run(sys.executable, ROOT / "scripts/portable.py", f"{os.environ['KEYWRAP_JS']}/keywrap.wasm", "1.0", folder)
+    else:
+        needs("wasm-opt", package="binaryen")
+        run("make", "-s", "-C", ROOT, "portable", f"JS={folder}/js", f"PORTABLE={folder}")
+    return folder
+
+
+@pytest.fixture
+def build(portable):
+    return lambda name: Builder(portable, name)
+
+
+@pytest.fixture(scope="session")
+def cases():
+    """NIST's cases, as nist.c reads them: the tables whose cipher function is AES."""
+    vectors = pytest.importorskip("cryptography_vectors", reason="no cryptography_vectors (apt-get install "
+                                  "python3-cryptography-vectors)")
+    folder = pathlib.Path(vectors.__path__[0]) / "keywrap/kwtestvectors"
+    lines = []
+    for path in sorted(folder.glob("KW*_A[DE]_???.txt")):
+        form = "padded" if path.name.startswith("KWP") else "plain"
+        for block in path.read_text().split("COUNT = ")[1:]:
+            row = dict(re.findall(r"^(K|P|C) = (\w+)$", block, re.M))
+            lines.append(f"{form} {row['K']} {row.get('P', '-')} {row['C']}\n")
+    assert len(lines) == 6000
+    return "".join(lines)
+
+
+@pytest.mark.parametrize("compiler", NATIVE)
+@pytest.mark.parametrize("level", ["-O0", "-O2", "-O3", "-Os"])
+def test_compiles_without_a_warning(portable, compiler, level):
+    needs(compiler, package=compiler)
+    for standard in "c99", "c17":
+        run(compiler, *STRICT, f"-std={standard}", level, "-c", portable / "keywrap.c", "-o", "keywrap.o")
+
+
+@pytest.mark.parametrize("name", [*NATIVE, "arm", *slow("aarch64", "riscv64")])
+def test_calls(build, name):
+    """The checks of tests/library."""
+    few = ["few"] if name not in NATIVE or not ALL else []
+    last = run(*build(name).program(LIBRARY, "-O2"), *few).splitlines()[-1]
+    assert re.fullmatch(r"\d{6,} passed, 0 failed", last)
+
+
+@pytest.mark.parametrize("name", MACHINES)
+def test_nist(build, cases, name):
+    some = cases.splitlines(keepends=True)[::1 if ALL or name in NATIVE else 6]
+    said = run(*build(name).program([ROOT / "tests/portable/nist.c"], "-O2"), input="".join(some))
+    assert re.fullmatch(rf"{len(some)} right, \d{{2,4}} refused\n", said)
+
+
+@pytest.mark.parametrize("name", ["clang", *slow("gcc")])
+def test_sanitizers(build, name):
+    sanitize = ["-O2", "-g", "-fsanitize=address,undefined", "-fno-sanitize-recover=all"]
+    assert run(*build(name).program(LIBRARY, *sanitize), "few").endswith(" 0 failed\n")
+
+
+def test_valgrind(build, cases):
+    needs("valgrind", package="valgrind")
+    program = build("gcc").program([ROOT / "tests/portable/nist.c"], "-O1", "-g")
+    some = "".join(cases.splitlines(keepends=True)[::1 if ALL else 60])
+    run("valgrind", "-q", "--error-exitcode=9", "--leak-check=full", *program, input=some)
+
+
+@pytest.mark.parametrize("name", ["gcc", *slow("clang", "arm")])
+def test_memory_is_cleared(build, name):
+    """Every check of tests/library, each call in a block of its own: it is all zeros when it is freed."""
+    program = build(name).program([*LIBRARY, ROOT / "tests/portable/watched.c"], "-O2",
+                                  library=[*WATCHED, "-DKEYWRAP_STACK_KEY=-64"])
+    assert run(*program, "few").endswith(" 0 failed\n")
+
+
+@pytest.mark.parametrize("name", ["gcc", "arm", *slow("clang", "aarch64", "riscv64")])
+def test_no_memory_and_longest_keys(build, portable, name):
+    program = build(name).program([ROOT / "tests/portable/memory.c", ROOT / "tests/portable/watched.c"], "-O2",
+                                  "-DKEYWRAP_STACK_KEY=256", library=WATCHED)
+    fixed = int(re.search(r"memory of its own: (\d+) bytes", (portable / "README").read_text())[1])
+    # What `kind` copies: the KEK, the wrapped key and the scratch buffer.
+    assert int(run(*program)) == fixed + 32 + 2 * 1048576 + 8 + 7
+
+
+@pytest.mark.parametrize("name", NATIVE)
+def test_stack(build, name):
+    """The bytes that depend on a KEK or a key, below the stack pointer after each call: SECURITY.md has them."""
+    lines = run(*build(name).program([ROOT / "tests/secrets/stack.c"], "-O2", "-Wl,-z,now", "-Wno-error"),
+                ).splitlines()
+    counts = [list(map(int, line.split()[3:])) for line in lines]
+    assert len(lines) == 246
+    kek, new_kek, key, copies = map(max, zip(*counts))
+    assert max(kek, new_kek, key) <= 40 and copies == 0, (kek, new_kek, key, copies)
+
+
+@pytest.mark.parametrize("name", MACHINES)
+def test_object(portable, name):
+    """What the object needs, and that it has no data that can be written."""
+    compiler, _, package = MACHINES[name]
+    needs(compiler[0], package=package)
+    tools = compiler[0].removesuffix("gcc") if name not in NATIVE else ""
+    run(compiler[0], *STRICT, "-O2", "-fno-pic", "-c", portable / "keywrap.c", "-o", "keywrap.o")
+    needed = {line.split()[-1] for line in run(f"{tools}nm", "-u", "keywrap.o").splitlines()}
+    assert needed <= {"memcpy", "memmove", "memset", "malloc", "free", "abort", *HELPERS}
+    _, data, bss = run(f"{tools}size", "keywrap.o").splitlines()[1].split()[:3]
+    assert (data, bss) == ("0", "0")
+
+
+def test_header_and_calls(portable):
+    """keywrap.c defines the calls of the header, and shows no other name."""
+    needs("gcc", package="gcc")
+    run("gcc", *STRICT, "-c", portable / "keywrap.c", "-o", "keywrap.o")
+    shown = {line.split()[-1] for line in run("nm", "-g", "--defined-only", "keywrap.o").splitlines()}
+    header = (portable / "keywrap.h").read_text()
+    assert header == (ROOT / "include/keywrap.h").read_text()
+    assert shown == set(re.findall(r"^\w+ (keywrap_\w+)\(", header, re.M))
+
+
+def test_big_endian_is_refused(portable):
+    needs("gcc", package="gcc")
+    ended = subprocess.run(["gcc", "-U__BYTE_ORDER__", "-D__BYTE_ORDER__=__ORDER_BIG_ENDIAN__", "-c",
+                            portable / "keywrap.c"], capture_output=True, text=True)
+    assert ended.returncode != 0 and "little-endian machines" in ended.stderr
+
+
+def test_makefile(portable):
+    folder = shutil.copytree(portable, "copy", ignore=shutil.ignore_patterns("js"))
+    run("make", "-C", folder, "check")
+    run("make", "-C", folder, "clean")
+    assert {path.name for path in pathlib.Path(folder).iterdir()} == {
+        "CMakeLists.txt", "Makefile", "README", "keywrap.c", "keywrap.h", "vectors.c"}
+
+
+def test_cmake(portable):
+    needs("cmake", "ctest", package="cmake")
+    run("cmake", "-S", portable, "-B", "built")
+    run("cmake", "--build", "built")
+    run("ctest", "--test-dir", "built", "--no-tests=error")
+
+
+def test_windows(portable):
+    """Compiles with mingw; the vectors run under wine."""
+    needs("x86_64-w64-mingw32-gcc", package="gcc-mingw-w64-x86-64")
+    run("x86_64-w64-mingw32-gcc", *STRICT, "-O2", "-DKEYWRAP_PORTABLE", portable / "vectors.c", portable / "keywrap.c",
+        "-o", "vectors.exe")
+    needs("wine", package="wine wine64")
+    run("wine", "./vectors.exe", env={**os.environ, "WINEPREFIX": f"{os.getcwd()}/wine", "WINEDEBUG": "-all"})
+
+
+def test_freestanding(portable):
+    """Links for a Cortex-M0 without a C library, with three functions of the caller's own."""
+    needs(CORTEX_M[0], package="gcc-arm-none-eabi")
+    pathlib.Path("start.c").write_text("""
+#include <stddef.h>
+#include "keywrap.h"
+void *memcpy(void *to, const void *from, size_t n) { char *t = to; const char *f = from; while (n--) *t++ = *f++; return to; }
+void *memset(void *to, int c, size_t n) { char *t = to; while (n--) *t++ = (char)c; return to; }
+void *memmove(void *to, const void *from, size_t n) {
+    char *t = to; const char *f = from;
+    if (t <= f) return memcpy(to, from, n);
+    while (n--) t[n] = f[n];
+    return to;
+}
+static uint8_t kek[32], key[16], wrapped[24];
+void _start(void) { for (;;) if (keywrap_wrap(kek, 32, key, 16, wrapped, 24)) return; }
+""")
+    small = ["-DKEYWRAP_STACK_KEY=64", "-DKEYWRAP_NO_MALLOC", "-DKEYWRAP_TRAP()=__builtin_trap()"]
+    run(*CORTEX_M, *STRICT, "-Os", *small, f"-I{portable}", "-fno-tree-loop-distribute-patterns", "start.c",
+        portable / "keywrap.c", "-nostdlib", "-o", "firmware.elf", "-lgcc")
+
+
+def without_kit():
+    """The variables of a machine without the kit."""
+    kit = pathlib.Path(shutil.which("rt") or "/rt").parent
+    path = [folder for folder in os.environ["PATH"].split(":") if pathlib.Path(folder) != kit]
+    return {**os.environ, "PATH": ":".join(path)}
+
+
+@pytest.mark.parametrize("compiler", ["gcc", *slow("clang")])
+def test_sdist(portable, compiler):
+    """pip builds the source distribution without the kit, and the package's tests pass on it. It is the same again."""
+    needs(compiler, package=compiler)
+    for module in "build", "cffi", "setuptools", "wheel", "venv":
+        pytest.importorskip(module, reason=f"no {module} (apt-get install python3-{module})")
+    env = {**without_kit(), "CC": compiler, "LDSHARED": f"{compiler} -shared", "SOURCE_DATE_EPOCH": "1767225600"}
+    version = (ROOT / "VERSION").read_text().strip().replace("-dev", ".dev0")
+    for folder in "one", "two":
+        run(ROOT / "scripts/sdist.sh", sys.executable, portable, version, folder, env=env)
+    packed = [pathlib.Path(folder, f"keywrap-{version}.tar.gz").resolve() for folder in ("one", "two")]
+    assert packed[0].read_bytes() == packed[1].read_bytes()
+    run(sys.executable, "-m", "venv", "--system-site-packages", "env")
+    run("env/bin/python3", "-m", "pip", "install", "--no-build-isolation", "--no-index", packed[0], env=env)
+    run("tar", "-xzf", packed[0])
+    tests = [f"keywrap-{version}/tests/test_{name}.py" for name in ("calls", "objects", "pyca", "vectors")]
+    said = run("env/bin/python3", "-m", "pytest", "-q", "-p", "no:cacheprovider", *tests,
+               env={**env, "KEYWRAP_CALLS": "10000"})
+    assert re.search(r"^\d{3,} passed", said, re.M) and "skipped" not in said
