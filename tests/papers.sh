@@ -1,11 +1,6 @@
 #!/usr/bin/env bash
-# Holds the manual page and the completions against the program's help, both ways, so that none
-# falls behind; runs the page's examples; holds what repeats the version, and the words of a refusal in each
-# language, against each other; tries make install and make uninstall, on a program that is built; and holds
-# docs/LIBRARY.md against the crate that it shows. A part whose tool is not there is skipped, with a line that says
-# what to install.
-#
-# It is long because it has a part for each of them, and queries three shells for their completions.
+# Compares the completions of three shells with the program's help, and tries make install and make uninstall over a
+# program that is built. A part whose tool is not installed is skipped.
 #
 # usage: tests/papers.sh        (KEYWRAP=PATH tries another program)
 
@@ -14,7 +9,6 @@ set -u
 . "${BASH_SOURCE[0]%/*}/lib/program.sh"
 # shellcheck source=tests/lib/expect.sh
 . "$root/tests/lib/expect.sh"
-page=$root/man/keywrap.1
 
 ### What the help says
 
@@ -25,100 +19,6 @@ options_of() {
 commands=$("$program" --help | sed -n '/^Commands:/,/^$/s/^  \([a-z]*\) .*/\1/p')
 options=$(options_of; for command in $commands; do options_of "$command"; done)
 options=$(echo "$options" | sort -u)
-
-row 'the help names the commands' test "$(echo "$commands" | wc -l)" -ge 6
-row 'the help names the options' test "$(echo "$options" | wc -l)" -ge 9
-for command in wrap unwrap rewrap check; do
-    row "the help names the files of $command" grep -qxz -e $'.*\n-i\n--input\n.*-o\n--output\n.*' \
-        <(options_of "$command")
-done
-
-### The manual page
-
-# section NAME: the lines of a section of the page.
-section() { sed -n "/^\.Sh $1\$/,/^\.Sh /p" "$page"; }
-
-# options_in LINES: the options that lines of the page name.
-options_in() { grep -oE 'Fl (-[a-z0-9-]+|[A-Za-z])\>' <<<"$1" | sed 's/^Fl /-/'; }
-
-items=$(sed -n '/^\.Ss Options/,/^\.El/s/^\.It //p' "$page")
-same 'help and page: the commands' "$commands" "$(sed -n '/^\.Ss Commands/,/^\.El/s/^\.It Cm //p' "$page")"
-same 'help and page: the commands of the synopsis' "$commands" "$(section SYNOPSIS | sed -n 's/^\.Cm //p')"
-same 'help and page: the options' "$options" "$(options_in "$items")"
-same 'help and page: the options of all sections' "$options" "$(options_in "$(cat "$page")")"
-for command in $commands; do
-    synopsis=$(section SYNOPSIS | sed -n "/^\.Cm $command\$/,/^\.Nm/p")
-    same "help and page: the synopsis of $command" \
-        "$(options_of "$command" | grep -vx -e -h -e --help -e -V -e --version)" \
-        "$(options_in "$synopsis")"
-done
-same 'help and page: the statuses' "$("$program" --help | grep -oE '^  [0-9]+  ')" \
-    "$(section 'EXIT STATUS' | sed -nE 's/^\.It ([0-9]+)$/  \1  /p')"
-# What the help's line of a status and the page's first line of it both say.
-while read -r status phrase; do
-    row "help: what status $status says" grep -qiE "^  $status  .*$phrase" <("$program" --help)
-    row "page: what status $status says" grep -qiF "$phrase" \
-        <(section 'EXIT STATUS' | sed -n "/^\.It $status\$/{n;p}")
-done <<'END_OF_STATUSES'
-0 done
-2 the command line
-3 16, 24 or 32 bytes
-4 the key or the wrapped key has no legal length in this form
-5 the integrity check failed
-6 a file or the output could not be opened, read or written
-7 out of memory
-END_OF_STATUSES
-
-# The flags that the advice of status 3 names, and the limits, of which the rows of tests/command.sh are.
-same 'help: the flags of status 3' $'--raw-kek\n--base64-kek' \
-    "$("$program" --help | sed -n '/^  3  /,/^  4  /p' | grep -oE -e '--[a-z0-9-]+')"
-same 'page: the flags of status 3' $'--base64-kek\n--raw-kek\n--new-kek' \
-    "$(options_in "$(section 'EXIT STATUS' | sed -n '/^\.It 3$/,/^\.It 4$/p')")"
-same 'README: the flags of status 3' $'--raw-kek\n--base64-kek' \
-    "$(grep '^| 3 |' "$root/README.md" | grep -oE -e '--[a-z0-9-]+')"
-# A line's limit is the first.
-limits=$(tr '\n' ' ' <"$page" | grep -oE '[0-9]+ to [0-9]{7}|at most [0-9]+')
-row 'page: the limits' diff <(echo "$limits") <(printf '%s\n' 'at most 4194304' '16 to 1048576' '1 to 1048576' \
-    '24 to 1048584' '16 to 1048584' 'at most 4194304')
-row 'page: the digits and characters of a KEK' grep -q '32, 48 or 64 hex digits; .* 22, 32 or 43 characters and' \
-    <(section 'EXIT STATUS' | tr '\n' ' ')
-
-if has mandoc mandoc "the page's form"; then
-    # Whether the pages that it refers to are on this machine is no matter of its form.
-    mandoc -T lint "$page" 2>&1 | grep -v -e 'mandoc\.db' -e 'referenced manual not found' >lint.out
-    row 'mandoc -T lint finds nothing' diff /dev/null lint.out
-fi
-
-# transcript: runs the examples of the page, and writes each with what it wrote.
-transcript() {
-    local line
-    local PATH=$room/bin:$PATH
-    while IFS= read -r line; do
-        [[ $line = '$ '* ]] || continue
-        echo "$line"
-        eval "${line#??}" 2>&1
-    done
-}
-mkdir bin examples
-ln -s "$program" bin/keywrap
-section EXAMPLES | sed -n '/^\.Bd/,/^\.Ed/p' | grep -v '^\.' >wanted.examples
-(cd examples && transcript <../wanted.examples) >examples.out
-row 'the examples of the page' diff wanted.examples examples.out
-# The help's, each in a folder with the two files that an example from file to file takes.
-for command in $commands; do
-    [ "$command" != help ] || continue
-    mkdir "help.$command"
-    echo 00112233445566778899aabbccddeeff >"help.$command/key.hex"
-    echo 1fa68b0a8112b447aef34bd8fb5a7b829d3e862371d2cfe5 >"help.$command/wrapped.hex"
-    "$program" "$command" --help | sed -n '/^Example/,/^$/s/^  //p' >wanted.examples.help
-    (cd "help.$command" && transcript <../wanted.examples.help) >examples.out
-    # Of the vectors it shows the first.
-    [ "$command" != vectors ] || sed -i '3,12d; 13s/.*/(and eleven more lines)/' examples.out
-    row "the examples of the help of $command" diff wanted.examples.help examples.out
-    row "the help of $command has an example" test -s wanted.examples.help
-done
-row 'the page has examples of each command that reads' test "$(grep -oE 'keywrap (wrap|unwrap|rewrap|check|drill)' \
-    wanted.examples | sort -u | wc -l)" = 5
 
 ### The completions
 
@@ -270,44 +170,6 @@ if has fish fish 'the completion for fish'; then
     completes fish
 fi
 
-### The version
-
-# repeat VERSION: what repeats what the file VERSION holds: the program, the one place in its sources, the header (its
-# numbers), debian/changelog and the newest changes; and nothing else does.
-repeat() {
-    local sources=crates/keywrap_args/src/subcommands.rt
-    diff <("$program" --version) <(echo "keywrap $1")
-    (cd "$root" && diff <(grep -F ".version(\"$1\")" $sources) <(grep '\.version(' $sources) &&
-        diff <(sed -n 's/^#define KEYWRAP_VERSION_[A-Z]* \([0-9]*\)$/\1/p' include/keywrap.h | paste -sd .) \
-            <(echo "${1%-dev}") &&
-        diff <(sed -n 's/^#define KEYWRAP_PRERELEASE "\(.*\)" .*/-\1/p' include/keywrap.h) \
-            <([ "$1" = "${1%-dev}" ] || echo -dev) &&
-        grep -m 1 '^## ' CHANGELOG.md | diff - <(echo "## $1") &&
-        head -n 1 debian/changelog | diff - <(echo "keywrap (${1/-/\~}) unstable; urgency=medium") &&
-        grep -rlIFs --exclude-dir=out -e "$1" -e "${1/-dev/.dev0}" keywrap Makefile man completions scripts python js \
-            crates/keywrap{,_cli,_args} | diff - <(echo $sources))
-}
-row 'the version is three numbers, or these with -dev' grep -qxE '[0-9]+\.[0-9]+\.[0-9]+(-dev)?' "$root/VERSION"
-verdict 'what repeats the version' "$(repeat "$(<"$root/VERSION")" 2>&1)"
-
-### The words of a refusal
-
-# same_words: each cause has these words in every language that can say it. A cipher of OpenSSL has one length of KEK;
-# Python asks the library for the words that it takes whole.
-same_words() {
-    local words file
-    for words in 'reserved for the padded form' '16, 24 or 32' 'bad length' 'integrity check failed'; do
-        for file in crates/keywrap_cli/src crates/keywrap_calls/src/texts.rt python/src/keywrap/_refusals.py \
-            js/keywrap.js provider/errors.c; do
-            case "$words $file" in
-            '16, 24 or 32 provider/errors.c' | 'bad length python/'* | 'integrity check failed python/'*) ;;
-            *) grep -rqF "$words" "$root/$file" || echo "no '$words' in $file;" ;;
-            esac
-        done
-    done
-}
-verdict 'the words of a refusal are the same in every language' "$(same_words)"
-
 ### make install, make uninstall
 
 # An archive in place of the exports': tests/library.sh tries the real one, and what is installed of it.
@@ -343,7 +205,7 @@ stage="$room/stage to"
 row 'make install-command, by a umask' eval 'umask 077; made install-command DESTDIR="$stage" PREFIX=/opt; umask 022'
 same 'what make install-command installs' "$command_files"$'\n644 share/man/man1/other.1' "$(files_of "$stage/opt")"
 row 'the installed program is the program' cmp "$program" "$stage/opt/bin/keywrap"
-row 'the installed page is the page' cmp "$page" "$stage/opt/share/man/man1/keywrap.1"
+row 'the installed page is the page' cmp "$root/man/keywrap.1" "$stage/opt/share/man/man1/keywrap.1"
 row 'make uninstall-command' made uninstall-command DESTDIR="$stage" PREFIX=/opt
 same 'make uninstall-command leaves what is not its own' '644 opt/share/man/man1/other.1' "$(files_of "$stage")"
 if has cc gcc 'make install with the C library'; then
@@ -364,28 +226,5 @@ if has cc gcc 'make install with the C library'; then
     row 'make uninstall' made uninstall DESTDIR="$stage" PREFIX=/usr
     same 'make uninstall leaves nothing' '' "$(files_of "$stage/usr")"
 fi
-
-### The page for Rattle, docs/LIBRARY.md
-
-rattle=$root/docs/LIBRARY.md
-
-# in_example FILE: its lines are together, unchanged, in a file of the crate that the page shows.
-in_example() {
-    local source
-    for source in "$root"/crates/example_caller/{src,specs}/*; do
-        [[ $'\n'$(<"$source")$'\n' = *$'\n'"$(<"$1")"$'\n'* ]] && return
-    done
-    echo "no file of the crate example_caller has the lines:" && cat "$1"
-    return 1
-}
-
-awk '/^```/ { inside = !inside; if (inside) name = "block." ++n; next } inside { print > name }' "$rattle"
-blocks=(block.*)
-row 'docs/LIBRARY.md has its blocks' test ${#blocks[@]} -ge 1
-for block in "${blocks[@]}"; do
-    row "docs/LIBRARY.md: $block is of the example" in_example "$block"
-done
-same 'docs/LIBRARY.md and crates.txt' "$(sed -n '/^    block_pair:/,/^$/s/^    //p' "$rattle")" \
-    "$(grep -E '^(block_pair|aes_block|key_wrap|example_caller):' "$root/crates.txt")"
 
 finish

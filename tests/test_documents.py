@@ -98,3 +98,49 @@ def test_plain_english():
     """scripts/plain_english.py --list shows the phrases."""
     counts = subprocess.run([ROOT / "scripts/plain_english.py", ROOT], capture_output=True, text=True).stdout
     assert int(re.search(r"(\d+) in all", counts)[1]) <= FOREIGN_PHRASES, counts
+
+
+def test_version(keywrap):
+    """What repeats the file VERSION: the program, one place in its sources, the header, debian/changelog and the newest
+    changes; and nothing else does."""
+    version = text_of("VERSION").strip()
+    number, dev = re.fullmatch(r"(\d+\.\d+\.\d+)(?:-(dev))?", version).groups("")
+    assert keywrap("--version").stdout == f"keywrap {version}\n"
+    sources = "crates/keywrap_args/src/subcommands.rt"
+    assert re.findall(r'\.version\("(.*?)"\)', text_of(sources)) == [version]
+    header = text_of("include/keywrap.h")
+    assert ".".join(re.findall(r"^#define KEYWRAP_VERSION_[A-Z]* (\d+)$", header, re.M)) == number
+    assert "".join(re.findall('^#define KEYWRAP_PRERELEASE "(.*)" ', header, re.M)) == dev
+    assert re.search("^## (.*)$", text_of("CHANGELOG.md"), re.M)[1] == version
+    changes = f"keywrap ({version.replace('-', '~')}) unstable; urgency=medium\n"
+    assert text_of("debian/changelog").startswith(changes)
+    places = ("keywrap Makefile man completions scripts python js crates/keywrap crates/keywrap_cli "
+              "crates/keywrap_args").split()
+    words = ["-e", version, "-e", version.replace("-dev", ".dev0")]
+    found = subprocess.run(["grep", "-rlIF", "--exclude-dir=out", *words, *places], cwd=ROOT, capture_output=True, text=True)
+    assert found.stdout == f"{sources}\n"
+
+
+@pytest.mark.parametrize("words, elsewhere", [
+    ("reserved for the padded form", "python/src/keywrap/_refusals.py js/keywrap.js provider/errors.c"),
+    ("16, 24 or 32", "python/src/keywrap/_refusals.py js/keywrap.js"), ("bad length", "js/keywrap.js provider/errors.c"),
+    ("integrity check failed", "js/keywrap.js provider/errors.c")])
+def test_words_of_a_refusal(words, elsewhere):
+    """They are the same in every language that can say them. A cipher of OpenSSL has one length of KEK; Python asks the
+    library for the words that it takes whole."""
+    for name in ["crates/keywrap_calls/src/texts.rt", *elsewhere.split()]:
+        assert words in text_of(name), name
+    assert any(words in path.read_text() for path in ROOT.glob("crates/keywrap_cli/src/**/*.rt"))
+
+
+def test_example_in_rattle():
+    """The blocks of docs/LIBRARY.md are lines of the crate that it shows, and its crates are those of crates.txt."""
+    page = text_of("docs/LIBRARY.md")
+    sources = [f"\n{path.read_text()}" for place in ("src", "specs")
+               for path in ROOT.glob(f"crates/example_caller/{place}/*") if path.is_file()]
+    blocks = re.findall(r"^```.*\n((?:.*\n)*?)```", page, re.M)
+    assert blocks
+    assert [block for block in blocks if not any(f"\n{block}" in source for source in sources)] == []
+    crates = re.findall(r"^(?:block_pair|aes_block|key_wrap|example_caller):.*", text_of("crates.txt"), re.M)
+    shown = re.search(r"(?:^    [a-z_]+:.*\n)+", page[page.index("    block_pair:"):], re.M)[0]
+    assert sorted(line.strip() for line in shown.splitlines()) == sorted(crates)
