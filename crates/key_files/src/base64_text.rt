@@ -51,7 +51,8 @@ pub(crate) fn decode_base64_in<A: Allocator + Copy>(
     alloc: A,
     text: &[u8],
 ) -> Result<Vec<u8, A>, FileFault>
-    ensures { IsMeaning (answer_of result) (base64_meaning text.now) }
+    ensures meaning { IsMeaning (answer_of result) (base64_meaning text.now) }
+    ensures unread { ¬ (result ≡ Err FileFault.Read) }
 {
     if let Some(fault) = misplaced(true, text) {
         return Err(FileFault::BadBase64(fault));

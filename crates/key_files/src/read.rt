@@ -105,9 +105,9 @@ pub(crate) fn read_hex_in<A: Allocator + Copy, R: Read>(
 /// The bytes that a base64 file denotes, in either alphabet, with padding or without it, and with
 /// blanks anywhere. `limit` counts the bytes of the file.
 ///
-/// The file is read as [`read_raw`] reads it. The first that applies is answered: Read or Memory as
-/// met, TooLong, BadBase64 of a Character or of one BehindPadding, Memory, BadBase64 of the Length
-/// or of TrailingBits.
+/// The file is read as [`read_raw`] reads it: Read and Memory come as they are met. A file that is
+/// read whole is refused for the first that applies: TooLong, a Character, BehindPadding, the
+/// Length, TrailingBits.
 pub fn read_base64<R: Read>(
     alloc: Global,
     reader: &mut R,

@@ -1,7 +1,7 @@
 -- A block of answers after texts that were put, and after it was written.
 use Rattle.std.proofs.Common.{◌≡◌, ℕ, List, [], ◌++◌, take, drop, Option, sym, ap, ◌∙◌, append_assoc, append-nil, take-append-drop}
 use Rattle.std.specs.Io.KnownBytes.{Appends}
-use Rattle.std.proofs.KnownBytes.{Appends-nil, Appends-trans}
+use Rattle.std.proofs.KnownBytes.{Appends-trans}
 use Rattle.key_lines.specs.Block.{Sends}
 
 -- all of the block went out
@@ -16,10 +16,6 @@ Sends-front a b block after n went rest = record {
   kept = append-nil block ∙ sym (take-append-drop n block) ∙ ap (λ l. take n block ++ l) (sym rest);
 }
 
--- a text was put after it
-pub Sends-put : (a : Option (List ℕ)) (block after text : List ℕ) → after ≡ block ++ text → Sends a a block after text
-Sends-put a block after text is = record { sent = []; written = Appends-nil a; kept = sym is }
-
 -- one text after the other
 pub Sends-trans : (a b c : Option (List ℕ)) (block mid after text more : List ℕ) → Sends a b block mid text → Sends b c mid after more
     → Sends a c block after (text ++ more)
@@ -28,12 +24,4 @@ Sends-trans a b c block mid after text more p q = record {
   written = Appends-trans a b c p.sent q.sent p.written q.written;
   kept = sym (append_assoc block text more) ∙ ap (λ l. l ++ more) p.kept ∙ append_assoc p.sent mid more
       ∙ ap (λ l. p.sent ++ l) q.kept ∙ sym (append_assoc p.sent q.sent after);
-}
-
--- the block was written after a text was put
-pub Sends-put_sent : (a b : Option (List ℕ)) (block mid after text : List ℕ) → mid ≡ block ++ text → Sends a b mid after [] → Sends a b block after text
-Sends-put_sent a b block mid after text is s = record {
-  sent = s.sent;
-  written = s.written;
-  kept = sym is ∙ sym (append-nil mid) ∙ s.kept;
 }

@@ -1,10 +1,8 @@
 -- What a line denotes, from what its text denotes, and the answer if it denotes no bytes.
-use Rattle.std.proofs.Common.{◌≡◌, ℕ, ◌+◌, ◌≤◌, List, length, Result, Ok, Err, arith, ap, ◌∙◌}
-use Rattle.std.proofs.lemmas.List.{length-take, length-drop}
-use Rattle.std.proofs.lemmas.List.Sums.{prefix_len-le-length}
+use Rattle.std.proofs.Common.{◌≡◌, ℕ, ◌≤◌, List, length, Result, Ok, Err, arith, ap, ◌∙◌}
 use Rattle.std.specs.List.{prefix_len}
 use Rattle.std.proofs.lemmas.Bool.Decides.{nat_tests}
-use Rattle.key_files.specs.Decoding.{Decodes, DecodesText, fault_behind}
+use Rattle.key_files.specs.Decoding.{DecodesText, fault_behind}
 use Rattle.key_files.specs.Meaning.{file_meaning}
 use Rattle.key_files.specs.declared.fault.Base64Fault.TheVariants.{Character, BehindPadding, Length, TrailingBits}
 use Rattle.key_files.specs.declared.fault.FileFault.{FileFault}
@@ -14,23 +12,6 @@ use Rattle.key_lines.specs.Meaning.{blank_ended_meaning, is_blank, line_limit, l
 use Rattle.key_lines.specs.Running.{MakesAnswer}
 use Rattle.key_lines.specs.declared.fault.LineFault.TheVariants.{Input}
 use Rattle.key_lines.specs.declared.text.TextNotation.{TextNotation}
-
--- the text and the blanks before it are bytes of the line
-pub length-text_of : (line : List ℕ) → prefix_len is_blank line + length (text_of line) ≤ length line
-length-text_of line =
-    let front = prefix_len-le-length is_blank line in
-    omega (arith, length-take {A = ℕ}, length-drop {A = ℕ})
-
--- if Memory is possible for no text, it is not possible for this one
-pub DecodesText-of : (meaning : Result (List ℕ) FileFault) (bytes : List ℕ) (answer : Result Unit FileFault) → Decodes meaning bytes answer
-    → DecodesText meaning bytes answer
-DecodesText-of meaning bytes (Ok done) d = d
-DecodesText-of meaning bytes (Err Read) d = d
-DecodesText-of meaning bytes (Err TooLong) d = d
-DecodesText-of meaning bytes (Err (BadDigit at)) d = d
-DecodesText-of meaning bytes (Err OddDigits) d = d
-DecodesText-of meaning bytes (Err (BadBase64 wrong)) d = d
-DecodesText-of meaning bytes (Err Memory) d = tt
 
 -- a line denotes what its text does
 blank_ended_meaning-is : (notation : TextNotation) (line : List ℕ) (meaning : Result (List ℕ) FileFault)

@@ -22,9 +22,6 @@ pub lines_of-nil : lines_of [] ≡ []
 unfolding lines_of
 lines_of-nil = refl
 
-before_first-append : (x : ℕ) (line : List ℕ) (lines more : List (List ℕ)) → before_first x ((line ∷ lines) ++ more) ≡ before_first x (line ∷ lines) ++ more
-before_first-append x line lines more = refl
-
 -- what an LF ends has a line
 first_ended : (front : List ℕ) → (line : List ℕ) × (lines : List (List ℕ)) × (lines_of (front ++ 10 ∷ []) ≡ line ∷ lines)
 unfolding lines_of

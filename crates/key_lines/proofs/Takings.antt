@@ -69,14 +69,6 @@ all_of-taken None b taken p end = tt
 all_of-taken (Some x) None taken p end = absurd p
 all_of-taken (Some x) (Some y) taken p end = p ∙ ap (λ l. taken ++ l) end ∙ append-nil taken
 
--- the end of the reader, with no line
-pub ReadsLine-missing : (limit : ℕ) {a b : Option (List ℕ)} (c : Option (List ℕ)) {before : List ℕ} (after : List ℕ) → length after ≡ 0 → TakesPart a b before
-    → MovesPart limit b c before after (Ok Missing) → ReadsLine limit a c after (Ok lines.Missing)
-ReadsLine-missing limit {a} {b} c {before} after none t m =
-    let u = TakesPart-same t m.0 m.2 in
-    let all = subst (λ l. IsAllOf l a) (sym m.2) (all_of-taken a b before t.stands_after m.1) in
-    (subst (Consumes a c) (length-nil after none) u.stands_after, subst (λ l. IsAllOf l a) (length-nil after none) all)
-
 -- or with a last one
 pub ReadsLine-last : {limit : ℕ} {a b : Option (List ℕ)} (c : Option (List ℕ)) {before : List ℕ} (after : List ℕ) → length after ≢ 0 → TakesPart a b before
     → length before ≤ limit → MovesPart limit b c before after (Ok Missing) → ReadsLine limit a c after (Ok lines.Last)

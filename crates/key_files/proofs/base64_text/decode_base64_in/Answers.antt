@@ -4,19 +4,19 @@ use Rattle.key_files.specs.Base64Text.{kept}
 use Rattle.key_files.proofs.Base64.{base64_meaning-misplaced, base64_meaning-placed, not_misplaced, symbols_meaning-is}
 use Rattle.key_files.proofs.base64_text.decode_base64_in.Goals as goal
 
-pub returns-in-Some : goal.returns-in-Some
-returns-in-Some g c = base64_meaning-misplaced _ _ (sym c.misplaced.ensures.first ∙ c.in-Some.is)
+pub returns-in-Some-clause-meaning : goal.returns-in-Some-clause-meaning
+returns-in-Some-clause-meaning g c = base64_meaning-misplaced _ _ (sym c.misplaced.ensures.first ∙ c.in-Some.is)
 
-pub returns-in-Ok : goal.returns-in-Ok
-returns-in-Ok g c =
+pub returns-in-Ok-clause-meaning : goal.returns-in-Ok-clause-meaning
+returns-in-Ok-clause-meaning g c =
     let placed = sym c.misplaced.ensures.first ∙ not_misplaced _ c.in_default.not-Some in
     let same = c.deref.ensures.value ∙ c.in_ok-kept.ensures in
     let encoding = rw same at c.encoding_of.ensures in
     let decoded = rw (c.deref-2.ensures.value ∙ c.in_ok-kept.ensures) at c.in-Ok.ensures.ok in
     base64_meaning-placed c.args.text.now placed ∙ symbols_meaning-is c.encoding_of.result (kept c.args.text.now) _ encoding decoded
 
-pub returns : goal.returns
-returns g c =
+pub returns-clause-meaning : goal.returns-clause-meaning
+returns-clause-meaning g c =
     let placed = sym c.misplaced.ensures.first ∙ not_misplaced _ c.in_default.not-Some in
     let same = c.deref.ensures.value ∙ c.in_ok-kept.ensures in
     let encoding = rw same at c.encoding_of.ensures in

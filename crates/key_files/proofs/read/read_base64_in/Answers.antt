@@ -9,4 +9,4 @@ returns-in_err-file g c =
     ReadsAs-failed answer.result c.in_err-file.field-0.0 answer.ensures.1 c.in_err-file.ensures
 
 pub returns : goal.returns
-returns g c = ReadsAs-decoded _ (base64_meaning-never_long _) c.in_ok-file.ensures (rw c.deref.ensures.value at (c.decode_base64_in.ensures))
+returns g c = ReadsAs-decoded _ (base64_meaning-never_long _) c.in_ok-file.ensures (rw c.deref.ensures.value at (c.decode_base64_in.ensures.meaning))
