@@ -52,38 +52,9 @@ offers_fish() (
         cut -f 1
 )
 
-# zsh completes only on a terminal; each offer passes through compadd.
-cat >setup.zsh <<'ZSH'
-PS1= PS2= RPS1=
-fpath=($completions $fpath)
-autoload -Uz compinit; compinit -u -D
-compadd() {
-    if [[ ${@[1,(i)(-|--)]} == *-(O|A|D)\ * ]]; then builtin compadd "$@"; return; fi
-    local -a hits; local hit
-    builtin compadd -A hits "$@"
-    for hit in $hits; do print -r -- "offered: $hit"; done
-}
-begin() { print }
-finish() { print "no more"; exit }
-compprefuncs=(begin) comppostfuncs=(finish)
-zstyle ":completion:*" insert-tab false
-bindkey "^I" complete-word
-ZSH
-cat >offers.zsh <<'ZSH'
-zmodload zsh/zpty
-zpty child zsh -f -i
-zpty -w child ". ../setup.zsh; print ready''"
-while zpty -r child line; do [[ $line = *ready[$'\r\n']* ]] && break; done
-zpty -w -n child "$1"$'\t'
-while zpty -r child line; do
-    print -r -- "${line%%[$'\r\n']#}"
-    [[ $line = *'no more'* ]] && break
-done
-zpty -d child
-ZSH
 offers_zsh() (
     cd files || exit
-    HOME=$room TERM=dumb completions=$completions timeout 120 zsh -f ../offers.zsh "$1" |
+    HOME=$room TERM=dumb completions=$completions timeout 120 zsh -f "$root/tests/lib/offers.zsh" "$1" |
         tr -d '\r' | sed -n 's/^offered: //p'
 )
 

@@ -1,6 +1,7 @@
 #!/usr/bin/env bash
 # Builds the Python package as a wheel, installs it in a fresh environment, and runs its tests there. The tests of
-# hostile objects also run under the address sanitizer.
+# hostile objects also run under the address sanitizer. tests/dist.sh builds the wheel a second time, at
+# another time and in another directory.
 #
 # usage: tests/python.sh        (KEYWRAP_ARCHIVES='PATH ..': over the last of these, which was built before)
 
@@ -52,18 +53,6 @@ row 'its tag' grep -qx 'Tag: cp39-abi3-manylinux_2_17_x86_64' unpacked/*/WHEEL
 row 'the symbols of glibc' of_glibc_2_17 unpacked/keywrap/_ffi.abi3.so
 row 'a stripped extension' eval 'nm unpacked/keywrap/_ffi.abi3.so 2>&1 | grep "no symbols" &&
     ! readelf -S unpacked/keywrap/_ffi.abi3.so | grep -F .debug'
-
-# same_again: another folder, umask and time, and old sources, make the same bytes.
-same_again() (
-    umask 077
-    mkdir -p 'elsewhere/tree/crates/keywrap_c/src'
-    cp -R "$root"/{Makefile,VERSION,crates.txt,include,python,scripts,docs} elsewhere/tree
-    find elsewhere -exec touch -d 2001-02-03 {} +
-    make -s -C elsewhere/tree wheel PYTHON="$python" DIST="$room/elsewhere" LIBRARY="$room/elsewhere/library" \
-        ARCHIVE="$(readlink -f "$library/libkeywrap.a")"
-    cmp "$wheel" elsewhere/"${wheel##*/}"
-)
-row 'the same wheel in another folder, at another time' same_again
 
 # The README's lines, unchanged, by the Python that has cffi; the result of the last is OpenSSL's.
 mkdir first && ln -s "$python" first/python3

@@ -13,39 +13,22 @@ longest=${1:-1024}
 # shellcheck source=tests/lib/room.sh
 . "${BASH_SOURCE[0]%/*}/lib/room.sh"
 
-passed=0 failed=0 skipped=0
-
-# row NAME COMMAND..: counts a command that must succeed.
-row() {
-    if "${@:2}" >row.log 2>&1; then
-        passed=$((passed + 1))
-    else
-        failed=$((failed + 1))
-        echo "FAILED: $1"
-        head -n 20 row.log
-    fi
-}
-
-# finish: the counts, which are the last line.
-finish() {
-    echo "$passed passed, $failed failed, $skipped skipped"
-    [ $failed = 0 ]
+# shellcheck source=tests/library/rows.sh
+. "$root/tests/library/rows.sh"
+# lacks PART PACKAGE: the part is skipped, and the script ends.
+lacks() {
+    skip "$1" "(apt-get install $2)"
+    finish
     exit
 }
 
-# skip WHY PACKAGE: what is not there, and ends.
-skip() {
-    skipped=$((skipped + 1))
-    echo "SKIPPED: $1 (apt-get install $2)"
-    finish
-}
-
+# shellcheck source=tests/library/machine.sh
 . "$root/tests/library/machine.sh"
-command -v "$cc" >/dev/null || skip "no C compiler" gcc
+command -v "$cc" >/dev/null || lacks "no C compiler" gcc
 archive=${KEYWRAP_ARCHIVES:-$root/crates/keywrap_c/out/libkeywrap_c.a}
 archive=${archive##* }
 [ -n "${KEYWRAP_ARCHIVES:-}" ] || row 'rt lib' env -C "$root/crates/keywrap_c" rt lib
-[ $failed = 0 ] || finish
+[ $failed = 0 ] || { finish; exit; }
 
 options=(-std=c99 -O1 -g -Wall -Wextra -pedantic -Werror "-I$root/include" "-I$root/bench")
 
@@ -76,9 +59,9 @@ row 'the stack: the copies of half a secret' leaves 7 0 0
 
 ### Branches and addresses
 
-command -v "${memcheck[-1]}" >/dev/null || skip 'memcheck: no valgrind' valgrind
+command -v "${memcheck[-1]}" >/dev/null || lacks 'memcheck: no valgrind' valgrind
 printf '#include <valgrind/memcheck.h>\n' | "$cc" -fsyntax-only -x c - 2>/dev/null ||
-    skip 'memcheck: no valgrind/memcheck.h' valgrind
+    lacks 'memcheck: no valgrind/memcheck.h' valgrind
 row 'compiles' "$cc" "${options[@]}" "$root/tests/secrets/secrets.c" "$root/bench/one_table.c" "$archive" -o secrets
 
 # reports FILE LENGTHS OPTION..: runs the calls, and writes a line for each with its reports.
