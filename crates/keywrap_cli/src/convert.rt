@@ -21,8 +21,8 @@ pub enum Direction {
     Unwrap,
 }
 
-/// Puts the wrapping of a key, or the key of a wrapping, into `output`, whatever it held. The plain
-/// form has this initial value.
+/// Replaces `output` with the wrapping of a key, or with the key of a wrapping. The plain form has
+/// this initial value.
 pub fn convert_into<B: BlockPair>(
     direction: Direction,
     form: Form,

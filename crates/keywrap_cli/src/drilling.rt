@@ -27,7 +27,7 @@ pub enum DrillFault {
     /// The key or the wrapped key has no legal length in this form.
     #[error("bad length")]
     BadLength,
-    /// The input is no wrapping in this form.
+    /// The input is not a wrapping in this form.
     #[error("integrity check failed")]
     Integrity,
     /// An allocation failed.
@@ -37,7 +37,7 @@ pub enum DrillFault {
 
 /// Wraps or unwraps, over the drill block, the bytes that a hex text denotes.
 ///
-/// The first that applies is answered: TooLong (more than `MAX_FILE` bytes of text), BadDigit,
+/// Returns the first error that applies: TooLong (more than `MAX_FILE` bytes of text), BadDigit,
 /// OddDigits, Memory, BadLength, Memory, Integrity. The first three take no memory.
 pub fn drill(
     alloc: Global,

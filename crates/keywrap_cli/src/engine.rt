@@ -1,4 +1,4 @@
-//! The run over one input: it is read, answered by a job, and the answer is written.
+//! The run over one input: reads it, lets a job answer it, and writes the answer.
 
 ghost use Rattle.std.specs.Prelude.{◌≡◌, List, ℕ, OnOk};
 ghost use Rattle.key_lines.specs.Answers.{answered};
@@ -13,7 +13,7 @@ use key_wrap::InPlaceFault;
 use std::alloc::{AllocError, Global};
 use std::io::{Read, Write};
 
-/// Reads the input, writes what the job answers to its bytes, and returns the mark of the answer.
+/// Reads the input, writes the job's answer to its bytes, and returns the mark of the answer.
 /// Nothing is written before the whole output is made, and the call does not flush.
 pub fn run_input<J: LineJob<Refusal = InPlaceFault>, R: Read, W: Write>(
     alloc: Global,
@@ -32,7 +32,7 @@ pub fn run_input<J: LineJob<Refusal = InPlaceFault>, R: Read, W: Write>(
     }
 }
 
-// Makes the answer to the bytes whole, and then writes it.
+// Makes the whole answer to the bytes, and then writes it.
 fn write_answer<J: LineJob<Refusal = InPlaceFault>, W: Write>(
     alloc: Global,
     job: &J,
@@ -66,8 +66,8 @@ fn job_fault(refusal: InPlaceFault) -> JobFault
     }
 }
 
-/// Puts the bytes into `output` as they are written in a notation. What `bytes` holds afterwards
-/// is not said.
+/// Replaces `output` with the bytes in a notation. The contents of `bytes` afterwards are not
+/// specified.
 pub fn print_in(
     notation: Notation,
     bytes: &mut Vec<u8>,

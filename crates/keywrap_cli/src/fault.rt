@@ -1,4 +1,4 @@
-//! Why the program ends without its answer: the line on standard error and the exit status.
+//! Why the program ends without an answer: its line on standard error and its exit status.
 
 use crate::drilling::DrillFault;
 use crate::initial_value::IvFault;
@@ -12,13 +12,13 @@ use std::alloc::AllocError;
 use std::fmt;
 use thiserror::Error;
 
-/// What the program stops at, after its command line.
+/// A fault of the program, other than one of its arguments.
 #[derive(Debug, Drop, Error)]
 pub enum ProgramFault {
-    /// The text of `--iv` was refused.
+    /// The value of `--iv` was refused.
     #[error("--iv {0}")]
     Iv(IvFault),
-    /// The text of `--new-iv` was refused.
+    /// The value of `--new-iv` was refused.
     #[error("--new-iv {0}")]
     NewIv(IvFault),
     /// The KEK file can't be opened.
@@ -30,7 +30,7 @@ pub enum ProgramFault {
     /// The file of the input can't be opened.
     #[error("input: cannot be opened")]
     InputOpen,
-    /// The file of the output can't be made, or may not be replaced.
+    /// The file of the output can't be made, or must not be replaced.
     #[error("output: cannot be opened")]
     OutputOpen,
     /// Raw bytes would go to a terminal.
@@ -48,10 +48,10 @@ pub enum ProgramFault {
     /// A drill was refused.
     #[error("{0}")]
     Drill(DrillFault),
-    /// The help, the vectors, the drill's answer or those to the lines could not be written.
+    /// The help, the vectors, the answer of the drill or the answers to lines could not be written.
     #[error("output: refused after {written} bytes")]
     Write { written: usize },
-    /// Standard output can't be flushed, or the new file not be put in its place.
+    /// Standard output can't be flushed, or the new file can't be renamed.
     #[error("output: cannot be flushed")]
     Flush,
     /// An allocation failed.
@@ -71,12 +71,12 @@ impl fmt::Display for Line<'_> {
 }
 
 impl ProgramFault {
-    /// The line on standard error that says the fault.
+    /// Returns the line on standard error.
     pub fn line(&self) -> Line<'_> {
         Line(self)
     }
 
-    /// The exit status that says the fault.
+    /// Returns the exit status.
     pub fn status(&self) -> u8 {
         match self {
             ProgramFault::Iv(_) | ProgramFault::NewIv(_) | ProgramFault::RawToTerminal =>

@@ -10,7 +10,7 @@ use key_files::{FileFault, MAX_FILE, read_base64, read_hex, read_raw};
 use std::alloc::Global;
 use std::io::Read;
 
-/// The bytes that an input denotes.
+/// Returns the bytes that an input denotes.
 pub fn read_input<R: Read>(
     alloc: Global,
     notation: Notation,
@@ -33,7 +33,7 @@ fn input_fault(fault: FileFault) -> JobFault
     }
 }
 
-/// The bytes that a file denotes, of at most `MAX_FILE` bytes.
+/// Returns the bytes that a file denotes, which has at most `MAX_FILE` bytes.
 pub fn read_file<R: Read>(
     alloc: Global,
     notation: Notation,

@@ -1,4 +1,4 @@
-//! What is done without files: the answer is written and flushed, and the exit status answered.
+//! The commands without files: they write their answer, flush it, and return the exit status.
 
 ghost use Rattle.std.specs.Prelude.{◌≡◌, IfOk};
 ghost use Rattle.std.specs.List.{AllByRecursion};
@@ -31,7 +31,7 @@ pub fn run_drill<W: Write>(
     flush(out, statuses::DONE)
 }
 
-/// Writes the lines of [`vectors`]. The status says whether every vector held.
+/// Writes the lines of [`vectors`]. The status tells whether every vector is right.
 pub fn run_vectors<W: Write>(alloc: Global, out: &mut W) -> Result<u8, ProgramFault>
     ensures done { IfOk result (λ status.
         AllByRecursion IsRight published_vectors → status ≡ 0) }
@@ -51,7 +51,7 @@ pub fn write_help<W: Write>(text: &str, out: &mut W) -> Result<u8, ProgramFault>
     flush(out, statuses::DONE)
 }
 
-// Flushes the output, and answers the status of a call that ended without a fault.
+// Flushes the output, and returns the status of a call without a fault.
 fn flush<W: Write>(out: &mut W, status: u8) -> Result<u8, ProgramFault>
     ensures { IfOk result (λ answer. answer ≡ status) }
 {

@@ -18,10 +18,10 @@ pub enum IvFault {
     Reserved,
 }
 
-/// The initial value of 16 hex digits of either case, the most significant digit first.
+/// Returns the initial value of 16 hex digits of either case, the most significant digit first.
 ///
-/// The first that applies is answered: NotSixteenDigits (a space is no digit), Reserved. No memory
-/// is taken.
+/// Returns the first error that applies: NotSixteenDigits (a space is not a digit), Reserved. Takes
+/// no memory.
 pub fn parse_iv(text: &str) -> Result<InitialValue, IvFault>
     ensures value { (iv : ℕ) → (result ≡ Ok iv) ↔ (DenotesIv text.now iv × ¬ IsReserved iv) }
     ensures not_digits { (result ≡ Err IvFault.NotSixteenDigits) ↔ ¬ IsSixteenDigits text.now }

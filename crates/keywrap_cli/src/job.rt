@@ -1,4 +1,4 @@
-//! The jobs: what is done with an input under a KEK.
+//! The jobs, which wrap, unwrap or check an input under a KEK.
 
 ghost use Rattle.std.specs.Prelude.{◌≡◌, IsOk};
 ghost use Rattle.keywrap_cli.specs.Job.{RunsJob, RunsJobWith, WritesTheAnswer, WritesTheKey};
@@ -16,7 +16,7 @@ use std::alloc::Global;
 use std::io::{Read, Write};
 use thiserror::Error;
 
-/// What is done with the input.
+/// The kind of a job.
 #[derive(Clone, Copy)]
 pub enum Job {
     /// The input is a key, and the output its wrapping.
@@ -27,26 +27,26 @@ pub enum Job {
     Check,
 }
 
-/// How a file denotes its bytes.
+/// The notation of the bytes of a file.
 #[derive(Clone, Copy)]
 pub enum Notation {
-    /// By themselves.
+    /// Raw bytes.
     Raw,
-    /// By two hex digits each.
+    /// Two hex digits for each byte.
     Hex,
-    /// By base64 (RFC 4648). Either alphabet is read, with padding or without it. The alphabet of
-    /// section 4 is written, with padding.
+    /// Base64 (RFC 4648). Either alphabet is read, with or without padding. The alphabet of section
+    /// 4 is written, with padding.
     Base64,
-    /// The same, but written is the alphabet of section 5, without padding.
+    /// The same, but the alphabet of section 5 is written, without padding.
     Base64Url,
 }
 
 /// A job, with the form of the wrapping and the notations of its files.
 #[derive(Clone, Copy)]
 pub struct Task {
-    /// What is done.
+    /// The kind of the job.
     pub job: Job,
-    /// The form of the wrapping. `Check` looks at both.
+    /// The form of the wrapping. `Check` tries both forms.
     pub form: Form,
     /// The notation of the input, and of the output of `Wrap` and `Unwrap`.
     pub input: Notation,
@@ -54,12 +54,12 @@ pub struct Task {
     pub kek: Notation,
 }
 
-/// What a job that was not refused did.
+/// The outcome of a job that was not refused.
 #[derive(Clone, Copy, Debug, PartialEq)]
 pub enum Done {
     /// The answer was written.
     Written,
-    /// The input is no wrapping in either form, and `none` was written.
+    /// The input is not a wrapping in either form, and `none` was written.
     Neither,
 }
 
@@ -72,10 +72,10 @@ pub enum JobFault {
     /// The KEK is not 16, 24 or 32 bytes long.
     #[error("key length is not 16, 24 or 32 bytes")]
     KekLength,
-    /// The file of the new KEK denotes no bytes. Only a rewrapping answers this.
+    /// The file of the new KEK denotes no bytes. Only a rewrapping returns this.
     #[error("new key file: {0}")]
     NewKekFile(FileFault),
-    /// The new KEK is not 16, 24 or 32 bytes long. Only a rewrapping answers this.
+    /// The new KEK is not 16, 24 or 32 bytes long. Only a rewrapping returns this.
     #[error("new key length is not 16, 24 or 32 bytes")]
     NewKekLength,
     /// The input denotes no bytes.
@@ -84,13 +84,13 @@ pub enum JobFault {
     /// The key or the wrapped key has no legal length in this form.
     #[error("bad length")]
     BadLength,
-    /// The input is no wrapping in this form under this KEK.
+    /// The input is not a wrapping in this form under this KEK.
     #[error("integrity check failed")]
     Integrity,
-    /// The writer took `written` bytes of the output, and no more.
+    /// The writer took only `written` bytes of the output.
     #[error("output: refused after {written} bytes")]
     Write {
-        /// How many bytes of the output went out.
+        /// The number of bytes that were written.
         written: usize,
     },
     /// An allocation failed.
@@ -124,8 +124,7 @@ pub fn run_job<K: Read, R: Read, W: Write>(
     run(alloc, &InitialValue::default(), task, kek, input, out)
 }
 
-/// `run_job` for a plain wrapping or unwrapping under this initial value: what it answers, and what
-/// it does to its files.
+/// Does what `run_job` does, for a plain wrapping or unwrapping under this initial value.
 pub fn run_with<K: Read, R: Read, W: Write>(
     alloc: Global,
     iv: &InitialValue,
@@ -155,7 +154,7 @@ pub fn run_with<K: Read, R: Read, W: Write>(
     run(alloc, iv, task, kek, input, out)
 }
 
-/// The job that goes in a direction.
+/// Returns the kind of job with this direction.
 pub fn job_of(direction: Direction) -> Job
     ensures { result ≡ job_of direction }
 {
@@ -200,7 +199,7 @@ pub fn run<K: Read, R: Read, W: Write>(
     }
 }
 
-// What was done if an answer has this mark.
+// The outcome for an answer with this mark.
 fn done_of(mark: Mark) -> Done
     ensures { result ≡ done_of mark }
 {

@@ -12,7 +12,7 @@ use std::io::Read;
 /// The block cipher of the program, which is named only here.
 pub use aes_vector::VectorAes as Aes;
 
-/// Which KEK of an operation it is.
+/// One of the KEKs of an operation.
 #[derive(Clone, Copy)]
 pub enum KekRole {
     /// The KEK.

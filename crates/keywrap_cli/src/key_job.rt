@@ -1,4 +1,4 @@
-//! What a job under a KEK answers to bytes, an input's or a line's.
+//! A job under a KEK, as an answer to bytes: the bytes of an input or of a line.
 
 ghost use Rattle.std.specs.Prelude.{◌≡◌, IfOk, string_bytes};
 ghost use Rattle.keywrap_cli.specs.Answers.{AnswerIs, AnswerOfJob, JobAnswer, job_of, kind_line};
@@ -12,7 +12,7 @@ use key_lines::{LineJob, Mark};
 use key_wrap::{InPlaceFault, InitialValue, Kind, kind_into_with};
 use std::alloc::{AllocError, Global};
 
-/// A job under a pair, with the initial value of the plain form.
+/// A job under a block permutation, with the initial value of the plain form.
 #[derive(Drop)]
 pub struct KeyJob<B: BlockPair> {
     pub alloc: Global,
@@ -63,13 +63,13 @@ impl<B: BlockPair> KeyJob<B> {
             Ok(Err(refusal)) => return Ok(Err(refusal)),
             Err(fault) => return Err(fault),
         }
-        // The answer is in `output`, and is written into `bytes`.
+        // The answer is in `output`. It is written into `bytes` in its notation.
         print_in(self.task.input, output, bytes)?;
         std::mem::swap(bytes, output);
         Ok(Ok(Mark::Unmarked))
     }
 
-    // Makes the answer of a check, with room for the registers in `output`.
+    // Makes the answer of a check. `output` is the room for the registers.
     fn check(
         &self,
         text: &[u8],
@@ -89,7 +89,7 @@ impl<B: BlockPair> KeyJob<B> {
     }
 }
 
-/// The line of a check.
+/// Writes the line of a check.
 pub fn kind_line(alloc: Global, kind: Kind) -> Result<String, AllocError>
     ensures { IfOk result (λ line. string_bytes line ≡ kind_line kind) }
 {

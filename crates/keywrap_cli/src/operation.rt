@@ -16,7 +16,7 @@ use key_wrap::{AgreedForm, InPlaceFault, InitialValue};
 use std::alloc::Global;
 use std::io::{Read, Write};
 
-/// What is done with an input, with its KEK files: their names, or open files.
+/// An operation with its KEK files: their names, or open files.
 #[derive(Drop)]
 pub enum Operation<K> {
     /// A job, with the initial value of the plain form.
@@ -65,7 +65,7 @@ impl<K> Operation<K> {
         }
     }
 
-    /// Returns the job, if this is no rewrap.
+    /// Returns the job, unless this is a rewrap.
     pub fn job(&self) -> Option<Job> {
         match self {
             Operation::Job { task, .. } => Some(task.job),
@@ -73,7 +73,7 @@ impl<K> Operation<K> {
         }
     }
 
-    /// Whether the input is a key. Otherwise it is a wrapped key.
+    /// Whether the input is a key. Otherwise the input is a wrapped key.
     pub fn takes_key(&self) -> bool {
         matches!(self.job(), Some(Job::Wrap))
     }
@@ -130,8 +130,8 @@ impl<K: Read> Operation<K> {
             (I.remaining input.old) (I.remaining input.new)
             (W.contents out.old) (W.contents out.new) result }
 
-        // What was written is the wrapping of the very key that the input is, or whose wrapping
-        // it is, or that key: of this key, and of no other.
+        // The input belongs to one key only. The output is this key or its wrapping, or says what
+        // the input is.
         ensures headline { IsOk result → WritesTheAnswerOf K.remaining self.old self.new
             (I.remaining input.old) (I.remaining input.new)
             (W.contents out.old) (W.contents out.new) }
@@ -145,11 +145,11 @@ impl<K: Read> Operation<K> {
         }
     }
 
-    /// Answers each line of the input on a line of the output, as [`LineRun::run`] says. Lines of a
-    /// raw input are read as hex. With `keep_going` the run continues after a refused line.
+    /// Answers each line of the input on a line of the output, as [`LineRun::run`] does. Lines of
+    /// a raw input are read as hex. With `keep_going` the run continues after a refused line.
     ///
-    /// The first `Err` is the fault of a KEK file: then nothing was read of the input, and nothing
-    /// written. In the summary, the `none` of a check and what a rewrap passed are marked.
+    /// The outer `Err` is the fault of a KEK file: then nothing of the input was read, and nothing
+    /// was written. The summary marks each `none` of a check and each wrapped key that was passed.
     pub fn run_lines<L: RefusalLog<InPlaceFault>, I: LineSource, W: Write>(
         &mut self,
         alloc: Global,
@@ -163,8 +163,8 @@ impl<K: Read> Operation<K> {
             (W.contents out.old) (W.contents out.new)
             (L.received log.old) (L.received log.new) result }
 
-        // What was written are the answers to the first lines, in order, each under the KEKs that
-        // the KEK files denote.
+        // The output has the answers to the first lines, in order, each under the KEKs that the
+        // KEK files denote.
         ensures headline { IfOk result (λ run. IfSome (I.remaining input.old) (λ text.
             WritesTheLinesOf K.remaining keep_going self.old self.new text
             (W.contents out.old) (W.contents out.new) run)) }

@@ -20,10 +20,10 @@ pub enum VectorsFault {
     /// An allocation failed, and nothing was written.
     #[error("out of memory")]
     Memory,
-    /// The writer took `written` bytes of the lines, and no more.
+    /// The writer took only `written` bytes of the lines.
     #[error("output: refused after {written} bytes")]
     Write {
-        /// How many bytes of the lines went out.
+        /// The number of bytes that were written.
         written: usize,
     },
 }
@@ -61,7 +61,7 @@ fn write_fault(fault: WriteFault) -> VectorsFault
     }
 }
 
-/// The lines of vectors, and whether each says `ok`.
+/// The lines of vectors, and whether each of them has `ok`.
 #[derive(Drop)]
 pub struct Report {
     pub text: String,

@@ -1,4 +1,4 @@
-//! Rewrapping one key: from one KEK to another, with no key written.
+//! Rewrapping one key: from one KEK to another, without writing the key.
 
 ghost use Rattle.std.specs.Prelude.{IsOk};
 ghost use Rattle.key_wrap.specs.Forms.{by_default};
@@ -41,7 +41,7 @@ pub fn run_rewrap<K: Read, N: Read, R: Read, W: Write>(
         (R.remaining input.old) (R.remaining input.new)
         (W.contents out.old) (W.contents out.new) result }
 
-    // What is written wraps exactly the key that the input was the wrapping of.
+    // The output wraps exactly the key that the input wrapped.
     ensures headline { IsOk result → WritesTheNewText
         (rewrapping (RewrapForms.Changed (by_default old_form) (by_default new_form))
         input_notation kek_notation)

@@ -1,4 +1,4 @@
-//! What a rewrapping answers to bytes, an input's or a line's.
+//! A rewrapping, as an answer to bytes: the bytes of an input or of a line.
 
 ghost use Rattle.std.specs.Prelude.{◌≡◌, ◌↔◌, IsTrue, length, true};
 ghost use Rattle.key_lines.specs.Answers.{made};
@@ -38,7 +38,7 @@ impl<O: BlockPair, N: BlockPair> LineJob for RewrapJob<O, N> {
     }
 }
 
-// The answer, in the notation of the task.
+// Makes the answer, in the notation of the task.
 fn answer_rewrapping<O: BlockPair, N: BlockPair>(
     task: &Rewrapping,
     old: &O,
@@ -58,7 +58,7 @@ fn answer_rewrapping<O: BlockPair, N: BlockPair>(
     Ok(Ok(mark))
 }
 
-// Makes the answer in the buffer of the text.
+// Rewraps the text in its buffer, which becomes the answer.
 fn make<O: BlockPair, N: BlockPair>(
     task: &Rewrapping,
     old: &O,
@@ -107,7 +107,7 @@ fn rewrap_or_pass<O: BlockPair, N: BlockPair>(
     }
 }
 
-// Whether what was refused is a wrapping under the old KEK: its key's length was.
+// Whether a refused text is a wrapping under the old KEK, whose key's length was refused.
 fn has_old_length(forms: &RewrapForms, refusal: InPlaceFault, len: usize) -> bool
     ensures { IsTrue result ↔ ((refusal ≡ InPlaceFault.BadLength) × IsOldLength forms.now len) }
 {

@@ -1,18 +1,18 @@
-//! What a rewrapping goes from and to.
+//! The forms and notations of a rewrapping.
 
 use crate::job::Notation;
 use key_wrap::AgreedForm;
 
-/// Which forms wrapped keys are rewrapped from and to.
+/// The old and the new form of a rewrapping.
 #[derive(Clone, Copy)]
 pub enum RewrapForms {
-    /// From the form in which it is a wrapping, to the same, with the default initial value.
+    /// The old form may be either form and is kept, with the default initial value.
     Kept,
-    /// From one form to another, or the same.
+    /// The old form and the new one, which may be the same.
     Changed {
-        /// The form of the wrapped keys.
+        /// The form of the old wrapped keys.
         old: AgreedForm,
-        /// The form of the answers.
+        /// The form of the new wrapped keys.
         new: AgreedForm,
     },
 }
@@ -20,9 +20,9 @@ pub enum RewrapForms {
 /// A rewrapping, with the forms of both wrapped keys and the notations of its files.
 #[derive(Clone, Copy)]
 pub struct Rewrapping {
-    /// The forms of the wrapped key and of the new one.
+    /// The forms of the old wrapped key and of the new one.
     pub forms: RewrapForms,
-    /// What is wrapped under the new KEK already, in the form of an answer, is answered as it is.
+    /// Whether a wrapped key that is already under the new KEK, in the new form, is copied.
     pub pass_new: bool,
     /// The notation of the input and of the output.
     pub input: Notation,

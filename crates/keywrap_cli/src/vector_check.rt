@@ -15,8 +15,8 @@ use key_files::{FileFault, decode_hex};
 use key_wrap::{Form, InitialValue};
 use std::alloc::{AllocError, Global};
 
-/// Whether a vector's texts denote a KEK, an input and the output to which its algorithm takes the
-/// input under AES of the KEK.
+/// Whether a vector is right: its texts denote a KEK, an input and an output, and its algorithm
+/// under AES of the KEK takes the input to the output.
 pub fn is_right(alloc: Global, vector: &Vector<'_>) -> Result<bool, AllocError>
     ensures { IfOk result (λ right. IsTrue right ↔ IsRight (shown vector.now)) }
 {

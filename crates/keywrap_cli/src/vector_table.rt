@@ -2,7 +2,7 @@
 
 use key_wrap::Form;
 
-/// What takes a vector's input to its output.
+/// The algorithm of a vector.
 #[derive(Clone, Copy)]
 pub enum Algorithm {
     /// The wrapping in a form: from key data to its wrapping.
@@ -16,7 +16,7 @@ pub enum Algorithm {
 pub struct Vector<'a> {
     /// The standard, and the section or the number in it.
     pub name: &'a str,
-    /// What takes the input to the output.
+    /// The algorithm that takes the input to the output.
     pub algorithm: Algorithm,
     /// The KEK, or the key of the cipher.
     pub key: &'a str,
