@@ -78,8 +78,9 @@ for_zsh = $(share)/zsh/site-functions
 for_fish = $(share)/fish/vendor_completions.d
 
 .PHONY: help version build library library-anew test gate install uninstall install-command uninstall-command \
-    install-library uninstall-library install-provider uninstall-provider provider examples needs needs-wheel wheel js portable sdist \
-    dist dist-each dist-command dist-library dist-wheel dist-js packed bench pictures clean
+    install-library uninstall-library install-provider uninstall-provider provider examples needs needs-wheel wheel \
+    js portable sdist dist dist-each dist-command dist-library dist-wheel dist-js dist-portable dist-sdist packed \
+    bench pictures clean
 # What a goal needs is looked at before anything is built for it; and what rt builds of the exports has one place.
 .NOTPARALLEL:
 
@@ -160,6 +161,7 @@ examples: library
 needs: needs-wheel
 	$(needs_compiler)
 	$(if $(filter dist-js,$(packed)),@scripts/js.sh --needs)
+	$(if $(filter dist-portable,$(packed)),@$(PYTHON) scripts/portable.py --needs)
 
 needs-wheel:
 	$(needs_headers)
@@ -284,6 +286,11 @@ dist-js: js
 
 # With BENCH=FOLDER it also writes FOLDER/*.csv; `make bench BENCH=docs/pictures` renews the data of the plots.
 export BENCH
+dist-portable: portable
+	scripts/dist_portable.sh '$(PORTABLE)' 'keywrap-portable-$(version)' '$(DIST)'
+
+dist-sdist: sdist
+
 bench: build library provider wheel
 	bench/wrap '$(LIBRARY)/libkeywrap.a'
 	bench/provider '$(PROVIDER)/keywrap.so'

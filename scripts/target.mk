@@ -5,11 +5,13 @@
 of_program = build test gate install install-command dist-command bench
 targets = x86_64-unknown-linux-gnu aarch64-unknown-linux-gnu
 
-# What `make dist` hands out, by goal and by name: what is for no one machine, the package for npm, goes with x86-64's.
+# What `make dist` hands out, by goal and by name: what is for no one machine, the package for npm, the portable library
+# and the source distribution, goes with x86-64's.
 wheel_of = keywrap-$(of_python)-cp39-abi3-manylinux_2_17_$(1).whl
 of_machine = keywrap-library-$(version)-$(1)-linux.tar.gz $(call wheel_of,$(1))
 of_command = keywrap-$(version)-x86_64-linux
-of_x86_64 = $(of_command).tar.gz keywrap-$(version).tgz
+of_portable = keywrap-portable-$(version).tar.gz keywrap-$(of_python).tar.gz
+of_x86_64 = $(of_command).tar.gz keywrap-$(version).tgz $(of_portable)
 all_handed_out = $(of_x86_64) $(call of_machine,x86_64) $(call of_machine,aarch64)
 packed_files = $(if $(all_machines),$(all_handed_out),$(of_$(machine)) $(call of_machine,$(machine)))
 sbom = keywrap-$(version).cdx.json
@@ -17,7 +19,7 @@ sbom = keywrap-$(version).cdx.json
 ifeq ($(TARGET),x86_64-unknown-linux-gnu)
 machine = x86_64
 strip_program = strip
-packed = dist-command dist-library dist-wheel dist-js
+packed = dist-command dist-library dist-wheel dist-js dist-portable dist-sdist
 other =
 else ifeq ($(TARGET),aarch64-unknown-linux-gnu)
 machine = aarch64

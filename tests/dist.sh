@@ -18,7 +18,8 @@ archive=${archive##* } library=$room/library
 js=${KEYWRAP_JS:-$room/js}
 command=keywrap-$version-x86_64-linux packed=keywrap-library-$version-x86_64-linux package=keywrap-$version.tgz
 wheel=keywrap-${version/-dev/.dev0}-cp39-abi3-manylinux_2_17_x86_64.whl bom=keywrap-$version.cdx.json
-tarballs=("$command.tar.gz" "$package" "$packed.tar.gz")
+portable=keywrap-portable-$version.tar.gz source=keywrap-${version/-dev/.dev0}.tar.gz
+tarballs=("$command.tar.gz" "$package" "$packed.tar.gz" "$portable" "$source")
 
 # elsewhere: make dist in a copy of the tree, of another path, umask and time, gives the same checksums.
 elsewhere() (
@@ -52,7 +53,7 @@ END
 
 # packs FOLDER GOAL..: has this packed there.
 packs() {
-    in_library "${@:2}" DIST="$room/$1" PROGRAM="$program" JS="$js" PYTHON="$python" \
+    in_library "${@:2}" DIST="$room/$1" PROGRAM="$program" JS="$js" PORTABLE="$room/portable" PYTHON="$python" \
         TARGET=x86_64-unknown-linux-gnu -o build ${built_js:+-o js}
 }
 
@@ -63,7 +64,7 @@ if has_python cffi,setuptools,wheel,build; then
     row 'make dist' packs dist dist || { finish; exit; }
     row 'what it makes' diff <(ls dist) <(printf '%s\n' SHA256SUMS "${tarballs[@]}" "$wheel" "$bom" | LC_ALL=C sort)
     row 'its checksums' env -C dist sha256sum -c --strict SHA256SUMS
-    row 'they are of all' test "$(wc -l <dist/SHA256SUMS)" = 5
+    row 'they are of all' test "$(wc -l <dist/SHA256SUMS)" = 7
     sed -n '/^### From an archive/,$s/^    //p' "$root/docs/INSTALLING.md" >lines
     row 'the lines of docs/INSTALLING.md' env -C dist bash -e "$room/lines"
     row 'the bill of materials' of_materials
@@ -72,7 +73,8 @@ if has_python cffi,setuptools,wheel,build; then
 else
     skip 'the wheel, and make dist' \
         'no Python with its modules (apt-get install python3-cffi python3-setuptools python3-wheel python3-build)'
-    row 'make dist, but for the wheel' packs dist dist-command dist-library dist-js || { finish; exit; }
+    tarballs=("${tarballs[@]:0:4}")
+    row 'make dist, but for the wheel' packs dist dist-command dist-library dist-js dist-portable || { finish; exit; }
 fi
 built_js=yes
 for file in "${tarballs[@]}"; do
@@ -193,6 +195,12 @@ then
 else
     skip "the library's README on the provider" 'no headers of OpenSSL 3 (apt-get install libssl-dev)'
 fi
+
+### The portable library
+
+# portable_right: the archive builds by its Makefile, and its vectors are right.
+portable_right() { tar -xzf "dist/$portable" && make -C "${portable%.tar.gz}" check; }
+row 'the archive of the portable library' portable_right
 
 ### The package for npm
 

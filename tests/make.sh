@@ -140,9 +140,13 @@ cp "${2%/*}/libkeywrap.a" "$2"
 END_OF_LINKER
 install -m 755 /dev/stdin bin/python <<'END_OF_PYTHON'
 #!/bin/sh
+[ "${1##*/}" != portable.py ] || [ "$2" = --needs ] || { mkdir -p "$4" && cd "$4" &&
+    touch README keywrap.c keywrap.h vectors.c Makefile CMakeLists.txt; }
 [ "$1" = -m ] || exit 0
 [ -z "${no_wheel:-}" ] || { echo "no wheel here" && exit 1; }
 mkdir -p "$6"
+name=keywrap-1.2.3.dev0
+[ "$3" != --sdist ] || { mkdir "$6/$name" && tar -C "$6" -czf "$6/$name.tar.gz" $name; exit; }
 echo wheel >"$6/keywrap-1.2.3.dev0-cp39-abi3-$(sed -n 's/^plat_name = //p' "$7/setup.cfg").whl"
 END_OF_PYTHON
 printf '#!/bin/sh\nwhile [ "$1" != -o ]; do shift; done\necho wasm >"$2"\n' | tee bin/wasm-opt | install -m 755 /dev/stdin bin/rattle-link
@@ -229,6 +233,7 @@ all='make -s DIST=dist CC=linker SYSROOT=sysroot'
 rm -r dist; fresh
 does 'make dist' 0 dist/SHA256SUMS $all dist -- "${steps[@]}" "${linked[@]}" "${wasm[@]}" "${linked_for_arm[@]}"
 row 'what it hands out' of keywrap-1.2.3-dev{-x86_64-linux.tar.gz,.tgz,.cdx.json} \
+    keywrap-portable-1.2.3-dev.tar.gz keywrap-1.2.3.dev0.tar.gz \
     keywrap-library-1.2.3-dev-{x86_64,aarch64}-linux.tar.gz ${wheel}_{x86_64,aarch64}.whl
 does 'make dist, again' 0 dist/SHA256SUMS $all dist -- "${wasm[@]}"
 rm -r dist
