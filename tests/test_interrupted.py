@@ -117,31 +117,23 @@ def test_new_file_is_for_its_owner_alone(begin, job, content):
     assert oct(stat.S_IMODE(PART.stat().st_mode)) == "0o600"
 
 
+@pytest.mark.parametrize("meanwhile", ["rm to/file.part0", "rm to/file.part0; echo other >to/file.part0"])
+def test_new_file_goes_away(begin, meanwhile):
+    """Also if another takes its name, such as that of a run that began when the name was free. Both files stay."""
+    fresh(b"old\n")
+    waiting = begin()
+    subprocess.run(["sh", "-c", meanwhile], check=True)
+    before = state()
+    assert waiting.ended(KEY16.encode()) == FLUSH_FAULT
+    assert state() == before
+
+
 def test_directory_comes_in_the_way(begin):
     fresh()
     waiting = begin()
     os.mkdir("to/file")
     assert waiting.ended(KEY16.encode()) == FLUSH_FAULT
     assert os.listdir("to") == ["file"]
-
-
-def test_new_file_goes_away(begin):
-    fresh(b"old\n")
-    before, waiting = state(), begin()
-    os.remove(PART)
-    assert waiting.ended(KEY16.encode()) == FLUSH_FAULT
-    assert state() == before
-
-
-def test_another_file_has_the_name_of_the_new_one(begin):
-    """It is the one of a run that began when the name was free. Both files stay."""
-    fresh(b"old\n")
-    waiting = begin()
-    os.remove(PART)
-    PART.write_bytes(b"other\n")
-    before = state()
-    assert waiting.ended(KEY16.encode()) == FLUSH_FAULT
-    assert state() == before
 
 
 def test_directory_is_moved_and_another_has_its_name(begin):

@@ -23,8 +23,8 @@ KEEP_FORM = f"rewrap --keep-form {BOTH} -i"
 @pytest.fixture(autouse=True)
 def more_files():
     for name, content in {
-            "one.hex": b"00\n", "raw17": bytes(17), "colons": b"00:11:22\n", "kek16.base64": b"AAECAwQFBgcICQoLDA0ODw==\n",
-            "kek15.base64": b"AAECAwQFBgcICQoLDA0O", "kek17.base64": b"AAECAwQFBgcICQoLDA0ODxA=", "colon.64": b"00:11",
+            "one.hex": b"00\n", "raw17": bytes(17), "colons": b"00:11:22\n", "colon.64": b"00:11",
+            "kek16.base64": b"AAECAwQFBgcICQoLDA0ODw==\n", "kek17.base64": b"AAECAwQFBgcICQoLDA0ODxA=",
             "two.64": b"AA==\nAA==", "kek.digits": KEK16.encode(), "kek.base64": b"AAECAwQFBgcICQoLDA0ODw==",
             "wrapped23.hex": zeros(23).encode() + b"\n", "key.long": bytes(1048577), "wrapped.long": bytes(1048592)
     }.items():
@@ -69,13 +69,11 @@ def test_kek_in_place_of_its_name_is_not_shown(keywrap, digits):
 
 @pytest.mark.parametrize("args, reason", [
     ("wrap --kek kek15.hex", "kek15.hex: 15 bytes of KEK"),
-    ("wrap --lines --kek kek15.hex -i key.hex", "kek15.hex: 15 bytes of KEK"),
     ("check --kek /dev/null", "/dev/null: 0 bytes of KEK"),
     ("check --kek one.hex", "one.hex: 1 byte of KEK"),
     ("wrap --raw-kek --kek kek16.hex", f"kek16.hex: 33 bytes of KEK; {LOOKS_LIKE_HEX}"),
     ("wrap --raw-kek --kek kek16.base64", f"kek16.base64: 25 bytes of KEK; {LOOKS_LIKE_BASE64}"),
     ("wrap --base64-kek --kek kek32.hex", "kek32.hex: 48 bytes of KEK"),
-    ("wrap --base64-kek --kek kek15.base64", "kek15.base64: 15 bytes of KEK"),
     ("wrap --base64-kek --kek kek17.base64", "kek17.base64: 17 bytes of KEK"),
     ("rewrap --kek kek16.hex --new-kek kek15.hex", "kek15.hex: 15 bytes of KEK"),
     ("rewrap --raw-kek --kek kek16.raw --new-kek kek16.base64", f"kek16.base64: 25 bytes of KEK; {LOOKS_LIKE_BASE64}")])
@@ -85,10 +83,7 @@ def test_kek_length(keywrap, args, reason):
 
 @pytest.mark.parametrize("args, message, reason", [
     ("wrap --kek kek16.raw", "key file: no hex digit at byte 0", "kek16.raw: not hex; for raw bytes use --raw-kek"),
-    ("wrap --kek odd.hex", "key file: odd number of hex digits", "odd.hex: 3 hex digits"),
     ("rewrap --kek kek16.hex --new-kek odd.hex", "new key file: odd number of hex digits", "odd.hex: 3 hex digits"),
-    ("rewrap --lines --kek kek16.hex --new-kek odd.hex -i wrapped.hex", "new key file: odd number of hex digits",
-     "odd.hex: 3 hex digits"),
     ("wrap --kek long.hex", "key file: too long", f"long.hex: more than {MAX_FILE} bytes"),
     ("rewrap --kek kek16.hex --new-kek digit.hex", "new key file: no hex digit at byte 1",
      f"digit.hex: {MAYBE_BASE64} --base64-kek"),
@@ -117,7 +112,6 @@ PLAIN, PADDED, EITHER = (f"{kind} has {least} or more, a multiple of 8" for kind
 
 @pytest.mark.parametrize("args, reason", [
     ("wrap --kek kek16.hex -i key7.hex", f"key7.hex: 7 bytes; {PLAIN_KEY}"),
-    (f"wrap --iv {IV} --kek kek16.hex -i key7.hex", f"key7.hex: 7 bytes; {PLAIN_KEY}"),
     ("wrap --padded --kek kek16.hex -i nothing", "nothing: 0 bytes; a key has 1 or more"),
     ("wrap --raw --kek kek16.hex -i raw17", f"raw17: 17 bytes; {PLAIN_KEY}"),
     ("unwrap --kek kek16.hex -i wrapped23.hex", f"wrapped23.hex: 23 bytes; {PLAIN}"),
@@ -125,7 +119,6 @@ PLAIN, PADDED, EITHER = (f"{kind} has {least} or more, a multiple of 8" for kind
     (f"rewrap {BOTH} -i wrapped23.hex", f"wrapped23.hex: 23 bytes; {PLAIN}"),
     (f"rewrap {BOTH} -i wrapped7.hex", f"wrapped7.hex: 16 bytes; {PLAIN}"),
     (f"{KEEP_FORM} wrapped23.hex", f"wrapped23.hex: 23 bytes; {EITHER}"),
-    (f"{KEEP_FORM} wrapped.long --raw", "wrapped.long: 1048592 bytes; a wrapped key has 1048584 at most"),
     ("rewrap --padded --kek kek5649.hex --new-kek kek32.hex -i wrapped7.hex",
      "wrapped7.hex: its key cannot be wrapped in the plain form: 16 bytes or more, a multiple of 8"),
     ("wrap --padded --raw --kek kek16.hex -i key.long", "key.long: 1048577 bytes; a key has 1048576 at most"),
@@ -161,7 +154,6 @@ def test_integrity(keywrap, args, reason):
 
 
 @pytest.mark.parametrize("args, status, message, reason", [
-    ("wrap --kek kek16.hex -i digit.hex", 6, "no hex digit at byte 1", "digit.hex: not hex; for base64 use --base64"),
     ("wrap --kek kek16.hex -i kek16.base64", 6, "no hex digit at byte 5",
      "kek16.base64: not hex; for base64 use --base64"),
     ("wrap --base64url --kek kek16.hex -i bits.64", 6, "last base64 character has bits of no byte",
@@ -173,7 +165,6 @@ def test_integrity(keywrap, args, reason):
     ("unwrap --kek kek16.hex -i wrapped23.hex", 4, BAD_LENGTH, f"wrapped23.hex: {PLAIN}"),
     ("unwrap --padded --kek kek16.hex -i wrapped23.hex", 4, BAD_LENGTH, f"wrapped23.hex: {PADDED}"),
     (f"{KEEP_FORM} wrapped23.hex", 4, BAD_LENGTH, f"wrapped23.hex: {EITHER}"),
-    (f"rewrap --new-padded {BOTH} -i wrapped23.hex", 4, BAD_LENGTH, f"wrapped23.hex: {PLAIN}"),
     ("rewrap --padded --kek kek16.hex --new-kek kek16.hex -i padded7.hex", 4, BAD_LENGTH, "padded7.hex"),
     (f"{KEEP_FORM} wrong.hex", 5, INTEGRITY, "wrong.hex: not a valid wrapped key in either form under this KEK")])
 def test_line(keywrap, args, status, message, reason):
@@ -189,15 +180,11 @@ def test_no_line(keywrap):
 @pytest.mark.parametrize("name, reason", [
     ("folder", ": is a directory"), ("folder/", ": is a directory"), ("link", ": is a link"), ("pipe", ": is a pipe"),
     ("/dev/null", ": is a device"), ("kek16.hex", ": is the KEK file"), ("./kek16.hex", ": is the KEK file"),
-    ("kek32.hex", ": is the new KEK file"), ("missing/file", f": {NO_FILE}"), ("old/file", ": Not a directory")])
+    ("kek32.hex", ": is the new KEK file"), ("missing/file", f": {NO_FILE}"), ("old/file", ": Not a directory"), ("", "''")])
 def test_no_output(keywrap, name, reason):
     os.symlink("old", "link")
     os.mkfifo("pipe")
-    explains(keywrap, f"rewrap {BOTH} -i wrapped.hex -o {name}", 6, NOT_OPENED, name + reason)
-
-
-def test_no_name_of_an_output(keywrap):
-    explains(keywrap, ["wrap", "--kek", "kek16.hex", "-i", "key.hex", "-o", ""], 6, NOT_OPENED, "''")
+    explains(keywrap, [*f"rewrap {BOTH} -i wrapped.hex -o".split(), name], 6, NOT_OPENED, name + reason)
 
 
 @pytest.mark.parametrize("lines", ["", " --lines"], ids=["one key", "lines"])
@@ -215,13 +202,11 @@ def test_runs_without_a_second_line(keywrap):
 
 
 def test_no_allocation(preloaded):
-    """Each allocation fails in turn. The second line needs none."""
-    program = preloaded("fail_alloc")
+    """Each allocation after the parser's fails in turn. The second line needs none."""
+    program, args = preloaded("fail_alloc"), ["wrap", "--kek", "kek15.hex", "-i", "key.hex", "--verbose"]
     wanted = refused(3, KEK_LENGTH)
     wanted = wanted._replace(stderr=wanted.stderr + "  kek15.hex: 15 bytes of KEK\n")
-    for call in range(1, 999):
-        ended = program("wrap", "--kek", "kek15.hex", "-i", "key.hex", "--verbose", FAIL_ALLOC=str(call))
-        if not program.met:
-            break
-        assert ended in (refused(7, MEMORY), wanted), call
-    assert ended == wanted and call > 1
+    count = program.count(*args)
+    for call in range(count - 40, count + 1):
+        assert program(*args, FAIL_ALLOC=str(call)) in (refused(7, MEMORY), wanted), call
+    assert program(*args) == wanted
