@@ -218,7 +218,7 @@ fn asks_the_pair_once_a_block_under_a_value_and_for_a_kind(rt: HostRuntime) -> R
     Ok(())
 }
 
-// tests/allocations.sh refuses each allocation of this test in turn, and counts them: five.
+// `rt try --test --fail-alloc N` refuses the Nth allocation of this test: it makes five.
 #[test]
 fn refuses_each_growth_of_five_calls(rt: HostRuntime) {
     let alloc = rt.alloc();

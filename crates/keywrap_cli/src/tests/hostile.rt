@@ -68,7 +68,7 @@ fn counts_what_went_out_at_each_write_that_stops(rt: HostRuntime) {
     try_each_case(&rt, rt.alloc(), Trial::Writes);
 }
 
-// tests/allocations.sh runs this test over an allocator that refuses; the gate's refuses none.
+// `rt try --test --fail-alloc N` refuses the Nth allocation of this test; the gate refuses none.
 #[test]
 fn refuses_each_growth_of_a_call(rt: HostRuntime) {
     try_each_case(&rt, rt.alloc(), Trial::Memory);

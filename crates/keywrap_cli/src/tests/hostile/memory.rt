@@ -1,5 +1,5 @@
 //! Each allocation refused in turn: a call answers Memory and has written nothing, or answers all.
-//! tests/allocations.sh runs these tests over an allocator that refuses; the gate's refuses none.
+//! `rt try --test --fail-alloc N` refuses the Nth allocation; the gate refuses none.
 
 use super::super::cases::{Case, run};
 use super::super::jobs::RAW_KEY;
