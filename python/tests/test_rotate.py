@@ -296,6 +296,23 @@ def test_refuses_an_owner_that_it_cannot_keep(monkeypatch):
         assert left_over(directory) == []
 
 
+@pytest.mark.skipif(os.geteuid() != 0, reason="not root")
+def test_a_directory_that_cannot_be_read_is_one_of_the_files():
+    """So it is refused, not passed over."""
+    with tempfile.TemporaryDirectory() as name:
+        below = pathlib.Path(name, "below")
+        below.mkdir(mode=0o700)
+        for path in (below / "keys.hex", pathlib.Path(name, "keys.hex")):
+            path.write_bytes(OLD)
+        os.chmod(name, 0o755)
+        os.seteuid(65534)
+        try:
+            files = rotate._files([name])
+        finally:
+            os.seteuid(0)
+        assert sorted(files) == [str(below), str(pathlib.Path(name, "keys.hex"))]
+
+
 # A store that changes meanwhile.
 
 ADDED = make_keys(2, 9)[1]

@@ -308,7 +308,8 @@ def test_keks_of_one_worker_that_are_wrong(cluster, store, keks, tmp_path_factor
     ):
         cluster.add_worker(**environment)
         status, stderr = ended(client(cluster, store))
-        assert (status, stderr.strip().endswith(line)) == (6, True), stderr
+        # Dask may add lines of its own.
+        assert (status, any(said.endswith(line) for said in stderr.splitlines())) == (6, True), stderr
         assert state(store) == ["old"] * FILES
         cluster.workers[-1].terminate()
         cluster.workers[-1].wait(timeout=240)
