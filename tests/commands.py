@@ -5,9 +5,9 @@ The tests that put the program under faults of the system take their commands fr
 import base64
 from typing import NamedTuple, Optional
 
-from vectors import (BAD_LENGTH, KEY16, DRILLED, DRILLED7, INTEGRITY, IV, KEK_LENGTH, KEK16, KEK24, KEK32, KEK5649, KEY7,
-                     NEW_KEK_LENGTH, NOT_OPENED, PADDED16, PADDED7, RESERVED_IV, VECTOR_LINES, WRAPPED16, WRAPPED32,
-                     WRAPPED7, WRAPPED_IV, WRONG, raw, zeros)
+from vectors import (BAD_LENGTH, KEY16, DRILLED, DRILLED7, INTEGRITY, IV, KEK_LENGTH, KEK16, KEK24, KEK32, KEK5649,
+                     KEY7, NEW_KEK_LENGTH, NOT_OPENED, PADDED16, PADDED7, RESERVED_IV, VECTOR_LINES, WRAPPED16,
+                     WRAPPED32, WRAPPED7, WRAPPED_IV, WRONG, raw, zeros)
 
 MAX_FILE = 4194304
 

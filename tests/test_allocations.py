@@ -18,7 +18,7 @@ OUT_OF_MEMORY = refused(7, MEMORY)
 ARGUMENTS = [Command(" ".join(map(repr, args)), args, None, 2, b"", None) for args in (
     [], ["rewind"], ["wrap", "--kek", "kek16.hex", "--secret"], ["wrap"], ["drill", "00", "11"], ["drill", b"\xff"])]
 COMMANDS = ANSWERS + REFUSALS + ARGUMENTS + INTO_FILES
-# One of each subcommand: every allocation fails, also those of the parser. Of the others only the last ones fail, which
+# One of each subcommand: every allocation fails, the parser's too. Of the others only the last ones fail, which
 # are at most 40 (the parser makes 110 to 190 before them, as it does for these).
 WHOLE = ["wrap", "unwrap", "rewrap", "check", "drill", "vectors", "help", *(command.name for command in ARGUMENTS)]
 LAST = 48
@@ -30,7 +30,8 @@ def ends(keywrap, command):
     own = keywrap(*command.args, text=False)
     into_file = command in INTO_FILES
     answer = own.stdout if command.stdout is None else command.stdout
-    complete = Ended(command.status, b"" if into_file else answer, own.stderr if command.stderr is None else command.stderr)
+    line = own.stderr if command.stderr is None else command.stderr
+    complete = Ended(command.status, b"" if into_file else answer, line)
     os.mkdir("to")
 
     def run(program, **options):
@@ -93,7 +94,7 @@ if "TESTS" in os.environ:
             with open("met", "w+b") as met:
                 env = {**os.environ, "LD_PRELOAD": str(compiled("fail_alloc")), "FAIL_ALLOC": f"{number}{after}",
                        "MET": str(met.fileno())}
-                ended = subprocess.run([program, name], env=env, pass_fds=[met.fileno()], capture_output=True, text=True)
+                ended = subprocess.run([program, name], env=env, pass_fds=[met.fileno()], stderr=subprocess.PIPE)
                 met.seek(0)
                 assert ended.returncode == 0, (number, ended.stderr)
                 if not met.read():

@@ -7,9 +7,9 @@ import random
 import pytest
 
 from program import Ended, Program, refused
-from vectors import (BAD_LENGTH, KEY16, KEY24, KEY24_UNDER_24, KEY24_UNDER_32, KEY32, KEY32_UNDER_32, DRILLED, INTEGRITY, IV,
-                     KEY20, KEY7, PADDED16, PADDED7, VECTOR_LINES, WRAPPED16, WRAPPED20, WRAPPED24, WRAPPED32, WRAPPED7,
-                     WRAPPED_IV, WRONG, drilled_zeros, raw, zeros)
+from vectors import (BAD_LENGTH, KEY16, KEY24, KEY24_UNDER_24, KEY24_UNDER_32, KEY32, KEY32_UNDER_32, DRILLED,
+                     INTEGRITY, IV, KEY20, KEY7, PADDED16, PADDED7, VECTOR_LINES, WRAPPED16, WRAPPED20, WRAPPED24,
+                     WRAPPED32, WRAPPED7, WRAPPED_IV, WRONG, drilled_zeros, raw, zeros)
 
 
 def answered(text):

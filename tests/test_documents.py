@@ -1,5 +1,5 @@
-"""The documents: links and paths lead to what is there, no term of docs/DEFINITIONS.md's last column is used, no line is
-longer than 120 columns, phrases that cost a second pass do not grow, and what a script makes is up to date."""
+"""The documents: links and paths lead to what is there, no term is one that docs/DEFINITIONS.md rejects, no line is
+longer than 120 columns, bad phrases do not grow, what a script makes is up to date, and repeated facts agree."""
 
 import pathlib
 import re
@@ -14,7 +14,7 @@ DIRECTORIES = (r"\.ci|bench|completions|crates|docs|examples|include|man|provide
                "|[a-z_]+/(?:specs|src|proofs)")
 EACH = pytest.mark.parametrize("document", DOCUMENTS, ids=str)
 # How many phrases that scripts/plain_english.py counts are left. It may only get smaller.
-FOREIGN_PHRASES = 27
+FOREIGN_PHRASES = 25
 
 
 def text_of(document):
@@ -117,13 +117,14 @@ def test_version(keywrap):
     places = ("keywrap Makefile man completions scripts python js crates/keywrap crates/keywrap_cli "
               "crates/keywrap_args").split()
     words = ["-e", version, "-e", version.replace("-dev", ".dev0")]
-    found = subprocess.run(["grep", "-rlIF", "--exclude-dir=out", *words, *places], cwd=ROOT, capture_output=True, text=True)
-    assert found.stdout == f"{sources}\n"
+    found = subprocess.run(["grep", "-rlIF", "--exclude-dir=out", *words, *places], cwd=ROOT, stdout=subprocess.PIPE)
+    assert found.stdout.decode() == f"{sources}\n"
 
 
 @pytest.mark.parametrize("words, elsewhere", [
     ("reserved for the padded form", "python/src/keywrap/_refusals.py js/keywrap.js provider/errors.c"),
-    ("16, 24 or 32", "python/src/keywrap/_refusals.py js/keywrap.js"), ("bad length", "js/keywrap.js provider/errors.c"),
+    ("16, 24 or 32", "python/src/keywrap/_refusals.py js/keywrap.js"),
+    ("bad length", "js/keywrap.js provider/errors.c"),
     ("integrity check failed", "js/keywrap.js provider/errors.c")])
 def test_words_of_a_refusal(words, elsewhere):
     """They are the same in every language that can say them. A cipher of OpenSSL has one length of KEK; Python asks the
@@ -134,7 +135,7 @@ def test_words_of_a_refusal(words, elsewhere):
 
 
 def test_example_in_rattle():
-    """The blocks of docs/LIBRARY.md are lines of the crate that it shows, and its crates are those of crates.txt."""
+    """The blocks of docs/LIBRARY.md are lines of the crate that it shows, and crates.txt has the same crates."""
     page = text_of("docs/LIBRARY.md")
     sources = [f"\n{path.read_text()}" for place in ("src", "specs")
                for path in ROOT.glob(f"crates/example_caller/{place}/*") if path.is_file()]

@@ -41,7 +41,7 @@ class TestEachJob:
         assert (run.returncode, out, err.decode()) == job[3:]
 
     def test_read_error(self, keywrap, job):
-        """A pipe that has no more bytes, and in which none can be waited for; a directory; a file that is only written."""
+        """A pipe without more bytes, in which none can be waited for; a directory; a file that is only written."""
         for count in 0, 5:
             reading, writing = os.pipe()
             os.write(writing, job.given[:count])
@@ -143,7 +143,8 @@ def test_text_that_is_no_hex(keywrap, args, content, message):
 
 
 @pytest.mark.parametrize("name, message", [
-    ("long.hex", "too long"), ("/dev/zero", "too long"), ("folder", "cannot be read"), ("/proc/self/mem", "cannot be read")])
+    ("long.hex", "too long"), ("/dev/zero", "too long"), ("folder", "cannot be read"),
+    ("/proc/self/mem", "cannot be read")])
 @EACH
 def test_files_that_are_refused(keywrap, args, name, message):
     flags = ["--raw"] if name == "/dev/zero" else []

@@ -119,7 +119,7 @@ def test_new_file_is_for_its_owner_alone(begin, job, content):
 
 @pytest.mark.parametrize("meanwhile", ["rm to/file.part0", "rm to/file.part0; echo other >to/file.part0"])
 def test_new_file_goes_away(begin, meanwhile):
-    """Also if another takes its name, such as that of a run that began when the name was free. Both files stay."""
+    """Also if another file takes its name, such as the new file of a run that began meanwhile. Both files stay."""
     fresh(b"old\n")
     waiting = begin()
     subprocess.run(["sh", "-c", meanwhile], check=True)

@@ -75,8 +75,9 @@ def test_without_end(keywrap):
 
 @pytest.mark.parametrize("name, flags, status, message", [
     ("kek15.hex", [], 3, KEK_LENGTH), ("kek17.raw", ["--raw-kek"], 3, KEK_LENGTH),
-    ("kek16.hex", ["--raw-kek"], 3, KEK_LENGTH), ("nothing", [], 3, KEK_LENGTH), ("nothing", ["--raw-kek"], 3, KEK_LENGTH),
-    ("/dev/null", [], 3, KEK_LENGTH), ("missing", [], 6, "key file: cannot be opened"),
+    ("kek16.hex", ["--raw-kek"], 3, KEK_LENGTH), ("nothing", [], 3, KEK_LENGTH),
+    ("nothing", ["--raw-kek"], 3, KEK_LENGTH), ("/dev/null", [], 3, KEK_LENGTH),
+    ("missing", [], 6, "key file: cannot be opened"),
     ("folder", [], 6, "key file: cannot be read"), ("/proc/self/mem", [], 6, "key file: cannot be read"),
     ("digit", [], 6, "key file: no hex digit at byte 22"), ("odd", [], 6, "key file: odd number of hex digits"),
     ("long.hex", [], 6, "key file: too long")])

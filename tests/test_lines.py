@@ -101,8 +101,8 @@ def test_refusal_before_the_first_line(keywrap, args, status, message):
 UNDECODABLE = [("00112g", (6, "no hex digit at byte 5")), (" \t0-", (6, "no hex digit at byte 3")),
                (" \t01 23 ", (6, "no hex digit at byte 4")), (f"17 {KEY16}", (6, "no hex digit at byte 2")),
                (" 001\t", ODD), (" " * (MAX_FILE + 1), (6, "too long"))]
-GOOD = {"wrap": (WRAP, KEY16, WRAPPED16), "unwrap": (UNWRAP, WRAPPED16, KEY16), "rewrap": (REWRAP, WRAPPED24, WRAPPED32),
-        "check": (CHECK, WRAPPED16, "plain 16")}
+GOOD = {"wrap": (WRAP, KEY16, WRAPPED16), "unwrap": (UNWRAP, WRAPPED16, KEY16),
+        "rewrap": (REWRAP, WRAPPED24, WRAPPED32), "check": (CHECK, WRAPPED16, "plain 16")}
 KEEP_GOING = pytest.mark.parametrize("keep_going", [False, True], ids=["stops", "keeps going"])
 AT = pytest.mark.parametrize("at", [0, 1, 2])
 

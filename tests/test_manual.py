@@ -1,4 +1,4 @@
-"""The manual page says what the help says: commands, options, exit statuses; and the examples of both run as they are."""
+"""The manual page says what the help says: commands, options, exit statuses. The examples of both run as they are."""
 
 import os
 import pathlib
@@ -39,7 +39,8 @@ def options_of(text):
 def test_commands(help_of):
     commands = re.findall(r"^  ([a-z]+) ", re.search(r"^Commands:\n(.*?)\n\n", help_of(), re.M | re.S)[1], re.M)
     assert commands == [*COMMANDS, "help"]
-    assert re.findall(r"^\.It Cm (.*)$", re.search(r"^\.Ss Commands\n(.*?)^\.El", PAGE, re.M | re.S)[1], re.M) == commands
+    items = re.search(r"^\.Ss Commands\n(.*?)^\.El", PAGE, re.M | re.S)[1]
+    assert re.findall(r"^\.It Cm (.*)$", items, re.M) == commands
     assert re.findall(r"^\.Cm (.*)$", section("SYNOPSIS"), re.M) == commands
 
 

@@ -21,8 +21,8 @@ SIGPIPE = pytest.mark.parametrize("ignoring", [[], [signal.SIGPIPE]], ids=["SIGP
 CLOSINGS = pytest.mark.parametrize("closed", ["", "0", "1", "2", "01", "02", "12", "012"])
 STREAMS = ["stdin", "stdout", "stderr"]
 # One command for each way in which something is written, and for each step at which a line comes.
-ANSWERED = ["wrap", "raw wrap", "unwrap", "rewrap", "check", "check of a wrong byte", "wrap in base64", "wrap of a file",
-            "drill", "vectors", "help", "version"]
+ANSWERED = ["wrap", "raw wrap", "unwrap", "rewrap", "check", "check of a wrong byte", "wrap in base64",
+            "wrap of a file", "drill", "vectors", "help", "version"]
 REFUSED = ["IV of 15 digits", "no KEK file", "KEK of 15 bytes", "bad digit", "key of 7 bytes", "wrong byte",
            "no input file", "drill of a wrong byte"]
 FILED = ["wrap into a file", "unwrap into a file", "check of a wrong byte into a file", "wrong byte, no file",

@@ -22,8 +22,8 @@ ANSWERED = [command for command in JOBS if command.name in (
     "wrap", "raw wrap", "padded wrap", "unwrap", "check", "rewrap", "raw rewrap to padded", "rewrap in base64url")]
 REFUSED = [command for command in REFUSALS if command.name in (
     "IV of 15 digits", "no KEK file", "KEK file too long", "KEK of 15 bytes", "no new KEK file", "new KEK of 15 bytes",
-    "rewrap of a wrong byte", "rewrap of 7 bytes to plain", "input too long", "bad digit", "bad base64", "key of 7 bytes",
-    "wrong byte", "no input file", "directory as input file")]
+    "rewrap of a wrong byte", "rewrap of 7 bytes to plain", "input too long", "bad digit", "bad base64",
+    "key of 7 bytes", "wrong byte", "no input file", "directory as input file")]
 
 
 @pytest.mark.parametrize("job", ANSWERED, ids=lambda command: command.name)
