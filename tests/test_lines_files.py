@@ -36,11 +36,10 @@ class TestInPlace:
         os.symlink("file", "to/name")
 
     @pytest.mark.parametrize("way", ["to/file", "./to/../to/file", "to/link", "to/name"])
-    @pytest.mark.parametrize("args", [REWRAP, ["rewrap", "--lines", "--keep-form", "--kek", "kek16.hex", "--new-kek",
-                                               "kek16.hex"]], ids=["rewrap", "keep form"])
-    def test_keep_going(self, keywrap, both, args, way):
+    @pytest.mark.parametrize("flags", [[], ["--keep-form"]], ids=["rewrap", "keep form"])
+    def test_keep_going(self, keywrap, both, flags, way):
         """The file of the input is no output: the refused lines are only there."""
-        args = [*args, "--keep-going", "-o", "to/file"]
+        args = [*REWRAP, *flags, "--keep-going", "-o", "to/file"]
         keeps(keywrap, [*args, "-i", way], NO_OUTPUT)
         with open(way, "rb") as given:
             keeps(keywrap, args, NO_OUTPUT, stdin=given)
@@ -67,15 +66,13 @@ class TestInPlace:
         written, error = f"{WRAPPED32}\n\n", f"keywrap: line 2: {INTEGRITY}\n"
         shutil.copy("to/file", "to/copy")
         args = [*REWRAP, "--keep-going"]
+        assert keywrap(*args, "-i", "to/file") == Ended(5, written, error)
         assert keywrap(*args, "-i", "to/file", "-o", "to/copy") == Ended(5, "", error)
         assert pathlib.Path("to/copy").read_text() == written
-        with open("to/file", "rb") as given:
-            assert keywrap(*args, "-o", "to/new", stdin=given) == Ended(5, "", error)
-        assert pathlib.Path("to/new").read_text() == written
-        with in_pieces(pathlib.Path("to/file").read_bytes(), 100) as given:
-            assert keywrap(*args, "-o", "to/new", stdin=given) == Ended(5, "", error)
-        assert pathlib.Path("to/new").read_text() == written
-        assert keywrap(*args, "-i", "to/file") == Ended(5, written, error)
+        with open("to/file", "rb") as file, in_pieces(pathlib.Path("to/file").read_bytes(), 100) as pipe:
+            for given in file, pipe:
+                assert keywrap(*args, "-o", "to/new", stdin=given) == Ended(5, "", error)
+                assert pathlib.Path("to/new").read_text() == written
 
 
 def test_read_error(keywrap):
@@ -100,17 +97,14 @@ def test_output_that_takes_some_bytes(keywrap, lines, counts):
         assert ended == (Ended(0, "", "") if taken == len(wanted) else refused(6, FULL.format(taken)))
 
 
-@pytest.mark.parametrize("stdout", ["/dev/full", CLOSED], ids=["full", "closed"])
-def test_output_that_takes_nothing(keywrap, stdout):
-    assert keywrap(*WRAP, stdin=KEY16, stdout=stdout) == refused(6, FULL.format(0))
-
-
-@pytest.mark.parametrize("keep_going", [[], ["--keep-going"]], ids=["stops", "keeps going"])
-def test_full_disk(keywrap, keep_going):
+def test_full_disk(keywrap):
+    for stdout in "/dev/full", CLOSED:
+        assert keywrap(*WRAP, stdin=KEY16, stdout=stdout) == refused(6, FULL.format(0))
     fresh(b"old\n")
     pathlib.Path("keys").write_text(MANY_KEYS)
-    args = [*WRAP, *keep_going, "-i", "keys", "-o", "to/file"]
-    keeps(keywrap, args, refused(6, FULL.format(102400)), limits={"FSIZE": 102400})
+    for flags in [], ["--keep-going"]:
+        args = [*WRAP, *flags, "-i", "keys", "-o", "to/file"]
+        keeps(keywrap, args, refused(6, FULL.format(102400)), limits={"FSIZE": 102400})
 
 
 @pytest.mark.parametrize("ignoring", [[], [signal.SIGPIPE]], ids=["SIGPIPE", "no SIGPIPE"])
