@@ -73,11 +73,6 @@ def test_terms(document):
     assert found == []
 
 
-def test_number_of_edits():
-    edits = len(list(ROOT.glob("crates/*/must-fail/*.edit")))
-    assert re.search(rf"\b{edits} edits\b", text_of("docs/ARCHITECTURE.md")), edits
-
-
 def test_no_licence():
     """README says that there is none, and no file gives one."""
     assert "No licence has been given yet: the owner decides." in " ".join(text_of("README.md").split())
