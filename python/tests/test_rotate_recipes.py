@@ -242,6 +242,19 @@ def test_objects(bucket):
     assert sorted((bucket.here / "rotated").read_text().splitlines()) == sorted(NAMES)
 
 
+def test_new_objects_are_checked(bucket):
+    """An object is not replaced by one whose key is under the old KEK."""
+    program = bucket.here.parent / "bin/keywrap"
+    program.unlink()
+    program.write_text(f'''#!/bin/bash
+[ "$1" != rewrap ] || exec cp "${{@: -3:1}}" "${{!#}}"
+exec {os.path.abspath(PROGRAM)} "$@"
+''')
+    program.chmod(0o755)
+    assert bucket("echo $1 >> calls") == (5, sorted(NAMES))
+    assert set((bucket.here / "calls").read_text().split()) == {"get"}
+
+
 @pytest.mark.parametrize("call", ["get", "put"])
 @pytest.mark.parametrize("change", ['[ "$2" != "b b" ]', "kill -9 $$"])
 def test_a_failed_call_leaves_its_object(bucket, call, change):
