@@ -25,7 +25,7 @@ struct call {
     u64 addresses[MOST_BUFFERS];
     u64 number;        /* an argument that is no buffer */
     int always_writes; /* whether a refusal may change a buffer, too */
-    size_t *key_len;   /* where the numbers go, if there are any */
+    size_t *key_len;   /* receives the numbers, if any */
     uint32_t *padded;
 };
 

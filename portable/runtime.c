@@ -57,7 +57,7 @@ struct instance {
 
 #define UNREACHABLE KEYWRAP_TRAP()
 
-/* Returns where a number of len bytes at an address of the module is. The memory holds at least the
+/* Returns the place of a number of len bytes at an address of the module. The memory holds at least the
  * stack and the constants: most accesses need no look at its size. */
 static inline u8 *number_at(struct memory memory, u64 address, u64 len) {
     u64 place = address - FIRST;
@@ -65,7 +65,7 @@ static inline u8 *number_at(struct memory memory, u64 address, u64 len) {
     return memory.bytes + place;
 }
 
-/* Returns where the len bytes at an address of the module are. */
+/* Returns the place of the len bytes at an address of the module. */
 static inline u8 *at(struct memory memory, u64 address, u64 len) {
     u64 place = address - FIRST;
     if (len > memory.size || place > memory.size - len) KEYWRAP_TRAP();

@@ -1,9 +1,9 @@
 # Proves the crates of the program side by side, each after those below it, and then builds the program: what
 # the launcher calls, from the top of the repository. rt's own locks let those wait that share a crate.
 #
-# CRATES are the crates below the program that have a folder here, and JOBS is how many jobs rt takes at most. Into
-# the folder LOGS, of the environment, goes what each says: as NAME.log while it is at work on crates/NAME, and where
-# it failed, and as NAME.proved afterwards.
+# CRATES are the crates below the program that have a directory here, and JOBS is the greatest number of jobs of rt. The
+# directory LOGS, of the environment, gets the output for crates/NAME: NAME.log while rt works on it and if it fails,
+# and NAME.proved afterwards.
 #
 # The program is compiled by Rattle's own compiler: clang takes a minute and a half for it, and makes none that is
 # faster. The gate runs what either makes.

@@ -1,4 +1,4 @@
-"""--lines: what is written for each line, how lines are split, at which line a run stops and what it reports."""
+"""--lines: the answer to each line, how lines are split, the line at which a run stops, and the reports."""
 
 import os
 import pathlib
@@ -53,13 +53,13 @@ def test_lines_are_split(keywrap, given, count):
 
 @pytest.mark.parametrize("border", [4096, 8192, 65536])
 def test_borders_of_buffers(keywrap, border):
-    """A line ends just before, at and just after a border."""
+    """A line ends just before, at and just after the end of a block."""
     for length in range(border - 2, border + 3):
         comes_to(keywrap, WRAP, f"{KEY16.ljust(length)}\n{KEY16.rjust(length)}", [WRAPPED16] * 2)
 
 
 def test_longest_line(keywrap):
-    """It has the answer of a file of its own."""
+    """A line has the same answer as a file with only this line."""
     longest = ("00" * 1048576).ljust(MAX_FILE)
     answer = keywrap(*WRAP, stdin=longest).stdout.strip()
     comes_to(keywrap, WRAP, f"{KEY16}\n{longest}\n{KEY16}", [WRAPPED16, answer, WRAPPED16])
@@ -108,7 +108,7 @@ AT = pytest.mark.parametrize("at", [0, 1, 2])
 
 
 def with_one(args, good, answer, bad, outcome, at):
-    """Three lines, of which one is refused."""
+    """One of three lines is refused."""
     lines, outcomes = [good] * 3, [answer] * 3
     lines[at], outcomes[at] = bad, outcome
     return args, "\n".join(lines) + "\n", outcomes
@@ -173,7 +173,7 @@ def test_last_of_5000_lines(keywrap, last, outcome, keep_going):
 
 
 def test_refusals_come_as_their_lines_are_met(keywrap):
-    """Each is reported once, in the order of the lines, and before the answer to its line is written."""
+    """Each refused line is reported once, in order, and before its answer is written."""
     given = "".join("g\n" if number % 999 == 0 else f"{KEY16}\n" for number in range(1, 5000))
     ended = keywrap(*WRAP, "--lines", "--keep-going", stdin=given, stderr=subprocess.STDOUT)
     answered, refusals = 0, []
@@ -209,7 +209,7 @@ def test_only_keep_going_continues(keywrap, flags):
      "3 lines: 1 answered, 2 passed, 0 refused", 0)])
 @pytest.mark.parametrize("quiet", [[], ["--quiet"]], ids=["verbose", "verbose and quiet"])
 def test_verbose_counts_the_lines(keywrap, args, given, answers, report, status, quiet):
-    """What became of the lines is the last line."""
+    """The last line on standard error has the counts."""
     error = "".join(f"keywrap: line {number}: {answer[1]}\n" for number, answer in enumerate(answers, 1)
                     if not isinstance(answer, str)) + f"keywrap: {report}\n"
     written = "".join((answer if isinstance(answer, str) else "") + "\n" for answer in answers)

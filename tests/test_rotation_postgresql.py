@@ -154,7 +154,7 @@ def test_the_order_of_the_commands(room, table):
 
 
 def test_keks(room, table):
-    """Every machine needs those of the beginning."""
+    """Every machine needs the KEKs of the beginning."""
     batches(room, "begin", "7")
     for keks in (KEK, bytes(32)), (bytes(16), NEW_KEK), (NEW_KEK, KEK), (KEK, b""):
         room.write_keks(*keks)

@@ -1,5 +1,5 @@
-/* watched.c: stands for malloc and free in keywrap.c, which is compiled with -Dmalloc=watched_malloc
- * and -Dfree=watched_free. Each block stands between bytes that a call may not write, and must be all
+/* watched.c: replaces malloc and free in keywrap.c, which is compiled with -Dmalloc=watched_malloc
+ * and -Dfree=watched_free. Each block is between bytes that a call may not write, and must be all
  * zeros when it is freed, but for a last word that is not full. With `watched_limit` no block is made
  * beyond so many bytes. */
 
