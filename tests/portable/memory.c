@@ -46,7 +46,21 @@ static int is_kept(int number) {
     return key_len == (number < 9 ? 1u : 0u) && padded == (number < 11 ? 1u : 0u);
 }
 
+/* A length that is legal in its low 32 bits is refused as any other. */
+static void refuses_huge_lengths(void) {
+    const size_t huge = SIZE_MAX - UINT32_MAX;
+    if (huge == 0) return;
+    check(keywrap_wrap(kek, huge + 32, key, 16, out, 24) == KEYWRAP_BAD_KEK, "a huge KEK", 0);
+    check(keywrap_wrap(kek, 32, key, huge + 16, out, 24) == KEYWRAP_BAD_LENGTH, "a huge key", 0);
+    check(keywrap_wrap(kek, 32, key, 16, out, huge + 24) == KEYWRAP_BAD_LENGTH, "a huge text", 0);
+    check(keywrap_wrap_with(kek, 32, iv, huge + 8, key, 16, out, 24) == KEYWRAP_BAD_IV,
+          "a huge initial value", 1);
+    check(keywrap_wrap_padded_in_place(kek, 32, out, 24, huge + 16) == KEYWRAP_BAD_LENGTH,
+          "a huge number", 4);
+}
+
 int main(void) {
+    refuses_huge_lengths();
     for (int number = 0; number < 12; number++) {
         memset(out, BYTE, sizeof out);
         key_len = padded = 1;
