@@ -224,4 +224,4 @@ def test_run_that_stops_has_no_counts(keywrap):
     assert ended == Ended(4, WRAPPED16 + "\n", f"keywrap: line 2: {BAD_LENGTH}\n{reason}")
     ended = keywrap(*WRAP, "--lines", "--verbose", stdin=KEY16, stdout="/dev/full")
     assert ended == Ended(6, "", "keywrap: output: refused after 0 bytes\n"
-                                 "  standard output: No space left on device\n")
+                                 "  standard output: No space left on device (os error 28)\n")

@@ -23,7 +23,7 @@ CHECK = ["check", "--kek", "kek16.hex", "-i", "wrapped.hex", *INTO]
 UNWRAP = ["unwrap", "--kek", "kek16.hex", "-i", "wrapped.hex", *INTO]
 ANSWERS = {"wrap": FILES["wrapped.hex"], "rewrap": FILES["wrapped32.hex"], "check": b"plain 16\n",
            "unwrap": FILES["key.hex"]}
-NOT_KEPT = "to/file: owner, group or mode can't be kept: Operation not permitted"
+NOT_KEPT = "to/file: owner, group or mode can't be kept: Operation not permitted (os error 1)"
 ONLY_ROOT = pytest.mark.skipif(os.getuid() != 0, reason="only root can try owners")
 ME = os.getuid(), os.getgid()
 NOBODY = pwd.getpwnam("nobody").pw_uid, pwd.getpwnam("nobody").pw_gid

@@ -40,8 +40,7 @@ def rewritten(pattern):
 def test_how_far_it_is(terminal):
     """Of a pipe, which has no length of which a part can be done. The runs are beside one another."""
     rows = [(f"{SLOWLY} {RUN} >out", 0, COUNTS),
-            (f"{REFUSED} {RUN} >refused", 6,
-             REFUSAL.format(5000) + "  standard input: not hex; for base64 use --base64\n"),
+            (f"{REFUSED} {RUN} >refused", 6, REFUSAL.format(5000) + "  standard input: not hex\n"),
             (f"{REFUSED} {RUN} --keep-going --verbose --input /dev/stdin --output other", 6,
              REFUSAL.format(5000) + "keywrap: 5000 lines: 4999 answered, 1 refused\n")]
     for run, (line, status, rest) in zip([terminal(line) for line, *_ in rows], rows):

@@ -10,12 +10,12 @@ from program import Ended, refused
 from vectors import (BAD_LENGTH, FULL, INTEGRITY, IV, KEK, KEK16, KEK_LENGTH, MEMORY, NEW_KEK_LENGTH, NOT_OPENED,
                      WRAPPED16, in_base64, zeros)
 
-NO_FILE = "No such file or directory"
+NO_FILE = "No such file or directory (os error 2)"
+NO_DIRECTORY, IS_DIRECTORY = "Not a directory (os error 20)", "Is a directory (os error 21)"
 KEK_OPEN, NEW_KEK_OPEN = "key file: cannot be opened", "new key file: cannot be opened"
-HIDDEN = "(the value of --{} is not shown: it looks like a KEK)"
+HIDDEN = "(the name of {} is not shown: it looks like a KEK)"
 LOOKS_LIKE_HEX = "looks like hex: omit --raw-kek to read it as hex"
 LOOKS_LIKE_BASE64 = "looks like base64: use --base64-kek to read it as base64"
-MAYBE_BASE64 = "not hex but characters of base64; if it is base64, use"
 BOTH = "--kek kek16.hex --new-kek kek32.hex"
 KEEP_FORM = f"rewrap --keep-form {BOTH} -i"
 
@@ -42,7 +42,7 @@ def explains(keywrap, args, status, message, reason, **options):
 
 @pytest.mark.parametrize("args, message, reason", [
     (["wrap", "--kek", "missing"], KEK_OPEN, f"missing: {NO_FILE}"),
-    (["check", "--kek", "key.hex/x"], KEK_OPEN, "key.hex/x: Not a directory"),
+    (["check", "--kek", "key.hex/x"], KEK_OPEN, f"key.hex/x: {NO_DIRECTORY}"),
     (["wrap", "--kek", ""], KEK_OPEN, f"'': {NO_FILE}"),
     (["rewrap", "--kek", "kek16.hex", "--new-kek", "missing"], NEW_KEK_OPEN, f"missing: {NO_FILE}"),
     (["wrap", "--kek", "kek16.hex", "-i", "to/missing"], "input: cannot be opened", f"to/missing: {NO_FILE}"),
@@ -50,8 +50,8 @@ def explains(keywrap, args, status, message, reason, **options):
     (["wrap", "--kek", "é"], KEK_OPEN, f"é: {NO_FILE}"),
     (["wrap", "--kek", "a\u202eb\u2028c\u200bd\ufeffe\u2066f"], KEK_OPEN,
      rf"a\u{{202e}}b\u{{2028}}c\u{{200b}}d\u{{feff}}e\u{{2066}}f: {NO_FILE}"),
-    (["wrap", "--kek", "folder"], "key file: cannot be read", "folder: Is a directory"),
-    (["wrap", "--kek", "kek16.hex", "-i", "folder"], "input: cannot be read", "folder: Is a directory")])
+    (["wrap", "--kek", "folder"], "key file: cannot be read", f"folder: {IS_DIRECTORY}"),
+    (["wrap", "--kek", "kek16.hex", "-i", "folder"], "input: cannot be read", f"folder: {IS_DIRECTORY}")])
 def test_system_errors(keywrap, args, message, reason):
     explains(keywrap, args, 6, message, reason)
 
@@ -60,9 +60,9 @@ def test_system_errors(keywrap, args, message, reason):
 def test_kek_in_place_of_its_name_is_not_shown(keywrap, digits):
     """Whatever its case; one digit more is a name."""
     kek = KEK[:digits]
-    explains(keywrap, ["check", "--kek", kek], 6, KEK_OPEN, f"{HIDDEN.format('kek')}: {NO_FILE}")
+    explains(keywrap, ["check", "--kek", kek], 6, KEK_OPEN, f"{HIDDEN.format('the KEK')}: {NO_FILE}")
     explains(keywrap, ["rewrap", "--kek", "kek16.hex", "--new-kek", kek.upper()], 6, NEW_KEK_OPEN,
-             f"{HIDDEN.format('new-kek')}: {NO_FILE}")
+             f"{HIDDEN.format('the new KEK')}: {NO_FILE}")
     for name in f"0{kek}", f"g{kek[1:]}", in_base64(kek):
         explains(keywrap, ["check", "--kek", name], 6, KEK_OPEN, f"{name}: {NO_FILE}")
 
@@ -82,15 +82,15 @@ def test_kek_length(keywrap, args, reason):
 
 
 @pytest.mark.parametrize("args, message, reason", [
-    ("wrap --kek kek16.raw", "key file: no hex digit at byte 0", "kek16.raw: not hex; for raw bytes use --raw-kek"),
+    ("wrap --kek kek16.raw", "key file: no hex digit at byte 0", "kek16.raw: not hex"),
     ("rewrap --kek kek16.hex --new-kek odd.hex", "new key file: odd number of hex digits", "odd.hex: 3 hex digits"),
     ("wrap --kek long.hex", "key file: too long", f"long.hex: more than {MAX_FILE} bytes"),
     ("rewrap --kek kek16.hex --new-kek digit.hex", "new key file: no hex digit at byte 1",
-     f"digit.hex: {MAYBE_BASE64} --base64-kek"),
-    ("wrap --kek kek16.hex -i digit.hex", "input: no hex digit at byte 1", f"digit.hex: {MAYBE_BASE64} --base64"),
-    ("wrap --kek kek16.hex -i key.raw", "input: no hex digit at byte 0", "key.raw: not hex; for raw bytes use --raw"),
-    ("wrap --kek kek16.hex -i colons", "input: no hex digit at byte 2", "colons: not hex but text"),
-    ("wrap --kek kek16.base64", "key file: no hex digit at byte 5", f"kek16.base64: {MAYBE_BASE64} --base64-kek"),
+     "digit.hex: not hex"),
+    ("wrap --kek kek16.hex -i digit.hex", "input: no hex digit at byte 1", "digit.hex: not hex"),
+    ("wrap --kek kek16.hex -i key.raw", "input: no hex digit at byte 0", "key.raw: not hex"),
+    ("wrap --kek kek16.hex -i colons", "input: no hex digit at byte 2", "colons: not hex"),
+    ("wrap --kek kek16.base64", "key file: no hex digit at byte 5", "kek16.base64: not hex"),
     ("unwrap --kek kek16.hex -i odd.hex", "input: odd number of hex digits", "odd.hex: 3 hex digits"),
     ("wrap --kek kek16.hex -i long.hex", "input: too long", f"long.hex: more than {MAX_FILE} bytes")])
 def test_file_that_is_not_decoded(keywrap, args, message, reason):
@@ -155,12 +155,12 @@ def test_integrity(keywrap, args, reason):
 
 @pytest.mark.parametrize("args, status, message, reason", [
     ("wrap --kek kek16.hex -i kek16.base64", 6, "no hex digit at byte 5",
-     "kek16.base64: not hex; for base64 use --base64"),
+     "kek16.base64: not hex"),
     ("wrap --base64url --kek kek16.hex -i bits.64", 6, "last base64 character has bits of no byte",
      "bits.64: not base64"),
     ("wrap --kek kek16.hex -i odd.hex", 6, "odd number of hex digits", "odd.hex"),
-    ("wrap --kek kek16.hex -i long.hex", 6, "too long", f"long.hex: a line of more than {MAX_FILE} bytes"),
-    ("wrap --kek kek16.hex -i folder", 6, "cannot be read", "folder: Is a directory"),
+    ("wrap --kek kek16.hex -i long.hex", 6, "too long", f"long.hex: more than {MAX_FILE} bytes"),
+    ("wrap --kek kek16.hex -i folder", 6, "cannot be read", f"folder: {IS_DIRECTORY}"),
     ("wrap --kek kek16.hex -i key7.hex", 4, BAD_LENGTH, f"key7.hex: {PLAIN_KEY}"),
     ("unwrap --kek kek16.hex -i wrapped23.hex", 4, BAD_LENGTH, f"wrapped23.hex: {PLAIN}"),
     ("unwrap --padded --kek kek16.hex -i wrapped23.hex", 4, BAD_LENGTH, f"wrapped23.hex: {PADDED}"),
@@ -178,9 +178,11 @@ def test_no_line(keywrap):
 
 
 @pytest.mark.parametrize("name, reason", [
-    ("folder", ": is a directory"), ("folder/", ": is a directory"), ("link", ": is a link"), ("pipe", ": is a pipe"),
-    ("/dev/null", ": is a device"), ("kek16.hex", ": is the KEK file"), ("./kek16.hex", ": is the KEK file"),
-    ("kek32.hex", ": is the new KEK file"), ("missing/file", f": {NO_FILE}"), ("old/file", ": Not a directory"), ("", "''")])
+    ("folder", ": is a directory"), ("folder/", ": is a directory"), ("link", ": is a link"),
+    ("pipe", ": is a device, pipe or socket"), ("/dev/null", ": is a device, pipe or socket"),
+    ("kek16.hex", ": is the KEK file"), ("./kek16.hex", ": is the KEK file"),
+    ("kek32.hex", ": is the new KEK file"), ("missing/file", f": {NO_FILE}"), ("old/file", f": {NO_DIRECTORY}"),
+    ("", "''")])
 def test_no_output(keywrap, name, reason):
     os.symlink("old", "link")
     os.mkfifo("pipe")
@@ -190,8 +192,10 @@ def test_no_output(keywrap, name, reason):
 @pytest.mark.parametrize("lines", ["", " --lines"], ids=["one key", "lines"])
 def test_output_without_room(keywrap, lines):
     args = f"wrap --kek kek16.hex -i key.hex{lines}"
-    explains(keywrap, f"{args} -o to/file", 6, FULL.format(0), "to/file: File too large", limits={"FSIZE": 0})
-    explains(keywrap, args, 6, FULL.format(0), "standard output: No space left on device", stdout="/dev/full")
+    explains(keywrap, f"{args} -o to/file", 6, FULL.format(0), "to/file: File too large (os error 27)",
+             limits={"FSIZE": 0})
+    explains(keywrap, args, 6, FULL.format(0), "standard output: No space left on device (os error 28)",
+             stdout="/dev/full")
 
 
 def test_runs_without_a_second_line(keywrap):

@@ -118,12 +118,12 @@ NO_FILE = "keywrap: key file: cannot be opened\n"
 
 
 @pytest.mark.parametrize("line, screen", [
-    ("wrap --kek missing </dev/null", NO_FILE + "  missing: No such file or directory\n"),
+    ("wrap --kek missing </dev/null", NO_FILE + "  missing: No such file or directory (os error 2)\n"),
     ("wrap --kek kek15.hex -i key.hex >out", f"keywrap: {KEK_LENGTH}\n  kek15.hex: 15 bytes of KEK\n"),
     ("wrap --raw-kek --kek kek.digits -i key.hex >out",
      "keywrap: kek.digits: looks like hex: omit --raw-kek to read it as hex\n"),
     (f"wrap --kek {KEK16} </dev/null",
-     NO_FILE + "  (the value of --kek is not shown: it looks like a KEK): No such file or directory\n"),
+     NO_FILE + "  (the name of the KEK is not shown: it looks like a KEK): No such file or directory (os error 2)\n"),
     ("wrap --kek missing </dev/null 2>err; cat err", NO_FILE)])
 def test_reasons_and_warnings(terminal, line, screen):
     """On a terminal they are shown without --verbose."""

@@ -9,24 +9,24 @@ use keywrap_cli::{
 };
 use std::alloc::Global;
 
-/// What the program prints instead of running a command.
+/// Why no command is run.
 #[derive(Drop)]
 pub enum Stop {
-    /// The help or the version, for standard output.
-    Help(String),
-    /// What is wrong with the arguments, for standard error.
-    Usage(String),
-    /// An initial value was refused, or an allocation failed.
+    /// The help or a message is printed instead.
+    Args(keywrap_args::Stop),
+    /// An initial value was refused.
     Fault(ProgramFault),
 }
 
 impl From<keywrap_args::Stop> for Stop {
     fn from(stop: keywrap_args::Stop) -> Stop {
-        match stop {
-            keywrap_args::Stop::Help(text) => Stop::Help(text),
-            keywrap_args::Stop::Usage(text) => Stop::Usage(text),
-            keywrap_args::Stop::Memory => Stop::Fault(ProgramFault::Memory),
-        }
+        Stop::Args(stop)
+    }
+}
+
+impl From<ProgramFault> for Stop {
+    fn from(fault: ProgramFault) -> Stop {
+        Stop::Fault(fault)
     }
 }
 
@@ -60,7 +60,7 @@ fn command<'a>(args: &Args<'a>) -> Result<Command<'a>, Stop> {
 // A check tries both forms, whatever its task says.
 fn job<'a>(job: Job, args: &Args<'a>) -> Result<Operation<&'a str>, Stop> {
     let kek = args.kek_file(names::KEK)?;
-    let iv = iv(args)?;
+    let iv = initial_value(args, names::IV).map_err(ProgramFault::Iv)?;
     let task = Task {
         job,
         form: form(args, names::PADDED),
@@ -87,17 +87,19 @@ fn rewrap_forms(args: &Args<'_>) -> Result<RewrapForms, Stop> {
     if args.has(names::KEEP_FORM) {
         return Ok(RewrapForms::Kept);
     }
-    let (iv, new_iv) = (iv(args)?, new_iv(args)?);
+    let iv = initial_value(args, names::IV).map_err(ProgramFault::Iv)?;
+    let new_iv = initial_value(args, names::NEW_IV).map_err(ProgramFault::NewIv)?;
     Ok(RewrapForms::Changed {
-        old: agreed_form(form(args, names::PADDED), iv),
-        new: agreed_form(form(args, names::NEW_PADDED), new_iv),
+        old: agreed_form(args, names::PADDED, iv),
+        new: agreed_form(args, names::NEW_PADDED, new_iv),
     })
 }
 
-fn agreed_form(form: Form, iv: InitialValue) -> AgreedForm {
-    match form {
-        Form::Plain => AgreedForm::Plain(iv),
-        Form::Padded => AgreedForm::Padded,
+fn agreed_form(args: &Args<'_>, padded: &str, iv: InitialValue) -> AgreedForm {
+    if args.has(padded) {
+        AgreedForm::Padded
+    } else {
+        AgreedForm::Plain(iv)
     }
 }
 
@@ -155,20 +157,6 @@ fn lines(args: &Args<'_>) -> Option<LineOptions> {
         keep_going: args.has(names::KEEP_GOING),
         quiet: args.has(names::QUIET),
     })
-}
-
-fn iv(args: &Args<'_>) -> Result<InitialValue, Stop> {
-    match initial_value(args, names::IV) {
-        Ok(iv) => Ok(iv),
-        Err(fault) => Err(Stop::Fault(ProgramFault::Iv(fault))),
-    }
-}
-
-fn new_iv(args: &Args<'_>) -> Result<InitialValue, Stop> {
-    match initial_value(args, names::NEW_IV) {
-        Ok(iv) => Ok(iv),
-        Err(fault) => Err(Stop::Fault(ProgramFault::NewIv(fault))),
-    }
 }
 
 fn initial_value(args: &Args<'_>, option: &str) -> Result<InitialValue, IvFault> {

@@ -22,7 +22,7 @@ pub enum Command<'a> {
 /// An operation and its files.
 #[derive(Drop)]
 pub struct Run<'a> {
-    /// The operation, with the names of its KEK files.
+    /// With the names of its KEK files.
     pub operation: Operation<&'a str>,
     /// The input file. `None` means standard input.
     pub input: Option<&'a str>,
@@ -47,9 +47,7 @@ impl<'a> Run<'a> {
     /// Returns the name of a file, if it has one.
     pub fn file_name(&self, role: FileRole) -> Option<&'a str> {
         match role {
-            FileRole::Kek => match self.operation {
-                Operation::Job { kek, .. } | Operation::Rewrap { kek, .. } => Some(kek),
-            },
+            FileRole::Kek => Some(*self.operation.kek()),
             FileRole::NewKek => self.operation.new_kek().copied(),
             FileRole::Input => self.input,
             FileRole::Output => self.output,

@@ -6,7 +6,7 @@ use key_lines::LineFault;
 use key_wrap::{AgreedForm, Form, InPlaceFault, MAX_KEY, padded_text_length_ok};
 use keywrap_args::Escaped;
 use keywrap_cli::{JobFault, Notation, Operation, ProgramFault, RewrapForms};
-use keywrap_io::{FileRole, Inspection, LooksLike, OutputFault, Reason};
+use keywrap_io::{FileRole, Inspection, OutputFault, Reason};
 use std::{fmt, io};
 
 /// A refused run.
@@ -24,13 +24,9 @@ pub type Cause = (FileRole, Reason);
 /// What was read from the files of a run and written to its output.
 #[derive(Clone, Copy)]
 pub struct Inspections {
-    /// The KEK file.
     pub kek: Inspection,
-    /// The new KEK file.
     pub new_kek: Option<Inspection>,
-    /// The input.
     pub input: Inspection,
-    /// The output.
     pub output: Inspection,
 }
 
@@ -101,8 +97,8 @@ pub fn print_fault<R: Eprint>(rt: &R, fault: &ProgramFault) -> u8 {
     fault.status()
 }
 
-/// Returns the notation that a KEK of raw bytes looks like.
-pub fn raw_kek_looks_like<K>(operation: &Operation<K>, kek: &Inspection) -> Option<LooksLike> {
+/// If a KEK of raw bytes looks like text, returns what to say of it.
+pub fn raw_kek_looks_like<K>(operation: &Operation<K>, kek: &Inspection) -> Option<&'static str> {
     match operation.kek_notation() {
         Notation::Raw => kek.looks_like(),
         Notation::Hex | Notation::Base64 | Notation::Base64Url => None,
@@ -110,17 +106,13 @@ pub fn raw_kek_looks_like<K>(operation: &Operation<K>, kek: &Inspection) -> Opti
 }
 
 fn job_cause<K>(operation: &Operation<K>, fault: JobFault, seen: &Inspections) -> Option<Cause> {
+    let new_kek = seen.new_kek.unwrap_or_default();
     Some(match fault {
-        JobFault::KekFile(fault) => decode_cause(fault, FileRole::Kek, &seen.kek),
+        JobFault::KekFile(fault) => (FileRole::Kek, file_reason(fault, &seen.kek)),
         JobFault::KekLength => (FileRole::Kek, kek_length_reason(operation, &seen.kek)),
-        JobFault::NewKekFile(fault) => decode_cause(fault, FileRole::NewKek, &seen.new_kek?),
-        JobFault::NewKekLength => {
-            (
-                FileRole::NewKek,
-                kek_length_reason(operation, &seen.new_kek?),
-            )
-        }
-        JobFault::InputFile(fault) => decode_cause(fault, FileRole::Input, &seen.input),
+        JobFault::NewKekFile(fault) => (FileRole::NewKek, file_reason(fault, &new_kek)),
+        JobFault::NewKekLength => (FileRole::NewKek, kek_length_reason(operation, &new_kek)),
+        JobFault::InputFile(fault) => (FileRole::Input, file_reason(fault, &seen.input)),
         JobFault::BadLength => (FileRole::Input, length_reason(operation, &seen.input)),
         JobFault::Integrity => integrity_cause(operation, &seen.kek),
         JobFault::Write { .. } => write_cause(seen),
@@ -134,6 +126,8 @@ fn line_cause<K>(
     seen: &Inspections,
 ) -> Cause {
     let reason = match fault {
+        LineFault::Input(FileFault::OddDigits) => Reason::NameOnly,
+        LineFault::Input(fault) => file_reason(fault, &seen.input),
         LineFault::Refused(InPlaceFault::Integrity) => {
             return integrity_cause(operation, &seen.kek);
         }
@@ -141,46 +135,27 @@ fn line_cause<K>(
         LineFault::Refused(InPlaceFault::BadLength) if operation.drops_padding() => {
             Reason::NameOnly
         }
-        LineFault::Refused(InPlaceFault::BadLength) => { Reason::Text(legal_lengths(operation)) }
-        LineFault::Input(FileFault::TooLong) => Reason::MoreThan("a line of more than", MAX_FILE),
-        LineFault::Input(FileFault::Read) => Reason::from_os_error(seen.input.os_error),
-        LineFault::Input(FileFault::BadDigit { .. }) => {
-            Reason::Text("not hex; for base64 use --base64")
-        }
-        LineFault::Input(FileFault::BadBase64(_)) => NOT_BASE64,
-        LineFault::Input(FileFault::OddDigits | FileFault::Memory) => Reason::NameOnly,
+        LineFault::Refused(InPlaceFault::BadLength) => Reason::Text(legal_lengths(operation)),
     };
     (FileRole::Input, reason)
 }
 
-const NOT_BASE64: Reason = Reason::Text("not base64");
-
 fn write_cause(seen: &Inspections) -> Cause {
-    let reason = Reason::from_os_error(seen.output.os_error);
-    (FileRole::Output, reason)
+    (
+        FileRole::Output,
+        Reason::from_os_error(seen.output.os_error),
+    )
 }
 
-fn decode_cause(fault: FileFault, role: FileRole, seen: &Inspection) -> Cause {
-    let reason = match fault {
+fn file_reason(fault: FileFault, seen: &Inspection) -> Reason {
+    match fault {
         FileFault::Read => Reason::from_os_error(seen.os_error),
-        FileFault::TooLong => Reason::MoreThan("more than", MAX_FILE),
-        FileFault::BadDigit { .. } => not_hex_reason(role, seen),
+        FileFault::TooLong => Reason::MoreThan(MAX_FILE),
+        FileFault::BadDigit { .. } => Reason::Text("not hex"),
         FileFault::OddDigits => Reason::HexDigits(seen.hex_digits),
-        FileFault::BadBase64(_) => NOT_BASE64,
+        FileFault::BadBase64(_) => Reason::Text("not base64"),
         FileFault::Memory => Reason::NameOnly,
-    };
-    (role, reason)
-}
-
-fn not_hex_reason(role: FileRole, seen: &Inspection) -> Reason {
-    let is_kek = matches!(role, FileRole::Kek | FileRole::NewKek);
-    Reason::Text(match seen.looks_like() {
-        Some(_) if is_kek => "not hex but characters of base64; if it is base64, use --base64-kek",
-        Some(_) => "not hex but characters of base64; if it is base64, use --base64",
-        None if seen.printable == seen.bytes => "not hex but text",
-        None if is_kek => "not hex; for raw bytes use --raw-kek",
-        None => "not hex; for raw bytes use --raw",
-    })
+    }
 }
 
 fn kek_length_reason<K>(operation: &Operation<K>, kek: &Inspection) -> Reason {
@@ -204,10 +179,14 @@ fn input_form<K>(operation: &Operation<K>) -> Option<Form> {
         Operation::Job { task, .. } => Some(task.form),
         Operation::Rewrap { task, .. } => match task.forms {
             RewrapForms::Kept => None,
-            RewrapForms::Changed { old, .. } => match old {
-                AgreedForm::Plain(_) => Some(Form::Plain),
-                AgreedForm::Padded => Some(Form::Padded),
-            },
+            RewrapForms::Changed {
+                old: AgreedForm::Plain(_),
+                ..
+            } => Some(Form::Plain),
+            RewrapForms::Changed {
+                old: AgreedForm::Padded,
+                ..
+            } => Some(Form::Padded),
         },
     }
 }
@@ -242,8 +221,8 @@ fn legal_lengths<K>(operation: &Operation<K>) -> &'static str {
 
 // A KEK that may have been read in the wrong notation is the likely cause.
 fn integrity_cause<K>(operation: &Operation<K>, kek: &Inspection) -> Cause {
-    if let Some(notation) = raw_kek_looks_like(operation, kek) {
-        return (FileRole::Kek, Reason::LooksLike(notation));
+    if let Some(advice) = raw_kek_looks_like(operation, kek) {
+        return (FileRole::Kek, Reason::Text(advice));
     }
     let reason = match input_form(operation) {
         _ if operation.has_iv() => "not a valid wrapped key under this KEK and --iv",
@@ -257,27 +236,24 @@ fn integrity_cause<K>(operation: &Operation<K>, kek: &Inspection) -> Cause {
 /// The name of a file of a run, as a terminal may show it.
 #[derive(Clone, Copy)]
 pub struct ShownName<'a> {
-    /// The run.
     pub run: &'a Run<'a>,
-    /// Which of its files.
     pub role: FileRole,
 }
 
 impl fmt::Display for ShownName<'_> {
     fn fmt<W: fmt::Write>(&self, f: &mut fmt::Formatter<W>) -> fmt::Result {
         match (self.run.file_name(self.role), self.role) {
-            (Some(name), FileRole::Kek) if is_hex_kek(name) => {
-                f.write_str("(the value of --kek is not shown: it looks like a KEK)")
-            }
-            (Some(name), FileRole::NewKek) if is_hex_kek(name) => {
-                f.write_str("(the value of --new-kek is not shown: it looks like a KEK)")
+            (Some(name), FileRole::Kek | FileRole::NewKek) if is_hex_kek(name) => {
+                write!(
+                    f,
+                    "(the name of {} is not shown: it looks like a KEK)",
+                    self.role
+                )
             }
             (Some(""), _) => f.write_str("''"),
             (Some(name), _) => Escaped(name).fmt(f),
             (None, FileRole::Output) => f.write_str("standard output"),
-            (None, FileRole::Kek | FileRole::NewKek | FileRole::Input) => {
-                f.write_str("standard input")
-            }
+            (None, _) => f.write_str("standard input"),
         }
     }
 }

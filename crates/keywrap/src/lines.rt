@@ -18,13 +18,10 @@ const READ_BUFFER: usize = 65_536;
 /// How the lines of an input are answered.
 #[derive(Clone, Copy)]
 pub struct LineRun {
-    /// The run continues after a refused line.
     keep_going: bool,
-    /// The terminal shows progress.
     shows_progress: bool,
-    /// The last line says what became of the lines.
     shows_counts: bool,
-    /// The length of the input, if it is a regular file.
+    // The length of the input, if it is a regular file.
     total: Option<u64>,
 }
 

@@ -5,6 +5,7 @@ use crate::command::Command;
 use crate::explain::print_fault;
 use crate::host::Host;
 use crate::session::Session;
+use keywrap_args::Stop::{Help, Memory, Usage};
 use keywrap_args::invalid_utf8;
 use keywrap_cli::{ProgramFault, run_drill, run_vectors, statuses, write_help};
 use keywrap_io::Streams;
@@ -50,12 +51,13 @@ fn end<R: Eprint>(rt: &R, done: Result<u8, ProgramFault>) -> u8 {
 // Help goes to standard output, and a message on the arguments to standard error.
 fn stop<R: Print + Eprint>(rt: &R, reason: &Stop) -> u8 {
     match reason {
-        Stop::Help(text) => end(rt, write_help(text.as_str(), &mut io::writer(rt))),
-        Stop::Usage(text) => {
+        Stop::Args(Help(text)) => end(rt, write_help(text.as_str(), &mut io::writer(rt))),
+        Stop::Args(Usage(text)) => {
             // Nothing is left to do if standard error is closed.
             let _ = rt.eprint(text.as_str());
             statuses::REFUSED_WORDS
         }
+        Stop::Args(Memory) => print_fault(rt, &ProgramFault::Memory),
         Stop::Fault(fault) => print_fault(rt, fault),
     }
 }

@@ -8,8 +8,8 @@ use crate::prompt::prompt;
 use crate::warnings::warn;
 use keywrap_cli::{Operation, ProgramFault};
 use keywrap_io::{
-    Access, FileRole, InputSource, Inspected, LineCounts, Occupied, Output, OutputFile, Protected,
-    Streams, occupy_closed, open,
+    Access, FileRole, InputSource, Inspected, LineCounts, Output, OutputFile, Protected, Streams,
+    occupy_closed, open,
 };
 use std::io;
 
@@ -66,7 +66,8 @@ impl<'a, R: Host> Session<'a, R> {
     // operation, Flush.
     fn answer(&self) -> Result<Answer, Refusal> {
         self.check_terminal()?;
-        let _occupied = self.occupy_closed()?;
+        // No file of the run causes such a fault, so there is no second line.
+        let _occupied = occupy_closed(self.rt, self.streams).map_err(open_fault)?;
         let files = self.open_files()?;
         prompt(self.rt, self.run, self.streams);
         self.operate_and_commit(files)
@@ -78,14 +79,6 @@ impl<'a, R: Host> Session<'a, R> {
             Err(Refusal::from(ProgramFault::RawToTerminal))
         } else {
             Ok(())
-        }
-    }
-
-    // No file of the run causes such a fault, so there is no second line.
-    fn occupy_closed(&self) -> Result<Occupied, Refusal> {
-        match occupy_closed(self.rt, self.streams) {
-            Ok(occupied) => Ok(occupied),
-            Err(role) => Err(Refusal::from(open_fault(role))),
         }
     }
 
@@ -171,25 +164,17 @@ impl<'a, R: Host> Session<'a, R> {
         operation: &Operation<Source<R::Reader>>,
         input: &InputSource<R::Reader>,
     ) -> Protected {
-        let (kek, new_kek) = match operation {
-            Operation::Job { kek, .. } => (kek.file.id(self.rt), None),
-            Operation::Rewrap { kek, new_kek, .. } => {
-                (kek.file.id(self.rt), Some(new_kek.file.id(self.rt)))
-            }
-        };
-        let input = match self.run.lines {
-            Some(
-                LineOptions {
-                    keep_going: true,
-                    ..
-                },
-            ) => Some(input.id(self.rt)),
-            _ => None,
-        };
+        let keeps_going = matches!(
+            self.run.lines,
+            Some(LineOptions {
+                keep_going: true,
+                ..
+            })
+        );
         Protected {
-            kek,
-            new_kek,
-            input,
+            kek: operation.kek().file.id(self.rt),
+            new_kek: operation.new_kek().map(|kek| kek.file.id(self.rt)),
+            input: keeps_going.then(|| input.id(self.rt)),
         }
     }
 
@@ -259,13 +244,10 @@ impl<'a, R: Host> Session<'a, R> {
 }
 
 fn inspections<R: Host>(files: &OpenFiles<'_, R>) -> Inspections {
-    let (kek, new_kek) = match &files.operation {
-        Operation::Job { kek, .. } => (kek.inspection, None),
-        Operation::Rewrap { kek, new_kek, .. } => (kek.inspection, Some(new_kek.inspection)),
-    };
+    let operation = &files.operation;
     Inspections {
-        kek,
-        new_kek,
+        kek: operation.kek().inspection,
+        new_kek: operation.new_kek().map(|kek| kek.inspection),
         input: files.input.inspection,
         output: files.output.inspection,
     }

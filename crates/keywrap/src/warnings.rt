@@ -20,8 +20,8 @@ pub fn warn<R: Eprint>(rt: &R, run: &Run<'_>, seen: &Inspections) {
 }
 
 fn warn_of_kek<R: Eprint>(rt: &R, run: &Run<'_>, role: FileRole, seen: &Inspection) {
-    if let Some(notation) = raw_kek_looks_like(&run.operation, seen) {
+    if let Some(advice) = raw_kek_looks_like(&run.operation, seen) {
         let name = ShownName { run, role };
-        let _ = eprintln!(rt; "keywrap: {name}: {notation}");
+        let _ = eprintln!(rt; "keywrap: {name}: {advice}");
     }
 }

@@ -12,12 +12,12 @@ or symlink is refused. A new FILE, and any FILE of unwrap, has mode
 /// The long help of `--base64`.
 pub const BASE64: &str = "\
 Base64 instead of hex. Either alphabet is read, with or without
-padding; + and / and padding are written. Not with --raw";
+padding; a key is written with + and / and padding. Not with --raw";
 
 /// The long help of `--base64url`.
 pub const BASE64URL: &str = "\
-The same, but - and _ and no padding are written, as in JWE and JWK.
-Not with --raw or --base64";
+The same, but a key is written with - and _ and no padding, as in
+JWE and JWK. Not with --raw or --base64";
 
 /// The long help of `--lines`.
 pub const LINES: &str = "\
@@ -61,28 +61,17 @@ Exit status:
   0  done
   2  the command line was refused
   3  a KEK must be 16, 24 or 32 bytes
-     That is 32, 48 or 64 hex digits, or 22, 32 or 43 base64 characters before
-     any =. Use --raw-kek for a KEK file of raw bytes, --base64-kek for base64.
+     Use --raw-kek for a KEK file of raw bytes, --base64-kek for base64.
   4  the key or the wrapped key has no legal length in this form
-     A plain key has 16 bytes or more, a multiple of 8, and its wrapped key
-     has 8 more. Use --padded for a key of another length. With --lines: the
-     input has no lines.
+     Use --padded for a key of any length. With --lines: there are no lines.
   5  the integrity check failed; check found no wrapping; a vector failed
-     It was wrapped with another KEK, form or initial value, or it is damaged.
      keywrap check prints the form that fits the KEK.
   6  a file or the output could not be opened, read or written
-     The line names it, and the first byte that is not a hex digit or base64
-     character, counted from 0 in the file or the line. Use --raw for raw
-     bytes, --base64 for base64.
+     Bytes are counted from 0. Use --raw for raw bytes, --base64 for base64.
   7  out of memory
-     The files may be right: try again with more memory.
 
-A refusal is one line on standard error; a refused command line is a message
-with the usage, except for an initial value and raw bytes to a terminal. On a
-terminal, or with --verbose, a second line names the file and the reason, and a
-line after the answer warns about a raw KEK file that is hex or base64 text and
-about a padded form that became plain. With --lines the last line counts the
-answers.
+A refusal is one line on standard error. On a terminal, or with --verbose, a
+second line names the file and the reason.
 Nothing is written before the whole answer is made; with --lines, before the
 whole answer to a line.";
 
@@ -109,8 +98,6 @@ Example, in an empty directory, with the first vector of RFC 3394:
   $ echo 1fa68b0a8112b447aef34bd8fb5a7b829d3e862371d2cfe5 > wrapped.hex
   $ keywrap unwrap --kek kek.hex < wrapped.hex
   00112233445566778899aabbccddeeff
-From file to file:
-  $ keywrap unwrap --kek kek.hex --input wrapped.hex --output key.hex
 
 Hex, base64 and the exit statuses: keywrap --help.
 A wrapped key that does not fit this KEK and this form is refused with status

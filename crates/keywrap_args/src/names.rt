@@ -1,4 +1,4 @@
-//! The names of the arguments, by which what was given is asked for.
+//! The names of the arguments.
 
 pub const KEK: &str = "kek";
 

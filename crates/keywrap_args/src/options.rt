@@ -9,9 +9,15 @@ use std::alloc::{AllocError, Global};
 pub(crate) struct Argument<'a> {
     // The long name, or for a positional argument any name.
     id: &'a str,
+    help: &'a str,
+    rules: Rules<'a>,
+}
+
+// What clap needs to know of an argument beside its name and help.
+#[derive(Clone, Copy)]
+struct Rules<'a> {
     value: Value<'a>,
     short: Option<char>,
-    help: &'a str,
     // The text of `--help`, if `-h` prints a shorter one.
     long_help: Option<&'a str>,
     // The arguments that exclude it.
@@ -34,15 +40,16 @@ enum Value<'a> {
 impl<'a> Argument<'a> {
     // Returns the argument as clap takes it.
     pub(crate) fn to_clap(self, alloc: Global) -> Result<Arg<'a>, AllocError> {
+        let rules = self.rules;
         let mut arg = Arg::new(alloc, self.id)
             .help(self.help)
-            .long_help(self.long_help.unwrap_or(self.help))
-            .conflicts_with_all(self.conflicts)?
-            .requires_all(self.needs)?;
-        if let Some(short) = self.short {
+            .long_help(rules.long_help.unwrap_or(self.help))
+            .conflicts_with_all(rules.conflicts)?
+            .requires_all(rules.needs)?;
+        if let Some(short) = rules.short {
             arg = arg.short(short);
         }
-        Ok(match self.value {
+        Ok(match rules.value {
             Value::Absent => arg.long(self.id).action(ArgAction::SetTrue),
             Value::Optional(name) => arg.long(self.id).value_name(name),
             Value::Required(name) => arg.long(self.id).value_name(name).required(true),
@@ -54,15 +61,13 @@ impl<'a> Argument<'a> {
 // A flag, or with further fields another argument.
 macro_rules! argument {
     ($id:expr, $help:expr $(, $field:ident: $value:expr)*) => {
-        Argument { id: $id, help: $help, $($field: $value,)* ..FLAG }
+        Argument { id: $id, help: $help, rules: Rules { $($field: $value,)* ..FLAG } }
     };
 }
 
-const FLAG: Argument<'static> = Argument {
-    id: "",
+const FLAG: Rules<'static> = Rules {
     value: Value::Absent,
     short: None,
-    help: "",
     long_help: None,
     conflicts: &[],
     needs: &[],
@@ -88,7 +93,7 @@ pub(crate) const OUTPUT: Argument<'static> = argument! {
 };
 
 pub(crate) const PADDED: Argument<'static> = argument! {
-    names::PADDED, "The padded form of RFC 5649 (KWP), for keys of any length"
+    names::PADDED, "The padded form of RFC 5649 (KWP): keys of any length"
 };
 
 pub(crate) const NEW_PADDED: Argument<'static> = argument! {
@@ -107,7 +112,7 @@ pub(crate) const PASS_NEW: Argument<'static> = argument! {
 
 // The padded form has its own initial value. Clap ignores the arguments that a subcommand lacks.
 pub(crate) const IV: Argument<'static> = argument! {
-    names::IV, "The initial value that both ends agreed on, 16 hex digits",
+    names::IV, "The initial value both ends agreed on, 16 hex digits",
     value: Value::Optional("HEX"), conflicts: &[names::PADDED, names::KEEP_FORM]
 };
 
@@ -125,7 +130,6 @@ pub(crate) const BASE64URL: Argument<'static> = argument! {
     long_help: Some(help::BASE64URL), conflicts: &[names::RAW]
 };
 
-// Both alphabets are read. The flag selects the alphabet that is written.
 pub(crate) const BASE64: Argument<'static> = argument! {
     names::BASE64, "Base64 instead of hex",
     long_help: Some(help::BASE64), conflicts: &[names::RAW, names::BASE64URL]
@@ -166,28 +170,4 @@ pub(crate) const HEX: Argument<'static> = argument! {
 
 pub(crate) const UNWRAP: Argument<'static> = argument! {
     names::UNWRAP, "Unwraps a wrapped key instead of wrapping a key"
-};
-
-// A check writes no base64, so its help does not say which alphabet is written.
-pub(crate) const READ_BASE64: Argument<'static> = Argument {
-    long_help: None,
-    ..BASE64
-};
-
-pub(crate) const READ_BASE64URL: Argument<'static> = Argument {
-    help: "The same as --base64: either alphabet is read",
-    long_help: None,
-    ..BASE64URL
-};
-
-// Rewrap's text for `--padded`.
-pub(crate) const OLD_PADDED: Argument<'static> = Argument {
-    help: "The old wrapped key has the padded form of RFC 5649",
-    ..PADDED
-};
-
-// Rewrap's text for `--iv`.
-pub(crate) const OLD_IV: Argument<'static> = Argument {
-    help: "The initial value of the old wrapped key, 16 hex digits",
-    ..IV
 };

@@ -5,13 +5,9 @@ use std::fmt;
 /// What a file is for in a run.
 #[derive(Clone, Copy)]
 pub enum FileRole {
-    /// It has the KEK.
     Kek,
-    /// It has the new KEK of a rewrap.
     NewKek,
-    /// It has the key or the wrapped key.
     Input,
-    /// It gets the answer.
     Output,
 }
 

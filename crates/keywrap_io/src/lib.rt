@@ -14,7 +14,7 @@ mod reason;
 mod streams;
 
 pub use file_role::FileRole;
-pub use inspected::{Inspected, Inspection, LooksLike};
+pub use inspected::{Inspected, Inspection};
 pub use line_counts::LineCounts;
 pub use output::Output;
 pub use output_file::{Access, OutputFault, OutputFile};

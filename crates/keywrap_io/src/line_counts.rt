@@ -5,7 +5,6 @@ use std::fmt;
 /// What became of the lines of a run.
 #[derive(Clone, Copy)]
 pub struct LineCounts {
-    /// The number of lines.
     pub lines: u64,
     /// The number of refused lines, which the run skipped.
     pub refused: u64,

@@ -9,9 +9,7 @@ use std::rt::Files;
 /// The output of a run.
 #[derive(Drop)]
 pub enum Output<'a, R> {
-    /// The file of --output.
     File(OutputFile<'a>),
-    /// Standard output.
     Stdout(Printer<'a, R>),
 }
 

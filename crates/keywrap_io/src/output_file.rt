@@ -5,16 +5,16 @@ use crate::reason::Reason;
 use std::alloc::{AllocError, Global};
 use std::fs::{self, File, FileType, Metadata, OpenFile, OpenOptions, Permissions};
 use std::io;
-use std::os::unix::fs::{FileTypeExt, MetadataExt, OpenOptionsExt, PermissionsExt, fchown};
+use std::os::unix::fs::{MetadataExt, OpenOptionsExt, PermissionsExt, fchown};
 use std::rt::Files;
 
 // The new file has one of this many names until it is whole.
 const MAX_TEMPORARIES: u8 = 100;
 
-// The bits of a mode that say who may read, write and execute a file.
+// The bits of a mode that say who may read, write and execute a file, and those for other users
+// than its owner.
 const PERMISSIONS: u32 = 0o777;
 
-// Those of them for other users than the owner.
 const NOT_OWNER: u32 = 0o077;
 
 /// Why there is no new file, or why it did not take its place.
@@ -37,7 +37,7 @@ impl From<AllocError> for OutputFault {
 /// Who may use a new file.
 #[derive(Clone, Copy)]
 pub enum Access {
-    /// Only its owner.
+    /// Its owner.
     Private,
     /// It gets the owner, group and mode of the file that it replaces, if there is one.
     LikeOld,
@@ -180,12 +180,8 @@ fn describe_type(file_type: &FileType) -> &'static str {
         "is a directory"
     } else if file_type.is_symlink() {
         "is a link"
-    } else if file_type.is_fifo() {
-        "is a pipe"
-    } else if file_type.is_socket() {
-        "is a socket"
     } else {
-        "is a device"
+        "is a device, pipe or socket"
     }
 }
 

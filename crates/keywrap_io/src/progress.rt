@@ -27,7 +27,6 @@ pub struct Progress<'a, R> {
 struct State {
     bytes: u64,
     lines: u64,
-    // The length of the input, if it is known.
     total: Option<u64>,
     // The milliseconds since the start when the line was last written.
     millis: u64,
@@ -61,7 +60,7 @@ impl<'a, R: Eprint + Clock + Env + AllocGlobal> Progress<'a, R> {
         state.bytes = state.bytes.saturating_add(bytes.len() as u64);
         state.lines = state.lines.saturating_add(ends as u64);
         if let Ok(now) = self.rt.monotonic() {
-            let millis = total_millis(now.saturating_sub(start));
+            let millis = u64::try_from(now.saturating_sub(start).as_millis()).unwrap_or(u64::MAX);
             if millis.saturating_sub(state.millis) >= PAUSE {
                 state.millis = millis;
                 self.is_shown.set(true);
@@ -93,11 +92,6 @@ fn can_rewrite<R: Env + AllocGlobal>(rt: &R) -> bool {
         Ok(name) => !name.is_empty() && name.as_str() != "dumb",
         Err(_) => false,
     }
-}
-
-fn total_millis(elapsed: Duration) -> u64 {
-    let seconds = elapsed.as_secs().saturating_mul(1000);
-    seconds.saturating_add(elapsed.subsec_millis() as u64)
 }
 
 fn quotient(dividend: u64, factor: u64, divisor: u64) -> Option<u64> {

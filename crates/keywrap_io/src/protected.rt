@@ -1,6 +1,5 @@
 //! The files of a run that its output must not replace.
 
-use crate::file_role::FileRole;
 use crate::reason::Reason;
 use std::fs::{Metadata, OpenFile};
 use std::io;
@@ -52,17 +51,19 @@ impl FileId {
 impl Protected {
     /// Refuses a target that is one of these files, or may be.
     pub fn check(&self, target: &Metadata) -> Result<(), Reason> {
-        check_file(Some(self.kek), FileRole::Kek, target)?;
-        check_file(self.new_kek, FileRole::NewKek, target)?;
-        check_file(self.input, FileRole::Input, target)
+        check_file(Some(self.kek), "is the KEK file", target)?;
+        check_file(self.new_kek, "is the new KEK file", target)?;
+        check_file(self.input, INPUT, target)
     }
 }
 
-fn check_file(file: Option<FileId>, role: FileRole, target: &Metadata) -> Result<(), Reason> {
+const INPUT: &str = "is the input, whose refused lines would be lost with --keep-going";
+
+fn check_file(file: Option<FileId>, what: &'static str, target: &Metadata) -> Result<(), Reason> {
     match file {
         Some(FileId::Known { device, inode }) if device == target.dev() && inode == target.ino() =>
-            { Err(Reason::IsProtected(role)) }
-        Some(FileId::Unknown) => Err(Reason::MayBeProtected(role)),
+            { Err(Reason::Text(what)) }
+        Some(FileId::Unknown) => Err(Reason::Text("may be a file that was read")),
         Some(FileId::Known { .. }) | None => Ok(()),
     }
 }

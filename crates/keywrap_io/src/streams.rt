@@ -10,20 +10,15 @@ use std::rt::Files;
 /// The standard streams as the program starts.
 #[derive(Clone, Copy)]
 pub struct Streams {
-    /// Standard input.
     pub input: StreamKind,
-    /// Standard output.
     pub output: StreamKind,
-    /// Standard error.
     pub error: StreamKind,
 }
 
 /// What a standard stream is.
 #[derive(Clone, Copy)]
 pub enum StreamKind {
-    /// A terminal.
     Terminal,
-    /// Closed.
     Closed,
     /// Something else, as a file or a pipe.
     Other,
@@ -50,25 +45,17 @@ pub fn stream_kind<S: AsFd + IsTerminal>(stream: &S) -> StreamKind {
     }
 }
 
-/// Holds the places of the standard streams that are closed.
-#[derive(Drop)]
-pub struct Occupied {
-    _input: Option<PipeReader>,
-    _output: Option<PipeReader>,
-    _error: Option<PipeReader>,
-}
+/// What holds the places of the standard streams that are closed.
+pub type Occupied = [Option<PipeReader>; 3];
 
 /// Takes the places of the standard streams that are closed, so that no file that is opened later
 /// gets one of them. If that fails, returns which file of a run would be lost.
 pub fn occupy_closed<R: Files>(rt: &R, streams: Streams) -> Result<Occupied, FileRole> {
-    let input = occupy(rt, streams.input, FileRole::Input)?;
-    let output = occupy(rt, streams.output, FileRole::Output)?;
-    let error = occupy(rt, streams.error, FileRole::Output)?;
-    Ok(Occupied {
-        _input: input,
-        _output: output,
-        _error: error,
-    })
+    Ok([
+        occupy(rt, streams.input, FileRole::Input)?,
+        occupy(rt, streams.output, FileRole::Output)?,
+        occupy(rt, streams.error, FileRole::Output)?,
+    ])
 }
 
 // The reader of a pipe gets the lowest free descriptor. A pipe without a writer reads as empty, and
@@ -90,7 +77,6 @@ fn occupy<R: Files>(
 /// A file to read, or standard input. A socket has names there, but cannot be opened by them.
 #[derive(Drop)]
 pub enum InputSource<I> {
-    /// The file.
     File(File),
     /// Standard input itself.
     Stdin(I),
