@@ -1,7 +1,6 @@
+pub mod Answered
 pub mod Drills
-pub mod Headlines
 pub mod InitialValues
-pub mod Opens
 pub mod Passes
 pub mod Readings
 pub mod Reports

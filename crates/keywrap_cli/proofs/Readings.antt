@@ -62,8 +62,8 @@ kek_of_illegal notation old new bytes illegal reads = record {
 
 pub kek_of_bytes : (role : KekRole) (notation : Notation) (old new : Option (List ℕ)) (bytes : List ℕ) (answer : Result (List ℕ) JobFault)
     → ReadsAs (meaning_in notation) 4194304 old new (Ok bytes) → MakesKek role bytes answer → OpensKek role notation old new answer
-kek_of_bytes role notation old new bytes (Ok K) reads made = (Ok bytes, kek_of_legal notation old new bytes made.1 reads, made.0)
-kek_of_bytes role notation old new bytes (Err fault) reads made = (Err None, kek_of_illegal notation old new bytes made.1 reads, made.0)
+kek_of_bytes role notation old new bytes (Ok K) reads made = rw made.0 (kek_of_legal notation old new bytes made.1 reads)
+kek_of_bytes role notation old new bytes (Err fault) reads made = (None, kek_of_illegal notation old new bytes made.1 reads, made.0)
 
 -- the input's fault is TooLong exactly where its file's is
 input_too_long : (fault : FileFault)

@@ -83,11 +83,6 @@ line_options notation keep_going = record { notation = text_notation notation; k
 abbrev pub in_lines : TextNotation → Task → Task
 in_lines notation task = record { job = task.job; form = task.form; input = line_notation notation; kek = task.kek }
 
--- a job is done as Neither exactly if it is a check that wrote `none`
-abbrev pub IsDone : Job → List ℕ → Done → Type 0
-IsDone job output Written = ¬ ((job ≡ Check) × (output ≡ kind_line kinds.Neither))
-IsDone job output Neither = (job ≡ Check) × (output ≡ kind_line kinds.Neither)
-
 -- what a call has done if the answer has this mark
 abbrev pub done_of : Mark → Done
 done_of Unmarked = Written
@@ -109,9 +104,14 @@ RewrappingAnswer task E F text (Err refusal) = Makes task.pass_new task.forms E 
 abbrev pub lines_of : TextNotation → Rewrapping → Rewrapping
 lines_of notation task = record { forms = task.forms; pass_new = task.pass_new; input = line_notation notation; kek = task.kek }
 
--- a rewrapping that wrote its output is done
-abbrev pub IsWritten : List ℕ → Done → Type 0
-IsWritten output done = done ≡ Written
+-- a rewrapping that wrote its output is done, whatever its mark
+abbrev pub written : Mark → Done
+written mark = Written
+
+-- an output of a rewrapping for this text: what it makes of it, in a notation
+abbrev pub RewrapsTo : Rewrapping → (List ℕ → List ℕ) → (List ℕ → List ℕ) → List ℕ → List ℕ → Type 0
+RewrapsTo task E F text output =
+    (made : List ℕ) × Makes task.pass_new task.forms E F text (Ok made) × (output ≡ printed task.input made)
 
 -- what a conversion makes of the bytes X, by cases
 abbrev pub MakesConversion : Direction → Form → ℕ → (List ℕ → List ℕ) → List ℕ → Result (List ℕ) InPlaceFault → Type 0

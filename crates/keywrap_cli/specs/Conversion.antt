@@ -2,7 +2,6 @@
 -- padded form asks for none.
 use Rattle.std.specs.Prelude.{◌≡◌, ℕ, List, length}
 use Rattle.key_wrap.specs.declared.forms.Form.{Form}
-use Rattle.key_wrap.specs.declared.forms.Form.TheVariants as forms
 use Rattle.key_wrap.specs.Answer.{NoKey}
 use Rattle.key_wrap.specs.Forms.{Stands, IsKeyLength, IsTextLength, with_value}
 use Rattle.key_wrap.specs.Rewrap.{NoOtherForm}

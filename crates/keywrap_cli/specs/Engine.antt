@@ -2,17 +2,19 @@
 -- job answers its bytes, and the answer is written. It ends at the first step that is refused, and the later ones are
 -- not begun. A job is known by what it answers to bytes: an output to be written, or a refusal.
 use Rattle.std.specs.Prelude.{◌≡◌, ◌<◌, ℕ, List, length, take, Option, Result, Ok, Err, Vec, IfSome, MatchResult}
-use Rattle.std.specs.Io.KnownBytes.{Appends, Keeps}
+use Rattle.std.specs.Io.KnownBytes.{Appends, Consumes, Keeps}
 use Rattle.std.specs.declared.alloc.Global.{Global}
 use Rattle.key_lines.specs.Running.{RunsLines, WritesAnswers}
 use Rattle.key_files.specs.declared.fault.FileFault.{FileFault}
 use Rattle.key_lines.specs.Answers.{Answer}
+use Rattle.key_lines.specs.declared.job.Mark.{Mark}
 use Rattle.key_lines.specs.declared.fault.RefusedLine.{RefusedLine}
 use Rattle.key_lines.specs.declared.fault.RunFault.{RunFault}
 use Rattle.key_lines.specs.declared.run.RunOptions.{RunOptions}
 use Rattle.key_lines.specs.declared.summary.RunSummary.{RunSummary}
 use Rattle.key_wrap.specs.declared.faults.InPlaceFault.{InPlaceFault}
 use Rattle.key_wrap.specs.declared.faults.InPlaceFault.TheVariants as refusals
+use Rattle.keywrap_cli.specs.Files.{Denotes, DenotesKek}
 use Rattle.keywrap_cli.specs.Readings.{ReadsInput, ReadsKek, kek_fault_of}
 use Rattle.keywrap_cli.specs.declared.job.Done.{Done}
 use Rattle.keywrap_cli.specs.declared.job.JobFault.{JobFault}
@@ -66,17 +68,17 @@ pub record RunsInput (notation : Notation) (answers : List ℕ → Result Answer
   pub read : ReadsInput notation input input' text
   pub rest : WritesFrom answers text out out' outcome
 
--- the outcome of a run, as the answer of the call: `Is` gives what was done if an output was written
-abbrev pub IsDoneAs : (List ℕ → Done → Type 0) → Result Answer JobFault → Result Done JobFault → Type 0
-IsDoneAs Is (Ok output) (Ok done) = Is output.text done
-IsDoneAs Is (Err fault) (Err other) = other ≡ fault
-IsDoneAs Is outcome answer = ⊥
+-- the outcome of a run, as the answer of the call: what was done with an answer that has this mark
+abbrev pub IsDoneAs : (Mark → Done) → Result Answer JobFault → Result Done JobFault → Type 0
+IsDoneAs done (Ok output) (Ok answer) = answer ≡ done output.mark
+IsDoneAs done (Err fault) (Err other) = other ≡ fault
+IsDoneAs done outcome answer = ⊥
 
 -- the input is answered as a whole, and so is the call
-abbrev pub AnswersInput : Notation → (List ℕ → Result Answer InPlaceFault → Type 0) → (List ℕ → Done → Type 0)
+abbrev pub AnswersInput : Notation → (List ℕ → Result Answer InPlaceFault → Type 0) → (Mark → Done)
     → Option (List ℕ) → Option (List ℕ) → Option (List ℕ) → Option (List ℕ) → Result Done JobFault → Type 0
-AnswersInput notation answers Is input input' out out' answer =
-    (outcome : Result Answer JobFault) × RunsInput notation answers input input' out out' outcome × IsDoneAs Is outcome answer
+AnswersInput notation answers done input input' out out' answer =
+    (outcome : Result Answer JobFault) × RunsInput notation answers input input' out out' outcome × IsDoneAs done outcome answer
 
 -- The effect of a run over lines of at most 4,194,304 bytes. If the rest of the input is known, what was written are
 -- the answers to its first lines, in order.
@@ -96,3 +98,21 @@ AnswersLines options answers input input' out out' log log' answer =
 abbrev pub job_fault_of : InPlaceFault → JobFault
 job_fault_of refusals.BadLength = BadLength
 job_fault_of refusals.Integrity = Integrity
+
+-- The KEK file was read, what was taken of it denotes the KEK K, and `Then` is said of K.
+pub record UnderReadKek (notation : Notation) (file file' : Option (List ℕ)) (Then : List ℕ → Type 0) : Type 0 where
+  pub K : List ℕ
+  pub F : List ℕ
+  pub taken : Consumes file file' F
+  pub denoted : DenotesKek notation F K
+  pub then : Then K
+
+-- The input was read, what was taken of it denotes the bytes X, and what was written is an output for X.
+pub record WritesOutput (notation : Notation) (IsOutput : List ℕ → List ℕ → Type 0) (input input' out out' : Option (List ℕ)) : Type 0 where
+  pub G : List ℕ
+  pub X : List ℕ
+  pub output : List ℕ
+  pub taken : Consumes input input' G
+  pub denoted : Denotes notation G X
+  pub is_output : IsOutput X output
+  pub written : Appends out out' output

@@ -1,6 +1,5 @@
 -- What a run over lines does: its KEK files are read as for one key, and then each line is answered, in the notation of lines.
-use Rattle.std.specs.Prelude.{◌≡◌, ℕ, List, Option, Result}
-use Rattle.std.specs.Io.KnownBytes.{Consumes}
+use Rattle.std.specs.Prelude.{◌≡◌, ℕ, List, Option, Result, IfSome}
 use Rattle.aes_block.specs.Cipher.{cipher}
 use Rattle.key_lines.specs.Running.{WritesAnswers}
 use Rattle.key_lines.specs.declared.fault.RefusedLine.{RefusedLine}
@@ -9,8 +8,7 @@ use Rattle.key_lines.specs.declared.run.RunOptions.{RunOptions}
 use Rattle.key_lines.specs.declared.summary.RunSummary.{RunSummary}
 use Rattle.key_wrap.specs.declared.faults.InPlaceFault.{InPlaceFault}
 use Rattle.keywrap_cli.specs.Answers.{JobAnswer, RewrappingAnswer, in_lines, lines_of}
-use Rattle.keywrap_cli.specs.Engine.{AnswersLines, IsRefusedBefore, UnderKek, UnderKeks}
-use Rattle.keywrap_cli.specs.Files.{DenotesKek}
+use Rattle.keywrap_cli.specs.Engine.{AnswersLines, IsRefusedBefore, UnderKek, UnderKeks, UnderReadKek}
 use Rattle.keywrap_cli.specs.Readings.{kek_fault_of}
 use Rattle.keywrap_cli.specs.declared.job.JobFault.{JobFault}
 use Rattle.keywrap_cli.specs.declared.job.Task.{Task}
@@ -35,26 +33,16 @@ RunsRewrapLines task options kek kek' new new' input input' out out' log log' an
     (λ K L. AnswersLines options (RewrappingAnswer (lines_of options.notation task) (cipher K) (cipher L)) input input' out out' log log' answer)
     (λ fault. (log' ≡ log) × IsRefusedBefore fault input input' out out' answer)
 
--- The headline of a job over lines, for an input of these bytes: what was written are the answers to its first lines, in
--- order, each under AES of the KEK that the KEK file denoted.
-pub record WritesJobLines (iv : ℕ) (task : Task) (options : RunOptions) (kek kek' : Option (List ℕ)) (text : List ℕ) (out out' : Option (List ℕ))
-    (run : Result (RunSummary InPlaceFault) (RunFault InPlaceFault)) : Type 0 where
-  pub F : List ℕ
-  pub K : List ℕ
-  pub kek_taken : Consumes kek kek' F
-  pub of_kek : DenotesKek task.kek F K
-  pub written : WritesAnswers options (JobAnswer iv (in_lines options.notation task) (cipher K)) text out out' run
+-- The headline of a job over lines: if it is known what the input had left, what was written are the answers to its first
+-- lines, in order, each under AES of the KEK that the KEK file denoted.
+abbrev pub WritesJobLines : ℕ → Task → RunOptions → Option (List ℕ) → Option (List ℕ) → Option (List ℕ) → Option (List ℕ) → Option (List ℕ)
+    → Result (RunSummary InPlaceFault) (RunFault InPlaceFault) → Type 0
+WritesJobLines iv task options kek kek' input out out' run = UnderReadKek task.kek kek kek'
+    (λ K. IfSome input (λ text. WritesAnswers options (JobAnswer iv (in_lines options.notation task) (cipher K)) text out out' run))
 
--- The headline of a rewrapping of lines, for an input of these bytes: what was written are the answers to its first lines,
--- in order, each under AES of the two KEKs that the KEK files denoted.
-pub record WritesRewrapLines (task : Rewrapping) (options : RunOptions) (kek kek' new new' : Option (List ℕ)) (text : List ℕ)
-    (out out' : Option (List ℕ)) (run : Result (RunSummary InPlaceFault) (RunFault InPlaceFault)) : Type 0 where
-  pub F : List ℕ
-  pub H : List ℕ
-  pub K : List ℕ
-  pub L : List ℕ
-  pub kek_taken : Consumes kek kek' F
-  pub new_kek_taken : Consumes new new' H
-  pub of_kek : DenotesKek task.kek F K
-  pub of_new_kek : DenotesKek task.kek H L
-  pub written : WritesAnswers options (RewrappingAnswer (lines_of options.notation task) (cipher K) (cipher L)) text out out' run
+-- The headline of a rewrapping of lines: the same, each line under AES of the two KEKs that the KEK files denoted.
+abbrev pub WritesRewrapLines : Rewrapping → RunOptions → Option (List ℕ) → Option (List ℕ) → Option (List ℕ) → Option (List ℕ) → Option (List ℕ)
+    → Option (List ℕ) → Option (List ℕ) → Result (RunSummary InPlaceFault) (RunFault InPlaceFault) → Type 0
+WritesRewrapLines task options kek kek' new new' input out out' run =
+    UnderReadKek task.kek kek kek' (λ K. UnderReadKek task.kek new new' (λ L. IfSome input
+    (λ text. WritesAnswers options (RewrappingAnswer (lines_of options.notation task) (cipher K) (cipher L)) text out out' run)))

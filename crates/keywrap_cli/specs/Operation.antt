@@ -48,11 +48,11 @@ RunsOperationLines known keep_going (Rewrap task kek new) (Rewrap task' kek' new
     RunsRewrapLines task (line_options task.input keep_going) (known kek) (known kek') (known new) (known new') input input' out out' log log' answer
 RunsOperationLines known keep_going old new input input' out out' log log' answer = ⊥
 
--- the headline of lines, for an input of these bytes
-abbrev pub WritesTheLinesOf : {K : Type 0} → (K → Option (List ℕ)) → Bool → Operation K → Operation K → List ℕ → Option (List ℕ)
+-- the headline of lines
+abbrev pub WritesTheLinesOf : {K : Type 0} → (K → Option (List ℕ)) → Bool → Operation K → Operation K → Option (List ℕ) → Option (List ℕ)
     → Option (List ℕ) → Result (RunSummary InPlaceFault) (RunFault InPlaceFault) → Type 0
-WritesTheLinesOf known keep_going (Job iv task kek) (Job iv' task' kek') text out out' run =
-    WritesJobLines iv task (line_options task.input keep_going) (known kek) (known kek') text out out' run
-WritesTheLinesOf known keep_going (Rewrap task kek new) (Rewrap task' kek' new') text out out' run =
-    WritesRewrapLines task (line_options task.input keep_going) (known kek) (known kek') (known new) (known new') text out out' run
-WritesTheLinesOf known keep_going old new text out out' run = ⊥
+WritesTheLinesOf known keep_going (Job iv task kek) (Job iv' task' kek') input out out' run =
+    WritesJobLines iv task (line_options task.input keep_going) (known kek) (known kek') input out out' run
+WritesTheLinesOf known keep_going (Rewrap task kek new) (Rewrap task' kek' new') input out out' run =
+    WritesRewrapLines task (line_options task.input keep_going) (known kek) (known kek') (known new) (known new') input out out' run
+WritesTheLinesOf known keep_going old new input out out' run = ⊥

@@ -67,11 +67,7 @@ MakesKek role bytes (Ok K) = (K ≡ bytes) × IsKekLength (length bytes)
 MakesKek role bytes (Err fault) = (fault ≡ kek_fault_of role None) × ¬ IsKekLength (length bytes)
 
 -- what the call answers that reads a KEK file: the KEK, or the operation's fault for why there is none
-abbrev pub IsOpened : KekRole → Result (List ℕ) (Option FileFault) → Result (List ℕ) JobFault → Type 0
-IsOpened role (Ok K) (Ok pair) = pair ≡ K
-IsOpened role (Err why) (Err fault) = fault ≡ kek_fault_of role why
-IsOpened role found answer = ⊥
-
 abbrev pub OpensKek : KekRole → Notation → Option (List ℕ) → Option (List ℕ) → Result (List ℕ) JobFault → Type 0
-OpensKek role notation old new answer =
-    (found : Result (List ℕ) (Option FileFault)) × ReadsKek notation old new found × IsOpened role found answer
+OpensKek role notation old new (Ok K) = ReadsKek notation old new (Ok K)
+OpensKek role notation old new (Err fault) =
+    (why : Option FileFault) × ReadsKek notation old new (Err why) × (fault ≡ kek_fault_of role why)

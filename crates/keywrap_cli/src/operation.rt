@@ -1,6 +1,6 @@
 //! The operation of a command on its input: wrap, unwrap, check or rewrap.
 
-ghost use Rattle.std.specs.Prelude.{IfOk, IfSome, IsOk};
+ghost use Rattle.std.specs.Prelude.{IfOk, IsOk};
 ghost use Rattle.keywrap_cli.specs.Operation.{IsSameTask, RunsOperation, RunsOperationLines};
 ghost use Rattle.keywrap_cli.specs.Operation.{WritesTheAnswerOf, WritesTheLinesOf};
 
@@ -165,9 +165,9 @@ impl<K: Read> Operation<K> {
 
         // The output has the answers to the first lines, in order, each under the KEKs that the
         // KEK files denote.
-        ensures headline { IfOk result (λ run. IfSome (I.remaining input.old) (λ text.
-            WritesTheLinesOf K.remaining keep_going self.old self.new text
-            (W.contents out.old) (W.contents out.new) run)) }
+        ensures headline { IfOk result (λ run. WritesTheLinesOf K.remaining keep_going
+            self.old self.new (I.remaining input.old)
+            (W.contents out.old) (W.contents out.new) run) }
         ensures same_task { IsSameTask self.old self.new }
     {
         match self {

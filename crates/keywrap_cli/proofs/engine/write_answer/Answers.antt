@@ -1,7 +1,7 @@
 -- The job answered, and its answer was written, or a front of it.
 use Rattle.std.proofs.Common.{[]}
 use Rattle.std.proofs.KnownBytes.{Keeps-refl}
-use Rattle.keywrap_cli.proofs.Opens.{refused_write}
+use Rattle.keywrap_cli.proofs.Answered.{refused_write}
 use Rattle.keywrap_cli.proofs.engine.write_answer.Goals as goal
 
 pub returns-in-Ok-Err : goal.returns-in-Ok-Err

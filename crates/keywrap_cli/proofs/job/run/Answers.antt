@@ -1,29 +1,40 @@
--- The KEK was read, and the engine says the rest, or it was refused; the headline follows from it.
-use Rattle.std.proofs.Common.{Ok, Err}
-use Rattle.keywrap_cli.specs.Job.{RunsJobWith}
-use Rattle.keywrap_cli.proofs.Headlines.{answer_headline, key_headline}
-use Rattle.keywrap_cli.proofs.Opens.{job_answered, job_faulted, job_refused}
+-- The KEK was read, and the engine says the rest, or it was refused.
+use Rattle.std.proofs.Common.{Ok, Err, ap, refl}
+use Rattle.key_lines.specs.Answers.{Answer}
+use Rattle.aes_block.specs.Cipher.{cipher}
+use Rattle.keywrap_cli.specs.Answers.{JobAnswer, WritesFor}
+use Rattle.keywrap_cli.specs.Job.{WritesTheAnswer}
+use Rattle.keywrap_cli.proofs.Answered.{key_headline, written_output}
 use Rattle.keywrap_cli.proofs.job.run.Goals as goal
 
 pub returns-in-Err : goal.returns-in-Err
 returns-in-Err g c =
-    let run : RunsJobWith c.args.iv.now c.args.task _ _ _ _ _ _ (Err c.in-Err.fault) =
-    job_refused c.args.iv.now c.args.task _ _ _ _ c.in-Err.fault c.in-Err.ensures in
-    let answer = answer_headline c.args.iv.now c.args.task _ _ _ _ _ _ (Err c.in-Err.fault) run in
-    record { run = run; answer = answer; headline = λ job ok. key_headline c.args.iv.now c.args.task _ _ _ _ _ _ job (answer ok) }
+    let w = c.in-Err.ensures in
+    record { run = record { found = Err w.0; read = w.1; rest = (ap Err w.2, refl, refl) }; answer = λ ok. cc; headline = λ job ok. cc }
 
 pub returns-in-Ok-run_input : goal.returns-in-Ok-run_input
 returns-in-Ok-run_input g c =
+    let opened = c.in-Ok.ensures in
     let w = c.in-Ok-run_input.ensures in
-    let run : RunsJobWith c.args.iv.now c.args.task _ _ _ _ _ _ (Ok c.done_of.result) =
-    rw c.done_of.ensures (job_answered c.args.iv.now c.args.task _ _ _ _ _ _ c.in-Ok.pair c.in-Ok.ensures w.0 c.in-Ok-run_input.mark w.1) in
-    let answer = answer_headline c.args.iv.now c.args.task _ _ _ _ _ _ (Ok c.done_of.result) run in
-    record { run = run; answer = answer; headline = λ job ok. key_headline c.args.iv.now c.args.task _ _ _ _ _ _ job (answer ok) }
+    let iv = c.args.iv.now in
+    let task = c.args.task in
+    let answer : Answer = record { text = w.0; mark = c.in-Ok-run_input.mark } in
+    let headline : WritesTheAnswer iv task _ _ _ _ _ _ = record {
+      K = c.in-Ok.pair;
+      F = opened.taken;
+      taken = opened.stands_after;
+      denoted = opened.answers.0;
+      then = written_output task.input (JobAnswer iv task (cipher c.in-Ok.pair)) (WritesFor task.job iv task (cipher c.in-Ok.pair)) _ _ _ _ answer (λ X h. h.0) w.1;
+    } in
+    record {
+      run = record { found = Ok c.in-Ok.pair; read = opened; rest = (Ok answer, w.1, c.done_of.ensures) };
+      answer = λ ok. headline;
+      headline = λ job ok. key_headline iv task _ _ _ _ _ _ job headline;
+    }
 
 pub returns-in-Err-run_input : goal.returns-in-Err-run_input
-returns-in-Err-run_input g c =
-    let fault = c.in-Err-run_input.fault in
-    let run : RunsJobWith c.args.iv.now c.args.task _ _ _ _ _ _ (Err c.in-Err-run_input.fault) =
-    job_faulted c.args.iv.now c.args.task _ _ _ _ _ _ c.in-Ok.pair c.in-Ok.ensures c.in-Err-run_input.fault c.in-Err-run_input.ensures.1 in
-    let answer = answer_headline c.args.iv.now c.args.task _ _ _ _ _ _ (Err c.in-Err-run_input.fault) run in
-    record { run = run; answer = answer; headline = λ job ok. key_headline c.args.iv.now c.args.task _ _ _ _ _ _ job (answer ok) }
+returns-in-Err-run_input g c = record {
+  run = record { found = Ok c.in-Ok.pair; read = c.in-Ok.ensures; rest = (Err c.in-Err-run_input.fault, c.in-Err-run_input.ensures.1, refl) };
+  answer = λ ok. cc;
+  headline = λ job ok. cc;
+}

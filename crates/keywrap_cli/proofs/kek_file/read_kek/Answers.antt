@@ -1,4 +1,4 @@
-use Rattle.std.proofs.Common.{Err, Some}
+use Rattle.std.proofs.Common.{Some}
 use Rattle.keywrap_cli.proofs.Readings.{kek_of_bytes, kek_of_fault}
 use Rattle.keywrap_cli.proofs.kek_file.read_kek.Goals as goal
 
@@ -8,4 +8,4 @@ returns-in-Ok g c =
     (rw c.deref.ensures.value at c.aes_under.ensures)
 
 pub returns-in-Err : goal.returns-in-Err
-returns-in-Err g c = (Err (Some c.in-Err.fault), kek_of_fault c.args.notation _ _ c.in-Err.fault c.in-Err.ensures, c.file_fault.ensures)
+returns-in-Err g c = (Some c.in-Err.fault, kek_of_fault c.args.notation _ _ c.in-Err.fault c.in-Err.ensures, c.file_fault.ensures)

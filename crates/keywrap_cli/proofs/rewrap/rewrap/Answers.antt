@@ -1,33 +1,68 @@
--- Each KEK was read, and the engine says the rest, or one was refused; the headline follows from it.
-use Rattle.std.proofs.Common.{Ok, Err}
-use Rattle.keywrap_cli.specs.Rewrapping.{RunsRewrap}
-use Rattle.keywrap_cli.specs.declared.job.Done.TheVariants.{Written}
-use Rattle.keywrap_cli.proofs.Headlines.{new_text_headline}
-use Rattle.keywrap_cli.proofs.Opens.{rewrap_answered, rewrap_faulted, rewrap_refused, rewrap_refused_new}
+-- Each KEK was read, and the engine says the rest, or one was refused.
+use Rattle.std.proofs.Common.{Ok, Err, ap, refl}
+use Rattle.aes_block.specs.Cipher.{cipher}
+use Rattle.key_lines.specs.Answers.{Answer}
+use Rattle.keywrap_cli.specs.Answers.{RewrappingAnswer, RewrapsTo}
+use Rattle.keywrap_cli.proofs.Answered.{written_output}
 use Rattle.keywrap_cli.proofs.rewrap.rewrap.Goals as goal
 
 pub returns-in-Err : goal.returns-in-Err
 returns-in-Err g c =
-    let run : RunsRewrap c.args.task.now _ _ _ _ _ _ _ _ (Err c.in-Err.fault) = rewrap_refused c.args.task.now _ _ _ _ _ c.in-Err.fault c.in-Err.ensures in
-    record { run = run; headline = new_text_headline c.args.task.now _ _ _ _ _ _ _ _ (Err c.in-Err.fault) run }
+    let w = c.in-Err.ensures in
+    record { run = record { found = Err w.0; read = w.1; rest = (refl, (ap Err w.2, refl, refl)) }; headline = λ ok. cc }
 
 pub returns-in-Err-read_kek : goal.returns-in-Err-read_kek
 returns-in-Err-read_kek g c =
-    let run : RunsRewrap c.args.task.now _ _ _ _ _ _ _ _ (Err c.in-Err-read_kek.fault) =
-    rewrap_refused_new c.args.task.now _ _ _ _ _ _ c.in-Ok.old c.in-Err-read_kek.fault c.in-Ok.ensures c.in-Err-read_kek.ensures in
-    record { run = run; headline = new_text_headline c.args.task.now _ _ _ _ _ _ _ _ (Err c.in-Err-read_kek.fault) run }
+    let w = c.in-Err-read_kek.ensures in
+    record {
+      run = record {
+        found = Ok c.in-Ok.old;
+        read = c.in-Ok.ensures;
+        rest = record { found = Err w.0; read = w.1; rest = (ap Err w.2, refl, refl) };
+      };
+      headline = λ ok. cc;
+    }
 
 pub returns-in-Ok-run_input : goal.returns-in-Ok-run_input
 returns-in-Ok-run_input g c =
+    let opened = c.in-Ok.ensures in
+    let opened' = c.in-Ok-read_kek.ensures in
     let w = c.in-Ok-run_input.ensures in
-    let run : RunsRewrap c.args.task.now _ _ _ _ _ _ _ _ (Ok Written) =
-    rewrap_answered c.args.task.now _ _ _ _ _ _ _ _ c.in-Ok.old c.in-Ok-read_kek.new c.in-Ok.ensures c.in-Ok-read_kek.ensures w.0 c.in-Ok-run_input.field-0
-    w.1 in
-    record { run = run; headline = new_text_headline c.args.task.now _ _ _ _ _ _ _ _ (Ok Written) run }
+    let task = c.args.task.now in
+    let E = cipher c.in-Ok.old in
+    let F = cipher c.in-Ok-read_kek.new in
+    let answer : Answer = record { text = w.0; mark = c.in-Ok-run_input.field-0 } in
+    record {
+      run = record {
+        found = Ok c.in-Ok.old;
+        read = opened;
+        rest = record { found = Ok c.in-Ok-read_kek.new; read = opened'; rest = (Ok answer, w.1, refl) };
+      };
+      headline = λ ok. record {
+        K = c.in-Ok.old;
+        F = opened.taken;
+        taken = opened.stands_after;
+        denoted = opened.answers.0;
+        then = record {
+          K = c.in-Ok-read_kek.new;
+          F = opened'.taken;
+          taken = opened'.stands_after;
+          denoted = opened'.answers.0;
+          then = written_output task.input (RewrappingAnswer task E F) (RewrapsTo task E F) _ _ _ _ answer (λ X h. (h.0, h.1.0, h.2)) w.1;
+        };
+      };
+    }
 
 pub returns-in-Err-run_input : goal.returns-in-Err-run_input
-returns-in-Err-run_input g c =
-    let run : RunsRewrap c.args.task.now _ _ _ _ _ _ _ _ (Err c.in-Err-run_input.fault) =
-    rewrap_faulted c.args.task.now _ _ _ _ _ _ _ _ c.in-Ok.old c.in-Ok-read_kek.new c.in-Ok.ensures c.in-Ok-read_kek.ensures c.in-Err-run_input.fault
-    c.in-Err-run_input.ensures.1 in
-    record { run = run; headline = new_text_headline c.args.task.now _ _ _ _ _ _ _ _ (Err c.in-Err-run_input.fault) run }
+returns-in-Err-run_input g c = record {
+  run = record {
+    found = Ok c.in-Ok.old;
+    read = c.in-Ok.ensures;
+    rest = record {
+      found = Ok c.in-Ok-read_kek.new;
+      read = c.in-Ok-read_kek.ensures;
+      rest = (Err c.in-Err-run_input.fault, c.in-Err-run_input.ensures.1, refl);
+    };
+  };
+  headline = λ ok. cc;
+}

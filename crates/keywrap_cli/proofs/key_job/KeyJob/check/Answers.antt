@@ -1,7 +1,7 @@
 -- The line gives the text's kind, in a buffer that was cleared.
 use Rattle.std.proofs.Common.{◌≡◌, ap, ◌∙◌}
 use Rattle.keywrap_cli.specs.Answers.{kind_line}
-use Rattle.keywrap_cli.proofs.Opens.{check_mark}
+use Rattle.keywrap_cli.proofs.Answered.{check_mark}
 use Rattle.keywrap_cli.proofs.key_job.KeyJob.check.Goals as goal
 
 pub returns : goal.returns

@@ -1,7 +1,7 @@
 -- What the conversion makes of the bytes, in the notation of the task.
 use Rattle.std.proofs.Common.{◌∙◌, ℕ, List, Err, ap, subst}
 use Rattle.keywrap_cli.specs.Answers.{MakesConversion}
-use Rattle.keywrap_cli.proofs.Opens.{converted, converted_refusal}
+use Rattle.keywrap_cli.proofs.Answered.{converted, converted_refusal}
 use Rattle.keywrap_cli.proofs.key_job.KeyJob.convert.Goals as goal
 
 pub returns-in-Ok-Err : goal.returns-in-Ok-Err

@@ -1,6 +1,6 @@
 use Rattle.keywrap_cli.specs.Answers.{AnswerOfJob}
 use Rattle.keywrap_cli.specs.declared.job.Job.TheVariants as jobs
-use Rattle.keywrap_cli.proofs.Opens.{answer_is}
+use Rattle.keywrap_cli.proofs.Answered.{answer_is}
 use Rattle.keywrap_cli.proofs.key_job.KeyJobLineJob.answer.Goals as goal
 
 pub returns-in-Wrap : goal.returns-in-Wrap

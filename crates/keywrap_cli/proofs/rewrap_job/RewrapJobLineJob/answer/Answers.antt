@@ -1,5 +1,5 @@
 use Rattle.keywrap_cli.specs.Answers.{RewrappingAnswer}
-use Rattle.keywrap_cli.proofs.Opens.{answer_is}
+use Rattle.keywrap_cli.proofs.Answered.{answer_is}
 use Rattle.keywrap_cli.proofs.rewrap_job.RewrapJobLineJob.answer.Goals as goal
 
 pub returns : goal.returns
