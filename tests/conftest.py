@@ -40,6 +40,18 @@ def pytest_configure(config):
 
 
 def pytest_collection_modifyitems(config, items):
+    """Shares the long tests out among the processes of pytest-xdist: each begins with a block of the items."""
+    processes = int(os.environ.get("PYTEST_XDIST_WORKER_COUNT", "1"))
+    block = len(items) // (4 * processes)
+    long = [item for item in items if item.path.name.startswith(("test_rotation", "test_portable"))]
+    others = [item for item in items if item not in long]
+    items.clear()
+    for number in range(processes):
+        first = long[number::processes]
+        count = max(block - len(first), 0)
+        items += first + others[:count]
+        del others[:count]
+    items += others
     if config.getoption("reversed"):
         items.reverse()
 

@@ -33,24 +33,6 @@ elsewhere() (
     diff dist/SHA256SUMS another/tree/out/SHA256SUMS
 )
 
-# of_materials: the bill has this version, the kit's, the kit's crates of crates.txt and the hash of each file.
-of_materials() {
-    "$python" - "dist/$bom" "$version" "$(cat "$(dirname "$(readlink -f "$(command -v rt)")")/../KIT-ID")" <<'END'
-import hashlib, json, pathlib, sys
-bill = json.load(open(sys.argv[1]))
-assert (bill["bomFormat"], bill["specVersion"]) == ("CycloneDX", "1.4"), bill
-assert bill["metadata"]["component"]["version"] == sys.argv[2]
-kit, *parts = bill["components"]
-assert sys.argv[3].startswith("rattle-kit-" + kit["version"] + " ") and len(kit["hashes"][0]["content"]) == 64
-crates = {part["name"] for part in parts if part["type"] == "library"}
-assert crates == {"std", "base64", "byteorder", "clap", "hex", "linked_list_allocator", "memchr", "thiserror"}, crates
-files = {part["name"]: part["hashes"][0]["content"] for part in parts if part["type"] == "file"}
-folder = pathlib.Path(sys.argv[1]).parent
-assert files == {file.name: hashlib.sha256(file.read_bytes()).hexdigest() for file in folder.iterdir()
-                 if file.suffix in (".gz", ".tgz", ".whl")}, files
-END
-}
-
 # packs FOLDER GOAL..: has this packed there.
 packs() {
     in_library "${@:2}" DIST="$room/$1" PROGRAM="$program" JS="$js" PORTABLE="$room/portable" PYTHON="$python" \
@@ -67,7 +49,8 @@ if has_python cffi,setuptools,wheel,build; then
     row 'they are of all' test "$(wc -l <dist/SHA256SUMS)" = 7
     sed -n '/^### From an archive/,$s/^    //p' "$root/docs/INSTALLING.md" >lines
     row 'the lines of docs/INSTALLING.md' env -C dist bash -e "$room/lines"
-    row 'the bill of materials' of_materials
+    row 'the bill of materials' "$python" "$root/tests/dist/bill.py" "dist/$bom" "$version" \
+        "$(cat "$(dirname "$(readlink -f "$(command -v rt)")")/../KIT-ID")"
     row 'the hashes in docs/TRUST.md' "$python" "$root/scripts/trust.py" --check-hashes dist/SHA256SUMS
     row 'make dist in another folder' elsewhere
 else

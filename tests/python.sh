@@ -36,19 +36,14 @@ named_last() {
     in_library wheel PYTHON="$python" DIST="$room" >log && [ "$(tail -n 1 log)" = "$wheel" ] && [ -f "$wheel" ]
 }
 row 'make wheel' named_last
-# no_dead_link: what the wheel says of itself links to no file.
-no_dead_link() {
+# described: its METADATA links to no file, and has classifiers, but neither a licence nor URLs, since there are none.
+described() {
     "$python" -m zipfile -e "$wheel" unpacked && grep -q '](https://' unpacked/*/METADATA &&
-        ! grep -E '\]\(' unpacked/*/METADATA | grep -v '](https://'
+        ! grep -E '\]\(' unpacked/*/METADATA | grep -v '](https://' &&
+        [ "$(grep -c '^Classifier: ' unpacked/*/METADATA)" -ge 5 ] &&
+        ! grep -iE '^((Classifier: )?Licen[cs]e|(Home-page|Project-URL|Download-URL))' unpacked/*/METADATA
 }
-row 'the links of its METADATA' no_dead_link
-# classified: it has classifiers, but neither a licence nor URLs, since there are none.
-classified() {
-    [ "$(grep -c '^Classifier: ' unpacked/*/METADATA)" -ge 5 ] &&
-        ! grep -iE '^(Classifier: )?Licen[cs]e' unpacked/*/METADATA &&
-        ! grep -E '^(Home-page|Project-URL|Download-URL)' unpacked/*/METADATA
-}
-row 'what its METADATA has' classified
+row 'its METADATA' described
 row 'its tag' grep -qx 'Tag: cp39-abi3-manylinux_2_17_x86_64' unpacked/*/WHEEL
 row 'the symbols of glibc' of_glibc_2_17 unpacked/keywrap/_ffi.abi3.so
 row 'a stripped extension' eval 'nm unpacked/keywrap/_ffi.abi3.so 2>&1 | grep "no symbols" &&
@@ -74,13 +69,12 @@ row 'the version' same_version
 
 row 'an extension of the stable ABI' writes _ffi.abi3.so python3 -c 'from keywrap import _ffi; print(_ffi.__file__)'
 
-# shows_nothing: the extension shows none of the library's names, so that no other takes their place.
-shows_nothing() { [ "$(nm -D --defined-only env/lib/python3*/site-packages/keywrap/_ffi.abi3.so | awk '{ print $3 }')" = PyInit__ffi ]; }
-row 'the names of the extension' shows_nothing
-# hardened: its tables are read-only once it is loaded.
+# hardened: the extension shows none of the library's names, so that no other takes their place, and its tables are
+# read-only once it is loaded.
 hardened() {
-    readelf -dlW env/lib/python3*/site-packages/keywrap/_ffi.abi3.so >elf && grep -q BIND_NOW elf &&
-        grep -q GNU_RELRO elf
+    local extension=(env/lib/python3*/site-packages/keywrap/_ffi.abi3.so)
+    [ "$(nm -D --defined-only "${extension[0]}" | awk '{ print $3 }')" = PyInit__ffi ] &&
+        readelf -dlW "${extension[0]}" >elf && grep -q BIND_NOW elf && grep -q GNU_RELRO elf
 }
 row 'a hardened extension' hardened
 
