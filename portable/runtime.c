@@ -13,7 +13,9 @@
  *   KEYWRAP_NO_MALLOC   longer keys are refused with KEYWRAP_NO_MEMORY; malloc is not called
  *   KEYWRAP_TRAP()      what to do when the module traps, which cannot happen (abort) */
 
+#ifndef KEYWRAP_PORTABLE
 #define KEYWRAP_PORTABLE
+#endif
 #include "keywrap.h"
 
 #include <string.h>

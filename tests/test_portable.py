@@ -158,7 +158,7 @@ def test_no_memory_and_longest_keys(build, portable, name):
 
 @pytest.mark.parametrize("name", NATIVE)
 def test_stack(build, name):
-    """The bytes that depend on a KEK or a key, below the stack pointer after each call: SECURITY.md has them."""
+    """The bytes that depend on a KEK or a key, below the stack pointer after each call: 23 by gcc 12, 36 by clang 14."""
     lines = run(*build(name).program([ROOT / "tests/secrets/stack.c"], "-O2", "-Wl,-z,now", "-Wno-error"),
                 ).splitlines()
     counts = [list(map(int, line.split()[3:])) for line in lines]
