@@ -284,15 +284,15 @@ dist-wheel: wheel
 dist-js: js
 	scripts/dist_js.sh '$(JS)' '$(version)' '$(DIST)'
 
-# With BENCH=FOLDER it also writes FOLDER/*.csv; `make bench BENCH=docs/pictures` renews the data of the plots.
-export BENCH
 dist-portable: portable
 	scripts/dist_portable.sh '$(PORTABLE)' 'keywrap-portable-$(version)' '$(DIST)'
 
 dist-sdist: sdist
 
-bench: build library provider wheel
-	bench/wrap '$(LIBRARY)/libkeywrap.a'
+# With BENCH=FOLDER it also writes FOLDER/*.csv; `make bench BENCH=docs/pictures` renews the data of the plots.
+export BENCH
+bench: build library library-hardware provider wheel portable
+	PORTABLE='$(PORTABLE)' bench/wrap '$(LIBRARY)/libkeywrap.a'
 	bench/provider '$(PROVIDER)/keywrap.so'
 	bench/startup '$(PROGRAM)'
 	bench/lines '$(PROGRAM)' '$(PYTHON)'

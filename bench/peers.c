@@ -46,6 +46,22 @@ static int unwrap_hardware(const uint8_t *kek, size_t kek_len, const uint8_t *te
 }
 #endif
 
+#ifdef HAVE_PORTABLE
+/* The calls of the portable library, as bench/wrap renames them. */
+int32_t portable_wrap(const uint8_t *, size_t, const uint8_t *, size_t, uint8_t *, size_t);
+int32_t portable_unwrap(const uint8_t *, size_t, const uint8_t *, size_t, uint8_t *, size_t);
+
+static int wrap_portable(const uint8_t *kek, size_t kek_len, const uint8_t *key, size_t len,
+                         uint8_t *text) {
+    return portable_wrap(kek, kek_len, key, len, text, KEYWRAP_TEXT_LEN(len)) == KEYWRAP_OK;
+}
+
+static int unwrap_portable(const uint8_t *kek, size_t kek_len, const uint8_t *text, size_t len,
+                           uint8_t *key) {
+    return portable_unwrap(kek, kek_len, text, KEYWRAP_TEXT_LEN(len), key, len) == KEYWRAP_OK;
+}
+#endif
+
 #ifdef HAVE_OPENSSL
 static int wrap_openssl(const uint8_t *kek, size_t kek_len, const uint8_t *key, size_t len,
                         uint8_t *text) {
@@ -142,6 +158,9 @@ const struct peer PEERS[] = {
     {"keywrap", SOFTWARE, wrap_ours, unwrap_ours},
 #ifdef HAVE_HARDWARE
     {"hardware", INSTRUCTIONS, wrap_hardware, unwrap_hardware},
+#endif
+#ifdef HAVE_PORTABLE
+    {"portable", SOFTWARE, wrap_portable, unwrap_portable},
 #endif
 #ifdef HAVE_OPENSSL
     {"openssl", SOFTWARE, wrap_openssl, unwrap_openssl},

@@ -1,4 +1,4 @@
-/* aes.c: the key schedules, and the known-answer test before the first use. */
+/* aes.c: the key schedules, and the known-answer test. */
 
 #include "aes.h"
 
@@ -63,7 +63,7 @@ static const uint8_t CIPHERTEXTS[3][BLOCK] = {
      0x89},
 };
 
-static int known_answers(void) {
+int aes_known_answers(void) {
     uint8_t kek[32], plaintext[BLOCK], block[BLOCK];
     for (unsigned i = 0; i < sizeof kek; i++) kek[i] = (uint8_t)i;
     for (unsigned i = 0; i < BLOCK; i++) block[i] = plaintext[i] = (uint8_t)(0x11 * i);
@@ -84,7 +84,7 @@ int aes_works(void) {
     static int state = UNKNOWN;
     int known = __atomic_load_n(&state, __ATOMIC_ACQUIRE);
     if (known == UNKNOWN) {
-        known = has_instructions() && known_answers() ? WORKS : MISSING;
+        known = has_instructions() && aes_known_answers() ? WORKS : MISSING;
         __atomic_store_n(&state, known, __ATOMIC_RELEASE);
     }
     return known == WORKS;

@@ -18,6 +18,9 @@ struct aes {
  * The first call decides. Threads may make it at once. */
 int aes_works(void);
 
+/* aes_known_answers makes that test, for which the processor needs the instructions. */
+int aes_known_answers(void);
+
 /* aes_set_encrypt and aes_set_decrypt expand a KEK of 16, 24 or 32 bytes. Any other length is
  * refused: they return 0. */
 int aes_set_encrypt(struct aes *aes, const uint8_t *kek, size_t kek_len);

@@ -25,6 +25,7 @@ int32_t proved_keywrap_wrap_padded_in_place(const uint8_t *, size_t, uint8_t *, 
 int32_t proved_keywrap_unwrap_padded_in_place(const uint8_t *, size_t, uint8_t *, size_t, size_t *);
 int32_t proved_keywrap_rewrap_in_place(const uint8_t *, size_t, const uint8_t *, size_t, uint8_t *,
                                        size_t, uint32_t);
+int32_t proved_keywrap_self_test(void);
 
 static const uint8_t DEFAULT_IV[8] = {0xa6, 0xa6, 0xa6, 0xa6, 0xa6, 0xa6, 0xa6, 0xa6};
 
@@ -195,4 +196,9 @@ int32_t keywrap_rewrap_in_place(const uint8_t *old_kek, size_t old_kek_len, cons
         return KEYWRAP_BAD_LENGTH;
     }
     return keywrap_wrap_in_place(new_kek, new_kek_len, buffer, wrapped_len);
+}
+
+int32_t keywrap_self_test(void) {
+    if (aes_works() && !aes_known_answers()) return KEYWRAP_INTEGRITY;
+    return proved_keywrap_self_test();
 }

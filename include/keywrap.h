@@ -2,29 +2,29 @@
  *
  * A key-encryption key (KEK) of 16, 24 or 32 bytes wraps a key. The wrapped key is 8 bytes longer
  * than the key, or up to 15 in the padded form. Unwrapping gives the key back, or fails the
- * integrity check. Plain keys are 16, 24, 32 .. bytes long, padded ones any length from 1 on. A
- * wrapped key is unwrapped in the form in which it was wrapped: in the other it is refused. The
- * plain form has the default initial value of RFC 3394; the _with calls take one that both ends
- * agreed on. A rewrap takes a wrapped key from one KEK to another.
+ * integrity check. A plain key has 16, 24, 32 .. bytes, a padded key has 1 or more. A wrapped key
+ * is refused in the form in which it was not wrapped. The plain form has the default initial value
+ * of RFC 3394; the _with calls take a value that both ends agreed on. A rewrap takes a wrapped key
+ * from one KEK to another.
  *
  *     uint8_t kek[32] = .., key[16] = .., wrapped[KEYWRAP_TEXT_LEN(sizeof key)];
  *     if (keywrap_wrap(kek, sizeof kek, key, sizeof key, wrapped, sizeof wrapped) != KEYWRAP_OK) ..
  *
- * The calls allocate nothing, keep no state and call nothing back. Any thread may make them.
+ * The calls allocate nothing, keep no state and have no callbacks. Any thread may make them.
  *
  * On x86-64 the processor must have SSSE3 and SSE4.1; on aarch64 any will do. The calls do not check
  * this, and end the program with SIGILL on an older x86-64: KEYWRAP_CPU_SUPPORTED() checks it.
  *
- * The caller's part, which nothing checks:
- *   - A pointer and the length after it belong together: it points to so many bytes, and is not
- *     NULL, not even at length 0 (malloc(0) may be).
- *   - What a call writes overlaps none of its other arguments. With an overlap the calls of two
- *     buffers can answer KEYWRAP_OK and a wrong wrapped key. To wrap a key in place, call
- *     the _in_place ones.
- *   - While a call runs, no other thread writes what it reads, or touches what it writes.
+ * The caller must keep these rules. Nothing checks them:
+ *   - A pointer points to as many bytes as the length after it. It is not NULL, not even if the
+ *     length is 0 (malloc(0) may return NULL).
+ *   - A buffer that a call writes overlaps no other argument. If it does, a call with two buffers
+ *     may return KEYWRAP_OK and a wrong wrapped key. To wrap in place, use the _in_place calls.
+ *   - While a call runs, no other thread writes the buffers that the call reads, or uses the
+ *     buffers that it writes.
  *
- * Nothing is claimed of timing, nor of copies of keys that a call leaves in registers or on the
- * stack; SECURITY.md, which is installed with the documents, has what was measured of both. */
+ * There is no claim about timing, or about copies of keys that a call leaves in registers or on the
+ * stack. SECURITY.md, which is installed with the documents, has measurements of both. */
 
 #ifndef KEYWRAP_H
 #define KEYWRAP_H
@@ -32,8 +32,8 @@
 #include <stddef.h>
 #include <stdint.h>
 
-/* The version of this header. keywrap_version() returns the library's. What is built between two
- * releases has the numbers of the next release. */
+/* The version of this header. keywrap_version() returns the library's. Between two releases both
+ * have the numbers of the next release. */
 #define KEYWRAP_VERSION_MAJOR 1
 #define KEYWRAP_VERSION_MINOR 1
 #define KEYWRAP_VERSION_PATCH 0
@@ -58,39 +58,39 @@
 #define KEYWRAP_CPU_SUPPORTED() 1
 #endif
 
-/* Lengths, in bytes: of the longest key and the longest wrapped key (a thread's stack may be
- * shorter), of a key's plain and padded wrapping, and of the buffer that an unwrap fills, in either
- * form (8 less than the wrapped key, and 0 below 8). Each is a constant expression where its
- * argument is one, which it may read twice. */
+/* Lengths in bytes: the longest key and the longest wrapped key (a thread's stack may be too small
+ * for them); the wrapped key, plain and padded; and the buffer that an unwrap fills, in either form
+ * (8 less than the wrapped key, or 0). With a constant argument each is a constant expression. They
+ * may evaluate the argument twice. */
 #define KEYWRAP_MAX_KEY 1048576
 #define KEYWRAP_MAX_TEXT (KEYWRAP_MAX_KEY + 8)
 #define KEYWRAP_TEXT_LEN(key_len) ((key_len) + 8)
 #define KEYWRAP_PADDED_TEXT_LEN(key_len) (((key_len) + 7) / 8 * 8 + 8)
 #define KEYWRAP_ROOM(wrapped_len) ((wrapped_len) < 8 ? 0 : (wrapped_len) - 8)
 
-/* What each call answers: where several refusals apply, the first in this list. The causes of
- * KEYWRAP_BAD_KEK and KEYWRAP_BAD_LENGTH are only in the lengths, and at these and at
- * KEYWRAP_BAD_IV no buffer is written; but keywrap_rewrap_in_place, at the end of this file, has
- * more causes of KEYWRAP_BAD_LENGTH, after one of which its buffer is all zeros. */
+/* The status that a call returns. If several refusals apply, it is the first in this list.
+ * KEYWRAP_BAD_KEK and KEYWRAP_BAD_LENGTH depend only on the lengths. At these two and at
+ * KEYWRAP_BAD_IV no buffer is written. There is one exception: keywrap_rewrap_in_place, at the end
+ * of this file, has more causes of KEYWRAP_BAD_LENGTH, and after one of them its buffer is all
+ * zeros. */
 enum keywrap_status {
     KEYWRAP_OK = 0,
-    KEYWRAP_BAD_IV = 2,     /* the initial value is refused; only a _with call answers it */
+    KEYWRAP_BAD_IV = 2,     /* the initial value is refused; only a _with call returns it */
     KEYWRAP_BAD_KEK = 3,    /* the KEK is not 16, 24 or 32 bytes long */
-    KEYWRAP_BAD_LENGTH = 4, /* a length is not one that the call takes */
+    KEYWRAP_BAD_LENGTH = 4, /* the call does not accept a length */
     KEYWRAP_INTEGRITY = 5   /* the integrity check failed: another KEK, form or initial value, or
-                               damage; no wrap answers it */
+                               damage; no wrap returns it */
 };
 
-/* The flags of keywrap_rewrap_in_place: the old wrapped key, and the new one, is in the padded
- * form; without its flag each is in the plain one. KEYWRAP_KEEP_FORM goes with no other flag: the
- * wrapped key is in either form, and keeps it. It is of version 1.1: an older library refuses
- * it. */
+/* The flags of keywrap_rewrap_in_place: the old or the new wrapped key has the padded form. Without
+ * its flag it has the plain form. KEYWRAP_KEEP_FORM excludes the other flags: the wrapped key may
+ * have either form, and keeps it. It exists since version 1.1; an older library refuses it. */
 #define KEYWRAP_OLD_PADDED 1u
 #define KEYWRAP_NEW_PADDED 2u
 #define KEYWRAP_KEEP_FORM 4u
 
-/* If the compiler sees them, it warns of a NULL, of an unused status, and (GCC) of an overlap
- * and of a buffer that is shorter than its length says. */
+/* If the compiler can, it warns of NULL, of an unused status, and (GCC) of an overlap and of a
+ * buffer that is shorter than its length argument. */
 #if defined(__GNUC__)
 #define KEYWRAP_NONNULL __attribute__((nonnull, nothrow))
 #define KEYWRAP_CALL __attribute__((nonnull, nothrow, warn_unused_result))
@@ -122,27 +122,33 @@ extern "C" {
 KEYWRAP_CALL
 uint32_t keywrap_version(void);
 
-/* What a status says: any number has a text. It is written to text, a buffer of capacity bytes,
- * with a zero at its end; 80 bytes hold any. A longer text is cut so that it fits with its zero,
- * and at capacity 0 nothing is written. What follows the zero stays as it was.
+/* Writes what a status means to text, a buffer of capacity bytes, with a zero at its end. Any
+ * number has a text, and 80 bytes hold any text. A longer text is cut to fit with its zero. If
+ * capacity is 0, nothing is written. The bytes after the zero are unchanged.
  *
- * The answer is the length of the whole text, without the zero: it was cut if that is not less
- * than capacity. From version 1.1 on: a program that makes this call does not start with an older
+ * Returns the length of the whole text, without the zero. If that is not less than capacity, the
+ * text was cut. Since version 1.1: a program that makes this call does not start with an older
  * library. */
 KEYWRAP_NONNULL KEYWRAP_WRITES(2, 3)
 size_t keywrap_status_text(int32_t status, char *KEYWRAP_RESTRICT text, size_t capacity);
+
+/* Tests the library: wraps and unwraps the published vectors of RFC 3394 and RFC 5649, and unwraps a
+ * damaged wrapped key. Returns KEYWRAP_OK if each result is right, else KEYWRAP_INTEGRITY. From
+ * version 1.1 on. */
+KEYWRAP_CALL
+int32_t keywrap_self_test(void);
 
 /* Plain, two buffers: key_len is a multiple of 8 from 16 to KEYWRAP_MAX_KEY, and wrapped_len is
  * KEYWRAP_TEXT_LEN(key_len).
  *
  * keywrap_wrap wraps the key:
- *   KEYWRAP_OK          wrapped holds it, wrapped
- *   any other           wrapped is as it was
+ *   KEYWRAP_OK          wrapped holds the wrapped key
+ *   any other           wrapped is unchanged
  *
  * keywrap_unwrap finds the key that was wrapped:
  *   KEYWRAP_OK          key holds it; no other key has this wrapping
- *   KEYWRAP_INTEGRITY   there is none; key is all zeros
- *   any other           key is as it was */
+ *   KEYWRAP_INTEGRITY   there is no such key; key is all zeros
+ *   any other           key is unchanged */
 KEYWRAP_CALL KEYWRAP_READS(1, 2) KEYWRAP_READS(3, 4) KEYWRAP_WRITES(5, 6)
 int32_t keywrap_wrap(const uint8_t *kek, size_t kek_len, const uint8_t *key, size_t key_len,
                      uint8_t *KEYWRAP_RESTRICT wrapped, size_t wrapped_len);
@@ -151,20 +157,20 @@ KEYWRAP_CALL KEYWRAP_READS(1, 2) KEYWRAP_READS(3, 4) KEYWRAP_WRITES(5, 6)
 int32_t keywrap_unwrap(const uint8_t *kek, size_t kek_len, const uint8_t *wrapped,
                        size_t wrapped_len, uint8_t *KEYWRAP_RESTRICT key, size_t key_len);
 
-/* Plain, two buffers, under the 8 bytes at iv, an initial value that both ends agreed on (RFC 3394,
- * 2.2.3.2): the lengths are those above, and so are the answers for a6 a6 a6 a6 a6 a6 a6 a6.
+/* Plain, two buffers, with an initial value that both ends agreed on (RFC 3394, 2.2.3.2), the 8
+ * bytes at iv. The lengths are as above. With a6 a6 a6 a6 a6 a6 a6 a6 the results are, too.
  *   iv_len    8
  *   KEYWRAP_BAD_IV      iv_len is not 8, or the first four bytes are a6 59 59 a6: such values are
  *                       reserved for the padded form
  *
  * keywrap_wrap_with wraps the key:
- *   KEYWRAP_OK          wrapped holds it, wrapped
- *   any other           wrapped is as it was
+ *   KEYWRAP_OK          wrapped holds the wrapped key
+ *   any other           wrapped is unchanged
  *
  * keywrap_unwrap_with finds the key that was wrapped under this value:
  *   KEYWRAP_OK          key holds it; no other key has this wrapping
- *   KEYWRAP_INTEGRITY   there is none; key is all zeros
- *   any other           key is as it was */
+ *   KEYWRAP_INTEGRITY   there is no such key; key is all zeros
+ *   any other           key is unchanged */
 KEYWRAP_CALL KEYWRAP_READS(1, 2) KEYWRAP_READS(3, 4) KEYWRAP_READS(5, 6) KEYWRAP_WRITES(7, 8)
 int32_t keywrap_wrap_with(const uint8_t *kek, size_t kek_len, const uint8_t *iv, size_t iv_len,
                           const uint8_t *key, size_t key_len, uint8_t *KEYWRAP_RESTRICT wrapped,
@@ -180,16 +186,16 @@ int32_t keywrap_unwrap_with(const uint8_t *kek, size_t kek_len, const uint8_t *i
  * keywrap_wrap_padded wraps the key:
  *   key_len      1 to KEYWRAP_MAX_KEY
  *   wrapped_len  KEYWRAP_PADDED_TEXT_LEN(key_len)
- *   KEYWRAP_OK          wrapped holds it, wrapped
- *   any other           wrapped is as it was
+ *   KEYWRAP_OK          wrapped holds the wrapped key
+ *   any other           wrapped is unchanged
  *
  * keywrap_unwrap_padded finds the key that was wrapped:
  *   wrapped_len  a multiple of 8 from 16 to KEYWRAP_MAX_TEXT
  *   room         KEYWRAP_ROOM(wrapped_len), the size of the buffer at key
  *   KEYWRAP_OK          the first *key_len bytes at key are the key, and zeros, up to 7, come
  *                       after it; no other key has this wrapping
- *   KEYWRAP_INTEGRITY   there is none; the buffer at key is all zeros, and *key_len is 0
- *   any other           the buffer at key is as it was, and *key_len is 0 */
+ *   KEYWRAP_INTEGRITY   there is no such key; the buffer at key is all zeros, and *key_len is 0
+ *   any other           the buffer at key is unchanged, and *key_len is 0 */
 KEYWRAP_CALL KEYWRAP_READS(1, 2) KEYWRAP_READS(3, 4) KEYWRAP_WRITES(5, 6)
 int32_t keywrap_wrap_padded(const uint8_t *kek, size_t kek_len, const uint8_t *key, size_t key_len,
                             uint8_t *KEYWRAP_RESTRICT wrapped, size_t wrapped_len);
@@ -199,18 +205,18 @@ int32_t keywrap_unwrap_padded(const uint8_t *kek, size_t kek_len, const uint8_t 
                               size_t wrapped_len, uint8_t *KEYWRAP_RESTRICT key, size_t room,
                               size_t *KEYWRAP_RESTRICT key_len);
 
-/* Plain, one buffer: wrapped_len, a multiple of 8 from 24 to KEYWRAP_MAX_TEXT, is its whole length,
- * and the key begins at buffer + 8.
+/* Plain, one buffer of wrapped_len bytes, a multiple of 8 from 24 to KEYWRAP_MAX_TEXT. The key
+ * begins at buffer + 8.
  *
  * keywrap_wrap_in_place wraps the key; the first 8 bytes may hold anything:
  *   KEYWRAP_OK          the buffer holds the wrapped key
- *   any other           the buffer is as it was
+ *   any other           the buffer is unchanged
  *
  * keywrap_unwrap_in_place turns the wrapped key into the key:
  *   KEYWRAP_OK          8 zeros, then the key; no other key has this wrapping
- *   KEYWRAP_INTEGRITY   there is none; the buffer is all zeros: to keep what it held, copy it
- *                       first
- *   any other           the buffer is as it was */
+ *   KEYWRAP_INTEGRITY   there is no such key; the buffer is all zeros (to keep the wrapped key,
+ *                       copy it first)
+ *   any other           the buffer is unchanged */
 KEYWRAP_CALL KEYWRAP_READS(1, 2) KEYWRAP_CHANGES(3, 4)
 int32_t keywrap_wrap_in_place(const uint8_t *kek, size_t kek_len,
                               uint8_t *KEYWRAP_RESTRICT buffer, size_t wrapped_len);
@@ -219,21 +225,20 @@ KEYWRAP_CALL KEYWRAP_READS(1, 2) KEYWRAP_CHANGES(3, 4)
 int32_t keywrap_unwrap_in_place(const uint8_t *kek, size_t kek_len,
                                 uint8_t *KEYWRAP_RESTRICT buffer, size_t wrapped_len);
 
-/* Padded, one buffer: wrapped_len is its whole length, and the key begins at buffer + 8.
+/* Padded, one buffer of wrapped_len bytes. The key begins at buffer + 8.
  *
- * keywrap_wrap_padded_in_place wraps the key; the first 8 bytes, and those after the key, may hold
- * anything:
+ * keywrap_wrap_padded_in_place wraps the key; the bytes before and after it may hold anything:
  *   key_len      1 to KEYWRAP_MAX_KEY
  *   wrapped_len  KEYWRAP_PADDED_TEXT_LEN(key_len)
  *   KEYWRAP_OK          the buffer holds the wrapped key
- *   any other           the buffer is as it was
+ *   any other           the buffer is unchanged
  *
  * keywrap_unwrap_padded_in_place turns the wrapped key into the key:
  *   wrapped_len  a multiple of 8 from 16 to KEYWRAP_MAX_TEXT
  *   KEYWRAP_OK          8 zeros, the key of *key_len bytes, and zeros, up to 7, to the end; no
  *                       other key has this wrapping
- *   KEYWRAP_INTEGRITY   there is none; the buffer is all zeros, and *key_len is 0
- *   any other           the buffer is as it was, and *key_len is 0 */
+ *   KEYWRAP_INTEGRITY   there is no such key; the buffer is all zeros, and *key_len is 0
+ *   any other           the buffer is unchanged, and *key_len is 0 */
 KEYWRAP_CALL KEYWRAP_READS(1, 2) KEYWRAP_CHANGES(3, 4)
 int32_t keywrap_wrap_padded_in_place(const uint8_t *kek, size_t kek_len,
                                      uint8_t *KEYWRAP_RESTRICT buffer, size_t wrapped_len,
@@ -244,40 +249,39 @@ int32_t keywrap_unwrap_padded_in_place(const uint8_t *kek, size_t kek_len,
                                        uint8_t *KEYWRAP_RESTRICT buffer, size_t wrapped_len,
                                        size_t *KEYWRAP_RESTRICT key_len);
 
-/* Which form, over a scratch buffer; the key is not given out.
+/* The form of a wrapped key, with a scratch buffer. The key is not returned.
  *
- * keywrap_kind tells in which form a key was wrapped, plain (under the default initial value) or
- * padded, and how long the key is:
+ * keywrap_kind finds the form in which a key was wrapped, plain (with the default initial value) or
+ * padded, and the length of the key:
  *   wrapped_len  any: a length that neither form has is KEYWRAP_INTEGRITY
  *   room         KEYWRAP_ROOM(wrapped_len), the size of the scratch buffer
  *   KEYWRAP_OK          *padded is 0, or 1 (KEYWRAP_OLD_PADDED), *key_len is the key's length, and
  *                       scratch is all zeros
- *   KEYWRAP_INTEGRITY   it is no wrapped key under this KEK in either form; scratch is all zeros,
- *                       or as it was where neither form has the length
- *   any other           scratch is as it was
+ *   KEYWRAP_INTEGRITY   it is not a wrapped key under this KEK in either form; scratch is all
+ *                       zeros, or unchanged if neither form has the length
+ *   any other           scratch is unchanged
  * At each refusal *padded and *key_len are 0. */
 KEYWRAP_CALL KEYWRAP_READS(1, 2) KEYWRAP_READS(3, 4) KEYWRAP_WRITES(5, 6)
 int32_t keywrap_kind(const uint8_t *kek, size_t kek_len, const uint8_t *wrapped, size_t wrapped_len,
                      uint8_t *KEYWRAP_RESTRICT scratch, size_t room,
                      uint32_t *KEYWRAP_RESTRICT padded, size_t *KEYWRAP_RESTRICT key_len);
 
-/* From one KEK to another, one buffer: wrapped_len is its whole length. The wrapped key stays as
- * long as it was, in either form, and the key is never given out: it is in the buffer only
- * while the call runs.
+/* From one KEK to another, in one buffer of wrapped_len bytes. The new wrapped key is as long as
+ * the old one, in either form. The key is not returned: it is in the buffer only while the call
+ * runs.
  *
  * keywrap_rewrap_in_place turns a key wrapped under old_kek into that key wrapped under new_kek:
  *   wrapped_len  a multiple of 8 from 24, with KEYWRAP_OLD_PADDED or KEYWRAP_KEEP_FORM from 16, to
  *                KEYWRAP_MAX_TEXT
  *   forms        0, or the flags KEYWRAP_OLD_PADDED, KEYWRAP_NEW_PADDED or both, or
  *                only KEYWRAP_KEEP_FORM, and no other bit
- *   KEYWRAP_OK          the buffer holds the new wrapped key; unwrapping it under new_kek gives the
- *                       key that the old one gave
- *   KEYWRAP_BAD_KEK     one of the KEKs is refused; the buffer is as it was
- *   KEYWRAP_BAD_LENGTH  forms or wrapped_len is refused, and the buffer is as it was; or, with
- *                       only KEYWRAP_OLD_PADDED, the key that was wrapped is not a multiple of 8
- *                       bytes from 16 on, and the buffer is all zeros
- *   KEYWRAP_INTEGRITY   it is no wrapped key under old_kek in this form (with KEYWRAP_KEEP_FORM in
- *                       either form); the buffer is all zeros
+ *   KEYWRAP_OK          the buffer holds the new wrapped key of the same key
+ *   KEYWRAP_BAD_KEK     one of the KEKs is refused; the buffer is unchanged
+ *   KEYWRAP_BAD_LENGTH  forms or wrapped_len is refused, and the buffer is unchanged; or, with only
+ *                       KEYWRAP_OLD_PADDED, the length of the key is not a multiple of 8 bytes from
+ *                       16 on, and the buffer is all zeros
+ *   KEYWRAP_INTEGRITY   it is not a wrapped key under old_kek in this form (with KEYWRAP_KEEP_FORM
+ *                       in either form); the buffer is all zeros
  * To keep the old wrapped key after a refusal, copy it first. */
 KEYWRAP_CALL KEYWRAP_READS(1, 2) KEYWRAP_READS(3, 4) KEYWRAP_CHANGES(5, 6)
 int32_t keywrap_rewrap_in_place(const uint8_t *old_kek, size_t old_kek_len, const uint8_t *new_kek,

@@ -1,5 +1,5 @@
 /* keywrap_steps.h: AES Key Wrap without the AES, for a KEK that never leaves a token, or for the
- * AES of a processor. The library says which block to encrypt or decrypt next.
+ * AES of a processor. The library computes which block to encrypt or decrypt next.
  *
  *     uint8_t wrapped[8 + 32], block[16];      the key is in wrapped + 8
  *     uint64_t done;
@@ -15,11 +15,10 @@
  * bytes, and then the registers; in one buffer, first is buffer and the registers are buffer + 8.
  * There are 6 steps for each 8 bytes of the registers, or 1 if they are 8 bytes long.
  *
- * Each call returns KEYWRAP_OK, or a refusal that changes nothing (KEYWRAP_INTEGRITY apart). A
- * step number that does not fit the registers is refused as KEYWRAP_BAD_LENGTH: a step after the
- * last, or an end before it.
+ * Each call returns KEYWRAP_OK or a refusal. A refusal other than KEYWRAP_INTEGRITY changes
+ * nothing. A step after the last one, or an end before it, is refused with KEYWRAP_BAD_LENGTH.
  *
- * The caller's part, which nothing checks, beside the list of keywrap.h:
+ * The caller must keep these rules, too. Nothing checks them:
  *   - Between two calls the block is encrypted (to wrap) or decrypted (to unwrap), once.
  *   - Between two calls nothing else writes the registers, the number or the block. They do not
  *     overlap each other or `first`.
@@ -45,7 +44,7 @@ extern "C" {
  *   len     a multiple of 8 from 16 to KEYWRAP_MAX_KEY
  *   iv_len  8
  *   KEYWRAP_OK          *done is 0, and block the first block to encrypt
- *   KEYWRAP_BAD_IV      as of keywrap_wrap_with */
+ *   KEYWRAP_BAD_IV      as in keywrap_wrap_with */
 KEYWRAP_CALL
 int32_t keywrap_begin_wrap(const uint8_t *iv, size_t iv_len, const uint8_t *registers, size_t len,
                            uint64_t *done, uint8_t *block);
@@ -58,8 +57,8 @@ KEYWRAP_CALL
 int32_t keywrap_begin_wrap_padded(size_t key_len, uint8_t *registers, size_t len, uint64_t *done,
                                   uint8_t *block);
 
-/* keywrap_step_wrap makes one step, with the block encrypted since the last call: *done is one
- * more, and block the next block to encrypt. */
+/* keywrap_step_wrap makes one step with the encrypted block. It adds 1 to *done, and block is the
+ * next block to encrypt. */
 KEYWRAP_CALL
 int32_t keywrap_step_wrap(uint8_t *registers, size_t len, uint64_t *done, uint8_t *block);
 
@@ -69,8 +68,8 @@ KEYWRAP_CALL
 int32_t keywrap_end_wrap(uint8_t *first, const uint8_t *registers, size_t len, uint64_t done,
                          const uint8_t *block);
 
-/* keywrap_begin_unwrap begins the plain unwrapping of the wrapped key that is the 8 bytes at first
- * and then the registers; keywrap_begin_unwrap_padded the padded one.
+/* keywrap_begin_unwrap begins the plain unwrapping of the wrapped key, which is the 8 bytes at
+ * first and then the registers. keywrap_begin_unwrap_padded begins the padded unwrapping.
  *   len     a multiple of 8 from 16 (padded: from 8) to KEYWRAP_MAX_KEY
  *   KEYWRAP_OK          *left is the number of steps, and block the first block to decrypt */
 KEYWRAP_CALL
@@ -81,14 +80,14 @@ KEYWRAP_CALL
 int32_t keywrap_begin_unwrap_padded(const uint8_t *first, const uint8_t *registers, size_t len,
                                     uint64_t *left, uint8_t *block);
 
-/* keywrap_step_unwrap undoes one step, with the block decrypted since the last call: *left is one
- * less, and block the next block to decrypt. */
+/* keywrap_step_unwrap undoes one step with the decrypted block. It subtracts 1 from *left, and
+ * block is the next block to decrypt. */
 KEYWRAP_CALL
 int32_t keywrap_step_unwrap(uint8_t *registers, size_t len, uint64_t *left, uint8_t *block);
 
-/* keywrap_end_unwrap checks the plain form under the 8 bytes at iv, once no step is left:
+/* keywrap_end_unwrap checks the plain form with the 8 bytes at iv, once no step is left:
  *   KEYWRAP_OK          the registers are the key; no other key has this wrapping
- *   KEYWRAP_INTEGRITY   there is none; the registers are all zeros
+ *   KEYWRAP_INTEGRITY   there is no such key; the registers are all zeros
  * The block is all zeros then. */
 KEYWRAP_CALL
 int32_t keywrap_end_unwrap(const uint8_t *iv, size_t iv_len, uint8_t *registers, size_t len,
@@ -97,7 +96,7 @@ int32_t keywrap_end_unwrap(const uint8_t *iv, size_t iv_len, uint8_t *registers,
 /* keywrap_end_unwrap_padded checks the padded form, once no step is left:
  *   KEYWRAP_OK          the first *key_len bytes of the registers are the key, and zeros, up to 7,
  *                       come after it; no other key has this wrapping
- *   KEYWRAP_INTEGRITY   there is none; the registers are all zeros
+ *   KEYWRAP_INTEGRITY   there is no such key; the registers are all zeros
  * The block is all zeros then. At each refusal *key_len is 0. */
 KEYWRAP_CALL
 int32_t keywrap_end_unwrap_padded(uint8_t *registers, size_t len, uint64_t left, uint8_t *block,

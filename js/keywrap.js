@@ -250,6 +250,14 @@ function check(machine, kek, wrapped, options = {}) {
     }
 }
 
+function selfTest(machine) {
+    const status = machine.exports.keywrap_self_test();
+    machine.memory.set(machine.made);
+    if (status !== 0) {
+        throw new Error('self test failed: this host computes wrong results');
+    }
+}
+
 /* Loading the module */
 
 // Returns the bytes of keywrap.wasm. Node cannot fetch a file. The module that reads one there is not
@@ -274,7 +282,7 @@ export async function load(source) {
     const module = source instanceof WebAssembly.Module
         ? source : await WebAssembly.compile(source === undefined ? await beside() : source);
     const machine = new Machine((await WebAssembly.instantiate(module)).exports);
-    const calls = { wrap, unwrap, wrapPadded, unwrapPadded, rewrap, check };
+    const calls = { wrap, unwrap, wrapPadded, unwrapPadded, rewrap, check, selfTest };
     const bound = Object.entries(calls).map(
         ([name, call]) => [name, (...given) => call(machine, ...given)]);
     return Object.freeze({ version: machine.version, ...Object.fromEntries(bound) });

@@ -124,6 +124,16 @@ uint32_t keywrap_version(void) {
     return (uint32_t)perform(&call);
 }
 
+static u64 run_self_test(struct instance *module, const struct call *call) {
+    (void)call;
+    return w2c_keywrap_self_test(module);
+}
+
+int32_t keywrap_self_test(void) {
+    struct call call = {.run = run_self_test};
+    return (int32_t)perform(&call);
+}
+
 static u64 run_status_text(struct instance *module, const struct call *call) {
     return w2c_keywrap_status_text(module, (u32)call->number, BUFFER(0));
 }

@@ -1,5 +1,6 @@
 /* vectors.c: wraps and unwraps the vectors of RFC 3394 and RFC 5649, and sees that a damaged wrapped
- * key is refused. Exits with 0 if all is right, otherwise with the number of the vector that is not. */
+ * key is refused. Exits with 0 if all is right, otherwise with the number of the vector that is not,
+ * or with 9 if the self test of the library fails. */
 
 #include "keywrap.h"
 
@@ -71,5 +72,5 @@ static int is_right(const struct vector *vector) {
 int main(void) {
     for (size_t i = 0; i < sizeof VECTORS / sizeof *VECTORS; i++)
         if (!is_right(&VECTORS[i])) return (int)i + 1;
-    return 0;
+    return keywrap_self_test() == KEYWRAP_OK ? 0 : 9;
 }

@@ -1,4 +1,4 @@
-/* errors.c: the refusals, which the core puts in its queue under this provider's name. */
+/* errors.c: raises the refusals, which the core queues under the name of this provider. */
 
 #include <stdarg.h>
 

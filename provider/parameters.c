@@ -28,9 +28,8 @@ int read_size(const OSSL_PARAM *param, size_t *value) {
     return 1;
 }
 
-/* Writes the number in as many bytes as the parameter has, if it fits there; one without room is
- * told how many bytes the number's own type has. No number here has a first bit that would be read
- * as a sign. */
+/* Writes the number in as many bytes as the parameter has, if it fits. A parameter without room
+ * gets the size of the number's type. No number here has a first bit that could be read as a sign. */
 static int write_integer(OSSL_PARAM *param, uint64_t value, size_t size) {
     uint8_t *bytes = param->data;
     if (!is_number(param)) return 0;

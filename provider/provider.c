@@ -1,4 +1,4 @@
-/* provider.c: what OpenSSL finds first: the provider, what it says of itself, and what it has. */
+/* provider.c: the entry point for OpenSSL, the description of the provider, and its algorithms. */
 
 #include <keywrap.h>
 #include <openssl/core_names.h>
@@ -68,7 +68,7 @@ static const OSSL_DISPATCH CALLS[] = {
     {0, NULL},
 };
 
-/* Takes the core's functions that are needed here. */
+/* Keeps the functions of the core that the provider needs. */
 static void borrow(struct provider *provider, const OSSL_DISPATCH *from) {
     for (; from->function_id != 0; from++) switch (from->function_id) {
         case OSSL_FUNC_CORE_NEW_ERROR: provider->new_error = OSSL_FUNC_core_new_error(from); break;

@@ -1,6 +1,5 @@
-/* provider.h: what the files of the provider share. It calls nothing of libcrypto: memory and
- * errors come from the functions that the core hands over, so that it goes with whichever libcrypto
- * loads it. */
+/* provider.h: the common declarations of the provider. It does not call libcrypto: memory and
+ * errors come from functions of the core, so it works with any libcrypto that loads it. */
 
 #ifndef PROVIDER_H
 #define PROVIDER_H
@@ -10,7 +9,7 @@
 #include <stddef.h>
 #include <stdint.h>
 
-/* A provider as it was loaded, with what the core lends it. */
+/* A loaded provider, with the functions of the core. */
 struct provider {
     const OSSL_CORE_HANDLE *core;
     OSSL_FUNC_core_new_error_fn *new_error;
@@ -54,7 +53,7 @@ enum reason {
 
 /* errors.c */
 extern const OSSL_ITEM REASONS[];
-/* Raises an error, and answers 0. */
+/* Raises an error, and returns 0. */
 int refuse(const struct provider *provider, enum reason reason, const char *file, int line,
            const char *function);
 #define REFUSE(provider, reason) refuse(provider, reason, __FILE__, __LINE__, __func__)
@@ -72,7 +71,7 @@ int write_size(OSSL_PARAM *param, size_t value);
 int write_bytes(OSSL_PARAM *param, const void *bytes, size_t len);
 int write_text(OSSL_PARAM *param, const char *text);
 
-/* wrapping.c: what an update answers. */
+/* wrapping.c: an update. */
 OSSL_FUNC_cipher_update_fn update;
 
 /* cipher.c */

@@ -1,6 +1,6 @@
 #!/bin/sh
-# Packs what `make install-command` or `make install-library` installs into an archive for machines that have no kit:
-# FOLDER/NAME.tar.gz, with its README at the top too. The archive can be used in the directory in which it is unpacked.
+# Packs the files that `make install-command` or `make install-library` installs, for machines without the kit, as
+# FOLDER/NAME.tar.gz, with the README at the top. The archive can be used in the directory in which it is unpacked.
 # `make dist-command` and `make dist-library` call this script.
 #
 # usage: scripts/dist.sh GOAL NAME README FOLDER VARIABLE=VALUE..     (for make: what is built already)

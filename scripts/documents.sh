@@ -1,6 +1,6 @@
 #!/bin/sh
-# Puts documents into FOLDER as they are handed out: a README, of its template docs/NAME.in, and the others with links
-# that work there, or, of a folder of scripts, its files as they are. `make install` and `make dist` call it.
+# Copies documents into FOLDER: a README from its template docs/NAME.in, other documents with links that work there, and
+# directories of scripts unchanged. `make install` and `make dist` call it.
 #
 # usage: scripts/documents.sh FOLDER VERSION MACHINE NAME DOCUMENT..
 

@@ -10,11 +10,12 @@
 
 .PHONY: keywrap $(CRATES)
 
-# Four jobs of one crate do nearly twice the work of one, so the end of the chain has all, and what is proved before it
-# two. What needs nothing of that chain is proved in the time that it leaves.
+# Four jobs of one crate do nearly twice the work of one, so the end of the chain has all, and what is proved beside
+# others one or two. More at once take longer: each job of rt begins by reading what is below its crate. What needs
+# nothing of the chain is proved in the time that it leaves.
 keywrap: jobs = $(JOBS)
 $(CRATES): jobs = 1
-aes_block aes_vector key_wrap key_files key_lines: jobs = $(if $(filter 1,$(JOBS)),1,2)
+aes_block aes_vector key_wrap: jobs = $(if $(filter 1,$(JOBS)),1,2)
 keywrap_cli: jobs = $(JOBS)
 keywrap_io keywrap_args: gently = nice -n 19
 
@@ -22,18 +23,8 @@ keywrap: WORDS = run --backend rattle --jobs $(jobs) -- --version
 $(CRATES): WORDS = lib --jobs $(jobs)
 
 # A signal to make ends rt: no shell is between them.
-keywrap $(filter-out key_wrap,$(CRATES)):
+keywrap $(CRATES):
 	@cd 'crates/$@' && exec $(gently) rt $(WORDS) >"$$LOGS/$@.log" 2>&1
-	@mv "$$LOGS/$@.log" "$$LOGS/$@.proved"
-
-# rt locks a crate and those below it while it is at work, and the AES crates are over block_pair as key_wrap is. So
-# key_wrap is proved in a copy, at the same time as they are.
-copy = "$$LOGS/copy/crates"
-key_wrap:
-	@mkdir -p $(copy) && grep -E '^(block_pair|key_wrap):' crates.txt >$(copy).txt
-	@cp -Rl crates/block_pair crates/key_wrap $(copy) 2>/dev/null || cp -R crates/block_pair crates/key_wrap $(copy)
-	@cd $(copy)/key_wrap && exec rt $(WORDS) >"$$LOGS/$@.log" 2>&1
-	@rm -rf crates/key_wrap/out && mv $(copy)/key_wrap/out crates/key_wrap
 	@mv "$$LOGS/$@.log" "$$LOGS/$@.proved"
 
 keywrap: $(CRATES)

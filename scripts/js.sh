@@ -1,7 +1,7 @@
 #!/bin/sh
 # Builds the package for browsers, Node and Deno in FOLDER. rt builds the exports for WebAssembly,
-# rattle-link links them into a module with 64-bit memory, the only one that the kit has, and
-# wasm-opt makes that one with 32-bit memory, which every engine has. `make js` calls it.
+# and rattle-link links them into a module with 64-bit memory, since the kit has no other. wasm-opt
+# turns it into a module with 32-bit memory, which every engine supports. `make js` calls it.
 #
 # usage: scripts/js.sh VERSION FOLDER
 #        scripts/js.sh --needs           (fails if a tool is missing; builds nothing)

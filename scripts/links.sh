@@ -1,13 +1,12 @@
 #!/bin/sh
-# Writes the document of its standard input as it is packed beside others, in the folder share/doc/keywrap: a link
-# to one of these, to the header, to an example or to a rotation leads there, and of a link to what is not packed the
-# words stay. Pictures are not packed.
+# Adapts the links of a document for the installed directory share/doc/keywrap. Links to installed documents, the
+# header, examples and rotation scripts lead there. Other links become plain text. Pictures are removed.
 #
 # usage: scripts/links.sh [NAME..] <DOCUMENT        (NAME: of the documents beside it, without .md)
 
 set -eu
 names=$(printf '|%s' "$@")
-# A link that stays is marked by a byte that no document has, while the others go.
+# Marks the links that stay by a byte that no document has, while the others are removed.
 mark=$(printf '\001')
 sed -z -E "
     s/!\[[^]]*\]\([^)]*\)\n*//g

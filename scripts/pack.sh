@@ -1,6 +1,6 @@
 #!/bin/sh
-# Packs the folder NAME, which is in ROOM, as ARCHIVE, and prints its name. The same files give the same archive, byte
-# for byte: owner, time and all modes but the x bit are fixed. The Makefile sets SOURCE_DATE_EPOCH.
+# Packs the directory ROOM/NAME as ARCHIVE, and prints the name of ARCHIVE. The same files always give the same bytes:
+# owner, time and all modes except the x bit are fixed. The Makefile sets SOURCE_DATE_EPOCH.
 #
 # usage: scripts/pack.sh ROOM NAME ARCHIVE
 

@@ -99,8 +99,8 @@ def layers():
     """From the bytes of a file to the program and the libraries, with what is proved and what is tested."""
     drawing = Drawing(480, 432, "What is proved, from AES to files, and what is tested above it")
     rows = [
-        ("tested", "keywrap, C, Python, JavaScript, OpenSSL", "arguments, messages, headers, packages"),
-        ("proved", "Files and lines", "raw bytes, hex, base64; one key per line"),
+        ("tested", "keywrap; C, Python, JS; OpenSSL provider", "arguments, messages, headers, packages"),
+        ("proved", "Bytes of files and lines", "raw bytes, hex, base64; one key per line"),
         ("proved", "Wrapping", "RFC 3394 and RFC 5649, over any block permutation"),
         ("proved", "AES", "FIPS 197, with KEKs of 16, 24 and 32 bytes"),
     ]

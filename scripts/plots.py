@@ -7,8 +7,9 @@ import csv
 import math
 
 NAMES = {"keywrap": "keywrap", "hardware": "keywrap_hw", "openssl": "OpenSSL", "nettle": "nettle", "gcrypt": "libgcrypt",
-         "C": "C, tables"}
-DASHES = {"OpenSSL": "8 3", "C, tables": "2 3", "nettle": "8 3 2 3", "libgcrypt": "5 5", "keywrap_hw": "14 3"}
+         "C": "C, tables", "portable": "portable C"}
+DASHES = {"OpenSSL": "8 3", "C, tables": "2 3", "nettle": "8 3 2 3", "nettle, AES inst.": "1 3", "libgcrypt": "5 5",
+          "keywrap_hw": "14 3", "portable C": "2 6"}
 LEFT, PLOT = 44, 286
 
 
@@ -74,7 +75,7 @@ def panel(drawing, top, rows, title):
     ends = apart([points[-1][1] for points in curves.values()], 16)
     for ((name, label), points), end in zip(curves.items(), ends):
         kind = "ours" if name == "keywrap" else "curve"
-        drawing.line(kind, *points, dash=DASHES.get(name))
+        drawing.line(kind, *points, dash=DASHES.get(label, DASHES.get(name)))
         drawing.line("leader", points[-1], (points[-1][0] + 12, round(end, 1)))
         drawing.text(points[-1][0] + 15, round(end + 4, 1), label, "tiny strong" if name == "keywrap" else "tiny")
 

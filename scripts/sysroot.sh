@@ -1,13 +1,13 @@
 #!/bin/sh
-# Unpacks of Debian's arm64 what the wheel for aarch64 is built with and its tests run under qemu: Python with what
-# the tests import, and valgrind. Any user may call it: apt-get has its lists and its state in a folder of its own, so
-# that the machine's stay as they are. FOLDER is made whole or not at all, and left as it is if it exists.
+# Unpacks Debian's packages for arm64 that are needed to build the wheel for aarch64 and to test it under qemu: Python
+# with the modules of the tests, OpenSSL and valgrind. Any user may call it, since apt-get uses a directory of its own.
+# FOLDER is made completely or not at all. An existing FOLDER is not changed.
 #
 # usage: scripts/sysroot.sh [FOLDER]        (if none: where scripts/target.mk looks for it)
 
 set -eu
 packages='python3 libpython3-dev python3-cffi-backend python3-pytest python3-cryptography python3-cryptography-vectors
-    valgrind'
+    libssl-dev valgrind'
 [ $# -gt 0 ] || set -- "${XDG_CACHE_HOME:-${HOME:-}/.cache}/keywrap/sysroot-aarch64-unknown-linux-gnu"
 [ ! -d "$1" ] || exit 0
 mkdir -p -- "$(dirname -- "$1")"
@@ -16,7 +16,7 @@ trap 'rm -rf -- "$room"' EXIT
 trap 'exit 1' HUP INT TERM
 room=$(cd -- "$room" && pwd)
 
-# What apt-get as root hands the download to is no user of this folder's.
+# If root calls apt-get, it downloads as another user, who must be able to enter the directory.
 chmod 755 "$room"
 mkdir -p "$room/state/lists/partial" "$room/cache/archives/partial" "$room/root"
 : >"$room/status"

@@ -1,8 +1,7 @@
 #!/usr/bin/env bash
-# Runs the tests of tests/: test_*.py by pytest, in parallel if pytest-xdist is installed, and beside them the scripts
-# *.sh. Shows what each wrote, and ends with one line of what passed, failed and was skipped in all of them. The line
-# before it says what to install, so that nothing is skipped.
-# Each script ends with such a line of its own: a new one needs no line here.
+# Runs the tests of tests/: test_*.py by pytest, in parallel if pytest-xdist is installed, and at the same time the
+# scripts *.sh. Shows their output. The last line counts what passed, failed and was skipped; the line before it lists
+# the packages to install so that nothing is skipped. Each script ends with such a line, too.
 #
 # usage: scripts/tests.sh [NAME..]        tests/test_NAME.py or tests/NAME.sh; all of them, if none is named
 
@@ -49,8 +48,8 @@ run_files() {
 # cannot be built, each test reports it.
 over_library() {
     local script more=()
-    [[ " $* " != *' arm64 '* ]] || more+=(arm64)
-    [[ " $* " != *' js '* && " $* " != *' dist '* ]] || more+=(js)
+    [[ " $* " != *' arm64 '* && " $* " != *' facts '* ]] || more+=(arm64)
+    [[ " $* " != *' js '* && " $* " != *' dist '* && " $* " != *' facts '* ]] || more+=(js)
     tests/library/build.sh "$built" "${more[@]}" >"$built/log" 2>&1 &&
         export KEYWRAP_ARCHIVES="$built/rattle.a $built/llvm.a"
     [ ! -d "$built/arm64" ] || export KEYWRAP_ARM64=$built/arm64
@@ -63,11 +62,9 @@ over_library() {
 ./keywrap --version || exit
 over_archives=() others=()
 [ ${#files[@]} = 0 ] || run pytest run_files &
+over='arm64|debian|dist|facts|hardware|js|library|provider|python|secrets'
 for script in "${scripts[@]}"; do
-    case $script in
-    arm64 | debian | dist | hardware | js | library | provider | python | secrets) over_archives+=("$script") ;;
-    *) others+=("$script") ;;
-    esac
+    if [[ $script =~ ^($over)$ ]]; then over_archives+=("$script"); else others+=("$script"); fi
 done
 [ ${#over_archives[@]} = 0 ] || over_library "${over_archives[@]}" &
 for script in "${others[@]}"; do

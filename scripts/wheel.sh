@@ -1,6 +1,6 @@
 #!/bin/sh
-# Builds the Python package as a wheel in DIST, out of a copy of its sources beside the header and the archive. The same
-# sources and SOURCE_DATE_EPOCH give the same bytes, whatever the folder and the umask. `make wheel` calls it.
+# Builds the Python package as a wheel in DIST, from a copy of its sources with the header and the library. The same
+# sources and SOURCE_DATE_EPOCH always give the same bytes. `make wheel` calls it.
 #
 # usage: scripts/wheel.sh PYTHON LIBRARY MACHINE DIST [SYSROOT]
 #        (LIBRARY: what `make library` made; SYSROOT: for another machine than this, where its Python is, with its

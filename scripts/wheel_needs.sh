@@ -1,5 +1,5 @@
 #!/bin/sh
-# Prints what a Python lacks to build the wheel, as Debian's packages, and ends with 1 if it lacks any.
+# Prints the Debian packages that a Python lacks to build the wheel. The exit status is 1 if there are any.
 #
 # usage: scripts/wheel_needs.sh PYTHON [Python.h]        (Python.h: if the wheel is for this machine)
 

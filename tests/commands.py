@@ -2,62 +2,38 @@
 
 The tests that put the program under faults of the system take their commands from here."""
 
-import base64
+import re
 from typing import NamedTuple, Optional
 
 from vectors import (BAD_LENGTH, KEY16, DRILLED, DRILLED7, INTEGRITY, IV, KEK_LENGTH, KEK16, KEK24, KEK32, KEK5649,
                      KEY7, NEW_KEK_LENGTH, NOT_OPENED, PADDED16, PADDED7, RESERVED_IV, VECTOR_LINES, WRAPPED16,
-                     WRAPPED32, WRAPPED7, WRAPPED_IV, WRONG, raw, zeros)
+                     WRAPPED32, WRAPPED7, WRAPPED_IV, WRONG, in_base64, in_url, raw, zeros)
 
+# The usual command lines.
+WRAP, UNWRAP, CHECK = "wrap --kek kek16.hex", "unwrap --kek kek16.hex", "check --kek kek16.hex"
+REWRAP = "rewrap --kek kek16.hex --new-kek kek32.hex"
+SAME_KEK = "rewrap --kek kek16.hex --new-kek kek16.hex"
 MAX_FILE = 4194304
 
-
-def _line(text):
-    return text.encode() + b"\n"
-
-
-FILES = {
-    "kek16.hex": _line(KEK16),
-    "kek24.hex": _line(KEK24),
-    "kek32.hex": _line(KEK32),
-    "kek5649.hex": _line(KEK5649),
-    "kek16.raw": raw(KEK16),
-    "kek16.64": base64.b64encode(raw(KEK16)) + b"\n",
-    "kek15.hex": _line(zeros(15)),
-    "key.hex": _line(KEY16),
-    "key.raw": raw(KEY16),
-    "key.64": base64.b64encode(raw(KEY16)) + b"\n",
-    "key7.hex": _line(KEY7),
-    "wrapped.hex": _line(WRAPPED16),
-    "wrapped.raw": raw(WRAPPED16),
-    "wrapped.64": base64.b64encode(raw(WRAPPED16)) + b"\n",
-    "wrapped.url": base64.urlsafe_b64encode(raw(WRAPPED16)) + b"\n",
-    "wrapped7.hex": _line(WRAPPED7),
-    "agreed.hex": _line(WRAPPED_IV),
-    "wrapped32.hex": _line(WRAPPED32),
-    "padded.hex": _line(PADDED16),
-    "padded.raw": raw(PADDED16),
-    "padded7.hex": _line(PADDED7),
-    "wrong.hex": _line(WRONG),
-    "digit.hex": b"0g\n",
-    "odd.hex": b"012\n",
-    "digit.64": b"AA*A\n",
-    "after.64": b"AA=A\n",
-    "length.64": b"AAAAA\n",
-    "bits.64": b"AB==\n",
-    "nothing": b"",
-    "old": b"old\n",
-}
-
+_HEX = {"kek16": KEK16, "kek24": KEK24, "kek32": KEK32, "kek5649": KEK5649, "kek15": zeros(15), "key": KEY16,
+        "key7": KEY7, "wrapped": WRAPPED16, "wrapped7": WRAPPED7, "wrapped32": WRAPPED32, "agreed": WRAPPED_IV,
+        "padded": PADDED16, "padded7": PADDED7, "wrong": WRONG}
+_TEXTS = {"kek16.64": in_base64(KEK16), "key.64": in_base64(KEY16), "wrapped.64": in_base64(WRAPPED16),
+          "wrapped.url": in_url(WRAPPED16), "digit.hex": "0g", "odd.hex": "012", "digit.64": "AA*A",
+          "after.64": "AA=A", "length.64": "AAAAA", "bits.64": "AB==", "old": "old", "plain": "plain 16",
+          "none": "none", "drilled": DRILLED, "drilled7": DRILLED7, "vectors": VECTOR_LINES[:-1]}
+FILES = {**{f"{name}.hex": f"{digits}\n".encode() for name, digits in _HEX.items()},
+         **{f"{name}.raw": raw(_HEX[name]) for name in ("kek16", "key", "wrapped", "padded")},
+         **{name: f"{text}\n".encode() for name, text in _TEXTS.items()}, "nothing": b""}
 
 # Files that are too long to be written for each test: links lead to them.
 LARGE = {"long.hex": zeros(MAX_FILE // 2 + 1).encode(), "blank.hex": b" " * MAX_FILE}
 
 
 class Command(NamedTuple):
-    """A command line, the file that is its standard input (None: it reads none), and what it comes to.
+    """A command line, the file that is its standard input (None: it reads none), and its results.
 
-    An answer of None is the program's own words, as its help: what it writes if nothing goes wrong."""
+    An answer of None is a text of the program, such as its help."""
 
     name: str
     args: list
@@ -72,97 +48,88 @@ class Command(NamedTuple):
         return b"" if self.stdin is None else {**FILES, **LARGE}[self.stdin]
 
 
-def _answer(name, args, stdin, answer, status=0):
-    """The command writes what the file `answer` holds, or these bytes."""
-    answer = FILES[answer] if isinstance(answer, str) else answer
-    return Command(name, args.split(), stdin, status, answer)
+def chosen(commands, names):
+    """The commands of these names. An unknown name is an error."""
+    by_name = {command.name: command for command in commands}
+    return [by_name[name] for name in names]
 
 
-def _refusal(name, args, status, message, stdin=None):
-    return Command(name, args.split() if isinstance(args, str) else args, stdin, status, b"", f"keywrap: {message}\n")
+def _answers(table):
+    """A line is: name: ARGUMENTS <FILE >FILE, with the input and the answer; status 5 follows an answer that is one."""
+    rows = re.findall(r"^ *(.*): ([^<>]*?) (?:<(\S+) )?>(\S+)(?: (\d))?$", table, re.M)
+    assert len(rows) == len(table.strip().splitlines())
+    return [Command(name, args.split(), given or None, int(status or 0), FILES[answer])
+            for name, args, given, answer, status in rows]
+
+
+def _refusals(rows):
+    return [Command(name, args.split(), given[0] if given else None, status, b"", f"keywrap: {message}\n")
+            for name, args, status, message, *given in rows]
 
 
 # The commands that read a KEK and standard input.
-JOBS = [
-    _answer("wrap", "wrap --kek kek16.hex", "key.hex", "wrapped.hex"),
-    _answer("raw wrap", "wrap --raw --raw-kek --kek kek16.raw", "key.raw", "wrapped.raw"),
-    _answer("padded wrap", "wrap --padded --kek kek5649.hex", "key7.hex", "wrapped7.hex"),
-    _answer("unwrap", "unwrap --kek kek16.hex", "wrapped.hex", "key.hex"),
-    _answer("raw unwrap", "unwrap --raw --raw-kek --kek kek16.raw", "wrapped.raw", "key.raw"),
-    _answer("padded unwrap", "unwrap --padded --kek kek5649.hex", "wrapped7.hex", "key7.hex"),
-    _answer("wrap under an IV", f"wrap --iv {IV} --kek kek16.hex", "key.hex", "agreed.hex"),
-    _answer("unwrap under an IV", f"unwrap --iv {IV} --kek kek16.hex", "agreed.hex", "key.hex"),
-    _answer("check", "check --kek kek16.hex", "wrapped.hex", b"plain 16\n"),
-    _answer("rewrap", "rewrap --new-kek kek32.hex --kek kek16.hex", "wrapped.hex", "wrapped32.hex"),
-    _answer("raw rewrap to padded", "rewrap --raw --raw-kek --new-padded --new-kek kek16.raw --kek kek16.raw",
-            "wrapped.raw", "padded.raw"),
-    _answer("padded rewrap", "rewrap --padded --new-padded --kek kek5649.hex --new-kek kek16.hex",
-            "wrapped7.hex", "padded7.hex"),
-    _answer("rewrap keeping padded", "rewrap --keep-form --kek kek5649.hex --new-kek kek16.hex",
-            "wrapped7.hex", "padded7.hex"),
-    _answer("rewrap of a new one", "rewrap --pass-new --kek kek16.hex --new-kek kek32.hex",
-            "wrapped32.hex", "wrapped32.hex"),
-    _answer("check of a wrong byte", "check --kek kek16.hex", "wrong.hex", b"none\n", 5),
-    _answer("wrap in base64", "wrap --base64 --base64-kek --kek kek16.64", "key.64", "wrapped.64"),
-    _answer("unwrap in base64", "unwrap --base64 --base64-kek --kek kek16.64", "wrapped.url", "key.64"),
-    _answer("rewrap in base64url", "rewrap --base64url --kek kek16.hex --new-kek kek16.hex",
-            "wrapped.64", "wrapped.url"),
-]
+JOBS = _answers(f"""
+    wrap: {WRAP} <key.hex >wrapped.hex
+    raw wrap: wrap --raw --raw-kek --kek kek16.raw <key.raw >wrapped.raw
+    padded wrap: wrap --padded --kek kek5649.hex <key7.hex >wrapped7.hex
+    unwrap: {UNWRAP} <wrapped.hex >key.hex
+    raw unwrap: unwrap --raw --raw-kek --kek kek16.raw <wrapped.raw >key.raw
+    padded unwrap: unwrap --padded --kek kek5649.hex <wrapped7.hex >key7.hex
+    wrap under an IV: wrap --iv {IV} --kek kek16.hex <key.hex >agreed.hex
+    unwrap under an IV: unwrap --iv {IV} --kek kek16.hex <agreed.hex >key.hex
+    check: {CHECK} <wrapped.hex >plain
+    rewrap: rewrap --new-kek kek32.hex --kek kek16.hex <wrapped.hex >wrapped32.hex
+    raw rewrap: rewrap --raw --raw-kek --new-padded --new-kek kek16.raw --kek kek16.raw <wrapped.raw >padded.raw
+    padded rewrap: rewrap --padded --new-padded --kek kek5649.hex --new-kek kek16.hex <wrapped7.hex >padded7.hex
+    rewrap keeping padded: rewrap --keep-form --kek kek5649.hex --new-kek kek16.hex <wrapped7.hex >padded7.hex
+    rewrap of a new one: rewrap --pass-new --kek kek16.hex --new-kek kek32.hex <wrapped32.hex >wrapped32.hex
+    check of a wrong byte: {CHECK} <wrong.hex >none 5
+    wrap in base64: wrap --base64 --base64-kek --kek kek16.64 <key.64 >wrapped.64
+    unwrap in base64: unwrap --base64 --base64-kek --kek kek16.64 <wrapped.url >key.64
+    rewrap in base64url: {SAME_KEK} --base64url <wrapped.64 >wrapped.url""")
 
-ANSWERS = JOBS + [
-    _answer("wrap of a file", "wrap --kek kek16.hex --input key.hex", None, "wrapped.hex"),
-    _answer("drill", f"drill {KEY16}", None, _line(DRILLED)),
-    _answer("padded drill", f"drill --padded {KEY7}", None, _line(DRILLED7)),
-    _answer("drill back", f"drill --unwrap {DRILLED}", None, "key.hex"),
-    _answer("vectors", "vectors", None, VECTOR_LINES.encode()),
-    _answer("help", "--help", None, None),
-    _answer("version", "--version", None, None),
-]
+ANSWERS = JOBS + _answers(f"""
+    wrap of a file: {WRAP} --input key.hex >wrapped.hex
+    drill: drill {KEY16} >drilled
+    padded drill: drill --padded {KEY7} >drilled7
+    drill back: drill --unwrap {DRILLED} >key.hex
+    vectors: vectors >vectors""") + [Command(flag, [f"--{flag}"], None, 0, None) for flag in ("help", "version")]
 
-_TO_NEW = "rewrap --kek kek16.hex --new-kek"
-REFUSALS = [
-    _refusal("IV of 15 digits", f"wrap --iv {IV[1:]} --kek kek16.hex", 2, "--iv is not 16 hex digits"),
-    _refusal("reserved IV", f"unwrap --iv {RESERVED_IV} --kek kek16.hex", 2, "--iv is reserved for the padded form"),
-    _refusal("no KEK file", "wrap --kek missing", 6, "key file: cannot be opened"),
-    _refusal("directory as KEK file", "check --kek folder", 6, "key file: cannot be read"),
-    _refusal("KEK file too long", "wrap --kek long.hex", 6, "key file: too long"),
-    _refusal("bad digit in the KEK", "wrap --kek digit.hex", 6, "key file: no hex digit at byte 1"),
-    _refusal("KEK of 15 bytes", "wrap --kek kek15.hex", 3, KEK_LENGTH),
-    _refusal("no new KEK file", f"{_TO_NEW} missing", 6, "new key file: cannot be opened"),
-    _refusal("new KEK of 15 bytes", f"{_TO_NEW} kek15.hex", 3, NEW_KEK_LENGTH),
-    _refusal("rewrap of a wrong byte", f"{_TO_NEW} kek32.hex", 5, INTEGRITY, "wrong.hex"),
-    _refusal("rewrap of 7 bytes to plain", "rewrap --padded --kek kek5649.hex --new-kek kek32.hex", 4, BAD_LENGTH,
-             "wrapped7.hex"),
-    _refusal("input too long", "wrap --kek kek16.hex", 6, "input: too long", "long.hex"),
-    _refusal("bad digit", "unwrap --kek kek16.hex", 6, "input: no hex digit at byte 1", "digit.hex"),
-    _refusal("bad base64", "wrap --base64 --kek kek16.hex", 6, "input: no base64 character at byte 2", "digit.64"),
-    _refusal("KEK of five characters", "wrap --base64-kek --kek length.64", 6,
-             "key file: length is not that of base64"),
-    _refusal("base64 with trailing bits", "check --base64url --kek kek16.hex", 6,
-             "input: last base64 character has bits of no byte", "bits.64"),
-    _refusal("key of 7 bytes", "wrap --kek kek16.hex", 4, BAD_LENGTH, "key7.hex"),
-    _refusal("blanks only", "wrap --kek kek16.hex", 4, BAD_LENGTH, "blank.hex"),
-    _refusal("wrong byte", "unwrap --kek kek16.hex", 5, INTEGRITY, "wrong.hex"),
-    _refusal("drill of a wrong byte", f"drill --unwrap 0{DRILLED[1:]}", 5, INTEGRITY),
-    _refusal("no input file", "wrap --kek kek16.hex --input missing", 6, "input: cannot be opened"),
-    _refusal("directory as input file", "check --kek kek16.hex --input folder", 6, "input: cannot be read"),
-]
+REFUSALS = _refusals([
+    ("IV of 15 digits", f"{WRAP} --iv {IV[1:]}", 2, "--iv is not 16 hex digits"),
+    ("reserved IV", f"{UNWRAP} --iv {RESERVED_IV}", 2, "--iv is reserved for the padded form"),
+    ("no KEK file", "wrap --kek missing", 6, "key file: cannot be opened"),
+    ("directory as KEK file", "check --kek folder", 6, "key file: cannot be read"),
+    ("KEK file too long", "wrap --kek long.hex", 6, "key file: too long"),
+    ("bad digit in the KEK", "wrap --kek digit.hex", 6, "key file: no hex digit at byte 1"),
+    ("KEK of 15 bytes", "wrap --kek kek15.hex", 3, KEK_LENGTH),
+    ("no new KEK file", "rewrap --kek kek16.hex --new-kek missing", 6, "new key file: cannot be opened"),
+    ("new KEK of 15 bytes", "rewrap --kek kek16.hex --new-kek kek15.hex", 3, NEW_KEK_LENGTH),
+    ("rewrap of a wrong byte", REWRAP, 5, INTEGRITY, "wrong.hex"),
+    ("rewrap of 7 bytes", "rewrap --padded --kek kek5649.hex --new-kek kek32.hex", 4, BAD_LENGTH, "wrapped7.hex"),
+    ("input too long", WRAP, 6, "input: too long", "long.hex"),
+    ("bad digit", UNWRAP, 6, "input: no hex digit at byte 1", "digit.hex"),
+    ("bad base64", f"{WRAP} --base64", 6, "input: no base64 character at byte 2", "digit.64"),
+    ("KEK of five characters", "wrap --base64-kek --kek length.64", 6, "key file: length is not that of base64"),
+    ("trailing bits", f"{CHECK} --base64url", 6, "input: last base64 character has bits of no byte", "bits.64"),
+    ("key of 7 bytes", WRAP, 4, BAD_LENGTH, "key7.hex"),
+    ("blanks only", WRAP, 4, BAD_LENGTH, "blank.hex"),
+    ("wrong byte", UNWRAP, 5, INTEGRITY, "wrong.hex"),
+    ("drill of a wrong byte", f"drill --unwrap 0{DRILLED[1:]}", 5, INTEGRITY),
+    ("no input file", f"{WRAP} --input missing", 6, "input: cannot be opened"),
+    ("directory as input file", f"{CHECK} --input folder", 6, "input: cannot be read")])
 
-# With the file to/file for the answer, which held FILES["old"]. `stdout` is what the file holds afterwards.
-_TO = "--kek kek16.hex --output to/file"
-INTO_FILES = [
-    _answer("wrap into a file", f"wrap {_TO}", "key.hex", "wrapped.hex"),
-    _answer("unwrap into a file", f"unwrap -i wrapped.hex {_TO}", None, "key.hex"),
-    _answer("rewrap into a file", f"rewrap --new-kek kek32.hex -i wrapped.hex {_TO}", None, "wrapped32.hex"),
-    _answer("wrap in base64 into a file", f"wrap --base64 {_TO}", "key.64", "wrapped.64"),
-    _answer("check into a file", f"check {_TO}", "wrapped.hex", b"plain 16\n"),
-    _answer("check of a wrong byte into a file", f"check -i wrong.hex {_TO}", None, b"none\n", 5),
-]
-_REFUSALS_WITH_FILES = [
-    _refusal("wrong byte, no file", f"unwrap -i wrong.hex {_TO}", 5, INTEGRITY),
-    _refusal("KEK of 15 bytes, no file", "wrap --kek kek15.hex -o to/file", 3, KEK_LENGTH),
-    _refusal("key of 7 bytes, no file", f"wrap -i key7.hex {_TO}", 4, BAD_LENGTH),
-    _refusal("directory as output", "wrap --kek kek16.hex --output folder", 6, NOT_OPENED),
-    _refusal("KEK file as output", "wrap --kek kek16.hex --output kek16.hex", 6, NOT_OPENED),
-]
-INTO_FILES += [command._replace(stdout=FILES["old"]) for command in _REFUSALS_WITH_FILES]
+# The output is to/file, which first contains FILES["old"]. `stdout` is its content afterwards.
+INTO_FILES = _answers(f"""
+    wrap into a file: {WRAP} --output to/file <key.hex >wrapped.hex
+    unwrap into a file: {UNWRAP} -i wrapped.hex --output to/file >key.hex
+    rewrap into a file: {REWRAP} -i wrapped.hex --output to/file >wrapped32.hex
+    wrap in base64 into a file: {WRAP} --base64 --output to/file <key.64 >wrapped.64
+    check into a file: {CHECK} --output to/file <wrapped.hex >plain
+    check of a wrong byte into a file: {CHECK} -i wrong.hex --output to/file >none 5""")
+INTO_FILES += [command._replace(stdout=FILES["old"]) for command in _refusals([
+    ("wrong byte, no file", f"{UNWRAP} -i wrong.hex --output to/file", 5, INTEGRITY),
+    ("KEK of 15 bytes, no file", "wrap --kek kek15.hex -o to/file", 3, KEK_LENGTH),
+    ("key of 7 bytes, no file", f"{WRAP} -i key7.hex --output to/file", 4, BAD_LENGTH),
+    ("directory as output", f"{WRAP} --output folder", 6, NOT_OPENED),
+    ("KEK file as output", f"{WRAP} --output kek16.hex", 6, NOT_OPENED)])]

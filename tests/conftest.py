@@ -3,6 +3,7 @@
 KEYWRAP=PATH tries another program. --reversed runs the tests in the opposite order: none depends on another."""
 
 import bisect
+import itertools
 import os
 import pathlib
 import pwd
@@ -14,10 +15,10 @@ import time
 
 import pytest
 
-pytest.register_assert_rewrite("lines_model", "output_file")
+pytest.register_assert_rewrite("checks")
 
 from commands import FILES, LARGE
-from program import Ended, Program
+from program import Ended, Program, shared
 
 ROOT = pathlib.Path(__file__).resolve().parent.parent
 BUILT = ROOT / "crates/keywrap/out/keywrap"
@@ -42,16 +43,16 @@ def pytest_configure(config):
 def pytest_collection_modifyitems(config, items):
     """Shares the long tests out among the processes of pytest-xdist: each begins with a block of the items."""
     processes = int(os.environ.get("PYTEST_XDIST_WORKER_COUNT", "1"))
-    block = len(items) // (4 * processes)
+    collected = len(items)
+    block = collected // (4 * processes)
     long = [item for item in items if item.path.name.startswith(("test_rotation", "test_portable"))]
-    others = [item for item in items if item not in long]
+    others = iter([item for item in items if item not in long])
     items.clear()
     for number in range(processes):
         first = long[number::processes]
-        count = max(block - len(first), 0)
-        items += first + others[:count]
-        del others[:count]
+        items += [*first, *itertools.islice(others, max(block - len(first), 0))]
     items += others
+    assert len(items) == collected
     if config.getoption("reversed"):
         items.reverse()
 
@@ -77,15 +78,13 @@ def large(tmp_path_factory):
     directory = tmp_path_factory.mktemp("large")
     for name, content in LARGE.items():
         (directory / name).write_bytes(content)
-    yield directory
-    shutil.rmtree(directory)
+    return directory
 
 
 @pytest.fixture(autouse=True)
 def files(tmp_path, monkeypatch, large):
-    """Every test runs in an empty directory with the files of commands.py."""
+    """Every test runs in a directory with only the files of commands.py."""
     monkeypatch.chdir(tmp_path)
-    monkeypatch.delenv("FAIL_CALL", raising=False)
     for name, content in FILES.items():
         pathlib.Path(name).write_bytes(content)
     for name in LARGE:
@@ -100,15 +99,8 @@ def files(tmp_path, monkeypatch, large):
 
 @pytest.fixture(scope="session")
 def keywrap(pytestconfig):
-    """The program: keywrap("wrap", "--kek", "kek16.hex", stdin=KEY16) returns Ended(status, stdout, stderr)."""
+    """The program: keywrap("wrap --kek kek16.hex", stdin=KEY16) returns Ended(status, stdout, stderr)."""
     return Program(pytestconfig.program)
-
-
-@pytest.fixture(scope="session")
-def version():
-    """The version that the sources name."""
-    return subprocess.run(["make", "-s", "--no-print-directory", "-C", ROOT, "version"],
-                          capture_output=True, text=True).stdout.strip()
 
 
 @pytest.fixture(scope="session")
@@ -135,26 +127,25 @@ def compiled(tmp_path_factory):
 def preloaded(keywrap, compiled):
     """preloaded("fail_alloc") is the program over that library: a function with its variables, as FAIL_ALLOC="3+".
 
-    `met` of the function is what the library wrote during the last run. `count(*args)` is how many calls can fail."""
+    `met` of the function is what the library wrote during the last run. `count(args)` is how many calls can fail."""
     def over(name):
         library = compiled(name)
 
-        def run(*args, env={}, FAIL_ALLOC="0", FAIL_READ="0", FAIL_CALL="", FAIL_ERRNO="5", ONE_MODE="0", **options):
-            with open("met", "w+b") as met:
-                variables = {"LD_PRELOAD": str(library), "MET": str(met.fileno()), "FAIL_ALLOC": FAIL_ALLOC,
-                             "FAIL_READ": FAIL_READ, "FAIL_CALL": FAIL_CALL, "FAIL_ERRNO": FAIL_ERRNO,
-                             "ONE_MODE": ONE_MODE}
-                ended = keywrap(*args, env={**env, **variables}, pass_fds=[met.fileno()], **options)
+        def run(args, FAIL_ALLOC="0", FAIL_READ="0", FAIL_CALL="", FAIL_ERRNO="5", ONE_MODE="0", **options):
+            with open("met", "w+b") as met, shared(met.fileno()):
+                env = {"LD_PRELOAD": str(library), "MET": str(met.fileno()), "FAIL_ALLOC": FAIL_ALLOC,
+                       "FAIL_READ": FAIL_READ, "FAIL_CALL": FAIL_CALL, "FAIL_ERRNO": FAIL_ERRNO, "ONE_MODE": ONE_MODE}
+                ended = keywrap(args, env=env, **options)
                 met.seek(0)
                 run.met = met.read().decode()
             return ended
 
-        def count(*args, **options):
-            def met(number):
-                run(*args, **{name.upper(): str(number)}, **options)
-                return bool(run.met)
+        def is_too_many(number, args, options):
+            run(args, **{name.upper(): str(number)}, **options)
+            return not run.met
 
-            found = bisect.bisect(range(1, 9999), False, key=lambda number: not met(number))
+        def count(args, **options):
+            found = bisect.bisect(range(1, 9999), False, key=lambda number: is_too_many(number, args, options))
             assert 0 < found < 9998
             return found
 
@@ -166,7 +157,7 @@ def preloaded(keywrap, compiled):
 
 @pytest.fixture(scope="session")
 def starving(keywrap):
-    """The least limit in which the system starts the program. A system may count only one kind or the other."""
+    """The lowest limit with which the system starts the program. Some systems apply only one of the two limits."""
     for kind in "DATA", "AS":
         for size in range(4096, 64 << 20, 4096):
             status = keywrap("--version", limits={"CORE": 0, kind: size}).status
@@ -193,7 +184,7 @@ def without_rights():
 
 @pytest.fixture
 def as_nobody(keywrap, files, monkeypatch):
-    """The program run by the user nobody, in a directory that everybody may enter."""
+    """Runs the program as the user nobody, in a directory that everybody may enter."""
     if os.getuid() != 0:
         pytest.skip("only root can run the program as another user")
     with tempfile.TemporaryDirectory() as directory:
@@ -213,7 +204,7 @@ class Terminal:
         self.child = child
 
     def waits_for(self, name, text, count):
-        """Waits until the file has the text so often, or the program has ended."""
+        """Waits until the file has the text this often, or the program has ended."""
         until = time.monotonic() + 60
         while self.child.isalive() and not (
                 pathlib.Path(name).exists() and pathlib.Path(name).read_text().count(text) >= count):
@@ -226,7 +217,7 @@ class Terminal:
         self.child.sendeof()
 
     def ended(self):
-        """The status, and what the terminal shows until the end."""
+        """The exit status, and the text on the terminal."""
         self.child.expect(self.child.EOF)
         self.child.wait()
         self.child.ptyproc.delayafterclose = 0

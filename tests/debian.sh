@@ -1,7 +1,7 @@
 #!/usr/bin/env bash
-# Builds the packages of debian/ in a copy of the tree, over the program and the C library that are built, has lintian
-# read them, and installs them into a root directory that is a copy of this machine's for a while: there the README's
-# example, the provider and the Python package work, and nothing is left once the packages are removed.
+# Builds the packages of debian/ in a copy of the tree, from the built program and C library, and checks them with
+# lintian. Installs them into a temporary copy of this machine's root directory: there README's example, the provider
+# and the Python package must work, and after the removal of the packages no file may be left.
 #
 # usage: tests/debian.sh        (KEYWRAP_ARCHIVES='PATH ..': over the last of these, which was built before)
 
@@ -53,6 +53,9 @@ only_copyright() {
 row 'a copy of the tree' copied
 row 'dpkg-buildpackage -b' built || { finish; exit; }
 row "lintian's errors" only_copyright
+# depends PACKAGE ON: the package depends on it.
+depends() { dpkg-deb -f "$1"_*.deb Depends | grep -F -e "$2"; }
+row 'libkeywrap-dev needs the library' depends libkeywrap-dev "libkeywrap1 (= $debian)"
 
 ### What is installed
 

@@ -1,7 +1,7 @@
 #!/usr/bin/env bash
-# Packs what `make dist` hands out for x86-64, and does what the README of each archive says, line by line. What it
-# builds there runs in a root directory that has only the archive and the system's C library. tests/arm64.sh tries the
-# archive for aarch64, tests/python.sh the lines of the wheel's README, tests/make.sh that one run packs all.
+# Packs the files of `make dist` for x86-64, and runs the lines of each archive's README, in a root directory that has
+# only the archive and the system's C library. tests/arm64.sh tries the archive for aarch64, tests/python.sh the lines
+# of the wheel's README, and tests/make.sh that one run packs everything.
 #
 # usage: tests/dist.sh        (KEYWRAP_ARCHIVES='PATH ..', KEYWRAP_JS=FOLDER: what was built before;
 #        KEYWRAP_REBUILD=1: the second `make dist` has rt build again, too, over the proofs that it keeps)

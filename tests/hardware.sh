@@ -1,6 +1,6 @@
 #!/usr/bin/env bash
-# Runs the steps of the C library around OpenSSL's AES and a token's, and libkeywrap_hw: the rows of tests/library over
-# it with and without the processor's AES, on x86-64 and aarch64, NIST's cases, and the provider built over it.
+# Runs the steps of the C library around OpenSSL's AES and a token's. Runs the calls of tests/library, NIST's cases and
+# the provider's comparisons over libkeywrap_hw, with and without the processor's AES, on x86-64 and aarch64.
 # A part whose tool is not there is skipped, with a line that says what to install.
 #
 # usage: tests/hardware.sh        (KEYWRAP_ARCHIVES='PATH ..' tries the last of these, which was built before)
@@ -74,25 +74,53 @@ if has valgrind valgrind 'what depends on secrets in the steps'; then
     row 'secrets: with the decision' writes 'ends of an unwrap' valgrind -q --error-limit=no --log-file=valgrind.log \
         ./secrets && cp written reported
     row 'secrets: the decision is seen' fails reports 'ends of an unwrap' 0
+    row 'secrets of libkeywrap_hw: compiles' cc "${options[@]}" -O1 -g "$root/tests/secrets/secrets.c" \
+        "$root/bench/one_table.c" "$library/libkeywrap_hw.a" -o hw_secrets
+    row 'secrets of libkeywrap_hw: runs' writes 'keywrap_kind: 0 reports' valgrind -q --error-limit=no \
+        --log-file=valgrind.log --suppressions="$root/tests/secrets/decision.supp" ./hw_secrets 264
+    row 'secrets of libkeywrap_hw: the length of a rewrapped key' diff <(sed '/: 0 reports/d; s/:.*//' written) \
+        <(printf '%s\n' 'keywrap_rewrap_in_place, to plain' 'keywrap_rewrap_in_place, padded' tables)
 fi
 
-### libkeywrap_hw
+### libkeywrap_hw, on each processor
 
-row 'the calls: compile' cc "${options[@]}" "$root"/tests/library/*.c "$root/bench/one_table.c" \
-    "$library/libkeywrap_hw.so.1" -o checks
-export LD_LIBRARY_PATH=$library
-row 'the calls' writes ' passed, 0 failed' ./checks few
-cc "${options[@]}" "$root/tests/hardware/chosen.c" "$root"/hardware/{aes,x86_64,aarch64}.c -o chosen
-if has qemu-x86_64 qemu-user 'the calls on other processors'; then
-    for processor in max Nehalem; do
-        row "the calls on $processor" writes ' passed, 0 failed' qemu-x86_64 -cpu $processor -E \
-            "LD_LIBRARY_PATH=$library" ./checks few
+! has_python cryptography_vectors || "$python" "$root/tests/nist_cases.py" >cases
+mapfile -t comparing < <(printf '%s\n' "$root"/tests/provider/*.c | grep -v '/direct\.c$')
+# builds FOLDER COMPILER WORD..: in the folder, the programs over $library/libkeywrap_hw.so.1.
+builds() {
+    mkdir -p "$1" && set -- "$1" "${@:2}" "${options[@]}" &&
+        "${@:2}" "$root"/tests/library/*.c "$root/bench/one_table.c" "$library/libkeywrap_hw.so.1" -o "$1/checks" &&
+        "${@:2}" "$root/tests/portable/nist.c" "$library/libkeywrap_hw.so.1" -o "$1/nist" &&
+        "${@:2}" "$root/tests/hardware/chosen.c" "$root"/hardware/{aes,x86_64,aarch64}.c -o "$1/chosen"
+}
+# compares FOLDER LIBCRYPTO COMPILER WORD..: in the folder, what compares the provider there with OpenSSL's own.
+compares() { "${@:3}" "${options[@]}" "${comparing[@]}" "$2" -o "$1/compared"; }
+# on PROCESSOR FOLDER AES COMMAND..: run by the command, the programs use this AES and find no fault.
+on() {
+    local part
+    row "$1: the AES" writes "$3" "${@:4}" "$2/chosen"
+    row "$1: the calls" writes ' passed, 0 failed' "${@:4}" "$2/checks" few
+    [ ! -s cases ] || row "$1: NIST's cases" writes '6000 right' "${@:4}" "$2/nist" <cases
+    # shellcheck disable=SC2086
+    [ ! -e "$2/compared" ] || for part in lengths 'sequences 1000' parameters 'refusals few'; do
+        row "$1: the provider, $part" "${@:4}" "$2/compared" "$2" $part
     done
-    row 'AES by instructions on max' writes 'instructions' qemu-x86_64 -cpu max ./chosen
-    row 'AES by instructions not on Nehalem' writes 'software' qemu-x86_64 -cpu Nehalem ./chosen
+}
+
+[ -s cases ] || skip "NIST's cases" 'no tables (apt-get install python3-cryptography-vectors)'
+row 'the programs: compile' builds here cc
+if [ -x evp ]; then
+    row 'make provider HARDWARE=1' in_library provider HARDWARE=1 PROVIDER="$room/here"
+    row 'it uses the hardware' grep -qw aes_set_encrypt <(nm here/keywrap.so)
+    row 'the comparisons: compile' compares here -lcrypto cc
 fi
-cc "${options[@]}" "$root"/tests/hardware/{chosen,wrong_aes}.c "$root/hardware/aes.c" -o chosen_wrong
-row 'an AES that fails the known-answer test is not used' writes 'software' ./chosen_wrong
+export LD_LIBRARY_PATH=$library KEYWRAP_VERSION
+KEYWRAP_VERSION=$(make -s --no-print-directory -C "$root" version)
+if has qemu-x86_64 qemu-user 'each processor'; then
+    on 'x86-64 with AES' here instructions qemu-x86_64 -cpu max
+    on 'x86-64 without AES' here software qemu-x86_64 -cpu Nehalem
+    row 'planted bugs' python3 "$root/tests/hardware/bugs.py" "$library/libkeywrap.a"
+fi
 # left MOST: no call but the first, which makes the known-answer test, leaves more bytes that depend on a secret below
 # the stack pointer. The 16 bytes are a block of the wrapped key.
 left() {
@@ -103,56 +131,38 @@ row 'the stack: compiles' cc -std=c99 -O1 -g "${options[@]:2}" "$root/tests/secr
     "$library/libkeywrap_hw.a" -Wl,-z,now -o stack
 row 'the stack: runs' ./stack && cp row.log stacked
 row 'the stack: round keys are cleared' left 16
+row 'the calls, all' writes ' passed, 0 failed' here/checks
+row "the provider's other tests" env KEYWRAP_ARCHIVES="$library/libkeywrap_hw.a" bash "$root/tests/provider.sh"
+unset LD_LIBRARY_PATH
 
-### What others compute, over it
-
-# over_hardware SCRIPT: the script passes over this archive.
-over_hardware() {
-    KEYWRAP_ARCHIVES=$library/libkeywrap_hw.a bash "$root/tests/$1.sh" >"$1.log" || { cat "$1.log" && false; }
-}
-row "the provider's comparisons" over_hardware provider
-row 'make provider HARDWARE=1' in_library provider HARDWARE=1 PROVIDER="$room/provider"
-row 'it uses the hardware' grep -qaF 'aes_set_encrypt' <(nm "$room/provider/keywrap.so")
-# nist: the cases of NIST, by the Python package over this archive.
-nist() {
-    make -s -C "$root" wheel PYTHON="$python" DIST="$room/wheel" LIBRARY="$room/for_wheel" \
-        ARCHIVE="$library/libkeywrap_hw.a" &&
-        "$python" -m zipfile -e wheel/*.whl site &&
-        PYTHONPATH=$room/site "$python" -m pytest -q -p no:cacheprovider "$root/python/tests/test_vectors.py" >nist.log
-    grep -E '^[0-9]+ passed' nist.log | grep -vE 'skipped|failed|error' || { cat nist.log && false; }
-}
-if has_python cffi,setuptools,wheel,build,pytest,cryptography_vectors; then
-    row "NIST's cases" nist
-else
-    skip "NIST's cases" 'no Python with its modules (apt-get install python3-build python3-cffi)'
-fi
-
-### aarch64
-
-export TARGET=aarch64-unknown-linux-gnu
-arm=$room/arm
-if ! has aarch64-linux-gnu-gcc gcc-aarch64-linux-gnu 'aarch64' || ! has qemu-aarch64 qemu-user 'aarch64'; then
+arm=aarch64-linux-gnu
+if ! has $arm-gcc gcc-$arm 'aarch64' || ! has qemu-aarch64 qemu-user 'aarch64'; then
     finish
     exit
 fi
-runs=(qemu-aarch64 -L /usr/aarch64-linux-gnu -E "LD_LIBRARY_PATH=$arm")
-if [ -n "${KEYWRAP_ARM64:-}" ]; then
-    row 'aarch64: make library HARDWARE=1' make -s -C "$root" library HARDWARE=1 LIBRARY="$arm" \
-        ARCHIVE="$KEYWRAP_ARM64/libkeywrap.a"
+export TARGET=aarch64-unknown-linux-gnu
+# shellcheck source=tests/library/machine.sh
+. "$root/tests/library/machine.sh"
+library=$room/arm_library
+made=(make -s -C "$root" HARDWARE=1 LIBRARY="$library" ${KEYWRAP_ARM64:+ARCHIVE="$KEYWRAP_ARM64/libkeywrap.a"})
+row 'aarch64: make library HARDWARE=1' "${made[@]}" library
+row 'aarch64: the programs: compile' builds arm $arm-gcc
+# Every processor of qemu has the instructions, so these programs answer in place of the C library that it has none.
+row 'aarch64 without AES: the programs: compile' builds arm_without $arm-gcc -rdynamic "$root/tests/hardware/no_aes.c"
+if [ -d "$sysroot/usr/include/openssl" ]; then
+    runs=(qemu-aarch64 -L "$sysroot")
+    of_debian=(-idirafter "$sysroot/usr/include" -idirafter "$sysroot/usr/include/$arm")
+    libcrypto=$sysroot/usr/lib/$arm/libcrypto.so
+    row 'aarch64: make provider HARDWARE=1' "${made[@]}" provider PROVIDER="$room/arm" CPPFLAGS="${of_debian[*]}"
+    row 'aarch64: the comparisons: compile' compares arm "$libcrypto" $arm-gcc "${of_debian[@]}"
+    row 'aarch64 without AES: the comparisons: compile' compares arm_without "$libcrypto" $arm-gcc "${of_debian[@]}" \
+        -rdynamic "$root/tests/hardware/no_aes.c"
+    ln -s ../arm/keywrap.so arm_without
 else
-    row 'aarch64: make library HARDWARE=1' make -s -C "$root" library HARDWARE=1 LIBRARY="$arm"
+    skip 'the provider on aarch64' "no OpenSSL in $sysroot (scripts/sysroot.sh '$sysroot')"
 fi
-row 'aarch64: the calls: compile' aarch64-linux-gnu-gcc "${options[@]}" "$root"/tests/library/*.c \
-    "$root/bench/one_table.c" "$arm/libkeywrap_hw.so.1" -o arm_checks
-row 'aarch64: the calls' writes ' passed, 0 failed' "${runs[@]}" ./arm_checks few
-# Every processor of qemu has the instructions, so the program answers in place of the C library that it has none.
-row 'aarch64: the calls without AES: compile' aarch64-linux-gnu-gcc "${options[@]}" "$root"/tests/library/*.c \
-    "$root/bench/one_table.c" "$root/tests/hardware/no_aes.c" "$arm/libkeywrap_hw.so.1" -rdynamic -o arm_without
-row 'aarch64: the calls without AES' writes ' passed, 0 failed' "${runs[@]}" ./arm_without few
-aarch64-linux-gnu-gcc "${options[@]}" "$root/tests/hardware/chosen.c" "$root"/hardware/{aes,x86_64,aarch64}.c \
-    -o arm_chosen
-aarch64-linux-gnu-gcc "${options[@]}" "$root/tests/hardware/chosen.c" "$root/tests/hardware/no_aes.c" \
-    "$root"/hardware/{aes,x86_64,aarch64}.c -o arm_chosen_without
-row 'aarch64: AES by instructions' writes 'instructions' "${runs[@]}" ./arm_chosen
-row 'aarch64: AES by software' writes 'software' "${runs[@]}" ./arm_chosen_without
+# An early processor.
+runs+=(-cpu cortex-a53 -E "LD_LIBRARY_PATH=$library")
+on 'aarch64 with AES' arm instructions "${runs[@]}"
+on 'aarch64 without AES' arm_without software "${runs[@]}"
 finish

@@ -1,7 +1,7 @@
 #!/usr/bin/env bash
 # Builds the package for browsers, Node and Deno, and runs its tests in Node without a flag and in Chromium, Firefox
-# and WebKit: each call, NIST's tables, the module's memory after each call, bundles. And types and presses in its page
-# in Chromium, as a person does. Deno is not in Debian, and so not tried.
+# and WebKit: each call, NIST's tables, the module's memory after each call, bundles. Also uses its page in Chromium, as
+# a person does. Deno is not in Debian, so it is not tested.
 #
 # usage: tests/js.sh        (KEYWRAP_JS=FOLDER: over the package that make built there before)
 

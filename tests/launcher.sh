@@ -1,6 +1,6 @@
 #!/usr/bin/env bash
-# Runs the launcher keywrap over a fake rt, which proves nothing and records its calls: what is built, in which order,
-# and when again; which messages are printed, and to which stream; what is left behind.
+# Runs the launcher keywrap with a fake rt, which proves nothing and records its calls. Checks what is built, in which
+# order, and when it is built again; the messages and their streams; and the files that are left.
 #
 # usage: tests/launcher.sh
 # SH=PATH tests/launcher.sh has another shell than /bin/sh run the launcher.

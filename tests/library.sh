@@ -1,7 +1,7 @@
 #!/usr/bin/env bash
-# Builds the C library by both of the toolchain's compilers, and calls it as users do: from C
-# through the header, from C++, Rust, Go, Java and Node, static and shared, as it is and as
-# installed. A part whose tool is not there is skipped, with a line that says what to install.
+# Builds the C library with both compilers of the toolchain, and calls it as users do: from C
+# through the header, from C++, Rust, Go, Java and Node, static and shared, before and after it is
+# installed. A part without its tool is skipped, with a line that says what to install.
 #
 # usage: tests/library.sh        (KEYWRAP_ARCHIVES='PATH ..' tries archives that were built before)
 
@@ -130,7 +130,7 @@ texts() { echo "void f$((++callers))(void) { char text[$1]; keywrap_status_text(
 
 # header_names: the calls of the header that return a status are the table's.
 header_names() {
-    diff <(sed -n 's/^int32_t \(keywrap_[a-z_]*\)(.*/\1/p' "$root/include/keywrap.h") \
+    diff <(sed -n 's/^int32_t \(keywrap_[a-z_]*\)(const.*/\1/p' "$root/include/keywrap.h") \
         <(printf '%s\n' "${calls[@]%% *}")
 }
 

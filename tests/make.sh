@@ -1,6 +1,6 @@
 #!/usr/bin/env bash
-# Runs the Makefile and the scripts beside it over a fake rt and fake scripts of tests/: what is built of what, and
-# when again; and that a failure never ends with status 0.
+# Runs the Makefile and its scripts with a fake rt and fake tests. Checks what is built, when it is built again, and
+# that a failure never ends with status 0.
 #
 # usage: tests/make.sh
 

@@ -1,6 +1,6 @@
 #!/usr/bin/env bash
-# Compares the completions of three shells with the program's help, and tries make install and make uninstall over a
-# program that is built. A part whose tool is not installed is skipped.
+# Compares the completions of three shells with the program's help, and tries make install and make uninstall with the
+# built program. A part without its tool is skipped.
 #
 # usage: tests/papers.sh        (KEYWRAP=PATH tries another program)
 

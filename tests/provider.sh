@@ -1,8 +1,7 @@
 #!/usr/bin/env bash
-# Builds the provider for OpenSSL 3, and makes each call by EVP in OpenSSL's own provider and in ours: the
-# answers must be the same, but for what docs/OPENSSL.md says. Then programs that know nothing of it are run
-# by the openssl.cnf of that page. A part whose tool is not there is skipped, with a line that says what to
-# install.
+# Builds the provider for OpenSSL 3, and makes each call by EVP with OpenSSL's own provider and with ours. The
+# results must be the same, except for the differences in docs/OPENSSL.md. Then other programs use it through
+# the openssl.cnf of that page. A part without its tool is skipped, with a line that says what to install.
 #
 # usage: tests/provider.sh        (KEYWRAP_ARCHIVES='PATH ..': over the last of these, which was built before)
 
@@ -60,23 +59,6 @@ programs() {
         "$cc" "${strict[@]}" -O1 -g "${@:2}" "$programs/direct.c" -ldl -o "$1/direct"
 }
 
-# nist: NIST's cases, a line each: the cipher's number, the KEK, the key or -, the wrapped key.
-nist() {
-    local folder form bits tables
-    folder=$("$python" -c 'import cryptography_vectors as v, os; print(os.path.dirname(v.__file__))')
-    for form in KW KWP; do
-        for bits in 128 192 256; do
-            tables=("$folder/keywrap/kwtestvectors/${form}_"{AE,AD}"_$bits.txt")
-            sed 's/\r$//' "${tables[@]}" | awk -v RS= -F '\n' -v n=$(((bits - 128) / 64 + (${#form} - 2) * 3)) '
-                /^COUNT = / {
-                    split("", word)
-                    for (i = 1; i <= NF; i++) { split($i, pair, " = "); word[pair[1]] = pair[2] }
-                    print n, word["K"], "FAIL" in word ? "-" : word["P"], word["C"]
-                }'
-        done
-    done
-}
-
 row 'the programs: compile' programs . || { finish; exit; }
 row 'called as by the core; refused memory; cleared KEKs' ./direct "$module"
 row 'all lengths, in each place' ./compared modules lengths
@@ -84,7 +66,7 @@ row 'random sequences' ./compared modules sequences 10000
 row 'parameters and names' ./compared modules parameters
 row 'where it differs' ./compared modules refusals
 if has_python cryptography_vectors; then
-    nist >nist.txt
+    "$python" "$root/tests/nist_cases.py" >nist.txt
     row "NIST's cases" writes '6000 cases' ./compared modules vectors <nist.txt
     row "NIST's refused cases" test "$(grep -c ' - ' nist.txt)" -gt 300
 else

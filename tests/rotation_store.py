@@ -41,7 +41,7 @@ class Room:
         self.path, self.here, self.calls = path, path / "here", path / "calls"
         for name in ("bin", "faulty", "here"):
             (path / name).mkdir()
-        (path / "bin/keywrap").symlink_to(program)
+        shutil.copy(program, path / "bin/keywrap")
         for tool in TOOLS:
             shutil.copy(FAKE_TOOL, path / "faulty" / tool)
         self.write_keks()

@@ -1,11 +1,11 @@
 #!/usr/bin/env bash
-# What depends on secrets in the built C library: valgrind's memcheck over each call, with the KEK, the
-# key and the wrapped key marked as undefined, reports each branch and each address that does. There
-# must be none but the decision of an unwrapping, whose answer is public (tests/secrets/decision.supp).
-# And how many bytes that depend on a KEK or a key each call leaves below the stack pointer.
+# Finds branches and addresses in the built C library that depend on secrets: valgrind's memcheck runs
+# each call, with the KEK, the key and the wrapped key marked as undefined. Only the decision of an
+# unwrapping is allowed, since the caller learns it (tests/secrets/decision.supp). Also counts the bytes
+# below the stack pointer that depend on a KEK or a key after each call.
 # A part whose tool is not there is skipped, with a line that says what to install.
 #
-# usage: tests/secrets.sh [LENGTHS]        keys of up to 1024 bytes, if not said.
+# usage: tests/secrets.sh [LENGTH]        keys of up to this many bytes, 1024 by default.
 # KEYWRAP_ARCHIVES='PATH ..' tries the last of these, which was built before; with TARGET it is one of that machine.
 
 set -u
@@ -38,10 +38,10 @@ options=(-std=c99 -O1 -g -Wall -Wextra -pedantic -Werror "-I$root/include" "-I$r
 leaves() {
     awk -v field="$1" -v most="$2" -v refused="$3" '
         $field > ($2 == "integrity" ? refused : most) { print; bad = 1 }
-        END { exit bad || NR != 246 }' left
+        END { exit bad || NR != 249 }' left
 }
 
-# exports: the calls that take a KEK are the header's.
+# exports: the calls are the header's.
 exports() {
     diff <(sed 's/[, ].*//; s/^/keywrap_/' left | sort -u) \
         <(sed -n 's/^int32_t \(keywrap_[a-z_]*\)(.*/\1/p' "$root/include/keywrap.h" | sort)

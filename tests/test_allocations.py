@@ -9,72 +9,70 @@ import subprocess
 
 import pytest
 
-from commands import ANSWERS, FILES, INTO_FILES, REFUSALS, Command
+from checks import held
+from commands import ANSWERS, FILES, INTO_FILES, REFUSALS, Command, chosen
 from program import Ended, refused
 from vectors import MEMORY
 
-OUT_OF_MEMORY = refused(7, MEMORY)
 # Command lines that are refused, the last with bytes that are not UTF-8.
 ARGUMENTS = [Command(" ".join(map(repr, args)), args, None, 2, b"", None) for args in (
     [], ["rewind"], ["wrap", "--kek", "kek16.hex", "--secret"], ["wrap"], ["drill", "00", "11"], ["drill", b"\xff"])]
 COMMANDS = ANSWERS + REFUSALS + ARGUMENTS + INTO_FILES
-# One of each subcommand: every allocation fails, the parser's too. Of the others only the last ones fail, which
-# are at most 40 (the parser makes 110 to 190 before them, as it does for these).
-WHOLE = ["wrap", "unwrap", "rewrap", "check", "drill", "vectors", "help", *(command.name for command in ARGUMENTS)]
+# Every allocation fails, the parser's too, by itself and with all later ones. Of the others only the last ones fail,
+# by themselves, which are at most 40: the parser makes 110 to 190 before them, as it does for these.
+WHOLE = ["wrap", "rewrap", "drill", "help", *(command.name for command in ARGUMENTS)]
 LAST = 48
 
 
+def named(commands):
+    return pytest.mark.parametrize("command", commands, ids=lambda command: command.name)
+
+
 @pytest.fixture
-def ends(keywrap, command):
-    """ends(program, ..) is how a run ends with ample memory, or OUT_OF_MEMORY, after which no file is changed."""
-    own = keywrap(*command.args, text=False)
+def succeeds(keywrap, command):
+    """succeeds(program, ..) returns whether a run ends as with ample memory. Otherwise nothing was written."""
+    own = keywrap(command.args, text=False)
     into_file = command in INTO_FILES
     answer = own.stdout if command.stdout is None else command.stdout
     line = own.stderr if command.stderr is None else command.stderr
-    complete = Ended(command.status, b"" if into_file else answer, line)
+    complete = Ended(command.status, b"" if into_file else answer, line), answer if into_file else FILES["old"]
     os.mkdir("to")
 
     def run(program, **options):
         pathlib.Path("to/file").write_bytes(FILES["old"])
-        ended = program(*command.args, stdin=command.given, text=False, **options)
-        held = pathlib.Path("to/file").read_bytes()
-        assert os.listdir("to") == ["file"], options
-        if ended[0] == 7 and ended != complete:
-            assert (ended, held) == ((7, b"", OUT_OF_MEMORY.stderr), FILES["old"]), options
-            return OUT_OF_MEMORY
-        assert (ended, held) == (complete, answer if into_file else FILES["old"]), options
-        return complete
+        ended = program(command.args, stdin=command.given, text=False, **options), held()
+        assert ended in (complete, (refused(7, MEMORY)._replace(stdout=b""), FILES["old"])), options
+        return ended == complete
 
-    run.complete = complete
     return run
 
 
-@pytest.mark.parametrize("command", COMMANDS, ids=lambda command: command.name)
-def test_each_allocation(preloaded, command, ends):
-    """Each fails in turn, by itself and with all later ones."""
+@named(COMMANDS)
+def test_each_allocation(preloaded, command, succeeds):
+    """Each allocation fails in turn."""
     program = preloaded("fail_alloc")
-    count = program.count(*command.args, stdin=command.given)
-    for number in range(1 if command.name in WHOLE else max(count - LAST, 1), count + 1):
-        for after in "", "+":
-            ends(program, FAIL_ALLOC=f"{number}{after}")
+    count = program.count(command.args, stdin=command.given)
+    is_whole = command.name in WHOLE
+    for number in range(1 if is_whole else max(count - LAST, 1), count + 1):
+        for after in ("", "+") if is_whole else ("",):
+            succeeds(program, FAIL_ALLOC=f"{number}{after}")
             assert program.met
-    assert ends(program, FAIL_ALLOC=str(count + 1)) == ends.complete
+    assert succeeds(program, FAIL_ALLOC=str(count + 1))
 
 
-@pytest.mark.parametrize("command", [each for each in COMMANDS if each.name in ("padded rewrap", "unwrap into a file")],
-                         ids=lambda command: command.name)
-def test_ever_more_memory(keywrap, starving, command, ends):
-    """The C library takes pages of their own for each allocation, so that each step of a page allows one more."""
+@named(chosen(COMMANDS, ["padded rewrap", "unwrap into a file"]))
+def test_ever_more_memory(keywrap, starving, command, succeeds):
+    """The C library uses separate pages for each allocation, so each page more allows one allocation more."""
     pages = {"GLIBC_TUNABLES": "glibc.malloc.mmap_threshold=1:glibc.malloc.mmap_max=1000000"}
     (kind, start), = starving.items()
-    for limit in range(start, start + (12 << 20), 4096):
-        if ends(keywrap, env=pages, limits={kind: limit}) == ends.complete:
-            break
-    assert limit > start
+    limit = start
+    while not succeeds(keywrap, env=pages, limits={kind: limit}):
+        limit += 4096
+    assert start < limit < start + (12 << 20)
 
 
 def calls(crates):
-    """The tests refuses_each_growth_.. of the test programs that `rt test` leaves in the crates there."""
+    """The tests refuses_each_growth_.. of the test programs that `rt test` built in the crates."""
     for crate in ["key_wrap", "keywrap_cli"]:
         program = os.path.abspath(f"{crates}/{crate}/out/{crate}_tests")
         listed = subprocess.run([program, "--list"], capture_output=True, text=True).stdout

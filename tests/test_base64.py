@@ -5,7 +5,6 @@ model of base64 in base64_model.py."""
 
 import base64
 import collections
-import os
 import pathlib
 import random
 import re
@@ -13,30 +12,23 @@ import re
 import pytest
 
 import base64_model
-from commands import MAX_FILE
-from program import Ended, refused
+from checks import DONE, comes_to
+from commands import CHECK, MAX_FILE, REWRAP, SAME_KEK, UNWRAP, WRAP
+from program import Ended, answered, piped, refused
 from vectors import (BAD_LENGTH, KEY16, INTEGRITY, IV, KEK16, KEK32, KEK_LENGTH, NEW_KEK_LENGTH, PADDED16, WRAPPED16,
                      WRAPPED32, WRAPPED_IV, in_base64, in_url, raw)
 
 D16_64, W16_64, W32_64 = in_base64(KEY16), in_base64(WRAPPED16), in_base64(WRAPPED32)
 D16_URL, W16_URL, W32_URL = in_url(KEY16), in_url(WRAPPED16), in_url(WRAPPED32)
-WRAP = ["wrap", "--kek", "kek16.hex"]
-UNWRAP = ["unwrap", "--kek", "kek16.hex"]
-REWRAP = ["rewrap", "--kek", "kek16.hex", "--new-kek", "kek32.hex"]
-CHECK = ["check", "--kek", "kek16.hex"]
 
 
-def answered(text):
-    return Ended(0, text + "\n", "")
-
-
-@pytest.mark.parametrize("given", [
-    D16_64, D16_URL, D16_64.rstrip("="), D16_URL + "==",
-    f" \t{D16_64[:5]} {D16_64[5]}\r\n{D16_64[6:]}"])
+@pytest.mark.parametrize("given", [D16_64, D16_URL, D16_64.rstrip("="), D16_URL + "==",
+                                   f" \t{D16_64[:5]} {D16_64[5]}\r\n{D16_64[6:]}"])
 def test_wrap_reads_both_alphabets(keywrap, given):
+    assert D16_64 + W16_64 != D16_URL + "==" + W16_URL
     for end in "", "\n":
-        assert keywrap(*WRAP, "--base64", stdin=given + end) == answered(W16_64)
-        assert keywrap(*WRAP, "--base64url", stdin=given + end) == answered(W16_URL)
+        assert keywrap(f"{WRAP} --base64", stdin=given + end) == answered(W16_64)
+        assert keywrap(f"{WRAP} --base64url", stdin=given + end) == answered(W16_URL)
 
 
 @pytest.mark.parametrize("job, flags, given, answer", [
@@ -46,58 +38,45 @@ def test_wrap_reads_both_alphabets(keywrap, given):
     (WRAP, f"--iv {IV} --base64", D16_64, in_base64(WRAPPED_IV)),
     (UNWRAP, f"--iv {IV} --base64url", in_base64(WRAPPED_IV), D16_URL),
     (WRAP, "--lines --base64url", f"{D16_64}\r\n\t{D16_URL} ", f"{W16_URL}\n{W16_URL}"),
+    (SAME_KEK, "--lines --keep-form --base64", f"{W16_URL}\n{in_url(PADDED16)}", f"{W16_64}\n{in_base64(PADDED16)}"),
     (REWRAP, "--lines --pass-new --base64", f"{W16_64}\n{W32_URL}", f"{W32_64}\n{W32_64}")])
 def test_answers(keywrap, job, flags, given, answer):
-    assert keywrap(*job, *flags.split(), stdin=given + "\n") == answered(answer)
-    assert keywrap(*job, *flags.split(), "-o", "file", stdin=given) == Ended(0, "", "")
+    assert keywrap(f"{job} {flags}", stdin=given + "\n") == answered(answer)
+    assert keywrap(f"{job} {flags} -o file", stdin=given) == DONE
     assert pathlib.Path("file").read_text() == answer + "\n"
 
 
-def test_alphabets_differ():
-    assert D16_64 + W16_64 != D16_URL + "==" + W16_URL
-
-
-def test_check_of_nothing(keywrap):
-    assert keywrap(*CHECK, "--base64", stdin="") == Ended(5, "none\n", "")
-
-
-def test_longest_key(keywrap):
+def test_longest_key_and_file(keywrap):
     """base64 breaks its lines at 76 columns; the file is read as one text, and the answer is one line."""
     key = random.Random(1).randbytes(1048576)
-    wrapped = keywrap(*WRAP, "--raw", stdin=key, text=False).stdout
-    given = base64.encodebytes(key)
-    assert keywrap(*WRAP, "--base64", stdin=given) == answered(base64.b64encode(wrapped).decode())
-    back = keywrap(*UNWRAP, "--base64url", stdin=base64.encodebytes(wrapped))
+    wrapped = keywrap(f"{WRAP} --raw", stdin=key, text=False).stdout
+    ended = keywrap(f"{WRAP} --base64", stdin=base64.encodebytes(key))
+    assert ended == answered(base64.b64encode(wrapped).decode())
+    back = keywrap(f"{UNWRAP} --base64url", stdin=base64.encodebytes(wrapped))
     assert back == answered(base64.urlsafe_b64encode(key).decode().rstrip("="))
-
-
-def test_longest_file(keywrap):
-    assert keywrap(*WRAP, "--base64", stdin=D16_64.ljust(MAX_FILE)) == answered(W16_64)
-    assert keywrap(*WRAP, "--base64", stdin=D16_64.ljust(MAX_FILE + 1)) == refused(6, "input: too long")
+    assert keywrap(f"{WRAP} --base64", stdin=D16_64.ljust(MAX_FILE)) == answered(W16_64)
+    assert keywrap(f"{WRAP} --base64", stdin=D16_64.ljust(MAX_FILE + 1)) == refused(6, "input: too long")
 
 
 def test_kek_and_input_have_their_own_notation(keywrap):
     for text in in_base64(KEK16), in_url(KEK16), " ".join(in_base64(KEK16)):
         pathlib.Path("kek").write_text(text + "\n")
-        assert keywrap("wrap", "--base64-kek", "--kek", "kek", stdin=KEY16) == answered(WRAPPED16)
+        assert keywrap("wrap --base64-kek --kek kek", stdin=KEY16) == answered(WRAPPED16)
     pathlib.Path("kek32.url").write_text(in_url(KEK32))
-    keks = ["--base64-kek", "--kek", "kek16.64", "--new-kek", "kek32.url"]
-    assert keywrap("rewrap", *keks, stdin=WRAPPED16) == answered(WRAPPED32)
-    wraps_raw = ["wrap", "--raw", "--base64-kek", "--kek", "kek16.64"]
-    assert keywrap(*wraps_raw, stdin=raw(KEY16), text=False) == Ended(0, raw(WRAPPED16), "")
-    assert keywrap("wrap", "--base64", "--raw-kek", "--kek", "kek16.raw", stdin=D16_64) == answered(W16_64)
+    keks = "--base64-kek --kek kek16.64"
+    assert keywrap(f"rewrap {keks} --new-kek kek32.url", stdin=WRAPPED16) == answered(WRAPPED32)
+    assert keywrap(f"wrap --raw {keks}", stdin=raw(KEY16), text=False) == Ended(0, raw(WRAPPED16))
+    assert keywrap("wrap --base64 --raw-kek --kek kek16.raw", stdin=D16_64) == answered(W16_64)
 
 
-@pytest.mark.parametrize("kek, new_kek, status, message", [
-    ("kek32.hex", "kek16.64", 3, KEK_LENGTH),
-    ("kek3.64", None, 3, KEK_LENGTH),
-    ("kek16.64", "kek3.64", 3, NEW_KEK_LENGTH),
-    ("after.64", None, 6, "key file: base64 goes on after its padding at byte 3"),
-    ("kek16.64", "after.64", 6, "new key file: base64 goes on after its padding at byte 3")])
-def test_refused_kek(keywrap, kek, new_kek, status, message):
+@pytest.mark.parametrize("args, status, message", [
+    ("rewrap --kek kek32.hex --new-kek kek16.64", 3, KEK_LENGTH), ("wrap --kek kek3.64", 3, KEK_LENGTH),
+    ("rewrap --kek kek16.64 --new-kek kek3.64", 3, NEW_KEK_LENGTH),
+    ("wrap --kek after.64", 6, "key file: base64 goes on after its padding at byte 3"),
+    ("rewrap --kek kek16.64 --new-kek after.64", 6, "new key file: base64 goes on after its padding at byte 3")])
+def test_refused_kek(keywrap, args, status, message):
     pathlib.Path("kek3.64").write_text("AAAA")
-    job = ["rewrap", "--new-kek", new_kek] if new_kek else ["wrap"]
-    assert keywrap(*job, "--base64-kek", "--kek", kek, stdin=WRAPPED16) == refused(status, message)
+    assert keywrap(f"{args} --base64-kek", stdin=WRAPPED16) == refused(status, message)
 
 
 @pytest.mark.parametrize("digits, in_64, in_64_url", [
@@ -107,11 +86,11 @@ def test_refused_kek(keywrap, kek, new_kek, status, message):
     ("14fb9c03d9", "FPucA9k=", "FPucA9k"), ("14fb9c03", "FPucAw==", "FPucAw")])
 def test_rfc_4648(keywrap, digits, in_64, in_64_url):
     """The texts of section 10, and the bytes of section 9."""
-    wrapped = in_base64(keywrap(*WRAP, "--padded", stdin=digits).stdout.strip())
+    wrapped = in_base64(keywrap(f"{WRAP} --padded", stdin=digits).stdout.strip())
     for text in in_64, in_64_url:
-        assert keywrap(*WRAP, "--padded", "--base64", stdin=text) == answered(wrapped)
-    assert keywrap(*UNWRAP, "--padded", "--base64", stdin=wrapped) == answered(in_64)
-    assert keywrap(*UNWRAP, "--padded", "--base64url", stdin=wrapped) == answered(in_64_url)
+        assert keywrap(f"{WRAP} --padded --base64", stdin=text) == answered(wrapped)
+    assert keywrap(f"{UNWRAP} --padded --base64", stdin=wrapped) == answered(in_64)
+    assert keywrap(f"{UNWRAP} --padded --base64url", stdin=wrapped) == answered(in_64_url)
 
 
 def test_jose(keywrap):
@@ -119,9 +98,8 @@ def test_jose(keywrap):
     pathlib.Path("k").write_text("GawgguFyGrWKav7AX4VKUg\n")
     cek = "BNMfxVSd_P4LZJ36P6pqzmt81C1vawnbyLEA8I-cLM8"
     encrypted_key = "6KB707dM9YTIgHtLvtgWQ8mKwboJW3of9locizkDTHzBC2IlrT1oOQ"
-    flags = ["--base64url", "--base64-kek", "--kek", "k"]
-    assert keywrap("wrap", *flags, stdin=cek) == answered(encrypted_key)
-    assert keywrap("unwrap", *flags, stdin=encrypted_key) == answered(cek)
+    assert keywrap("wrap --base64url --base64-kek --kek k", stdin=cek) == answered(encrypted_key)
+    assert keywrap("unwrap --base64url --base64-kek --kek k", stdin=encrypted_key) == answered(cek)
 
 
 def test_every_text_of_up_to_4_characters_in_lines(keywrap):
@@ -130,11 +108,11 @@ def test_every_text_of_up_to_4_characters_in_lines(keywrap):
     wanted = [base64_model.line_denoted(line) or BAD_LENGTH for line in lines]
     refusals = [f"keywrap: line {at}: {answer}\n" for at, answer in enumerate(wanted, 1) if isinstance(answer, str)]
     assert len({re.sub(" at byte .*", "", line.split(": ", 2)[2]) for line in refusals}) == 5
-    flags = ["--lines", "--keep-going", "--padded"]
-    ended = keywrap(*WRAP, *flags, "--base64url", stdin="\n".join(lines) + "\n")
+    flags = "--lines --keep-going --padded"
+    ended = keywrap(f"{WRAP} {flags} --base64url", stdin="\n".join(lines) + "\n")
     assert (ended.status, ended.stderr) == (4, "".join(refusals))
     in_hex = "".join(base64.urlsafe_b64decode(line + "==").hex() + "\n" for line in ended.stdout.split("\n")[:-1])
-    back = keywrap(*UNWRAP, *flags, stdin=in_hex).stdout
+    back = keywrap(f"{UNWRAP} {flags}", stdin=in_hex).stdout
     assert back == "".join("\n" if isinstance(answer, str) else answer.hex() + "\n" for answer in wanted)
 
 
@@ -143,67 +121,36 @@ def test_text_of_up_to_4_characters_as_one_key(keywrap, part):
     """A sample. Blanks are allowed anywhere."""
     for text in list(base64_model.texts(base64_model.LETTERS + "\n"))[97 * part::388]:
         answer = base64_model.denoted(text) or BAD_LENGTH
-        ended = keywrap(*WRAP, "--padded", "--base64", stdin=text)
+        ended = keywrap(f"{WRAP} --padded --base64", stdin=text)
         if isinstance(answer, bytes):
-            back = keywrap(*UNWRAP, "--padded", "--raw", stdin=base64.b64decode(ended.stdout), text=False)
-            assert (ended.stderr, back) == ("", Ended(0, answer, "")), text
-        elif answer == BAD_LENGTH:
-            assert ended == refused(4, answer), text
+            back = keywrap(f"{UNWRAP} --padded --raw", stdin=base64.b64decode(ended.stdout), text=False)
+            assert (ended.stderr, back) == ("", Ended(0, answer)), text
         else:
-            assert ended == refused(6, f"input: {answer}"), text
+            assert ended == (refused(4, answer) if answer == BAD_LENGTH else refused(6, f"input: {answer}")), text
 
 
 FAULTS = [
-    ("AA*A", 6, "no base64 character at byte 2"),
-    (" \tA.", 6, "no base64 character at byte 3"),
-    (" AA AA ", 6, "no base64 character at byte 3"),
-    ("A+A_", 6, "no base64 character at byte 3"),
-    (" AAA==AAA", 6, "base64 goes on after its padding at byte 6"),
-    ("AAAAA", 6, "length is not that of base64"),
-    ("AA=", 6, "length is not that of base64"),
-    ("AB==", 6, "last base64 character has bits of no byte")]
-LENGTH = ("AAAA", 4, BAD_LENGTH)
+    ("AA*A", (6, "no base64 character at byte 2")), (" \tA.", (6, "no base64 character at byte 3")),
+    (" AA AA ", (6, "no base64 character at byte 3")), ("A+A_", (6, "no base64 character at byte 3")),
+    (" AAA==AAA", (6, "base64 goes on after its padding at byte 6")), ("AAAAA", (6, "length is not that of base64")),
+    ("AA=", (6, "length is not that of base64")), ("AB==", (6, "last base64 character has bits of no byte"))]
+REFUSED = [*FAULTS, ("AAAA", (4, BAD_LENGTH))]
 
 
 @pytest.mark.parametrize("at", [0, 1, 2])
 @pytest.mark.parametrize("job, good, answer, faults", [
-    (WRAP + ["--base64"], D16_64, W16_64, FAULTS + [LENGTH]),
-    (WRAP + ["--base64url"], D16_64, W16_URL, FAULTS + [LENGTH]),
-    (UNWRAP + ["--base64"], W16_64, D16_64, FAULTS + [LENGTH, (W32_64, 5, INTEGRITY)]),
-    (REWRAP + ["--base64url"], W16_URL, W32_URL, FAULTS + [LENGTH, (W32_64, 5, INTEGRITY)]),
-    (CHECK + ["--base64"], W16_URL, "plain 16", FAULTS)], ids=["wrap", "wrap-url", "unwrap", "rewrap", "check"])
+    (f"{WRAP} --base64", D16_64, W16_64, REFUSED), (f"{WRAP} --base64url", D16_64, W16_URL, REFUSED),
+    (f"{UNWRAP} --base64", W16_64, D16_64, [*REFUSED, (W32_64, (5, INTEGRITY))]),
+    (f"{REWRAP} --base64url", W16_URL, W32_URL, [*REFUSED, (W32_64, (5, INTEGRITY))]),
+    (f"{CHECK} --base64", W16_URL, "plain 16", FAULTS),
+    (f"{WRAP} --base64", D16_64, W16_64, [(" " * MAX_FILE + "A", (6, "too long"))])],
+    ids=["wrap", "wrap-url", "unwrap", "rewrap", "check", "too long"])
 def test_refused_line(keywrap, job, good, answer, faults, at):
-    job = job + ["--lines"]
-    for bad, status, message in faults:
-        lines, answers = [good] * 3, [answer] * 3
-        lines[at], answers[at] = bad, ""
-        given, error = "\n".join(lines) + "\n", f"keywrap: line {at + 1}: {message}\n"
-        assert keywrap(*job, stdin=given) == Ended(status, (answer + "\n") * at, error)
-        assert keywrap(*job, "--keep-going", stdin=given) == Ended(status, "\n".join(answers) + "\n", error)
-        pathlib.Path("in").write_text(given)
-        assert keywrap(*job, "-i", "in", "-o", "old") == Ended(status, "", error)
-        assert pathlib.Path("old").read_text() == "old\n"
-
-
-def test_lines_of_both_forms(keywrap):
-    in_hex = keywrap(*REWRAP, "--keep-form", "--lines", stdin=f"{WRAPPED16}\n{PADDED16}\n").stdout.split()
-    given = f"{W16_64}\n{in_base64(PADDED16)}\n"
-    wanted = [W32_64, in_base64(in_hex[1])]
-    assert keywrap(*REWRAP, "--keep-form", "--base64", "--lines", stdin=given) == answered("\n".join(wanted))
-
-
-def test_line_too_long(keywrap):
-    given = " " * MAX_FILE + "A\n"
-    assert keywrap(*WRAP, "--lines", "--base64", stdin=given) == refused(6, "line 1: too long")
-
-
-def test_many_lines_as_in_hex(keywrap):
-    keys = [random.Random(at).randbytes(16 + 8 * (at % 4)).hex() for at in range(1000)]
-    wrapped = keywrap(*WRAP, "--lines", stdin="\n".join(keys)).stdout.split()
-    keys_64, wrapped_64 = "\n".join(map(in_base64, keys)), "\n".join(map(in_base64, wrapped))
-    assert len(wrapped) == 1000
-    assert keywrap(*WRAP, "--lines", "--base64", stdin=keys_64) == answered(wrapped_64)
-    assert keywrap(*UNWRAP, "--lines", "--base64", stdin=wrapped_64) == answered(keys_64)
+    for bad, outcome in faults:
+        lines, outcomes = [good] * 3, [answer] * 3
+        lines[at], outcomes[at] = bad, outcome
+        comes_to(keywrap, job, lines, outcomes)
+        comes_to(keywrap, job, lines, outcomes, keep_going=True)
 
 
 @pytest.mark.parametrize("bits", [128, 192, 256])
@@ -221,25 +168,21 @@ def test_nist(keywrap, table, bits):
         case = dict(re.findall(r"^(\w+)(?: = ([0-9A-Fa-f]+))?$", block, re.M))
         if int(case.get("COUNT", 1)) % 5:
             continue
-        # The KEK comes through a pipe of its own.
-        reading, writing = os.pipe()
-        os.write(writing, in_base64(case["K"]).encode())
-        os.close(writing)
-        args = [job, "--base64", "--base64-kek", "--kek", f"/dev/fd/{reading}", *["--padded"] * ("KWP" in table)]
-        ended = keywrap(*args, stdin=in_base64(case[given]), pass_fds=[reading])
-        os.close(reading)
+        with piped(in_base64(case["K"])) as kek:
+            args = f"{job} --base64 --base64-kek --kek {kek}" + " --padded" * ("KWP" in table)
+            ended = keywrap(args, stdin=in_base64(case[given]))
         assert ended == (refused(5, INTEGRITY) if "FAIL" in case else answered(in_base64(case[wanted]))), case
         statuses[ended.status] += 1
     assert statuses.total() == 100
     assert statuses[5] > 5 or job == "wrap"
 
 
-@pytest.mark.parametrize("job", [WRAP, UNWRAP, REWRAP, CHECK], ids=["wrap", "unwrap", "rewrap", "check"])
+@pytest.mark.parametrize("job", [WRAP, UNWRAP, REWRAP, CHECK])
 def test_notations_exclude_one_another(keywrap, job):
     for one, other in [("--base64", "--raw"), ("--base64url", "--raw"), ("--base64", "--base64url"),
                        ("--base64-kek", "--raw-kek"), ("--base64", "--base64")]:
         for flags in [one, other], [other, one]:
-            ended = keywrap(*job, *flags)
+            ended = keywrap(job, *flags)
             assert (ended.status, ended.stdout) == (2, "")
             assert ended.stderr.startswith(f"error: the argument '{flags[0]}' cannot be used")
-    assert keywrap("drill", "--base64", "00").status == 2
+    assert keywrap("drill --base64 00").status == 2

@@ -13,8 +13,9 @@ DOCUMENTS = [path.relative_to(ROOT) for path in [
 DIRECTORIES = (r"\.ci|bench|completions|crates|docs|examples|include|man|provider|python|scripts|specs|src|tests"
                "|[a-z_]+/(?:specs|src|proofs)")
 EACH = pytest.mark.parametrize("document", DOCUMENTS, ids=str)
-# How many phrases that scripts/plain_english.py counts are left. It may only get smaller.
-FOREIGN_PHRASES = 24
+# How many phrases that scripts/plain_english.py counts are left: the manual page has one in a fixed message of the
+# program, on the length of a base64 file; key_lines has a place, the start of the next line.
+FOREIGN_PHRASES = 2
 
 
 def text_of(document):
@@ -28,7 +29,7 @@ def headings(document):
 
 
 def prose(document):
-    """The text without code, tables of terms, and what a link leads to, on one line."""
+    """The text without code, tables of terms and the targets of links, on one line."""
     text = re.sub(r"^```.*?^```", "", text_of(document), flags=re.M | re.S)
     text = re.sub(r"^    .*", "", text, flags=re.M)
     text = re.sub(r"`[^`]*`", "`", text)
@@ -74,7 +75,7 @@ def test_terms(document):
 
 
 def test_no_licence():
-    """README says that there is none, and no file gives one."""
+    """README says that there is no licence, and no file gives one."""
     assert "No licence has been given yet: the owner decides." in " ".join(text_of("README.md").split())
     tracked = subprocess.run(["git", "-C", ROOT, "ls-files"], capture_output=True, text=True).stdout.splitlines()
     assert [name for name in tracked if re.match(r"(?i)licen[cs]e|copying|copyright$", name.split("/")[-1])] == []
@@ -96,8 +97,8 @@ def test_plain_english():
 
 
 def test_version(keywrap):
-    """What repeats the file VERSION: the program, one place in its sources, the header, debian/changelog and the newest
-    changes; and nothing else does."""
+    """VERSION is repeated by the program, one place in its sources, the header, debian/changelog and the newest
+    changes, and by nothing else."""
     version = text_of("VERSION").strip()
     number, dev = re.fullmatch(r"(\d+\.\d+\.\d+)(?:-(dev))?", version).groups("")
     assert keywrap("--version").stdout == f"keywrap {version}\n"
@@ -122,8 +123,8 @@ def test_version(keywrap):
     ("bad length", "js/keywrap.js provider/errors.c"),
     ("integrity check failed", "js/keywrap.js provider/errors.c")])
 def test_words_of_a_refusal(words, elsewhere):
-    """They are the same in every language that can say them. A cipher of OpenSSL has one length of KEK; Python asks the
-    library for the words that it takes whole."""
+    """The words are the same in every language. A cipher of OpenSSL has one length of KEK, and Python gets other
+    messages from the library."""
     for name in ["crates/keywrap_calls/src/texts.rt", *elsewhere.split()]:
         assert words in text_of(name), name
     assert any(words in path.read_text() for path in ROOT.glob("crates/keywrap_cli/src/**/*.rt"))

@@ -12,27 +12,21 @@ import subprocess
 
 import pytest
 
-from commands import FILES, JOBS
-from output_file import FLUSH_FAULT, NO_OUTPUT, fresh, keeps, lands, state
-from program import Ended
+from checks import DONE, FLUSH_FAULT, NO_OUTPUT, fresh, held, keeps, lands, no_output, state
+from commands import FILES, JOBS, UNWRAP, WRAP
+from program import Ended, refused
+from vectors import NOT_FLUSHED
 
-WRAP = ["wrap", "--kek", "kek16.hex", "-i", "key.hex"]
-WRAP_FILE = [*WRAP, "-o", "to/file"]
-WRAPPED, KEY = FILES["wrapped.hex"], FILES["key.hex"]
-UNWRAP_FILE = ["unwrap", "--kek", "kek16.hex", "-i", "wrapped.hex", "-o", "to/file"]
-DONE = Ended(0, "", "")
-
-
-def with_reason(refusal, reason):
-    return refusal._replace(stderr=f"{refusal.stderr}  {reason}\n")
+WRAP_FILE, UNWRAP_FILE = f"{WRAP} -i key.hex -o to/file", f"{UNWRAP} -i wrapped.hex -o to/file"
+WRAPPED = FILES["wrapped.hex"]
 
 
 class TestFailingCalls:
-    """tests/fail_call.c names the calls of the system that are made, and has some fail."""
+    """tests/fail_call.c lists the system calls that are made, and lets some fail."""
 
     @pytest.fixture
     def failing(self, preloaded):
-        """failing(*args, FAIL_CALL="rename:1") runs the program; `failing.met` are the calls that it made."""
+        """failing(args, FAIL_CALL="rename:1") runs the program. `failing.met` are the calls that it made."""
         return preloaded("fail_call")
 
     def calls(self, failing, *names):
@@ -40,29 +34,29 @@ class TestFailingCalls:
 
     @pytest.mark.parametrize("job", JOBS, ids=lambda job: job.name)
     def test_sync(self, failing, job):
-        """The new file is on the disk before it gets its name, and then its directory; an error changes nothing."""
+        """The new file is synced before it is renamed, and its directory afterwards. An error changes nothing."""
         fresh(b"old\n")
         args = [*job.args, "-i", job.stdin, "-o", "to/file"]
         for call in "fsync:1", "rename:1":
             keeps(failing, args, FLUSH_FAULT, FAIL_CALL=call)
-        assert failing(*args) == Ended(job.status, "", "")
+        assert failing(args) == Ended(job.status)
         assert self.calls(failing, "fsync", "rename") == ["fsync", "rename", "fsync"]
-        assert pathlib.Path("to/file").read_bytes() == job.stdout
+        assert held() == job.stdout
 
     def test_sync_of_the_directory(self, failing):
-        """That a directory cannot be synced (22, 95) is no error."""
+        """It is not an error if a directory cannot be synced (22, 95)."""
         for error in "22", "95":
             fresh(b"old\n")
             lands(failing, WRAP_FILE, WRAPPED, FAIL_CALL="fsync:2", FAIL_ERRNO=error)
             shutil.rmtree("to")
         fresh(b"old\n")
-        assert failing(*WRAP_FILE, FAIL_CALL="fsync:2") == FLUSH_FAULT
-        assert pathlib.Path("to/file").read_bytes() == WRAPPED
+        assert failing(WRAP_FILE, FAIL_CALL="fsync:2") == FLUSH_FAULT
+        assert held() == WRAPPED
 
     def test_rename(self, failing):
         fresh(b"old\n")
-        ended = with_reason(FLUSH_FAULT, "to/file: Input/output error (os error 5)")
-        keeps(failing, [*WRAP_FILE, "--verbose"], ended, FAIL_CALL="rename")
+        ended = refused(6, NOT_FLUSHED, "to/file: Input/output error (os error 5)")
+        keeps(failing, f"{WRAP_FILE} --verbose", ended, FAIL_CALL="rename")
 
     @pytest.mark.parametrize("args", [
         "wrap --kek to/kek16.hex -i key.hex -o to/file", "wrap --kek to/kek16.hex -i key.hex -o to/kek16.hex",
@@ -76,10 +70,10 @@ class TestFailingCalls:
         shutil.copy("kek16.hex", "to")
         shutil.copy("kek32.hex", "to")
         os.link("to/kek16.hex", "to/link")
-        args, before = [*args.split(), "--verbose"], state()
+        before = state()
         for call in range(1, 99):
             for after in "+", "":
-                ended = failing(*args, FAIL_CALL=f"statx:{call}{after}")
+                ended = failing(f"{args} --verbose", FAIL_CALL=f"statx:{call}{after}")
                 if failing.met.split().count("statx") < call:
                     assert call > 1
                     return
@@ -91,81 +85,71 @@ class TestFailingCalls:
     @pytest.mark.parametrize("call", [1, 2], ids=["KEK file", "input"])
     def test_file_that_may_be_the_output(self, failing, call):
         fresh(b"old\n")
-        reason = "to/file: may be a file that was read"
-        keeps(failing, [*WRAP_FILE, "--lines", "--keep-going", "--verbose"], with_reason(NO_OUTPUT, reason),
-              FAIL_CALL=f"statx:{call}")
+        args = f"{WRAP_FILE} --lines --keep-going --verbose"
+        keeps(failing, args, no_output("to/file: may be a file that was read"), FAIL_CALL=f"statx:{call}")
 
     def test_mode(self, failing):
-        """A mode that is right already is not set: some file systems refuse to set it."""
+        """A mode that is already right is not set, since some file systems refuse to set it."""
         fresh(b"old\n", 0o600)
         lands(failing, WRAP_FILE, WRAPPED, FAIL_CALL="fchmod", FAIL_ERRNO="1")
         os.chmod("to/file", 0o640)
-        reason = "to/file: owner, group or mode can't be kept: Operation not permitted (os error 1)"
-        keeps(failing, [*WRAP_FILE, "--verbose"], with_reason(NO_OUTPUT, reason), FAIL_CALL="fchmod", FAIL_ERRNO="1")
+        ended = no_output("to/file: owner, group or mode can't be kept: Operation not permitted (os error 1)")
+        keeps(failing, f"{WRAP_FILE} --verbose", ended, FAIL_CALL="fchmod", FAIL_ERRNO="1")
 
     @pytest.mark.parametrize("args", [WRAP_FILE, UNWRAP_FILE], ids=["wrap", "unwrap"])
     @pytest.mark.parametrize("content", [b"old\n", None], ids=["old file", "new file"])
     @pytest.mark.parametrize("shared", [0o777, 0o004, 0o040], ids=oct)
     def test_file_system_without_modes(self, failing, args, content, shared):
-        """It lets others read a new file: everybody, the others, or the group."""
+        """On such a file system other users can read a new file: everybody, the others, or the group."""
         fresh(content, 0o600)
-        reason = "to/file: owner, group or mode can't be kept: the file system has one for all"
-        keeps(failing, [*args, "--verbose"], with_reason(NO_OUTPUT, reason), ONE_MODE=str(shared))
+        ended = no_output("to/file: owner, group or mode can't be kept: the file system has one for all")
+        keeps(failing, f"{args} --verbose", ended, ONE_MODE=str(shared))
 
     @pytest.mark.skipif(os.getuid() != 0, reason="only root can change owners")
     def test_owner_and_then_the_mode(self, failing):
         fresh(b"old\n", 0o640)
         os.chown("to/file", 12345, 54321)
-        assert failing(*WRAP_FILE) == DONE
+        assert failing(WRAP_FILE) == DONE
         assert self.calls(failing, "fchown", "fchmod") == ["fchown", "fchmod"]
 
     @pytest.mark.parametrize("cwd, name", [(".", "to/file"), ("to", "file")])
     def test_directory_that_cannot_be_read(self, failing, without_rights, files, cwd, name):
-        """It is not synced then, and no other in its place."""
+        """Then it is not synced, and no other directory either."""
         fresh(b"old\n")
         os.chmod("to", 0o300)
         prefix = without_rights("dac_override", "dac_read_search")
-        args = ["wrap", "--kek", f"{files}/kek16.hex", "-i", f"{files}/key.hex", "-o", name]
-        assert failing(*args, cwd=cwd, prefix=prefix) == DONE
+        args = f"wrap --kek {files}/kek16.hex -i {files}/key.hex -o {name}"
+        assert failing(args, cwd=cwd, prefix=prefix) == DONE
         assert self.calls(failing, "fsync", "rename") == ["fsync", "rename"]
         os.chmod("to", 0o755)
-        assert pathlib.Path("to/file").read_bytes() == WRAPPED
+        assert held() == WRAPPED
 
 
 class TestRights:
     @pytest.fixture
     def unprivileged(self, keywrap, without_rights):
-        """The program without the right to write against the modes."""
+        """The program without the right to ignore the modes of files."""
         prefix = without_rights("dac_override")
-        return lambda *args, **options: keywrap(*args, prefix=prefix, **options)
+        return lambda args: keywrap(args, prefix=prefix)
 
     @pytest.mark.parametrize("name", ["to/new", "to/file"])
     def test_directory_that_cannot_be_written(self, unprivileged, name):
         fresh(b"old\n")
         os.chmod("to", 0o555)
-        keeps(unprivileged, [*WRAP, "-o", name], NO_OUTPUT)
+        keeps(unprivileged, f"{WRAP} -i key.hex -o {name}", NO_OUTPUT)
 
     @pytest.mark.parametrize("mode", [0o000, 0o444], ids=oct)
     def test_file_that_cannot_be_written(self, unprivileged, mode):
         fresh(b"old\n", mode)
-        assert unprivileged(*WRAP_FILE) == DONE
+        assert unprivileged(WRAP_FILE) == DONE
         os.chmod("to/file", mode | 0o400)
-        assert pathlib.Path("to/file").read_bytes() == WRAPPED
-
-    def test_sticky_directory(self, as_nobody):
-        """Each user may replace only files of his own, as in /tmp."""
-        fresh(b"old\n")
-        os.chmod("to", 0o1777)
-        keeps(as_nobody, UNWRAP_FILE, FLUSH_FAULT)
-        keeps(as_nobody, WRAP_FILE, NO_OUTPUT)
-        os.remove("to/file")
-        lands(as_nobody, WRAP_FILE, WRAPPED)
+        assert held() == WRAPPED
 
 
 def test_limit_that_ends_the_program(keywrap):
-    """The system tells of a limit on the size of files by a signal, which ends the program if it is not ignored."""
+    """The system reports a limit on the size of files by a signal, which ends the program if it is not ignored."""
     fresh(b"old\n")
-    with keywrap.started(*WRAP_FILE, limits={"CORE": 0, "FSIZE": 0}, ignoring=[]) as run:
+    with keywrap.started(WRAP_FILE, limits={"CORE": 0, "FSIZE": 0}, ignoring=[]) as run:
         assert run.wait(60) == -signal.SIGXFSZ
     assert pathlib.Path("to/file").read_bytes() == b"old\n"
     assert (pathlib.Path("to/file.part0").read_bytes(), sorted(os.listdir("to"))) == (b"", ["file", "file.part0"])
@@ -174,7 +158,7 @@ def test_limit_that_ends_the_program(keywrap):
 
 @pytest.fixture
 def attribute():
-    """attribute("+i", name) sets an attribute of the file system, if it may, and takes it away at the end."""
+    """attribute("+i", name) sets an attribute of the file system, if allowed, and removes it at the end."""
     done = []
 
     def change(what, name):
@@ -194,18 +178,17 @@ def test_immutable_file(keywrap, attribute):
 
 
 def test_directory_that_can_only_grow(keywrap, attribute):
-    """Nothing can be renamed or removed there: the new file stays, and has the answer."""
+    """No file can be renamed or removed there, so the new file stays, with the answer."""
     fresh(b"old\n")
     attribute("+a", "to")
-    assert keywrap(*WRAP_FILE) == FLUSH_FAULT
-    assert pathlib.Path("to/file").read_bytes() == b"old\n"
-    assert sorted(os.listdir("to")) == ["file", "file.part0"]
-    assert pathlib.Path("to/file.part0").read_bytes() == WRAPPED
+    assert keywrap(WRAP_FILE) == FLUSH_FAULT
+    assert {path.name: path.read_bytes() for path in pathlib.Path("to").iterdir()} == {
+        "file": b"old\n", "file.part0": WRAPPED}
 
 
 @pytest.fixture
 def mounting(keywrap):
-    """mounting(script) runs lines of sh with a right to mount, in which $program is the program."""
+    """mounting(script) runs lines of sh with the right to mount. $program is the program."""
     unshare = ["unshare", "-rm", "sh", "-eu", "-c"]
     os.mkdir("at")
     if not shutil.which("unshare") or subprocess.run([*unshare, "mount -t tmpfs none at"],
@@ -221,7 +204,7 @@ def mounting(keywrap):
 
 
 def test_equal_numbers_on_two_file_systems(mounting):
-    """They give their first files one number: the KEK file is on the one, the output on the other."""
+    """Their first files have the same inode number. The KEK file is on one of them, the output on the other."""
     ended = mounting("""mkdir one other
         mount -t tmpfs none one
         mount -t tmpfs none other
@@ -232,11 +215,11 @@ def test_equal_numbers_on_two_file_systems(mounting):
         cat other/file""")
     if ended.status == 77:
         pytest.skip("the file systems give other numbers")
-    assert ended == Ended(0, WRAPPED.decode(), "")
+    assert ended == Ended(0, WRAPPED.decode())
 
 
 def test_mount_point(mounting):
-    """It cannot be replaced, which comes out at the end."""
+    """It cannot be replaced, which the program notices only at the end."""
     ended = mounting("""echo old >at/file
         mount --bind kek24.hex at/file
         "$program" wrap --kek kek16.hex -i key.hex -o at/file && exit

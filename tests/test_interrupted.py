@@ -1,7 +1,10 @@
-"""Runs with --output that wait, that are ended by a signal, or whose directory changes meanwhile."""
+"""Runs that wait for their input: with --output ended by a signal, or with a directory that changes meanwhile; with
+--lines a co-process, whose finished answers are written before it waits for the next line."""
 
 import os
 import pathlib
+import select
+import shutil
 import signal
 import stat
 import subprocess
@@ -9,65 +12,59 @@ import time
 
 import pytest
 
-from commands import FILES
-from output_file import FLUSH_FAULT, fresh, lands, state
+from checks import DONE, FLUSH_FAULT, fresh, held, lands, state
+from commands import CHECK, FILES, SAME_KEK, UNWRAP, WRAP
 from program import Ended
 from vectors import KEY16, WRAPPED16
 
-WRAP_FILE = ["wrap", "--kek", "kek16.hex", "-i", "key.hex", "-o", "to/file"]
-WRAPPED, WRAPPED32 = FILES["wrapped.hex"], FILES["wrapped32.hex"]
-LINES = ["wrap", "--lines", "--kek", "kek16.hex"]
+WRAP_FILE = f"{WRAP} -i key.hex -o to/file"
+WRAPPED = FILES["wrapped.hex"]
 PART = pathlib.Path("to/file.part0")
+EACH_SIGNAL = pytest.mark.parametrize("number", [signal.SIGKILL, signal.SIGINT, signal.SIGTERM, signal.SIGHUP])
 
 
-class Waiting:
-    """A run over to/file that waits for its input."""
-
-    def __init__(self, keywrap, *args, until=PART.exists):
-        self.run = keywrap.started(*args, "-o", "to/file", stdin=subprocess.PIPE, stdout=subprocess.PIPE,
-                                   stderr=subprocess.PIPE)
-        self.until(until)
-
-    def until(self, ready):
-        for _ in range(6000):
-            if ready():
-                return
-            time.sleep(0.01)
-        raise TimeoutError("the run does not begin")
-
-    def ended(self, given=b""):
-        """How it ends when it gets its input."""
-        out, err = self.run.communicate(given, timeout=240)
-        return Ended(self.run.returncode, out.decode(), err.decode())
+def until(ready):
+    """Waits until the run has come to this point."""
+    end = time.monotonic() + 60
+    while not ready():
+        assert time.monotonic() < end, "the run does not begin"
+        time.sleep(0.01)
 
 
 @pytest.fixture
 def begin(keywrap):
-    """begin(job) starts a run; what still waits at the end is killed."""
+    """begin(args) starts a run over to/file that waits for its input. A run that still waits at the end is killed."""
     begun = []
 
-    def start(job="wrap"):
-        begun.append(Waiting(keywrap, job, "--kek", "kek16.hex"))
+    def start(args=WRAP):
+        begun.append(keywrap.started(f"{args} -o to/file", stdin=subprocess.PIPE, stdout=subprocess.PIPE,
+                                     stderr=subprocess.PIPE))
+        until(PART.exists)
         return begun[-1]
 
     yield start
-    for waiting in begun:
-        waiting.run.kill()
-        waiting.run.communicate()
+    for run in begun:
+        run.kill()
+        run.communicate()
 
 
-@pytest.mark.parametrize("name", ["KILL", "INT", "TERM", "HUP"])
-@pytest.mark.parametrize("given", [[], ["--input", "pipe"]], ids=["standard input", "pipe"])
-def test_signal(keywrap, name, given):
-    """The file stays as it is, and beside it at most the new file. The next run takes another."""
+def ended(run, given=b""):
+    """How the run ends when it gets its input."""
+    out, err = run.communicate(given, timeout=240)
+    return Ended(run.returncode, out.decode(), err.decode())
+
+
+@EACH_SIGNAL
+@pytest.mark.parametrize("given", ["", "--input pipe"], ids=["standard input", "pipe"])
+def test_signal(keywrap, begin, number, given):
+    """The file is unchanged, and only the new file may be beside it. The next run uses another name."""
     fresh(b"old\n")
     os.mkfifo("pipe")
-    before, number = state(), getattr(signal, f"SIG{name}")
-    pipe = os.open("pipe", os.O_RDWR)
-    waiting = Waiting(keywrap, "wrap", "--kek", "kek16.hex", *given)
+    before, pipe = state(), os.open("pipe", os.O_RDWR)
+    run = begin(f"{WRAP} {given}")
     assert state(str(PART)) == before
-    waiting.run.send_signal(number)
-    assert waiting.ended() == Ended(-number, "", "")
+    run.send_signal(number)
+    assert ended(run) == Ended(-number)
     os.close(pipe)
     assert state(str(PART)) == before
     if PART.exists():
@@ -75,75 +72,103 @@ def test_signal(keywrap, name, given):
     lands(keywrap, WRAP_FILE, WRAPPED)
 
 
-@pytest.mark.parametrize("name", ["KILL", "INT", "TERM", "HUP"])
-def test_signal_in_the_middle_of_many_lines(keywrap, name):
+@EACH_SIGNAL
+def test_signal_in_the_middle_of_many_lines(keywrap, begin, number):
     fresh(b"old\n")
-    before, number = state(), getattr(signal, f"SIG{name}")
-    waiting = Waiting(keywrap, *LINES)
-    waiting.run.stdin.write((KEY16 + "\n").encode() * 4999)
-    waiting.until(lambda: PART.stat().st_size)
-    waiting.run.send_signal(number)
-    assert waiting.ended() == Ended(-number, "", "")
+    before, run = state(), begin(f"{WRAP} --lines")
+    run.stdin.write((KEY16 + "\n").encode() * 4999)
+    until(lambda: PART.stat().st_size)
+    run.send_signal(number)
+    assert ended(run) == Ended(-number)
     assert state(str(PART)) == before
     pathlib.Path("keys").write_text((KEY16 + "\n") * 4999)
-    lands(keywrap, [*LINES, "-i", "keys", "-o", "to/file"], (WRAPPED16 + "\n").encode() * 4999)
-
-
-def test_file_is_the_old_one_while_the_run_waits(begin):
-    fresh(b"old\n")
-    before = state()
-    waiting = begin()
-    assert state(str(PART)) == before
-    assert waiting.ended(KEY16.encode()) == Ended(0, "", "")
-    assert (os.listdir("to"), pathlib.Path("to/file").read_bytes()) == (["file"], WRAPPED)
+    lands(keywrap, f"{WRAP} --lines -i keys -o to/file", (WRAPPED16 + "\n").encode() * 4999)
 
 
 def test_two_runs(keywrap, begin):
-    """They make two new files, and the one that ends last has the name."""
+    """They make two new files, and the run that ends last determines the file. Until then it is the old file."""
     fresh(b"old\n")
-    waiting = begin()
-    assert keywrap("wrap", "--kek", "kek32.hex", "-i", "key.hex", "-o", "to/file") == Ended(0, "", "")
-    assert (pathlib.Path("to/file").read_bytes(), PART.exists()) == (WRAPPED32, True)
-    assert waiting.ended(KEY16.encode()) == Ended(0, "", "")
-    assert (os.listdir("to"), pathlib.Path("to/file").read_bytes()) == (["file"], WRAPPED)
+    before, run = state(), begin()
+    assert state(str(PART)) == before
+    assert keywrap("wrap --kek kek32.hex -i key.hex -o to/file") == DONE
+    assert (pathlib.Path("to/file").read_bytes(), PART.exists()) == (FILES["wrapped32.hex"], True)
+    assert ended(run, KEY16.encode()) == DONE
+    assert held() == WRAPPED
 
 
-@pytest.mark.parametrize("job, content", [("wrap", None), ("unwrap", None), ("unwrap", b"old\n")])
-def test_new_file_is_for_its_owner_alone(begin, job, content):
-    """From its first moment, if no old one has a mode that it gets, and always for an unwrapped key."""
+@pytest.mark.parametrize("args, content", [(WRAP, None), (UNWRAP, None), (UNWRAP, b"old\n")])
+def test_new_file_is_for_its_owner_alone(begin, args, content):
+    """From the start, if it does not get the mode of an old file; and always for an unwrapped key."""
     fresh(content)
     os.umask(0)
-    begin(job)
+    begin(args)
     assert oct(stat.S_IMODE(PART.stat().st_mode)) == "0o600"
 
 
-@pytest.mark.parametrize("meanwhile", ["rm to/file.part0", "rm to/file.part0; echo other >to/file.part0"])
-def test_new_file_goes_away(begin, meanwhile):
-    """Also if another file takes its name, such as the new file of a run that began meanwhile. Both files stay."""
+@pytest.mark.parametrize("meanwhile", ["rm to/file.part0", "rm to/file.part0; echo other >to/file.part0",
+                                       "mv to moved; mkdir to"])
+def test_what_changes_meanwhile(begin, meanwhile):
+    """The new file goes away, or another takes its name, such as the new file of a run that began meanwhile; or another
+    directory has the name of the one that the file is in. What is there then stays."""
     fresh(b"old\n")
-    waiting = begin()
+    run = begin()
     subprocess.run(["sh", "-c", meanwhile], check=True)
-    before = state()
-    assert waiting.ended(KEY16.encode()) == FLUSH_FAULT
-    assert state() == before
+    before = state("moved/file.part0")
+    assert ended(run, KEY16.encode()) == FLUSH_FAULT
+    assert state("moved/file.part0") == before
 
 
 def test_directory_comes_in_the_way(begin):
     fresh()
-    waiting = begin()
+    run = begin()
     os.mkdir("to/file")
-    assert waiting.ended(KEY16.encode()) == FLUSH_FAULT
+    assert ended(run, KEY16.encode()) == FLUSH_FAULT
     assert os.listdir("to") == ["file"]
 
 
-def test_directory_is_moved_and_another_has_its_name(begin):
-    fresh(b"old\n")
-    waiting = begin()
-    os.rename("to", "moved")
-    os.mkdir("to")
-    assert waiting.ended(KEY16.encode()) == FLUSH_FAULT
-    assert os.listdir("to") == []
-    os.rmdir("to")
-    os.rename("moved", "to")
-    assert pathlib.Path("to/file").read_bytes() == b"old\n"
-    assert sorted(os.listdir("to")) == ["file", "file.part0"]
+def started_lines(keywrap, args):
+    return keywrap.started(f"{args} --lines", stdin=subprocess.PIPE, stdout=subprocess.PIPE, bufsize=0)
+
+
+def ask(run, text, lines):
+    """Writes the text, and returns this many lines of answers, which must come within a minute."""
+    run.stdin.write(text.encode())
+    answers = b""
+    while answers.count(b"\n") < lines:
+        assert select.select([run.stdout], [], [], 60)[0], "no answer"
+        answers += os.read(run.stdout.fileno(), 1 << 16)
+    return answers.decode()
+
+
+@pytest.mark.parametrize("args, given, answer", [
+    (WRAP, KEY16, WRAPPED16), (UNWRAP, WRAPPED16, KEY16), (CHECK, WRAPPED16, "plain 16"),
+    (f"{SAME_KEK} --keep-form", WRAPPED16, WRAPPED16)])
+def test_co_process_is_asked_1000_times(keywrap, args, given, answer):
+    with started_lines(keywrap, args) as run:
+        for _ in range(1000):
+            assert ask(run, f"{given}\n", 1) == f"{answer}\n"
+        run.stdin.close()
+    assert run.returncode == 0
+
+
+def test_a_line_is_answered_once_it_is_whole(keywrap):
+    """Earlier lines are answered first. Refused lines, too, if the run continues."""
+    with started_lines(keywrap, f"{WRAP} --keep-going") as run:
+        for at in range(len(KEY16)):
+            answers = ask(run, f"{KEY16}\n00\n{KEY16}\n{KEY16[:at]}", 3)
+            assert answers == f"{WRAPPED16}\n\n{WRAPPED16}\n"
+            assert select.select([run.stdout], [], [], 0)[0] == []
+            assert ask(run, f"{KEY16[at:]}\n", 1) == f"{WRAPPED16}\n"
+        run.stdin.close()
+    assert run.returncode == 4
+
+
+def test_many_lines_are_written_in_few_pieces(keywrap):
+    """So a file of many lines is as fast as before."""
+    if shutil.which("strace") is None:
+        pytest.skip("no strace (apt-get install strace)")
+    pathlib.Path("many").write_text(f"{WRAPPED16}\n" * 20_000)
+    words = f"strace -f -o calls -e trace=write {keywrap.path} {CHECK} --lines --input many --output answers"
+    subprocess.run(words.split(), check=True)
+    assert pathlib.Path("answers").read_text() == "plain 16\n" * 20_000
+    assert len(pathlib.Path("calls").read_text().splitlines()) < 20

@@ -1,4 +1,6 @@
-"""The file of --output: what it holds after each answer and each refusal, its mode, its names, what is no output."""
+"""The file of --output: its contents after success and after each refusal; the names that are refused; and its owner,
+group and mode, which are kept. A new file, and a file with an unwrapped key, is only for its owner. A file whose owner,
+group or mode cannot be kept is refused."""
 
 import os
 import pathlib
@@ -6,49 +8,59 @@ import pwd
 import random
 import shutil
 import stat
+import subprocess
 
 import pytest
 
-from commands import FILES, JOBS, LARGE, REFUSALS
-from output_file import NO_OUTPUT, fresh, keeps, lands
-from program import CLOSED, Ended, refused
-from vectors import FULL, WRAPPED16
+from checks import DONE, FLUSH_FAULT, NO_OUTPUT, fresh, held, keeps, lands, no_output
+from commands import CHECK, FILES, JOBS, LARGE, REFUSALS, REWRAP, UNWRAP, WRAP, chosen
+from program import CLOSED, Ended, answered, refused, words
+from vectors import FULL, INTEGRITY, WRAPPED16
 
-WRAP = ["wrap", "--kek", "kek16.hex"]
-WRAP_FILE = [*WRAP, "-i", "key.hex", "-o", "to/file"]
+INTO, IN_PLACE = "-o to/file", "-i to/file -o to/file"
+WRAP_FILE, REWRAP_FILE = f"{WRAP} -i key.hex {INTO}", f"{REWRAP} -i wrapped.hex {INTO}"
+CHECK_FILE, UNWRAP_FILE = f"{CHECK} -i wrapped.hex {INTO}", f"{UNWRAP} -i wrapped.hex {INTO}"
 WRAPPED, WRAPPED32, KEY = FILES["wrapped.hex"], FILES["wrapped32.hex"], FILES["key.hex"]
-# One job for each way in which an answer is written, and one refusal for each step at which it comes.
-ANSWERED = [command for command in JOBS if command.name in (
-    "wrap", "raw wrap", "padded wrap", "unwrap", "check", "rewrap", "raw rewrap to padded", "rewrap in base64url")]
-REFUSED = [command for command in REFUSALS if command.name in (
-    "IV of 15 digits", "no KEK file", "KEK file too long", "KEK of 15 bytes", "no new KEK file", "new KEK of 15 bytes",
-    "rewrap of a wrong byte", "rewrap of 7 bytes to plain", "input too long", "bad digit", "bad base64",
-    "key of 7 bytes", "wrong byte", "no input file", "directory as input file")]
+ANSWERS = {WRAP_FILE: WRAPPED, REWRAP_FILE: WRAPPED32, CHECK_FILE: b"plain 16\n", UNWRAP_FILE: KEY}
+EACH = pytest.mark.parametrize("args", ANSWERS, ids=lambda args: args.split()[0])
+ME, NOBODY, OTHER_GROUP = (os.getuid(), os.getgid()), pwd.getpwnam("nobody")[2:4], 54321
+ONLY_ROOT = pytest.mark.skipif(os.getuid() != 0, reason="only root can try owners")
 
 
-@pytest.mark.parametrize("job", ANSWERED, ids=lambda command: command.name)
-def test_each_job(keywrap, job):
-    """A new file, one that is there, one that is the input, and closed streams. A hard link keeps the old content."""
+def named(commands, names):
+    return pytest.mark.parametrize("command", chosen(commands, names),
+                                   ids=lambda command: command.name)
+
+
+# Below: one job for each way to write an answer, and one refusal for each step that can refuse.
+@named(JOBS, ["wrap", "raw wrap", "padded wrap", "unwrap", "check", "rewrap", "raw rewrap",
+              "rewrap in base64url"])
+def test_each_job(keywrap, command):
+    """A new file, an existing file, the input file, and closed streams. A hard link keeps the old content."""
+    args, answer = command.args, command.stdout
     fresh()
     os.umask(0)
-    lands(keywrap, [*job.args, "--output", "to/file"], job.stdout, stdin=job.given)
+    lands(keywrap, [*args, "--output", "to/file"], answer, stdin=command.given)
     os.umask(0o077)
     pathlib.Path("to/file").write_bytes(b"old\n")
     os.link("to/file", "to/link")
-    lands(keywrap, [*job.args, "-o", "to/file", "-i", job.stdin], job.stdout)
+    lands(keywrap, [*args, "-o", "to/file", "-i", command.stdin], answer)
     assert pathlib.Path("to/link").read_bytes() == b"old\n"
-    pathlib.Path("to/file").write_bytes(job.given)
-    lands(keywrap, [*job.args, "--input=to/file", "--output=to/file"], job.stdout)
-    args = [*job.args, "--input", job.stdin, "--output", "to/new"]
-    lands(keywrap, args, job.stdout, "to/new", stdin=CLOSED, stdout=CLOSED)
+    pathlib.Path("to/file").write_bytes(command.given)
+    lands(keywrap, [*args, "--input=to/file", "--output=to/file"], answer)
+    args = [*args, "--input", command.stdin, "--output", "to/new"]
+    lands(keywrap, args, answer, "to/new", stdin=CLOSED, stdout=CLOSED)
 
 
-@pytest.mark.parametrize("command", REFUSED, ids=lambda command: command.name)
+@named(REFUSALS, ["IV of 15 digits", "no KEK file", "KEK file too long", "KEK of 15 bytes", "no new KEK file",
+                  "new KEK of 15 bytes", "rewrap of a wrong byte", "rewrap of 7 bytes", "input too long",
+                  "bad digit", "bad base64", "key of 7 bytes", "wrong byte", "no input file",
+                  "directory as input file"])
 def test_refusal(keywrap, command):
-    """It leaves the file as it is, also if it is the input, and nothing beside it."""
+    """The file is unchanged, also if it is the input, and no other file is beside it."""
     given = command.stdin or "nothing"
     refusal = Ended(command.status, "", command.stderr)
-    has_input = "-i" in command.args or "--input" in command.args
+    has_input = "--input" in command.args
     fresh()
     keeps(keywrap, [*command.args, "--output", "to/file"], refusal, stdin=command.given)
     pathlib.Path("to/file").write_bytes(b"old\n")
@@ -56,49 +68,27 @@ def test_refusal(keywrap, command):
     keeps(keywrap, [*command.args, "-o", "to/file", *([] if has_input else ["-i", given])], refusal)
     if not has_input:
         pathlib.Path("to/file").write_bytes({**FILES, **LARGE}[given])
-        keeps(keywrap, [*command.args, "-i", "to/file", "-o", "to/file"], refusal)
-
-
-@pytest.mark.parametrize("mode", [0o000, 0o444, 0o666, 0o755], ids=oct)
-def test_mode(keywrap, mode):
-    fresh(b"old\n", mode)
-    lands(keywrap, WRAP_FILE, WRAPPED)
+        keeps(keywrap, [*command.args, *words(IN_PLACE)], refusal)
 
 
 def test_check_of_a_wrong_byte(keywrap):
     fresh(b"old\n")
-    assert keywrap("check", "--kek", "kek16.hex", "-i", "wrong.hex", "-o", "to/file") == Ended(5, "", "")
-    assert pathlib.Path("to/file").read_bytes() == b"none\n"
+    assert keywrap(f"{CHECK} -i wrong.hex {INTO}") == Ended(5)
+    assert held() == b"none\n"
 
 
 def test_in_place(keywrap):
     fresh()
-    lands(keywrap, WRAP_FILE, WRAPPED)
-    lands(keywrap, ["wrap", "--kek", "kek32.hex", "-i", "key.hex", "-o", "to/file"], WRAPPED32)
-    in_place = ["-i", "to/file", "-o", "to/file"]
-    lands(keywrap, ["rewrap", "--kek", "kek32.hex", "--new-kek", "kek16.hex", *in_place], WRAPPED)
+    lands(keywrap, f"wrap --kek kek32.hex -i key.hex {INTO}", WRAPPED32)
+    lands(keywrap, f"rewrap --kek kek32.hex --new-kek kek16.hex {IN_PLACE}", WRAPPED)
     os.link("to/file", "to/link")
-    lands(keywrap, ["unwrap", "--kek", "kek16.hex", "-i", "to/link", "-o", "to/file"], KEY)
+    lands(keywrap, f"{UNWRAP} -i to/link {INTO}", KEY)
     os.symlink("file", "to/name")
-    lands(keywrap, [*WRAP, "-i", "to/name", "-o", "to/file"], WRAPPED)
-
-
-@pytest.mark.parametrize("size, flags, rewrap_flags", [
-    (1048576, ["--raw"], []), (1048575, ["--raw", "--padded"], ["--new-padded"]), (1048576, [], [])])
-def test_long_key_goes_round(keywrap, size, flags, rewrap_flags):
-    key = random.Random(size).randbytes(size)
-    given = key if "--raw" in flags else key.hex().encode() + b"\n"
-    pathlib.Path("given").write_bytes(given)
-    fresh()
-    in_place, done = ["-i", "to/file", "-o", "to/file"], Ended(0, "", "")
-    assert keywrap(*WRAP, *flags, "-i", "given", "-o", "to/file") == done
-    rewrap = ["rewrap", "--kek", "kek16.hex", "--new-kek", "kek32.hex", *rewrap_flags]
-    assert keywrap(*rewrap, *flags, *in_place) == done
-    lands(keywrap, ["unwrap", "--kek", "kek32.hex", *flags, *in_place], given)
+    lands(keywrap, f"{WRAP} -i to/name {INTO}", WRAPPED)
 
 
 class TestNames:
-    """The answer goes into the file that the arguments name, in the directory `to`."""
+    """The answer is in the file that the arguments name, in the directory `to`."""
 
     @pytest.mark.parametrize("name, args", [
         ("file", ["--output", "file"]), ("file", ["-ofile"]), ("a key", ["-o", "a key"]),
@@ -116,12 +106,11 @@ class TestNames:
         fresh()
         os.symlink("to", "linked")
         for name in f"{files}/to/file", "./to//file", "linked/file":
-            lands(keywrap, [*WRAP, "-o", name], WRAPPED, stdin=KEY)
+            lands(keywrap, f"{WRAP} -o {name}", WRAPPED, stdin=KEY)
 
-    def test_standard_output(self, keywrap):
-        fresh()
-        for args in ["-o", "-"], ["--output", "-"], ["-o-"]:
-            assert keywrap(*WRAP, "-i", "key.hex", *args) == Ended(0, WRAPPED16 + "\n", "")
+    @pytest.mark.parametrize("args", ["-o -", "--output -", "-o-"])
+    def test_standard_output(self, keywrap, args):
+        assert keywrap(f"{WRAP} -i key.hex {args}") == answered(WRAPPED16)
 
 
 class TestNoOutput:
@@ -136,10 +125,10 @@ class TestNoOutput:
         os.mkfifo("to/fifo")
         for link, target in [("link", "file"), ("dangling", "missing"), ("linked", "folder"), ("loop", "loop")]:
             os.symlink(target, f"to/{link}")
-        keeps(keywrap, [*WRAP, "-i", "key.hex", "--output", name], NO_OUTPUT)
+        keeps(keywrap, [*words(WRAP), "-i", "key.hex", "--output", name], NO_OUTPUT)
 
     def test_device(self, keywrap):
-        """First one of our own: a program that puts a file in its place is not let near /dev."""
+        """Tries a device of our own first, so that a program that replaces devices fails before it touches /dev."""
         fresh()
         names = ["/dev/null", "/dev/full"]
         if os.getuid() == 0:
@@ -150,87 +139,81 @@ class TestNoOutput:
                 names = ["/dev/full"]
         for name in names:
             before = os.stat(name)
-            keeps(keywrap, [*WRAP, "-i", "key.hex", "-o", name], NO_OUTPUT)
+            keeps(keywrap, f"{WRAP} -i key.hex -o {name}", NO_OUTPUT)
             after = os.stat(name)
             assert (after.st_mode, after.st_rdev) == (before.st_mode, before.st_rdev)
 
 
 class TestKekFiles:
-    """A KEK file is no output, whatever name it is opened by and whatever name the output has."""
+    """The output cannot be a KEK file, whatever names the options use for this file."""
 
     @pytest.fixture(autouse=True)
     def keks(self):
         fresh()
-        for kek in "kek16.hex", "kek32.hex":
+        for kek in "kek16.hex", "kek32.hex", "kek16.raw", "kek15.hex":
             shutil.copy(kek, "to")
             os.link(f"to/{kek}", f"to/link.{kek}")
             os.symlink(kek, f"to/name.{kek}")
 
-    @pytest.mark.parametrize("by", ["to/kek16.hex", "to/link.kek16.hex", "to/name.kek16.hex", "/dev/fd/{}"])
+    @pytest.mark.parametrize("by", ["to/kek16.hex", "to/link.kek16.hex", "to/name.kek16.hex", "/dev/stdin"])
     def test_kek(self, keywrap, files, by):
-        with open("to/kek16.hex", "rb") as file:
-            for name in "to/kek16.hex", "./to/../to/kek16.hex", f"{files}/to/kek16.hex", "to/link.kek16.hex":
-                args = ["wrap", "--kek", by.format(file.fileno()), "-o", name]
-                keeps(keywrap, args, NO_OUTPUT, stdin=KEY, pass_fds=[file.fileno()])
+        for name in "to/kek16.hex", "./to/../to/kek16.hex", f"{files}/to/kek16.hex", "to/link.kek16.hex":
+            keeps(keywrap, f"wrap -i key.hex --kek {by} -o {name}", NO_OUTPUT, stdin=pathlib.Path("to/kek16.hex"))
 
     @pytest.mark.parametrize("args", [
         "unwrap -i wrapped.hex --kek to/kek16.hex", "check -i wrapped.hex --kek to/kek16.hex",
         "wrap -i to/kek16.hex --kek to/kek16.hex", "wrap -i key.hex --raw-kek --kek to/kek16.raw",
         "wrap -i key.hex --kek to/kek15.hex"])
     def test_each_job_and_content(self, keywrap, args):
-        for name in "kek16.raw", "kek15.hex":
-            shutil.copy(name, "to")
-        keeps(keywrap, [*args.split(), "-o", args.split()[-1]], NO_OUTPUT)
+        keeps(keywrap, f"{args} -o {args.split()[-1]}", NO_OUTPUT)
 
     def test_kek_that_only_standard_input_still_reads(self, as_nobody):
-        """The file cannot be opened by a name, since nobody may read it any more."""
+        """The file cannot be opened by its name, since its mode became 0 after standard input was opened."""
         for name in ".", "kek16.hex":
-            shutil.chown(name, "nobody", pwd.getpwnam("nobody").pw_gid)
+            shutil.chown(name, *NOBODY)
         with open("kek16.hex", "rb") as kek:
             os.chmod("kek16.hex", 0)
-            ended = as_nobody("wrap", "--kek", "/dev/stdin", "-i", "key.hex", "-o", "kek16.hex", stdin=kek)
-        assert ended == refused(6, "output: cannot be opened")
+            assert as_nobody("wrap --kek /dev/stdin -i key.hex -o kek16.hex", stdin=kek) == NO_OUTPUT
         assert pathlib.Path("kek16.hex").read_bytes() == FILES["kek16.hex"]
 
     @pytest.mark.parametrize("new_kek", ["kek32.hex", "name.kek32.hex", "link.kek32.hex"])
     def test_both_of_rewrap(self, keywrap, new_kek):
         for name in "kek16.hex", "link.kek16.hex", "kek32.hex", "link.kek32.hex", "name.kek32.hex":
-            args = ["rewrap", "--kek", "to/kek16.hex", "--new-kek", f"to/{new_kek}", "-i", "wrapped.hex"]
-            keeps(keywrap, [*args, "-o", f"to/{name}"], NO_OUTPUT)
+            args = f"rewrap --kek to/kek16.hex --new-kek to/{new_kek} -i wrapped.hex"
+            keeps(keywrap, f"{args} -o to/{name}", NO_OUTPUT)
 
     def test_a_copy_is_none(self, keywrap):
         shutil.copy("kek16.hex", "to/file")
-        lands(keywrap, ["wrap", "--kek", "to/kek16.hex", "-i", "key.hex", "-o", "to/file"], WRAPPED)
+        lands(keywrap, f"wrap --kek to/kek16.hex -i key.hex {INTO}", WRAPPED)
 
 
 @pytest.mark.parametrize("args", ["wrap -i key.hex", "unwrap -i wrapped.hex", "wrap -i given", "wrap --raw -i given",
                                   "check -i wrapped.hex", "rewrap --new-kek kek32.hex -i wrapped.hex"])
 def test_full_disk(keywrap, args):
-    """The answer finds no room, and then enough. What goes to standard output the other tests show to be right."""
+    """First there is no room for the answer, then there is. Other tests check standard output."""
     raw = random.Random(2048).randbytes(2048)
     pathlib.Path("given").write_bytes(raw if "--raw" in args else raw.hex().encode())
-    args = [*args.split(), "--kek", "kek16.hex"]
-    answer = keywrap(*args, text=False).stdout
+    args = f"{args} --kek kek16.hex"
+    answer = keywrap(args, text=False).stdout
     fresh(b"old\n")
-    args += ["-o", "to/file"]
     for taken in 0, 1, min(1024, len(answer) - 2), len(answer) - 1:
-        keeps(keywrap, args, refused(6, FULL.format(taken)), limits={"FSIZE": taken})
-    lands(keywrap, args, answer, limits={"FSIZE": len(answer)})
+        keeps(keywrap, f"{args} {INTO}", refused(6, FULL.format(taken)), limits={"FSIZE": taken})
+    lands(keywrap, f"{args} {INTO}", answer, limits={"FSIZE": len(answer)})
 
 
 class TestTemporaryFiles:
-    """The new file is FILE.part0 until it gets its name; what is there already stays."""
+    """The new file is FILE.part0 until it is renamed. Existing files stay."""
 
-    @pytest.mark.parametrize("count", [0, 1, 99, 100])
+    @pytest.mark.parametrize("count", [1, 99, 100])
     def test_others_stay(self, keywrap, count):
-        """A hundred are too many."""
+        """If a hundred such files exist, the run is refused."""
         fresh(b"old\n")
         for number in range(count):
             pathlib.Path(f"to/file.part{number}").write_bytes(b"part")
         if count == 100:
             keeps(keywrap, WRAP_FILE, NO_OUTPUT)
-            reason = "  to/file: files of its name with .part0 to .part99 are there\n"
-            keeps(keywrap, [*WRAP_FILE, "--verbose"], Ended(6, "", NO_OUTPUT.stderr + reason))
+            keeps(keywrap, f"{WRAP_FILE} --verbose",
+                  no_output("to/file: files of its name with .part0 to .part99 are there"))
             os.remove("to/file.part50")
         lands(keywrap, WRAP_FILE, WRAPPED)
 
@@ -244,24 +227,100 @@ class TestTemporaryFiles:
     def test_input_and_kek_of_that_name(self, keywrap):
         fresh(b"old\n")
         shutil.copy("key.hex", "to/file.part0")
-        lands(keywrap, [*WRAP, "-i", "to/file.part0", "-o", "to/file"], WRAPPED)
+        lands(keywrap, f"{WRAP} -i to/file.part0 {INTO}", WRAPPED)
         shutil.copy("kek16.hex", "to/file.part0")
-        lands(keywrap, ["wrap", "--kek", "to/file.part0", "-i", "key.hex", "-o", "to/file"], WRAPPED)
+        lands(keywrap, f"wrap --kek to/file.part0 -i key.hex {INTO}", WRAPPED)
 
 
-@pytest.mark.parametrize("args", [
-    "--output to/file -o to/file", "-o to/file -i key.hex --input key.hex", "-o to/file --output", "-o to/file -i",
-    "-o", "-o to/file key.hex", "-o to/file --new-kek kek16.hex"])
-def test_refused_arguments_change_nothing(keywrap, args):
-    fresh(b"old\n")
-    before = pathlib.Path("to/file").stat()
-    ended = keywrap(*WRAP, *args.split())
-    assert (ended.status, ended.stdout, ended.stderr[:7]) == (2, "", "error: ")
-    assert (os.listdir("to"), pathlib.Path("to/file").stat()) == (["file"], before)
+def replaces(program, args, owner, mode, **options):
+    """The answer replaces to/file, with this owner, group and mode. No other file is beside it."""
+    assert program(args, **options) == DONE
+    found = os.stat("to/file")
+    assert (found.st_uid, found.st_gid, oct(stat.S_IMODE(found.st_mode))) == (*owner, oct(mode))
+    os.chmod("to/file", 0o600)
+    assert held() == ANSWERS[args.replace("-i to/file", "-i wrapped.hex")]
 
 
-@pytest.mark.parametrize("args", ["drill 00112233445566778899aabbccddeeff", "vectors"])
-def test_commands_without_files(keywrap, args):
-    for option in "-i", "--input", "-o", "--output":
-        ended = keywrap(*args.split(), option, "to/file")
-        assert (ended.status, ended.stdout, ended.stderr[:7]) == (2, "", "error: ")
+@pytest.mark.parametrize("mode, mask", [(0o000, 0), (0o600, 0), (0o640, 0o077), (0o666, 0o022), (0o777, 0o077),
+                                        (0o444, 0o022), (None, 0o000), (None, 0o077)])
+@EACH
+def test_mode(keywrap, args, mode, mask):
+    """A mode of None means a new file."""
+    fresh(None if mode is None else b"old\n", mode)
+    os.umask(mask)
+    replaces(keywrap, args, ME, 0o600 if mode is None or args is UNWRAP_FILE else mode)
+
+
+def test_set_user_id_is_not_kept(keywrap):
+    fresh(b"old\n", 0o6755)
+    keeps(keywrap, f"unwrap --kek kek32.hex -i wrapped.hex {INTO}", refused(5, INTEGRITY))
+    replaces(keywrap, WRAP_FILE, ME, 0o755)
+
+
+@pytest.mark.parametrize("args, mode", [(WRAP_FILE, None), (UNWRAP_FILE, None), (WRAP_FILE, 0o604)])
+def test_directory_whose_files_others_may_read(keywrap, args, mode):
+    """The directory has a default access control list."""
+    if not shutil.which("setfacl"):
+        pytest.skip("no setfacl (apt-get install acl)")
+    fresh()
+    if subprocess.run(["setfacl", "-d", "-m", "u::rwx,g::rwx,o::rwx,u:nobody:rwx", "to"]).returncode:
+        pytest.skip("this file system has no default modes")
+    if mode:
+        pathlib.Path("to/file").write_bytes(b"old\n")
+        os.chmod("to/file", mode)
+    replaces(keywrap, args, ME, mode or 0o600)
+    listed = subprocess.run(["getfacl", "-cE", "to/file"], capture_output=True, text=True).stdout
+    assert mode or "mask::---" in listed.splitlines()
+
+
+@ONLY_ROOT
+class TestOwner:
+    @pytest.mark.parametrize("mode", [0o400, 0o666], ids=oct)
+    @pytest.mark.parametrize("owner", [NOBODY, (12345, OTHER_GROUP)], ids=["nobody", "without a name"])
+    @EACH
+    def test_root_over_a_file_of_another(self, keywrap, args, mode, owner):
+        fresh(WRAPPED, mode)
+        os.chown("to/file", *owner)
+        replaces(keywrap, args.replace("-i wrapped.hex", "-i to/file"),
+                 *((ME, 0o600) if args is UNWRAP_FILE else (owner, mode)))
+
+    def test_directory_that_hands_its_group_on(self, keywrap, as_nobody):
+        fresh(b"old\n")
+        os.chown("to", NOBODY[0], OTHER_GROUP)
+        os.chmod("to", 0o2775)
+        replaces(keywrap, WRAP_FILE, (0, 0), 0o644)
+        os.remove("to/file")
+        replaces(keywrap, WRAP_FILE, (0, OTHER_GROUP), 0o600)
+        os.chown("to/file", *NOBODY)
+        os.chmod("to/file", 0o640)
+        replaces(as_nobody, WRAP_FILE, NOBODY, 0o640)
+
+    @pytest.mark.parametrize("args, owner, groups", [
+        (WRAP_FILE, NOBODY, []), (UNWRAP_FILE, NOBODY, []), (UNWRAP_FILE, (0, 0), []),
+        (WRAP_FILE, (NOBODY[0], OTHER_GROUP), [OTHER_GROUP])])
+    def test_nobody_over_a_file(self, as_nobody, args, owner, groups):
+        """A file of its own, a file of root, and a file of another of its groups."""
+        fresh(b"old\n", 0o640)
+        os.chown("to", *NOBODY)
+        os.chown("to/file", *owner)
+        wanted = (NOBODY, 0o600) if args is UNWRAP_FILE else (owner, 0o640)
+        replaces(as_nobody, args, *wanted, extra_groups=groups)
+
+    @pytest.mark.parametrize("args", [WRAP_FILE, REWRAP_FILE, CHECK_FILE], ids=lambda args: args.split()[0])
+    @pytest.mark.parametrize("owner", [(0, 0), (NOBODY[0], 0)], ids=["of root", "of the group root"])
+    def test_nobody_cannot_keep_them(self, as_nobody, args, owner):
+        fresh(b"old\n", 0o666)
+        os.chown("to", *NOBODY)
+        os.chown("to/file", *owner)
+        keeps(as_nobody, args, NO_OUTPUT)
+        reason = "to/file: owner, group or mode can't be kept: Operation not permitted (os error 1)"
+        keeps(as_nobody, f"{args} --verbose", no_output(reason))
+
+    def test_sticky_directory(self, as_nobody):
+        """Users may replace only their own files, as in /tmp."""
+        fresh(b"old\n")
+        os.chmod("to", 0o1777)
+        keeps(as_nobody, UNWRAP_FILE, FLUSH_FAULT)
+        keeps(as_nobody, WRAP_FILE, NO_OUTPUT)
+        os.remove("to/file")
+        lands(as_nobody, WRAP_FILE, WRAPPED)

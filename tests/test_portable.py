@@ -11,6 +11,8 @@ import sys
 
 import pytest
 
+import nist_cases
+
 ROOT = pathlib.Path(__file__).resolve().parent.parent
 LIBRARY = [*sorted(map(str, (ROOT / "tests/library").glob("*.c"))), f"{ROOT}/bench/one_table.c"]
 STRICT = ["-std=c99", "-Wall", "-Wextra", "-pedantic", "-Werror"]
@@ -89,26 +91,18 @@ def build(portable):
 
 @pytest.fixture(scope="session")
 def cases():
-    """NIST's cases, as nist.c reads them: the tables whose cipher function is AES."""
-    vectors = pytest.importorskip("cryptography_vectors", reason="no cryptography_vectors (apt-get install "
-                                  "python3-cryptography-vectors)")
-    folder = pathlib.Path(vectors.__path__[0]) / "keywrap/kwtestvectors"
-    lines = []
-    for path in sorted(folder.glob("KW*_A[DE]_???.txt")):
-        form = "padded" if path.name.startswith("KWP") else "plain"
-        for block in path.read_text().split("COUNT = ")[1:]:
-            row = dict(re.findall(r"^(K|P|C) = (\w+)$", block, re.M))
-            lines.append(f"{form} {row['K']} {row.get('P', '-')} {row['C']}\n")
-    assert len(lines) == 6000
-    return "".join(lines)
+    """NIST's cases, as nist.c reads them."""
+    pytest.importorskip("cryptography_vectors", reason="no cryptography_vectors (apt-get install "
+                        "python3-cryptography-vectors)")
+    return nist_cases.cases()
 
 
 @pytest.mark.parametrize("compiler", NATIVE)
-@pytest.mark.parametrize("level", ["-O0", "-O2", "-O3", "-Os"])
-def test_compiles_without_a_warning(portable, compiler, level):
+@pytest.mark.parametrize("options", ["-O0 -std=c99", "-O2 -std=c17", "-O3 -std=c99", "-Os -std=c99"])
+def test_compiles_without_a_warning(portable, compiler, options):
+    """The other tests compile it with -O2 as C99."""
     needs(compiler, package=compiler)
-    for standard in "c99", "c17":
-        run(compiler, *STRICT, f"-std={standard}", level, "-c", portable / "keywrap.c", "-o", "keywrap.o")
+    run(compiler, *STRICT, *options.split(), "-c", portable / "keywrap.c", "-o", "keywrap.o")
 
 
 @pytest.mark.parametrize("name", [*NATIVE, "arm", *slow("aarch64", "riscv64")])
@@ -121,7 +115,7 @@ def test_calls(build, name):
 
 @pytest.mark.parametrize("name", MACHINES)
 def test_nist(build, cases, name):
-    some = cases.splitlines(keepends=True)[::1 if ALL or name in NATIVE else 6]
+    some = cases[::1 if ALL or name in NATIVE else 6]
     said = run(*build(name).program([ROOT / "tests/portable/nist.c"], "-O2"), input="".join(some))
     assert re.fullmatch(rf"{len(some)} right, \d{{2,4}} refused\n", said)
 
@@ -135,7 +129,7 @@ def test_sanitizers(build, name):
 def test_valgrind(build, cases):
     needs("valgrind", package="valgrind")
     program = build("gcc").program([ROOT / "tests/portable/nist.c"], "-O1", "-g")
-    some = "".join(cases.splitlines(keepends=True)[::1 if ALL else 60])
+    some = "".join(cases[::1 if ALL else 60])
     run("valgrind", "-q", "--error-exitcode=9", "--leak-check=full", *program, input=some)
 
 
@@ -158,11 +152,10 @@ def test_no_memory_and_longest_keys(build, portable, name):
 
 @pytest.mark.parametrize("name", NATIVE)
 def test_stack(build, name):
-    """The bytes that depend on a KEK or a key, below the stack pointer after each call: 23 by gcc 12, 36 by clang 14."""
-    lines = run(*build(name).program([ROOT / "tests/secrets/stack.c"], "-O2", "-Wl,-z,now", "-Wno-error"),
-                ).splitlines()
-    counts = [list(map(int, line.split()[3:])) for line in lines]
-    assert len(lines) == 246
+    """Bytes that depend on a KEK or a key, below the stack pointer after each call: 23 by gcc 12, 36 by clang 14."""
+    lines = run(*build(name).program([ROOT / "tests/secrets/stack.c"], "-O2", "-Wl,-z,now", "-Wno-error")).splitlines()
+    counts = [list(map(int, line.split()[3:7])) for line in lines]
+    assert len(lines) == 249
     kek, new_kek, key, copies = map(max, zip(*counts))
     assert max(kek, new_kek, key) <= 40 and copies == 0, (kek, new_kek, key, copies)
 
@@ -180,6 +173,15 @@ def test_object(portable, name):
     assert (data, bss) == ("0", "0")
 
 
+@pytest.mark.parametrize("options, phrase", [([], "is on the stack"), (["-DKEYWRAP_STACK_KEY=64"], "use the stack")])
+def test_readme_has_the_stack_of_a_call(portable, options, phrase):
+    needs("gcc", package="gcc")
+    stack = int(re.search(rf"{phrase} \((\d+) bytes\)", (portable / "README").read_text())[1])
+    run("gcc", *STRICT, "-O1", "-fstack-usage", *options, "-c", portable / "keywrap.c", "-o", "keywrap.o")
+    used = max(int(line.split("\t")[1]) for line in pathlib.Path("keywrap.su").read_text().splitlines())
+    assert stack <= used <= stack + 256
+
+
 def test_header_and_calls(portable):
     """keywrap.c defines the calls of the header, and shows no other name."""
     needs("gcc", package="gcc")
@@ -190,6 +192,21 @@ def test_header_and_calls(portable):
     assert shown == set(re.findall(r"^\w+ (keywrap_\w+)\(", header, re.M))
 
 
+def test_self_test_sees_a_changed_byte(build, portable, tmp_path):
+    """One of a vector, and one of the damaged wrapped key, among the constants."""
+    text = (portable / "keywrap.c").read_text()
+    block = re.search(r"constants\[DATA\] = \{\n(.*?)\n\};", text, re.S)[1]
+    constants = bytes(int(digits, 16) for digits in re.findall(r"0x(\w\w)", block))
+    right, damaged = bytes.fromhex("9d3e862371d2cfe5"), bytes.fromhex("9d3e862371d2cfe4")
+    assert (constants.count(right), constants.count(damaged)) == (1, 1)
+    pathlib.Path("call.c").write_text("#include <keywrap.h>\nint main(void) { return keywrap_self_test(); }\n")
+    shutil.copy(portable / "keywrap.h", tmp_path)
+    for old, new, status in (right, right, 0), (right, damaged, 5), (damaged, right, 5):
+        changed = constants.replace(old, new)
+        (tmp_path / "keywrap.c").write_text(text.replace(block, ", ".join(map(hex, changed))))
+        assert subprocess.run(Builder(tmp_path, "gcc").program(["call.c"])).returncode == status
+
+
 def test_big_endian_is_refused(portable):
     needs("gcc", package="gcc")
     ended = subprocess.run(["gcc", "-U__BYTE_ORDER__", "-D__BYTE_ORDER__=__ORDER_BIG_ENDIAN__", "-c",
@@ -197,9 +214,20 @@ def test_big_endian_is_refused(portable):
     assert ended.returncode != 0 and "little-endian machines" in ended.stderr
 
 
+def test_numbers_in_documents(portable):
+    """docs/TRUST.md has README's number; docs/C_LIBRARY.md has the bytes of a call."""
+    lines, = re.findall(r"the (\d+) lines of keywrap.c", (portable / "README").read_text())
+    assert f"wasm2c, the C compiler, {lines} lines of C around the module" in (ROOT / "docs/TRUST.md").read_text()
+    fixed, = re.findall(r"memory of its own: (\d+) bytes", (portable / "README").read_text())
+    constants, = re.findall(r"#define DATA (\d+)", (portable / "keywrap.c").read_text())
+    page = (ROOT / "docs/C_LIBRARY.md").read_text()
+    assert f"memory of a call is {int(fixed):,} bytes, of which {int(constants):,} are the tables" in page
+
+
 def test_makefile(portable):
     folder = shutil.copytree(portable, "copy", ignore=shutil.ignore_patterns("js"))
-    run("make", "-C", folder, "check")
+    run("make", "-C", folder, "check", "CPPFLAGS=-DKEYWRAP_NO_MALLOC")
+    assert "malloc" not in run("nm", "-u", f"{folder}/keywrap.o")
     run("make", "-C", folder, "clean")
     assert {path.name for path in pathlib.Path(folder).iterdir()} == {
         "CMakeLists.txt", "Makefile", "README", "keywrap.c", "keywrap.h", "vectors.c"}
@@ -207,9 +235,10 @@ def test_makefile(portable):
 
 def test_cmake(portable):
     needs("cmake", "ctest", package="cmake")
-    run("cmake", "-S", portable, "-B", "built")
+    run("cmake", "-S", portable, "-B", "built", "-DCMAKE_C_FLAGS=-fno-pie", "-DCMAKE_EXE_LINKER_FLAGS=-no-pie")
     run("cmake", "--build", "built")
     run("ctest", "--test-dir", "built", "--no-tests=error")
+    run("cc", "-shared", "-o", "shared.so", "-Wl,--whole-archive", "built/libkeywrap.a", "-Wl,--no-whole-archive")
 
 
 def test_windows(portable):
@@ -224,23 +253,9 @@ def test_windows(portable):
 def test_freestanding(portable):
     """Links for a Cortex-M0 without a C library, with three functions of the caller's own."""
     needs(CORTEX_M[0], package="gcc-arm-none-eabi")
-    pathlib.Path("start.c").write_text("""
-#include <stddef.h>
-#include "keywrap.h"
-void *memcpy(void *to, const void *from, size_t n) { char *t = to; const char *f = from; while (n--) *t++ = *f++; return to; }
-void *memset(void *to, int c, size_t n) { char *t = to; while (n--) *t++ = (char)c; return to; }
-void *memmove(void *to, const void *from, size_t n) {
-    char *t = to; const char *f = from;
-    if (t <= f) return memcpy(to, from, n);
-    while (n--) t[n] = f[n];
-    return to;
-}
-static uint8_t kek[32], key[16], wrapped[24];
-void _start(void) { for (;;) if (keywrap_wrap(kek, 32, key, 16, wrapped, 24)) return; }
-""")
     small = ["-DKEYWRAP_STACK_KEY=64", "-DKEYWRAP_NO_MALLOC", "-DKEYWRAP_TRAP()=__builtin_trap()"]
-    run(*CORTEX_M, *STRICT, "-Os", *small, f"-I{portable}", "-fno-tree-loop-distribute-patterns", "start.c",
-        portable / "keywrap.c", "-nostdlib", "-o", "firmware.elf", "-lgcc")
+    run(*CORTEX_M, *STRICT, "-Os", *small, f"-I{portable}", "-fno-tree-loop-distribute-patterns",
+        ROOT / "tests/portable/freestanding.c", portable / "keywrap.c", "-nostdlib", "-o", "firmware.elf", "-lgcc")
 
 
 def without_kit():

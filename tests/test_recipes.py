@@ -1,4 +1,4 @@
-"""Each recipe of docs/RECIPES.md unchanged, and README's lines on keys in files: what comes back."""
+"""Each recipe of docs/RECIPES.md and the first lines of README, unchanged: their output is as shown."""
 
 import os
 import pathlib
@@ -12,8 +12,33 @@ ROOT = pathlib.Path(__file__).resolve().parent.parent
 RECIPES = (ROOT / "docs/RECIPES.md").read_text()
 TOOLS = {"openssl": "openssl", "xxd": "xxd", "basenc": "coreutils", "awk": "mawk", "softhsm2-util": "softhsm2",
          "pkcs11-tool": "opensc", "psql": "postgresql", "jq": "jq", "parallel": "parallel"}
-# What a key store does, after its recipe: each file that is for a store has the key.
-IMPORT = """
+KEKS = """openssl rand -hex 32 > kek.hex; openssl rand -hex 32 > new-kek.hex
+wrapped() { head -c "$1" /dev/urandom | xxd -p -c 32 | keywrap wrap --lines --kek kek.hex; }
+"""
+# Commands before a recipe. The client of the object store keeps objects in bucket/.
+BEFORE = {
+    "Rotate one large file": KEKS + "wrapped 320000 > keys.hex\n",
+    "Rotate a PostgreSQL table": KEKS + r"""
+psql -qc 'CREATE TABLE keys (id bigint PRIMARY KEY, key bytea NOT NULL)'
+wrapped 320000 | awk '{ print 1000 + NR "\t\\\\x" $0 }' | psql -qc '\copy keys FROM STDIN'
+""",
+    "Rotate objects by a manifest": KEKS + """
+mkdir bucket; for name in a 'c d'; do wrapped 32 > "bucket/$name"; done; ls bucket > manifest
+aws() {
+    case $2 in
+        get-object) cp "bucket/$6" "${11}" && b2sum < "${11}" ;;
+        put-object) [ "$(b2sum < "bucket/$6")" = "${10}" ] && cp "$8" "bucket/$6" ;;
+    esac
+}
+export -f aws
+"""}
+# Checks after a recipe. A key store gets the key from each file.
+AFTER = {
+    "Rotate objects by a manifest": """
+while read -r name; do keywrap check --kek new-kek.hex < "bucket/$name"; done < manifest |
+    cmp - <(printf '%s\\n' 'plain 32' 'plain 32')
+""",
+    "Import a key into a key store or a hardware module": """
 # imported HASH FILE: the first part is as long as the store's key.
 imported() {
     local oaep="-pkeyopt rsa_padding_mode:oaep -pkeyopt rsa_oaep_md:$1 -pkeyopt rsa_mgf1_md:$1" ephemeral
@@ -24,11 +49,11 @@ imported sha256 EncryptedKeyMaterial.bin
 imported sha256 wrapped.bin
 jq -r .ciphertext key.byok | tr -- -_ +/ | base64 -di 2>>log >theirs.bin
 imported sha1 theirs.bin
-"""
+"""}
 
 
 def typed_and_shown(section):
-    """The lines that are typed, and the lines that come back, without their indentation."""
+    """The typed lines and the shown output of a section, without indentation."""
     typed, shown, indent = [], [], 4
     for line in section.splitlines():
         prompt = re.match(r"    (?: {1,3})?[$>] ", line)
@@ -45,7 +70,7 @@ SECTIONS = dict(section.split("\n", 1) for section in re.split(r"^## ", RECIPES,
 
 @pytest.fixture(scope="module")
 def server():
-    """What psql finds a PostgreSQL server by."""
+    """The variables by which psql finds a PostgreSQL server."""
     pytest.importorskip("cryptography", reason="no cryptography (apt-get install python3-cryptography)")
     from rotation_store import Server, server_programs
     if not server_programs():
@@ -56,7 +81,7 @@ def server():
 
 
 def follow(request, keywrap, files, script):
-    """Runs the lines in an empty directory, and returns what they write."""
+    """Runs the lines in an empty directory, and returns their output."""
     for tool, package in TOOLS.items():
         if re.search(rf"\b{tool}\b|_{tool}\.", script) and not shutil.which(tool):
             pytest.skip(f"no {tool} (apt-get install {package})")
@@ -77,25 +102,18 @@ def follow(request, keywrap, files, script):
     return ended.stdout
 
 
-# What calls the Python package is tested with it: python/tests/test_rotate_recipes.py. tests/hardware.sh has the recipe
-# that compiles a program with the C library.
+# Two kinds are tested elsewhere: recipes with the Python package in python/tests/test_rotate_recipes.py, the recipe
+# that compiles a program with the C library in tests/hardware.sh.
 @pytest.mark.parametrize("name", [name for name, section in SECTIONS.items()
                                   if not re.search(r"keywrap.rotate|\.py|pkg-config", typed_and_shown(section)[0])])
 def test_recipe(request, keywrap, files, name):
     script, shown = typed_and_shown(SECTIONS[name])
-    if name.startswith("Import a key into "):
-        script += IMPORT
-    assert follow(request, keywrap, files, script) == shown
+    assert follow(request, keywrap, files, BEFORE.get(name, "") + script + AFTER.get(name, "")) == shown
 
 
-def test_key_stores_have_a_recipe():
-    assert len([name for name in SECTIONS if name.startswith("Import a key into ")]) == 1
-
-
-def test_list_of_the_recipes():
-    """Each recipe's name with its anchor, in their order."""
-    listed = re.findall(r"^- \[(.*)\]\(#(.*)\)$", RECIPES, re.M)
-    assert listed == [(name, re.sub("[^a-z0-9-]", "", name.lower().replace(" ", "-"))) for name in SECTIONS]
+def test_names_of_recipes():
+    """BEFORE and AFTER have only names of recipes."""
+    assert (BEFORE.keys() | AFTER.keys()) <= SECTIONS.keys()
 
 
 def test_every_rotation_has_a_recipe():

@@ -38,7 +38,7 @@ def rotation(request, tmp_path, pytestconfig):
 
 
 def endures(rotation, done, fault):
-    """All old keys or all new ones are left, all new if the status is 0; and a second run makes them new."""
+    """The store has all old keys or all new keys; all new if the status is 0. A second run makes them new."""
     content = rotation.store.read_text()
     assert content in (OLD, NEW), fault
     assert done.returncode != 0 or content == NEW, fault
@@ -47,7 +47,7 @@ def endures(rotation, done, fault):
 
 
 def refused(rotation, content=OLD, **more):
-    """How a run ended that left the store as it is, and no other file."""
+    """How a run ended that changed nothing and left no other file."""
     done = rotation(**more)
     assert done.returncode != 0
     assert (rotation.store.read_text() if rotation.store.exists() else None) == content
@@ -123,7 +123,7 @@ def test_keks(rotation, keks, status):
     f"echo {ADDED} >>keys.hex", f"sed -i '2s/.*/{ADDED}/' keys.hex", "sed -i 2d keys.hex",
     f"exec 8<>keys.hex; echo {ADDED} >&8"], ids=["appended", "changed", "removed", "changed in place"])
 def test_a_change_meanwhile_is_kept(rotation, change, at):
-    """The store is as the other process left it."""
+    """The store is as the other process wrote it."""
     expected = rotation.room.path / "expected"
     shutil.copytree(rotation.room.here, expected)
     subprocess.run(["bash", "-c", change], cwd=expected, check=True)
@@ -149,7 +149,7 @@ def test_an_owner_that_cannot_be_kept_is_refused(rotation):
         path.chmod(mode)
     for path in [path for path in rotation.room.path.parents if not os.stat(path).st_mode & 0o001]:
         path.chmod(0o711)
-    refused(rotation, prefix=NOBODY)
+    assert refused(rotation, prefix=NOBODY).stderr.startswith("stopped at line")
     assert rotation.store.stat().st_uid == 0
 
 

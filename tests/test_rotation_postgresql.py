@@ -48,7 +48,7 @@ def set_row(number, key, kek=KEK):
 
 @contextlib.contextmanager
 def holding(table, statement):
-    """Another process with a transaction that has done this."""
+    """Another process with a transaction that has executed this statement."""
     process = subprocess.Popen(["psql", "-qAtX"], stdin=subprocess.PIPE, stdout=subprocess.PIPE, text=True,
                                env={**os.environ, **table.environment})
     process.stdin.write(f"BEGIN; {statement}; SELECT 'done';\n")
@@ -154,7 +154,7 @@ def test_the_order_of_the_commands(room, table):
 
 
 def test_keks(room, table):
-    """Every machine needs the KEKs of the beginning."""
+    """Every machine needs the same KEKs as at the start."""
     batches(room, "begin", "7")
     for keks in (KEK, bytes(32)), (bytes(16), NEW_KEK), (NEW_KEK, KEK), (KEK, b""):
         room.write_keks(*keks)
@@ -231,9 +231,10 @@ class Writer(threading.Thread):
         for fresh in itertools.takewhile(lambda _: self.going, itertools.count(1_000_000)):
             written = {self.source.randint(1, len(MANY)) * 10: wrapped(NEW_KEK, self.source.randbytes(32))
                        for _ in range(3)}
-            updates = [f"UPDATE keys SET key = '\\x{key}' WHERE id = {number};" for number, key in written.items()]
+            statements = [f"UPDATE keys SET key = '\\x{key}' WHERE id = {number};" for number, key in written.items()]
             written[fresh] = wrapped(NEW_KEK, self.source.randbytes(32))
-            self.table.sql(f"BEGIN; {' '.join(updates)} INSERT INTO keys VALUES ({fresh}, '\\x{written[fresh]}'); COMMIT;")
+            statements += [f"INSERT INTO keys VALUES ({fresh}, '\\x{written[fresh]}');"]
+            self.table.sql(f"BEGIN; {' '.join(statements)} COMMIT;")
             self.acknowledged.update(written)
 
 

@@ -1,6 +1,6 @@
 #!/usr/bin/env bash
 # Rewraps keys.hex, a wrapped key on each line, from kek.hex to new-kek.hex in the current directory. It replaces
-# keys.hex in one step, after the check of all new keys. On machines with Python, python -m keywrap.rotate does more.
+# keys.hex in one step, after it has checked all new keys. On machines with Python, python -m keywrap.rotate does more.
 
 set -eEuo pipefail
 umask 077

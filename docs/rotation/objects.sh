@@ -2,7 +2,7 @@
 # Rotates the objects that the file manifest names, one on each line, from kek.hex to new-kek.hex in the current
 # directory, eight at a time. store.sh there defines `get NAME FILE`, which prints the version of the object, and
 # `put NAME FILE VERSION`, which must fail if the object has another version by now. After any failure start it again:
-# the file rotated has the names that are done. Status 5: objects are left, and named.
+# the file rotated has the names of the finished objects. With status 5 it names the other objects.
 # shellcheck disable=SC2016
 
 set -euo pipefail; umask 077

@@ -93,7 +93,7 @@ static void plain(void) {
     must(token->C_CreateObject(session, is, 5, &object) == CKR_OK, "C_CreateObject");
     must(token->C_WrapKey(session, &own, kek, object, by_token, &len) == CKR_OK, "C_WrapKey");
     must(len == sizeof wrapped && !memcmp(by_token, wrapped, len), "C_WrapKey makes other bytes");
-    puts("plain: the wrapped key is that of C_WrapKey");
+    puts("plain: the same wrapped key as C_WrapKey");
 
     uint8_t *registers = by_token + 8;
     must(keywrap_begin_unwrap(by_token, registers, 32, &left, block) == KEYWRAP_OK, "begin");

@@ -1,4 +1,4 @@
-"""What the tests of keywrap.rotate share. Expected bytes are made by `cryptography`."""
+"""Shared helpers of the tests of keywrap.rotate. `cryptography` makes the expected bytes."""
 
 import os
 import random
@@ -12,13 +12,13 @@ SECRETS = (KEK.hex().encode(), NEW_KEK.hex().encode(), KEK, NEW_KEK)
 
 
 def skip_if_busy():
-    """Skips a test that kills processes at the right moment: they need a machine that has time for them."""
+    """Skips a test that kills processes at the right moment if the machine is busy."""
     if os.getloadavg()[0] > 1.5 * os.cpu_count():
         pytest.skip("the machine is too busy to disturb a rotation at the right moment")
 
 
 def wrapped_under(kek, key):
-    """The wrapped key: a key of a length that the plain form does not take is padded."""
+    """The wrapped key, padded if the length of the key is not plain."""
     if len(key) % 8 == 0 and len(key) >= 16:
         return pyca.aes_key_wrap(kek, key)
     return pyca.aes_key_wrap_with_padding(kek, key)
@@ -35,7 +35,7 @@ def lines_under(kek, keys):
 
 
 def set_keks(directory, monkeypatch, kek=KEK, new_kek=NEW_KEK):
-    """Writes both KEKs into files, which the environment names."""
+    """Writes both KEKs into files, and sets the variables with their names."""
     for name, variable, content in (("kek.hex", "KEYWRAP_KEK", kek), ("new-kek.hex", "KEYWRAP_NEW_KEK", new_kek)):
         path = directory / name
         path.write_text(content.hex() + "\n", encoding="ascii")

@@ -2,6 +2,7 @@
 
 import pathlib
 import re
+import types
 
 import pytest
 
@@ -28,6 +29,13 @@ def test_answers_the_standards_vectors():
     assert keywrap.unwrap(KEK, WRAPPED) == KEY
     assert keywrap.wrap_padded(KEK_5649, b"ForPasi") == FORPASI
     assert keywrap.unwrap_padded(KEK_5649, FORPASI) == b"ForPasi"
+
+
+def test_self_test(monkeypatch):
+    assert keywrap.self_test() is None
+    monkeypatch.setattr(keywrap, "_lib", types.SimpleNamespace(keywrap_self_test=lambda: 5, KEYWRAP_OK=0))
+    with pytest.raises(RuntimeError, match="self test failed"):
+        keywrap.self_test()
 
 
 def test_takes_an_initial_value():
@@ -170,7 +178,7 @@ def test_refuses(refusal, message, call, given):
 
 
 def test_names():
-    """What `import *` gives is what has no underscore, but for the modules that the package itself uses."""
+    """`import *` gives all names without an underscore, except the modules that the package uses."""
     assert sorted(keywrap.__all__) == keywrap.__all__
     own = [name for name, item in vars(keywrap).items() if getattr(item, "__module__", "") == "keywrap"]
     assert [name for name in sorted(own) if name[0] != "_"] == keywrap.__all__
@@ -178,7 +186,7 @@ def test_names():
 
 
 def test_the_readme_says_what_is_so():
-    """Its prompts, run as they are."""
+    """Runs its prompts as they are."""
     doctest = pytest.importorskip("doctest")
     readme = pathlib.Path(__file__).parents[1] / "README.md"
     failed, tried = doctest.testfile(str(readme), module_relative=False)

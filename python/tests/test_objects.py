@@ -19,7 +19,7 @@ WRAPPED = keywrap.wrap(KEK, KEY)
 
 
 class Liar(bytes):
-    """Says that it is longer than it is."""
+    """Reports a length that is too long."""
 
     def __len__(self):
         return 4096
@@ -32,14 +32,14 @@ class Liar(bytes):
 
 
 class Shrunk(bytes):
-    """Says that it is shorter than it is."""
+    """Reports a length that is too short."""
 
     def __len__(self):
         return 0
 
 
 class LyingArray(bytearray):
-    """The same of an object that can change."""
+    """The same for a mutable object."""
 
     def __len__(self):
         return 4096
@@ -63,7 +63,7 @@ CALLS = [
 
 
 def with_each(given, made):
-    """The arguments, each in turn replaced by what is made of it, and all of them."""
+    """The arguments, with each in turn replaced by `made` of it, and with all replaced."""
     for at in range(len(given)):
         yield (*given[:at], made(given[at]), *given[at + 1 :])
     yield tuple(made(item) for item in given)
@@ -100,7 +100,7 @@ def released(item):
 
 
 class NoBuffer:
-    """Offers all but a buffer."""
+    """Has every method of bytes, but no buffer."""
 
     def __len__(self):
         return 16
@@ -159,7 +159,7 @@ def test_objects_can_change_and_go_after_a_refusal():
 
 
 def test_pythons_own_bytes_stay():
-    """Copies of 0 and 1 bytes are objects that all of Python shares."""
+    """Python shares its bytes objects of length 0 and 1."""
     for byte in range(256):
         one = bytearray([byte])
         assert keywrap.unwrap_padded(KEK, keywrap.wrap_padded(KEK, one)) == bytes([byte])
@@ -185,7 +185,7 @@ def test_given_objects_are_not_written():
 
 
 def test_what_a_call_copies_is_wiped(monkeypatch):
-    """Copies of objects that are not bytes, and a padded key before its padding is cut off."""
+    """Copies of objects that are not bytes, and a padded key with its padding, are wiped."""
     copied, wiped, copy, wipe = [], [], keywrap._copied, keywrap._wipe
     monkeypatch.setattr(keywrap, "_copied", lambda given: copied.append(copy(given)) or copied[-1])
     monkeypatch.setattr(keywrap, "_wipe", lambda made, length: wiped.append(made) or wipe(made, length))
@@ -201,7 +201,7 @@ def test_what_a_call_copies_is_wiped(monkeypatch):
 
 
 def test_eight_threads():
-    """While one computes others do, and each gets its own answer."""
+    """They run at the same time, and each gets its own answer."""
     wrong = []
 
     def work(number):
@@ -221,7 +221,7 @@ def test_eight_threads():
 
 
 def test_other_threads_run_while_one_computes():
-    """The call is shorter than the time after which Python itself lets others run."""
+    """The call is too short for Python itself to switch threads."""
     ticks, done = [0], threading.Event()
 
     def count():
@@ -249,7 +249,7 @@ def resident():
 
 
 def test_many_calls_take_no_memory():
-    """A million, or as many as KEYWRAP_CALLS says."""
+    """A million calls, or KEYWRAP_CALLS."""
     padded, damaged, view = keywrap.wrap_padded(KEK, b"seven.."), bytes(24), memoryview(WRAPPED)
 
     def calls(count):

@@ -1,4 +1,4 @@
-"""keywrap.pyca beside cryptography.hazmat.primitives.keywrap: the same answers, the same exceptions."""
+"""keywrap.pyca compared with cryptography.hazmat.primitives.keywrap: the same results and exceptions."""
 
 import random
 import subprocess
@@ -18,7 +18,7 @@ rng = random.Random(20)
 
 
 def ended(module, name, *given):
-    """What a call answered, or the kind of its exception."""
+    """The result of a call, or the type of its exception."""
     try:
         return getattr(module, name)(*given)
     except module.InvalidUnwrap:
@@ -39,7 +39,7 @@ def said(module, name, *given):
 
 
 def is_ours_alone(name, given):
-    """Where ours refuses what theirs does not, or with another exception."""
+    """Whether only ours refuses this, or with another exception."""
     length = len(given)
     if name == "aes_key_wrap_with_padding":
         return length == 0
@@ -98,7 +98,7 @@ def test_random_keys_and_damaged_ones(padded):
 
 
 def test_one_exception():
-    """What catches theirs catches ours, and the other way about; without theirs there is one of ours."""
+    """A handler of either exception catches both. Without pyca we have our own exception."""
     assert ours.InvalidUnwrap is theirs.InvalidUnwrap
     code = """if True:
         import sys

@@ -1,6 +1,7 @@
 """keywrap.rotate: the unit of work over files of lines, files of one key, and SQLite; the calls for other stores."""
 
 import base64
+import functools
 import os
 import pathlib
 import shutil
@@ -69,13 +70,13 @@ def meanwhile(monkeypatch):
 
 
 def seen(path):
-    """Everything of a file but the time of its last reading."""
+    """Everything about a file except the time of its last read."""
     status = os.lstat(path)
     return (*status[:7], status.st_mtime_ns, status.st_ctime_ns, path.read_bytes() if path.is_file() else None)
 
 
 def refusal(path, challenges, store=Store()):
-    """Why the file is refused. It is as it was, to its inode and time, and no temporary file is left."""
+    """The reason of a refusal. The file is unchanged, with its inode and time, and no temporary file is left."""
     before = seen(path)
     answer = rotate_file(str(path), *challenges, store)
     assert seen(path) == before
@@ -93,6 +94,12 @@ def test_rotates_lines_of_both_forms(file, challenges):
     assert (answer["path"], answer["keys"], answer["passed"], answer["refused"]) == (str(file), 12, 0, None)
     assert set(answer) == {"path", "machine", "keys", "passed", "refused"}
     assert left_over(file.parent) == []
+
+
+def test_the_new_file_is_made_beside_the_old(file, challenges, monkeypatch):
+    """The directory of temporary files may be on another disk."""
+    monkeypatch.setattr(tempfile, "tempdir", str(file.parent / "none"))
+    assert rotate_file(str(file), *challenges)["refused"] is None
 
 
 def test_a_second_run_changes_nothing(file, challenges):
@@ -163,8 +170,10 @@ def test_numbers_lines_across_blocks(file, challenges, monkeypatch):
     assert file.read_bytes() == NEW
 
 
-def test_replaces_nothing_before_its_check(file, challenges, monkeypatch):
-    monkeypatch.setattr(_rotation_stores, "is_under", lambda kek, wrapped: False)
+@pytest.mark.parametrize("wrong", [0, 11])
+def test_replaces_nothing_before_its_check(file, challenges, monkeypatch, wrong):
+    under = [wrapped_under(NEW_KEK, key) for number, key in enumerate(KEYS) if number != wrong]
+    monkeypatch.setattr(_rotation_stores, "is_under", lambda kek, wrapped: wrapped in under)
     assert refusal(file, challenges) == "a rewrapped key is not under the new KEK"
 
 
@@ -298,7 +307,7 @@ def test_refuses_an_owner_that_it_cannot_keep(monkeypatch):
 
 @pytest.mark.skipif(os.geteuid() != 0, reason="not root")
 def test_a_directory_that_cannot_be_read_is_one_of_the_files():
-    """So it is refused, not passed over."""
+    """It is refused, not skipped."""
     with tempfile.TemporaryDirectory() as name:
         below = pathlib.Path(name, "below")
         below.mkdir(mode=0o700)
@@ -364,7 +373,7 @@ def test_a_file_of_one_key_that_changes_meanwhile(file, challenges, meanwhile, c
 
 @pytest.mark.parametrize("change, keys", [(appended, KEYS + [ADDED]), (changed, KEYS[:-1] + [ADDED])])
 def test_two_writes_within_a_tick_of_the_clock(file, challenges, meanwhile, monkeypatch, change, keys):
-    """Then the file has the time that it had, and only its content differs."""
+    """Then the time of the file is the same, and only its content differs."""
     monkeypatch.setattr(_rotation_files, "_identity", lambda status: ())
     meanwhile(lambda: change(file))
     assert rotate_file(str(file), *challenges)["refused"] is None
@@ -559,6 +568,18 @@ def test_a_locked_database(database, challenges, monkeypatch, lock):
     assert run_sql(database, "SELECT * FROM keys") == rows_under(NEW_KEK)
 
 
+def test_a_refused_begin_changes_nothing(database, challenges, monkeypatch):
+    class Refusing(sqlite3.Connection):
+        def execute(self, statement, *more):
+            if statement.startswith("BEGIN"):
+                raise sqlite3.OperationalError("database is locked")
+            return super().execute(statement, *more)
+
+    monkeypatch.setattr(sqlite3, "connect", functools.partial(sqlite3.connect, factory=Refusing))
+    assert rotate_file(str(database), *challenges, TABLE)["refused"] == "database is locked"
+    assert run_sql(database, "SELECT * FROM keys") == rows_under(KEK)
+
+
 def test_nobody_waits_while_rows_are_rewrapped(database, challenges, meanwhile):
     """Another process writes in the middle, without waiting for the lock."""
 
@@ -586,9 +607,9 @@ def test_rewraps_all_or_none(challenges):
 
 
 def test_rewrap_all_checks(monkeypatch):
-    monkeypatch.setattr(_rotation_stores, "is_under", lambda kek, wrapped: False)
+    monkeypatch.setattr(_rotation_stores, "is_under", lambda kek, wrapped: wrapped == wrapped_under(NEW_KEK, KEYS[0]))
     with pytest.raises(Refused, match="not under the new KEK"):
-        rotate.rewrap_all([wrapped_under(KEK, KEYS[0])])
+        rotate.rewrap_all([wrapped_under(KEK, key) for key in KEYS])
 
 
 def test_replaces_what_was_read(file):
@@ -617,7 +638,7 @@ def test_does_not_replace_a_link(file, tmp_path):
 
 
 def traced(tmp_path, *words):
-    """The calls of a run that strace shows."""
+    """The system calls of a run, by strace."""
     if shutil.which("strace") is None:
         pytest.skip("no strace (apt-get install strace)")
     log = tmp_path / "calls"

@@ -15,6 +15,8 @@ pytest.importorskip("cryptography", reason="no cryptography (apt-get install pyt
 
 from rotation_help import KEK, NEW_KEK, SECRETS, left_over, lines_under, make_keys, set_keks, skip_if_busy  # noqa: E402
 
+from keywrap import rotate  # noqa: E402
+
 FILES = 8
 KEYS = [make_keys(30, seed) for seed in range(FILES)]
 SLOW = """
@@ -52,7 +54,7 @@ def names(store):
 
 
 def state(store):
-    """Of each file: old, new, or neither."""
+    """For each file: old, new, or neither."""
     found = [open(name, "rb").read() for name in names(store)]
     return [
         "new" if content == lines_under(NEW_KEK, keys) else "old" if content == lines_under(KEK, keys) else "neither"
@@ -182,6 +184,30 @@ def test_a_report_is_none_of_the_files(store, where):
     assert not (store / "report").exists()
 
 
+def test_a_report_may_begin_like_the_files(store):
+    assert rotated("--report", f"{store}-report", str(store))[0] == 0
+    assert report_of(store.with_name(f"{store.name}-report"))[-1]["files"] == FILES
+
+
+def test_the_end_of_a_report(capsys):
+    report = rotate._Report(None)
+    report.answer({"path": "refused", "keys": 2, "passed": 1, "refused": "blank"})
+    assert [report.end([]), report.end(["unanswered"])] == [5, 6]
+    assert "no key was under the KEK" not in capsys.readouterr().err
+
+
+def test_rounds():
+    """A round begins with the files that came last in the round before. Two rounds without an answer are the end."""
+    rounds, answers = [], []
+
+    def hand_out(paths):
+        rounds.append("".join(paths))
+        return iter([{"path": paths[0]}] if len(paths) > 2 else [])
+
+    assert sorted(rotate.rotate("abcd", hand_out, answers.append)) == ["b", "c"]
+    assert (rounds, answers) == (["abcd", "dcb", "bc", "cb"], [{"path": "a"}, {"path": "d"}])
+
+
 # Names: the same file twice, directories, links.
 
 
@@ -219,11 +245,13 @@ def test_what_a_directory_cannot_stand_for_is_refused(store, tmp_path_factory):
 
 
 def test_files_that_are_added_and_removed_meanwhile(store):
-    """A file that is added is rotated too. One that is removed is refused, and missing in the next run."""
-    running = subprocess.Popen([sys.executable, "-B", "-c", SLOW, "--jobs", "1", str(store)], stderr=subprocess.PIPE)
-    wait_for(lambda: state(store)[0] == "new")
+    """An added file is rotated, too. A removed file is refused, and the next run does not see it."""
+    program = "import os" + SLOW.replace("time.sleep(0.01)", "while not os.path.exists('go'): time.sleep(0.01)")
+    running = subprocess.Popen([sys.executable, "-B", "-c", program, "--jobs", "1", str(store)], stderr=subprocess.PIPE)
+    wait_for(lambda: left_over(store))
     (store / "0").write_bytes(lines_under(KEK, KEYS[0]))
     (store / "7.hex").unlink()
+    open("go", "w").close()
     lines = running.communicate(timeout=240)[1].decode().splitlines()
     assert running.returncode == 5
     assert lines[0] == f"keywrap.rotate: {store}/7.hex: No such file or directory"
@@ -283,7 +311,7 @@ def test_a_killed_run_is_begun_again(store, sent):
 
 
 def test_workers_end_with_a_run_that_is_killed_before_they_begin(store):
-    """They do not keep the pipe of standard error open either."""
+    """They do not keep the pipe of standard error open, either."""
     program = SLOW.replace("sys.exit(", """
 from keywrap import _rotation_engines
 begin = _rotation_engines._end_with_parent

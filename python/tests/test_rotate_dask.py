@@ -86,7 +86,7 @@ class Cluster:
         wait_for(lambda: b"Registered to" in log.read_bytes())
 
     def inner(self, number):
-        """The process that works: the child of the worker's nanny that is no resource tracker."""
+        """The working process: the child of the worker's nanny that is not a resource tracker."""
         pids = []
         for pid in children(self.workers[number].pid):
             with open(f"/proc/{pid}/cmdline", "rb") as file:
@@ -152,7 +152,7 @@ def names(store):
 
 
 def state(store):
-    """Of each file: old, new, or neither. New is byte for byte what one process of the program writes."""
+    """For each file: old, new, or neither. New means the same bytes as one process of the program writes."""
     kinds = []
     for name, keys in zip(names(store), KEYS):
         with open(name, "rb") as file:
@@ -295,7 +295,7 @@ def test_corrupt_lines(cluster, store):
 
 
 def test_keks_of_one_worker_that_are_wrong(cluster, store, keks, tmp_path_factory):
-    """Each is found before the first file, and named; then the worker ends."""
+    """Each wrong KEK is found before the first file, and named. Then the worker ends."""
     other = tmp_path_factory.mktemp("wrong") / "kek.hex"
     other.write_text("00" * 32)
     kek, new_kek = str(keks / "kek.hex"), str(keks / "new-kek.hex")
@@ -359,7 +359,7 @@ def test_no_worker_and_no_scheduler(tmp_path_factory, store, keks):
 
 
 def test_tls(tmp_path_factory, store, keks, monkeypatch):
-    """Scheduler, worker and client with certificates: whoever has none is refused."""
+    """Scheduler, worker and client have certificates. A process without one is refused."""
     skip_if_busy()
     if shutil.which("openssl") is None:
         pytest.skip("no openssl (apt-get install openssl)")

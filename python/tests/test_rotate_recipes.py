@@ -27,7 +27,7 @@ PROGRAM = os.environ.get("KEYWRAP") or str(ROOT / "crates/keywrap/out/keywrap")
 
 @pytest.fixture
 def environment(tmp_path):
-    """The variables of a run that finds the program, this Python and docs."""
+    """The variables with which a recipe finds the program, this Python and docs."""
     if not os.path.exists(PROGRAM):
         pytest.skip("the program is not built")
     for name in ("bin", "here"):
@@ -39,15 +39,32 @@ def environment(tmp_path):
             "PYTHONDONTWRITEBYTECODE": "1"}  # fmt: skip
 
 
+KEKS = """openssl rand -hex 32 > kek.hex; openssl rand -hex 32 > new-kek.hex
+wrapped() { head -c "$1" /dev/urandom | xxd -p -c 32 | keywrap wrap --lines --kek kek.hex; }
+"""
+# Commands before a recipe.
+STORES_OF_RECIPES = {
+    "Rotate files and SQLite tables": """
+mkdir store; for n in 1 2; do wrapped 32000 > store/$n.hex; done
+wrapped 32000 | sed "s/.*/INSERT INTO keys (key) VALUES (x'&');/
+    1i CREATE TABLE keys (id INTEGER PRIMARY KEY, key BLOB); BEGIN;
+    \\$a COMMIT;" | sqlite3 keys.db
+""",
+    "Rotate JSON, CSV or a Kubernetes Secret": """
+wrapped 3200 | jq -R '{owner: "someone", key: .}' | jq -s . > keys.json
+"""}
+
+
 def recipes():
-    """The name, the typed lines and the answer of each such recipe."""
+    """The name, the typed lines and the output of each such recipe."""
     for section in SECTIONS:
         lines = [line.strip() if line.startswith("       ") else line[4:] for line in section.splitlines()
                  if line.startswith("    ")]
         typed = "\n".join(line[2:] for line in lines if line.startswith(("$ ", "> ")))
         if re.search(r"keywrap\.rotate|\.py", typed):
             answer = [line for line in lines if not line.startswith(("$ ", "> "))]
-            yield pytest.param(typed, "\n".join(answer), id=section.splitlines()[0])
+            name = section.splitlines()[0]
+            yield pytest.param(KEKS + STORES_OF_RECIPES[name] + typed, "\n".join(answer), id=name)
 
 
 @pytest.mark.parametrize("typed, answer", recipes())
@@ -65,7 +82,7 @@ def test_recipe(typed, answer, tmp_path, environment):
 
 
 def test_there_are_recipes():
-    assert len(list(recipes())) == 3
+    assert len(list(recipes())) == 2
 
 
 def test_scripts_are_short():
@@ -243,7 +260,7 @@ def test_objects(bucket):
 
 
 def test_new_objects_are_checked(bucket):
-    """An object is not replaced by one whose key is under the old KEK."""
+    """An object is not replaced by an object under the old KEK."""
     program = bucket.here.parent / "bin/keywrap"
     program.unlink()
     program.write_text(f'''#!/bin/bash

@@ -12,7 +12,7 @@ CALLS = {"KW": (keywrap.wrap, keywrap.unwrap), "KWP": (keywrap.wrap_padded, keyw
 
 
 def rows(name):
-    """Each block of lines of a file: its words and their bytes; only `FAIL` has none."""
+    """Each block of lines of a file: its words and their bytes. `FAIL` has no bytes."""
     with vectors.open_vector_file(f"keywrap/{name}", "r") as file:
         blocks = file.read().split("\n\n")
     for block in blocks:

@@ -1,8 +1,8 @@
-/* no_aes.c: returns in place of the C library that the processor has nothing beyond the base. */
+/* no_aes.c: returns in place of the C library that the processor has all of Armv8.0 but AES. */
 
 unsigned long getauxval(unsigned long type);
 
+/* AT_HWCAP, and of its bits (asm/hwcap.h) FP, ASIMD, PMULL, SHA1, SHA2 and CRC32. */
 unsigned long getauxval(unsigned long type) {
-    (void)type;
-    return 0;
+    return type == 16 ? 0xf3 : 0;
 }

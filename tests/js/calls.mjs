@@ -127,6 +127,17 @@ test('a check', () => {
     }
 });
 
+test('the self test sees a changed byte of a vector', async () => {
+    keywrap.selfTest();
+    assert.ok(isAsMade(exports));
+    const changed = MODULE.slice();
+    const at = changed.findIndex((_, from) => isEqual(changed.subarray(from, from + 24), WRAPPED));
+    changed[at + 8] ^= 1;
+    const other = await keywrapModule.load(changed);
+    const message = 'self test failed: this host computes wrong results';
+    assert.throws(() => other.selfTest(), { name: 'Error', message });
+});
+
 test('random keys, as OpenSSL answers', () => {
     for (let turn = 0; turn < 300; turn++) {
         const kek = random([16, 24, 32][turn % 3]);
@@ -375,7 +386,8 @@ test('the exports, and the classes of the errors', () => {
 });
 
 test('the object that load returns cannot be changed', () => {
-    const names = ['version', 'wrap', 'unwrap', 'wrapPadded', 'unwrapPadded', 'rewrap', 'check'];
+    const names = ['version', 'wrap', 'unwrap', 'wrapPadded', 'unwrapPadded', 'rewrap', 'check',
+        'selfTest'];
     assert.deepEqual(Object.keys(keywrap), names);
     for (const name of [...names, 'other']) {
         assert.throws(() => { keywrap[name] = () => KEY; }, TypeError);

@@ -449,8 +449,8 @@ static void rewraps_of_tampered_texts(void) {
 /* The text of a status: whole, cut to each capacity, and with the bytes behind it as they were. */
 static void status_text(int32_t status, const char *text) {
     const size_t len = strlen(text);
-    for (size_t capacity = 0; capacity <= 80; capacity++) {
-        char found[81], due[81];
+    for (size_t capacity = 0; capacity <= 90; capacity++) {
+        char found[91], due[91];
         memset(found, '~', sizeof found);
         memset(due, '~', sizeof due);
         if (capacity > 0) {
@@ -487,6 +487,7 @@ int main(int argc, char **argv) {
     macros_in_expressions();
     version();
     status_texts();
+    count(keywrap_self_test() == KEYWRAP_OK, "self test", PLAIN, TWO_BUFFERS, 0, 0, 0);
     for (enum form form = PLAIN; form <= PADDED; form++) {
         short_lengths(form);
         longest_lengths(form);

@@ -12,7 +12,7 @@ shows() { diff <("${tools}nm" "$@" --defined-only | awk 'NF == 3 && $2 != "A" { 
 versioned() {
     shows -D --without-symbol-versions "$1" &&
         diff <("${tools}nm" -D --defined-only "$1" | awk '$2 != "A" { print $3 }' | sort) \
-            <(sed -E 's/$/@@KEYWRAP_1/; /^keywrap_(status_text|(begin|step|end)_.*)@/s/$/.1/' <<<"$names" | sort)
+            <(sed -E 's/$/@@KEYWRAP_1/; /^keywrap_(status_text|self_test|(begin|step|end)_.*)@/s/$/.1/' <<<"$names" | sort)
 }
 
 # wants FILE: the archive wants nothing but these of the C library.
@@ -32,4 +32,6 @@ shown() {
     row "$1: the names of the archive" shows -g "$library/libkeywrap.a"
     row "$1: the names of the shared object" versioned "$library/libkeywrap.so.1"
     row "$1: a hardened shared object" hardened "$library/libkeywrap.so.1"
+    [ -n "$tools" ] ||
+        row "$1: its self test sees a changed byte" python3 "$root/tests/library/patched.py" "$library/libkeywrap.so.1"
 }

@@ -1,6 +1,5 @@
-/* nist.c: reads cases from standard input, a line each: plain or padded, then the KEK, the key (- if
- * the wrapped key is refused) and the wrapped key, in hex. Prints how many are right, both ways, and
- * how many of these are refusals. */
+/* nist.c: reads the lines of nist_cases.py from standard input. Prints how many cases are right, both
+ * ways, and how many of these are refusals. */
 
 #include <keywrap.h>
 #include <stdio.h>
@@ -43,11 +42,11 @@ static int32_t unwrap(int padded, const struct bytes *kek, const struct bytes *w
 }
 
 int main(void) {
-    static char form[16], texts[3][2 * LONGEST + 1];
+    static char texts[3][2 * LONGEST + 1];
     static struct bytes kek, key, wrapped, found;
-    unsigned right = 0, refused = 0;
-    while (scanf("%15s %2048s %2048s %2048s", form, texts[0], texts[1], texts[2]) == 4) {
-        int padded = !strcmp(form, "padded"), refusal = !strcmp(texts[1], "-");
+    unsigned cipher, right = 0, refused = 0;
+    while (scanf("%u %2048s %2048s %2048s", &cipher, texts[0], texts[1], texts[2]) == 4) {
+        int padded = cipher >= 3, refusal = !strcmp(texts[1], "-");
         int32_t status;
         from_hex(texts[0], &kek);
         from_hex(refusal ? "" : texts[1], &key);

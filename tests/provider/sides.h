@@ -75,7 +75,7 @@ void seed(uint64_t with);
 void try_lengths(void);
 void try_sequences(unsigned count);
 void try_parameters(void);
-void try_refusals(void);
+void try_refusals(int few);
 void try_vectors(void);
 
 #endif

@@ -3,7 +3,8 @@
  * with another KEK, another new KEK, another key: a byte of the stack that differs afterwards depends
  * on what differed. Each call is made with KEKs of 16, 24 and 32 bytes, and in each way in which it
  * can end. Prints a line for each of these: the call, the way, the KEK's length, and then the count
- * for the KEK, the new KEK, the key, and of copies: 16 bytes in a row of a KEK or of the key. */
+ * for the KEK, the new KEK, the key, and of copies: 16 bytes in a row of a KEK or of the key; and how
+ * many bytes of the stack the call took. */
 
 #define _XOPEN_SOURCE 700
 
@@ -87,6 +88,10 @@ static void rewrap_in_place(void) {
     status = keywrap_rewrap_in_place(kek, kek_len, new_kek, new_kek_len, out, text_len, forms);
 }
 
+static void self_test(void) {
+    status = keywrap_self_test();
+}
+
 /* The calls, which one makes the text that is taken, the flags, and the ways. */
 enum {
     WRAPS = 1 << DONE | 1 << BAD_KEK | 1 << SHORT,
@@ -120,6 +125,7 @@ static const struct watched {
     {"rewrap_in_place,padded", rewrap_in_place, wrap_padded, BOTH_PADDED, REWRAPS},
     {"rewrap_in_place,keep_plain", rewrap_in_place, wrap, KEYWRAP_KEEP_FORM, REWRAPS},
     {"rewrap_in_place,keep_padded", rewrap_in_place, wrap_padded, KEYWRAP_KEEP_FORM, REWRAPS},
+    {"self_test", self_test, NULL, 0, 1 << DONE},
 };
 
 /* What is secret, of 32 bytes each, and from which seed it is filled. */
@@ -199,6 +205,13 @@ static unsigned copies(const uint8_t *stack) {
     return count;
 }
 
+/* The bytes from the first that was written on. */
+static unsigned taken(const uint8_t *stack) {
+    unsigned first = 0;
+    while (stack[first] == 0x5A) first++;
+    return STACK - first;
+}
+
 static void watch(uint8_t *stack, const struct watched *watched, enum way way, size_t len) {
     static uint8_t first[STACK];
     run_on(stack, watched, way, len);
@@ -210,7 +223,7 @@ static void watch(uint8_t *stack, const struct watched *watched, enum way way, s
         printf(" %u", differing(first, stack));
         fill(secret->bytes, 32, secret->seed);
     }
-    printf(" %u\n", copies(first));
+    printf(" %u %u\n", copies(first), taken(first));
 }
 
 int main(void) {

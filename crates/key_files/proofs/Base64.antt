@@ -11,7 +11,7 @@ use Rattle.base64.proofs.EngineFacts.{decode_of_strict}
 use Rattle.key_files.specs.Base64Text.{IsBase64Of, base64_meaning, decoded_meaning, encoding, encoding_of, has_padding, is_url_safe_text}
 use Rattle.key_files.specs.Base64Text.{kept, misplaced, placed_meaning, symbol_text_meaning, symbols_meaning}
 use Rattle.key_files.specs.declared.fault.Base64Fault.{Base64Fault}
-use Rattle.key_files.specs.declared.fault.FileFault.TheVariants.{TooLong, BadBase64}
+use Rattle.key_files.specs.declared.fault.FileFault.TheVariants.{TooLong}
 
 -- engines with the same tables and configuration decode the same
 pub decode_of-same : (a b : GeneralPurpose) (text : List ℕ) → SameEngine a b → decode_of a text ≡ decode_of b text
@@ -22,18 +22,7 @@ pub symbols_meaning-is : (e : GeneralPurpose) (text : List ℕ) (decoded : Resul
     → decode_of e text ≡ decoded → symbols_meaning text ≡ decoded_meaning decoded
 symbols_meaning-is e text decoded same is = ap decoded_meaning (sym (decode_of-same e (encoding_of text) text same) ∙ is)
 
--- a character is not allowed at its place
-pub symbol_text_meaning-misplaced : (text : List ℕ) (fault : Base64Fault) → misplaced false text ≡ Some fault
-    → symbol_text_meaning text ≡ Err (BadBase64 fault)
-unfolding symbol_text_meaning
-symbol_text_meaning-misplaced text fault h = rw h refl
-
-pub base64_meaning-misplaced : (text : List ℕ) (fault : Base64Fault) → misplaced true text ≡ Some fault
-    → base64_meaning text ≡ Err (BadBase64 fault)
-unfolding base64_meaning
-base64_meaning-misplaced text fault h = rw h refl
-
--- none does
+-- no character is misplaced
 pub symbol_text_meaning-placed : (text : List ℕ) → misplaced false text ≡ None → symbol_text_meaning text ≡ symbols_meaning text
 unfolding symbol_text_meaning
 symbol_text_meaning-placed text h = rw h refl
@@ -41,10 +30,6 @@ symbol_text_meaning-placed text h = rw h refl
 pub base64_meaning-placed : (text : List ℕ) → misplaced true text ≡ None → base64_meaning text ≡ symbols_meaning (kept text)
 unfolding base64_meaning
 base64_meaning-placed text h = rw h refl
-
-pub not_misplaced : (found : Option Base64Fault) → ((fault : Base64Fault) → found ≢ Some fault) → found ≡ None
-not_misplaced None h = refl
-not_misplaced (Some fault) h = absurd (h fault refl)
 
 -- a text is never too long
 symbols-never_long : (decoded : Result (List ℕ) DecodeError) → decoded_meaning decoded ≢ Err TooLong

@@ -1,6 +1,6 @@
 -- Base64 files and texts denote exactly the bytes that they encode.
-use Rattle.std.proofs.Common.{◌≡◌, ◌≢◌, ◌<◌, ◌+◌, ◌*◌, ◌/◌, ◌%◌, ◌==◌, ◌||◌, ◌&&◌, ◌⊎◌, inl, inr, not, Bool, true, false, ℕ, zero, suc, List, [], ◌∷◌, ◌++◌, length}
-use Rattle.std.proofs.Common.{drop, get_or, replicate, slice_index, Option, Some, None, Result, Ok, Err, arith, refl, sym, ap, ◌∙◌, append-nil, subst}
+use Rattle.std.proofs.Common.{◌≡◌, ◌<◌, ◌+◌, ◌*◌, ◌/◌, ◌%◌, ◌==◌, ◌||◌, ◌&&◌, ◌⊎◌, inl, inr, not, Bool, true, false, ℕ, zero, suc, List, [], ◌∷◌, ◌++◌, length}
+use Rattle.std.proofs.Common.{drop, replicate, slice_index, Option, Some, None, Result, Ok, Err, arith, refl, sym, ap, ◌∙◌, append-nil, subst}
 use Rattle.std.specs.List.{filter, list_all, prefix_len}
 use Rattle.std.proofs.lemmas.Bool.{and_parts, cases_Bool, eqb-true, le-ltb, lt-ltb, not-true, or_cases}
 use Rattle.std.proofs.lemmas.Iterator.Adapters.{position_from-zero}
@@ -17,13 +17,13 @@ use Rattle.base64.specs.declared.engine.general_purpose.GeneralPurpose.{GeneralP
 use Rattle.base64.proofs.EngineFacts.{decode_of-encode_of}
 use Rattle.base64.proofs.Tables.{all_below_at}
 use Rattle.base64.specs.declared.decode.DecodeError.{DecodeError}
-use Rattle.key_files.specs.Base64Text.{IsBase64Of, base64_line, base64_meaning, before_padding, decoded_meaning, encoding, encoding_of}
+use Rattle.key_files.specs.Base64Text.{FilesEncode, IsBase64Of, base64_line, base64_meaning, before_padding, decoded_meaning, encoding, encoding_of}
 use Rattle.key_files.specs.Base64Text.{first_foreign, first_no_padding, first_of_one, has_padding, is_allowed, is_padding, is_standard, is_url_safe}
 use Rattle.key_files.specs.Base64Text.{is_url_safe_at, is_url_safe_text, kept, misplaced, place_fault, placed_meaning, symbol_text_meaning, symbols_meaning}
 use Rattle.key_files.specs.declared.fault.Base64Fault.{Base64Fault}
 use Rattle.key_files.specs.HexText.{is_skipped}
-use Rattle.key_files.specs.Writing.{IsLine}
-use Rattle.key_files.proofs.Lists.{all-both, all-append, all-replicate, all-drop, filter-all, position-none, all-from_none, prefix_len-all, all-behind, all-unfiltered, behind-unfiltered, of_blanks, IsBytes-filter}
+use Rattle.key_files.specs.Writing.{PrintsAs}
+use Rattle.key_files.proofs.Lists.{IsLine-of, all-both, all-append, all-replicate, all-drop, filter-all, position-none, all-from_none, prefix_len-all, all-behind, all-unfiltered, behind-unfiltered, of_blanks, IsBytes-filter}
 use Rattle.key_files.proofs.Base64.{IsBase64Of-decoded, base64_meaning-placed, symbol_text_meaning-placed}
 
 -- ---- the symbols of an encoding
@@ -352,10 +352,13 @@ pub symbol_text_meaning-sound : (text bytes : List ℕ) → IsBytes text → sym
 unfolding symbol_text_meaning
 symbol_text_meaning-sound text bytes fits h = placed-sound text bytes fits (misplaced false text) h
 
-pub base64_meaning-sound : (file bytes : List ℕ) → IsBytes file → base64_meaning file ≡ Ok bytes → IsBase64Of (kept file) bytes
+base64_meaning-sound : (file bytes : List ℕ) → IsBytes file → base64_meaning file ≡ Ok bytes → IsBase64Of (kept file) bytes
 unfolding base64_meaning
 base64_meaning-sound file bytes fits h =
     placed-sound (kept file) bytes (IsBytes-filter (λ c. not (is_skipped c)) file fits) (misplaced true file) h
+
+pub files_encode : FilesEncode
+files_encode file bytes = (base64_meaning-accepts file bytes, base64_meaning-sound file bytes)
 
 -- no symbol is left out
 kept-text : (u : Bool) (n : ℕ) (bytes : List ℕ) → IsBytes bytes → list_all (λ c. not (is_skipped c)) (text_in u n bytes) ≡ true
@@ -370,7 +373,7 @@ unskipped text bytes fits (u, p, is) =
 pub kept-encoded : (text bytes : List ℕ) → IsBytes bytes → IsBase64Of text bytes → kept text ≡ text
 kept-encoded text bytes fits own = filter-all (λ c. not (is_skipped c)) text (unskipped text bytes fits own)
 
-pub base64_meaning-line : (url_safe : Bool) (bytes : List ℕ) → IsBytes bytes → base64_meaning (base64_line url_safe bytes) ≡ Ok bytes
+base64_meaning-line : (url_safe : Bool) (bytes : List ℕ) → IsBytes bytes → base64_meaning (base64_line url_safe bytes) ≡ Ok bytes
 base64_meaning-line url_safe bytes fits =
     let text : List ℕ = encode_of (encoding url_safe (not url_safe)) bytes in
     let own : IsBase64Of text bytes = (url_safe, not url_safe, refl) in
@@ -378,9 +381,7 @@ base64_meaning-line url_safe bytes fits =
     let same : kept (text ++ 10 ∷ []) ≡ text = filter-append q text (10 ∷ []) ∙ append-nil (filter q text) ∙ kept-encoded text bytes fits own in
     base64_meaning-accepts (base64_line url_safe bytes) bytes fits (subst (λ (l : List ℕ). IsBase64Of l bytes) (sym same) own)
 
-pub IsLine-base64_line : (url_safe : Bool) (bytes : List ℕ) → IsBytes bytes → IsLine (base64_line url_safe bytes)
-IsLine-base64_line url_safe bytes fits =
+pub prints_base64 : (url_safe : Bool) (bytes : List ℕ) → IsBytes bytes → PrintsAs base64_meaning (base64_line url_safe bytes) bytes
+prints_base64 url_safe bytes fits =
     let text : List ℕ = encode_of (encoding url_safe (not url_safe)) bytes in
-    let all = unskipped text bytes fits (url_safe, not url_safe, refl) in
-    let no_lf : (c : ℕ) → not (is_skipped c) ≡ true → c ≢ 10 = λ c is lf. cc (subst (λ d. not (is_skipped d) ≡ true) lf is) in
-    (text, refl, λ k d lt. no_lf (get_or text k d) (AllPass-from_list_all (λ c. not (is_skipped c)) text all k d lt))
+    (IsLine-of (λ c. not (is_skipped c)) text refl (unskipped text bytes fits (url_safe, not url_safe, refl)), base64_meaning-line url_safe bytes fits)

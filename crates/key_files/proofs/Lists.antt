@@ -1,6 +1,6 @@
 -- Lists whose elements all pass a test, and what a filter leaves of them.
-use Rattle.std.proofs.Common.{◌≡◌, ◌<◌, ◌+◌, ◌==◌, not, Bool, true, false, ℕ, zero, suc, List, [], ◌∷◌, ◌++◌, length, take, drop, replicate}
-use Rattle.std.proofs.Common.{None, inl, inr, arith, refl, sym, ap, ◌∙◌, subst}
+use Rattle.std.proofs.Common.{◌≡◌, ◌≢◌, ◌<◌, ◌+◌, ◌==◌, not, Bool, true, false, ℕ, zero, suc, List, [], ◌∷◌, ◌++◌, length, take, drop, replicate}
+use Rattle.std.proofs.Common.{All, None, inl, inr, arith, refl, sym, ap, ◌∙◌, subst}
 use Rattle.std.specs.List.{filter, list_all, position, position_from, prefix_len}
 use Rattle.std.proofs.lemmas.Bool.{and_from, and_parts, cases_Bool, eqb-true}
 use Rattle.std.proofs.lemmas.Iterator.Adapters.{position_from-zero}
@@ -10,6 +10,7 @@ use Rattle.std.proofs.lemmas.List.Folds.{list_all-append}
 use Rattle.std.proofs.lemmas.List.Sums.{AllPass-from_list_all, list_all-from_AllPass}
 use Rattle.base64.specs.GeneralPurpose.{IsBytes}
 use Rattle.key_files.specs.HexText.{is_skipped}
+use Rattle.key_files.specs.Writing.{IsLine}
 
 pub all-both : (p q r : ℕ → Bool) (xs : List ℕ) → ((c : ℕ) → p c ≡ true → q c ≡ true → r c ≡ true)
     → list_all p xs ≡ true → list_all q xs ≡ true → list_all r xs ≡ true
@@ -126,6 +127,13 @@ of_blanks P a b d e c h = elim (cases_Bool (c == 32)) [
     ]
   ]
 ]
+
+-- and LF is not among them
+pub no_lf : (p : ℕ → Bool) (text : List ℕ) → p 10 ≡ false → list_all p text ≡ true → All (λ byte. byte ≢ 10) text
+no_lf p text lf all = λ k d lt e. cc (sym lf ∙ subst (λ c. p c ≡ true) e (AllPass-from_list_all p text all k d lt))
+
+pub IsLine-of : (p : ℕ → Bool) (text : List ℕ) → p 10 ≡ false → list_all p text ≡ true → IsLine (text ++ 10 ∷ [])
+IsLine-of p text lf all = (text, refl, no_lf p text lf all)
 
 -- ---- bytes
 

@@ -1,22 +1,18 @@
 -- What a file of digits and blanks denotes, and that hex output is one line and denotes the bytes that it was made of.
-use Rattle.std.proofs.Common.{◌≡◌, ◌≢◌, ◌<◌, ◌/◌, ◌%◌, ◌||◌, not, true, false, ℕ, List, [], ◌∷◌, ◌++◌, slice_index, suc}
-use Rattle.std.proofs.Common.{Bool, Option, Some, None, Ok, nat_lt, append-nil, All, arith, refl, sym, ap, subst, ◌∙◌}
+use Rattle.std.proofs.Common.{◌≡◌, ◌<◌, ◌/◌, ◌%◌, ◌||◌, not, true, false, ℕ, List, [], ◌∷◌, ◌++◌, slice_index, suc}
+use Rattle.std.proofs.Common.{Bool, Option, Some, None, Ok, nat_lt, append-nil, arith, refl, sym, ap, subst, ◌∙◌}
 use Rattle.std.specs.Char.{digit_value}
 use Rattle.std.specs.List.{filter, list_all, position_from}
-use Rattle.std.proofs.lemmas.Bool.Decides.{nat_tests}
-use Rattle.std.proofs.lemmas.List.Elements.{All-cons, filter-append}
+use Rattle.std.proofs.lemmas.List.Elements.{filter-append}
 use Rattle.std.proofs.lemmas.Iterator.Adapters.{position_from-zero}
 use Rattle.hex.specs.Hex.{IsBytes, encode_lower, encode_with, lower_digits}
 use Rattle.hex.proofs.HexLemmas.{IsDigits-lower_digits}
 use Rattle.key_files.specs.HexText.{digits_of, first_bad, first_no_digit, hex_line, is_hex_digit, is_skipped}
 use Rattle.key_files.specs.Meaning.{digit_text_meaning, digits_meaning, hex_meaning}
-use Rattle.key_files.specs.Writing.{IsLine}
-use Rattle.key_files.proofs.Lists.{all-both, all-filter, all-found, all-unfiltered, filter-all, of_blanks, position-none}
-use Rattle.key_files.proofs.Strict.{digit_text_meaning-lower}
+use Rattle.key_files.specs.Writing.{PrintsAs}
+use Rattle.key_files.proofs.Lists.{IsLine-of, all-both, all-filter, all-found, all-unfiltered, filter-all, of_blanks, position-none}
+use Rattle.key_files.proofs.Strict.{below_sixteen, digit_text_meaning-lower}
 use Rattle.key_files.proofs.Pairs.{hex_digit_value-ok}
-
-below_sixteen : (v : ℕ) → v < 16 → nat_lt v 16 ≡ true
-below_sixteen v h = grind (arith, nat_tests)
 
 -- the digits that are written are digits
 is_hex_digit-written : (v : ℕ) → v < 16 → is_hex_digit (slice_index lower_digits v) ≡ true
@@ -53,29 +49,12 @@ module _ (file text bytes : List ℕ) (digits : filter is_hex_digit file ≡ fil
   unfolding digit_text_meaning
   hex_meaning-of_text h = of_digits (first_no_digit text) (sym (position_from-zero (λ c. not (is_hex_digit c)) text)) h
 
-pub hex_meaning-hex_line : (bytes : List ℕ) → IsBytes bytes → hex_meaning (hex_line bytes) ≡ Ok bytes
+hex_meaning-hex_line : (bytes : List ℕ) → IsBytes bytes → hex_meaning (hex_line bytes) ≡ Ok bytes
 hex_meaning-hex_line bytes h =
     let text : List ℕ = encode_lower bytes in
     let same : (q : ℕ → Bool) → q 10 ≡ false → filter q (hex_line bytes) ≡ filter q text =
     λ q no. let none : filter q (10 ∷ []) ≡ [] = rw no refl in filter-append q text (10 ∷ []) ∙ ap (λ l. filter q text ++ l) none ∙ append-nil (filter q text) in
     hex_meaning-of_text (hex_line bytes) text bytes (same is_hex_digit refl) (same (λ c. not (is_skipped c)) refl) (digit_text_meaning-lower bytes h)
 
--- no digit is LF
-no_lf : (v : ℕ) → v < 16 → slice_index lower_digits v ≢ 10
-no_lf v h lf =
-    let digit : is_hex_digit 10 ≡ true = subst (λ c. is_hex_digit c ≡ true) lf (is_hex_digit-written v h) in
-    cc digit
-
-lower-no_lf : (bytes : List ℕ) → IsBytes bytes → All (λ byte. byte ≢ 10) (encode_with lower_digits bytes)
-unfolding encode_with
-lower-no_lf [] h = λ k _ lt. absurd (omega (arith, lt))
-lower-no_lf (b ∷ rest) h =
-    let fits : b < 256 = h 0 in
-    let digits : List ℕ = encode_with lower_digits rest in
-    let high : ℕ = slice_index lower_digits (b / 16) in
-    let low : ℕ = slice_index lower_digits (b % 16) in
-    All-cons (λ byte. byte ≢ 10) high (low ∷ digits) (no_lf (b / 16) (omega arith))
-    (All-cons (λ byte. byte ≢ 10) low digits (no_lf (b % 16) (omega arith)) (lower-no_lf rest (λ k. h (suc k))))
-
-pub IsLine-hex_line : (bytes : List ℕ) → IsBytes bytes → IsLine (hex_line bytes)
-IsLine-hex_line bytes h = (encode_lower bytes, refl, lower-no_lf bytes h)
+pub prints_hex : (bytes : List ℕ) → IsBytes bytes → PrintsAs hex_meaning (hex_line bytes) bytes
+prints_hex bytes h = (IsLine-of is_hex_digit (encode_lower bytes) refl (all-lower bytes h), hex_meaning-hex_line bytes h)

@@ -16,7 +16,7 @@ use Rattle.key_files.proofs.Pairs.{bind_ok, decode_pairs-paired, hex_digit_value
 hex_digit_value-below : (c value : ℕ) → hex_digit_value c ≡ Some value → value < 16
 hex_digit_value-below c value h = grind (arith, nat_tests)
 
-below_sixteen : (v : ℕ) → v < 16 → nat_lt v 16 ≡ true
+pub below_sixteen : (v : ℕ) → v < 16 → nat_lt v 16 ≡ true
 below_sixteen v h = grind (arith, nat_tests)
 
 digit_read : (c i value : ℕ) (read : Option ℕ) → hex_digit_value c ≡ read → digit_or_error c i read ≡ Ok value → is_hex_digit c ≡ true

@@ -8,7 +8,7 @@ use Rattle.std.proofs.KnownBytes.{Consumes-trans}
 use Rattle.std.proofs.lemmas.Bool.{cases_lt}
 use Rattle.key_files.specs.declared.fault.FileFault.{FileFault}
 use Rattle.key_files.specs.declared.fault.FileFault.TheVariants.{Read, TooLong, BadDigit, OddDigits, BadBase64, Memory}
-use Rattle.key_files.specs.Meaning.{raw_meaning}
+use Rattle.key_files.specs.Meaning.{file_meaning, raw_meaning}
 use Rattle.key_files.specs.Reading.{IsMeaning, ReadsAs, ReadsToEnd, answer_of}
 use Rattle.key_files.proofs.Denoting.{file_meaning-past, file_meaning-within}
 
@@ -56,6 +56,15 @@ ReadsAs-memory {meaning = meaning} {limit = limit} {old = old} {new = new} bytes
     } in
     subst (λ f. ReadsAs meaning limit old new (Err f)) (sym is) stopped
 
+-- a raw file is refused for its length only
+raw_refused : {limit : ℕ} {old new : Option (List ℕ)} {fault : FileFault} (r : ReadsAs raw_meaning limit old new (Err fault)) → fault ≢ TooLong
+    → file_meaning raw_meaning limit r.taken ≡ Err fault → ⊥
+raw_refused {limit = limit} r other means =
+    elim (cases_lt limit (length r.taken)) [
+      | inl past ↦ other (cc (r.too_long.1 past))
+      | inr within ↦ cc (sym (file_meaning-within raw_meaning limit r.taken (omega arith)) ∙ means)
+    ]
+
 -- a refused read of a raw file is one of the same file in each notation
 pub ReadsAs-refused : {meaning : List ℕ → Result (List ℕ) FileFault} {limit : ℕ} {old new : Option (List ℕ)} (fault : FileFault)
     → ReadsAs raw_meaning limit old new (Err fault) → ReadsAs meaning limit old new (Err fault)
@@ -66,21 +75,9 @@ ReadsAs-refused Memory r =
 ReadsAs-refused {meaning = meaning} {limit = limit} TooLong r =
     let past = file_meaning-past meaning limit r.taken (r.too_long.0 refl) in
     record { taken = r.taken; stands_after = r.stands_after; at_most = r.at_most; means = past; too_long = r.too_long; to_end = tt }
-ReadsAs-refused {limit = limit} (BadDigit at) r =
-    elim (cases_lt limit (length r.taken)) [
-      | inl past ↦ cc (r.too_long.1 past)
-      | inr within ↦ cc (sym (file_meaning-within raw_meaning limit r.taken (omega arith)) ∙ r.means)
-    ]
-ReadsAs-refused {limit = limit} (BadBase64 wrong) r =
-    elim (cases_lt limit (length r.taken)) [
-      | inl past ↦ cc (r.too_long.1 past)
-      | inr within ↦ cc (sym (file_meaning-within raw_meaning limit r.taken (omega arith)) ∙ r.means)
-    ]
-ReadsAs-refused {limit = limit} OddDigits r =
-    elim (cases_lt limit (length r.taken)) [
-      | inl past ↦ cc (r.too_long.1 past)
-      | inr within ↦ cc (sym (file_meaning-within raw_meaning limit r.taken (omega arith)) ∙ r.means)
-    ]
+ReadsAs-refused (BadDigit at) r = absurd (raw_refused r (λ e. cc e) r.means)
+ReadsAs-refused (BadBase64 wrong) r = absurd (raw_refused r (λ e. cc e) r.means)
+ReadsAs-refused OddDigits r = absurd (raw_refused r (λ e. cc e) r.means)
 
 -- a raw file that was read whole is what was taken
 taken-raw : {limit : ℕ} {old new : Option (List ℕ)} {text : List ℕ} (r : ReadsAs raw_meaning limit old new (Ok text))

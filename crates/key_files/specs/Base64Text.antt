@@ -4,7 +4,7 @@ use Rattle.std.specs.Prelude.{slice_index, filter, position, nat_le, nat_lt}
 use Rattle.std.specs.List.{prefix_len}
 use Rattle.base64.specs.Engines.{standard, standard_no_pad, url_safe, url_safe_no_pad}
 use Rattle.base64.specs.GeneralPurpose.{decode_of}
-pub use Rattle.base64.specs.GeneralPurpose.{encode_of}
+pub use Rattle.base64.specs.GeneralPurpose.{IsBytes, encode_of}
 use Rattle.base64.specs.declared.decode.DecodeError.{DecodeError}
 use Rattle.base64.specs.declared.decode.DecodeError.TheVariants.{InvalidLastSymbol}
 use Rattle.base64.specs.declared.engine.general_purpose.GeneralPurpose.{GeneralPurpose}
@@ -117,6 +117,11 @@ symbol_text_meaning text = placed_meaning (misplaced false text) text
 -- The text is an encoding of the bytes (RFC 4648): in one of the two alphabets, with padding or without it.
 abbrev pub IsBase64Of : List ℕ → List ℕ → Type 0
 IsBase64Of text bytes = (url_safe : Bool) × (padded : Bool) × (text ≡ encode_of (encoding url_safe padded) bytes)
+
+-- A law: a file denotes exactly the bytes that its text encodes.
+abbrev pub FilesEncode : Type 0
+FilesEncode = (file bytes : List ℕ) → (IsBytes bytes → IsBase64Of (kept file) bytes → base64_meaning file ≡ Ok bytes)
+    × (IsBytes file → base64_meaning file ≡ Ok bytes → IsBase64Of (kept file) bytes)
 
 -- base64 output: section 4 with padding, or section 5 without it, and then LF
 abbrev pub base64_line : Bool → List ℕ → List ℕ

@@ -12,7 +12,7 @@ ghost use Rattle.key_files.specs.Base64Text.{base64_meaning, symbol_text_meaning
 ghost use Rattle.key_files.specs.Decoding.{DecodesText, place_of};
 ghost use Rattle.key_files.specs.declared.fault.FileFault.{FileFault};
 ghost use Rattle.key_files.specs.Reading.{IsMeaning, answer_of};
-ghost use Rattle.key_files.specs.Writing.{IsLine};
+ghost use Rattle.key_files.specs.Writing.{PrintsAs};
 
 use crate::fault::{Base64Fault, FileFault};
 use crate::hex_text::is_skipped;
@@ -25,6 +25,7 @@ use std::alloc::{AllocError, Allocator};
 ///
 /// Returns the first error that applies: BadBase64 with Character or BehindPadding, Memory,
 /// BadBase64 with Length or TrailingBits.
+#[tactic(auto, unfolding(crate::specs::Base64Text::symbol_text_meaning))]
 pub fn decode_symbols_into(text: &[u8], bytes: &mut Vec<u8>) -> Result<(), FileFault>
     ensures meaning { DecodesText (symbol_text_meaning text.now) bytes.new.items result }
     ensures within { IfErr result (λ fault. place_of fault ≤ length text.now) }
@@ -44,10 +45,11 @@ pub fn decode_symbols_into(text: &[u8], bytes: &mut Vec<u8>) -> Result<(), FileF
     }
 }
 
-// The bytes that a base64 text denotes, with blanks anywhere, on any allocator.
+// Decodes a base64 text with blanks anywhere.
 //
 // The first that applies is answered, as by `decode_symbols_into`.
-pub(crate) fn decode_base64_in<A: Allocator + Copy>(
+#[tactic(auto, unfolding(crate::specs::Base64Text::base64_meaning))]
+pub(crate) fn decode_base64<A: Allocator + Copy>(
     alloc: A,
     text: &[u8],
 ) -> Result<Vec<u8, A>, FileFault>
@@ -77,9 +79,7 @@ fn kept<A: Allocator>(alloc: A, text: &[u8]) -> Result<Vec<u8, A>, AllocError>
 /// the alphabet of section 5 without it.
 pub fn print_base64(url_safe: bool, bytes: &[u8], line: &mut Vec<u8>) -> Result<(), AllocError>
     ensures whole { OnOk result (line.new.items ≡ base64_line url_safe bytes.now) }
-    // Laws of the definitions: the text is one line, and denotes the bytes.
-    ensures one_line { IsLine (base64_line url_safe bytes.now) }
-    ensures read_back { base64_meaning (base64_line url_safe bytes.now) ≡ Ok bytes.now }
+    ensures prints { PrintsAs base64_meaning (base64_line url_safe bytes.now) bytes.now }
 {
     let Some(len) = encoded_len(bytes.len(), !url_safe) else {
         return Err(AllocError);
@@ -102,7 +102,7 @@ fn fills(url_safe: bool, bytes: &[u8], output: &mut [u8]) -> bool
     }
 }
 
-// The fault of a text whose characters are all allowed.
+// Returns the fault of a text whose characters are all allowed.
 fn fault_of(error: DecodeError) -> Base64Fault
     ensures fault { result ≡ base64_fault_of error }
     ensures placeless { place_of (FileFault.BadBase64 result) ≡ 0 }
@@ -113,7 +113,7 @@ fn fault_of(error: DecodeError) -> Base64Fault
     }
 }
 
-// The first character that is not allowed at its place.
+// Returns the first character that is not allowed at its place.
 fn misplaced(skips: bool, text: &[u8]) -> Option<Base64Fault>
     ensures first { result ≡ misplaced skips text.now }
     ensures within { IfSome result (λ fault. place_of (FileFault.BadBase64 fault)
@@ -152,7 +152,7 @@ fn before_padding(text: &[u8]) -> usize
     text.iter().take_while(|c| **c != b'=').count()
 }
 
-// Whether a character is allowed in a text of this alphabet.
+// Returns whether a character is allowed in a text of this alphabet.
 fn is_allowed(skips: bool, url_safe: bool, c: u8) -> bool
     ensures { result ≡ is_allowed skips url_safe c }
 {
@@ -164,7 +164,7 @@ fn is_allowed(skips: bool, url_safe: bool, c: u8) -> bool
     }
 }
 
-// Whether the first character that only one alphabet has is URL-safe.
+// Returns whether the first character that is in only one alphabet is URL-safe.
 fn is_url_safe_text(text: &[u8]) -> bool
     ensures { result ≡ is_url_safe_text text.now }
 {
@@ -193,7 +193,7 @@ fn is_url_safe(c: u8) -> bool
     c == b'-' || c == b'_'
 }
 
-// The encoding of a text, by its alphabet and its padding.
+// Returns the encoding of a text, from its alphabet and its padding.
 fn encoding_of(text: &[u8]) -> GeneralPurpose
     ensures { SameEngine result (encoding_of text.now) }
 {

@@ -7,10 +7,10 @@ ghost use Rattle.key_files.specs.declared.fault.HexWriteFault.TheVariants as Hex
 use std::alloc::AllocError;
 use thiserror::Error;
 
-/// Why a file denotes no bytes, or could not be read.
+/// Why a file could not be read or decoded.
 #[derive(Clone, Copy, Debug, PartialEq, Eq, Error)]
 pub enum FileFault {
-    /// A read answered an error, an interrupted read too.
+    /// A read failed, even if it was only interrupted.
     #[error("cannot be read")]
     Read,
     /// The file has more bytes than the limit.
@@ -23,7 +23,7 @@ pub enum FileFault {
     /// The number of hex digits is odd.
     #[error("odd number of hex digits")]
     OddDigits,
-    /// The text is no base64.
+    /// The text is not base64.
     #[error("{0}")]
     BadBase64(Base64Fault),
     /// An allocation failed.
@@ -31,30 +31,29 @@ pub enum FileFault {
     Memory,
 }
 
-/// Why a text is no base64 (RFC 4648, sections 4 and 5). Places are offsets, counted from 0 over
-/// all bytes.
+/// Why a text is not base64 (RFC 4648, sections 4 and 5). Offsets count all bytes, from 0.
 #[derive(Clone, Copy, Debug, PartialEq, Eq, Error)]
 pub enum Base64Fault {
     /// The byte at `at` is the first that is not a character of the text's alphabet, not padding,
     /// and not an allowed space, tab, CR or LF.
     #[error("no base64 character at byte {at}")]
     Character { at: usize },
-    /// The byte at `at` is the first that is no padding after the padding began.
+    /// The byte at `at` is the first byte after the padding that is not padding.
     #[error("base64 goes on after its padding at byte {at}")]
     BehindPadding { at: usize },
-    /// The characters, with their padding, are not so many as encode whole bytes.
+    /// The number of characters, with the padding, does not encode whole bytes.
     #[error("length is not that of base64")]
     Length,
-    /// The last character has bits after the last byte that are not 0.
+    /// The last character has non-zero bits after the last byte.
     #[error("last base64 character has bits of no byte")]
     TrailingBits,
 }
 
-/// A writer that failed, or took no byte of those that were left.
+/// A writer that failed, or took none of the remaining bytes.
 #[derive(Clone, Copy, Debug, PartialEq, Eq, Error)]
 #[error("refused after {written} bytes")]
 pub struct WriteFault {
-    /// How many bytes went out.
+    /// The number of bytes that were written.
     pub written: usize,
 }
 
@@ -64,10 +63,10 @@ pub enum HexWriteFault {
     /// An allocation failed, and nothing was written.
     #[error("out of memory")]
     Memory,
-    /// The writer failed, or took no byte of those that were left.
+    /// The writer failed, or took none of the remaining bytes.
     #[error("refused after {written} bytes")]
     Write {
-        /// How many bytes of the text went out.
+        /// The number of bytes of the text that were written.
         written: usize,
     },
 }

@@ -9,26 +9,30 @@ ghost use Rattle.key_files.specs.Meaning.{digit_text_meaning, hex_meaning};
 ghost use Rattle.key_files.specs.declared.fault.FileFault.{FileFault};
 
 use crate::fault::FileFault;
-use std::alloc::{AllocError, Allocator, Global};
+use std::alloc::{AllocError, Allocator};
 
-/// Returns the bytes that the hex text `text` denotes: its digits, of either case, in pairs. Space,
-/// tab, CR and LF are allowed anywhere.
+/// Decodes the hex text `text`: digits of either case, in pairs. Space, tab, CR and LF are allowed
+/// anywhere.
 ///
 /// Returns the first error that applies: BadDigit, OddDigits, Memory. The first two take no memory.
-pub fn decode_hex(alloc: Global, text: &[u8]) -> Result<Vec<u8>, FileFault>
-    ensures bytes { IfOk result (λ v. hex_meaning text.now ≡ Ok v.items) }
-    ensures refused { (fault : FileFault) → fault ≢ FileFault.Memory
-        → (result ≡ Err fault) ↔ (hex_meaning text.now ≡ Err fault) }
-    // Memory replaces bytes, and never a refusal.
-    ensures memory { result ≡ Err FileFault.Memory → IsOk (hex_meaning text.now) }
+#[tactic(auto, unfolding(crate::specs::Meaning::hex_meaning))]
+pub fn decode_hex<A: Allocator + Copy>(alloc: A, text: &[u8]) -> Result<Vec<u8, A>, FileFault>
+    ensures { DecodesHex text.now result }
 {
-    decode_hex_in(alloc, text)
+    if let Some(at) = first_bad(text) {
+        return Err(FileFault::BadDigit { at });
+    }
+    if digit_count(text) % 2 == 1 {
+        return Err(FileFault::OddDigits);
+    }
+    Ok(decode_digits(alloc, text)?)
 }
 
 /// Replaces `bytes` with the bytes that a text of digits only denotes, decoded into the room that
 /// `bytes` has.
 ///
 /// Returns the first error that applies: BadDigit, OddDigits, Memory.
+#[tactic(auto, unfolding(crate::specs::Meaning::digit_text_meaning))]
 pub fn decode_digits_into(text: &[u8], bytes: &mut Vec<u8>) -> Result<(), FileFault>
     ensures meaning { Decodes (digit_text_meaning text.now) bytes.new.items result }
     ensures within { IfErr result (λ fault. place_of fault ≤ length text.now) }
@@ -48,22 +52,6 @@ fn decode_strict(text: &[u8], bytes: &mut [u8]) -> bool
     ensures { result ≡ true → digit_text_meaning text.now ≡ Ok bytes.new }
 {
     hex::decode_to_slice(text, bytes).is_ok()
-}
-
-// `decode_hex` on any allocator, so that a test can refuse each allocation.
-pub(crate) fn decode_hex_in<A: Allocator + Copy>(
-    alloc: A,
-    text: &[u8],
-) -> Result<Vec<u8, A>, FileFault>
-    ensures { DecodesHex text.now result }
-{
-    if let Some(at) = first_bad(text) {
-        return Err(FileFault::BadDigit { at });
-    }
-    if digit_count(text) % 2 == 1 {
-        return Err(FileFault::OddDigits);
-    }
-    Ok(decode_digits(alloc, text)?)
 }
 
 // Space, tab, CR and LF are allowed between digits.

@@ -1,5 +1,5 @@
-//! Key files: what is read is what the file denotes, raw or hex, and what is written is the text,
-//! or a counted prefix of it.
+//! Key files: readers and writers of raw bytes, hex and base64. A text is written whole, or a
+//! counted prefix of it.
 
 #![tactic(auto)]
 

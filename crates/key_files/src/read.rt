@@ -1,19 +1,18 @@
-//! Files that are read whole.
+//! Reads whole files.
 
-ghost use Rattle.std.specs.Prelude.{◌≡◌, ◌<◌, ◌≤◌, ℕ, List, length, take, IfOk, IfErr, Ok};
+ghost use Rattle.std.specs.Prelude.{◌≡◌, ◌<◌, ◌≤◌, length, take, IfOk, IfErr};
 ghost use Rattle.std.specs.Io.KnownBytes.{Consumes, IsAtEnd, Keeps};
-ghost use Rattle.base64.specs.GeneralPurpose.{IsBytes};
-ghost use Rattle.key_files.specs.Base64Text.{IsBase64Of, base64_meaning, kept};
+ghost use Rattle.key_files.specs.Base64Text.{FilesEncode, base64_meaning};
 ghost use Rattle.key_files.specs.Meaning.{raw_meaning, hex_meaning};
 ghost use Rattle.key_files.specs.Reading.{ReadsAs, answer_of};
 
-use crate::base64_text::decode_base64_in;
+use crate::base64_text::decode_base64;
 use crate::fault::FileFault;
-use crate::hex_text::decode_hex_in;
-use std::alloc::{Allocator, Global};
+use crate::hex_text::decode_hex;
+use std::alloc::Allocator;
 use std::io::Read;
 
-/// The most bytes that a file of the command may have.
+/// The largest size of a file of the command, in bytes.
 pub const MAX_FILE: usize = 4_194_304;
 
 // A law that ties the constant to the number that definitions write.
@@ -21,25 +20,16 @@ fn max_file_value()
     ensures { MAX_FILE ≡ 4194304 }
 {}
 
-// How many bytes one read may give.
+// The size of one read, in bytes.
 const CHUNK: usize = 4_096;
 
 /// Reads the bytes of a file, up to the end of input: a read of no bytes into a buffer that is not
 /// empty.
 ///
-/// Takes at most `limit + 1` bytes from the reader, and puts none back. Read is for any error of a
-/// read, an interrupted one too, and Memory for a failed allocation, each as it is met; TooLong if
-/// `limit + 1` bytes came.
-pub fn read_raw<R: Read>(alloc: Global, reader: &mut R, limit: usize) -> Result<Vec<u8>, FileFault>
-    requires { limit < usize.MAX }
-    ensures { ReadsAs raw_meaning limit (R.remaining reader.old) (R.remaining reader.new)
-        (answer_of result) }
-{
-    read_raw_in(alloc, reader, limit)
-}
-
-// `read_raw` on any allocator, so that a test can refuse each allocation.
-pub(crate) fn read_raw_in<A: Allocator, R: Read>(
+/// Takes at most `limit + 1` bytes from the reader, and puts none back. Returns Read for any error
+/// of a read, even if it was only interrupted, and Memory for a failed allocation, when they occur.
+/// TooLong if `limit + 1` bytes came.
+pub fn read_raw<A: Allocator, R: Read>(
     alloc: A,
     reader: &mut R,
     limit: usize,
@@ -63,7 +53,7 @@ pub(crate) fn read_raw_in<A: Allocator, R: Read>(
     }
 }
 
-// One read into the front of `buf`.
+// Makes one read into the front of `buf`.
 fn read_some<R: Read>(reader: &mut R, buf: &mut [u8]) -> Result<usize, FileFault>
     ensures within { IfOk result (λ count. count ≤ length buf.new) }
     ensures taken { IfOk result (λ count. Consumes (R.remaining reader.old) (R.remaining reader.new)
@@ -76,20 +66,11 @@ fn read_some<R: Read>(reader: &mut R, buf: &mut [u8]) -> Result<usize, FileFault
     reader.read(buf).map_err(|_| FileFault::Read)
 }
 
-/// The bytes that a hex file denotes, as [`decode_hex`] says. `limit` counts the bytes of the file.
+/// Reads a hex file, and decodes it as [`decode_hex`] does. `limit` counts the bytes of the file.
 ///
-/// The file is read as [`read_raw`] reads it. The first that applies is answered: Read or Memory as
-/// met, TooLong, BadDigit, OddDigits, Memory.
-pub fn read_hex<R: Read>(alloc: Global, reader: &mut R, limit: usize) -> Result<Vec<u8>, FileFault>
-    requires { limit < usize.MAX }
-    ensures { ReadsAs hex_meaning limit (R.remaining reader.old) (R.remaining reader.new)
-        (answer_of result) }
-{
-    read_hex_in(alloc, reader, limit)
-}
-
-// `read_hex` on any allocator.
-pub(crate) fn read_hex_in<A: Allocator + Copy, R: Read>(
+/// The file is read as [`read_raw`] reads it. Returns the first error that applies: Read or Memory
+/// when it occurs, TooLong, BadDigit, OddDigits, Memory.
+pub fn read_hex<A: Allocator + Copy, R: Read>(
     alloc: A,
     reader: &mut R,
     limit: usize,
@@ -98,43 +79,26 @@ pub(crate) fn read_hex_in<A: Allocator + Copy, R: Read>(
     ensures { ReadsAs hex_meaning limit (R.remaining reader.old) (R.remaining reader.new)
         (answer_of result) }
 {
-    let text = read_raw_in(alloc, reader, limit)?;
-    decode_hex_in(alloc, &text)
+    let text = read_raw(alloc, reader, limit)?;
+    decode_hex(alloc, &text)
 }
 
-/// The bytes that a base64 file denotes, in either alphabet, with padding or without it, and with
-/// blanks anywhere. `limit` counts the bytes of the file.
+/// Reads a base64 file, in either alphabet, with padding or without it, and with blanks anywhere.
+/// `limit` counts the bytes of the file.
 ///
-/// The file is read as [`read_raw`] reads it: Read and Memory come as they are met. A file that is
-/// read whole is refused for the first that applies: TooLong, a Character, BehindPadding, the
+/// The file is read as [`read_raw`] reads it: Read and Memory are returned when they occur. A whole
+/// file is refused for the first of these that applies: TooLong, a Character, BehindPadding, the
 /// Length, TrailingBits.
-pub fn read_base64<R: Read>(
-    alloc: Global,
+pub fn read_base64<A: Allocator + Copy, R: Read>(
+    alloc: A,
     reader: &mut R,
     limit: usize,
-) -> Result<Vec<u8>, FileFault>
+) -> Result<Vec<u8, A>, FileFault>
     requires { limit < usize.MAX }
     ensures read { ReadsAs base64_meaning limit (R.remaining reader.old) (R.remaining reader.new)
         (answer_of result) }
-    // Laws of the definitions: a file denotes exactly the bytes that its text encodes.
-    ensures accepted { (file : List ℕ) → (bytes : List ℕ) → IsBytes bytes
-        → IsBase64Of (kept file) bytes → base64_meaning file ≡ Ok bytes }
-    ensures sound { (file : List ℕ) → (bytes : List ℕ) → IsBytes file
-        → base64_meaning file ≡ Ok bytes → IsBase64Of (kept file) bytes }
+    ensures exact { FilesEncode }
 {
-    read_base64_in(alloc, reader, limit)
-}
-
-// `read_base64` on any allocator.
-pub(crate) fn read_base64_in<A: Allocator + Copy, R: Read>(
-    alloc: A,
-    reader: &mut R,
-    limit: usize,
-) -> Result<Vec<u8, A>, FileFault>
-    requires { limit < usize.MAX }
-    ensures { ReadsAs base64_meaning limit (R.remaining reader.old) (R.remaining reader.new)
-        (answer_of result) }
-{
-    let file = read_raw_in(alloc, reader, limit)?;
-    decode_base64_in(alloc, &file)
+    let file = read_raw(alloc, reader, limit)?;
+    decode_base64(alloc, &file)
 }

@@ -1,9 +1,8 @@
 -- What a line denotes, from what its text denotes, and the answer if it denotes no bytes.
-use Rattle.std.proofs.Common.{◌≡◌, ℕ, ◌≤◌, List, length, Result, Ok, Err, arith, ap, ◌∙◌}
+use Rattle.std.proofs.Common.{◌≡◌, ℕ, ◌≤◌, List, length, Result, Err, inl, inr, refl, ap, ◌∙◌}
 use Rattle.std.specs.List.{prefix_len}
-use Rattle.std.proofs.lemmas.Bool.Decides.{nat_tests}
 use Rattle.key_files.specs.Decoding.{DecodesText, fault_behind}
-use Rattle.key_files.specs.Meaning.{file_meaning}
+use Rattle.key_files.proofs.Denoting.{file_meaning-within}
 use Rattle.key_files.specs.declared.fault.Base64Fault.TheVariants.{Character, BehindPadding, Length, TrailingBits}
 use Rattle.key_files.specs.declared.fault.FileFault.{FileFault}
 use Rattle.key_files.specs.declared.fault.FileFault.TheVariants.{Read, TooLong, BadDigit, OddDigits, BadBase64, Memory}
@@ -14,7 +13,7 @@ use Rattle.key_lines.specs.declared.fault.LineFault.TheVariants.{Input}
 use Rattle.key_lines.specs.declared.text.TextNotation.{TextNotation}
 
 -- a line denotes what its text does
-blank_ended_meaning-is : (notation : TextNotation) (line : List ℕ) (meaning : Result (List ℕ) FileFault)
+pub blank_ended_meaning-is : (notation : TextNotation) (line : List ℕ) (meaning : Result (List ℕ) FileFault)
     → text_meaning notation (text_of line) ≡ meaning → blank_ended_meaning notation line ≡ meaning_behind (prefix_len is_blank line) meaning
 unfolding blank_ended_meaning
 blank_ended_meaning-is notation line meaning h = ap (meaning_behind (prefix_len is_blank line)) h
@@ -32,23 +31,18 @@ DecodesText-line notation line bytes (BadBase64 Length) d = blank_ended_meaning-
 DecodesText-line notation line bytes (BadBase64 TrailingBits) d = blank_ended_meaning-is notation line _ d
 DecodesText-line notation line bytes Memory d = tt
 
-pub DecodesText-bytes : (notation : TextNotation) (line bytes : List ℕ) → text_meaning notation (text_of line) ≡ Ok bytes
-    → blank_ended_meaning notation line ≡ Ok bytes
-DecodesText-bytes notation line bytes d = blank_ended_meaning-is notation line (Ok bytes) d
-
 -- a line within the limit
 pub line_meaning-within : (notation : TextNotation) (line : List ℕ) → length line ≤ line_limit
     → line_meaning notation line ≡ blank_ended_meaning notation line
-unfolding file_meaning
-line_meaning-within notation line fits = grind (arith, nat_tests)
+line_meaning-within notation line fits = file_meaning-within (blank_ended_meaning notation) line_limit line fits
 
 -- why a line denotes no bytes
 pub MakesAnswer-input : {R : Type 0} (notation : TextNotation) (answers : List ℕ → Result Answer R → Type 0) (line bytes : List ℕ)
     (fault : FileFault) → length line ≤ line_limit → DecodesText (blank_ended_meaning notation line) bytes (Err fault)
     → MakesAnswer notation answers line (Err (Input fault))
-MakesAnswer-input notation answers line bytes Memory fits d = tt
-MakesAnswer-input notation answers line bytes Read fits d = d
-MakesAnswer-input notation answers line bytes TooLong fits d = d
-MakesAnswer-input notation answers line bytes (BadDigit at) fits d = line_meaning-within notation line fits ∙ d
-MakesAnswer-input notation answers line bytes OddDigits fits d = line_meaning-within notation line fits ∙ d
-MakesAnswer-input notation answers line bytes (BadBase64 wrong) fits d = line_meaning-within notation line fits ∙ d
+MakesAnswer-input notation answers line bytes Memory fits d = inl refl
+MakesAnswer-input notation answers line bytes Read fits d = absurd d
+MakesAnswer-input notation answers line bytes TooLong fits d = absurd d
+MakesAnswer-input notation answers line bytes (BadDigit at) fits d = inr (refl, line_meaning-within notation line fits ∙ d)
+MakesAnswer-input notation answers line bytes OddDigits fits d = inr (refl, line_meaning-within notation line fits ∙ d)
+MakesAnswer-input notation answers line bytes (BadBase64 wrong) fits d = inr (refl, line_meaning-within notation line fits ∙ d)

@@ -1,23 +1,20 @@
 -- A line denotes what it denotes as a file, and the line that is printed for bytes denotes them.
-use Rattle.std.proofs.Common.{◌≡◌, ◌+◌, ◌-◌, ◌==◌, inl, inr, not, Bool, true, false, ℕ, List, [], ◌∷◌, ◌++◌, length, take, drop, reverse}
+use Rattle.std.proofs.Common.{◌≡◌, ◌≢◌, All, ◌-◌, ◌==◌, inl, inr, not, Bool, true, false, ℕ, List, [], ◌∷◌, ◌++◌, length, take, drop, reverse}
 use Rattle.std.proofs.Common.{Result, Ok, Err, arith, refl, sym, ap, ◌∙◌, append-nil, subst, take-append-drop}
 use Rattle.std.specs.List.{filter, list_all, prefix_len, suffix_len}
 use Rattle.std.proofs.lemmas.Bool.{and_from, and_parts, cases_Bool, eqb-true, not-true}
-use Rattle.std.proofs.lemmas.List.{drop-drop, length-drop, length-reverse, reverse-append, reverse-reverse, take_all, take_at}
+use Rattle.std.proofs.lemmas.List.{length-drop, length-reverse, reverse-append, reverse-reverse, take_all, take_at}
 use Rattle.std.proofs.lemmas.List.Elements.{filter-append}
 use Rattle.key_files.specs.Base64Text.{IsBase64Of, base64_meaning, encode_of, encoding, kept, symbol_text_meaning}
 use Rattle.key_files.specs.HexText.{IsBytes, encode_lower, is_hex_digit, is_skipped}
 use Rattle.key_files.specs.declared.fault.FileFault.{FileFault}
 use Rattle.key_files.proofs.Base64Back.{base64_meaning-accepts, kept-encoded, symbol_text_meaning-accepts, symbol_text_meaning-sound, unskipped}
-use Rattle.key_files.proofs.Lists.{IsBytes-drop, IsBytes-take, all-append, all-both}
+use Rattle.key_files.proofs.Lists.{IsBytes-drop, IsBytes-take, all-append, all-both, drop_one, no_lf}
 use Rattle.key_files.proofs.ReadBack.{all-lower, hex_meaning-of_text}
 use Rattle.key_files.proofs.Strict.{digit_text_meaning-lower}
 use Rattle.key_lines.specs.Meaning.{LinesAreFiles, PrintsBack, blank_ended_meaning, is_blank, meaning_behind, text_meaning, text_of}
 use Rattle.key_lines.specs.declared.text.TextNotation.{TextNotation}
 use Rattle.key_lines.specs.declared.text.TextNotation.TheVariants.{Hex, Base64, Base64Url}
-
-drop_one : (n c : ℕ) (xs : List ℕ) → drop (1 + n) (c ∷ xs) ≡ drop n xs
-drop_one n c xs = sym (drop-drop n 1 (c ∷ xs))
 
 -- a filter that drops blanks keeps as much of the text as of the line
 module _ (q : ℕ → Bool) (blank : (c : ℕ) → is_blank c ≡ true → q c ≡ false) where
@@ -123,19 +120,19 @@ to_line : (notation : TextNotation) (line bytes : List ℕ) → list_all (λ c. 
 unfolding blank_ended_meaning
 to_line notation line bytes none h = rw (text_of-bare line none, h) refl
 
-printed-base64 : (url_safe : Bool) (bytes : List ℕ) → IsBytes bytes
-    → list_all (λ c. not (is_blank c)) (encode_of (encoding url_safe (not url_safe)) bytes) ≡ true
-printed-base64 url_safe bytes fits =
-    let text : List ℕ = encode_of (encoding url_safe (not url_safe)) bytes in
-    no_blanks (λ c. not (is_skipped c)) refl refl refl text (unskipped text bytes fits (url_safe, not url_safe, refl))
+-- a text of characters that pass is the line
+back : (notation : TextNotation) (p : ℕ → Bool) (text bytes : List ℕ) → p 32 ≡ false → p 9 ≡ false → p 13 ≡ false → p 10 ≡ false
+    → list_all p text ≡ true → text_meaning notation text ≡ Ok bytes
+    → (line : List ℕ) × (text ++ 10 ∷ [] ≡ line ++ 10 ∷ []) × All (λ byte. byte ≢ 10) line × (blank_ended_meaning notation line ≡ Ok bytes)
+back notation p text bytes a b d e all h = (text, refl, no_lf p text e all, to_line notation text bytes (no_blanks p a b d text all) h)
 
 pub prints_back : (notation : TextNotation) → PrintsBack notation
-prints_back Hex bytes fits =
-    let text : List ℕ = encode_lower bytes in
-    (text, refl, to_line Hex text bytes (no_blanks is_hex_digit refl refl refl text (all-lower bytes fits)) (digit_text_meaning-lower bytes fits))
+prints_back Hex bytes fits = back Hex is_hex_digit (encode_lower bytes) bytes refl refl refl refl (all-lower bytes fits) (digit_text_meaning-lower bytes fits)
 prints_back Base64 bytes fits =
     let text : List ℕ = encode_of (encoding false true) bytes in
-    (text, refl, to_line Base64 text bytes (printed-base64 false bytes fits) (symbol_text_meaning-accepts text bytes fits (false, true, refl)))
+    back Base64 (λ c. not (is_skipped c)) text bytes refl refl refl refl (unskipped text bytes fits (false, true, refl))
+    (symbol_text_meaning-accepts text bytes fits (false, true, refl))
 prints_back Base64Url bytes fits =
     let text : List ℕ = encode_of (encoding true false) bytes in
-    (text, refl, to_line Base64Url text bytes (printed-base64 true bytes fits) (symbol_text_meaning-accepts text bytes fits (true, false, refl)))
+    back Base64Url (λ c. not (is_skipped c)) text bytes refl refl refl refl (unskipped text bytes fits (true, false, refl))
+    (symbol_text_meaning-accepts text bytes fits (true, false, refl))

@@ -3,7 +3,6 @@ mod Blocks
 mod Denoting
 mod Ends
 mod Laws
-mod Passing
 mod Runs
 mod Showing
 mod Splitting

@@ -1,97 +1,81 @@
 -- What a run has answered, and how it ends.
-use Rattle.std.proofs.Common.{◌≡◌, ◌≢◌, ℕ, ◌+◌, ◌<◌, List, [], ◌∷◌, ◌++◌, length, Option, None, Some, Result, Ok, Err, inl, inr, refl, sym, ap, ◌∙◌, arith, subst, append_assoc, append-nil, length-append}
+use Rattle.std.proofs.Common.{◌≡◌, ◌≢◌, ℕ, ◌+◌, ◌<◌, true, false, List, [], ◌∷◌, ◌++◌, length, map, Option, None, Result, Ok, Err, inl, inr, refl, sym, ap, ◌∙◌, arith, subst, append_assoc, append-nil}
 use Rattle.std.specs.Prelude.{◌⊎◌}
+use Rattle.std.specs.List.{concat}
 use Rattle.std.specs.Io.KnownBytes.{Consumes}
 use Rattle.std.proofs.KnownBytes.{Consumes-trans, Consumes-nil, Appends-nil}
-use Rattle.key_files.specs.declared.fault.FileFault.TheVariants.{Read}
+use Rattle.std.proofs.lemmas.List.{map-append}
+use Rattle.std.proofs.lemmas.List.Folds.{concat-append}
+use Rattle.key_files.specs.declared.fault.FileFault.{FileFault}
+use Rattle.key_files.specs.declared.fault.FileFault.TheVariants.{Read, TooLong, BadDigit, OddDigits, BadBase64, Memory}
 use Rattle.key_lines.specs.Answers.{Answer, Logs, answered, output_of, refusal_of, refusals_of}
-use Rattle.key_lines.specs.Lines.{lines_of, EndsWithLf, EndsLine}
-use Rattle.key_lines.specs.Reading.{IsAllOf, TakesLine, ReadsLine}
-use Rattle.key_lines.specs.Meaning.{line_limit}
 use Rattle.key_lines.specs.Block.{Sends}
-use Rattle.key_lines.specs.Running.{AnswersLines, AreResults, Gathers, LineResult, Steps, StepsLine, StopsFor, run_fault_of, written_for}
-use Rattle.key_lines.specs.Summary.{HasRoom, Summarizes, counted}
+use Rattle.key_lines.specs.Lines.{lines_of, EndsWithLf, EndsLine}
+use Rattle.key_lines.specs.Meaning.{line_limit}
+use Rattle.key_lines.specs.Reading.{IsAllOf, ReadsLine, TakesLine}
+use Rattle.key_lines.specs.Running.{AreResults, FindsLine, LineAnswer, LineResult, RunsLines, StepEnds, Steps, StopsFor, is_own, written_for}
+use Rattle.key_lines.specs.Summary.{HasRoom, counted, counted_all}
 use Rattle.key_lines.specs.declared.line.Line.{Line}
 use Rattle.key_lines.specs.declared.line.Line.TheVariants.{Ended, Last, Missing}
 use Rattle.key_lines.specs.declared.fault.LineFault.{LineFault}
-use Rattle.key_lines.specs.declared.fault.LineFault.TheVariants.{Input}
+use Rattle.key_lines.specs.declared.fault.LineFault.TheVariants.{Input, Refused}
 use Rattle.key_lines.specs.declared.fault.RefusedLine.{RefusedLine}
 use Rattle.key_lines.specs.declared.fault.RunFault.TheVariants.{AtLine, Write}
 use Rattle.key_lines.specs.declared.job.Mark.{Mark}
 use Rattle.key_lines.specs.declared.run.RunOptions.{RunOptions}
-use Rattle.key_lines.specs.declared.run.StepFault.{StepFault}
-use Rattle.key_lines.specs.declared.run.StepFault.TheVariants as steps
 use Rattle.key_lines.specs.declared.summary.RunSummary.{RunSummary}
 use Rattle.key_lines.proofs.Blocks.{Sends-trans}
-use Rattle.key_lines.proofs.Splitting.{lines_of-more, lines_of-nil}
-use Rattle.key_lines.proofs.Summaries.{HasRoom-after, Logs-more, Logs-nil, Summarizes-more, Summarizes-none}
-use Rattle.key_lines.proofs.Takings.{all_of-taken}
+use Rattle.key_lines.proofs.Splitting.{first_ended, lines_of-more, lines_of-nil}
+use Rattle.key_lines.proofs.Summaries.{Logs-nil, Logs-trans, counted_all-append, counts_all, refusals_of-append, summarizes_all}
+use Rattle.key_lines.proofs.Takings.{all_of-both}
+
+ends-append : (xs ys : List ℕ) → EndsWithLf ys → EndsWithLf (xs ++ ys)
+ends-append xs ys (front, is) = (xs ++ front, ap (λ l. xs ++ l) is ∙ sym (append_assoc xs front (10 ∷ [])))
 
 module _ {R : Type 0} (options : RunOptions) (answers : List ℕ → Result Answer R → Type 0) where
-  takes_of : (a b : Option (List ℕ)) (line : List ℕ) (met : Line) → met ≢ Missing → ReadsLine line_limit a b line (Ok met) → TakesLine a b line
-  takes_of a b line Ended some r = r.0
-  takes_of a b line Last some r = r.0
-  takes_of a b line Missing some r = absurd (some refl)
+  -- ---- one line
 
-  -- a line that was answered
-  pub Steps-answered : (a b p q : Option (List ℕ)) (log log' : Option (List (RefusedLine R))) (block mid after line : List ℕ) (s s' : RunSummary R)
+  taken_of : (a b : Option (List ℕ)) (line : List ℕ) (met : Line) → met ≢ Missing → ReadsLine line_limit a b line (Ok met)
+      → (t : TakesLine a b line) × StepEnds options answers t.taken a b b (Ok met)
+  taken_of a b line Ended some r = (r.0, (r.1, refl))
+  taken_of a b line Last some r = (r.0, (r.1, Consumes-nil b))
+  taken_of a b line Missing some r = absurd (some refl)
+
+  whole_line : (a : Option (List ℕ)) (taken : List ℕ) → EndsWithLf taken ⊎ IsAllOf taken a → EndsLine taken ⊎ IsAllOf taken a
+  whole_line a taken (inl lf) = inl (inr lf)
+  whole_line a taken (inr all) = inr all
+
+  -- a line that was answered, or skipped
+  pub FindsLine-line : (a b o : Option (List ℕ)) (log log' : Option (List (RefusedLine R))) (block block' line : List ℕ) (s s' : RunSummary R)
       (output : List ℕ) (made : Result Mark (LineFault R)) (met : Line) → met ≢ Missing → ReadsLine line_limit a b line (Ok met)
-      → LineResult options answers line (answered output made) → output ≡ output_of (answered output made) → mid ≡ block ++ output
-      → ((text : List ℕ) → s' ≡ counted s (answered text made)) → ((text : List ℕ) → Logs log log' (refusal_of s'.lines (answered text made)))
-      → Sends p q mid after [] → Steps options answers a b p q log log' block after s s'
-  Steps-answered a b p q log log' block mid after line s s' output made met some r h is put counts logs sent = record {
-    line = line;
-    result = answered output made;
-    takes = takes_of a b line met some r;
-    is = h;
-    sends = record {
-      sent = sent.sent;
-      written = sent.written;
-      kept = ap (λ l. block ++ l) (sym is) ∙ sym put ∙ sym (append-nil mid) ∙ sent.kept;
-    };
-    counts = counts output;
-    logs = logs output;
-  }
+      → LineResult options answers line (answered output made) → output ≡ output_of (answered output made) → block' ≡ block ++ output
+      → ((text : List ℕ) → s' ≡ counted s (answered text made)) → HasRoom s'
+      → ((text : List ℕ) → Logs log log' (refusal_of (s.lines + 1) (answered text made)))
+      → FindsLine options answers a b o o log log' block block' s s' (Ok met)
+  FindsLine-line a b o log log' block block' line s s' output made met some r h is put counts room logs =
+      let t = taken_of a b line met some r in
+      let result = answered output made in
+      record {
+        left = b;
+        steps = record {
+          lines = record {
+            taken = t.0.taken;
+            results = result ∷ [];
+            stands_after = t.0.stands_after;
+            whole = whole_line a t.0.taken t.0.whole;
+            answered = subst (λ ls. AreResults options answers ls (result ∷ [])) (sym t.0.one_line) (h, tt);
+          };
+          sends = record { sent = []; written = Appends-nil o; kept = ap (λ l. block ++ l) (append-nil (output_of result) ∙ sym is) ∙ sym put };
+          counts = counts output;
+          room = room;
+          logs = subst (Logs log log') (sym (append-nil (refusal_of (s.lines + 1) result))) (logs output);
+        };
+        ends = t.1;
+      }
 
-  pub StepsLine-answered : (a b p q : Option (List ℕ)) (log log' : Option (List (RefusedLine R))) (block mid after line : List ℕ) (s s' : RunSummary R)
-      (output : List ℕ) (made : Result Mark (LineFault R)) (met : Line) → met ≢ Missing → ReadsLine line_limit a b line (Ok met)
-      → LineResult options answers line (answered output made) → output ≡ output_of (answered output made) → mid ≡ block ++ output
-      → ((text : List ℕ) → s' ≡ counted s (answered text made)) → ((text : List ℕ) → Logs log log' (refusal_of s'.lines (answered text made)))
-      → Sends p q mid after [] → StepsLine options answers a b p q log log' block after s s' (Ok met)
-  unfolding Steps-answered takes_of
-  StepsLine-answered a b p q log log' block mid after line s s' output made Ended some r h is put counts logs sent =
-      (Steps-answered a b p q log log' block mid after line s s' output made Ended some r h is put counts logs sent, r.1)
-  StepsLine-answered a b p q log log' block mid after line s s' output made Last some r h is put counts logs sent =
-      (Steps-answered a b p q log log' block mid after line s s' output made Last some r h is put counts logs sent, r.1)
-  StepsLine-answered a b p q log log' block mid after line s s' output made Missing some r h is put counts logs sent = absurd (some refl)
-
-  AreResults-more : (lines : List (List ℕ)) (results : List (Result Answer (LineFault R))) (line : List ℕ) (result : Result Answer (LineFault R))
-      → AreResults options answers lines results → LineResult options answers line result
-      → AreResults options answers (lines ++ line ∷ []) (results ++ result ∷ [])
-  AreResults-more [] [] line result h new = (new, tt)
-  AreResults-more [] (o ∷ os) line result h new = absurd h
-  AreResults-more (l ∷ ls) [] line result h new = absurd h
-  AreResults-more (l ∷ ls) (o ∷ os) line result h new = (h.0, AreResults-more ls os line result h.1 new)
-
-  written_for-more : (results : List (Result Answer (LineFault R))) (result : Result Answer (LineFault R))
-      → written_for (results ++ result ∷ []) ≡ written_for results ++ output_of result
-  written_for-more [] result = append-nil (output_of result)
-  written_for-more (r ∷ rs) result =
-      ap (λ l. output_of r ++ l) (written_for-more rs result) ∙ sym (append_assoc (output_of r) (written_for rs) (output_of result))
-
-  -- so many lines were answered, and what comes next begins a line
-  pub record Answered (a b o p : Option (List ℕ)) (log log' : Option (List (RefusedLine R))) (block block' : List ℕ) (s : RunSummary R) (done : ℕ)
-      : Type 0 where
-    pub lines : AnswersLines options answers a b
-    pub sends : Sends o p block block' (written_for lines.results)
-    pub ends : EndsLine lines.taken
-    pub summary : Summarizes lines.results s
-    pub logs : Logs log log' (refusals_of 1 lines.results)
-    pub count : s.lines ≡ done
-
-  pub Answered-none : (a o : Option (List ℕ)) (log : Option (List (RefusedLine R))) (block : List ℕ) (s : RunSummary R)
-      → s ≡ record { lines = 0; marked = 0; refused = 0; first_refused = None } → Answered a a o o log log block block s 0
-  Answered-none a o log block s is = record {
+  Steps-none : (a o : Option (List ℕ)) (log : Option (List (RefusedLine R))) (block block' : List ℕ) (s : RunSummary R) → block' ≡ block → HasRoom s
+      → Steps options answers a a o o log log block block' s s
+  Steps-none a o log block block' s same room = record {
     lines = record {
       taken = [];
       results = [];
@@ -99,159 +83,211 @@ module _ {R : Type 0} (options : RunOptions) (answers : List ℕ → Result Answ
       whole = inl (inl refl);
       answered = subst (λ ls. AreResults options answers ls []) (sym lines_of-nil) tt;
     };
-    sends = record { sent = []; written = Appends-nil o; kept = append-nil block };
-    ends = inl refl;
-    summary = Summarizes-none s is;
+    sends = record { sent = []; written = Appends-nil o; kept = append-nil block ∙ sym same };
+    counts = refl;
+    room = room;
     logs = Logs-nil log;
-    count = ap (λ (t : RunSummary R). t.lines) is;
   }
 
-  pub Answered-room : {a b o p : Option (List ℕ)} {log log' : Option (List (RefusedLine R))} {block block' : List ℕ} {s : RunSummary R} {done : ℕ}
-      → Answered a b o p log log' block block' s done → done < 18446744073709551614 → HasRoom s
-  Answered-room {s = s} {done = done} m room = HasRoom-after m.lines.results s done m.summary m.count room
+  -- no line, or one at which the run stops
+  pub FindsLine-none : {found : Result Line (LineFault R)} {a c : Option (List ℕ)} (o : Option (List ℕ)) (log : Option (List (RefusedLine R)))
+      (block block' : List ℕ) (s : RunSummary R) → block' ≡ block → HasRoom s → StepEnds options answers [] a a c found
+      → FindsLine options answers a c o o log log block block' s s found
+  unfolding Steps-none
+  FindsLine-none {a = a} o log block block' s same room ends = record { left = a; steps = Steps-none a o log block block' s same room; ends = ends }
 
-  -- one line more
-  added : {a b c : Option (List ℕ)} (old : AnswersLines options answers a b) → EndsLine old.taken → (line : List ℕ) (result : Result Answer (LineFault R))
-      (t : TakesLine b c line) → LineResult options answers line result
-      → EndsLine (old.taken ++ t.taken) ⊎ IsAllOf (old.taken ++ t.taken) a → AnswersLines options answers a c
-  added {a} {b} {c} old ends line result t h whole =
-      let split : lines_of (old.taken ++ t.taken) ≡ lines_of old.taken ++ line ∷ [] =
-      lines_of-more old.taken t.taken ends ∙ ap (λ l. lines_of old.taken ++ l) t.one_line in
+  pub stops_unread : (a c : Option (List ℕ)) (line : List ℕ) (fault : FileFault) → ReadsLine line_limit a c line (Err fault)
+      → StopsFor options answers a c (Input fault)
+  stops_unread a c line TooLong r = (line, r.0, r.1)
+  stops_unread a c line Read r = (line, r.0)
+  stops_unread a c line Memory r = (line, r.0.stands_after)
+  stops_unread a c line (BadDigit at) r = absurd r
+  stops_unread a c line OddDigits r = absurd r
+  stops_unread a c line (BadBase64 wrong) r = absurd r
+
+  pub stops_refused : (a c : Option (List ℕ)) (line shown : List ℕ) (met : Line) (fault : LineFault R) → met ≢ Missing → ReadsLine line_limit a c line (Ok met)
+      → shown ≡ line → (fault ≡ Input Memory) ⊎ ((options.keep_going ≡ false) × (is_own fault ≡ true) × LineAnswer options.notation answers shown (Err fault))
+      → StopsFor options answers a c fault
+  stops_refused a c line shown met fault some r same made = at fault made
+    where
+      t : TakesLine a c shown
+      t = subst (TakesLine a c) (sym same) (taken_of a c line met some r).0
+
+      at : (f : LineFault R) → (f ≡ Input Memory) ⊎ ((options.keep_going ≡ false) × (is_own f ≡ true) × LineAnswer options.notation answers shown (Err f))
+          → StopsFor options answers a c f
+      at f (inl is) = subst (StopsFor options answers a c) (sym is) (t.taken, t.stands_after)
+      at (Refused refusal) (inr m) = (shown, t, m.2, m.0)
+      at (Input (BadDigit place)) (inr m) = (shown, t, m.2, m.0)
+      at (Input OddDigits) (inr m) = (shown, t, m.2, m.0)
+      at (Input (BadBase64 wrong)) (inr m) = (shown, t, m.2, m.0)
+      at (Input Read) (inr m) = cc m.1
+      at (Input TooLong) (inr m) = cc m.1
+      at (Input Memory) (inr m) = cc m.1
+
+  -- the block was written
+  pub FindsLine-sent : {found : Result Line (LineFault R)} {a c o : Option (List ℕ)} (q : Option (List ℕ)) {log log' : Option (List (RefusedLine R))}
+      {block mid : List ℕ} (after : List ℕ) {s s' : RunSummary R} → FindsLine options answers a c o o log log' block mid s s' found → Sends o q mid after
+      → FindsLine options answers a c o q log log' block after s s' found
+  FindsLine-sent {o = o} q {block = block} {mid = mid} after f sent =
+      let steps = f.steps in
+      let w = block ++ written_for steps.lines.results in
+      let sends = Sends-trans o o q w mid after [] steps.sends (subst (λ l. Sends o q l after) (sym (append-nil mid)) sent) in
       record {
-        taken = old.taken ++ t.taken;
-        results = old.results ++ result ∷ [];
-        stands_after = Consumes-trans a b c old.taken t.taken old.stands_after t.stands_after;
-        whole = whole;
-        answered = subst (λ ls. AreResults options answers ls (old.results ++ result ∷ [])) (sym split)
-            (AreResults-more (lines_of old.taken) old.results line result old.answered h);
+        left = f.left;
+        steps = record {
+          lines = steps.lines;
+          sends = subst (λ l. Sends o q l after) (append-nil w) sends;
+          counts = steps.counts;
+          room = steps.room;
+          logs = steps.logs;
+        };
+        ends = f.ends;
       }
 
-  sends_more : (o p q : Option (List ℕ)) (block mid after : List ℕ) (results : List (Result Answer (LineFault R))) (result : Result Answer (LineFault R))
-      → Sends o p block mid (written_for results) → Sends p q mid after (output_of result) → Sends o q block after (written_for (results ++ result ∷ []))
-  sends_more o p q block mid after results result s t =
-      subst (Sends o q block after) (sym (written_for-more results result)) (Sends-trans o p q block mid after (written_for results) (output_of result) s t)
+  -- ---- one line after others
 
-  -- neither the writer nor the block changed
-  sends_same : (o p q : Option (List ℕ)) (block mid after text : List ℕ) → Sends o p block mid text → q ≡ p → after ≡ mid → Sends o q block after text
-  sends_same o p q block mid after text s out is =
-      subst (λ b. Sends o q block b text) (sym is) (subst (λ x. Sends o x block mid text) (sym out) s)
+  AreResults-append : (lines more : List (List ℕ)) (results others : List (Result Answer (LineFault R))) → AreResults options answers lines results
+      → AreResults options answers more others → AreResults options answers (lines ++ more) (results ++ others)
+  AreResults-append [] more [] others h next = next
+  AreResults-append [] more (o ∷ os) others h next = absurd h
+  AreResults-append (l ∷ ls) more [] others h next = absurd h
+  AreResults-append (l ∷ ls) more (o ∷ os) others h next = (h.0, AreResults-append ls more os others h.1 next)
 
-  ends-append : (xs ys : List ℕ) → EndsWithLf ys → EndsWithLf (xs ++ ys)
-  ends-append xs ys (front, is) = (xs ++ front, ap (λ l. xs ++ l) is ∙ sym (append_assoc xs front (10 ∷ [])))
-
-  all_of-both : (a b : Option (List ℕ)) (xs ys : List ℕ) → Consumes a b xs → IsAllOf ys b → IsAllOf (xs ++ ys) a
-  all_of-both None b xs ys p all = tt
-  all_of-both (Some x) None xs ys p all = absurd p
-  all_of-both (Some x) (Some y) xs ys p all = p ∙ ap (λ l. xs ++ l) all
-
-  next_lines : (results : List (Result Answer (LineFault R))) (result : Result Answer (LineFault R)) (s s' : RunSummary R) (done : ℕ)
-      → Summarizes results s → Summarizes (results ++ result ∷ []) s' → s.lines ≡ done → s'.lines ≡ done + 1
-  next_lines results result s s' done h more is = omega (arith, h.lines, more.lines, length-append results (result ∷ []))
-
-  pub Answered-more : {a b c o p q : Option (List ℕ)} {l m n : Option (List (RefusedLine R))} {block mid after : List ℕ} {s s' : RunSummary R} {done : ℕ}
-      → Answered a b o p l m block mid s done → StepsLine options answers b c p q m n mid after s s' (Ok Ended)
-      → Answered a c o q l n block after s' (done + 1)
-  unfolding added
-  Answered-more {o = o} {p = p} {q = q} {l = l} {m = m} {n = n} {block = block} {mid = mid} {after = after} {s = s} {s' = s'} {done = done} old (step, lf) =
-      let ends = ends-append old.lines.taken step.takes.taken lf in
+  joined : {a b c o p q : Option (List ℕ)} {l m n : Option (List (RefusedLine R))} {block mid after : List ℕ} {s s' s'' : RunSummary R}
+      (old : Steps options answers a b o p l m block mid s s') → EndsLine old.lines.taken → Steps options answers b c p q m n mid after s' s''
+      → Steps options answers a c o q l n block after s s''
+  joined {a} {b} {c} {o} {p} {q} {l} {m} {n} {block} {mid} {after} {s} {s'} {s''} old ends new =
       let results = old.lines.results in
-      let more = Summarizes-more results s s' step.result old.summary step.counts in
+      let others = new.lines.results in
+      let written : (block ++ written_for results) ++ written_for others ≡ block ++ written_for (results ++ others) =
+      append_assoc block (written_for results) (written_for others)
+      ∙ ap (λ t. block ++ t) (sym (ap concat (map-append output_of results others) ∙ concat-append (map output_of results) (map output_of others))) in
+      let place : s'.lines + 1 ≡ s.lines + 1 + length results = omega (arith, ap (λ (t : RunSummary R). t.lines) old.counts, (counts_all s results).lines) in
       record {
-        lines = added old.lines old.ends step.line step.result step.takes step.is (inl (inr ends));
-        sends = sends_more o p q block mid after results step.result old.sends step.sends;
-        ends = inr ends;
-        summary = more;
-        logs = Logs-more l m n results s s' step.result old.summary step.counts old.logs step.logs;
-        count = next_lines results step.result s s' done old.summary more old.count;
+        lines = record {
+          taken = old.lines.taken ++ new.lines.taken;
+          results = results ++ others;
+          stands_after = Consumes-trans a b c old.lines.taken new.lines.taken old.lines.stands_after new.lines.stands_after;
+          whole = whole new.lines.whole;
+          answered = subst (λ ls. AreResults options answers ls (results ++ others)) (sym (lines_of-more old.lines.taken new.lines.taken ends))
+              (AreResults-append (lines_of old.lines.taken) (lines_of new.lines.taken) results others old.lines.answered new.lines.answered);
+        };
+        sends = subst (λ t. Sends o q t after) written (Sends-trans o p q (block ++ written_for results) mid after (written_for others) old.sends new.sends);
+        counts = new.counts ∙ ap (λ t. counted_all t others) old.counts ∙ sym (counted_all-append s results others);
+        room = new.room;
+        logs = subst (Logs l n) (sym (refusals_of-append (s.lines + 1) results others))
+            (Logs-trans l m n (refusals_of (s.lines + 1) results) (refusals_of (s.lines + 1 + length results) others) old.logs
+            (subst (λ k. Logs m n (refusals_of k others)) place new.logs));
       }
+    where
+      whole : EndsLine new.lines.taken ⊎ IsAllOf new.lines.taken b
+          → EndsLine (old.lines.taken ++ new.lines.taken) ⊎ IsAllOf (old.lines.taken ++ new.lines.taken) a
+      whole (inl (inl none)) = inl (subst EndsLine (sym (ap (λ l. old.lines.taken ++ l) none ∙ append-nil old.lines.taken)) ends)
+      whole (inl (inr lf)) = inl (inr (ends-append old.lines.taken new.lines.taken lf))
+      whole (inr all) = inr (all_of-both a b old.lines.taken new.lines.taken old.lines.stands_after all)
+
+  -- ---- a run
+
+  abbrev none : RunSummary R
+  none = record { lines = 0; marked = 0; refused = 0; first_refused = None }
+
+  -- lines were answered, and what comes next begins a line
+  pub record Run (a b o p : Option (List ℕ)) (l m : Option (List (RefusedLine R))) (block : List ℕ) (s : RunSummary R) : Type 0 where
+    pub steps : Steps options answers a b o p l m [] block none s
+    pub ends : EndsLine steps.lines.taken
+
+  pub Run-none : (a o : Option (List ℕ)) (log : Option (List (RefusedLine R))) (block : List ℕ) → block ≡ [] → Run a a o o log log block none
+  unfolding Steps-none
+  Run-none a o log block empty = record {
+    steps = Steps-none a o log [] block none empty (record { lines = omega arith; marked = omega arith; refused = omega arith });
+    ends = inl refl;
+  }
+
+  pub Run-more : {a b c o p q : Option (List ℕ)} {l m n : Option (List (RefusedLine R))} {mid after : List ℕ} {s s' : RunSummary R}
+      → Run a b o p l m mid s → FindsLine options answers b c p q m n mid after s s' (Ok Ended) → Run a c o q l n after s'
+  unfolding joined
+  Run-more {a} {b} {c} {o} {p} {q} {l} {m} {n} {mid} {after} {s} {s'} old f =
+      subst (λ left. Run a left o q l n after s') f.ends.1
+      (record { steps = joined old.steps old.ends f.steps; ends = inr (ends-append old.steps.lines.taken f.steps.lines.taken f.ends.0) })
+
+  -- a line was counted
+  pub more_lines : {b c p q : Option (List ℕ)} {m n : Option (List (RefusedLine R))} {mid after : List ℕ} {s s' : RunSummary R}
+      → FindsLine options answers b c p q m n mid after s s' (Ok Ended) → s.lines < s'.lines
+  more_lines {s = s} f =
+      let results = f.steps.lines.results in
+      omega (arith, ap (λ (t : RunSummary R). t.lines) f.steps.counts, (counts_all s results).lines, some f.steps.lines.taken results f.ends.0 f.steps.lines.answered)
+    where
+      filled : (lines : List (List ℕ)) (line : List ℕ) (more : List (List ℕ)) (results : List (Result Answer (LineFault R))) → lines ≡ line ∷ more
+          → AreResults options answers lines results → 0 < length results
+      filled [] line more results is h = cc is
+      filled (l ∷ ls) line more [] is h = absurd h
+      filled (l ∷ ls) line more (r ∷ rs) is h = omega arith
+
+      some : (taken : List ℕ) (results : List (Result Answer (LineFault R))) → EndsWithLf taken → AreResults options answers (lines_of taken) results
+          → 0 < length results
+      some taken results (front, is) h =
+          let first = first_ended front in
+          filled (lines_of taken) first.0 first.1 results (ap lines_of is ∙ first.2) h
+
+  next_of : (found : Result Line (LineFault R)) (taken : List ℕ) (a b c : Option (List ℕ)) → StepEnds options answers taken a b c found
+      → (next : List ℕ) × Consumes b c next
+  next_of (Ok Ended) taken a b c e = ([], subst (λ o. Consumes b o []) e.1 (Consumes-nil b))
+  next_of (Ok Last) taken a b c e = ([], e.1)
+  next_of (Ok Missing) taken a b c e = ([], e.1)
+  next_of (Err (Input TooLong)) taken a b c e = (e.0, e.1.stands_after)
+  next_of (Err (Input Read)) taken a b c e = (e.0, e.1.stands_after)
+  next_of (Err (Input Memory)) taken a b c e = e
+  next_of (Err (Input (BadDigit at))) taken a b c e = (e.1.taken, e.1.stands_after)
+  next_of (Err (Input OddDigits)) taken a b c e = (e.1.taken, e.1.stands_after)
+  next_of (Err (Input (BadBase64 wrong))) taken a b c e = (e.1.taken, e.1.stands_after)
+  next_of (Err (Refused refusal)) taken a b c e = (e.1.taken, e.1.stands_after)
 
   -- the end of the input
-  pub Gathers-missing : {a b c o p q : Option (List ℕ)} {l m n : Option (List (RefusedLine R))} {block mid after : List ℕ} {s s' : RunSummary R} {done : ℕ}
-      → Answered a b o p l m block mid s done → StepsLine options answers b c p q m n mid after s s' (Ok Missing)
-      → Gathers options answers a c o q l n block after (Ok s')
-  Gathers-missing {a} {b} {c} {o} {p} {q} {l} {m} {n} {block} {mid} {after} {s} {s'} old step =
-      let lines = old.lines in
+  pub RunsLines-done : {a b c o p q : Option (List ℕ)} {l m n : Option (List (RefusedLine R))} {mid after : List ℕ} {s s' : RunSummary R}
+      {found : Result Line (LineFault R)} → Run a b o p l m mid s → (f : FindsLine options answers b c p q m n mid after s s' found)
+      → IsAllOf f.steps.lines.taken b × Consumes f.left c [] → after ≡ [] → RunsLines options answers a c o q l n (Ok s')
+  unfolding joined
+  RunsLines-done {a} {b} {after = after} {s' = s'} old f end empty =
+      let all = joined old.steps old.ends f.steps in
+      let rest = all_of-both a b old.steps.lines.taken f.steps.lines.taken old.steps.lines.stands_after end.0 in
       record {
-        left = b;
-        lines = lines;
-        ends = (subst (Summarizes lines.results) (sym step.5) old.summary, all_of-taken a b lines.taken lines.stands_after step.0, step.1);
-        logs = subst (λ x. Logs l x (refusals_of 1 lines.results)) (sym step.3) old.logs;
-        sends = sends_same o p q block mid after (written_for lines.results) old.sends step.2 step.4;
-        refused = tt;
-      }
-
-  -- a last line
-  pub Gathers-last : {a b c o p q : Option (List ℕ)} {l m n : Option (List (RefusedLine R))} {block mid after : List ℕ} {s s' : RunSummary R} {done : ℕ}
-      → Answered a b o p l m block mid s done → StepsLine options answers b c p q m n mid after s s' (Ok Last)
-      → Gathers options answers a c o q l n block after (Ok s')
-  unfolding added
-  Gathers-last {a} {b} {c} {o} {p} {q} {l} {m} {n} {block} {mid} {after} {s} {s'} old (step, all) =
-      let both = all_of-both a b old.lines.taken step.takes.taken old.lines.stands_after all in
-      let results = old.lines.results in
-      record {
-        left = c;
-        lines = added old.lines old.ends step.line step.result step.takes step.is (inr both);
-        ends = (Summarizes-more results s s' step.result old.summary step.counts, both, Consumes-nil c);
-        logs = Logs-more l m n results s s' step.result old.summary step.counts old.logs step.logs;
-        sends = sends_more o p q block mid after results step.result old.sends step.sends;
-        refused = tt;
+        left = f.left;
+        lines = all.lines;
+        ends = (summarizes_all all.lines.results s' all.counts, rest, end.1);
+        logs = all.logs;
+        unsent = after;
+        sends = all.sends;
+        all_but = empty;
       }
 
   -- a line at which the run stops
-  pub Gathers-stopped : (line : ℕ) (fault : LineFault R) {a b c o p q : Option (List ℕ)} {l m n : Option (List (RefusedLine R))} {block mid after : List ℕ}
-      {s : RunSummary R} {done : ℕ} → line ≡ done + 1 → Answered a b o p l m block mid s done → StopsFor options answers b c fault → q ≡ p → n ≡ m → after ≡ mid
-      → Gathers options answers a c o q l n block after (Err (AtLine line fault))
-  Gathers-stopped line fault {a} {b} {c} {o} {p} {q} {l} {m} {n} {block} {mid} {after} {s} {done} is old stop out log same =
-      let lines = old.lines in
+  pub RunsLines-stopped : {a b c o p q : Option (List ℕ)} {l m n : Option (List (RefusedLine R))} {mid after : List ℕ} {s s' : RunSummary R}
+      {fault : LineFault R} → Run a b o p l m mid s → FindsLine options answers b c p q m n mid after s s' (Err fault) → after ≡ []
+      → RunsLines options answers a c o q l n (Err (AtLine (s'.lines + 1) fault))
+  RunsLines-stopped {after = after} old f empty =
+      let all = joined old.steps old.ends f.steps in
       record {
-        left = b;
-        lines = lines;
-        ends = (omega (arith, is, old.count, old.summary.lines), stop);
-        logs = subst (λ x. Logs l x (refusals_of 1 lines.results)) (sym log) old.logs;
-        sends = sends_same o p q block mid after (written_for lines.results) old.sends out same;
-        refused = tt;
+        left = f.left;
+        lines = all.lines;
+        ends = (ap (λ k. k + 1) ((summarizes_all all.lines.results _ all.counts).lines), f.ends);
+        logs = all.logs;
+        unsent = after;
+        sends = all.sends;
+        all_but = empty;
       }
 
-  -- a line after which the writer refuses the block
-  pub Gathers-refused : (unsent : ℕ) {a b c o p q : Option (List ℕ)} {l m n : Option (List (RefusedLine R))} {block mid after : List ℕ} {s s' : RunSummary R}
-      {done : ℕ} → length after ≡ unsent → Answered a b o p l m block mid s done → StepsLine options answers b c p q m n mid after s s' (Err steps.Write)
-      → Gathers options answers a c o q l n block after (Err (Write s'.lines unsent))
-  unfolding added
-  Gathers-refused unsent {a} {b} {c} {o} {p} {q} {l} {m} {n} {block} {mid} {after} {s} {s'} {done} size old (step, some) =
-      let results = old.lines.results in
-      let more = Summarizes-more results s s' step.result old.summary step.counts in
+  -- a block that the writer refused
+  pub RunsLines-refused : (unsent : ℕ) {a b c o p q : Option (List ℕ)} {l m n : Option (List (RefusedLine R))} {mid after : List ℕ} {s s' : RunSummary R}
+      {found : Result Line (LineFault R)} → length after ≡ unsent → Run a b o p l m mid s → FindsLine options answers b c p q m n mid after s s' found
+      → 0 < length after → RunsLines options answers a c o q l n (Err (Write s'.lines unsent))
+  RunsLines-refused unsent {b = b} {c = c} {after = after} {found = found} size old f some =
+      let all = joined old.steps old.ends f.steps in
       record {
-        left = c;
-        lines = added old.lines old.ends step.line step.result step.takes step.is (whole step.takes.whole);
-        ends = (more.lines, ([], Consumes-nil c));
-        logs = Logs-more l m n results s s' step.result old.summary step.counts old.logs step.logs;
-        sends = sends_more o p q block mid after results step.result old.sends step.sends;
-        refused = (size, subst (λ n. 0 < n) size some);
+        left = f.left;
+        lines = all.lines;
+        ends = ((summarizes_all all.lines.results _ all.counts).lines, next_of found f.steps.lines.taken b f.left c f.ends);
+        logs = all.logs;
+        unsent = after;
+        sends = all.sends;
+        all_but = (size, subst (λ n. 0 < n) size some);
       }
-    where
-      whole : EndsWithLf step.takes.taken ⊎ IsAllOf step.takes.taken b
-          → EndsLine (old.lines.taken ++ step.takes.taken) ⊎ IsAllOf (old.lines.taken ++ step.takes.taken) a
-      whole (inl lf) = inl (inr (ends-append old.lines.taken step.takes.taken lf))
-      whole (inr all) = inr (all_of-both a b old.lines.taken step.takes.taken old.lines.stands_after all)
-
-  pub Gathers-halted : (unsent : ℕ) (step : StepFault R) {a b c o p q : Option (List ℕ)} {l m n : Option (List (RefusedLine R))} {block mid after : List ℕ}
-      {s : RunSummary R} (s' : RunSummary R) {done : ℕ} → length after ≡ unsent → Answered a b o p l m block mid s done
-      → StepsLine options answers b c p q m n mid after s s' (Err step)
-      → Gathers options answers a c o q l n block after (Err (run_fault_of step s'.lines unsent))
-  Gathers-halted unsent (steps.Line fault) {s = s} s' {done = done} size old step =
-      let line : s'.lines + 1 ≡ done + 1 = omega (arith, ap (λ (t : RunSummary R). t.lines) step.4, old.count) in
-      Gathers-stopped (s'.lines + 1) fault line old step.0 step.1 step.2 step.3
-  Gathers-halted unsent steps.Write s' size old step = Gathers-refused unsent size old step
-
-  -- so many lines have numbers
-  pub lines_after : (done : ℕ) (step : StepFault R) {a b o p : Option (List ℕ)} {l m : Option (List (RefusedLine R))} {block mid : List ℕ}
-      {s : RunSummary R} (c q : Option (List ℕ)) (n : Option (List (RefusedLine R))) (after : List ℕ) (s' : RunSummary R) → done < 18446744073709551614 → Answered a b o p l m block mid s done
-      → StepsLine options answers b c p q m n mid after s s' (Err step) → s'.lines < 18446744073709551615
-  lines_after done (steps.Line fault) {s = s} c q n after s' room old step = omega (arith, ap (λ (t : RunSummary R). t.lines) step.4, old.count)
-  lines_after done steps.Write {s = s} c q n after s' room old step =
-      let more = Summarizes-more old.lines.results s s' step.0.result old.summary step.0.counts in
-      omega (arith, next_lines old.lines.results step.0.result s s' done old.summary more old.count)
-
-  -- a run that ends before a line
-  pub StopsFor-nothing : (a : Option (List ℕ)) → StopsFor options answers a a (Input Read)
-  StopsFor-nothing a = ([], record { stands_after = Consumes-nil a; inside = λ k _ h. absurd (omega (arith, h)) })

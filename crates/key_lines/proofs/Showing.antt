@@ -15,41 +15,38 @@ use Rattle.key_lines.specs.Reading.{IsAllOf, MovesPart}
 use Rattle.key_lines.specs.declared.line.Part.{Part}
 use Rattle.key_lines.proofs.Takings.{length-nil}
 
--- the rest of a reader's input before it showed these bytes, after that, and after as many were dropped
-pub record Shows (old mid new : Option (List ℕ)) (most : Option ℕ) (shown : List ℕ) (amount : ℕ) : Type 0 where
-  pub front : IfSome old (λ xs. StartsWith xs shown)
-  pub kept : Keeps old mid
-  pub within : IfSome old (λ _. IfSome most (λ n. length shown ≤ n))
-  pub drops : DropsConsumable mid new most amount
-
--- these were taken
-Consumes-shown : {old mid new : Option (List ℕ)} {most : Option ℕ} {shown : List ℕ} {amount : ℕ} → Shows old mid new most shown amount → amount ≤ length shown
+-- of what a reader showed so many bytes were taken
+Consumes-shown : (old mid new : Option (List ℕ)) (most : Option ℕ) (shown : List ℕ) (amount : ℕ) → IfSome old (λ xs. StartsWith xs shown) → Keeps old mid
+    → IfSome old (λ _. IfSome most (λ n. length shown ≤ n)) → DropsConsumable mid new most amount → amount ≤ length shown
     → Consumes old new (take amount shown)
-Consumes-shown {old = None} s h = tt
-Consumes-shown {old = Some xs} {mid = None} s h = absurd s.kept
-Consumes-shown {old = Some xs} {mid = Some ys} {new} {most} {shown} {amount} s h =
-    let dropped : new ≡ Some (drop amount xs) = s.drops (allowed most s.within) ∙ ap (λ l. Some (drop amount l)) s.kept in
-    let front : take amount xs ≡ take amount shown = sym (take-take amount (length shown) xs h) ∙ ap (take amount) s.front in
-    subst (λ o. Consumes (Some xs) o (take amount shown)) (sym dropped) (sym (take-append-drop amount xs) ∙ ap (λ l. l ++ drop amount xs) front)
+Consumes-shown None mid new most shown amount front kept within drops h = tt
+Consumes-shown (Some xs) None new most shown amount front kept within drops h = absurd kept
+Consumes-shown (Some xs) (Some ys) new most shown amount front kept within drops h =
+    let dropped : new ≡ Some (drop amount xs) = drops (allowed most within) ∙ ap (λ l. Some (drop amount l)) kept in
+    let same : take amount xs ≡ take amount shown = sym (take-take amount (length shown) xs h) ∙ ap (take amount) front in
+    subst (λ o. Consumes (Some xs) o (take amount shown)) (sym dropped) (sym (take-append-drop amount xs) ∙ ap (λ l. l ++ drop amount xs) same)
   where
     allowed : (m : Option ℕ) → IfSome m (λ n. length shown ≤ n) → IfSome m (λ n. amount ≤ n)
     allowed None w = tt
     allowed (Some n) w = omega (arith, w)
 
 -- a part of those that there is room for
-pub Consumes-part : {old mid new : Option (List ℕ)} {most : Option ℕ} {shown : List ℕ} (room len : ℕ) → Shows old mid new most shown len
-    → len ≤ length (take room shown) → Consumes old new (take len (take room shown))
-Consumes-part {old} {new = new} {shown = shown} room len s h =
+pub Consumes-part : (old mid new : Option (List ℕ)) (most : Option ℕ) (shown : List ℕ) (room len : ℕ) → IfSome old (λ xs. StartsWith xs shown)
+    → Keeps old mid → IfSome old (λ _. IfSome most (λ n. length shown ≤ n)) → DropsConsumable mid new most len → len ≤ length (take room shown)
+    → Consumes old new (take len (take room shown))
+Consumes-part old mid new most shown room len front kept within drops h =
     let size = length-take room shown in
-    subst (Consumes old new) (sym (take-take len room shown (omega arith))) (Consumes-shown s (omega arith))
+    subst (Consumes old new) (sym (take-take len room shown (omega arith)))
+    (Consumes-shown old mid new most shown len front kept within drops (omega arith))
 
 -- and the LF after it
-pub Consumes-line : {old mid new : Option (List ℕ)} {most : Option ℕ} {shown : List ℕ} (room len : ℕ) → Shows old mid new most shown (len + 1)
+pub Consumes-line : (old mid new : Option (List ℕ)) (most : Option ℕ) (shown : List ℕ) (room len : ℕ) → IfSome old (λ xs. StartsWith xs shown)
+    → Keeps old mid → IfSome old (λ _. IfSome most (λ n. length shown ≤ n)) → DropsConsumable mid new most (len + 1)
     → len < length (take room shown) → slice_index (take room shown) len ≡ 10 → Consumes old new (take len (take room shown) ++ 10 ∷ [])
-Consumes-line {old} {new = new} {shown = shown} room len s h lf =
-    let front = take room shown in
-    let more : take (len + 1) front ≡ take len front ++ 10 ∷ [] = rw add-one (take-suc front len 0 h) ∙ ap (λ b. take len front ++ b ∷ []) lf in
-    subst (Consumes old new) more (Consumes-part room (len + 1) s (omega arith))
+Consumes-line old mid new most shown room len front kept within drops h lf =
+    let all = take room shown in
+    let more : take (len + 1) all ≡ take len all ++ 10 ∷ [] = rw add-one (take-suc all len 0 h) ∙ ap (λ b. take len all ++ b ∷ []) lf in
+    subst (Consumes old new) more (Consumes-part old mid new most shown room (len + 1) front kept within drops (omega arith))
 
 -- all that is shown within the room for one byte past the limit
 pub front_fits : (room limit used n : ℕ) (shown : List ℕ) → room ≡ min (limit + 1 - used) (length shown) → used ≡ n

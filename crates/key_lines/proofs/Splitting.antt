@@ -23,7 +23,7 @@ unfolding lines_of
 lines_of-nil = refl
 
 -- what an LF ends has a line
-first_ended : (front : List ℕ) → (line : List ℕ) × (lines : List (List ℕ)) × (lines_of (front ++ 10 ∷ []) ≡ line ∷ lines)
+pub first_ended : (front : List ℕ) → (line : List ℕ) × (lines : List (List ℕ)) × (lines_of (front ++ 10 ∷ []) ≡ line ∷ lines)
 unfolding lines_of
 first_ended [] = ([], [], refl)
 first_ended (x ∷ xs) =

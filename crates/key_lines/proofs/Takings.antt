@@ -11,15 +11,12 @@ use Rattle.key_lines.specs.declared.line.Line.TheVariants as lines
 use Rattle.key_lines.specs.declared.line.Part.TheVariants.{Ended, Missing}
 use Rattle.key_lines.proofs.Splitting.{lines_of-ended, lines_of-last, lines_of-nil}
 
-no_lf-append : (xs ys : List ℕ) → HasNoLf xs → HasNoLf ys → HasNoLf (xs ++ ys)
-no_lf-append xs ys p q = All-append (λ byte. byte ≢ 10) xs ys p q
-
 -- a part more
 pub TakesPart-more : {a b c : Option (List ℕ)} {before after : List ℕ} (part : List ℕ) → TakesPart a b before → HasNoLf part → Consumes b c part
     → after ≡ before ++ part → TakesPart a c after
 TakesPart-more {a} {b} {c} {before} {after} part t inside taken is = record {
   stands_after = subst (Consumes a c) (sym is) (Consumes-trans a b c before part t.stands_after taken);
-  inside = subst HasNoLf (sym is) (no_lf-append before part t.inside inside);
+  inside = subst HasNoLf (sym is) (All-append (λ byte. byte ≢ 10) before part t.inside inside);
 }
 
 -- nothing more
@@ -48,7 +45,7 @@ pub ReadsLine-ended : {limit : ℕ} {a b c : Option (List ℕ)} {before after : 
 ReadsLine-ended {limit} {a} {b} {c} {before} {after} t m =
     let part = m.0 in
     let line_end : before ++ (part ++ 10 ∷ []) ≡ after ++ 10 ∷ [] = sym (append_assoc before part (10 ∷ [])) ∙ ap (λ l. l ++ 10 ∷ []) (sym m.3) in
-    let inside : HasNoLf after = subst HasNoLf (sym m.3) (no_lf-append before part t.inside m.1) in (
+    let inside : HasNoLf after = subst HasNoLf (sym m.3) (All-append (λ byte. byte ≢ 10) before part t.inside m.1) in (
       record {
         taken = after ++ 10 ∷ [];
         stands_after = subst (Consumes a c) line_end (Consumes-trans a b c before (part ++ 10 ∷ []) t.stands_after m.2);
@@ -63,18 +60,18 @@ pub length-nil : (l : List ℕ) → length l ≡ 0 → l ≡ []
 length-nil [] h = refl
 length-nil (x ∷ xs) h = absurd (omega (arith, h))
 
--- all that the reader had was taken before
-pub all_of-taken : (a b : Option (List ℕ)) (taken : List ℕ) → Consumes a b taken → IsAllOf [] b → IsAllOf taken a
-all_of-taken None b taken p end = tt
-all_of-taken (Some x) None taken p end = absurd p
-all_of-taken (Some x) (Some y) taken p end = p ∙ ap (λ l. taken ++ l) end ∙ append-nil taken
+-- all that the reader had left was taken, after what was taken before
+pub all_of-both : (a b : Option (List ℕ)) (xs ys : List ℕ) → Consumes a b xs → IsAllOf ys b → IsAllOf (xs ++ ys) a
+all_of-both None b xs ys p all = tt
+all_of-both (Some x) None xs ys p all = absurd p
+all_of-both (Some x) (Some y) xs ys p all = p ∙ ap (λ l. xs ++ l) all
 
 -- or with a last one
 pub ReadsLine-last : {limit : ℕ} {a b : Option (List ℕ)} (c : Option (List ℕ)) {before : List ℕ} (after : List ℕ) → length after ≢ 0 → TakesPart a b before
     → length before ≤ limit → MovesPart limit b c before after (Ok Missing) → ReadsLine limit a c after (Ok lines.Last)
 ReadsLine-last {limit} {a} {b} c {before} after some t fits m =
     let u = TakesPart-same t m.0 m.2 in
-    let all = subst (λ l. IsAllOf l a) (sym m.2) (all_of-taken a b before t.stands_after m.1) in
+    let all = subst (λ l. IsAllOf l a) (append-nil before ∙ sym m.2) (all_of-both a b before [] t.stands_after m.1) in
     at after some u all (subst (λ l. length l ≤ limit) (sym m.2) fits)
   where
     at : (line : List ℕ) → length line ≢ 0 → TakesPart a c line → IsAllOf line a → length line ≤ limit → ReadsLine limit a c line (Ok lines.Last)

@@ -1,5 +1,5 @@
 -- What a line denotes: one text of hex digits or of base64, with blanks only at the ends of the line.
-use Rattle.std.specs.Prelude.{◌≡◌, ℕ, ◌-◌, ◌==◌, ◌||◌, Bool, true, false, List, [], ◌∷◌, ◌++◌, length, take, drop, Result, Ok, Err}
+use Rattle.std.specs.Prelude.{◌≡◌, ◌≢◌, ℕ, ◌-◌, ◌==◌, ◌||◌, Bool, true, false, List, [], ◌∷◌, ◌++◌, length, take, drop, All, Result, Ok, Err}
 use Rattle.std.specs.List.{prefix_len, suffix_len}
 use Rattle.key_files.specs.Base64Text.{base64_line, base64_meaning, symbol_text_meaning}
 use Rattle.key_files.specs.Decoding.{fault_behind}
@@ -61,7 +61,7 @@ abbrev pub LinesAreFiles : TextNotation → Type 0
 LinesAreFiles notation = (line bytes : List ℕ) → IsBytes line → IsBytes bytes → blank_ended_meaning notation line ≡ Ok bytes
     → text_file_meaning notation line ≡ Ok bytes
 
--- A law: the line that is printed for bytes denotes them.
+-- A law: what is printed for bytes is one line, with one LF, at its end. The line denotes the bytes.
 abbrev pub PrintsBack : TextNotation → Type 0
-PrintsBack notation = (bytes : List ℕ) → IsBytes bytes
-    → (line : List ℕ) × (printed_line notation bytes ≡ line ++ 10 ∷ []) × (blank_ended_meaning notation line ≡ Ok bytes)
+PrintsBack notation = (bytes : List ℕ) → IsBytes bytes → (line : List ℕ)
+    × (printed_line notation bytes ≡ line ++ 10 ∷ []) × All (λ byte. byte ≢ 10) line × (blank_ended_meaning notation line ≡ Ok bytes)

@@ -1,5 +1,5 @@
 -- What the summary of a run says of its lines.
-use Rattle.std.specs.Prelude.{◌≡◌, ◌+◌, ◌<◌, ◌≤◌, List, [], ◌∷◌, length, Option, Some, None, Result, Ok, Err}
+use Rattle.std.specs.Prelude.{◌≡◌, ◌+◌, ◌≤◌, List, [], ◌∷◌, length, Option, Some, None, Result, Ok, Err}
 use Rattle.key_lines.specs.Answers.{Answer, mark_count, marks_of, refusals_of}
 use Rattle.key_lines.specs.declared.fault.LineFault.{LineFault}
 use Rattle.key_lines.specs.declared.summary.RunSummary.{RunSummary}
@@ -36,8 +36,13 @@ counted s (Err fault) = record {
   first_refused = first_or s.first_refused (record { line = s.lines + 1; fault = fault });
 }
 
--- one more line can be counted
+-- the summary with more lines
+abbrev pub counted_all : {R : Type 0} → RunSummary R → List (Result Answer (LineFault R)) → RunSummary R
+counted_all s [] = s
+counted_all s (result ∷ results) = counted_all (counted s result) results
+
+-- each line has a number, and no other count is larger
 pub record HasRoom {R : Type 0} (s : RunSummary R) : Type 0 where
-  pub lines : s.lines < 18446744073709551614
+  pub lines : s.lines ≤ 18446744073709551614
   pub marked : s.marked ≤ s.lines
   pub refused : s.refused ≤ s.lines

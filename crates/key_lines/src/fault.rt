@@ -3,12 +3,12 @@
 use key_files::FileFault;
 use std::fmt;
 
-/// Why a line has no answer.
+/// Why a line was refused.
 #[derive(Clone, Copy, Debug, PartialEq)]
 pub enum LineFault<R> {
-    /// The line denotes no bytes or cannot be read, or an allocation failed, of its answer too.
+    /// The line cannot be read or decoded, or an allocation failed, even for its answer.
     Input(FileFault),
-    /// The bytes of the line have no answer.
+    /// The bytes of the line were refused.
     Refused(R),
 }
 
@@ -21,21 +21,21 @@ pub struct RefusedLine<R> {
     pub fault: LineFault<R>,
 }
 
-/// Why a run did not answer each line, or not all of its answers were written.
-#[derive(Clone, Copy, Debug, PartialEq)]
+/// Why a run stopped, or not all of its answers were written.
+#[derive(Drop, PartialEq)]
 pub enum RunFault<R> {
-    /// The lines before this one were answered, and it was not.
+    /// The lines before this line were answered, and this line was not.
     AtLine {
         /// The line, counted from 1.
         line: u64,
         /// Why it was not answered.
         fault: LineFault<R>,
     },
-    /// The writer took the answers but for their last bytes.
+    /// The writer took all but the last bytes of the answers.
     Write {
-        /// How many lines were answered.
+        /// The number of lines that were answered.
         answered: u64,
-        /// How many bytes of their answers did not go out.
+        /// The number of bytes of their answers that were not written.
         unsent: usize,
     },
 }

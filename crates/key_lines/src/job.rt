@@ -1,12 +1,12 @@
-//! What is done with the bytes of a line.
+//! The job that a run makes for each line.
 
 ghost use Rattle.std.specs.Prelude.{ℕ, List, Result, IfOk};
 ghost use Rattle.key_lines.specs.Answers.{Answer, answered};
 
 use std::alloc::AllocError;
 
-/// What a job reports of an answer, beside its text.
-#[derive(Clone, Copy, Debug, PartialEq)]
+/// What a job reports about an answer, beside its text.
+#[derive(Clone, Copy)]
 pub enum Mark {
     /// Nothing.
     Unmarked,
@@ -16,15 +16,14 @@ pub enum Mark {
 
 /// What is done with the bytes of a line.
 pub trait LineJob {
-    /// Why the bytes have no answer.
+    /// Why the bytes were refused.
     type Refusal: Drop;
 
-    /// What is answered to the bytes of a line: a text to be written, with its mark, or a refusal.
+    /// The answers to the bytes of a line: a text with its mark, or a refusal.
     ghost answers: { Self → List ℕ → Result Answer Self.Refusal → Type 0 };
 
-    /// Replaces `output` with the answer to `bytes` and the LF that ends it. Returns its mark, or
-    /// why the bytes have no answer. The call may work in `bytes`: their content afterwards is not
-    /// specified.
+    /// Replaces `output` with the answer to `bytes` and an LF. Returns the mark of the answer, or
+    /// the refusal. The call may work in `bytes`: their content afterwards is not specified.
     fn answer(
         &self,
         bytes: &mut Vec<u8>,

@@ -1,8 +1,8 @@
 //! Many keys in one run: each line of the input is answered on the same line of the output.
 //!
-//! A line is one text of hex digits or of base64, with blanks only at its ends. A [`LineJob`]
-//! answers the bytes that it denotes. A [`LineRun`] reads the lines, writes the answers, and stops
-//! at the first line that is refused, or writes an empty line for it and goes on.
+//! A line is one text of hex digits or of base64, with blanks only at its ends. A [`LineJob`] makes
+//! the answer to its bytes. A [`LineRun`] reads the lines, writes the answers, and stops at the
+//! first refused line, or writes an empty line for it and continues.
 
 #![tactic(auto)]
 
@@ -18,7 +18,6 @@ mod text;
 
 pub use fault::{LineFault, RefusedLine, RunFault};
 pub use job::{LineJob, Mark};
-pub use line::{Line, read_line};
 pub use log::RefusalLog;
 pub use run::{LineRun, RunOptions};
 pub use source::LineSource;

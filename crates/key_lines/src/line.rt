@@ -1,4 +1,4 @@
-//! Lines that are read one after another.
+//! Reads lines one after another.
 
 ghost use Rattle.std.specs.Prelude.{◌≡◌, ◌≢◌, ◌<◌, ◌≤◌, length, take, slice_index, All, vec_len};
 ghost use Rattle.key_lines.specs.Reading.{MovesPart, ReadsLine};
@@ -8,7 +8,7 @@ use memchr::memchr;
 use std::alloc::Allocator;
 use std::io::BufRead;
 
-// What was met of a line.
+// How a part of a line ended.
 #[derive(Clone, Copy)]
 pub(crate) enum Part {
     // The reader has more, or has ended.
@@ -19,24 +19,24 @@ pub(crate) enum Part {
     Missing,
 }
 
-/// What follows at the place at which the next line is looked for.
-#[derive(Clone, Copy, Debug, PartialEq)]
-pub enum Line {
-    /// A line that an LF ends.
+// What follows where the next line would begin.
+#[derive(Clone, Copy, PartialEq)]
+pub(crate) enum Line {
+    // A line that an LF ends.
     Ended,
-    /// The last line, which no LF ends.
+    // The last line, which no LF ends.
     Last,
-    /// The end of the reader.
+    // The end of the reader.
     Missing,
 }
 
-/// Reads the next line into `line`, without its LF. After `Last` and `Missing` the reader is at its
-/// end, and need not be called again.
-///
-/// Takes at most `limit + 1` bytes of the line; TooLong if they have no LF. Read is for any error
-/// of a read, an interrupted one too, and Memory for a failed allocation, each as it is met; `line`
-/// then holds what was taken.
-pub fn read_line<R: BufRead, A: Allocator>(
+// Reads the next line into `line`, without its LF. After `Last` and `Missing` the reader is at its
+// end, and need not be called again.
+//
+// Takes at most `limit + 1` bytes of the line; TooLong if they have no LF. Returns Read for any
+// error of a read, even if it was only interrupted, and Memory for a failed allocation, when they
+// occur; `line` then holds the bytes that were taken.
+pub(crate) fn read_line<R: BufRead, A: Allocator>(
     reader: &mut R,
     line: &mut Vec<u8, A>,
     limit: usize,
@@ -57,7 +57,7 @@ pub fn read_line<R: BufRead, A: Allocator>(
     Err(FileFault::Read)
 }
 
-// Moves what the reader shows of the line, and at most one byte past the limit.
+// Moves the bytes of the line that the reader shows, at most one past the limit.
 fn move_part<R: BufRead, A: Allocator>(
     reader: &mut R,
     line: &mut Vec<u8, A>,
@@ -92,7 +92,7 @@ fn move_part<R: BufRead, A: Allocator>(
     Ok(Part::More)
 }
 
-// The number of bytes before the first LF, or of all.
+// Returns the number of bytes before the first LF, or of all bytes.
 fn before_lf(front: &[u8]) -> usize
     ensures bound { result ≤ length front.now }
     ensures lf { result < length front.now → slice_index front.now result ≡ 10 }

@@ -6,9 +6,9 @@ ghost use Rattle.key_lines.specs.declared.fault.RefusedLine.{RefusedLine};
 
 use crate::fault::RefusedLine;
 
-/// Receives the lines that a run skips, each as it is met.
+/// Receives each line that a run skips, at once.
 pub trait RefusalLog<F> {
-    /// The lines that it received, in order, if that is known.
+    /// The lines that it received, in order, if they are known.
     ghost received: { Self → Option (List (RefusedLine F)) } = { λ _. None };
 
     /// Receives a line.

@@ -1,6 +1,6 @@
-//! What a run over lines did.
+//! The summary of a run over lines.
 
-ghost use Rattle.std.specs.Prelude.{◌≡◌, ℕ, List};
+ghost use Rattle.std.specs.Prelude.{◌≡◌, ◌+◌, ◌<◌, ℕ, List};
 ghost use Rattle.key_lines.specs.Answers.{Logs, answered, refusal_of};
 ghost use Rattle.key_lines.specs.Summary.{HasRoom, counted};
 
@@ -8,29 +8,31 @@ use crate::fault::{LineFault, RefusedLine};
 use crate::job::Mark;
 use crate::log::RefusalLog;
 
-/// What a run did that reached the end of its input.
-#[derive(Clone, Copy, Debug, PartialEq)]
+/// The summary of a run that reached the end of its input.
+#[derive(Drop, PartialEq)]
 pub struct RunSummary<R> {
-    /// The number of lines. The output has as many.
+    /// The number of lines, of the input and of the output.
     pub lines: u64,
-    /// How many of their answers are marked.
+    /// The number of marked answers.
     pub marked: u64,
-    /// How many of them were refused. The output has an empty line for each.
+    /// The number of refused lines. The output has an empty line for each.
     pub refused: u64,
     /// The first refused line.
     pub first_refused: Option<RefusedLine<R>>,
 }
 
-// Adds a line, which was answered or refused, to the summary. The log receives a refused one.
+// Adds an answered or refused line to the summary. The log receives a refused line.
 pub(crate) fn add_line<R: Drop, L: RefusalLog<R>>(
     summary: &mut RunSummary<R>,
     log: &mut L,
     line: Result<Mark, LineFault<R>>,
 )
-    requires { HasRoom summary.old }
+    requires room { HasRoom summary.old }
+    requires number { summary.old.lines < 18446744073709551614 }
+    ensures room { HasRoom summary.new }
     ensures counts { (text : List ℕ) → summary.new ≡ counted summary.old (answered text line) }
     ensures logs { (text : List ℕ) → Logs (L.received log.old) (L.received log.new)
-        (refusal_of summary.new.lines (answered text line)) }
+        (refusal_of (summary.old.lines + 1) (answered text line)) }
 {
     summary.lines += 1;
     match line {

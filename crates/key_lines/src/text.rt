@@ -1,4 +1,4 @@
-//! The text of a line, between the blanks at its ends, and the bytes that it denotes.
+//! Decodes the text of a line, between the blanks at its ends.
 
 ghost use Rattle.std.specs.Prelude.{◌≡◌, ◌+◌, ◌≤◌, length, IfErr};
 ghost use Rattle.std.specs.List.{prefix_len, suffix_len};
@@ -7,22 +7,22 @@ ghost use Rattle.key_lines.specs.Meaning.{blank_ended_meaning, is_blank, text_me
 
 use key_files::{Base64Fault, FileFault, decode_digits_into, decode_symbols_into};
 
-/// How the text of a line denotes bytes.
+/// The notation of a line.
 #[derive(Clone, Copy)]
 pub enum TextNotation {
-    /// By two hex digits each.
+    /// Two hex digits for each byte.
     Hex,
-    /// By base64 (RFC 4648). Either alphabet is read, with padding or without it. The alphabet of
+    /// Base64 (RFC 4648). Either alphabet is read, with padding or without it. The alphabet of
     /// section 4 is written, with padding.
     Base64,
     /// The same, but the alphabet of section 5 is written, without padding.
     Base64Url,
 }
 
-/// Replaces `bytes` with the bytes that a line denotes.
+/// Replaces `bytes` with the decoded bytes of a line.
 ///
-/// Blanks are allowed only at its ends: one in the text is refused as no character of it. The place
-/// of a refused character is counted from the front of the line.
+/// Blanks are allowed only at its ends: a blank in the text is a wrong character. The offset of a
+/// refused character counts from the start of the line.
 pub(crate) fn decode_line(
     notation: TextNotation,
     line: &[u8],

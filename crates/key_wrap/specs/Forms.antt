@@ -1,5 +1,5 @@
--- The two forms side by side: which keys belong to which wrapped keys, and the legal lengths. Both ends agree on a form
--- and, in the plain form, on its initial value.
+-- The two forms: their relations of keys and wrapped keys, and their legal lengths. Both ends agree on a form and, in
+-- the plain form, on its initial value.
 use Rattle.std.specs.Prelude.{ℕ, List}
 use Rattle.key_wrap.specs.declared.forms.Form.{Form}
 use Rattle.key_wrap.specs.declared.forms.Form.TheVariants as forms

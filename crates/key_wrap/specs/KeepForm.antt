@@ -1,5 +1,4 @@
--- What a rewrapping answers that takes a wrapped key in whichever form it is a wrapping, and keeps that form: under E before,
--- under F after.
+-- The results of a rewrapping from E to F that accepts a wrapped key in either form, and keeps the form.
 use Rattle.std.specs.Prelude.{◌≡◌, ◌↔◌, ℕ, List, length, Result, Ok, Err, IfOk, IsOkUnless, Vec}
 use Rattle.key_wrap.specs.declared.faults.UnwrapFault.{UnwrapFault}
 use Rattle.key_wrap.specs.declared.faults.UnwrapFault.TheVariants.{BadLength, Integrity, Memory}
@@ -8,27 +7,27 @@ use Rattle.key_wrap.specs.Answer.{NoKey}
 use Rattle.key_wrap.specs.Forms.{StandsIn, IsTextLength, by_default}
 use Rattle.key_wrap.specs.Rewrap.{AreWrappings, NoOtherForm}
 
--- one key belongs to both in one form: to the wrapped key under E, and to the answer under F
+-- in one form, the wrapped key under E and the answer under F are wrappings of one key
 abbrev pub KeepsForm : (List ℕ → List ℕ) → (List ℕ → List ℕ) → List ℕ → List ℕ → Type 0
 KeepsForm E F text answer = (form : Form) × AreWrappings (by_default form) E (by_default form) F text answer
 
--- a length that is legal for a wrapped key in some form
+-- a legal length of a wrapped key in some form
 abbrev pub IsSomeTextLength : ℕ → Type 0
 IsSomeTextLength len = (form : Form) × IsTextLength form len
 
--- the wrapped key has a length that is legal in some form, and in neither form is it the wrapping of a key
+-- the length is legal in some form, but in neither form is this the wrapping of a key
 abbrev pub HasNoForm : (List ℕ → List ℕ) → List ℕ → Type 0
 HasNoForm E text = IsSomeTextLength (length text) × ((form : Form) → NoKey (StandsIn form E) text)
 
--- The answer, by cases: the wrapping of its key in its form; BadLength if the length is legal in neither form;
--- Integrity if no key belongs to it in either form; or that there is no memory.
+-- The result, by cases: the new wrapping of its key in its form; BadLength if the length is legal in neither form;
+-- Integrity if it is not a wrapping in either form; or Memory.
 abbrev pub KeptAnswer : {Z : Type 0} → (List ℕ → List ℕ) → (List ℕ → List ℕ) → List ℕ → Result (Vec ℕ Z) UnwrapFault → Type 0
 KeptAnswer E F text (Ok answer) = KeepsForm E F text answer.items
 KeptAnswer E F text (Err BadLength) = ¬ IsSomeTextLength (length text)
 KeptAnswer E F text (Err Integrity) = HasNoForm E text
 KeptAnswer E F text (Err Memory) = IsSomeTextLength (length text)
 
--- what is promised of the answer of the call that takes memory
+-- the promise about the result of the call that allocates memory
 pub record FormKept {Z : Type 0} (E F : List ℕ → List ℕ) (text : List ℕ) (answer : Result (Vec ℕ Z) UnwrapFault) : Type 0 where
   pub bad_length : (answer ≡ Err BadLength) ↔ ¬ IsSomeTextLength (length text)
   pub rewraps : KeptAnswer E F text answer

@@ -6,8 +6,8 @@ use Rattle.key_wrap.specs.Plain.{Plain, default_iv}
 use Rattle.key_wrap.specs.Padded.{Padded}
 use Rattle.key_wrap.specs.Answer.{NoKey, NoPlainKey}
 
--- some key of that many bytes belongs to it in that form, the plain form under the initial value `iv`, or no key
--- belongs to it in either form
+-- it is the wrapping of a key of that length in that form, in the plain form with the initial value `iv`; or it is not
+-- a wrapping in either form
 abbrev pub IsKindWith : ℕ → (List ℕ → List ℕ) → List ℕ → Kind → Type 0
 IsKindWith iv E text (InPlain m) = (key : List ℕ) × (length key ≡ m) × Plain E iv key text
 IsKindWith iv E text (InPadded m) = (key : List ℕ) × (length key ≡ m) × Padded E key text
@@ -17,13 +17,13 @@ IsKindWith iv E text Neither = NoKey (Plain E iv) text × NoKey (Padded E) text
 abbrev pub IsKindOf : (List ℕ → List ℕ) → List ℕ → Kind → Type 0
 IsKindOf E text kind = IsKindWith default_iv E text kind
 
--- no key belongs to it in the form that the kind does not name, whatever the initial value
+-- it is not a wrapping in the form that the kind does not name, under any initial value
 abbrev pub NoOtherKey : (List ℕ → List ℕ) → List ℕ → Kind → Type 0
 NoOtherKey E text (InPlain m) = NoKey (Padded E) text
 NoOtherKey E text (InPadded m) = NoPlainKey E text
 NoOtherKey E text Neither = NoKey (Padded E) text
 
--- what is promised of the kind of a wrapped key
+-- the promise about the kind of a wrapped key
 pub record IsTheKind (iv : ℕ) (E : List ℕ → List ℕ) (text : List ℕ) (kind : Kind) : Type 0 where
   pub is : IsKindWith iv E text kind
   pub plain : (key : List ℕ) → Plain E iv key text → kind ≡ InPlain (length key)

@@ -17,8 +17,8 @@ word_count m = (m + 7) / 8
 abbrev pub padded : List ℕ → List ℕ
 padded key = key ++ replicate (8 * word_count (length key) - length key) 0
 
--- What the words P are wrapped to under an initial value (section 4.1): for one word the one block of both, with no
--- steps and no counter, and for more words the wrapping of RFC 3394.
+-- The result C of wrapping the words P under an initial value (section 4.1). One word is encrypted with the initial
+-- value in one block, without steps and counter. More words are wrapped as in RFC 3394.
 abbrev pub PaddedText : (List ℕ → List ℕ) → ℕ → List ℕ → List ℕ → Type 0
 PaddedText E iv (p ∷ []) text = E (joined iv p) ≡ text
 PaddedText E iv P text = (C : List ℕ) × (spelled C ≡ text) × Wraps E iv P C

@@ -8,12 +8,12 @@ use Rattle.key_wrap.specs.Lengths.{IsPlainKeyLength}
 abbrev pub default_iv : ℕ
 default_iv = 0xA6A6_A6A6_A6A6_A6A6
 
--- the first four bytes are A65959A6, the first of the alternative initial value (RFC 5649, section 3): such values
--- are left to the padded form, so that no wrapped key is one in both forms
+-- the first four bytes are A65959A6, as in the alternative initial value (RFC 5649, section 3). Such values are
+-- reserved for the padded form, so that no wrapped key has both forms.
 abbrev pub IsReserved : ℕ → Type 0
 IsReserved iv = iv / 2 ^ 32 ≡ 0xA659_59A6
 
--- the wrapped key is the plain wrapping of the key under this initial value: a wrapping with it relates their words
+-- the wrapped key is the plain wrapping of the key under this initial value: `Wraps` relates their words
 pub record Plain (E : List ℕ → List ℕ) (iv : ℕ) (key text : List ℕ) : Type 0 where
   pub legal : IsPlainKeyLength (length key)
   pub P : List ℕ

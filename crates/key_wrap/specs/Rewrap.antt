@@ -1,5 +1,5 @@
--- What a rewrapping answers: a wrapped key that is one in the old form under E is taken to the wrapping of the same key
--- in the new form under F.
+-- The results of a rewrapping, from a wrapped key in the old form under E to the wrapping of the same key in the new
+-- form under F.
 use Rattle.std.specs.Prelude.{◌≡◌, ◌↔◌, ◌⊎◌, ℕ, List, length, Result, Ok, Err, IfOk, IsOkUnless, Vec}
 use Rattle.key_wrap.specs.declared.faults.UnwrapFault.{UnwrapFault}
 use Rattle.key_wrap.specs.declared.faults.UnwrapFault.TheVariants.{BadLength, Integrity, Memory}
@@ -9,24 +9,24 @@ use Rattle.key_wrap.specs.Answer.{NoKey, NoPlainKey}
 use Rattle.key_wrap.specs.Padded.{Padded}
 use Rattle.key_wrap.specs.Forms.{StandsAs, IsKeyLengthAs, IsTextLengthAs}
 
--- one key belongs to both: to the first in the old form under E, and to the answer in the new form under F
+-- the wrapped key, in the old form under E, and the answer, in the new form under F, are wrappings of one key
 abbrev pub AreWrappings : AgreedForm → (List ℕ → List ℕ) → AgreedForm → (List ℕ → List ℕ) → List ℕ → List ℕ → Type 0
 AreWrappings old E new F text answer = (key : List ℕ) × StandsAs old E key text × StandsAs new F key answer
 
--- it is the old wrapping of a key that has no legal length in the new form
+-- it is the old wrapping of a key whose length is not legal in the new form
 abbrev pub HasBadKey : AgreedForm → (List ℕ → List ℕ) → AgreedForm → List ℕ → Type 0
 HasBadKey old E new text = (key : List ℕ) × StandsAs old E key text × ¬ IsKeyLengthAs new (length key)
 
--- a length is refused: the wrapped key's in the old form, or the key's in the new one
+-- the length of the wrapped key is not legal in the old form, or the length of its key is not legal in the new form
 abbrev pub HasBadLength : AgreedForm → (List ℕ → List ℕ) → AgreedForm → List ℕ → Type 0
 HasBadLength old E new text = ¬ IsTextLengthAs old (length text) ⊎ HasBadKey old E new text
 
--- it has a legal length in the old form, and is the wrapping of no key
+-- its length is legal in the old form, but it is not the wrapping of a key
 abbrev pub HasNoWrapping : AgreedForm → (List ℕ → List ℕ) → List ℕ → Type 0
 HasNoWrapping old E text = IsTextLengthAs old (length text) × NoKey (StandsAs old E) text
 
--- The answer of a rewrap, by cases: the new wrapping of its key; BadLength if a length is refused; Integrity if no
--- key belongs to it; or that there is no memory.
+-- The result of a rewrap, by cases: the new wrapping of its key; BadLength if a length is not legal; Integrity if it is
+-- not an old wrapping; or Memory.
 abbrev pub RewrapAnswer : {Z : Type 0} → AgreedForm → (List ℕ → List ℕ) → AgreedForm → (List ℕ → List ℕ) → List ℕ
     → Result (Vec ℕ Z) UnwrapFault → Type 0
 RewrapAnswer old E new F text (Ok answer) = AreWrappings old E new F text answer.items
@@ -34,12 +34,12 @@ RewrapAnswer old E new F text (Err BadLength) = HasBadLength old E new text
 RewrapAnswer old E new F text (Err Integrity) = HasNoWrapping old E text
 RewrapAnswer old E new F text (Err Memory) = IsTextLengthAs old (length text)
 
--- no key belongs to it in the form that is not this one, whatever the initial value
+-- it is not a wrapping in the other form, under any initial value
 abbrev pub NoOtherForm : AgreedForm → (List ℕ → List ℕ) → List ℕ → Type 0
 NoOtherForm (forms.Plain iv) E text = NoKey (Padded E) text
 NoOtherForm forms.Padded E text = NoPlainKey E text
 
--- what is promised of the answer of a rewrapping that takes memory
+-- the promise about the result of a rewrapping that allocates memory
 pub record Rewrapped {Z : Type 0} (old : AgreedForm) (E : List ℕ → List ℕ) (new : AgreedForm) (F : List ℕ → List ℕ) (text : List ℕ)
     (answer : Result (Vec ℕ Z) UnwrapFault) : Type 0 where
   pub rewraps : RewrapAnswer old E new F text answer

@@ -18,10 +18,10 @@ use crate::unwrapping::{unwrap_padded_registers, unwrap_registers};
 use block_pair::{BlockPair, Meter};
 use byteorder::{BigEndian, ByteOrder};
 
-/// The key after the first 8 bytes of the buffer, which are ignored, becomes its plain wrapping,
-/// the whole buffer (RFC 3394, section 2.2.1).
+/// Wraps the key at offset 8 in place (RFC 3394, section 2.2.1). Afterwards the whole buffer is the
+/// plain wrapping. The first 8 bytes are ignored.
 ///
-/// `BadLength`, with the buffer and the meter as they were, where `text_length_ok` says no to the
+/// `BadLength`, with the buffer and the meter unchanged, if `text_length_ok` is false for the
 /// buffer's length.
 pub fn wrap_in_place<B: BlockPair>(meter: &mut Meter<B>, buf: &mut [u8]) -> Result<(), InPlaceFault>
     ensures bad_length { (result ≡ Err InPlaceFault.BadLength)
@@ -116,11 +116,11 @@ pub(crate) fn unwrap_buffer<B: BlockPair>(
     unwrap_registers(meter, iv, c0, &mut buf[WORD..])
 }
 
-/// The key of `m` bytes after the first 8 bytes of the buffer, which are ignored as what follows it
-/// is, becomes its padded wrapping, the whole buffer (RFC 5649, section 4.1).
+/// Wraps the `m`-byte key at offset 8 in place (RFC 5649, section 4.1). Afterwards the whole buffer
+/// is the padded wrapping. Other bytes of the buffer are ignored.
 ///
-/// `BadLength`, with the buffer and the meter as they were, where `padded_length_ok` says no to
-/// `m`, or the buffer is not 8 bytes longer than `m` rounded up to a multiple of 8.
+/// `BadLength`, with the buffer and the meter unchanged, if `padded_length_ok` is false for `m`, or
+/// if the buffer is not 8 bytes longer than `m` rounded up to a multiple of 8.
 pub fn wrap_padded_in_place<B: BlockPair>(
     meter: &mut Meter<B>,
     buf: &mut [u8],

@@ -19,10 +19,10 @@ use crate::unwrapping::unwrap_padded_registers;
 use block_pair::{BlockPair, Meter};
 use byteorder::{BigEndian, ByteOrder};
 
-/// The plain wrapping of `key`, into `text` (RFC 3394, section 2.2.1).
+/// Writes the plain wrapping of `key` into `text` (RFC 3394, section 2.2.1).
 ///
-/// `BadLength`, with `text` and the meter as they were, where `key_length_ok` says no to the
-/// key's length, or `text` is not 8 bytes longer than the key.
+/// `BadLength`, with `text` and the meter unchanged, if `key_length_ok` is false for the key's
+/// length, or if `text` is not 8 bytes longer than the key.
 pub fn wrap_into<B: BlockPair>(
     meter: &mut Meter<B>,
     key: &[u8],
@@ -43,12 +43,12 @@ pub fn wrap_into<B: BlockPair>(
     wrap_into_with(meter, &InitialValue::default(), key, text)
 }
 
-/// The key whose plain wrapping is `text`, into `key` (RFC 3394, section 2.2.2).
+/// Writes the key whose plain wrapping is `text` into `key` (RFC 3394, section 2.2.2).
 ///
-/// `BadLength`, with the key's buffer and the meter as they were, where `text_length_ok` says no to
-/// `text`'s length, or the key's buffer is not 8 bytes shorter; `Integrity` where `text` is the
-/// plain wrapping of no key, and then every byte of the key's buffer is zero. The meter counts as
-/// many calls then as for a key.
+/// `BadLength`, with the key's buffer and the meter unchanged, if `text_length_ok` is false for
+/// `text`'s length, or if the key's buffer is not 8 bytes shorter. `Integrity` if `text` is the
+/// plain wrapping of no key; then every byte of the key's buffer becomes zero, and the meter counts
+/// as many calls as for a key.
 pub fn unwrap_into<B: BlockPair>(
     meter: &mut Meter<B>,
     text: &[u8],
@@ -82,10 +82,10 @@ pub fn unwrap_into<B: BlockPair>(
     unwrap_into_with(meter, &InitialValue::default(), text, key)
 }
 
-/// The padded wrapping of `key`, into `text` (RFC 5649, section 4.1).
+/// Writes the padded wrapping of `key` into `text` (RFC 5649, section 4.1).
 ///
-/// `BadLength`, with `text` and the meter as they were, where `padded_length_ok` says no to the
-/// key's length, or `text` is not 8 bytes longer than that rounded up to a multiple of 8.
+/// `BadLength`, with `text` and the meter unchanged, if `padded_length_ok` is false for the key's
+/// length, or if `text` is not 8 bytes longer than this length rounded up to a multiple of 8.
 pub fn wrap_padded_into<B: BlockPair>(
     meter: &mut Meter<B>,
     key: &[u8],
@@ -110,13 +110,13 @@ pub fn wrap_padded_into<B: BlockPair>(
     wrap_padded_in_place(meter, text, m)
 }
 
-/// The key whose padded wrapping is `text`, into `key` (RFC 5649, section 4.2): of as many bytes as
-/// the answer says, and zero bytes to the end of the buffer.
+/// Writes the key whose padded wrapping is `text` into `key`, and zero bytes to the end of the
+/// buffer (RFC 5649, section 4.2). Returns the length of the key.
 ///
-/// `BadLength`, with the key's buffer and the meter as they were, where `padded_text_length_ok`
-/// says no to `text`'s length, or the key's buffer is not 8 bytes shorter; `Integrity` where `text`
-/// is the padded wrapping of no key, and then every byte of the key's buffer is zero. The meter
-/// counts as many calls then as for a key.
+/// `BadLength`, with the key's buffer and the meter unchanged, if `padded_text_length_ok` is false
+/// for `text`'s length, or if the key's buffer is not 8 bytes shorter. `Integrity` if `text` is the
+/// padded wrapping of no key; then every byte of the key's buffer becomes zero, and the meter
+/// counts as many calls as for a key.
 pub fn unwrap_padded_into<B: BlockPair>(
     meter: &mut Meter<B>,
     text: &[u8],

@@ -18,11 +18,11 @@ use crate::unwrapping::unwrap_registers;
 use block_pair::{BlockPair, Meter};
 use byteorder::{BigEndian, ByteOrder};
 
-/// The plain wrapping of `key` under this initial value, into `text` (RFC 3394, sections 2.2.1 and
-/// 2.2.3.2).
+/// Writes the plain wrapping of `key` under this initial value into `text` (RFC 3394, sections
+/// 2.2.1 and 2.2.3.2).
 ///
-/// `BadLength`, with `text` and the meter as they were, where `key_length_ok` says no to the
-/// key's length, or `text` is not 8 bytes longer than the key.
+/// `BadLength`, with `text` and the meter unchanged, if `key_length_ok` is false for the key's
+/// length, or if `text` is not 8 bytes longer than the key.
 pub fn wrap_into_with<B: BlockPair>(
     meter: &mut Meter<B>,
     iv: &InitialValue,
@@ -49,13 +49,13 @@ pub fn wrap_into_with<B: BlockPair>(
     Ok(())
 }
 
-/// The key whose plain wrapping under this initial value is `text`, into `key` (RFC 3394, sections
-/// 2.2.2 and 2.2.3.2).
+/// Writes the key whose plain wrapping under this initial value is `text` into `key` (RFC 3394,
+/// sections 2.2.2 and 2.2.3.2).
 ///
-/// `BadLength`, with the key's buffer and the meter as they were, where `text_length_ok` says no to
-/// `text`'s length, or the key's buffer is not 8 bytes shorter; `Integrity` where `text` is the
-/// plain wrapping of no key under this initial value, and then every byte of the key's buffer is
-/// zero. The meter counts as many calls then as for a key.
+/// `BadLength`, with the key's buffer and the meter unchanged, if `text_length_ok` is false for
+/// `text`'s length, or if the key's buffer is not 8 bytes shorter. `Integrity` if `text` is the
+/// plain wrapping of no key under this initial value; then every byte of the key's buffer becomes
+/// zero, and the meter counts as many calls as for a key.
 pub fn unwrap_into_with<B: BlockPair>(
     meter: &mut Meter<B>,
     iv: &InitialValue,

@@ -12,12 +12,12 @@ use crate::lengths::padded_text_length_ok;
 use block_pair::{BlockPair, Meter};
 use std::alloc::{Allocator, Global};
 
-/// The wrapping under the new pair of the one key whose wrapping under the old pair is `text`, in
-/// the form in which `text` is its wrapping: as many bytes as `text`. No wrapped key is one in
-/// both forms, so there is one answer.
+/// Returns the wrapping under the new pair of the one key whose wrapping under the old pair is
+/// `text`, in the form of `text` and with as many bytes. No wrapped key has both forms, so there is
+/// one answer.
 ///
-/// `BadLength` where `text`'s length is legal in neither form, before any memory is taken; then
-/// `Memory`, before the first block call; `Integrity` where `text` is a wrapping in neither form.
+/// `BadLength` if `text`'s length is legal in neither form, before any memory is taken. Then
+/// `Memory`, before the first block call. `Integrity` if `text` is a wrapping in neither form.
 pub fn rewrap_keeping_form<O: BlockPair, N: BlockPair>(
     alloc: Global,
     old: &O,

@@ -18,10 +18,10 @@ use block_pair::{BlockPair, Meter};
 use byteorder::{BigEndian, ByteOrder};
 use std::alloc::{Allocator, Global};
 
-/// What `text` is under the pair: the wrapping of a key in one of the two forms, or in neither.
+/// Returns the form in which `text` is the wrapping of a key under the pair, or `Neither`.
 ///
-/// No wrapped key is one in both forms. `Memory` comes only where `text`'s length is legal in
-/// some form, and before the first block call.
+/// No wrapped key has both forms. `Memory` is only possible if `text`'s length is legal in some
+/// form, and before the first block call.
 pub fn kind<B: BlockPair>(alloc: Global, pair: &B, text: &[u8]) -> Result<Kind, KindFault>
     ensures answer { IfOk result (IsKindOf (B.encrypted pair.now) text.now) }
     ensures plain { (key : List ℕ) → Plain (B.encrypted pair.now) default_iv key text.now
@@ -59,12 +59,12 @@ pub(crate) fn kind_on<A: Allocator, B: BlockPair>(
     Ok(kind_of_registers(&mut meter, iv.word(), c0, &mut registers))
 }
 
-/// What `text` is under the meter's pair, as `kind` says it. It takes no memory: the scratch buffer
-/// must be 8 bytes shorter than `text`, and is left all zero. Where `text` has no legal length
-/// in either form the answer is `Neither`, whatever the scratch buffer, which stays as it was.
+/// Does what `kind` does, under the meter's pair, without memory. The scratch buffer must be 8
+/// bytes shorter than `text`, and becomes zeros. If the length of `text` is legal in neither form,
+/// the result is `Neither`, and the scratch buffer may have any length and is unchanged.
 ///
-/// Refused exactly where `text` has a legal length and the scratch buffer has another than that;
-/// the buffer and the meter stay as they were.
+/// Refused exactly if the length of `text` is legal and the scratch buffer has the wrong length.
+/// Then the buffer and the meter are unchanged.
 pub fn kind_into<B: BlockPair>(
     meter: &mut Meter<B>,
     text: &[u8],
@@ -95,7 +95,8 @@ pub fn kind_into<B: BlockPair>(
     kind_into_with(meter, &InitialValue::default(), text, scratch)
 }
 
-/// `kind_into`, but the plain form has this initial value (RFC 3394, section 2.2.3.2).
+/// Does what `kind_into` does, with this initial value of the plain form (RFC 3394, section
+/// 2.2.3.2).
 pub fn kind_into_with<B: BlockPair>(
     meter: &mut Meter<B>,
     iv: &InitialValue,

@@ -50,10 +50,10 @@ pub(crate) fn wrap_padded_on<A: Allocator, B: BlockPair>(
     Ok(text)
 }
 
-/// The key whose padded wrapping is `text` (RFC 5649, section 4.2).
+/// Returns the key whose padded wrapping is `text` (RFC 5649, section 4.2).
 ///
-/// `BadLength` where `padded_text_length_ok` says no, before any memory is taken; then `Memory`;
-/// `Integrity` where `text` is the padded wrapping of no key.
+/// `BadLength` if `padded_text_length_ok` is false, before any memory is taken. Then `Memory`.
+/// `Integrity` if `text` is the padded wrapping of no key.
 pub fn unwrap_padded<B: BlockPair>(
     alloc: Global,
     pair: &B,

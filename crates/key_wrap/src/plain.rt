@@ -73,10 +73,11 @@ pub(crate) fn wrap_on<A: Allocator, B: BlockPair>(
     Ok(text)
 }
 
-/// The key whose plain wrapping is `text` (RFC 3394, section 2.2.2): 8 bytes less than `text`.
+/// Returns the key whose plain wrapping is `text` (RFC 3394, section 2.2.2): 8 bytes less than
+/// `text`.
 ///
-/// `BadLength` where `text_length_ok` says no, before any memory is taken; then `Memory`;
-/// `Integrity` where `text` is the plain wrapping of no key.
+/// `BadLength` if `text_length_ok` is false, before any memory is taken. Then `Memory`. `Integrity`
+/// if `text` is the plain wrapping of no key.
 pub fn unwrap<B: BlockPair>(alloc: Global, pair: &B, text: &[u8]) -> Result<Vec<u8>, UnwrapFault>
     ensures bad_length { (result ≡ Err UnwrapFault.BadLength)
         ↔ ¬ IsPlainTextLength (length text.now) }
@@ -101,11 +102,11 @@ pub fn unwrap<B: BlockPair>(alloc: Global, pair: &B, text: &[u8]) -> Result<Vec<
     unwrap_on(alloc, pair, &InitialValue::default(), text)
 }
 
-/// The key whose plain wrapping under this initial value is `text` (RFC 3394, sections 2.2.2 and
-/// 2.2.3.2): 8 bytes less than `text`.
+/// Returns the key whose plain wrapping under this initial value is `text` (RFC 3394, sections
+/// 2.2.2 and 2.2.3.2): 8 bytes less than `text`.
 ///
-/// `BadLength` where `text_length_ok` says no, before any memory is taken; then `Memory`;
-/// `Integrity` where `text` is the plain wrapping of no key under this initial value.
+/// `BadLength` if `text_length_ok` is false, before any memory is taken. Then `Memory`. `Integrity`
+/// if `text` is the plain wrapping of no key under this initial value.
 pub fn unwrap_with<B: BlockPair>(
     alloc: Global,
     pair: &B,

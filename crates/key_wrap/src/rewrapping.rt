@@ -14,13 +14,13 @@ use crate::rewrapping_in_place::rewrap_in_place_with;
 use block_pair::{BlockPair, Meter};
 use std::alloc::{Allocator, Global};
 
-/// The wrapping, in the new form under the new pair, of the one key whose wrapping in the old form
-/// under the old pair is `text`: as many bytes as `text`. That is unwrapped in the buffer of
-/// the answer, and wrapped there again.
+/// Returns the wrapping, in the new form under the new pair, of the one key whose wrapping in the
+/// old form under the old pair is `text`. It has as many bytes as `text`, which is unwrapped and
+/// wrapped again in one buffer.
 ///
-/// `BadLength` where `text` has no legal length in the old form, before any memory is taken; then
-/// `Memory`, before the first block call; `Integrity` where `text` is no old wrapping;
-/// `BadLength` where its key has no legal length in the new form (only from padded to plain).
+/// `BadLength` if the length of `text` is not legal in the old form, before any memory is taken.
+/// Then `Memory`, before the first block call. `Integrity` if `text` is not an old wrapping.
+/// `BadLength` if the length of its key is not legal in the new form (only from padded to plain).
 pub fn rewrap<O: BlockPair, N: BlockPair>(
     alloc: Global,
     old: &O,

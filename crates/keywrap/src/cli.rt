@@ -1,8 +1,8 @@
 //! Reads the arguments into a `Command`.
 
-use crate::command::{Command, LineOptions, Run};
-use key_wrap::{AgreedForm, Form, InitialValue};
-use keywrap_args::{Args, Subcommand, names, parse};
+use crate::command::{Command, LineOptions, Run, agreed_form};
+use key_wrap::{Form, InitialValue};
+use keywrap_args::{Args, Subcommand, parse};
 use keywrap_cli::{
     Direction, IvFault, Job, Notation, Operation, ProgramFault, RewrapForms, Rewrapping, Task,
     parse_iv,
@@ -35,8 +35,7 @@ impl From<ProgramFault> for Stop {
 /// The first of these stops is returned: the help, the version or arguments that clap refuses, `-`
 /// as a KEK file, `--iv`, `--new-iv`.
 pub fn read_command<'a>(alloc: Global, args: &'a [String]) -> Result<Command<'a>, Stop> {
-    let args = parse(alloc, args)?;
-    command(&args)
+    command(&parse(alloc, args)?)
 }
 
 fn command<'a>(args: &Args<'a>) -> Result<Command<'a>, Stop> {
@@ -50,20 +49,20 @@ fn command<'a>(args: &Args<'a>) -> Result<Command<'a>, Stop> {
     };
     Ok(Command::Run(Run {
         operation,
-        input: args.file(names::INPUT),
-        output: args.file(names::OUTPUT),
+        input: args.file("input"),
+        output: args.file("output"),
         lines: lines(args),
-        verbose: args.has(names::VERBOSE),
+        verbose: args.has("verbose"),
     }))
 }
 
-// A check tries both forms, whatever its task says.
+// A check tries both forms and ignores this one.
 fn job<'a>(job: Job, args: &Args<'a>) -> Result<Operation<&'a str>, Stop> {
-    let kek = args.kek_file(names::KEK)?;
-    let iv = initial_value(args, names::IV).map_err(ProgramFault::Iv)?;
+    let kek = args.kek_file("kek")?;
+    let iv = initial_value(args, "iv").map_err(ProgramFault::Iv)?;
     let task = Task {
         job,
-        form: form(args, names::PADDED),
+        form: form(args, "padded"),
         input: notation(args),
         kek: kek_notation(args),
     };
@@ -71,11 +70,11 @@ fn job<'a>(job: Job, args: &Args<'a>) -> Result<Operation<&'a str>, Stop> {
 }
 
 fn rewrap<'a>(args: &Args<'a>) -> Result<Operation<&'a str>, Stop> {
-    let kek = args.kek_file(names::KEK)?;
-    let new_kek = args.kek_file(names::NEW_KEK)?;
+    let kek = args.kek_file("kek")?;
+    let new_kek = args.kek_file("new-kek")?;
     let task = Rewrapping {
         forms: rewrap_forms(args)?,
-        pass_new: args.has(names::PASS_NEW),
+        pass_new: args.has("pass-new"),
         input: notation(args),
         kek: kek_notation(args),
     };
@@ -84,35 +83,27 @@ fn rewrap<'a>(args: &Args<'a>) -> Result<Operation<&'a str>, Stop> {
 
 // Clap refuses `--keep-form` with the arguments for one of the forms.
 fn rewrap_forms(args: &Args<'_>) -> Result<RewrapForms, Stop> {
-    if args.has(names::KEEP_FORM) {
+    if args.has("keep-form") {
         return Ok(RewrapForms::Kept);
     }
-    let iv = initial_value(args, names::IV).map_err(ProgramFault::Iv)?;
-    let new_iv = initial_value(args, names::NEW_IV).map_err(ProgramFault::NewIv)?;
+    let iv = initial_value(args, "iv").map_err(ProgramFault::Iv)?;
+    let new_iv = initial_value(args, "new-iv").map_err(ProgramFault::NewIv)?;
     Ok(RewrapForms::Changed {
-        old: agreed_form(args, names::PADDED, iv),
-        new: agreed_form(args, names::NEW_PADDED, new_iv),
+        old: agreed_form(form(args, "padded"), iv),
+        new: agreed_form(form(args, "new-padded"), new_iv),
     })
 }
 
-fn agreed_form(args: &Args<'_>, padded: &str, iv: InitialValue) -> AgreedForm {
-    if args.has(padded) {
-        AgreedForm::Padded
-    } else {
-        AgreedForm::Plain(iv)
-    }
-}
-
 fn drill<'a>(args: &Args<'a>) -> Result<Command<'a>, Stop> {
-    let direction = if args.has(names::UNWRAP) {
+    let direction = if args.has("unwrap") {
         Direction::Unwrap
     } else {
         Direction::Wrap
     };
     Ok(Command::Drill {
-        form: form(args, names::PADDED),
+        form: form(args, "padded"),
         direction,
-        hex: args.required(names::HEX)?,
+        hex: args.required("hex")?,
     })
 }
 
@@ -126,11 +117,11 @@ fn form(args: &Args<'_>, padded: &str) -> Form {
 
 // Clap refuses two of these flags.
 fn notation(args: &Args<'_>) -> Notation {
-    if args.has(names::RAW) {
+    if args.has("raw") {
         Notation::Raw
-    } else if args.has(names::BASE64) {
+    } else if args.has("base64") {
         Notation::Base64
-    } else if args.has(names::BASE64URL) {
+    } else if args.has("base64url") {
         Notation::Base64Url
     } else {
         Notation::Hex
@@ -139,9 +130,9 @@ fn notation(args: &Args<'_>) -> Notation {
 
 // Clap refuses both flags together. A KEK is only read, and either alphabet of base64 is read.
 fn kek_notation(args: &Args<'_>) -> Notation {
-    if args.has(names::RAW_KEK) {
+    if args.has("raw-kek") {
         Notation::Raw
-    } else if args.has(names::BASE64_KEK) {
+    } else if args.has("base64-kek") {
         Notation::Base64
     } else {
         Notation::Hex
@@ -150,12 +141,9 @@ fn kek_notation(args: &Args<'_>) -> Notation {
 
 // Clap refuses the other two flags without `--lines`.
 fn lines(args: &Args<'_>) -> Option<LineOptions> {
-    if !args.has(names::LINES) {
-        return None;
-    }
-    Some(LineOptions {
-        keep_going: args.has(names::KEEP_GOING),
-        quiet: args.has(names::QUIET),
+    args.has("lines").then_some(LineOptions {
+        keep_going: args.has("keep-going"),
+        quiet: args.has("quiet"),
     })
 }
 

@@ -1,6 +1,6 @@
 //! What a command line asks for.
 
-use key_wrap::Form;
+use key_wrap::{AgreedForm, Form, InitialValue};
 use keywrap_cli::{Direction, Operation};
 use keywrap_io::FileRole;
 
@@ -52,5 +52,13 @@ impl<'a> Run<'a> {
             FileRole::Input => self.input,
             FileRole::Output => self.output,
         }
+    }
+}
+
+/// Returns the form with its initial value.
+pub fn agreed_form(form: Form, iv: InitialValue) -> AgreedForm {
+    match form {
+        Form::Plain => AgreedForm::Plain(iv),
+        Form::Padded => AgreedForm::Padded,
     }
 }

@@ -1,13 +1,14 @@
 //! Why a run was refused: the fault, the file that caused it, and the reason.
 
-use crate::command::Run;
+use crate::command::{Run, agreed_form};
 use key_files::{FileFault, MAX_FILE};
 use key_lines::LineFault;
-use key_wrap::{AgreedForm, Form, InPlaceFault, MAX_KEY, padded_text_length_ok};
+use key_wrap::AgreedForm::{self, Padded, Plain};
+use key_wrap::{InPlaceFault, InitialValue, MAX_KEY, padded_text_length_ok};
 use keywrap_args::Escaped;
-use keywrap_cli::{JobFault, Notation, Operation, ProgramFault, RewrapForms};
-use keywrap_io::{FileRole, Inspection, OutputFault, Reason};
-use std::{fmt, io};
+use keywrap_cli::{Job, JobFault, Notation, Operation, ProgramFault, RewrapForms};
+use keywrap_io::{FileRole, Inspected, Inspection, OutputFault, Reason};
+use std::fmt;
 
 /// A refused run.
 #[derive(Drop)]
@@ -21,15 +22,6 @@ pub struct Refusal {
 /// The file that caused a fault, and the reason.
 pub type Cause = (FileRole, Reason);
 
-/// What was read from the files of a run and written to its output.
-#[derive(Clone, Copy)]
-pub struct Inspections {
-    pub kek: Inspection,
-    pub new_kek: Option<Inspection>,
-    pub input: Inspection,
-    pub output: Inspection,
-}
-
 impl From<ProgramFault> for Refusal {
     fn from(fault: ProgramFault) -> Refusal {
         Refusal { fault, cause: None }
@@ -42,38 +34,32 @@ impl From<OutputFault> for Refusal {
             OutputFault::Open(reason) => {
                 Refusal::new(ProgramFault::OutputOpen, FileRole::Output, reason)
             }
-            OutputFault::Flush(reason) => {
-                Refusal::new(ProgramFault::Flush, FileRole::Output, reason)
-            }
             OutputFault::Memory => Refusal::from(ProgramFault::Memory),
         }
     }
 }
 
 impl Refusal {
-    fn new(fault: ProgramFault, role: FileRole, reason: Reason) -> Refusal {
-        Refusal {
-            fault,
-            cause: Some((role, reason)),
-        }
-    }
-
-    /// Returns the refusal of a file that cannot be opened.
-    pub fn from_open_error(role: FileRole, error: io::Error) -> Refusal {
-        Refusal::new(open_fault(role), role, Reason::from(error))
+    /// Returns the refusal of a file.
+    pub fn new(fault: ProgramFault, role: FileRole, reason: Reason) -> Refusal {
+        let cause = Some((role, reason));
+        Refusal { fault, cause }
     }
 
     /// Returns the refusal of an operation on open files.
-    pub fn from_fault<K>(
-        operation: &Operation<K>,
+    pub fn from_fault<F>(
+        operation: &Operation<Inspected<F>>,
+        input: &Inspection,
+        output: &Inspection,
         fault: ProgramFault,
-        seen: &Inspections,
     ) -> Refusal {
         let cause = match &fault {
-            ProgramFault::Job(fault) => job_cause(operation, *fault, seen),
-            ProgramFault::Line(line) => Some(line_cause(operation, line.fault, seen)),
+            ProgramFault::Job(JobFault::Write { .. }) | ProgramFault::Write { .. } => {
+                Some((FileRole::Output, Reason::from_os_error(output.os_error)))
+            }
+            ProgramFault::Job(fault) => job_cause(operation, input, *fault),
+            ProgramFault::Line(line) => Some(line_cause(operation, input, line.fault)),
             ProgramFault::NoLines => Some((FileRole::Input, Reason::Text("is empty"))),
-            ProgramFault::Write { .. } => Some(write_cause(seen)),
             _ => None,
         };
         Refusal { fault, cause }
@@ -93,11 +79,11 @@ pub fn open_fault(role: FileRole) -> ProgramFault {
 /// Prints the line of a fault, and returns its exit status. Nothing is left to do if standard error
 /// is closed.
 pub fn print_fault<R: Eprint>(rt: &R, fault: &ProgramFault) -> u8 {
-    let _ = rt.eprintln(fault.line());
+    let _ = rt.eprintln(fault);
     fault.status()
 }
 
-/// If a KEK of raw bytes looks like text, returns what to say of it.
+/// If a raw KEK looks like text, returns a hint.
 pub fn raw_kek_looks_like<K>(operation: &Operation<K>, kek: &Inspection) -> Option<&'static str> {
     match operation.kek_notation() {
         Notation::Raw => kek.looks_like(),
@@ -105,46 +91,41 @@ pub fn raw_kek_looks_like<K>(operation: &Operation<K>, kek: &Inspection) -> Opti
     }
 }
 
-fn job_cause<K>(operation: &Operation<K>, fault: JobFault, seen: &Inspections) -> Option<Cause> {
-    let new_kek = seen.new_kek.unwrap_or_default();
+fn job_cause<F>(
+    operation: &Operation<Inspected<F>>,
+    input: &Inspection,
+    fault: JobFault,
+) -> Option<Cause> {
+    let kek = operation.kek().inspection;
+    let new_kek = operation.new_kek().map_or(kek, |file| file.inspection);
     Some(match fault {
-        JobFault::KekFile(fault) => (FileRole::Kek, file_reason(fault, &seen.kek)),
-        JobFault::KekLength => (FileRole::Kek, kek_length_reason(operation, &seen.kek)),
+        JobFault::KekFile(fault) => (FileRole::Kek, file_reason(fault, &kek)),
+        JobFault::KekLength => (FileRole::Kek, kek_length_reason(operation, &kek)),
         JobFault::NewKekFile(fault) => (FileRole::NewKek, file_reason(fault, &new_kek)),
         JobFault::NewKekLength => (FileRole::NewKek, kek_length_reason(operation, &new_kek)),
-        JobFault::InputFile(fault) => (FileRole::Input, file_reason(fault, &seen.input)),
-        JobFault::BadLength => (FileRole::Input, length_reason(operation, &seen.input)),
-        JobFault::Integrity => integrity_cause(operation, &seen.kek),
-        JobFault::Write { .. } => write_cause(seen),
-        JobFault::Memory => return None,
+        JobFault::InputFile(fault) => (FileRole::Input, file_reason(fault, input)),
+        JobFault::BadLength => (FileRole::Input, length_reason(operation, input)),
+        JobFault::Integrity => integrity_cause(operation),
+        JobFault::Write { .. } | JobFault::Memory => return None,
     })
 }
 
-fn line_cause<K>(
-    operation: &Operation<K>,
+fn line_cause<F>(
+    operation: &Operation<Inspected<F>>,
+    input: &Inspection,
     fault: LineFault<InPlaceFault>,
-    seen: &Inspections,
 ) -> Cause {
     let reason = match fault {
         LineFault::Input(FileFault::OddDigits) => Reason::NameOnly,
-        LineFault::Input(fault) => file_reason(fault, &seen.input),
-        LineFault::Refused(InPlaceFault::Integrity) => {
-            return integrity_cause(operation, &seen.kek);
-        }
-        // The length of the key may be the illegal one.
+        LineFault::Input(fault) => file_reason(fault, input),
+        LineFault::Refused(InPlaceFault::Integrity) => return integrity_cause(operation),
+        // The length of the key may be illegal instead.
         LineFault::Refused(InPlaceFault::BadLength) if operation.drops_padding() => {
             Reason::NameOnly
         }
         LineFault::Refused(InPlaceFault::BadLength) => Reason::Text(legal_lengths(operation)),
     };
     (FileRole::Input, reason)
-}
-
-fn write_cause(seen: &Inspections) -> Cause {
-    (
-        FileRole::Output,
-        Reason::from_os_error(seen.output.os_error),
-    )
 }
 
 fn file_reason(fault: FileFault, seen: &Inspection) -> Reason {
@@ -172,31 +153,23 @@ fn denoted_bytes(notation: Notation, seen: &Inspection) -> u64 {
     }
 }
 
-// Returns the form of the input, or of the wrapped key that a key becomes. It is not known if a
-// rewrap keeps it.
-fn input_form<K>(operation: &Operation<K>) -> Option<Form> {
+// Returns the form of the input or, for a key, of its wrapped key. It is unknown if a rewrap keeps
+// the form.
+fn input_form<K>(operation: &Operation<K>) -> Option<AgreedForm> {
     match operation {
-        Operation::Job { task, .. } => Some(task.form),
+        Operation::Job { iv, task, .. } => Some(agreed_form(task.form, *iv)),
         Operation::Rewrap { task, .. } => match task.forms {
             RewrapForms::Kept => None,
-            RewrapForms::Changed {
-                old: AgreedForm::Plain(_),
-                ..
-            } => Some(Form::Plain),
-            RewrapForms::Changed {
-                old: AgreedForm::Padded,
-                ..
-            } => Some(Form::Padded),
+            RewrapForms::Changed { old, .. } => Some(old),
         },
     }
 }
 
 fn length_reason<K>(operation: &Operation<K>, input: &Inspection) -> Reason {
     let bytes = denoted_bytes(operation.input_notation(), input);
-    let (what, most) = if operation.takes_key() {
-        ("a key", MAX_KEY)
-    } else {
-        ("a wrapped key", MAX_KEY + 8)
+    let (what, most) = match operation.job() {
+        Some(Job::Wrap) => ("a key", MAX_KEY),
+        _ => ("a wrapped key", MAX_KEY + 8),
     };
     if bytes > most as u64 {
         Reason::TooLong(bytes, what, most)
@@ -210,24 +183,26 @@ fn length_reason<K>(operation: &Operation<K>, input: &Inspection) -> Reason {
 }
 
 fn legal_lengths<K>(operation: &Operation<K>) -> &'static str {
-    match (operation.takes_key(), input_form(operation)) {
-        (true, Some(Form::Padded)) => "a key has 1 or more",
-        (true, _) => "a plain key has 16 or more, a multiple of 8",
-        (false, Some(Form::Plain)) => "a plain wrapped key has 24 or more, a multiple of 8",
-        (false, Some(Form::Padded)) => "a padded wrapped key has 16 or more, a multiple of 8",
-        (false, None) => "a wrapped key has 16 or more, a multiple of 8",
+    match (operation.job(), input_form(operation)) {
+        (Some(Job::Wrap), Some(Padded)) => "a key has 1 or more",
+        (Some(Job::Wrap), _) => "a plain key has 16 or more, a multiple of 8",
+        (_, Some(Plain(_))) => "a plain wrapped key has 24 or more, a multiple of 8",
+        (_, Some(Padded)) => "a padded wrapped key has 16 or more, a multiple of 8",
+        (_, None) => "a wrapped key has 16 or more, a multiple of 8",
     }
 }
 
-// A KEK that may have been read in the wrong notation is the likely cause.
-fn integrity_cause<K>(operation: &Operation<K>, kek: &Inspection) -> Cause {
-    if let Some(advice) = raw_kek_looks_like(operation, kek) {
+// The likely cause is a KEK that was read in the wrong notation.
+fn integrity_cause<F>(operation: &Operation<Inspected<F>>) -> Cause {
+    if let Some(advice) = raw_kek_looks_like(operation, &operation.kek().inspection) {
         return (FileRole::Kek, Reason::Text(advice));
     }
-    let reason = match input_form(operation) {
-        _ if operation.has_iv() => "not a valid wrapped key under this KEK and --iv",
-        Some(Form::Plain) => "not a valid plain wrapped key under this KEK; try keywrap check",
-        Some(Form::Padded) => "not a valid padded wrapped key under this KEK; try keywrap check",
+    let reason = match &input_form(operation) {
+        Some(Plain(iv)) if *iv != InitialValue::default() => {
+            "not a valid wrapped key under this KEK and --iv"
+        }
+        Some(Plain(_)) => "not a valid plain wrapped key under this KEK; try keywrap check",
+        Some(Padded) => "not a valid padded wrapped key under this KEK; try keywrap check",
         None => "not a valid wrapped key in either form under this KEK",
     };
     (FileRole::Input, Reason::Text(reason))
@@ -242,15 +217,12 @@ pub struct ShownName<'a> {
 
 impl fmt::Display for ShownName<'_> {
     fn fmt<W: fmt::Write>(&self, f: &mut fmt::Formatter<W>) -> fmt::Result {
-        match (self.run.file_name(self.role), self.role) {
+        let role = self.role;
+        match (self.run.file_name(role), role) {
             (Some(name), FileRole::Kek | FileRole::NewKek) if is_hex_kek(name) => {
-                write!(
-                    f,
-                    "(the name of {} is not shown: it looks like a KEK)",
-                    self.role
-                )
+                write!(f, "(the name of {role} is not shown: it looks like a KEK)")
             }
-            (Some(""), _) => f.write_str("''"),
+            (Some(name), _) if name.is_empty() => f.write_str("''"),
             (Some(name), _) => Escaped(name).fmt(f),
             (None, FileRole::Output) => f.write_str("standard output"),
             (None, _) => f.write_str("standard input"),
@@ -258,7 +230,7 @@ impl fmt::Display for ShownName<'_> {
     }
 }
 
-// Returns whether a name may be a KEK in hex, typed in place of its file's name.
+// Returns whether a file name may be a KEK in hex that was typed instead.
 fn is_hex_kek(name: &str) -> bool {
     matches!(name.len(), 32 | 48 | 64) && name.bytes().all(|byte| byte.is_ascii_hexdigit())
 }

@@ -5,34 +5,31 @@ use crate::host::Host;
 use crate::prompt::is_typed;
 use key_lines::{RefusalLog, RefusedLine, RunFault, RunSummary};
 use key_wrap::InPlaceFault;
-use keywrap_cli::{Done, Job, Operation, ProgramFault, statuses};
-use keywrap_io::{CountingReader, FileRole, InputSource, Inspected, LineCounts, Progress, Streams};
-use std::fs::OpenFile;
+use keywrap_cli::{Job, Operation, Outcome, ProgramFault, statuses};
+use keywrap_io::{
+    CountingReader, FileRole, InputSource, Inspected, LineCounts, Progress, Streams,
+    is_output_piped,
+};
 use std::io::{BufReader, Read, Write};
-use std::os::unix::fs::FileTypeExt;
 use std::rt::Files;
 
 // The input is read in pieces of this many bytes.
 const READ_BUFFER: usize = 65_536;
 
-/// How the lines of an input are answered.
+/// The exit status of an operation that was not refused, and the counts if they are shown.
+pub type Answer = Outcome<(u8, Option<LineCounts>)>;
+
+/// The options of a run over lines.
 #[derive(Clone, Copy)]
 pub struct LineRun {
     keep_going: bool,
     shows_progress: bool,
     shows_counts: bool,
-    // The length of the input, if it is a regular file.
-    total: Option<u64>,
 }
 
 impl LineRun {
-    /// Returns how the lines of this input are answered, if `--lines` was given.
-    pub fn new<R: Files, I>(
-        rt: &R,
-        run: &Run<'_>,
-        streams: Streams,
-        input: &InputSource<I>,
-    ) -> Option<LineRun> {
+    /// Returns the options of a run over the lines of the input, if `--lines` was given.
+    pub fn new<R: Files>(rt: &R, run: &Run<'_>, streams: Streams) -> Option<LineRun> {
         let options = run.lines?;
         // Progress would be mixed with answers or with typed lines on the same terminal.
         let has_answers = run.output.is_none() && streams.output.is_terminal();
@@ -43,21 +40,42 @@ impl LineRun {
             keep_going: options.keep_going,
             shows_progress: is_shown && (run.output.is_some() || !is_output_piped(rt)),
             shows_counts: is_shown || run.verbose && (is_free || !is_terminal),
-            total: length_of(input),
         })
     }
 
-    /// Answers each line of the input. Returns the exit status, and what became of the lines if this
-    /// is shown. A refused line that is skipped is printed at once, and the first of these
-    /// determines the status. An input without lines is refused.
+    /// Runs the operation on each line. The message of a skipped line is printed at once, and the
+    /// first of these lines determines the status. An input without lines is refused.
     pub fn answer<R: Host, K: Read, I: Read, W: Write>(
         self,
         rt: &R,
         operation: &mut Operation<K>,
-        input: &mut I,
+        input: &mut Inspected<InputSource<I>>,
         out: &mut Inspected<W>,
-    ) -> Result<(u8, Option<LineCounts>), ProgramFault> {
-        let progress = Progress::start(rt, self.shows_progress, self.total);
+    ) -> Result<Answer, ProgramFault> {
+        let Outcome { result, same_kek } = self.run(rt, operation, input, out)?;
+        // A rewrap marks the lines that it passes.
+        let passed = match operation {
+            Operation::Rewrap { task, .. } if task.pass_new => Some(result.marked),
+            _ => None,
+        };
+        let counts = LineCounts {
+            lines: result.lines,
+            refused: result.refused,
+            passed,
+        };
+        let status = lines_status(operation, &result);
+        let result = (status, self.shows_counts.then_some(counts));
+        Ok(Outcome { result, same_kek })
+    }
+
+    fn run<R: Host, K: Read, I: Read, W: Write>(
+        self,
+        rt: &R,
+        operation: &mut Operation<K>,
+        input: &mut Inspected<InputSource<I>>,
+        out: &mut Inspected<W>,
+    ) -> Result<Outcome<RunSummary<InPlaceFault>>, ProgramFault> {
+        let progress = Progress::start(rt, self.shows_progress, input.file.length());
         let reader = CountingReader {
             input,
             progress: &progress,
@@ -65,29 +83,31 @@ impl LineRun {
         let Ok(mut reader) = BufReader::with_capacity(rt.alloc(), READ_BUFFER, reader) else {
             return Err(ProgramFault::Memory);
         };
-        let mut log = RefusedLines {
-            progress: &progress,
-        };
+        let mut log = RefusedLines(&progress);
         let run = operation.run_lines(rt.alloc(), self.keep_going, &mut log, &mut reader, out);
         progress.clear();
-        let summary = match run {
-            Ok(Ok(summary)) if summary.lines == 0 => return Err(ProgramFault::NoLines),
-            Ok(Ok(summary)) => summary,
-            Ok(Err(fault)) => return Err(program_fault(fault, out.inspection.bytes)),
-            Err(fault) => return Err(ProgramFault::Job(fault)),
-        };
-        let counts = LineCounts {
-            lines: summary.lines,
-            refused: summary.refused,
-            passed: passes_new(operation).then_some(summary.marked),
-        };
-        let status = lines_status(operation, &summary);
-        Ok((status, self.shows_counts.then_some(counts)))
+        let Outcome { result, same_kek } = run.map_err(ProgramFault::Job)?;
+        let result = summary(result, out.inspection.bytes as usize)?;
+        Ok(Outcome { result, same_kek })
     }
 }
 
-// Returns the exit status of a run over lines: that of the first refused line. A check marks the
-// lines for which it found none.
+fn summary(
+    run: Result<RunSummary<InPlaceFault>, RunFault<InPlaceFault>>,
+    written: usize,
+) -> Result<RunSummary<InPlaceFault>, ProgramFault> {
+    match run {
+        Ok(summary) if summary.lines == 0 => Err(ProgramFault::NoLines),
+        Ok(summary) => Ok(summary),
+        Err(RunFault::AtLine { line, fault }) => {
+            Err(ProgramFault::Line(RefusedLine { line, fault }))
+        }
+        Err(RunFault::Write { .. }) => Err(ProgramFault::Write { written }),
+    }
+}
+
+// Returns the exit status of a run over lines: the status of the first refused line. A check marks
+// the lines for which it found no key.
 fn lines_status<K>(operation: &Operation<K>, summary: &RunSummary<InPlaceFault>) -> u8 {
     if let Some(refused) = summary.first_refused {
         return ProgramFault::Line(refused).status();
@@ -98,56 +118,12 @@ fn lines_status<K>(operation: &Operation<K>, summary: &RunSummary<InPlaceFault>)
     }
 }
 
-/// Returns the exit status of an operation that was not refused.
-pub fn status_of(done: Done) -> u8 {
-    match done {
-        Done::Written => statuses::DONE,
-        Done::Neither => statuses::FAILED,
-    }
-}
-
-// Returns whether standard output is a pipe, which may lead to the terminal.
-fn is_output_piped<R: Files>(rt: &R) -> bool {
-    match rt.metadata("/proc/self/fd/1") {
-        Ok(metadata) => metadata.file_type().is_fifo(),
-        Err(_) => false,
-    }
-}
-
-fn length_of<I>(input: &InputSource<I>) -> Option<u64> {
-    let InputSource::File(file) = input else {
-        return None;
-    };
-    let metadata = file.metadata().ok()?;
-    metadata.is_file().then_some(metadata.len())
-}
-
-// Returns whether lines that are wrapped under the new KEK already are copied.
-fn passes_new<K>(operation: &Operation<K>) -> bool {
-    match operation {
-        Operation::Job { .. } => false,
-        Operation::Rewrap { task, .. } => task.pass_new,
-    }
-}
-
-fn program_fault(fault: RunFault<InPlaceFault>, written: u64) -> ProgramFault {
-    match fault {
-        RunFault::AtLine { line, fault } => ProgramFault::Line(RefusedLine { line, fault }),
-        RunFault::Write { .. } => ProgramFault::Write {
-            written: written as usize,
-        },
-    }
-}
-
-// Prints each refused line that is skipped.
+// Prints the message of each skipped line.
 #[derive(Drop)]
-struct RefusedLines<'p, 'r, R> {
-    progress: &'p Progress<'r, R>,
-}
+struct RefusedLines<'p, 'r, R>(&'p Progress<'r, R>);
 
 impl<R: Host> RefusalLog<InPlaceFault> for RefusedLines<'_, '_, R> {
     fn receive(&mut self, refused: &RefusedLine<InPlaceFault>) {
-        self.progress
-            .print_line(ProgramFault::Line(*refused).line());
+        self.0.print_line(ProgramFault::Line(*refused));
     }
 }

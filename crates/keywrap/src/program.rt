@@ -6,52 +6,48 @@ use crate::explain::print_fault;
 use crate::host::Host;
 use crate::session::Session;
 use keywrap_args::Stop::{Help, Memory, Usage};
-use keywrap_args::invalid_utf8;
+use keywrap_args::arguments;
 use keywrap_cli::{ProgramFault, run_drill, run_vectors, statuses, write_help};
 use keywrap_io::Streams;
-use std::alloc::AllocError;
-use std::{env, io};
+use std::io;
 
 /// Runs the program on the arguments that it was started with, and returns its exit status.
 pub fn run<R: Host>(rt: &R, streams: Streams) -> u8 {
-    let args = match env::args(rt) {
-        Ok(args) => args.collect::<Vec<String>>(rt.alloc()),
-        Err(error) if error.kind() == io::ErrorKind::OutOfMemory => Err(AllocError),
-        Err(_) => return stop(rt, &Stop::from(invalid_utf8(rt.alloc()))),
-    };
-    let Ok(args) = args else {
-        return print_fault(rt, &ProgramFault::Memory);
-    };
-    match read_command(rt.alloc(), args.as_slice()) {
-        Ok(command) => run_command(rt, &command, streams),
+    match answer(rt, streams) {
+        Ok(status) => status,
         Err(reason) => stop(rt, &reason),
     }
 }
 
-fn run_command<R: Host>(rt: &R, command: &Command<'_>, streams: Streams) -> u8 {
-    let done = match command {
-        Command::Run(run) => return Session::new(rt, run, streams).run(),
+fn answer<R: Host>(rt: &R, streams: Streams) -> Result<u8, Stop> {
+    let args = arguments(rt)?;
+    let command = read_command(rt.alloc(), args.as_slice())?;
+    run_command(rt, &command, streams).map_err(Stop::Fault)
+}
+
+fn run_command<R: Host>(
+    rt: &R,
+    command: &Command<'_>,
+    streams: Streams,
+) -> Result<u8, ProgramFault> {
+    match command {
+        Command::Run(run) => Ok(Session::new(rt, run, streams).run()),
         Command::Drill {
             form,
             direction,
             hex,
         } => run_drill(rt.alloc(), *form, *direction, hex, &mut io::writer(rt)),
         Command::Vectors => run_vectors(rt.alloc(), &mut io::writer(rt)),
-    };
-    end(rt, done)
-}
-
-fn end<R: Eprint>(rt: &R, done: Result<u8, ProgramFault>) -> u8 {
-    match done {
-        Ok(status) => status,
-        Err(fault) => print_fault(rt, &fault),
     }
 }
 
 // Help goes to standard output, and a message on the arguments to standard error.
 fn stop<R: Print + Eprint>(rt: &R, reason: &Stop) -> u8 {
     match reason {
-        Stop::Args(Help(text)) => end(rt, write_help(text.as_str(), &mut io::writer(rt))),
+        Stop::Args(Help(text)) => match write_help(text.as_str(), &mut io::writer(rt)) {
+            Ok(status) => status,
+            Err(fault) => print_fault(rt, &fault),
+        },
         Stop::Args(Usage(text)) => {
             // Nothing is left to do if standard error is closed.
             let _ = rt.eprint(text.as_str());

@@ -1,4 +1,4 @@
-//! What is read from a terminal.
+//! Prints which files are read from a terminal.
 
 use crate::command::Run;
 use keywrap_io::{FileRole, Streams, is_standard_input};

@@ -1,19 +1,19 @@
-//! A run on files: opens them, answers the input, and keeps or discards the output.
+//! A run on files: opens them, runs the operation, and keeps or discards the output.
 
-use crate::command::{LineOptions, Run};
-use crate::explain::{Inspections, Refusal, ShownName, open_fault, print_fault};
+use crate::command::Run;
+use crate::explain::{Refusal, ShownName, open_fault, print_fault};
 use crate::host::Host;
-use crate::lines::{LineRun, status_of};
+use crate::lines::{Answer, LineRun};
 use crate::prompt::prompt;
 use crate::warnings::warn;
-use keywrap_cli::{Operation, ProgramFault};
+use keywrap_cli::{Done, Job, Operation, Outcome, ProgramFault, statuses};
 use keywrap_io::{
-    Access, FileRole, InputSource, Inspected, LineCounts, Output, OutputFile, Protected, Streams,
+    Access, FileRole, InputSource, Inspected, Output, OutputFile, Protected, Reason, Streams,
     occupy_closed, open,
 };
 use std::io;
 
-/// A run on files, with what each of its steps needs.
+/// A run on files, with all that its steps need.
 #[derive(Drop)]
 pub struct Session<'a, R> {
     rt: &'a R,
@@ -26,20 +26,11 @@ pub struct Session<'a, R> {
 // An open file to read.
 type Source<I> = Inspected<InputSource<I>>;
 
-// The open files of a run.
+// The open files that are read.
 #[derive(Drop)]
-struct OpenFiles<'a, R: Host> {
-    operation: Operation<Source<R::Reader>>,
-    input: Source<R::Reader>,
-    output: Inspected<Output<'a, R>>,
-}
-
-// A run that was not refused.
-#[derive(Clone, Copy)]
-struct Answer {
-    status: u8,
-    counts: Option<LineCounts>,
-    seen: Inspections,
+struct Inputs<I> {
+    operation: Operation<Source<I>>,
+    input: Source<I>,
 }
 
 impl<'a, R: Host> Session<'a, R> {
@@ -56,7 +47,7 @@ impl<'a, R: Host> Session<'a, R> {
     /// Does the run, reports on standard error, and returns the exit status.
     pub fn run(&self) -> u8 {
         match self.answer() {
-            Ok(answer) => self.report(&answer),
+            Ok(status) => status,
             Err(refusal) => self.refuse(&refusal),
         }
     }
@@ -64,71 +55,59 @@ impl<'a, R: Host> Session<'a, R> {
     // The first of these faults is returned: RawToTerminal, a closed stream whose place cannot be
     // taken, KekOpen, NewKekOpen, InputOpen, OutputOpen or Memory for a new file, the faults of the
     // operation, Flush.
-    fn answer(&self) -> Result<Answer, Refusal> {
+    fn answer(&self) -> Result<u8, Refusal> {
         self.check_terminal()?;
         // No file of the run causes such a fault, so there is no second line.
         let _occupied = occupy_closed(self.rt, self.streams).map_err(open_fault)?;
-        let files = self.open_files()?;
-        prompt(self.rt, self.run, self.streams);
-        self.operate_and_commit(files)
+        self.answer_files()
     }
 
-    fn check_terminal(&self) -> Result<(), Refusal> {
+    fn check_terminal(&self) -> Result<(), ProgramFault> {
         let is_terminal = self.run.output.is_none() && self.streams.output.is_terminal();
         if is_terminal && self.run.operation.writes_raw() {
-            Err(Refusal::from(ProgramFault::RawToTerminal))
+            Err(ProgramFault::RawToTerminal)
         } else {
             Ok(())
         }
     }
 
-    fn open_files(&self) -> Result<OpenFiles<'a, R>, Refusal> {
+    fn answer_files(&self) -> Result<u8, Refusal> {
+        let mut inputs = self.open_inputs()?;
+        self.answer_inputs(&mut inputs)
+    }
+
+    fn answer_inputs(&self, inputs: &mut Inputs<R::Reader>) -> Result<u8, Refusal> {
+        let mut output = self.open_output(inputs)?;
+        prompt(self.rt, self.run, self.streams);
+        self.operate_and_commit(inputs, &mut output)
+    }
+
+    fn open_inputs(&self) -> Result<Inputs<R::Reader>, Refusal> {
         let operation = self.open_operation()?;
-        let input = self.open_input()?;
-        let output = self.open_output(&operation, &input.file)?;
-        Ok(OpenFiles {
-            operation,
-            input,
-            output,
-        })
+        let input = self.open(FileRole::Input)?;
+        Ok(Inputs { operation, input })
     }
 
     fn open_operation(&self) -> Result<Operation<Source<R::Reader>>, Refusal> {
+        let kek = self.open(FileRole::Kek)?;
         match &self.run.operation {
-            Operation::Job { iv, task, kek } => {
-                let kek = self.open_file(kek, FileRole::Kek)?;
-                Ok(Operation::Job {
-                    iv: *iv,
-                    task: *task,
-                    kek,
-                })
-            }
-            Operation::Rewrap { task, kek, new_kek } => {
-                let kek = self.open_file(kek, FileRole::Kek)?;
-                let new_kek = self.open_file(new_kek, FileRole::NewKek)?;
-                Ok(Operation::Rewrap {
-                    task: *task,
-                    kek,
-                    new_kek,
-                })
-            }
+            Operation::Job { iv, task, .. } => Ok(Operation::Job {
+                iv: *iv,
+                task: *task,
+                kek,
+            }),
+            Operation::Rewrap { task, .. } => Ok(Operation::Rewrap {
+                task: *task,
+                kek,
+                new_kek: self.open(FileRole::NewKek)?,
+            }),
         }
     }
 
-    fn open_input(&self) -> Result<Source<R::Reader>, Refusal> {
-        match self.run.input {
-            Some(name) => self.open_file(name, FileRole::Input),
-            None => {
-                let stdin = InputSource::Stdin(self.rt.reader());
-                Ok(self.inspect(stdin, FileRole::Input))
-            }
-        }
-    }
-
-    fn open_file(&self, name: &str, role: FileRole) -> Result<Source<R::Reader>, Refusal> {
-        match open(self.rt, name) {
+    fn open(&self, role: FileRole) -> Result<Source<R::Reader>, Refusal> {
+        match open(self.rt, self.run.file_name(role)) {
             Ok(file) => Ok(self.inspect(file, role)),
-            Err(error) => Err(Refusal::from_open_error(role, error)),
+            Err(error) => Err(Refusal::new(open_fault(role), role, Reason::from(error))),
         }
     }
 
@@ -138,18 +117,13 @@ impl<'a, R: Host> Session<'a, R> {
         Inspected::new(file, self.explains && !has_lines)
     }
 
-    fn open_output(
-        &self,
-        operation: &Operation<Source<R::Reader>>,
-        input: &InputSource<R::Reader>,
-    ) -> Result<Inspected<Output<'a, R>>, Refusal> {
+    fn open_output(&self, inputs: &Inputs<R::Reader>) -> Result<Inspected<Output<'a, R>>, Refusal> {
         let output = match self.run.output {
             Some(name) => {
-                let protected = self.protected(operation, input);
-                let access = if operation.gives_key() {
-                    Access::Private
-                } else {
-                    Access::LikeOld
+                let protected = self.protected(inputs);
+                let access = match self.run.operation.job() {
+                    Some(Job::Unwrap) => Access::Private,
+                    _ => Access::LikeOld,
                 };
                 Output::File(OutputFile::create(self.rt, name, &protected, access)?)
             }
@@ -159,75 +133,69 @@ impl<'a, R: Host> Session<'a, R> {
     }
 
     // With --keep-going the input has the only copy of the refused lines.
-    fn protected(
-        &self,
-        operation: &Operation<Source<R::Reader>>,
-        input: &InputSource<R::Reader>,
-    ) -> Protected {
-        let keeps_going = matches!(
-            self.run.lines,
-            Some(LineOptions {
-                keep_going: true,
-                ..
-            })
-        );
+    fn protected(&self, inputs: &Inputs<R::Reader>) -> Protected {
+        let keeps_going = self.run.lines.is_some_and(|lines| lines.keep_going);
+        let operation = &inputs.operation;
         Protected {
             kek: operation.kek().file.id(self.rt),
             new_kek: operation.new_kek().map(|kek| kek.file.id(self.rt)),
-            input: keeps_going.then(|| input.id(self.rt)),
+            input: keeps_going.then(|| inputs.input.file.id(self.rt)),
         }
     }
 
-    // The output file takes its place only if the operation was not refused.
-    fn operate_and_commit(&self, files: OpenFiles<'a, R>) -> Result<Answer, Refusal> {
-        let mut files = files;
-        match self.operate(&mut files) {
+    // The new file replaces the old one only if the operation was not refused.
+    fn operate_and_commit(
+        &self,
+        inputs: &mut Inputs<R::Reader>,
+        output: &mut Inspected<Output<'a, R>>,
+    ) -> Result<u8, Refusal> {
+        match self.operate(inputs, output) {
             Ok(answer) => {
-                files.output.file.commit(self.rt)?;
-                Ok(answer)
+                if let Err(reason) = output.file.commit(self.rt) {
+                    return Err(Refusal::new(ProgramFault::Flush, FileRole::Output, reason));
+                }
+                Ok(self.report(inputs, answer))
             }
-            Err(refusal) => {
-                files.output.file.discard(self.rt);
-                Err(refusal)
+            Err(fault) => {
+                output.file.discard(self.rt);
+                let (input, output) = (&inputs.input.inspection, &output.inspection);
+                Err(Refusal::from_fault(&inputs.operation, input, output, fault))
             }
         }
     }
 
-    // Answers the input, or each line of it.
-    fn operate(&self, files: &mut OpenFiles<'a, R>) -> Result<Answer, Refusal> {
-        let OpenFiles {
-            operation,
-            input,
-            output,
-        } = files;
-        let lines = LineRun::new(self.rt, self.run, self.streams, &input.file);
-        let done = match lines {
+    // Runs the operation on the input, or on each line of it.
+    fn operate(
+        &self,
+        inputs: &mut Inputs<R::Reader>,
+        output: &mut Inspected<Output<'a, R>>,
+    ) -> Result<Answer, ProgramFault> {
+        let Inputs { operation, input } = inputs;
+        match LineRun::new(self.rt, self.run, self.streams) {
             Some(lines) => lines.answer(self.rt, operation, input, output),
-            None => match operation.run(self.rt.alloc(), input, output) {
-                Ok(done) => Ok((status_of(done), None)),
-                Err(fault) => Err(ProgramFault::Job(fault)),
-            },
-        };
-        let seen = inspections(files);
-        match done {
-            Ok((status, counts)) => Ok(Answer {
-                status,
-                counts,
-                seen,
-            }),
-            Err(fault) => Err(Refusal::from_fault(&files.operation, fault, &seen)),
+            None => {
+                let run = operation.run(self.rt.alloc(), input, output);
+                let Outcome { result, same_kek } = run.map_err(ProgramFault::Job)?;
+                let status = match result {
+                    Done::Written => statuses::DONE,
+                    Done::Neither => statuses::FAILED,
+                };
+                let result = (status, None);
+                Ok(Outcome { result, same_kek })
+            }
         }
     }
 
     // Nothing is lost if standard error is closed.
-    fn report(&self, answer: &Answer) -> u8 {
+    fn report(&self, inputs: &Inputs<R::Reader>, answer: Answer) -> u8 {
+        let (status, counts) = answer.result;
         if self.explains {
-            warn(self.rt, self.run, &answer.seen);
+            warn(self.rt, self.run, &inputs.operation, answer.same_kek);
         }
-        if let Some(counts) = answer.counts {
+        if let Some(counts) = counts {
             let _ = self.rt.eprintln(counts);
         }
-        answer.status
+        status
     }
 
     fn refuse(&self, refusal: &Refusal) -> u8 {
@@ -240,15 +208,5 @@ impl<'a, R: Host> Session<'a, R> {
             let _ = eprintln!(self.rt; "  {name}{reason}");
         }
         status
-    }
-}
-
-fn inspections<R: Host>(files: &OpenFiles<'_, R>) -> Inspections {
-    let operation = &files.operation;
-    Inspections {
-        kek: operation.kek().inspection,
-        new_kek: operation.new_kek().map(|kek| kek.inspection),
-        input: files.input.inspection,
-        output: files.output.inspection,
     }
 }

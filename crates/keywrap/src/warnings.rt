@@ -1,26 +1,33 @@
-//! Warnings about an answer that may not be what was meant.
+//! Warnings about likely mistakes.
 
 use crate::command::Run;
-use crate::explain::{Inspections, ShownName, raw_kek_looks_like};
-use keywrap_io::{FileRole, Inspection};
+use crate::explain::{ShownName, raw_kek_looks_like};
+use keywrap_cli::Operation;
+use keywrap_io::{FileRole, Inspected};
 
 const BECAME_PLAIN: &str =
     "keywrap: the new wrapped key is plain; with --keep-form or --new-padded it is padded";
 
-/// Prints a line for each KEK that may have been read in the wrong notation, and one if a padded
-/// wrapped key became a plain one. Nothing is lost if standard error is closed.
-pub fn warn<R: Eprint>(rt: &R, run: &Run<'_>, seen: &Inspections) {
-    warn_of_kek(rt, run, FileRole::Kek, &seen.kek);
-    if let Some(new_kek) = &seen.new_kek {
+const SAME_KEK: &str = "keywrap: the KEK and the new KEK are the same key: nothing changes";
+
+/// Prints a line for each KEK that may have been read in the wrong notation, one if a padded
+/// wrapped key became a plain one, and one if a rewrap under the same KEK changed nothing. Nothing
+/// is lost if standard error is closed.
+pub fn warn<R: Eprint, F>(rt: &R, run: &Run<'_>, files: &Operation<Inspected<F>>, same_kek: bool) {
+    warn_of_kek(rt, run, FileRole::Kek, files.kek());
+    if let Some(new_kek) = files.new_kek() {
         warn_of_kek(rt, run, FileRole::NewKek, new_kek);
     }
-    if run.operation.drops_padding() {
+    if files.drops_padding() {
         let _ = rt.eprintln(BECAME_PLAIN);
+    }
+    if same_kek && run.operation.keeps_form() {
+        let _ = rt.eprintln(SAME_KEK);
     }
 }
 
-fn warn_of_kek<R: Eprint>(rt: &R, run: &Run<'_>, role: FileRole, seen: &Inspection) {
-    if let Some(advice) = raw_kek_looks_like(&run.operation, seen) {
+fn warn_of_kek<R: Eprint, F>(rt: &R, run: &Run<'_>, role: FileRole, kek: &Inspected<F>) {
+    if let Some(advice) = raw_kek_looks_like(&run.operation, &kek.inspection) {
         let name = ShownName { run, role };
         let _ = eprintln!(rt; "keywrap: {name}: {advice}");
     }

@@ -22,8 +22,8 @@ impl fmt::Display for Escaped<'_> {
     }
 }
 
-// Unicode's format characters, and its separators of lines and paragraphs: a terminal shows nothing
-// for them, or reorders the text.
+// Unicode's format characters, and its separators of lines and paragraphs. A terminal hides them
+// or reorders the text around them.
 fn is_invisible(code: u32) -> bool {
     matches!(
         code,

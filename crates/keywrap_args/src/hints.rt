@@ -1,4 +1,4 @@
-//! The message for refused arguments: clap's text, and a hint on what users guess.
+//! The message for refused arguments: clap's text, and a hint for common guesses.
 
 use crate::escape::Escaped;
 use crate::subcommands::{Subcommand, matches_of, subcommand_named};
@@ -18,21 +18,20 @@ const TIP: &str = "\n\n  tip: ";
 
 /// Returns the message for arguments that clap refused, with a hint if clap gives none. A terminal
 /// shows the message, so control characters of the arguments are escaped.
-pub fn message(alloc: Global, args: &[String], error: &Error) -> Result<String, AllocError> {
+pub fn message(alloc: Global, args: &[String], error: Error) -> Result<String, AllocError> {
+    let shown = escaped(alloc, args)?;
+    // Escaped arguments are refused like the arguments themselves.
+    let error = matches_of(alloc, shown.as_slice()).err().unwrap_or(error);
+    with_hint(alloc, shown.as_slice(), &error)
+}
+
+fn escaped(alloc: Global, args: &[String]) -> Result<Vec<String>, AllocError> {
     let mut shown = Vec::new(alloc);
     for arg in args {
         let arg = Escaped(arg.as_str());
         shown.push(format!(in alloc; "{arg}")?)?;
     }
-    // Escaped arguments are refused like the arguments themselves.
-    match error_of(alloc, shown.as_slice()) {
-        Some(error) => with_hint(alloc, shown.as_slice(), &error),
-        None => with_hint(alloc, args, error),
-    }
-}
-
-fn error_of(alloc: Global, args: &[String]) -> Option<Error> {
-    matches_of(alloc, args).err()
+    Ok(shown)
 }
 
 fn with_hint(alloc: Global, args: &[String], error: &Error) -> Result<String, AllocError> {
@@ -53,7 +52,9 @@ fn hint(args: &[String], kind: ErrorKind, said: &str) -> Option<&'static str> {
     if said.contains(TIP) {
         return None;
     }
-    match (kind, first_word(args)) {
+    // The subcommand, if the first argument names one.
+    let subcommand = args.get(1).and_then(|word| subcommand_named(word.as_str()));
+    match (kind, subcommand) {
         (ErrorKind::InvalidSubcommand, _) | (ErrorKind::UnknownArgument, None) => Some(SUBCOMMANDS),
         (ErrorKind::UnknownArgument, Some(Subcommand::Drill | Subcommand::Vectors)) => None,
         // Clap's message begins with the argument.
@@ -61,9 +62,4 @@ fn hint(args: &[String], kind: ErrorKind, said: &str) -> Option<&'static str> {
             if !said.starts_with("error: unexpected argument '--") => { Some(OPTIONS) }
         _ => None,
     }
-}
-
-// The subcommand that the first argument names, if it does.
-fn first_word(args: &[String]) -> Option<Subcommand> {
-    subcommand_named(args.get(1)?.as_str())
 }

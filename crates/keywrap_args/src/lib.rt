@@ -1,15 +1,14 @@
 //! The arguments of the command `keywrap`: its subcommands and options, the help, and the messages
-//! for refused arguments. The crate depends on clap only, so it is proved beside the other crates.
+//! for refused arguments. The crate depends only on clap, so it is proved beside the others.
 #![tactic(auto)]
 
 mod escape;
 mod help;
 mod hints;
-pub mod names;
 mod options;
 mod parser;
 mod subcommands;
 
 pub use escape::Escaped;
-pub use parser::{Args, Stop, invalid_utf8, parse};
+pub use parser::{Args, Stop, arguments, parse};
 pub use subcommands::Subcommand;

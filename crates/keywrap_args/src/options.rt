@@ -1,6 +1,6 @@
 //! The definitions of the arguments, as clap takes them and the help shows them.
 
-use crate::{help, names};
+use crate::help;
 use clap::{Arg, ArgAction};
 use std::alloc::{AllocError, Global};
 
@@ -74,100 +74,100 @@ const FLAG: Rules<'static> = Rules {
 };
 
 pub(crate) const KEK: Argument<'static> = argument! {
-    names::KEK, "The file of the KEK: 16, 24 or 32 bytes, in hex", value: Value::Required("FILE")
+    "kek", "The file of the KEK: 16, 24 or 32 bytes, in hex", value: Value::Required("FILE")
 };
 
 pub(crate) const NEW_KEK: Argument<'static> = argument! {
-    names::NEW_KEK, "The file of the KEK of the new wrapped key, in hex",
+    "new-kek", "The file of the KEK of the new wrapped key, in hex",
     value: Value::Required("FILE")
 };
 
 pub(crate) const INPUT: Argument<'static> = argument! {
-    names::INPUT, "Reads FILE instead of standard input (-)",
+    "input", "Reads FILE instead of standard input (-)",
     short: Some('i'), value: Value::Optional("FILE")
 };
 
 pub(crate) const OUTPUT: Argument<'static> = argument! {
-    names::OUTPUT, "Writes FILE instead of standard output (-)",
+    "output", "Writes FILE instead of standard output (-)",
     short: Some('o'), value: Value::Optional("FILE"), long_help: Some(help::OUTPUT)
 };
 
 pub(crate) const PADDED: Argument<'static> = argument! {
-    names::PADDED, "The padded form of RFC 5649 (KWP): keys of any length"
+    "padded", "The padded form of RFC 5649 (KWP): keys of any length"
 };
 
 pub(crate) const NEW_PADDED: Argument<'static> = argument! {
-    names::NEW_PADDED, "The new one gets the padded form of RFC 5649"
+    "new-padded", "The new one gets the padded form of RFC 5649"
 };
 
 pub(crate) const KEEP_FORM: Argument<'static> = argument! {
-    names::KEEP_FORM, "Takes either form, and the new wrapped key keeps it",
-    long_help: Some(help::KEEP_FORM), conflicts: &[names::PADDED, names::NEW_PADDED]
+    "keep-form", "Takes either form, and the new wrapped key keeps it",
+    long_help: Some(help::KEEP_FORM), conflicts: &["padded", "new-padded"]
 };
 
 pub(crate) const PASS_NEW: Argument<'static> = argument! {
-    names::PASS_NEW, "Copies a wrapped key that is already under the new KEK",
+    "pass-new", "Copies a wrapped key that is already under the new KEK",
     long_help: Some(help::PASS_NEW)
 };
 
 // The padded form has its own initial value. Clap ignores the arguments that a subcommand lacks.
 pub(crate) const IV: Argument<'static> = argument! {
-    names::IV, "The initial value both ends agreed on, 16 hex digits",
-    value: Value::Optional("HEX"), conflicts: &[names::PADDED, names::KEEP_FORM]
+    "iv", "The initial value both ends agreed on, 16 hex digits",
+    value: Value::Optional("HEX"), conflicts: &["padded", "keep-form"]
 };
 
 pub(crate) const NEW_IV: Argument<'static> = argument! {
-    names::NEW_IV, "The initial value of the new one, if not the default",
-    value: Value::Optional("HEX"), conflicts: &[names::NEW_PADDED, names::KEEP_FORM]
+    "new-iv", "The initial value of the new one, if not the default",
+    value: Value::Optional("HEX"), conflicts: &["new-padded", "keep-form"]
 };
 
 pub(crate) const RAW: Argument<'static> = argument! {
-    names::RAW, "Raw bytes instead of hex; every byte counts"
+    "raw", "Raw bytes instead of hex; every byte counts"
 };
 
 pub(crate) const BASE64URL: Argument<'static> = argument! {
-    names::BASE64URL, "Base64url instead of hex",
-    long_help: Some(help::BASE64URL), conflicts: &[names::RAW]
+    "base64url", "Base64url instead of hex",
+    long_help: Some(help::BASE64URL), conflicts: &["raw"]
 };
 
 pub(crate) const BASE64: Argument<'static> = argument! {
-    names::BASE64, "Base64 instead of hex",
-    long_help: Some(help::BASE64), conflicts: &[names::RAW, names::BASE64URL]
+    "base64", "Base64 instead of hex",
+    long_help: Some(help::BASE64), conflicts: &["raw", "base64url"]
 };
 
 pub(crate) const RAW_KEK: Argument<'static> = argument! {
-    names::RAW_KEK, "KEK files are raw bytes, not hex; every byte counts"
+    "raw-kek", "KEK files are raw bytes, not hex; every byte counts"
 };
 
 pub(crate) const BASE64_KEK: Argument<'static> = argument! {
-    names::BASE64_KEK, "KEK files are base64 or base64url, not hex", conflicts: &[names::RAW_KEK]
+    "base64-kek", "KEK files are base64 or base64url, not hex", conflicts: &["raw-kek"]
 };
 
-// Raw bytes have no lines. What needs `--lines` excludes `--raw` too, because clap waives a need if
-// another argument excludes what is needed.
+// Raw bytes have no lines. Options that need `--lines` exclude `--raw` too: if both are given, clap
+// no longer requires `--lines`.
 pub(crate) const LINES: Argument<'static> = argument! {
-    names::LINES, "Many keys, one per line: each is answered on its line",
-    long_help: Some(help::LINES), conflicts: &[names::RAW]
+    "lines", "Many keys, one per line: each is answered on its line",
+    long_help: Some(help::LINES), conflicts: &["raw"]
 };
 
 pub(crate) const KEEP_GOING: Argument<'static> = argument! {
-    names::KEEP_GOING, "With --lines: writes an empty line for a refused one",
-    long_help: Some(help::KEEP_GOING), conflicts: &[names::RAW], needs: &[names::LINES]
+    "keep-going", "With --lines: writes an empty line for a refused one",
+    long_help: Some(help::KEEP_GOING), conflicts: &["raw"], needs: &["lines"]
 };
 
 pub(crate) const QUIET: Argument<'static> = argument! {
-    names::QUIET, "With --lines: no progress on a terminal",
-    conflicts: &[names::RAW], needs: &[names::LINES]
+    "quiet", "With --lines: no progress on a terminal",
+    conflicts: &["raw"], needs: &["lines"]
 };
 
 pub(crate) const VERBOSE: Argument<'static> = argument! {
-    names::VERBOSE, "Prints reasons and warnings, as on a terminal"
+    "verbose", "Prints reasons and warnings, as on a terminal"
 };
 
 pub(crate) const HEX: Argument<'static> = argument! {
-    names::HEX, "The key or the wrapped key, in hex", value: Value::Positional("HEX")
+    "hex", "The key or the wrapped key, in hex", value: Value::Positional("HEX")
 };
 
 pub(crate) const UNWRAP: Argument<'static> = argument! {
-    names::UNWRAP, "Unwraps a wrapped key instead of wrapping a key"
+    "unwrap", "Unwraps a wrapped key instead of wrapping a key"
 };

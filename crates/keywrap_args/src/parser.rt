@@ -2,9 +2,11 @@
 
 use crate::hints::message;
 use crate::subcommands::{Subcommand, keywrap, matches_of, subcommand_named};
+use clap::ArgMatches;
 use clap::error::ErrorKind;
-use clap::{ArgMatches, Error};
 use std::alloc::{AllocError, Global};
+use std::rt::Env;
+use std::{env, io};
 
 /// A subcommand and its arguments.
 #[derive(Drop)]
@@ -32,11 +34,27 @@ impl From<AllocError> for Stop {
     }
 }
 
+/// Returns the arguments that the program was started with.
+pub fn arguments<R: Env + AllocGlobal>(rt: &R) -> Result<Vec<String>, Stop> {
+    match env::args(rt) {
+        Ok(args) => Ok(args.collect::<Vec<String>>(rt.alloc())?),
+        Err(error) if error.kind() == io::ErrorKind::OutOfMemory => Err(Stop::Memory),
+        Err(_) => {
+            let said = "invalid UTF-8 was detected in one or more arguments";
+            Err(refusal(rt.alloc(), ErrorKind::InvalidValue, said)?)
+        }
+    }
+}
+
 /// Parses the arguments. The first one is the name of the program.
 pub fn parse<'a>(alloc: Global, args: &'a [String]) -> Result<Args<'a>, Stop> {
     let mut matches = match matches_of(alloc, args) {
         Ok(matches) => matches,
-        Err(error) => return Err(stop_of(alloc, args, &error)),
+        Err(error) if error.kind() == ErrorKind::OutOfMemory => return Err(Stop::Memory),
+        Err(error) if error.use_stderr() => {
+            return Err(Stop::Usage(message(alloc, args, error)?));
+        }
+        Err(error) => return Err(Stop::Help(format!(in alloc; "{error}")?)),
     };
     if let Some((name, matches)) = matches.remove_subcommand() {
         if let Some(subcommand) = subcommand_named(name) {
@@ -49,13 +67,7 @@ pub fn parse<'a>(alloc: Global, args: &'a [String]) -> Result<Args<'a>, Stop> {
     }
     // Clap has refused such arguments.
     let said = "unrecognized subcommand";
-    Err(refused(alloc, ErrorKind::InvalidSubcommand, said))
-}
-
-/// The message for arguments that are not UTF-8.
-pub fn invalid_utf8(alloc: Global) -> Stop {
-    let said = "invalid UTF-8 was detected in one or more arguments";
-    refused(alloc, ErrorKind::InvalidValue, said)
+    Err(refusal(alloc, ErrorKind::InvalidSubcommand, said)?)
 }
 
 impl<'a> Args<'a> {
@@ -65,16 +77,18 @@ impl<'a> Args<'a> {
     }
 
     /// Returns the value of an argument, if it is given.
-    pub fn value(&self, name: &str) -> Option<&'a str> {
-        self.matches.get_str(name)
+    pub fn value(&self, argument: &str) -> Option<&'a str> {
+        self.matches.get_str(argument)
     }
 
     /// Returns the value of a required argument. Clap has refused arguments without it.
-    pub fn required(&self, name: &str) -> Result<&'a str, Stop> {
-        let kind = ErrorKind::MissingRequiredArgument;
-        match self.value(name) {
+    pub fn required(&self, argument: &str) -> Result<&'a str, Stop> {
+        match self.value(argument) {
             Some(value) => Ok(value),
-            None => Err(refused(self.alloc, kind, "a required argument was not provided")),
+            None => {
+                let said = "a required argument was not provided";
+                Err(refusal(self.alloc, ErrorKind::MissingRequiredArgument, said)?)
+            }
         }
     }
 
@@ -98,28 +112,12 @@ impl<'a> Args<'a> {
             "invalid value '-' for '--{option} <FILE>'\n\n  tip: a KEK on standard input is \
              --{option} /dev/stdin; a file of this name is ./-"
         )?;
-        Err(refused(self.alloc, ErrorKind::InvalidValue, said.as_str()))
+        Err(refusal(self.alloc, ErrorKind::InvalidValue, said.as_str())?)
     }
-}
-
-fn stop_of(alloc: Global, args: &[String], error: &Error) -> Stop {
-    if error.kind() == ErrorKind::OutOfMemory {
-        return Stop::Memory;
-    }
-    let text = if error.use_stderr() {
-        message(alloc, args, error).map(Stop::Usage)
-    } else {
-        format!(in alloc; "{error}").map(Stop::Help)
-    };
-    text.unwrap_or(Stop::Memory)
 }
 
 // A refusal that clap does not know, with clap's usage.
-fn refused(alloc: Global, kind: ErrorKind, said: &str) -> Stop {
-    refusal(alloc, kind, said).map_or(Stop::Memory, Stop::Usage)
-}
-
-fn refusal(alloc: Global, kind: ErrorKind, said: &str) -> Result<String, AllocError> {
+fn refusal(alloc: Global, kind: ErrorKind, said: &str) -> Result<Stop, AllocError> {
     let error = keywrap(alloc)?.error(kind, said)?;
-    format!(in alloc; "{error}")
+    Ok(Stop::Usage(format!(in alloc; "{error}")?))
 }

@@ -22,10 +22,9 @@ pub enum Subcommand {
 // What clap and the help need to know of a subcommand.
 #[derive(Clone, Copy)]
 struct Definition<'a> {
-    subcommand: Subcommand,
     name: &'a str,
     about: &'a str,
-    // Clap's own usage line would not show where the input comes from.
+    // Clap's own usage line would not show the source of the input.
     usage: &'a str,
     // The end of its help.
     example: &'a str,
@@ -51,7 +50,6 @@ const DRILL: [Argument<'static>; 3] = [HEX, PADDED, UNWRAP];
 
 const DEFINITIONS: [Definition<'static>; 6] = [
     Definition {
-        subcommand: Subcommand::Wrap,
         name: "wrap",
         about: "Wraps a key",
         usage: "keywrap wrap [OPTIONS] --kek <FILE> < KEY > WRAPPED",
@@ -59,7 +57,6 @@ const DEFINITIONS: [Definition<'static>; 6] = [
         arguments: &WRAP,
     },
     Definition {
-        subcommand: Subcommand::Unwrap,
         name: "unwrap",
         about: "Unwraps a wrapped key",
         usage: "keywrap unwrap [OPTIONS] --kek <FILE> < WRAPPED > KEY",
@@ -67,7 +64,6 @@ const DEFINITIONS: [Definition<'static>; 6] = [
         arguments: &WRAP,
     },
     Definition {
-        subcommand: Subcommand::Rewrap,
         name: "rewrap",
         about: "Rewraps a key under another KEK; the key itself is not written",
         usage: "keywrap rewrap [OPTIONS] --kek <FILE> --new-kek <FILE> < WRAPPED > NEW",
@@ -75,7 +71,6 @@ const DEFINITIONS: [Definition<'static>; 6] = [
         arguments: &REWRAP,
     },
     Definition {
-        subcommand: Subcommand::Check,
         name: "check",
         about: "Prints the form in which a wrapped key fits; no key is written",
         usage: "keywrap check [OPTIONS] --kek <FILE> < WRAPPED",
@@ -83,7 +78,6 @@ const DEFINITIONS: [Definition<'static>; 6] = [
         arguments: &CHECK,
     },
     Definition {
-        subcommand: Subcommand::Drill,
         name: "drill",
         about: "Wraps with a toy cipher that swaps the halves of a block",
         usage: "keywrap drill [OPTIONS] <HEX>",
@@ -91,7 +85,6 @@ const DEFINITIONS: [Definition<'static>; 6] = [
         arguments: &DRILL,
     },
     Definition {
-        subcommand: Subcommand::Vectors,
         name: "vectors",
         about: "Runs the vectors of RFC 3394, RFC 5649 and FIPS 197: ok or failed",
         usage: "keywrap vectors",
@@ -102,12 +95,15 @@ const DEFINITIONS: [Definition<'static>; 6] = [
 
 /// Returns the subcommand of this name.
 pub fn subcommand_named(name: &str) -> Option<Subcommand> {
-    for it in &DEFINITIONS {
-        if it.name == name {
-            return Some(it.subcommand);
-        }
+    match name {
+        "wrap" => Some(Subcommand::Wrap),
+        "unwrap" => Some(Subcommand::Unwrap),
+        "rewrap" => Some(Subcommand::Rewrap),
+        "check" => Some(Subcommand::Check),
+        "drill" => Some(Subcommand::Drill),
+        "vectors" => Some(Subcommand::Vectors),
+        _ => None,
     }
-    None
 }
 
 /// Parses the arguments. The first one is the name of the program.
@@ -117,34 +113,31 @@ pub fn matches_of<'a>(alloc: Global, args: &'a [String]) -> Result<ArgMatches<'a
 
 /// Returns the command `keywrap` with its subcommands.
 pub fn keywrap<'a>(alloc: Global) -> Result<Command<'a>, AllocError> {
-    let mut command = bare(alloc)?;
-    for it in &DEFINITIONS {
-        let subcommand = with_arguments(alloc, *it)?;
-        command = command.subcommand(subcommand)?;
-    }
-    Ok(command)
-}
-
-fn bare<'a>(alloc: Global) -> Result<Command<'a>, AllocError> {
-    let command = Command::new(alloc, "keywrap")
+    let mut command = Command::new(alloc, "keywrap")
         .version("1.1.0-dev")
         .propagate_version(true)
         .about("Wraps and unwraps keys by AES Key Wrap (RFC 3394 and RFC 5649)")
         .after_long_help(help::NOTES)
         .arg_required_else_help(true)
-        .subcommand_required(true);
-    command.bin_name("keywrap")
-}
-
-// The display name makes the `--version` of a subcommand print that of the program.
-fn with_arguments<'a>(alloc: Global, it: Definition<'a>) -> Result<Command<'a>, AllocError> {
-    let mut command = Command::new(alloc, it.name)
-        .about(it.about)
-        .after_long_help(it.example)
-        .override_usage(it.usage)
-        .display_name("keywrap")?;
-    for argument in it.arguments {
-        command = command.arg(argument.to_clap(alloc)?)?;
+        .subcommand_required(true)
+        .bin_name("keywrap")?;
+    for it in &DEFINITIONS {
+        command = command.subcommand(it.to_clap(alloc)?)?;
     }
     Ok(command)
+}
+
+impl<'a> Definition<'a> {
+    // With this display name the `--version` of a subcommand prints the program's.
+    fn to_clap(self, alloc: Global) -> Result<Command<'a>, AllocError> {
+        let mut command = Command::new(alloc, self.name)
+            .about(self.about)
+            .after_long_help(self.example)
+            .override_usage(self.usage)
+            .display_name("keywrap")?;
+        for argument in self.arguments {
+            command = command.arg(argument.to_clap(alloc)?)?;
+        }
+        Ok(command)
+    }
 }

@@ -9,6 +9,7 @@ mod plain;
 mod plain_in_place;
 mod plain_with;
 mod rewrapping;
+mod self_test;
 mod texts;
 mod unwrap_steps;
 mod version;

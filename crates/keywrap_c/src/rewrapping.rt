@@ -1,4 +1,4 @@
-//! Rewrapping in one buffer: from one KEK and form to another, the key never given out.
+//! Rewrapping in one buffer, from one KEK and form to another. The key is never returned.
 
 ghost use Rattle.std.specs.Prelude.{◌≡◌, All};
 ghost use Rattle.aes_block.specs.Cipher.{cipher};
@@ -6,11 +6,11 @@ ghost use Rattle.keywrap_calls.specs.Forms.{RewrapsInPlace};
 
 use aes_vector::{LentAes, Room};
 
-/// Replaces the wrapped key in `buffer`, under `old_kek`, by the same key wrapped under `new_kek`, of
-/// the same length. `forms` has a flag for each of the two that is padded, as in `keywrap.h`, or only
-/// the flag by which the wrapped key keeps its form, and no other bit (RFC 3394 and RFC 5649).
+/// Replaces the wrapped key in `buffer`, under `old_kek`, by the same key wrapped under `new_kek`,
+/// of the same length. `forms` has a flag for each wrapped key with the padded form, as in
+/// `keywrap.h`, or only the flag that keeps the form, and no other bit (RFC 3394 and RFC 5649).
 ///
-/// After the integrity check has failed, and if the key has no legal length in the new form, every
+/// After a failed integrity check, and if the length of the key is not legal in the new form, every
 /// byte of the buffer is zero.
 #[unsafe(no_mangle)]
 pub extern "C" fn keywrap_rewrap_in_place(

@@ -1,4 +1,4 @@
-//! An unwrapping step by step, for an AES that the caller has elsewhere.
+//! Unwrapping step by step, for an AES outside the library.
 
 ghost use Rattle.std.specs.Prelude.{◌≡◌, ◌↔◌, ◌⊎◌, ℕ, ◌+◌, ◌≤◌, ◌++◌, List, length, take, All};
 ghost use Rattle.block_pair.specs.Pair.{AreInverse};
@@ -40,7 +40,7 @@ pub extern "C" fn keywrap_begin_unwrap(
     }
 }
 
-/// As `keywrap_begin_unwrap`, in the padded form (RFC 5649, section 4.2).
+/// Does what `keywrap_begin_unwrap` does, in the padded form (RFC 5649, section 4.2).
 #[unsafe(no_mangle)]
 pub extern "C" fn keywrap_begin_unwrap_padded(
     first: &[u8; 8],
@@ -61,8 +61,8 @@ pub extern "C" fn keywrap_begin_unwrap_padded(
     }
 }
 
-/// Undoes one step more, with the block decrypted since the last: `*left` counts down, and `block` is
-/// the next block to decrypt.
+/// Undoes one step with the decrypted block. Subtracts 1 from `*left`, and `block` is the next
+/// block to decrypt.
 #[unsafe(no_mangle)]
 pub extern "C" fn keywrap_step_unwrap(
     registers: &mut [u8],
@@ -86,8 +86,8 @@ pub extern "C" fn keywrap_step_unwrap(
     }
 }
 
-/// Ends a plain unwrapping: `registers` are the key that was wrapped under the initial value `iv`, and
-/// `block` is all zeros; at `INTEGRITY` every byte of both is zero.
+/// Ends a plain unwrapping: `registers` are the key that was wrapped under the initial value `iv`,
+/// and `block` is all zeros; at `INTEGRITY` every byte of both is zero.
 #[unsafe(no_mangle)]
 pub extern "C" fn keywrap_end_unwrap(
     iv: &[u8],
@@ -125,9 +125,9 @@ pub extern "C" fn keywrap_end_unwrap(
     }
 }
 
-/// Ends a padded unwrapping: the first `*key_len` bytes of `registers` are the key, zeros come after
-/// it, and `block` is all zeros; at `INTEGRITY` every byte of both is zero. `*key_len` is 0 at each
-/// refusal.
+/// Ends a padded unwrapping: the first `*key_len` bytes of `registers` are the key, zeros come
+/// after it, and `block` is all zeros; at `INTEGRITY` every byte of both is zero. `*key_len` is 0
+/// at each refusal.
 #[unsafe(no_mangle)]
 pub extern "C" fn keywrap_end_unwrap_padded(
     registers: &mut [u8],

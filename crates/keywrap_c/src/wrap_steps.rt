@@ -1,4 +1,4 @@
-//! A wrapping step by step, for an AES that the caller has elsewhere.
+//! Wrapping step by step, for an AES outside the library.
 
 ghost use Rattle.std.specs.Prelude.{◌≡◌, ◌↔◌, ◌⊎◌, ℕ, ◌+◌, ◌<◌, ◌++◌, List, length, take};
 ghost use Rattle.key_wrap.specs.Lengths.{IsPlainKeyLength, IsPaddedKeyLength, IsPaddedTextLength};
@@ -40,8 +40,8 @@ pub extern "C" fn keywrap_begin_wrap(
     }
 }
 
-/// Begins the padded wrapping of the key of `key_len` bytes at the start of `registers`, which get its
-/// padding (RFC 5649, section 4.1): `*done` is 0, and `block` the first block to encrypt.
+/// Begins the padded wrapping of the first `key_len` bytes of `registers`, and pads them (RFC 5649,
+/// section 4.1): `*done` is 0, and `block` the first block to encrypt.
 #[unsafe(no_mangle)]
 pub extern "C" fn keywrap_begin_wrap_padded(
     key_len: usize,
@@ -64,8 +64,8 @@ pub extern "C" fn keywrap_begin_wrap_padded(
     }
 }
 
-/// Makes one step more, with `*done` steps done and the block encrypted since: `*done` counts it, and
-/// `block` is the next block to encrypt.
+/// Makes one step with the encrypted block. Adds 1 to `*done`, and `block` is the next block to
+/// encrypt.
 #[unsafe(no_mangle)]
 pub extern "C" fn keywrap_step_wrap(
     registers: &mut [u8],
@@ -89,8 +89,8 @@ pub extern "C" fn keywrap_step_wrap(
     }
 }
 
-/// Ends a wrapping in either form: `first`, the first 8 bytes, and then `registers` are the wrapped
-/// key.
+/// Ends a wrapping in either form: writes the first 8 bytes of the wrapped key into `first`. The
+/// rest of it are the `registers`.
 #[unsafe(no_mangle)]
 pub extern "C" fn keywrap_end_wrap(
     first: &mut [u8; 8],

@@ -1,4 +1,4 @@
--- What a finished call leaves in the buffers, in the form that relates these keys to these texts.
+-- The buffers after a successful call, in the form with this relation of keys and texts.
 use Rattle.std.specs.Prelude.{◌≡◌, ◌↔◌, ℕ, List}
 use Rattle.key_wrap.specs.declared.forms.Form.{Form}
 use Rattle.key_wrap.specs.Answer.{NoKey}
@@ -11,17 +11,17 @@ pub record IsWrapping (Stands : List ℕ → List ℕ → Type 0) (key text : Li
   pub stands : Stands key text
   pub only_text : (other : List ℕ) → Stands key other → other ≡ text
 
--- the key belongs to the text, and no other key does; wrapping the key again restores the text; and no key belongs to
--- the text in the other form
+-- the text is the wrapping of this key, and of no other; wrapping the key again restores the text; and in the other
+-- form the text is not a wrapping
 pub record IsUnwrapping (Stands Other : List ℕ → List ℕ → Type 0) (text key : List ℕ) : Type 0 where
   pub stands : Stands key text
   pub only_key : (other : List ℕ) → Stands other text → other ≡ key
   pub restores : (other : List ℕ) → Stands key other → other ≡ text
   pub other_form : NoKey Other text
 
--- one key belongs to both, to the text in the old form under E and to the answer in the new form under F; no other key
--- belongs to the text, and no other answer has this; unwrapping the answer gives exactly the text's key; and rewrapping
--- back gives the text
+-- the text, in the old form under E, and the answer, in the new form under F, are wrappings of one key; the text has no
+-- other key, and there is no other such answer; unwrapping the answer gives exactly this key; and rewrapping back gives
+-- the text
 pub record IsRewrapping (old : Form) (E : List ℕ → List ℕ) (new : Form) (F : List ℕ → List ℕ) (text answer : List ℕ)
     : Type 0 where
   pub one_key : AreWrappings (by_default old) E (by_default new) F text answer
@@ -30,7 +30,7 @@ pub record IsRewrapping (old : Form) (E : List ℕ → List ℕ) (new : Form) (F
   pub same_key : (key : List ℕ) → StandsIn new F key answer ↔ StandsIn old E key text
   pub restores : (other : List ℕ) → AreWrappings (by_default new) F (by_default old) E answer other → other ≡ text
 
--- the same if the form is kept, whichever it is: the text is the wrapping of only one key, in one form
+-- the same if the form is kept: the text is the wrapping of only one key, in one form
 pub record IsKeptRewrapping (E F : List ℕ → List ℕ) (text answer : List ℕ) : Type 0 where
   pub one_key : KeepsForm E F text answer
   pub only_key : (form other_form : Form) → (key other : List ℕ) → StandsIn form E key text → StandsIn other_form E other text

@@ -1,5 +1,5 @@
--- What each call promises of its status and its buffers, `old` and `new` as they are before and after the call. E is the
--- block permutation of the KEK.
+-- The promise of each call about its status and its buffers: `old` is a buffer before the call, `new` after it. E is
+-- the block permutation of the KEK.
 use Rattle.std.specs.Prelude.{◌≡◌, ◌↔◌, ◌++◌, ℕ, ℤ, List, length, drop, take, All}
 use Rattle.aes_block.specs.KeyExpansion.{IsKekLength}
 use Rattle.key_wrap.specs.Lengths.{IsPlainTextLength, IsPaddedTextLength}
@@ -11,8 +11,7 @@ use Rattle.keywrap_calls.specs.Status.{IsDone, IsBadIv, IsBadKek, IsBadLength, I
 use Rattle.keywrap_calls.specs.Answers.{IsWrapping, IsUnwrapping}
 use Rattle.keywrap_calls.specs.AgreedValue.{IsIv, iv_word}
 
--- a call that wraps the key, in the form that relates these keys to these texts, if the lengths of its buffers are
--- legal
+-- a call that wraps the key, in the form with this relation of keys and texts, if the lengths of its buffers are legal
 pub record IsWrapCall (Legal : Type 0) (Stands : List ℕ → List ℕ → Type 0) (kek key old new : List ℕ) (status : ℤ) : Type 0 where
   pub statuses : IsWrapStatus status
   pub bad_kek : IsBadKek status ↔ ¬ IsKekLength (length kek)
@@ -21,7 +20,7 @@ pub record IsWrapCall (Legal : Type 0) (Stands : List ℕ → List ℕ → Type 
   pub kept : ¬ IsDone status → new ≡ old
   pub answer : IsDone status → IsWrapping Stands key new
 
--- a call that unwraps the text and finds the key; no key belongs to the text in the other form. A wrapping is refused
+-- a call that unwraps the text and finds the key; in the other form the text is not a wrapping. A wrapping is refused
 -- only for its lengths
 pub record IsUnwrapCall (Legal : Type 0) (Stands Other : List ℕ → List ℕ → Type 0) (kek text key old new : List ℕ) (status : ℤ)
     : Type 0 where
@@ -36,14 +35,15 @@ pub record IsUnwrapCall (Legal : Type 0) (Stands Other : List ℕ → List ℕ �
   pub answer : IsDone status → IsUnwrapping Stands Other text key
   pub accepts : (other : List ℕ) → IsKekLength (length kek) → Legal → Stands other text → IsDone status
 
--- a call under an initial value that both ends agreed on: a value that is refused comes first, and keeps the buffer
+-- a call under an initial value that both ends agreed on: a refused value is the first cause, and leaves the buffer
+-- unchanged
 pub record IsCallWith (Call : Type 0) (iv old new : List ℕ) (status : ℤ) : Type 0 where
   pub bad_iv : IsBadIv status ↔ ¬ IsIv iv
   pub kept_at_bad_iv : IsBadIv status → new ≡ old
   pub call : IsIv iv → Call
 
--- the key that an unwrapping of the padded form finds, of so many bytes: in the buffer after these bytes, with its
--- padding; and no key belongs to the text in the plain form, whatever the initial value
+-- the result of unwrapping the padded form: a key of this length is in the buffer after these bytes, with its padding;
+-- and the text is not a plain wrapping, under any initial value
 pub record IsPaddedKey (E : List ℕ → List ℕ) (text key front new : List ℕ) (key_len : ℕ) (status : ℤ) : Type 0 where
   pub no_key : ¬ IsDone status → key_len ≡ 0
   pub other_values : IsDone status → NoPlainKey E text
@@ -85,7 +85,7 @@ abbrev pub UnwrapsPadded : (E : List ℕ → List ℕ) (kek text old new : List 
 UnwrapsPadded E kek text old new key_len status =
     IsUnwrapCall (ArePaddedLengths (length old) (length text)) (Padded E) (Plain E default_iv) kek text (take key_len new) old new status
 
--- the padded form in one buffer: the key of so many bytes follows the first 8 bytes
+-- the padded form in one buffer: the key, of this length, follows the first 8 bytes
 abbrev pub WrapsPaddedInPlace : (E : List ℕ → List ℕ) (kek : List ℕ) (key_len : ℕ) (old new : List ℕ) (status : ℤ) → Type 0
 WrapsPaddedInPlace E kek key_len old new status =
     IsWrapCall (IsPaddedRoom key_len (length old)) (Padded E) kek (key_in key_len old) old new status

@@ -20,35 +20,35 @@ abbrev pub form_of_bit : ℕ → Form
 form_of_bit zero = Plain
 form_of_bit (suc _) = Padded
 
--- bit 0 is of the old form and bit 1 of the new one
+-- bit 0 is about the old form, bit 1 about the new one
 abbrev pub between : ℕ → Asked
 between flags = Between (form_of_bit (flags % 2)) (form_of_bit (flags / 2 % 2))
 
--- where bit 2 is set the form is kept
+-- if bit 2 is set, the form is kept
 abbrev pub kept_if : ℕ → Asked → Asked
 kept_if zero forms = forms
 kept_if (suc _) forms = Keep
 
--- what the flags ask for
+-- the forms that the flags request
 abbrev pub asked : ℕ → Asked
 asked flags = kept_if (flags / 4) (between flags)
 
--- a wrapped key may be of this length: in the old form, or in some form if the form is kept
+-- a legal length of a wrapped key: in the old form, or in some form if the form is kept
 abbrev pub IsGivenLength : Asked → ℕ → Type 0
 IsGivenLength (Between old new) len = IsTextLength old len
 IsGivenLength Keep len = IsSomeTextLength len
 
--- a length is refused: the wrapped key's, or the key's in the new form
+-- the length of the wrapped key is not legal, or the length of its key is not legal in the new form
 abbrev pub HasBadLength : Asked → (List ℕ → List ℕ) → List ℕ → Type 0
 HasBadLength (Between old new) E text = rewrap.HasBadLength (by_default old) E (by_default new) text
 HasBadLength Keep E text = ¬ IsSomeTextLength (length text)
 
--- it has a legal length, and is the wrapping of no key: in the old form, or in any form if the form is kept
+-- its length is legal, but it is not a wrapping in the old form or, if the form is kept, in any form
 abbrev pub HasNoKey : Asked → (List ℕ → List ℕ) → List ℕ → Type 0
 HasNoKey (Between old new) E text = rewrap.HasNoWrapping (by_default old) E text
 HasNoKey Keep E text = HasNoForm E text
 
--- it is the wrapping of a key that the new form takes
+-- it is the wrapping of a key whose length is legal in the new form
 abbrev pub HasGoodKey : Asked → (List ℕ → List ℕ) → List ℕ → Type 0
 HasGoodKey (Between old new) E text = (key : List ℕ) × StandsIn old E key text × IsKeyLength new (length key)
 HasGoodKey Keep E text = (form : Form) × (key : List ℕ) × StandsIn form E key text
@@ -58,8 +58,8 @@ abbrev pub Rewraps : Asked → (List ℕ → List ℕ) → (List ℕ → List �
 Rewraps (Between old new) E F text answer = IsRewrapping old E new F text answer
 Rewraps Keep E F text answer = IsKeptRewrapping E F text answer
 
--- a call that rewraps from E, of the old KEK, to F, of the new one; a wrapping whose key has a legal length in the new
--- form is not refused
+-- a call that rewraps from E (the old KEK) to F (the new KEK); a wrapping whose key has a legal length in the new form
+-- is not refused
 pub record RewrapsInPlace (E F : List ℕ → List ℕ) (old_kek new_kek : List ℕ) (flags : ℕ) (old new : List ℕ) (status : ℤ)
     : Type 0 where
   pub statuses : IsUnwrapStatus status

@@ -1,4 +1,4 @@
--- What is promised of the form in which a key was wrapped.
+-- The promise about the form in which a key was wrapped.
 use Rattle.std.specs.Prelude.{◌≡◌, ◌↔◌, ◌⊎◌, ◌+◌, ℕ, zero, suc, ℤ, List, length, All}
 use Rattle.aes_block.specs.KeyExpansion.{IsKekLength}
 use Rattle.key_wrap.specs.declared.forms.Kind.{Kind}
@@ -10,16 +10,16 @@ use Rattle.key_wrap.specs.Answer.{NoKey}
 use Rattle.key_wrap.specs.Kind.{IsKindOf, NoOtherKey}
 use Rattle.keywrap_calls.specs.Status.{IsDone, IsBadKek, IsBadLength, IsIntegrity, IsUnwrapStatus}
 
--- a scratch buffer is 8 bytes shorter than the wrapped key, if that has a length that is legal in a form
+-- the scratch buffer is 8 bytes shorter than the wrapped key, if the length of the wrapped key is legal in a form
 abbrev pub HasScratch : ℕ → ℕ → Type 0
 HasScratch text scratch = IsPaddedTextLength text → text ≡ scratch + 8
 
--- a key of so many bytes, in the plain form at 0 and in the padded one otherwise
+-- a key of this length, in the plain form if the number is 0, otherwise in the padded form
 abbrev pub found_kind : ℕ → ℕ → Kind
 found_kind zero m = Plain m
 found_kind (suc _) m = Padded m
 
--- a call that finds the form of the text and the length of its key; what is wrapped in a form is found to be so
+-- a call that finds the form of the text and the length of its key, for every wrapping
 pub record FindsKind (E : List ℕ → List ℕ) (kek text old new : List ℕ) (is_padded key_len : ℕ) (status : ℤ) : Type 0 where
   pub statuses : IsUnwrapStatus status
   pub bad_kek : IsBadKek status ↔ ¬ IsKekLength (length kek)

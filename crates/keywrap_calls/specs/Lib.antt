@@ -6,4 +6,5 @@ pub mod Calls
 pub mod Forms
 pub mod Kinds
 pub mod StatusTexts
+pub mod SelfTest
 pub mod Version

@@ -1,9 +1,9 @@
--- What a call answers: the exit statuses of the command keywrap.
+-- The statuses of the calls, which are the exit statuses of the command keywrap.
 use Rattle.std.specs.Prelude.{◌≡◌, ◌⊎◌, ℤ, pos, Result, Ok, Err}
 use Rattle.key_wrap.specs.declared.faults.InPlaceFault.{InPlaceFault}
 use Rattle.key_wrap.specs.declared.faults.InPlaceFault.TheVariants.{BadLength, Integrity}
 
--- the call did what it is for
+-- the call succeeded
 abbrev pub IsDone : ℤ → Type 0
 IsDone status = status ≡ pos 0
 
@@ -15,27 +15,27 @@ IsBadIv status = status ≡ pos 2
 abbrev pub IsBadKek : ℤ → Type 0
 IsBadKek status = status ≡ pos 3
 
--- another length is refused
+-- another length is not legal
 abbrev pub IsBadLength : ℤ → Type 0
 IsBadLength status = status ≡ pos 4
 
--- the integrity check failed: no key belongs to the text
+-- the integrity check failed: the text is not a wrapping
 abbrev pub IsIntegrity : ℤ → Type 0
 IsIntegrity status = status ≡ pos 5
 
--- all that a wrapping call answers
+-- the statuses of a wrapping call
 abbrev pub IsWrapStatus : ℤ → Type 0
 IsWrapStatus status = IsDone status ⊎ (IsBadKek status ⊎ IsBadLength status)
 
--- all that an unwrapping call answers
+-- the statuses of an unwrapping call
 abbrev pub IsUnwrapStatus : ℤ → Type 0
 IsUnwrapStatus status = IsWrapStatus status ⊎ IsIntegrity status
 
--- all that a wrapping call under an agreed initial value answers
+-- the statuses of a wrapping call under an agreed initial value
 abbrev pub IsWrapWithStatus : ℤ → Type 0
 IsWrapWithStatus status = IsBadIv status ⊎ IsWrapStatus status
 
--- all that an unwrapping call under an agreed initial value answers
+-- the statuses of an unwrapping call under an agreed initial value
 abbrev pub IsUnwrapWithStatus : ℤ → Type 0
 IsUnwrapWithStatus status = IsBadIv status ⊎ IsUnwrapStatus status
 

@@ -1,4 +1,4 @@
--- What a status says, and what a buffer holds of it.
+-- The text of a status, and the part of it in a buffer.
 use Rattle.std.specs.Prelude.{ℕ, ℤ, pos, List, ◌∷◌, ◌++◌, ◌+◌, ◌-◌, length, take, drop, codes, if◌then◌else◌}
 use Rattle.std.specs.Ordering.{int_eq}
 

@@ -8,8 +8,8 @@ use aes_block::KeyInit;
 use block_pair::Meter;
 use key_wrap::{Kind, kind_into};
 
-/// Finds the form in which `text` is a wrapping under `kek`, and the length of its key: `*padded` is
-/// 0 in the plain form, under the default initial value, and 1 in the padded form (RFC 3394, RFC
+/// Finds the form in which `text` is a wrapping under `kek`, and the length of its key: `*padded`
+/// is 0 in the plain form, under the default initial value, and 1 in the padded form (RFC 3394, RFC
 /// 5649).
 ///
 /// The key is not given out. `scratch` has the length of `text` without its first word. If the

@@ -3,6 +3,7 @@
 #![tactic(auto)]
 
 mod kinds;
+mod known_answers;
 mod padded;
 mod padded_in_place;
 mod plain;
@@ -14,6 +15,7 @@ mod texts;
 mod version_number;
 
 pub use kinds::kind;
+pub use known_answers::{TestedCalls, self_test};
 pub use padded::{unwrap_padded, wrap_padded};
 pub use padded_in_place::{unwrap_padded_in_place, wrap_padded_in_place};
 pub use plain::{unwrap, wrap};

@@ -50,8 +50,8 @@ pub fn unwrap_with<A: KeyInit>(
     status_of(unwrap_into_with(&mut Meter::new(&aes), &value, text, key))
 }
 
-/// Returns the initial value of these bytes. `None` if they are not 8 bytes, or are reserved for the
-/// padded form.
+/// Returns the initial value of these bytes. `None` if they are not 8 bytes, or are reserved for
+/// the padded form.
 #[tactic(auto, unfolding(crate::specs::AgreedValue::iv_word, crate::specs::AgreedValue::IsIv))]
 pub fn initial_value(bytes: &[u8]) -> Option<InitialValue>
     ensures given { IfSome result (λ value. IsIv bytes.now × (value ≡ iv_word bytes.now)) }

@@ -22,17 +22,17 @@ const BOTH_PADDED: u32 = OLD_PADDED + NEW_PADDED;
 // The flag of a wrapped key that may be in either form, and keeps it.
 const KEEP_FORM: u32 = 4;
 
-// What the flags of a rewrapping ask for: the old form and the new one, or that the form is kept.
+// The forms that the flags request: the old form and the new one, or either form, which is kept.
 enum Asked {
     Between(Form, Form),
     Keep,
 }
 
-/// Replaces the wrapped key in `buffer`, under `old_kek`, by the same key wrapped under `new_kek`, of
-/// the same length. `forms` has a flag for each of the two that is padded, as in `keywrap.h`, or only
-/// the flag by which the wrapped key keeps its form, and no other bit (RFC 3394 and RFC 5649).
+/// Replaces the wrapped key in `buffer`, under `old_kek`, by the same key wrapped under `new_kek`,
+/// of the same length. `forms` has a flag for each wrapped key with the padded form, as in
+/// `keywrap.h`, or only the flag that keeps the form, and no other bit (RFC 3394 and RFC 5649).
 ///
-/// After the integrity check has failed, and if the key has no legal length in the new form, every
+/// After a failed integrity check, and if the length of the key is not legal in the new form, every
 /// byte of the buffer is zero.
 pub fn rewrap_in_place<A: KeyInit>(
     old_room: A::Room,
@@ -54,8 +54,8 @@ pub fn rewrap_in_place<A: KeyInit>(
     status_of(rewrap_as(&mut Meter::new(&old), &mut Meter::new(&new), forms, buffer))
 }
 
-// Rewraps as the flags ask, under any pairs. Not inlined, its frame lies over what the making of the
-// key schedules left on the stack.
+// Rewraps as the flags ask, under any pairs. Not inlined, its frame lies over what the making of
+// the key schedules left on the stack.
 #[inline(never)]
 fn rewrap_as<O: BlockPair, N: BlockPair>(
     old: &mut Meter<O>,
@@ -85,7 +85,7 @@ fn rewrap_as<O: BlockPair, N: BlockPair>(
     }
 }
 
-// What these flags ask for.
+// Returns the forms that these flags request.
 fn asked_of(flags: u32) -> Option<Asked>
     ensures named { IfSome result (λ found. AreFlags flags × (found ≡ asked flags)) }
     ensures refused { IfNone result (¬ AreFlags flags) }

@@ -1,4 +1,4 @@
-//! What a status says.
+//! The texts of statuses.
 
 ghost use Rattle.std.specs.Prelude.{◌≡◌, ◌<◌, length};
 ghost use Rattle.keywrap_calls.specs.StatusTexts.{text_of, fitting, begun_with};

@@ -10,10 +10,9 @@ use Rattle.key_wrap.specs.declared.faults.InPlaceFault.{InPlaceFault}
 use Rattle.key_wrap.specs.declared.faults.InPlaceFault.TheVariants.{BadLength, Integrity}
 use Rattle.key_wrap.specs.declared.forms.Kind.{Kind}
 use Rattle.key_wrap.specs.declared.forms.Kind.TheVariants as kinds
-use Rattle.keywrap_cli.specs.Answers.{AnswerIs, AnswerOfJob, HasMark, MakesConversion, WritesFor, job_of, kind_line, mark_of}
+use Rattle.keywrap_cli.specs.Answers.{AnswerOfJob, HasMark, MakesConversion, WritesFor, job_of, kind_line}
 use Rattle.keywrap_cli.specs.Engine.{RunsInput, UnderReadKek, WritesAnswer, WritesFrom, WritesOutput, job_fault_of}
 use Rattle.keywrap_cli.specs.Files.{printed}
-use Rattle.keywrap_cli.specs.Job.{WritesTheAnswer, WritesTheKeyWith}
 use Rattle.keywrap_cli.specs.Readings.{ReadsInput}
 use Rattle.keywrap_cli.specs.declared.convert.Direction.{Direction}
 use Rattle.keywrap_cli.specs.declared.convert.Direction.TheVariants as directions
@@ -27,12 +26,6 @@ use Rattle.keywrap_cli.specs.declared.job.Task.{Task}
 pub unmarked : (direction : Direction) (text : List ℕ) → HasMark (job_of direction) text Unmarked
 unmarked directions.Wrap text h = let no = h.0 in cc
 unmarked directions.Unwrap text h = let no = h.0 in cc
-
--- the mark of a check's line
-pub check_mark : (kind : Kind) (text : List ℕ) → text ≡ kind_line kind → HasMark Check text (mark_of kind)
-check_mark (kinds.Plain m) text is = λ h. let no = sym is ∙ h.1 in cc
-check_mark (kinds.Padded m) text is = λ h. let no = sym is ∙ h.1 in cc
-check_mark kinds.Neither text is = (refl, is)
 
 -- what a job answers to bytes, from what its conversion makes of them
 pub converted_refusal : (direction : Direction) (iv : ℕ) (task : Task) (E : List ℕ → List ℕ) (X : List ℕ) (refusal : InPlaceFault)
@@ -48,13 +41,6 @@ pub converted : (direction : Direction) (iv : ℕ) (task : Task) (E : List ℕ �
 converted directions.Wrap iv task E X Y text h is = ((Y, h, is), unmarked directions.Wrap text)
 converted directions.Unwrap iv task E X Y text h is = ((Y, h, is), unmarked directions.Unwrap text)
 
--- what a call says of its result is what the trait says
-pub answer_is : {R E : Type 0} (Is : Result Answer R → Type 0) (output : List ℕ) (r : Result (Result Mark R) E) → AnswerIs Is output r
-    → IfOk r (λ answer. Is (answered output answer))
-answer_is Is output (Ok (Ok mark)) h = h
-answer_is Is output (Ok (Err refusal)) h = h
-answer_is Is output (Err fault) h = tt
-
 -- a refusal writes nothing
 pub refused_write : (answers : List ℕ → Result Answer InPlaceFault → Type 0) (X : List ℕ) (out : Option (List ℕ)) (refusal : InPlaceFault)
     → answers X (Err refusal) → WritesAnswer answers X out out (Err (job_fault_of refusal))
@@ -67,11 +53,9 @@ output_from : (notation : Notation) (answers : List ℕ → Result Answer InPlac
     → (text : Result (Vec ℕ Global) JobFault) → ReadsInput notation input input' text → WritesFrom answers text out out' (Ok answer)
     → WritesOutput notation Is input input' out out'
 output_from notation answers Is input input' out out' answer each (Ok X) read rest = record {
-  G = read.taken;
   X = X.items;
   output = answer.text;
-  taken = read.stands_after;
-  denoted = read.answers.0;
+  read = read;
   is_output = each X.items rest.0;
   written = rest.1;
 }
@@ -82,10 +66,3 @@ pub written_output : (notation : Notation) (answers : List ℕ → Result Answer
     → RunsInput notation answers input input' out out' (Ok answer) → WritesOutput notation Is input input' out out'
 written_output notation answers Is input input' out out' answer each run =
     output_from notation answers Is input input' out out' answer each run.text run.read run.rest
-
--- the answer of an unwrap is the key
-pub key_headline : (iv : ℕ) (task : Task) (kek kek' input input' out out' : Option (List ℕ)) → task.job ≡ Unwrap
-    → WritesTheAnswer iv task kek kek' input input' out out' → WritesTheKeyWith iv task kek kek' input input' out out'
-key_headline iv task kek kek' input input' out out' job headline =
-    subst (λ (j : Job). UnderReadKek task.kek kek kek'
-    (λ K. WritesOutput task.input (WritesFor j iv task (cipher K)) input input' out out')) job headline

@@ -1,9 +1,9 @@
 pub mod Answered
 pub mod Drills
 pub mod InitialValues
+pub mod KindLines
 pub mod Passes
 pub mod Readings
 pub mod Reports
 pub mod Rewraps
-pub mod RightVectors
 pub mod UnwrapRefusals

@@ -4,7 +4,8 @@ use Rattle.std.specs.List.{AllByRecursion}
 use Rattle.std.proofs.Common.{◌≡◌, ◌+◌, ◌<◌, ◌&&◌, ◌↔◌, ℕ, Option, subst, take, map, get_or, Bool, true, false, IsTrue, List, [], ◌∷◌, ◌++◌, length, refl, sym}
 use Rattle.std.proofs.Common.{ap, ◌∙◌, append_assoc, arith, length-append}
 use Rattle.std.proofs.lemmas.List.{append-nil, map-append, take_more}
-use Rattle.keywrap_cli.specs.Vectors.{AreVerdicts, IsReport, IsRight, TestVector, lines_of, verdict, all_true}
+use Rattle.keywrap_cli.specs.Vectors.{AreVerdicts, IsReport, IsRight, lines_of, verdict, all_true}
+use Rattle.test_vectors.specs.Vectors.{TestVector}
 
 lines_more : (vectors : List TestVector) (oks : List Bool) (v : TestVector) (ok : Bool) → length oks ≡ length vectors
     → lines_of (vectors ++ v ∷ []) (oks ++ ok ∷ []) ≡ lines_of vectors oks ++ (v.name ++ verdict ok)

@@ -1,5 +1,5 @@
--- What the two kinds of job answer to bytes, an input's or a line's: a task under a KEK, and a rewrapping under two. An
--- output is in the notation of the input. The plain form has the initial value `iv`.
+-- The answers of jobs and rewrappings to bytes: the bytes of an input or of a line. A job has one KEK, a rewrapping
+-- two. An output is in the notation of the input. The plain form has the initial value `iv`.
 use Rattle.std.specs.Prelude.{◌≡◌, ⊤, Bool, ℕ, List, [], ◌∷◌, ◌++◌, length, codes, Result, Ok, Err}
 use Rattle.std.specs.Fmt.{decimal}
 use Rattle.key_lines.specs.Answers.{Answer}
@@ -34,8 +34,8 @@ kind_line (kinds.Plain m) = codes "plain " ++ decimal m ++ 10 ∷ []
 kind_line (kinds.Padded m) = codes "padded " ++ decimal m ++ 10 ∷ []
 kind_line kinds.Neither = codes "none\n"
 
--- what a job in a form writes for the bytes X: the wrapping of the key, the key of the wrapping, or the line that says
--- what X is a wrapping of
+-- the output of a job for the bytes X: the wrapping of the key X, the key whose wrapping is X, or the line of a check
+-- of X
 abbrev pub WritesFor : Job → ℕ → Task → (List ℕ → List ℕ) → List ℕ → List ℕ → Type 0
 WritesFor Wrap iv task E X output =
     (text : List ℕ) × IsTextOf task.form iv E X text × (output ≡ printed task.input text)
@@ -43,91 +43,62 @@ WritesFor Unwrap iv task E X output =
     (key : List ℕ) × IsKeyOf task.form iv E X key × (output ≡ printed task.input key)
 WritesFor Check iv task E X output = (kind : Kind) × IsKindWith iv E X kind × (output ≡ kind_line kind)
 
--- the bytes X have no legal length for the job; a check asks for none
+-- the bytes X have an illegal length for the job; a check accepts any length
 abbrev pub HasBadLength : Job → Form → List ℕ → Type 0
 HasBadLength Wrap form X = ¬ IsInputLength directions.Wrap form (length X)
 HasBadLength Unwrap form X = ¬ IsInputLength directions.Unwrap form (length X)
 HasBadLength Check form X = ⊥
 
--- the bytes X have a legal length, and no key belongs to them; only an unwrapping is refused for that
+-- the bytes X have a legal length, but are not the wrapping of a key; only an unwrapping is refused for that
 abbrev pub HasNoKey : Job → Form → ℕ → (List ℕ → List ℕ) → List ℕ → Type 0
 HasNoKey Wrap form iv E X = ⊥
 HasNoKey Unwrap form iv E X = IsInputLength directions.Unwrap form (length X) × NoKey (Stands form iv E) X
 HasNoKey Check form iv E X = ⊥
 
--- an answer is marked exactly if it is a check that found none
+-- an answer is marked exactly if a check found no key
 abbrev pub HasMark : Job → List ℕ → Mark → Type 0
 HasMark job text Unmarked = ¬ ((job ≡ Check) × (text ≡ kind_line kinds.Neither))
 HasMark job text Marked = (job ≡ Check) × (text ≡ kind_line kinds.Neither)
 
-abbrev pub mark_of : Kind → Mark
-mark_of (kinds.Plain m) = Unmarked
-mark_of (kinds.Padded m) = Unmarked
-mark_of kinds.Neither = Marked
-
--- what this job, with the form and the notation of the task, answers to the bytes X, by cases
+-- the answer of this job to the bytes X, by cases, in the form and the notation of the task
 abbrev pub AnswerOfJob : Job → ℕ → Task → (List ℕ → List ℕ) → List ℕ → Result Answer InPlaceFault → Type 0
 AnswerOfJob job iv task E X (Ok answer) = WritesFor job iv task E X answer.text × HasMark job answer.text answer.mark
 AnswerOfJob job iv task E X (Err BadLength) = HasBadLength job task.form X
 AnswerOfJob job iv task E X (Err Integrity) = HasNoKey job task.form iv E X
 
--- what the job of the task answers to the bytes X
+-- the answer of the task's job to the bytes X
 abbrev pub JobAnswer : ℕ → Task → (List ℕ → List ℕ) → List ℕ → Result Answer InPlaceFault → Type 0
 JobAnswer iv task E X answer = AnswerOfJob task.job iv task E X answer
 
--- how a run over lines reads an input in this notation
-abbrev pub line_options : Notation → Bool → RunOptions
-line_options notation keep_going = record { notation = text_notation notation; keep_going = keep_going }
-
--- the task with its input and output as lines in this notation
-abbrev pub in_lines : TextNotation → Task → Task
-in_lines notation task = record { job = task.job; form = task.form; input = line_notation notation; kek = task.kek }
-
--- what a call has done if the answer has this mark
+-- the result of a call whose answer has this mark
 abbrev pub done_of : Mark → Done
 done_of Unmarked = Written
 done_of Marked = Neither
 
--- the job that goes in a direction
+-- the job of a direction
 abbrev pub job_of : Direction → Job
 job_of directions.Wrap = Wrap
 job_of directions.Unwrap = Unwrap
 
--- what a rewrapping answers to the text: what it makes of it, in a notation
+-- the answer of a rewrapping to the text, printed in its notation
 abbrev pub RewrappingAnswer : Rewrapping → (List ℕ → List ℕ) → (List ℕ → List ℕ) → List ℕ → Result Answer InPlaceFault → Type 0
 RewrappingAnswer task E F text (Ok answer) =
     (made : List ℕ) × MakesMarked task.pass_new task.forms E F text (Ok (record { text = made; mark = answer.mark }))
     × (answer.text ≡ printed task.input made)
 RewrappingAnswer task E F text (Err refusal) = Makes task.pass_new task.forms E F text (Err refusal)
 
--- the rewrapping with its input and output as lines in this notation
-abbrev pub lines_of : TextNotation → Rewrapping → Rewrapping
-lines_of notation task = record { forms = task.forms; pass_new = task.pass_new; input = line_notation notation; kek = task.kek }
-
--- a rewrapping that wrote its output is done, whatever its mark
+-- the result of a rewrapping that wrote its output does not depend on the mark
 abbrev pub written : Mark → Done
 written mark = Written
 
--- an output of a rewrapping for this text: what it makes of it, in a notation
+-- an output of a rewrapping for this text, printed in its notation
 abbrev pub RewrapsTo : Rewrapping → (List ℕ → List ℕ) → (List ℕ → List ℕ) → List ℕ → List ℕ → Type 0
 RewrapsTo task E F text output =
     (made : List ℕ) × Makes task.pass_new task.forms E F text (Ok made) × (output ≡ printed task.input made)
 
--- what a conversion makes of the bytes X, by cases
+-- the result of a conversion of the bytes X, by cases
 abbrev pub MakesConversion : Direction → Form → ℕ → (List ℕ → List ℕ) → List ℕ → Result (List ℕ) InPlaceFault → Type 0
 MakesConversion direction form iv E X (Ok Y) = IsAnswer direction form iv E X Y
 MakesConversion direction form iv E X (Err BadLength) = ¬ IsInputLength direction form (length X)
 MakesConversion direction form iv E X (Err Integrity) =
     IsInputLength direction form (length X) × HasNoAnswer direction form iv E X
-
--- this holds for the result of a call, unless an allocation failed
-abbrev pub OutcomeIs : {R E : Type 0} → (Result (List ℕ) R → Type 0) → List ℕ → Result (Result Unit R) E → Type 0
-OutcomeIs Is output (Ok (Ok done)) = Is (Ok output)
-OutcomeIs Is output (Ok (Err refusal)) = Is (Err refusal)
-OutcomeIs Is output (Err fault) = ⊤
-
--- the same of an answer with its mark
-abbrev pub AnswerIs : {R E : Type 0} → (Result Answer R → Type 0) → List ℕ → Result (Result Mark R) E → Type 0
-AnswerIs Is output (Ok (Ok mark)) = Is (Ok (record { text = output; mark = mark }))
-AnswerIs Is output (Ok (Err refusal)) = Is (Err refusal)
-AnswerIs Is output (Err fault) = ⊤

@@ -1,5 +1,5 @@
--- Wrapping and unwrapping in either form, in the words of key_wrap. The plain form has an initial value `iv`, and the
--- padded form asks for none.
+-- Wrapping and unwrapping in either form, in terms of key_wrap. The plain form has an initial value `iv`, which the
+-- padded form ignores.
 use Rattle.std.specs.Prelude.{◌≡◌, ℕ, List, length}
 use Rattle.key_wrap.specs.declared.forms.Form.{Form}
 use Rattle.key_wrap.specs.Answer.{NoKey}
@@ -8,19 +8,19 @@ use Rattle.key_wrap.specs.Rewrap.{NoOtherForm}
 use Rattle.keywrap_cli.specs.declared.convert.Direction.{Direction}
 use Rattle.keywrap_cli.specs.declared.convert.Direction.TheVariants.{Wrap, Unwrap}
 
--- the legal lengths of what is wrapped or unwrapped in this form
+-- the legal lengths of a key to wrap, or of a wrapped key to unwrap, in this form
 abbrev pub IsInputLength : Direction → Form → ℕ → Type 0
 IsInputLength Wrap form len = IsKeyLength form len
 IsInputLength Unwrap form len = IsTextLength form len
 
--- `text` is the wrapping of the key, of a legal length, and nothing else is
+-- `text` is the only wrapping of the key, which has a legal length
 pub record IsTextOf (form : Form) (iv : ℕ) (E : List ℕ → List ℕ) (key text : List ℕ) : Type 0 where
   pub legal : IsTextLength form (length text)
   pub stands : Stands form iv E key text
   pub alone : (other : List ℕ) → Stands form iv E key other → other ≡ text
 
--- `text` is the wrapping of this key, and of no other. Wrapping the key again restores the wrapped key. No key belongs
--- to the wrapped key in the other form, under any initial value.
+-- `text` is the wrapping of this key, and of no other. Wrapping the key again restores `text`. In the other form `text`
+-- is not a wrapping, under any initial value.
 pub record IsKeyOf (form : Form) (iv : ℕ) (E : List ℕ → List ℕ) (text key : List ℕ) : Type 0 where
   pub stands : Stands form iv E key text
   pub alone : (other : List ℕ) → Stands form iv E other text → other ≡ key
@@ -32,7 +32,7 @@ abbrev pub IsAnswer : Direction → Form → ℕ → (List ℕ → List ℕ) →
 IsAnswer Wrap form iv E X Y = IsTextOf form iv E X Y
 IsAnswer Unwrap form iv E X Y = IsKeyOf form iv E X Y
 
--- only an unwrapping is refused for its integrity: no key belongs to the wrapped key
+-- an unwrapping is refused because its input is not a wrapping; a wrapping never is
 abbrev pub HasNoAnswer : Direction → Form → ℕ → (List ℕ → List ℕ) → List ℕ → Type 0
 HasNoAnswer Wrap form iv E X = ⊥
 HasNoAnswer Unwrap form iv E X = NoKey (Stands form iv E) X

@@ -1,4 +1,4 @@
--- What a drill answers.
+-- The results of drills.
 use Rattle.std.specs.Prelude.{◌≡◌, ℕ, List, length, Result, Ok, Err, Vec}
 use Rattle.std.specs.declared.alloc.Global.{Global}
 use Rattle.block_pair.specs.Halves.{swapped_halves}
@@ -12,11 +12,11 @@ use Rattle.keywrap_cli.specs.declared.drilling.DrillFault.{DrillFault}
 use Rattle.keywrap_cli.specs.declared.drilling.DrillFault.TheVariants.{TooLong, BadDigit, OddDigits, BadLength, Integrity, Memory}
 use Rattle.keywrap_cli.specs.Conversion.{IsAnswer, HasNoAnswer, IsInputLength}
 
--- what the text of a drill denotes: it is a hex file of at most 4,194,304 bytes
+-- what the text of a drill denotes, as a hex file of at most 4,194,304 bytes
 abbrev pub drill_meaning : List ℕ → Result (List ℕ) FileFault
 drill_meaning text = file_meaning hex_meaning 4194304 text
 
--- the bytes that the text denotes, by cases: Memory comes only in their place
+-- the bytes that the text denotes, by cases; Memory is only possible instead of these bytes
 abbrev pub TextAnswer : List ℕ → Result (Vec ℕ Global) DrillFault → Type 0
 TextAnswer text (Ok X) = drill_meaning text ≡ Ok X.items
 TextAnswer text (Err TooLong) = drill_meaning text ≡ Err files.TooLong
@@ -26,7 +26,7 @@ TextAnswer text (Err BadLength) = ⊥
 TextAnswer text (Err Integrity) = ⊥
 TextAnswer text (Err Memory) = (X : List ℕ) × (drill_meaning text ≡ Ok X)
 
--- a drill's fault for what a text does not denote
+-- a drill's fault for a text that denotes no bytes
 abbrev pub text_fault_of : FileFault → DrillFault
 text_fault_of (files.BadDigit at) = BadDigit at
 text_fault_of files.OddDigits = OddDigits
@@ -35,8 +35,8 @@ text_fault_of files.TooLong = Memory
 text_fault_of (files.BadBase64 wrong) = Memory
 text_fault_of files.Memory = Memory
 
--- The answer over the drill block, by cases, under the default initial value. Memory is only possible if the text
--- denotes bytes.
+-- The result with the toy cipher and the default initial value, by cases. Memory is only possible if the text denotes
+-- bytes.
 abbrev pub DrillAnswer : Direction → Form → List ℕ → Result (Vec ℕ Global) DrillFault → Type 0
 DrillAnswer direction form text (Ok Y) =
     (X : List ℕ) × (drill_meaning text ≡ Ok X) × IsAnswer direction form default_iv swapped_halves X Y.items

@@ -1,8 +1,8 @@
--- A run, put together from its steps: the KEKs are read in their order, then the input, or each line of it, is read, a
--- job answers its bytes, and the answer is written. It ends at the first step that is refused, and the later ones are
--- not begun. A job is known by what it answers to bytes: an output to be written, or a refusal.
-use Rattle.std.specs.Prelude.{◌≡◌, ◌<◌, ℕ, List, length, take, Option, Result, Ok, Err, Vec, IfSome, MatchResult}
-use Rattle.std.specs.Io.KnownBytes.{Appends, Consumes, Keeps}
+-- The steps of a run. The KEKs are read in order. Then the input, or each line of it, is read, and the job's answer to
+-- its bytes is written. The run ends at the first step that is refused, and no later step begins. A job is represented
+-- by its answers to bytes: an output, or a refusal.
+use Rattle.std.specs.Prelude.{◌≡◌, ◌<◌, ◌↔◌, ◌⊎◌, ℕ, IsTrue, List, length, take, Option, Result, Ok, Err, Vec, IfSome, IsOkAnd, MatchResult}
+use Rattle.std.specs.Io.KnownBytes.{Appends, Keeps}
 use Rattle.std.specs.declared.alloc.Global.{Global}
 use Rattle.key_lines.specs.Running.{RunsLines, WritesAnswers}
 use Rattle.key_files.specs.declared.fault.FileFault.{FileFault}
@@ -14,23 +14,23 @@ use Rattle.key_lines.specs.declared.run.RunOptions.{RunOptions}
 use Rattle.key_lines.specs.declared.summary.RunSummary.{RunSummary}
 use Rattle.key_wrap.specs.declared.faults.InPlaceFault.{InPlaceFault}
 use Rattle.key_wrap.specs.declared.faults.InPlaceFault.TheVariants as refusals
-use Rattle.keywrap_cli.specs.Files.{Denotes, DenotesKek}
-use Rattle.keywrap_cli.specs.Readings.{ReadsInput, ReadsKek, kek_fault_of}
+use Rattle.keywrap_cli.specs.Readings.{OpensKek, ReadsFile, ReadsInput, ReadsKek, kek_fault_of}
 use Rattle.keywrap_cli.specs.declared.job.Done.{Done}
 use Rattle.keywrap_cli.specs.declared.job.JobFault.{JobFault}
 use Rattle.keywrap_cli.specs.declared.job.JobFault.TheVariants.{BadLength, Integrity, Write, Memory}
 use Rattle.keywrap_cli.specs.declared.job.Notation.{Notation}
 use Rattle.keywrap_cli.specs.declared.kek_file.KekRole.TheVariants.{Kek, NewKek}
+use Rattle.keywrap_cli.specs.declared.kek_file.Keks.{Keks}
 
--- The effect of a call under the KEK of a file: `Then` holds for the KEK that it denotes, `Refused` for the reason if
--- none.
+-- The effect of a call that reads a KEK file: if the file denotes a KEK, `Then` holds for it, and otherwise `Refused`
+-- for the reason.
 pub record UnderKek (notation : Notation) (file file' : Option (List ℕ)) (Then : List ℕ → Type 0) (Refused : (Option FileFault) → Type 0)
     : Type 0 where
   pub found : Result (List ℕ) (Option FileFault)
   pub read : ReadsKek notation file file' found
   pub rest : MatchResult found Then Refused
 
--- What is done under an old KEK and a new one: the new KEK's file is read only after the old KEK is accepted.
+-- The effect of a call that reads two KEK files: the new KEK's file is read only after the old KEK is accepted.
 abbrev pub UnderKeks : Notation → Option (List ℕ) → Option (List ℕ) → Option (List ℕ) → Option (List ℕ)
     → (List ℕ → List ℕ → Type 0) → (JobFault → Type 0) → Type 0
 UnderKeks notation kek kek' new new' Then Refused =
@@ -38,13 +38,22 @@ UnderKeks notation kek kek' new new' Then Refused =
     (λ K. UnderKek notation new new' (λ L. Then K L) (λ fault. Refused (kek_fault_of NewKek fault)))
     (λ fault. (new' ≡ new) × Refused (kek_fault_of Kek fault))
 
--- the run ends with this fault before its input: nothing was read of it, and nothing written
+-- The result of the call that reads both KEK files: the KEKs, and whether they are the same key. If the old KEK is
+-- refused, no byte of the new KEK's file is read.
+abbrev pub OpensKeks : Notation → Option (List ℕ) → Option (List ℕ) → Option (List ℕ) → Option (List ℕ) → Result Keks JobFault → Type 0
+OpensKeks notation kek kek' new new' (Ok keks) =
+    OpensKek Kek notation kek kek' (Ok keks.old) × OpensKek NewKek notation new new' (Ok keks.new) × (IsTrue keks.same ↔ (keks.old ≡ keks.new))
+OpensKeks notation kek kek' new new' (Err fault) =
+    (OpensKek Kek notation kek kek' (Err fault) × (new' ≡ new))
+    ⊎ ((K : List ℕ) × OpensKek Kek notation kek kek' (Ok K) × OpensKek NewKek notation new new' (Err fault))
+
+-- the run ends with this fault: no byte of the input was read, and no byte was written
 abbrev pub IsRefusedBefore : {T E : Type 0} → E → Option (List ℕ) → Option (List ℕ) → Option (List ℕ) → Option (List ℕ)
     → Result T E → Type 0
 IsRefusedBefore fault input input' out out' answer = (answer ≡ Err fault) × (input' ≡ input) × (out' ≡ out)
 
--- What is left in the writer for the bytes X, by cases: the whole output that the job answers, or the first `written`
--- bytes of it, or nothing.
+-- The bytes in the writer after an input X, by cases: the whole output of the job, or its first `written` bytes, or
+-- none.
 abbrev pub WritesAnswer : (List ℕ → Result Answer InPlaceFault → Type 0) → List ℕ → Option (List ℕ) → Option (List ℕ)
     → Result Answer JobFault → Type 0
 WritesAnswer answers X old new (Ok answer) = answers X (Ok answer) × Appends old new answer.text
@@ -55,64 +64,54 @@ WritesAnswer answers X old new (Err Integrity) = answers X (Err refusals.Integri
 WritesAnswer answers X old new (Err Memory) = Keeps old new
 WritesAnswer answers X old new (Err fault) = ⊥
 
--- the same, once the input was read or refused
+-- the same, after the input was read or refused
 abbrev pub WritesFrom : (List ℕ → Result Answer InPlaceFault → Type 0) → Result (Vec ℕ Global) JobFault → Option (List ℕ)
     → Option (List ℕ) → Result Answer JobFault → Type 0
 WritesFrom answers (Ok X) out out' outcome = WritesAnswer answers X.items out out' outcome
 WritesFrom answers (Err fault) out out' outcome = (outcome ≡ Err fault) × (out' ≡ out)
 
--- What a run over an input as a whole does.
+-- The effect of a run over a whole input.
 pub record RunsInput (notation : Notation) (answers : List ℕ → Result Answer InPlaceFault → Type 0)
     (input input' out out' : Option (List ℕ)) (outcome : Result Answer JobFault) : Type 0 where
   pub text : Result (Vec ℕ Global) JobFault
   pub read : ReadsInput notation input input' text
   pub rest : WritesFrom answers text out out' outcome
 
--- the outcome of a run, as the answer of the call: what was done with an answer that has this mark
+-- the result of a call, for the outcome of its run
 abbrev pub IsDoneAs : (Mark → Done) → Result Answer JobFault → Result Done JobFault → Type 0
 IsDoneAs done (Ok output) (Ok answer) = answer ≡ done output.mark
 IsDoneAs done (Err fault) (Err other) = other ≡ fault
 IsDoneAs done outcome answer = ⊥
 
--- the input is answered as a whole, and so is the call
+-- the effect of a run over a whole input, with the result of the call
 abbrev pub AnswersInput : Notation → (List ℕ → Result Answer InPlaceFault → Type 0) → (Mark → Done)
     → Option (List ℕ) → Option (List ℕ) → Option (List ℕ) → Option (List ℕ) → Result Done JobFault → Type 0
 AnswersInput notation answers done input input' out out' answer =
     (outcome : Result Answer JobFault) × RunsInput notation answers input input' out out' outcome × IsDoneAs done outcome answer
 
--- The effect of a run over lines of at most 4,194,304 bytes. If the rest of the input is known, what was written are
--- the answers to its first lines, in order.
-pub record RunsOver {R : Type 0} (options : RunOptions) (answers : List ℕ → Result Answer R → Type 0)
-    (input input' out out' : Option (List ℕ)) (log log' : Option (List (RefusedLine R))) (answer : Result (RunSummary R) (RunFault R)) : Type 0 where
-  pub run : RunsLines options answers input input' out out' log log' answer
-  pub written : IfSome input (λ text. WritesAnswers options answers text out out' answer)
-
--- each line is answered, and so is the call
+-- The effect of a run over lines of at most 4,194,304 bytes. If the rest of the input is known, the answers to its
+-- first lines were written, in order.
 abbrev pub AnswersLines : RunOptions → (List ℕ → Result Answer InPlaceFault → Type 0) → Option (List ℕ) → Option (List ℕ)
     → Option (List ℕ) → Option (List ℕ) → Option (List (RefusedLine InPlaceFault)) → Option (List (RefusedLine InPlaceFault))
     → Result (Result (RunSummary InPlaceFault) (RunFault InPlaceFault)) JobFault → Type 0
-AnswersLines options answers input input' out out' log log' answer =
-    (run : Result (RunSummary InPlaceFault) (RunFault InPlaceFault)) × RunsOver options answers input input' out out' log log' run × (answer ≡ Ok run)
+AnswersLines options answers input input' out out' log log' answer = IsOkAnd answer (λ run.
+    RunsLines options answers input input' out out' log log' run × IfSome input (λ text. WritesAnswers options answers text out out' run))
 
 -- a job's fault for a refusal of its bytes
 abbrev pub job_fault_of : InPlaceFault → JobFault
 job_fault_of refusals.BadLength = BadLength
 job_fault_of refusals.Integrity = Integrity
 
--- The KEK file was read, what was taken of it denotes the KEK K, and `Then` is said of K.
+-- The bytes that were read from the KEK file denote the KEK K, and `Then` holds for K.
 pub record UnderReadKek (notation : Notation) (file file' : Option (List ℕ)) (Then : List ℕ → Type 0) : Type 0 where
   pub K : List ℕ
-  pub F : List ℕ
-  pub taken : Consumes file file' F
-  pub denoted : DenotesKek notation F K
+  pub read : ReadsKek notation file file' (Ok K)
   pub then : Then K
 
--- The input was read, what was taken of it denotes the bytes X, and what was written is an output for X.
+-- The bytes that were read from the input denote X, and the bytes that were written are an output for X.
 pub record WritesOutput (notation : Notation) (IsOutput : List ℕ → List ℕ → Type 0) (input input' out out' : Option (List ℕ)) : Type 0 where
-  pub G : List ℕ
   pub X : List ℕ
   pub output : List ℕ
-  pub taken : Consumes input input' G
-  pub denoted : Denotes notation G X
+  pub read : ReadsFile notation input input' (Ok X)
   pub is_output : IsOutput X output
   pub written : Appends out out' output

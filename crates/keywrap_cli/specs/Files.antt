@@ -1,9 +1,8 @@
--- What the two files of a job denote, of at most 4,194,304 bytes each, and what is written.
-use Rattle.std.specs.Prelude.{◌≡◌, ℕ, true, false, List, length, Result, Ok, Err}
-use Rattle.aes_block.specs.KeyExpansion.{IsKekLength}
+-- What a file denotes in a notation, and how bytes are printed.
+use Rattle.std.specs.Prelude.{ℕ, true, false, List, Result}
 use Rattle.key_files.specs.Base64Text.{base64_line, base64_meaning}
 use Rattle.key_files.specs.HexText.{hex_line}
-use Rattle.key_files.specs.Meaning.{file_meaning, raw_meaning, hex_meaning}
+use Rattle.key_files.specs.Meaning.{raw_meaning, hex_meaning}
 use Rattle.key_files.specs.declared.fault.FileFault.{FileFault}
 use Rattle.key_lines.specs.declared.text.TextNotation.{TextNotation}
 use Rattle.key_lines.specs.declared.text.TextNotation.TheVariants as texts
@@ -16,19 +15,6 @@ meaning_in Hex file = hex_meaning file
 meaning_in Base64 file = base64_meaning file
 meaning_in Base64Url file = base64_meaning file
 
--- the file denotes these bytes, within the limit
-abbrev pub Denotes : Notation → List ℕ → List ℕ → Type 0
-Denotes notation file bytes = file_meaning (meaning_in notation) 4194304 file ≡ Ok bytes
-
--- the file denotes no bytes, for this fault
-abbrev pub IsRefused : Notation → List ℕ → FileFault → Type 0
-IsRefused notation file fault = file_meaning (meaning_in notation) 4194304 file ≡ Err fault
-
--- the file denotes a KEK of legal length
-pub record DenotesKek (notation : Notation) (file K : List ℕ) : Type 0 where
-  pub denoted : Denotes notation file K
-  pub legal : IsKekLength (length K)
-
 -- bytes as they are written in a notation
 abbrev pub printed : Notation → List ℕ → List ℕ
 printed Raw bytes = bytes
@@ -36,13 +22,13 @@ printed Hex bytes = hex_line bytes
 printed Base64 bytes = base64_line false bytes
 printed Base64Url bytes = base64_line true bytes
 
--- the notation of lines, as one of files
+-- the notation of files for a notation of lines
 abbrev pub line_notation : TextNotation → Notation
 line_notation texts.Hex = Hex
 line_notation texts.Base64 = Base64
 line_notation texts.Base64Url = Base64Url
 
--- the notation of lines for a notation of files: raw bytes have no lines, so theirs are in hex
+-- the notation of lines for a notation of files; raw bytes have no lines, so lines are in hex instead
 abbrev pub text_notation : Notation → TextNotation
 text_notation Raw = texts.Hex
 text_notation Hex = texts.Hex

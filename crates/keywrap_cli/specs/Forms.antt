@@ -1,4 +1,4 @@
--- Rewrappings that change the form of a wrapped key, and those that keep it: under E before, under F after.
+-- Rewrappings from E to F that change the form of a wrapped key, or keep it.
 use Rattle.std.specs.Prelude.{◌≡◌, ◌⊎◌, Bool, true, false, ℕ, List, length, Result, Ok, Err}
 use Rattle.key_lines.specs.Answers.{Answer}
 use Rattle.key_lines.specs.declared.job.Mark.{Mark}
@@ -9,13 +9,14 @@ use Rattle.key_wrap.specs.Rewrap.{HasBadLength, HasNoWrapping}
 use Rattle.key_wrap.specs.declared.faults.InPlaceFault.{InPlaceFault}
 use Rattle.key_wrap.specs.declared.faults.InPlaceFault.TheVariants.{BadLength, Integrity}
 use Rattle.key_wrap.specs.declared.agreed_form.AgreedForm.{AgreedForm}
+use Rattle.key_wrap.specs.declared.agreed_form.AgreedForm.TheVariants as agreed
 use Rattle.key_wrap.specs.declared.forms.Form.{Form}
 use Rattle.keywrap_cli.specs.declared.rewrapping.RewrapForms.{RewrapForms}
 use Rattle.keywrap_cli.specs.declared.rewrapping.RewrapForms.TheVariants.{Kept, Changed}
 
--- The answer is the new wrapping, under F, of the only key whose old wrapping, under E, is `text`. That key is also the
--- only key of the answer; it has no other new wrapping, and no other old one. So unwrapping the answer gives exactly
--- the old key, and rewrapping back gives `text` again.
+-- The answer is the new wrapping, under F, of the only key whose old wrapping, under E, is `text`. The answer wraps no
+-- other key, and the key has no other new wrapping and no other old one. So unwrapping the answer gives exactly the old
+-- key, and rewrapping back gives `text` again.
 pub record IsRewrapped (old_form : AgreedForm) (E : List ℕ → List ℕ) (new_form : AgreedForm) (F : List ℕ → List ℕ)
     (text answer : List ℕ) : Type 0 where
   pub key : List ℕ
@@ -38,66 +39,70 @@ abbrev pub IsRewrappedAs : RewrapForms → (List ℕ → List ℕ) → (List ℕ
 IsRewrappedAs (Changed old new) E F text answer = IsRewrapped old E new F text answer
 IsRewrappedAs Kept E F text answer = IsRewrappedInForm E F text answer
 
--- a length is refused: the text's, or its key's in the new form
+-- the length of the text is illegal, or the length of its key is illegal in the new form
 abbrev pub HasNoLengthAs : RewrapForms → (List ℕ → List ℕ) → List ℕ → Type 0
 HasNoLengthAs (Changed old new) E text = HasBadLength old E new text
 HasNoLengthAs Kept E text = ¬ IsSomeTextLength (length text)
 
--- the text has a legal length, and is the wrapping of no key
+-- the text has a legal length, but is not the wrapping of a key
 abbrev pub HasNoWrappingAs : RewrapForms → (List ℕ → List ℕ) → List ℕ → Type 0
 HasNoWrappingAs (Changed old new) E text = HasNoWrapping old E text
 HasNoWrappingAs Kept E text = HasNoForm E text
 
--- what a rewrapping makes of the text, by cases: the rewrapped text, or why there is none
+-- the result of a rewrapping of the text, by cases: the rewrapped text, or the reason of the refusal
 abbrev pub Rewraps : RewrapForms → (List ℕ → List ℕ) → (List ℕ → List ℕ) → List ℕ → Result (List ℕ) InPlaceFault → Type 0
 Rewraps forms E F text (Ok answer) = IsRewrappedAs forms E F text answer
 Rewraps forms E F text (Err BadLength) = HasNoLengthAs forms E text
 Rewraps forms E F text (Err Integrity) = HasNoWrappingAs forms E text
 
--- a length that is legal for the text, if it has one old form
+-- a legal length of the text, if the rewrapping has one old form
 abbrev pub IsOldLength : RewrapForms → ℕ → Type 0
 IsOldLength (Changed old new) len = IsTextLengthAs old len
 IsOldLength Kept len = ⊥
 
--- the text is no wrapping under the old KEK: its length is legal in no old form, or no key belongs to it
+-- the text is not a wrapping under the old KEK: its length is illegal in each old form, or there is no such key
 abbrev pub IsNoOld : RewrapForms → (List ℕ → List ℕ) → List ℕ → Type 0
 IsNoOld (Changed old new) E text = (¬ IsTextLengthAs old (length text)) ⊎ HasNoWrapping old E text
 IsNoOld Kept E text = (¬ IsSomeTextLength (length text)) ⊎ HasNoForm E text
 
--- the forms of a rewrapping from the new KEK to itself: the answer's on both sides
+-- the forms of a rewrapping from the new KEK to itself: the form of the answer on both sides
 abbrev pub to_itself : RewrapForms → RewrapForms
 to_itself (Changed old new) = Changed new new
 to_itself Kept = Kept
 
--- the text is no wrapping under the new KEK, in the form that an answer would have
+-- the old form is padded, and the new form is plain
+abbrev pub DropsPadding : RewrapForms → Type 0
+DropsPadding both = (iv : ℕ) × (both ≡ Changed agreed.Padded (agreed.Plain iv))
+
+-- the text is not a wrapping under the new KEK in the form of an answer
 abbrev pub IsNoNew : RewrapForms → (List ℕ → List ℕ) → List ℕ → Type 0
 IsNoNew forms F text = (refusal : InPlaceFault) × Rewraps (to_itself forms) F F text (Err refusal)
 
--- The text is no wrapping under the old KEK, but the one under the new KEK of one key, in the form that an answer would
--- have, and is answered as it is.
+-- The text is not a wrapping under the old KEK, but it is the wrapping of one key under the new KEK in the form of an
+-- answer. The answer is the text itself.
 pub record IsPassed (forms : RewrapForms) (E F : List ℕ → List ℕ) (text answer : List ℕ) : Type 0 where
   pub no_old : IsNoOld forms E text
   pub new : IsRewrappedAs (to_itself forms) F F text answer
   pub as_it_is : answer ≡ text
 
--- The answer is the wrapping under the new KEK of the only key whose wrapping the text is under the old KEK or, if
--- there is none, under the new KEK. So an answer is its own answer, unless it is also a wrapping under the old KEK.
+-- The answer is the wrapping, under the new KEK, of the only key that the text wraps under the old KEK or, if there is
+-- none, under the new KEK. So the answer to an answer is that answer, unless it is also a wrapping under the old KEK.
 pub record IsRewrappedOrPassed (forms : RewrapForms) (E F : List ℕ → List ℕ) (text answer : List ℕ) : Type 0 where
   pub rewrapped : IsRewrappedAs forms E F text answer ⊎ IsPassed forms E F text answer
   pub again : IsNoOld forms E answer → IsPassed forms E F answer answer
 
--- what a rewrapping makes of the text, that passes what is wrapped under the new KEK already or does not
+-- the result of a rewrapping of the text, which passes texts that are already under the new KEK or refuses them
 abbrev pub Makes : Bool → RewrapForms → (List ℕ → List ℕ) → (List ℕ → List ℕ) → List ℕ → Result (List ℕ) InPlaceFault → Type 0
 Makes false forms E F text answer = Rewraps forms E F text answer
 Makes true forms E F text (Ok answer) = IsRewrappedOrPassed forms E F text answer
 Makes true forms E F text (Err refusal) = Rewraps forms E F text (Err refusal) × (IsNoOld forms E text → IsNoNew forms F text)
 
--- how the answer is marked: what was rewrapped is not, and what was passed is
+-- a rewrapped text has no mark, and a passed text has one
 abbrev pub HasPassMark : RewrapForms → (List ℕ → List ℕ) → (List ℕ → List ℕ) → List ℕ → List ℕ → Mark → Type 0
 HasPassMark forms E F text answer Unmarked = IsRewrappedAs forms E F text answer
 HasPassMark forms E F text answer Marked = IsPassed forms E F text answer
 
--- what a rewrapping makes of the text, with its mark
+-- the result of a rewrapping of the text, with its mark
 abbrev pub MakesMarked : Bool → RewrapForms → (List ℕ → List ℕ) → (List ℕ → List ℕ) → List ℕ → Result Answer InPlaceFault → Type 0
 MakesMarked pass_new forms E F text (Ok answer) =
     Makes pass_new forms E F text (Ok answer.text) × HasPassMark forms E F text answer.text answer.mark

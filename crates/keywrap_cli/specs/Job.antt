@@ -1,8 +1,7 @@
--- What a call of a job for one key does: it reads the KEK and the input, and writes the answer. The plain form has the
--- initial value `iv`.
+-- The effect of a call that runs a job for one key: it reads the KEK and the input, and writes the answer. The plain
+-- form has the initial value `iv`.
 use Rattle.std.specs.Prelude.{ℕ, List, Option, Result}
 use Rattle.aes_block.specs.Cipher.{cipher}
-use Rattle.key_wrap.specs.Plain.{default_iv}
 use Rattle.key_wrap.specs.declared.forms.Form.TheVariants.{Plain}
 use Rattle.keywrap_cli.specs.Answers.{JobAnswer, WritesFor, done_of, job_of}
 use Rattle.keywrap_cli.specs.Engine.{AnswersInput, IsRefusedBefore, UnderKek, UnderReadKek, WritesOutput}
@@ -10,45 +9,27 @@ use Rattle.keywrap_cli.specs.Readings.{kek_fault_of}
 use Rattle.keywrap_cli.specs.declared.kek_file.KekRole.TheVariants.{Kek}
 use Rattle.keywrap_cli.specs.declared.convert.Direction.{Direction}
 use Rattle.keywrap_cli.specs.declared.job.Done.{Done}
-use Rattle.keywrap_cli.specs.declared.job.Job.TheVariants.{Unwrap}
 use Rattle.keywrap_cli.specs.declared.job.JobFault.{JobFault}
 use Rattle.keywrap_cli.specs.declared.job.Notation.{Notation}
 use Rattle.keywrap_cli.specs.declared.job.Task.{Task}
 
 -- The effect of a call under an initial value. The KEK file, the input and the writer each appear twice: as known
 -- before the call and after it.
-abbrev pub RunsJobWith : ℕ → Task → Option (List ℕ) → Option (List ℕ) → Option (List ℕ) → Option (List ℕ) → Option (List ℕ)
+abbrev pub RunsJob : ℕ → Task → Option (List ℕ) → Option (List ℕ) → Option (List ℕ) → Option (List ℕ) → Option (List ℕ)
     → Option (List ℕ) → Result Done JobFault → Type 0
-RunsJobWith iv task kek kek' input input' out out' answer =
+RunsJob iv task kek kek' input input' out out' answer =
     UnderKek task.kek kek kek'
     (λ K. AnswersInput task.input (JobAnswer iv task (cipher K)) done_of input input' out out' answer)
     (λ fault. IsRefusedBefore (kek_fault_of Kek fault) input input' out out' answer)
 
--- what a call of a job does under the default initial value
-abbrev pub RunsJob : Task → Option (List ℕ) → Option (List ℕ) → Option (List ℕ) → Option (List ℕ) → Option (List ℕ)
-    → Option (List ℕ) → Result Done JobFault → Type 0
-RunsJob task kek kek' input input' out out' answer = RunsJobWith default_iv task kek kek' input input' out out' answer
-
--- The headline of each job, about the bytes that a call took and wrote. What was written is the job's answer to the
--- bytes X of the input, under AES of the KEK: for a key its one wrapping, for a wrapping its one key, for a check the
--- form of X.
+-- The headline of each job, about the bytes that a call read and wrote. The output is the job's answer to the bytes X
+-- of the input, under AES of the KEK: for a key its one wrapping, for a wrapping its one key, for a check the form of
+-- X. An unwrapped key has no other wrapping, and in the other form the input is not a wrapping. So wrapping the key
+-- again restores the input.
 abbrev pub WritesTheAnswer : ℕ → Task → Option (List ℕ) → Option (List ℕ) → Option (List ℕ) → Option (List ℕ)
     → Option (List ℕ) → Option (List ℕ) → Type 0
 WritesTheAnswer iv task kek kek' input input' out out' =
     UnderReadKek task.kek kek kek' (λ K. WritesOutput task.input (WritesFor task.job iv task (cipher K)) input input' out out')
-
--- The headline of an unwrap, about the bytes that a call took and wrote. The input was the wrapping, under AES of the
--- KEK, of the key that was written. Only that key has this wrapping, the key has no other, and no key has it in the
--- other form. So wrapping the written key again restores the input.
-abbrev pub WritesTheKeyWith : ℕ → Task → Option (List ℕ) → Option (List ℕ) → Option (List ℕ) → Option (List ℕ)
-    → Option (List ℕ) → Option (List ℕ) → Type 0
-WritesTheKeyWith iv task kek kek' input input' out out' =
-    UnderReadKek task.kek kek kek' (λ K. WritesOutput task.input (WritesFor Unwrap iv task (cipher K)) input input' out out')
-
--- the headline under the default initial value
-abbrev pub WritesTheKey : Task → Option (List ℕ) → Option (List ℕ) → Option (List ℕ) → Option (List ℕ)
-    → Option (List ℕ) → Option (List ℕ) → Type 0
-WritesTheKey task kek kek' input input' out out' = WritesTheKeyWith default_iv task kek kek' input input' out out'
 
 -- the job in the plain form, with the notations of the input and of the KEK file
 abbrev pub plain_task : Direction → Notation → Notation → Task

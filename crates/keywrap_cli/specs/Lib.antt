@@ -7,8 +7,6 @@ pub mod Forms
 pub mod InitialValue
 pub mod Job
 pub mod Operation
-pub mod Lines
-pub mod Published
 pub mod Readings
 pub mod Rewrapping
 pub mod Vectors

@@ -1,58 +1,91 @@
--- What is done with an input, once the KEK files are open: what the call says that does it, of its fields. `known` is what
--- is known of a KEK file.
-use Rattle.std.specs.Prelude.{◌≡◌, Bool, ℕ, List, Option, Result}
+-- The effect of an operation whose KEK files are open. `known` is what is known of a KEK file.
+use Rattle.std.specs.Prelude.{◌≡◌, Bool, false, ℕ, List, Option, Result, IfSome}
+use Rattle.aes_block.specs.Cipher.{cipher}
+use Rattle.key_lines.specs.Running.{WritesAnswers}
 use Rattle.key_lines.specs.declared.fault.RefusedLine.{RefusedLine}
 use Rattle.key_lines.specs.declared.fault.RunFault.{RunFault}
+use Rattle.key_lines.specs.declared.run.RunOptions.{RunOptions}
 use Rattle.key_lines.specs.declared.summary.RunSummary.{RunSummary}
 use Rattle.key_wrap.specs.declared.faults.InPlaceFault.{InPlaceFault}
-use Rattle.keywrap_cli.specs.Answers.{line_options}
-use Rattle.keywrap_cli.specs.Job.{RunsJobWith, WritesTheAnswer}
-use Rattle.keywrap_cli.specs.Lines.{RunsJobLines, RunsRewrapLines, WritesJobLines, WritesRewrapLines}
-use Rattle.keywrap_cli.specs.Rewrapping.{RunsRewrap, WritesTheNewText}
+use Rattle.keywrap_cli.specs.Answers.{JobAnswer, RewrappingAnswer}
+use Rattle.keywrap_cli.specs.Engine.{AnswersLines, IsRefusedBefore, UnderKek, UnderKeks, UnderReadKek}
+use Rattle.keywrap_cli.specs.Files.{line_notation, text_notation}
+use Rattle.keywrap_cli.specs.Job.{RunsJob, WritesTheAnswer}
+use Rattle.keywrap_cli.specs.Readings.{kek_fault_of}
+use Rattle.keywrap_cli.specs.Rewrapping.{RunsRewrap, TellsSameKek, WritesTheNewText}
 use Rattle.keywrap_cli.specs.declared.job.Done.{Done}
 use Rattle.keywrap_cli.specs.declared.job.JobFault.{JobFault}
+use Rattle.keywrap_cli.specs.declared.job.Notation.{Notation}
+use Rattle.keywrap_cli.specs.declared.job.Task.{Task}
+use Rattle.keywrap_cli.specs.declared.kek_file.KekRole.TheVariants.{Kek}
 use Rattle.keywrap_cli.specs.declared.operation.Operation.{Operation}
 use Rattle.keywrap_cli.specs.declared.operation.Operation.TheVariants.{Job, Rewrap}
+use Rattle.keywrap_cli.specs.declared.rewrapping.Rewrapping.{Rewrapping}
+
+-- a property of a job, or of a rewrap
+abbrev pub MatchOperation : {K : Type 0} → Operation K → (ℕ → Task → K → Type 0) → (Rewrapping → K → K → Type 0) → Type 0
+MatchOperation (Job iv task kek) OfJob OfRewrap = OfJob iv task kek
+MatchOperation (Rewrap task kek new) OfJob OfRewrap = OfRewrap task kek new
+
+-- a property of a job before and after a call, or of a rewrap
+abbrev pub MatchOperations : {K : Type 0} → Operation K → Operation K → (ℕ → Task → K → ℕ → Task → K → Type 0)
+    → (Rewrapping → K → K → Rewrapping → K → K → Type 0) → Type 0
+MatchOperations (Job iv task kek) (Job iv' task' kek') OfJob OfRewrap = OfJob iv task kek iv' task' kek'
+MatchOperations (Rewrap task kek new) (Rewrap task' kek' new') OfJob OfRewrap = OfRewrap task kek new task' kek' new'
+MatchOperations old new OfJob OfRewrap = ⊥
 
 abbrev pub RunsOperation : {K : Type 0} → (K → Option (List ℕ)) → Operation K → Operation K → Option (List ℕ) → Option (List ℕ)
     → Option (List ℕ) → Option (List ℕ) → Result Done JobFault → Type 0
-RunsOperation known (Job iv task kek) (Job iv' task' kek') input input' out out' answer =
-    RunsJobWith iv task (known kek) (known kek') input input' out out' answer
-RunsOperation known (Rewrap task kek new) (Rewrap task' kek' new') input input' out out' answer =
-    RunsRewrap task (known kek) (known kek') (known new) (known new') input input' out out' answer
-RunsOperation known old new input input' out out' answer = ⊥
+RunsOperation known old new input input' out out' answer = MatchOperations old new
+    (λ iv task kek iv' task' kek'. RunsJob iv task (known kek) (known kek') input input' out out' answer)
+    (λ task kek new task' kek' new'. RunsRewrap task (known kek) (known kek') (known new) (known new') input input' out out' answer)
 
--- The headline, of the bytes that a call took and wrote: a job's answer, under AES of the KEK, or a rewrap's, under AES of
--- the new KEK.
+-- The headline, about the bytes that a call read and wrote: the answer of a job, under AES of the KEK, or of a rewrap,
+-- under AES of the new KEK.
 abbrev pub WritesTheAnswerOf : {K : Type 0} → (K → Option (List ℕ)) → Operation K → Operation K → Option (List ℕ) → Option (List ℕ)
     → Option (List ℕ) → Option (List ℕ) → Type 0
-WritesTheAnswerOf known (Job iv task kek) (Job iv' task' kek') input input' out out' =
-    WritesTheAnswer iv task (known kek) (known kek') input input' out out'
-WritesTheAnswerOf known (Rewrap task kek new) (Rewrap task' kek' new') input input' out out' =
-    WritesTheNewText task (known kek) (known kek') (known new) (known new') input input' out out'
-WritesTheAnswerOf known old new input input' out out' = ⊥
+WritesTheAnswerOf known old new input input' out out' = MatchOperations old new
+    (λ iv task kek iv' task' kek'. WritesTheAnswer iv task (known kek) (known kek') input input' out out')
+    (λ task kek new task' kek' new'. WritesTheNewText task (known kek) (known kek') (known new) (known new') input input' out out')
 
--- the operation after the call is the one before it, but for what was read of its KEK files
+-- `same` is true exactly if both KEKs of a rewrap are the same key
+abbrev pub TellsSameKekOf : {K : Type 0} → (K → Option (List ℕ)) → Operation K → Operation K → Bool → Type 0
+TellsSameKekOf known old new same = MatchOperations old new (λ iv task kek iv' task' kek'. same ≡ false)
+    (λ task kek new task' kek' new'. TellsSameKek task.kek (known kek) (known kek') (known new) (known new') same)
+
+-- after the call the operation is the same, except for the bytes that were read from its KEK files
 abbrev pub IsSameTask : {K : Type 0} → Operation K → Operation K → Type 0
-IsSameTask (Job iv task kek) (Job iv' task' kek') = (iv' ≡ iv) × (task' ≡ task)
-IsSameTask (Rewrap task kek new) (Rewrap task' kek' new') = task' ≡ task
-IsSameTask old new = ⊥
+IsSameTask old new = MatchOperations old new (λ iv task kek iv' task' kek'. (iv' ≡ iv) × (task' ≡ task)) (λ task kek new task' kek' new'. task' ≡ task)
 
--- the same line by line
+-- how a run over lines reads an input in this notation
+abbrev pub line_options : Notation → Bool → RunOptions
+line_options notation keep_going = record { notation = text_notation notation; keep_going = keep_going }
+
+-- the task, and the rewrapping, with its input and output as lines
+abbrev pub in_lines : Task → Task
+in_lines task = record { job = task.job; form = task.form; input = line_notation (text_notation task.input); kek = task.kek }
+
+abbrev pub lines_of : Rewrapping → Rewrapping
+lines_of task = record { forms = task.forms; pass_new = task.pass_new; input = line_notation (text_notation task.input); kek = task.kek }
+
+-- The same line by line: the KEK files are read first, and then each line is answered.
 abbrev pub RunsOperationLines : {K : Type 0} → (K → Option (List ℕ)) → Bool → Operation K → Operation K → Option (List ℕ)
     → Option (List ℕ) → Option (List ℕ) → Option (List ℕ) → Option (List (RefusedLine InPlaceFault)) → Option (List (RefusedLine InPlaceFault))
     → Result (Result (RunSummary InPlaceFault) (RunFault InPlaceFault)) JobFault → Type 0
-RunsOperationLines known keep_going (Job iv task kek) (Job iv' task' kek') input input' out out' log log' answer =
-    RunsJobLines iv task (line_options task.input keep_going) (known kek) (known kek') input input' out out' log log' answer
-RunsOperationLines known keep_going (Rewrap task kek new) (Rewrap task' kek' new') input input' out out' log log' answer =
-    RunsRewrapLines task (line_options task.input keep_going) (known kek) (known kek') (known new) (known new') input input' out out' log log' answer
-RunsOperationLines known keep_going old new input input' out out' log log' answer = ⊥
+RunsOperationLines known keep_going old new input input' out out' log log' answer = MatchOperations old new
+    (λ iv task kek iv' task' kek'. UnderKek task.kek (known kek) (known kek')
+    (λ K. AnswersLines (line_options task.input keep_going) (JobAnswer iv (in_lines task) (cipher K)) input input' out out' log log' answer)
+    (λ fault. (log' ≡ log) × IsRefusedBefore (kek_fault_of Kek fault) input input' out out' answer))
+    (λ task kek new task' kek' new'. UnderKeks task.kek (known kek) (known kek') (known new) (known new')
+    (λ K L. AnswersLines (line_options task.input keep_going) (RewrappingAnswer (lines_of task) (cipher K) (cipher L)) input input' out out' log log' answer)
+    (λ fault. (log' ≡ log) × IsRefusedBefore fault input input' out out' answer))
 
--- the headline of lines
+-- The headline of lines. If the rest of the input is known, the answers to its first lines were written, in order, each
+-- under AES of the KEKs that the KEK files denote.
 abbrev pub WritesTheLinesOf : {K : Type 0} → (K → Option (List ℕ)) → Bool → Operation K → Operation K → Option (List ℕ) → Option (List ℕ)
     → Option (List ℕ) → Result (RunSummary InPlaceFault) (RunFault InPlaceFault) → Type 0
-WritesTheLinesOf known keep_going (Job iv task kek) (Job iv' task' kek') input out out' run =
-    WritesJobLines iv task (line_options task.input keep_going) (known kek) (known kek') input out out' run
-WritesTheLinesOf known keep_going (Rewrap task kek new) (Rewrap task' kek' new') input out out' run =
-    WritesRewrapLines task (line_options task.input keep_going) (known kek) (known kek') (known new) (known new') input out out' run
-WritesTheLinesOf known keep_going old new input out out' run = ⊥
+WritesTheLinesOf known keep_going old new input out out' run = MatchOperations old new
+    (λ iv task kek iv' task' kek'. UnderReadKek task.kek (known kek) (known kek') (λ K. IfSome input
+    (λ text. WritesAnswers (line_options task.input keep_going) (JobAnswer iv (in_lines task) (cipher K)) text out out' run)))
+    (λ task kek new task' kek' new'. UnderReadKek task.kek (known kek) (known kek') (λ K. UnderReadKek task.kek (known new) (known new') (λ L. IfSome input
+    (λ text. WritesAnswers (line_options task.input keep_going) (RewrappingAnswer (lines_of task) (cipher K) (cipher L)) text out out' run))))

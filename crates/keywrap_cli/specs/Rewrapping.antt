@@ -1,12 +1,13 @@
--- What a call that rewraps one key does: it reads the old KEK, the new KEK and the wrapped key, in that order, and
+-- The effect of a call that rewraps one key: it reads the old KEK, the new KEK and the wrapped key, in that order, and
 -- writes the new wrapped key.
-use Rattle.std.specs.Prelude.{ℕ, false, List, Option, Result}
+use Rattle.std.specs.Prelude.{◌≡◌, ◌↔◌, ℕ, Bool, false, IsTrue, List, Option, Result, Ok, Err}
 use Rattle.aes_block.specs.Cipher.{cipher}
 use Rattle.keywrap_cli.specs.Answers.{RewrappingAnswer, RewrapsTo, written}
 use Rattle.keywrap_cli.specs.Engine.{AnswersInput, IsRefusedBefore, UnderKeks, UnderReadKek, WritesOutput}
 use Rattle.keywrap_cli.specs.declared.job.Done.{Done}
 use Rattle.keywrap_cli.specs.declared.job.JobFault.{JobFault}
 use Rattle.keywrap_cli.specs.declared.job.Notation.{Notation}
+use Rattle.keywrap_cli.specs.declared.job.Outcome.{Outcome}
 use Rattle.keywrap_cli.specs.declared.rewrapping.RewrapForms.{RewrapForms}
 use Rattle.keywrap_cli.specs.declared.rewrapping.Rewrapping.{Rewrapping}
 
@@ -23,11 +24,21 @@ RunsRewrap task kek kek' new new' input input' out out' answer =
     (λ K L. AnswersInput task.input (RewrappingAnswer task (cipher K) (cipher L)) written input input' out out' answer)
     (λ fault. IsRefusedBefore fault input input' out out' answer)
 
--- The headline, about the bytes that a call took and wrote. The input was the old wrapping, under AES of the old KEK,
--- of one key; what was written is that key's new wrapping, under AES of the new KEK. If the form is kept, it is the one
--- form in which the input is a wrapping. If new wrappings pass, the input may have been that new wrapping.
+-- The headline, about the bytes that a call read and wrote. The input was the old wrapping, under AES of the old KEK,
+-- of one key, and the output is the new wrapping of that key, under AES of the new KEK. A kept form is the one form in
+-- which the input is a wrapping. If new wrappings pass, the input may have been the new wrapping itself.
 abbrev pub WritesTheNewText : Rewrapping → Option (List ℕ) → Option (List ℕ) → Option (List ℕ) → Option (List ℕ) → Option (List ℕ)
     → Option (List ℕ) → Option (List ℕ) → Option (List ℕ) → Type 0
 WritesTheNewText task kek kek' new new' input input' out out' =
     UnderReadKek task.kek kek kek' (λ K. UnderReadKek task.kek new new'
     (λ L. WritesOutput task.input (RewrapsTo task (cipher K) (cipher L)) input input' out out'))
+
+-- the result without what is known of the KEKs
+abbrev pub result_of : {T : Type 0} → Result (Outcome T) JobFault → Result T JobFault
+result_of (Ok outcome) = Ok outcome.result
+result_of (Err fault) = Err fault
+
+-- `same` is true exactly if the KEKs that the KEK files denote are the same key
+abbrev pub TellsSameKek : Notation → Option (List ℕ) → Option (List ℕ) → Option (List ℕ) → Option (List ℕ) → Bool → Type 0
+TellsSameKek notation kek kek' new new' same =
+    UnderReadKek notation kek kek' (λ K. UnderReadKek notation new new' (λ L. IsTrue same ↔ (K ≡ L)))

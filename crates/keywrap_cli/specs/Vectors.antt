@@ -1,51 +1,25 @@
--- Vectors: what one says, the published ones, and the lines that report on vectors.
-use Rattle.std.specs.Prelude.{◌≡◌, ◌&&◌, ◌↔◌, ⊤, ℕ, Bool, true, false, IsTrue, List, [], ◌∷◌, ◌++◌, length, codes, Ok}
+-- When a vector is right, and the lines that report on vectors.
+use Rattle.std.specs.Prelude.{◌≡◌, ◌&&◌, ◌↔◌, ⊤, ℕ, Bool, true, false, IsTrue, List, [], ◌∷◌, ◌++◌, length, codes}
 use Rattle.aes_block.specs.Cipher.{cipher}
 use Rattle.aes_block.specs.KeyExpansion.{IsKekLength}
 use Rattle.block_pair.specs.Words.{IsBlock}
-use Rattle.key_files.specs.Meaning.{hex_meaning}
-use Rattle.key_wrap.specs.Forms.{Stands}
-use Rattle.key_wrap.specs.Plain.{default_iv}
-use Rattle.keywrap_cli.specs.declared.vector_table.Algorithm.{Algorithm}
-use Rattle.keywrap_cli.specs.declared.vector_table.Algorithm.TheVariants.{KeyWrap, Encryption}
-use Rattle.keywrap_cli.specs.declared.vector_table.Vector.{Vector}
-
--- a vector: its name, what takes its input to its output, and the hex texts of its key, its input and its output
-pub record TestVector : Type 0 where
-  pub name : List ℕ
-  pub algorithm : Algorithm
-  pub key : List ℕ
-  pub input : List ℕ
-  pub output : List ℕ
-
--- a vector of a table, in these words
-abbrev pub shown : Vector → TestVector
-shown v = record {
-  name = v.name.now;
-  algorithm = v.algorithm;
-  key = v.key.now;
-  input = v.input.now;
-  output = v.output.now;
-}
+use Rattle.key_wrap.specs.Padded.{Padded}
+use Rattle.key_wrap.specs.Plain.{Plain, default_iv}
+use Rattle.test_vectors.specs.Vectors.{TestVector}
+use Rattle.test_vectors.specs.declared.table.Algorithm.{Algorithm}
+use Rattle.test_vectors.specs.declared.table.Algorithm.TheVariants.{KeyWrap, KeyWrapWithPadding, Encryption}
 
 -- the algorithm takes the input to the output, under E
 abbrev pub Takes : Algorithm → (List ℕ → List ℕ) → List ℕ → List ℕ → Type 0
-Takes (KeyWrap form) E input output = Stands form default_iv E input output
+Takes KeyWrap E input output = Plain E default_iv input output
+Takes KeyWrapWithPadding E input output = Padded E input output
 Takes Encryption E input output = IsBlock input × (E input ≡ output)
 
--- a vector is right: its texts denote a KEK of legal length, an input, and the output to which its algorithm takes
--- the input under AES of the KEK
-pub record IsRight (v : TestVector) : Type 0 where
-  pub K : List ℕ
-  pub X : List ℕ
-  pub Y : List ℕ
-  pub key : hex_meaning v.key ≡ Ok K
-  pub input : hex_meaning v.input ≡ Ok X
-  pub output : hex_meaning v.output ≡ Ok Y
-  pub legal : IsKekLength (length K)
-  pub takes : Takes v.algorithm (cipher K) X Y
+-- a vector is right: its key has a legal length, and its algorithm takes the input to the output under AES of the key
+abbrev pub IsRight : TestVector → Type 0
+IsRight v = IsKekLength (length v.key) × Takes v.algorithm (cipher v.key) v.input v.output
 
--- how a line ends
+-- the end of a line
 abbrev pub verdict : Bool → List ℕ
 verdict true = codes " ok\n"
 verdict false = codes " failed\n"

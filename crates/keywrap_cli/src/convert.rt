@@ -1,6 +1,8 @@
 //! Wrapping and unwrapping in a direction and a form.
 
-ghost use Rattle.keywrap_cli.specs.Answers.{MakesConversion, OutcomeIs};
+ghost use Rattle.std.specs.Prelude.{IfOk};
+ghost use Rattle.key_lines.specs.Answers.{made};
+ghost use Rattle.keywrap_cli.specs.Answers.{MakesConversion};
 
 use block_pair::{BlockPair, Meter};
 use key_wrap::{
@@ -9,7 +11,7 @@ use key_wrap::{
 };
 use std::alloc::AllocError;
 
-// The bytes of a word.
+// The size of a word in bytes.
 const WORD: usize = 8;
 
 /// Which way a conversion goes.
@@ -31,8 +33,8 @@ pub fn convert_into<B: BlockPair>(
     input: &[u8],
     output: &mut Vec<u8>,
 ) -> Result<Result<(), InPlaceFault>, AllocError>
-    ensures { OutcomeIs (MakesConversion direction form iv.now (B.encrypted pair.now)
-        input.now) output.new.items result }
+    ensures { IfOk result (λ done. MakesConversion direction form iv.now
+        (B.encrypted pair.now) input.now (made output.new.items done)) }
 {
     match (direction, form) {
         (Direction::Wrap, Form::Plain) => wrap_plain(iv, pair, input, output),
@@ -48,8 +50,8 @@ fn wrap_plain<B: BlockPair>(
     key: &[u8],
     text: &mut Vec<u8>,
 ) -> Result<Result<(), InPlaceFault>, AllocError>
-    ensures { OutcomeIs (MakesConversion Direction.Wrap Form.Plain iv.now (B.encrypted pair.now)
-        key.now) text.new.items result }
+    ensures { IfOk result (λ done. MakesConversion Direction.Wrap Form.Plain iv.now
+        (B.encrypted pair.now) key.now (made text.new.items done)) }
 {
     if !key_length_ok(key.len()) {
         return Ok(Err(InPlaceFault::BadLength));
@@ -61,15 +63,15 @@ fn wrap_plain<B: BlockPair>(
     }
 }
 
-// The initial value belongs to the plain form, and is not used.
+// The padded form ignores the initial value.
 fn wrap_padded<B: BlockPair>(
     iv: &InitialValue,
     pair: &B,
     key: &[u8],
     text: &mut Vec<u8>,
 ) -> Result<Result<(), InPlaceFault>, AllocError>
-    ensures { OutcomeIs (MakesConversion Direction.Wrap Form.Padded iv.now (B.encrypted pair.now)
-        key.now) text.new.items result }
+    ensures { IfOk result (λ done. MakesConversion Direction.Wrap Form.Padded iv.now
+        (B.encrypted pair.now) key.now (made text.new.items done)) }
 {
     if !padded_length_ok(key.len()) {
         return Ok(Err(InPlaceFault::BadLength));
@@ -88,8 +90,8 @@ fn unwrap_plain<B: BlockPair>(
     text: &[u8],
     key: &mut Vec<u8>,
 ) -> Result<Result<(), InPlaceFault>, AllocError>
-    ensures { OutcomeIs (MakesConversion Direction.Unwrap Form.Plain iv.now (B.encrypted pair.now)
-        text.now) key.new.items result }
+    ensures { IfOk result (λ done. MakesConversion Direction.Unwrap Form.Plain iv.now
+        (B.encrypted pair.now) text.now (made key.new.items done)) }
 {
     if !text_length_ok(text.len()) {
         return Ok(Err(InPlaceFault::BadLength));
@@ -107,8 +109,8 @@ fn unwrap_padded<B: BlockPair>(
     text: &[u8],
     key: &mut Vec<u8>,
 ) -> Result<Result<(), InPlaceFault>, AllocError>
-    ensures { OutcomeIs (MakesConversion Direction.Unwrap Form.Padded iv.now (B.encrypted pair.now)
-        text.now) key.new.items result }
+    ensures { IfOk result (λ done. MakesConversion Direction.Unwrap Form.Padded iv.now
+        (B.encrypted pair.now) text.now (made key.new.items done)) }
 {
     if !padded_text_length_ok(text.len()) {
         return Ok(Err(InPlaceFault::BadLength));

@@ -12,7 +12,7 @@ use key_wrap::{Form, InPlaceFault, InitialValue};
 use std::alloc::Global;
 use thiserror::Error;
 
-/// Why a drill has no answer.
+/// Why a drill was refused.
 #[derive(Clone, Copy, Debug, PartialEq, Error)]
 pub enum DrillFault {
     /// The text has more than `MAX_FILE` bytes.
@@ -21,21 +21,19 @@ pub enum DrillFault {
     /// The byte at offset `at` is the first that is neither a hex digit nor a space, tab, CR or LF.
     #[error("input: no hex digit at byte {at}")]
     BadDigit { at: usize },
-    /// The number of hex digits is odd.
     #[error("input: odd number of hex digits")]
     OddDigits,
-    /// The key or the wrapped key has no legal length in this form.
+    /// The length of the key or the wrapped key is not legal in this form.
     #[error("bad length")]
     BadLength,
     /// The input is not a wrapping in this form.
     #[error("integrity check failed")]
     Integrity,
-    /// An allocation failed.
     #[error("out of memory")]
     Memory,
 }
 
-/// Wraps or unwraps, over the drill block, the bytes that a hex text denotes.
+/// Wraps or unwraps the bytes of a hex text with the toy cipher.
 ///
 /// Returns the first error that applies: TooLong (more than `MAX_FILE` bytes of text), BadDigit,
 /// OddDigits, Memory, BadLength, Memory, Integrity. The first three take no memory.
@@ -64,7 +62,7 @@ pub fn drill(
     }
 }
 
-// The bytes that the text denotes, if it is no longer than a file may be.
+// Decodes the text, if it is not longer than a file may be.
 fn bytes_of(alloc: Global, text: &str) -> Result<Vec<u8>, DrillFault>
     ensures { TextAnswer text.now result }
 {
@@ -74,7 +72,7 @@ fn bytes_of(alloc: Global, text: &str) -> Result<Vec<u8>, DrillFault>
     decode_hex(alloc, text.as_bytes()).map_err(text_fault)
 }
 
-// A slice cannot fail to be read and is not too long, and it is never read as base64.
+// Read, TooLong and BadBase64 cannot occur: the text is a slice, not too long, and read as hex.
 fn text_fault(fault: FileFault) -> DrillFault
     ensures { result ≡ text_fault_of fault }
 {

@@ -1,11 +1,11 @@
-//! The run over one input: reads it, lets a job answer it, and writes the answer.
+//! A run over one input: reads it, runs a job on it, and writes the answer.
 
 ghost use Rattle.std.specs.Prelude.{◌≡◌, List, ℕ, OnOk};
 ghost use Rattle.key_lines.specs.Answers.{answered};
 ghost use Rattle.keywrap_cli.specs.Engine.{RunsInput, WritesAnswer, job_fault_of};
 ghost use Rattle.keywrap_cli.specs.Files.{printed};
 
-use crate::files::read_input;
+use crate::files::{input_fault, read_file};
 use crate::job::{JobFault, Notation};
 use key_files::{print_base64, print_hex, write_raw};
 use key_lines::{LineJob, Mark};
@@ -13,7 +13,7 @@ use key_wrap::InPlaceFault;
 use std::alloc::{AllocError, Global};
 use std::io::{Read, Write};
 
-/// Reads the input, writes the job's answer to its bytes, and returns the mark of the answer.
+/// Reads the input, writes the answer of the job for this input, and returns the answer's mark.
 /// Nothing is written before the whole output is made, and the call does not flush.
 pub fn run_input<J: LineJob<Refusal = InPlaceFault>, R: Read, W: Write>(
     alloc: Global,
@@ -26,13 +26,13 @@ pub fn run_input<J: LineJob<Refusal = InPlaceFault>, R: Read, W: Write>(
         (R.remaining input.old) (R.remaining input.new)
         (W.contents out.old) (W.contents out.new) (answered text result) }
 {
-    match read_input(alloc, notation, input) {
+    match read_file(alloc, notation, input) {
         Ok(mut bytes) => write_answer(alloc, job, &mut bytes, out),
-        Err(fault) => Err(fault),
+        Err(fault) => Err(input_fault(fault)),
     }
 }
 
-// Makes the whole answer to the bytes, and then writes it.
+// Makes the whole answer for the bytes, and then writes it.
 fn write_answer<J: LineJob<Refusal = InPlaceFault>, W: Write>(
     alloc: Global,
     job: &J,
@@ -56,7 +56,7 @@ fn write_answer<J: LineJob<Refusal = InPlaceFault>, W: Write>(
     }
 }
 
-// The fault of a job for a refusal of its bytes.
+// Returns the job's fault for a refusal of its bytes.
 fn job_fault(refusal: InPlaceFault) -> JobFault
     ensures { result ≡ job_fault_of refusal }
 {

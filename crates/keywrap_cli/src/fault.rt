@@ -1,4 +1,4 @@
-//! Why the program ends without an answer: its line on standard error and its exit status.
+//! The faults of the program, with their lines on standard error and their exit statuses.
 
 use crate::drilling::DrillFault;
 use crate::initial_value::IvFault;
@@ -8,74 +8,47 @@ use crate::statuses;
 use key_files::{FileFault, HexWriteFault, WriteFault};
 use key_lines::{LineFault, RefusedLine};
 use key_wrap::InPlaceFault;
-use std::alloc::AllocError;
-use std::fmt;
 use thiserror::Error;
 
-/// A fault of the program, other than one of its arguments.
+/// A fault of the program, other than one of its arguments. Its message is its line on standard
+/// error.
 #[derive(Debug, Drop, Error)]
 pub enum ProgramFault {
-    /// The value of `--iv` was refused.
-    #[error("--iv {0}")]
+    #[error("keywrap: --iv {0}")]
     Iv(IvFault),
-    /// The value of `--new-iv` was refused.
-    #[error("--new-iv {0}")]
+    #[error("keywrap: --new-iv {0}")]
     NewIv(IvFault),
-    /// The KEK file can't be opened.
-    #[error("key file: cannot be opened")]
+    #[error("keywrap: key file: cannot be opened")]
     KekOpen,
-    /// The file of the new KEK can't be opened.
-    #[error("new key file: cannot be opened")]
+    #[error("keywrap: new key file: cannot be opened")]
     NewKekOpen,
-    /// The file of the input can't be opened.
-    #[error("input: cannot be opened")]
+    #[error("keywrap: input: cannot be opened")]
     InputOpen,
-    /// The file of the output can't be made, or must not be replaced.
-    #[error("output: cannot be opened")]
+    /// The output file can't be made, or must not be replaced.
+    #[error("keywrap: output: cannot be opened")]
     OutputOpen,
     /// Raw bytes would go to a terminal.
-    #[error("output: raw bytes do not go to a terminal; redirect it or use --output")]
+    #[error("keywrap: output: raw bytes do not go to a terminal; redirect it or use --output")]
     RawToTerminal,
-    /// A job was refused.
-    #[error("{0}")]
+    #[error("keywrap: {0}")]
     Job(JobFault),
-    /// A line of the input was refused.
-    #[error("{0}")]
+    #[error("keywrap: {0}")]
     Line(RefusedLine<InPlaceFault>),
-    /// The input has no line.
-    #[error("no lines")]
+    #[error("keywrap: no lines")]
     NoLines,
-    /// A drill was refused.
-    #[error("{0}")]
+    #[error("keywrap: {0}")]
     Drill(DrillFault),
     /// The help, the vectors, the answer of the drill or the answers to lines could not be written.
-    #[error("output: refused after {written} bytes")]
+    #[error("keywrap: output: refused after {written} bytes")]
     Write { written: usize },
     /// Standard output can't be flushed, or the new file can't be renamed.
-    #[error("output: cannot be flushed")]
+    #[error("keywrap: output: cannot be flushed")]
     Flush,
-    /// An allocation failed.
-    #[error("out of memory")]
+    #[error("keywrap: out of memory")]
     Memory,
 }
 
-/// A fault's line on standard error: the program's name, and the fault's message.
-#[derive(Drop)]
-pub struct Line<'a>(&'a ProgramFault);
-
-impl fmt::Display for Line<'_> {
-    fn fmt<W: fmt::Write>(&self, f: &mut fmt::Formatter<W>) -> fmt::Result {
-        let fault = self.0;
-        write!(f, "keywrap: {fault}")
-    }
-}
-
 impl ProgramFault {
-    /// Returns the line on standard error.
-    pub fn line(&self) -> Line<'_> {
-        Line(self)
-    }
-
     /// Returns the exit status.
     pub fn status(&self) -> u8 {
         match self {
@@ -126,12 +99,6 @@ fn drill_status(fault: &DrillFault) -> u8 {
             statuses::INPUT_OUTPUT
         }
         DrillFault::Memory => statuses::MEMORY,
-    }
-}
-
-impl From<AllocError> for ProgramFault {
-    fn from(_error: AllocError) -> ProgramFault {
-        ProgramFault::Memory
     }
 }
 

@@ -2,7 +2,7 @@
 
 ghost use Rattle.std.specs.Prelude.{◌≡◌, IfOk};
 ghost use Rattle.std.specs.List.{AllByRecursion};
-ghost use Rattle.keywrap_cli.specs.Published.{published_vectors};
+ghost use Rattle.test_vectors.specs.Published.{published_vectors};
 ghost use Rattle.keywrap_cli.specs.Vectors.{IsRight};
 
 use crate::convert::Direction;
@@ -31,7 +31,7 @@ pub fn run_drill<W: Write>(
     flush(out, statuses::DONE)
 }
 
-/// Writes the lines of [`vectors`]. The status tells whether every vector is right.
+/// Writes the lines of [`vectors`]. The status shows whether every vector is right.
 pub fn run_vectors<W: Write>(alloc: Global, out: &mut W) -> Result<u8, ProgramFault>
     ensures done { IfOk result (λ status.
         AllByRecursion IsRight published_vectors → status ≡ 0) }

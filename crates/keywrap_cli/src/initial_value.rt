@@ -1,4 +1,4 @@
-//! The initial value that a text names.
+//! Parses an initial value.
 
 ghost use Rattle.std.specs.Prelude.{◌≡◌, ◌↔◌, ℕ, Ok, Err};
 ghost use Rattle.key_wrap.specs.Plain.{IsReserved};
@@ -7,7 +7,7 @@ ghost use Rattle.keywrap_cli.specs.InitialValue.{DenotesIv, IsSixteenDigits};
 use key_wrap::InitialValue;
 use thiserror::Error;
 
-/// Why a text names no initial value.
+/// Why a text is not an initial value.
 #[derive(Clone, Copy, Debug, PartialEq, Error)]
 pub enum IvFault {
     /// The text is not 16 hex digits.
@@ -18,7 +18,7 @@ pub enum IvFault {
     Reserved,
 }
 
-/// Returns the initial value of 16 hex digits of either case, the most significant digit first.
+/// Parses an initial value: 16 hex digits of either case, the most significant digit first.
 ///
 /// Returns the first error that applies: NotSixteenDigits (a space is not a digit), Reserved. Takes
 /// no memory.

@@ -1,13 +1,13 @@
 //! The jobs, which wrap, unwrap or check an input under a KEK.
 
 ghost use Rattle.std.specs.Prelude.{◌≡◌, IsOk};
-ghost use Rattle.keywrap_cli.specs.Job.{RunsJob, RunsJobWith, WritesTheAnswer, WritesTheKey};
-ghost use Rattle.keywrap_cli.specs.Job.{WritesTheKeyWith, plain_task};
+ghost use Rattle.key_wrap.specs.Plain.{default_iv};
+ghost use Rattle.keywrap_cli.specs.Job.{RunsJob, WritesTheAnswer, plain_task};
 ghost use Rattle.keywrap_cli.specs.Answers.{done_of, job_of};
 
 use crate::convert::Direction;
 use crate::engine::run_input;
-use crate::kek_file::{KekRole, read_kek};
+use crate::kek_file::read_kek;
 use crate::key_job::KeyJob;
 use key_files::FileFault;
 use key_lines::Mark;
@@ -23,7 +23,7 @@ pub enum Job {
     Wrap,
     /// The input is a wrapped key, and the output the key.
     Unwrap,
-    /// The input is a wrapped key, and the output a line that says which form it has.
+    /// The input is a wrapped key, and the output a line with its form and the length of its key.
     Check,
 }
 
@@ -57,31 +57,39 @@ pub struct Task {
 /// The outcome of a job that was not refused.
 #[derive(Clone, Copy, Debug, PartialEq)]
 pub enum Done {
-    /// The answer was written.
     Written,
     /// The input is not a wrapping in either form, and `none` was written.
     Neither,
 }
 
-/// Why a job has no answer.
+/// The result of an operation, and whether its KEKs are the same key.
+#[derive(Clone, Copy)]
+pub struct Outcome<T> {
+    /// The result.
+    pub result: T,
+    /// Whether both KEKs of a rewrap are the same key.
+    pub same_kek: bool,
+}
+
+/// Why a job was refused.
 #[derive(Clone, Copy, Debug, PartialEq, Error)]
 pub enum JobFault {
-    /// The KEK file denotes no bytes.
+    /// The KEK file cannot be read, is too long, or does not decode.
     #[error("key file: {0}")]
     KekFile(FileFault),
-    /// The KEK is not 16, 24 or 32 bytes long.
     #[error("key length is not 16, 24 or 32 bytes")]
     KekLength,
-    /// The file of the new KEK denotes no bytes. Only a rewrapping returns this.
+    /// The new KEK file cannot be read, is too long, or does not decode. Only a rewrapping returns
+    /// this.
     #[error("new key file: {0}")]
     NewKekFile(FileFault),
     /// The new KEK is not 16, 24 or 32 bytes long. Only a rewrapping returns this.
     #[error("new key length is not 16, 24 or 32 bytes")]
     NewKekLength,
-    /// The input denotes no bytes.
+    /// The input cannot be read, is too long, or does not decode.
     #[error("input: {0}")]
     InputFile(FileFault),
-    /// The key or the wrapped key has no legal length in this form.
+    /// The length of the key or the wrapped key is not legal in this form.
     #[error("bad length")]
     BadLength,
     /// The input is not a wrapping in this form under this KEK.
@@ -93,7 +101,6 @@ pub enum JobFault {
         /// The number of bytes that were written.
         written: usize,
     },
-    /// An allocation failed.
     #[error("out of memory")]
     Memory,
 }
@@ -104,7 +111,7 @@ pub enum JobFault {
 /// answer, Integrity, Memory for the hex output or the line of a check, Write. If memory runs out
 /// while a file is read, the error is Memory instead of this file's error. The input is not read
 /// after an error of the KEK file or the KEK. Nothing is written before the whole output is made,
-/// and the call does not flush. Tests, not a contract, show the place of Memory in this order.
+/// and the call does not flush. The place of Memory in this order is tested, not proved.
 pub fn run_job<K: Read, R: Read, W: Write>(
     alloc: Global,
     task: Task,
@@ -112,14 +119,14 @@ pub fn run_job<K: Read, R: Read, W: Write>(
     input: &mut R,
     out: &mut W,
 ) -> Result<Done, JobFault>
-    ensures run { RunsJob task (K.remaining kek.old) (K.remaining kek.new)
+    ensures run { RunsJob default_iv task (K.remaining kek.old) (K.remaining kek.new)
         (R.remaining input.old) (R.remaining input.new)
         (W.contents out.old) (W.contents out.new) result }
 
-    // A key is written only for the standard's wrapping of that key and of no other.
-    ensures headline { task.job ≡ Job.Unwrap → IsOk result
-        → WritesTheKey task (K.remaining kek.old) (K.remaining kek.new)
-        (R.remaining input.old) (R.remaining input.new) (W.contents out.old) (W.contents out.new) }
+    // A key is written only if the input is the standard's wrapping of this key, and of no other.
+    ensures headline { IsOk result → WritesTheAnswer default_iv task
+        (K.remaining kek.old) (K.remaining kek.new) (R.remaining input.old) (R.remaining input.new)
+        (W.contents out.old) (W.contents out.new) }
 {
     run(alloc, &InitialValue::default(), task, kek, input, out)
 }
@@ -135,13 +142,14 @@ pub fn run_with<K: Read, R: Read, W: Write>(
     input: &mut R,
     out: &mut W,
 ) -> Result<Done, JobFault>
-    ensures run { RunsJobWith iv.now (plain_task direction input_notation kek_notation)
+    ensures run { RunsJob iv.now (plain_task direction input_notation kek_notation)
         (K.remaining kek.old) (K.remaining kek.new) (R.remaining input.old) (R.remaining input.new)
         (W.contents out.old) (W.contents out.new) result }
 
-    // A key is written only for the wrapping, under this value, of that key and of no other.
-    ensures headline { direction ≡ Direction.Unwrap → IsOk result
-        → WritesTheKeyWith iv.now (plain_task direction input_notation kek_notation)
+    // A key is written only if the input is its wrapping with this initial value, and no other
+    // key's.
+    ensures headline { IsOk result → WritesTheAnswer iv.now
+        (plain_task direction input_notation kek_notation)
         (K.remaining kek.old) (K.remaining kek.new) (R.remaining input.old) (R.remaining input.new)
         (W.contents out.old) (W.contents out.new) }
 {
@@ -164,7 +172,7 @@ pub fn job_of(direction: Direction) -> Job
     }
 }
 
-/// A job, with the initial value of the plain form.
+/// Runs a job, as `run_job` does. The plain form uses this initial value.
 pub fn run<K: Read, R: Read, W: Write>(
     alloc: Global,
     iv: &InitialValue,
@@ -173,17 +181,14 @@ pub fn run<K: Read, R: Read, W: Write>(
     input: &mut R,
     out: &mut W,
 ) -> Result<Done, JobFault>
-    ensures run { RunsJobWith iv.now task (K.remaining kek.old) (K.remaining kek.new)
+    ensures run { RunsJob iv.now task (K.remaining kek.old) (K.remaining kek.new)
         (R.remaining input.old) (R.remaining input.new)
         (W.contents out.old) (W.contents out.new) result }
-    ensures answer { IsOk result → WritesTheAnswer iv.now task
+    ensures headline { IsOk result → WritesTheAnswer iv.now task
         (K.remaining kek.old) (K.remaining kek.new) (R.remaining input.old) (R.remaining input.new)
         (W.contents out.old) (W.contents out.new) }
-    ensures headline { task.job ≡ Job.Unwrap → IsOk result
-        → WritesTheKeyWith iv.now task (K.remaining kek.old) (K.remaining kek.new)
-        (R.remaining input.old) (R.remaining input.new) (W.contents out.old) (W.contents out.new) }
 {
-    let pair = match read_kek(alloc, KekRole::Kek, task.kek, kek) {
+    let pair = match read_kek(alloc, task.kek, kek) {
         Ok(pair) => pair,
         Err(fault) => return Err(fault),
     };

@@ -1,8 +1,9 @@
-//! A job under a KEK, as an answer to bytes: the bytes of an input or of a line.
+//! Runs a job under a KEK on the bytes of an input or of a line.
 
 ghost use Rattle.std.specs.Prelude.{◌≡◌, IfOk, string_bytes};
-ghost use Rattle.keywrap_cli.specs.Answers.{AnswerIs, AnswerOfJob, JobAnswer, job_of, kind_line};
-ghost use Rattle.keywrap_cli.specs.Answers.{mark_of};
+ghost use Rattle.key_files.specs.Writing.{IsLine};
+ghost use Rattle.key_lines.specs.Answers.{answered};
+ghost use Rattle.keywrap_cli.specs.Answers.{AnswerOfJob, JobAnswer, job_of, kind_line};
 
 use crate::convert::{Direction, convert_into};
 use crate::engine::print_in;
@@ -12,7 +13,7 @@ use key_lines::{LineJob, Mark};
 use key_wrap::{InPlaceFault, InitialValue, Kind, kind_into_with};
 use std::alloc::{AllocError, Global};
 
-/// A job under a block permutation, with the initial value of the plain form.
+/// A job under a block permutation. Only the plain form uses the initial value.
 #[derive(Drop)]
 pub struct KeyJob<B: BlockPair> {
     pub alloc: Global,
@@ -48,8 +49,8 @@ impl<B: BlockPair> KeyJob<B> {
         bytes: &mut Vec<u8>,
         output: &mut Vec<u8>,
     ) -> Result<Result<Mark, InPlaceFault>, AllocError>
-        ensures { AnswerIs (AnswerOfJob (job_of direction) self.now.iv self.now.task
-            (B.encrypted self.now.pair) bytes.old.items) output.new.items result }
+        ensures { IfOk result (λ mark. AnswerOfJob (job_of direction) self.now.iv self.now.task
+            (B.encrypted self.now.pair) bytes.old.items (answered output.new.items mark)) }
     {
         match convert_into(
             direction,
@@ -63,7 +64,7 @@ impl<B: BlockPair> KeyJob<B> {
             Ok(Err(refusal)) => return Ok(Err(refusal)),
             Err(fault) => return Err(fault),
         }
-        // The answer is in `output`. It is written into `bytes` in its notation.
+        // The answer is in `output`. It is printed into `bytes`.
         print_in(self.task.input, output, bytes)?;
         std::mem::swap(bytes, output);
         Ok(Ok(Mark::Unmarked))
@@ -75,8 +76,8 @@ impl<B: BlockPair> KeyJob<B> {
         text: &[u8],
         output: &mut Vec<u8>,
     ) -> Result<Result<Mark, InPlaceFault>, AllocError>
-        ensures { AnswerIs (AnswerOfJob Job.Check self.now.iv self.now.task
-            (B.encrypted self.now.pair) text.now) output.new.items result }
+        ensures { IfOk result (λ mark. AnswerOfJob Job.Check self.now.iv self.now.task
+            (B.encrypted self.now.pair) text.now (answered output.new.items mark)) }
     {
         output.resize(text.len().saturating_sub(8), 0)?;
         let Ok(found) = kind_into_with(&mut Meter::new(&self.pair), &self.iv, text, output) else {
@@ -85,11 +86,14 @@ impl<B: BlockPair> KeyJob<B> {
         let line = kind_line(self.alloc, found)?;
         output.clear();
         output.extend_from_slice(line.as_bytes())?;
-        Ok(Ok(mark_of(found)))
+        match found {
+            Kind::Plain(_) | Kind::Padded(_) => Ok(Ok(Mark::Unmarked)),
+            Kind::Neither => Ok(Ok(Mark::Marked)),
+        }
     }
 }
 
-/// Writes the line of a check.
+/// Returns the line of a check.
 pub fn kind_line(alloc: Global, kind: Kind) -> Result<String, AllocError>
     ensures { IfOk result (λ line. string_bytes line ≡ kind_line kind) }
 {
@@ -100,11 +104,9 @@ pub fn kind_line(alloc: Global, kind: Kind) -> Result<String, AllocError>
     }
 }
 
-fn mark_of(kind: Kind) -> Mark
-    ensures { result ≡ mark_of kind }
-{
-    match kind {
-        Kind::Plain(_) | Kind::Padded(_) => Mark::Unmarked,
-        Kind::Neither => Mark::Marked,
-    }
-}
+// A law of the definition: the line of a check is one line, with one LF, at its end.
+fn kind_line_is_line(len: usize)
+    ensures plain { IsLine (kind_line (Kind.Plain len)) }
+    ensures padded { IsLine (kind_line (Kind.Padded len)) }
+    ensures none { IsLine (kind_line Kind.Neither) }
+{}

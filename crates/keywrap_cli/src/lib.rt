@@ -23,14 +23,13 @@ pub mod statuses;
 #[cfg(test)]
 mod tests;
 mod vector_check;
-mod vector_table;
 
 pub use convert::Direction;
 pub use drilling::{DrillFault, drill};
-pub use fault::{Line, ProgramFault};
+pub use fault::ProgramFault;
 pub use flushed::{run_drill, run_vectors, write_help};
 pub use initial_value::{IvFault, parse_iv};
-pub use job::{Done, Job, JobFault, Notation, Task, run_job, run_with};
+pub use job::{Done, Job, JobFault, Notation, Outcome, Task, run_job, run_with};
 pub use operation::Operation;
 pub use report::{VectorsFault, vectors};
 pub use rewrap::run_rewrap;

@@ -1,50 +1,25 @@
-//! The tasks of runs over lines, whose files are in a notation of lines.
+//! The notations of lines.
 
 ghost use Rattle.std.specs.Prelude.{◌≡◌};
-ghost use Rattle.keywrap_cli.specs.Answers.{in_lines, line_options, lines_of};
-ghost use Rattle.keywrap_cli.specs.Files.{line_notation};
+ghost use Rattle.keywrap_cli.specs.Files.{line_notation, text_notation};
 
-use crate::job::{Notation, Task};
-use crate::rewrapping::Rewrapping;
-use key_lines::{RunOptions, TextNotation};
+use crate::job::Notation;
+use key_lines::TextNotation;
 
-/// Returns the options of a run over lines in this notation. Raw bytes have no lines, so they are
-/// in hex.
-pub fn line_options(notation: Notation, keep_going: bool) -> RunOptions
-    ensures { result ≡ line_options notation keep_going }
+/// Returns the notation in which lines are read. Raw bytes have no lines, so such lines are read as
+/// hex.
+pub fn text_notation(notation: Notation) -> TextNotation
+    ensures { result ≡ text_notation notation }
 {
-    let notation = match notation {
+    match notation {
         Notation::Raw | Notation::Hex => TextNotation::Hex,
         Notation::Base64 => TextNotation::Base64,
         Notation::Base64Url => TextNotation::Base64Url,
-    };
-    RunOptions {
-        notation,
-        keep_going,
     }
 }
 
-/// The task, with its input and output as lines in this notation.
-pub fn in_lines(notation: TextNotation, task: Task) -> Task
-    ensures { result ≡ in_lines notation task }
-{
-    Task {
-        input: line_notation(notation),
-        ..task
-    }
-}
-
-/// The rewrapping, with its input and output as lines in this notation.
-pub fn lines_of(notation: TextNotation, task: &Rewrapping) -> Rewrapping
-    ensures { result ≡ lines_of notation task.now }
-{
-    Rewrapping {
-        input: line_notation(notation),
-        ..*task
-    }
-}
-
-fn line_notation(notation: TextNotation) -> Notation
+/// Returns the file notation that matches this line notation.
+pub fn line_notation(notation: TextNotation) -> Notation
     ensures { result ≡ line_notation notation }
 {
     match notation {

@@ -1,17 +1,21 @@
 //! The operation of a command on its input: wrap, unwrap, check or rewrap.
 
-ghost use Rattle.std.specs.Prelude.{IfOk, IsOk};
-ghost use Rattle.keywrap_cli.specs.Operation.{IsSameTask, RunsOperation, RunsOperationLines};
-ghost use Rattle.keywrap_cli.specs.Operation.{WritesTheAnswerOf, WritesTheLinesOf};
+ghost use Rattle.std.specs.Prelude.{◌≡◌, ◌≢◌, ◌↔◌, Some, None, MatchOption};
+ghost use Rattle.std.specs.Prelude.{IfOk, IsOk, IsTrue, false};
+ghost use Rattle.keywrap_cli.specs.Forms.{DropsPadding, to_itself};
+ghost use Rattle.keywrap_cli.specs.Operation.{IsSameTask, MatchOperation};
+ghost use Rattle.keywrap_cli.specs.Operation.{RunsOperation, RunsOperationLines};
+ghost use Rattle.keywrap_cli.specs.Operation.{TellsSameKekOf, WritesTheAnswerOf, WritesTheLinesOf};
+ghost use Rattle.keywrap_cli.specs.Rewrapping.{result_of};
 
-use crate::job::{Done, Job, JobFault, Notation, Task, run};
-use crate::kek_file::{KekRole, read_kek};
+use crate::job::{Done, Job, JobFault, Notation, Outcome, Task, run};
+use crate::kek_file::{Keks, read_kek, read_keks};
 use crate::key_job::KeyJob;
-use crate::lines::{in_lines, line_options, lines_of};
+use crate::lines::{line_notation, text_notation};
 use crate::rewrap::rewrap;
 use crate::rewrap_job::RewrapJob;
 use crate::rewrapping::{RewrapForms, Rewrapping};
-use key_lines::{LineRun, LineSource, RefusalLog, RunFault, RunSummary};
+use key_lines::{LineRun, LineSource, RefusalLog, RunFault, RunOptions, RunSummary};
 use key_wrap::{AgreedForm, InPlaceFault, InitialValue};
 use std::alloc::Global;
 use std::io::{Read, Write};
@@ -19,7 +23,7 @@ use std::io::{Read, Write};
 /// An operation with its KEK files: their names, or open files.
 #[derive(Drop)]
 pub enum Operation<K> {
-    /// A job, with the initial value of the plain form.
+    /// A job. Only the plain form uses the initial value.
     Job {
         iv: InitialValue,
         task: Task,
@@ -35,14 +39,20 @@ pub enum Operation<K> {
 
 impl<K> Operation<K> {
     /// Returns the KEK.
-    pub fn kek(&self) -> &K {
+    pub fn kek(&self) -> &K
+        ensures { MatchOperation self.now (λ iv task kek. result.now ≡ kek)
+            (λ task kek new. result.now ≡ kek) }
+    {
         match self {
             Operation::Job { kek, .. } | Operation::Rewrap { kek, .. } => kek,
         }
     }
 
     /// Returns the new KEK of a rewrap.
-    pub fn new_kek(&self) -> Option<&K> {
+    pub fn new_kek(&self) -> Option<&K>
+        ensures { MatchOperation self.now (λ iv task kek. result ≡ None)
+            (λ task kek new. MatchOption result ⊥ (λ found. found.now ≡ new)) }
+    {
         match self {
             Operation::Job { .. } => None,
             Operation::Rewrap { new_kek, .. } => Some(new_kek),
@@ -50,7 +60,10 @@ impl<K> Operation<K> {
     }
 
     /// Returns the notation of the input.
-    pub fn input_notation(&self) -> Notation {
+    pub fn input_notation(&self) -> Notation
+        ensures { MatchOperation self.now (λ iv task kek. result ≡ task.input)
+            (λ task kek new. result ≡ task.input) }
+    {
         match self {
             Operation::Job { task, .. } => task.input,
             Operation::Rewrap { task, .. } => task.input,
@@ -58,7 +71,10 @@ impl<K> Operation<K> {
     }
 
     /// Returns the notation of the KEK files.
-    pub fn kek_notation(&self) -> Notation {
+    pub fn kek_notation(&self) -> Notation
+        ensures { MatchOperation self.now (λ iv task kek. result ≡ task.kek)
+            (λ task kek new. result ≡ task.kek) }
+    {
         match self {
             Operation::Job { task, .. } => task.kek,
             Operation::Rewrap { task, .. } => task.kek,
@@ -66,45 +82,31 @@ impl<K> Operation<K> {
     }
 
     /// Returns the job, unless this is a rewrap.
-    pub fn job(&self) -> Option<Job> {
+    pub fn job(&self) -> Option<Job>
+        ensures { MatchOperation self.now (λ iv task kek. result ≡ Some task.job)
+            (λ task kek new. result ≡ None) }
+    {
         match self {
             Operation::Job { task, .. } => Some(task.job),
             Operation::Rewrap { .. } => None,
         }
     }
 
-    /// Whether the input is a key. Otherwise the input is a wrapped key.
-    pub fn takes_key(&self) -> bool {
-        matches!(self.job(), Some(Job::Wrap))
-    }
-
-    /// Whether the output is a key.
-    pub fn gives_key(&self) -> bool {
-        matches!(self.job(), Some(Job::Unwrap))
-    }
-
     /// Whether the output is raw bytes. A check writes a line.
-    pub fn writes_raw(&self) -> bool {
+    pub fn writes_raw(&self) -> bool
+        ensures { MatchOperation self.now (λ iv task kek. IsTrue result
+            ↔ ((task.job ≢ Job.Check) × (task.input ≡ Notation.Raw)))
+            (λ task kek new. IsTrue result ↔ (task.input ≡ Notation.Raw)) }
+    {
         let is_check = matches!(self.job(), Some(Job::Check));
         !is_check && matches!(self.input_notation(), Notation::Raw)
     }
 
-    /// Whether the initial value of the input differs from the default.
-    pub fn has_iv(&self) -> bool {
-        match self {
-            Operation::Job { iv, .. } => *iv != InitialValue::default(),
-            Operation::Rewrap { task, .. } => match task.forms {
-                RewrapForms::Changed {
-                    old: AgreedForm::Plain(iv),
-                    ..
-                } => iv != InitialValue::default(),
-                _ => false,
-            },
-        }
-    }
-
     /// Whether a padded wrapped key becomes a plain one.
-    pub fn drops_padding(&self) -> bool {
+    pub fn drops_padding(&self) -> bool
+        ensures { MatchOperation self.now (λ iv task kek. result ≡ false)
+            (λ task kek new. IsTrue result ↔ DropsPadding task.forms) }
+    {
         match self {
             Operation::Job { .. } => false,
             Operation::Rewrap { task, .. } => matches!(
@@ -116,40 +118,70 @@ impl<K> Operation<K> {
             ),
         }
     }
+
+    /// Whether a rewrap changes neither the form nor the initial value.
+    pub fn keeps_form(&self) -> bool
+        ensures { MatchOperation self.now (λ iv task kek. result ≡ false)
+            (λ task kek new. IsTrue result ↔ (task.forms ≡ to_itself task.forms)) }
+    {
+        match self {
+            Operation::Job { .. } => false,
+            Operation::Rewrap { task, .. } => match task.forms {
+                RewrapForms::Kept => true,
+                RewrapForms::Changed {
+                    old: AgreedForm::Plain(iv),
+                    new: AgreedForm::Plain(new_iv),
+                } => iv == new_iv,
+                RewrapForms::Changed {
+                    old: AgreedForm::Padded,
+                    new: AgreedForm::Padded,
+                } => true,
+                _ => false,
+            },
+        }
+    }
 }
 
 impl<K: Read> Operation<K> {
-    /// Answers the whole input.
+    /// Runs the operation on the whole input.
     pub fn run<I: Read, W: Write>(
         &mut self,
         alloc: Global,
         input: &mut I,
         out: &mut W,
-    ) -> Result<Done, JobFault>
+    ) -> Result<Outcome<Done>, JobFault>
         ensures run { RunsOperation K.remaining self.old self.new
             (I.remaining input.old) (I.remaining input.new)
-            (W.contents out.old) (W.contents out.new) result }
+            (W.contents out.old) (W.contents out.new) (result_of result) }
 
-        // The input belongs to one key only. The output is this key or its wrapping, or says what
-        // the input is.
+        // The input belongs to only one key. The output is this key, its wrapping, or the line of a
+        // check.
         ensures headline { IsOk result → WritesTheAnswerOf K.remaining self.old self.new
             (I.remaining input.old) (I.remaining input.new)
             (W.contents out.old) (W.contents out.new) }
+        ensures same_kek { IfOk result (λ outcome.
+            TellsSameKekOf K.remaining self.old self.new outcome.same_kek) }
         ensures same_task { IsSameTask self.old self.new }
     {
         match self {
-            Operation::Job { iv, task, kek } => run(alloc, iv, *task, kek, input, out),
+            Operation::Job { iv, task, kek } => match run(alloc, iv, *task, kek, input, out) {
+                Ok(result) => Ok(Outcome {
+                    result,
+                    same_kek: false,
+                }),
+                Err(fault) => Err(fault),
+            },
             Operation::Rewrap { task, kek, new_kek } => rewrap(
                 alloc, task, kek, new_kek, input, out,
             ),
         }
     }
 
-    /// Answers each line of the input on a line of the output, as [`LineRun::run`] does. Lines of
-    /// a raw input are read as hex. With `keep_going` the run continues after a refused line.
+    /// Runs the operation on each line of the input, as [`LineRun::run`] does. Lines of a raw
+    /// input are read as hex. With `keep_going` the run continues after a refused line.
     ///
-    /// The outer `Err` is the fault of a KEK file: then nothing of the input was read, and nothing
-    /// was written. The summary marks each `none` of a check and each wrapped key that was passed.
+    /// The outer `Err` is the fault of a KEK file: then the input was not read, and nothing was
+    /// written. `marked` in the summary counts answers that are `none` or a copied wrapped key.
     pub fn run_lines<L: RefusalLog<InPlaceFault>, I: LineSource, W: Write>(
         &mut self,
         alloc: Global,
@@ -157,50 +189,60 @@ impl<K: Read> Operation<K> {
         log: &mut L,
         input: &mut I,
         out: &mut W,
-    ) -> Result<Result<RunSummary<InPlaceFault>, RunFault<InPlaceFault>>, JobFault>
+    ) -> Result<Outcome<Result<RunSummary<InPlaceFault>, RunFault<InPlaceFault>>>, JobFault>
         ensures run { RunsOperationLines K.remaining keep_going self.old self.new
             (I.remaining input.old) (I.remaining input.new)
             (W.contents out.old) (W.contents out.new)
-            (L.received log.old) (L.received log.new) result }
+            (L.received log.old) (L.received log.new) (result_of result) }
 
         // The output has the answers to the first lines, in order, each under the KEKs that the
         // KEK files denote.
-        ensures headline { IfOk result (λ run. WritesTheLinesOf K.remaining keep_going
+        ensures headline { IfOk result (λ outcome. WritesTheLinesOf K.remaining keep_going
             self.old self.new (I.remaining input.old)
-            (W.contents out.old) (W.contents out.new) run) }
+            (W.contents out.old) (W.contents out.new) outcome.result) }
+        ensures same_kek { IfOk result (λ outcome.
+            TellsSameKekOf K.remaining self.old self.new outcome.same_kek) }
         ensures same_task { IsSameTask self.old self.new }
     {
+        let notation = text_notation(self.input_notation());
+        let options = RunOptions {
+            notation,
+            keep_going,
+        };
         match self {
             Operation::Job { iv, task, kek } => {
-                let pair = match read_kek(alloc, KekRole::Kek, task.kek, kek) {
+                let pair = match read_kek(alloc, task.kek, kek) {
                     Ok(pair) => pair,
                     Err(fault) => return Err(fault),
                 };
-                let options = line_options(task.input, keep_going);
                 let job = KeyJob {
                     alloc,
                     iv: *iv,
-                    task: in_lines(options.notation, *task),
+                    task: Task {
+                        input: line_notation(notation),
+                        ..*task
+                    },
                     pair,
                 };
-                Ok(LineRun { options, job }.run(alloc, log, input, out))
+                Ok(Outcome {
+                    result: LineRun { options, job }.run(alloc, log, input, out),
+                    same_kek: false,
+                })
             }
             Operation::Rewrap { task, kek, new_kek } => {
-                let old = match read_kek(alloc, KekRole::Kek, task.kek, kek) {
-                    Ok(old) => old,
+                let Keks { old, new, same } = match read_keks(alloc, task.kek, kek, new_kek) {
+                    Ok(keks) => keks,
                     Err(fault) => return Err(fault),
                 };
-                let new = match read_kek(alloc, KekRole::NewKek, task.kek, new_kek) {
-                    Ok(new) => new,
-                    Err(fault) => return Err(fault),
+                let task = Rewrapping {
+                    input: line_notation(notation),
+                    ..*task
                 };
-                let options = line_options(task.input, keep_going);
-                let job = RewrapJob {
-                    task: lines_of(options.notation, task),
-                    old,
-                    new,
-                };
-                Ok(LineRun { options, job }.run(alloc, log, input, out))
+                let job = RewrapJob { task, old, new };
+                Ok(Outcome {
+                    result: LineRun { options, job }.run(alloc, log, input, out),
+                    same_kek: same,
+                })
             }
         }
     }

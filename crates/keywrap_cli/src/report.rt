@@ -4,14 +4,15 @@ ghost use Rattle.std.specs.Prelude.{◌≡◌, ◌<◌, ◌↔◌, Bool, List, �
 ghost use Rattle.std.specs.Prelude.{IsTrue, string_bytes};
 ghost use Rattle.std.specs.List.{AllByRecursion};
 ghost use Rattle.std.specs.Io.KnownBytes.{Appends, Keeps};
-ghost use Rattle.keywrap_cli.specs.Published.{published_vectors};
-ghost use Rattle.keywrap_cli.specs.Vectors.{IsReport, IsRight, shown, verdict};
+ghost use Rattle.keywrap_cli.specs.Vectors.{IsReport, IsRight, verdict};
+ghost use Rattle.test_vectors.specs.Published.{published_vectors};
+ghost use Rattle.test_vectors.specs.Vectors.{shown};
 
 use crate::vector_check::is_right;
-use crate::vector_table::{VECTORS, Vector};
-use key_files::{WriteFault, write_raw};
+use key_files::write_raw;
 use std::alloc::{AllocError, Global};
 use std::io::Write;
+use test_vectors::{Vector, published};
 use thiserror::Error;
 
 /// Why the vectors were not written.
@@ -44,20 +45,14 @@ pub fn vectors<W: Write>(alloc: Global, out: &mut W) -> Result<bool, VectorsFaul
         × (written < length text)
         × Appends (W.contents out.old) (W.contents out.new) (take written text) }
 {
-    let Ok(report) = report_on(alloc, &VECTORS) else {
+    let Ok(report) = report_on(alloc, &published()) else {
         return Err(VectorsFault::Memory);
     };
     match write_raw(out, report.text.as_bytes()) {
         Ok(()) => Ok(report.all_ok),
-        Err(fault) => Err(write_fault(fault)),
-    }
-}
-
-fn write_fault(fault: WriteFault) -> VectorsFault
-    ensures { result ≡ VectorsFault.Write fault.written }
-{
-    VectorsFault::Write {
-        written: fault.written,
+        Err(fault) => Err(VectorsFault::Write {
+            written: fault.written,
+        }),
     }
 }
 

@@ -1,12 +1,13 @@
 //! Rewrapping one key: from one KEK to another, without writing the key.
 
-ghost use Rattle.std.specs.Prelude.{IsOk};
+ghost use Rattle.std.specs.Prelude.{IfOk, IsOk};
 ghost use Rattle.key_wrap.specs.Forms.{by_default};
-ghost use Rattle.keywrap_cli.specs.Rewrapping.{RunsRewrap, WritesTheNewText, rewrapping};
+ghost use Rattle.keywrap_cli.specs.Rewrapping.{RunsRewrap, TellsSameKek, WritesTheNewText};
+ghost use Rattle.keywrap_cli.specs.Rewrapping.{result_of, rewrapping};
 
 use crate::engine::run_input;
-use crate::job::{Done, JobFault, Notation};
-use crate::kek_file::{KekRole, read_kek};
+use crate::job::{Done, JobFault, Notation, Outcome};
+use crate::kek_file::{Keks, read_keks};
 use crate::rewrap_job::RewrapJob;
 use crate::rewrapping::{RewrapForms, Rewrapping};
 use key_wrap::{AgreedForm, Form};
@@ -19,9 +20,8 @@ use std::io::{Read, Write};
 /// Returns the first error that applies: KekFile, KekLength, NewKekFile, NewKekLength, InputFile,
 /// BadLength for the wrapped key, Integrity, BadLength for the key, Memory for the output, Write.
 /// If memory runs out while a file is read, the error is Memory instead of this file's error. A
-/// file is read only after everything before it has passed. Nothing is written before the whole
-/// output is made, and the call does not flush. Tests, not a contract, show the place of Memory in
-/// this order.
+/// file is read only if there was no error before it. Nothing is written before the whole output
+/// is made, and the call does not flush. The place of Memory in this order is tested, not proved.
 pub fn run_rewrap<K: Read, N: Read, R: Read, W: Write>(
     alloc: Global,
     old_form: Form,
@@ -50,17 +50,19 @@ pub fn run_rewrap<K: Read, N: Read, R: Read, W: Write>(
         (R.remaining input.old) (R.remaining input.new)
         (W.contents out.old) (W.contents out.new) }
 {
-    let forms = RewrapForms::Changed {
-        old: AgreedForm::by_default(old_form),
-        new: AgreedForm::by_default(new_form),
-    };
     let task = Rewrapping {
-        forms,
+        forms: RewrapForms::Changed {
+            old: AgreedForm::by_default(old_form),
+            new: AgreedForm::by_default(new_form),
+        },
         pass_new: false,
         input: input_notation,
         kek: kek_notation,
     };
-    rewrap(alloc, &task, old_kek, new_kek, input, out)
+    match rewrap(alloc, &task, old_kek, new_kek, input, out) {
+        Ok(outcome) => Ok(outcome.result),
+        Err(fault) => Err(fault),
+    }
 }
 
 /// A rewrapping of one key.
@@ -71,23 +73,22 @@ pub fn rewrap<K: Read, N: Read, R: Read, W: Write>(
     new_kek: &mut N,
     input: &mut R,
     out: &mut W,
-) -> Result<Done, JobFault>
+) -> Result<Outcome<Done>, JobFault>
     ensures run { RunsRewrap task.now (K.remaining old_kek.old) (K.remaining old_kek.new)
         (N.remaining new_kek.old) (N.remaining new_kek.new)
         (R.remaining input.old) (R.remaining input.new)
-        (W.contents out.old) (W.contents out.new) result }
+        (W.contents out.old) (W.contents out.new) (result_of result) }
     ensures headline { IsOk result → WritesTheNewText task.now
         (K.remaining old_kek.old) (K.remaining old_kek.new)
         (N.remaining new_kek.old) (N.remaining new_kek.new)
         (R.remaining input.old) (R.remaining input.new)
         (W.contents out.old) (W.contents out.new) }
+    ensures same_kek { IfOk result (λ outcome. TellsSameKek task.now.kek
+        (K.remaining old_kek.old) (K.remaining old_kek.new)
+        (N.remaining new_kek.old) (N.remaining new_kek.new) outcome.same_kek) }
 {
-    let old = match read_kek(alloc, KekRole::Kek, task.kek, old_kek) {
-        Ok(old) => old,
-        Err(fault) => return Err(fault),
-    };
-    let new = match read_kek(alloc, KekRole::NewKek, task.kek, new_kek) {
-        Ok(new) => new,
+    let Keks { old, new, same } = match read_keks(alloc, task.kek, old_kek, new_kek) {
+        Ok(keks) => keks,
         Err(fault) => return Err(fault),
     };
     let job = RewrapJob {
@@ -96,7 +97,10 @@ pub fn rewrap<K: Read, N: Read, R: Read, W: Write>(
         new,
     };
     match run_input(alloc, task.input, &job, input, out) {
-        Ok(_) => Ok(Done::Written),
+        Ok(_) => Ok(Outcome {
+            result: Done::Written,
+            same_kek: same,
+        }),
         Err(fault) => Err(fault),
     }
 }

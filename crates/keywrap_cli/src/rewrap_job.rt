@@ -1,8 +1,8 @@
-//! A rewrapping, as an answer to bytes: the bytes of an input or of a line.
+//! Rewraps the bytes of an input or of a line.
 
-ghost use Rattle.std.specs.Prelude.{◌≡◌, ◌↔◌, IsTrue, length, true};
-ghost use Rattle.key_lines.specs.Answers.{made};
-ghost use Rattle.keywrap_cli.specs.Answers.{AnswerIs, RewrappingAnswer};
+ghost use Rattle.std.specs.Prelude.{◌≡◌, ◌↔◌, IfOk, IsTrue, true};
+ghost use Rattle.key_lines.specs.Answers.{answered, made};
+ghost use Rattle.keywrap_cli.specs.Answers.{RewrappingAnswer};
 ghost use Rattle.keywrap_cli.specs.Forms.{IsOldLength, MakesMarked, Rewraps, to_itself};
 
 use crate::engine::print_in;
@@ -15,7 +15,7 @@ use key_wrap::{
 };
 use std::alloc::AllocError;
 
-/// A rewrapping from the old pair to the new one.
+/// A rewrapping from the old block permutation to the new one.
 #[derive(Drop)]
 pub struct RewrapJob<O: BlockPair, N: BlockPair> {
     pub task: Rewrapping,
@@ -34,28 +34,14 @@ impl<O: BlockPair, N: BlockPair> LineJob for RewrapJob<O, N> {
         bytes: &mut Vec<u8>,
         output: &mut Vec<u8>,
     ) -> Result<Result<Mark, InPlaceFault>, AllocError> {
-        answer_rewrapping(&self.task, &self.old, &self.new, bytes, output)
+        let mark = match make(&self.task, &self.old, &self.new, bytes, output) {
+            Ok(Ok(mark)) => mark,
+            Ok(Err(refusal)) => return Ok(Err(refusal)),
+            Err(fault) => return Err(fault),
+        };
+        print_in(self.task.input, bytes, output)?;
+        Ok(Ok(mark))
     }
-}
-
-// Makes the answer, in the notation of the task.
-fn answer_rewrapping<O: BlockPair, N: BlockPair>(
-    task: &Rewrapping,
-    old: &O,
-    new: &N,
-    bytes: &mut Vec<u8>,
-    output: &mut Vec<u8>,
-) -> Result<Result<Mark, InPlaceFault>, AllocError>
-    ensures { AnswerIs (RewrappingAnswer task.now (O.encrypted old.now) (N.encrypted new.now)
-        bytes.old.items) output.new.items result }
-{
-    let mark = match make(task, old, new, bytes, output) {
-        Ok(Ok(mark)) => mark,
-        Ok(Err(refusal)) => return Ok(Err(refusal)),
-        Err(fault) => return Err(fault),
-    };
-    print_in(task.input, bytes, output)?;
-    Ok(Ok(mark))
 }
 
 // Rewraps the text in its buffer, which becomes the answer.
@@ -66,8 +52,9 @@ fn make<O: BlockPair, N: BlockPair>(
     text: &mut Vec<u8>,
     spare: &mut Vec<u8>,
 ) -> Result<Result<Mark, InPlaceFault>, AllocError>
-    ensures { AnswerIs (MakesMarked task.now.pass_new task.now.forms (O.encrypted old.now)
-        (N.encrypted new.now) text.old.items) text.new.items result }
+    ensures { IfOk result (λ mark. MakesMarked task.now.pass_new task.now.forms
+        (O.encrypted old.now) (N.encrypted new.now) text.old.items
+        (answered text.new.items mark)) }
 {
     if task.pass_new {
         return rewrap_or_pass(&task.forms, old, new, text, spare);
@@ -78,7 +65,8 @@ fn make<O: BlockPair, N: BlockPair>(
     }
 }
 
-// The same if new wrappings pass. A refused rewrapping clears its buffer, so the text is kept.
+// Rewraps `text` in place, but keeps a text that is already under the new KEK. A refused rewrapping
+// clears its buffer, so the text is first saved in `spare`.
 fn rewrap_or_pass<O: BlockPair, N: BlockPair>(
     forms: &RewrapForms,
     old: &O,
@@ -86,8 +74,8 @@ fn rewrap_or_pass<O: BlockPair, N: BlockPair>(
     text: &mut Vec<u8>,
     spare: &mut Vec<u8>,
 ) -> Result<Result<Mark, InPlaceFault>, AllocError>
-    ensures { AnswerIs (MakesMarked true forms.now (O.encrypted old.now) (N.encrypted new.now)
-        text.old.items) text.new.items result }
+    ensures { IfOk result (λ mark. MakesMarked true forms.now (O.encrypted old.now)
+        (N.encrypted new.now) text.old.items (answered text.new.items mark)) }
 {
     spare.clear();
     spare.extend_from_slice(text)?;
@@ -107,7 +95,7 @@ fn rewrap_or_pass<O: BlockPair, N: BlockPair>(
     }
 }
 
-// Whether a refused text is a wrapping under the old KEK, whose key's length was refused.
+// Returns whether the text was refused only for the length of its key: the old KEK unwraps it.
 fn has_old_length(forms: &RewrapForms, refusal: InPlaceFault, len: usize) -> bool
     ensures { IsTrue result ↔ ((refusal ≡ InPlaceFault.BadLength) × IsOldLength forms.now len) }
 {
@@ -142,37 +130,11 @@ fn rewrap_bytes<O: BlockPair, N: BlockPair>(
     ensures { Rewraps forms.now (O.encrypted old.now) (N.encrypted new.now) text.old
         (made text.new result) }
 {
+    let (mut unwraps, mut wraps) = (Meter::new(old), Meter::new(new));
     match forms {
-        RewrapForms::Kept => rewrap_kept(old, new, text),
-        RewrapForms::Changed {
-            old: old_form,
-            new: new_form,
-        } => rewrap_changed(old_form, new_form, old, new, text),
+        RewrapForms::Kept => rewrap_keeping_form_in_place(&mut unwraps, &mut wraps, text),
+        RewrapForms::Changed { old, new } => {
+            rewrap_in_place_with(&mut unwraps, old, &mut wraps, new, text)
+        }
     }
-}
-
-fn rewrap_changed<O: BlockPair, N: BlockPair>(
-    old_form: &AgreedForm,
-    new_form: &AgreedForm,
-    old: &O,
-    new: &N,
-    text: &mut [u8],
-) -> Result<(), InPlaceFault>
-    ensures { Rewraps (RewrapForms.Changed old_form.now new_form.now) (O.encrypted old.now)
-        (N.encrypted new.now) text.old (made text.new result) }
-{
-    let (mut unwraps, mut wraps) = (Meter::new(old), Meter::new(new));
-    rewrap_in_place_with(&mut unwraps, old_form, &mut wraps, new_form, text)
-}
-
-fn rewrap_kept<O: BlockPair, N: BlockPair>(
-    old: &O,
-    new: &N,
-    text: &mut [u8],
-) -> Result<(), InPlaceFault>
-    ensures { Rewraps RewrapForms.Kept (O.encrypted old.now) (N.encrypted new.now) text.old
-        (made text.new result) }
-{
-    let (mut unwraps, mut wraps) = (Meter::new(old), Meter::new(new));
-    rewrap_keeping_form_in_place(&mut unwraps, &mut wraps, text)
 }

@@ -6,7 +6,7 @@ use key_wrap::AgreedForm;
 /// The old and the new form of a rewrapping.
 #[derive(Clone, Copy)]
 pub enum RewrapForms {
-    /// The old form may be either form and is kept, with the default initial value.
+    /// The form of the input, which is kept. The initial value is the default.
     Kept,
     /// The old form and the new one, which may be the same.
     Changed {

@@ -3,13 +3,13 @@
 /// The answer was written.
 pub const DONE: u8 = 0;
 
-/// The command line was refused, or the value of `--iv`, or raw bytes would go to a terminal.
+/// The command line or the value of `--iv` was refused, or raw bytes would go to a terminal.
 pub const REFUSED_WORDS: u8 = 2;
 
 /// A KEK is not 16, 24 or 32 bytes long.
 pub const KEK_LENGTH: u8 = 3;
 
-/// The key or the wrapped key has no legal length in its form.
+/// The length of the key or the wrapped key is not legal in its form.
 pub const BAD_LENGTH: u8 = 4;
 
 /// The integrity check failed, a check found no wrapping, or a vector failed.

@@ -1,4 +1,4 @@
-//! Worked rows and published vectors, through the public calls.
+//! Tests of the public calls: worked examples and published vectors.
 
 mod block_calls;
 mod cases;

@@ -1,56 +1,31 @@
-//! Whether a vector is right.
+//! Checks a published vector.
 
-ghost use Rattle.std.specs.Prelude.{◌≡◌, ◌≢◌, ◌↔◌, ℕ, List, length, IfOk, IsTrue, MatchOption, Ok};
+ghost use Rattle.std.specs.Prelude.{◌≡◌, ◌≢◌, ◌↔◌, length, IfOk, IsTrue, MatchOption};
 ghost use Rattle.block_pair.specs.Words.{IsBlock};
-ghost use Rattle.key_files.specs.Meaning.{hex_meaning};
 ghost use Rattle.key_wrap.specs.Plain.{default_iv};
 ghost use Rattle.key_wrap.specs.Forms.{Stands};
-ghost use Rattle.keywrap_cli.specs.Vectors.{IsRight, Takes, shown};
+ghost use Rattle.keywrap_cli.specs.Vectors.{IsRight, Takes};
+ghost use Rattle.test_vectors.specs.Vectors.{shown};
 
 use crate::convert::{Direction, convert_into};
 use crate::kek_file::Aes;
-use crate::vector_table::{Algorithm, Vector};
 use block_pair::BlockPair;
-use key_files::{FileFault, decode_hex};
 use key_wrap::{Form, InitialValue};
 use std::alloc::{AllocError, Global};
+use test_vectors::{Algorithm, Vector};
 
-/// Whether a vector is right: its texts denote a KEK, an input and an output, and its algorithm
-/// under AES of the KEK takes the input to the output.
+/// Returns whether a vector is right: its algorithm, with AES under its key, maps the input to the
+/// output.
 pub fn is_right(alloc: Global, vector: &Vector<'_>) -> Result<bool, AllocError>
     ensures { IfOk result (λ right. IsTrue right ↔ IsRight (shown vector.now)) }
 {
-    let Some(key) = bytes_of(alloc, vector.key)? else {
+    let Ok(aes) = Aes::new(vector.key) else {
         return Ok(false);
     };
-    let Some(input) = bytes_of(alloc, vector.input)? else {
-        return Ok(false);
-    };
-    let Some(output) = bytes_of(alloc, vector.output)? else {
-        return Ok(false);
-    };
-    let Ok(aes) = Aes::new(&key) else {
-        return Ok(false);
-    };
-    takes(alloc, vector.algorithm, &aes, &input, &output)
+    takes(alloc, vector.algorithm, &aes, vector.input, vector.output)
 }
 
-// The bytes that a hex text denotes, if it denotes any.
-fn bytes_of(alloc: Global, text: &str) -> Result<Option<Vec<u8>>, AllocError>
-    ensures { IfOk result (λ found. MatchOption found
-        ((bytes : List ℕ) → hex_meaning text.now ≢ Ok bytes)
-        (λ bytes. hex_meaning text.now ≡ Ok bytes.items)) }
-{
-    match decode_hex(alloc, text.as_bytes()) {
-        Ok(bytes) => Ok(Some(bytes)),
-        Err(fault) => match fault {
-            FileFault::Memory => Err(AllocError),
-            _ => Ok(None),
-        },
-    }
-}
-
-// Whether an algorithm takes the input to the output, and its inverse takes the output back.
+// Returns whether an algorithm maps the input to the output, and its inverse maps it back.
 fn takes<B: BlockPair>(
     alloc: Global,
     algorithm: Algorithm,
@@ -62,7 +37,8 @@ fn takes<B: BlockPair>(
         ↔ Takes algorithm (B.encrypted pair.now) input.now output.now) }
 {
     match algorithm {
-        Algorithm::KeyWrap(form) => wraps(alloc, form, pair, input, output),
+        Algorithm::KeyWrap => wraps(alloc, Form::Plain, pair, input, output),
+        Algorithm::KeyWrapWithPadding => wraps(alloc, Form::Padded, pair, input, output),
         Algorithm::Encryption => Ok(encrypts(pair, input, output)),
     }
 }
@@ -87,7 +63,7 @@ fn wraps<B: BlockPair>(
     Ok(unwrapped.is_ok() && output.as_slice() == key)
 }
 
-// Whether the cipher takes one block to the other, and the inverse cipher takes it back.
+// Returns whether the cipher maps `plain` to `encrypted`, and the inverse cipher maps it back.
 fn encrypts<B: BlockPair>(pair: &B, plain: &[u8], encrypted: &[u8]) -> bool
     ensures { IsTrue result
         ↔ (IsBlock plain.now × (B.encrypted pair.now plain.now ≡ encrypted.now)) }

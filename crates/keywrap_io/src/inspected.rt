@@ -41,7 +41,7 @@ impl<F> Inspected<F> {
 }
 
 impl Inspection {
-    /// If the bytes look like hex or base64, returns what to say of a KEK of these raw bytes.
+    /// If the bytes look like hex or base64, returns a hint on a raw KEK of these bytes.
     pub fn looks_like(&self) -> Option<&'static str> {
         match self.bytes.saturating_sub(self.fill) {
             0 => None,
@@ -52,6 +52,14 @@ impl Inspection {
                 Some("looks like base64: use --base64-kek to read it as base64")
             }
             _ => None,
+        }
+    }
+
+    // Keeps the outcome of a read or a write.
+    fn note(&mut self, outcome: &io::Result<usize>) {
+        match outcome {
+            Ok(count) => self.bytes = self.bytes.saturating_add(*count as u64),
+            Err(error) => self.os_error = error.raw_os_error(),
         }
     }
 
@@ -66,10 +74,6 @@ impl Inspection {
     }
 }
 
-fn add_bytes(inspection: &mut Inspection, count: usize) {
-    inspection.bytes = inspection.bytes.saturating_add(count as u64);
-}
-
 fn add(count: &mut u64, is_counted: bool) {
     *count = count.saturating_add(is_counted as u64);
 }
@@ -78,17 +82,12 @@ impl<F: Read> Read for Inspected<F> {
     ghost remaining = { λ s. F.remaining s.file };
 
     fn read(&mut self, buf: &mut [u8]) -> io::Result<usize> {
-        let answer = self.file.read(buf);
-        match &answer {
-            Ok(count) => {
-                add_bytes(&mut self.inspection, *count);
-                if self.counts {
-                    self.inspection.count(buf.get(..*count).unwrap_or(&[]));
-                }
-            }
-            Err(error) => self.inspection.os_error = error.raw_os_error(),
+        let outcome = self.file.read(buf);
+        self.inspection.note(&outcome);
+        if let (true, Ok(count)) = (self.counts, &outcome) {
+            self.inspection.count(buf.get(..*count).unwrap_or(&[]));
         }
-        answer
+        outcome
     }
 }
 
@@ -96,12 +95,9 @@ impl<F: Write> Write for Inspected<F> {
     ghost contents = { λ s. F.contents s.file };
 
     fn write(&mut self, buf: &[u8]) -> io::Result<usize> {
-        let answer = self.file.write(buf);
-        match &answer {
-            Ok(count) => add_bytes(&mut self.inspection, *count),
-            Err(error) => self.inspection.os_error = error.raw_os_error(),
-        }
-        answer
+        let outcome = self.file.write(buf);
+        self.inspection.note(&outcome);
+        outcome
     }
 
     fn flush(&mut self) -> io::Result<()> {

@@ -22,5 +22,6 @@ pub use progress::{CountingReader, Progress};
 pub use protected::{FileId, Protected};
 pub use reason::Reason;
 pub use streams::{
-    InputSource, Occupied, StreamKind, Streams, is_standard_input, occupy_closed, open, stream_kind,
+    InputSource, Occupied, StreamKind, Streams, is_output_piped, is_standard_input, occupy_closed,
+    open, stream_kind,
 };

@@ -1,8 +1,8 @@
-//! The last line of a run over the lines of an input: how many there were, and what became of them.
+//! The last line of a run over lines: how many lines there were, and how many were refused.
 
 use std::fmt;
 
-/// What became of the lines of a run.
+/// The counts of a run over lines.
 #[derive(Clone, Copy)]
 pub struct LineCounts {
     pub lines: u64,

@@ -1,6 +1,6 @@
 //! The output of a run: a file, or standard output.
 
-use crate::output_file::{OutputFault, OutputFile};
+use crate::output_file::OutputFile;
 use crate::reason::Reason;
 use std::fs::File;
 use std::io::{self, Printer, Write};
@@ -15,18 +15,15 @@ pub enum Output<'a, R> {
 
 impl<R: Print> Output<'_, R> {
     /// Ends a run that was not refused: the file takes its place, or standard output is flushed.
-    pub fn commit<F: Files<File = File>>(self, rt: &F) -> Result<(), OutputFault> {
+    pub fn commit<F: Files<File = File>>(&mut self, rt: &F) -> Result<(), Reason> {
         match self {
             Output::File(file) => file.commit(rt),
-            Output::Stdout(mut out) => match out.flush() {
-                Ok(()) => Ok(()),
-                Err(error) => Err(OutputFault::Flush(Reason::from(error))),
-            },
+            Output::Stdout(out) => Ok(out.flush()?),
         }
     }
 
     /// Ends a run that was refused: the file is removed.
-    pub fn discard<F: Files<File = File>>(self, rt: &F) {
+    pub fn discard<F: Files<File = File>>(&self, rt: &F) {
         if let Output::File(file) = self {
             file.discard(rt);
         }

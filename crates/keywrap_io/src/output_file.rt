@@ -11,19 +11,16 @@ use std::rt::Files;
 // The new file has one of this many names until it is whole.
 const MAX_TEMPORARIES: u8 = 100;
 
-// The bits of a mode that say who may read, write and execute a file, and those for other users
-// than its owner.
+// The permission bits of a mode, and the permission bits for users other than the owner.
 const PERMISSIONS: u32 = 0o777;
 
 const NOT_OWNER: u32 = 0o077;
 
-/// Why there is no new file, or why it did not take its place.
+/// Why there is no new file.
 #[derive(Clone, Copy)]
 pub enum OutputFault {
     /// It cannot be made, or must not replace the file that exists.
     Open(Reason),
-    /// It cannot be synced or renamed, or its directory cannot be synced.
-    Flush(Reason),
     /// An allocation failed.
     Memory,
 }
@@ -43,7 +40,7 @@ pub enum Access {
     LikeOld,
 }
 
-/// A new file, which takes the place of an old file or of none once it is whole.
+/// A new file, which replaces the old file, if any, once it is whole.
 #[derive(Drop)]
 pub struct OutputFile<'a> {
     /// The new file.
@@ -53,41 +50,36 @@ pub struct OutputFile<'a> {
 }
 
 impl<'a> OutputFile<'a> {
-    /// Makes the new file beside the name. A file that has this name already must be a regular file
-    /// and not protected.
+    /// Makes the new file in the directory of this name. A file that already has the name must be a
+    /// regular file and not protected.
     pub fn create<R: AllocGlobal + Files<File = File>>(
         rt: &R,
         name: &'a str,
         protected: &Protected,
         access: Access,
     ) -> Result<OutputFile<'a>, OutputFault> {
-        let old = match existing_target(rt, name, protected) {
-            Ok(old) => old,
-            Err(reason) => return Err(OutputFault::Open(reason)),
-        };
+        let old = existing_target(rt, name, protected).map_err(OutputFault::Open)?;
         let new = create_temporary(rt, name)?;
-        let set = match (old, access) {
+        let is_set = match (old, access) {
             (Some(old), Access::LikeOld) => copy_ownership(&new.file, &old),
-            (_, Access::LikeOld | Access::Private) => check_private(&new.file),
+            (_, Access::LikeOld | Access::Private) => is_private(&new.file),
         };
-        match set {
-            Ok(()) => Ok(new),
-            Err(reason) => {
-                new.discard(rt);
-                Err(OutputFault::Open(reason))
-            }
-        }
+        let error = match is_set {
+            Ok(true) => return Ok(new),
+            Ok(false) => None,
+            Err(error) => error.raw_os_error(),
+        };
+        new.discard(rt);
+        Err(OutputFault::Open(Reason::OwnershipNotKept(error)))
     }
 
     /// Renames the new file, which is whole, to its name, and syncs its directory.
-    pub fn commit<R: Files<File = File>>(self, rt: &R) -> Result<(), OutputFault> {
-        match self.replace_target(rt) {
-            Ok(()) => sync_parent_directory(rt, self.name).map_err(OutputFault::Flush),
-            Err(reason) => {
-                self.discard(rt);
-                Err(OutputFault::Flush(reason))
-            }
+    pub fn commit<R: Files<File = File>>(&self, rt: &R) -> Result<(), Reason> {
+        if let Err(reason) = self.replace_target(rt) {
+            self.discard(rt);
+            return Err(reason);
         }
+        Ok(sync_parent_directory(rt, self.name)?)
     }
 
     fn replace_target<R: Files<File = File>>(&self, rt: &R) -> Result<(), Reason> {
@@ -113,7 +105,7 @@ impl<'a> OutputFile<'a> {
     }
 
     /// Removes the new file if possible, also if it is unknown whether it still has its name.
-    pub fn discard<R: Files<File = File>>(self, rt: &R) {
+    pub fn discard<R: Files<File = File>>(&self, rt: &R) {
         if !matches!(self.has_its_name(rt), Ok(false)) {
             let _ = fs::remove_file(rt, self.temporary.as_str());
         }
@@ -148,11 +140,11 @@ fn temporary_name(alloc: Global, name: &str, number: u8) -> Result<String, Alloc
 
 // Opens a file that did not exist, for its owner only.
 fn open_new<R: Files<File = File>>(rt: &R, name: &str) -> io::Result<File> {
-    let mut options = OpenOptions::new();
-    options.write(true);
-    options.create_new(true);
-    options.mode(0o600);
-    options.open(rt, name)
+    OpenOptions::new()
+        .write(true)
+        .create_new(true)
+        .mode(0o600)
+        .open(rt, name)
 }
 
 // Returns the file that will be replaced, if one exists.
@@ -185,62 +177,47 @@ fn describe_type(file_type: &FileType) -> &'static str {
     }
 }
 
-// Gives a new file the owner, the group and then the permissions of an old one. What is right already
-// is not set, since some file systems refuse that.
-fn copy_ownership(new: &File, old: &Metadata) -> Result<(), Reason> {
-    let made = new.metadata().map_err(ownership_error)?;
+// Gives a new file the owner, the group and then the permissions of an old one, and returns whether
+// it has them. Values that are already right are not set, since some file systems refuse that.
+fn copy_ownership(new: &File, old: &Metadata) -> io::Result<bool> {
+    let made = new.metadata()?;
     let owner = (made.uid() != old.uid()).then_some(old.uid());
     let group = (made.gid() != old.gid()).then_some(old.gid());
     if owner.is_some() || group.is_some() {
-        fchown(new, owner, group).map_err(ownership_error)?;
+        fchown(new, owner, group)?;
     }
     let permissions = old.mode() & PERMISSIONS;
     if made.mode() & PERMISSIONS != permissions {
-        new.set_permissions(Permissions::from_mode(permissions))
-            .map_err(ownership_error)?;
+        new.set_permissions(Permissions::from_mode(permissions))?;
     }
     // Some file systems accept a change and do nothing.
-    let set = new.metadata().map_err(ownership_error)?;
-    if set.uid() == old.uid() && set.gid() == old.gid() && set.mode() & PERMISSIONS == permissions {
-        Ok(())
-    } else {
-        Err(Reason::OwnershipNotKept(None))
-    }
+    let set = new.metadata()?;
+    let has_owners = set.uid() == old.uid() && set.gid() == old.gid();
+    Ok(has_owners && set.mode() & PERMISSIONS == permissions)
 }
 
-// Checks that a new file is for its owner only: some file systems have one mode for all files.
-fn check_private(new: &File) -> Result<(), Reason> {
-    let made = new.metadata().map_err(ownership_error)?;
-    if made.mode() & NOT_OWNER == 0 {
-        Ok(())
-    } else {
-        Err(Reason::OwnershipNotKept(None))
-    }
-}
-
-fn ownership_error(error: io::Error) -> Reason {
-    Reason::OwnershipNotKept(error.raw_os_error())
+// Returns whether a new file is for its owner only: some file systems have one mode for all files.
+fn is_private(new: &File) -> io::Result<bool> {
+    Ok(new.metadata()?.mode() & NOT_OWNER == 0)
 }
 
 // Syncs the directory of a file, so that the new name is on the disk. Some directories cannot be
 // opened, and some file systems cannot sync a directory.
-fn sync_parent_directory<R: Files<File = File>>(rt: &R, name: &str) -> Result<(), Reason> {
+fn sync_parent_directory<R: Files<File = File>>(rt: &R, name: &str) -> io::Result<()> {
     let Ok(directory) = fs::open(rt, parent_directory(name)) else {
         return Ok(());
     };
-    match directory.sync_all() {
-        Ok(()) => Ok(()),
-        Err(error) => match error.kind() {
-            io::ErrorKind::InvalidInput | io::ErrorKind::Unsupported => Ok(()),
-            _ => Err(Reason::from(error)),
-        },
-    }
+    directory.sync_all().or_else(|error| match error.kind() {
+        io::ErrorKind::InvalidInput | io::ErrorKind::Unsupported => Ok(()),
+        _ => Err(error),
+    })
 }
 
 // Returns the name up to its last slash.
 fn parent_directory(name: &str) -> &str {
-    match name.trim_end_matches(|c| c != '/') {
-        "" => ".",
-        directory => directory,
+    if name.contains('/') {
+        name.trim_end_matches(|c| c != '/')
+    } else {
+        "."
     }
 }

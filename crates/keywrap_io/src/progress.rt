@@ -12,7 +12,7 @@ const PAUSE: u64 = 500;
 // Moves to the start of the terminal's line, and clears it.
 const CLEAR: &str = "\r\x1b[K";
 
-/// How far a run is, and whether the terminal shows it.
+/// The progress of a run, and whether the terminal shows it.
 #[derive(Drop)]
 pub struct Progress<'a, R> {
     rt: &'a R,
@@ -23,7 +23,7 @@ pub struct Progress<'a, R> {
     is_shown: Cell<bool>,
 }
 
-#[derive(Clone, Copy)]
+#[derive(Clone, Copy, Default)]
 struct State {
     bytes: u64,
     lines: u64,
@@ -41,10 +41,8 @@ impl<'a, R: Eprint + Clock + Env + AllocGlobal> Progress<'a, R> {
             rt,
             start: if is_shown { rt.monotonic().ok() } else { None },
             state: Cell::new(State {
-                bytes: 0,
-                lines: 0,
                 total,
-                millis: 0,
+                ..State::default()
             }),
             is_shown: Cell::new(false),
         }
@@ -86,12 +84,9 @@ impl<'a, R: Eprint + Clock + Env + AllocGlobal> Progress<'a, R> {
     }
 }
 
-// A terminal without a name and a dumb one cannot clear a line.
+// A dumb terminal, or one without a name, cannot clear a line.
 fn can_rewrite<R: Env + AllocGlobal>(rt: &R) -> bool {
-    match env::var(rt, "TERM") {
-        Ok(name) => !name.is_empty() && name.as_str() != "dumb",
-        Err(_) => false,
-    }
+    env::var(rt, "TERM").is_ok_and(|name| !name.is_empty() && name.as_str() != "dumb")
 }
 
 fn quotient(dividend: u64, factor: u64, divisor: u64) -> Option<u64> {

@@ -1,10 +1,9 @@
 //! The files of a run that its output must not replace.
 
 use crate::reason::Reason;
-use std::fs::{Metadata, OpenFile};
+use std::fs::Metadata;
 use std::io;
 use std::os::unix::fs::MetadataExt;
-use std::rt::Files;
 
 /// The files of a run that its output must not replace, under any name.
 #[derive(Clone, Copy)]
@@ -27,17 +26,8 @@ pub enum FileId {
 }
 
 impl FileId {
-    /// Identifies an open file.
-    pub fn from_file<F: OpenFile>(file: &F) -> FileId {
-        FileId::from_metadata(file.metadata())
-    }
-
-    /// Identifies the file that is standard input.
-    pub fn standard_input<R: Files>(rt: &R) -> FileId {
-        FileId::from_metadata(rt.metadata("/proc/self/fd/0"))
-    }
-
-    fn from_metadata(metadata: io::Result<Metadata>) -> FileId {
+    /// Identifies the file that has this metadata.
+    pub fn new(metadata: io::Result<Metadata>) -> FileId {
         match metadata {
             Ok(metadata) => FileId::Known {
                 device: metadata.dev(),

@@ -1,24 +1,24 @@
-//! Why a file was refused: what the second line says after the name of the file.
+//! Why a file was refused: the end of the second line, after the name of the file.
 
 use std::{fmt, io};
 
 /// Why a file was refused.
 #[derive(Clone, Copy)]
 pub enum Reason {
-    /// Only the name is shown: the first line says why.
+    /// Only the name is shown: the first line has the reason.
     NameOnly,
     /// The system's error of this number.
     Os(i32),
     /// The output file cannot have the owner, group and mode that it should, with the system's
     /// error, if there was one.
     OwnershipNotKept(Option<i32>),
-    /// The length in bytes is not legal. The text says which lengths are.
+    /// The length in bytes is not legal. The text names the legal lengths.
     Length(u64, &'static str),
     /// The length in bytes is more than this text and number allow.
     TooLong(u64, &'static str, usize),
     /// More than this number of bytes.
     MoreThan(usize),
-    /// The length of a KEK is not legal. The text says how it may have been meant.
+    /// The length of a KEK is not legal. The text is a hint.
     KekLength(u64, Option<&'static str>),
     /// The file has this number of hex digits.
     HexDigits(u64),

@@ -2,9 +2,10 @@
 
 use crate::file_role::FileRole;
 use crate::protected::FileId;
-use std::fs::{self, File};
+use std::fs::{self, File, OpenFile};
 use std::io::{self, IsTerminal, PipeReader, Read};
 use std::os::fd::AsFd;
+use std::os::unix::fs::FileTypeExt;
 use std::rt::Files;
 
 /// The standard streams as the program starts.
@@ -20,7 +21,7 @@ pub struct Streams {
 pub enum StreamKind {
     Terminal,
     Closed,
-    /// Something else, as a file or a pipe.
+    /// Something else, such as a file or a pipe.
     Other,
 }
 
@@ -45,36 +46,36 @@ pub fn stream_kind<S: AsFd + IsTerminal>(stream: &S) -> StreamKind {
     }
 }
 
-/// What holds the places of the standard streams that are closed.
+/// Returns whether standard output is a pipe, which may lead to the terminal.
+pub fn is_output_piped<R: Files>(rt: &R) -> bool {
+    rt.metadata("/proc/self/fd/1")
+        .is_ok_and(|metadata| metadata.file_type().is_fifo())
+}
+
+/// Holds the descriptors of closed standard streams.
 pub type Occupied = [Option<PipeReader>; 3];
 
-/// Takes the places of the standard streams that are closed, so that no file that is opened later
-/// gets one of them. If that fails, returns which file of a run would be lost.
+/// Takes the descriptors of closed standard streams, so that no file that is opened later gets
+/// one. If that fails, returns which file of a run would be lost.
 pub fn occupy_closed<R: Files>(rt: &R, streams: Streams) -> Result<Occupied, FileRole> {
     Ok([
-        occupy(rt, streams.input, FileRole::Input)?,
-        occupy(rt, streams.output, FileRole::Output)?,
-        occupy(rt, streams.error, FileRole::Output)?,
+        occupy(rt, streams.input).map_err(|_| FileRole::Input)?,
+        occupy(rt, streams.output).map_err(|_| FileRole::Output)?,
+        occupy(rt, streams.error).map_err(|_| FileRole::Output)?,
     ])
 }
 
 // The reader of a pipe gets the lowest free descriptor. A pipe without a writer reads as empty, and
 // writes to its reader fail.
-fn occupy<R: Files>(
-    rt: &R,
-    stream: StreamKind,
-    role: FileRole,
-) -> Result<Option<PipeReader>, FileRole> {
+fn occupy<R: Files>(rt: &R, stream: StreamKind) -> io::Result<Option<PipeReader>> {
     if !matches!(stream, StreamKind::Closed) {
         return Ok(None);
     }
-    match io::pipe(rt) {
-        Ok((reader, _writer)) => Ok(Some(reader)),
-        Err(_) => Err(role),
-    }
+    let (reader, _writer) = io::pipe(rt)?;
+    Ok(Some(reader))
 }
 
-/// A file to read, or standard input. A socket has names there, but cannot be opened by them.
+/// A file to read, or standard input, which cannot be opened by name if it is a socket.
 #[derive(Drop)]
 pub enum InputSource<I> {
     File(File),
@@ -85,18 +86,30 @@ pub enum InputSource<I> {
 impl<I> InputSource<I> {
     /// Identifies the file.
     pub fn id<R: Files>(&self, rt: &R) -> FileId {
-        match self {
-            InputSource::File(file) => FileId::from_file(file),
-            InputSource::Stdin(_) => FileId::standard_input(rt),
-        }
+        FileId::new(match self {
+            InputSource::File(file) => file.metadata(),
+            InputSource::Stdin(_) => rt.metadata("/proc/self/fd/0"),
+        })
+    }
+
+    /// Returns the length of a regular file.
+    pub fn length(&self) -> Option<u64> {
+        let InputSource::File(file) = self else {
+            return None;
+        };
+        let metadata = file.metadata().ok()?;
+        metadata.is_file().then_some(metadata.len())
     }
 }
 
-/// Opens a file to read it.
+/// Opens a file to read it, or standard input without a name.
 pub fn open<R: Input + Files<File = File>>(
     rt: &R,
-    name: &str,
+    name: Option<&str>,
 ) -> io::Result<InputSource<R::Reader>> {
+    let Some(name) = name else {
+        return Ok(InputSource::Stdin(rt.reader()));
+    };
     match fs::open(rt, name) {
         Ok(file) => Ok(InputSource::File(file)),
         Err(_) if is_standard_input(name) => Ok(InputSource::Stdin(rt.reader())),

@@ -9,5 +9,6 @@ mod plain;
 mod plain_in_place;
 mod plain_with;
 mod rewrapping;
+mod self_test;
 mod texts;
 mod version;

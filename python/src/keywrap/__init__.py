@@ -1,9 +1,9 @@
-"""AES Key Wrap (RFC 3394) and AES Key Wrap with Padding (RFC 5649), by a library that is proved.
+"""AES Key Wrap (RFC 3394) and AES Key Wrap with Padding (RFC 5649), by a proved library.
 
 A key-encryption key (KEK) of 16, 24 or 32 bytes wraps a key: plain, of a multiple of 8 bytes from 16
-on, or padded, of any length from 1 on; both up to 1,048,576 bytes. Any bytes-like object is taken.
-One that is not `bytes` is copied first, and the copy is wiped. While the library computes, other
-threads run.
+on, or padded, of any length from 1 on; both up to 1,048,576 bytes. Arguments are bytes-like objects.
+An argument that is not `bytes` is copied first, and the copy is wiped. Other threads run during a
+call.
 """
 
 from __future__ import annotations
@@ -33,6 +33,7 @@ __all__ = [
     "check",
     "check_with_length",
     "rewrap",
+    "self_test",
     "unwrap",
     "unwrap_padded",
     "wrap",
@@ -83,7 +84,7 @@ def _copied(given: object) -> bytes:
 
 
 def _on_copies(call: Callable[..., _Answer], *given: object, **more: Any) -> _Answer:
-    """Calls it on copies of the arguments, which are wiped, except the shared ones of 0 and 1 bytes."""
+    """Makes the call on copies of the arguments. Wipes them, except shared ones of 0 and 1 bytes."""
     copies = []
     try:
         for item in given:
@@ -208,9 +209,9 @@ def rewrap(
     """Rewraps a wrapped key from the old KEK to the new one. The result is as long as the wrapped key.
 
     Both wrapped keys are in the plain form, unless a flag makes one padded. With `keep_form` the old
-    form may be either, and is kept; another form's flag beside it raises `ValueError`. With `pass_new`
-    a wrapped key that is already under the new KEK, in the form of a result, is returned unchanged.
-    `BadLength` if the new form takes no key of this length. The other exceptions are described at
+    form may be either, and is kept; a flag of a form beside it raises `ValueError`. With `pass_new` a
+    wrapped key that is already under the new KEK, in the form of a result, is returned unchanged.
+    `BadLength` also if the length of the key is not legal in the new form. For other exceptions see
     `unwrap` and `unwrap_padded`.
     """
     if keep_form and (old_padded or new_padded):
@@ -236,7 +237,7 @@ def rewrap(
 
 
 def check(kek: ReadableBuffer, wrapped: ReadableBuffer) -> Optional[Kind]:
-    """Returns the form of the wrapped key under the KEK, or `None` if it is not valid under it.
+    """Returns the form of the wrapped key, or `None` if it is not valid under the KEK.
 
     The key is not returned. `BadKekLength` is the only exception.
     """
@@ -257,3 +258,12 @@ def check_with_length(kek: ReadableBuffer, wrapped: ReadableBuffer) -> Optional[
     if found in (-_lib.KEYWRAP_BAD_KEK, -_refusals.NO_MEMORY):
         raise _refusals.refusal(-found, "", 0, "", kek)
     return None
+
+
+def self_test() -> None:
+    """Wraps and unwraps the published vectors of RFC 3394 and RFC 5649, and unwraps a damaged wrapped key.
+
+    Raises `RuntimeError` if a result is wrong.
+    """
+    if _lib.keywrap_self_test() != _lib.KEYWRAP_OK:
+        raise RuntimeError("self test failed: this machine computes wrong results")

@@ -3,11 +3,8 @@
 
 use super::doubles::{Narrow, Trickle};
 use super::is_answer;
-use crate::base64_text::decode_base64_in;
-use crate::hex_text::decode_hex_in;
-use crate::read::{read_hex_in, read_raw_in};
-use crate::write::write_hex_in;
-use crate::{FileFault, HexWriteFault};
+use crate::base64_text::decode_base64;
+use crate::{FileFault, HexWriteFault, decode_hex, read_hex, read_raw, write_hex};
 use linked_list_allocator::LocalHeap;
 use std::alloc::Allocator;
 use std::process::Abort;
@@ -31,15 +28,15 @@ fn refuses_each_growth(rt: HostRuntime) -> Result<(), Fail> {
     for size in (0..=AMPLE).step_by(STEP) {
         let heap = LocalHeap::new(rt.alloc(), size)?;
         let mut file = Trickle::in_pieces(&DIGITS, 1);
-        let answer = read_raw_in(&heap, &mut file, DIGITS.len());
+        let answer = read_raw(&heap, &mut file, DIGITS.len());
         is_met(&rt, answer, &DIGITS, size);
         let mut file = Trickle::in_pieces(&DIGITS, 1);
-        let answer = read_hex_in(&heap, &mut file, DIGITS.len());
+        let answer = read_hex(&heap, &mut file, DIGITS.len());
         is_met(&rt, answer, &BYTES, size);
-        is_met(&rt, decode_hex_in(&heap, &DIGITS), &BYTES, size);
-        is_met(&rt, decode_base64_in(&heap, &CHARACTERS), &ZEROS, size);
+        is_met(&rt, decode_hex(&heap, &DIGITS), &BYTES, size);
+        is_met(&rt, decode_base64(&heap, &CHARACTERS), &ZEROS, size);
         let mut out = Narrow::in_pieces(rt.alloc(), usize::MAX);
-        let answer = write_hex_in(&heap, &mut out, &BYTES);
+        let answer = write_hex(&heap, &mut out, &BYTES);
         if answer == Err(HexWriteFault::Memory) {
             assert!(rt;
                 size < AMPLE && out.out().is_empty(),

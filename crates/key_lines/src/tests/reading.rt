@@ -1,7 +1,7 @@
 //! Lines of every length about the limit and the reader's buffer, and allocations that are refused.
 
 use super::doubles::Trickle;
-use crate::{Line, read_line};
+use crate::line::{Line, read_line};
 use key_files::FileFault;
 use linked_list_allocator::LocalHeap;
 use std::io::BufReader;

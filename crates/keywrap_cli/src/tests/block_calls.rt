@@ -1,4 +1,4 @@
-//! How many block calls a line costs, at a pair that counts them.
+//! How many block calls a line costs, with a block permutation that counts them.
 
 ghost use Rattle.block_pair.specs.Halves.{swapped_halves};
 ghost use Rattle.block_pair.specs.HalvesLaw.{swap_halves_lawful};
@@ -13,7 +13,7 @@ use key_wrap::{AgreedForm, Form, InitialValue, wrap, wrap_padded};
 use std::cell::Cell;
 use std::test::Fail;
 
-// The drill block, and how many blocks it was given.
+// The toy cipher, and the number of its calls.
 #[derive(Drop)]
 struct Tally {
     blocks: Cell<u64>,
@@ -86,7 +86,7 @@ fn a_line_costs_six_calls_for_eight_bytes(rt: HostRuntime) -> Result<(), Fail> {
     Ok(())
 }
 
-// Whether the form is kept, and else from which form to which.
+// Whether the form is kept; otherwise the old and the new form.
 type Change = (bool, Form, Form);
 
 const KEPT: Change = (true, Form::Plain, Form::Plain);
@@ -109,10 +109,10 @@ fn forms_of((kept, old, new): Change) -> RewrapForms {
     }
 }
 
-// The forms, whether what is new passes, the form of the wrapped key and the zeros in it, and the
-// calls under the old KEK and under the new one. An unwrapping and a wrapping cost what they do
-// above, a refused one too, and what is not made costs nothing. What is new is unwrapped under the
-// new KEK, and wrapped again.
+// The forms, whether keys under the new KEK pass, the form and the length of the wrapped key, and
+// the calls under the old KEK and under the new one. Each unwrapping and wrapping costs as much as
+// above, even if it is refused. A key that may pass is unwrapped under the new KEK, and wrapped
+// again.
 static REWRAPS: [(Change, bool, Form, usize, [u64; 2]); 13] = [
     (KEPT, false, Form::Plain, 24, [18, 18]),
     (KEPT, false, Form::Padded, 8, [1, 1]),
@@ -121,12 +121,12 @@ static REWRAPS: [(Change, bool, Form, usize, [u64; 2]); 13] = [
     (TO_PADDED, true, Form::Plain, 24, [18, 18]),
     (TO_PLAIN, false, Form::Padded, 24, [18, 18]),
     (PADDED, false, Form::Padded, 8, [1, 1]),
-    // no key for the plain form, and the wrong form
+    // a key whose length is not plain, and wrapped keys in the wrong form
     (TO_PLAIN, false, Form::Padded, 8, [1, 0]),
     (TO_PLAIN, true, Form::Padded, 17, [18, 0]),
     (PLAIN, false, Form::Padded, 24, [18, 0]),
     (PLAIN, true, Form::Padded, 24, [18, 18]),
-    // no wrapping in the old form, but one in the new
+    // not a wrapping in the old form, but in the new one
     (TO_PLAIN, true, Form::Plain, 24, [18, 36]),
     (TO_PADDED, true, Form::Padded, 24, [18, 36]),
 ];

@@ -1,4 +1,4 @@
-//! Calls with their files, their answers and what they write, and how a case is run.
+//! Test cases: a call, its files, its result and its output; and how a case is run.
 
 use super::doubles::{Narrow, Trickle};
 use crate::convert::Direction;
@@ -9,8 +9,8 @@ use std::alloc::Global;
 use std::io::Write;
 use std::process::Abort;
 
-/// The call that is made: a `With` has its initial value, a `Rewrap` its old and new form. Then the
-/// notation of the input and the notation of the KEK files.
+/// A call. The last two fields are the notations of the input and of the KEK files. Before them,
+/// `With` has an initial value, and `Rewrap` the old and the new form.
 #[derive(Clone, Copy)]
 pub enum Call {
     Job(Job, Form, Notation, Notation),
@@ -22,16 +22,16 @@ pub const HEX: Notation = Notation::Hex;
 
 pub const RAW: Notation = Notation::Raw;
 
-/// What a call answers.
+/// The result of a call.
 pub type Answer = Result<Done, JobFault>;
 
 pub const WRITTEN: Answer = Ok(Done::Written);
 
-/// A call, its files (the KEK, the new KEK and the input), its answer and what it writes.
+/// A call, its files (the KEK, the new KEK and the input), its result and its output.
 #[derive(Clone, Copy)]
 pub struct Case<'a>(pub Call, pub [&'a [u8]; 3], pub Answer, pub &'a [u8]);
 
-/// Makes a call over its files, and answers how it left them.
+/// Makes a call over its files. Returns its result, and the files as it left them.
 pub fn run<'a, W: Write>(
     alloc: Global,
     call: Call,
@@ -72,7 +72,7 @@ pub fn run<'a, W: Write>(
 }
 
 impl<'a> Case<'a> {
-    /// The files, of up to `size` bytes a read.
+    /// Returns the files as readers that give at most `size` bytes per read.
     pub fn files(&self, size: usize) -> [Trickle<'a>; 3] {
         let [kek, new_kek, input] = self.1;
         [
@@ -82,8 +82,8 @@ impl<'a> Case<'a> {
         ]
     }
 
-    /// Whether the call reads the file at this place: only a `Rewrap` reads a new KEK, and no call
-    /// reads a file that follows a refused KEK.
+    /// Returns whether the call reads this file. Only a `Rewrap` reads a new KEK, and no call reads
+    /// a file after a refused KEK.
     pub fn reads(&self, at: usize) -> bool {
         match self.2 {
             Err(JobFault::KekFile(_) | JobFault::KekLength) => at == 0,
@@ -92,9 +92,9 @@ impl<'a> Case<'a> {
         }
     }
 
-    /// Says that the case has its answer and its output over files and a writer of up to `size`
-    /// bytes a call, that it takes one byte past the limit from a file and no more, and that it
-    /// leaves the flush to its caller.
+    /// Checks the result and the output of the case, with readers and a writer that take at most
+    /// `size` bytes per call. The call reads at most one byte past the limit of a file, and does
+    /// not flush.
     pub fn holds(&self, rt: &impl Abort, alloc: Global, size: usize) {
         let Case(call, bytes, wanted, output) = *self;
         let mut out = Narrow::in_pieces(alloc, size);

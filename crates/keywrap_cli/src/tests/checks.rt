@@ -1,4 +1,4 @@
-//! Checks: the line that says what a text is a wrapping of, whatever the form of the task.
+//! Checks. Their output does not depend on the form of the task.
 
 use super::cases::{Answer, Call, Case, HEX, WRITTEN};
 use super::jobs::{BLANKS, HEX_KEK, HEX_TEXT, PADDED_KEK, TEXT_OF_7, TEXT_OF_20};
@@ -11,7 +11,7 @@ const PADDED_CHECK: Call = Call::Job(Job::Check, Form::Padded, HEX, HEX);
 
 const NEITHER: Answer = Ok(Done::Neither);
 
-// The text of RFC 3394, section 4.1, without its last byte, and with another.
+// The text of RFC 3394, section 4.1, without its last byte; and with another last byte.
 const SHORT: &[u8] = b"1fa68b0a8112b447aef34bd8fb5a7b829d3e862371d2cf";
 
 const CHANGED: &[u8] = b"1fa68b0a8112b447aef34bd8fb5a7b829d3e862371d2cfe4";

@@ -1,27 +1,27 @@
-//! Readers and writers of the tests: in pieces, and with faults, after which they go on or not.
+//! Test doubles: readers and writers that work in pieces, and fail at a chosen byte.
 
 use std::alloc::Global;
 use std::io::{self, Read, Write};
 
-/// How often a double returns its fault: once, and then it goes on, or at every call.
+/// How often a double fails: once, after which it continues, or at every call.
 pub static FAULTS: [usize; 2] = [1, usize::MAX];
 
-/// Gives its bytes in pieces, and at one place a fault.
+/// A reader that gives its bytes in pieces, and fails at one of them.
 #[derive(Clone, Copy)]
 pub struct Trickle<'a> {
-    /// What was not given.
+    /// The bytes that were not read.
     pub left: &'a [u8],
-    /// Whether no read was made.
+    /// Whether there was no read.
     pub is_unread: bool,
-    // The most bytes that a read gives.
+    // The largest size of a read.
     size: usize,
-    // The bytes up to the place of the fault, and how often it is answered.
+    // The bytes left before the fault, and how often the reader fails there.
     room: usize,
     faults: usize,
 }
 
 impl<'a> Trickle<'a> {
-    /// Up to `size` bytes a read, and then the end.
+    /// Makes a reader that gives at most `size` bytes per read.
     pub fn in_pieces(bytes: &'a [u8], size: usize) -> Self {
         Trickle {
             left: bytes,
@@ -32,7 +32,7 @@ impl<'a> Trickle<'a> {
         }
     }
 
-    /// One byte a read, and after `room` bytes so many faults.
+    /// Makes a reader that gives one byte per read, and fails `faults` times after `room` bytes.
     pub fn failing(bytes: &'a [u8], room: usize, faults: usize) -> Self {
         Trickle {
             room,
@@ -63,16 +63,16 @@ impl Read for Trickle<'_> {
     }
 }
 
-/// What a writer answers at its fault.
+/// How a writer fails.
 #[derive(Clone, Copy, Debug)]
 pub enum Stop {
-    /// An error.
+    /// It returns an error.
     Fails,
-    /// That it took no byte.
+    /// It takes no bytes.
     TakesNone,
 }
 
-/// How a writer stops, and how often.
+/// How a writer fails, and how often.
 pub static STOPPINGS: [(Stop, usize); 4] = [
     (Stop::Fails, 1),
     (Stop::TakesNone, 1),
@@ -80,22 +80,22 @@ pub static STOPPINGS: [(Stop, usize); 4] = [
     (Stop::TakesNone, usize::MAX),
 ];
 
-/// Takes bytes in pieces, and at one place answers a fault.
+/// A writer that takes bytes in pieces, and fails at one of them.
 #[derive(Drop)]
 pub struct Narrow {
     /// Whether a flush was requested.
     pub is_flushed: bool,
     out: Vec<u8>,
-    // The most bytes that a write takes.
+    // The largest size of a write.
     size: usize,
-    // The bytes up to the place of the fault, what it is, and how often it is answered.
+    // The bytes left before the fault, its kind, and how often the writer fails there.
     room: usize,
     stop: Stop,
     faults: usize,
 }
 
 impl Narrow {
-    /// Takes up to `size` bytes a write, without end.
+    /// Makes a writer that takes at most `size` bytes per write.
     pub fn in_pieces(alloc: Global, size: usize) -> Self {
         Narrow {
             is_flushed: false,
@@ -107,7 +107,7 @@ impl Narrow {
         }
     }
 
-    /// Takes one byte a write, and after `room` bytes answers so many faults.
+    /// Makes a writer that takes one byte per write, and fails `faults` times after `room` bytes.
     pub fn stopping(alloc: Global, room: usize, stop: Stop, faults: usize) -> Self {
         Narrow {
             room,
@@ -117,12 +117,12 @@ impl Narrow {
         }
     }
 
-    /// Takes one byte a write, and fails after `room` bytes.
+    /// Makes a writer that takes one byte per write, and always fails after `room` bytes.
     pub fn failing(alloc: Global, room: usize) -> Self {
         Narrow::stopping(alloc, room, Stop::Fails, usize::MAX)
     }
 
-    /// What was taken.
+    /// Returns the bytes that were written.
     pub fn out(&self) -> &[u8] {
         &self.out
     }
@@ -154,7 +154,7 @@ impl Write for Narrow {
     }
 }
 
-/// Takes each byte, and fails when it is flushed.
+/// A writer that takes each byte, and fails when it is flushed.
 #[derive(Drop)]
 pub struct Unflushed;
 

@@ -1,5 +1,5 @@
-//! Drills, whose answers follow from the rule of the drill block: At is the register that goes in,
-//! xored with t, and A(t-1) goes into the last register.
+//! Drills. Their results follow from one rule of the toy cipher: in step t, A(t) is the first
+//! register xored with t, and A(t-1) becomes the last register.
 
 use crate::convert::Direction;
 use crate::drilling::{DrillFault, drill};
@@ -33,7 +33,7 @@ static WRAPPINGS: [(Form, &str, &str); 8] = [
         "0000000000000000111111111111111122222222222222223333333333333333",
         "333333333333333ba6a6a6a6a6a6a6b20000000000000009111111111111111f2222222222222221",
     ),
-    // padded keys: one word, and two words, whose registers go as the plain ones above
+    // padded keys: of one word, and of two words, which move like the plain ones above
     (
         Form::Padded,
         "466f7250617369",
@@ -71,7 +71,7 @@ fn wraps_and_unwraps_keys(rt: HostRuntime) {
     assert!(rt; answers(rt.alloc(), Form::Plain, Direction::Wrap, SPACED, text));
 }
 
-// Whether a drill answers the bytes of these digits.
+// Returns whether the result of a drill is the bytes of these digits.
 fn answers(alloc: Global, form: Form, direction: Direction, text: &str, digits: &str) -> bool {
     match drill(alloc, form, direction, text) {
         Ok(found) => are_of(alloc, &found, digits),
@@ -86,7 +86,7 @@ fn are_of(alloc: Global, bytes: &[u8], digits: &str) -> bool {
     }
 }
 
-// Words of the wrapping of 43 zero words, each from which byte on.
+// Some words of the wrapping of 43 zero words, each with its offset in bytes.
 static PAST_256: [(usize, &[u8]); 5] = [
     (0, b"\x00\x00\x00\x00\x00\x00\x01\x74"),
     (8, b"\x00\x00\x00\x00\x00\x00\x00\x77"),

@@ -171,7 +171,7 @@ static FAULTS: [(ProgramFault, &str, u8); 34] = [
 #[test]
 fn says_each_fault(rt: HostRuntime) -> Result<(), Fail> {
     for (fault, line, status) in &FAULTS {
-        let said = format!(in rt.alloc(); "{}", fault.line())?;
+        let said = format!(in rt.alloc(); "{fault}")?;
         assert_eq!(rt; said.as_str(), *line);
         assert_eq!(rt; fault.status(), *status);
     }

@@ -1,5 +1,5 @@
 //! Hostile readers, writers, texts and allocators: Memory, Read and Write come only with cause, and
-//! a changed text is refused or is the text of what was answered.
+//! a changed text is refused, or wraps the key that is returned.
 
 mod ample;
 mod in_place;
@@ -17,7 +17,7 @@ use std::alloc::Global;
 use std::process::Abort;
 use writes::stop_each_write;
 
-// What is tried on each case.
+// What the tests do with each case.
 #[derive(Clone, Copy)]
 enum Trial {
     Pieces,
@@ -74,7 +74,7 @@ fn refuses_each_growth_of_a_call(rt: HostRuntime) {
     try_each_case(&rt, rt.alloc(), Trial::Memory);
 }
 
-// Changes one bit. Bit 0 is the first byte's most significant, and one past the end changes none.
+// Changes one bit. Bit 0 is the first byte's most significant. A bit past the end is ignored.
 fn change_bit(bytes: &mut [u8], bit: usize) {
     if let Some(byte) = bytes.get_mut(bit / 8) {
         *byte ^= 0x80 >> (bit % 8);

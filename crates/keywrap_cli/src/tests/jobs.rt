@@ -1,5 +1,5 @@
 //! Jobs over files in memory: the vector of RFC 3394, section 4.1, in each job and notation, and
-//! what is refused.
+//! refusals.
 
 use super::cases::{Answer, Call, Case, HEX, RAW, WRITTEN};
 use crate::job::{Job, JobFault};
@@ -64,7 +64,7 @@ pub static CASES: [Case; 27] = [
     Case(RAW_KEK_WRAP, [RAW_KEK, b"", HEX_KEY], WRITTEN, HEX_TEXT),
     Case(RAW_INPUT_WRAP, [HEX_KEK, b"", RAW_KEY], WRITTEN, RAW_TEXT),
     Case(WRAP, [SPACED_KEK, b"", HEX_KEY], WRITTEN, HEX_TEXT),
-    // a KEK of no legal length, whatever the input
+    // a KEK of an illegal length, with any input
     Case(RAW_WRAP, [b"", b"", RAW_KEY], KEK_LENGTH, b""),
     Case(RAW_WRAP, [&[0; 15], b"", RAW_KEY], KEK_LENGTH, b""),
     Case(RAW_WRAP, [&[0; 17], b"", RAW_KEY], KEK_LENGTH, b""),
@@ -78,13 +78,13 @@ pub static CASES: [Case; 27] = [
     Case(WRAP, [HEX_KEK, b"", b"g01"], INPUT_DIGIT, b""),
     Case(UNWRAP, [HEX_KEK, b"", b"012"], INPUT_DIGITS, b""),
     Case(CHECK, [HEX_KEK, b"", b"zz"], INPUT_DIGIT, b""),
-    // inputs of no legal length
+    // inputs of an illegal length
     Case(WRAP, [HEX_KEK, b"", FIFTEEN], BAD_LENGTH, b""),
     Case(WRAP, [HEX_KEK, b"", BLANKS], BAD_LENGTH, b""),
     Case(UNWRAP, [HEX_KEK, b"", BLANKS], BAD_LENGTH, b""),
     Case(PADDED_WRAP, [HEX_KEK, b"", BLANKS], BAD_LENGTH, b""),
     Case(PADDED_UNWRAP, [HEX_KEK, b"", BLANKS], BAD_LENGTH, b""),
-    // a legal length, but a wrapping of the other form
+    // a legal length, but a wrapping in the other form
     Case(UNWRAP, [PADDED_KEK, b"", TEXT_OF_20], INTEGRITY, b""),
 ];
 

@@ -1,4 +1,4 @@
-//! Rewrappings from open KEK files, as the program makes them: what is new already passes.
+//! Rewraps by `Operation`, as the program makes them with `--pass-new`.
 
 use super::cases::{Answer, HEX, WRITTEN};
 use super::doubles::{Narrow, Trickle};
@@ -11,8 +11,7 @@ use key_wrap::{AgreedForm, Form, InPlaceFault};
 use std::io::BufReader;
 use std::test::Fail;
 
-// The forms of a rewrapping, the old one and the new, under the default initial value; or the form
-// is kept.
+// The old and the new form of a rewrap, with the default initial value. `None` keeps the form.
 type Forms = Option<(Form, Form)>;
 
 const KEPT: Forms = None;
@@ -23,19 +22,19 @@ const TO_PADDED: Forms = Some((Form::Plain, Form::Padded));
 
 const TO_PLAIN: Forms = Some((Form::Padded, Form::Plain));
 
-// Forms, the KEK, the input, the answer and the output; the new KEK is one for all.
+// The forms, the KEK, the input, the result and the output. All rows have the same new KEK.
 static ROWS: [(Forms, &[u8], &[u8], Answer, &[u8]); 10] = [
     (PLAIN, HEX_KEK, HEX_TEXT, WRITTEN, NEW_TEXT),
     (PLAIN, HEX_KEK, NEW_TEXT, WRITTEN, NEW_TEXT),
     (PLAIN, HEX_KEK, NEW_PADDED, INTEGRITY, b""),
     (TO_PADDED, HEX_KEK, NEW_PADDED, WRITTEN, NEW_PADDED),
     (TO_PADDED, HEX_KEK, NEW_TEXT, INTEGRITY, b""),
-    // its length is legal only in the new form
+    // the length of the input is legal only in the new form
     (TO_PADDED, HEX_KEK, NEW_OF_7, WRITTEN, NEW_OF_7),
     (PLAIN, HEX_KEK, NEW_OF_7, BAD_LENGTH, b""),
     (KEPT, HEX_KEK, NEW_TEXT, WRITTEN, NEW_TEXT),
     (KEPT, HEX_KEK, NEW_OF_7, WRITTEN, NEW_OF_7),
-    // under the old KEK, and of a key that has no plain wrapping
+    // a wrapping under the old KEK, of a key that has no plain wrapping
     (TO_PLAIN, PADDED_KEK, TEXT_OF_20, BAD_LENGTH, b""),
 ];
 
@@ -67,12 +66,15 @@ fn passes_what_is_new_already(rt: HostRuntime) {
     for (forms, kek, text, wanted, output) in ROWS {
         let mut out = Narrow::in_pieces(rt.alloc(), 7);
         let mut input = Trickle::in_pieces(text, 7);
-        let done = operation(forms, kek).run(rt.alloc(), &mut input, &mut out);
+        let done = match operation(forms, kek).run(rt.alloc(), &mut input, &mut out) {
+            Ok(outcome) => Ok(outcome.result),
+            Err(fault) => Err(fault),
+        };
         assert!(rt; done == wanted && out.out() == output, "{wanted:?}");
     }
 }
 
-// Keeps no refusal.
+// Drops the refusals.
 #[derive(Drop)]
 struct NoLog;
 
@@ -89,7 +91,10 @@ fn counts_the_lines_that_pass(rt: HostRuntime) -> Result<(), Fail> {
     let mut input = BufReader::with_capacity(rt.alloc(), 16, Trickle::in_pieces(lines, 7))?;
     let mut out = Narrow::in_pieces(rt.alloc(), 7);
     let mut operation = operation(PLAIN, HEX_KEK);
-    let run = operation.run_lines(rt.alloc(), true, &mut NoLog, &mut input, &mut out);
+    let run = match operation.run_lines(rt.alloc(), true, &mut NoLog, &mut input, &mut out) {
+        Ok(outcome) => Ok(outcome.result),
+        Err(fault) => Err(fault),
+    };
     let first_refused = Some(RefusedLine {
         line: 3,
         fault: LineFault::Refused(InPlaceFault::BadLength),

@@ -1,4 +1,4 @@
-//! Rewrappings over files in memory: from one KEK and form to another, and what is refused.
+//! Rewraps over files in memory: from one KEK and form to another, and refusals.
 
 use super::cases::{Answer, Call, Case, HEX, RAW, WRITTEN};
 use super::jobs::{
@@ -22,10 +22,10 @@ pub const NEW_TEXT: &[u8] = b"64e8c3f9ce0f5ba263e9777905818a2a93c8191e7d6e8ae7\n
 const RAW_NEW_TEXT: &[u8] = b"\x64\xE8\xC3\xF9\xCE\x0F\x5B\xA2\x63\xE9\x77\x79\
     \x05\x81\x8A\x2A\x93\xC8\x19\x1E\x7D\x6E\x8A\xE7";
 
-// The padded wrapping of that key under this KEK, as OpenSSL answers it.
+// The padded wrapping of that key under this KEK, by OpenSSL.
 pub const NEW_PADDED: &[u8] = b"afc860015ffe2d75bedf43c444fe58f4ad9d89c4ec71e23b\n";
 
-// The wrapping of the 7 octets of RFC 5649, section 6, under this KEK, as OpenSSL answers it.
+// The wrapping of the 7 octets of RFC 5649, section 6, under this KEK, by OpenSSL.
 pub const NEW_OF_7: &[u8] = b"443b17837bb39348610d19202df8a1f9\n";
 
 const FIFTEEN: &[u8] = b"000102030405060708090a0b0c0d0e";
@@ -67,7 +67,7 @@ pub static CASES: [Case; 23] = [
     Case(TO_PADDED, [HEX_KEK, NEW_KEK, HEX_TEXT], WRITTEN, NEW_PADDED),
     Case(TO_PLAIN, [NEW_KEK, HEX_KEK, NEW_PADDED], WRITTEN, HEX_TEXT),
     Case(PADDED, [PADDED_KEK, NEW_KEK, TEXT_OF_7], WRITTEN, NEW_OF_7),
-    // a refused KEK, whatever follows it
+    // a refused KEK, with any files after it
     Case(PLAIN, [b"", NEW_KEK, HEX_TEXT], KEK_LENGTH, b""),
     Case(PLAIN, [FIFTEEN, b"0g", HEX_TEXT], KEK_LENGTH, b""),
     Case(PLAIN, [b"0g", b"", HEX_TEXT], KEK_DIGIT, b""),
@@ -76,16 +76,16 @@ pub static CASES: [Case; 23] = [
     Case(PLAIN, [HEX_KEK, FIFTEEN, b"0g"], NEW_KEK_LENGTH, b""),
     Case(PLAIN, [HEX_KEK, b"0g", b""], NEW_KEK_DIGIT, b""),
     Case(PLAIN, [HEX_KEK, b"012", HEX_TEXT], NEW_KEK_DIGITS, b""),
-    // inputs that denote no bytes, or none of a legal length
+    // inputs that denote no bytes, or have an illegal length
     Case(PLAIN, [HEX_KEK, NEW_KEK, b"g01"], INPUT_DIGIT, b""),
     Case(PLAIN, [HEX_KEK, NEW_KEK, b"012"], INPUT_DIGITS, b""),
     Case(PLAIN, [HEX_KEK, NEW_KEK, TWENTY_THREE], BAD_LENGTH, b""),
     Case(PLAIN, [HEX_KEK, NEW_KEK, BLANKS], BAD_LENGTH, b""),
-    // the KEKs exchanged, and the forms
+    // the KEKs swapped, and the forms
     Case(PLAIN, [NEW_KEK, HEX_KEK, HEX_TEXT], INTEGRITY, b""),
     Case(TO_PLAIN, [HEX_KEK, NEW_KEK, HEX_TEXT], INTEGRITY, b""),
     Case(PADDED, [HEX_KEK, NEW_KEK, HEX_TEXT], INTEGRITY, b""),
-    // a key of 20 bytes has no plain wrapping; a text that is no wrapping has no key
+    // a key of 20 bytes has no plain wrapping; a text that is not a wrapping has no key
     Case(TO_PLAIN, [PADDED_KEK, NEW_KEK, TEXT_OF_20], BAD_LENGTH, b""),
     Case(TO_PLAIN, [HEX_KEK, NEW_KEK, TEXT_OF_20], INTEGRITY, b""),
 ];

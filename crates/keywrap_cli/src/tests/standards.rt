@@ -1,10 +1,9 @@
 //! The wrappings among the published vectors, as bytes.
 
-use crate::vector_table::{Algorithm, VECTORS};
-use key_files::decode_hex;
 use key_wrap::Form;
 use std::alloc::Global;
 use std::test::Fail;
+use test_vectors::{Algorithm, published};
 
 /// A published wrapping.
 #[derive(Drop)]
@@ -18,15 +17,18 @@ pub struct Wrapping {
 /// The eight of RFC 3394, section 4, and RFC 5649, section 6.
 pub fn wrappings(alloc: Global) -> Result<Vec<Wrapping>, Fail> {
     let mut wrappings = Vec::new(alloc);
-    for vector in &VECTORS {
-        if let Algorithm::KeyWrap(form) = vector.algorithm {
-            wrappings.push(Wrapping {
-                form,
-                kek: decode_hex(alloc, vector.key.as_bytes())?,
-                key: decode_hex(alloc, vector.input.as_bytes())?,
-                text: decode_hex(alloc, vector.output.as_bytes())?,
-            })?;
-        }
+    for vector in &published() {
+        let form = match vector.algorithm {
+            Algorithm::KeyWrap => Form::Plain,
+            Algorithm::KeyWrapWithPadding => Form::Padded,
+            Algorithm::Encryption => continue,
+        };
+        wrappings.push(Wrapping {
+            form,
+            kek: vector.key.to_vec(alloc)?,
+            key: vector.input.to_vec(alloc)?,
+            text: vector.output.to_vec(alloc)?,
+        })?;
     }
     if wrappings.len() == 8 {
         Ok(wrappings)

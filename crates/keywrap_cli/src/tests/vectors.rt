@@ -1,16 +1,15 @@
-//! The lines of the published vectors, and of tables in which one vector is changed.
+//! The lines of the published vectors, and of tables with one changed vector.
 
 use super::doubles::{Narrow, Unflushed};
 use crate::convert::Direction;
 use crate::fault::ProgramFault;
 use crate::flushed::{run_drill, run_vectors, write_help};
 use crate::report::{report_on, vectors};
-use crate::vector_table::{VECTORS, Vector};
-use key_files::decode_hex;
 use key_wrap::Form;
 use std::alloc::{AllocError, Global};
 use std::process::Abort;
 use std::test::Fail;
+use test_vectors::{Vector, published};
 
 pub const LINES: &str = "\
 rfc3394 4.1 ok
@@ -34,43 +33,43 @@ fn writes_twelve_lines_that_say_ok(rt: HostRuntime) {
     assert!(rt; out.as_slice() == LINES.as_bytes() && out.len() == 169);
 }
 
-// The last byte of one output is changed: its line fails, and the others stay.
+// If the last byte of one output is changed, only its line fails.
 #[test]
 fn says_failed_exactly_for_the_changed_vector(rt: HostRuntime) -> Result<(), Fail> {
-    for changed in 0..VECTORS.len() {
+    for changed in 0..published().len() {
         change_vector(&rt, rt.alloc(), changed)?;
     }
     Ok(())
 }
 
 fn change_vector(rt: &impl Abort, alloc: Global, changed: usize) -> Result<(), Fail> {
-    let vector = VECTORS.get(changed).ok_or("no such vector")?;
-    let output = with_other_end(alloc, vector.output)?;
+    let table = published();
+    let vector = table.get(changed).ok_or("no such vector")?;
+    let mut output = vector.output.to_vec(alloc)?;
+    if let Some(last) = output.last_mut() {
+        *last ^= 1;
+    }
     let ok = format!(in alloc; "{} ok", vector.name)?;
     let failed = format!(in alloc; "{} failed", vector.name)?;
     let wanted = LINES.replace(alloc, ok.as_str(), failed.as_str())?;
-    let report = report_on(alloc, &table_with(alloc, changed, &output)?)?;
+    let report = report_on(alloc, &table_with(alloc, &table, changed, &output)?)?;
     assert!(rt; report.text == wanted && !report.all_ok, "{}", report.text);
     Ok(())
 }
 
-// The table, with another output of one vector.
-fn table_with(alloc: Global, changed: usize, output: &str) -> Result<Vec<Vector<'_>>, AllocError> {
+// Returns the table with another output of one vector.
+fn table_with<'a>(
+    alloc: Global,
+    vectors: &[Vector<'a>],
+    changed: usize,
+    output: &'a [u8],
+) -> Result<Vec<Vector<'a>>, AllocError> {
     let mut table = Vec::new(alloc);
-    for (at, vector) in VECTORS.iter().enumerate() {
+    for (at, vector) in vectors.iter().enumerate() {
         let output = if at == changed { output } else { vector.output };
         table.push(Vector { output, ..*vector })?;
     }
     Ok(table)
-}
-
-// The digits with another last byte.
-fn with_other_end(alloc: Global, digits: &str) -> Result<String, Fail> {
-    let mut bytes = decode_hex(alloc, digits.as_bytes())?;
-    if let Some(last) = bytes.last_mut() {
-        *last ^= 1;
-    }
-    Ok(hex::encode(alloc, &bytes)?)
 }
 
 #[test]

@@ -1,21 +1,19 @@
 -- What the kit's engine of the text's encoding decodes, if no character is misplaced.
 use Rattle.std.proofs.Common.{sym, ◌∙◌}
-use Rattle.key_files.proofs.Base64.{IsBase64Of-decoded, not_misplaced, symbol_text_meaning-misplaced, symbol_text_meaning-placed, symbols_meaning-is}
+use Rattle.key_files.proofs.Denoting.{none_from}
+use Rattle.key_files.proofs.Base64.{IsBase64Of-decoded, symbol_text_meaning-placed, symbols_meaning-is}
 use Rattle.key_files.proofs.Base64Back.{symbol_text_meaning-accepts}
 use Rattle.key_files.proofs.base64_text.decode_symbols_into.Goals as goal
 
-pub returns-in-Some-clause-meaning : goal.returns-in-Some-clause-meaning
-returns-in-Some-clause-meaning c = symbol_text_meaning-misplaced _ _ (sym c.misplaced.ensures.first ∙ c.in-Some.is)
-
 pub returns-in-Ok-clause-meaning : goal.returns-in-Ok-clause-meaning
 returns-in-Ok-clause-meaning c =
-    let placed = sym c.misplaced.ensures.first ∙ not_misplaced _ c.in_default.not-Some in
+    let placed = sym c.misplaced.ensures.first ∙ none_from _ c.in_default.not-Some in
     symbol_text_meaning-placed _ placed
     ∙ symbols_meaning-is c.encoding_of.result c.args.text.now _ c.encoding_of.ensures (rw c.clear.ensures.len at c.in-Ok.ensures.ok)
 
 pub returns-in-Err-DecodeError-clause-meaning : goal.returns-in-Err-DecodeError-clause-meaning
 returns-in-Err-DecodeError-clause-meaning c =
-    let placed = sym c.misplaced.ensures.first ∙ not_misplaced _ c.in_default.not-Some in
+    let placed = sym c.misplaced.ensures.first ∙ none_from _ c.in_default.not-Some in
     let refused = rw c.in-Err-DecodeError.field-0-is at c.in-Err-DecodeError.ensures.err in
     rw c.fault_of.ensures.fault (symbol_text_meaning-placed _ placed ∙ symbols_meaning-is c.encoding_of.result c.args.text.now _ c.encoding_of.ensures refused)
 
@@ -35,6 +33,3 @@ returns-in-Err-OutOfMemory-clause-accepted c = symbol_text_meaning-accepts c.arg
 
 pub returns-in-Err-DecodeError-clause-accepted : goal.returns-in-Err-DecodeError-clause-accepted
 returns-in-Err-DecodeError-clause-accepted c = symbol_text_meaning-accepts c.args.text.now
-
-pub returns-in-Err-OutOfMemory-clause-memory : goal.returns-in-Err-OutOfMemory-clause-memory
-returns-in-Err-OutOfMemory-clause-memory c = λ _. sym c.misplaced.ensures.first ∙ not_misplaced _ c.in_default.not-Some

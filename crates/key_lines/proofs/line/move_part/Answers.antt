@@ -32,12 +32,8 @@ returns-then-has_lf g c =
     let items = c.in_ok-extend_from_slice.ensures.items in (
       take len (take room shown),
       c.before_lf-len.ensures.none,
-      Consumes-line {mid = g.R.Read.remaining reader} {most = g.R.BufRead.consumable_len reader} room len (record {
-        front = c.in-Ok.ensures.front;
-        kept = held.0;
-        within = rw c.in-Ok.is at held.1;
-        drops = c.consume.ensures.bytes;
-      }) c.if-has_lf.true (c.before_lf-len.ensures.lf c.if-has_lf.true),
+      Consumes-line _ (g.R.Read.remaining reader) _ (g.R.BufRead.consumable_len reader) _ room len c.in-Ok.ensures.front held.0
+          (rw c.in-Ok.is at held.1) c.consume.ensures.bytes c.if-has_lf.true (c.before_lf-len.ensures.lf c.if-has_lf.true),
       items,
       ended_fits c.args.limit len before (take room shown) after items c.if-has_lf.true
           (front_fits room c.args.limit c.len.result (length before) shown c.min.ensures (c.len.ensures ∙ c.args.line.now.ok.0)),
@@ -52,12 +48,8 @@ returns-then-is_end g c =
     let held = c.fill_buf.follows.holds-at-none in
     let none : length (take room shown) ≡ 0 = nothing_shown (length (take room shown)) (sym c.is_empty-is_end.ensures ∙ c.if-is_end.true) in
     let nothing = none_taken (take room shown) len none c.before_lf-len.ensures.bound in (
-      rw nothing at (Consumes-part {mid = g.R.Read.remaining reader} {most = g.R.BufRead.consumable_len reader} room len (record {
-        front = c.in-Ok.ensures.front;
-        kept = held.0;
-        within = rw c.in-Ok.is at held.1;
-        drops = c.consume-2.ensures.bytes;
-      }) c.before_lf-len.ensures.bound),
+      rw nothing at (Consumes-part _ (g.R.Read.remaining reader) _ (g.R.BufRead.consumable_len reader) _ room len c.in-Ok.ensures.front held.0
+          (rw c.in-Ok.is at held.1) c.consume-2.ensures.bytes c.before_lf-len.ensures.bound),
       ends-empty _ shown room c.args.limit c.len.result _ c.in-Ok.ensures.end c.min.ensures c.len.ensures c.requires.room none,
       rw nothing at c.in_ok-extend_from_slice.ensures.items ∙ append-nil _,
     )
@@ -74,12 +66,8 @@ returns-then-len-limit g c =
     let items = c.in_ok-extend_from_slice.ensures.items in (
       take len (take room shown),
       c.before_lf-len.ensures.none,
-      Consumes-part {mid = g.R.Read.remaining reader} {most = g.R.BufRead.consumable_len reader} room len (record {
-        front = c.in-Ok.ensures.front;
-        kept = held.0;
-        within = rw c.in-Ok.is at held.1;
-        drops = c.consume-2.ensures.bytes;
-      }) c.before_lf-len.ensures.bound,
+      Consumes-part _ (g.R.Read.remaining reader) _ (g.R.BufRead.consumable_len reader) _ room len c.in-Ok.ensures.front held.0
+          (rw c.in-Ok.is at held.1) c.consume-2.ensures.bytes c.before_lf-len.ensures.bound,
       items,
       past_by_one c.args.limit len before (take room shown) after items (rw c.args.line.now.ok.0 at c.requires.room)
           (front_fits room c.args.limit c.len.result (length before) shown c.min.ensures (c.len.ensures ∙ c.args.line.now.ok.0))
@@ -95,12 +83,8 @@ returns g c =
     let held = c.fill_buf.follows.holds-at-none in (
       take len (take room shown),
       c.before_lf-len.ensures.none,
-      Consumes-part {mid = g.R.Read.remaining reader} {most = g.R.BufRead.consumable_len reader} room len (record {
-        front = c.in-Ok.ensures.front;
-        kept = held.0;
-        within = rw c.in-Ok.is at held.1;
-        drops = c.consume-2.ensures.bytes;
-      }) c.before_lf-len.ensures.bound,
+      Consumes-part _ (g.R.Read.remaining reader) _ (g.R.BufRead.consumable_len reader) _ room len c.in-Ok.ensures.front held.0
+          (rw c.in-Ok.is at held.1) c.consume-2.ensures.bytes c.before_lf-len.ensures.bound,
       c.in_ok-extend_from_slice.ensures.items,
       rw (c.len-2.ensures, c.extend_from_slice.new.self.ok.0) at c.if-len-limit.false,
     )

@@ -3,11 +3,11 @@ use Rattle.std.proofs.Common.{◌≡◌, Err, sym, ap, ◌∙◌, subst}
 use Rattle.std.specs.List.{prefix_len}
 use Rattle.key_files.specs.Decoding.{DecodesText, fault_behind}
 use Rattle.key_lines.specs.Meaning.{blank_ended_meaning, is_blank, text_meaning}
-use Rattle.key_lines.proofs.Denoting.{DecodesText-bytes, DecodesText-line}
+use Rattle.key_lines.proofs.Denoting.{DecodesText-line, blank_ended_meaning-is}
 use Rattle.key_lines.proofs.text.decode_line.Goals as goal
 
 pub returns-in-Ok : goal.returns-in-Ok
-returns-in-Ok c = DecodesText-bytes c.args.notation c.args.line.now _ (rw c.text_of.ensures at c.in-Ok.ensures.meaning)
+returns-in-Ok c = blank_ended_meaning-is c.args.notation c.args.line.now _ (rw c.text_of.ensures at c.in-Ok.ensures.meaning)
 
 pub returns-in-Err : goal.returns-in-Err
 returns-in-Err c =

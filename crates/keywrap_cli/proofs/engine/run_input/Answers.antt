@@ -8,4 +8,5 @@ returns-in-Ok g c =
     (w.0, record { text = Ok c.in-Ok.bytes; read = c.in-Ok.ensures; rest = w.1 })
 
 pub returns-in-Err : goal.returns-in-Err
-returns-in-Err g c = ([], record { text = Err c.in-Err.fault; read = c.in-Err.ensures; rest = (refl, refl) })
+returns-in-Err g c =
+    ([], record { text = Err c.input_fault.result; read = (c.in-Err.fault, c.in-Err.ensures, c.input_fault.ensures); rest = (refl, refl) })

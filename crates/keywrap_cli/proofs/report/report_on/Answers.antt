@@ -1,4 +1,4 @@
-use Rattle.keywrap_cli.specs.Vectors.{shown}
+use Rattle.test_vectors.specs.Vectors.{shown}
 use Rattle.keywrap_cli.proofs.Reports.{report_step}
 use Rattle.keywrap_cli.proofs.report.report_on.Goals as goal
 

@@ -1,5 +1,6 @@
 use Rattle.std.proofs.Common.{map, take, string_bytes}
-use Rattle.keywrap_cli.specs.Vectors.{IsReport, shown}
+use Rattle.keywrap_cli.specs.Vectors.{IsReport}
+use Rattle.test_vectors.specs.Vectors.{shown}
 use Rattle.keywrap_cli.proofs.report.report_on.Given as goal
 
 abbrev pub invariant-loop-vector : goal.invariant-loop-vector

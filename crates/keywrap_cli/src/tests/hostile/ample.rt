@@ -1,5 +1,4 @@
-//! With ample memory, and files and outputs that can be read and written, no call answers Memory,
-//! Read or Write.
+//! With ample memory and sound files, no call returns Memory, Read or Write.
 
 use super::super::cases::{Call, Case, HEX, RAW, WRITTEN};
 use super::super::initial_values::OTHER;
@@ -16,7 +15,7 @@ use std::test::Fail;
 
 static FORMS: [Form; 2] = [Form::Plain, Form::Padded];
 
-// The byte of a content at a place: of zeros, of ff, of bytes that count and of pseudo-random ones.
+// Returns the byte at an offset of one of four contents: zeros, ff, counting, pseudo-random.
 fn byte_of(content: usize, at: usize) -> u8 {
     match content {
         0 => 0,
@@ -26,8 +25,8 @@ fn byte_of(content: usize, at: usize) -> u8 {
     }
 }
 
-// Whether keys of so many bytes are tried: each length to 520, of every content where files are
-// read at once, then words and their neighbours of one content each, and the largest.
+// Returns whether keys of `len` bytes are tried: each length up to 520, with every content if files
+// are read at once; then multiples of 8 and their neighbours, with one content; and the largest.
 fn is_tried(content: usize, len: usize, size: usize) -> bool {
     let is_its = len / 8 % 4 == content;
     match len {
@@ -37,7 +36,7 @@ fn is_tried(content: usize, len: usize, size: usize) -> bool {
     }
 }
 
-// Whether a key may have so many bytes, as RFC 3394 and RFC 5649 say up to the largest.
+// Returns whether a key may have `len` bytes, by RFC 3394 and RFC 5649, up to the largest.
 fn is_key_length(form: Form, len: usize) -> bool {
     match form {
         Form::Plain => len >= 16 && len % 8 == 0,
@@ -50,14 +49,14 @@ fn gives_up_for_memory_at_no_length(rt: HostRuntime) -> Result<(), Fail> {
     run_each_length(&rt, rt.alloc(), usize::MAX)
 }
 
-// Reads and writes go byte by byte to 1,039 bytes, and beyond in pieces that grow with the key:
-// that long files can be read and written byte by byte is shown by the tests of key_files.
+// Up to 1,039 bytes, reads and writes have one byte; beyond, they grow with the key. The tests of
+// key_files read and write long files byte by byte.
 #[test]
 fn gives_up_for_io_at_no_length(rt: HostRuntime) -> Result<(), Fail> {
     run_each_length(&rt, rt.alloc(), 1)
 }
 
-// Each call on keys of each length, through readers and writers of so many bytes a call at least.
+// Makes each call on keys of each length, with reads and writes of at least `size` bytes.
 fn run_each_length(rt: &impl Abort, alloc: Global, size: usize) -> Result<(), Fail> {
     for content in 0..4 {
         let mut key = Vec::new(alloc);
@@ -73,7 +72,7 @@ fn run_each_length(rt: &impl Abort, alloc: Global, size: usize) -> Result<(), Fa
     Ok(())
 }
 
-// Each call in each form that the key has, from the key to its texts, from text to text, and back.
+// Makes each call in each form that the key has: wraps, rewraps and unwraps.
 fn run_on_key(rt: &impl Abort, alloc: Global, key: &[u8], size: usize) -> Result<(), Fail> {
     let (old, new) = (Aes::new(RAW_KEK)?, Aes::new(RAW_NEW_KEK)?);
     for form in FORMS {
@@ -120,7 +119,7 @@ fn check_line(alloc: Global, form: Form, len: usize) -> Result<String, AllocErro
     }
 }
 
-// Says that a raw call writes this output for this input, and in hex the same.
+// Checks that a call writes this output for this input, in raw and in hex.
 fn writes(
     rt: &impl Abort,
     alloc: Global,
@@ -139,7 +138,7 @@ fn writes(
     Ok(())
 }
 
-// The same for a call with files of one notation.
+// Checks the same for one notation.
 fn writes_in<'a>(
     rt: &impl Abort,
     alloc: Global,
@@ -170,7 +169,7 @@ fn in_hex(call: Call) -> Call {
     }
 }
 
-// Whether a drill of the key, and a drill of its wrapping by the key, return an answer.
+// Returns whether drills of the key and of its wrapping succeed.
 fn drills(alloc: Global, form: Form, key: &[u8]) -> bool {
     match drilled(alloc, form, Direction::Wrap, key) {
         Some(text) => match drilled(alloc, form, Direction::Unwrap, &text) {

@@ -1,5 +1,5 @@
-//! Wrapping and unwrapping in a buffer: what the buffer holds and how many block calls were made,
-//! also if the text is refused.
+//! Wrapping and unwrapping in a buffer: its contents afterwards and the number of block calls, also
+//! if the text is refused.
 
 use super::super::standards::wrappings;
 use aes_block::Aes;
@@ -12,7 +12,7 @@ use std::alloc::{AllocError, Global};
 use std::process::Abort;
 use std::test::Fail;
 
-// There and back in one buffer over one meter.
+// Wraps and unwraps in one buffer, with one meter.
 #[test]
 fn wraps_and_unwraps_in_place_and_counts(rt: HostRuntime) -> Result<(), Fail> {
     for wrapping in &wrappings(rt.alloc())? {
@@ -46,7 +46,7 @@ fn wrap_here<B: BlockPair>(
     }
 }
 
-// Answers the bytes of the key.
+// Returns the length of the key.
 fn unwrap_here<B: BlockPair>(
     meter: &mut Meter<B>,
     form: Form,
@@ -61,8 +61,8 @@ fn unwrap_here<B: BlockPair>(
     }
 }
 
-// The block calls of one wrapping or unwrapping: six for each word of the key, and one for a padded
-// key of one word.
+// Returns the block calls of one wrapping or unwrapping: six for each word of the key, and one for
+// a padded key of one word.
 fn calls_for(text: &[u8]) -> u64 {
     match text.len() {
         16 => 1,
@@ -70,7 +70,7 @@ fn calls_for(text: &[u8]) -> u64 {
     }
 }
 
-// So many bytes `other`, with the key after the first 8.
+// Returns `len` bytes `other`, with the key at offset 8.
 fn room_for(alloc: Global, key: &[u8], other: u8, len: usize) -> Result<Vec<u8>, AllocError> {
     let mut buf = vec![in alloc; other; 8]?;
     buf.extend_from_slice(key)?;
@@ -78,8 +78,8 @@ fn room_for(alloc: Global, key: &[u8], other: u8, len: usize) -> Result<Vec<u8>,
     Ok(buf)
 }
 
-// Unwraps a copy of a text, and says that the copy becomes the key after zeros, or that the text
-// is refused and the copy cleared.
+// Unwraps a copy of a text, and checks that the copy becomes zeros and the key, or that the text is
+// refused and the copy cleared.
 pub(super) fn unwraps_to<B: BlockPair>(
     rt: &impl Abort,
     alloc: Global,

@@ -1,4 +1,4 @@
-//! Each allocation refused in turn: a call answers Memory and has written nothing, or answers all.
+//! Each allocation is refused in turn: a call returns Memory and has written nothing, or succeeds.
 //! `rt try --test --fail-alloc N` refuses the Nth allocation; the gate refuses none.
 
 use super::super::cases::{Case, run};
@@ -16,7 +16,7 @@ use std::process::Abort;
 pub(super) fn run_in_room(rt: &impl Abort, alloc: Global, case: &Case) {
     let Case(call, _, wanted, output) = *case;
     let mut room = [0; 64];
-    // A writer that takes no memory. It shrinks by what it takes.
+    // A writer that does not allocate: the room that is left.
     let mut free = room.as_mut_slice();
     let (done, _) = run(alloc, call, case.files(usize::MAX), &mut free);
     let written = 64_usize.saturating_sub(free.len());

@@ -1,4 +1,4 @@
-//! Each read that fails in turn, once or from then on.
+//! Each read fails in turn, once or from then on.
 
 use super::super::cases::{Case, run};
 use super::super::doubles::{FAULTS, Narrow, Trickle};
@@ -7,15 +7,15 @@ use key_files::FileFault;
 use std::alloc::Global;
 use std::process::Abort;
 
-// The answer to a failed read of the KEK, the new KEK and the input.
+// The faults of a failed read of the KEK, the new KEK and the input.
 static READ_FAULTS: [JobFault; 3] = [
     JobFault::KekFile(FileFault::Read),
     JobFault::NewKekFile(FileFault::Read),
     JobFault::InputFile(FileFault::Read),
 ];
 
-// Nothing is written then, and the later files are not read. The fault comes before what the bytes
-// denote, and a reader that would go on is not asked again.
+// After a failed read nothing is written, the reader is not called again, and later files are not
+// read. The bytes before the failure do not matter.
 pub(super) fn fail_each_read(rt: &impl Abort, alloc: Global, case: &Case) {
     let Case(call, bytes, ..) = *case;
     for at in 0..3 {

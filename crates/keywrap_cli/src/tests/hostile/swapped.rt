@@ -1,5 +1,5 @@
-//! Texts over the drill block with one bit changed. The block only exchanges its halves, so each
-//! bit of a text is a bit of the key or of what is checked.
+//! Texts of the toy cipher with one changed bit. The cipher only swaps halves, so each bit of a
+//! text is a bit of the key or of the checked value.
 
 use super::super::jobs::RAW_KEY;
 use super::change_bit;
@@ -19,7 +19,7 @@ pub(super) const PADDED_KEY: &[u8] = b"ForPasi";
 
 pub(super) const PADDED_TEXT: &[u8] = b"ForPasi\x00\xA6\x59\x59\xA6\x00\x00\x00\x07";
 
-// A key and its text, and from which bit on the text's bits are the key's.
+// A key, its text, and the first bit of the text that is a bit of the key.
 static DRILLED: [(Form, &[u8], &[u8], usize); 2] = [
     (Form::Plain, RAW_KEY, TEXT, 64),
     (Form::Padded, PADDED_KEY, PADDED_TEXT, 0),
@@ -56,7 +56,7 @@ fn unwrap_each_changed_bit(
     Ok(())
 }
 
-// Says that the drill of a text answers the key, or refuses it.
+// Checks that the drill of a text returns the key, or refuses the text.
 fn drills_to(
     rt: &impl Abort,
     alloc: Global,

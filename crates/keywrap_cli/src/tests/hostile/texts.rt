@@ -1,5 +1,5 @@
-//! The eight texts of RFC 3394, section 4, and RFC 5649, section 6, cut short, and with one bit of
-//! them or of their KEK changed: each is refused, by a job and in a buffer.
+//! The eight texts of RFC 3394, section 4, and RFC 5649, section 6, cut short, or with one changed
+//! bit of the text or of the KEK. Each is refused, by a job and in a buffer.
 
 use super::super::cases::{Call, Case, RAW};
 use super::super::jobs::{BAD_LENGTH, INTEGRITY};
@@ -21,7 +21,7 @@ fn refuses_each_proper_prefix_of_a_text(rt: HostRuntime) -> Result<(), Fail> {
     Ok(())
 }
 
-// For its length or, if that is legal, for its bytes.
+// Each prefix is refused for its length or, if that is legal, for its bytes.
 fn refuse_each_prefix(rt: &impl Abort, alloc: Global, wrapping: &Wrapping) {
     let unwrap = Call::Job(Job::Unwrap, wrapping.form, RAW, RAW);
     for len in 0..wrapping.text.len() {

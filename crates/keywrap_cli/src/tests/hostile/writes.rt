@@ -1,4 +1,4 @@
-//! Each write that stops in turn, once or from then on, by an error or by taking no byte.
+//! Each write fails in turn, once or from then on, by an error or by taking no bytes.
 
 use super::super::cases::{Case, run};
 use super::super::doubles::{Narrow, STOPPINGS};
@@ -8,7 +8,7 @@ use crate::report::{VectorsFault, vectors};
 use std::alloc::Global;
 use std::process::Abort;
 
-// A writer that would go on is not asked again, and one that stops after the output is not met.
+// A writer that failed once is not called again. A fault after the output is not reached.
 pub(super) fn stop_each_write(rt: &impl Abort, alloc: Global, case: &Case) {
     let Case(call, _, wanted, output) = *case;
     for room in 0..=output.len() {

@@ -1,5 +1,5 @@
 -- The bytes that the line denotes, and the job's answer to them.
-use Rattle.std.proofs.Common.{◌∙◌}
+use Rattle.std.proofs.Common.{◌∙◌, inr, refl}
 use Rattle.key_lines.proofs.Denoting.{MakesAnswer-input, line_meaning-within}
 use Rattle.key_lines.proofs.run.LineRun.answer.Goals as goal
 
@@ -13,4 +13,5 @@ returns-in-Ok-Ok g c =
 
 pub returns-in-Ok-Err : goal.returns-in-Ok-Err
 returns-in-Ok-Err g c =
-    (_, line_meaning-within c.args.self.now.options.notation c.args.line.now c.requires ∙ c.in_default.ensures, rw c.in-Ok-Err.field-0-is at c.in-Ok-Err.ensures)
+    inr (refl, (_, line_meaning-within c.args.self.now.options.notation c.args.line.now c.requires ∙ c.in_default.ensures,
+    rw c.in-Ok-Err.field-0-is at c.in-Ok-Err.ensures))

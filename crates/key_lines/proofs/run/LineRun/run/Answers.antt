@@ -1,37 +1,46 @@
--- The last block was written, or the writer refused it.
-use Rattle.std.proofs.Common.{◌≡◌, Err, length, rules, sym, ◌∙◌}
-use Rattle.key_lines.specs.Running.{RunsLines}
-use Rattle.key_lines.specs.declared.fault.RunFault.TheVariants.{Write}
-use Rattle.key_lines.proofs.Ends.{RunsLines-refused, RunsLines-sent, RunsLines-unsent, headline}
+-- Some lines were answered, and then the input ended, a line stopped the run, or the writer refused the block.
+use Rattle.std.proofs.Common.{◌≡◌, length, arith, rules, sym}
+use Rattle.key_lines.proofs.Ends.{headline}
 use Rattle.key_lines.proofs.Laws.{lines_are_files, prints_back}
+use Rattle.key_lines.proofs.Runs.{Run-more, Run-none, RunsLines-done, RunsLines-refused, RunsLines-stopped, more_lines}
 use Rattle.key_lines.proofs.run.LineRun.run.Goals as goal
 
-pub returns-then-is_write : goal.returns-then-is_write
-returns-then-is_write g c =
-    let gathered = c.gather-gathered in
-    let run : RunsLines c.args.self.now.options (g.J.LineJob.answers c.args.self.now.job) (g.R.Read.remaining c.args.input.now)
-    (g.R.Read.remaining gathered.new.input) (g.W.Write.contents c.args.out.now) (g.W.Write.contents gathered.new.out)
-    (g.L.RefusalLog.received c.args.log.now) (g.L.RefusalLog.received gathered.new.log) gathered.result =
-    RunsLines-refused c.args.self.now.options _ _ _ _ c.new-4.ensures.items (sym c.is_write.ensures ∙ c.if-is_write.true) gathered.ensures in
+pub loop-summary-init : goal.loop-summary-init
+loop-summary-init g c = Run-none c.args.self.now.options (g.J.LineJob.answers c.args.self.now.job) _ _ _ _ c.new-4.ensures.items
+
+pub loop-summary-preserved : goal.loop-summary-preserved
+loop-summary-preserved g c =
+    let done = rw (c.in-Ok-Ok-Ended.field-0-is, c.in-Ok-Ok-Ended.field-0-0-is) at c.in-Ok-Ok-Ended.ensures in
+    Run-more c.args.self.now.options (g.J.LineJob.answers c.args.self.now.job) c.loop-summary.invariant done.0
+
+pub loop-summary-smaller : goal.loop-summary-smaller
+loop-summary-smaller g c =
+    let done = rw (c.in-Ok-Ok-Ended.field-0-is, c.in-Ok-Ok-Ended.field-0-0-is) at c.in-Ok-Ok-Ended.ensures in
+    omega (arith, more_lines c.args.self.now.options (g.J.LineJob.answers c.args.self.now.job) done.0, done.0.steps.room.lines)
+
+pub returns-in-Ok-Ok-Last : goal.returns-in-Ok-Ok-Last
+returns-in-Ok-Ok-Last g c =
+    let done = rw (c.in-Ok-Ok-Last.field-0-is, c.in-Ok-Ok-Last.field-0-0-is) at c.in-Ok-Ok-Last.ensures in
+    let run = RunsLines-done c.args.self.now.options (g.J.LineJob.answers c.args.self.now.job) c.loop-summary.invariant done.0 done.0.ends
+    (done.1 (λ e. cc e)) in
     record { run = run; headline = headline c.args.self.now.options _ _ _ _ _ _ _ _ run; as_files = lines_are_files _; read_back = prints_back _ }
 
-pub returns-then-send : goal.returns-then-send
-returns-then-send g c =
-    let gathered = c.gather-gathered in
-    let run : RunsLines c.args.self.now.options (g.J.LineJob.answers c.args.self.now.job) (g.R.Read.remaining c.args.input.now)
-    (g.R.Read.remaining gathered.new.input) (g.W.Write.contents c.args.out.now) (g.W.Write.contents c.send.new.out)
-    (g.L.RefusalLog.received c.args.log.now) (g.L.RefusalLog.received gathered.new.log) gathered.result =
-    RunsLines-sent c.args.self.now.options _ _ _ _ _ _ c.new-4.ensures.items (sym c.is_write.ensures ∙ c.if-is_write.false) gathered.ensures
-    c.send.ensures.sends (c.send.ensures.all c.if-send.true) in
+pub returns-in-Ok-Ok-Missing : goal.returns-in-Ok-Ok-Missing
+returns-in-Ok-Ok-Missing g c =
+    let done = rw (c.in-Ok-Ok-Missing.field-0-is, c.in-Ok-Ok-Missing.field-0-0-is) at c.in-Ok-Ok-Missing.ensures in
+    let run = RunsLines-done c.args.self.now.options (g.J.LineJob.answers c.args.self.now.job) c.loop-summary.invariant done.0 done.0.ends
+    (done.1 (λ e. cc e)) in
     record { run = run; headline = headline c.args.self.now.options _ _ _ _ _ _ _ _ run; as_files = lines_are_files _; read_back = prints_back _ }
 
-pub returns : goal.returns
-returns g c =
-    let gathered = c.gather-gathered in
-    let size : c.len.result ≡ length c.send.new.block.items = search rules in
-    let run : RunsLines c.args.self.now.options (g.J.LineJob.answers c.args.self.now.job) (g.R.Read.remaining c.args.input.now)
-    (g.R.Read.remaining gathered.new.input) (g.W.Write.contents c.args.out.now) (g.W.Write.contents c.send.new.out)
-    (g.L.RefusalLog.received c.args.log.now) (g.L.RefusalLog.received gathered.new.log) (Err (Write c.lines_answered.result c.len.result)) =
-    rw (c.lines_answered.ensures, size) (RunsLines-unsent c.args.self.now.options (g.J.LineJob.answers c.args.self.now.job) _ _ _ _ _ c.new-4.ensures.items
-    gathered.ensures c.send.ensures.sends (c.send.ensures.left c.if-send.false)) in
+pub returns-in-Ok-Err : goal.returns-in-Ok-Err
+returns-in-Ok-Err g c =
+    let done = rw c.in-Ok-Err.field-0-is at c.in-Ok-Err.ensures in
+    let run = RunsLines-stopped c.args.self.now.options (g.J.LineJob.answers c.args.self.now.job) c.loop-summary.invariant done.0 (done.1 (λ e. cc e)) in
+    record { run = run; headline = headline c.args.self.now.options _ _ _ _ _ _ _ _ run; as_files = lines_are_files _; read_back = prints_back _ }
+
+pub returns-in-Err : goal.returns-in-Err
+returns-in-Err g c =
+    let size : length c.step.new.buffers.block.items ≡ c.len.result = sym (search rules) in
+    let e = c.in-Err.ensures in
+    let run = RunsLines-refused c.args.self.now.options (g.J.LineJob.answers c.args.self.now.job) c.len.result size c.loop-summary.invariant e.1 e.2 in
     record { run = run; headline = headline c.args.self.now.options _ _ _ _ _ _ _ _ run; as_files = lines_are_files _; read_back = prints_back _ }

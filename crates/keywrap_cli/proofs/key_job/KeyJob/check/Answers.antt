@@ -1,7 +1,6 @@
 -- The line gives the text's kind, in a buffer that was cleared.
-use Rattle.std.proofs.Common.{◌≡◌, ap, ◌∙◌}
+use Rattle.std.proofs.Common.{◌≡◌, ap, refl, ◌∙◌}
 use Rattle.keywrap_cli.specs.Answers.{kind_line}
-use Rattle.keywrap_cli.proofs.Answered.{check_mark}
 use Rattle.keywrap_cli.proofs.key_job.KeyJob.check.Goals as goal
 
 pub returns : goal.returns
@@ -10,4 +9,4 @@ returns g c =
     let w = rw own at c.in-Ok.ensures in
     let line : c.extend_from_slice.new.self.items ≡ kind_line c.in-Ok.found =
     c.in_ok-extend_from_slice.ensures.items ∙ (rw c.clear.ensures.items (c.as_bytes.ensures.value ∙ c.in_ok-line.ensures)) in
-    ((c.in-Ok.found, w.answer, line), rw c.mark_of.ensures (check_mark c.in-Ok.found c.extend_from_slice.new.self.items line))
+    ((c.in-Ok.found, w.answer, line), (refl, line ∙ ap kind_line c.in-Neither.is))

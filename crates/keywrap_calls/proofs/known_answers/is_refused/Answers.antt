@@ -1,0 +1,15 @@
+use Rattle.std.proofs.Common.{rules}
+use mir.Syntax.{w32}
+use mir.Val.{SFits}
+use Rattle.aes_block.specs.KeyExpansion.{IsKekLength}
+use Rattle.key_wrap.specs.InPlace.{ArePlainLengths}
+use Rattle.keywrap_calls.proofs.KnownAnswers.{is_integrity}
+use Rattle.keywrap_calls.proofs.known_answers.is_refused.Goals as goal
+
+pub returns : goal.returns
+returns g c =
+    let fits : SFits w32 c.unwrap.result = search rules in
+    let test = is_integrity c.unwrap.result fits in
+    let kek : IsKekLength 16 = search rules in
+    let lengths : ArePlainLengths 16 24 = search rules in
+    (λ said. (c.unwrap.ensures.integrity.0 (test.0 said)).2, λ none. test.1 (c.unwrap.ensures.integrity.1 (kek, lengths, none)))

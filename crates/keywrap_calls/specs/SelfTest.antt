@@ -1,0 +1,25 @@
+-- What a self test finds: the published wrappings are right, and a damaged wrapped key is refused.
+use Rattle.std.specs.Prelude.{⊤, ℕ, List, length}
+use Rattle.std.specs.List.{AllByRecursion}
+use Rattle.aes_block.specs.Cipher.{cipher}
+use Rattle.aes_block.specs.KeyExpansion.{IsKekLength}
+use Rattle.key_wrap.specs.Answer.{NoKey}
+use Rattle.key_wrap.specs.Padded.{Padded}
+use Rattle.key_wrap.specs.Plain.{Plain, default_iv}
+use Rattle.test_vectors.specs.Published.{published_vectors, damaged, damaged_kek}
+use Rattle.test_vectors.specs.Vectors.{TestVector}
+use Rattle.test_vectors.specs.declared.table.Algorithm.{Algorithm}
+use Rattle.test_vectors.specs.declared.table.Algorithm.TheVariants.{KeyWrap, KeyWrapWithPadding, Encryption}
+
+-- the wrapped key is the wrapping of the key under AES of the KEK. A library encrypts no single blocks.
+abbrev pub Wraps : Algorithm → List ℕ → List ℕ → List ℕ → Type 0
+Wraps KeyWrap kek key text = IsKekLength (length kek) × Plain (cipher kek) default_iv key text
+Wraps KeyWrapWithPadding kek key text = IsKekLength (length kek) × Padded (cipher kek) key text
+Wraps Encryption kek key text = ⊤
+
+abbrev pub IsRight : TestVector → Type 0
+IsRight v = Wraps v.algorithm v.key v.input v.output
+
+pub record IsAllRight : Type 0 where
+  pub wrappings : AllByRecursion IsRight published_vectors
+  pub refused : NoKey (Plain (cipher damaged_kek) default_iv) damaged

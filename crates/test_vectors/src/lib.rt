@@ -1,0 +1,7 @@
+//! The published vectors of RFC 3394, RFC 5649 and FIPS 197, as bytes and as a table.
+#![tactic(auto)]
+
+pub mod bytes;
+mod table;
+
+pub use table::{Algorithm, Vector, published};
