@@ -276,7 +276,10 @@ fn stops_at_the_line_whose_read_fails(rt: HostRuntime) -> Result<(), Fail> {
             &mut out,
         );
         let fault = LineFault::Input(FileFault::Read);
-        assert!(rt; answer == Err(RunFault::AtLine { line, fault }), "after {reads} reads");
+        assert!(rt;
+            answer == Err(RunFault::AtLine { line, fault }),
+            "after {reads} reads"
+        );
         assert!(rt; text.starts_with(&out) && out.len() == reads / 3 * 3);
     }
     Ok(())

@@ -13,5 +13,11 @@ returns-in-Ok-Ok g c =
 
 pub returns-in-Ok-Err : goal.returns-in-Ok-Err
 returns-in-Ok-Err g c =
-    inr (refl, (_, line_meaning-within c.args.self.now.options.notation c.args.line.now c.requires ∙ c.in_default.ensures,
-    rw c.in-Ok-Err.field-0-is at c.in-Ok-Err.ensures))
+    inr (
+      refl,
+      (
+        _,
+        line_meaning-within c.args.self.now.options.notation c.args.line.now c.requires ∙ c.in_default.ensures,
+        rw c.in-Ok-Err.field-0-is at c.in-Ok-Err.ensures,
+      ),
+    )
