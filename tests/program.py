@@ -1,12 +1,13 @@
 """Runs the program, and returns how it ended."""
 
+import concurrent.futures
 import contextlib
 import os
 import pathlib
+import re
 import resource
 import signal
 import subprocess
-import threading
 import time
 from typing import NamedTuple, Union
 
@@ -20,11 +21,11 @@ class Ended(NamedTuple):
 
 
 # Instead of a standard stream: a closed one, and a pipe without a reader.
-CLOSED = object()
-UNREAD = object()
+CLOSED, UNREAD = object(), object()
+# The options of a run with pipes.
+PIPES = dict.fromkeys(("stdin", "stdout", "stderr"), subprocess.PIPE)
 # The descriptors that each run inherits.
 SHARED = set()
-WRITES = os.O_WRONLY | os.O_CREAT | os.O_TRUNC
 
 
 def answered(text):
@@ -42,6 +43,38 @@ def words(args):
     return args.split() if isinstance(args, str) else list(args)
 
 
+def sh(script):
+    subprocess.run(["sh", "-euc", script], check=True)
+
+
+def finish(run, given=None, text=True):
+    """Writes the given bytes to a run, and returns how it ended. If `text` is False, its answer stays bytes."""
+    try:
+        out, err = run.communicate(given, timeout=240)
+    except subprocess.TimeoutExpired:
+        run.kill()
+        raise
+    out, err = out or b"", (err or b"").decode(errors="backslashreplace")
+    return Ended(run.returncode, out.decode(errors="backslashreplace") if text else out, err)
+
+
+def wait_for(ready):
+    """Waits until this function returns true."""
+    end = time.monotonic() + 60
+    while not ready():
+        assert time.monotonic() < end, "the run does not come to this point"
+        time.sleep(0.01)
+
+
+def table(name):
+    """The rows of a file beside this one: the line above a command line, the command line, and the lines below it."""
+    text = (pathlib.Path(__file__).parent / name).read_text()
+    rows = [(above, *row.rstrip("\n").partition("\n    ")[::2])
+            for above, group in re.findall(r"^(\w.*)\n((?: .*\n)+)", text, re.M) for row in group.split("    $ ")[1:]]
+    assert len(rows) == text.count("    $ ")
+    return rows
+
+
 class Program:
     """The program at a path. A call runs it; see `__call__`."""
 
@@ -56,17 +89,10 @@ class Program:
         text: if False, the answer is returned as bytes.
         options: see `started`."""
         given = stdin.encode() if isinstance(stdin, str) else stdin
-        piped = isinstance(given, bytes)
-        with self.started(args, *more, stdin=subprocess.PIPE if piped else given,
-                          stdout=subprocess.PIPE if stdout is None else stdout,
-                          stderr=subprocess.PIPE if stderr is None else stderr, **options) as run:
-            try:
-                out, err = run.communicate(given if piped else None, timeout=240)
-            except subprocess.TimeoutExpired:
-                run.kill()
-                raise
-        out, err = out or b"", (err or b"").decode(errors="backslashreplace")
-        return Ended(run.returncode, out.decode(errors="backslashreplace") if text else out, err)
+        streams = [subprocess.PIPE if stream is None else stream for stream in (stdout, stderr)]
+        stdin = subprocess.PIPE if isinstance(given, bytes) else given
+        with self.started(args, *more, stdin=stdin, stdout=streams[0], stderr=streams[1], **options) as run:
+            return finish(run, given if isinstance(given, bytes) else None, text)
 
     def started(self, args=(), *more, stdin=None, stdout=None, stderr=None, limits={}, ignoring=None, env={},
                 prefix=(), **options):
@@ -77,19 +103,19 @@ class Program:
         env: variables beside the environment's own.
         prefix: a command that runs the program, as setpriv.
         options: of `Popen`, as cwd and user."""
-        closed, opened = [number for number, stream in enumerate((stdin, stdout, stderr)) if stream is CLOSED], []
+        closed = [number for number, stream in enumerate((stdin, stdout, stderr)) if stream is CLOSED]
         ignoring = ignoring if ignoring is not None else [signal.SIGXFSZ] * ("FSIZE" in limits)
 
-        def stream(given, flags):
+        def stream(given, flags=os.O_WRONLY | os.O_CREAT | os.O_TRUNC):
             if given is UNREAD:
-                reading, writing = os.pipe()
+                reading, given = os.pipe()
                 os.close(reading)
-                opened.append(writing)
             elif isinstance(given, (str, pathlib.Path)):
-                opened.append(os.open(given, flags, 0o644))
+                given = os.open(given, flags, 0o644)
             else:
                 return subprocess.DEVNULL if given in (None, CLOSED) else given
-            return opened[-1]
+            opened.callback(os.close, given)
+            return given
 
         def prepare():
             for number in closed:
@@ -99,15 +125,11 @@ class Program:
             for number in ignoring:
                 signal.signal(number, signal.SIG_IGN)
 
-        prepares = closed or limits or ignoring
-        try:
+        with contextlib.ExitStack() as opened:
             return subprocess.Popen(
-                [*prefix, self.path, *words(args), *more], stdin=stream(stdin, os.O_RDONLY),
-                stdout=stream(stdout, WRITES), stderr=stream(stderr, WRITES), env={**os.environ, **env},
-                preexec_fn=prepare if prepares else None, pass_fds=SHARED, **options)
-        finally:
-            for descriptor in opened:
-                os.close(descriptor)
+                [*prefix, self.path, *words(args), *more], stdin=stream(stdin, os.O_RDONLY), stdout=stream(stdout),
+                stderr=stream(stderr), env={**os.environ, **env}, pass_fds=SHARED,
+                preexec_fn=prepare if closed or limits or ignoring else None, **options)
 
 
 @contextlib.contextmanager
@@ -121,7 +143,7 @@ def shared(descriptor):
 
 
 @contextlib.contextmanager
-def in_pieces(content, size):
+def in_pieces(content, size=1 << 30):
     """A pipe with the content in pieces of this size and a pause after each. Returns its name for the program."""
     content = content.encode() if isinstance(content, str) else content
     reading, writing = os.pipe()
@@ -132,50 +154,20 @@ def in_pieces(content, size):
                 pipe.write(content[at:at + size])
                 time.sleep(0.002)
 
-    writer = threading.Thread(target=write)
-    writer.start()
-    try:
-        with shared(reading) as name:
-            yield name
-    finally:
-        os.close(reading)
-        writer.join()
-
-
-def piped(content):
-    """A pipe with the content in one piece. Returns its name for the program."""
-    return in_pieces(content, max(len(content), 1))
-
-
-@contextlib.contextmanager
-def endless():
-    """A pipe with endless hex digits. Returns its name for the program."""
-    with subprocess.Popen(["yes", "00"], stdout=subprocess.PIPE) as run, shared(run.stdout.fileno()) as name:
+    with concurrent.futures.ThreadPoolExecutor() as pool, open(reading, "rb"), shared(reading) as name:
+        pool.submit(write)
         yield name
-        run.kill()
+
+
+# The content in one piece.
+piped = in_pieces
 
 
 @contextlib.contextmanager
 def failing_after(content):
     """The descriptor of a pipe with the content and then an error, because a read cannot wait for more bytes."""
     reading, writing = os.pipe()
-    os.write(writing, content)
-    os.set_blocking(reading, False)
-    yield reading
-    os.close(reading)
-    os.close(writing)
-
-
-@contextlib.contextmanager
-def named_pipe(name, content):
-    """A named pipe with the content."""
-    os.mkfifo(name)
-    writer = threading.Thread(target=pathlib.Path(name).write_bytes, args=[content])
-    writer.start()
-    try:
-        yield name
-    finally:
-        # Reads a pipe that nobody opened, so that the writer ends.
-        if writer.is_alive():
-            os.close(os.open(name, os.O_RDONLY | os.O_NONBLOCK))
-        writer.join()
+    with open(reading, "rb"), open(writing, "wb", buffering=0) as pipe:
+        pipe.write(content)
+        os.set_blocking(reading, False)
+        yield reading

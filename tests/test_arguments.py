@@ -1,18 +1,26 @@
-"""Command lines that are refused with status 2, the reason, a hint and the usage."""
+"""Command lines that are refused with status 2, the reason, a hint and the usage; most are in arguments.txt. The help,
+the version, and the manual page, which must agree with the help. All their examples run as they are."""
 
+import os
+import pathlib
 import re
+import shutil
+import subprocess
 import unicodedata
 
 import pytest
 
-from commands import WRAP
-from program import refused, words
+from program import Ended, refused, table, words
 from vectors import IV, RESERVED_IV
 
-REWRAP = "rewrap --kek kek16.hex --new-kek kek32.hex"
+ROOT = pathlib.Path(__file__).resolve().parent.parent
+PAGE = (ROOT / "man/keywrap.1").read_text()
+USAGE = {"": "<COMMAND>", "wrap": "wrap [OPTIONS] --kek <FILE> < KEY > WRAPPED",
+         "unwrap": "unwrap [OPTIONS] --kek <FILE> < WRAPPED > KEY",
+         "rewrap": "rewrap [OPTIONS] --kek <FILE> --new-kek <FILE> < WRAPPED > NEW",
+         "check": "check [OPTIONS] --kek <FILE> < WRAPPED", "drill": "drill", "vectors": "vectors"}
+COMMANDS = [command for command in USAGE if command]
 FILES_HINT = "files are named by options: --kek FILE, --input FILE, --output FILE"
-SUBCOMMANDS_HINT = "the first argument is wrap, unwrap, rewrap, check, drill or vectors"
-DASH_HINT = "a KEK on standard input is --{} /dev/stdin; a file of this name is ./-"
 NO_IV, RESERVED = "is not 16 hex digits", "is reserved for the padded form"
 
 
@@ -25,81 +33,144 @@ def message(keywrap, args):
     return ended.stderr, hints
 
 
-@pytest.mark.parametrize("args", [
-    "rewind", "wrap", "wrap --kek", "drill", "drill 00 11", "drill --lines 00", "drill --verbose 00", "vectors all",
-    "vectors --verbose", "unwrap --kek kek16.hex --secret", "check --kek kek16.hex --padded", "rewrap --kek kek16.hex",
-    "rewrap --new-kek kek32.hex", "rewrap --kek kek16.hex --new-kek", f"{REWRAP} --new-kek kek32.hex",
-    f"{WRAP} --new-iv {IV}", f"check --kek kek16.hex --new-iv {IV}", f"{REWRAP} --iv {IV} --padded",
-    f"{REWRAP} --new-iv {IV} --new-padded", f"{REWRAP} --iv {IV} --keep-form", f"{REWRAP} --keep-form --new-iv {IV}",
-    f"{REWRAP} wrapped.raw", f"{WRAP} --new-kek kek32.hex", f"{WRAP} --new-padded",
-    "unwrap --kek kek16.hex --keep-form", f"{REWRAP} --keep-form --padded", f"{REWRAP} --new-padded --keep-form",
-    f"{WRAP} --lines --raw", "check --kek kek16.hex --raw --lines", f"{REWRAP} --lines --raw",
-    "unwrap --kek kek16.hex --keep-going", f"{WRAP} --quiet", f"{WRAP} --raw --keep-going",
-    "check --kek kek16.hex --quiet --raw", f"{WRAP} --padded --iv {IV}", f"unwrap --kek kek16.hex --iv {IV} --padded",
-    f"{WRAP} --iv", f"{WRAP} --iv {IV} --iv {IV}", f"{WRAP} --pass-new", ["drill", b"\xff"],
-    *[f"{WRAP} {files}" for files in (
-        "--output file -o file", "-o file -i key.hex --input key.hex", "-o file --output", "-o file -i", "-o",
-        "-o file key.hex")],
-    *[f"{command} {option} old" for command in ("drill 00", "vectors") for option in ("-i", "--output")]])
-def test_refused(keywrap, args):
-    message(keywrap, args)
+class TestRefusals:
+    @pytest.mark.parametrize("above, args, below", [*table("arguments.txt"), ("refused", ["drill", b"\xff"], "")])
+    def test_refused(self, keywrap, above, args, below):
+        _, hints = message(keywrap, args)
+        assert above == "refused" or hints == ([] if above == "no tip" else [above.removeprefix("tip: ")])
+
+    @pytest.mark.parametrize("text", ["\x1b[31mred", "\x1b]0;title\a", "back\b\r", "\x7f", "tab\t", "\x9b31m",
+                                      "\u202ereversed", "two\u2028lines"], ids=repr)
+    @pytest.mark.parametrize("args", ["{}", "wrap --kek kek16.hex {}", "wrap --{}", "unwrap --kek kek16.hex --raw={}",
+                                      "drill 00 {}"])
+    def test_terminal_gets_no_control_character(self, keywrap, args, text):
+        shown, _ = message(keywrap, [arg.format(text) for arg in args.split()])
+        assert [c for c in shown if unicodedata.category(c) in ("Cc", "Cf", "Zl", "Zp") and c != "\n"] == []
+
+    @pytest.mark.parametrize("given, shown", [
+        ("\x1b[31m", r"\x1b[31m"), ("a\rb\tc\x7f", r"a\x0db\x09c\x7f"), ("\x9b2Jé", r"\x9b2Jé"),
+        ("a\n\nUsage: keywrap", r"a\x0a\x0aUsage: keywrap"), ("a\n\n  tip: b", r"a\x0a\x0a  tip: b")])
+    def test_whole_message(self, keywrap, given, shown):
+        """Control characters are escaped. An argument that looks like a part of the message does not move a hint."""
+        assert message(keywrap, ["wrap", given]) == (
+            f"error: unexpected argument '{shown}' found\n\n  tip: {FILES_HINT}\n\n"
+            "Usage: keywrap wrap [OPTIONS] --kek <FILE> < KEY > WRAPPED\n\nFor more information, try '--help'.\n",
+            [FILES_HINT])
+
+    @pytest.mark.parametrize("option, args", [
+        *[("--iv", f"{job} --kek missing") for job in ("wrap", "unwrap", "check", "rewrap --new-kek missing")],
+        ("--new-iv", "rewrap --kek missing --new-kek missing")])
+    def test_initial_value(self, keywrap, option, args):
+        """The values are checked before any file is opened, --iv first."""
+        for value in "", IV[1:], IV + "0", IV[:-1] + "g", " " + IV, RESERVED_IV[:-1]:
+            assert keywrap(args, option, value, "-o", "folder") == refused(2, f"{option} {NO_IV}")
+        for value in RESERVED_IV, RESERVED_IV.upper(), "A65959a6" + "0" * 8:
+            assert keywrap(args, option, value, "-i", "missing") == refused(2, f"{option} {RESERVED}")
+        assert keywrap(args, option, "a65959a7" + "0" * 8) == refused(6, "key file: cannot be opened")
+        both = [*words(args), "--new-iv", "0", "--iv", "0"]
+        assert not args.startswith("rewrap") or keywrap(both) == refused(2, f"--iv {NO_IV}")
 
 
-@pytest.mark.parametrize("text", ["\x1b[31mred", "\x1b]0;title\a", "back\b\r", "\x7f", "tab\t", "\x9b31m",
-                                  "\u202ereversed", "two\u2028lines"], ids=repr)
-@pytest.mark.parametrize("args", ["{}", "wrap --kek kek16.hex {}", "wrap --{}", "unwrap --kek kek16.hex --raw={}",
-                                  "drill 00 {}"])
-def test_terminal_gets_no_control_character(keywrap, args, text):
-    shown, _ = message(keywrap, [arg.format(text) for arg in args.split()])
-    assert [c for c in shown if unicodedata.category(c) in ("Cc", "Cf", "Zl", "Zp") and c != "\n"] == []
+def help_of(keywrap, command="", flag="--help"):
+    status, text, error = keywrap(f"{command} {flag}")
+    assert (status, error) == (0, "")
+    return text
 
 
-@pytest.mark.parametrize("given, shown", [
-    ("\x1b[31m", r"\x1b[31m"), ("a\rb\tc\x7f", r"a\x0db\x09c\x7f"), ("\x9b2Jé", r"\x9b2Jé"),
-    ("a\n\nUsage: keywrap", r"a\x0a\x0aUsage: keywrap"), ("a\n\n  tip: b", r"a\x0a\x0a  tip: b")])
-def test_whole_message(keywrap, given, shown):
-    """Control characters are escaped. An argument that looks like a part of the message does not move a hint."""
-    assert message(keywrap, ["wrap", given]) == (
-        f"error: unexpected argument '{shown}' found\n\n  tip: {FILES_HINT}\n\n"
-        "Usage: keywrap wrap [OPTIONS] --kek <FILE> < KEY > WRAPPED\n\nFor more information, try '--help'.\n",
-        [FILES_HINT])
+def section(name, kind="Sh", end="Sh "):
+    return re.search(rf"(?ms)^\.{kind} {name}\n(.*?)^\.{end}", PAGE)[1]
 
 
-JOBS = ["wrap", "unwrap", "rewrap", "check"]
+def options_in(text):
+    """The options in lines of the manual page."""
+    return {f"-{name}" for name in re.findall(r"Fl (-[a-z0-9-]+|[A-Za-z])\b", text)}
 
 
-@pytest.mark.parametrize("hint, lines", [
-    (FILES_HINT, [f"{job} {files}" for job in JOBS for files in (
-        "kek16.hex", "--kek kek16.hex key.hex", "-f kek16.hex", "-k kek16.hex")]),
-    (SUBCOMMANDS_HINT, ["kek16.hex", "rewind", "encrypt --kek kek16.hex", "help kek16.hex", "help --help", "help -h",
-                        "--kek kek16.hex"]),
-    (DASH_HINT.format("kek"), ["wrap --kek -", "unwrap --kek -", "check --kek -", "wrap --kek=-",
-                               "wrap --kek - --iv 0", "rewrap --kek - --new-kek kek32.hex"]),
-    (DASH_HINT.format("new-kek"), ["rewrap --kek kek16.hex --new-kek=-",
-                                   "rewrap --kek kek16.hex --new-kek - --iv 0"]),
-    # Hints of clap.
-    ("some similar subcommands exist: 'rewrap', 'unwrap', 'wrap'", ["wrapp"]),
-    ("a similar argument exists: '--kek'", ["wrap --keck kek16.hex"]),
-    ("a similar argument exists: '--input'", ["wrap --inpt kek16.hex"]),
-    ("'wrap --kek' exists", ["--kek kek16.hex wrap"]),
-    ("subcommand 'wrap' exists; to use it, remove the '--' before it", ["-- wrap"]),
-    ("to pass '--kek' as a value, use '-- --kek'", ["drill --kek kek16.hex 00"]),
-    (None, ["drill 00 11", "vectors all", "wrap", "wrap --kek", f"{WRAP} --keep-going",
-            "check --kek kek16.hex --padded", *[f"{job} --kek kek16.hex --xyz" for job in JOBS]])])
-def test_hint(keywrap, hint, lines):
-    for args in lines:
-        assert message(keywrap, args)[1] == ([hint] if hint else []), args
+def options_of(text):
+    """The options in a help text."""
+    lines = re.findall(r"(?m)^ +((?:-[A-Za-z], )?--[a-z0-9-]+)(?: <[A-Z]+>)?$", text)
+    return {option for line in lines for option in line.split(", ")}
 
 
-@pytest.mark.parametrize("option, args", [
-    *[("--iv", f"{job} --kek missing") for job in ("wrap", "unwrap", "check", "rewrap --new-kek missing")],
-    ("--new-iv", "rewrap --kek missing --new-kek missing")])
-def test_initial_value(keywrap, option, args):
-    """The values are checked before any file is opened, --iv first."""
-    for value in "", IV[1:], IV + "0", IV[:-1] + "g", " " + IV, RESERVED_IV[:-1]:
-        assert keywrap(args, option, value, "-o", "folder") == refused(2, f"{option} {NO_IV}")
-    for value in RESERVED_IV, RESERVED_IV.upper(), "A65959a6" + "0" * 8:
-        assert keywrap(args, option, value, "-i", "missing") == refused(2, f"{option} {RESERVED}")
-    assert keywrap(args, option, "a65959a7" + "0" * 8) == refused(6, "key file: cannot be opened")
-    both = [*words(args), "--new-iv", "0", "--iv", "0"]
-    assert not args.startswith("rewrap") or keywrap(both) == refused(2, f"--iv {NO_IV}")
+def follows(keywrap, examples):
+    """Each line that begins with $ writes the lines after it."""
+    os.mkdir("bin")
+    os.symlink(keywrap.path, "bin/keywrap")
+    script = "".join(f"cat <<'END'\n$ {line}\nEND\n{line}\n" for line in re.findall(r"(?m)^\$ (.*)", examples))
+    return subprocess.run(["bash", "-c", script], env={**os.environ, "PATH": f"{os.getcwd()}/bin:{os.environ['PATH']}"},
+                          stdout=subprocess.PIPE, stderr=subprocess.STDOUT, text=True, timeout=240).stdout
+
+
+class TestHelp:
+    @pytest.mark.parametrize("help_flag, version_flag", [("-h", "-V"), ("--help", "--version")])
+    @pytest.mark.parametrize("command", USAGE)
+    def test_help_and_version(self, keywrap, command, help_flag, version_flag):
+        """The usage in 80 columns."""
+        text, version = help_of(keywrap, command, help_flag), (ROOT / "VERSION").read_text()
+        assert f"Usage: keywrap {USAGE[command]}" in text
+        assert [line for line in text.splitlines() if len(line) > 80] == []
+        assert command or set(COMMANDS) <= set(text.split())
+        assert re.fullmatch(r"\d+\.\d+\.\d+(-dev)?\n", version)
+        assert keywrap(f"{command} {version_flag}") == Ended(0, f"keywrap {version}")
+
+    def test_some_help(self, keywrap):
+        """Without arguments the commands are printed on standard error, like a message about refused arguments."""
+        assert keywrap() == Ended(2, "", help_of(keywrap, flag="-h"))
+        assert "has 16 to 1048576 bytes, a multiple of 8; with --padded 1 to 1048576." in help_of(keywrap, "wrap")
+        assert "at most 4194304 bytes." in help_of(keywrap, "wrap")
+        assert "are written" not in " ".join(help_of(keywrap, "check").split())
+
+    def test_commands_and_options_of_the_page(self, keywrap):
+        commands = re.findall(r"(?m)^  ([a-z]+) ", re.search(r"(?ms)^Commands:\n(.*?)\n\n", help_of(keywrap))[1])
+        assert commands == [*COMMANDS, "help"]
+        assert re.findall(r"(?m)^\.It Cm (.*)$", section("Commands", "Ss", "El")) == commands
+        assert re.findall(r"(?m)^\.Cm (.*)$", section("SYNOPSIS")) == commands
+        options = {command: options_of(help_of(keywrap, command)) for command in USAGE}
+        items = re.findall(r"(?m)^\.It .*", section("Options", "Ss", "El"))
+        assert options_in("\n".join(items)) == set().union(*options.values()) == options_in(PAGE)
+        for command in COMMANDS:
+            synopsis = re.search(rf"(?ms)^\.Cm {command}\n(.*?)^\.Nm", section("SYNOPSIS"))[1]
+            assert options_in(synopsis) == options[command] - {"-h", "--help", "-V", "--version"}
+            assert {"-i", "--input", "-o", "--output"} <= options[command] or command in ("drill", "vectors")
+
+    def test_statuses_and_limits_of_the_page(self, keywrap):
+        """Also the flags in the advice of status 3."""
+        text, page = help_of(keywrap), section("EXIT STATUS")
+        assert re.findall(r"(?m)^  (\d+)  ", text) == re.findall(r"(?m)^\.It (\d+)$", page) == list("0234567")
+        for status, phrase in {
+                0: "done", 2: "the command line", 3: "16, 24 or 32 bytes", 5: "the integrity check failed",
+                4: "the key or the wrapped key has no legal length in this form", 7: "out of memory",
+                6: "a file or the output could not be opened, read or written"}.items():
+            assert re.search(rf"(?im)^  {status}  .*{phrase}", text)
+            assert re.search(rf"(?im)^\.It {status}\n.*{phrase}", page)
+        flags, advice = {"--raw-kek", "--base64-kek"}, re.search(r"(?ms)^  3  .*?^  4  ", text)[0]
+        row = re.search(r"(?m)^\| 3 \|.*", (ROOT / "README.md").read_text())[0]
+        assert [set(re.findall("--[a-z0-9-]+", text)) for text in (advice, row)] == [flags, flags]
+        assert options_in(re.search(r"(?ms)^\.It 3\n.*?^\.It 4$", PAGE)[0]) == flags | {"--new-kek"}
+        one_line = PAGE.replace("\n", " ")
+        assert re.findall(r"\d+ to \d{7}|at most \d+", one_line) == [
+            "at most 4194304", "16 to 1048576", "1 to 1048576", "24 to 1048584", "16 to 1048584", "at most 4194304"]
+        assert re.search("32, 48 or 64 hex digits; .* 22, 32 or 43 characters and", one_line)
+
+    def test_form_of_the_page(self):
+        """The pages that it refers to need not be installed on this machine."""
+        if not shutil.which("mandoc"):
+            pytest.skip("no mandoc (apt-get install mandoc)")
+        found = subprocess.run(["mandoc", "-T", "lint", ROOT / "man/keywrap.1"], capture_output=True, text=True).stdout
+        elsewhere = r"mandoc\.db|referenced manual not found"
+        assert [line for line in found.splitlines() if not re.search(elsewhere, line)] == []
+
+    def test_examples_of_the_page(self, keywrap):
+        examples = "".join(re.findall(r"(?ms)^\.Bd.*?\n(.*?)^\.Ed", section("EXAMPLES")))
+        assert follows(keywrap, examples) == examples
+        assert set(re.findall("keywrap (wrap|unwrap|rewrap|check|drill)", examples)) == set(COMMANDS) - {"vectors"}
+
+    @pytest.mark.parametrize("command", COMMANDS)
+    def test_examples_of_the_help(self, keywrap, command):
+        """An example with files needs key.hex or wrapped.hex."""
+        block = re.search(r"(?ms)^Example.*?\n(.*?)(?:\n\n|\Z)", help_of(keywrap, command))[1]
+        examples = "".join(f"{line}\n" for line in re.findall("(?m)^  (.*)", block))
+        written = follows(keywrap, examples)
+        if command == "vectors":
+            written = "".join(written.splitlines(keepends=True)[:2]) + "(and eleven more lines)\n"
+        assert "$ " in examples and written == examples

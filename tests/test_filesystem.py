@@ -1,24 +1,34 @@
-"""--output against the system: calls that fail, limits, mounts, files that cannot be replaced.
+"""--output against the system: calls that fail, limits, mounts, files that cannot be replaced, signals. The file is as
+it was, or has the whole answer. The manual page says what can stay beside it.
 
-The file is as it was, or has the whole answer. The manual page says what can stay beside it. Most tests need root or a
-right of the system."""
+And a co-process with --lines, whose finished answers are written before it waits for the next line."""
 
+import contextlib
+import itertools
 import os
 import pathlib
 import re
+import select
 import shutil
 import signal
+import stat
 import subprocess
 
 import pytest
 
 from checks import DONE, FLUSH_FAULT, NO_OUTPUT, fresh, held, keeps, lands, no_output, state
-from commands import FILES, JOBS, UNWRAP, WRAP
-from program import Ended, refused
-from vectors import NOT_FLUSHED
+from commands import CHECK, FILES, JOBS, SAME_KEK, UNWRAP, WRAP
+from program import PIPES, Ended, finish, refused, sh, wait_for
+from vectors import KEY16, NOT_FLUSHED, WRAPPED16
 
 WRAP_FILE, UNWRAP_FILE = f"{WRAP} -i key.hex -o to/file", f"{UNWRAP} -i wrapped.hex -o to/file"
-WRAPPED = FILES["wrapped.hex"]
+WRAPPED, PART = FILES["wrapped.hex"], pathlib.Path("to/file.part0")
+NOT_KEPT = "to/file: owner, group or mode can't be kept"
+
+
+@pytest.fixture(autouse=True)
+def old_file(files):
+    fresh(b"old\n")
 
 
 class TestFailingCalls:
@@ -32,10 +42,9 @@ class TestFailingCalls:
     def calls(self, failing, *names):
         return [name for name in failing.met.split() if name in names]
 
-    @pytest.mark.parametrize("job", JOBS, ids=lambda job: job.name)
+    @pytest.mark.parametrize("job", JOBS)
     def test_sync(self, failing, job):
         """The new file is synced before it is renamed, and its directory afterwards. An error changes nothing."""
-        fresh(b"old\n")
         args = [*job.args, "-i", job.stdin, "-o", "to/file"]
         for call in "fsync:1", "rename:1":
             keeps(failing, args, FLUSH_FAULT, FAIL_CALL=call)
@@ -43,20 +52,26 @@ class TestFailingCalls:
         assert self.calls(failing, "fsync", "rename") == ["fsync", "rename", "fsync"]
         assert held() == job.stdout
 
-    def test_sync_of_the_directory(self, failing):
+    @pytest.mark.parametrize("error, ended", [("22", DONE), ("95", DONE), ("5", FLUSH_FAULT)])
+    def test_sync_of_the_directory(self, failing, error, ended):
         """It is not an error if a directory cannot be synced (22, 95)."""
-        for error in "22", "95":
-            fresh(b"old\n")
-            lands(failing, WRAP_FILE, WRAPPED, FAIL_CALL="fsync:2", FAIL_ERRNO=error)
-            shutil.rmtree("to")
-        fresh(b"old\n")
-        assert failing(WRAP_FILE, FAIL_CALL="fsync:2") == FLUSH_FAULT
+        assert failing(WRAP_FILE, FAIL_CALL="fsync:2", FAIL_ERRNO=error) == ended
         assert held() == WRAPPED
 
-    def test_rename(self, failing):
-        fresh(b"old\n")
-        ended = refused(6, NOT_FLUSHED, "to/file: Input/output error (os error 5)")
-        keeps(failing, f"{WRAP_FILE} --verbose", ended, FAIL_CALL="rename")
+    @pytest.mark.parametrize("prepare, args, variables, ended", [
+        ("", WRAP_FILE, {"FAIL_CALL": "rename"}, refused(6, NOT_FLUSHED, "to/file: Input/output error (os error 5)")),
+        ("", WRAP_FILE, {"FAIL_CALL": "fchmod", "FAIL_ERRNO": "1"},
+         no_output(f"{NOT_KEPT}: Operation not permitted (os error 1)")),
+        # A file that cannot be told from the KEK file, or from the input.
+        *[("", f"{WRAP_FILE} --lines --keep-going", {"FAIL_CALL": f"statx:{number}"},
+           no_output("to/file: may be a file that was read")) for number in (1, 2)],
+        # A file system without modes, where others can read a new file: everybody, the others, or the group.
+        *[(prepare, args, {"ONE_MODE": str(mode)}, no_output(f"{NOT_KEPT}: the file system has one for all"))
+          for prepare in ("chmod 600 to/file", "rm to/file") for args in (WRAP_FILE, UNWRAP_FILE)
+          for mode in (0o777, 0o004, 0o040)]])
+    def test_refusal(self, failing, prepare, args, variables, ended):
+        sh(prepare)
+        keeps(failing, f"{args} --verbose", ended, **variables)
 
     @pytest.mark.parametrize("args", [
         "wrap --kek to/kek16.hex -i key.hex -o to/file", "wrap --kek to/kek16.hex -i key.hex -o to/kek16.hex",
@@ -66,164 +81,191 @@ class TestFailingCalls:
         """If a file cannot be looked at, once or from then on, the run is refused and nothing changes.
 
         So a KEK file that cannot be told from the output is not replaced."""
-        fresh(b"old\n")
-        shutil.copy("kek16.hex", "to")
-        shutil.copy("kek32.hex", "to")
-        os.link("to/kek16.hex", "to/link")
+        sh("cp kek16.hex kek32.hex to; ln to/kek16.hex to/link")
         before = state()
-        for call in range(1, 99):
-            for after in "+", "":
-                ended = failing(f"{args} --verbose", FAIL_CALL=f"statx:{call}{after}")
-                if failing.met.split().count("statx") < call:
-                    assert call > 1
-                    return
-                assert (ended.status, ended.stdout, state()) == (6, "", before), f"{call}{after}"
-                reason = r"(Input/output error \(os error 5\)|may be a file that was read)"
-                lines = f"({NO_OUTPUT.stderr}|{FLUSH_FAULT.stderr})  to/.*: {reason}\n"
-                assert re.fullmatch(lines, ended.stderr), f"{call}{after}"
+        reason = r"(Input/output error \(os error 5\)|may be a file that was read)"
+        for call, after in itertools.product(range(1, 99), ("+", "")):
+            ended = failing(f"{args} --verbose", FAIL_CALL=f"statx:{call}{after}")
+            if failing.met.split().count("statx") < call:
+                break
+            assert (ended.status, ended.stdout, state()) == (6, "", before), f"{call}{after}"
+            assert re.fullmatch(f"({NO_OUTPUT.stderr}|{FLUSH_FAULT.stderr})  to/.*: {reason}\n", ended.stderr)
+        assert 1 < call < 98
 
-    @pytest.mark.parametrize("call", [1, 2], ids=["KEK file", "input"])
-    def test_file_that_may_be_the_output(self, failing, call):
-        fresh(b"old\n")
-        args = f"{WRAP_FILE} --lines --keep-going --verbose"
-        keeps(failing, args, no_output("to/file: may be a file that was read"), FAIL_CALL=f"statx:{call}")
-
-    def test_mode(self, failing):
-        """A mode that is already right is not set, since some file systems refuse to set it."""
-        fresh(b"old\n", 0o600)
+    def test_mode_that_is_right(self, failing):
+        """It is not set, since some file systems refuse to set it."""
+        os.chmod("to/file", 0o600)
         lands(failing, WRAP_FILE, WRAPPED, FAIL_CALL="fchmod", FAIL_ERRNO="1")
-        os.chmod("to/file", 0o640)
-        ended = no_output("to/file: owner, group or mode can't be kept: Operation not permitted (os error 1)")
-        keeps(failing, f"{WRAP_FILE} --verbose", ended, FAIL_CALL="fchmod", FAIL_ERRNO="1")
-
-    @pytest.mark.parametrize("args", [WRAP_FILE, UNWRAP_FILE], ids=["wrap", "unwrap"])
-    @pytest.mark.parametrize("content", [b"old\n", None], ids=["old file", "new file"])
-    @pytest.mark.parametrize("shared", [0o777, 0o004, 0o040], ids=oct)
-    def test_file_system_without_modes(self, failing, args, content, shared):
-        """On such a file system other users can read a new file: everybody, the others, or the group."""
-        fresh(content, 0o600)
-        ended = no_output("to/file: owner, group or mode can't be kept: the file system has one for all")
-        keeps(failing, f"{args} --verbose", ended, ONE_MODE=str(shared))
 
     @pytest.mark.skipif(os.getuid() != 0, reason="only root can change owners")
     def test_owner_and_then_the_mode(self, failing):
-        fresh(b"old\n", 0o640)
         os.chown("to/file", 12345, 54321)
+        os.chmod("to/file", 0o640)
         assert failing(WRAP_FILE) == DONE
         assert self.calls(failing, "fchown", "fchmod") == ["fchown", "fchmod"]
 
     @pytest.mark.parametrize("cwd, name", [(".", "to/file"), ("to", "file")])
-    def test_directory_that_cannot_be_read(self, failing, without_rights, files, cwd, name):
-        """Then it is not synced, and no other directory either."""
-        fresh(b"old\n")
+    def test_directory_that_cannot_be_read(self, failing, files, cwd, name):
+        """Then it is not synced, and no other directory either. Root needs two rights less for this."""
+        setpriv = ["setpriv", "--bounding-set=-dac_override,-dac_read_search"] if os.getuid() == 0 else ["env"]
+        if not shutil.which(setpriv[0]) or subprocess.run([*setpriv, "true"], capture_output=True).returncode:
+            pytest.skip("setpriv takes no right away (apt-get install util-linux)")
         os.chmod("to", 0o300)
-        prefix = without_rights("dac_override", "dac_read_search")
         args = f"wrap --kek {files}/kek16.hex -i {files}/key.hex -o {name}"
-        assert failing(args, cwd=cwd, prefix=prefix) == DONE
+        assert failing(args, cwd=cwd, prefix=setpriv) == DONE
         assert self.calls(failing, "fsync", "rename") == ["fsync", "rename"]
         os.chmod("to", 0o755)
         assert held() == WRAPPED
 
 
-class TestRights:
-    @pytest.fixture
-    def unprivileged(self, keywrap, without_rights):
-        """The program without the right to ignore the modes of files."""
-        prefix = without_rights("dac_override")
-        return lambda args: keywrap(args, prefix=prefix)
-
-    @pytest.mark.parametrize("name", ["to/new", "to/file"])
-    def test_directory_that_cannot_be_written(self, unprivileged, name):
-        fresh(b"old\n")
-        os.chmod("to", 0o555)
-        keeps(unprivileged, f"{WRAP} -i key.hex -o {name}", NO_OUTPUT)
-
-    @pytest.mark.parametrize("mode", [0o000, 0o444], ids=oct)
-    def test_file_that_cannot_be_written(self, unprivileged, mode):
-        fresh(b"old\n", mode)
-        assert unprivileged(WRAP_FILE) == DONE
-        os.chmod("to/file", mode | 0o400)
-        assert held() == WRAPPED
-
-
 def test_limit_that_ends_the_program(keywrap):
     """The system reports a limit on the size of files by a signal, which ends the program if it is not ignored."""
-    fresh(b"old\n")
-    with keywrap.started(WRAP_FILE, limits={"CORE": 0, "FSIZE": 0}, ignoring=[]) as run:
-        assert run.wait(60) == -signal.SIGXFSZ
-    assert pathlib.Path("to/file").read_bytes() == b"old\n"
-    assert (pathlib.Path("to/file.part0").read_bytes(), sorted(os.listdir("to"))) == (b"", ["file", "file.part0"])
+    before = state(str(PART))
+    assert keywrap(WRAP_FILE, limits={"CORE": 0, "FSIZE": 0}, ignoring=[]) == Ended(-signal.SIGXFSZ)
+    assert (PART.read_bytes(), state(str(PART))) == (b"", before)
     lands(keywrap, WRAP_FILE, WRAPPED)
 
 
-@pytest.fixture
-def attribute():
-    """attribute("+i", name) sets an attribute of the file system, if allowed, and removes it at the end."""
-    done = []
-
-    def change(what, name):
-        if not shutil.which("chattr") or subprocess.run(["chattr", what, name], capture_output=True).returncode:
-            pytest.skip("chattr is not allowed here (apt-get install e2fsprogs)")
-        done.append(name)
-
-    yield change
-    for name in done:
+@pytest.mark.parametrize("attribute, name, part", [("+i", "to/file", None), ("+a", "to", WRAPPED)])
+def test_attribute(keywrap, attribute, name, part):
+    """An immutable file; and a directory that can only grow: no file can be renamed or removed there, so the new file
+    stays, with the answer."""
+    if not shutil.which("chattr") or subprocess.run(["chattr", attribute, name], capture_output=True).returncode:
+        pytest.skip("chattr is not allowed here (apt-get install e2fsprogs)")
+    before = state(str(PART))
+    try:
+        assert keywrap(WRAP_FILE) == FLUSH_FAULT
+        assert (PART.read_bytes() if PART.exists() else None, state(str(PART))) == (part, before)
+    finally:
         subprocess.run(["chattr", "-ia", name], check=True)
 
 
-def test_immutable_file(keywrap, attribute):
-    fresh(b"old\n")
-    attribute("+i", "to/file")
-    keeps(keywrap, WRAP_FILE, FLUSH_FAULT)
-
-
-def test_directory_that_can_only_grow(keywrap, attribute):
-    """No file can be renamed or removed there, so the new file stays, with the answer."""
-    fresh(b"old\n")
-    attribute("+a", "to")
-    assert keywrap(WRAP_FILE) == FLUSH_FAULT
-    assert {path.name: path.read_bytes() for path in pathlib.Path("to").iterdir()} == {
-        "file": b"old\n", "file.part0": WRAPPED}
-
-
-@pytest.fixture
-def mounting(keywrap):
-    """mounting(script) runs lines of sh with the right to mount. $program is the program."""
-    unshare = ["unshare", "-rm", "sh", "-eu", "-c"]
-    os.mkdir("at")
-    if not shutil.which("unshare") or subprocess.run([*unshare, "mount -t tmpfs none at"],
+@pytest.mark.parametrize("script, ended", [
+    # Their first files have the same inode number. The KEK file is on one of them, the output on the other.
+    ("""mkdir one other; mount -t tmpfs none one; mount -t tmpfs none other
+        cp kek16.hex one/kek; echo old >other/file
+        [ "$(stat -c %i one/kek)" = "$(stat -c %i other/file)" ] || exit 77
+        "$program" wrap --kek one/kek -i key.hex -o other/file; cat other/file""", Ended(0, WRAPPED.decode())),
+    # It cannot be replaced, which the program notices only at the end.
+    ("""mount --bind kek24.hex to/file
+        "$program" wrap --kek kek16.hex -i key.hex -o to/file || echo "status $?"
+        cat to/file; ls to""",
+     FLUSH_FAULT._replace(status=0, stdout=f"status 6\n{FILES['kek24.hex'].decode()}file\n"))],
+    ids=["equal numbers on two file systems", "mount point"])
+def test_mounts(keywrap, script, ended):
+    unshare, env = ["unshare", "-rm", "sh", "-eu", "-c"], {**os.environ, "program": keywrap.path}
+    if not shutil.which("unshare") or subprocess.run([*unshare, "mount -t tmpfs none to"],
                                                      capture_output=True).returncode:
         pytest.skip("unshare -rm is not allowed here (apt-get install util-linux)")
-
-    def run(script):
-        ended = subprocess.run([*unshare, script], env={**os.environ, "program": keywrap.path}, capture_output=True,
-                               text=True, timeout=240)
-        return Ended(ended.returncode, ended.stdout, ended.stderr)
-
-    return run
-
-
-def test_equal_numbers_on_two_file_systems(mounting):
-    """Their first files have the same inode number. The KEK file is on one of them, the output on the other."""
-    ended = mounting("""mkdir one other
-        mount -t tmpfs none one
-        mount -t tmpfs none other
-        cp kek16.hex one/kek
-        echo old >other/file
-        [ "$(stat -c %i one/kek)" = "$(stat -c %i other/file)" ] || exit 77
-        "$program" wrap --kek one/kek -i key.hex -o other/file
-        cat other/file""")
-    if ended.status == 77:
+    run = subprocess.run([*unshare, script], env=env, capture_output=True, text=True, timeout=240)
+    if run.returncode == 77:
         pytest.skip("the file systems give other numbers")
-    assert ended == Ended(0, WRAPPED.decode())
+    assert (run.returncode, run.stdout, run.stderr) == ended
 
 
-def test_mount_point(mounting):
-    """It cannot be replaced, which the program notices only at the end."""
-    ended = mounting("""echo old >at/file
-        mount --bind kek24.hex at/file
-        "$program" wrap --kek kek16.hex -i key.hex -o at/file && exit
-        echo "status $?"
-        cat at/file
-        ls at""")
-    assert ended == FLUSH_FAULT._replace(status=0, stdout=f"status 6\n{FILES['kek24.hex'].decode()}file\n")
+class TestWhileItWaits:
+    """Runs that wait for their input, and are killed at the end if they still do."""
+
+    @pytest.fixture
+    def begin(self, keywrap):
+        """begin(args) starts such a run over to/file."""
+        with contextlib.ExitStack() as begun:
+            def start(args=WRAP):
+                run = begun.enter_context(keywrap.started(f"{args} -o to/file", **PIPES))
+                begun.callback(run.kill)
+                wait_for(PART.exists)
+                return run
+
+            yield start
+
+    @pytest.mark.parametrize("number", [signal.SIGKILL, signal.SIGINT, signal.SIGTERM, signal.SIGHUP])
+    @pytest.mark.parametrize("given", ["", "--input pipe", "--lines"], ids=["standard input", "pipe", "many lines"])
+    def test_signal(self, keywrap, begin, number, given):
+        """The file is unchanged, and only the new file may be beside it. The next run uses another name."""
+        os.mkfifo("pipe")
+        before, pipe = state(), os.open("pipe", os.O_RDWR)
+        run = begin(f"{WRAP} {given}")
+        assert state(str(PART)) == before
+        if given == "--lines":
+            run.stdin.write((KEY16 + "\n").encode() * 4999)
+            wait_for(lambda: PART.stat().st_size)
+        run.send_signal(number)
+        assert finish(run) == Ended(-number)
+        os.close(pipe)
+        assert state(str(PART)) == before
+        if PART.exists():
+            assert stat.S_IMODE(PART.stat().st_mode) in (0o600, 0o644)
+            assert given == "--lines" or PART.read_bytes() == b""
+        lands(keywrap, WRAP_FILE, WRAPPED)
+
+    def test_two_runs(self, keywrap, begin):
+        """They make two new files, and the run that ends last determines the file. Until then it is the old file."""
+        before, run = state(), begin()
+        assert state(str(PART)) == before
+        assert keywrap("wrap --kek kek32.hex -i key.hex -o to/file") == DONE
+        assert (pathlib.Path("to/file").read_bytes(), PART.exists()) == (FILES["wrapped32.hex"], True)
+        assert finish(run, KEY16.encode()) == DONE
+        assert held() == WRAPPED
+
+    @pytest.mark.parametrize("args, is_new", [(WRAP, True), (UNWRAP, True), (UNWRAP, False)])
+    def test_new_file_is_for_its_owner_alone(self, begin, args, is_new):
+        """From the start, if it does not get the mode of an old file; and always for an unwrapped key."""
+        if is_new:
+            os.remove("to/file")
+        os.umask(0)
+        begin(args)
+        assert oct(stat.S_IMODE(PART.stat().st_mode)) == "0o600"
+
+    @pytest.mark.parametrize("meanwhile, part", [
+        ("rm to/file.part0", ""), ("rm to/file.part0; echo other >to/file.part0", ""),
+        ("mv to moved; mkdir to", "moved/file.part0"), ("rm to/file; mkdir to/file", "to/file.part0")])
+    def test_what_changes_meanwhile(self, begin, meanwhile, part):
+        """The new file goes away, or another takes its name, such as the new file of another run; another directory has
+        the name of the one that the file is in; or a directory has its name. What is there then stays."""
+        run = begin()
+        sh(meanwhile)
+        before = state(part)
+        assert finish(run, KEY16.encode()) == FLUSH_FAULT
+        assert (state(part), PART.exists()) == (before, "other" in meanwhile)
+
+
+def ask(run, text, lines):
+    """Writes the text, and returns this many lines of answers, which must come within a minute."""
+    run.stdin.write(text.encode())
+    run.stdin.flush()
+    answers = b""
+    while answers.count(b"\n") < lines:
+        assert select.select([run.stdout], [], [], 60)[0], "no answer"
+        answers += os.read(run.stdout.fileno(), 1 << 16)
+    return answers.decode()
+
+
+class TestLines:
+    @pytest.mark.parametrize("args, given, answer", [
+        (WRAP, KEY16, WRAPPED16), (UNWRAP, WRAPPED16, KEY16), (CHECK, WRAPPED16, "plain 16"),
+        (f"{SAME_KEK} --keep-form", WRAPPED16, WRAPPED16)])
+    def test_co_process_is_asked_1000_times(self, keywrap, args, given, answer):
+        with keywrap.started(f"{args} --lines", **PIPES) as run:
+            for _ in range(1000):
+                assert ask(run, f"{given}\n", 1) == f"{answer}\n"
+            assert finish(run) == DONE
+
+    def test_a_line_is_answered_once_it_is_whole(self, keywrap):
+        """Earlier lines are answered first. Refused lines, too, if the run continues."""
+        with keywrap.started(f"{WRAP} --lines --keep-going", **PIPES) as run:
+            for at in range(len(KEY16)):
+                answers = ask(run, f"{KEY16}\n00\n{KEY16}\n{KEY16[:at]}", 3)
+                assert answers == f"{WRAPPED16}\n\n{WRAPPED16}\n"
+                assert select.select([run.stdout], [], [], 0)[0] == []
+                assert ask(run, f"{KEY16[at:]}\n", 1) == f"{WRAPPED16}\n"
+            assert finish(run).status == 4
+
+    def test_many_lines_are_written_in_few_pieces(self, keywrap):
+        """So a file of many lines is as fast as before."""
+        if shutil.which("strace") is None:
+            pytest.skip("no strace (apt-get install strace)")
+        pathlib.Path("many").write_text(f"{WRAPPED16}\n" * 20_000)
+        strace = "strace -f -o calls -e trace=write".split()
+        assert keywrap(f"{CHECK} --lines --input many --output answers", prefix=strace) == DONE
+        assert pathlib.Path("answers").read_text() == "plain 16\n" * 20_000
+        assert len(pathlib.Path("calls").read_text().splitlines()) < 20

@@ -1,5 +1,7 @@
 """The shared comparisons of other tests notice each fault of a program. Each line of sh here is such a fault."""
 
+import contextlib
+
 import pytest
 
 from checks import NO_OUTPUT, comes_to, fresh, keeps, lands
@@ -11,52 +13,33 @@ from vectors import BAD_LENGTH, KEY16, WRAPPED16
 ENDINGS = ["echo more", "echo more >&2", "status=9"]
 CHANGES = [*ENDINGS, "touch other", "rm key.hex", "chmod 600 key.hex", "echo more >>key.hex", "touch to/other",
            "chmod 640 to/file", "echo more >>to/file", "rm to/file"]
-IN_FILES = ["touch lines/other", "chmod 640 lines/file", "echo more >>lines/file"]
+IN_LINES = [*ENDINGS, *(f"[ ! -e lines/file ] || {line}" for line in (
+    *ENDINGS, "touch lines/other", "chmod 640 lines/file", "echo more >>lines/file"))]
+SHORT = "bytes; a plain {} or more, a multiple of 8"
 
 
-@pytest.fixture
-def notices(keywrap, tmp_path_factory):
-    """notices(line, comparison, ..): the comparison fails over the program with this line, and holds without one."""
+def ends(program, args, ended):
+    assert program(args, stdin=KEY16) == ended
+
+
+# Faults, the content of to/file, a comparison and its arguments.
+@pytest.mark.parametrize("line, content, comparison, args", [(line, *row) for lines, *row in [
+    (ENDINGS, None, ends, [WRAP, answered(WRAPPED16)]),
+    (ENDINGS, None, explains, [f"{UNWRAP} -i key7.hex", 4, BAD_LENGTH,
+                               f"key7.hex: 7 {SHORT.format('wrapped key has 24')}"]),
+    ([f'case "$*" in *--verbose*) {line};; esac' for line in ENDINGS], None, explains,
+     [f"{WRAP} -i key7.hex", 4, BAD_LENGTH, f"key7.hex: 7 {SHORT.format('key has 16')}"]),
+    (CHANGES, None, lands, [f"{WRAP} -i key.hex -o to/file", FILES["wrapped.hex"]]),
+    (CHANGES, b"old\n", lands, [f"{WRAP} -i key.hex -o to/file", FILES["wrapped.hex"]]),
+    (CHANGES, b"old\n", lands, [f"{UNWRAP} -i wrapped.hex -o to/file", FILES["key.hex"]]),
+    (CHANGES, b"old\n", keeps, [f"{WRAP} -i wrapped.hex -o folder", NO_OUTPUT]),
+    *[(IN_LINES, None, comes_to, [WRAP, [KEY16, "00"], [WRAPPED16, (4, BAD_LENGTH)], keep_going])
+      for keep_going in (False, True)]] for line in ["", *lines]])
+def test_fault(keywrap, tmp_path_factory, line, content, comparison, args):
+    """The comparison fails over the program with this line, and holds without one."""
     path = tmp_path_factory.mktemp("then") / "keywrap"
-
-    def check(line, comparison, *args, **options):
-        path.write_text(f'#!/bin/sh\n"{keywrap.path}" "$@"\nstatus=$?\n{line}\nexit $status\n')
-        path.chmod(0o755)
-        try:
-            comparison(Program(path), *args, **options)
-        except (AssertionError, OSError):
-            assert line
-        else:
-            assert not line
-
-    return check
-
-
-def ends(program, args, ended, **options):
-    assert program(args, **options) == ended
-
-
-@pytest.mark.parametrize("line", ["", *ENDINGS])
-def test_ended(notices, line):
-    notices(line, ends, WRAP, answered(WRAPPED16), stdin=KEY16)
-    notices(line, explains, f"{UNWRAP} -i key7.hex", 4, BAD_LENGTH,
-            "key7.hex: 7 bytes; a plain wrapped key has 24 or more, a multiple of 8")
-    notices(line and f'case "$*" in *--verbose*) {line};; esac', explains, f"{WRAP} -i key7.hex", 4, BAD_LENGTH,
-            "key7.hex: 7 bytes; a plain key has 16 or more, a multiple of 8")
-
-
-@pytest.mark.parametrize("line", ["", *CHANGES])
-@pytest.mark.parametrize("content, comparison, args, expected", [
-    (None, lands, f"{WRAP} -i key.hex -o to/file", FILES["wrapped.hex"]),
-    (b"old\n", lands, f"{WRAP} -i key.hex -o to/file", FILES["wrapped.hex"]),
-    (b"old\n", lands, f"{UNWRAP} -i wrapped.hex -o to/file", FILES["key.hex"]),
-    (b"old\n", keeps, f"{WRAP} -i wrapped.hex -o folder", NO_OUTPUT)], ids=["new", "old", "key", "refused"])
-def test_files(notices, line, content, comparison, args, expected):
+    path.write_text(f'#!/bin/sh\n"{keywrap.path}" "$@"\nstatus=$?\n{line}\nexit $status\n')
+    path.chmod(0o755)
     fresh(content)
-    notices(line, comparison, args, expected)
-
-
-@pytest.mark.parametrize("line", ["", *ENDINGS, *(f"[ ! -e lines/file ] || {line}" for line in ENDINGS + IN_FILES)])
-@pytest.mark.parametrize("keep_going", [False, True])
-def test_lines(notices, line, keep_going):
-    notices(line, comes_to, WRAP, [KEY16, "00"], [WRAPPED16, (4, BAD_LENGTH)], keep_going)
+    with pytest.raises((AssertionError, OSError)) if line else contextlib.nullcontext():
+        comparison(Program(path), *args)
