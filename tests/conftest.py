@@ -141,29 +141,16 @@ def preloaded(keywrap, compiled):
     return over
 
 
-@pytest.fixture(scope="session")
-def starving(keywrap):
-    """The lowest limit with which the system starts the program. Some systems apply only one of the two limits."""
-    sizes = range(4096, 64 << 20, 4096)
-    for kind in "DATA", "AS":
-        statuses = (keywrap("--version", limits={"CORE": 0, kind: size}).status for size in sizes)
-        status, size = next(each for each in zip(statuses, sizes) if each[0] in (0, 7))
-        if status == 7:
-            return {kind: size}
-    pytest.skip("no limit lets the program start and leaves it no memory")
-
-
 @pytest.fixture
 def as_nobody(keywrap, files, monkeypatch):
     """Runs the program as the user nobody, in a directory that everybody may enter. Other users than root stay."""
+    nobody = {"user": "nobody", "group": pwd.getpwnam("nobody").pw_gid, "extra_groups": []}
     with tempfile.TemporaryDirectory() as directory:
         os.chmod(directory, 0o755)
         monkeypatch.chdir(shutil.copytree(files, f"{directory}/files", symlinks=True))
         os.chmod(".", 0o755)
         program = Program(shutil.copy(keywrap.path, f"{directory}/keywrap"))
-        is_root = os.getuid() == 0
-        nobody = {"user": "nobody", "group": pwd.getpwnam("nobody").pw_gid, "extra_groups": []} if is_root else {}
-        yield lambda *args, **options: program(*args, **{**nobody, **options})
+        yield functools.partial(program, **({} if os.getuid() else nobody))
 
 
 class Terminal(NamedTuple):

@@ -19,9 +19,9 @@ from vectors import KEK_LENGTH, MEMORY
 # Command lines that are refused, the last with bytes that are not UTF-8.
 ARGUMENTS = [Command(" ".join(map(repr, args)), args, None, 2, b"", None) for args in (
     [], ["rewind"], ["wrap", "--kek", "kek16.hex", "--secret"], ["wrap"], ["drill", "00", "11"], ["drill", b"\xff"])]
-SECOND_LINE = refused(3, KEK_LENGTH, "kek15.hex: 15 bytes of KEK").stderr
 COMMANDS = [*ANSWERS, *REFUSALS, *ARGUMENTS, *INTO_FILES, Command(
-    "second line", ["wrap", "--verbose", "--kek", "kek15.hex"], None, 3, b"", SECOND_LINE)]
+    "second line", ["wrap", "--verbose", "--kek", "kek15.hex"], None, 3, b"",
+    refused(3, KEK_LENGTH, "kek15.hex: 15 bytes of KEK").stderr)]
 # Every allocation fails, the parser's too, by itself and with all later ones. Of the others only the last ones fail,
 # by themselves, which are at most 40: the parser makes 110 to 190 before them, as it does for these.
 WHOLE, LAST = ["wrap", "rewrap", "drill", "help", *(command.name for command in ARGUMENTS)], 48
@@ -48,7 +48,6 @@ def succeeds(keywrap, command):
 
 @pytest.mark.parametrize("command", COMMANDS)
 def test_each_allocation(preloaded, command, succeeds):
-    """Each allocation fails in turn."""
     program = preloaded("fail_alloc")
     count = program.count(command.args, stdin=command.given)
     first, ways = (1, ["", "+"]) if command.name in WHOLE else (max(count - LAST, 1), [""])
@@ -59,15 +58,18 @@ def test_each_allocation(preloaded, command, succeeds):
 
 
 @pytest.mark.parametrize("command", chosen(COMMANDS, ["padded rewrap", "unwrap into a file"]))
-def test_ever_more_memory(keywrap, starving, command, succeeds):
-    """The C library uses separate pages for each allocation, so each page more allows one allocation more."""
+def test_ever_more_memory(keywrap, command, succeeds):
+    """The C library uses separate pages for each allocation, so each page more allows one allocation more.
+
+    It begins with the lowest limit with which the program starts. Some systems apply only one of the two limits."""
     pages = {"GLIBC_TUNABLES": "glibc.malloc.mmap_threshold=1:glibc.malloc.mmap_max=1000000"}
-    (kind, start), = starving.items()
-    for limit in range(start, start + (12 << 20), 4096):
-        if succeeds(keywrap, env=pages, limits={kind: limit}):
-            assert limit > start
+    for kind in "DATA", "AS":
+        sizes = range(4096, 64 << 20, 4096)
+        start = next(size for size in sizes if keywrap("--version", limits={"CORE": 0, kind: size}).status in (0, 7))
+        limits = range(start, start + (12 << 20), 4096)
+        if start < next(limit for limit in limits if succeeds(keywrap, env=pages, limits={kind: limit})):
             return
-    pytest.fail("no limit is enough")
+    pytest.skip("no limit lets the program start and leaves it no memory")
 
 
 def calls(crates):

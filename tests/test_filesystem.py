@@ -31,16 +31,11 @@ def old_file(files):
     fresh(b"old\n")
 
 
-class TestFailingCalls:
-    """tests/fail_call.c lists the system calls that are made, and lets some fail."""
-
+class TestFaults:
     @pytest.fixture
     def failing(self, preloaded):
         """failing(args, FAIL_CALL="rename:1") runs the program. `failing.met` are the calls that it made."""
         return preloaded("fail_call")
-
-    def calls(self, failing, *names):
-        return [name for name in failing.met.split() if name in names]
 
     @pytest.mark.parametrize("job", JOBS)
     def test_sync(self, failing, job):
@@ -49,14 +44,16 @@ class TestFailingCalls:
         for call in "fsync:1", "rename:1":
             keeps(failing, args, FLUSH_FAULT, FAIL_CALL=call)
         assert failing(args) == Ended(job.status)
-        assert self.calls(failing, "fsync", "rename") == ["fsync", "rename", "fsync"]
+        assert re.findall("fsync|rename", failing.met) == ["fsync", "rename", "fsync"]
         assert held() == job.stdout
 
-    @pytest.mark.parametrize("error, ended", [("22", DONE), ("95", DONE), ("5", FLUSH_FAULT)])
-    def test_sync_of_the_directory(self, failing, error, ended):
-        """It is not an error if a directory cannot be synced (22, 95)."""
-        assert failing(WRAP_FILE, FAIL_CALL="fsync:2", FAIL_ERRNO=error) == ended
-        assert held() == WRAPPED
+    @pytest.mark.parametrize("call, error, ended", [("fsync:2", "22", DONE), ("fsync:2", "95", DONE),
+                                                    ("fsync:2", "5", FLUSH_FAULT), ("fchmod", "1", DONE)])
+    def test_call_that_may_fail(self, failing, call, error, ended):
+        """Some directories cannot be synced (22, 95). Some file systems refuse to set a mode, even to what it is."""
+        os.chmod("to/file", 0o600)
+        assert failing(WRAP_FILE, FAIL_CALL=call, FAIL_ERRNO=error) == ended
+        assert (held(), oct(stat.S_IMODE(os.stat("to/file").st_mode))) == (WRAPPED, "0o600")
 
     @pytest.mark.parametrize("prepare, args, variables, ended", [
         ("", WRAP_FILE, {"FAIL_CALL": "rename"}, refused(6, NOT_FLUSHED, "to/file: Input/output error (os error 5)")),
@@ -74,8 +71,7 @@ class TestFailingCalls:
         keeps(failing, f"{args} --verbose", ended, **variables)
 
     @pytest.mark.parametrize("args", [
-        "wrap --kek to/kek16.hex -i key.hex -o to/file", "wrap --kek to/kek16.hex -i key.hex -o to/kek16.hex",
-        "wrap --kek to/kek16.hex -i key.hex -o to/link",
+        *[f"wrap --kek to/kek16.hex -i key.hex -o to/{name}" for name in ("file", "kek16.hex", "link")],
         "rewrap --kek to/kek16.hex --new-kek to/kek32.hex -i wrapped.hex -o to/kek32.hex"])
     def test_look(self, failing, args):
         """If a file cannot be looked at, once or from then on, the run is refused and nothing changes.
@@ -92,17 +88,12 @@ class TestFailingCalls:
             assert re.fullmatch(f"({NO_OUTPUT.stderr}|{FLUSH_FAULT.stderr})  to/.*: {reason}\n", ended.stderr)
         assert 1 < call < 98
 
-    def test_mode_that_is_right(self, failing):
-        """It is not set, since some file systems refuse to set it."""
-        os.chmod("to/file", 0o600)
-        lands(failing, WRAP_FILE, WRAPPED, FAIL_CALL="fchmod", FAIL_ERRNO="1")
-
     @pytest.mark.skipif(os.getuid() != 0, reason="only root can change owners")
     def test_owner_and_then_the_mode(self, failing):
         os.chown("to/file", 12345, 54321)
         os.chmod("to/file", 0o640)
         assert failing(WRAP_FILE) == DONE
-        assert self.calls(failing, "fchown", "fchmod") == ["fchown", "fchmod"]
+        assert re.findall("fchown|fchmod", failing.met) == ["fchown", "fchmod"]
 
     @pytest.mark.parametrize("cwd, name", [(".", "to/file"), ("to", "file")])
     def test_directory_that_cannot_be_read(self, failing, files, cwd, name):
@@ -113,54 +104,50 @@ class TestFailingCalls:
         os.chmod("to", 0o300)
         args = f"wrap --kek {files}/kek16.hex -i {files}/key.hex -o {name}"
         assert failing(args, cwd=cwd, prefix=setpriv) == DONE
-        assert self.calls(failing, "fsync", "rename") == ["fsync", "rename"]
+        assert re.findall("fsync|rename", failing.met) == ["fsync", "rename"]
         os.chmod("to", 0o755)
         assert held() == WRAPPED
 
+    def test_limit_that_ends_the_program(self, keywrap):
+        """The system reports a limit on the size of files by a signal, which ends the program if it is not ignored."""
+        before = state(str(PART))
+        assert keywrap(WRAP_FILE, limits={"CORE": 0, "FSIZE": 0}, ignoring=[]) == Ended(-signal.SIGXFSZ)
+        assert (PART.read_bytes(), state(str(PART))) == (b"", before)
+        lands(keywrap, WRAP_FILE, WRAPPED)
 
-def test_limit_that_ends_the_program(keywrap):
-    """The system reports a limit on the size of files by a signal, which ends the program if it is not ignored."""
-    before = state(str(PART))
-    assert keywrap(WRAP_FILE, limits={"CORE": 0, "FSIZE": 0}, ignoring=[]) == Ended(-signal.SIGXFSZ)
-    assert (PART.read_bytes(), state(str(PART))) == (b"", before)
-    lands(keywrap, WRAP_FILE, WRAPPED)
+    @pytest.mark.parametrize("attribute, name, part", [("+i", "to/file", None), ("+a", "to", WRAPPED)])
+    def test_attribute(self, keywrap, attribute, name, part):
+        """An immutable file; and a directory in which no file can be renamed or removed, so that the new one stays."""
+        if not shutil.which("chattr") or subprocess.run(["chattr", attribute, name], capture_output=True).returncode:
+            pytest.skip("chattr is not allowed here (apt-get install e2fsprogs)")
+        before = state(str(PART))
+        try:
+            assert keywrap(WRAP_FILE) == FLUSH_FAULT
+            assert (PART.read_bytes() if PART.exists() else None, state(str(PART))) == (part, before)
+        finally:
+            subprocess.run(["chattr", "-ia", name], check=True)
 
-
-@pytest.mark.parametrize("attribute, name, part", [("+i", "to/file", None), ("+a", "to", WRAPPED)])
-def test_attribute(keywrap, attribute, name, part):
-    """An immutable file; and a directory that can only grow: no file can be renamed or removed there, so the new file
-    stays, with the answer."""
-    if not shutil.which("chattr") or subprocess.run(["chattr", attribute, name], capture_output=True).returncode:
-        pytest.skip("chattr is not allowed here (apt-get install e2fsprogs)")
-    before = state(str(PART))
-    try:
-        assert keywrap(WRAP_FILE) == FLUSH_FAULT
-        assert (PART.read_bytes() if PART.exists() else None, state(str(PART))) == (part, before)
-    finally:
-        subprocess.run(["chattr", "-ia", name], check=True)
-
-
-@pytest.mark.parametrize("script, ended", [
-    # Their first files have the same inode number. The KEK file is on one of them, the output on the other.
-    ("""mkdir one other; mount -t tmpfs none one; mount -t tmpfs none other
-        cp kek16.hex one/kek; echo old >other/file
-        [ "$(stat -c %i one/kek)" = "$(stat -c %i other/file)" ] || exit 77
-        "$program" wrap --kek one/kek -i key.hex -o other/file; cat other/file""", Ended(0, WRAPPED.decode())),
-    # It cannot be replaced, which the program notices only at the end.
-    ("""mount --bind kek24.hex to/file
-        "$program" wrap --kek kek16.hex -i key.hex -o to/file || echo "status $?"
-        cat to/file; ls to""",
-     FLUSH_FAULT._replace(status=0, stdout=f"status 6\n{FILES['kek24.hex'].decode()}file\n"))],
-    ids=["equal numbers on two file systems", "mount point"])
-def test_mounts(keywrap, script, ended):
-    unshare, env = ["unshare", "-rm", "sh", "-eu", "-c"], {**os.environ, "program": keywrap.path}
-    if not shutil.which("unshare") or subprocess.run([*unshare, "mount -t tmpfs none to"],
-                                                     capture_output=True).returncode:
-        pytest.skip("unshare -rm is not allowed here (apt-get install util-linux)")
-    run = subprocess.run([*unshare, script], env=env, capture_output=True, text=True, timeout=240)
-    if run.returncode == 77:
-        pytest.skip("the file systems give other numbers")
-    assert (run.returncode, run.stdout, run.stderr) == ended
+    @pytest.mark.parametrize("script, ended", [
+        # Their first files have the same inode number. The KEK file is on one of them, the output on the other.
+        ("""mkdir one other; mount -t tmpfs none one; mount -t tmpfs none other
+            cp kek16.hex one/kek; echo old >other/file
+            [ "$(stat -c %i one/kek)" = "$(stat -c %i other/file)" ] || exit 77
+            "$program" wrap --kek one/kek -i key.hex -o other/file; cat other/file""", Ended(0, WRAPPED.decode())),
+        # It cannot be replaced, which the program notices only at the end.
+        ("""mount --bind kek24.hex to/file
+            "$program" wrap --kek kek16.hex -i key.hex -o to/file || echo "status $?"
+            cat to/file; ls to""",
+         FLUSH_FAULT._replace(status=0, stdout=f"status 6\n{FILES['kek24.hex'].decode()}file\n"))],
+        ids=["equal numbers on two file systems", "mount point"])
+    def test_mounts(self, keywrap, script, ended):
+        unshare, env = ["unshare", "-rm", "sh", "-eu", "-c"], {**os.environ, "program": keywrap.path}
+        if not shutil.which("unshare") or subprocess.run([*unshare, "mount -t tmpfs none to"],
+                                                         capture_output=True).returncode:
+            pytest.skip("unshare -rm is not allowed here (apt-get install util-linux)")
+        run = subprocess.run([*unshare, script], env=env, capture_output=True, text=True, timeout=240)
+        if run.returncode == 77:
+            pytest.skip("the file systems give other numbers")
+        assert (run.returncode, run.stdout, run.stderr) == ended
 
 
 class TestWhileItWaits:

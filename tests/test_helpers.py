@@ -15,7 +15,6 @@ CHANGES = [*ENDINGS, "touch other", "rm key.hex", "chmod 600 key.hex", "echo mor
            "chmod 640 to/file", "echo more >>to/file", "rm to/file"]
 IN_LINES = [*ENDINGS, *(f"[ ! -e lines/file ] || {line}" for line in (
     *ENDINGS, "touch lines/other", "chmod 640 lines/file", "echo more >>lines/file"))]
-SHORT = "bytes; a plain {} or more, a multiple of 8"
 
 
 def ends(program, args, ended):
@@ -25,10 +24,9 @@ def ends(program, args, ended):
 # Faults, the content of to/file, a comparison and its arguments.
 @pytest.mark.parametrize("line, content, comparison, args", [(line, *row) for lines, *row in [
     (ENDINGS, None, ends, [WRAP, answered(WRAPPED16)]),
-    (ENDINGS, None, explains, [f"{UNWRAP} -i key7.hex", 4, BAD_LENGTH,
-                               f"key7.hex: 7 {SHORT.format('wrapped key has 24')}"]),
-    ([f'case "$*" in *--verbose*) {line};; esac' for line in ENDINGS], None, explains,
-     [f"{WRAP} -i key7.hex", 4, BAD_LENGTH, f"key7.hex: 7 {SHORT.format('key has 16')}"]),
+    *[(lines, None, explains, [f"{UNWRAP} -i key7.hex", 4, BAD_LENGTH,
+                               "key7.hex: 7 bytes; a plain wrapped key has 24 or more, a multiple of 8"])
+      for lines in (ENDINGS, [f'case "$*" in *--verbose*) {line};; esac' for line in ENDINGS])],
     (CHANGES, None, lands, [f"{WRAP} -i key.hex -o to/file", FILES["wrapped.hex"]]),
     (CHANGES, b"old\n", lands, [f"{WRAP} -i key.hex -o to/file", FILES["wrapped.hex"]]),
     (CHANGES, b"old\n", lands, [f"{UNWRAP} -i wrapped.hex -o to/file", FILES["key.hex"]]),

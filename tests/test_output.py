@@ -31,7 +31,6 @@ REFUSED = ["IV of 15 digits", "no KEK file", "KEK of 15 bytes", "bad digit", "ke
            "no input file", "drill of a wrong byte", "rewind"]
 FILED = ["wrap into a file", "unwrap into a file", "check of a wrong byte into a file", "refused line",
          "wrong byte, no file", "directory as output"]
-STREAMS = ["stdin", "stdout", "stderr"]
 each = functools.partial(pytest.mark.parametrize, "command", indirect=True)
 SIGPIPE = pytest.mark.parametrize("ignoring", [[], [signal.SIGPIPE]], ids=["SIGPIPE", "no SIGPIPE"])
 
@@ -129,7 +128,7 @@ class TestStreams:
         assert run.returncode == 6
 
     @pytest.mark.parametrize("streams", [
-        *[dict.fromkeys(names, CLOSED) for count in range(4) for names in itertools.combinations(STREAMS, count)],
+        *[dict.fromkeys(names, CLOSED) for count in range(4) for names in itertools.combinations(PIPES, count)],
         {"stdout": "/dev/full"}, {"stdout": UNREAD}, {"stderr": "/dev/full"}], ids="-".join)
     @each(["wrap", "check", "wrap of a file", "drill", "vectors", "no KEK file", "wrong byte", "rewind", *FILED])
     def test_closed_streams(self, keywrap, command, streams):

@@ -44,9 +44,8 @@ class TestContent:
         assert pathlib.Path("to/link").read_bytes() == b"old\n"
         os.symlink("file", "to/name")
         for given in "to/file", "to/name", "to/other":
-            pathlib.Path("to/other").unlink(missing_ok=True)
             pathlib.Path("to/file").write_bytes(command.given)
-            os.link("to/file", "to/other")
+            sh("ln -f to/file to/other")
             lands(keywrap, [*args, f"--input={given}", "--output=to/file"], answer)
         args = [*args, "--input", command.stdin, "--output", "to/new"]
         lands(keywrap, args, answer, "to/new", stdin=CLOSED, stdout=CLOSED)
@@ -110,8 +109,7 @@ class TestContent:
     @ONLY_ROOT
     def test_kek_file_that_only_standard_input_still_reads(self, as_nobody):
         """The file cannot be opened by its name, since its mode became 0 after standard input was opened."""
-        for name in ".", "kek16.hex":
-            shutil.chown(name, *NOBODY)
+        sh("chown nobody: . kek16.hex")
         with open("kek16.hex", "rb") as kek:
             os.chmod("kek16.hex", 0)
             assert as_nobody("wrap --kek /dev/stdin -i key.hex -o kek16.hex", stdin=kek) == NO_OUTPUT

@@ -105,8 +105,8 @@ class TestFiles:
         pathlib.Path("spaced").write_bytes(b"00 01 02 03\t04 05 06 07\r\n\n08090A0b0c0D0e0F\r\n")
         assert keywrap(args, stdin=stdin) == ended
 
-    @pytest.mark.parametrize("name", ["--input /dev/stdin", "-i -", "--input=-", "-i-", "-i /dev/fd/0",
-                                      "-i /proc/self/fd/0", ""])
+    @pytest.mark.parametrize("name", [
+        "--input /dev/stdin", "-i -", "--input=-", "-i-", "-i /dev/fd/0", "-i /proc/self/fd/0", ""])
     def test_standard_input_by_name(self, keywrap, name):
         """A closed standard input is like an empty file."""
         assert keywrap(f"{WRAP} {name}", stdin=KEY16) == WRAPPED

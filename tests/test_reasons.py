@@ -1,7 +1,6 @@
 """The second line of a refusal, with --verbose: the file, and why it is refused. And lines beside an answer: a raw KEK
 that looks like text, a padded key that becomes plain, and a rewrap that changes nothing. Most are in reasons.txt."""
 
-import os
 import pathlib
 import re
 import shlex
@@ -9,7 +8,7 @@ import shlex
 import pytest
 
 from commands import MAX_FILE, WRAP
-from program import Ended, answered, refused, table, words
+from program import Ended, answered, refused, sh, table, words
 from vectors import FULL, KEK, KEK16, NOT_OPENED, WRAPPED16, in_base64, zeros
 
 NO_FILE = "No such file or directory (os error 2)"
@@ -20,16 +19,14 @@ ROWS = table("reasons.txt")
 def more_files():
     for name, content in {
             "one.hex": b"00\n", "raw17": bytes(17), "colons": b"00:11:22\n", "two.64": b"AA==\nAA==",
-            "kek17.base64": b"AAECAwQFBgcICQoLDA0ODxA=", "wrapped23.hex": f"{zeros(23)}\n".encode(),
-            "key.long": bytes(1048577), "wrapped.long": bytes(1048592), "kek.base64": b"AAECAwQFBgcICQoLDA0ODw==",
-            "kek16.base64": b"AAECAwQFBgcICQoLDA0ODw==\n",
-            "kek.digits": KEK16.encode(), "kek.short": KEK[:16].encode(), "kek.line": KEK[:23].encode() + b"\n",
-            "kek.nul": KEK[:15].encode() + b"\0", "kek.crlf": KEK[:30].encode() + b"\r\n", "kek.ends": b"\n" * 16,
-            "kek.words": b"correct horse ba", "kek.other": KEK[:30].encode() + b"ff"}.items():
+            "wrapped23.hex": zeros(23).encode(), "key.long": bytes(1048577), "wrapped.long": bytes(1048592),
+            "kek.base64": in_base64(KEK16).encode(), "kek16.base64": in_base64(KEK16).encode() + b"\n",
+            "kek17.base64": in_base64(KEK[:34]).encode(), "kek.digits": KEK16.encode(), "kek.short": KEK[:16].encode(),
+            "kek.line": KEK[:23].encode() + b"\n", "kek.crlf": KEK[:30].encode() + b"\r\n", "kek.ends": b"\n" * 16,
+            "kek.nul": KEK[:15].encode() + b"\0", "kek.words": b"correct horse ba",
+            "kek.other": KEK[:30].encode() + b"ff"}.items():
         pathlib.Path(name).write_bytes(content)
-    os.mkdir("to")
-    os.symlink("old", "link")
-    os.mkfifo("pipe")
+    sh("mkdir to; ln -s old link; mkfifo pipe")
 
 
 def explains(keywrap, args, status, message, reason, **options):
