@@ -9,6 +9,8 @@ from vectors import BAD_LENGTH, INTEGRITY, NOT_FLUSHED, NOT_OPENED
 
 DONE = Ended(0)
 NO_OUTPUT, FLUSH_FAULT = refused(6, NOT_OPENED), refused(6, NOT_FLUSHED)
+# The outcome of a line is the answer, or (status, message) if the line is refused.
+LENGTH, WRONG_LINE = (4, BAD_LENGTH), (5, INTEGRITY)
 
 
 def no_output(reason):
@@ -37,21 +39,18 @@ def state(*without):
         content = path.read_bytes() if stat.S_ISREG(found.st_mode) else os.readlink(path) if path.is_symlink() else None
         return oct(found.st_mode), found.st_uid, found.st_gid, found.st_ino, content
 
-    without = {"met", "pipe", *without}
-    return {str(path): of(path) for path in sorted(pathlib.Path().rglob("*")) if str(path) not in without}
+    return {str(path): of(path) for path in pathlib.Path().rglob("*") if str(path) not in {"met", "pipe", *without}}
 
 
 def lands(keywrap, args, answer, name="to/file", **options):
-    """The answer goes into the file, and nothing else changes.
-
-    The file keeps its mode. Only its owner can read it if it is new or has an unwrapped key."""
+    """The answer goes into the file, and nothing else changes. The file keeps its mode, but only its owner can read it
+    if it is new or has an unwrapped key."""
     is_private = words(args)[0] == "unwrap" or not os.path.exists(name)
     mode = 0o600 if is_private else stat.S_IMODE(os.stat(name).st_mode)
     before = state(name)
     assert keywrap(args, **options) == DONE
     assert pathlib.Path(name).read_bytes() == answer
-    found = os.lstat(name)
-    assert (stat.S_ISREG(found.st_mode), oct(stat.S_IMODE(found.st_mode))) == (True, oct(mode))
+    assert oct(os.lstat(name).st_mode) == oct(stat.S_IFREG | mode)
     assert state(name) == before
 
 
@@ -69,41 +68,30 @@ def leaves_input(keywrap, args, ended, **options):
         assert given.tell() == 0
 
 
-# The outcome of a line is the answer, or (status, message) if the line is refused.
-LENGTH, WRONG_LINE = (4, BAD_LENGTH), (5, INTEGRITY)
-# Faults that end every run, because the end of such a line is unknown.
-FATAL = "too long", "cannot be read"
-
-
-def expected(outcomes, keep_going=False):
-    """How a run over these lines ends, and the content of the file of --output: None if it is unchanged."""
-    written, lines, status = "", [], 0
+def comes_to(keywrap, args, given, outcomes, keep_going=False, report=""):
+    """The run over these lines ends as expected, with streams and with files: a run that stops keeps the old file."""
+    written, error, status, filed = "", "", 0, True
     for number, outcome in enumerate(outcomes, 1):
         if isinstance(outcome, str):
             written += outcome + "\n"
             continue
+        error += f"keywrap: line {number}: {outcome[1]}\n"
         status = status or outcome[0]
-        lines.append(f"keywrap: line {number}: {outcome[1]}\n")
-        if not keep_going or outcome[1] in FATAL:
-            return Ended(status, written, "".join(lines)), None
+        # The end of such a line is unknown, so these end every run.
+        filed = keep_going and outcome[1] not in ("too long", "cannot be read")
+        if not filed:
+            break
         written += "\n"
-    if "none" in outcomes and not status:
-        status = 5
-    return Ended(status, written, "".join(lines)), written
-
-
-def comes_to(keywrap, args, given, outcomes, keep_going=False):
-    """The run over these lines ends as expected, with streams and with files."""
-    ended, filed = expected(outcomes, keep_going)
+    ended = Ended(status or (5 if "none" in outcomes else 0), written, error + report)
     args = [*words(args), "--lines", *["--keep-going"] * keep_going]
     given = given if isinstance(given, (str, bytes)) else "\n".join(given) + "\n"
+    given = given.encode() if isinstance(given, str) else given
     assert keywrap(args, stdin=given) == ended
-    pathlib.Path("in").write_bytes(given.encode() if isinstance(given, str) else given)
+    pathlib.Path("in").write_bytes(given)
     os.makedirs("lines", exist_ok=True)
     pathlib.Path("lines/file").write_text("old\n")
     os.chmod("lines/file", 0o644)
     assert keywrap(args, "-i", "in", "-o", "lines/file") == ended._replace(stdout="")
     assert os.listdir("lines") == ["file"]
-    assert pathlib.Path("lines/file").read_text() == ("old\n" if filed is None else filed)
-    mode = 0o600 if args[0] == "unwrap" and filed is not None else 0o644
-    assert oct(os.stat("lines/file").st_mode & 0o777) == oct(mode)
+    assert pathlib.Path("lines/file").read_text() == (written if filed else "old\n")
+    assert os.stat("lines/file").st_mode & 0o777 == (0o600 if args[0] == "unwrap" and filed else 0o644)
