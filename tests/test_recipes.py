@@ -10,68 +10,28 @@ import pytest
 
 ROOT = pathlib.Path(__file__).resolve().parent.parent
 RECIPES = (ROOT / "docs/RECIPES.md").read_text()
+SECTIONS = dict(section.split("\n", 1) for section in re.split("^## ", RECIPES, flags=re.M)[1:])
+FIRST, *PARTS = re.split("^#: ", (ROOT / "tests/lib/recipes.sh").read_text(), flags=re.M)
+PARTS = dict(part.split("\n", 1) for part in PARTS)
 TOOLS = {"openssl": "openssl", "xxd": "xxd", "basenc": "coreutils", "awk": "mawk", "softhsm2-util": "softhsm2",
          "pkcs11-tool": "opensc", "psql": "postgresql", "jq": "jq", "parallel": "parallel"}
-KEKS = """openssl rand -hex 32 > kek.hex; openssl rand -hex 32 > new-kek.hex
-wrapped() { head -c "$1" /dev/urandom | xxd -p -c 32 | keywrap wrap --lines --kek kek.hex; }
-"""
-# Commands before a recipe. The client of the object store keeps objects in bucket/.
-BEFORE = {
-    "Rotate one large file": KEKS + "wrapped 320000 > keys.hex\n",
-    "Rotate a PostgreSQL table": KEKS + r"""
-psql -qc 'CREATE TABLE keys (id bigint PRIMARY KEY, key bytea NOT NULL)'
-wrapped 320000 | awk '{ print 1000 + NR "\t\\\\x" $0 }' | psql -qc '\copy keys FROM STDIN'
-""",
-    "Rotate objects by a manifest": KEKS + """
-mkdir bucket; for name in a 'c d'; do wrapped 32 > "bucket/$name"; done; ls bucket > manifest
-aws() {
-    case $2 in
-        get-object) cp "bucket/$6" "${11}" && b2sum < "${11}" ;;
-        put-object) [ "$(b2sum < "bucket/$6")" = "${10}" ] && cp "$8" "bucket/$6" ;;
-    esac
-}
-export -f aws
-"""}
-# Checks after a recipe. A key store gets the key from each file.
-AFTER = {
-    "Rotate objects by a manifest": """
-while read -r name; do keywrap check --kek new-kek.hex < "bucket/$name"; done < manifest |
-    cmp - <(printf '%s\\n' 'plain 32' 'plain 32')
-""",
-    "Import a key into a key store or a hardware module": """
-# imported HASH FILE: the first part is as long as the store's key.
-imported() {
-    local oaep="-pkeyopt rsa_padding_mode:oaep -pkeyopt rsa_oaep_md:$1 -pkeyopt rsa_mgf1_md:$1" ephemeral
-    ephemeral=$(head -c 384 "$2" | openssl pkeyutl -decrypt -inkey store.pem $oaep | xxd -p -c 64)
-    tail -c +385 "$2" | openssl enc -d -id-aes256-wrap-pad -iv A65959A6 -K "$ephemeral" | cmp - key.der
-}
-imported sha256 EncryptedKeyMaterial.bin
-imported sha256 wrapped.bin
-jq -r .ciphertext key.byok | tr -- -_ +/ | base64 -di 2>>log >theirs.bin
-imported sha1 theirs.bin
-"""}
 
 
 def typed_and_shown(section):
     """The typed lines and the shown output of a section, without indentation."""
-    typed, shown, indent = [], [], 4
-    for line in section.splitlines():
-        prompt = re.match(r"    (?: {1,3})?[$>] ", line)
-        if prompt:
+    typed, shown, indent = "", "", 4
+    for line in section.splitlines(keepends=True):
+        if prompt := re.match(r"    (?: {1,3})?[$>] ", line):
             indent = len(prompt[0]) - 2
-            typed.append(line[len(prompt[0]):])
+            typed += line[len(prompt[0]):]
         elif line.startswith("    "):
-            shown.append(line[indent:])
-    return "".join(f"{line}\n" for line in typed), "".join(f"{line}\n" for line in shown)
-
-
-SECTIONS = dict(section.split("\n", 1) for section in re.split(r"^## ", RECIPES, flags=re.M)[1:])
+            shown += line[indent:]
+    return typed, shown
 
 
 @pytest.fixture(scope="module")
 def server():
     """The variables by which psql finds a PostgreSQL server."""
-    pytest.importorskip("cryptography", reason="no cryptography (apt-get install python3-cryptography)")
     from rotation_store import Server, server_programs
     if not server_programs():
         pytest.skip("no PostgreSQL server (apt-get install postgresql)")
@@ -92,9 +52,9 @@ def follow(request, keywrap, files, script):
         ciphers = subprocess.run(["openssl", "enc", "-list"], capture_output=True, text=True).stdout
         if "id-aes256-wrap-pad" not in ciphers:
             pytest.skip("no openssl with id-aes256-wrap-pad (apt-get install openssl)")
-    os.mkdir("bin")
+    for name in "bin", "here":
+        os.mkdir(name)
     os.symlink(keywrap.path, "bin/keywrap")
-    os.mkdir("here")
     pathlib.Path("script").write_text(script)
     ended = subprocess.run(["bash", "-u", "../script"], cwd="here", env=environment, stdin=subprocess.DEVNULL,
                            stdout=subprocess.PIPE, stderr=subprocess.STDOUT, text=True, timeout=300)
@@ -108,15 +68,14 @@ def follow(request, keywrap, files, script):
                                   if not re.search(r"keywrap.rotate|\.py|pkg-config", typed_and_shown(section)[0])])
 def test_recipe(request, keywrap, files, name):
     script, shown = typed_and_shown(SECTIONS[name])
-    assert follow(request, keywrap, files, BEFORE.get(name, "") + script + AFTER.get(name, "")) == shown
+    before = PARTS.get(f"before {name}")
+    script = (FIRST + before if before else "") + script + PARTS.get(f"after {name}", "")
+    assert follow(request, keywrap, files, script) == shown
 
 
 def test_names_of_recipes():
-    """BEFORE and AFTER have only names of recipes."""
-    assert (BEFORE.keys() | AFTER.keys()) <= SECTIONS.keys()
-
-
-def test_every_rotation_has_a_recipe():
+    """Each part of recipes.sh has the name of a recipe, and each script of docs/rotation has a recipe."""
+    assert {name.split(" ", 1)[1] for name in PARTS} <= SECTIONS.keys()
     linked = set(re.findall(r"\]\((rotation/[^)]*)", RECIPES))
     assert linked == {f"rotation/{path.name}" for path in (ROOT / "docs/rotation").iterdir()}
 
