@@ -12,132 +12,103 @@ DOCUMENTS = [path.relative_to(ROOT) for path in [
     *sorted(ROOT.glob("*.md")), *sorted(ROOT.glob("docs/*.md")), ROOT / "python/README.md", ROOT / "js/README.md"]]
 DIRECTORIES = (r"\.ci|bench|completions|crates|docs|examples|include|man|provider|python|scripts|specs|src|tests"
                "|[a-z_]+/(?:specs|src|proofs)")
-EACH = pytest.mark.parametrize("document", DOCUMENTS, ids=str)
-# How many phrases that scripts/plain_english.py counts are left: the manual page has one in a fixed message of the
-# program, on the length of a base64 file; key_lines has a place, the start of the next line.
-FOREIGN_PHRASES = 2
-
 
 def text_of(document):
     return (ROOT / document).read_text()
 
 
-def headings(document):
-    """The anchors of the headings."""
-    return {re.sub("[^a-z0-9 _-]", "", line.lstrip("# ").lower()).replace(" ", "-")
-            for line in text_of(document).splitlines() if line.startswith("#")}
+@pytest.mark.parametrize("document", DOCUMENTS, ids=str)
+class TestEachDocument:
+    def test_links(self, document):
+        for target in re.findall(r"\]\(([^)]*)\)", text_of(document).replace("\n", " ")):
+            if not re.match("https?:", target):
+                name, _, anchor = target.partition("#")
+                file = document.parent / name if name else document
+                assert (ROOT / file).exists(), target
+                headings = re.findall("^#+ (.*)", text_of(file), re.M) if anchor else []
+                anchors = [re.sub("[^a-z0-9 _-]", "", heading.lower()).replace(" ", "-") for heading in headings]
+                assert not anchor or anchor in anchors, target
+
+    def test_paths(self, document):
+        """Files that are named with their directory are there: in the repository, or in the directory of a crate."""
+        for path in re.findall(r"`([^` ]+)`", text_of(document)):
+            if re.fullmatch(f"(?:{DIRECTORIES})/[A-Za-z0-9_./*-]*", path) and not re.search("NAME|MODULE|TOPIC", path):
+                assert any(any(ROOT.glob(place + path.rstrip("/"))) for place in ("", "crates/", "crates/*/")), path
+
+    def test_width(self, document):
+        assert [line for line in text_of(document).splitlines() if len(line) > 120] == []
+
+    def test_terms(self, document):
+        """The text without code, tables of terms and the targets of links has no rejected term."""
+        table = re.search(r"^\| Term \| Is \| not \|\n\|.*?\n(.*?)^$", text_of("docs/DEFINITIONS.md"), re.M | re.S)[1]
+        terms = [term for row in table.splitlines() for term in row.split("|")[3].strip().split(", ") if term]
+        assert terms
+        text = text_of(document)
+        for pattern, rest in [("^```.*?^```", ""), (r"^    [^\n]*", ""), ("`[^`]*`", "`"), (r"\]\([^)]*\)", "]"),
+                              (r"^\| Term \| Is \| not \|$.*?^$", "")]:
+            text = re.sub(pattern, rest, text, flags=re.M | re.S)
+        found = rf"(?i).{{0,30}}\b(?:{'|'.join(map(re.escape, terms))})\b.{{0,20}}"
+        assert re.findall(found, " ".join(text.split())) == []
 
 
-def prose(document):
-    """The text without code, tables of terms and the targets of links, on one line."""
-    text = re.sub(r"^```.*?^```", "", text_of(document), flags=re.M | re.S)
-    text = re.sub(r"^    .*", "", text, flags=re.M)
-    text = re.sub(r"`[^`]*`", "`", text)
-    text = re.sub(r"\]\([^)]*\)", "]", text)
-    text = re.sub(r"^\| Term \| Is \| not \|$.*?^$", "", text, flags=re.M | re.S)
-    return " ".join(text.split())
+class TestRepeatedFacts:
+    def test_no_licence(self):
+        """README says that there is no licence, and no file gives one."""
+        assert "No licence has been given yet: the owner decides." in " ".join(text_of("README.md").split())
+        tracked = subprocess.run(["git", "-C", ROOT, "ls-files"], capture_output=True, text=True).stdout.splitlines()
+        assert [name for name in tracked if re.match(r"(?i)licen[cs]e|copying|copyright$", name.split("/")[-1])] == []
+        for name in "python/pyproject.toml", "python/setup.py", "js/package.json.in":
+            assert not re.search(r'(?im)^ *"?licen[cs]e|License ::', text_of(name)), name
 
+    @pytest.mark.parametrize("script", ["pictures.py", "trust.py"])
+    def test_what_scripts_make(self, script):
+        """The pictures and the map of the crates, and the definitions that a reader has to read."""
+        ended = subprocess.run([ROOT / "scripts" / script, "--check"], capture_output=True, text=True)
+        assert (ended.returncode, ended.stdout) == (0, "")
 
-def terms():
-    """The terms that no document uses."""
-    table = re.search(r"^\| Term \| Is \| not \|\n\|.*?\n(.*?)^$", text_of("docs/DEFINITIONS.md"), re.M | re.S)[1]
-    return [term for row in table.splitlines() for term in row.split("|")[3].strip().split(", ") if term]
+    def test_plain_english(self):
+        """scripts/plain_english.py --list shows the phrases. Two are left: one in a fixed message of the program, in
+        the manual page, and a place, the start of the next line, in key_lines."""
+        counts = subprocess.run([ROOT / "scripts/plain_english.py", ROOT], capture_output=True, text=True).stdout
+        assert int(re.search(r"(\d+) in all", counts)[1]) <= 2, counts
 
+    def test_version(self, keywrap):
+        """VERSION is repeated by the program, one place in its sources, the header, debian/changelog and the newest
+        changes, and by nothing else."""
+        version = text_of("VERSION").strip()
+        number, dev = re.fullmatch(r"(\d+\.\d+\.\d+)(?:-(dev))?", version).groups("")
+        sources, header = "crates/keywrap_args/src/subcommands.rt", text_of("include/keywrap.h")
+        assert keywrap("--version").stdout == f"keywrap {version}\n"
+        assert re.findall(r'\.version\("(.*?)"\)', text_of(sources)) == [version]
+        assert ".".join(re.findall(r"^#define KEYWRAP_VERSION_[A-Z]* (\d+)$", header, re.M)) == number
+        assert "".join(re.findall('^#define KEYWRAP_PRERELEASE "(.*)" ', header, re.M)) == dev
+        assert re.search("^## (.*)$", text_of("CHANGELOG.md"), re.M)[1] == version
+        changes = f"keywrap ({version.replace('-', '~')}) unstable; urgency=medium\n"
+        assert text_of("debian/changelog").startswith(changes)
+        search = ["grep", "-rlIF", "--exclude-dir=out", "-e", version, "-e", version.replace("-dev", ".dev0")]
+        search += "keywrap Makefile man completions scripts python js".split()
+        search += [f"crates/{name}" for name in ("keywrap", "keywrap_cli", "keywrap_args")]
+        assert subprocess.run(search, cwd=ROOT, stdout=subprocess.PIPE, text=True).stdout == f"{sources}\n"
 
-@EACH
-def test_links(document):
-    for target in re.findall(r"\]\(([^)]*)\)", text_of(document).replace("\n", " ")):
-        if not re.match("https?:", target):
-            name, _, anchor = target.partition("#")
-            file = document.parent / name if name else document
-            assert (ROOT / file).exists(), target
-            assert not anchor or anchor in headings(file), target
+    @pytest.mark.parametrize("words, elsewhere", [
+        ("reserved for the padded form", "python/src/keywrap/_refusals.py js/keywrap.js provider/errors.c"),
+        ("16, 24 or 32", "python/src/keywrap/_refusals.py js/keywrap.js"),
+        *[(words, "js/keywrap.js provider/errors.c") for words in ("bad length", "integrity check failed")]])
+    def test_words_of_a_refusal(self, words, elsewhere):
+        """The words are the same in every language. A cipher of OpenSSL has one length of KEK, and Python gets other
+        messages from the library."""
+        for name in ["crates/keywrap_calls/src/texts.rt", *elsewhere.split()]:
+            assert words in text_of(name), name
+        assert any(words in path.read_text() for path in ROOT.glob("crates/keywrap_cli/src/**/*.rt"))
 
-
-@EACH
-def test_paths(document):
-    """Files that are named with their directory are there: in the repository, or in the directory of a crate."""
-    for path in re.findall(r"`([^` ]+)`", text_of(document)):
-        if re.fullmatch(f"(?:{DIRECTORIES})/[A-Za-z0-9_./*-]*", path) and not re.search("NAME|MODULE|TOPIC", path):
-            assert any(any(ROOT.glob(place + path.rstrip("/"))) for place in ("", "crates/", "crates/*/")), path
-
-
-@EACH
-def test_width(document):
-    assert [line for line in text_of(document).splitlines() if len(line) > 120] == []
-
-
-@EACH
-def test_terms(document):
-    assert terms()
-    found = re.findall(rf"(?i).{{0,30}}\b(?:{'|'.join(map(re.escape, terms()))})\b.{{0,20}}", prose(document))
-    assert found == []
-
-
-def test_no_licence():
-    """README says that there is no licence, and no file gives one."""
-    assert "No licence has been given yet: the owner decides." in " ".join(text_of("README.md").split())
-    tracked = subprocess.run(["git", "-C", ROOT, "ls-files"], capture_output=True, text=True).stdout.splitlines()
-    assert [name for name in tracked if re.match(r"(?i)licen[cs]e|copying|copyright$", name.split("/")[-1])] == []
-    for name in "python/pyproject.toml", "python/setup.py", "js/package.json.in":
-        assert not re.search(r'(?im)^ *"?licen[cs]e|License ::', text_of(name)), name
-
-
-@pytest.mark.parametrize("script", ["pictures.py", "trust.py"])
-def test_what_scripts_make(script):
-    """The pictures and the map of the crates, and the definitions that a reader has to read."""
-    ended = subprocess.run([ROOT / "scripts" / script, "--check"], capture_output=True, text=True)
-    assert (ended.returncode, ended.stdout) == (0, "")
-
-
-def test_plain_english():
-    """scripts/plain_english.py --list shows the phrases."""
-    counts = subprocess.run([ROOT / "scripts/plain_english.py", ROOT], capture_output=True, text=True).stdout
-    assert int(re.search(r"(\d+) in all", counts)[1]) <= FOREIGN_PHRASES, counts
-
-
-def test_version(keywrap):
-    """VERSION is repeated by the program, one place in its sources, the header, debian/changelog and the newest
-    changes, and by nothing else."""
-    version = text_of("VERSION").strip()
-    number, dev = re.fullmatch(r"(\d+\.\d+\.\d+)(?:-(dev))?", version).groups("")
-    assert keywrap("--version").stdout == f"keywrap {version}\n"
-    sources = "crates/keywrap_args/src/subcommands.rt"
-    assert re.findall(r'\.version\("(.*?)"\)', text_of(sources)) == [version]
-    header = text_of("include/keywrap.h")
-    assert ".".join(re.findall(r"^#define KEYWRAP_VERSION_[A-Z]* (\d+)$", header, re.M)) == number
-    assert "".join(re.findall('^#define KEYWRAP_PRERELEASE "(.*)" ', header, re.M)) == dev
-    assert re.search("^## (.*)$", text_of("CHANGELOG.md"), re.M)[1] == version
-    changes = f"keywrap ({version.replace('-', '~')}) unstable; urgency=medium\n"
-    assert text_of("debian/changelog").startswith(changes)
-    places = ("keywrap Makefile man completions scripts python js crates/keywrap crates/keywrap_cli "
-              "crates/keywrap_args").split()
-    words = ["-e", version, "-e", version.replace("-dev", ".dev0")]
-    found = subprocess.run(["grep", "-rlIF", "--exclude-dir=out", *words, *places], cwd=ROOT, stdout=subprocess.PIPE)
-    assert found.stdout.decode() == f"{sources}\n"
-
-
-@pytest.mark.parametrize("words, elsewhere", [
-    ("reserved for the padded form", "python/src/keywrap/_refusals.py js/keywrap.js provider/errors.c"),
-    ("16, 24 or 32", "python/src/keywrap/_refusals.py js/keywrap.js"),
-    ("bad length", "js/keywrap.js provider/errors.c"),
-    ("integrity check failed", "js/keywrap.js provider/errors.c")])
-def test_words_of_a_refusal(words, elsewhere):
-    """The words are the same in every language. A cipher of OpenSSL has one length of KEK, and Python gets other
-    messages from the library."""
-    for name in ["crates/keywrap_calls/src/texts.rt", *elsewhere.split()]:
-        assert words in text_of(name), name
-    assert any(words in path.read_text() for path in ROOT.glob("crates/keywrap_cli/src/**/*.rt"))
-
-
-def test_example_in_rattle():
-    """The blocks of docs/LIBRARY.md are lines of the crate that it shows, and crates.txt has the same crates."""
-    page = text_of("docs/LIBRARY.md")
-    sources = [f"\n{path.read_text()}" for place in ("src", "specs")
-               for path in ROOT.glob(f"crates/example_caller/{place}/*") if path.is_file()]
-    blocks = re.findall(r"^```.*\n((?:.*\n)*?)```", page, re.M)
-    assert blocks
-    assert [block for block in blocks if not any(f"\n{block}" in source for source in sources)] == []
-    crates = re.findall(r"^(?:block_pair|aes_block|key_wrap|example_caller):.*", text_of("crates.txt"), re.M)
-    shown = re.search(r"(?:^    [a-z_]+:.*\n)+", page[page.index("    block_pair:"):], re.M)[0]
-    assert sorted(line.strip() for line in shown.splitlines()) == sorted(crates)
+    def test_example_in_rattle(self):
+        """The blocks of docs/LIBRARY.md are lines of the crate that it shows, and crates.txt has the same crates."""
+        page = text_of("docs/LIBRARY.md")
+        sources = [f"\n{path.read_text()}" for place in ("src", "specs")
+                   for path in ROOT.glob(f"crates/example_caller/{place}/*") if path.is_file()]
+        blocks = re.findall(r"^```.*\n((?:.*\n)*?)```", page, re.M)
+        assert blocks
+        assert [block for block in blocks if not any(f"\n{block}" in source for source in sources)] == []
+        crates = re.findall(r"^(?:block_pair|aes_block|key_wrap|example_caller):.*", text_of("crates.txt"), re.M)
+        shown = re.search(r"(?:^    [a-z_]+:.*\n)+", page[page.index("    block_pair:"):], re.M)[0]
+        assert sorted(line.strip() for line in shown.splitlines()) == sorted(crates)
