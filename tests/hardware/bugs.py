@@ -1,158 +1,76 @@
-"""Plants bugs in the C of hardware/, one at a time in a copy. The programs of tests/hardware.sh must catch each bug,
-and must pass without one. Prints which program caught which bug.
+"""Plants the bugs of bugs/*.edit in the C of hardware/, one at a time in a copy. The programs of tests/hardware.sh must
+catch each bug, and must pass without one. Prints which program caught which bug.
 
 usage: bugs.py ARCHIVE        (ARCHIVE: the C library, for x86-64)"""
 
 import concurrent.futures
 import os
 import pathlib
+import re
 import shutil
 import subprocess
 import sys
 import tempfile
 
 ROOT = pathlib.Path(__file__).resolve().parent.parent.parent
-CALLS = [*(ROOT / "tests/library").glob("*.c"), ROOT / "bench/one_table.c"]
-STRICT = ["cc", "-std=c99", "-O2", "-Wall", "-Wextra", f"-I{ROOT}/include", f"-I{ROOT}/bench"]
-# -Os aligns no variable beyond its type.
-SANITIZE = ["-Os", "-g", "-fsanitize=undefined", "-fno-sanitize-recover=all"]
-WRONG = [way + rounds for way in "ed" for rounds in ("10", "12", "14")]
-
-
-def run(*command, **options):
-    """The exit status and the output of a command."""
-    ended = subprocess.run(list(map(str, command)), capture_output=True, text=True, **options)
-    return ended.returncode, ended.stdout
-
-
-def build(folder, name, sources, *options):
-    """A program of the hardware/ in the folder and these sources; what does not build is a bug of this file."""
-    program = folder / name
-    subprocess.run([*STRICT, *options, *map(str, sources), "-o", str(program)], cwd=folder, check=True)
-    return program
-
-
-def hardware(folder, *names):
-    return [folder / "hardware" / f"{name}.c" for name in names]
-
-
-def chooses(folder, proved):
-    """Instructions on a processor that has them, and software on another."""
-    program = build(folder, "chosen", [ROOT / "tests/hardware/chosen.c", *hardware(folder, "aes", "x86_64")])
-    return all(run("qemu-x86_64", "-cpu", cpu, program) == (0, chosen + "\n")
-               for cpu, chosen in (("max", "instructions"), ("Nehalem", "software")))
-
-
-def refuses_wrong_aes(folder, proved):
-    """Software on a processor whose AES is wrong in one place."""
-    sources = [ROOT / "tests/hardware/chosen.c", ROOT / "tests/hardware/wrong_aes.c", *hardware(folder, "aes")]
-    program = build(folder, "wrong", sources)
-    return all(run("qemu-x86_64", "-cpu", "max", program, env={**os.environ, "WRONG": wrong}) == (0, "software\n")
-               for wrong in WRONG)
-
-
-def tests_itself(folder, proved):
-    """keywrap_self_test finds an AES that becomes wrong after its first use."""
-    sources = [ROOT / "tests/hardware/self_test.c", ROOT / "tests/hardware/wrong_aes.c"]
-    program = build(folder, "self_test", [*sources, *hardware(folder, "keywrap", "aes"), proved])
-    return run("qemu-x86_64", "-cpu", "max", program) == (0, "0 5\n")
-
-
-def calls(folder, proved):
-    """The rows of tests/library."""
-    program = build(folder, "calls", [*CALLS, *hardware(folder, "keywrap", "aes", "x86_64"), proved])
-    return run(program, "few")[0] == 0
-
-
-def clears(folder, proved):
-    """At most 16 bytes below the stack pointer depend on a secret: they are a block of the wrapped key."""
-    program = build(folder, "stack", [ROOT / "tests/secrets/stack.c", *hardware(folder, "keywrap", "aes", "x86_64"),
-                                      proved], "-Wl,-z,now")
-    lines = run(program)[1].splitlines()[1:]
-    return len(lines) > 200 and all(int(count) <= 16 for line in lines for count in line.split()[3:6])
-
-
-def sanitized(folder, proved):
-    """The rows of tests/library, under the sanitizers."""
-    program = build(folder, "sanitized", [*CALLS, *hardware(folder, "keywrap", "aes", "x86_64"), proved], *SANITIZE)
-    return run(program, "few")[0] == 0
-
-
-PROGRAMS = [chooses, refuses_wrong_aes, tests_itself, calls, clears, sanitized]
-
-# The file, what is replaced there (in its first place), and by what.
-BUGS = {
-    "a cleared memory is not cleared": ("aes.c", "    memset(memory, 0, len);\n", ""),
-    "the compiler may drop the clearing": ("aes.c", '    __asm__ volatile("" : : "r"(memory) : "memory");\n', ""),
-    "the words of the key schedule stay": ("aes.c", "    wipe(words, sizeof words);\n", ""),
-    "the forward key schedule stays": ("aes.c", "    wipe(&forward, sizeof forward);\n", ""),
-    "the round keys of a wrap stay": ("keywrap.c", "    wipe(&aes, sizeof aes);\n    return", "    return"),
-    "the round keys of an unwrap stay": ("keywrap.c", "    wipe(&aes, sizeof aes);\n}", "}"),
-    "a wrong round constant": ("aes.c", "0x11b", "0x11d"),
-    "no SubWord in the middle of a long KEK": ("aes.c", "n == 8 && i % n == 4", "n == 8 && i % n == 5"),
-    "a round key too few": ("aes.c", "BLOCK * (aes->rounds + 1));", "BLOCK * aes->rounds);"),
-    "round keys in the order of the cipher, to decrypt": ("aes.c", "BLOCK * (aes->rounds - i)", "BLOCK * i"),
-    "the last round key is mixed": ("aes.c", "i < aes->rounds) inverse_mix", "i <= aes->rounds) inverse_mix"),
-    "no known-answer test": ("aes.c", "has_instructions() && aes_known_answers()", "has_instructions()"),
-    "known answers of one length": ("aes.c", "i < 3; i++) {\n        struct", "i < 1; i++) {\n        struct"),
-    "known answers of the encryption only": ("aes.c", "memcmp(block, plaintext, BLOCK) != 0", "0"),
-    "the test fails on a right AES": ("aes.c", "0x69, 0xc4", "0x69, 0xc5"),
-    "instructions without a look at the processor": ("x86_64.c", "(c & bit_AES)", "(c & bit_SSE3)"),
-    "a round too few": ("x86_64.c", "unsigned i = 1; i < aes->rounds", "unsigned i = 2; i < aes->rounds"),
-    "halves of the block exchanged": ("x86_64.c", "unpacklo_epi64(low, high)", "unpacklo_epi64(high, low)"),
-    "an aligned load of a round key": ("x86_64.c", "_mm_loadu_si128((const __m128i *)(aes",
-                                       "_mm_load_si128((const __m128i *)(aes"),
-    "an aligned store of a block": ("x86_64.c", "_mm_storeu_si128((__m128i *)bl", "_mm_store_si128((__m128i *)bl"),
-    "a self test of the proved calls only": ("keywrap.c", "!aes_known_answers()", "0"),
-    "a KEK of 8 bytes": ("keywrap.c", "len == 16 || len", "len == 8 || len == 16 || len"),
-    "six steps of one word": ("keywrap.c", "len == 8 ? 1 : 6", "len == 7 ? 1 : 6"),
-    "an unwrap that encrypts": ("keywrap.c", "aes_decrypt(&aes, run->block)", "aes_encrypt(&aes, run->block)"),
-    "an unwrap by the schedule of a wrap": ("keywrap.c", "aes_set_decrypt(&aes", "aes_set_encrypt(&aes"),
-    "a length of the wrapped key unchecked": ("keywrap.c", "wrapped_len - key_len != 8", "wrapped_len < key_len"),
-    "a reserved value to unwrap": ("keywrap.c", "&none, unused) != KEYWRAP_OK", "&none, unused) > KEYWRAP_BAD_IV"),
-    "an unwrap under the default value": ("keywrap.c", "end_unwrap(iv, iv_len", "end_unwrap(DEFAULT_IV, 8"),
-    "the first word of an unwrapped buffer stays": ("keywrap.c", "    memset(buffer, 0, 8);\n", ""),
-    "a padded key of any length": ("keywrap.c", " || key_len > KEYWRAP_MAX_KEY", ""),
-    "a padded wrap into any buffer": ("keywrap.c", "wrapped_len != KEYWRAP_PADDED", "wrapped_len < KEYWRAP_PADDED"),
-    "a padded unwrap into any buffer": ("keywrap.c", "wrapped_len - room != 8", "wrapped_len - room < 8"),
-    "a rewrap under the old KEK": ("keywrap.c", "return keywrap_wrap_in_place(new_kek, new_kek_len",
-                                   "return keywrap_wrap_in_place(old_kek, old_kek_len"),
-    "a kept form is plain": ("keywrap.c", " || (forms & ~padded) != 0", ""),
-    "the padded form for the plain": ("keywrap.c", "forms & KEYWRAP_NEW_PADDED", "forms & KEYWRAP_OLD_PADDED"),
-    "a refused plain key stays": ("keywrap.c", "        wipe(buffer, wrapped_len);\n", ""),
-    "a short plain key is left to the wrap": ("keywrap.c", "key_len % 8 != 0 || key_len < 16", "key_len % 8 != 0"),
-    "a new KEK that is refused late": ("keywrap.c", "|| !is_kek(new_kek_len) ", ""),
+COMPILE = "cc -std=c99 -O2 -Wall -Wextra -Iinclude -Ibench -o program "
+CALLS = "tests/library/*.c bench/one_table.c hardware/*.c proved.a"
+NO_FAULT = r".*\d passed, 0 failed\n"
+# Each program, in this order: its sources and options, how it is run, and what is written if no fault is found.
+PROGRAMS = {
+    "chooses": ("tests/hardware/chosen.c hardware/aes.c hardware/x86_64.c",
+                "qemu-x86_64 -cpu max ./program && qemu-x86_64 -cpu Nehalem ./program", "instructions\nsoftware\n"),
+    "refuses_wrong_aes": ("tests/hardware/chosen.c tests/hardware/wrong_aes.c hardware/aes.c",
+                          "for place in {e,d}1{0,2,4}; do WRONG=$place qemu-x86_64 -cpu max ./program || exit; done",
+                          "software\n" * 6),
+    # The AES becomes wrong after its first use.
+    "tests_itself": ("tests/hardware/self_test.c tests/hardware/wrong_aes.c hardware/keywrap.c hardware/aes.c proved.a",
+                     "qemu-x86_64 -cpu max ./program", "0 5\n"),
+    "calls": (CALLS, "./program few", NO_FAULT),
+    # At most 16 bytes below the stack pointer depend on a secret: they are a block of the wrapped key.
+    "clears": ("tests/secrets/stack.c hardware/*.c proved.a -Wl,-z,now",
+               "./program | awk 'NR > 1 && ($4 > 16 || $5 > 16 || $6 > 16); END { exit NR < 202 }'", ""),
+    # -Os aligns no variable beyond its type.
+    "sanitized": (CALLS + " -Os -g -fsanitize=undefined -fno-sanitize-recover=all", "./program few", NO_FAULT),
 }
 
 
-def plant(folder, bug):
-    """A copy of hardware/ with the bug, or without one."""
-    shutil.copytree(ROOT / "hardware", folder / "hardware")
-    if bug:
-        name, old, new = BUGS[bug]
-        path = folder / "hardware" / name
-        text = path.read_text()
-        assert old in text and old != new, bug
-        path.write_text(text.replace(old, new, 1))
+def plant(edit, folder):
+    """Makes the edit in the copy in the folder. Lines `old:` in a row are one text, which the file has exactly once."""
+    text = edit.read_text()
+    path = pathlib.Path(folder, re.match("file: (.*)", text)[1])
+    code = path.read_text()
+    for pair in re.findall(r"((?:old:.*\n)+)((?:new:.*\n)+)", text):
+        old, new = ("\n".join(line[5:] for line in lines.splitlines()) for lines in pair)
+        assert code.count(old) == 1 and old != new, edit
+        code = code.replace(old, new)
+    path.write_text(code)
 
 
-def caught_by(proved, bug):
-    """The first program that fails over a copy with the bug, or None."""
+def caught_by(archive, bug):
+    """The first program that finds a fault over a copy with the bug, or None."""
     with tempfile.TemporaryDirectory() as folder:
-        plant(pathlib.Path(folder), bug)
-        return next((program.__name__ for program in PROGRAMS if not program(pathlib.Path(folder), proved)), None)
+        for name in "bench", "hardware", "include", "tests":
+            shutil.copytree(ROOT / name, f"{folder}/{name}")
+        subprocess.run(["objcopy", "--redefine-syms=hardware/names", archive, "proved.a"], cwd=folder, check=True)
+        if bug:
+            plant(bug, folder)
+        for name, (sources, command, wanted) in PROGRAMS.items():
+            # What does not build is a bug of the edit.
+            subprocess.run(COMPILE + sources, shell=True, cwd=folder, check=True)
+            ended = subprocess.run(["bash", "-c", command], cwd=folder, capture_output=True, text=True)
+            if ended.returncode or not re.fullmatch(wanted, ended.stdout, re.S):
+                return name
 
 
 def main(archive):
-    with tempfile.TemporaryDirectory() as folder, concurrent.futures.ThreadPoolExecutor(os.cpu_count()) as pool:
-        proved = pathlib.Path(folder) / "proved.a"
-        subprocess.run(["objcopy", f"--redefine-syms={ROOT}/hardware/names", archive, str(proved)], check=True)
-        bugs = [None, *BUGS]
-        found = dict(zip(bugs, pool.map(lambda bug: caught_by(proved, bug), bugs)))
-    for bug, program in found.items():
-        print(f"{bug or 'no bug'}: {program or 'not caught'}")
-    return int(found[None] is not None or not all(found[bug] for bug in BUGS))
+    bugs = [None, *sorted(pathlib.Path(__file__).parent.glob("bugs/*.edit"))]
+    with concurrent.futures.ThreadPoolExecutor(os.cpu_count()) as pool:
+        found = list(pool.map(lambda bug: caught_by(archive, bug), bugs))
+    for bug, program in zip(bugs, found):
+        print(f"{bug.stem if bug else 'no bug'}: {program or 'not caught'}")
+    return int(len(bugs) < 39 or found[0] is not None or None in found[1:])
 
 
 if __name__ == "__main__":
-    sys.exit(main(sys.argv[1]))
+    sys.exit(main(os.path.abspath(sys.argv[1])))
