@@ -1,5 +1,5 @@
 """The portable C library: the checks of tests/library and NIST's cases by each compiler and machine, the memory of a
-call, and what the object needs. KEYWRAP_JS=FOLDER takes the module from there instead of building it, and
+call, what the object needs, and planted bugs. KEYWRAP_JS=FOLDER takes the module from there instead of building it, and
 KEYWRAP_ALL=1 also runs the combinations that are slow."""
 
 import os
@@ -12,10 +12,13 @@ import sys
 import pytest
 
 import nist_cases
+from hardware.bugs import plant
 
 ROOT = pathlib.Path(__file__).resolve().parent.parent
 LIBRARY = [*sorted(map(str, (ROOT / "tests/library").glob("*.c"))), f"{ROOT}/bench/one_table.c"]
 STRICT = ["-std=c99", "-Wall", "-Wextra", "-pedantic", "-Werror"]
+OWN = ROOT / "tests/portable"
+SANITIZED = ["-fsanitize=address,undefined", "-fno-sanitize-recover=all"]
 WATCHED = ["-Dmalloc=watched_malloc", "-Dfree=watched_free"]
 ALL = bool(os.environ.get("KEYWRAP_ALL"))
 
@@ -36,11 +39,6 @@ def slow(*values):
     return values if ALL else ()
 
 
-# Of the compiler: 64-bit division on 32-bit Arm.
-HELPERS = ["__aeabi_ldivmod", "__aeabi_uldivmod"]
-CORTEX_M = ["arm-none-eabi-gcc", "-mcpu=cortex-m0", "-mthumb", "-ffreestanding"]
-
-
 def needs(*commands, package):
     for command in commands:
         if not shutil.which(command):
@@ -54,21 +52,15 @@ def run(*command, **options):
     return ended.stdout
 
 
-class Builder:
-    """Builds programs with keywrap.c by one compiler, and runs them."""
-
-    def __init__(self, folder, name):
-        self.folder = folder
-        self.compiler, self.runner, package = MACHINES[name]
-        needs(self.compiler[0], package=package)
-        if self.runner:
-            needs(self.runner[0], package="qemu-user")
-
-    def program(self, sources, *options, library=()):
-        includes = [f"-I{folder}" for folder in (self.folder, ROOT / "bench", ROOT / "tests/portable")]
-        run(*self.compiler, *STRICT, *includes, *options, *library, "-c", self.folder / "keywrap.c", "-o", "keywrap.o")
-        run(*self.compiler, *STRICT, *includes, *options, "-DKEYWRAP_PORTABLE", *sources, "keywrap.o", "-o", "program")
-        return [*self.runner, "./program"]
+def built(folder, name, sources, *options, library=()):
+    """The command of a program, over the keywrap.c in the folder, by the compiler of this name."""
+    compiler, runner, package = MACHINES[name]
+    needs(compiler[0], package=package)
+    needs(*runner, package="qemu-user")
+    command = [*compiler, *STRICT, f"-I{folder}", f"-I{ROOT}/bench", f"-I{OWN}", *options]
+    run(*command, *library, "-c", f"{folder}/keywrap.c", "-o", "keywrap.o")
+    run(*command, "-DKEYWRAP_PORTABLE", *sources, "keywrap.o", "-o", "program")
+    return [*runner, "./program"]
 
 
 @pytest.fixture(scope="session")
@@ -82,11 +74,6 @@ def portable(tmp_path_factory):
         needs("wasm-opt", package="binaryen")
         run("make", "-s", "-C", ROOT, "portable", f"JS={folder}/js", f"PORTABLE={folder}")
     return folder
-
-
-@pytest.fixture
-def build(portable):
-    return lambda name: Builder(portable, name)
 
 
 @pytest.fixture(scope="session")
@@ -106,69 +93,73 @@ def test_compiles_without_a_warning(portable, compiler, options):
 
 
 @pytest.mark.parametrize("name", [*NATIVE, "arm", *slow("aarch64", "riscv64")])
-def test_calls(build, name):
+def test_calls(portable, name):
     """The checks of tests/library."""
     few = ["few"] if name not in NATIVE or not ALL else []
-    last = run(*build(name).program(LIBRARY, "-O2"), *few).splitlines()[-1]
+    last = run(*built(portable, name, LIBRARY, "-O2"), *few).splitlines()[-1]
     assert re.fullmatch(r"\d{6,} passed, 0 failed", last)
 
 
 @pytest.mark.parametrize("name", MACHINES)
-def test_nist(build, cases, name):
+def test_nist(portable, cases, name):
     some = cases[::1 if ALL or name in NATIVE else 6]
-    said = run(*build(name).program([ROOT / "tests/portable/nist.c"], "-O2"), input="".join(some))
+    said = run(*built(portable, name, [OWN / "nist.c"], "-O2"), input="".join(some))
     assert re.fullmatch(rf"{len(some)} right, \d{{2,4}} refused\n", said)
 
 
 @pytest.mark.parametrize("name", ["clang", *slow("gcc")])
-def test_sanitizers(build, name):
-    sanitize = ["-O2", "-g", "-fsanitize=address,undefined", "-fno-sanitize-recover=all"]
-    assert run(*build(name).program(LIBRARY, *sanitize), "few").endswith(" 0 failed\n")
+def test_sanitizers(portable, name):
+    assert run(*built(portable, name, LIBRARY, "-O2", "-g", *SANITIZED), "few").endswith(" 0 failed\n")
 
 
-def test_valgrind(build, cases):
+def test_valgrind(portable, cases):
     needs("valgrind", package="valgrind")
-    program = build("gcc").program([ROOT / "tests/portable/nist.c"], "-O1", "-g")
+    program = built(portable, "gcc", [OWN / "nist.c"], "-O1", "-g")
     some = "".join(cases[::1 if ALL else 60])
     run("valgrind", "-q", "--error-exitcode=9", "--leak-check=full", *program, input=some)
 
 
 @pytest.mark.parametrize("name", ["gcc", *slow("clang", "arm")])
-def test_memory_is_cleared(build, name):
+def test_memory_is_cleared(portable, name):
     """Every check of tests/library, each call in a block of its own: it is all zeros when it is freed."""
-    program = build(name).program([*LIBRARY, ROOT / "tests/portable/watched.c"], "-O2",
-                                  library=[*WATCHED, "-DKEYWRAP_STACK_KEY=-64"])
+    program = built(portable, name, [*LIBRARY, OWN / "watched.c"], "-O2",
+                    library=[*WATCHED, "-DKEYWRAP_STACK_KEY=-64"])
     assert run(*program, "few").endswith(" 0 failed\n")
 
 
 @pytest.mark.parametrize("name", ["gcc", "arm", *slow("clang", "aarch64", "riscv64")])
-def test_no_memory_and_longest_keys(build, portable, name):
-    program = build(name).program([ROOT / "tests/portable/memory.c", ROOT / "tests/portable/watched.c"], "-O2",
-                                  "-DKEYWRAP_STACK_KEY=256", library=WATCHED)
+def test_no_memory_and_longest_keys(portable, name):
+    program = built(portable, name, [OWN / "memory.c", OWN / "watched.c"], "-O2", "-DKEYWRAP_STACK_KEY=256",
+                    library=WATCHED)
     fixed = int(re.search(r"memory of its own: (\d+) bytes", (portable / "README").read_text())[1])
     # What `kind` copies: the KEK, the wrapped key and the scratch buffer.
     assert int(run(*program)) == fixed + 32 + 2 * 1048576 + 8 + 7
 
 
 @pytest.mark.parametrize("name", NATIVE)
-def test_stack(build, name):
+def test_stack(portable, name):
     """Bytes that depend on a KEK or a key, below the stack pointer after each call: 23 by gcc 12, 36 by clang 14."""
-    lines = run(*build(name).program([ROOT / "tests/secrets/stack.c"], "-O2", "-Wl,-z,now", "-Wno-error")).splitlines()
-    counts = [list(map(int, line.split()[3:7])) for line in lines]
-    assert len(lines) == 249
+    program = built(portable, name, [ROOT / "tests/secrets/stack.c"], "-O2", "-Wl,-z,now", "-Wno-error")
+    counts = [list(map(int, line.split()[3:7])) for line in run(*program).splitlines()]
+    assert len(counts) == 249
     kek, new_kek, key, copies = map(max, zip(*counts))
     assert max(kek, new_kek, key) <= 40 and copies == 0, (kek, new_kek, key, copies)
 
 
 @pytest.mark.parametrize("name", MACHINES)
 def test_object(portable, name):
-    """What the object needs, and that it has no data that can be written."""
+    """What the object needs, that it shows the calls of the header only, and that none of its data can be written."""
     compiler, _, package = MACHINES[name]
     needs(compiler[0], package=package)
     tools = compiler[0].removesuffix("gcc") if name not in NATIVE else ""
     run(compiler[0], *STRICT, "-O2", "-fno-pic", "-c", portable / "keywrap.c", "-o", "keywrap.o")
-    needed = {line.split()[-1] for line in run(f"{tools}nm", "-u", "keywrap.o").splitlines()}
-    assert needed <= {"memcpy", "memmove", "memset", "malloc", "free", "abort", *HELPERS}
+    needed, shown = ({line.split()[-1] for line in run(f"{tools}nm", *options, "keywrap.o").splitlines()}
+                     for options in (["-u"], ["-g", "--defined-only"]))
+    # The last two are of the compiler: 64-bit division on 32-bit Arm.
+    assert needed <= {"memcpy", "memmove", "memset", "malloc", "free", "abort", "__aeabi_ldivmod", "__aeabi_uldivmod"}
+    header = (portable / "keywrap.h").read_text()
+    assert header == (ROOT / "include/keywrap.h").read_text()
+    assert shown == set(re.findall(r"^\w+ (keywrap_\w+)\(", header, re.M))
     _, data, bss = run(f"{tools}size", "keywrap.o").splitlines()[1].split()[:3]
     assert (data, bss) == ("0", "0")
 
@@ -182,29 +173,10 @@ def test_readme_has_the_stack_of_a_call(portable, options, phrase):
     assert stack <= used <= stack + 256
 
 
-def test_header_and_calls(portable):
-    """keywrap.c defines the calls of the header, and shows no other name."""
+def test_self_test_sees_a_changed_byte(portable):
     needs("gcc", package="gcc")
-    run("gcc", *STRICT, "-c", portable / "keywrap.c", "-o", "keywrap.o")
-    shown = {line.split()[-1] for line in run("nm", "-g", "--defined-only", "keywrap.o").splitlines()}
-    header = (portable / "keywrap.h").read_text()
-    assert header == (ROOT / "include/keywrap.h").read_text()
-    assert shown == set(re.findall(r"^\w+ (keywrap_\w+)\(", header, re.M))
-
-
-def test_self_test_sees_a_changed_byte(build, portable, tmp_path):
-    """One of a vector, and one of the damaged wrapped key, among the constants."""
-    text = (portable / "keywrap.c").read_text()
-    block = re.search(r"constants\[DATA\] = \{\n(.*?)\n\};", text, re.S)[1]
-    constants = bytes(int(digits, 16) for digits in re.findall(r"0x(\w\w)", block))
-    right, damaged = bytes.fromhex("9d3e862371d2cfe5"), bytes.fromhex("9d3e862371d2cfe4")
-    assert (constants.count(right), constants.count(damaged)) == (1, 1)
-    pathlib.Path("call.c").write_text("#include <keywrap.h>\nint main(void) { return keywrap_self_test(); }\n")
-    shutil.copy(portable / "keywrap.h", tmp_path)
-    for old, new, status in (right, right, 0), (right, damaged, 5), (damaged, right, 5):
-        changed = constants.replace(old, new)
-        (tmp_path / "keywrap.c").write_text(text.replace(block, ", ".join(map(hex, changed))))
-        assert subprocess.run(Builder(tmp_path, "gcc").program(["call.c"])).returncode == status
+    run("gcc", *STRICT, "-O2", "-shared", "-fPIC", portable / "keywrap.c", "-o", "keywrap.so")
+    run(sys.executable, ROOT / "tests/library/patched.py", "keywrap.so")
 
 
 def test_big_endian_is_refused(portable):
@@ -252,17 +224,11 @@ def test_windows(portable):
 
 def test_freestanding(portable):
     """Links for a Cortex-M0 without a C library, with three functions of the caller's own."""
-    needs(CORTEX_M[0], package="gcc-arm-none-eabi")
+    needs("arm-none-eabi-gcc", package="gcc-arm-none-eabi")
     small = ["-DKEYWRAP_STACK_KEY=64", "-DKEYWRAP_NO_MALLOC", "-DKEYWRAP_TRAP()=__builtin_trap()"]
-    run(*CORTEX_M, *STRICT, "-Os", *small, f"-I{portable}", "-fno-tree-loop-distribute-patterns",
-        ROOT / "tests/portable/freestanding.c", portable / "keywrap.c", "-nostdlib", "-o", "firmware.elf", "-lgcc")
-
-
-def without_kit():
-    """The variables of a machine without the kit."""
-    kit = pathlib.Path(shutil.which("rt") or "/rt").parent
-    path = [folder for folder in os.environ["PATH"].split(":") if pathlib.Path(folder) != kit]
-    return {**os.environ, "PATH": ":".join(path)}
+    run("arm-none-eabi-gcc", "-mcpu=cortex-m0", "-mthumb", "-ffreestanding", *STRICT, "-Os", *small, f"-I{portable}",
+        "-fno-tree-loop-distribute-patterns", OWN / "freestanding.c", portable / "keywrap.c", "-nostdlib",
+        "-o", "firmware.elf", "-lgcc")
 
 
 @pytest.mark.parametrize("compiler", ["gcc", *slow("clang")])
@@ -271,7 +237,10 @@ def test_sdist(portable, compiler):
     needs(compiler, package=compiler)
     for module in "build", "cffi", "setuptools", "wheel", "venv":
         pytest.importorskip(module, reason=f"no {module} (apt-get install python3-{module})")
-    env = {**without_kit(), "CC": compiler, "LDSHARED": f"{compiler} -shared", "SOURCE_DATE_EPOCH": "1767225600"}
+    kit = pathlib.Path(shutil.which("rt") or "/rt").parent
+    path = ":".join(folder for folder in os.environ["PATH"].split(":") if pathlib.Path(folder) != kit)
+    env = {**os.environ, "PATH": path, "CC": compiler, "LDSHARED": f"{compiler} -shared",
+           "SOURCE_DATE_EPOCH": "1767225600"}
     version = (ROOT / "VERSION").read_text().strip().replace("-dev", ".dev0")
     for folder in "one", "two":
         run(ROOT / "scripts/sdist.sh", sys.executable, portable, version, folder, env=env)
@@ -284,3 +253,20 @@ def test_sdist(portable, compiler):
     said = run("env/bin/python3", "-m", "pytest", "-q", "-p", "no:cacheprovider", *tests,
                env={**env, "KEYWRAP_CALLS": "10000"})
     assert re.search(r"^\d{3,} passed", said, re.M) and "skipped" not in said
+
+
+# What must find a planted bug: the sources of a program, its options, those of keywrap.c only, and its arguments.
+FINDERS = [
+    ([*LIBRARY, OWN / "watched.c"], ["-O1"], [*WATCHED, "-DKEYWRAP_STACK_KEY=-64"], ["few"]),
+    ([OWN / "memory.c", OWN / "watched.c"], ["-O1", *SANITIZED, "-DKEYWRAP_STACK_KEY=256"], WATCHED, []),
+]
+
+
+@pytest.mark.parametrize("bug", [path.stem for path in sorted(OWN.glob("bugs/*.edit"))] if ALL else [
+    "length-truncated-to-32-bits", "no-wipe-after-a-refusal"])
+def test_bug_is_caught(portable, tmp_path, bug):
+    for name in "keywrap.c", "keywrap.h":
+        shutil.copy(portable / name, tmp_path)
+    plant(OWN / f"bugs/{bug}.edit", tmp_path)
+    assert any(subprocess.run([*built(tmp_path, "gcc", sources, *options, "-Wno-error", library=library), *words],
+                              capture_output=True).returncode for sources, options, library, words in FINDERS)

@@ -13,16 +13,14 @@ PARTS = ["9d3e862371d2cfe5", "96778b25ae6ca435", "64e8c3f9ce0f5ba2", "031d33264e
 DAMAGED = "9d3e862371d2cfe4"
 
 
-def result(folder, number, library):
-    path = pathlib.Path(folder, f"{number}.so")
-    path.write_bytes(library)
-    return ctypes.CDLL(str(path)).keywrap_self_test()
-
-
-library = pathlib.Path(sys.argv[1]).read_bytes()
+original = pathlib.Path(sys.argv[1]).read_bytes()
 with tempfile.TemporaryDirectory() as folder:
-    assert result(folder, "as_it_is", library) == 0
-    for number, part in enumerate(map(bytes.fromhex, [*PARTS, DAMAGED])):
-        assert library.count(part) == 1, part.hex()
-        changed = bytes([*part[:-1], part[-1] ^ 1])
-        assert result(folder, number, library.replace(part, changed)) == 5, part.hex()
+    def self_test(name, library):
+        path = pathlib.Path(folder, f"{name}.so")
+        path.write_bytes(library)
+        return ctypes.CDLL(str(path)).keywrap_self_test()
+
+    assert self_test("original", original) == 0
+    for part in map(bytes.fromhex, [*PARTS, DAMAGED]):
+        assert original.count(part) == 1, part.hex()
+        assert self_test(part.hex(), original.replace(part, bytes([*part[:-1], part[-1] ^ 1]))) == 5, part.hex()
