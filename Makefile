@@ -282,10 +282,11 @@ dist-library: library
 dist-wheel: wheel
 
 dist-js: js
-	scripts/dist_js.sh '$(JS)' '$(version)' '$(DIST)'
+	scripts/dist_files.sh package '$(DIST)/keywrap-$(version).tgz' '$(JS)'/*
 
 dist-portable: portable
-	scripts/dist_portable.sh '$(PORTABLE)' 'keywrap-portable-$(version)' '$(DIST)'
+	scripts/dist_files.sh 'keywrap-portable-$(version)' '$(DIST)/keywrap-portable-$(version).tar.gz' \
+	    $(addprefix '$(PORTABLE)'/,README keywrap.c keywrap.h vectors.c Makefile CMakeLists.txt)
 
 dist-sdist: sdist
 
