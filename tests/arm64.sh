@@ -7,12 +7,8 @@
 
 set -u
 # shellcheck disable=SC2034
-# shellcheck source=tests/lib/room.sh
-. "${BASH_SOURCE[0]%/*}/lib/room.sh"
 # shellcheck source=tests/library/rows.sh
-. "$root/tests/library/rows.sh"
-# shellcheck source=tests/library/shown.sh
-. "$root/tests/library/shown.sh"
+. "${BASH_SOURCE[0]%/*}/library/rows.sh"
 export TARGET=aarch64-unknown-linux-gnu
 # shellcheck source=tests/library/machine.sh
 . "$root/tests/library/machine.sh"
@@ -39,8 +35,7 @@ ended() {
 for needed in aarch64-linux-gnu-gcc:gcc-aarch64-linux-gnu qemu-aarch64:qemu-user; do
     has "${needed%:*}" "${needed#*:}" 'all of aarch64' || { finish; exit; }
 done
-printf '#include <stdio.h>\n' | "$cc" -fsyntax-only -x c - 2>/dev/null ||
-    { skip 'all of aarch64' 'no C library for it (apt-get install libc6-dev-arm64-cross)'; finish; exit; }
+has_header stdio.h libc6-dev-arm64-cross 'all of aarch64' || { finish; exit; }
 
 row 'make library' making library || { finish; exit; }
 row 'the library is of aarch64' are_arm "$library"/libkeywrap.{a,so.1}
@@ -70,14 +65,10 @@ if [ -d "$sysroot" ]; then row 'what depends on secrets' secrets; else skip 'wha
 
 ### What is packed
 
-version=$(make -s --no-print-directory -C "$root" version)
 packed=keywrap-library-$version-aarch64-linux wheel=keywrap-${version/-dev/.dev0}-cp39-abi3-manylinux_2_17_aarch64.whl
-needed='python3-cffi python3-setuptools python3-wheel python3-build'
-if ! has_python cffi,setuptools,wheel,build; then
-    skip 'the wheel' "no Python with its modules (apt-get install $needed)"
-elif [ ! -d "$sysroot" ]; then
+if [ ! -d "$sysroot" ]; then
     skip 'the wheel' "$of_debian"
-else
+elif has_python cffi,setuptools,wheel,build 'the wheel'; then
     row 'make dist' making dist PYTHON="$python"
     row 'what it makes' diff <(ls dist) \
         <(printf '%s\n' SHA256SUMS "$wheel" "keywrap-$version.cdx.json" "$packed.tar.gz" | sort)
@@ -119,8 +110,7 @@ if [ -d site ]; then
     arm_python=(qemu-aarch64 -L "$sysroot" "$sysroot/usr/bin/python3" -B)
     row 'the extension is of aarch64' are_arm site/keywrap/_ffi.abi3.so
     row 'the symbols of glibc' of_glibc_2_17 site/keywrap/_ffi.abi3.so
-    row 'the names of the extension' test \
-        "$("${tools}nm" -D --defined-only site/keywrap/_ffi.abi3.so | awk '{ print $3 }')" = PyInit__ffi
+    row 'the names of the extension' shows_only PyInit__ffi site/keywrap/_ffi.abi3.so
     row 'Python takes the wheel' takes
     row 'the tests of the package' package_tests
 fi

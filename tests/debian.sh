@@ -9,23 +9,13 @@ set -u
 # shellcheck disable=SC2034,SC2154
 # shellcheck source=tests/lib/program.sh
 . "${BASH_SOURCE[0]%/*}/lib/program.sh"
-# shellcheck source=tests/library/rows.sh
-. "$root/tests/library/rows.sh"
 
-missing=
 for tool in dpkg-buildpackage:dpkg-dev dh:debhelper dh_python3:dh-python lintian:lintian; do
-    command -v "${tool%:*}" >/dev/null || missing+=" ${tool#*:}"
+    has "${tool%:*}" "${tool#*:}" "Debian's packages"
 done
-has_python cffi,setuptools,wheel,build || missing+=' python3-build python3-cffi python3-setuptools python3-wheel'
-[ -f /usr/include/openssl/provider.h ] || missing+=' libssl-dev'
-if [ -n "$missing" ]; then
-    skip "Debian's packages" "no tools (apt-get install$missing)"
-    finish
-    exit
-fi
-
-archive=${KEYWRAP_ARCHIVES:-$root/crates/keywrap_c/out/libkeywrap_c.a}
-archive=${archive##* }
+has_python cffi,setuptools,wheel,build "Debian's packages"
+has_header openssl/provider.h libssl-dev "Debian's packages"
+[ $skipped = 0 ] || { finish; exit; }
 packages=(keywrap keywrap-openssl-provider libkeywrap-dev libkeywrap1 python3-keywrap)
 debian=${version/-/\~}
 
@@ -36,7 +26,7 @@ copied() {
     mkdir -p tree bin && tar -C "$root" --exclude=.git --exclude=out -cf - . | tar -C tree -xf - &&
         install -D -m 755 "$program" tree/crates/keywrap/out/keywrap &&
         tree/scripts/sources.sh >tree/crates/keywrap/out/built_from &&
-        install -D -m 644 "$archive" tree/crates/keywrap_c/out/libkeywrap_c.a &&
+        env -C "$root" install -D -m 644 "$archive" "$room/tree/crates/keywrap_c/out/libkeywrap_c.a" &&
         printf '#!/bin/sh\n[ "$1" = lib ]\n' | install -m 755 /dev/stdin bin/rt
 }
 # built: dpkg-buildpackage ends well, and makes these packages of this version.

@@ -10,11 +10,7 @@ set -u
 # shellcheck disable=SC2034,SC2154
 # shellcheck source=tests/lib/program.sh
 . "${BASH_SOURCE[0]%/*}/lib/program.sh"
-# shellcheck source=tests/library/rows.sh
-. "$root/tests/library/rows.sh"
 
-archive=${KEYWRAP_ARCHIVES:-crates/keywrap_c/out/libkeywrap_c.a}
-archive=${archive##* } library=$room/library
 js=${KEYWRAP_JS:-$room/js}
 command=keywrap-$version-x86_64-linux packed=keywrap-library-$version-x86_64-linux package=keywrap-$version.tgz
 wheel=keywrap-${version/-dev/.dev0}-cp39-abi3-manylinux_2_17_x86_64.whl bom=keywrap-$version.cdx.json
@@ -42,7 +38,7 @@ packs() {
 ### What is made
 
 built_js=${KEYWRAP_JS:-}
-if has_python cffi,setuptools,wheel,build; then
+if has_python cffi,setuptools,wheel,build 'the wheel, and make dist'; then
     row 'make dist' packs dist dist || { finish; exit; }
     row 'what it makes' diff <(ls dist) <(printf '%s\n' SHA256SUMS "${tarballs[@]}" "$wheel" "$bom" | LC_ALL=C sort)
     row 'its checksums' env -C dist sha256sum -c --strict SHA256SUMS
@@ -54,8 +50,6 @@ if has_python cffi,setuptools,wheel,build; then
     row 'the hashes in docs/TRUST.md' "$python" "$root/scripts/trust.py" --check-hashes dist/SHA256SUMS
     row 'make dist in another folder' elsewhere
 else
-    skip 'the wheel, and make dist' \
-        'no Python with its modules (apt-get install python3-cffi python3-setuptools python3-wheel python3-build)'
     tarballs=("${tarballs[@]:0:4}")
     row 'make dist, but for the wheel' packs dist dist-command dist-library dist-js dist-portable || { finish; exit; }
 fi
@@ -170,13 +164,11 @@ if unshare -rm mount -t tmpfs none /usr/local 2>/dev/null; then
 else
     skip 'the READMEs in an empty root' 'unshare -rm is not allowed here'
 fi
-if printf '#include <openssl/provider.h>\n' | cc -fsyntax-only -x c - 2>/dev/null && has openssl openssl 'the provider'
-then
+if has_header openssl/provider.h libssl-dev "the library's README on the provider" &&
+    has openssl openssl "the library's README on the provider"; then
     row "the library's README builds the provider" env -C "bare/$packed" bash -e "$room/provider.typed"
     row 'OpenSSL lists it' writes "version: $version" openssl list -providers \
         -provider-path "bare/$packed" -provider keywrap
-else
-    skip "the library's README on the provider" 'no headers of OpenSSL 3 (apt-get install libssl-dev)'
 fi
 
 ### The portable library

@@ -6,10 +6,8 @@
 # usage: tests/facts.sh        (KEYWRAP_ARCHIVES='PATH ..', KEYWRAP_ARM64=FOLDER, KEYWRAP_JS=FOLDER: built before)
 
 set -u
-# shellcheck source=tests/lib/room.sh
-. "${BASH_SOURCE[0]%/*}/lib/room.sh"
 # shellcheck source=tests/library/rows.sh
-. "$root/tests/library/rows.sh"
+. "${BASH_SOURCE[0]%/*}/library/rows.sh"
 
 mapfile -t calls < <(sed -nE 's/^int32_t (keywrap_[a-z_]*)\(.*/\1/p' "$root/include/keywrap.h")
 
@@ -53,17 +51,15 @@ keeps_data() {
 
 ### x86-64
 
-archive=${KEYWRAP_ARCHIVES:-$root/crates/keywrap_c/out/libkeywrap_c.a}
-archive=${archive##* }
-[ -n "${KEYWRAP_ARCHIVES:-}" ] || row 'rt lib' env -C "$root/crates/keywrap_c" rt lib || { finish; exit; }
-tools='' cc=(cc) run=() linked=$archive
+row 'make library' in_library library || { finish; exit; }
+cc=(cc) run=() linked=$library/libkeywrap.a
 row 'x86-64: code and stack' agrees 2
-row 'x86-64: no data' fails keeps_data "$archive"
-instructions "$archive"
+row 'x86-64: no data' fails keeps_data "$linked"
+instructions "$linked"
 row 'x86-64: only general registers and xmm' fails grep -E '%[yz]mm|%st|%mm[0-7]|%k[0-7]' instructions
 row 'x86-64: the red zone is used' grep -qE -- '-0x[0-9a-f]+\(%rsp' instructions
 bare=(-std=c99 -O2 -ffreestanding -nostdlib -static "$root/tests/portable/freestanding.c")
-row 'x86-64: without a C library' cc "${bare[@]}" "-I$root/include" "$archive" -o bare
+row 'x86-64: without a C library' cc "${bare[@]}" "-I$root/include" "$linked" -o bare
 
 ### aarch64
 

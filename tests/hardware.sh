@@ -6,17 +6,9 @@
 # usage: tests/hardware.sh        (KEYWRAP_ARCHIVES='PATH ..' tries the last of these, which was built before)
 
 set -u
-# shellcheck source=tests/lib/room.sh
-. "${BASH_SOURCE[0]%/*}/lib/room.sh"
 # shellcheck source=tests/library/rows.sh
-. "$root/tests/library/rows.sh"
-# shellcheck source=tests/library/shown.sh
-. "$root/tests/library/shown.sh"
+. "${BASH_SOURCE[0]%/*}/library/rows.sh"
 
-archive=${KEYWRAP_ARCHIVES:-$root/crates/keywrap_c/out/libkeywrap_c.a}
-archive=${archive##* }
-[ -n "${KEYWRAP_ARCHIVES:-}" ] || row 'rt lib' env -C "$root/crates/keywrap_c" rt lib || { finish; exit; }
-library=$room/library
 row 'make library HARDWARE=1' in_library library HARDWARE=1 || { finish; exit; }
 row 'the names of the archive' shows -g "$library/libkeywrap_hw.a"
 row 'the names of the shared object' versioned "$library/libkeywrap_hw.so.1"
@@ -32,7 +24,7 @@ row 'the header in C++' c++ -std=c++11 "-I$root/include" -fsyntax-only steps_hea
 
 ### The steps
 
-if printf '#include <openssl/evp.h>\n' | cc -fsyntax-only -x c - 2>/dev/null; then
+if has_header openssl/evp.h libssl-dev "the steps around OpenSSL's AES"; then
     for name in keywrap keywrap_hw; do
         row "the steps around OpenSSL's AES, $name" cc "${options[@]}" "$root/tests/hardware/steps.c" \
             "$library/lib$name.a" -lcrypto -o steps &&
@@ -41,8 +33,6 @@ if printf '#include <openssl/evp.h>\n' | cc -fsyntax-only -x c - 2>/dev/null; th
     row 'the example of OpenSSL: compiles' cc "${options[@]}" "$root/examples/c/evp.c" "$library/libkeywrap.a" \
         -lcrypto -o evp
     row 'the example of OpenSSL' writes 1fa68b0a8112b447aef34bd8fb5a7b829d3e862371d2cfe5 ./evp
-else
-    skip "the steps around OpenSSL's AES" 'no openssl/evp.h (apt-get install libssl-dev)'
 fi
 
 if ! has softhsm2-util softhsm2 'a KEK in a token'; then
@@ -84,7 +74,7 @@ fi
 
 ### libkeywrap_hw, on each processor
 
-! has_python cryptography_vectors || "$python" "$root/tests/nist_cases.py" >cases
+! has_python cryptography_vectors "NIST's cases" || "$python" "$root/tests/nist_cases.py" >cases
 mapfile -t comparing < <(printf '%s\n' "$root"/tests/provider/*.c | grep -v '/direct\.c$')
 # builds FOLDER COMPILER WORD..: in the folder, the programs over $library/libkeywrap_hw.so.1.
 builds() {
@@ -107,15 +97,13 @@ on() {
     done
 }
 
-[ -s cases ] || skip "NIST's cases" 'no tables (apt-get install python3-cryptography-vectors)'
 row 'the programs: compile' builds here cc
 if [ -x evp ]; then
     row 'make provider HARDWARE=1' in_library provider HARDWARE=1 PROVIDER="$room/here"
     row 'it uses the hardware' grep -qw aes_set_encrypt <(nm here/keywrap.so)
     row 'the comparisons: compile' compares here -lcrypto cc
 fi
-export LD_LIBRARY_PATH=$library KEYWRAP_VERSION
-KEYWRAP_VERSION=$(make -s --no-print-directory -C "$root" version)
+export LD_LIBRARY_PATH=$library KEYWRAP_VERSION=$version
 if has qemu-x86_64 qemu-user 'each processor'; then
     on 'x86-64 with AES' here instructions qemu-x86_64 -cpu max
     on 'x86-64 without AES' here software qemu-x86_64 -cpu Nehalem

@@ -7,25 +7,18 @@
 
 set -u
 # shellcheck disable=SC2154
-# shellcheck source=tests/lib/room.sh
-. "${BASH_SOURCE[0]%/*}/lib/room.sh"
 # shellcheck source=tests/library/rows.sh
-. "$root/tests/library/rows.sh"
+. "${BASH_SOURCE[0]%/*}/library/rows.sh"
 
 ### The package, where a user has it
 
 package=$room/node_modules/keywrap
-version=$(make -s --no-print-directory -C "$root" version)
 cp -R "$root"/tests/js/. .
 if [ -d "${KEYWRAP_JS:-}" ]; then
     mkdir node_modules
     row 'the package' cp -R "$KEYWRAP_JS" "$package"
 else
-    if ! command -v wasm-opt >/dev/null; then
-        skip 'the package for browsers' 'no wasm-opt (apt-get install binaryen)'
-        finish
-        exit
-    fi
+    has wasm-opt binaryen 'the package for browsers' || { finish; exit; }
     row 'make js' make -s -C "$root" js JS="$package" || { finish; exit; }
 fi
 row 'its files' test "$(cd "$package" && echo *)" = \
@@ -54,11 +47,8 @@ fi
 ### Node
 
 tables=
-if has_python cryptography_vectors; then
+! has_python cryptography_vectors "NIST's tables" ||
     tables=$("$python" -c 'import cryptography_vectors; print(cryptography_vectors.__path__[0])')/keywrap/kwtestvectors
-else
-    skip "NIST's tables" 'no cryptography_vectors (apt-get install python3-cryptography-vectors)'
-fi
 
 # same_version: the package has the version of the program, and the module in it the numbers.
 same_version() {

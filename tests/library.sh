@@ -6,53 +6,41 @@
 # usage: tests/library.sh        (KEYWRAP_ARCHIVES='PATH ..' tries archives that were built before)
 
 set -u
-# shellcheck source=tests/lib/room.sh
-. "${BASH_SOURCE[0]%/*}/lib/room.sh"
 # shellcheck source=tests/library/rows.sh
-. "$root/tests/library/rows.sh"
-# shellcheck source=tests/library/shown.sh
-. "$root/tests/library/shown.sh"
+. "${BASH_SOURCE[0]%/*}/library/rows.sh"
 
 ### The archives
 
-archives=()
-# shellcheck disable=SC2206
-if [ -n "${KEYWRAP_ARCHIVES:-}" ]; then
-    archives=($KEYWRAP_ARCHIVES)
-elif "$root/tests/library/build.sh" "$room" >build.log 2>&1; then
-    archives=("$room/rattle.a" "$room/llvm.a")
-else
-    cat build.log
-    failed=1
-    finish
-    exit
-fi
+[ -n "${KEYWRAP_ARCHIVES:-}" ] || row 'both archives' "$root/tests/library/build.sh" "$room" || { finish; exit; }
+read -ra archives <<<"${KEYWRAP_ARCHIVES:-$room/rattle.a $room/llvm.a}"
 
 compilers=()
 for compiler in gcc clang; do
     has $compiler $compiler "C by $compiler" && compilers+=("$compiler")
 done
 [ ${#compilers[@]} -gt 0 ] || compilers=(cc)
+of_cpp=()
+for compiler in g++ clang++; do
+    has $compiler "${compiler/clang++/clang}" "C++ by $compiler" && of_cpp+=("$compiler")
+done
 
 ### The header
 
 include=("-I$root/include" -I"$root/bench")
 strict=(-Wall -Wextra -pedantic -Werror)
 printf '#include <keywrap.h>\n' >header.c
-cp header.c header.cc
-for compiler in "${compilers[@]}"; do
-    for std in c89 c99 c11 c17 c2x; do
-        row "the header in $std by $compiler" \
-            "$compiler" -std=$std "${strict[@]}" "${include[@]}" -fsyntax-only header.c
+# in_each STANDARDS LANGUAGE COMPILER..: no compiler warns of the header.
+in_each() {
+    local std compiler
+    for compiler in "${@:3}"; do
+        for std in $1; do
+            row "the header in $std by $compiler" \
+                "$compiler" -std="$std" "${strict[@]}" "${include[@]}" -fsyntax-only -x "$2" header.c
+        done
     done
-done
-for compiler in g++ clang++; do
-    has $compiler "${compiler/clang++/clang}" "C++ by $compiler" || continue
-    for std in c++11 c++17 c++20; do
-        row "the header in $std by $compiler" \
-            $compiler -std=$std "${strict[@]}" "${include[@]}" -fsyntax-only header.cc
-    done
-done
+}
+in_each 'c89 c99 c11 c17 c2x' c "${compilers[@]}"
+in_each 'c++11 c++17 c++20' c++ "${of_cpp[@]}"
 
 # Each call of the header: its buffers with their lengths, all of different sizes, what it writes last,
 # and what follows.
@@ -181,8 +169,6 @@ run_calls() {
         -o checks && row "$1" env LD_LIBRARY_PATH="$library" ./checks
 }
 
-sanitize=("-fsanitize=address,undefined" -fno-sanitize-recover=all)
-printf 'int main(void) { return 0; }\n' >empty.c
 for archive in "${archives[@]}"; do
     name=$(basename "$archive" .a)
     library=$room/$name.library
@@ -191,23 +177,20 @@ for archive in "${archives[@]}"; do
     for compiler in "${compilers[@]}"; do
         run_calls "$name by $compiler, static" "$library/libkeywrap.a"
         run_calls "$name by $compiler, shared" "$library/libkeywrap.so.1"
-        if "$compiler" "${sanitize[@]}" empty.c -o empty 2>/dev/null && ./empty; then
+        if sanitizes "$compiler"; then
             run_calls "$name by $compiler, static, sanitized" "${sanitize[@]}" "$library/libkeywrap.a"
             run_calls "$name by $compiler, shared, sanitized" "${sanitize[@]}" "$library/libkeywrap.so.1"
-        else
-            skip "$compiler's sanitizers" '(apt-get install libasan8 libubsan1 libclang-rt-dev)'
         fi
     done
 done
 
 ### Installed, from other languages
 
-prefix=$room/prefix
+prefix=$room/prefix installed=$root/tests/library/installed
 row 'make install-library' in_library install-library PREFIX="$prefix"
 export LD_LIBRARY_PATH=$prefix/lib
 
 # same_version: the header's version is the program's, and with ~dev for -dev keywrap.pc's and the shared object's.
-version=$(make -s --no-print-directory -C "$root" version)
 number=${version%-dev} of_debian=${version/-/\~}
 same_version() {
     local header
@@ -249,9 +232,8 @@ row 'the C example names a refused value' writes 'reserved value: initial value 
     printf '    if (keywrap_wrap(kek, 16, key, 16, wrapped, sizeof wrapped) != KEYWRAP_OK) return 1;\n'
     printf '    for (uint8_t byte : wrapped) std::printf("%%02x", byte);\n}\n'
 } >calls.cc
-for compiler in g++ clang++; do
-    has $compiler "${compiler/clang++/clang}" "C++ by $compiler" || continue
-    runs_example "C++ by $compiler" $rfc3394_41 $compiler -std=c++11 "${strict[@]}" calls.cc "${flags[@]}"
+for compiler in "${of_cpp[@]}"; do
+    runs_example "C++ by $compiler" $rfc3394_41 "$compiler" -std=c++11 "${strict[@]}" calls.cc "${flags[@]}"
 done
 
 if has rustc rustc 'the Rust example'; then
@@ -287,18 +269,9 @@ fi
 
 ### By CMake, and in other directories
 
-cat >CMakeLists.txt <<'END'
-cmake_minimum_required(VERSION 3.13)
-project(wrap C)
-find_package(keywrap ${asked} REQUIRED CONFIG)
-add_executable(shared ${example})
-target_link_libraries(shared keywrap::keywrap)
-add_executable(static ${example})
-target_link_libraries(static keywrap::keywrap_static)
-END
 # by_cmake LIBDIR [VERSION]: the example builds by the package file there, both ways, and runs.
 by_cmake() {
-    rm -rf by_cmake && cmake -S . -B by_cmake -Dasked="${2:-}" -Dexample="$root/examples/c/wrap.c" \
+    rm -rf by_cmake && cmake -S "$installed" -B by_cmake -Dasked="${2:-}" -Dexample="$root/examples/c/wrap.c" \
         -Dkeywrap_DIR="$1/cmake/keywrap" && cmake --build by_cmake && writes $rfc3394_42 by_cmake/static &&
         LD_LIBRARY_PATH=$1 writes $rfc3394_42 by_cmake/shared
 }
@@ -349,7 +322,7 @@ if [ "$(uname -m)" = x86_64 ] && has qemu-x86_64 qemu-user 'old processors'; the
     row 'the instructions of the archive' at_most_sse41
     for compiler in "${compilers[@]}"; do
         row "KEYWRAP_CPU_SUPPORTED by $compiler" \
-            $compiler -std=c99 "${strict[@]}" "${include[@]}" supported.c -o supported
+            "$compiler" -std=c99 "${strict[@]}" "${include[@]}" supported.c -o supported
         row "KEYWRAP_CPU_SUPPORTED by $compiler, without SSE4.1" ends 7 "${without_sse41[@]}" ./supported
         row "KEYWRAP_CPU_SUPPORTED by $compiler, with SSSE3 only" \
             ends 7 qemu-x86_64 -cpu 'qemu64,+ssse3,-sse4.1,-sse4.2,-popcnt' ./supported
@@ -369,47 +342,14 @@ as_installed() {
             'keywrap openssl nettle gcrypt C
 software software AES AES software' ]
 }
-# of_library HEADER: whether the headers of a library are there.
-of_library() {
-    printf '#include <stddef.h>\n#include <stdint.h>\n#include <%s>\n' "$1" | cc -fsyntax-only -x c - 2>/dev/null
-}
 if ! grep -qw aes /proc/cpuinfo; then
     skip 'the bench' 'the processor has no AES instructions'
-elif of_library nettle/aes.h && of_library gcrypt.h && of_library openssl/aes.h; then
+elif has_header nettle/aes.h nettle-dev 'the bench' && has_header gcrypt.h libgcrypt20-dev 'the bench' &&
+    has_header openssl/aes.h libssl-dev 'the bench'; then
     row 'the bench times each library as it is installed' as_installed
-else
-    skip 'the bench' 'no headers (apt-get install libgcrypt20-dev libssl-dev nettle-dev)'
 fi
 
 ### Under an agreed initial value, against the command
-
-cat >agreed.c <<'END'
-#include <keywrap.h>
-#include <stdio.h>
-#include <string.h>
-
-/* Wraps the key 00 01 .. 0f under the KEK 00 01 .. 0f and the value of 16 digits, prints the text,
- * and unwraps it again. */
-int main(int argc, char **argv) {
-    uint8_t kek[16], iv[8], text[24], key[16];
-    for (unsigned i = 0; i < sizeof kek; i++)
-        kek[i] = (uint8_t)i;
-    for (unsigned i = 0; i < sizeof iv; i++) {
-        unsigned byte;
-        if (argc != 2 || sscanf(argv[1] + 2 * i, "%2x", &byte) != 1)
-            return 64;
-        iv[i] = (uint8_t)byte;
-    }
-    int32_t status = keywrap_wrap_with(kek, 16, iv, sizeof iv, kek, 16, text, sizeof text);
-    if (status != KEYWRAP_OK)
-        return status;
-    for (unsigned i = 0; i < sizeof text; i++)
-        printf("%02x", text[i]);
-    putchar('\n');
-    status = keywrap_unwrap_with(kek, 16, iv, sizeof iv, text, sizeof text, key, sizeof key);
-    return status != KEYWRAP_OK ? status : memcmp(key, kek, sizeof key) ? 65 : 0;
-}
-END
 
 # agrees VALUE: the library and the command end alike and say the same under this value.
 agrees() {
@@ -418,16 +358,6 @@ agrees() {
     wanted=$("$program" wrap --iv "$1" --kek kek.hex <key.hex 2>agreed.log; echo "status $?")
     [ "$found" = "$wanted" ] || { printf '%s\n' "library: $found" "command: $wanted"; false; }
 }
-
-cat >text.c <<'END'
-#include <keywrap.h>
-#include <stdio.h>
-#include <stdlib.h>
-int main(int argc, char **argv) {
-    char text[80];
-    return argc != 2 || keywrap_status_text(atoi(argv[1]), text, sizeof text) >= sizeof text || puts(text) < 0;
-}
-END
 
 # same_text STATUS WORD..: the command refuses by this status, in the library's words.
 same_text() {
@@ -438,11 +368,11 @@ same_text() {
 program=${KEYWRAP:-$root/crates/keywrap/out/keywrap}
 if [ -x "$program" ]; then
     echo 000102030405060708090a0b0c0d0e0f | tee kek.hex >key.hex
-    row 'the caller under a value: builds' cc -std=c99 "${strict[@]}" agreed.c "${flags[@]}" -o agreed
+    row 'the caller under a value: builds' cc -std=c99 "${strict[@]}" "$installed/agreed.c" "${flags[@]}" -o agreed
     for value in a6a6a6a6a6a6a6a6 0123456789abcdef a65959a700000010 a65959a600000010 a65959a6ffffffff; do
         row "the value $value in the library and in the command" agrees $value
     done
-    row 'the text of a status: builds' cc -std=c99 "${strict[@]}" text.c "${flags[@]}" -o text
+    row 'the text of a status: builds' cc -std=c99 "${strict[@]}" "$installed/text.c" "${flags[@]}" -o text
     echo 00 >short.hex
     row 'the text of a refused KEK' same_text 3 wrap --kek short.hex
     row 'the text of a refused length' same_text 4 unwrap --kek kek.hex

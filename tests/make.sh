@@ -269,8 +269,6 @@ mkdir -p "${archive%/*}" && echo kept | tee kept.a >$archive
 does 'make js' 0 "$PWD/out/js" $make js -- "${wasm[@]}"
 verdict 'make js leaves the archive of the C library' "$(cmp $archive kept.a 2>&1)"
 rm $archive kept.a
-does 'make wheel, without what builds it' 2 '' $make wheel PYTHON=false --
-{ ./keywrap --version; $make library; } >/dev/null 2>&1
 
 ### What fails
 

@@ -7,24 +7,12 @@
 
 set -u
 # shellcheck disable=SC2034,SC2154
-# shellcheck source=tests/lib/room.sh
-. "${BASH_SOURCE[0]%/*}/lib/room.sh"
 # shellcheck source=tests/library/rows.sh
-. "$root/tests/library/rows.sh"
+. "${BASH_SOURCE[0]%/*}/library/rows.sh"
 unset OPENSSL_CONF OPENSSL_MODULES
 
-cc=${CC:-cc}
-has "$cc" gcc 'the provider' || { finish; exit; }
-if ! printf '#include <openssl/provider.h>\n' | "$cc" -fsyntax-only -x c - 2>/dev/null; then
-    skip 'the provider' 'no headers of OpenSSL 3 (apt-get install libssl-dev)'
-    finish
-    exit
-fi
-
-archive=${KEYWRAP_ARCHIVES:-crates/keywrap_c/out/libkeywrap_c.a}
-archive=${archive##* } library=$room/library
-export KEYWRAP_VERSION
-KEYWRAP_VERSION=$(make -s --no-print-directory -C "$root" version)
+has "$cc" gcc 'the provider' && has_header openssl/provider.h libssl-dev 'the provider' || { finish; exit; }
+export KEYWRAP_VERSION=$version
 
 ### The module
 
@@ -36,17 +24,10 @@ for compiler in gcc clang; do
         row "no warning by $compiler" $compiler "${strict[@]}" -O2 -fsyntax-only "$root"/provider/*.c
 done
 
-# shows_one: of all names the module shows the one that OpenSSL looks for.
-shows_one() { [ "$(nm -D --defined-only "$module" | awk '{ print $3 }')" = OSSL_provider_init ]; }
-# needs_libc: it needs no library but the system's C library, so no libcrypto.
-needs_libc() { [ "$(readelf -d "$module" | sed -n 's/.*(NEEDED).*\[\(.*\)\]/\1/p')" = libc.so.6 ]; }
-# hardened: its tables are read-only once it is loaded.
-hardened() {
-    readelf -dlW "$module" >elf && grep -q BIND_NOW elf && grep -q GNU_RELRO elf && ! grep -q TEXTREL elf
-}
-row 'the names of the module' shows_one
-row 'what the module needs' needs_libc
-row 'a hardened module' hardened
+row 'of all names the module shows the one that OpenSSL looks for' shows_only OSSL_provider_init "$module"
+row 'the module needs the C library, and no libcrypto' test \
+    "$(readelf -d "$module" | sed -n 's/.*(NEEDED).*\[\(.*\)\]/\1/p')" = libc.so.6
+row 'a hardened module' hardened "$module"
 
 ### Against OpenSSL's own
 
@@ -65,32 +46,26 @@ row 'all lengths, in each place' ./compared modules lengths
 row 'random sequences' ./compared modules sequences 10000
 row 'parameters and names' ./compared modules parameters
 row 'where it differs' ./compared modules refusals
-if has_python cryptography_vectors; then
+if has_python cryptography_vectors "NIST's cases"; then
     "$python" "$root/tests/nist_cases.py" >nist.txt
     row "NIST's cases" writes '6000 cases' ./compared modules vectors <nist.txt
     row "NIST's refused cases" test "$(grep -c ' - ' nist.txt)" -gt 300
-else
-    skip "NIST's cases" 'no tables (apt-get install python3-cryptography-vectors)'
 fi
 
 ### Under the sanitizers, under valgrind
 
-sanitize=("-fsanitize=address,undefined" -fno-sanitize-recover=all)
 mkdir sanitized
 # sanitized_module: the same sources, with the sanitizers.
 sanitized_module() {
     "$cc" "${strict[@]}" -O1 -g -fPIC -shared "${sanitize[@]}" "$root"/provider/*.c "$library/libkeywrap.a" \
         -Wl,--version-script,"$root/provider/provider.map" -o sanitized/keywrap.so
 }
-printf 'int main(void) { return 0; }\n' >empty.c
-if "$cc" "${sanitize[@]}" empty.c -o empty 2>/dev/null && ./empty; then
+if sanitizes "$cc"; then
     row 'sanitized: compiles' eval 'sanitized_module && programs sanitized "${sanitize[@]}"'
     row 'sanitized: called as by the core' sanitized/direct sanitized/keywrap.so
     row 'sanitized: random sequences' sanitized/compared sanitized sequences 2000
     row 'sanitized: parameters' sanitized/compared sanitized parameters
     row 'sanitized: where it differs' sanitized/compared sanitized refusals
-else
-    skip 'the sanitizers' 'not there (apt-get install libasan8 libubsan1)'
 fi
 if has valgrind valgrind 'memcheck'; then
     memcheck=(valgrind -q --error-exitcode=9 --leak-check=full)

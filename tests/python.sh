@@ -7,21 +7,10 @@
 
 set -u
 # shellcheck disable=SC2034,SC2154
-# shellcheck source=tests/lib/room.sh
-. "${BASH_SOURCE[0]%/*}/lib/room.sh"
 # shellcheck source=tests/library/rows.sh
-. "$root/tests/library/rows.sh"
+. "${BASH_SOURCE[0]%/*}/library/rows.sh"
 
-needed='python3-cffi python3-setuptools python3-wheel python3-build python3-dev python3-venv python3-pytest'
-if ! has_python cffi,setuptools,wheel,build,venv,pytest; then
-    skip 'the Python package' "no Python with its modules (apt-get install $needed)"
-    finish
-    exit
-fi
-
-archive=${KEYWRAP_ARCHIVES:-crates/keywrap_c/out/libkeywrap_c.a}
-archive=${archive##* } library=$room/library
-version=$(make -s --no-print-directory -C "$root" version)
+has_python cffi,setuptools,wheel,build,venv,pytest 'the Python package' || { finish; exit; }
 version=${version/-dev/.dev0}
 wheel=$room/keywrap-$version-cp39-abi3-manylinux_2_17_x86_64.whl
 
@@ -69,14 +58,10 @@ row 'the version' same_version
 
 row 'an extension of the stable ABI' writes _ffi.abi3.so python3 -c 'from keywrap import _ffi; print(_ffi.__file__)'
 
-# hardened: the extension shows none of the library's names, so that no other takes their place, and its tables are
-# read-only once it is loaded.
-hardened() {
-    local extension=(env/lib/python3*/site-packages/keywrap/_ffi.abi3.so)
-    [ "$(nm -D --defined-only "${extension[0]}" | awk '{ print $3 }')" = PyInit__ffi ] &&
-        readelf -dlW "${extension[0]}" >elf && grep -q BIND_NOW elf && grep -q GNU_RELRO elf
-}
-row 'a hardened extension' hardened
+# It shows none of the library's names, so that no other takes their place.
+extension=(env/lib/python3*/site-packages/keywrap/_ffi.abi3.so)
+row 'the names of the extension' shows_only PyInit__ffi "${extension[0]}"
+row 'a hardened extension' hardened "${extension[0]}"
 
 # needs_sse41: an import says why it cannot work on an old processor. A call would end the process.
 needs_sse41() {
@@ -93,8 +78,8 @@ sed -n '/SKIPPED/p; $p' "$room/row.log"
 
 # pyca's own tests of these calls, from Debian's source package, over keywrap.pyca by their one import. If there is no
 # source package, the package's own tests compare the messages, three of which match pyca's.
-if ! has_python cryptography,cryptography_vectors,pytest_subtests; then
-    skip "pyca's own tests" 'no subtests (apt-get install python3-cryptography-vectors python3-pytest-subtests)'
+if ! has_python cryptography,cryptography_vectors,pytest_subtests "pyca's own tests"; then
+    :
 elif mkdir source && env -C source timeout 60 apt-get -qq source --download-only python-cryptography >source.log 2>&1
 then
     mkdir pyca && tar -C pyca -xf source/*.orig.tar.gz --strip-components=1 --wildcards '*/tests'
@@ -117,12 +102,10 @@ else
 fi
 
 # The directory of the package's sources for mypy: beside a copy, so that it leaves no cache.
-if has_python mypy; then
+if has_python mypy 'the types'; then
     row 'the types' "$python" -m mypy --strict --cache-dir="$room/mypy" --config-file= "$root/python/src/keywrap"
     printf 'import keywrap\nx: int = keywrap.wrap(b"", b"")\n' >wrong.py
     row 'the types of a caller' env MYPYPATH="$root/python/src" bash -c \
         '! '"$python"' -m mypy --strict --cache-dir=/dev/null --config-file= wrong.py >log && grep -q "type \"bytes\"" log'
-else
-    skip 'the types' 'no mypy (apt-get install mypy)'
 fi
 finish

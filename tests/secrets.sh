@@ -10,26 +10,13 @@
 
 set -u
 longest=${1:-1024}
-# shellcheck source=tests/lib/room.sh
-. "${BASH_SOURCE[0]%/*}/lib/room.sh"
-
 # shellcheck source=tests/library/rows.sh
-. "$root/tests/library/rows.sh"
-# lacks PART PACKAGE: the part is skipped, and the script ends.
-lacks() {
-    skip "$1" "(apt-get install $2)"
-    finish
-    exit
-}
-
+. "${BASH_SOURCE[0]%/*}/library/rows.sh"
 # shellcheck source=tests/library/machine.sh
 . "$root/tests/library/machine.sh"
-command -v "$cc" >/dev/null || lacks "no C compiler" gcc
-archive=${KEYWRAP_ARCHIVES:-$root/crates/keywrap_c/out/libkeywrap_c.a}
-archive=${archive##* }
-[ -n "${KEYWRAP_ARCHIVES:-}" ] || row 'rt lib' env -C "$root/crates/keywrap_c" rt lib
-[ $failed = 0 ] || { finish; exit; }
-
+has "$cc" gcc 'what depends on secrets' || { finish; exit; }
+row 'make library' in_library library || { finish; exit; }
+archive=$library/libkeywrap.a
 options=(-std=c99 -O1 -g -Wall -Wextra -pedantic -Werror "-I$root/include" "-I$root/bench")
 
 ### Copies on the stack
@@ -41,17 +28,12 @@ leaves() {
         END { exit bad || NR != 249 }' left
 }
 
-# exports: the calls are the header's.
-exports() {
-    diff <(sed 's/[, ].*//; s/^/keywrap_/' left | sort -u) \
-        <(sed -n 's/^int32_t \(keywrap_[a-z_]*\)(.*/\1/p' "$root/include/keywrap.h" | sort)
-}
-
 # What SECURITY.md says of them. Without -z now, the loader's own work would be there too.
 row 'the stack: compiles' "$cc" "${options[@]}" "$root/tests/secrets/stack.c" "$archive" -Wl,-z,now -o stack
 row 'the stack: runs' "${runs[@]}" ./stack
 cp row.log left
-row 'the stack: every export' exports
+row 'the stack: every export' diff <(sed 's/[, ].*//; s/^/keywrap_/' left | sort -u) \
+    <(sed -n 's/^int32_t \(keywrap_[a-z_]*\)(.*/\1/p' "$root/include/keywrap.h" | sort)
 row 'the stack: the bytes that depend on the KEK' leaves 4 0 8
 row 'the stack: the bytes that depend on the new KEK' leaves 5 0 0
 row 'the stack: the bytes that depend on the key' leaves 6 1 8
@@ -59,9 +41,7 @@ row 'the stack: the copies of half a secret' leaves 7 0 0
 
 ### Branches and addresses
 
-command -v "${memcheck[-1]}" >/dev/null || lacks 'memcheck: no valgrind' valgrind
-printf '#include <valgrind/memcheck.h>\n' | "$cc" -fsyntax-only -x c - 2>/dev/null ||
-    lacks 'memcheck: no valgrind/memcheck.h' valgrind
+has "${memcheck[-1]}" valgrind memcheck && has_header valgrind/memcheck.h valgrind memcheck || { finish; exit; }
 row 'compiles' "$cc" "${options[@]}" "$root/tests/secrets/secrets.c" "$root/bench/one_table.c" "$archive" -o secrets
 
 # reports FILE LENGTHS OPTION..: runs the calls, and writes a line for each with its reports.
@@ -85,10 +65,7 @@ row 'the decision of an unwrap' finds all '^keywrap_unwrap' 1 9999999
 row 'the look-ups of an AES by tables' finds all '^tables' 10000 9999999
 
 # Without the decision, which a rewrap and keywrap_kind make at the same place.
-row 'the calls, but for the decision' reports quiet "$longest" \
-    --suppressions="$root/tests/secrets/decision.supp"
-row 'none in an unwrap but at the decision' finds quiet '^keywrap_unwrap' 0 0
-row 'none in a rewrap but at the decision' finds quiet '^keywrap_rewrap' 0 0
-row 'none in a look for the form but at the decision' finds quiet '^keywrap_kind' 0 0
+row 'the calls, but for the decision' reports quiet "$longest" --suppressions="$root/tests/secrets/decision.supp"
+for call in unwrap rewrap kind; do row "no report in $call but at the decision" finds quiet "^keywrap_$call" 0 0; done
 
 finish

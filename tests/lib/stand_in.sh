@@ -6,8 +6,6 @@
 
 # shellcheck source=tests/lib/room.sh
 . "${BASH_SOURCE[0]%/*}/room.sh"
-# shellcheck source=tests/lib/expect.sh
-. "$root/tests/lib/expect.sh"
 
 mkdir -p 'a tree'/{bin,tmp,tests/library} && cd 'a tree' || exit
 cp -R "$root"/{.ci,keywrap,Makefile,man,completions,include,scripts,python,docs,examples,provider,js} .

@@ -1,8 +1,19 @@
 # shellcheck shell=bash disable=SC2034,SC2154
-# What the scripts over the C library use. Sourced after tests/lib/room.sh.
+# How the scripts over the C library begin, and what they use.
 
-# shellcheck source=tests/lib/expect.sh
-. "$root/tests/lib/expect.sh"
+# shellcheck source=tests/lib/room.sh
+. "${BASH_SOURCE[0]%/*}/../lib/room.sh"
+version=$(make -s --no-print-directory -C "$root" version)
+cc=${CC:-cc}
+# The prefix of the names of the machine's tools.
+tools=
+# The archive of the C library: the last of those that were built before, or the one that make has built.
+archive=${KEYWRAP_ARCHIVES:-crates/keywrap_c/out/libkeywrap_c.a}
+archive=${archive##* } library=$room/library
+sanitize=("-fsanitize=address,undefined" -fno-sanitize-recover=all)
+# A processor that lacks what the library needs, and one that has only that, by qemu-x86_64.
+without_sse41=(qemu-x86_64 -cpu 'qemu64,-ssse3,-sse4.1,-sse4.2,-popcnt')
+with_sse41=(qemu-x86_64 -cpu 'qemu64,+ssse3,+sse4.1,-sse4.2,-popcnt')
 
 # fails COMMAND..: the command does not succeed.
 fails() { ! "$@"; }
@@ -12,23 +23,73 @@ writes() {
     "${@:2}" >"$room/written" && grep -qF -e "$1" "$room/written" || { cat "$room/written" && false; }
 }
 
-# A processor that lacks what the library needs, and one that has only that, by qemu-x86_64.
-without_sse41=(qemu-x86_64 -cpu 'qemu64,-ssse3,-sse4.1,-sse4.2,-popcnt')
-with_sse41=(qemu-x86_64 -cpu 'qemu64,+ssse3,+sse4.1,-sse4.2,-popcnt')
-
 # in_library TARGET VARIABLE=VALUE..: makes the target over the archive $archive, in the directory $library.
 in_library() { make -s -C "$root" "$@" LIBRARY="$library" ARCHIVE="$archive"; }
 
-# of_glibc_2_17 FILE: it needs no symbol of glibc that is newer than 2.17. $tools is the prefix of the tools' names.
-of_glibc_2_17() {
-    "${tools:-}objdump" -T "$1" | grep -oE 'GLIBC_[0-9.]+' | sort -Vu >needed
-    [ -s needed ] && [ "$({ cat needed && echo GLIBC_2.17; } | sort -V | tail -n 1)" = GLIBC_2.17 ]
+# has_header HEADER PACKAGES PART: whether the compiler finds the header. If not, the part is skipped.
+has_header() {
+    printf '#include <%s>\n' stddef.h stdint.h "$1" | "$cc" -fsyntax-only -x c - 2>/dev/null ||
+        { skip "$3" "no $1 (apt-get install $2)" && false; }
 }
 
-# has_python MODULES: sets $python to a Python that has the modules. Debian's need not be the first on the PATH.
+# has_python MODULES [PART]: sets $python to a Python that has the modules. Debian's need not be the first on the PATH.
+# If there is none, the part is skipped.
 has_python() {
     for python in "${PYTHON:-python3}" /usr/bin/python3; do
         "$python" -c "import $1" 2>/dev/null && return
     done
+    local packages=python3-${1//,/ python3-}
+    [ $# = 1 ] || skip "$2" "no Python with its modules (apt-get install ${packages//_/-})"
     return 1
+}
+
+# sanitizes COMPILER: whether its sanitizers run here. If not, they are skipped.
+sanitizes() {
+    echo 'int main(void) { return 0; }' | "$1" "${sanitize[@]}" -x c - -o empty 2>/dev/null && ./empty ||
+        { skip "$1's sanitizers" '(apt-get install libasan8 libubsan1 libclang-rt-dev)' && false; }
+}
+
+# of_glibc_2_17 FILE: it needs no symbol of glibc that is newer than 2.17.
+of_glibc_2_17() {
+    "${tools}objdump" -T "$1" | grep -oE 'GLIBC_[0-9.]+' | sort -Vu >needed
+    [ -s needed ] && [ "$({ cat needed && echo GLIBC_2.17; } | sort -V | tail -n 1)" = GLIBC_2.17 ]
+}
+
+### What the C library in $library shows and needs
+
+names=$(sed -nE 's/^(u?int32_t|size_t) (keywrap_[a-z_]*)\(.*/\2/p' "$root"/include/keywrap{,_steps}.h | sort)
+
+# shows NM_OPTION.. FILE: the file shows the headers' names, and no others.
+shows() { diff <("${tools}nm" "$@" --defined-only | awk 'NF == 3 && $2 != "A" { print $3 }' | sort) - <<<"$names"; }
+
+# shows_only NAME FILE: the shared object shows this name only.
+shows_only() { [ "$("${tools}nm" -D --defined-only "$2" | awk '{ print $3 }')" = "$1" ]; }
+
+# versioned FILE: each name of the shared object is under the node of its version.
+versioned() {
+    shows -D --without-symbol-versions "$1" &&
+        diff <("${tools}nm" -D --defined-only "$1" | awk '$2 != "A" { print $3 }' | sort) \
+            <(sed -E 's/$/@@KEYWRAP_1/; /^keywrap_(status_text|self_test|(begin|step|end)_.*)@/s/$/.1/' <<<"$names" | sort)
+}
+
+# wants FILE: the archive wants nothing but these of the C library.
+wants() {
+    ! "${tools}nm" -u "$1" | awk 'NF == 2 { print $2 }' | grep -vxE 'memcpy|memmove|memset|keywrap_[a-z_]+'
+}
+
+# hardened FILE: its tables are read-only once it is loaded.
+hardened() {
+    readelf -dlW "$1" >"$room/elf" && grep -q BIND_NOW "$room/elf" && grep -q GNU_RELRO "$room/elf" &&
+        ! grep -q TEXTREL "$room/elf"
+}
+
+# shown NAME: the rows.
+shown() {
+    row "$1: an archive that wants nothing else" wants "$library/libkeywrap.a"
+    row "$1: the names of the archive" shows -g "$library/libkeywrap.a"
+    row "$1: the names of the shared object" versioned "$library/libkeywrap.so.1"
+    row "$1: a hardened shared object" hardened "$library/libkeywrap.so.1"
+    row "$1: its name" grep -q 'SONAME.*\[libkeywrap\.so\.1\]' "$room/elf"
+    [ -n "$tools" ] ||
+        row "$1: its self test sees a changed byte" python3 "$root/tests/library/patched.py" "$library/libkeywrap.so.1"
 }
