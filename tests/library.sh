@@ -222,18 +222,10 @@ rfc3394_42=96778b25ae6ca435f92b5b97c050aed2468ab8a17ad84e5d
 runs_example 'the C example' $rfc3394_42 cc -std=c99 "${strict[@]}" "$root/examples/c/wrap.c" "${flags[@]}"
 row 'the C example names a refused value' writes 'reserved value: initial value is not 8 bytes' ./example
 
-# A program in C++ that links with every call; its answer is the last vector's.
-{
-    printf '#include <cstdio>\n#include <keywrap.h>\n#include <keywrap_steps.h>\nvolatile void *calls[] = {\n'
-    for name in $names; do echo "    reinterpret_cast<void *>($name),"; done
-    printf '};\nint main() {\n'
-    printf '    uint8_t kek[16], key[16], wrapped[KEYWRAP_TEXT_LEN(16)];\n'
-    printf '    for (unsigned i = 0; i < 16; i++) kek[i] = uint8_t(i), key[i] = uint8_t(0x11 * i);\n'
-    printf '    if (keywrap_wrap(kek, 16, key, 16, wrapped, sizeof wrapped) != KEYWRAP_OK) return 1;\n'
-    printf '    for (uint8_t byte : wrapped) std::printf("%%02x", byte);\n}\n'
-} >calls.cc
+# shellcheck disable=SC2086
+printf 'reinterpret_cast<void *>(%s),\n' $names >names.h
 for compiler in "${of_cpp[@]}"; do
-    runs_example "C++ by $compiler" $rfc3394_41 "$compiler" -std=c++11 "${strict[@]}" calls.cc "${flags[@]}"
+    runs_example "C++ by $compiler" $rfc3394_41 "$compiler" -std=c++11 "${strict[@]}" -I. "$installed/calls.cc" "${flags[@]}"
 done
 
 if has rustc rustc 'the Rust example'; then
