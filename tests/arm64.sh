@@ -20,16 +20,6 @@ making() { make -s -C "$root" "$@" LIBRARY="$library" SYSROOT="$sysroot" DIST="$
 # are_arm FILE..: all that is in these is for aarch64.
 are_arm() { [ "$(LC_ALL=C readelf -h "$@" | sed -n 's/^ *Machine: *//p' | sort -u)" = AArch64 ]; }
 
-# begin NAME COMMAND..: has it run beside what follows. A row of its name is `ended NAME`.
-begin() { "${@:2}" >"$1.log" 2>&1 & eval "running_$1=$!"; }
-ended() {
-    local of=running_$1 status
-    wait "${!of}"
-    status=$?
-    cat "$1.log"
-    return $status
-}
-
 ### The library
 
 for needed in aarch64-linux-gnu-gcc:gcc-aarch64-linux-gnu qemu-aarch64:qemu-user; do
@@ -51,7 +41,9 @@ row 'the shuffles' shuffles
 # By the shared object, on an early processor; what depends on secrets and the package go by the archive.
 row 'the calls: compile' "$cc" -std=c99 -O2 -Wall -Wextra -pedantic -Werror "-I$root/include" "-I$root/bench" \
     "$root"/tests/library/*.c "$root/bench/one_table.c" "$library/libkeywrap.so.1" -o checks
-begin calls "${runs[@]}" -cpu cortex-a53 -E "LD_LIBRARY_PATH=$library" ./checks few
+# They run beside what follows.
+"${runs[@]}" -cpu cortex-a53 -E "LD_LIBRARY_PATH=$library" ./checks few >calls.log 2>&1 &
+calls=$!
 
 ### What depends on secrets
 
@@ -114,5 +106,5 @@ if [ -d site ]; then
     row 'Python takes the wheel' takes
     row 'the tests of the package' package_tests
 fi
-row 'the calls' ended calls
+row 'the calls' eval 'wait $calls || { cat calls.log && false; }'
 finish
