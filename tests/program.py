@@ -44,6 +44,7 @@ def words(args):
 
 
 def sh(script):
+    """Runs lines of sh, which have to succeed."""
     subprocess.run(["sh", "-euc", script], check=True)
 
 

@@ -17,13 +17,9 @@ IN_LINES = [*ENDINGS, *(f"[ ! -e lines/file ] || {line}" for line in (
     *ENDINGS, "touch lines/other", "chmod 640 lines/file", "echo more >>lines/file"))]
 
 
-def ends(program, args, ended):
-    assert program(args, stdin=KEY16) == ended
-
-
 # Faults, the content of to/file, a comparison and its arguments.
 @pytest.mark.parametrize("line, content, comparison, args", [(line, *row) for lines, *row in [
-    (ENDINGS, None, ends, [WRAP, answered(WRAPPED16)]),
+    (ENDINGS, None, keeps, [f"{WRAP} -i key.hex", answered(WRAPPED16)]),
     *[(lines, None, explains, [f"{UNWRAP} -i key7.hex", 4, BAD_LENGTH,
                                "key7.hex: 7 bytes; a plain wrapped key has 24 or more, a multiple of 8"])
       for lines in (ENDINGS, [f'case "$*" in *--verbose*) {line};; esac' for line in ENDINGS])],
