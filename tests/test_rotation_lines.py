@@ -3,8 +3,10 @@ the exit status is 0 only for the new ones, and a second run ends well."""
 
 import fcntl
 import os
+import pathlib
 import shutil
 import subprocess
+import tempfile
 
 import pytest
 
@@ -18,13 +20,14 @@ ADDED = wrapped(KEK, make_keys(2, 9)[1])
 
 
 @pytest.fixture(params=["lines.sh", "lines_parallel.sh 2"])
-def room(request, tmp_path, pytestconfig):
-    """The script is run over `store`, keys.hex of 40 keys."""
+def room(request, pytestconfig):
+    """The script is run over `store`, keys.hex of 40 keys. Another user may enter the directory, unlike one of pytest."""
     if "parallel" in request.param and shutil.which("parallel") is None:
         pytest.skip("no GNU parallel (apt-get install parallel)")
-    made = Room(tmp_path, pytestconfig.program, request.param)
-    made.store.write_text(OLD)
-    return made
+    with tempfile.TemporaryDirectory() as directory:
+        made = Room(pathlib.Path(directory), pytestconfig.program, request.param)
+        made.store.write_text(OLD)
+        yield made
 
 
 def content(room):
@@ -141,8 +144,6 @@ class TestOwner:
         room.store.chmod(0o644)
         for path in room.calls, room.path, room.here:
             path.chmod(0o777)
-        for path in [path for path in room.path.parents if not os.stat(path).st_mode & 0o001]:
-            path.chmod(0o711)
         assert refused(room, prefix=NOBODY).stderr.startswith("stopped at line")
         assert room.store.stat().st_uid == 0
 
