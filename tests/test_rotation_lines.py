@@ -21,7 +21,7 @@ ADDED = wrapped(KEK, make_keys(2, 9)[1])
 
 @pytest.fixture(params=["lines.sh", "lines_parallel.sh 2"])
 def room(request, pytestconfig):
-    """The script is run over `store`, keys.hex of 40 keys. Another user may enter the directory, unlike one of pytest."""
+    """The script is run over `store`, keys.hex of 40 keys. Another user may enter the directory, unlike pytest's."""
     if "parallel" in request.param and shutil.which("parallel") is None:
         pytest.skip("no GNU parallel (apt-get install parallel)")
     with tempfile.TemporaryDirectory() as directory:
