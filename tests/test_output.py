@@ -107,7 +107,7 @@ class TestStreams:
     def test_reader_that_goes_away(self, keywrap, command, ignoring):
         """The run succeeds, or reports how many bytes were written: fewer than the whole."""
         for taken in 0, 1, 100, 4096, 8208:
-            with keywrap.started(command.args, **PIPES, ignoring=ignoring) as run:
+            with keywrap.started(command.args, **PIPES | {"stdin": None}, ignoring=ignoring) as run:
                 assert run.stdout.read(taken) == command.stdout[:taken]
                 run.stdout.close()
                 error = run.stderr.read().decode()
