@@ -225,7 +225,8 @@ row 'the C example names a refused value' writes 'reserved value: initial value 
 # shellcheck disable=SC2086
 printf 'reinterpret_cast<void *>(%s),\n' $names >names.h
 for compiler in "${of_cpp[@]}"; do
-    runs_example "C++ by $compiler" $rfc3394_41 "$compiler" -std=c++11 "${strict[@]}" -I. "$installed/calls.cc" "${flags[@]}"
+    runs_example "C++ by $compiler" $rfc3394_41 \
+        "$compiler" -std=c++11 "${strict[@]}" -I. "$installed/calls.cc" "${flags[@]}"
 done
 
 if has rustc rustc 'the Rust example'; then

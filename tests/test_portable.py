@@ -255,7 +255,7 @@ def test_sdist(portable, compiler):
     assert re.search(r"^\d{3,} passed", said, re.M) and "skipped" not in said
 
 
-# What must find a planted bug: the sources of a program, its options, those of keywrap.c only, and its arguments.
+# What must find a planted bug: a program's sources and options, options for keywrap.c only, and arguments.
 FINDERS = [
     ([*LIBRARY, OWN / "watched.c"], ["-O1"], [*WATCHED, "-DKEYWRAP_STACK_KEY=-64"], ["few"]),
     ([OWN / "memory.c", OWN / "watched.c"], ["-O1", *SANITIZED, "-DKEYWRAP_STACK_KEY=256"], WATCHED, []),
