@@ -10,13 +10,14 @@
 
 .PHONY: keywrap $(CRATES)
 
-# Four jobs of one crate do nearly twice the work of one, so the end of the chain has all, and what is proved beside
-# others one or two. More at once take longer: each job of rt begins by reading what is below its crate. What needs
-# nothing of the chain is proved in the time that it leaves.
+# The chain key_files, key_lines, keywrap_cli, keywrap takes the longest, so it comes first, and what is proved beside it
+# gets the time that it leaves. More jobs at once take longer: each job of rt begins by reading what is below its crate.
+chain = key_files key_lines keywrap_cli
 keywrap: jobs = $(JOBS)
 $(CRATES): jobs = 1
-aes_block aes_vector key_wrap: jobs = $(if $(filter 1,$(JOBS)),1,2)
+aes_block aes_vector key_wrap key_files key_lines: jobs = $(if $(filter 1,$(JOBS)),1,2)
 keywrap_cli: jobs = $(JOBS)
+$(filter-out $(chain),$(CRATES)): gently = nice -n 10
 keywrap_io keywrap_args: gently = nice -n 19
 
 keywrap: WORDS = run --backend rattle --jobs $(jobs) -- --version
