@@ -31,6 +31,7 @@ impl<'a, B: BlockPair> Meter<'a, B> {
     }
 
     /// Encrypts one block, and counts it.
+    // Without inlining, the program's two forms of wrap take a tenth longer.
     #[inline(always)]
     pub fn enc(&mut self, b: [u8; 16]) -> [u8; 16]
         ensures answer { result ≡ B.encrypted self.old.pair b }
@@ -42,7 +43,6 @@ impl<'a, B: BlockPair> Meter<'a, B> {
     }
 
     /// Decrypts one block, and counts it.
-    #[inline(always)]
     pub fn dec(&mut self, b: [u8; 16]) -> [u8; 16]
         ensures answer { result ≡ B.decrypted self.old.pair b }
         ensures pair { self.new.pair ≡ self.old.pair }
@@ -52,7 +52,6 @@ impl<'a, B: BlockPair> Meter<'a, B> {
         self.pair.dec(b)
     }
 
-    #[inline(always)]
     fn tick(&mut self)
         ensures pair { self.new.pair ≡ self.old.pair }
         ensures count { self.new.count ≡ min u64.MAX (self.old.count + 1) }
