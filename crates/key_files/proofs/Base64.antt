@@ -8,8 +8,11 @@ use Rattle.base64.specs.GeneralPurpose.{IsBytes, IsStrict, SameEngine, decode_of
 use Rattle.base64.specs.declared.decode.DecodeError.{DecodeError}
 use Rattle.base64.specs.declared.engine.general_purpose.GeneralPurpose.{GeneralPurpose}
 use Rattle.base64.proofs.EngineFacts.{decode_of_strict}
-use Rattle.key_files.specs.Base64Text.{IsBase64Of, base64_meaning, decoded_meaning, encoding, encoding_of, has_padding, is_url_safe_text}
+use Rattle.key_files.specs.Base64Text.{IsBase64Of, alphabet_of, base64_meaning, decoded_meaning, encoding, encoding_of, has_padding}
 use Rattle.key_files.specs.Base64Text.{kept, misplaced, placed_meaning, symbol_text_meaning, symbols_meaning}
+use Rattle.key_files.specs.declared.base64_text.Alphabet.{Alphabet}
+use Rattle.key_files.specs.declared.base64_text.Alphabet.TheVariants.{Standard, UrlSafe}
+use Rattle.key_files.specs.declared.base64_text.Blanks.TheVariants.{Allowed, Refused}
 use Rattle.key_files.specs.declared.fault.Base64Fault.{Base64Fault}
 use Rattle.key_files.specs.declared.fault.FileFault.TheVariants.{TooLong}
 
@@ -23,11 +26,11 @@ pub symbols_meaning-is : (e : GeneralPurpose) (text : List ℕ) (decoded : Resul
 symbols_meaning-is e text decoded same is = ap decoded_meaning (sym (decode_of-same e (encoding_of text) text same) ∙ is)
 
 -- no character is misplaced
-pub symbol_text_meaning-placed : (text : List ℕ) → misplaced false text ≡ None → symbol_text_meaning text ≡ symbols_meaning text
+pub symbol_text_meaning-placed : (text : List ℕ) → misplaced Refused text ≡ None → symbol_text_meaning text ≡ symbols_meaning text
 unfolding symbol_text_meaning
 symbol_text_meaning-placed text h = rw h refl
 
-pub base64_meaning-placed : (text : List ℕ) → misplaced true text ≡ None → base64_meaning text ≡ symbols_meaning (kept text)
+pub base64_meaning-placed : (text : List ℕ) → misplaced Allowed text ≡ None → base64_meaning text ≡ symbols_meaning (kept text)
 unfolding base64_meaning
 base64_meaning-placed text h = rw h refl
 
@@ -42,7 +45,7 @@ placed-never_long None text h = symbols-never_long (decode_of (encoding_of text)
 
 pub base64_meaning-never_long : (text : List ℕ) → base64_meaning text ≢ Err TooLong
 unfolding base64_meaning
-base64_meaning-never_long text h = placed-never_long (misplaced true text) (kept text) h
+base64_meaning-never_long text h = placed-never_long (misplaced Allowed text) (kept text) h
 
 -- an output that the encoding fills
 pub filled : {F : Type 0} (e : GeneralPurpose) (bytes old new : List ℕ) (n : ℕ) (answer : Result ℕ F) (error : F) → answer ≡ Ok n
@@ -63,17 +66,17 @@ pub encode_of-same : (a b : GeneralPurpose) (bytes : List ℕ) → SameEngine a 
 encode_of-same a b bytes same = rw (same.0, same.2, same.3) refl
 
 -- the engine of a text's encoding decodes nothing but encodings
-IsStrict-encoding : (url_safe padded : Bool) → IsStrict (encoding url_safe padded)
-IsStrict-encoding false false = (refl, refl)
-IsStrict-encoding false true = (refl, refl)
-IsStrict-encoding true false = (refl, refl)
-IsStrict-encoding true true = (refl, refl)
+IsStrict-encoding : (alphabet : Alphabet) (padded : Bool) → IsStrict (encoding alphabet padded)
+IsStrict-encoding Standard false = (refl, refl)
+IsStrict-encoding Standard true = (refl, refl)
+IsStrict-encoding UrlSafe false = (refl, refl)
+IsStrict-encoding UrlSafe true = (refl, refl)
 
 -- what it decodes is what the text encodes
 pub IsBase64Of-decoded : (e : GeneralPurpose) (text bytes : List ℕ) → SameEngine e (encoding_of text) → IsBytes text
     → decode_of e text ≡ Ok bytes → IsBase64Of text bytes
 IsBase64Of-decoded e text bytes same fits is =
-    let url_safe = is_url_safe_text text in
+    let alphabet = alphabet_of text in
     let padded = has_padding text in
     let decoded = sym (decode_of-same e (encoding_of text) text same) ∙ is in
-    (url_safe, padded, decode_of_strict (encoding url_safe padded) text bytes (IsStrict-encoding url_safe padded) fits decoded)
+    (alphabet, padded, decode_of_strict (encoding alphabet padded) text bytes (IsStrict-encoding alphabet padded) fits decoded)

@@ -9,6 +9,10 @@ use Rattle.base64.specs.declared.decode.DecodeError.{DecodeError}
 use Rattle.base64.specs.declared.decode.DecodeError.TheVariants.{InvalidLastSymbol}
 use Rattle.base64.specs.declared.engine.general_purpose.GeneralPurpose.{GeneralPurpose}
 use Rattle.key_files.specs.HexText.{is_skipped}
+use Rattle.key_files.specs.declared.base64_text.Alphabet.{Alphabet}
+use Rattle.key_files.specs.declared.base64_text.Alphabet.TheVariants.{Standard, UrlSafe}
+use Rattle.key_files.specs.declared.base64_text.Blanks.{Blanks}
+use Rattle.key_files.specs.declared.base64_text.Blanks.TheVariants.{Allowed, Refused}
 use Rattle.key_files.specs.declared.fault.Base64Fault.{Base64Fault}
 use Rattle.key_files.specs.declared.fault.Base64Fault.TheVariants.{Character, BehindPadding, Length, TrailingBits}
 use Rattle.key_files.specs.declared.fault.FileFault.{FileFault}
@@ -31,52 +35,62 @@ abbrev pub is_padding : ℕ → Bool
 is_padding c = c == 61
 
 -- the first character that only one alphabet has decides which it is
-abbrev pub is_url_safe_at : List ℕ → Option ℕ → Bool
-is_url_safe_at text (Some at) = is_url_safe (slice_index text at)
-is_url_safe_at text None = false
+abbrev pub alphabet_at : List ℕ → Option ℕ → Alphabet
+alphabet_at text (Some at) = if is_url_safe (slice_index text at) then UrlSafe else Standard
+alphabet_at text None = Standard
 
 abbrev pub first_of_one : List ℕ → Option ℕ
 first_of_one text = position (λ c. is_standard c || is_url_safe c) text
 
-abbrev pub is_url_safe_text : List ℕ → Bool
-is_url_safe_text text = is_url_safe_at text (first_of_one text)
+abbrev pub alphabet_of : List ℕ → Alphabet
+alphabet_of text = alphabet_at text (first_of_one text)
 
--- a character of the one alphabet or of the other, or padding
-abbrev pub is_base64 : Bool → ℕ → Bool
-is_base64 url_safe c = is_padding c || (is_shared c || (if url_safe then is_url_safe c else is_standard c))
+-- a character of this alphabet, and not of the other one
+abbrev pub is_only_in : Alphabet → ℕ → Bool
+is_only_in Standard c = is_standard c
+is_only_in UrlSafe c = is_url_safe c
 
--- a character that is allowed in such a text: also space, tab, CR and LF, if blanks are skipped
-abbrev pub is_allowed : Bool → Bool → ℕ → Bool
-is_allowed skips url_safe c = is_base64 url_safe c || (skips && is_skipped c)
+-- a character of this alphabet, or padding
+abbrev pub is_base64 : Alphabet → ℕ → Bool
+is_base64 alphabet c = is_padding c || (is_shared c || is_only_in alphabet c)
+
+-- space, tab, CR and LF, if blanks are allowed
+abbrev pub is_allowed_blank : Blanks → ℕ → Bool
+is_allowed_blank Allowed c = is_skipped c
+is_allowed_blank Refused c = false
+
+-- a character that is allowed in such a text
+abbrev pub is_allowed : Blanks → Alphabet → ℕ → Bool
+is_allowed blanks alphabet c = is_base64 alphabet c || is_allowed_blank blanks c
 
 -- the place, over all bytes of the text, of the first character that is not allowed in it
-abbrev pub first_foreign : Bool → List ℕ → Option ℕ
-first_foreign skips text = position (λ c. not (is_allowed skips (is_url_safe_text text) c)) text
+abbrev pub first_foreign : Blanks → List ℕ → Option ℕ
+first_foreign blanks text = position (λ c. not (is_allowed blanks (alphabet_of text) c)) text
 
 -- the number of bytes before the first padding
 abbrev pub before_padding : List ℕ → ℕ
 before_padding text = prefix_len (λ c. not (is_padding c)) text
 
 -- the place of the first character that is no padding
-abbrev pub first_no_padding : Bool → List ℕ → Option ℕ
-first_no_padding skips text = position (λ c. not (is_padding c || (skips && is_skipped c))) text
+abbrev pub first_no_padding : Blanks → List ℕ → Option ℕ
+first_no_padding blanks text = position (λ c. not (is_padding c || is_allowed_blank blanks c)) text
 
 -- the text without what is skipped
 abbrev pub kept : List ℕ → List ℕ
 kept text = filter (λ c. not (is_skipped c)) text
 
 -- the encoding of a text: by its alphabet, with padding if it has some
-abbrev pub encoding : Bool → Bool → GeneralPurpose
-encoding false false = standard_no_pad
-encoding false true = standard
-encoding true false = url_safe_no_pad
-encoding true true = url_safe
+abbrev pub encoding : Alphabet → (padded : Bool) → GeneralPurpose
+encoding Standard false = standard_no_pad
+encoding Standard true = standard
+encoding UrlSafe false = url_safe_no_pad
+encoding UrlSafe true = url_safe
 
 abbrev pub has_padding : List ℕ → Bool
 has_padding text = nat_lt (before_padding text) (length text)
 
 abbrev pub encoding_of : List ℕ → GeneralPurpose
-encoding_of text = encoding (is_url_safe_text text) (has_padding text)
+encoding_of text = encoding (alphabet_of text) (has_padding text)
 
 -- the fault of a text whose characters are all allowed, and which is not an encoding
 abbrev pub base64_fault_of : DecodeError → Base64Fault
@@ -97,9 +111,13 @@ place_fault (Some at) before behind = Some (Character at)
 place_fault None before (Some at) = Some (BehindPadding (before + at))
 place_fault None before None = None
 
-abbrev pub misplaced : Bool → List ℕ → Option Base64Fault
-misplaced skips text =
-    place_fault (first_foreign skips text) (before_padding text) (first_no_padding skips (drop (before_padding text) text))
+abbrev pub misplaced : Blanks → List ℕ → Option Base64Fault
+misplaced blanks text =
+    place_fault (first_foreign blanks text) (before_padding text) (first_no_padding blanks (drop (before_padding text) text))
+
+-- the same for a text without blanks
+abbrev pub misplaced_symbol : List ℕ → Option Base64Fault
+misplaced_symbol text = misplaced Refused text
 
 abbrev pub placed_meaning : Option Base64Fault → List ℕ → Result (List ℕ) FileFault
 placed_meaning (Some fault) text = Err (BadBase64 fault)
@@ -108,21 +126,26 @@ placed_meaning None text = symbols_meaning text
 -- A text denotes the bytes that it encodes, in either alphabet, with its padding complete or omitted. Blanks are
 -- allowed anywhere in it.
 unfoldable pub base64_meaning : List ℕ → Result (List ℕ) FileFault
-base64_meaning text = placed_meaning (misplaced true text) (kept text)
+base64_meaning text = placed_meaning (misplaced Allowed text) (kept text)
 
 -- the same for a text without blanks
 unfoldable pub symbol_text_meaning : List ℕ → Result (List ℕ) FileFault
-symbol_text_meaning text = placed_meaning (misplaced false text) text
+symbol_text_meaning text = placed_meaning (misplaced_symbol text) text
 
 -- The text is an encoding of the bytes (RFC 4648): in one of the two alphabets, with padding or without it.
 abbrev pub IsBase64Of : List ℕ → List ℕ → Type 0
-IsBase64Of text bytes = (url_safe : Bool) × (padded : Bool) × (text ≡ encode_of (encoding url_safe padded) bytes)
+IsBase64Of text bytes = (alphabet : Alphabet) × (padded : Bool) × (text ≡ encode_of (encoding alphabet padded) bytes)
 
 -- A law: a file denotes exactly the bytes that its text encodes.
 abbrev pub FilesEncode : Type 0
 FilesEncode = (file bytes : List ℕ) → (IsBytes bytes → IsBase64Of (kept file) bytes → base64_meaning file ≡ Ok bytes)
     × (IsBytes file → base64_meaning file ≡ Ok bytes → IsBase64Of (kept file) bytes)
 
--- base64 output: section 4 with padding, or section 5 without it, and then LF
-abbrev pub base64_line : Bool → List ℕ → List ℕ
-base64_line url_safe bytes = encode_of (encoding url_safe (not url_safe)) bytes ++ 10 ∷ []
+-- the encoding of output: section 4 with padding, or section 5 without it
+abbrev pub output_encoding : Alphabet → GeneralPurpose
+output_encoding Standard = standard
+output_encoding UrlSafe = url_safe_no_pad
+
+-- base64 output: the encoding of the bytes, and then LF
+abbrev pub base64_line : Alphabet → List ℕ → List ℕ
+base64_line alphabet bytes = encode_of (output_encoding alphabet) bytes ++ 10 ∷ []

@@ -1,14 +1,14 @@
 //! The base64 notation.
 
-ghost use Rattle.std.specs.Prelude.{◌≡◌, ◌<◌, ◌≤◌, ℕ, List, length, false, not, true, None, Err};
+ghost use Rattle.std.specs.Prelude.{◌≡◌, ◌<◌, ◌≤◌, ℕ, List, length, true, None, Err};
 ghost use Rattle.std.specs.Prelude.{IfErr, IfOk, IfSome, Ok, OnOk};
 ghost use Rattle.base64.specs.GeneralPurpose.{IsBytes, SameEngine, encode_of};
-ghost use Rattle.key_files.specs.Base64Text.{IsBase64Of, base64_fault_of, base64_line, before_padding};
-ghost use Rattle.key_files.specs.Base64Text.{encoding, encoding_of, first_foreign, first_no_padding};
-ghost use Rattle.key_files.specs.Base64Text.{first_of_one};
-ghost use Rattle.key_files.specs.Base64Text.{is_allowed, is_standard, is_url_safe};
-ghost use Rattle.key_files.specs.Base64Text.{is_url_safe_text, kept, misplaced};
-ghost use Rattle.key_files.specs.Base64Text.{base64_meaning, symbol_text_meaning, symbols_meaning};
+ghost use Rattle.key_files.specs.Base64Text.{IsBase64Of, alphabet_of, base64_fault_of, base64_line};
+ghost use Rattle.key_files.specs.Base64Text.{base64_meaning, before_padding, encoding_of};
+ghost use Rattle.key_files.specs.Base64Text.{first_foreign, first_no_padding, first_of_one};
+ghost use Rattle.key_files.specs.Base64Text.{is_allowed, is_allowed_blank, is_only_in, is_standard};
+ghost use Rattle.key_files.specs.Base64Text.{is_url_safe, kept, misplaced, misplaced_symbol};
+ghost use Rattle.key_files.specs.Base64Text.{output_encoding, symbol_text_meaning, symbols_meaning};
 ghost use Rattle.key_files.specs.Decoding.{DecodesText, place_of};
 ghost use Rattle.key_files.specs.declared.fault.FileFault.{FileFault};
 ghost use Rattle.key_files.specs.Reading.{IsMeaning, answer_of};
@@ -21,6 +21,22 @@ use base64::engine::general_purpose::{STANDARD, STANDARD_NO_PAD, URL_SAFE, URL_S
 use base64::{DecodeAllocError, DecodeError, encoded_len};
 use std::alloc::{AllocError, Allocator};
 
+/// An alphabet of base64 (RFC 4648).
+#[derive(Clone, Copy)]
+pub enum Alphabet {
+    /// The alphabet of section 4, with `+` and `/`.
+    Standard,
+    /// The alphabet of section 5, with `-` and `_`.
+    UrlSafe,
+}
+
+// Whether a text may have blanks: space, tab, CR and LF.
+#[derive(Clone, Copy)]
+enum Blanks {
+    Allowed,
+    Refused,
+}
+
 /// Replaces `bytes` with the bytes that a base64 text without blanks denotes.
 ///
 /// Returns the first error that applies: BadBase64 with Character or BehindPadding, Memory,
@@ -32,9 +48,9 @@ pub fn decode_symbols_into(text: &[u8], bytes: &mut Vec<u8>) -> Result<(), FileF
     ensures encoding { OnOk result (IsBase64Of text.now bytes.new.items) }
     ensures accepted { (encoded : List ℕ) → IsBytes encoded → IsBase64Of text.now encoded
         → symbol_text_meaning text.now ≡ Ok encoded }
-    ensures memory { result ≡ Err FileFault.Memory → misplaced false text.now ≡ None }
+    ensures memory { result ≡ Err FileFault.Memory → misplaced_symbol text.now ≡ None }
 {
-    if let Some(fault) = misplaced(false, text) {
+    if let Some(fault) = misplaced(Blanks::Refused, text) {
         return Err(FileFault::BadBase64(fault));
     }
     bytes.clear();
@@ -56,7 +72,7 @@ pub(crate) fn decode_base64<A: Allocator + Copy>(
     ensures meaning { IsMeaning (answer_of result) (base64_meaning text.now) }
     ensures unread { ¬ (result ≡ Err FileFault.Read) }
 {
-    if let Some(fault) = misplaced(true, text) {
+    if let Some(fault) = misplaced(Blanks::Allowed, text) {
         return Err(FileFault::BadBase64(fault));
     }
     let kept = kept(alloc, text)?;
@@ -75,17 +91,18 @@ fn kept<A: Allocator>(alloc: A, text: &[u8]) -> Result<Vec<u8, A>, AllocError>
     Ok(kept)
 }
 
-/// Replaces `line` with the line of base64 output: in the alphabet of section 4 with padding, or in
-/// the alphabet of section 5 without it.
-pub fn print_base64(url_safe: bool, bytes: &[u8], line: &mut Vec<u8>) -> Result<(), AllocError>
-    ensures whole { OnOk result (line.new.items ≡ base64_line url_safe bytes.now) }
-    ensures prints { PrintsAs base64_meaning (base64_line url_safe bytes.now) bytes.now }
+/// Replaces `line` with the line of base64 output: in the standard alphabet with padding, or in the
+/// URL-safe alphabet without it.
+pub fn print_base64(alphabet: Alphabet, bytes: &[u8], line: &mut Vec<u8>) -> Result<(), AllocError>
+    ensures whole { OnOk result (line.new.items ≡ base64_line alphabet bytes.now) }
+    ensures prints { PrintsAs base64_meaning (base64_line alphabet bytes.now) bytes.now }
 {
-    let Some(len) = encoded_len(bytes.len(), !url_safe) else {
+    let padded = output_encoding(alphabet).config().encode_padding();
+    let Some(len) = encoded_len(bytes.len(), padded) else {
         return Err(AllocError);
     };
     line.resize(len, 0)?;
-    if !fills(url_safe, bytes, line) {
+    if !fills(alphabet, bytes, line) {
         return Err(AllocError);
     }
     line.push(b'\n')?;
@@ -93,13 +110,23 @@ pub fn print_base64(url_safe: bool, bytes: &[u8], line: &mut Vec<u8>) -> Result<
 }
 
 // Whether the encoding of the bytes is as long as the output, which then is it.
-fn fills(url_safe: bool, bytes: &[u8], output: &mut [u8]) -> bool
-    ensures { result ≡ true → output.new ≡ encode_of (encoding url_safe (not url_safe)) bytes.now }
+fn fills(alphabet: Alphabet, bytes: &[u8], output: &mut [u8]) -> bool
+    ensures { result ≡ true → output.new ≡ encode_of (output_encoding alphabet) bytes.now }
 {
-    match encoding(url_safe, !url_safe).encode_slice(bytes, output) {
+    match output_encoding(alphabet).encode_slice(bytes, output) {
         Ok(len) => len == output.len(),
         Err(_) => false,
     }
+}
+
+// Returns the encoding of output.
+fn output_encoding(alphabet: Alphabet) -> GeneralPurpose
+    ensures { SameEngine result (output_encoding alphabet) }
+{
+    if let Alphabet::Standard = alphabet {
+        return STANDARD;
+    }
+    URL_SAFE_NO_PAD
 }
 
 // Returns the fault of a text whose characters are all allowed.
@@ -114,35 +141,35 @@ fn fault_of(error: DecodeError) -> Base64Fault
 }
 
 // Returns the first character that is not allowed at its place.
-fn misplaced(skips: bool, text: &[u8]) -> Option<Base64Fault>
-    ensures first { result ≡ misplaced skips text.now }
+fn misplaced(blanks: Blanks, text: &[u8]) -> Option<Base64Fault>
+    ensures first { result ≡ misplaced blanks text.now }
     ensures within { IfSome result (λ fault. place_of (FileFault.BadBase64 fault)
         ≤ length text.now) }
 {
-    if let Some(at) = first_foreign(skips, text) {
+    if let Some(at) = first_foreign(blanks, text) {
         return Some(Base64Fault::Character { at });
     }
     let before = before_padding(text);
-    let Some(at) = first_no_padding(skips, &text[before..]) else {
+    let Some(at) = first_no_padding(blanks, &text[before..]) else {
         return None;
     };
     Some(Base64Fault::BehindPadding { at: before + at })
 }
 
-fn first_foreign(skips: bool, text: &[u8]) -> Option<usize>
-    ensures place { result ≡ first_foreign skips text.now }
+fn first_foreign(blanks: Blanks, text: &[u8]) -> Option<usize>
+    ensures place { result ≡ first_foreign blanks text.now }
     ensures bound { IfSome result (λ at. at < length text.now) }
 {
-    let url_safe = is_url_safe_text(text);
-    text.iter().position(|c| !is_allowed(skips, url_safe, *c))
+    let alphabet = alphabet_of(text);
+    text.iter().position(|c| !is_allowed(blanks, alphabet, *c))
 }
 
-fn first_no_padding(skips: bool, text: &[u8]) -> Option<usize>
-    ensures place { result ≡ first_no_padding skips text.now }
+fn first_no_padding(blanks: Blanks, text: &[u8]) -> Option<usize>
+    ensures place { result ≡ first_no_padding blanks text.now }
     ensures bound { IfSome result (λ at. at < length text.now) }
 {
     text.iter()
-        .position(|c| !(*c == b'=' || (skips && is_skipped(*c))))
+        .position(|c| !(*c == b'=' || is_allowed_blank(blanks, *c)))
 }
 
 fn before_padding(text: &[u8]) -> usize
@@ -153,24 +180,41 @@ fn before_padding(text: &[u8]) -> usize
 }
 
 // Returns whether a character is allowed in a text of this alphabet.
-fn is_allowed(skips: bool, url_safe: bool, c: u8) -> bool
-    ensures { result ≡ is_allowed skips url_safe c }
+fn is_allowed(blanks: Blanks, alphabet: Alphabet, c: u8) -> bool
+    ensures { result ≡ is_allowed blanks alphabet c }
 {
     match c {
         b'=' | b'A'..=b'Z' | b'a'..=b'z' | b'0'..=b'9' => true,
-        b'+' | b'/' => !url_safe,
-        b'-' | b'_' => url_safe,
-        _ => skips && is_skipped(c),
+        _ => is_only_in(alphabet, c) || is_allowed_blank(blanks, c),
     }
 }
 
-// Returns whether the first character that is in only one alphabet is URL-safe.
-fn is_url_safe_text(text: &[u8]) -> bool
-    ensures { result ≡ is_url_safe_text text.now }
+fn is_allowed_blank(blanks: Blanks, c: u8) -> bool
+    ensures { result ≡ is_allowed_blank blanks c }
+{
+    match blanks {
+        Blanks::Allowed => is_skipped(c),
+        Blanks::Refused => false,
+    }
+}
+
+// Returns whether a character is in this alphabet, and not in the other one.
+fn is_only_in(alphabet: Alphabet, c: u8) -> bool
+    ensures { result ≡ is_only_in alphabet c }
+{
+    match alphabet {
+        Alphabet::Standard => is_standard(c),
+        Alphabet::UrlSafe => is_url_safe(c),
+    }
+}
+
+// Returns the alphabet of the first character that is in only one alphabet.
+fn alphabet_of(text: &[u8]) -> Alphabet
+    ensures { result ≡ alphabet_of text.now }
 {
     match first_of_one(text) {
-        Some(at) => is_url_safe(text[at]),
-        None => false,
+        Some(at) if is_url_safe(text[at]) => Alphabet::UrlSafe,
+        _ => Alphabet::Standard,
     }
 }
 
@@ -194,23 +238,15 @@ fn is_url_safe(c: u8) -> bool
 }
 
 // Returns the encoding of a text, from its alphabet and its padding.
+// Each arm returns: after a join the tables of the engine would have to be proved again.
 fn encoding_of(text: &[u8]) -> GeneralPurpose
     ensures { SameEngine result (encoding_of text.now) }
 {
-    encoding(is_url_safe_text(text), before_padding(text) < text.len())
-}
-
-fn encoding(url_safe: bool, padded: bool) -> GeneralPurpose
-    ensures { SameEngine result (encoding url_safe padded) }
-{
-    if url_safe && padded {
-        return URL_SAFE;
+    let padded = before_padding(text) < text.len();
+    match alphabet_of(text) {
+        Alphabet::Standard if padded => return STANDARD,
+        Alphabet::Standard => return STANDARD_NO_PAD,
+        Alphabet::UrlSafe if padded => return URL_SAFE,
+        Alphabet::UrlSafe => return URL_SAFE_NO_PAD,
     }
-    if url_safe {
-        return URL_SAFE_NO_PAD;
-    }
-    if padded {
-        return STANDARD;
-    }
-    STANDARD_NO_PAD
 }

@@ -5,10 +5,11 @@ use Rattle.std.specs.List.{filter, list_all, prefix_len, suffix_len}
 use Rattle.std.proofs.lemmas.Bool.{and_from, and_parts, cases_Bool, eqb-true, not-true}
 use Rattle.std.proofs.lemmas.List.{length-drop, length-reverse, reverse-append, reverse-reverse, take_all, take_at}
 use Rattle.std.proofs.lemmas.List.Elements.{filter-append}
-use Rattle.key_files.specs.Base64Text.{IsBase64Of, base64_meaning, encode_of, encoding, kept, symbol_text_meaning}
+use Rattle.key_files.specs.Base64Text.{IsBase64Of, base64_meaning, encode_of, kept, output_encoding, symbol_text_meaning}
 use Rattle.key_files.specs.HexText.{IsBytes, encode_lower, is_hex_digit, is_skipped}
+use Rattle.key_files.specs.declared.base64_text.Alphabet.TheVariants.{Standard, UrlSafe}
 use Rattle.key_files.specs.declared.fault.FileFault.{FileFault}
-use Rattle.key_files.proofs.Base64Back.{base64_meaning-accepts, kept-encoded, symbol_text_meaning-accepts, symbol_text_meaning-sound, unskipped}
+use Rattle.key_files.proofs.Base64Back.{IsBase64Of-output, base64_meaning-accepts, kept-encoded, symbol_text_meaning-accepts, symbol_text_meaning-sound, unskipped}
 use Rattle.key_files.proofs.Lists.{IsBytes-drop, IsBytes-take, all-append, all-both, drop_one, no_lf}
 use Rattle.key_files.proofs.ReadBack.{all-lower, hex_meaning-of_text}
 use Rattle.key_files.proofs.Strict.{digit_text_meaning-lower}
@@ -129,10 +130,10 @@ back notation p text bytes a b d e all h = (text, refl, no_lf p text e all, to_l
 pub prints_back : (notation : TextNotation) → PrintsBack notation
 prints_back Hex bytes fits = back Hex is_hex_digit (encode_lower bytes) bytes refl refl refl refl (all-lower bytes fits) (digit_text_meaning-lower bytes fits)
 prints_back Base64 bytes fits =
-    let text : List ℕ = encode_of (encoding false true) bytes in
-    back Base64 (λ c. not (is_skipped c)) text bytes refl refl refl refl (unskipped text bytes fits (false, true, refl))
-    (symbol_text_meaning-accepts text bytes fits (false, true, refl))
+    let text : List ℕ = encode_of (output_encoding Standard) bytes in
+    let own = IsBase64Of-output Standard bytes in
+    back Base64 (λ c. not (is_skipped c)) text bytes refl refl refl refl (unskipped text bytes fits own) (symbol_text_meaning-accepts text bytes fits own)
 prints_back Base64Url bytes fits =
-    let text : List ℕ = encode_of (encoding true false) bytes in
-    back Base64Url (λ c. not (is_skipped c)) text bytes refl refl refl refl (unskipped text bytes fits (true, false, refl))
-    (symbol_text_meaning-accepts text bytes fits (true, false, refl))
+    let text : List ℕ = encode_of (output_encoding UrlSafe) bytes in
+    let own = IsBase64Of-output UrlSafe bytes in
+    back Base64Url (λ c. not (is_skipped c)) text bytes refl refl refl refl (unskipped text bytes fits own) (symbol_text_meaning-accepts text bytes fits own)

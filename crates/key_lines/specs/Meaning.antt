@@ -1,10 +1,11 @@
 -- What a line denotes: one text of hex digits or of base64, with blanks only at the ends of the line.
-use Rattle.std.specs.Prelude.{◌≡◌, ◌≢◌, ℕ, ◌-◌, ◌==◌, ◌||◌, Bool, true, false, List, [], ◌∷◌, ◌++◌, length, take, drop, All, Result, Ok, Err}
+use Rattle.std.specs.Prelude.{◌≡◌, ◌≢◌, ℕ, ◌-◌, ◌==◌, ◌||◌, Bool, List, [], ◌∷◌, ◌++◌, length, take, drop, All, Result, Ok, Err}
 use Rattle.std.specs.List.{prefix_len, suffix_len}
 use Rattle.key_files.specs.Base64Text.{base64_line, base64_meaning, symbol_text_meaning}
 use Rattle.key_files.specs.Decoding.{fault_behind}
 use Rattle.key_files.specs.HexText.{IsBytes, hex_line}
 use Rattle.key_files.specs.Meaning.{digit_text_meaning, file_meaning, hex_meaning}
+use Rattle.key_files.specs.declared.base64_text.Alphabet.TheVariants.{Standard, UrlSafe}
 use Rattle.key_files.specs.declared.fault.FileFault.{FileFault}
 use Rattle.key_lines.specs.declared.text.TextNotation.{TextNotation}
 use Rattle.key_lines.specs.declared.text.TextNotation.TheVariants.{Hex, Base64, Base64Url}
@@ -53,8 +54,8 @@ text_file_meaning Base64Url file = base64_meaning file
 -- what is printed for bytes
 abbrev pub printed_line : TextNotation → List ℕ → List ℕ
 printed_line Hex bytes = hex_line bytes
-printed_line Base64 bytes = base64_line false bytes
-printed_line Base64Url bytes = base64_line true bytes
+printed_line Base64 bytes = base64_line Standard bytes
+printed_line Base64Url bytes = base64_line UrlSafe bytes
 
 -- A law: a line that denotes bytes denotes them as a file, too.
 abbrev pub LinesAreFiles : TextNotation → Type 0

@@ -1,8 +1,9 @@
 -- What a file denotes in a notation, and how bytes are printed.
-use Rattle.std.specs.Prelude.{ℕ, true, false, List, Result}
+use Rattle.std.specs.Prelude.{ℕ, List, Result}
 use Rattle.key_files.specs.Base64Text.{base64_line, base64_meaning}
 use Rattle.key_files.specs.HexText.{hex_line}
 use Rattle.key_files.specs.Meaning.{raw_meaning, hex_meaning}
+use Rattle.key_files.specs.declared.base64_text.Alphabet.TheVariants.{Standard, UrlSafe}
 use Rattle.key_files.specs.declared.fault.FileFault.{FileFault}
 use Rattle.key_lines.specs.declared.text.TextNotation.{TextNotation}
 use Rattle.key_lines.specs.declared.text.TextNotation.TheVariants as texts
@@ -19,8 +20,8 @@ meaning_in Base64Url file = base64_meaning file
 abbrev pub printed : Notation → List ℕ → List ℕ
 printed Raw bytes = bytes
 printed Hex bytes = hex_line bytes
-printed Base64 bytes = base64_line false bytes
-printed Base64Url bytes = base64_line true bytes
+printed Base64 bytes = base64_line Standard bytes
+printed Base64Url bytes = base64_line UrlSafe bytes
 
 -- the notation of files for a notation of lines
 abbrev pub line_notation : TextNotation → Notation

@@ -7,7 +7,7 @@ ghost use Rattle.keywrap_cli.specs.Files.{printed};
 
 use crate::files::{input_fault, read_file};
 use crate::job::{JobFault, Notation};
-use key_files::{print_base64, print_hex, write_raw};
+use key_files::{Alphabet, print_base64, print_hex, write_raw};
 use key_lines::{LineJob, Mark};
 use key_wrap::InPlaceFault;
 use std::alloc::{AllocError, Global};
@@ -81,7 +81,7 @@ pub fn print_in(
             Ok(())
         }
         Notation::Hex => print_hex(bytes, output),
-        Notation::Base64 => print_base64(false, bytes, output),
-        Notation::Base64Url => print_base64(true, bytes, output),
+        Notation::Base64 => print_base64(Alphabet::Standard, bytes, output),
+        Notation::Base64Url => print_base64(Alphabet::UrlSafe, bytes, output),
     }
 }

@@ -2,7 +2,7 @@
 
 use super::doubles::Trickle;
 use super::is_answer;
-use crate::{Base64Fault, FileFault, decode_symbols_into, print_base64, read_base64};
+use crate::{Alphabet, Base64Fault, FileFault, decode_symbols_into, print_base64, read_base64};
 use std::alloc::Global;
 use std::process::Abort;
 use std::test::Fail;
@@ -84,15 +84,15 @@ fn means(
 fn prints_base64_lines(rt: HostRuntime) -> Result<(), Fail> {
     let mut line = Vec::new(rt.alloc());
     for (bytes, text) in &VECTORS {
-        print_base64(false, bytes, &mut line)?;
+        print_base64(Alphabet::Standard, bytes, &mut line)?;
         assert!(rt;
             line.as_slice().strip_suffix(b"\n") == Some(*text),
             "{text:?}"
         );
     }
-    print_base64(false, b"\xfb\xff", &mut line)?;
+    print_base64(Alphabet::Standard, b"\xfb\xff", &mut line)?;
     assert!(rt; line.as_slice() == b"+/8=\n".as_slice());
-    print_base64(true, b"\xfb\xff", &mut line)?;
+    print_base64(Alphabet::UrlSafe, b"\xfb\xff", &mut line)?;
     assert!(rt; line.as_slice() == b"-_8\n".as_slice());
     Ok(())
 }

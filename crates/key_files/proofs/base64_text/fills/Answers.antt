@@ -1,6 +1,6 @@
 -- The encoding is the output, if it is as long.
-use Rattle.std.proofs.Common.{not, ◌∙◌}
-use Rattle.key_files.specs.Base64Text.{encoding}
+use Rattle.std.proofs.Common.{◌∙◌}
+use Rattle.key_files.specs.Base64Text.{output_encoding}
 use Rattle.base64.specs.declared.encode.EncodeSliceError.TheVariants.{OutputSliceTooSmall}
 use Rattle.key_files.proofs.Base64.{encode_of-same, filled}
 use Rattle.key_files.proofs.base64_text.fills.Goals as goal
@@ -8,7 +8,7 @@ use Rattle.key_files.proofs.base64_text.fills.Goals as goal
 pub returns-in-Ok : goal.returns-in-Ok
 returns-in-Ok c = λ whole.
     let wrote = c.in-Ok.ensures in
-    let e = c.encoding.result in
+    let e = c.output_encoding.result in
     filled e c.args.bytes.now c.args.output.now c.encode_slice.new.output c.in-Ok.len c.encode_slice.result OutputSliceTooSmall c.in-Ok.is
     c.encode_slice.ensures.fits c.encode_slice.ensures.too_small wrote.written c.encode_slice.auto.output whole
-    ∙ encode_of-same e (encoding c.args.url_safe (not c.args.url_safe)) c.args.bytes.now c.encoding.ensures
+    ∙ encode_of-same e (output_encoding c.args.alphabet) c.args.bytes.now c.output_encoding.ensures
