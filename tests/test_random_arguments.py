@@ -1,6 +1,6 @@
 """Random command lines over good and bad files: words from commands, options, values, file names and garbage.
 
-Each run ends within ten seconds, never by a signal, with a status of README's table, and writes no more than that
+Each run ends in time, never by a signal, with a status of README's table, and writes no more than that
 status allows. Only an answer changes a file: one, which is the answer, in the mode of the file that it replaces or for
 its owner only. KEYWRAP_RANDOM='N SEED' tries N command lines of this seed."""
 
