@@ -1,5 +1,5 @@
 # shellcheck shell=bash disable=SC2034,SC2154
-# What the scripts of tests/ count with. Each row is counted, and prints a line if it fails or
+# Counts the rows of the scripts of tests/. Each row prints a line if it fails or
 # cannot run here. `finish` is the last call of a script.
 
 passed=0 failed=0 skipped=0

@@ -55,7 +55,7 @@ of_glibc_2_17() {
     [ -s needed ] && [ "$({ cat needed && echo GLIBC_2.17; } | sort -V | tail -n 1)" = GLIBC_2.17 ]
 }
 
-### What the C library in $library shows and needs
+### Names and needs of the C library in $library
 
 names=$(sed -nE 's/^(u?int32_t|size_t) (keywrap_[a-z_]*)\(.*/\2/p' "$root"/include/keywrap{,_steps}.h | sort)
 

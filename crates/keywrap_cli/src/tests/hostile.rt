@@ -17,7 +17,7 @@ use std::alloc::Global;
 use std::process::Abort;
 use writes::stop_each_write;
 
-// What the tests do with each case.
+// The trial that each case is put through.
 #[derive(Clone, Copy)]
 enum Trial {
     Pieces,
