@@ -95,8 +95,8 @@ help:
 	@echo 'make js                 builds the package for browsers, Node and Deno, as $(JS)'
 	@echo 'make portable           builds the library as one file of C for other machines, as $(PORTABLE)'
 	@echo 'make sdist              packs the Python package with that file, in $(DIST), for pip to build elsewhere'
-	@echo 'make test               runs the tests of the built command and the C library, as a user does'
-	@echo 'make gate               runs rt ci, which proves all from nothing and tries each edit, and then make test'
+	@echo 'make test               runs the tests of the built command and the libraries; with KEYWRAP_ALL=1 all of them'
+	@echo 'make gate               runs rt ci, which proves all from nothing and tries each edit, and then all tests'
 	@echo 'make install            installs the two below, under $$(DESTDIR)$$(prefix), with their documents'
 	@echo 'make install-command    installs the program, its manual page, and completions for bash, zsh and fish'
 	@echo 'make install-library    installs the C library: in lib, include, lib/pkgconfig and lib/cmake'
@@ -194,7 +194,7 @@ gate:
 	    { [ ! -e crates/keywrap/out/keywrap.by-rattle ] || \
 	        install -m 755 crates/keywrap/out/keywrap.by-rattle crates/keywrap/out/keywrap; } && \
 	    printf '%s\n' "$$built_from" >crates/keywrap/out/built_from
-	TESTS=crates $(MAKE) --no-print-directory test
+	TESTS=crates KEYWRAP_ALL=1 $(MAKE) --no-print-directory test
 
 install: install-command install-library
 

@@ -1,7 +1,8 @@
 #!/usr/bin/env bash
 # Runs the tests of tests/: test_*.py by pytest, in parallel if pytest-xdist is installed, and at the same time the
 # scripts *.sh. Shows their output. The last line counts what passed, failed and was skipped; the line before it lists
-# the packages to install so that nothing is skipped. Each script ends with such a line, too.
+# the packages to install so that nothing is skipped. Each script ends with such a line, too. Slow rows are left to
+# KEYWRAP_ALL=1, which `make gate` sets.
 #
 # usage: scripts/tests.sh [NAME..]        tests/test_NAME.py or tests/NAME.sh; all of them, if none is named
 
@@ -27,9 +28,18 @@ run() {
     status=$?
     echo "$1: $((SECONDS - began)) s, status $status" >>"$logs/$1"
 }
-run_script() { run "$1" bash "tests/$1.sh"; }
+# run_scripts NAME..: as many at once as there are processors, and waits for them.
+run_scripts() {
+    local script
+    for script in "$@"; do
+        while [ "$(jobs -pr | wc -l)" -ge "$(nproc)" ]; do wait -n; done
+        run "$script" bash "tests/$script.sh" &
+    done
+    wait
+}
 
-# run_files: the tests of pytest, by the first Python that has it. Debian's need not be the first on the PATH.
+# run_files: the tests of pytest, by the first Python that has it. Debian's need not be the first on the PATH. They are
+# many and short, so they take the time that the scripts leave.
 run_files() {
     local python parallel=()
     for python in "${PYTHON:-python3}" /usr/bin/python3 none; do
@@ -41,37 +51,31 @@ run_files() {
         return
     fi
     ! "$python" -c 'import xdist' 2>/dev/null || parallel=(-n "$(nproc)")
-    "$python" -m pytest "${parallel[@]}" "${files[@]}"
+    KEYWRAP_JS=${KEYWRAP_JS:-$built/js} nice -n 5 "$python" -m pytest "${parallel[@]}" "${files[@]}"
 }
 
 # over_library NAME..: builds the archives of the C library, and then runs these tests over them. If the archives
 # cannot be built, each test reports it.
 over_library() {
-    local script more=()
+    local more=()
     [[ " $* " != *' arm64 '* && " $* " != *' facts '* ]] || more+=(arm64)
     [[ " $* " != *' js '* && " $* " != *' dist '* && " $* " != *' facts '* ]] || more+=(js)
     tests/library/build.sh "$built" "${more[@]}" >"$built/log" 2>&1 &&
         export KEYWRAP_ARCHIVES="$built/rattle.a $built/llvm.a"
     [ ! -d "$built/arm64" ] || export KEYWRAP_ARM64=$built/arm64
     [ ! -d "$built/js" ] || export KEYWRAP_JS=$built/js
-    for script in "$@"; do run_script "$script" & done
-    wait
+    run_scripts "$@"
 }
 
-# They share the program, which is built before the first of them. Those over the C library are one of the jobs.
+# They share the program, which is built before the first of them. Of those over the C library the longest begin first.
 ./keywrap --version || exit
 over_archives=() others=()
+over=' python hardware library js arm64 debian secrets provider dist facts '
+for script in $over; do [[ " ${scripts[*]} " != *" $script "* ]] || over_archives+=("$script"); done
+for script in "${scripts[@]}"; do [[ $over = *" $script "* ]] || others+=("$script"); done
 [ ${#files[@]} = 0 ] || run pytest run_files &
-over='arm64|debian|dist|facts|hardware|js|library|provider|python|secrets'
-for script in "${scripts[@]}"; do
-    if [[ $script =~ ^($over)$ ]]; then over_archives+=("$script"); else others+=("$script"); fi
-done
 [ ${#over_archives[@]} = 0 ] || over_library "${over_archives[@]}" &
-for script in "${others[@]}"; do
-    while [ "$(jobs -pr | wc -l)" -ge "$(nproc)" ]; do wait -n; done
-    run_script "$script" &
-done
-wait
+run_scripts "${others[@]}"
 
 passed=0 failed=0 skipped=0
 counts='^([0-9]+) passed, ([0-9]+) failed, ([0-9]+) skipped'$'\n''.* status ([0-9]+)$'
@@ -91,5 +95,6 @@ done
 echo
 packages=$(sed -n 's/^SKIPPED: .*(apt-get install \(.*\))$/\1/p' "$logs"/* | tr ' ' '\n' | sort -u | paste -sd ' ')
 [ -z "$packages" ] || echo "what was skipped needs: apt-get install $packages (all: tests/packages.txt)"
-echo "$passed passed, $failed failed, $skipped skipped"
+slow=$(sed -n 's/^SLOW: \([0-9]*\) .*/\1/p' "$logs"/* | paste -sd +)
+echo "$passed passed, $failed failed, $skipped skipped${slow:+, $((slow)) slow left to KEYWRAP_ALL=1 make test}"
 [ "$failed" = 0 ]

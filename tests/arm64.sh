@@ -53,7 +53,11 @@ secrets() {
     grep -q ' 0 failed, 0 skipped$' secrets.log || { cat secrets.log && false; }
 }
 of_debian="no $sysroot (scripts/sysroot.sh '$sysroot')"
-if [ -d "$sysroot" ]; then row 'what depends on secrets' secrets; else skip 'what depends on secrets' "$of_debian"; fi
+if [ -d "$sysroot" ]; then
+    slow row 'what depends on secrets' secrets
+else
+    skip 'what depends on secrets' "$of_debian"
+fi
 
 ### What is packed
 
@@ -104,7 +108,7 @@ if [ -d site ]; then
     row 'the symbols of glibc' of_glibc_2_17 site/keywrap/_ffi.abi3.so
     row 'the names of the extension' shows_only PyInit__ffi site/keywrap/_ffi.abi3.so
     row 'Python takes the wheel' takes
-    row 'the tests of the package' package_tests
+    slow row 'the tests of the package' package_tests
 fi
 row 'the calls' eval 'wait $calls || { cat calls.log && false; }'
 finish

@@ -18,7 +18,7 @@ import pytest
 pytest.register_assert_rewrite("checks")
 
 from commands import FILES, LARGE
-from program import Ended, Program, shared, wait_for
+from program import SLOW, Ended, Program, shared, wait_for
 
 ROOT = pathlib.Path(__file__).resolve().parent.parent
 
@@ -58,9 +58,13 @@ def pytest_unconfigure(config):
     if reporter and not config.getoption("collectonly"):
         kinds = "passed", "failed", "error", "skipped"
         passed, failed, errors, skipped = (reporter.stats.get(kind, []) for kind in kinds)
-        for reason in sorted({report.longrepr[2] for report in skipped}):
-            print("SKIPPED:", reason.removeprefix("Skipped: "))
-        print(f"{len(passed)} passed, {len(failed + errors)} failed, {len(skipped)} skipped")
+        reasons = [report.longrepr[2].removeprefix("Skipped: ") for report in skipped]
+        left = reasons.count(SLOW)
+        for reason in sorted({*reasons} - {SLOW}):
+            print("SKIPPED:", reason)
+        if left:
+            print("SLOW:", left, SLOW)
+        print(f"{len(passed)} passed, {len(failed + errors)} failed, {len(skipped) - left} skipped")
 
 
 def pytest_make_parametrize_id(val):

@@ -42,7 +42,7 @@ only_copyright() {
 }
 row 'a copy of the tree' copied
 row 'dpkg-buildpackage -b' built || { finish; exit; }
-row "lintian's errors" only_copyright
+slow row "lintian's errors" only_copyright
 # depends PACKAGE ON: the package depends on it.
 depends() { dpkg-deb -f "$1"_*.deb Depends | grep -F -e "$2"; }
 row 'libkeywrap-dev needs the library' depends libkeywrap-dev "libkeywrap1 (= $debian)"

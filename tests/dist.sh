@@ -48,7 +48,7 @@ if has_python cffi,setuptools,wheel,build 'the wheel, and make dist'; then
     row 'the bill of materials' "$python" "$root/tests/dist/bill.py" "dist/$bom" "$version" \
         "$(cat "$(dirname "$(readlink -f "$(command -v rt)")")/../KIT-ID")"
     row 'the hashes in docs/TRUST.md' "$python" "$root/scripts/trust.py" --check-hashes dist/SHA256SUMS
-    row 'make dist in another folder' elsewhere
+    slow row 'make dist in another folder' elsewhere
 else
     tarballs=("${tarballs[@]:0:4}")
     row 'make dist, but for the wheel' packs dist dist-command dist-library dist-js dist-portable || { finish; exit; }

@@ -61,14 +61,14 @@ if has valgrind valgrind 'what depends on secrets in the steps'; then
     row 'secrets: runs' writes 'ends of an unwrap' valgrind -q --error-limit=no --log-file=valgrind.log \
         --suppressions="$root/tests/secrets/decision.supp" ./secrets && cp written reported
     for name in 'wraps' 'steps of an unwrap' 'ends of an unwrap'; do row "secrets: $name" reports "$name" 0; done
-    row 'secrets: with the decision' writes 'ends of an unwrap' valgrind -q --error-limit=no --log-file=valgrind.log \
-        ./secrets && cp written reported
-    row 'secrets: the decision is seen' fails reports 'ends of an unwrap' 0
-    row 'secrets of libkeywrap_hw: compiles' cc "${options[@]}" -O1 -g "$root/tests/secrets/secrets.c" \
+    slow row 'secrets: with the decision' writes 'ends of an unwrap' valgrind -q --error-limit=no \
+        --log-file=valgrind.log ./secrets && cp written reported
+    slow row 'secrets: the decision is seen' fails reports 'ends of an unwrap' 0
+    slow row 'secrets of libkeywrap_hw: compiles' cc "${options[@]}" -O1 -g "$root/tests/secrets/secrets.c" \
         "$root/bench/one_table.c" "$library/libkeywrap_hw.a" -o hw_secrets
-    row 'secrets of libkeywrap_hw: runs' writes 'keywrap_kind: 0 reports' valgrind -q --error-limit=no \
+    slow row 'secrets of libkeywrap_hw: runs' writes 'keywrap_kind: 0 reports' valgrind -q --error-limit=no \
         --log-file=valgrind.log --suppressions="$root/tests/secrets/decision.supp" ./hw_secrets 264
-    row 'secrets of libkeywrap_hw: the length of a rewrapped key' diff <(sed '/: 0 reports/d; s/:.*//' written) \
+    slow row 'secrets of libkeywrap_hw: the length of a rewrapped key' diff <(sed '/: 0 reports/d; s/:.*//' written) \
         <(printf '%s\n' 'keywrap_rewrap_in_place, to plain' 'keywrap_rewrap_in_place, padded' tables)
 fi
 
@@ -90,10 +90,12 @@ on() {
     local part
     row "$1: the AES" writes "$3" "${@:4}" "$2/chosen"
     row "$1: the calls" writes ' passed, 0 failed' "${@:4}" "$2/checks" few
-    [ ! -s cases ] || row "$1: NIST's cases" writes '6000 right' "${@:4}" "$2/nist" <cases
+    [ ! -s cases ] || slow row "$1: NIST's cases" writes '6000 right' "${@:4}" "$2/nist" <cases
+    [ -e "${2%_without}/compared" ] || return
+    row "$1: the provider, parameters" "${@:4}" "$2/compared" "$2" parameters
     # shellcheck disable=SC2086
-    [ ! -e "$2/compared" ] || for part in lengths 'sequences 1000' parameters 'refusals few'; do
-        row "$1: the provider, $part" "${@:4}" "$2/compared" "$2" $part
+    for part in lengths 'sequences 1000' 'refusals few'; do
+        slow row "$1: the provider, $part" "${@:4}" "$2/compared" "$2" $part
     done
 }
 
@@ -106,8 +108,8 @@ fi
 export LD_LIBRARY_PATH=$library KEYWRAP_VERSION=$version
 if has qemu-x86_64 qemu-user 'each processor'; then
     on 'x86-64 with AES' here instructions qemu-x86_64 -cpu max
-    on 'x86-64 without AES' here software qemu-x86_64 -cpu Nehalem
-    row 'planted bugs' python3 "$root/tests/hardware/bugs.py" "$library/libkeywrap.a"
+    slow on 'x86-64 without AES' here software qemu-x86_64 -cpu Nehalem
+    slow row 'planted bugs' python3 "$root/tests/hardware/bugs.py" "$library/libkeywrap.a"
 fi
 # left MOST: no call but the first, which makes the known-answer test, leaves more bytes that depend on a secret below
 # the stack pointer. The 16 bytes are a block of the wrapped key.
@@ -119,8 +121,8 @@ row 'the stack: compiles' cc -std=c99 -O1 -g "${options[@]:2}" "$root/tests/secr
     "$library/libkeywrap_hw.a" -Wl,-z,now -o stack
 row 'the stack: runs' ./stack && cp row.log stacked
 row 'the stack: round keys are cleared' left 16
-row 'the calls, all' writes ' passed, 0 failed' here/checks
-row "the provider's other tests" env KEYWRAP_ARCHIVES="$library/libkeywrap_hw.a" bash "$root/tests/provider.sh"
+slow row 'the calls, all' writes ' passed, 0 failed' here/checks
+slow row "the provider's other tests" env KEYWRAP_ARCHIVES="$library/libkeywrap_hw.a" bash "$root/tests/provider.sh"
 unset LD_LIBRARY_PATH
 
 arm=aarch64-linux-gnu
@@ -136,15 +138,16 @@ made=(make -s -C "$root" HARDWARE=1 LIBRARY="$library" ${KEYWRAP_ARM64:+ARCHIVE=
 row 'aarch64: make library HARDWARE=1' "${made[@]}" library
 row 'aarch64: the programs: compile' builds arm $arm-gcc
 # Every processor of qemu has the instructions, so these programs answer in place of the C library that it has none.
-row 'aarch64 without AES: the programs: compile' builds arm_without $arm-gcc -rdynamic "$root/tests/hardware/no_aes.c"
+slow row 'aarch64 without AES: the programs: compile' builds arm_without $arm-gcc -rdynamic "$root/tests/hardware/no_aes.c"
 if [ -d "$sysroot/usr/include/openssl" ]; then
     runs=(qemu-aarch64 -L "$sysroot")
     of_debian=(-idirafter "$sysroot/usr/include" -idirafter "$sysroot/usr/include/$arm")
     libcrypto=$sysroot/usr/lib/$arm/libcrypto.so
     row 'aarch64: make provider HARDWARE=1' "${made[@]}" provider PROVIDER="$room/arm" CPPFLAGS="${of_debian[*]}"
     row 'aarch64: the comparisons: compile' compares arm "$libcrypto" $arm-gcc "${of_debian[@]}"
-    row 'aarch64 without AES: the comparisons: compile' compares arm_without "$libcrypto" $arm-gcc "${of_debian[@]}" \
-        -rdynamic "$root/tests/hardware/no_aes.c"
+    mkdir -p arm_without
+    slow row 'aarch64 without AES: the comparisons: compile' compares arm_without "$libcrypto" $arm-gcc \
+        "${of_debian[@]}" -rdynamic "$root/tests/hardware/no_aes.c"
     ln -s ../arm/keywrap.so arm_without
 else
     skip 'the provider on aarch64' "no OpenSSL in $sysroot (scripts/sysroot.sh '$sysroot')"
@@ -152,5 +155,5 @@ fi
 # An early processor.
 runs+=(-cpu cortex-a53 -E "LD_LIBRARY_PATH=$library")
 on 'aarch64 with AES' arm instructions "${runs[@]}"
-on 'aarch64 without AES' arm_without software "${runs[@]}"
+slow on 'aarch64 without AES' arm_without software "${runs[@]}"
 finish

@@ -84,13 +84,14 @@ in_engine() {
 }
 if has node nodejs 'the package in browsers'; then
     ! has chromium chromium 'the package in Chromium' || row 'the package in Chromium' in_engine chromium chromium
-    ! has firefox-esr firefox-esr 'the package in Firefox' || row 'the package in Firefox' in_engine firefox firefox-esr
+    ! has firefox-esr firefox-esr 'the package in Firefox' ||
+        slow row 'the package in Firefox' in_engine firefox firefox-esr
     mini=$(compgen -G '/usr/lib/*/webkit2gtk-4.*/MiniBrowser' | head -n 1)
     if [ -z "$mini" ]; then
         skip 'the package in WebKit' 'no MiniBrowser (apt-get install webkit2gtk-driver)'
     elif has xvfb-run 'xvfb xauth' 'the package in WebKit' &&
         has dbus-run-session dbus-x11 'the package in WebKit'; then
-        row 'the package in WebKit' in_engine webkit "$mini"
+        slow row 'the package in WebKit' in_engine webkit "$mini"
     fi
 fi
 

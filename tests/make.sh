@@ -15,8 +15,8 @@ export TMPDIR=$room/temporary
 # script NAME COUNTS STATUS: a fake tests/NAME.sh. It records its arguments.
 script() {
     cat >"tests/$1.sh" <<END_OF_SCRIPT
-echo "$1: \${KEYWRAP_ARCHIVES:+over \$(cat \$KEYWRAP_ARCHIVES | wc -l) lines}\${TESTS:+the programs of \$TESTS}" \
-    >>"\$tree/notes"
+echo "$1: \${KEYWRAP_ARCHIVES:+over \$(cat \$KEYWRAP_ARCHIVES | wc -l) lines}\${TESTS:+the programs of \$TESTS}\
+\${KEYWRAP_ALL:+, all rows}" >>"\$tree/notes"
 echo '$2'
 exit $3
 END_OF_SCRIPT
@@ -69,6 +69,10 @@ done <<'END_OF_SCRIPTS'
 7 passed, 1 failed, 0 skipped:0:7:2:0
 no counts:0:0:1:0
 END_OF_SCRIPTS
+script command $'SLOW: 7 left to KEYWRAP_ALL=1\n1 passed, 0 failed, 0 skipped' 0
+script library $'SLOW: 4 left to KEYWRAP_ALL=1\n2 passed, 0 failed, 0 skipped' 0
+does 'slow rows' 0 '3 passed, 0 failed, 0 skipped, 11 slow left to KEYWRAP_ALL=1 make test' scripts/tests.sh -- \
+    "${archives[@]}" 'command: ' "library: $over"
 scripts
 does 'a script that is not there' 1 '2 passed, 1 failed, 1 skipped' scripts/tests.sh command missing -- 'command: '
 fresh
@@ -89,8 +93,8 @@ at=keywrap_c event='[[ ! "$*" =~ rattle ]] || exit 1' \
 
 # The fake rt builds the program as rt ci does.
 ci='cd crates/keywrap'
-in_gate=('a tree: ci' 'ends a tree' "${archives[@]}" 'command: the programs of crates'
-    "library: ${over}the programs of crates")
+in_gate=('a tree: ci' 'ends a tree' "${archives[@]}" 'command: the programs of crates, all rows'
+    "library: ${over}the programs of crates, all rows")
 scripts; fresh
 at='a tree' event=$ci does 'make gate' 0 '42 passed, 0 failed, 1 skipped' make gate -- "${in_gate[@]}"
 same 'the gate comes first' 'a tree: ci' "$(head -n 1 notes)"

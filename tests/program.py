@@ -11,6 +11,17 @@ import subprocess
 import time
 from typing import NamedTuple, Union
 
+import pytest
+
+# Slow tests run only with KEYWRAP_ALL=1, which `make gate` sets.
+ALL, SLOW = os.environ.get("KEYWRAP_ALL") == "1", "left to KEYWRAP_ALL=1"
+slow = pytest.mark.skipif(not ALL, reason=SLOW)
+
+
+def all_of(values, few):
+    """The values as parameters. All but these few of them are slow."""
+    return [value if value in few else pytest.param(value, marks=slow) for value in values]
+
 
 class Ended(NamedTuple):
     """The exit status (negative: the signal) and everything that was written."""

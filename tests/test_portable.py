@@ -1,7 +1,7 @@
 """The portable C library: the checks of tests/library and NIST's cases by each compiler and machine, the memory of a
-call, what the object needs, and planted bugs. KEYWRAP_JS=FOLDER takes the module from there instead of building it, and
-KEYWRAP_ALL=1 also runs the combinations that are slow."""
+call, what the object needs, and planted bugs. KEYWRAP_JS=FOLDER takes the module from there if it is built there."""
 
+import fcntl
 import os
 import pathlib
 import re
@@ -13,6 +13,7 @@ import pytest
 
 import nist_cases
 from hardware.bugs import plant
+from program import ALL, all_of, slow
 
 ROOT = pathlib.Path(__file__).resolve().parent.parent
 LIBRARY = [*sorted(map(str, (ROOT / "tests/library").glob("*.c"))), f"{ROOT}/bench/one_table.c"]
@@ -20,7 +21,6 @@ STRICT = ["-std=c99", "-Wall", "-Wextra", "-pedantic", "-Werror"]
 OWN = ROOT / "tests/portable"
 SANITIZED = ["-fsanitize=address,undefined", "-fno-sanitize-recover=all"]
 WATCHED = ["-Dmalloc=watched_malloc", "-Dfree=watched_free"]
-ALL = bool(os.environ.get("KEYWRAP_ALL"))
 
 # Each compiler: its command, what runs its programs here, and the package.
 MACHINES = {
@@ -32,11 +32,6 @@ MACHINES = {
     "arm": (["arm-linux-gnueabihf-gcc", "-static"], ["qemu-arm"], "gcc-arm-linux-gnueabihf libc6-dev-armhf-cross"),
 }
 NATIVE = ["gcc", "clang"]
-
-
-def slow(*values):
-    """Parameters that only KEYWRAP_ALL=1 tries."""
-    return values if ALL else ()
 
 
 def needs(*commands, package):
@@ -65,14 +60,19 @@ def built(folder, name, sources, *options, library=()):
 
 @pytest.fixture(scope="session")
 def portable(tmp_path_factory):
-    """The directory that `make portable` makes."""
-    folder = tmp_path_factory.mktemp("portable")
+    """The directory that `make portable` makes. The processes of pytest-xdist share it: the first one makes it."""
+    base = tmp_path_factory.getbasetemp()
+    folder = (base.parent if "PYTEST_XDIST_WORKER" in os.environ else base) / "portable"
     needs("wasm2c", package="wabt")
-    if os.environ.get("KEYWRAP_JS"):
-        run(sys.executable, ROOT / "scripts/portable.py", f"{os.environ['KEYWRAP_JS']}/keywrap.wasm", "1.0", folder)
-    else:
-        needs("wasm-opt", package="binaryen")
-        run("make", "-s", "-C", ROOT, "portable", f"JS={folder}/js", f"PORTABLE={folder}")
+    with open(f"{folder}.lock", "w") as lock:
+        fcntl.flock(lock, fcntl.LOCK_EX)
+        if folder.exists():
+            pass
+        elif os.path.isdir(js := os.environ.get("KEYWRAP_JS", "")):
+            run(sys.executable, ROOT / "scripts/portable.py", f"{js}/keywrap.wasm", "1.0", folder)
+        else:
+            needs("wasm-opt", package="binaryen")
+            run("make", "-s", "-C", ROOT, "portable", f"JS={folder}/js", f"PORTABLE={folder}")
     return folder
 
 
@@ -85,14 +85,15 @@ def cases():
 
 
 @pytest.mark.parametrize("compiler", NATIVE)
-@pytest.mark.parametrize("options", ["-O0 -std=c99", "-O2 -std=c17", "-O3 -std=c99", "-Os -std=c99"])
+@pytest.mark.parametrize("options", all_of(["-O0 -std=c99", "-O2 -std=c17", "-O3 -std=c99", "-Os -std=c99"], [
+    "-O2 -std=c17"]))
 def test_compiles_without_a_warning(portable, compiler, options):
     """The other tests compile it with -O2 as C99."""
     needs(compiler, package=compiler)
     run(compiler, *STRICT, *options.split(), "-c", portable / "keywrap.c", "-o", "keywrap.o")
 
 
-@pytest.mark.parametrize("name", [*NATIVE, "arm", *slow("aarch64", "riscv64")])
+@pytest.mark.parametrize("name", all_of(MACHINES, ["gcc"]))
 def test_calls(portable, name):
     """The checks of tests/library."""
     few = ["few"] if name not in NATIVE or not ALL else []
@@ -100,18 +101,20 @@ def test_calls(portable, name):
     assert re.fullmatch(r"\d{6,} passed, 0 failed", last)
 
 
-@pytest.mark.parametrize("name", MACHINES)
+@pytest.mark.parametrize("name", all_of(MACHINES, ["gcc", "arm"]))
 def test_nist(portable, cases, name):
     some = cases[::1 if ALL or name in NATIVE else 6]
     said = run(*built(portable, name, [OWN / "nist.c"], "-O2"), input="".join(some))
     assert re.fullmatch(rf"{len(some)} right, \d{{2,4}} refused\n", said)
 
 
-@pytest.mark.parametrize("name", ["clang", *slow("gcc")])
+@slow
+@pytest.mark.parametrize("name", NATIVE)
 def test_sanitizers(portable, name):
     assert run(*built(portable, name, LIBRARY, "-O2", "-g", *SANITIZED), "few").endswith(" 0 failed\n")
 
 
+@slow
 def test_valgrind(portable, cases):
     needs("valgrind", package="valgrind")
     program = built(portable, "gcc", [OWN / "nist.c"], "-O1", "-g")
@@ -119,7 +122,7 @@ def test_valgrind(portable, cases):
     run("valgrind", "-q", "--error-exitcode=9", "--leak-check=full", *program, input=some)
 
 
-@pytest.mark.parametrize("name", ["gcc", *slow("clang", "arm")])
+@pytest.mark.parametrize("name", all_of([*NATIVE, "arm"], ["gcc"]))
 def test_memory_is_cleared(portable, name):
     """Every check of tests/library, each call in a block of its own: it is all zeros when it is freed."""
     program = built(portable, name, [*LIBRARY, OWN / "watched.c"], "-O2",
@@ -127,7 +130,7 @@ def test_memory_is_cleared(portable, name):
     assert run(*program, "few").endswith(" 0 failed\n")
 
 
-@pytest.mark.parametrize("name", ["gcc", "arm", *slow("clang", "aarch64", "riscv64")])
+@pytest.mark.parametrize("name", all_of(MACHINES, ["gcc"]))
 def test_no_memory_and_longest_keys(portable, name):
     program = built(portable, name, [OWN / "memory.c", OWN / "watched.c"], "-O2", "-DKEYWRAP_STACK_KEY=256",
                     library=WATCHED)
@@ -136,7 +139,7 @@ def test_no_memory_and_longest_keys(portable, name):
     assert int(run(*program)) == fixed + 32 + 2 * 1048576 + 8 + 7
 
 
-@pytest.mark.parametrize("name", NATIVE)
+@pytest.mark.parametrize("name", all_of(NATIVE, ["gcc"]))
 def test_stack(portable, name):
     """Bytes that depend on a KEK or a key, below the stack pointer after each call: 23 by gcc 12, 36 by clang 14."""
     program = built(portable, name, [ROOT / "tests/secrets/stack.c"], "-O2", "-Wl,-z,now", "-Wno-error")
@@ -146,7 +149,7 @@ def test_stack(portable, name):
     assert max(kek, new_kek, key) <= 40 and copies == 0, (kek, new_kek, key, copies)
 
 
-@pytest.mark.parametrize("name", MACHINES)
+@pytest.mark.parametrize("name", all_of(MACHINES, ["gcc", "arm"]))
 def test_object(portable, name):
     """What the object needs, that it shows the calls of the header only, and that none of its data can be written."""
     compiler, _, package = MACHINES[name]
@@ -213,6 +216,7 @@ def test_cmake(portable):
     run("cc", "-shared", "-o", "shared.so", "-Wl,--whole-archive", "built/libkeywrap.a", "-Wl,--no-whole-archive")
 
 
+@slow
 def test_windows(portable):
     """Compiles with mingw; the vectors run under wine."""
     needs("x86_64-w64-mingw32-gcc", package="gcc-mingw-w64-x86-64")
@@ -231,7 +235,8 @@ def test_freestanding(portable):
         "-o", "firmware.elf", "-lgcc")
 
 
-@pytest.mark.parametrize("compiler", ["gcc", *slow("clang")])
+@slow
+@pytest.mark.parametrize("compiler", NATIVE)
 def test_sdist(portable, compiler):
     """pip builds the source distribution without the kit, and the package's tests pass on it. It is the same again."""
     needs(compiler, package=compiler)
@@ -262,8 +267,8 @@ FINDERS = [
 ]
 
 
-@pytest.mark.parametrize("bug", [path.stem for path in sorted(OWN.glob("bugs/*.edit"))] if ALL else [
-    "length-truncated-to-32-bits", "no-wipe-after-a-refusal"])
+@pytest.mark.parametrize("bug", all_of([path.stem for path in sorted(OWN.glob("bugs/*.edit"))], [
+    "no-wipe-after-a-refusal"]))
 def test_bug_is_caught(portable, tmp_path, bug):
     for name in "keywrap.c", "keywrap.h":
         shutil.copy(portable / name, tmp_path)

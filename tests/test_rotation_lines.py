@@ -12,7 +12,8 @@ import pytest
 
 pytest.importorskip("cryptography", reason="no cryptography (apt-get install python3-cryptography)")
 
-from rotation_store import KEK, NEW_KEK, NOBODY, ROOT, Room, lines, make_keys, wrapped
+from program import slow
+from rotation_store import KEK, NEW_KEK, NOBODY, ROOT, TOOLS, Room, lines, make_keys, wrapped
 
 KEYS = make_keys(40)
 OLD, NEW = lines(KEK, KEYS), lines(NEW_KEK, KEYS)
@@ -64,12 +65,15 @@ class TestRuns:
             assert content(room) == lines(NEW_KEK, keys)
             assert sorted(os.listdir(room.here)) == ["kek.hex", "keys.hex", "new-kek.hex"]
 
-    def test_every_call_goes_wrong_in_turn(self, room):
+    # The other calls of lines_parallel.sh are the same as in lines.sh.
+    @pytest.mark.parametrize("room, tools, least", [
+        ("lines.sh", ["keywrap", "mv"], 2), pytest.param("lines.sh", {*TOOLS} - {"keywrap", "mv"}, 7, marks=slow),
+        pytest.param("lines_parallel.sh 2", ["keywrap", "parallel", "mv"], 3, marks=slow)],
+        indirect=["room"], ids=["keywrap and mv", "the other tools", "in blocks"])
+    def test_every_call_goes_wrong_in_turn(self, room, tools, least):
         assert room.run().returncode == 0
-        # The other calls of lines_parallel.sh are the same as in lines.sh.
-        tools = ["keywrap", "parallel", "mv"] if "parallel" in room.command else []
         faults = list(room.faults(*tools))
-        assert len({fault["tool"] for fault in faults}) >= (len(tools) or 9)
+        assert len({fault["tool"] for fault in faults}) >= least
         for fault in faults:
             room.store.write_text(OLD)
             endures(room, room.run(**fault), fault)

@@ -13,6 +13,7 @@ import pytest
 
 pytest.importorskip("cryptography", reason="no cryptography (apt-get install python3-cryptography)")
 
+from program import slow
 from rotation_store import KEK, NEW_KEK, Room, Server, make_keys, rows, server_programs, wrapped
 
 if not server_programs():
@@ -89,8 +90,10 @@ def test_nothing_is_changed(room, server, before, change, command, status, messa
 
 
 @pytest.mark.parametrize("before, command, tools", [
-    ([], ONE, []), ([f"{BATCHES} begin 60"], WORK, ["keywrap", "psql", "cut", "sed", "paste"]),
-    ([f"{BATCHES} begin 60", WORK], END, ["keywrap", "psql", "cut", "sed", "paste"])], ids=["one", "work", "end"])
+    ([], ONE, []), ([f"{BATCHES} begin 60"], WORK, ["keywrap"]),
+    pytest.param([f"{BATCHES} begin 60"], WORK, ["psql", "cut", "sed", "paste"], marks=slow),
+    pytest.param([f"{BATCHES} begin 60", WORK], END, ["keywrap", "psql", "cut", "sed", "paste"], marks=slow)],
+    ids=["one", "keywrap in work", "work", "end"])
 def test_every_call_goes_wrong_in_turn(room, server, before, command, tools):
     """No key is lost: each is the old one or the new one, in one transaction all are. What ended with 0 is done, and it
     can be started again."""
@@ -181,7 +184,7 @@ class TestBatches:
         assert server.held() == NEW
 
 
-@pytest.mark.parametrize("kills", [0, 3])
+@pytest.mark.parametrize("kills", [pytest.param(0, marks=slow), 3])
 def test_beside_a_live_writer(room, server, kills):
     """Three workers, killed with all that they started and begun again. Every row is its old key, rewrapped, or what
     the writer last got acknowledged."""

@@ -8,6 +8,8 @@ from cryptography.hazmat.primitives import keywrap as pyca
 
 KEK = bytes(range(16))
 NEW_KEK = bytes(range(100, 132))
+# Slow tests run only with KEYWRAP_ALL=1, which `make gate` sets.
+slow = pytest.mark.skipif(os.environ.get("KEYWRAP_ALL") != "1", reason="left to KEYWRAP_ALL=1")
 SECRETS = (KEK.hex().encode(), NEW_KEK.hex().encode(), KEK, NEW_KEK)
 
 

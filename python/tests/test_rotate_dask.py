@@ -16,7 +16,17 @@ import pytest
 pytest.importorskip("cryptography", reason="no cryptography (apt-get install python3-cryptography)")
 pytest.importorskip("distributed", reason="no distributed (apt-get install python3-distributed)")
 
-from rotation_help import KEK, NEW_KEK, SECRETS, left_over, lines_under, make_keys, set_keks, skip_if_busy  # noqa: E402
+from rotation_help import (  # noqa: E402
+    KEK,
+    NEW_KEK,
+    SECRETS,
+    left_over,
+    lines_under,
+    make_keys,
+    set_keks,
+    skip_if_busy,
+    slow,
+)
 
 FILES = 8
 KEYS = [make_keys(60, seed) for seed in range(FILES)]
@@ -228,6 +238,7 @@ def test_workers_killed(cluster, store):
     assert state(store) == ALL_NEW
 
 
+@slow
 def test_a_machine_lost(cluster, store):
     running = begun(cluster, store)
     kill(cluster.workers[0].pid, *cluster.inner(0))
@@ -235,6 +246,7 @@ def test_a_machine_lost(cluster, store):
     assert state(store) == ALL_NEW
 
 
+@slow
 def test_all_workers_lost_and_one_comes_back(cluster, store):
     running = begun(cluster, store)
     for number in (0, 1):
@@ -246,6 +258,7 @@ def test_all_workers_lost_and_one_comes_back(cluster, store):
     assert state(store) == ALL_NEW
 
 
+@slow
 def test_the_scheduler_killed(cluster, store):
     running = begun(cluster, store)
     kill(cluster.scheduler.pid)
@@ -260,6 +273,7 @@ def test_the_scheduler_killed(cluster, store):
     assert state(store) == ALL_NEW
 
 
+@slow
 def test_the_client_killed(cluster, store):
     running = begun(cluster, store)
     running.kill()
@@ -269,6 +283,7 @@ def test_the_client_killed(cluster, store):
     assert state(store) == ALL_NEW
 
 
+@slow
 def test_a_worker_stopped_and_woken(cluster, store):
     running = begun(cluster, store)
     pids = [cluster.workers[0].pid, *cluster.inner(0)]
@@ -280,6 +295,7 @@ def test_a_worker_stopped_and_woken(cluster, store):
     assert state(store) == ALL_NEW
 
 
+@slow
 def test_corrupt_lines(cluster, store):
     for name, number, line in (("2.hex", 17, b"00" * 40), ("5.hex", 60, b"zz" * 40)):
         lines = (store / name).read_bytes().splitlines(keepends=True)
@@ -294,6 +310,7 @@ def test_corrupt_lines(cluster, store):
     assert [end for number, end in enumerate(state(store)) if number not in (2, 5)] == ["new"] * 6
 
 
+@slow
 def test_keks_of_one_worker_that_are_wrong(cluster, store, keks, tmp_path_factory):
     """Each wrong KEK is found before the first file, and named. Then the worker ends."""
     other = tmp_path_factory.mktemp("wrong") / "kek.hex"
@@ -316,6 +333,7 @@ def test_keks_of_one_worker_that_are_wrong(cluster, store, keks, tmp_path_factor
         cluster.workers.pop()
 
 
+@slow
 def test_keks_of_the_client_that_are_wrong(cluster, store, keks):
     kek, new_kek = str(keks / "kek.hex"), str(keks / "new-kek.hex")
     for words, status, line in (
@@ -329,6 +347,7 @@ def test_keks_of_the_client_that_are_wrong(cluster, store, keks):
         assert state(store) == ["old"] * FILES
 
 
+@slow
 def test_a_worker_with_another_kek_comes_later(cluster, store, tmp_path_factory):
     """Its tasks fail, and are handed out again. No file is under its KEK, and a status of 0 means that all are new."""
     other = tmp_path_factory.mktemp("wrong") / "kek.hex"
@@ -341,6 +360,7 @@ def test_a_worker_with_another_kek_comes_later(cluster, store, tmp_path_factory)
     assert status in (0, 6), stderr
 
 
+@slow
 def test_no_worker_and_no_scheduler(tmp_path_factory, store, keks):
     skip_if_busy()
     alone = Cluster(tmp_path_factory.mktemp("cluster"))
@@ -358,6 +378,7 @@ def test_no_worker_and_no_scheduler(tmp_path_factory, store, keks):
         alone.end()
 
 
+@slow
 def test_tls(tmp_path_factory, store, keks, monkeypatch):
     """Scheduler, worker and client have certificates. A process without one is refused."""
     skip_if_busy()

@@ -2,7 +2,7 @@
 # Counts the rows of the scripts of tests/. Each row prints a line if it fails or
 # cannot run here. `finish` is the last call of a script.
 
-passed=0 failed=0 skipped=0
+passed=0 failed=0 skipped=0 omitted=0
 
 # verdict NAME PROBLEM: counts a row, and prints the start of the problem, if there is one.
 verdict() {
@@ -15,11 +15,19 @@ verdict() {
 
 # row NAME COMMAND..: the command must succeed. If it fails, the start of its output is shown.
 row() {
+    [ -z "${is_omitted:-}" ] || { omitted=$((omitted + 1)) && return; }
     if "${@:2}" >"$room/row.log" 2>&1; then passed=$((passed + 1)) && return; fi
     failed=$((failed + 1))
     echo "FAILED: $1"
     head -n 20 "$room/row.log"
     return 1
+}
+
+# slow COMMAND..: runs the rows of the command if KEYWRAP_ALL=1 is set, as `make gate` does. Otherwise only counts them.
+slow() {
+    local is_omitted=yes
+    [ "${KEYWRAP_ALL:-}" != 1 ] || is_omitted=
+    "$@"
 }
 
 # skip PART REASON: the part cannot run here.
@@ -35,6 +43,7 @@ has() {
 
 # finish: prints the counts, and is the status of the script.
 finish() {
+    [ $omitted = 0 ] || echo "SLOW: $omitted left to KEYWRAP_ALL=1"
     echo "$passed passed, $failed failed, $skipped skipped"
     [ "$failed" = 0 ]
 }

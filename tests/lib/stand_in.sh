@@ -28,7 +28,7 @@ crates block_pair: 'aes_block: block_pair byteorder' 'keywrap_c staticlib: block
 echo 1.2.3-dev >VERSION
 program=crates/keywrap/out/keywrap archive=crates/keywrap_c/out/libkeywrap_c.a
 export tree=$PWD helpers=$root/tests/lib/expect.sh PATH=$PWD/bin:$PATH TMPDIR=$PWD/tmp TERM=xterm processors=4
-unset MAKEFLAGS MAKELEVEL TESTS KEYWRAP_ARCHIVES
+unset MAKEFLAGS MAKELEVEL TESTS KEYWRAP_ARCHIVES KEYWRAP_ALL
 
 # The fake rt: in the crates that the pattern $at names it runs $event, with $launcher as the process above its make,
 # and it waits until the file $screen says that no other crate is being built. Each program and archive that it

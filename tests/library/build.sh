@@ -10,10 +10,13 @@ of_arm() {
     make -s -C ../.. library TARGET=aarch64-unknown-linux-gnu LIBRARY="$1" || rm -rf "$1"
 }
 
+# of_js FOLDER: the folder is whole once it is there.
+of_js() { make -s -C ../.. js JS="$1.new" && mv "$1.new" "$1"; }
+
 # The last build is LLVM's, so that it is what stays in the crate's folder.
 jobs=$(nproc) && [ "$jobs" -le 4 ] || jobs=4
 cd "$(dirname "${BASH_SOURCE[0]}")/../../crates/keywrap_c" &&
     rt lib --jobs "$jobs" --backend rattle && cp out/libkeywrap_c.a "$1/rattle.a" &&
     { [[ " $* " != *' arm64 '* ]] || of_arm "$1/arm64"; } &&
-    { [[ " $* " != *' js '* ]] || make -s -C ../.. js JS="$1/js" || rm -rf "$1/js"; } &&
+    { [[ " $* " != *' js '* ]] || of_js "$1/js" || rm -rf "$1/js.new"; } &&
     rt lib --jobs "$jobs" && cp out/libkeywrap_c.a "$1/llvm.a"
