@@ -14,7 +14,7 @@ import pytest
 pytest.importorskip("cryptography", reason="no cryptography (apt-get install python3-cryptography)")
 
 from program import slow
-from rotation_store import KEK, NEW_KEK, Room, Server, make_keys, rows, server_programs, wrapped
+from rotation_store import KEK, NEW_KEK, TOOLS, Room, Server, make_keys, rows, server_programs, wrapped
 
 if not server_programs():
     pytest.skip("no PostgreSQL server (apt-get install postgresql)", allow_module_level=True)
@@ -90,10 +90,11 @@ def test_nothing_is_changed(room, server, before, change, command, status, messa
 
 
 @pytest.mark.parametrize("before, command, tools", [
-    ([], ONE, []), ([f"{BATCHES} begin 60"], WORK, ["keywrap"]),
+    ([], ONE, ["keywrap"]), ([f"{BATCHES} begin 60"], WORK, ["keywrap"]),
+    pytest.param([], ONE, {*TOOLS} - {"keywrap"}, marks=slow),
     pytest.param([f"{BATCHES} begin 60"], WORK, ["psql", "cut", "sed", "paste"], marks=slow),
     pytest.param([f"{BATCHES} begin 60", WORK], END, ["keywrap", "psql", "cut", "sed", "paste"], marks=slow)],
-    ids=["one", "keywrap in work", "work", "end"])
+    ids=["keywrap in one", "keywrap in work", "one", "work", "end"])
 def test_every_call_goes_wrong_in_turn(room, server, before, command, tools):
     """No key is lost: each is the old one or the new one, in one transaction all are. What ended with 0 is done, and it
     can be started again."""

@@ -66,7 +66,7 @@ class Cluster:
         self.directory = directory
         self.processes = []
         self.workers = []
-        self.environment = dict(os.environ, DASK_DISTRIBUTED__SCHEDULER__WORKER_TTL="4s", DELAY="0.005")
+        self.environment = dict(os.environ, DASK_DISTRIBUTED__SCHEDULER__WORKER_TTL="4s", DELAY="0.02")
         (directory / "slow.py").write_text(SLOW)
 
     def start(self, *words, **environment):
