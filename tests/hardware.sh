@@ -90,7 +90,7 @@ on() {
     local part
     row "$1: the AES" writes "$3" "${@:4}" "$2/chosen"
     row "$1: the calls" writes ' passed, 0 failed' "${@:4}" "$2/checks" few
-    [ ! -s cases ] || slow row "$1: NIST's cases" writes '6000 right' "${@:4}" "$2/nist" <cases
+    [ ! -s cases ] || row "$1: NIST's cases" writes '6000 right' "${@:4}" "$2/nist" <cases
     [ -e "${2%_without}/compared" ] || return
     row "$1: the provider, parameters" "${@:4}" "$2/compared" "$2" parameters
     # shellcheck disable=SC2086
@@ -108,7 +108,7 @@ fi
 export LD_LIBRARY_PATH=$library KEYWRAP_VERSION=$version
 if has qemu-x86_64 qemu-user 'each processor'; then
     on 'x86-64 with AES' here instructions qemu-x86_64 -cpu max
-    slow on 'x86-64 without AES' here software qemu-x86_64 -cpu Nehalem
+    on 'x86-64 without AES' here software qemu-x86_64 -cpu Nehalem
     slow row 'planted bugs' python3 "$root/tests/hardware/bugs.py" "$library/libkeywrap.a"
 fi
 # left MOST: no call but the first, which makes the known-answer test, leaves more bytes that depend on a secret below
@@ -121,7 +121,7 @@ row 'the stack: compiles' cc -std=c99 -O1 -g "${options[@]:2}" "$root/tests/secr
     "$library/libkeywrap_hw.a" -Wl,-z,now -o stack
 row 'the stack: runs' ./stack && cp row.log stacked
 row 'the stack: round keys are cleared' left 16
-slow row 'the calls, all' writes ' passed, 0 failed' here/checks
+row 'the calls, all' writes ' passed, 0 failed' here/checks
 slow row "the provider's other tests" env KEYWRAP_ARCHIVES="$library/libkeywrap_hw.a" bash "$root/tests/provider.sh"
 unset LD_LIBRARY_PATH
 

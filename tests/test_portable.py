@@ -93,7 +93,7 @@ def test_compiles_without_a_warning(portable, compiler, options):
     run(compiler, *STRICT, *options.split(), "-c", portable / "keywrap.c", "-o", "keywrap.o")
 
 
-@pytest.mark.parametrize("name", all_of(MACHINES, ["gcc"]))
+@pytest.mark.parametrize("name", all_of(MACHINES, NATIVE))
 def test_calls(portable, name):
     """The checks of tests/library."""
     few = ["few"] if name not in NATIVE or not ALL else []
@@ -101,7 +101,7 @@ def test_calls(portable, name):
     assert re.fullmatch(r"\d{6,} passed, 0 failed", last)
 
 
-@pytest.mark.parametrize("name", all_of(MACHINES, ["gcc", "arm"]))
+@pytest.mark.parametrize("name", MACHINES)
 def test_nist(portable, cases, name):
     some = cases[::1 if ALL or name in NATIVE else 6]
     said = run(*built(portable, name, [OWN / "nist.c"], "-O2"), input="".join(some))
@@ -139,7 +139,7 @@ def test_no_memory_and_longest_keys(portable, name):
     assert int(run(*program)) == fixed + 32 + 2 * 1048576 + 8 + 7
 
 
-@pytest.mark.parametrize("name", all_of(NATIVE, ["gcc"]))
+@pytest.mark.parametrize("name", NATIVE)
 def test_stack(portable, name):
     """Bytes that depend on a KEK or a key, below the stack pointer after each call: 23 by gcc 12, 36 by clang 14."""
     program = built(portable, name, [ROOT / "tests/secrets/stack.c"], "-O2", "-Wl,-z,now", "-Wno-error")
@@ -149,7 +149,7 @@ def test_stack(portable, name):
     assert max(kek, new_kek, key) <= 40 and copies == 0, (kek, new_kek, key, copies)
 
 
-@pytest.mark.parametrize("name", all_of(MACHINES, ["gcc", "arm"]))
+@pytest.mark.parametrize("name", MACHINES)
 def test_object(portable, name):
     """What the object needs, that it shows the calls of the header only, and that none of its data can be written."""
     compiler, _, package = MACHINES[name]

@@ -67,9 +67,8 @@ class TestRuns:
 
     # The other calls of lines_parallel.sh are the same as in lines.sh.
     @pytest.mark.parametrize("room, tools, least", [
-        ("lines.sh", ["keywrap", "mv"], 2), pytest.param("lines.sh", {*TOOLS} - {"keywrap", "mv"}, 7, marks=slow),
-        pytest.param("lines_parallel.sh 2", ["keywrap", "parallel", "mv"], 3, marks=slow)],
-        indirect=["room"], ids=["keywrap and mv", "the other tools", "in blocks"])
+        ("lines.sh", TOOLS, 9), pytest.param("lines_parallel.sh 2", ["keywrap", "parallel", "mv"], 3, marks=slow)],
+        indirect=["room"], ids=["in one process", "in blocks"])
     def test_every_call_goes_wrong_in_turn(self, room, tools, least):
         assert room.run().returncode == 0
         faults = list(room.faults(*tools))
