@@ -15,15 +15,16 @@ pub struct LineCounts {
 impl fmt::Display for LineCounts {
     fn fmt<W: fmt::Write>(&self, f: &mut fmt::Formatter<W>) -> fmt::Result {
         let (lines, refused) = (self.lines, self.refused);
-        let rest = lines.saturating_sub(refused);
-        let unit = if lines == 1 { "line" } else { "lines" };
-        write!(f, "keywrap: {lines} {unit}: ")?;
-        match self.passed {
-            Some(passed) => {
-                let answered = rest.saturating_sub(passed);
-                write!(f, "{answered} answered, {passed} passed, {refused} refused")
-            }
-            None => write!(f, "{rest} answered, {refused} refused"),
+        let passed = self.passed.unwrap_or(0);
+        let answered = lines.saturating_sub(refused).saturating_sub(passed);
+        write!(f, "keywrap: {lines} {}: {answered} answered", unit(lines))?;
+        if self.passed.is_some() {
+            write!(f, ", {passed} passed")?;
         }
+        write!(f, ", {refused} refused")
     }
+}
+
+fn unit(lines: u64) -> &'static str {
+    if lines == 1 { "line" } else { "lines" }
 }

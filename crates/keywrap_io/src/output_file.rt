@@ -87,8 +87,7 @@ impl<'a> OutputFile<'a> {
         if !self.has_its_name(rt)? {
             return Err(Reason::Text("the new file lost its name"));
         }
-        fs::rename(rt, self.temporary.as_str(), self.name)?;
-        Ok(())
+        Ok(fs::rename(rt, self.temporary.as_str(), self.name)?)
     }
 
     // Returns whether the new file still has the name that it was made under. If someone removed
