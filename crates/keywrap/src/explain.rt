@@ -7,62 +7,27 @@ use key_wrap::AgreedForm::{self, Padded, Plain};
 use key_wrap::{InPlaceFault, InitialValue, MAX_KEY, padded_text_length_ok};
 use keywrap_args::Escaped;
 use keywrap_cli::{Job, JobFault, Notation, Operation, ProgramFault, RewrapForms};
-use keywrap_io::{FileRole, Inspected, Inspection, OutputFault, Reason};
+use keywrap_io::{FileRole, Inspected, Inspection, Reason};
 use std::fmt;
 
-/// A refused run.
-#[derive(Drop)]
-pub struct Refusal {
-    /// The fault, which determines the first line and the exit status.
-    pub fault: ProgramFault,
-    /// The second line.
-    pub cause: Option<Cause>,
-}
-
-/// The file that caused a fault, and the reason.
+/// The file that caused a fault, and the reason: the second line of a refusal.
 pub type Cause = (FileRole, Reason);
 
-impl From<ProgramFault> for Refusal {
-    fn from(fault: ProgramFault) -> Refusal {
-        Refusal { fault, cause: None }
-    }
-}
-
-impl From<OutputFault> for Refusal {
-    fn from(fault: OutputFault) -> Refusal {
-        match fault {
-            OutputFault::Open(reason) => {
-                Refusal::new(ProgramFault::OutputOpen, FileRole::Output, reason)
-            }
-            OutputFault::Memory => Refusal::from(ProgramFault::Memory),
+/// Returns the cause of a fault of an operation on open files.
+pub fn fault_cause<F>(
+    operation: &Operation<Inspected<F>>,
+    input: &Inspection,
+    output: &Inspection,
+    fault: &ProgramFault,
+) -> Option<Cause> {
+    match fault {
+        ProgramFault::Job(JobFault::Write { .. }) | ProgramFault::Write { .. } => {
+            Some((FileRole::Output, Reason::from_os_error(output.os_error)))
         }
-    }
-}
-
-impl Refusal {
-    /// Returns the refusal of a file.
-    pub fn new(fault: ProgramFault, role: FileRole, reason: Reason) -> Refusal {
-        let cause = Some((role, reason));
-        Refusal { fault, cause }
-    }
-
-    /// Returns the refusal of an operation on open files.
-    pub fn from_fault<F>(
-        operation: &Operation<Inspected<F>>,
-        input: &Inspection,
-        output: &Inspection,
-        fault: ProgramFault,
-    ) -> Refusal {
-        let cause = match &fault {
-            ProgramFault::Job(JobFault::Write { .. }) | ProgramFault::Write { .. } => {
-                Some((FileRole::Output, Reason::from_os_error(output.os_error)))
-            }
-            ProgramFault::Job(fault) => job_cause(operation, input, *fault),
-            ProgramFault::Line(line) => Some(line_cause(operation, input, line.fault)),
-            ProgramFault::NoLines => Some((FileRole::Input, Reason::Text("is empty"))),
-            _ => None,
-        };
-        Refusal { fault, cause }
+        ProgramFault::Job(fault) => job_cause(operation, input, *fault),
+        ProgramFault::Line(line) => Some(line_cause(operation, input, line.fault)),
+        ProgramFault::NoLines => Some((FileRole::Input, Reason::Text("is empty"))),
+        _ => None,
     }
 }
 
@@ -96,13 +61,16 @@ fn job_cause<F>(
     input: &Inspection,
     fault: JobFault,
 ) -> Option<Cause> {
-    let kek = operation.kek().inspection;
-    let new_kek = operation.new_kek().map_or(kek, |file| file.inspection);
+    let kek = &operation.kek().inspection;
+    let new_kek = match operation.new_kek() {
+        Some(file) => &file.inspection,
+        None => kek,
+    };
     Some(match fault {
-        JobFault::KekFile(fault) => (FileRole::Kek, file_reason(fault, &kek)),
-        JobFault::KekLength => (FileRole::Kek, kek_length_reason(operation, &kek)),
-        JobFault::NewKekFile(fault) => (FileRole::NewKek, file_reason(fault, &new_kek)),
-        JobFault::NewKekLength => (FileRole::NewKek, kek_length_reason(operation, &new_kek)),
+        JobFault::KekFile(fault) => (FileRole::Kek, file_reason(fault, kek)),
+        JobFault::KekLength => (FileRole::Kek, kek_length_reason(operation, kek)),
+        JobFault::NewKekFile(fault) => (FileRole::NewKek, file_reason(fault, new_kek)),
+        JobFault::NewKekLength => (FileRole::NewKek, kek_length_reason(operation, new_kek)),
         JobFault::InputFile(fault) => (FileRole::Input, file_reason(fault, input)),
         JobFault::BadLength => (FileRole::Input, length_reason(operation, input)),
         JobFault::Integrity => integrity_cause(operation),

@@ -1,7 +1,6 @@
 //! A run over the lines of an input, each of which is a key or a wrapped key.
 
 use crate::command::Run;
-use crate::host::Host;
 use crate::prompt::is_typed;
 use key_lines::{RefusalLog, RefusedLine, RunFault, RunSummary};
 use key_wrap::InPlaceFault;
@@ -10,14 +9,18 @@ use keywrap_io::{
     CountingReader, FileRole, InputSource, Inspected, LineCounts, Progress, Streams,
     is_output_piped,
 };
+use std::alloc::Global;
 use std::io::{BufReader, Read, Write};
-use std::rt::Files;
+use std::rt::{Env, Files};
+use std::time::Clock;
 
 // The input is read in pieces of this many bytes.
 const READ_BUFFER: usize = 65_536;
 
 /// The exit status of an operation that was not refused, and the counts if they are shown.
 pub type Answer = Outcome<(u8, Option<LineCounts>)>;
+
+type RunResult = Result<RunSummary<InPlaceFault>, RunFault<InPlaceFault>>;
 
 /// The options of a run over lines.
 #[derive(Clone, Copy)]
@@ -45,14 +48,22 @@ impl LineRun {
 
     /// Runs the operation on each line. The message of a skipped line is printed at once, and the
     /// first of these lines determines the status. An input without lines is refused.
-    pub fn answer<R: Host, K: Read, I: Read, W: Write>(
+    pub fn answer<R: Eprint + AllocGlobal + Env + Clock, K: Read, I: Read, W: Write>(
         self,
         rt: &R,
         operation: &mut Operation<K>,
         input: &mut Inspected<InputSource<I>>,
         out: &mut Inspected<W>,
     ) -> Result<Answer, ProgramFault> {
-        let Outcome { result, same_kek } = self.run(rt, operation, input, out)?;
+        let progress = Progress::start(rt, self.shows_progress, input.file.length());
+        let reader = CountingReader {
+            input,
+            progress: &progress,
+        };
+        let run = self.run(rt.alloc(), operation, reader, out);
+        progress.clear();
+        let Outcome { result, same_kek } = run?;
+        let result = summary(result, out.inspection.bytes as usize)?;
         // A rewrap marks the lines that it passes.
         let passed = match operation {
             Operation::Rewrap { task, .. } if task.pass_new => Some(result.marked),
@@ -68,34 +79,23 @@ impl LineRun {
         Ok(Outcome { result, same_kek })
     }
 
-    fn run<R: Host, K: Read, I: Read, W: Write>(
+    fn run<R: Eprint + AllocGlobal + Env + Clock, K: Read, I: Read, W: Write>(
         self,
-        rt: &R,
+        alloc: Global,
         operation: &mut Operation<K>,
-        input: &mut Inspected<InputSource<I>>,
-        out: &mut Inspected<W>,
-    ) -> Result<Outcome<RunSummary<InPlaceFault>>, ProgramFault> {
-        let progress = Progress::start(rt, self.shows_progress, input.file.length());
-        let reader = CountingReader {
-            input,
-            progress: &progress,
-        };
-        let Ok(mut reader) = BufReader::with_capacity(rt.alloc(), READ_BUFFER, reader) else {
+        reader: CountingReader<'_, '_, '_, I, R>,
+        out: &mut W,
+    ) -> Result<Outcome<RunResult>, ProgramFault> {
+        let mut log = RefusedLines(reader.progress);
+        let Ok(mut reader) = BufReader::with_capacity(alloc, READ_BUFFER, reader) else {
             return Err(ProgramFault::Memory);
         };
-        let mut log = RefusedLines(&progress);
-        let run = operation.run_lines(rt.alloc(), self.keep_going, &mut log, &mut reader, out);
-        progress.clear();
-        let Outcome { result, same_kek } = run.map_err(ProgramFault::Job)?;
-        let result = summary(result, out.inspection.bytes as usize)?;
-        Ok(Outcome { result, same_kek })
+        let run = operation.run_lines(alloc, self.keep_going, &mut log, &mut reader, out);
+        run.map_err(ProgramFault::Job)
     }
 }
 
-fn summary(
-    run: Result<RunSummary<InPlaceFault>, RunFault<InPlaceFault>>,
-    written: usize,
-) -> Result<RunSummary<InPlaceFault>, ProgramFault> {
+fn summary(run: RunResult, written: usize) -> Result<RunSummary<InPlaceFault>, ProgramFault> {
     match run {
         Ok(summary) if summary.lines == 0 => Err(ProgramFault::NoLines),
         Ok(summary) => Ok(summary),
@@ -122,7 +122,7 @@ fn lines_status<K>(operation: &Operation<K>, summary: &RunSummary<InPlaceFault>)
 #[derive(Drop)]
 struct RefusedLines<'p, 'r, R>(&'p Progress<'r, R>);
 
-impl<R: Host> RefusalLog<InPlaceFault> for RefusedLines<'_, '_, R> {
+impl<R: Eprint + AllocGlobal + Env + Clock> RefusalLog<InPlaceFault> for RefusedLines<'_, '_, R> {
     fn receive(&mut self, refused: &RefusedLine<InPlaceFault>) {
         self.0.print_line(ProgramFault::Line(*refused));
     }

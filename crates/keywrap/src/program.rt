@@ -22,22 +22,22 @@ pub fn run<R: Host>(rt: &R, streams: Streams) -> u8 {
 fn answer<R: Host>(rt: &R, streams: Streams) -> Result<u8, Stop> {
     let args = arguments(rt)?;
     let command = read_command(rt.alloc(), args.as_slice())?;
-    run_command(rt, &command, streams).map_err(Stop::Fault)
+    Ok(run_command(rt, &command, streams))
 }
 
-fn run_command<R: Host>(
-    rt: &R,
-    command: &Command<'_>,
-    streams: Streams,
-) -> Result<u8, ProgramFault> {
-    match command {
-        Command::Run(run) => Ok(Session::new(rt, run, streams).run()),
+fn run_command<R: Host>(rt: &R, command: &Command<'_>, streams: Streams) -> u8 {
+    let result = match command {
+        Command::Run(run) => return Session::new(rt, run, streams).run(),
         Command::Drill {
             form,
             direction,
             hex,
         } => run_drill(rt.alloc(), *form, *direction, hex, &mut io::writer(rt)),
         Command::Vectors => run_vectors(rt.alloc(), &mut io::writer(rt)),
+    };
+    match result {
+        Ok(status) => status,
+        Err(fault) => print_fault(rt, &fault),
     }
 }
 

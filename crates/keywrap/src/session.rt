@@ -1,17 +1,19 @@
 //! A run on files: opens them, runs the operation, and keeps or discards the output.
 
-use crate::command::Run;
-use crate::explain::{Refusal, ShownName, open_fault, print_fault};
+use crate::command::{LineOptions, Run};
+use crate::explain::{Cause, ShownName, fault_cause, open_fault, print_fault};
 use crate::host::Host;
 use crate::lines::{Answer, LineRun};
 use crate::prompt::prompt;
 use crate::warnings::warn;
 use keywrap_cli::{Done, Job, Operation, Outcome, ProgramFault, statuses};
 use keywrap_io::{
-    Access, FileRole, InputSource, Inspected, Output, OutputFile, Protected, Reason, Streams,
-    occupy_closed, open,
+    Access, FileId, FileRole, InputSource, Inspected, Output, OutputFault, OutputFile, Protected,
+    Reason, Streams, occupy_closed, open,
 };
-use std::io;
+use std::alloc::Global;
+use std::io::{self, Read, Write};
+use std::rt::Files;
 
 /// A run on files, with all that its steps need.
 #[derive(Drop)]
@@ -22,6 +24,10 @@ pub struct Session<'a, R> {
     // A refusal has a second line, and warnings are printed.
     explains: bool,
 }
+
+// The exit status of a refused run, whose lines were printed.
+#[derive(Clone, Copy)]
+struct Refused(u8);
 
 // An open file to read.
 type Source<I> = Inspected<InputSource<I>>;
@@ -47,48 +53,43 @@ impl<'a, R: Host> Session<'a, R> {
     /// Does the run, reports on standard error, and returns the exit status.
     pub fn run(&self) -> u8 {
         match self.answer() {
-            Ok(status) => status,
-            Err(refusal) => self.refuse(&refusal),
+            Ok(status) | Err(Refused(status)) => status,
         }
     }
 
     // The first of these faults is returned: RawToTerminal, a closed stream whose place cannot be
     // taken, KekOpen, NewKekOpen, InputOpen, OutputOpen or Memory for a new file, the faults of the
     // operation, Flush.
-    fn answer(&self) -> Result<u8, Refusal> {
-        self.check_terminal()?;
-        // No file of the run causes such a fault, so there is no second line.
-        let _occupied = occupy_closed(self.rt, self.streams).map_err(open_fault)?;
-        self.answer_files()
-    }
-
-    fn check_terminal(&self) -> Result<(), ProgramFault> {
+    fn answer(&self) -> Result<u8, Refused> {
         let is_terminal = self.run.output.is_none() && self.streams.output.is_terminal();
         if is_terminal && self.run.operation.writes_raw() {
-            Err(ProgramFault::RawToTerminal)
-        } else {
-            Ok(())
+            return Err(self.refuse(&ProgramFault::RawToTerminal, None));
+        }
+        match occupy_closed(self.rt, self.streams) {
+            Ok(_occupied) => self.answer_files(),
+            // No file of the run causes such a fault, so there is no second line.
+            Err(role) => Err(self.refuse(&open_fault(role), None)),
         }
     }
 
-    fn answer_files(&self) -> Result<u8, Refusal> {
+    fn answer_files(&self) -> Result<u8, Refused> {
         let mut inputs = self.open_inputs()?;
         self.answer_inputs(&mut inputs)
     }
 
-    fn answer_inputs(&self, inputs: &mut Inputs<R::Reader>) -> Result<u8, Refusal> {
+    fn answer_inputs(&self, inputs: &mut Inputs<R::Reader>) -> Result<u8, Refused> {
         let mut output = self.open_output(inputs)?;
         prompt(self.rt, self.run, self.streams);
         self.operate_and_commit(inputs, &mut output)
     }
 
-    fn open_inputs(&self) -> Result<Inputs<R::Reader>, Refusal> {
+    fn open_inputs(&self) -> Result<Inputs<R::Reader>, Refused> {
         let operation = self.open_operation()?;
         let input = self.open(FileRole::Input)?;
         Ok(Inputs { operation, input })
     }
 
-    fn open_operation(&self) -> Result<Operation<Source<R::Reader>>, Refusal> {
+    fn open_operation(&self) -> Result<Operation<Source<R::Reader>>, Refused> {
         let kek = self.open(FileRole::Kek)?;
         match &self.run.operation {
             Operation::Job { iv, task, .. } => Ok(Operation::Job {
@@ -104,20 +105,18 @@ impl<'a, R: Host> Session<'a, R> {
         }
     }
 
-    fn open(&self, role: FileRole) -> Result<Source<R::Reader>, Refusal> {
+    fn open(&self, role: FileRole) -> Result<Source<R::Reader>, Refused> {
         match open(self.rt, self.run.file_name(role)) {
-            Ok(file) => Ok(self.inspect(file, role)),
-            Err(error) => Err(Refusal::new(open_fault(role), role, Reason::from(error))),
+            Ok(file) => {
+                // The bytes of an input of lines are not counted: no reason needs them.
+                let has_lines = matches!(role, FileRole::Input) && self.run.lines.is_some();
+                Ok(Inspected::new(file, self.explains && !has_lines))
+            }
+            Err(error) => Err(self.refuse(&open_fault(role), Some((role, Reason::from(error))))),
         }
     }
 
-    // The bytes of an input of lines are not counted: no reason needs them.
-    fn inspect<F>(&self, file: F, role: FileRole) -> Inspected<F> {
-        let has_lines = matches!(role, FileRole::Input) && self.run.lines.is_some();
-        Inspected::new(file, self.explains && !has_lines)
-    }
-
-    fn open_output(&self, inputs: &Inputs<R::Reader>) -> Result<Inspected<Output<'a, R>>, Refusal> {
+    fn open_output(&self, inputs: &Inputs<R::Reader>) -> Result<Inspected<Output<'a, R>>, Refused> {
         let output = match self.run.output {
             Some(name) => {
                 let protected = self.protected(inputs);
@@ -125,21 +124,38 @@ impl<'a, R: Host> Session<'a, R> {
                     Some(Job::Unwrap) => Access::Private,
                     _ => Access::LikeOld,
                 };
-                Output::File(OutputFile::create(self.rt, name, &protected, access)?)
+                match OutputFile::create(self.rt, name, &protected, access) {
+                    Ok(file) => Output::File(file),
+                    Err(OutputFault::Open(reason)) => {
+                        let cause = (FileRole::Output, reason);
+                        return Err(self.refuse(&ProgramFault::OutputOpen, Some(cause)));
+                    }
+                    Err(OutputFault::Memory) => {
+                        return Err(self.refuse(&ProgramFault::Memory, None));
+                    }
+                }
             }
             None => Output::Stdout(io::writer(self.rt)),
         };
-        Ok(self.inspect(output, FileRole::Output))
+        Ok(Inspected::new(output, false))
     }
 
     // With --keep-going the input has the only copy of the refused lines.
     fn protected(&self, inputs: &Inputs<R::Reader>) -> Protected {
-        let keeps_going = self.run.lines.is_some_and(|lines| lines.keep_going);
+        let input = match self.run.lines {
+            Some(
+                LineOptions {
+                    keep_going: true,
+                    ..
+                },
+            ) => Some(&inputs.input),
+            _ => None,
+        };
         let operation = &inputs.operation;
         Protected {
             kek: operation.kek().file.id(self.rt),
-            new_kek: operation.new_kek().map(|kek| kek.file.id(self.rt)),
-            input: keeps_going.then(|| inputs.input.file.id(self.rt)),
+            new_kek: file_id(self.rt, operation.new_kek()),
+            input: file_id(self.rt, input),
         }
     }
 
@@ -148,18 +164,20 @@ impl<'a, R: Host> Session<'a, R> {
         &self,
         inputs: &mut Inputs<R::Reader>,
         output: &mut Inspected<Output<'a, R>>,
-    ) -> Result<u8, Refusal> {
+    ) -> Result<u8, Refused> {
         match self.operate(inputs, output) {
             Ok(answer) => {
                 if let Err(reason) = output.file.commit(self.rt) {
-                    return Err(Refusal::new(ProgramFault::Flush, FileRole::Output, reason));
+                    let cause = (FileRole::Output, reason);
+                    return Err(self.refuse(&ProgramFault::Flush, Some(cause)));
                 }
                 Ok(self.report(inputs, answer))
             }
             Err(fault) => {
                 output.file.discard(self.rt);
                 let (input, output) = (&inputs.input.inspection, &output.inspection);
-                Err(Refusal::from_fault(&inputs.operation, input, output, fault))
+                let cause = fault_cause(&inputs.operation, input, output, &fault);
+                Err(self.refuse(&fault, cause))
             }
         }
     }
@@ -173,16 +191,7 @@ impl<'a, R: Host> Session<'a, R> {
         let Inputs { operation, input } = inputs;
         match LineRun::new(self.rt, self.run, self.streams) {
             Some(lines) => lines.answer(self.rt, operation, input, output),
-            None => {
-                let run = operation.run(self.rt.alloc(), input, output);
-                let Outcome { result, same_kek } = run.map_err(ProgramFault::Job)?;
-                let status = match result {
-                    Done::Written => statuses::DONE,
-                    Done::Neither => statuses::FAILED,
-                };
-                let result = (status, None);
-                Ok(Outcome { result, same_kek })
-            }
+            None => run_whole(self.rt.alloc(), operation, input, output),
         }
     }
 
@@ -198,15 +207,37 @@ impl<'a, R: Host> Session<'a, R> {
         status
     }
 
-    fn refuse(&self, refusal: &Refusal) -> u8 {
-        let status = print_fault(self.rt, &refusal.fault);
-        if let (true, Some((role, reason))) = (self.explains, refusal.cause) {
+    // Prints the line of the fault, and the second line.
+    fn refuse(&self, fault: &ProgramFault, cause: Option<Cause>) -> Refused {
+        let status = print_fault(self.rt, fault);
+        if let (true, Some((role, reason))) = (self.explains, cause) {
             let name = ShownName {
                 run: self.run,
                 role,
             };
             let _ = eprintln!(self.rt; "  {name}{reason}");
         }
-        status
+        Refused(status)
     }
+}
+
+// Identifies a file, if there is one.
+fn file_id<R: Files, I>(rt: &R, file: Option<&Source<I>>) -> Option<FileId> {
+    Some(file?.file.id(rt))
+}
+
+fn run_whole<K: Read, I: Read, W: Write>(
+    alloc: Global,
+    operation: &mut Operation<K>,
+    input: &mut I,
+    out: &mut W,
+) -> Result<Answer, ProgramFault> {
+    let run = operation.run(alloc, input, out);
+    let Outcome { result, same_kek } = run.map_err(ProgramFault::Job)?;
+    let status = match result {
+        Done::Written => statuses::DONE,
+        Done::Neither => statuses::FAILED,
+    };
+    let result = (status, None);
+    Ok(Outcome { result, same_kek })
 }
