@@ -1,6 +1,6 @@
 //! A run on files: opens them, runs the operation, and keeps or discards the output.
 
-use crate::command::{LineOptions, Run};
+use crate::command::Run;
 use crate::explain::{Cause, ShownName, fault_cause, open_fault, print_fault};
 use crate::host::Host;
 use crate::lines::{Answer, LineRun};
@@ -32,12 +32,8 @@ struct Refused(u8);
 // An open file to read.
 type Source<I> = Inspected<InputSource<I>>;
 
-// The open files that are read.
-#[derive(Drop)]
-struct Inputs<I> {
-    operation: Operation<Source<I>>,
-    input: Source<I>,
-}
+// The operation, with its open KEK files.
+type Opened<I> = Operation<Source<I>>;
 
 impl<'a, R: Host> Session<'a, R> {
     /// Makes a session for a run. Nothing is opened.
@@ -73,36 +69,27 @@ impl<'a, R: Host> Session<'a, R> {
     }
 
     fn answer_files(&self) -> Result<u8, Refused> {
-        let mut inputs = self.open_inputs()?;
-        self.answer_inputs(&mut inputs)
-    }
-
-    fn answer_inputs(&self, inputs: &mut Inputs<R::Reader>) -> Result<u8, Refused> {
-        let mut output = self.open_output(inputs)?;
-        prompt(self.rt, self.run, self.streams);
-        self.operate_and_commit(inputs, &mut output)
-    }
-
-    fn open_inputs(&self) -> Result<Inputs<R::Reader>, Refused> {
-        let operation = self.open_operation()?;
-        let input = self.open(FileRole::Input)?;
-        Ok(Inputs { operation, input })
-    }
-
-    fn open_operation(&self) -> Result<Operation<Source<R::Reader>>, Refused> {
         let kek = self.open(FileRole::Kek)?;
-        match &self.run.operation {
-            Operation::Job { iv, task, .. } => Ok(Operation::Job {
+        let mut operation = match &self.run.operation {
+            Operation::Job { iv, task, .. } => Operation::Job {
                 iv: *iv,
                 task: *task,
                 kek,
-            }),
-            Operation::Rewrap { task, .. } => Ok(Operation::Rewrap {
+            },
+            Operation::Rewrap { task, .. } => Operation::Rewrap {
                 task: *task,
                 kek,
                 new_kek: self.open(FileRole::NewKek)?,
-            }),
-        }
+            },
+        };
+        self.answer_operation(&mut operation)
+    }
+
+    fn answer_operation(&self, operation: &mut Opened<R::Reader>) -> Result<u8, Refused> {
+        let mut input = self.open(FileRole::Input)?;
+        let mut output = self.open_output(operation, &input)?;
+        prompt(self.rt, self.run, self.streams);
+        self.operate_and_commit(operation, &mut input, &mut output)
     }
 
     fn open(&self, role: FileRole) -> Result<Source<R::Reader>, Refused> {
@@ -112,14 +99,18 @@ impl<'a, R: Host> Session<'a, R> {
                 let has_lines = matches!(role, FileRole::Input) && self.run.lines.is_some();
                 Ok(Inspected::new(file, self.explains && !has_lines))
             }
-            Err(error) => Err(self.refuse(&open_fault(role), Some((role, Reason::from(error))))),
+            Err(error) => Err(self.refuse_open(role, Reason::from(error))),
         }
     }
 
-    fn open_output(&self, inputs: &Inputs<R::Reader>) -> Result<Inspected<Output<'a, R>>, Refused> {
+    fn open_output(
+        &self,
+        operation: &Opened<R::Reader>,
+        input: &Source<R::Reader>,
+    ) -> Result<Inspected<Output<'a, R>>, Refused> {
         let output = match self.run.output {
             Some(name) => {
-                let protected = self.protected(inputs);
+                let protected = self.protected(operation, input);
                 let access = match self.run.operation.job() {
                     Some(Job::Unwrap) => Access::Private,
                     _ => Access::LikeOld,
@@ -127,8 +118,7 @@ impl<'a, R: Host> Session<'a, R> {
                 match OutputFile::create(self.rt, name, &protected, access) {
                     Ok(file) => Output::File(file),
                     Err(OutputFault::Open(reason)) => {
-                        let cause = (FileRole::Output, reason);
-                        return Err(self.refuse(&ProgramFault::OutputOpen, Some(cause)));
+                        return Err(self.refuse_open(FileRole::Output, reason));
                     }
                     Err(OutputFault::Memory) => {
                         return Err(self.refuse(&ProgramFault::Memory, None));
@@ -141,17 +131,11 @@ impl<'a, R: Host> Session<'a, R> {
     }
 
     // With --keep-going the input has the only copy of the refused lines.
-    fn protected(&self, inputs: &Inputs<R::Reader>) -> Protected {
+    fn protected(&self, operation: &Opened<R::Reader>, input: &Source<R::Reader>) -> Protected {
         let input = match self.run.lines {
-            Some(
-                LineOptions {
-                    keep_going: true,
-                    ..
-                },
-            ) => Some(&inputs.input),
+            Some(lines) if lines.keep_going => Some(input),
             _ => None,
         };
-        let operation = &inputs.operation;
         Protected {
             kek: operation.kek().file.id(self.rt),
             new_kek: file_id(self.rt, operation.new_kek()),
@@ -162,21 +146,22 @@ impl<'a, R: Host> Session<'a, R> {
     // The new file replaces the old one only if the operation was not refused.
     fn operate_and_commit(
         &self,
-        inputs: &mut Inputs<R::Reader>,
+        operation: &mut Opened<R::Reader>,
+        input: &mut Source<R::Reader>,
         output: &mut Inspected<Output<'a, R>>,
     ) -> Result<u8, Refused> {
-        match self.operate(inputs, output) {
+        match self.operate(operation, input, output) {
             Ok(answer) => {
                 if let Err(reason) = output.file.commit(self.rt) {
                     let cause = (FileRole::Output, reason);
                     return Err(self.refuse(&ProgramFault::Flush, Some(cause)));
                 }
-                Ok(self.report(inputs, answer))
+                Ok(self.report(operation, answer))
             }
             Err(fault) => {
                 output.file.discard(self.rt);
-                let (input, output) = (&inputs.input.inspection, &output.inspection);
-                let cause = fault_cause(&inputs.operation, input, output, &fault);
+                let (input, output) = (&input.inspection, &output.inspection);
+                let cause = fault_cause(operation, input, output, &fault);
                 Err(self.refuse(&fault, cause))
             }
         }
@@ -185,10 +170,10 @@ impl<'a, R: Host> Session<'a, R> {
     // Runs the operation on the input, or on each line of it.
     fn operate(
         &self,
-        inputs: &mut Inputs<R::Reader>,
+        operation: &mut Opened<R::Reader>,
+        input: &mut Source<R::Reader>,
         output: &mut Inspected<Output<'a, R>>,
     ) -> Result<Answer, ProgramFault> {
-        let Inputs { operation, input } = inputs;
         match LineRun::new(self.rt, self.run, self.streams) {
             Some(lines) => lines.answer(self.rt, operation, input, output),
             None => run_whole(self.rt.alloc(), operation, input, output),
@@ -196,10 +181,10 @@ impl<'a, R: Host> Session<'a, R> {
     }
 
     // Nothing is lost if standard error is closed.
-    fn report(&self, inputs: &Inputs<R::Reader>, answer: Answer) -> u8 {
+    fn report(&self, operation: &Opened<R::Reader>, answer: Answer) -> u8 {
         let (status, counts) = answer.result;
         if self.explains {
-            warn(self.rt, self.run, &inputs.operation, answer.same_kek);
+            warn(self.rt, self.run, operation, answer.same_kek);
         }
         if let Some(counts) = counts {
             let _ = self.rt.eprintln(counts);
@@ -207,14 +192,16 @@ impl<'a, R: Host> Session<'a, R> {
         status
     }
 
+    fn refuse_open(&self, role: FileRole, reason: Reason) -> Refused {
+        self.refuse(&open_fault(role), Some((role, reason)))
+    }
+
     // Prints the line of the fault, and the second line.
     fn refuse(&self, fault: &ProgramFault, cause: Option<Cause>) -> Refused {
         let status = print_fault(self.rt, fault);
         if let (true, Some((role, reason))) = (self.explains, cause) {
-            let name = ShownName {
-                run: self.run,
-                role,
-            };
+            let run = self.run;
+            let name = ShownName { run, role };
             let _ = eprintln!(self.rt; "  {name}{reason}");
         }
         Refused(status)
