@@ -47,24 +47,23 @@ impl<'a, R: Host> Session<'a, R> {
     }
 
     /// Does the run, reports on standard error, and returns the exit status.
+    ///
+    /// The first of these faults is reported: RawToTerminal, a closed stream whose place cannot be
+    /// taken, KekOpen, NewKekOpen, InputOpen, OutputOpen or Memory for a new file, the faults of the
+    /// operation, Flush.
     pub fn run(&self) -> u8 {
-        match self.answer() {
-            Ok(status) | Err(Refused(status)) => status,
-        }
-    }
-
-    // The first of these faults is returned: RawToTerminal, a closed stream whose place cannot be
-    // taken, KekOpen, NewKekOpen, InputOpen, OutputOpen or Memory for a new file, the faults of the
-    // operation, Flush.
-    fn answer(&self) -> Result<u8, Refused> {
         let is_terminal = self.run.output.is_none() && self.streams.output.is_terminal();
-        if is_terminal && self.run.operation.writes_raw() {
-            return Err(self.refuse(&ProgramFault::RawToTerminal, None));
-        }
-        match occupy_closed(self.rt, self.streams) {
-            Ok(_occupied) => self.answer_files(),
-            // No file of the run causes such a fault, so there is no second line.
-            Err(role) => Err(self.refuse(&open_fault(role), None)),
+        let answer = if is_terminal && self.run.operation.writes_raw() {
+            Err(self.refuse(&ProgramFault::RawToTerminal, None))
+        } else {
+            match occupy_closed(self.rt, self.streams) {
+                Ok(_occupied) => self.answer_files(),
+                // No file of the run causes such a fault, so there is no second line.
+                Err(role) => Err(self.refuse(&open_fault(role), None)),
+            }
+        };
+        match answer {
+            Ok(status) | Err(Refused(status)) => status,
         }
     }
 
