@@ -157,13 +157,14 @@ fn register_before(i: usize, n: usize) -> usize
     if i == 0 { n - 1 } else { i - 1 }
 }
 
-// The block A | R.
+// The block A | R, written as two words, so that it stays in registers of the processor: copied there
+// as bytes and read back, it would wait for the two stores.
 fn word_and_register(a: u64, register: &[u8]) -> [u8; 16]
     requires { length register.now ≡ WORD }
     ensures { result ≡ word_bytes a ++ register.now }
 {
     let mut block = [0; 16];
     BigEndian::write_u64(&mut block, a);
-    block[WORD..].copy_from_slice(register);
+    BigEndian::write_u64(&mut block[WORD..], BigEndian::read_u64(register));
     block
 }
