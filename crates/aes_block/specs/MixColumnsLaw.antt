@@ -1,5 +1,5 @@
 -- InvMixColumns undoes MixColumns, and the other way round: the product of the two matrices is the identity.
-use Rattle.std.proofs.Common.{◌≡◌, ℕ, zero, suc, ◌+◌, ◌*◌, ◌<◌, List, Bool, true, cond, eqb, get_or, bit_xor, refl, ap, ap₂, arith, ◌∙◌}
+use Rattle.std.proofs.Common.{◌≡◌, ℕ, zero, suc, ◌+◌, ◌*◌, ◌/◌, ◌%◌, ◌<◌, List, Bool, true, false, cond, eqb, get_or, bit_xor, refl, sym, ap, ap₂, subst, arith, ◌∙◌}
 use Rattle.std.specs.Int.Bits.{xor_zero_r}
 use Rattle.std.specs.List.{AllByRecursion}
 use Rattle.std.proofs.lemmas.Nat.{xor_lt}
@@ -56,25 +56,67 @@ chained n m r k x = sum_of_four (λ j. product (get_or n (4 * r + j) 0) (product
 unit : ℕ → ℕ → ℕ → ℕ
 unit r k x = cond (eqb r k) x 0
 
--- whether the product of the matrices n and m is the identity, at every byte
-pub is_unit : List ℕ → List ℕ → Bool
-is_unit n m = passes_below 4 (λ r. passes_below 4 (λ k. passes_below 256 (λ x. eqb (chained n m r k x) (unit r k x))))
+-- both are linear
+chained-xor : (n m : List ℕ) (r k x y : ℕ) → chained n m r k (bit_xor x y) ≡ bit_xor (chained n m r k x) (chained n m r k y)
+unfolding chained
+chained-xor n m r k x y =
+    let by : ℕ → ℕ → ℕ = λ z j. product (get_or n (4 * r + j) 0) (product (get_or m (4 * j + k) 0) z) in
+    sum_of_four_same (by (bit_xor x y)) (λ j. bit_xor (by x j) (by y j))
+    (λ j hj. ap (product (get_or n (4 * r + j) 0)) (product-xor_right (get_or m (4 * j + k) 0) x y)
+    ∙ product-xor_right (get_or n (4 * r + j) 0) (product (get_or m (4 * j + k) 0) x) (product (get_or m (4 * j + k) 0) y))
+    ∙ sym (sum_of_four-xor (by x) (by y))
 
-pub inv_mix-mix : is_unit inv_mix_matrix mix_matrix ≡ true
-unfolding is_unit chained unit product remainder polynomial_product
-inv_mix-mix = refl
+cond-xor : (b : Bool) (x y : ℕ) → cond b (bit_xor x y) 0 ≡ bit_xor (cond b x 0) (cond b y 0)
+cond-xor true x y = refl
+cond-xor false x y = refl
 
-pub mix-inv_mix : is_unit mix_matrix inv_mix_matrix ≡ true
-unfolding is_unit chained unit product remainder polynomial_product
-mix-inv_mix = refl
+unit-xor : (r k x y : ℕ) → unit r k (bit_xor x y) ≡ bit_xor (unit r k x) (unit r k y)
+unfolding unit
+unit-xor r k x y = cond-xor (eqb r k) x y
 
-chained-unit : (n m : List ℕ) → is_unit n m ≡ true → (r k x : ℕ) → r < 4 → k < 4 → IsByte x → chained n m r k x ≡ unit r k x
-unfolding is_unit
+-- so they agree at a byte if they agree at its halves
+halves_test : ℕ → Bool
+halves_test x = eqb (bit_xor (1 * (x % 16)) (16 * (x / 16))) x
+
+halves_computed : passes_below 256 halves_test ≡ true
+unfolding halves_test
+halves_computed = refl
+
+halves : (x : ℕ) → IsByte x → bit_xor (1 * (x % 16)) (16 * (x / 16)) ≡ x
+unfolding halves_test
+halves x hx = eqb-true _ _ (passes_at 256 halves_test x hx halves_computed)
+
+-- whether the product of the matrices n and m is the identity at the first 16 multiples of s
+pub is_unit_at : List ℕ → List ℕ → ℕ → Bool
+is_unit_at n m s = passes_below 4 (λ r. passes_below 4 (λ k. passes_below 16 (λ x. eqb (chained n m r k (s * x)) (unit r k (s * x)))))
+
+-- it is the identity at each half of a byte
+pub record IsUnit (n m : List ℕ) : Type 0 where
+  pub low : is_unit_at n m 1 ≡ true
+  pub high : is_unit_at n m 16 ≡ true
+
+pub inv_mix-mix : IsUnit inv_mix_matrix mix_matrix
+unfolding is_unit_at chained unit product remainder polynomial_product
+inv_mix-mix = record { low = refl; high = refl }
+
+pub mix-inv_mix : IsUnit mix_matrix inv_mix_matrix
+unfolding is_unit_at chained unit product remainder polynomial_product
+mix-inv_mix = record { low = refl; high = refl }
+
+half-unit : (n m : List ℕ) (s : ℕ) → is_unit_at n m s ≡ true → (r k x : ℕ) → r < 4 → k < 4 → x < 16 → chained n m r k (s * x) ≡ unit r k (s * x)
+unfolding is_unit_at
+half-unit n m s e r k x hr hk hx =
+    let test : ℕ → ℕ → ℕ → Bool = λ r k x. eqb (chained n m r k (s * x)) (unit r k (s * x)) in
+    let row = passes_at 4 (λ r. passes_below 4 (λ k. passes_below 16 (test r k))) r hr e in
+    let place = passes_at 4 (λ k. passes_below 16 (test r k)) k hk row in
+    eqb-true (chained n m r k (s * x)) (unit r k (s * x)) (passes_at 16 (test r k) x hx place)
+
+chained-unit : (n m : List ℕ) → IsUnit n m → (r k x : ℕ) → r < 4 → k < 4 → IsByte x → chained n m r k x ≡ unit r k x
 chained-unit n m e r k x hr hk hx =
-    let test : ℕ → ℕ → ℕ → Bool = λ r k x. eqb (chained n m r k x) (unit r k x) in
-    let row = passes_at 4 (λ r. passes_below 4 (λ k. passes_below 256 (test r k))) r hr e in
-    let place = passes_at 4 (λ k. passes_below 256 (test r k)) k hk row in
-    eqb-true (chained n m r k x) (unit r k x) (passes_at 256 (test r k) x hx place)
+    let low = half-unit n m 1 e.low r k (x % 16) hr hk (omega arith) in
+    let high = half-unit n m 16 e.high r k (x / 16) hr hk (omega arith) in
+    subst (λ (y : ℕ). chained n m r k y ≡ unit r k y) (halves x hx)
+    (chained-xor n m r k (1 * (x % 16)) (16 * (x / 16)) ∙ ap₂ bit_xor low high ∙ sym (unit-xor r k (1 * (x % 16)) (16 * (x / 16))))
 
 -- a row of the identity picks an entry
 sum_of_four-unit : (f : ℕ → ℕ) (r : ℕ) → r < 4 → sum_of_four (λ k. unit r k (f k)) ≡ f r
@@ -92,7 +134,7 @@ unfolding multiplied
 multiplied_block m s hm hs =
     state_block _ (λ r c. sum_of_four_byte _ (λ k. product_byte _ _ (byte_at m (4 * r + k) hm) (entry_byte s hs k c)))
 
-pub multiplied_undone : (n m s : List ℕ) → is_unit n m ≡ true → IsBlock s → multiplied n (multiplied m s) ≡ s
+pub multiplied_undone : (n m s : List ℕ) → IsUnit n m → IsBlock s → multiplied n (multiplied m s) ≡ s
 unfolding multiplied chained
 multiplied_undone n m s e hs =
     let mixed : ℕ → ℕ → ℕ = λ r c. sum_of_four (λ k. product (get_or m (4 * r + k) 0) (entry s k c)) in
