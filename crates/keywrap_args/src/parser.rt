@@ -1,7 +1,7 @@
 //! Parses the arguments with clap.
 
 use crate::hints::message;
-use crate::subcommands::{Subcommand, keywrap, matches_of, subcommand_named};
+use crate::subcommands::{Subcommand, matches_of, subcommand_named};
 use clap::ArgMatches;
 use clap::error::ErrorKind;
 use std::alloc::{AllocError, Global};
@@ -41,7 +41,7 @@ pub fn arguments<R: Env + AllocGlobal>(rt: &R) -> Result<Vec<String>, Stop> {
         Err(error) if error.kind() == io::ErrorKind::OutOfMemory => Err(Stop::Memory),
         Err(_) => {
             let said = "invalid UTF-8 was detected in one or more arguments";
-            Err(refusal(rt.alloc(), ErrorKind::InvalidValue, said)?)
+            Err(refusal(rt.alloc(), said)?)
         }
     }
 }
@@ -66,8 +66,7 @@ pub fn parse<'a>(alloc: Global, args: &'a [String]) -> Result<Args<'a>, Stop> {
         }
     }
     // Clap has refused such arguments.
-    let said = "unrecognized subcommand";
-    Err(refusal(alloc, ErrorKind::InvalidSubcommand, said)?)
+    Err(refusal(alloc, "unrecognized subcommand")?)
 }
 
 impl<'a> Args<'a> {
@@ -85,10 +84,7 @@ impl<'a> Args<'a> {
     pub fn required(&self, argument: &str) -> Result<&'a str, Stop> {
         match self.value(argument) {
             Some(value) => Ok(value),
-            None => {
-                let said = "a required argument was not provided";
-                Err(refusal(self.alloc, ErrorKind::MissingRequiredArgument, said)?)
-            }
+            None => Err(refusal(self.alloc, "a required argument was not provided")?),
         }
     }
 
@@ -112,12 +108,13 @@ impl<'a> Args<'a> {
             "invalid value '-' for '--{option} <FILE>'\n\n  tip: a KEK on standard input is \
              --{option} /dev/stdin; a file of this name is ./-"
         )?;
-        Err(refusal(self.alloc, ErrorKind::InvalidValue, said.as_str())?)
+        Err(refusal(self.alloc, said.as_str())?)
     }
 }
 
-// A refusal that clap does not know, with clap's usage.
-fn refusal(alloc: Global, kind: ErrorKind, said: &str) -> Result<Stop, AllocError> {
-    let error = keywrap(alloc)?.error(kind, said)?;
-    Ok(Stop::Usage(format!(in alloc; "{error}")?))
+// A refusal that clap does not know, in clap's form.
+fn refusal(alloc: Global, said: &str) -> Result<Stop, AllocError> {
+    Ok(Stop::Usage(format!(in alloc; "error: {said}{USAGE}")?))
 }
+
+const USAGE: &str = "\n\nUsage: keywrap <COMMAND>\n\nFor more information, try '--help'.\n";

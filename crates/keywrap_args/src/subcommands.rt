@@ -1,11 +1,8 @@
 //! The subcommands and their arguments, as clap parses them and the help shows them.
 
 use crate::help;
-use crate::options::{
-    Argument, BASE64, BASE64_KEK, BASE64URL, HEX, INPUT, IV, KEEP_FORM, KEEP_GOING, KEK, LINES,
-    NEW_IV, NEW_KEK, NEW_PADDED, OUTPUT, PADDED, PASS_NEW, QUIET, RAW, RAW_KEK, UNWRAP, VERBOSE,
-};
-use clap::{ArgMatches, Command, Error};
+use crate::options::{self, Users};
+use clap::{Arg, ArgMatches, Command, Error};
 use std::alloc::{AllocError, Global};
 
 /// A subcommand.
@@ -19,91 +16,69 @@ pub enum Subcommand {
     Vectors,
 }
 
-// What clap and the help need to know of a subcommand.
+// What clap and the help need to know of a subcommand beside its arguments.
 #[derive(Clone, Copy)]
 struct Definition<'a> {
+    subcommand: Subcommand,
     name: &'a str,
     about: &'a str,
     // Clap's own usage line would not show the source of the input.
     usage: &'a str,
     // The end of its help.
     example: &'a str,
-    arguments: &'a [Argument<'a>],
 }
 
-const WRAP: [Argument<'static>; 14] = [
-    KEK, INPUT, OUTPUT, PADDED, IV, RAW, BASE64, BASE64URL, RAW_KEK, BASE64_KEK, LINES, KEEP_GOING,
-    QUIET, VERBOSE,
-];
-
-const REWRAP: [Argument<'static>; 19] = [
-    KEK, NEW_KEK, INPUT, OUTPUT, PADDED, NEW_PADDED, IV, NEW_IV, KEEP_FORM, PASS_NEW, RAW, BASE64,
-    BASE64URL, RAW_KEK, BASE64_KEK, LINES, KEEP_GOING, QUIET, VERBOSE,
-];
-
-const CHECK: [Argument<'static>; 13] = [
-    KEK, INPUT, OUTPUT, IV, RAW, BASE64, BASE64URL, RAW_KEK, BASE64_KEK, LINES, KEEP_GOING, QUIET,
-    VERBOSE,
-];
-
-const DRILL: [Argument<'static>; 3] = [HEX, PADDED, UNWRAP];
-
-const DEFINITIONS: [Definition<'static>; 6] = [
+static DEFINITIONS: [Definition<'static>; 6] = [
     Definition {
+        subcommand: Subcommand::Wrap,
         name: "wrap",
         about: "Wraps a key",
         usage: "keywrap wrap [OPTIONS] --kek <FILE> < KEY > WRAPPED",
         example: help::WRAP_EXAMPLE,
-        arguments: &WRAP,
     },
     Definition {
+        subcommand: Subcommand::Unwrap,
         name: "unwrap",
         about: "Unwraps a wrapped key",
         usage: "keywrap unwrap [OPTIONS] --kek <FILE> < WRAPPED > KEY",
         example: help::UNWRAP_EXAMPLE,
-        arguments: &WRAP,
     },
     Definition {
+        subcommand: Subcommand::Rewrap,
         name: "rewrap",
         about: "Rewraps a key under another KEK; the key itself is not written",
         usage: "keywrap rewrap [OPTIONS] --kek <FILE> --new-kek <FILE> < WRAPPED > NEW",
         example: help::REWRAP_EXAMPLE,
-        arguments: &REWRAP,
     },
     Definition {
+        subcommand: Subcommand::Check,
         name: "check",
         about: "Prints the form in which a wrapped key fits; no key is written",
         usage: "keywrap check [OPTIONS] --kek <FILE> < WRAPPED",
         example: help::CHECK_EXAMPLE,
-        arguments: &CHECK,
     },
     Definition {
+        subcommand: Subcommand::Drill,
         name: "drill",
         about: "Wraps with a toy cipher that swaps the halves of a block",
         usage: "keywrap drill [OPTIONS] <HEX>",
         example: help::DRILL_EXAMPLE,
-        arguments: &DRILL,
     },
     Definition {
+        subcommand: Subcommand::Vectors,
         name: "vectors",
         about: "Runs the vectors of RFC 3394, RFC 5649 and FIPS 197: ok or failed",
         usage: "keywrap vectors",
         example: help::VECTORS_EXAMPLE,
-        arguments: &[],
     },
 ];
 
 /// Returns the subcommand of this name.
 pub fn subcommand_named(name: &str) -> Option<Subcommand> {
-    match name {
-        "wrap" => Some(Subcommand::Wrap),
-        "unwrap" => Some(Subcommand::Unwrap),
-        "rewrap" => Some(Subcommand::Rewrap),
-        "check" => Some(Subcommand::Check),
-        "drill" => Some(Subcommand::Drill),
-        "vectors" => Some(Subcommand::Vectors),
-        _ => None,
-    }
+    definitions()
+        .iter()
+        .find(|it| it.name == name)
+        .map(|it| it.subcommand)
 }
 
 /// Parses the arguments. The first one is the name of the program.
@@ -111,33 +86,65 @@ pub fn matches_of<'a>(alloc: Global, args: &'a [String]) -> Result<ArgMatches<'a
     keywrap(alloc)?.try_get_matches_from(args)
 }
 
-/// Returns the command `keywrap` with its subcommands.
-pub fn keywrap<'a>(alloc: Global) -> Result<Command<'a>, AllocError> {
-    let mut command = Command::new(alloc, "keywrap")
+// Returns the command `keywrap` with its subcommands.
+fn keywrap<'a>(alloc: Global) -> Result<Command<'a>, AllocError> {
+    let subcommands = subcommands(alloc)?;
+    Command::new(alloc, "keywrap")
         .version("1.1.0-dev")
         .propagate_version(true)
         .about("Wraps and unwraps keys by AES Key Wrap (RFC 3394 and RFC 5649)")
         .after_long_help(help::NOTES)
         .arg_required_else_help(true)
         .subcommand_required(true)
-        .bin_name("keywrap")?;
-    for it in &DEFINITIONS {
-        command = command.subcommand(it.to_clap(alloc)?)?;
+        .bin_name("keywrap")?
+        .subcommands(subcommands)
+}
+
+fn subcommands<'a>(alloc: Global) -> Result<Vec<Command<'a>>, AllocError> {
+    let mut subcommands = Vec::new(alloc);
+    for it in definitions() {
+        subcommands.push(it.to_clap(alloc)?)?;
     }
-    Ok(command)
+    Ok(subcommands)
+}
+
+// The table is behind a call: a loop over a constant takes long to prove.
+fn definitions() -> &'static [Definition<'static>] {
+    &DEFINITIONS
 }
 
 impl<'a> Definition<'a> {
     // With this display name the `--version` of a subcommand prints the program's.
     fn to_clap(self, alloc: Global) -> Result<Command<'a>, AllocError> {
-        let mut command = Command::new(alloc, self.name)
+        let arguments = self.subcommand.arguments(alloc)?;
+        Command::new(alloc, self.name)
             .about(self.about)
             .after_long_help(self.example)
             .override_usage(self.usage)
-            .display_name("keywrap")?;
-        for argument in self.arguments {
-            command = command.arg(argument.to_clap(alloc)?)?;
+            .display_name("keywrap")?
+            .args(arguments)
+    }
+}
+
+impl Subcommand {
+    fn arguments<'a>(self, alloc: Global) -> Result<Vec<Arg<'a>>, AllocError> {
+        let mut arguments = Vec::new(alloc);
+        for argument in options::arguments() {
+            if self.has(argument.users) {
+                arguments.push(argument.to_clap(alloc)?)?;
+            }
         }
-        Ok(command)
+        Ok(arguments)
+    }
+
+    // Returns whether the subcommand is one of these.
+    fn has(self, users: Users) -> bool {
+        match self {
+            Subcommand::Wrap | Subcommand::Unwrap => matches!(users, Users::Keyed | Users::Formed),
+            Subcommand::Rewrap => !matches!(users, Users::Drill),
+            Subcommand::Check => matches!(users, Users::Keyed),
+            Subcommand::Drill => matches!(users, Users::Formed | Users::Drill),
+            Subcommand::Vectors => false,
+        }
     }
 }
