@@ -22,7 +22,9 @@ fn write(
     bytes: &[u8],
 ) -> Result<(), HexWriteFault> {
     match notation {
-        Notation::Raw => Ok(write_raw(out, bytes)?),
+        Notation::Raw => write_raw(out, bytes).map_err(|fault| HexWriteFault::Write {
+            written: fault.written,
+        }),
         Notation::Hex => write_hex(alloc, out, bytes),
     }
 }
