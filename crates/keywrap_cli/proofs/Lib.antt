@@ -1,4 +1,5 @@
 pub mod Answered
+pub mod Conversions
 pub mod Drills
 pub mod InitialValues
 pub mod KindLines
@@ -6,4 +7,3 @@ pub mod Passes
 pub mod Readings
 pub mod Reports
 pub mod Rewraps
-pub mod UnwrapRefusals

@@ -2,8 +2,10 @@
 -- padded form ignores.
 use Rattle.std.specs.Prelude.{◌≡◌, ℕ, List, length}
 use Rattle.key_wrap.specs.declared.forms.Form.{Form}
+use Rattle.key_wrap.specs.declared.forms.Form.TheVariants.{Plain, Padded}
 use Rattle.key_wrap.specs.Answer.{NoKey}
 use Rattle.key_wrap.specs.Forms.{Stands, IsKeyLength, IsTextLength, with_value}
+use Rattle.key_wrap.specs.InPlace.{ArePaddedLengths, ArePlainLengths, IsPaddedRoom}
 use Rattle.key_wrap.specs.Rewrap.{NoOtherForm}
 use Rattle.keywrap_cli.specs.declared.convert.Direction.{Direction}
 use Rattle.keywrap_cli.specs.declared.convert.Direction.TheVariants.{Wrap, Unwrap}
@@ -12,6 +14,13 @@ use Rattle.keywrap_cli.specs.declared.convert.Direction.TheVariants.{Wrap, Unwra
 abbrev pub IsInputLength : Direction → Form → ℕ → Type 0
 IsInputLength Wrap form len = IsKeyLength form len
 IsInputLength Unwrap form len = IsTextLength form len
+
+-- the lengths of an input, and of the buffer into which it is converted
+abbrev pub HasRoom : Direction → Form → (input output : ℕ) → Type 0
+HasRoom Wrap Plain input output = ArePlainLengths input output
+HasRoom Wrap Padded input output = IsPaddedRoom input output
+HasRoom Unwrap Plain input output = ArePlainLengths output input
+HasRoom Unwrap Padded input output = ArePaddedLengths output input
 
 -- `text` is the only wrapping of the key, which has a legal length
 pub record IsTextOf (form : Form) (iv : ℕ) (E : List ℕ → List ℕ) (key text : List ℕ) : Type 0 where

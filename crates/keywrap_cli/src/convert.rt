@@ -1,8 +1,9 @@
 //! Wrapping and unwrapping in a direction and a form.
 
-ghost use Rattle.std.specs.Prelude.{IfOk};
+ghost use Rattle.std.specs.Prelude.{◌↔◌, length, IfOk, IsTrue};
 ghost use Rattle.key_lines.specs.Answers.{made};
 ghost use Rattle.keywrap_cli.specs.Answers.{MakesConversion};
+ghost use Rattle.keywrap_cli.specs.Conversion.{HasRoom, IsInputLength};
 
 use block_pair::{BlockPair, Meter};
 use key_wrap::{
@@ -36,91 +37,61 @@ pub fn convert_into<B: BlockPair>(
     ensures { IfOk result (λ done. MakesConversion direction form iv.now
         (B.encrypted pair.now) input.now (made output.new.items done)) }
 {
+    if !is_input_length(direction, form, input.len()) {
+        return Ok(Err(InPlaceFault::BadLength));
+    }
+    output.resize(room_for(direction, form, input.len()), 0)?;
+    Ok(convert_in_room(direction, form, iv, pair, input, output))
+}
+
+fn is_input_length(direction: Direction, form: Form, len: usize) -> bool
+    ensures { IsTrue result ↔ IsInputLength direction form len }
+{
     match (direction, form) {
-        (Direction::Wrap, Form::Plain) => wrap_plain(iv, pair, input, output),
-        (Direction::Wrap, Form::Padded) => wrap_padded(iv, pair, input, output),
-        (Direction::Unwrap, Form::Plain) => unwrap_plain(iv, pair, input, output),
-        (Direction::Unwrap, Form::Padded) => unwrap_padded(iv, pair, input, output),
+        (Direction::Wrap, Form::Plain) => key_length_ok(len),
+        (Direction::Wrap, Form::Padded) => padded_length_ok(len),
+        (Direction::Unwrap, Form::Plain) => text_length_ok(len),
+        (Direction::Unwrap, Form::Padded) => padded_text_length_ok(len),
     }
 }
 
-fn wrap_plain<B: BlockPair>(
-    iv: &InitialValue,
-    pair: &B,
-    key: &[u8],
-    text: &mut Vec<u8>,
-) -> Result<Result<(), InPlaceFault>, AllocError>
-    ensures { IfOk result (λ done. MakesConversion Direction.Wrap Form.Plain iv.now
-        (B.encrypted pair.now) key.now (made text.new.items done)) }
+// Returns the room that the call for this direction and form needs.
+fn room_for(direction: Direction, form: Form, len: usize) -> usize
+    requires { IsInputLength direction form len }
+    ensures { HasRoom direction form len result }
 {
-    if !key_length_ok(key.len()) {
-        return Ok(Err(InPlaceFault::BadLength));
-    }
-    text.resize(key.len() + WORD, 0)?;
-    match wrap_into_with(&mut Meter::new(pair), iv, key, text) {
-        Ok(()) => Ok(Ok(())),
-        Err(refusal) => Ok(Err(refusal)),
+    match (direction, form) {
+        (Direction::Wrap, Form::Plain) => len + WORD,
+        (Direction::Wrap, Form::Padded) => WORD + len.next_multiple_of(WORD),
+        (Direction::Unwrap, Form::Plain) => len - WORD,
+        (Direction::Unwrap, Form::Padded) => len - WORD,
     }
 }
 
-// The padded form ignores the initial value.
-fn wrap_padded<B: BlockPair>(
+// Converts into `output`, which has this room. The padded form ignores the initial value.
+fn convert_in_room<B: BlockPair>(
+    direction: Direction,
+    form: Form,
     iv: &InitialValue,
     pair: &B,
-    key: &[u8],
-    text: &mut Vec<u8>,
-) -> Result<Result<(), InPlaceFault>, AllocError>
-    ensures { IfOk result (λ done. MakesConversion Direction.Wrap Form.Padded iv.now
-        (B.encrypted pair.now) key.now (made text.new.items done)) }
+    input: &[u8],
+    output: &mut Vec<u8>,
+) -> Result<(), InPlaceFault>
+    requires { HasRoom direction form (length input.now) (length output.old.items) }
+    ensures { MakesConversion direction form iv.now
+        (B.encrypted pair.now) input.now (made output.new.items result) }
 {
-    if !padded_length_ok(key.len()) {
-        return Ok(Err(InPlaceFault::BadLength));
-    }
-    let len = WORD + key.len().next_multiple_of(WORD);
-    text.resize(len, 0)?;
-    match wrap_padded_into(&mut Meter::new(pair), key, text) {
-        Ok(()) => Ok(Ok(())),
-        Err(refusal) => Ok(Err(refusal)),
-    }
-}
-
-fn unwrap_plain<B: BlockPair>(
-    iv: &InitialValue,
-    pair: &B,
-    text: &[u8],
-    key: &mut Vec<u8>,
-) -> Result<Result<(), InPlaceFault>, AllocError>
-    ensures { IfOk result (λ done. MakesConversion Direction.Unwrap Form.Plain iv.now
-        (B.encrypted pair.now) text.now (made key.new.items done)) }
-{
-    if !text_length_ok(text.len()) {
-        return Ok(Err(InPlaceFault::BadLength));
-    }
-    key.resize(text.len() - WORD, 0)?;
-    match unwrap_into_with(&mut Meter::new(pair), iv, text, key) {
-        Ok(()) => Ok(Ok(())),
-        Err(refusal) => Ok(Err(refusal)),
-    }
-}
-
-fn unwrap_padded<B: BlockPair>(
-    iv: &InitialValue,
-    pair: &B,
-    text: &[u8],
-    key: &mut Vec<u8>,
-) -> Result<Result<(), InPlaceFault>, AllocError>
-    ensures { IfOk result (λ done. MakesConversion Direction.Unwrap Form.Padded iv.now
-        (B.encrypted pair.now) text.now (made key.new.items done)) }
-{
-    if !padded_text_length_ok(text.len()) {
-        return Ok(Err(InPlaceFault::BadLength));
-    }
-    key.resize(text.len() - WORD, 0)?;
-    match unwrap_padded_into(&mut Meter::new(pair), text, key) {
-        Ok(len) => {
-            key.truncate(len);
-            Ok(Ok(()))
-        }
-        Err(refusal) => Ok(Err(refusal)),
+    let mut meter = Meter::new(pair);
+    match (direction, form) {
+        (Direction::Wrap, Form::Plain) => wrap_into_with(&mut meter, iv, input, output),
+        (Direction::Wrap, Form::Padded) => wrap_padded_into(&mut meter, input, output),
+        (Direction::Unwrap, Form::Plain) => unwrap_into_with(&mut meter, iv, input, output),
+        (Direction::Unwrap, Form::Padded) => match unwrap_padded_into(&mut meter, input, output) {
+            Ok(len) => {
+                output.truncate(len);
+                Ok(())
+            }
+            Err(refusal) => Err(refusal),
+        },
     }
 }

@@ -1,0 +1,43 @@
+-- What a call makes of its input in a buffer with room, from what the call promises, by the cases of its result.
+use Rattle.std.proofs.Common.{◌≡◌, ◌↔◌, ℕ, List, length, Result, Ok, Err, OnOk, refl}
+use Rattle.std.specs.Prelude.{IsOkUnless}
+use Rattle.key_lines.specs.Answers.{made}
+use Rattle.key_wrap.specs.Forms.{IsTextLength, Stands, with_value}
+use Rattle.key_wrap.specs.InPlace.{KeyAnswer}
+use Rattle.key_wrap.specs.Rewrap.{NoOtherForm}
+use Rattle.key_wrap.specs.declared.faults.InPlaceFault.{InPlaceFault}
+use Rattle.key_wrap.specs.declared.faults.InPlaceFault.TheVariants.{BadLength, Integrity}
+use Rattle.key_wrap.specs.declared.forms.Form.{Form}
+use Rattle.keywrap_cli.specs.Answers.{MakesConversion}
+use Rattle.keywrap_cli.specs.Conversion.{IsInputLength}
+use Rattle.keywrap_cli.specs.declared.convert.Direction.TheVariants.{Wrap, Unwrap}
+
+-- a wrapping of a key with a legal length
+pub wrapped : {Room : Type 0} (form : Form) (iv : ℕ) (E : List ℕ → List ℕ) (key text : List ℕ) (r : Result (Unit {0}) InPlaceFault)
+    → Room → ((r ≡ Err BadLength) ↔ ¬ Room) → IsOkUnless r BadLength → OnOk r (IsTextLength form (length text))
+    → OnOk r (Stands form iv E key text) → OnOk r ((other : List ℕ) → Stands form iv E key other → other ≡ text)
+    → MakesConversion Wrap form iv E key (made text r)
+wrapped form iv E key text (Ok done) room bad only legal stands alone = record { legal = legal; stands = stands; alone = alone }
+wrapped form iv E key text (Err BadLength) room bad only legal stands alone = absurd (bad.0 refl room)
+wrapped form iv E key text (Err Integrity) room bad only legal stands alone = absurd (cc only)
+
+-- an unwrapping of a text with a legal length, in the form that relates these keys to texts
+pub refused_unwrap : {A : Type 0} (form : Form) (iv : ℕ) (Fits : List ℕ → List ℕ → Type 0) (E : List ℕ → List ℕ) (text : List ℕ)
+    (Legal : Type 0) (key : A → List ℕ) (fault : InPlaceFault) → Legal → IsInputLength Unwrap form (length text)
+    → ((wrapped : List ℕ) → Stands form iv E wrapped text → Fits wrapped text) → KeyAnswer Legal Fits text key (Err fault)
+    → MakesConversion Unwrap form iv E text (Err fault)
+refused_unwrap form iv Fits E text Legal key BadLength legal fits same h = absurd (h legal)
+refused_unwrap form iv Fits E text Legal key Integrity legal fits same h = (fits, λ wrapped s. h.1 wrapped (same wrapped s))
+
+pub unwrapped : (form : Form) (iv : ℕ) (Fits : List ℕ → List ℕ → Type 0) (E : List ℕ → List ℕ) (text key : List ℕ) (Legal : Type 0)
+    (r : Result (Unit {0}) InPlaceFault) → Legal → IsInputLength Unwrap form (length text)
+    → ((wrapped : List ℕ) → Stands form iv E wrapped text → Fits wrapped text)
+    → ((wrapped : List ℕ) → Fits wrapped text → Stands form iv E wrapped text)
+    → KeyAnswer Legal Fits text (λ (_ : Unit {0}). key) r
+    → OnOk r ((other : List ℕ) → Stands form iv E other text → other ≡ key)
+    → OnOk r ((other : List ℕ) → Stands form iv E key other → other ≡ text)
+    → OnOk r (NoOtherForm (with_value form iv) E text) → MakesConversion Unwrap form iv E text (made key r)
+unwrapped form iv Fits E text key Legal (Ok done) legal fits to from h alone restores one =
+    record { stands = from key h.1; alone = alone; restores = restores; one_form = one }
+unwrapped form iv Fits E text key Legal (Err fault) legal fits to from h alone restores one =
+    refused_unwrap {A = Unit {0}} form iv Fits E text Legal (λ (_ : Unit {0}). key) fault legal fits to h
