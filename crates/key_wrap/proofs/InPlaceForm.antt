@@ -54,6 +54,17 @@ padded_room m old zeroed room blank =
     rw (front, written) (append_assoc (take 8 old) (key_in m old) zeros) in
     ap (drop 8) shape ∙ drop_at (take 8 old) (key_in m old ++ zeros) 8 (omega (arith, length-take 8 old, room.1))
 
+-- the same in registers that begin with the key
+pub padded_after : (m : ℕ) (old zeroed : List ℕ) → IsPaddedRoom m (8 + length old) → zeroed ≡ replicate (length (take (length old - m) (drop m old))) 0
+    → put_mid m (length old - m) old zeroed ≡ padded (take m old)
+padded_after m old zeroed room blank =
+    let whole : m ≤ 8 * word_count m = omega arith in
+    let size : length (take m old) ≡ m = omega (arith, length-take m old, room.1) in
+    let count : length (take (length old - m) (drop m old)) ≡ 8 * word_count (length (take m old)) - length (take m old) =
+    rw size (omega (arith, length-take (length old - m) (drop m old), length-drop m old, room.1)) in
+    let none : drop (length old - m) (drop m old) ≡ [] = drop_all (length old - m) (drop m old) (omega (arith, length-drop m old)) in
+    rw none (ap (λ (bs : List ℕ). take m old ++ bs) (append-nil zeroed ∙ blank ∙ ap (λ (n : ℕ). replicate n 0) count))
+
 -- The first word of the text was read and cleared, and the machine was lent the rest: it was given the text, and
 -- its result follows eight zeros.
 pub record FirstCleared (A : ℕ) (text zeros registers : List ℕ) : Type 0 where

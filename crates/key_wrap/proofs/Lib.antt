@@ -1,4 +1,5 @@
 -- The lemmas, from words and tapes up to the two forms.
+pub mod Refusals
 pub mod Behind
 pub mod Spelling
 pub mod Tapes

@@ -128,6 +128,26 @@ module _ {Z : Type 0} (old : AgreedForm) (E : List ℕ → List ℕ) (new : Agre
     other_form = tt;
   }
 
+  -- the new wrapping of the key, in the vector that is returned
+  pub rewrap_served : {D D' : List ℕ → List ℕ} (answer : Vec ℕ Z) (wrapped : List ℕ) → answer.items ≡ wrapped → AreInverse E D → AreInverse F D'
+      → AreWrappings old E new F text wrapped → NoOtherForm new F wrapped → length wrapped ≡ length text → Rewrapped old E new F text (Ok answer)
+  rewrap_served answer wrapped is inv inv' both other size =
+      let legal = text_legal old both.0 text inv both.1 in
+      let w = rewrapped old new both.0 text wrapped inv inv' both.1 both.2 in
+      record {
+        rewraps = rw is both;
+        text_length = λ bad. absurd (bad legal);
+        key_length = λ bad. absurd (w.fits (inr bad));
+        accepts = λ key h fits. tt;
+        memory = λ e. legal;
+        only_answer = rw is w.only_answer;
+        only_key = w.only_one;
+        same_key = rw is w.same_key;
+        restores = rw is w.restores;
+        size = rw is size;
+        other_form = rw is other;
+      }
+
   -- the key has no legal length in the new form
   key_refused : {D : List ℕ → List ℕ} → AreInverse E D → IsTextLengthAs old (length text) → HasBadLength old E new text
       → Rewrapped {Z = Z} old E new F text (Err unwrap_faults.BadLength)

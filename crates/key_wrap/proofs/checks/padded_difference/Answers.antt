@@ -1,5 +1,6 @@
 -- Where all parts of the difference are 0 the registers hold a key, and a held key makes each of them 0.
-use Rattle.std.proofs.Common.{rules, ◌≡◌, ℕ, ◌+◌, ◌-◌, ◌%◌, ◌^◌, ◌<◌, ◌≤◌, List, length, drop, arith, refl, sym, ap, subst, ◌∙◌}
+use Rattle.std.proofs.Common.{rules, ◌≡◌, ℕ, ◌+◌, ◌-◌, ◌/◌, ◌%◌, ◌^◌, ◌<◌, ◌≤◌, List, length, drop, arith, bit_xor, refl, sym, ap, subst, ◌∙◌}
+use Rattle.std.specs.Prelude.{bit_or}
 use Rattle.std.specs.List.{All}
 use Rattle.byteorder.specs.Endian.{big_from}
 use Rattle.key_wrap.proofs.Differences.{or_parts, or_both, xor_same, same_xor, blank_of, of_blank}
@@ -10,8 +11,10 @@ pub returns-clause-passes : goal.returns-clause-passes
 returns-clause-passes c = λ e.
     let registers : List ℕ = c.args.registers.now in
     let len : ℕ = c.args.iv % 2 ^ 32 in
-    let parts = or_parts _ _ e in
-    let first = or_parts _ _ parts.0 in
+    let padding : ℕ = (length registers + (2 ^ 64 - c.given_length.result)) % 2 ^ 64 in
+    let prefix : ℕ = bit_xor (c.args.iv / 2 ^ 32) c.from.result in
+    let parts = or_parts (bit_or prefix (padding / 8)) c.last_bytes.result e in
+    let first = or_parts prefix (padding / 8) parts.0 in
     let given = c.given_length.ensures in
     let most = c.requires.at_most in
     let low : length registers < len + 8 = omega (arith, first.1, given) in
@@ -19,12 +22,12 @@ returns-clause-passes c = λ e.
     let p : ℕ = length registers - len in
     let word : c.read_u64-last.result ≡ big_from 0 8 (drop (length registers - 8) registers) =
     c.read_u64-last.ensures ∙ ap (big_from 0 8) (tail_slice (length registers - 8) registers) in
-    let count : (length registers + (2 ^ 64 - c.given_length.result)) % 2 ^ 64 % 8 ≡ p = omega (arith, given) in
+    let count : padding % 8 ≡ p = omega (arith, given) in
     let number : big_from 0 8 (drop (length registers - 8) registers) % 256 ^ p ≡ 0 =
     sym (c.last_bytes.ensures ∙ ap (λ (n : ℕ). c.read_u64-last.result % 256 ^ n) count ∙ ap (λ (v : ℕ). v % 256 ^ p) word) ∙ parts.1 in
     let blank = blank_of registers p c.requires.some (omega arith) (search rules) number in
     let place : length registers - p ≡ len = omega arith in
-    passes_word c.args.iv len registers c.requires.whole_words c.requires.some most (xor_same _ _ first.0 ∙ c.from.ensures) refl low high
+    passes_word c.args.iv len registers c.requires.whole_words c.requires.some most (xor_same (c.args.iv / 2 ^ 32) c.from.result first.0 ∙ c.from.ensures) refl low high
     (subst (λ (n : ℕ). All (λ byte. byte ≡ 0) (drop n registers)) place blank)
 
 pub returns-clause-refuses : goal.returns-clause-refuses

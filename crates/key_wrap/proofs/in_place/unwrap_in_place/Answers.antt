@@ -1,9 +1,10 @@
 -- A text of a legal length is not refused for it, and a wrapping has one.
+use Rattle.key_wrap.proofs.Refusals.{true_or_false}
 use Rattle.key_wrap.proofs.FormLengths.{plain_text_legal}
 use Rattle.key_wrap.proofs.in_place.unwrap_in_place.Goals as goal
 
 pub returns-then-not-text_length_ok-clause-accepts : goal.returns-then-not-text_length_ok-clause-accepts
-returns-then-not-text_length_ok-clause-accepts g c = λ key h. let legal = c.text_length_ok.ensures.1 (plain_text_legal h) in cc
+returns-then-not-text_length_ok-clause-accepts g c = λ key h. true_or_false c.if-not-text_length_ok.true (c.text_length_ok.ensures.1 (plain_text_legal h))
 
 pub returns : goal.returns
 returns g c =

@@ -8,6 +8,7 @@ use Rattle.key_wrap.specs.Words.{word_bytes}
 use Rattle.key_wrap.specs.Lengths.{IsPaddedTextLength}
 use Rattle.key_wrap.specs.Padded.{padded}
 use Rattle.key_wrap.specs.InPlace.{key_in}
+use Rattle.key_wrap.proofs.Refusals.{true_or_false}
 use Rattle.key_wrap.proofs.Spelling.{read_word, each_byte}
 use Rattle.key_wrap.proofs.FormLengths.{padded_text_legal}
 use Rattle.key_wrap.proofs.InPlaceForm.{first_cleared}
@@ -17,8 +18,7 @@ use Rattle.key_wrap.proofs.in_place.unwrap_padded_in_place.Goals as goal
 pub returns-then-not-padded_text_length_ok-clause-accepts : goal.returns-then-not-padded_text_length_ok-clause-accepts
 returns-then-not-padded_text_length_ok-clause-accepts g c = λ key h.
     let inv = g.met.B.BlockPair.lawful c.args.meter.now.pair in
-    let legal = c.padded_text_length_ok.ensures.1 (padded_text_legal inv h) in
-    cc
+    true_or_false c.if-not-padded_text_length_ok.true (c.padded_text_length_ok.ensures.1 (padded_text_legal inv h))
 
 pub returns : goal.returns
 returns g c =

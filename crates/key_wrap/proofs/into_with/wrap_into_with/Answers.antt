@@ -2,6 +2,7 @@
 use Rattle.std.proofs.Common.{rules, ◌≡◌, ℕ, List, length, drop, ◌-◌, arith, ◌∙◌}
 use borrow.Rule.Slice.PartMut.{put_mid}
 use Rattle.key_wrap.specs.Plain.{Plain}
+use Rattle.key_wrap.proofs.Refusals.{ok_or_err}
 use Rattle.key_wrap.proofs.PlainForm.{plain_only_text}
 use Rattle.key_wrap.proofs.InPlaceForm.{registers_now}
 use Rattle.key_wrap.proofs.into_with.wrap_into_with.Goals as goal
@@ -14,10 +15,10 @@ returns g c =
     registers_now text c.copy_from_slice.new.self (omega arith) (search rules) ∙ c.copy_from_slice.ensures.after in
     let stands : Plain E c.args.iv.now c.args.key.now c.wrap_buffer.new.buf = rw (held, c.word.ensures.value) at c.wrap_buffer.ensures.answer in
     record {
-      bad_length = search rules;
-      only_fault = search rules;
-      text_kept = search rules;
-      meter_kept = search rules;
+      bad_length = (λ e. ok_or_err e, λ bad. absurd (bad (c.key_length_ok.ensures.0 c.if-not-key_length_ok.false, omega arith)));
+      only_fault = tt;
+      text_kept = λ e. ok_or_err e;
+      meter_kept = λ e. ok_or_err e;
       answer = stands;
       only_text = λ other k. plain_only_text stands k;
       size = search rules;

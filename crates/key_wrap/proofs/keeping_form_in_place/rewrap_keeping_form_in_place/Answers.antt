@@ -8,6 +8,7 @@ use Rattle.key_wrap.specs.Answer.{NoKey}
 use Rattle.key_wrap.specs.Forms.{StandsIn, by_default}
 use Rattle.key_wrap.specs.Found.{HoldsIn}
 use Rattle.key_wrap.specs.KeepForm.{IsSomeTextLength}
+use Rattle.key_wrap.proofs.Refusals.{ok_or_err, true_or_false, one_fault}
 use Rattle.key_wrap.proofs.FoundForms.{found_stands, stands_found, behind_first, refused_as}
 use Rattle.key_wrap.proofs.KeptForms.{one_key, one_answer, same_keys, some_length, length_some, padded_of}
 use Rattle.key_wrap.proofs.keeping_form_in_place.rewrap_keeping_form_in_place.Goals as goal
@@ -17,10 +18,10 @@ returns-then-not-padded_text_length_ok g c =
     let text : List ℕ = c.args.buf.now in
     let inv = g.met.O.BlockPair.lawful c.args.old.now.pair in
     let illegal : ¬ IsSomeTextLength (length text) = λ h.
-    let legal = c.padded_text_length_ok.ensures.1 (padded_of (length text) h) in cc in
+    true_or_false c.if-not-padded_text_length_ok.true (c.padded_text_length_ok.ensures.1 (padded_of (length text) h)) in
     record {
       bad_length = (λ e. illegal, λ h. refl);
-      integrity = (λ e. cc, λ none. absurd (illegal none.0));
+      integrity = (λ e. one_fault refl e, λ none. absurd (illegal none.0));
       answer = tt;
       accepts = λ form key h. absurd (illegal (length_some form key text inv h));
       only_answer = tt;
@@ -44,12 +45,12 @@ returns-in_err-decide g c =
     let legal : IsSomeTextLength (length text) = some_length (length text) (c.padded_text_length_ok.ensures.0 c.if-not-padded_text_length_ok.false) in
     let d = c.in_err-decide.ensures in
     let differs : (form : Form) → NoKey (HoldsIn (by_default form)) before = rw (behind_first c.unwrap_found-found.new.buf) at
-    (c.either_difference.ensures.refuses (λ zero. absurd (let ok = d.passes.1 zero in cc))) in
+    (c.either_difference.ensures.refuses (λ zero. true_or_false refl (d.passes.1 zero))) in
     let none : (form : Form) → NoKey (StandsIn form E) text = λ form key h.
     differs form key (stands_found (by_default form) key before text inv c.unwrap_found-found.ensures.found h) in
     let told = refused_as c.from_residual.result c.in_err-decide.field-0.0 Integrity c.from_residual.ensures d.only_fault in
     record {
-      bad_length = (λ e. cc, λ bad. absurd (bad legal));
+      bad_length = (λ e. one_fault e told, λ bad. absurd (bad legal));
       integrity = (λ e. (legal, none), λ h. told);
       answer = rw told tt;
       accepts = λ form key h. absurd (none form key h);
@@ -82,8 +83,8 @@ returns g c =
     let stands : StandsIn form E key text = found_stands (by_default form) key before text held.2 c.unwrap_found-found.ensures.found in
     let wraps : StandsIn form F key answer = found_stands (by_default form) key before answer held.2 (rw d.kept at c.wrap_found.ensures.wrapped) in
     record {
-      bad_length = (λ e. cc, λ bad. absurd (bad legal));
-      integrity = (λ e. cc, λ none. absurd (none.1 form key stands));
+      bad_length = (λ e. ok_or_err e, λ bad. absurd (bad legal));
+      integrity = (λ e. ok_or_err e, λ none. absurd (none.1 form key stands));
       answer = (form, (key, stands, wraps));
       accepts = λ other_form other h. refl;
       only_answer = λ other kept. one_answer form key text answer other inv stands wraps kept;
@@ -92,8 +93,8 @@ returns g c =
       restores = λ other kept. one_answer form key answer text other inv' wraps stands kept;
       buffer_kept = λ bad. absurd (bad legal);
       old_meter_kept = λ bad. absurd (bad legal);
-      cleared = λ h e. cc;
+      cleared = λ h e. true_or_false refl e;
       unwrap_calls = λ h. c.unwrap_found-found.ensures.calls;
       wrap_calls = search rules;
-      new_meter_kept = λ e. cc;
+      new_meter_kept = λ e. true_or_false refl e;
     }

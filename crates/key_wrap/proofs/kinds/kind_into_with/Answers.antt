@@ -1,27 +1,30 @@
 -- The machine was given the text: its first word, and the rest copied into the scratch buffer.
-use Rattle.std.proofs.Common.{rules, ◌≡◌, ℕ, List, length, take, arith, ◌+◌, ◌++◌, ◌∙◌, ap, length-append}
+use Rattle.std.proofs.Common.{rules, ◌≡◌, ℕ, List, length, take, arith, ◌+◌, ◌++◌, ◌∙◌, refl, ap, length-append}
 use Rattle.block_pair.specs.Metered.{counted}
 use Rattle.key_wrap.specs.Words.{word_bytes}
+use Rattle.key_wrap.specs.Lengths.{IsPaddedTextLength}
 use Rattle.key_wrap.specs.Calls.{block_calls}
 use Rattle.key_wrap.proofs.Spelling.{read_word, each_byte, length-word_bytes}
 use Rattle.key_wrap.proofs.InPlaceForm.{text_again}
+use Rattle.key_wrap.proofs.Refusals.{true_or_false}
 use Rattle.key_wrap.proofs.KindForms.{kind_illegal}
 use Rattle.key_wrap.proofs.kinds.kind_into_with.Goals as goal
 
 pub returns-then-not-padded_text_length_ok : goal.returns-then-not-padded_text_length_ok
 returns-then-not-padded_text_length_ok g c =
-    let k = kind_illegal c.args.iv.now c.args.text.now (g.met.B.BlockPair.lawful c.args.meter.now.pair) (search rules) in
+    let illegal : ¬ IsPaddedTextLength (length c.args.text.now) = λ h. true_or_false c.if-not-padded_text_length_ok.true (c.padded_text_length_ok.ensures.1 h) in
+    let k = kind_illegal c.args.iv.now c.args.text.now (g.met.B.BlockPair.lawful c.args.meter.now.pair) illegal in
     record {
-      bad_length = search rules;
+      bad_length = (λ e. true_or_false refl e, λ bad. absurd (illegal bad.0));
       answer = k.is;
       plain = k.plain;
       padded = k.padded;
       neither = k.neither;
       other_form = k.other_form;
-      scratch_kept = search rules;
-      meter_kept = search rules;
-      cleared = search rules;
-      calls = search rules;
+      scratch_kept = λ h. refl;
+      meter_kept = λ h. refl;
+      cleared = λ legal. absurd (illegal legal);
+      calls = λ legal. absurd (illegal legal);
     }
 
 pub returns : goal.returns

@@ -4,6 +4,7 @@ use Rattle.key_wrap.specs.Lengths.{IsPaddedTextLength}
 use Rattle.key_wrap.specs.Padded.{Padded}
 use Rattle.key_wrap.specs.InPlace.{key_in}
 use Rattle.key_wrap.specs.Answer.{NoPlainKey}
+use Rattle.key_wrap.proofs.Refusals.{ok_or_err, true_or_false}
 use Rattle.key_wrap.proofs.FormLengths.{padded_text_legal}
 use Rattle.key_wrap.proofs.PlainForm.{written_back}
 use Rattle.key_wrap.proofs.Unwrappings.{refused}
@@ -14,12 +15,14 @@ pub returns-then-not-padded_text_length_ok : goal.returns-then-not-padded_text_l
 returns-then-not-padded_text_length_ok g c =
     let E = g.B.BlockPair.encrypted c.args.pair.now in
     unwrap_refused IsPaddedTextLength (Padded E) (NoPlainKey E) c.args.text.now
-    (λ key h. padded_text_legal (g.met.B.BlockPair.lawful c.args.pair.now) h) (search rules)
+    (λ key h. padded_text_legal (g.met.B.BlockPair.lawful c.args.pair.now) h)
+    (λ legal. true_or_false c.if-not-padded_text_length_ok.true (c.padded_text_length_ok.ensures.1 legal))
 
 pub returns-in_err-buffer : goal.returns-in_err-buffer
 returns-in_err-buffer g c =
     let E = g.B.BlockPair.encrypted c.args.pair.now in
-    unwrap_unserved IsPaddedTextLength (Padded E) (NoPlainKey E) c.args.text.now c.from_residual.result (search rules)
+    unwrap_unserved IsPaddedTextLength (Padded E) (NoPlainKey E) c.args.text.now c.from_residual.result
+    (c.padded_text_length_ok.ensures.0 c.if-not-padded_text_length_ok.false)
     c.from_residual.ensures
 
 pub returns-in_err-len : goal.returns-in_err-len
@@ -46,9 +49,9 @@ returns g c =
     let key : c.key_of.result.items ≡ key_in c.in_ok-len.len new = c.key_of.ensures ∙ ap (key_in c.in_ok-len.len) back in
     let w = rw (own, same) at c.in_ok-len.ensures in
     record {
-      bad_length = search rules;
+      bad_length = (λ e. ok_or_err e, λ bad. absurd (bad legal));
       unwraps = (legal, rw key w.answer.1);
-      accepts = search rules;
+      accepts = λ key h. tt;
       only_key = rw key w.only_key;
       restores = rw key w.restores;
       other_form = w.other_values;

@@ -5,6 +5,7 @@ use Rattle.key_wrap.specs.Lengths.{IsPlainTextLength}
 use Rattle.key_wrap.specs.Plain.{Plain}
 use Rattle.key_wrap.specs.Padded.{Padded}
 use Rattle.key_wrap.specs.Answer.{NoKey}
+use Rattle.key_wrap.proofs.Refusals.{ok_or_err, true_or_false}
 use Rattle.key_wrap.proofs.FormLengths.{plain_text_legal}
 use Rattle.key_wrap.proofs.PlainForm.{written_back}
 use Rattle.key_wrap.proofs.Unwrappings.{refused}
@@ -14,12 +15,14 @@ use Rattle.key_wrap.proofs.plain.unwrap_on.Goals as goal
 pub returns-then-not-text_length_ok : goal.returns-then-not-text_length_ok
 returns-then-not-text_length_ok g c =
     let E = g.B.BlockPair.encrypted c.args.pair.now in
-    unwrap_refused IsPlainTextLength (Plain E c.args.iv.now) (NoKey (Padded E)) c.args.text.now (λ key h. plain_text_legal h) (search rules)
+    unwrap_refused IsPlainTextLength (Plain E c.args.iv.now) (NoKey (Padded E)) c.args.text.now (λ key h. plain_text_legal h)
+    (λ legal. true_or_false c.if-not-text_length_ok.true (c.text_length_ok.ensures.1 legal))
 
 pub returns-in_err-buffer : goal.returns-in_err-buffer
 returns-in_err-buffer g c =
     let E = g.B.BlockPair.encrypted c.args.pair.now in
-    unwrap_unserved IsPlainTextLength (Plain E c.args.iv.now) (NoKey (Padded E)) c.args.text.now c.from_residual.result (search rules)
+    unwrap_unserved IsPlainTextLength (Plain E c.args.iv.now) (NoKey (Padded E)) c.args.text.now c.from_residual.result
+    (c.text_length_ok.ensures.0 c.if-not-text_length_ok.false)
     c.from_residual.ensures
 
 pub returns-in_err-unwrap_buffer : goal.returns-in_err-unwrap_buffer
@@ -49,9 +52,9 @@ returns g c =
     ∙ take_all (length text - 8) (drop 8 new) (omega (arith, length-drop 8 new)) in
     let w = rw (own, same, c.word.ensures.value) at c.in_ok-unwrap_buffer.ensures.answer in
     record {
-      bad_length = search rules;
+      bad_length = (λ e. ok_or_err e, λ bad. absurd (bad legal));
       unwraps = (legal, rw key w.unwraps.1);
-      accepts = search rules;
+      accepts = λ key h. tt;
       only_key = rw key w.only_key;
       restores = rw key w.restores;
       other_form = w.other_form;

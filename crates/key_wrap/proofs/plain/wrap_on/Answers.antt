@@ -5,6 +5,7 @@ use Rattle.key_wrap.specs.Lengths.{IsPlainKeyLength}
 use Rattle.key_wrap.specs.Plain.{Plain}
 use Rattle.key_wrap.specs.Padded.{Padded}
 use Rattle.key_wrap.specs.Answer.{NoKey}
+use Rattle.key_wrap.proofs.Refusals.{ok_or_err, true_or_false}
 use Rattle.key_wrap.proofs.PlainForm.{written_back, padded_whole, plain_only_text}
 use Rattle.key_wrap.proofs.BothForms.{not_both_forms}
 use Rattle.key_wrap.proofs.Promises.{wrap_refused, wrap_unserved}
@@ -13,13 +14,14 @@ use Rattle.key_wrap.proofs.plain.wrap_on.Goals as goal
 pub returns-then-not-key_length_ok : goal.returns-then-not-key_length_ok
 returns-then-not-key_length_ok g c =
     let E = g.B.BlockPair.encrypted c.args.pair.now in
-    wrap_refused (IsPlainKeyLength (length c.args.key.now)) (Plain E c.args.iv.now c.args.key.now) (NoKey (Padded E)) (search rules)
+    wrap_refused (IsPlainKeyLength (length c.args.key.now)) (Plain E c.args.iv.now c.args.key.now) (NoKey (Padded E))
+    (λ legal. true_or_false c.if-not-key_length_ok.true (c.key_length_ok.ensures.1 legal))
 
 pub returns-in_err-text : goal.returns-in_err-text
 returns-in_err-text g c =
     let E = g.B.BlockPair.encrypted c.args.pair.now in
     wrap_unserved (IsPlainKeyLength (length c.args.key.now)) (Plain E c.args.iv.now c.args.key.now) (NoKey (Padded E))
-    c.from_residual.result (search rules) c.from_residual.ensures
+    c.from_residual.result (c.key_length_ok.ensures.0 c.if-not-key_length_ok.false) c.from_residual.ensures
 
 pub returns : goal.returns
 returns g c =
@@ -32,8 +34,8 @@ returns g c =
     let own = ap (λ m. m.pair) c.new.ensures in
     let stands : Plain E c.args.iv.now key c.wrap_buffer.new.buf = rw (own, rest, c.word.ensures.value) at c.wrap_buffer.ensures.answer in
     record {
-      bad_length = search rules;
-      memory = search rules;
+      bad_length = (λ e. ok_or_err e, λ bad. absurd (bad legal));
+      memory = λ e. legal;
       wraps = rw back stands;
       only_text = rw back (λ other k. plain_only_text stands k);
       other_form = rw back (λ other k. not_both_forms (g.met.B.BlockPair.lawful c.args.pair.now) c.word.ensures.free stands k);

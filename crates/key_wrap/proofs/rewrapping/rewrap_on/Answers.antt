@@ -1,15 +1,16 @@
 -- The buffer holds the text, so what the call in it promises of the text is what is promised here.
-use Rattle.std.proofs.Common.{rules, ◌≡◌, ℕ, List, length, arith, ap, ◌∙◌, inr}
+use Rattle.std.proofs.Common.{rules, ◌≡◌, ℕ, List, length, arith, ap, ◌∙◌}
 use Rattle.key_wrap.specs.Forms.{by_default}
 use Rattle.key_wrap.proofs.PlainForm.{written_back}
-use Rattle.key_wrap.proofs.Rewraps.{other_form, rewrap_refused, rewrap_unserved, refused_rewrap}
+use Rattle.key_wrap.proofs.Refusals.{true_or_false}
+use Rattle.key_wrap.proofs.Rewraps.{other_form, rewrap_refused, rewrap_unserved, rewrap_served, refused_rewrap}
 use Rattle.key_wrap.proofs.rewrapping.rewrap_on.Goals as goal
 
 pub returns-then-not-is_text_length : goal.returns-then-not-is_text_length
 returns-then-not-is_text_length g c =
     rewrap_refused (by_default c.args.old_form) (g.O.BlockPair.encrypted c.args.old.now) (by_default c.args.new_form)
     (g.N.BlockPair.encrypted c.args.new.now) c.args.text.now (g.met.O.BlockPair.lawful c.args.old.now)
-    (λ legal. let ok = c.is_text_length.ensures.1 (rw c.by_default-from.ensures legal) in cc)
+    (λ legal. true_or_false c.if-not-is_text_length.true (c.is_text_length.ensures.1 (rw c.by_default-from.ensures legal)))
 
 pub returns-in_err-buffer : goal.returns-in_err-buffer
 returns-in_err-buffer g c =
@@ -22,11 +23,12 @@ returns-in_err-rewrap_in_place_with g c =
     let legal = rw c.by_default-from.ensures at (c.is_text_length.ensures.0 c.if-not-is_text_length.false) in
     let same : c.deref_mut.result.now ≡ c.args.text.now = c.deref_mut.ensures.value ∙ c.in_ok-buffer.ensures.items in
     let own = ap (λ m. m.pair) c.new-unwraps.ensures in
-    let w = rw (own, same, c.by_default-from.ensures, c.by_default-to.ensures) at c.in_err-rewrap_in_place_with.ensures in
+    let bad_length = rw (own, same, c.by_default-from.ensures, c.by_default-to.ensures) at c.in_err-rewrap_in_place_with.ensures.bad_length in
+    let integrity = rw (own, same, c.by_default-from.ensures) at c.in_err-rewrap_in_place_with.ensures.integrity in
     refused_rewrap (by_default c.args.old_form) (g.O.BlockPair.encrypted c.args.old.now) (by_default c.args.new_form)
     (g.N.BlockPair.encrypted c.args.new.now) c.args.text.now
     c.in_err-rewrap_in_place_with.field-0.0 c.from_residual-in_err-rewrap_in_place_with.result (g.met.O.BlockPair.lawful c.args.old.now) legal
-    w.bad_length w.integrity c.from_residual-in_err-rewrap_in_place_with.ensures
+    bad_length integrity c.from_residual-in_err-rewrap_in_place_with.ensures
 
 pub returns : goal.returns
 returns g c =
@@ -37,17 +39,8 @@ returns g c =
     let new : List ℕ = c.rewrap_in_place_with.new.buf in
     let size : length new ≡ length text = search rules in
     let back = written_back c.in_ok-buffer.buffer.len new c.in_ok-buffer.buffer.items (omega arith) in
-    let w = rw (own, own', same, c.by_default-from.ensures, c.by_default-to.ensures) at c.in_ok-rewrap_in_place_with.ensures in
-    record {
-      rewraps = rw back w.answer;
-      text_length = λ bad. absurd (bad (rw c.by_default-from.ensures at (c.is_text_length.ensures.0 c.if-not-is_text_length.false)));
-      key_length = λ bad. absurd (let e = w.bad_length.1 (inr bad) in cc);
-      accepts = λ key h fits. search rules;
-      memory = λ e. cc;
-      only_answer = rw back w.only_answer;
-      only_key = w.only_key;
-      same_key = rw back w.same_key;
-      restores = rw back w.restores;
-      size = rw back size;
-      other_form = rw back (other_form c.args.new_form w.answer.0 new (g.met.N.BlockPair.lawful c.args.new.now) w.answer.2);
-    }
+    let both = rw (own, own', same, c.by_default-from.ensures, c.by_default-to.ensures) at c.in_ok-rewrap_in_place_with.ensures.answer in
+    let inv' = g.met.N.BlockPair.lawful c.args.new.now in
+    rewrap_served (by_default c.args.old_form) (g.O.BlockPair.encrypted c.args.old.now) (by_default c.args.new_form)
+    (g.N.BlockPair.encrypted c.args.new.now) text _ new back (g.met.O.BlockPair.lawful c.args.old.now) inv' both
+    (other_form c.args.new_form both.0 new inv' both.2) size
