@@ -1,23 +1,17 @@
 -- What jobs answer, and what a run has written.
-use Rattle.std.proofs.Common.{◌≡◌, ℕ, List, Option, Result, Ok, Err, Vec, IfOk, ◌∙◌, refl, subst, sym}
+use Rattle.std.proofs.Common.{◌≡◌, ℕ, List, Option, Result, Ok, Err, Vec}
 use Rattle.std.proofs.KnownBytes.{Keeps-refl}
 use Rattle.std.specs.declared.alloc.Global.{Global}
-use Rattle.aes_block.specs.Cipher.{cipher}
-use Rattle.key_lines.specs.Answers.{Answer, answered}
-use Rattle.key_lines.specs.declared.job.Mark.{Mark}
+use Rattle.key_lines.specs.Answers.{Answer}
 use Rattle.key_lines.specs.declared.job.Mark.TheVariants.{Unmarked}
 use Rattle.key_wrap.specs.declared.faults.InPlaceFault.{InPlaceFault}
 use Rattle.key_wrap.specs.declared.faults.InPlaceFault.TheVariants.{BadLength, Integrity}
-use Rattle.key_wrap.specs.declared.forms.Kind.{Kind}
-use Rattle.key_wrap.specs.declared.forms.Kind.TheVariants as kinds
-use Rattle.keywrap_cli.specs.Answers.{AnswerOfJob, HasMark, MakesConversion, WritesFor, job_of, kind_line}
-use Rattle.keywrap_cli.specs.Engine.{RunsInput, UnderReadKek, WritesAnswer, WritesFrom, WritesOutput, job_fault_of}
+use Rattle.keywrap_cli.specs.Answers.{AnswerOfJob, HasMark, MakesConversion, job_of}
+use Rattle.keywrap_cli.specs.Engine.{RunsInput, WritesAnswer, WritesFrom, WritesOutput, job_fault_of}
 use Rattle.keywrap_cli.specs.Files.{printed}
 use Rattle.keywrap_cli.specs.Readings.{ReadsInput}
 use Rattle.keywrap_cli.specs.declared.convert.Direction.{Direction}
 use Rattle.keywrap_cli.specs.declared.convert.Direction.TheVariants as directions
-use Rattle.keywrap_cli.specs.declared.job.Job.{Job}
-use Rattle.keywrap_cli.specs.declared.job.Job.TheVariants.{Check, Unwrap}
 use Rattle.keywrap_cli.specs.declared.job.JobFault.{JobFault}
 use Rattle.keywrap_cli.specs.declared.job.Notation.{Notation}
 use Rattle.keywrap_cli.specs.declared.job.Task.{Task}

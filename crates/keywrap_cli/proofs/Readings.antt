@@ -1,10 +1,7 @@
 -- Reading a KEK file returns what its bytes denote, if they are a KEK, and a call says the rest of it.
-use Rattle.std.proofs.Common.{◌≡◌, ℕ, List, length, Option, Some, None, Result, Ok, Err, inl, inr, refl, subst}
-use Rattle.aes_block.specs.KeyExpansion.{IsKekLength}
+use Rattle.std.proofs.Common.{◌≡◌, ℕ, List, Option, Ok, Err, inl, inr, refl, subst}
 use Rattle.keywrap_cli.specs.Engine.{IsRefusedBefore, OpensKeks, UnderKeks, UnderReadKek}
-use Rattle.keywrap_cli.specs.Readings.{ReadsKek}
 use Rattle.keywrap_cli.specs.declared.job.JobFault.{JobFault}
-use Rattle.keywrap_cli.specs.declared.kek_file.KekRole.{KekRole}
 use Rattle.keywrap_cli.specs.declared.kek_file.Keks.{Keks}
 use Rattle.keywrap_cli.specs.declared.job.Notation.{Notation}
 

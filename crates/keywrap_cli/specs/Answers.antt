@@ -1,12 +1,10 @@
 -- The answers of jobs and rewrappings to bytes: the bytes of an input or of a line. A job has one KEK, a rewrapping
 -- two. An output is in the notation of the input. The plain form has the initial value `iv`.
-use Rattle.std.specs.Prelude.{◌≡◌, ⊤, Bool, ℕ, List, [], ◌∷◌, ◌++◌, length, codes, Result, Ok, Err}
+use Rattle.std.specs.Prelude.{◌≡◌, ℕ, List, [], ◌∷◌, ◌++◌, length, codes, Result, Ok, Err}
 use Rattle.std.specs.Fmt.{decimal}
 use Rattle.key_lines.specs.Answers.{Answer}
 use Rattle.key_lines.specs.declared.job.Mark.{Mark}
 use Rattle.key_lines.specs.declared.job.Mark.TheVariants.{Unmarked, Marked}
-use Rattle.key_lines.specs.declared.run.RunOptions.{RunOptions}
-use Rattle.key_lines.specs.declared.text.TextNotation.{TextNotation}
 use Rattle.key_wrap.specs.Answer.{NoKey}
 use Rattle.key_wrap.specs.Forms.{Stands}
 use Rattle.key_wrap.specs.Kind.{IsKindWith}
@@ -16,7 +14,7 @@ use Rattle.key_wrap.specs.declared.forms.Form.{Form}
 use Rattle.key_wrap.specs.declared.forms.Kind.{Kind}
 use Rattle.key_wrap.specs.declared.forms.Kind.TheVariants as kinds
 use Rattle.keywrap_cli.specs.Conversion.{HasNoAnswer, IsAnswer, IsInputLength, IsKeyOf, IsTextOf}
-use Rattle.keywrap_cli.specs.Files.{line_notation, printed, text_notation}
+use Rattle.keywrap_cli.specs.Files.{printed}
 use Rattle.keywrap_cli.specs.Forms.{Makes, MakesMarked}
 use Rattle.keywrap_cli.specs.declared.convert.Direction.{Direction}
 use Rattle.keywrap_cli.specs.declared.convert.Direction.TheVariants as directions
@@ -24,7 +22,6 @@ use Rattle.keywrap_cli.specs.declared.job.Done.{Done}
 use Rattle.keywrap_cli.specs.declared.job.Done.TheVariants.{Written, Neither}
 use Rattle.keywrap_cli.specs.declared.job.Job.{Job}
 use Rattle.keywrap_cli.specs.declared.job.Job.TheVariants.{Wrap, Unwrap, Check}
-use Rattle.keywrap_cli.specs.declared.job.Notation.{Notation}
 use Rattle.keywrap_cli.specs.declared.job.Task.{Task}
 use Rattle.keywrap_cli.specs.declared.rewrapping.Rewrapping.{Rewrapping}
 
