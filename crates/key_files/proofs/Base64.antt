@@ -47,19 +47,26 @@ pub base64_meaning-never_long : (text : List ℕ) → base64_meaning text ≢ Er
 unfolding base64_meaning
 base64_meaning-never_long text h = placed-never_long (misplaced Allowed text) (kept text) h
 
+-- a buffer that an encoding of k bytes fills; k is a variable here, which is much quicker to prove
+filled_of : {F : Type 0} (k : ℕ) (encoded old new : List ℕ) (n : ℕ) (answer : Result ℕ F) (error : F) → answer ≡ Ok n
+    → (k ≤ length old → answer ≡ Ok k) → (length old < k → answer ≡ Err error) → new ≡ encoded ++ drop k old
+    → length new ≡ length old → nat_eq n (length new) ≡ true → new ≡ encoded
+filled_of k encoded old new n answer error is fits small written same whole = elim (cases_lt (length old) k) [
+  | inl lt ↦ cc (sym is ∙ small lt)
+  | inr ge ↦
+      let size : n ≡ k = cc (sym is ∙ fits ge) in
+      let all : n ≡ length new = grind (arith, nat_tests) in
+      let none : drop k old ≡ [] = drop_all k old (omega (arith, size, all)) in
+      written ∙ ap (λ rest. encoded ++ rest) none ∙ append-nil encoded
+]
+
 -- an output that the encoding fills
 pub filled : {F : Type 0} (e : GeneralPurpose) (bytes old new : List ℕ) (n : ℕ) (answer : Result ℕ F) (error : F) → answer ≡ Ok n
     → (encoded_size_of e (length bytes) ≤ length old → answer ≡ Ok (encoded_size_of e (length bytes)))
     → (length old < encoded_size_of e (length bytes) → answer ≡ Err error) → new ≡ encode_of e bytes ++ drop (encoded_size_of e (length bytes)) old
     → length new ≡ length old → nat_eq n (length new) ≡ true → new ≡ encode_of e bytes
-filled e bytes old new n answer error is fits small written same whole = elim (cases_lt (length old) (encoded_size_of e (length bytes))) [
-  | inl lt ↦ cc (sym is ∙ small lt)
-  | inr ge ↦
-      let size : n ≡ encoded_size_of e (length bytes) = cc (sym is ∙ fits ge) in
-      let all : n ≡ length new = grind (arith, nat_tests) in
-      let none : drop (encoded_size_of e (length bytes)) old ≡ [] = drop_all (encoded_size_of e (length bytes)) old (omega (arith, size, all)) in
-      written ∙ ap (λ rest. encode_of e bytes ++ rest) none ∙ append-nil (encode_of e bytes)
-]
+filled e bytes old new n answer error is fits small written same whole =
+    filled_of (encoded_size_of e (length bytes)) (encode_of e bytes) old new n answer error is fits small written same whole
 
 -- engines with the same tables and configuration encode the same
 pub encode_of-same : (a b : GeneralPurpose) (bytes : List ℕ) → SameEngine a b → encode_of a bytes ≡ encode_of b bytes
