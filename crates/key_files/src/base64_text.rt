@@ -1,8 +1,8 @@
 //! The base64 notation.
 
 ghost use Rattle.std.specs.Prelude.{◌≡◌, ◌<◌, ◌≤◌, ℕ, List, length, true, None, Err};
-ghost use Rattle.std.specs.Prelude.{IfErr, IfOk, IfSome, Ok, OnOk};
-ghost use Rattle.base64.specs.GeneralPurpose.{IsBytes, SameEngine, encode_of};
+ghost use Rattle.std.specs.Prelude.{IfErr, IfOk, IfSome, IsOk, Ok, OnOk, vec_capacity};
+ghost use Rattle.base64.specs.GeneralPurpose.{IsBytes, SameEngine, encode_of, encoded_size_of};
 ghost use Rattle.key_files.specs.Base64Text.{IsBase64Of, alphabet_of, base64_fault_of, base64_line};
 ghost use Rattle.key_files.specs.Base64Text.{base64_meaning, before_padding, encoding_of};
 ghost use Rattle.key_files.specs.Base64Text.{first_foreign, first_no_padding, first_of_one};
@@ -92,10 +92,12 @@ fn kept<A: Allocator>(alloc: A, text: &[u8]) -> Result<Vec<u8, A>, AllocError>
 }
 
 /// Replaces `line` with the line of base64 output: in the standard alphabet with padding, or in the
-/// URL-safe alphabet without it.
+/// URL-safe alphabet without it. Fails only if the capacity of `line` is too small.
 pub fn print_base64(alphabet: Alphabet, bytes: &[u8], line: &mut Vec<u8>) -> Result<(), AllocError>
     ensures whole { OnOk result (line.new.items ≡ base64_line alphabet bytes.now) }
     ensures prints { PrintsAs base64_meaning (base64_line alphabet bytes.now) bytes.now }
+    ensures enough { encoded_size_of (output_encoding alphabet) (length bytes.now)
+        < vec_capacity line.old → IsOk result }
 {
     let padded = output_encoding(alphabet).config().encode_padding();
     let Some(len) = encoded_len(bytes.len(), padded) else {
@@ -111,7 +113,9 @@ pub fn print_base64(alphabet: Alphabet, bytes: &[u8], line: &mut Vec<u8>) -> Res
 
 // Whether the encoding of the bytes is as long as the output, which then is it.
 fn fills(alphabet: Alphabet, bytes: &[u8], output: &mut [u8]) -> bool
-    ensures { result ≡ true → output.new ≡ encode_of (output_encoding alphabet) bytes.now }
+    ensures whole { result ≡ true → output.new ≡ encode_of (output_encoding alphabet) bytes.now }
+    ensures fits { length output.old ≡ encoded_size_of (output_encoding alphabet)
+        (length bytes.now) → result ≡ true }
 {
     match output_encoding(alphabet).encode_slice(bytes, output) {
         Ok(len) => len == output.len(),

@@ -5,8 +5,8 @@ use Rattle.base64.specs.declared.encode.EncodeSliceError.TheVariants.{OutputSlic
 use Rattle.key_files.proofs.Base64.{encode_of-same, filled}
 use Rattle.key_files.proofs.base64_text.fills.Goals as goal
 
-pub returns-in-Ok : goal.returns-in-Ok
-returns-in-Ok c = λ whole.
+pub returns-in-Ok-clause-whole : goal.returns-in-Ok-clause-whole
+returns-in-Ok-clause-whole c = λ whole.
     let wrote = c.in-Ok.ensures in
     let e = c.output_encoding.result in
     filled e c.args.bytes.now c.args.output.now c.encode_slice.new.output c.in-Ok.len c.encode_slice.result OutputSliceTooSmall c.in-Ok.is

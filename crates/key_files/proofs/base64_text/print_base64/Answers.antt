@@ -20,4 +20,4 @@ returns-clause-prints c = prints_base64 c.args.alphabet c.args.bytes.now (λ k. 
 pub returns-clause-whole : goal.returns-clause-whole
 returns-clause-whole c =
     let full : length c.fills.new.output ≡ c.resize.new.self.len = grind (arith, c.fills.auto.output, c.deref_mut.ensures) in
-    c.in_ok-push.ensures.items ∙ ap (λ (l : List ℕ). l ++ 10 ∷ []) (take_at c.fills.new.output _ _ full ∙ c.fills.ensures c.if-not-fills.false)
+    c.in_ok-push.ensures.items ∙ ap (λ (l : List ℕ). l ++ 10 ∷ []) (take_at c.fills.new.output _ _ full ∙ c.fills.ensures.whole c.if-not-fills.false)
