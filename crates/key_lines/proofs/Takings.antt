@@ -83,8 +83,7 @@ ReadsLine-last {limit} {a} {b} c {before} after some t fits m =
 pub ReadsLine-none : (limit : ℕ) {a b : Option (List ℕ)} (c : Option (List ℕ)) {before : List ℕ} (after : List ℕ) → length after ≡ 0
     → TakesPart a b before → MovesPart limit b c before after (Ok Missing) → ReadsLine limit a c after (Ok lines.Missing)
 ReadsLine-none limit {a} {b} c {before} after none t m =
-    let empty : before ++ [] ≡ [] = append-nil before ∙ sym m.2 ∙ length-nil after none in
-    (
+    let empty : before ++ [] ≡ [] = append-nil before ∙ sym m.2 ∙ length-nil after none in (
       subst (Consumes a c) empty (Consumes-trans a b c before [] t.stands_after m.0),
       subst (λ l. IsAllOf l a) empty (all_of-both a b before [] t.stands_after m.1),
     )
