@@ -2,43 +2,33 @@
 
 ghost use Rattle.std.specs.Prelude.{◌≡◌};
 ghost use Rattle.key_files.specs.declared.fault.FileFault.TheVariants as FileFaults;
+ghost use Rattle.key_files.specs.declared.fault.HexWriteFault.TheVariants as HexWriteFaults;
 
 use std::alloc::AllocError;
-use std::fmt::{self, Display};
 use thiserror::Error;
 
 /// Why a file could not be read or decoded.
-#[derive(Clone, Copy, Debug, PartialEq, Eq)]
+#[derive(Clone, Copy, Debug, PartialEq, Eq, Error)]
 pub enum FileFault {
     /// A read failed, even if it was only interrupted.
+    #[error("cannot be read")]
     Read,
     /// The file has more bytes than the limit.
+    #[error("too long")]
     TooLong,
     /// The byte at offset `at`, counted from 0 over all bytes, is the first that is not a hex
     /// digit, nor an allowed space, tab, CR or LF.
+    #[error("no hex digit at byte {at}")]
     BadDigit { at: usize },
     /// The number of hex digits is odd.
+    #[error("odd number of hex digits")]
     OddDigits,
     /// The text is not base64.
+    #[error("{0}")]
     BadBase64(Base64Fault),
     /// An allocation failed.
+    #[error("out of memory")]
     Memory,
-}
-
-impl std::error::Error for FileFault {}
-
-impl Display for FileFault {
-    fn fmt<W: fmt::Write>(&self, f: &mut fmt::Formatter<W>) -> fmt::Result {
-        let text = match self {
-            FileFault::Read => "cannot be read",
-            FileFault::TooLong => "too long",
-            FileFault::BadDigit { at } => return write!(f, "no hex digit at byte {at}"),
-            FileFault::OddDigits => "odd number of hex digits",
-            FileFault::BadBase64(fault) => return fault.fmt(f),
-            FileFault::Memory => "out of memory",
-        };
-        f.write_str(text)
-    }
 }
 
 /// Why a text is not base64 (RFC 4648, sections 4 and 5). Offsets count all bytes, from 0.
@@ -86,5 +76,23 @@ impl From<AllocError> for FileFault {
 
     fn from(_error: AllocError) -> FileFault {
         FileFault::Memory
+    }
+}
+
+impl From<AllocError> for HexWriteFault {
+    ghost from_gives = { λ _ fault. fault ≡ HexWriteFaults.Memory };
+
+    fn from(_error: AllocError) -> HexWriteFault {
+        HexWriteFault::Memory
+    }
+}
+
+impl From<WriteFault> for HexWriteFault {
+    ghost from_gives = { λ write fault. fault ≡ HexWriteFaults.Write write.written };
+
+    fn from(fault: WriteFault) -> HexWriteFault {
+        HexWriteFault::Write {
+            written: fault.written,
+        }
     }
 }

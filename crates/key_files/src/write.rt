@@ -41,19 +41,10 @@ pub fn write_hex<A: Allocator, W: Write>(
 ) -> Result<(), HexWriteFault>
     ensures { WritesHex (W.contents writer.old) (W.contents writer.new) bytes.now result }
 {
-    let mut line = match hex::encode(alloc, bytes) {
-        Ok(line) => line,
-        Err(_) => return Err(HexWriteFault::Memory),
-    };
-    if line.push('\n').is_err() {
-        return Err(HexWriteFault::Memory);
-    }
-    match write_raw(writer, line.as_bytes()) {
-        Ok(()) => Ok(()),
-        Err(fault) => Err(HexWriteFault::Write {
-            written: fault.written,
-        }),
-    }
+    let mut line = hex::encode(alloc, bytes)?;
+    line.push('\n')?;
+    write_raw(writer, line.as_bytes())?;
+    Ok(())
 }
 
 /// Replaces `line` with the line that [`write_hex`] writes.

@@ -1,11 +1,10 @@
 //! Why a run stops.
 
 use key_files::FileFault;
-use std::alloc::AllocError;
 use std::fmt;
 
 /// Why a line was refused.
-#[derive(Copy, PartialEq)]
+#[derive(Clone, Copy, Debug, PartialEq)]
 pub enum LineFault<R> {
     /// The line cannot be read or decoded, or an allocation failed, even for its answer.
     Input(FileFault),
@@ -14,7 +13,7 @@ pub enum LineFault<R> {
 }
 
 /// A line of the input that was refused.
-#[derive(Copy, PartialEq)]
+#[derive(Clone, Copy, Debug, PartialEq)]
 pub struct RefusedLine<R> {
     /// The line, counted from 1.
     pub line: u64,
@@ -39,18 +38,6 @@ pub enum RunFault<R> {
         /// The number of bytes of their answers that were not written.
         unsent: usize,
     },
-}
-
-impl<R: Copy> Clone for LineFault<R> {
-    fn clone(&self) -> Result<LineFault<R>, AllocError> {
-        Ok(*self)
-    }
-}
-
-impl<R: Copy> Clone for RefusedLine<R> {
-    fn clone(&self) -> Result<RefusedLine<R>, AllocError> {
-        Ok(*self)
-    }
 }
 
 impl<R: fmt::Display> fmt::Display for RefusedLine<R> {

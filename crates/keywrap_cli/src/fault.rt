@@ -8,57 +8,44 @@ use crate::statuses;
 use key_files::{FileFault, HexWriteFault, WriteFault};
 use key_lines::{LineFault, RefusedLine};
 use key_wrap::InPlaceFault;
-use std::fmt::{self, Display};
+use thiserror::Error;
 
 /// A fault of the program, other than one of its arguments. Its message is its line on standard
 /// error.
-#[derive(Drop)]
+#[derive(Debug, Drop, Error)]
 pub enum ProgramFault {
+    #[error("keywrap: --iv {0}")]
     Iv(IvFault),
+    #[error("keywrap: --new-iv {0}")]
     NewIv(IvFault),
+    #[error("keywrap: key file: cannot be opened")]
     KekOpen,
+    #[error("keywrap: new key file: cannot be opened")]
     NewKekOpen,
+    #[error("keywrap: input: cannot be opened")]
     InputOpen,
     /// The output file can't be made, or must not be replaced.
+    #[error("keywrap: output: cannot be opened")]
     OutputOpen,
     /// Raw bytes would go to a terminal.
+    #[error("keywrap: output: raw bytes do not go to a terminal; redirect it or use --output")]
     RawToTerminal,
+    #[error("keywrap: {0}")]
     Job(JobFault),
+    #[error("keywrap: {0}")]
     Line(RefusedLine<InPlaceFault>),
+    #[error("keywrap: no lines")]
     NoLines,
+    #[error("keywrap: {0}")]
     Drill(DrillFault),
     /// The help, the vectors, the answer of the drill or the answers to lines could not be written.
+    #[error("keywrap: output: refused after {written} bytes")]
     Write { written: usize },
     /// Standard output can't be flushed, or the new file can't be renamed.
+    #[error("keywrap: output: cannot be flushed")]
     Flush,
+    #[error("keywrap: out of memory")]
     Memory,
-}
-
-impl Display for ProgramFault {
-    fn fmt<W: fmt::Write>(&self, f: &mut fmt::Formatter<W>) -> fmt::Result {
-        f.write_str("keywrap: ")?;
-        let text = match self {
-            ProgramFault::Iv(fault) => return write!(f, "--iv {fault}"),
-            ProgramFault::NewIv(fault) => return write!(f, "--new-iv {fault}"),
-            ProgramFault::KekOpen => "key file: cannot be opened",
-            ProgramFault::NewKekOpen => "new key file: cannot be opened",
-            ProgramFault::InputOpen => "input: cannot be opened",
-            ProgramFault::OutputOpen => "output: cannot be opened",
-            ProgramFault::RawToTerminal => {
-                "output: raw bytes do not go to a terminal; redirect it or use --output"
-            }
-            ProgramFault::Job(fault) => return fault.fmt(f),
-            ProgramFault::Line(refused) => return refused.fmt(f),
-            ProgramFault::NoLines => "no lines",
-            ProgramFault::Drill(fault) => return fault.fmt(f),
-            ProgramFault::Write { written } => {
-                return write!(f, "output: refused after {written} bytes");
-            }
-            ProgramFault::Flush => "output: cannot be flushed",
-            ProgramFault::Memory => "out of memory",
-        };
-        f.write_str(text)
-    }
 }
 
 impl ProgramFault {

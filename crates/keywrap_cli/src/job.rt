@@ -13,9 +13,8 @@ use key_files::FileFault;
 use key_lines::Mark;
 use key_wrap::{Form, InitialValue};
 use std::alloc::Global;
-use std::error::Error;
-use std::fmt::{self, Display};
 use std::io::{Read, Write};
+use thiserror::Error;
 
 /// The kind of a job.
 #[derive(Clone, Copy)]
@@ -73,51 +72,37 @@ pub struct Outcome<T> {
 }
 
 /// Why a job was refused.
-#[derive(Clone, Copy, Debug, PartialEq)]
+#[derive(Clone, Copy, Debug, PartialEq, Error)]
 pub enum JobFault {
     /// The KEK file cannot be read, is too long, or does not decode.
+    #[error("key file: {0}")]
     KekFile(FileFault),
-    /// The KEK is not 16, 24 or 32 bytes long.
+    #[error("key length is not 16, 24 or 32 bytes")]
     KekLength,
     /// The new KEK file cannot be read, is too long, or does not decode. Only a rewrapping returns
     /// this.
+    #[error("new key file: {0}")]
     NewKekFile(FileFault),
     /// The new KEK is not 16, 24 or 32 bytes long. Only a rewrapping returns this.
+    #[error("new key length is not 16, 24 or 32 bytes")]
     NewKekLength,
     /// The input cannot be read, is too long, or does not decode.
+    #[error("input: {0}")]
     InputFile(FileFault),
     /// The length of the key or the wrapped key is not legal in this form.
+    #[error("bad length")]
     BadLength,
     /// The input is not a wrapping in this form under this KEK.
+    #[error("integrity check failed")]
     Integrity,
     /// The writer took only `written` bytes of the output.
+    #[error("output: refused after {written} bytes")]
     Write {
         /// The number of bytes that were written.
         written: usize,
     },
-    /// An allocation failed.
+    #[error("out of memory")]
     Memory,
-}
-
-impl Error for JobFault {}
-
-impl Display for JobFault {
-    fn fmt<W: fmt::Write>(&self, f: &mut fmt::Formatter<W>) -> fmt::Result {
-        let text = match self {
-            JobFault::KekFile(fault) => return write!(f, "key file: {fault}"),
-            JobFault::KekLength => "key length is not 16, 24 or 32 bytes",
-            JobFault::NewKekFile(fault) => return write!(f, "new key file: {fault}"),
-            JobFault::NewKekLength => "new key length is not 16, 24 or 32 bytes",
-            JobFault::InputFile(fault) => return write!(f, "input: {fault}"),
-            JobFault::BadLength => "bad length",
-            JobFault::Integrity => "integrity check failed",
-            JobFault::Write { written } => {
-                return write!(f, "output: refused after {written} bytes");
-            }
-            JobFault::Memory => "out of memory",
-        };
-        f.write_str(text)
-    }
 }
 
 /// Runs a job: reads the KEK and the input, and writes the answer in the notation of the input.

@@ -22,9 +22,7 @@ fn write(
     bytes: &[u8],
 ) -> Result<(), HexWriteFault> {
     match notation {
-        Notation::Raw => write_raw(out, bytes).map_err(|fault| HexWriteFault::Write {
-            written: fault.written,
-        }),
+        Notation::Raw => Ok(write_raw(out, bytes)?),
         Notation::Hex => write_hex(alloc, out, bytes),
     }
 }
