@@ -90,7 +90,7 @@ def test_nothing_is_changed(room, server, before, change, command, status, messa
 
 
 @pytest.mark.parametrize("before, command, tools", [
-    ([], ONE, ["keywrap"]), ([f"{BATCHES} begin 60"], WORK, ["keywrap"]),
+    ([], ONE, ["keywrap"]), pytest.param([f"{BATCHES} begin 60"], WORK, ["keywrap"], marks=slow),
     pytest.param([], ONE, {*TOOLS} - {"keywrap"}, marks=slow),
     pytest.param([f"{BATCHES} begin 60"], WORK, ["psql", "cut", "sed", "paste"], marks=slow),
     pytest.param([f"{BATCHES} begin 60", WORK], END, ["keywrap", "psql", "cut", "sed", "paste"], marks=slow)],

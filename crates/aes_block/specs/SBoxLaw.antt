@@ -30,7 +30,7 @@ found_test table = passes_below 256 (λ y. entry table (place_of y table) == y)
 abbrev pub undone_test : List ℕ → Bool
 undone_test table = passes_below 256 (λ x. place_of (entry table x) table == x)
 
--- the program's table is that of the definition: computed once, and each test over the numbers of the table
+-- the program's table equals the definition's: computed once, and each test over the numbers of the table
 pub s_box_table : S_BOX ≡ s_boxes
 unfolding s_boxes s_box number_with_bits inverse product remainder polynomial_product
 s_box_table = refl
