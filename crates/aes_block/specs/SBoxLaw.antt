@@ -1,9 +1,8 @@
 -- The laws of the S-box: it takes bytes to bytes, and the inverse S-box undoes it in both orders.
-use Rattle.std.proofs.Common.{◌≡◌, ◌↔◌, ℕ, List, Bool, true, ◌==◌, nat_lt, get_or, refl, sym, ap, subst, ◌∙◌, eqb-true, ltb-true, zero-add}
+use Rattle.std.proofs.Common.{◌≡◌, ◌↔◌, ℕ, List, Bool, true, ◌==◌, nat_lt, get_or, refl, sym, ap, ◌∙◌, eqb-true, ltb-true, zero-add}
 use Rattle.std.specs.List.{position_or_len}
 use Rattle.std.proofs.lemmas.List.FromFn.{get_or-map-range_with_len}
 use Rattle.block_pair.specs.Words.{IsByte}
-use Rattle.aes_block.specs.declared.s_box.TheConstants.{S_BOX}
 use Rattle.aes_block.specs.Field.{polynomial_product, remainder, product, inverse}
 use Rattle.aes_block.specs.SBox.{number_with_bits, s_box, s_boxes, inv_s_box}
 use Rattle.aes_block.specs.EveryByte.{passes_below, passes_at}
@@ -30,22 +29,21 @@ found_test table = passes_below 256 (λ y. entry table (place_of y table) == y)
 abbrev pub undone_test : List ℕ → Bool
 undone_test table = passes_below 256 (λ x. place_of (entry table x) table == x)
 
--- the program's table equals the definition's: computed once, and each test over the numbers of the table
-pub s_box_table : S_BOX ≡ s_boxes
-unfolding s_boxes s_box number_with_bits inverse product remainder polynomial_product
-s_box_table = refl
-
 s_boxes_bytes : bytes_test s_boxes ≡ true
-s_boxes_bytes = subst (λ (t : List ℕ). bytes_test t ≡ true) s_box_table refl
+unfolding s_boxes s_box number_with_bits inverse product remainder polynomial_product
+s_boxes_bytes = refl
 
 s_boxes_places : places_test s_boxes ≡ true
-s_boxes_places = subst (λ (t : List ℕ). places_test t ≡ true) s_box_table refl
+unfolding s_boxes s_box number_with_bits inverse product remainder polynomial_product
+s_boxes_places = refl
 
 s_boxes_found : found_test s_boxes ≡ true
-s_boxes_found = subst (λ (t : List ℕ). found_test t ≡ true) s_box_table refl
+unfolding s_boxes s_box number_with_bits inverse product remainder polynomial_product
+s_boxes_found = refl
 
 s_boxes_undone : undone_test s_boxes ≡ true
-s_boxes_undone = subst (λ (t : List ℕ). undone_test t ≡ true) s_box_table refl
+unfolding s_boxes s_box number_with_bits inverse product remainder polynomial_product
+s_boxes_undone = refl
 
 -- the table's entry at x is the S-box of x
 pub s_boxes_entry : (x : ℕ) → IsByte x → entry s_boxes x ≡ s_box x
