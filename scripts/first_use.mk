@@ -1,33 +1,62 @@
-# Proves the crates of the program side by side, each after those below it, and then builds the program: what
-# the launcher calls, from the top of the repository. rt's own locks let those wait that share a crate.
+# Proves the crates of the program side by side, each after those below it, and then builds the program: what the
+# launcher calls, from the top of the repository.
 #
-# CRATES are the crates below the program that have a directory here, and JOBS is the greatest number of jobs of rt. The
-# directory LOGS, of the environment, gets the output for crates/NAME: NAME.log while rt works on it and if it fails,
-# and NAME.proved afterwards.
+# It calls the kit's compiler, rattle, as `rt ci` does. So a crate loads what the crates below it state, and not their
+# proofs. With `rt lib`, which has no option for that, this takes a quarter longer.
+#
+# CRATES are the crates below the program that have a directory here, and JOBS is the greatest number of jobs of rattle.
+# The directory LOGS, of the environment, gets the output for crates/NAME: NAME.log while rattle works on it and if it
+# fails, and NAME.proved afterwards.
 #
 # The program is compiled by Rattle's own compiler: clang takes a minute and a half for it, and makes none that is
 # faster. The gate runs what either makes.
 
+.DEFAULT_GOAL = keywrap
 .PHONY: keywrap $(CRATES)
 
-# The chain key_files, key_lines, keywrap_cli, keywrap takes the longest, so it comes first, and what is proved beside it
-# gets the time that it leaves. More jobs at once take longer: each job of rt begins by reading what is below its crate.
-chain = key_files key_lines keywrap_cli
-keywrap: jobs = $(JOBS)
-$(CRATES): jobs = 1
-aes_block aes_vector key_wrap key_files key_lines: jobs = $(if $(filter 1,$(JOBS)),1,2)
-keywrap_cli: jobs = $(JOBS)
-$(filter-out $(chain),$(CRATES)): gently = nice -n 10
+kit := $(shell dirname -- "$$(dirname -- "$$(readlink -f -- "$$(command -v rt)")")")
+# What a build leaves for the next one: NAME.rlib for the crates above, and NAME.sums, the checksums of what it was made
+# of: the sources of NAME and of the crates below it, and the kit.
+kept = crates/keywrap/out/kept
+# The crates that a crate names in crates.txt, those of them that have a directory here, and all below it.
+named = $(shell sed -n 's/^$(1): *//p' crates.txt)
+below = $(filter $(CRATES),$(call named,$(1)))
+all_below = $(sort $(foreach crate,$(call below,$(1)),$(crate) $(call all_below,$(crate))))
+is_kept = $(shell [ -e $(kept)/$(1).rlib ] && b2sum --check --status $(kept)/$(1).sums 2>/dev/null && echo yes)
+changed := $(foreach crate,$(CRATES),$(if $(call is_kept,$(crate)),,$(crate)))
+# The checksums are of the sources as they are at the start: a source that changes meanwhile differs from them.
+sums = { scripts/sources.sh $(patsubst %,crates/%,$(1) $(call all_below,$(1))); b2sum '$(kit)/WHAT'; } >"$$LOGS/$(1).sums"
+$(foreach crate,$(changed),$(shell $(call sums,$(crate))))
+
+# The chain key_files, key_lines, keywrap_cli, keywrap takes the longest, so it comes first. The crates that it does not
+# need before the program get the time that it leaves.
+$(CRATES): jobs = $(if $(filter 1,$(JOBS)),1,2)
+keywrap keywrap_cli: jobs = $(JOBS)
+$(filter-out key_files key_lines keywrap_cli,$(CRATES)): gently = nice -n 10
 keywrap_io keywrap_args: gently = nice -n 19
 
-keywrap: WORDS = run --backend rattle --jobs $(jobs) -- --version
-$(CRATES): WORDS = lib --jobs $(jobs)
+externs = $(foreach crate,std $(filter-out $(CRATES),$(call named,$@)),--extern $(crate)='$(kit)/rlibs/$(crate).rlib') \
+    $(foreach crate,$(call below,$@),--extern $(crate)=../../$(kept)/$(crate).rlib)
+# A signal to make ends rattle: no shell is between them.
+rattle = cd 'crates/$@' && exec $(gently) '$(kit)/bin/rattle' build --crate-name $@ $(externs) \
+    -L dependency='$(kit)/rlibs' -L dependency=../../$(kept) --antt-project '$(kit)/rattle/logic/antt-project.json' \
+    --logic-built '$(kit)/logic_built' --links $@= --jobs $(jobs)
+is_proved = @mv "$$LOGS/$@.log" "$$LOGS/$@.proved"
 
-# A signal to make ends rt: no shell is between them.
-keywrap $(CRATES):
-	@cd 'crates/$@' && exec $(gently) rt $(WORDS) >"$$LOGS/$@.log" 2>&1
-	@mv "$$LOGS/$@.log" "$$LOGS/$@.proved"
+$(changed):
+	@mkdir -p $(kept) && $(rattle) --statements -o ../../$(kept)/$@.rlib src/lib.rt >"$$LOGS/$@.log" 2>&1
+	@mv "$$LOGS/$@.sums" $(kept)
+	$(is_proved)
+
+$(filter-out $(changed),$(CRATES)):
+	@: >"$$LOGS/$@.proved"
 
 keywrap: $(CRATES)
-below = $(filter $(CRATES),$(shell sed -n 's/^$(1): *//p' crates.txt))
+	@mkdir -p $(kept) && $(rattle) --backend rattle --toolchain '$(kit)/toolchain' -o out/kept/keywrap.o src/main.rt \
+	    >"$$LOGS/$@.log" 2>&1
+	@'$(kit)/bin/rattle-link' --target x86_64-unknown-linux-gnu --toolchain '$(kit)/toolchain' -o $(kept)/keywrap \
+	    $(kept)/keywrap.o '$(kit)/c/libos_c.a' '$(kit)/c/liblibc_c.a' >>"$$LOGS/$@.log" 2>&1
+	@mv $(kept)/keywrap crates/keywrap/out
+	$(is_proved)
+
 $(foreach crate,$(CRATES),$(eval $(crate): $(call below,$(crate))))

@@ -1,5 +1,5 @@
 #!/usr/bin/env bash
-# Runs the launcher keywrap with a fake rt, which proves nothing and records its calls. Checks what is built, in which
+# Runs the launcher keywrap with a fake kit, which proves nothing and records its calls. Checks what is built, in which
 # order, and when it is built again; the messages and their streams; and the files that are left.
 #
 # usage: tests/launcher.sh
@@ -17,13 +17,13 @@ launch() {
     /usr/bin/env --default-signal "$tree/keywrap" "$@" >out 2>err
     status=$?
 }
-# left: what a run left: temporary files, an rt, a make over this tree. A process that the fake rt had just started
-# when it was ended, such as a grep, ends by itself.
+# left: what a run left: temporary files, a rattle, a make over this tree. A process that the fake rattle had just
+# started when it was ended, such as a grep, ends by itself.
 left() {
     local make
     ls tmp
-    ! pgrep -f "$tree/bin/rt" >/dev/null || sleep 1
-    pgrep -af "$tree/bin/rt"
+    ! pgrep -f "$tree/bin/rattle" >/dev/null || sleep 1
+    pgrep -af "$tree/bin/rattle"
     for make in $(pgrep -f first_use.mk); do
         [ "$(readlink "/proc/$make/cwd")" != "$tree" ] || echo "make $make"
     done
@@ -38,8 +38,8 @@ launched() {
     verdict "$1: what is left" "$(left)"
 }
 starts='keywrap: proving and building the program, about 10 minutes the first time (logs: LOGS)'
-# said CRATE: what rt says of it.
-said() { printf '%s\n' "the first line of $1" 'so far: 3 of 9 functions checked'; }
+# said CRATE: what rattle prints for it.
+said() { printf '%s\n' "the first line of $1" 'the second line'; }
 
 ### When it is built, and from where it is called
 
@@ -72,24 +72,36 @@ done
 rebuilds './keywrap --version' "${steps[@]}" <<END_OF_CHANGES
 echo first >crates/block_pair/src/added.rt; append crates.txt
 append crates/block_pair/src/added.rt
+append WHAT; append crates/keywrap/src/lib.rt
+fresh; at=block_pair event='echo other >>src/lib.rt' launch
+fresh; at='a tree' event='cd crates/keywrap; echo other >>src/lib.rt' make gate
+END_OF_CHANGES
+# A crate is proved again only if it or a crate below it changed.
+rebuilds './keywrap --version' "${steps[@]:2}" <<END_OF_CHANGES
 append crates/aes_block/specs/Lib.antt
+append crates/aes_block/src/lib.rt; at=aes_block event='exit 1' launch
+rm -r crates/keywrap/out/kept/aes_block.rlib; append crates/keywrap/src/lib.rt
+END_OF_CHANGES
+rebuilds './keywrap --version' "${steps[@]:4}" <<END_OF_CHANGES
 rm -r crates/keywrap/proofs
 chmod -x $program
 touch -d tomorrow $program
-fresh; at=block_pair event='echo other >>src/lib.rt' launch
-append crates/aes_block/src/lib.rt; at=aes_block event='exit 1' launch
 append crates/aes_block/src/lib.rt; at=keywrap event='kill -s KILL \$\$' launch
 fresh; (trap '' XFSZ; at=keywrap event='prlimit --fsize=999 --pid \$launcher' ./keywrap)
-fresh; at='a tree' event='cd crates/keywrap; echo other >>src/lib.rt' make gate
 END_OF_CHANGES
 rebuilds './keywrap --version' <<<"fresh; at='a tree' event='cd crates/keywrap' make gate"
 fresh; (trap '' XFSZ; at=keywrap event='prlimit --fsize=999 --pid $launcher' ./keywrap >out 2>err)
 verdict 'a record that can not be written: what is left' "$(left)"
 
-# Another launcher begins, and ends, while this one is at work.
-fresh; at=keywrap event='at= "$tree/keywrap" --version' launch
-launched 'two at once' 5 "child of $$, 0 words: "$'\n' "$starts" "${steps[@]:0:5}" "${steps[@]}" 'ends keywrap'
-rebuilds './keywrap --version' <<<"at=keywrap event='at= \"\$tree/keywrap\" --version' launch"
+# Another launcher begins while this one is at work: it waits, and then runs the same program.
+fresh
+at=keywrap event='at= "$tree/keywrap" --version >"$tree/second" 2>&1 &
+    until_true grep -q waiting "$tree/second"' launch
+launched 'two at once' 5 "child of $$, 0 words: "$'\n' "$starts" "${steps[@]}"
+until_true grep -q words second
+verdict 'two at once: the second' "$(sed '2 s/ [0-9]*,/ P,/' second |
+    diff - <(printf '%s\n' 'keywrap: waiting for another build' 'child of P, 1 words: --version'))"
+noted 'two at once: built once' "${steps[@]}"
 
 ### What ends a build
 
@@ -97,12 +109,12 @@ rm -r crates/aes_block/specs && : >notes
 at=aes_block event='exit 1' launch
 launched 'a crate is not proved' 70 '' "$starts
 $(said aes_block)
-keywrap: the build failed: aes_block" "${steps[@]:0:3}"
+keywrap: the build failed: aes_block" "${steps[2]}"
 rm -r crates/keywrap/specs && : >notes
 at=keywrap event='exit 5' launch
 launched 'the program is not proved' 70 '' "$starts
 $(said keywrap)
-keywrap: the build failed: keywrap" "${steps[@]:0:5}"
+keywrap: the build failed: keywrap" "${steps[@]:2:3}"
 mv scripts/first_use.mk kept.mk && fresh
 launch
 verdict 'make itself fails' "$(left; [ "$status" = 70 ] || echo "status $status"
@@ -114,20 +126,23 @@ mv kept.mk scripts/first_use.mk
 # Four that need no other of these, and a fifth above the second.
 crates first_four: second_four: third_four: fourth_four: 'above_second: second_four' 'keywrap_c staticlib:' \
     'keywrap: first_four second_four third_four fourth_four above_second'
-begins=('first_four: lib --jobs 1' 'fourth_four: lib --jobs 1' 'second_four: lib --jobs 1' 'third_four: lib --jobs 1')
+begins=('first_four: build --jobs 2' 'fourth_four: build --jobs 2' 'second_four: build --jobs 2'
+    'third_four: build --jobs 2')
 # sorted_notes: the notes of those that are at work side by side may come in any order.
 sorted_notes() { LC_ALL=C sort -o notes notes; }
 # most_at_once: how many were at work at once.
 most_at_once() { awk '/^[a-z_]*: /{ n++ } /^end/{ n-- } n > most { most = n } END { print most + 0 }' notes; }
-# at_once PROCESSORS JOBS N EVENT: N are at work at once, with a job each, and the program comes last, with JOBS.
+# at_once PROCESSORS JOBS N EVENT: N are at work at once, with two jobs each if there are as many processors, and the
+# program comes last, with JOBS.
 at_once() {
+    local each=$(($1 > 1 ? 2 : 1))
     fresh
     processors=$1 at='.*_four' event=$4 launch
     verdict "$1 processors" "$([ "$status" = 5 ] || cat err; [ "$(most_at_once)" = "$3" ] || cat notes
-        sed -n 's/.*lib --jobs \([0-9]*\).*/\1/p' notes | grep -vx 1)"
-    verdict "$1 processors: what is built" "$(LC_ALL=C sort notes | sed -n 's/: lib .*//p' | paste -sd ' ' |
-        diff - <(echo above_second first_four fourth_four second_four third_four)
-        tail -n 2 notes | diff - <(printf '%s\n' "keywrap: run --backend rattle --jobs $2 -- --version" 'ends keywrap'))"
+        sed -n 's/.*_.*: build --jobs //p' notes | grep -vx $each)"
+    verdict "$1 processors: what is built" "$(LC_ALL=C sort notes | sed -n 's/: build .*//p' | paste -sd ' ' |
+        diff - <(echo above_second first_four fourth_four keywrap second_four third_four)
+        tail -n 2 notes | diff - <(printf '%s\n' "keywrap: build --jobs $2" 'ends keywrap'))"
 }
 at_once 1 1 3 'until_true begun 3; sleep 0.2'
 at_once 2 2 4 'until_true begun 4; sleep 0.2'
@@ -136,7 +151,7 @@ at_once 9 4 4 'until_true begun 4; sleep 0.2'
 fresh; at='(first|third|fourth)_four' event='until_true grep -q "^ends above" "$tree/notes"' launch
 verdict 'a crate begins where those below it are proved' "$([ "$status" = 5 ] || cat err
     grep -e '^ends second' -e above notes |
-        diff - <(printf '%s\n' 'ends second_four' 'above_second: lib --jobs 1' 'ends above_second')
+        diff - <(printf '%s\n' 'ends second_four' 'above_second: build --jobs 2' 'ends above_second')
     grep -A 9 '^ends above' notes | grep -c '^ends .*_four' | grep -vx 3)"
 
 # What is at work when a proof fails ends, and no other begins.
@@ -152,7 +167,7 @@ sorted_notes
 launched 'two proofs fail' 70 '' "$starts
 $(said first_four)
 $(said third_four)
-keywrap: the build failed: first_four third_four" 'above_second: lib --jobs 1' 'ends above_second' \
+keywrap: the build failed: first_four third_four" 'above_second: build --jobs 2' 'ends above_second' \
     'ends fourth_four' 'ends second_four' "${begins[@]}"
 
 for signal in HUP INT QUIT TERM; do
@@ -178,9 +193,9 @@ on_screen() {
 # states: what the line said in turn, but for the seconds.
 states() { grep -oP '\e\[Kkeywrap: [0-9]+ s, \K[^\r\e]+' screen | uniq; }
 if has script bsdutils 'the launcher on a terminal'; then
-    at='.*_four' event='until_true begun 4; until_true grep -q "(3 of 9) fourth" "$tree/screen"' on_screen
+    at='.*_four' event='until_true begun 4; until_true grep -q "first_four fourth" "$tree/screen"' on_screen
     verdict 'how far it is, side by side' "$([ "$status" = 5 ] || cat err
-        states | grep -q '^0 of 6 crates proved, at work: first_four (3 of 9) fourth_four (3' || states
+        states | grep -q '^0 of 6 crates proved, at work: first_four fourth_four second_four' || states
         grep -oP '\e\[K\K[^\r\e]{80,}' screen)"
     at='.*_four' event='until_true begun 4
         [ $crate != first_four ] || printf "\003" >../../keys; until_true false' on_screen
@@ -192,7 +207,7 @@ if has script bsdutils 'the launcher on a terminal'; then
     verdict 'a terminal that cannot rewrite a line' "$(grep $'\e' screen)"
     screen=$tree/screen on_screen
     launched 'the first use on a terminal' 5 "$(<out)"$'\n' "$starts" "${steps[@]}"
-    verdict 'how far it is' "$(states | grep '(' | diff - <(printf '%s of 3 crates proved, at work: %s (3 of 9)\n' \
+    verdict 'how far it is' "$(states | grep 'work: .' | diff - <(printf '%s of 3 crates proved, at work: %s\n' \
         0 block_pair 1 aes_block 2 keywrap))"
 fi
 

@@ -155,8 +155,8 @@ def shared(descriptor):
 
 
 @contextlib.contextmanager
-def in_pieces(content, size=1 << 30):
-    """A pipe with the content in pieces of this size and a pause after each. Returns its name for the program."""
+def piped(content, size=1 << 30):
+    """A pipe with the content, in pieces of this size with a pause after each. Returns its name for the program."""
     content = content.encode() if isinstance(content, str) else content
     reading, writing = os.pipe()
 
@@ -169,10 +169,6 @@ def in_pieces(content, size=1 << 30):
     with concurrent.futures.ThreadPoolExecutor() as pool, open(reading, "rb"), shared(reading) as name:
         pool.submit(write)
         yield name
-
-
-# The content in one piece.
-piped = in_pieces
 
 
 @contextlib.contextmanager

@@ -13,7 +13,7 @@ import pytest
 
 from checks import NO_OUTPUT, fresh, keeps, lands, no_output
 from commands import CHECK, SAME_KEK, UNWRAP, WRAP
-from program import CLOSED, Ended, failing_after, in_pieces, refused
+from program import CLOSED, Ended, failing_after, piped, refused
 from vectors import (KEY16, FULL, INTEGRITY, KEK24, KEK32, KEY7, WRAPPED16, WRAPPED24, WRAPPED32, WRAPPED7, in_base64,
                      in_url, raw)
 
@@ -58,7 +58,7 @@ class TestInPlaceWithKeepGoing:
         written, error = f"{WRAPPED32}\n\n", f"keywrap: line 2: {INTEGRITY}\n"
         assert keywrap(f"{REWRAP} {KEEP_GOING} -i to/file") == Ended(5, written, error)
         shutil.copy("to/file", "to/copy")
-        with in_pieces(pathlib.Path("to/file").read_bytes(), 100) as pipe:
+        with piped(pathlib.Path("to/file").read_bytes(), 100) as pipe:
             for name, flags, given in [("to/copy", "-i to/file", None), ("to/new", "", pathlib.Path("to/file")),
                                        ("to/new", "", pipe)]:
                 assert keywrap(f"{REWRAP} {KEEP_GOING} {flags} -o {name}", stdin=given) == Ended(5, "", error)

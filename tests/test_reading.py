@@ -12,7 +12,7 @@ import pytest
 
 from checks import DONE, leaves_input
 from commands import CHECK, FILES, JOBS, MAX_FILE, REWRAP, UNWRAP, WRAP
-from program import CLOSED, PIPES, Ended, answered, failing_after, finish, in_pieces, piped, refused, sh, shared, words
+from program import CLOSED, PIPES, Ended, answered, failing_after, finish, piped, refused, sh, shared, words
 from vectors import (BAD_LENGTH, FULL, KEY16, INTEGRITY, IV, KEK16, KEK32, KEK_LENGTH, NEW_KEK_LENGTH, NOT_OPENED,
                      PADDED16, PADDED7, WRAPPED16, WRAPPED32, WRONG, raw, zeros)
 
@@ -33,7 +33,7 @@ def whatever_can_be_read(content, run):
     """Makes runs with the name of a file with this content: pipes, an open file, and a named pipe."""
     pathlib.Path("content").write_bytes(content)
     for size in len(content), 5:
-        with in_pieces(content, size) as pipe:
+        with piped(content, size) as pipe:
             yield run(pipe)
     with open("content", "rb") as file, shared(file.fileno()) as name:
         yield run(name)
@@ -67,7 +67,7 @@ class TestEachJob:
     def test_standard_input(self, keywrap, job):
         """It comes in pieces, or while the program is stopped."""
         for size in 1, 7:
-            with in_pieces(job.given, size) as given:
+            with piped(job.given, size) as given:
                 assert keywrap(job.args, stdin=given, text=False) == job[3:]
         with keywrap.started(job.args, **PIPES) as run:
             run.send_signal(signal.SIGSTOP)
@@ -186,7 +186,7 @@ class TestFiles:
 
     def test_pipes(self, keywrap):
         """Three at once. One pipe has only one KEK, and leaves none for the new KEK."""
-        with in_pieces(KEK16, 5) as old, in_pieces(KEK32, 5) as new, in_pieces(WRAPPED16, 5) as given:
+        with piped(KEK16, 5) as old, piped(KEK32, 5) as new, piped(WRAPPED16, 5) as given:
             assert keywrap(f"rewrap --kek {old} --new-kek {new} -i {given}", stdin=WRONG) == REWRAPPED
         for content, args, ended in [("", "wrap --kek {}", BAD_KEK), (KEK16[:10], "wrap --kek {}", BAD_KEK),
                                      (KEK16, "wrap --kek {}", BAD),

@@ -1,6 +1,6 @@
 # shellcheck shell=bash disable=SC2034,SC2154
-# A small tree of this repository, and a fake rt, which proves nothing and records its calls. Sourced, it goes to the
-# tree, whose path holds a space, and whose rt is the first on the PATH.
+# A small tree of this repository, which is also a fake kit: its rt and rattle prove nothing and record their calls.
+# Sourced, it goes to the tree, whose path holds a space, and whose rt is the first on the PATH.
 #
 # SH=PATH has another shell than /bin/sh run the launcher.
 
@@ -30,13 +30,17 @@ program=crates/keywrap/out/keywrap archive=crates/keywrap_c/out/libkeywrap_c.a
 export tree=$PWD helpers=$root/tests/lib/expect.sh PATH=$PWD/bin:$PATH TMPDIR=$PWD/tmp TERM=xterm processors=4
 unset MAKEFLAGS MAKELEVEL TESTS KEYWRAP_ARCHIVES KEYWRAP_ALL
 
-# The fake rt: in the crates that the pattern $at names it runs $event, with $launcher as the process above its make,
-# and it waits until the file $screen says that no other crate is being built. Each program and archive that it
-# builds is another. The program prints its caller and its arguments.
+# The fake rt and rattle: in the crates that the pattern $at names they run $event, with $launcher as the process above
+# their make, and wait until the file $screen says that no other crate is being built. Each program and archive that
+# they build is another. The program prints its caller and its arguments. Of rattle's words only two are recorded.
 install -m 755 /dev/stdin bin/rt <<'END_OF_RT'
 #!/bin/bash
 . "$helpers"
-crate=${PWD##*/}
+crate=${PWD##*/} words=$* output=out/keywrap
+if [ "${0##*/}" = rattle ]; then
+    [[ $words =~ (--jobs [0-9]+).* ]] && words="$1 ${BASH_REMATCH[1]}"
+    output=$(grep -oP -- ' -o \K\S+' <<<"$*")
+fi
 launcher=$(sed -n 's/^PPid:\t//p' /proc/$PPID/status)
 # begun N: N crates began.
 begun() {
@@ -45,21 +49,27 @@ begun() {
     [ $count -ge "$1" ]
 }
 trap 'echo "ended $crate" >>"$tree/notes"; exit 143' INT TERM
-echo "$crate: $*" >>"$tree/notes"
+echo "$crate: $words" >>"$tree/notes"
 echo "the first line of $crate"
-echo 'so far: 3 of 9 functions checked' >&2
-[ -z "${screen:-}" ] || until_true grep -q "at work: $crate (" "$screen"
+echo 'the second line' >&2
+[ -z "${screen:-}" ] || until_true grep -q "at work: $crate" "$screen"
 [[ ! $crate =~ ^(${at:-})$ ]] || eval "$event"
-install -D -m 755 /dev/stdin out/keywrap <<END_OF_PROGRAM
+install -D -m 755 /dev/stdin "$output" <<END_OF_PROGRAM
 #!/bin/sh
 echo "child of \$PPID, \$# words: \$*"
 [ "\$1" = --version ] || exit 5
 # $(date +%N)
 END_OF_PROGRAM
-cp out/keywrap "out/lib$crate.a"
+[ "${0##*/}" != rt ] || cp out/keywrap "out/lib$crate.a"
 [ "$1" != ci ] || sed '$ s/$/ by the other compiler/' out/keywrap | install -m 755 /dev/stdin out/keywrap.by-rattle
 echo "ends $crate" >>"$tree/notes"
 END_OF_RT
+cp bin/rt bin/rattle && echo 'the kit' >WHAT
+install -m 755 /dev/stdin bin/rattle-link <<'END_OF_LINK'
+#!/bin/sh
+while [ "$1" != -o ]; do shift; done
+install -m 755 "$3" "$2"
+END_OF_LINK
 install -m 755 /dev/stdin bin/nproc <<'END_OF_NPROC'
 #!/bin/sh
 echo "$processors"
@@ -83,5 +93,5 @@ rebuilds() {
     done
 }
 
-steps=('block_pair: lib --jobs 1' 'ends block_pair' 'aes_block: lib --jobs 2' 'ends aes_block'
-    'keywrap: run --backend rattle --jobs 4 -- --version' 'ends keywrap')
+steps=('block_pair: build --jobs 2' 'ends block_pair' 'aes_block: build --jobs 2' 'ends aes_block'
+    'keywrap: build --jobs 4' 'ends keywrap')
