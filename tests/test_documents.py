@@ -11,7 +11,7 @@ ROOT = pathlib.Path(__file__).resolve().parent.parent
 DOCUMENTS = [path.relative_to(ROOT) for path in [
     *sorted(ROOT.glob("*.md")), *sorted(ROOT.glob("docs/*.md")), ROOT / "python/README.md", ROOT / "js/README.md"]]
 DIRECTORIES = (r"\.ci|bench|completions|crates|docs|examples|include|man|provider|python|scripts|specs|src|tests"
-               "|[a-z_]+/(?:specs|src|proofs)")
+               "|[a-z0-9_]+/(?:specs|src|proofs)")
 
 def text_of(document):
     return (ROOT / document).read_text()
@@ -109,6 +109,7 @@ class TestRepeatedFacts:
         blocks = re.findall(r"^```.*\n((?:.*\n)*?)```", page, re.M)
         assert blocks
         assert [block for block in blocks if not any(f"\n{block}" in source for source in sources)] == []
-        crates = re.findall(r"^(?:block_pair|aes_block|key_wrap|example_caller):.*", text_of("crates.txt"), re.M)
-        shown = re.search(r"(?:^    [a-z_]+:.*\n)+", page[page.index("    block_pair:"):], re.M)[0]
+        names = "block_pair|fips197|aes_block|key_wrap|example_caller"
+        crates = re.findall(f"^(?:{names}):.*", text_of("crates.txt"), re.M)
+        shown = re.search(r"(?:^    [a-z0-9_]+:.*\n)+", page[page.index("    block_pair:"):], re.M)[0]
         assert sorted(line.strip() for line in shown.splitlines()) == sorted(crates)

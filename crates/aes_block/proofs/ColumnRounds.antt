@@ -4,13 +4,13 @@ use Rattle.std.proofs.Common.{◌≡◌, ℕ, ◌+◌, ◌*◌, ◌^◌, ◌<◌
 use Rattle.std.specs.Int.{to_be_bytes}
 use Rattle.std.specs.List.{slice_index}
 use Rattle.block_pair.specs.Words.{IsByte}
-use Rattle.aes_block.specs.Field.{product}
-use Rattle.aes_block.specs.FieldLaw.{product_byte}
-use Rattle.aes_block.specs.SBox.{s_box, inv_s_box}
-use Rattle.aes_block.specs.SBoxLaw.{s_box_byte, inv_s_box_byte}
-use Rattle.aes_block.specs.StateLaw.{all_bytes, byte_at}
-use Rattle.aes_block.specs.MixColumnsLaw.{sum_of_four_byte, xor_byte}
-use Rattle.aes_block.specs.Rounds.{sum_of_four, mix_matrix, inv_mix_matrix}
+use Rattle.fips197.specs.Field.{product}
+use Rattle.fips197.specs.FieldLaw.{product_byte}
+use Rattle.fips197.specs.SBox.{s_box, inv_s_box}
+use Rattle.fips197.specs.SBoxLaw.{s_box_byte, inv_s_box_byte}
+use Rattle.fips197.specs.StateLaw.{all_bytes, byte_at}
+use Rattle.fips197.specs.MixColumnsLaw.{sum_of_four_byte, xor_byte}
+use Rattle.fips197.specs.Rounds.{sum_of_four, mix_matrix, inv_mix_matrix}
 use Rattle.aes_block.specs.Columns.{row, spread, mixed, round_column, last_column, inv_round_column, inv_last_column}
 use Rattle.aes_block.proofs.ColumnWords.{turned, spread_sum, four, column_bytes, added_bytes, row_byte}
 

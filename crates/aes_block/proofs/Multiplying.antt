@@ -8,9 +8,9 @@ use Rattle.std.proofs.lemmas.Nat.{mod-pow-add, xor_comm}
 use Rattle.std.proofs.lemmas.Nat.Bits.{bit_at-lt, shr_and_one}
 use Rattle.std.proofs.lemmas.Bool.Decides.{nat_tests}
 use Rattle.block_pair.specs.Words.{IsByte}
-use Rattle.aes_block.specs.Field.{polynomial_product, remainder, product, inverse}
-use Rattle.aes_block.specs.FieldLaw.{product-xor_right}
-use Rattle.aes_block.specs.EveryByte.{passes_below, passes_at}
+use Rattle.fips197.specs.Field.{polynomial_product, remainder, product, inverse}
+use Rattle.fips197.specs.FieldLaw.{product-xor_right}
+use Rattle.fips197.specs.EveryByte.{passes_below, passes_at}
 
 -- one is the unit
 one_test : ℕ → Bool

@@ -6,10 +6,10 @@ use Rattle.std.proofs.lemmas.List.FromFn.{get_or-map-range_with_len}
 use Rattle.block_pair.specs.Words.{IsByte}
 use Rattle.aes_block.specs.declared.s_box.TheConstants.{S_BOX, INV_S_BOX}
 use Rattle.aes_block.specs.declared.word_tables.TheConstants.{INV_MIXED, MIXED_S_BOX}
-use Rattle.aes_block.specs.Field.{polynomial_product, remainder, product, inverse}
-use Rattle.aes_block.specs.SBox.{number_with_bits, s_box, s_boxes, inv_s_box}
-use Rattle.aes_block.specs.SBoxLaw.{place_of, s_boxes_entry}
-use Rattle.aes_block.specs.Rounds.{inv_mix_matrix, mix_matrix}
+use Rattle.fips197.specs.Field.{polynomial_product, remainder, product, inverse}
+use Rattle.fips197.specs.SBox.{number_with_bits, s_box, s_boxes, inv_s_box}
+use Rattle.fips197.specs.SBoxLaw.{place_of, s_boxes_entry}
+use Rattle.fips197.specs.Rounds.{inv_mix_matrix, mix_matrix}
 use Rattle.aes_block.specs.Columns.{spread}
 
 s_box_table : S_BOX ≡ s_boxes

@@ -1,10 +1,9 @@
 -- The state in words: each of its four columns is a word, and the byte of row 0 is the most significant.
 use Rattle.std.specs.Prelude.{ℕ, ◌+◌, ◌*◌, List, [], ◌∷◌, map, slice_index, bit_xor}
 use Rattle.std.specs.Int.{w32, from_be_bytes, to_be_bytes}
-use Rattle.std.specs.List.{flat_map}
-use Rattle.aes_block.specs.Field.{product}
-use Rattle.aes_block.specs.SBox.{s_box, inv_s_box}
-use Rattle.aes_block.specs.Rounds.{sum_of_four, mix_matrix, inv_mix_matrix}
+use Rattle.fips197.specs.Field.{product}
+use Rattle.fips197.specs.SBox.{s_box, inv_s_box}
+use Rattle.fips197.specs.Rounds.{sum_of_four, mix_matrix, inv_mix_matrix}
 
 -- the column whose byte in row r is f r
 abbrev pub column : (ℕ → ℕ) → ℕ
@@ -13,10 +12,6 @@ column f = from_be_bytes w32 (f 0 ∷ f 1 ∷ f 2 ∷ f 3 ∷ [])
 -- the byte of a column in row r
 abbrev pub row : ℕ → ℕ → ℕ
 row w r = slice_index (to_be_bytes w32 w) r
-
--- the block of four columns
-abbrev pub block_of : List ℕ → List ℕ
-block_of s = flat_map (λ c. to_be_bytes w32 (slice_index s c)) (0 ∷ 1 ∷ 2 ∷ 3 ∷ [])
 
 -- the byte of row r from column r of the four
 abbrev pub diagonal : List ℕ → List ℕ

@@ -1,20 +1,7 @@
--- The definitions of AES, and the laws that they keep.
-pub mod EveryByte
-pub mod Xor
-pub mod Field
-pub mod FieldLaw
-pub mod SBox
-pub mod SBoxLaw
-pub mod KeyExpansion
-pub mod KeyExpansionLaw
-pub mod Schedule
-pub mod ExpandingLaw
-pub mod State
-pub mod StateLaw
-pub mod Rounds
+-- The definitions of AES by word tables, and the definitions of AES that the public contracts cite.
 pub mod Columns
-pub mod MixColumnsLaw
-pub mod RoundsLaw
-pub mod Cipher
-pub mod CipherLaw
-pub mod StepsLaw
+pub mod Schedule
+pub use Rattle.fips197.specs.Field
+pub use Rattle.fips197.specs.SBox
+pub use Rattle.fips197.specs.KeyExpansion
+pub use Rattle.fips197.specs.Cipher

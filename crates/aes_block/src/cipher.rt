@@ -4,11 +4,11 @@
 //! columns in which ShiftRows, or its inverse, finds the column's rows.
 
 ghost use Rattle.std.specs.Prelude.{◌≡◌};
-ghost use Rattle.aes_block.specs.Rounds.{add_round_key};
-ghost use Rattle.aes_block.specs.Rounds.{inv_mix_columns, inv_shift_rows, inv_sub_bytes};
-ghost use Rattle.aes_block.specs.Cipher.{round, last_round, cipher, inv_cipher};
-ghost use Rattle.aes_block.specs.CipherLaw.{cipher_inverse};
-ghost use Rattle.aes_block.specs.Columns.{block_of};
+ghost use Rattle.fips197.specs.Rounds.{add_round_key};
+ghost use Rattle.fips197.specs.Rounds.{inv_mix_columns, inv_shift_rows, inv_sub_bytes};
+ghost use Rattle.fips197.specs.Cipher.{round, last_round, cipher, inv_cipher};
+ghost use Rattle.fips197.specs.CipherLaw.{cipher_inverse};
+ghost use Rattle.fips197.specs.Words.{block_of};
 
 use crate::columns::{
     block_of, columns_of, inv_last_column, inv_round_column, last_column, round_column,

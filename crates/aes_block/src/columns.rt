@@ -2,7 +2,8 @@
 //! 5.3), by the word tables.
 
 ghost use Rattle.std.specs.Prelude.{◌≡◌, length};
-ghost use Rattle.aes_block.specs.Columns.{block_of, diagonal};
+ghost use Rattle.fips197.specs.Words.{block_of};
+ghost use Rattle.aes_block.specs.Columns.{diagonal};
 ghost use Rattle.aes_block.specs.Columns.{inv_last_column, inv_round_column};
 ghost use Rattle.aes_block.specs.Columns.{last_column, round_column};
 

@@ -1,7 +1,7 @@
 //! The field of 256 elements (FIPS 197, section 4).
 
 ghost use Rattle.std.specs.Prelude.{◌≡◌, ◌≢◌, ◌↔◌, ℕ};
-ghost use Rattle.aes_block.specs.Field.{DistributesOverXor, IsFieldProduct, inverse, product};
+ghost use Rattle.fips197.specs.Field.{DistributesOverXor, IsFieldProduct, inverse, product};
 
 /// The product of two bytes in the field (FIPS 197, 4.2).
 pub fn mul(a: u8, b: u8) -> u8

@@ -1,22 +1,7 @@
-//! AES made from a key-encryption key, over either body.
+//! AES made from a key-encryption key.
 
-ghost use Rattle.std.specs.Prelude.{◌≡◌, ◌↔◌, length, IsOk, IfOk};
-ghost use Rattle.aes_block.specs.Cipher.{cipher};
-ghost use Rattle.aes_block.specs.KeyExpansion.{IsKekLength};
-
-use crate::schedule::{Aes, BadKekLength};
-use block_pair::BlockPair;
-
-/// AES that is made from a key-encryption key (KEK).
-pub trait KeyInit: BlockPair + Drop {
-    /// The memory for the round keys, if the caller lends it.
-    type Room: Drop;
-
-    /// Returns AES under `kek`. Fails unless the KEK is 16, 24 or 32 bytes long.
-    fn new_in(kek: &[u8], room: Self::Room) -> Result<Self, BadKekLength>
-        ensures accepted { IsOk result ↔ IsKekLength (length kek.now) }
-        ensures cipher { IfOk result (λ aes. Self.encrypted aes ≡ cipher kek.now) };
-}
+use crate::schedule::Aes;
+use fips197::{BadKekLength, KeyInit};
 
 // The round keys are in the value itself.
 impl KeyInit for Aes {

@@ -1,5 +1,5 @@
-//! AES (FIPS 197), proved: its field, its S-boxes, its key schedule, and the cipher with its
-//! inverse, as a block permutation.
+//! AES (FIPS 197) by word tables, proved: its field, its S-boxes, its key schedule, and the cipher
+//! with its inverse, as a block permutation. The definitions and their laws are in `fips197`.
 //!
 //! ```rust
 //! use aes_block::{Aes, BadKekLength};
@@ -21,9 +21,9 @@ mod s_box;
 mod schedule;
 mod word_tables;
 
-pub use key_init::KeyInit;
+pub use fips197::{BadKekLength, KeyInit};
 pub use s_box::{inv_sbox, sbox};
-pub use schedule::{Aes, BadKekLength};
+pub use schedule::Aes;
 
 #[cfg(test)]
 mod tests;

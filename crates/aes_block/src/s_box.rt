@@ -2,7 +2,7 @@
 
 ghost use Rattle.std.specs.Prelude.{◌≡◌, ◌<◌, ◌↔◌, ℕ};
 ghost use Rattle.block_pair.specs.Words.{IsByte};
-ghost use Rattle.aes_block.specs.SBox.{inv_s_box, s_box};
+ghost use Rattle.fips197.specs.SBox.{inv_s_box, s_box};
 
 /// The S-box of a byte (FIPS 197, 5.1.1).
 pub fn sbox(a: u8) -> u8

@@ -4,27 +4,14 @@ ghost use Rattle.std.specs.Prelude.{◌≡◌, ◌≤◌, ◌↔◌, List, ℕ, 
 ghost use Rattle.std.specs.Prelude.{IsOk, IsErr, IfOk};
 ghost use Rattle.std.specs.List.{AllByRecursion};
 ghost use Rattle.block_pair.specs.Words.{IsByte};
-ghost use Rattle.aes_block.specs.Columns.{block_of};
-ghost use Rattle.aes_block.specs.KeyExpansion.{IsKekLength, IsKeyExpansion, key_expansion};
-ghost use Rattle.aes_block.specs.KeyExpansion.{round_key, rounds_of, sub_word, temp};
+ghost use Rattle.fips197.specs.Words.{block_of};
+ghost use Rattle.fips197.specs.KeyExpansion.{IsKekLength, IsKeyExpansion, key_expansion};
+ghost use Rattle.fips197.specs.KeyExpansion.{round_key, rounds_of, sub_word, temp};
 
 use crate::sbox;
 use byteorder::{BigEndian, ByteOrder};
-use std::error::Error;
-use std::fmt;
+use fips197::BadKekLength;
 use std::marker::Model;
-
-/// A key's length is not 16, 24 or 32 bytes.
-#[derive(Clone, Copy, Debug, PartialEq, Eq)]
-pub struct BadKekLength;
-
-impl fmt::Display for BadKekLength {
-    fn fmt<W: fmt::Write>(&self, f: &mut fmt::Formatter<W>) -> fmt::Result {
-        write!(f, "key length is not 16, 24 or 32 bytes")
-    }
-}
-
-impl Error for BadKekLength {}
 
 // Rcon[1] to Rcon[10] (FIPS 197, 5.2, table 5).
 static ROUND_CONSTANTS: [u32; 10] = [
@@ -54,7 +41,8 @@ pub struct Aes {
 
 impl Model for Aes {
     ghost use Rattle.std.specs.Prelude.{ℕ, List};
-    ghost use Rattle.aes_block.specs.Schedule.{IsSchedule, key_of};
+    ghost use Rattle.fips197.specs.Words.{key_of};
+    ghost use Rattle.aes_block.specs.Schedule.{IsSchedule};
 
     ghost Value = { List ℕ };
 

@@ -1,9 +1,9 @@
 //! The standard's worked bytes by the definitions, and its vectors by the code too.
 
 ghost use Rattle.std.specs.Prelude.{◌≡◌, take};
-ghost use Rattle.aes_block.specs.Field.{inverse, product};
-ghost use Rattle.aes_block.specs.SBox.{inv_s_box, s_box};
-ghost use Rattle.aes_block.specs.Cipher.{cipher};
+ghost use Rattle.fips197.specs.Field.{inverse, product};
+ghost use Rattle.fips197.specs.SBox.{inv_s_box, s_box};
+ghost use Rattle.fips197.specs.Cipher.{cipher};
 
 use crate::{Aes, BadKekLength};
 use block_pair::BlockPair;

@@ -6,9 +6,9 @@
 //! since each row of the two matrices is the row above it turned by one place.
 
 ghost use Rattle.std.specs.Prelude.{◌≡◌};
-ghost use Rattle.aes_block.specs.SBox.{s_box};
+ghost use Rattle.fips197.specs.SBox.{s_box};
 ghost use Rattle.aes_block.specs.Columns.{spread};
-ghost use Rattle.aes_block.specs.Rounds.{inv_mix_matrix, mix_matrix};
+ghost use Rattle.fips197.specs.Rounds.{inv_mix_matrix, mix_matrix};
 
 // What MixColumns makes of the S-box of `a` in row 0.
 pub(crate) fn mixed_sbox(a: u8) -> u32

@@ -1,10 +1,10 @@
 -- What the tables hold, computed at every byte.
 use Rattle.std.proofs.Common.{◌≡◌, ◌≢◌, ℕ, zero, suc, ◌<◌, Bool, true, ◌==◌, List, bit_xor, slice_index, refl, ◌∙◌, sym, ap, eqb-true, arith}
 use Rattle.block_pair.specs.Words.{IsByte}
-use Rattle.aes_block.specs.EveryByte.{passes_below, passes_at}
-use Rattle.aes_block.specs.Field.{polynomial_product, remainder, product, inverse}
-use Rattle.aes_block.specs.SBox.{affine_bit, number_with_bits, s_box, inv_s_box}
-use Rattle.aes_block.specs.SBoxLaw.{inv_s_box-s_box}
+use Rattle.fips197.specs.EveryByte.{passes_below, passes_at}
+use Rattle.fips197.specs.Field.{polynomial_product, remainder, product, inverse}
+use Rattle.fips197.specs.SBox.{affine_bit, number_with_bits, s_box, inv_s_box}
+use Rattle.fips197.specs.SBoxLaw.{inv_s_box-s_box}
 use Rattle.aes_vector.specs.declared.tables.TheConstants.{INV, INVA, TOWER_LOW, TOWER_HIGH, MASKED_TOWER_LOW, INV_LOW, INV_HIGH, MASKED_INV_LOW}
 use Rattle.aes_vector.specs.declared.tables.TheConstants.{MASKED_INV_FOURTEEN_LOW, INV_FOURTEEN_HIGH, INV_ELEVEN_LOW, INV_ELEVEN_HIGH, INV_THIRTEEN_LOW}
 use Rattle.aes_vector.specs.declared.tables.TheConstants.{INV_THIRTEEN_HIGH, INV_NINE_LOW, INV_NINE_HIGH, ONE_I, ONE_J, TWO_I, TWO_J, S_I, S_J}

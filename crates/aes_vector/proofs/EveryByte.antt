@@ -2,7 +2,7 @@
 use Rattle.std.proofs.Common.{◌≡◌, ℕ, Bool, true, ◌==◌, nat_lt, List, [], ◌∷◌, map, w8, Fits, refl, ap₂, eqb-true, ltb-true}
 use lib.Lanes.{Each1}
 use Rattle.block_pair.specs.Words.{IsByte}
-use Rattle.aes_block.specs.EveryByte.{passes_below, passes_at}
+use Rattle.fips197.specs.EveryByte.{passes_below, passes_at}
 
 -- two maps agree
 unfoldable pub same_test : (ℕ → ℕ) → (ℕ → ℕ) → ℕ → Bool

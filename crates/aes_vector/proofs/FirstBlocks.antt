@@ -3,9 +3,9 @@ use Rattle.std.proofs.Common.{◌≡◌, ◌⊎◌, inl, inr, ℕ, suc, ◌+◌,
 use Rattle.std.specs.Int.{to_be_bytes}
 use Rattle.std.specs.List.{flat_map, AllByRecursion}
 use Rattle.block_pair.specs.Words.{IsByte}
-use Rattle.aes_block.specs.KeyExpansion.{IsKekLength, rounds_of, key_expansion}
-use Rattle.aes_block.specs.KeyExpansionLaw.{legal_words}
-use Rattle.aes_block.specs.ExpandingLaw.{schedule_long, key_of_schedule}
+use Rattle.fips197.specs.KeyExpansion.{IsKekLength, rounds_of, key_expansion}
+use Rattle.fips197.specs.KeyExpansionLaw.{legal_words}
+use Rattle.fips197.specs.ExpandingLaw.{schedule_long, key_of_schedule}
 use Rattle.aes_vector.specs.VectorSchedule.{key_block}
 
 -- the bytes of the first words of eight are the first of the first two blocks

@@ -6,12 +6,12 @@ use Rattle.std.proofs.lemmas.List.{length-map}
 use lib.Lanes.{zip2}
 use Rattle.std.proofs.lemmas.Nat.{xor_lt}
 use Rattle.block_pair.specs.Words.{IsByte}
-use Rattle.aes_block.specs.Xor.{xor_twice}
-use Rattle.aes_block.specs.Field.{product, polynomial_product, remainder}
-use Rattle.aes_block.specs.SBox.{s_box}
-use Rattle.aes_block.specs.State.{entry, state}
-use Rattle.aes_block.specs.StateLaw.{entry_byte, state-entry}
-use Rattle.aes_block.specs.Rounds.{multiplied, inv_mix_columns}
+use Rattle.fips197.specs.Xor.{xor_twice}
+use Rattle.fips197.specs.Field.{product, polynomial_product, remainder}
+use Rattle.fips197.specs.SBox.{s_box}
+use Rattle.fips197.specs.State.{entry, state}
+use Rattle.fips197.specs.StateLaw.{entry_byte, state-entry}
+use Rattle.fips197.specs.Rounds.{multiplied, inv_mix_columns}
 use Rattle.aes_vector.specs.declared.tables.TheConstants.{MASKED_TOWER_LOW, TOWER_LOW, TOWER_HIGH, MASKED_INV_LOW, INV_HIGH, S_I, S_J}
 use Rattle.aes_vector.specs.declared.tables.TheConstants.{MASKED_INV_FOURTEEN_LOW, INV_FOURTEEN_HIGH, INV_ELEVEN_LOW, INV_ELEVEN_HIGH, INV_THIRTEEN_LOW}
 use Rattle.aes_vector.specs.declared.tables.TheConstants.{INV_THIRTEEN_HIGH, INV_NINE_LOW, INV_NINE_HIGH}

@@ -3,10 +3,10 @@ use Rattle.std.proofs.Common.{◌≡◌, ℕ, List, [], ◌∷◌, map, bit_xor,
 use Rattle.std.specs.List.{AllByRecursion}
 use lib.Lanes.{zip2, Each1}
 use Rattle.block_pair.specs.Words.{IsByte, IsBlock}
-use Rattle.aes_block.specs.State.{entry, state}
-use Rattle.aes_block.specs.StateLaw.{entry_byte, state-entry}
-use Rattle.aes_block.specs.Rounds.{shift_rows, sub_bytes, multiplied, add_round_key}
-use Rattle.aes_block.specs.Cipher.{round}
+use Rattle.fips197.specs.State.{entry, state}
+use Rattle.fips197.specs.StateLaw.{entry_byte, state-entry}
+use Rattle.fips197.specs.Rounds.{shift_rows, sub_bytes, multiplied, add_round_key}
+use Rattle.fips197.specs.Cipher.{round}
 use Rattle.aes_vector.specs.Tower.{element, key_byte}
 use Rattle.aes_vector.specs.Turned.{turned}
 use Rattle.aes_vector.proofs.Vectors.{IsVector}

@@ -3,10 +3,10 @@ use Rattle.std.proofs.Common.{◌≡◌, ℕ, Bool, true, List, bit_xor, refl, s
 use Rattle.std.specs.Int.Bits.{xor_assoc, xor_zero_r}
 use Rattle.std.proofs.lemmas.Nat.{xor_comm, xor_lt}
 use Rattle.block_pair.specs.Words.{IsByte}
-use Rattle.aes_block.specs.Xor.{xor_middle, xor_last}
-use Rattle.aes_block.specs.Field.{product, polynomial_product, remainder, inverse}
-use Rattle.aes_block.specs.FieldLaw.{product-xor_left, product-xor_right}
-use Rattle.aes_block.specs.SBox.{s_box, inv_s_box}
+use Rattle.fips197.specs.Xor.{xor_middle, xor_last}
+use Rattle.fips197.specs.Field.{product, polynomial_product, remainder, inverse}
+use Rattle.fips197.specs.FieldLaw.{product-xor_left, product-xor_right}
+use Rattle.fips197.specs.SBox.{s_box, inv_s_box}
 use Rattle.aes_vector.specs.declared.tables.TheConstants.{ONE_I, ONE_J, TWO_I, TWO_J, NINE_I, NINE_J, ELEVEN_I, ELEVEN_J, THIRTEEN_I, THIRTEEN_J}
 use Rattle.aes_vector.specs.declared.tables.TheConstants.{FOURTEEN_I, FOURTEEN_J}
 use Rattle.aes_vector.specs.Tables.{place_i, place_j, over_i, over_j, found}

@@ -4,9 +4,9 @@ use Rattle.std.specs.Int.Bits.{xor_assoc}
 use Rattle.std.proofs.lemmas.Nat.{xor_comm}
 use lib.Lanes.{zip2}
 use Rattle.block_pair.specs.Words.{IsByte}
-use Rattle.aes_block.specs.Field.{product, polynomial_product, remainder}
-use Rattle.aes_block.specs.State.{state}
-use Rattle.aes_block.specs.Rounds.{add_round_key}
+use Rattle.fips197.specs.Field.{product, polynomial_product, remainder}
+use Rattle.fips197.specs.State.{state}
+use Rattle.fips197.specs.Rounds.{add_round_key}
 use Rattle.aes_vector.specs.declared.tables.TheConstants.{MASKED_TOWER_LOW, TOWER_HIGH, INV_LOW, INV_HIGH}
 use Rattle.aes_vector.specs.Tables.{linear}
 use Rattle.aes_vector.specs.Tower.{element, key_byte, affine_element}

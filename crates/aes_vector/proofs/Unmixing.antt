@@ -4,11 +4,11 @@ use Rattle.std.specs.Int.Bits.{xor_assoc}
 use Rattle.std.proofs.lemmas.Nat.{xor_comm}
 use lib.Lanes.{zip2}
 use Rattle.block_pair.specs.Words.{IsByte}
-use Rattle.aes_block.specs.State.{entry, state}
-use Rattle.aes_block.specs.StateLaw.{entry_byte, state-entry}
-use Rattle.aes_block.specs.Rounds.{shift_rows, inv_shift_rows, sub_bytes, inv_sub_bytes, multiplied, inv_mix_columns, add_round_key}
-use Rattle.aes_block.specs.Cipher.{last_round}
-use Rattle.aes_block.specs.SBox.{s_box, inv_s_box}
+use Rattle.fips197.specs.State.{entry, state}
+use Rattle.fips197.specs.StateLaw.{entry_byte, state-entry}
+use Rattle.fips197.specs.Rounds.{shift_rows, inv_shift_rows, sub_bytes, inv_sub_bytes, multiplied, inv_mix_columns, add_round_key}
+use Rattle.fips197.specs.Cipher.{last_round}
+use Rattle.fips197.specs.SBox.{s_box, inv_s_box}
 use Rattle.aes_vector.specs.declared.tables.TheConstants.{S_I, S_J, INV_S_I, INV_S_J}
 use Rattle.aes_vector.specs.Tables.{found}
 use Rattle.aes_vector.specs.Tower.{element, last_key_byte, affine_element}

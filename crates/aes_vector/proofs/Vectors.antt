@@ -4,7 +4,7 @@ use Rattle.std.proofs.Common.{get_or, refl, sym, ap, ap₂, ◌∙◌, arith, w8
 use Rattle.std.proofs.lemmas.List.{get_or_past}
 use Rattle.std.proofs.lemmas.Simd.{swz_l, SwzOk, SwzOk-from_Each1, Each1-weaker, map-map, zip2_of_maps}
 use lib.Lanes.{zip2, Each1}
-use Rattle.aes_block.specs.EveryByte.{passes_below, passes_at}
+use Rattle.fips197.specs.EveryByte.{passes_below, passes_at}
 use Rattle.aes_vector.specs.Tables.{is_place, IsPlace, place_i, place_j, found}
 
 -- 16 lanes, each a byte

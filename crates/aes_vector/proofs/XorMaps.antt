@@ -3,10 +3,10 @@
 use Rattle.std.proofs.Common.{◌≡◌, ℕ, ◌*◌, ◌/◌, ◌%◌, ◌<◌, Bool, true, ◌==◌, bit_xor, refl, sym, ap, ap₂, ◌∙◌, arith, eqb-true}
 use Rattle.std.proofs.lemmas.Nat.{xor_shr, xor_mod, xor_lt}
 use Rattle.block_pair.specs.Words.{IsByte}
-use Rattle.aes_block.specs.EveryByte.{passes_below, passes_at}
-use Rattle.aes_block.specs.Xor.{xor_middle, xor_last, xor_twice}
-use Rattle.aes_block.specs.Field.{polynomial_product, remainder, product}
-use Rattle.aes_block.specs.SBox.{number_with_bits}
+use Rattle.fips197.specs.EveryByte.{passes_below, passes_at}
+use Rattle.fips197.specs.Xor.{xor_middle, xor_last, xor_twice}
+use Rattle.fips197.specs.Field.{polynomial_product, remainder, product}
+use Rattle.fips197.specs.SBox.{number_with_bits}
 use Rattle.aes_vector.specs.Tower.{subfield, element, affine_element, linear_element}
 use Rattle.aes_vector.proofs.EveryByte.{same_test, agree, at_byte}
 

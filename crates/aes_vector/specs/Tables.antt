@@ -2,8 +2,8 @@
 -- An index of 128 or more means infinity, the inverse of 0: it is past each table, and a shuffle gives 0 for it.
 use Rattle.std.specs.Prelude.{◌≡◌, ◌≢◌, ◌<◌, ℕ, Bool, true, ◌||◌, nat_lt, nat_le, List, slice_index, bit_xor}
 use Rattle.block_pair.specs.Words.{IsByte}
-use Rattle.aes_block.specs.Field.{product, inverse}
-use Rattle.aes_block.specs.SBox.{s_box}
+use Rattle.fips197.specs.Field.{product, inverse}
+use Rattle.fips197.specs.SBox.{s_box}
 use Rattle.aes_vector.specs.Tower.{low, high, other, subfield, element, affine_element, linear_element}
 use Rattle.aes_vector.specs.declared.tables.TheConstants.{INV, INVA}
 

@@ -3,8 +3,8 @@
 -- is 5e, is the power u^16, the conjugate of u. A byte of the state keeps i in its upper half and i + j in its lower.
 use Rattle.std.specs.Prelude.{ℕ, ◌*◌, ◌/◌, bit_and, bit_xor}
 use Rattle.std.specs.Int.{bit_at}
-use Rattle.aes_block.specs.Field.{product}
-use Rattle.aes_block.specs.SBox.{affine_bit, number_with_bits}
+use Rattle.fips197.specs.Field.{product}
+use Rattle.fips197.specs.SBox.{affine_bit, number_with_bits}
 
 -- the upper and the lower half of a byte
 abbrev pub high : ℕ → ℕ

@@ -3,9 +3,9 @@ use Rattle.std.specs.Prelude.{◌≡◌, ℕ, ◌+◌, ◌-◌, ◌*◌, ◌<◌
 use Rattle.std.specs.Prelude.{slice_index, slice_index_or}
 use Rattle.std.specs.List.{AllByRecursion}
 use Rattle.block_pair.specs.Words.{IsByte}
-use Rattle.aes_block.specs.KeyExpansion.{IsKekLength, rounds_of, round_key}
-use Rattle.aes_block.specs.Columns.{block_of}
-use Rattle.aes_block.specs.Rounds.{inv_mix_columns}
+use Rattle.fips197.specs.KeyExpansion.{IsKekLength, rounds_of, round_key}
+use Rattle.fips197.specs.Words.{block_of}
+use Rattle.fips197.specs.Rounds.{inv_mix_columns}
 use Rattle.aes_vector.specs.declared.keys.RoundKey.{RoundKey}
 use Rattle.aes_vector.specs.Tower.{key_byte, last_key_byte, affine_element}
 

@@ -1,7 +1,7 @@
 //! The cipher and the inverse cipher: AES as a block permutation.
 
-ghost use Rattle.aes_block.specs.Cipher.{cipher, inv_cipher};
-ghost use Rattle.aes_block.specs.CipherLaw.{cipher_inverse};
+ghost use Rattle.fips197.specs.Cipher.{cipher, inv_cipher};
+ghost use Rattle.fips197.specs.CipherLaw.{cipher_inverse};
 
 use crate::lanes::{bytes_of, vector_of};
 use crate::lent::LentAes;

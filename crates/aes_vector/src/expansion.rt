@@ -1,9 +1,9 @@
 //! The key expansion in words (FIPS 197, section 5.2), with SubWord by the shuffles.
 
 ghost use Rattle.std.specs.Prelude.{◌≡◌, ◌≤◌, ◌+◌, ◌*◌, ◌/◌, length, map, take};
-ghost use Rattle.aes_block.specs.KeyExpansion.{IsKekLength, key_expansion, rounds_of};
-ghost use Rattle.aes_block.specs.KeyExpansion.{sub_word, temp};
-ghost use Rattle.aes_block.specs.SBox.{s_box};
+ghost use Rattle.fips197.specs.KeyExpansion.{IsKekLength, key_expansion, rounds_of};
+ghost use Rattle.fips197.specs.KeyExpansion.{sub_word, temp};
+ghost use Rattle.fips197.specs.SBox.{s_box};
 
 use crate::lanes::linear;
 use crate::tables::*;

@@ -2,7 +2,7 @@
 
 use crate::lent::LentAes;
 use crate::room::Room;
-use aes_block::{BadKekLength, KeyInit};
+use fips197::{BadKekLength, KeyInit};
 
 impl<'a> KeyInit for LentAes<'a> {
     type Room = &'a mut Room;

@@ -1,8 +1,8 @@
 //! Round keys in the forms in which the rounds take them.
 
 ghost use Rattle.std.specs.Prelude.{◌≡◌, ◌≤◌, ◌<◌, ℕ, map};
-ghost use Rattle.aes_block.specs.Columns.{block_of};
-ghost use Rattle.aes_block.specs.Rounds.{inv_mix_columns};
+ghost use Rattle.fips197.specs.Words.{block_of};
+ghost use Rattle.fips197.specs.Rounds.{inv_mix_columns};
 ghost use Rattle.aes_vector.specs.Tower.{affine_element};
 ghost use Rattle.aes_vector.specs.VectorSchedule.{IsFirstKey, IsLastKey, IsMiddleKey};
 ghost use Rattle.aes_vector.specs.VectorSchedule.{key_at, key_block};

@@ -4,9 +4,9 @@ ghost use Rattle.std.specs.Prelude.{◌≡◌, ◌<◌, ◌↔◌, List, ℕ, le
 ghost use Rattle.std.specs.Prelude.{IsOk, IsErr, IfOk};
 ghost use Rattle.std.specs.List.{AllByRecursion};
 ghost use Rattle.block_pair.specs.Words.{IsByte};
-ghost use Rattle.aes_block.specs.KeyExpansion.{IsKekLength, IsKeyExpansion, key_expansion};
-ghost use Rattle.aes_block.specs.KeyExpansion.{round_key, rounds_of};
-ghost use Rattle.aes_block.specs.Rounds.{inv_mix_columns};
+ghost use Rattle.fips197.specs.KeyExpansion.{IsKekLength, IsKeyExpansion, key_expansion};
+ghost use Rattle.fips197.specs.KeyExpansion.{round_key, rounds_of};
+ghost use Rattle.fips197.specs.Rounds.{inv_mix_columns};
 ghost use Rattle.aes_vector.specs.Tower.{affine_element, key_byte, last_key_byte};
 
 use crate::keys::{MAX_KEYS, RoundKey};
@@ -14,7 +14,7 @@ use crate::room::Room;
 use crate::rows::InvRows;
 use crate::schedule::fill;
 use crate::tables::{INV_ROWS_0, INV_ROWS_1, INV_ROWS_2, INV_ROWS_3};
-use aes_block::BadKekLength;
+use fips197::BadKekLength;
 use std::marker::Model;
 use std::simd::prelude::*;
 

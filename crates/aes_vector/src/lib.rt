@@ -1,5 +1,5 @@
 //! AES (FIPS 197) by byte shuffles within a vector: no branch and no address depends on a key or a
-//! block. The definitions and their laws are in `aes_block`.
+//! block. The definitions and their laws are in `fips197`.
 //!
 //! A block is 16 lanes of a vector. Each byte of the state is kept as an element of the field of
 //! 256 elements in a tower over the field of 16, where its inverse, and so its S-box, is a few

@@ -4,15 +4,15 @@ ghost use Rattle.std.specs.Prelude.{◌≡◌, ◌↔◌, List, ℕ, length};
 ghost use Rattle.std.specs.Prelude.{IsOk, IsErr, IfOk};
 ghost use Rattle.std.specs.List.{AllByRecursion};
 ghost use Rattle.block_pair.specs.Words.{IsByte};
-ghost use Rattle.aes_block.specs.KeyExpansion.{IsKekLength, IsKeyExpansion, key_expansion};
-ghost use Rattle.aes_block.specs.KeyExpansion.{rounds_of};
+ghost use Rattle.fips197.specs.KeyExpansion.{IsKekLength, IsKeyExpansion, key_expansion};
+ghost use Rattle.fips197.specs.KeyExpansion.{rounds_of};
 
 use crate::expansion::MAX_WORDS;
 use crate::keys::{MAX_KEYS, RoundKey};
 use crate::lent::LentAes;
 use crate::room::no_keys;
 use crate::schedule::fill;
-use aes_block::BadKekLength;
+use fips197::BadKekLength;
 use std::marker::Model;
 
 /// AES under one key, with the key's schedule in both directions. Contracts see it as the key: a

@@ -2,9 +2,9 @@
 //! 5.3.5), on states in the tower.
 
 ghost use Rattle.std.specs.Prelude.{◌≡◌, map};
-ghost use Rattle.aes_block.specs.Rounds.{add_round_key};
-ghost use Rattle.aes_block.specs.Rounds.{inv_mix_columns, inv_shift_rows, inv_sub_bytes};
-ghost use Rattle.aes_block.specs.Cipher.{last_round, round};
+ghost use Rattle.fips197.specs.Rounds.{add_round_key};
+ghost use Rattle.fips197.specs.Rounds.{inv_mix_columns, inv_shift_rows, inv_sub_bytes};
+ghost use Rattle.fips197.specs.Cipher.{last_round, round};
 ghost use Rattle.aes_vector.specs.Tower.{affine_element, element, key_byte, last_key_byte};
 
 use crate::lanes::linear;

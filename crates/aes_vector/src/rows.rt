@@ -2,7 +2,7 @@
 //! matrices of MixColumns and its inverse take them.
 
 ghost use Rattle.std.specs.Prelude.{◌≡◌};
-ghost use Rattle.aes_block.specs.Rounds.{inv_shift_rows, shift_rows};
+ghost use Rattle.fips197.specs.Rounds.{inv_shift_rows, shift_rows};
 ghost use Rattle.aes_vector.specs.Turned.{turned};
 
 use crate::lanes::look;

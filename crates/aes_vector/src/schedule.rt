@@ -2,12 +2,12 @@
 
 ghost use Rattle.std.specs.Prelude.{◌≡◌, ◌*◌, ◌↔◌, length};
 ghost use Rattle.std.specs.Prelude.{IsOk, IsErr, IfOk};
-ghost use Rattle.aes_block.specs.KeyExpansion.{IsKekLength};
+ghost use Rattle.fips197.specs.KeyExpansion.{IsKekLength};
 ghost use Rattle.aes_vector.specs.VectorSchedule.{IsVectorSchedule, key_of};
 
 use crate::expansion::{MAX_WORDS, expand};
 use crate::keys::{MAX_KEYS, RoundKey, round_keys};
-use aes_block::BadKekLength;
+use fips197::BadKekLength;
 
 // The round keys of `kek` into `keys`, by way of `words`, and for how many rounds they are.
 pub(crate) fn fill(

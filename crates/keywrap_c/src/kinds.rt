@@ -1,6 +1,6 @@
 //! The form in which a key was wrapped.
 
-ghost use Rattle.aes_block.specs.Cipher.{cipher};
+ghost use Rattle.fips197.specs.Cipher.{cipher};
 ghost use Rattle.keywrap_calls.specs.Kinds.{FindsKind};
 
 use aes_vector::{LentAes, Room};

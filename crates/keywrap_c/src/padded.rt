@@ -1,7 +1,7 @@
 //! The padded form from one buffer into another.
 
 ghost use Rattle.std.specs.Prelude.{[], take};
-ghost use Rattle.aes_block.specs.Cipher.{cipher};
+ghost use Rattle.fips197.specs.Cipher.{cipher};
 ghost use Rattle.keywrap_calls.specs.Calls.{WrapsPadded, UnwrapsPadded, IsPaddedKey};
 
 use aes_vector::{LentAes, Room};

@@ -1,7 +1,7 @@
 //! The padded form in one buffer of the wrapped key's length: the key follows the first 8 bytes.
 
 ghost use Rattle.std.specs.Prelude.{replicate};
-ghost use Rattle.aes_block.specs.Cipher.{cipher};
+ghost use Rattle.fips197.specs.Cipher.{cipher};
 ghost use Rattle.key_wrap.specs.InPlace.{key_in};
 ghost use Rattle.keywrap_calls.specs.Calls.{WrapsPaddedInPlace, UnwrapsPaddedInPlace, IsPaddedKey};
 

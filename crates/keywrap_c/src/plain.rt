@@ -1,6 +1,6 @@
 //! The plain form from one buffer into another.
 
-ghost use Rattle.aes_block.specs.Cipher.{cipher};
+ghost use Rattle.fips197.specs.Cipher.{cipher};
 ghost use Rattle.keywrap_calls.specs.Calls.{Wraps, Unwraps};
 
 use aes_vector::{LentAes, Room};

@@ -1,6 +1,6 @@
 //! The plain form from one buffer into another, under an initial value that both ends agreed on.
 
-ghost use Rattle.aes_block.specs.Cipher.{cipher};
+ghost use Rattle.fips197.specs.Cipher.{cipher};
 ghost use Rattle.keywrap_calls.specs.Calls.{WrapsWith, UnwrapsWith};
 
 use aes_vector::{LentAes, Room};

@@ -1,7 +1,7 @@
 //! Rewrapping in one buffer, from one KEK and form to another. The key is never returned.
 
 ghost use Rattle.std.specs.Prelude.{◌≡◌, All};
-ghost use Rattle.aes_block.specs.Cipher.{cipher};
+ghost use Rattle.fips197.specs.Cipher.{cipher};
 ghost use Rattle.keywrap_calls.specs.Forms.{RewrapsInPlace};
 
 use aes_vector::{LentAes, Room};

@@ -1,7 +1,7 @@
 //! The self test of the library.
 
 ghost use Rattle.std.specs.Prelude.{◌↔◌, ◌⊎◌, [], take};
-ghost use Rattle.aes_block.specs.Cipher.{cipher};
+ghost use Rattle.fips197.specs.Cipher.{cipher};
 ghost use Rattle.keywrap_calls.specs.Calls.{Wraps, Unwraps, WrapsPadded, UnwrapsPadded};
 ghost use Rattle.keywrap_calls.specs.Calls.{IsPaddedKey};
 ghost use Rattle.keywrap_calls.specs.SelfTest.{IsAllRight};

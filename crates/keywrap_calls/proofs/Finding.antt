@@ -1,6 +1,6 @@
 -- What the call that finds a kind promises for each kind, under a KEK that is not refused.
 use Rattle.std.proofs.Common.{◌≡◌, ℕ, List, length, refl, All, rules, pos}
-use Rattle.aes_block.specs.KeyExpansion.{IsKekLength}
+use Rattle.fips197.specs.KeyExpansion.{IsKekLength}
 use Rattle.key_wrap.specs.declared.forms.Kind.TheVariants as kinds
 use Rattle.key_wrap.specs.Lengths.{IsPaddedTextLength}
 use Rattle.key_wrap.specs.Plain.{Plain, default_iv}

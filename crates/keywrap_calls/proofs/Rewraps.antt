@@ -1,7 +1,7 @@
 -- What a rewrap promises under KEKs that are not refused, from what is known of its outcome.
 use Rattle.std.proofs.Common.{◌≡◌, ◌↔◌, ◌⊎◌, ℕ, List, length, refl, All, Result, Ok, Err, rules}
 use Rattle.std.specs.Prelude.{IsOk, IsErr, OnOk}
-use Rattle.aes_block.specs.KeyExpansion.{IsKekLength}
+use Rattle.fips197.specs.KeyExpansion.{IsKekLength}
 use Rattle.key_wrap.specs.declared.faults.InPlaceFault.{InPlaceFault}
 use Rattle.key_wrap.specs.declared.faults.InPlaceFault.TheVariants.{BadLength, Integrity}
 use Rattle.keywrap_calls.specs.declared.rewrapping.Asked.{Asked}

@@ -1,7 +1,7 @@
 -- The promise of each call about its status and its buffers: `old` is a buffer before the call, `new` after it. E is
 -- the block permutation of the KEK.
 use Rattle.std.specs.Prelude.{◌≡◌, ◌↔◌, ◌++◌, ℕ, ℤ, List, length, drop, take, All}
-use Rattle.aes_block.specs.KeyExpansion.{IsKekLength}
+use Rattle.fips197.specs.KeyExpansion.{IsKekLength}
 use Rattle.key_wrap.specs.Lengths.{IsPlainTextLength, IsPaddedTextLength}
 use Rattle.key_wrap.specs.Plain.{Plain, default_iv}
 use Rattle.key_wrap.specs.Padded.{Padded, padded}

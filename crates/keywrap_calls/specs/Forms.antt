@@ -1,6 +1,6 @@
 -- What the flags of a rewrapping request, and the result of such a rewrapping.
 use Rattle.std.specs.Prelude.{◌≡◌, ◌↔◌, ◌⊎◌, ℕ, ℤ, List, length, All, ◌<◌, ◌/◌, ◌%◌, zero, suc}
-use Rattle.aes_block.specs.KeyExpansion.{IsKekLength}
+use Rattle.fips197.specs.KeyExpansion.{IsKekLength}
 use Rattle.key_wrap.specs.declared.forms.Form.{Form}
 use Rattle.key_wrap.specs.declared.forms.Form.TheVariants.{Plain, Padded}
 use Rattle.key_wrap.specs.Forms.{StandsIn, IsKeyLength, IsTextLength, by_default}

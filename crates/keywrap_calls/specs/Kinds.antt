@@ -1,6 +1,6 @@
 -- The promise about the form in which a key was wrapped.
 use Rattle.std.specs.Prelude.{◌≡◌, ◌↔◌, ◌⊎◌, ◌+◌, ℕ, zero, suc, ℤ, List, length, All}
-use Rattle.aes_block.specs.KeyExpansion.{IsKekLength}
+use Rattle.fips197.specs.KeyExpansion.{IsKekLength}
 use Rattle.key_wrap.specs.declared.forms.Kind.{Kind}
 use Rattle.key_wrap.specs.declared.forms.Kind.TheVariants.{Plain, Padded}
 use Rattle.key_wrap.specs.Lengths.{IsPaddedTextLength}

@@ -1,8 +1,8 @@
 -- What a self test finds: the published wrappings are right, and a damaged wrapped key is refused.
 use Rattle.std.specs.Prelude.{⊤, ℕ, List, length}
 use Rattle.std.specs.List.{AllByRecursion}
-use Rattle.aes_block.specs.Cipher.{cipher}
-use Rattle.aes_block.specs.KeyExpansion.{IsKekLength}
+use Rattle.fips197.specs.Cipher.{cipher}
+use Rattle.fips197.specs.KeyExpansion.{IsKekLength}
 use Rattle.key_wrap.specs.Answer.{NoKey}
 use Rattle.key_wrap.specs.Padded.{Padded}
 use Rattle.key_wrap.specs.Plain.{Plain, default_iv}

@@ -1,11 +1,11 @@
 //! In which form a key was wrapped.
 
-ghost use Rattle.aes_block.specs.Cipher.{cipher};
+ghost use Rattle.fips197.specs.Cipher.{cipher};
 ghost use Rattle.keywrap_calls.specs.Kinds.{FindsKind};
 
 use crate::status::{BAD_KEK, BAD_LENGTH, DONE, INTEGRITY};
-use aes_block::KeyInit;
 use block_pair::Meter;
+use fips197::KeyInit;
 use key_wrap::{Kind, kind_into};
 
 /// Finds the form in which `text` is a wrapping under `kek`, and the length of its key: `*padded`

@@ -2,8 +2,8 @@
 
 ghost use Rattle.std.specs.Prelude.{◌↔◌, ◌⊎◌, ◌≤◌, [], length, take, IsTrue};
 ghost use Rattle.std.specs.List.{AllByRecursion};
-ghost use Rattle.aes_block.specs.Cipher.{cipher};
-ghost use Rattle.aes_block.specs.KeyExpansion.{IsKekLength};
+ghost use Rattle.fips197.specs.Cipher.{cipher};
+ghost use Rattle.fips197.specs.KeyExpansion.{IsKekLength};
 ghost use Rattle.key_wrap.specs.Answer.{NoKey};
 ghost use Rattle.key_wrap.specs.Padded.{Padded};
 ghost use Rattle.key_wrap.specs.Plain.{Plain, default_iv};

@@ -1,12 +1,12 @@
 //! The padded form from one buffer into another.
 
 ghost use Rattle.std.specs.Prelude.{[], take};
-ghost use Rattle.aes_block.specs.Cipher.{cipher};
+ghost use Rattle.fips197.specs.Cipher.{cipher};
 ghost use Rattle.keywrap_calls.specs.Calls.{WrapsPadded, UnwrapsPadded, IsPaddedKey};
 
 use crate::status::{BAD_KEK, DONE, fault_status, status_of};
-use aes_block::KeyInit;
 use block_pair::Meter;
+use fips197::KeyInit;
 use key_wrap::{unwrap_padded_into, wrap_padded_into};
 
 /// Wraps `key` under `kek` in the padded form, into `text` (RFC 5649, section 4.1).

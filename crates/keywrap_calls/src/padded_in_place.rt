@@ -1,13 +1,13 @@
 //! The padded form in one buffer of the wrapped key's length: the key follows the first 8 bytes.
 
 ghost use Rattle.std.specs.Prelude.{replicate};
-ghost use Rattle.aes_block.specs.Cipher.{cipher};
+ghost use Rattle.fips197.specs.Cipher.{cipher};
 ghost use Rattle.key_wrap.specs.InPlace.{key_in};
 ghost use Rattle.keywrap_calls.specs.Calls.{WrapsPaddedInPlace, UnwrapsPaddedInPlace, IsPaddedKey};
 
 use crate::status::{BAD_KEK, DONE, fault_status, status_of};
-use aes_block::KeyInit;
 use block_pair::Meter;
+use fips197::KeyInit;
 
 /// Wraps the key of `key_len` bytes after the first 8 bytes of `buffer` under `kek` in the padded
 /// form, into the whole buffer (RFC 5649, section 4.1). Other bytes of the buffer are ignored.

@@ -1,11 +1,11 @@
 //! The plain form from one buffer into another.
 
-ghost use Rattle.aes_block.specs.Cipher.{cipher};
+ghost use Rattle.fips197.specs.Cipher.{cipher};
 ghost use Rattle.keywrap_calls.specs.Calls.{Wraps, Unwraps};
 
 use crate::status::{BAD_KEK, status_of};
-use aes_block::KeyInit;
 use block_pair::Meter;
+use fips197::KeyInit;
 use key_wrap::{unwrap_into, wrap_into};
 
 /// Wraps `key` under `kek` in the plain form, into `text` (RFC 3394, section 2.2.1).

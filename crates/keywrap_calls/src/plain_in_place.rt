@@ -1,13 +1,13 @@
 //! The plain form in one buffer of the wrapped key's length: the key follows the first 8 bytes.
 
 ghost use Rattle.std.specs.Prelude.{◌≡◌, take, replicate};
-ghost use Rattle.aes_block.specs.Cipher.{cipher};
+ghost use Rattle.fips197.specs.Cipher.{cipher};
 ghost use Rattle.keywrap_calls.specs.Status.{IsDone};
 ghost use Rattle.keywrap_calls.specs.Calls.{WrapsInPlace, UnwrapsInPlace};
 
 use crate::status::{BAD_KEK, status_of};
-use aes_block::KeyInit;
 use block_pair::Meter;
+use fips197::KeyInit;
 
 /// Wraps the key after the first 8 bytes of `buffer`, which are ignored, under `kek` in the plain
 /// form, into the whole buffer (RFC 3394, section 2.2.1).

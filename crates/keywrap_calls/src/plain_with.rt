@@ -1,13 +1,13 @@
 //! The plain form from one buffer into another, under an initial value that both ends agreed on.
 
 ghost use Rattle.std.specs.Prelude.{◌≡◌, IfSome, IfNone};
-ghost use Rattle.aes_block.specs.Cipher.{cipher};
+ghost use Rattle.fips197.specs.Cipher.{cipher};
 ghost use Rattle.keywrap_calls.specs.AgreedValue.{IsIv, iv_word};
 ghost use Rattle.keywrap_calls.specs.Calls.{WrapsWith, UnwrapsWith};
 
 use crate::status::{BAD_IV, BAD_KEK, status_of};
-use aes_block::KeyInit;
 use block_pair::Meter;
+use fips197::KeyInit;
 use key_wrap::{InitialValue, unwrap_into_with, wrap_into_with};
 
 /// Wraps `key` under `kek` and the initial value `iv` in the plain form, into `text` (RFC 3394,

@@ -2,13 +2,13 @@
 
 ghost use Rattle.std.specs.Prelude.{◌≡◌, ◌↔◌, ◌⊎◌, length, All, Err, IfSome, IfNone};
 ghost use Rattle.std.specs.Prelude.{IsErr, IsOk, OnOk};
-ghost use Rattle.aes_block.specs.Cipher.{cipher};
+ghost use Rattle.fips197.specs.Cipher.{cipher};
 ghost use Rattle.keywrap_calls.specs.Forms.{AreFlags, asked, IsGivenLength, HasBadLength};
 ghost use Rattle.keywrap_calls.specs.Forms.{HasNoKey, HasGoodKey, Rewraps, RewrapsInPlace};
 
 use crate::status::{BAD_KEK, status_of};
-use aes_block::KeyInit;
 use block_pair::{BlockPair, Meter};
+use fips197::KeyInit;
 use key_wrap::{Form, InPlaceFault, rewrap_keeping_form_in_place};
 
 // The flag of a wrapped key that is given in the padded form.

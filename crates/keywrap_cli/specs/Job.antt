@@ -1,7 +1,7 @@
 -- The effect of a call that runs a job for one key: it reads the KEK and the input, and writes the answer. The plain
 -- form has the initial value `iv`.
 use Rattle.std.specs.Prelude.{ℕ, List, Option, Result}
-use Rattle.aes_block.specs.Cipher.{cipher}
+use Rattle.fips197.specs.Cipher.{cipher}
 use Rattle.key_wrap.specs.declared.forms.Form.TheVariants.{Plain}
 use Rattle.keywrap_cli.specs.Answers.{JobAnswer, WritesFor, done_of, job_of}
 use Rattle.keywrap_cli.specs.Engine.{AnswersInput, IsRefusedBefore, UnderKek, UnderReadKek, WritesOutput}

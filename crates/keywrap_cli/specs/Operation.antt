@@ -1,6 +1,6 @@
 -- The effect of an operation whose KEK files are open. `known` is what is known of a KEK file.
 use Rattle.std.specs.Prelude.{◌≡◌, Bool, false, ℕ, List, Option, Result, IfSome}
-use Rattle.aes_block.specs.Cipher.{cipher}
+use Rattle.fips197.specs.Cipher.{cipher}
 use Rattle.key_lines.specs.Running.{WritesAnswers}
 use Rattle.key_lines.specs.declared.fault.RefusedLine.{RefusedLine}
 use Rattle.key_lines.specs.declared.fault.RunFault.{RunFault}

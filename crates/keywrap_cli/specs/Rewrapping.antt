@@ -1,7 +1,7 @@
 -- The effect of a call that rewraps one key: it reads the old KEK, the new KEK and the wrapped key, in that order, and
 -- writes the new wrapped key.
 use Rattle.std.specs.Prelude.{◌≡◌, ◌↔◌, ℕ, Bool, false, IsTrue, List, Option, Result, Ok, Err}
-use Rattle.aes_block.specs.Cipher.{cipher}
+use Rattle.fips197.specs.Cipher.{cipher}
 use Rattle.keywrap_cli.specs.Answers.{RewrappingAnswer, RewrapsTo, written}
 use Rattle.keywrap_cli.specs.Engine.{AnswersInput, IsRefusedBefore, UnderKeks, UnderReadKek, WritesOutput}
 use Rattle.keywrap_cli.specs.declared.job.Done.{Done}

@@ -1,7 +1,7 @@
 -- When a vector is right, and the lines that report on vectors.
 use Rattle.std.specs.Prelude.{◌≡◌, ◌&&◌, ◌↔◌, ⊤, ℕ, Bool, true, false, IsTrue, List, [], ◌∷◌, ◌++◌, length, codes}
-use Rattle.aes_block.specs.Cipher.{cipher}
-use Rattle.aes_block.specs.KeyExpansion.{IsKekLength}
+use Rattle.fips197.specs.Cipher.{cipher}
+use Rattle.fips197.specs.KeyExpansion.{IsKekLength}
 use Rattle.block_pair.specs.Words.{IsBlock}
 use Rattle.key_wrap.specs.Padded.{Padded}
 use Rattle.key_wrap.specs.Plain.{Plain, default_iv}

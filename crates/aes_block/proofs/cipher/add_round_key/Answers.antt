@@ -1,8 +1,8 @@
 -- The sum of the four columns is AddRoundKey on the block.
 -- The bytes of each sum come from one lemma; joined, they compute to the definition's block.
 use Rattle.std.proofs.Common.{arith}
-use Rattle.aes_block.specs.Rounds.{add_round_key}
-use Rattle.aes_block.specs.ExpandingLaw.{joined}
+use Rattle.fips197.specs.Rounds.{add_round_key}
+use Rattle.fips197.specs.ExpandingLaw.{joined}
 use Rattle.aes_block.proofs.ColumnWords.{sum_bytes}
 use Rattle.aes_block.proofs.cipher.add_round_key.Goals as goal
 

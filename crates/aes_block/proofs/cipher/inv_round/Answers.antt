@@ -1,8 +1,8 @@
 -- The four columns of a round of the inverse cipher are its transformations on the block.
 -- The bytes of each column come from one lemma, at the four columns where InvShiftRows finds its rows; joined, they compute to the definition's block.
 use Rattle.std.proofs.Common.{slice_index}
-use Rattle.aes_block.specs.Rounds.{inv_sub_bytes, inv_shift_rows, multiplied, add_round_key}
-use Rattle.aes_block.specs.ExpandingLaw.{joined}
+use Rattle.fips197.specs.Rounds.{inv_sub_bytes, inv_shift_rows, multiplied, add_round_key}
+use Rattle.fips197.specs.ExpandingLaw.{joined}
 use Rattle.aes_block.proofs.ColumnRounds.{from, inv_round_bytes}
 use Rattle.aes_block.proofs.cipher.inv_round.Goals as goal
 

@@ -1,8 +1,8 @@
 -- The four columns of a round are the round on the block.
 -- The bytes of each column come from one lemma, at the four columns where ShiftRows finds its rows; joined, they compute to the definition's block.
 use Rattle.std.proofs.Common.{slice_index, arith}
-use Rattle.aes_block.specs.Rounds.{sub_bytes, shift_rows, multiplied, add_round_key}
-use Rattle.aes_block.specs.ExpandingLaw.{joined}
+use Rattle.fips197.specs.Rounds.{sub_bytes, shift_rows, multiplied, add_round_key}
+use Rattle.fips197.specs.ExpandingLaw.{joined}
 use Rattle.aes_block.proofs.ColumnRounds.{from, round_bytes}
 use Rattle.aes_block.proofs.cipher.round.Goals as goal
 

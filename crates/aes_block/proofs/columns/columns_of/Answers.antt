@@ -1,6 +1,6 @@
 -- Each word that is read has the four bytes at its place.
 use Rattle.std.proofs.Common.{◌≡◌, ◌∙◌, length, arith}
-use Rattle.aes_block.specs.ExpandingLaw.{read_columns, read_word}
+use Rattle.fips197.specs.ExpandingLaw.{read_columns, read_word}
 use Rattle.aes_block.proofs.columns.columns_of.Goals as goal
 
 pub returns : goal.returns

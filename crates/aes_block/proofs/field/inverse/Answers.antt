@@ -1,7 +1,7 @@
 -- The body computes the power 254, and a byte times it is 1.
 -- Each of the thirteen products is the definition's; the two laws are computed over the bytes.
 use Rattle.std.proofs.Common.{ap, ◌∙◌, refl}
-use Rattle.aes_block.specs.Field.{product, inverse}
+use Rattle.fips197.specs.Field.{product, inverse}
 use Rattle.aes_block.proofs.Multiplying.{product-inverse, inverse-zero}
 use Rattle.aes_block.proofs.field.inverse.Goals as goal
 

@@ -1,8 +1,8 @@
 -- The body computes the field product.
 -- After i steps the sum is the product with the i low bits of b, and the shifted byte is the product with the next power of x.
 use Rattle.std.proofs.Common.{◌≡◌, ◌%◌, ◌∙◌, ap, sym, arith, mod-eq_of_lt}
-use Rattle.aes_block.specs.Field.{product}
-use Rattle.aes_block.specs.FieldLaw.{product_distributes, product_only}
+use Rattle.fips197.specs.Field.{product}
+use Rattle.fips197.specs.FieldLaw.{product_distributes, product_only}
 use Rattle.aes_block.proofs.Multiplying.{product-one, product-zero, product-power, set_step, unset_step}
 use Rattle.aes_block.proofs.field.mul.Goals as goal
 use Rattle.aes_block.proofs.field.mul.Goals.{then-b-i-eq1, else-b-i-eq1}

@@ -1,6 +1,6 @@
 -- The sum is the product with the bits of b below i.
 use Rattle.std.proofs.Common.{◌≡◌, ◌%◌, ◌^◌, ◌<◌}
-use Rattle.aes_block.specs.Field.{product}
+use Rattle.fips197.specs.Field.{product}
 use Rattle.aes_block.proofs.field.mul.Given as goal
 
 abbrev pub invariant-loop-i : goal.invariant-loop-i

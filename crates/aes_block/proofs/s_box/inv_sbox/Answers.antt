@@ -1,7 +1,7 @@
 -- The table's entry is the inverse S-box, and so the S-box's converse.
 -- The value is the table's lemma; the converse is the definitions' law at that value.
 use Rattle.std.proofs.Common.{sym, ◌∙◌}
-use Rattle.aes_block.specs.SBoxLaw.{inv_s_box_converse}
+use Rattle.fips197.specs.SBoxLaw.{inv_s_box_converse}
 use Rattle.aes_block.proofs.Tables.{inv_s_box_entry}
 use Rattle.aes_block.proofs.s_box.inv_sbox.Goals as goal
 

@@ -1,11 +1,11 @@
 -- The definitions answer the standard's worked bytes and the vectors of appendix C.
 -- The checker computes both sides, with every definition opened.
 use Rattle.std.proofs.Common.{refl}
-use Rattle.aes_block.specs.Field.{inverse, polynomial_product, product, remainder}
-use Rattle.aes_block.specs.SBox.{inv_s_box, number_with_bits, s_box, s_boxes}
-use Rattle.aes_block.specs.KeyExpansion.{first_words, key_expansion, next_word, rot_word, round_key, sub_word, temp}
-use Rattle.aes_block.specs.Rounds.{add_round_key, multiplied, shift_rows, sub_bytes}
-use Rattle.aes_block.specs.Cipher.{cipher, is_key, rounds}
+use Rattle.fips197.specs.Field.{inverse, polynomial_product, product, remainder}
+use Rattle.fips197.specs.SBox.{inv_s_box, number_with_bits, s_box, s_boxes}
+use Rattle.fips197.specs.KeyExpansion.{first_words, key_expansion, next_word, rot_word, round_key, sub_word, temp}
+use Rattle.fips197.specs.Rounds.{add_round_key, multiplied, shift_rows, sub_bytes}
+use Rattle.fips197.specs.Cipher.{cipher, is_key, rounds}
 use Rattle.aes_block.proofs.tests.computes_the_definitions.Goals as goal
 
 pub returns-clause-products : goal.returns-clause-products

@@ -3,9 +3,9 @@
 use Rattle.std.proofs.Common.{◌≡◌, ◌≢◌, ◌+◌, ◌-◌, ◌*◌, ◌<◌, length, take, sym, ap, ap₂, ◌∙◌, arith, below_more, bit_xor, length-append, length-drop}
 use Rattle.std.proofs.Common.{length-take, length-set}
 use Rattle.std.proofs.lemmas.List.{ext_get_or, get_or_append_left, get_or-set_same, get_or-set_other, get_or-take, length-take-le}
-use Rattle.aes_block.specs.KeyExpansion.{key_words, rounds_of, temp, key_expansion}
-use Rattle.aes_block.specs.KeyExpansionLaw.{key_expansion_is, legal_words}
-use Rattle.aes_block.specs.ExpandingLaw.{read_word}
+use Rattle.fips197.specs.KeyExpansion.{key_words, rounds_of, temp, key_expansion}
+use Rattle.fips197.specs.KeyExpansionLaw.{key_expansion_is, legal_words}
+use Rattle.fips197.specs.ExpandingLaw.{read_word}
 use Rattle.aes_vector.proofs.expansion.expand.Goals as goal
 
 pub loop-i-init : goal.loop-i-init

@@ -1,6 +1,6 @@
 -- The words below i agree with the key expansion.
 use Rattle.std.proofs.Common.{◌≡◌, ℕ, ◌<◌, length, slice_index}
-use Rattle.aes_block.specs.KeyExpansion.{key_expansion}
+use Rattle.fips197.specs.KeyExpansion.{key_expansion}
 use Rattle.aes_vector.proofs.expansion.expand.Given as goal
 
 abbrev pub invariant-loop-i : goal.invariant-loop-i

@@ -1,9 +1,9 @@
 -- The S-box on each byte of a word is SubWord: the vector has four copies of the word, and the lowest is taken.
 use Rattle.std.proofs.Common.{◌≡◌, ℕ, ◌+◌, ◌*◌, ◌/◌, ◌%◌, ◌<◌, List, ap, ap₂, ◌∙◌, arith}
 use lib.Lanes.{number_l}
-use Rattle.aes_block.specs.KeyExpansion.{sub_word}
-use Rattle.aes_block.specs.SBox.{s_box}
-use Rattle.aes_block.specs.SBoxLaw.{s_box_byte}
+use Rattle.fips197.specs.KeyExpansion.{sub_word}
+use Rattle.fips197.specs.SBox.{s_box}
+use Rattle.fips197.specs.SBoxLaw.{s_box_byte}
 use Rattle.aes_vector.proofs.expansion.sub_word.Goals as goal
 
 -- the lowest 32 bits of a number whose lowest bytes are a, b, c and d

@@ -1,8 +1,8 @@
 -- What is xored to a word, in the standard's three cases.
 -- The code's branches are the definition's, and a rotation by 8 bits is RotWord.
 use Rattle.std.proofs.Common.{ap, ◌∙◌, bit_xor, slice_index, ◌/◌, ◌-◌, ℕ}
-use Rattle.aes_block.specs.KeyExpansion.{sub_word, round_constants}
-use Rattle.aes_block.specs.ExpandingLaw.{rotated_word, temp_first, temp_middle, temp_short, temp_else}
+use Rattle.fips197.specs.KeyExpansion.{sub_word, round_constants}
+use Rattle.fips197.specs.ExpandingLaw.{rotated_word, temp_first, temp_middle, temp_short, temp_else}
 use Rattle.aes_vector.proofs.expansion.temp.Goals as goal
 use Rattle.aes_vector.proofs.expansion.temp.Goals.{else-key_words-eq8-via-then-key_words-eq8+else-i-eq4, else-key_words-eq8-via-else-key_words-eq8}
 

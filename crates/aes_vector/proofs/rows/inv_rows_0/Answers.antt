@@ -1,5 +1,5 @@
 use Rattle.std.proofs.Common.{map, slice_index, ap, ◌∙◌}
-use Rattle.aes_block.specs.Rounds.{inv_shift_rows}
+use Rattle.fips197.specs.Rounds.{inv_shift_rows}
 use Rattle.aes_vector.proofs.rows.inv_rows_0.Goals as goal
 use Rattle.std.proofs.Common.{refl}
 

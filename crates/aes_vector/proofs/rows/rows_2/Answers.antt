@@ -1,6 +1,6 @@
 use Rattle.std.proofs.Common.{[], ◌∷◌}
 use Rattle.std.proofs.lemmas.Simd.{pick_l_left}
-use Rattle.aes_block.specs.Rounds.{shift_rows}
+use Rattle.fips197.specs.Rounds.{shift_rows}
 use Rattle.aes_vector.specs.Turned.{turned}
 use Rattle.aes_vector.proofs.rows.rows_2.Goals as goal
 

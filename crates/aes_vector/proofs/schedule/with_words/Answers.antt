@@ -2,10 +2,10 @@
 use Rattle.std.proofs.Common.{◌≡◌, ℕ, ◌+◌, ◌-◌, ◌*◌, ◌≤◌, ◌++◌, ◌∙◌, List, length, take, ap, ap₂, sym, subst, arith}
 use Rattle.std.specs.List.{AllByRecursion}
 use Rattle.block_pair.specs.Words.{IsByte}
-use Rattle.aes_block.specs.KeyExpansion.{IsKekLength, rounds_of, round_key}
-use Rattle.aes_block.specs.KeyExpansionLaw.{legal_words}
+use Rattle.fips197.specs.KeyExpansion.{IsKekLength, rounds_of, round_key}
+use Rattle.fips197.specs.KeyExpansionLaw.{legal_words}
 use Rattle.aes_vector.specs.VectorSchedule.{IsFirstKey, IsMiddleKey, IsLastKey, AreRoundKeys, key_at, key_block, key_of}
-use Rattle.aes_block.specs.ExpandingLaw.{words_key}
+use Rattle.fips197.specs.ExpandingLaw.{words_key}
 use Rattle.aes_vector.proofs.FirstBlocks.{bytes_each, first_blocks}
 use Rattle.aes_vector.proofs.schedule.with_words.Goals as goal
 

@@ -1,5 +1,5 @@
 use Rattle.std.proofs.Common.{refl}
-use Rattle.aes_block.specs.Field.{product, remainder, polynomial_product}
+use Rattle.fips197.specs.Field.{product, remainder, polynomial_product}
 use Rattle.aes_vector.proofs.Computed.{inv_inverts, inva_inverts, tower_enters, masked_enters, inv_enters, eleven_enters, thirteen_enters, nine_enters}
 use Rattle.aes_vector.proofs.Computed.{masked_inv_enters, fourteen_enters, one_finds, two_finds, s_box_finds, fourteen_finds, eleven_finds, thirteen_finds}
 use Rattle.aes_vector.proofs.Computed.{nine_finds, inverse_finds}

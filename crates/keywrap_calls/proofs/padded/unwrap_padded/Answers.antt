@@ -2,7 +2,7 @@
 use Rattle.std.proofs.Common.{◌≡◌, ℕ, [], take, ap, ◌∙◌, subst, sym, refl, rules, Ok, pos}
 use mir.Syntax.{w32}
 use mir.Val.{SFits}
-use Rattle.aes_block.specs.Cipher.{cipher}
+use Rattle.fips197.specs.Cipher.{cipher}
 use Rattle.keywrap_calls.specs.Status.{outcome_status}
 use Rattle.keywrap_calls.specs.Calls.{UnwrapsPadded, IsPaddedKey}
 use Rattle.keywrap_calls.proofs.Calls.{unwraps, passed_on}

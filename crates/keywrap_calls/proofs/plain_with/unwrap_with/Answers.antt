@@ -2,7 +2,7 @@
 use Rattle.std.proofs.Common.{◌≡◌, length, ap, ◌∙◌, subst, sym, refl, rules}
 use mir.Syntax.{w32}
 use mir.Val.{SFits}
-use Rattle.aes_block.specs.Cipher.{cipher}
+use Rattle.fips197.specs.Cipher.{cipher}
 use Rattle.key_wrap.specs.Plain.{Plain}
 use Rattle.key_wrap.specs.Padded.{Padded}
 use Rattle.key_wrap.specs.InPlace.{ArePlainLengths}

@@ -1,7 +1,7 @@
 -- The KEK was read, and the engine says the rest, or it was refused.
 use Rattle.std.proofs.Common.{Ok, Err, ap, refl}
 use Rattle.key_lines.specs.Answers.{Answer}
-use Rattle.aes_block.specs.Cipher.{cipher}
+use Rattle.fips197.specs.Cipher.{cipher}
 use Rattle.keywrap_cli.specs.Answers.{JobAnswer, WritesFor}
 use Rattle.keywrap_cli.proofs.Answered.{written_output}
 use Rattle.keywrap_cli.proofs.job.run.Goals as goal

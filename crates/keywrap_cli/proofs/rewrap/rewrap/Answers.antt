@@ -1,6 +1,6 @@
 -- Both KEKs were read, and the engine says the rest, or one was refused.
 use Rattle.std.proofs.Common.{Ok, Err, refl}
-use Rattle.aes_block.specs.Cipher.{cipher}
+use Rattle.fips197.specs.Cipher.{cipher}
 use Rattle.key_lines.specs.Answers.{Answer}
 use Rattle.keywrap_cli.specs.Answers.{RewrappingAnswer, RewrapsTo}
 use Rattle.keywrap_cli.proofs.Answered.{written_output}

@@ -7,7 +7,7 @@ use super::super::rewraps::{NEW_KEK, RAW_NEW_KEK};
 use crate::convert::Direction;
 use crate::drilling::drill;
 use crate::job::{Job, Notation};
-use aes_block::Aes;
+use aes_vector::VectorAes;
 use key_wrap::{Form, InitialValue, MAX_KEY, wrap, wrap_padded, wrap_with};
 use std::alloc::{AllocError, Global};
 use std::process::Abort;
@@ -74,7 +74,7 @@ fn run_each_length(rt: &impl Abort, alloc: Global, size: usize) -> Result<(), Fa
 
 // Makes each call in each form that the key has: wraps, rewraps and unwraps.
 fn run_on_key(rt: &impl Abort, alloc: Global, key: &[u8], size: usize) -> Result<(), Fail> {
-    let (old, new) = (Aes::new(RAW_KEK)?, Aes::new(RAW_NEW_KEK)?);
+    let (old, new) = (VectorAes::new(RAW_KEK)?, VectorAes::new(RAW_NEW_KEK)?);
     for form in FORMS {
         if is_key_length(form, key.len()) {
             let text = wrapped(alloc, &old, form, key)?;
@@ -105,7 +105,7 @@ fn run_on_key(rt: &impl Abort, alloc: Global, key: &[u8], size: usize) -> Result
     Ok(())
 }
 
-fn wrapped(alloc: Global, aes: &Aes, form: Form, key: &[u8]) -> Result<Vec<u8>, Fail> {
+fn wrapped(alloc: Global, aes: &VectorAes, form: Form, key: &[u8]) -> Result<Vec<u8>, Fail> {
     Ok(match form {
         Form::Plain => wrap(alloc, aes, key)?,
         Form::Padded => wrap_padded(alloc, aes, key)?,

@@ -2,7 +2,7 @@
 //! if the text is refused.
 
 use super::super::standards::wrappings;
-use aes_block::Aes;
+use aes_vector::VectorAes;
 use block_pair::{BlockPair, Meter};
 use key_wrap::{
     Form, InPlaceFault, unwrap_in_place, unwrap_padded_in_place, wrap_in_place,
@@ -16,7 +16,7 @@ use std::test::Fail;
 #[test]
 fn wraps_and_unwraps_in_place_and_counts(rt: HostRuntime) -> Result<(), Fail> {
     for wrapping in &wrappings(rt.alloc())? {
-        let aes = Aes::new(&wrapping.kek)?;
+        let aes = VectorAes::new(&wrapping.kek)?;
         let mut meter = Meter::new(&aes);
         let (key, text) = (wrapping.key.as_slice(), wrapping.text.as_slice());
         let mut buf = room_for(rt.alloc(), key, 0xFF, text.len())?;

@@ -7,7 +7,7 @@ use super::super::standards::{Wrapping, wrappings};
 use super::change_bit;
 use super::in_place::unwraps_to;
 use crate::job::Job;
-use aes_block::Aes;
+use aes_vector::VectorAes;
 use key_wrap::Form;
 use std::alloc::Global;
 use std::process::Abort;
@@ -64,7 +64,7 @@ fn refuse_each_changed_bit(
         change_bit(&mut bytes, bit);
         let (kek, text) = bytes.split_at(wrapping.kek.len().min(bytes.len()));
         Case(unwrap, [kek, b"", text], INTEGRITY, b"").holds(rt, alloc, usize::MAX);
-        unwraps_to(rt, alloc, wrapping.form, &Aes::new(kek)?, text, None)?;
+        unwraps_to(rt, alloc, wrapping.form, &VectorAes::new(kek)?, text, None)?;
         change_bit(&mut bytes, bit);
     }
     Ok(())

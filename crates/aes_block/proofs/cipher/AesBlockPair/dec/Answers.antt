@@ -1,10 +1,10 @@
 -- The inverse cipher's body computes the inverse cipher.
 -- The body's rounds begin with InvShiftRows and InvSubBytes, and the definition's end with them: the proof counts the two to the round before.
 use Rattle.std.proofs.Common.{ℕ, List, ◌-◌, ap, ap₂, sym, arith, ◌∙◌}
-use Rattle.aes_block.specs.Rounds.{add_round_key, inv_mix_columns, inv_shift_rows, inv_sub_bytes}
-use Rattle.aes_block.specs.Cipher.{inv_rounds}
-use Rattle.aes_block.specs.Columns.{block_of}
-use Rattle.aes_block.specs.StepsLaw.{inv_rounds-more, inv_rounds-none, inv_cipher-key}
+use Rattle.fips197.specs.Rounds.{add_round_key, inv_mix_columns, inv_shift_rows, inv_sub_bytes}
+use Rattle.fips197.specs.Cipher.{inv_rounds}
+use Rattle.fips197.specs.Words.{block_of}
+use Rattle.fips197.specs.StepsLaw.{inv_rounds-more, inv_rounds-none, inv_cipher-key}
 use Rattle.aes_block.proofs.cipher.AesBlockPair.dec.Goals as goal
 
 -- the steps with which a round of the definition ends

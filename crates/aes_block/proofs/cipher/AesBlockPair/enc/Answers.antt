@@ -1,9 +1,9 @@
 -- The cipher's body computes the cipher.
 -- The loop has made the rounds below k; a round more is the definition's next, and the last round closes it.
 use Rattle.std.proofs.Common.{◌≡◌, ◌-◌, ◌+◌, ap₂, sym, arith, ◌∙◌}
-use Rattle.aes_block.specs.Rounds.{add_round_key}
-use Rattle.aes_block.specs.Cipher.{rounds, round, last_round}
-use Rattle.aes_block.specs.StepsLaw.{rounds-more, cipher-key}
+use Rattle.fips197.specs.Rounds.{add_round_key}
+use Rattle.fips197.specs.Cipher.{rounds, round, last_round}
+use Rattle.fips197.specs.StepsLaw.{rounds-more, cipher-key}
 use Rattle.aes_block.proofs.cipher.AesBlockPair.enc.Goals as goal
 
 pub loop-k-init : goal.loop-k-init

@@ -1,9 +1,9 @@
 -- The state is what the rounds below k have made of the block.
 use Rattle.std.proofs.Common.{◌≡◌, ◌-◌}
-use Rattle.aes_block.specs.KeyExpansion.{round_key}
-use Rattle.aes_block.specs.Rounds.{add_round_key}
-use Rattle.aes_block.specs.Cipher.{rounds}
-use Rattle.aes_block.specs.Columns.{block_of}
+use Rattle.fips197.specs.KeyExpansion.{round_key}
+use Rattle.fips197.specs.Rounds.{add_round_key}
+use Rattle.fips197.specs.Cipher.{rounds}
+use Rattle.fips197.specs.Words.{block_of}
 use Rattle.aes_block.proofs.cipher.AesBlockPair.enc.Given as goal
 
 abbrev pub invariant-loop-k : goal.invariant-loop-k

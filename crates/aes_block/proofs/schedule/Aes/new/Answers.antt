@@ -1,10 +1,10 @@
 -- The schedule keeps the key and begins with its key expansion.
 -- Each legal length has its rounds; the key's own words are the first of the schedule, so their bytes are the key.
 use Rattle.std.proofs.Common.{◌≡◌, inl, inr, ℕ, ◌+◌, ◌*◌, ◌∙◌, List, length, take, ap, sym, subst, arith}
-use Rattle.aes_block.specs.KeyExpansion.{IsKekLength, rounds_of, key_expansion}
-use Rattle.aes_block.specs.KeyExpansionLaw.{key_expansion_only, words_bytes}
-use Rattle.aes_block.specs.Schedule.{key_of}
-use Rattle.aes_block.specs.ExpandingLaw.{key_of_schedule}
+use Rattle.fips197.specs.KeyExpansion.{IsKekLength, rounds_of, key_expansion}
+use Rattle.fips197.specs.KeyExpansionLaw.{key_expansion_only, words_bytes}
+use Rattle.fips197.specs.Words.{key_of}
+use Rattle.fips197.specs.ExpandingLaw.{key_of_schedule}
 use Rattle.aes_block.proofs.schedule.Aes.new.Goals as goal
 use Rattle.aes_block.proofs.schedule.Aes.new.Goals.{in-16, in-24, in-32}
 

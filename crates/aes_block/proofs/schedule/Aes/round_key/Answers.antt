@@ -1,9 +1,9 @@
 -- The four words at 4k are round key k.
 -- The invariant says that the schedule begins with the key expansion of the key that it keeps.
 use Rattle.std.proofs.Common.{◌≡◌, ℕ, ◌+◌, ◌*◌, ◌∙◌, List, length, take, ap, sym, subst}
-use Rattle.aes_block.specs.KeyExpansion.{IsKekLength, rounds_of, key_expansion}
-use Rattle.aes_block.specs.Schedule.{key_of}
-use Rattle.aes_block.specs.ExpandingLaw.{words_key}
+use Rattle.fips197.specs.KeyExpansion.{IsKekLength, rounds_of, key_expansion}
+use Rattle.fips197.specs.Words.{key_of}
+use Rattle.fips197.specs.ExpandingLaw.{words_key}
 use Rattle.aes_block.proofs.schedule.Aes.round_key.Goals as goal
 
 pub returns : goal.returns

@@ -1,12 +1,12 @@
 -- The inverse cipher's body computes the inverse cipher.
 -- InvMixColumns distributes over AddRoundKey, so that the key may come after it, with InvMixColumns of its own.
 use Rattle.std.proofs.Common.{ℕ, List, ◌-◌, ap, ap₂, sym, arith, ◌∙◌, map}
-use Rattle.aes_block.specs.KeyExpansion.{round_key}
-use Rattle.aes_block.specs.Rounds.{add_round_key, inv_mix_columns, inv_mix_matrix, inv_shift_rows, inv_sub_bytes}
-use Rattle.aes_block.specs.Cipher.{inv_rounds}
+use Rattle.fips197.specs.KeyExpansion.{round_key}
+use Rattle.fips197.specs.Rounds.{add_round_key, inv_mix_columns, inv_mix_matrix, inv_shift_rows, inv_sub_bytes}
+use Rattle.fips197.specs.Cipher.{inv_rounds}
 use Rattle.aes_vector.specs.Tower.{affine_element}
 use Rattle.aes_vector.proofs.Adding.{multiplied_added}
-use Rattle.aes_block.specs.StepsLaw.{inv_rounds-more, inv_rounds-none, inv_cipher-key}
+use Rattle.fips197.specs.StepsLaw.{inv_rounds-more, inv_rounds-none, inv_cipher-key}
 use Rattle.aes_vector.proofs.cipher.LentAesBlockPair.dec.Goals as goal
 
 -- the steps with which a round of the definition ends

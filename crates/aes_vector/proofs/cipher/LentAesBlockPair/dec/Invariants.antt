@@ -1,8 +1,8 @@
 -- What is still to be undone of the state, once InvShiftRows and InvSubBytes of round k are, is what was to be undone of the block at the start.
 use Rattle.std.proofs.Common.{◌≡◌, ◌-◌, map}
-use Rattle.aes_block.specs.KeyExpansion.{round_key}
-use Rattle.aes_block.specs.Rounds.{inv_shift_rows, inv_sub_bytes}
-use Rattle.aes_block.specs.Cipher.{inv_last_round, inv_rounds}
+use Rattle.fips197.specs.KeyExpansion.{round_key}
+use Rattle.fips197.specs.Rounds.{inv_shift_rows, inv_sub_bytes}
+use Rattle.fips197.specs.Cipher.{inv_last_round, inv_rounds}
 use Rattle.aes_vector.specs.Tower.{affine_element}
 use Rattle.aes_vector.proofs.cipher.LentAesBlockPair.dec.Given as goal
 

@@ -1,8 +1,8 @@
 -- The cipher's body computes the cipher.
 use Rattle.std.proofs.Common.{◌≡◌, ◌-◌, ◌+◌, ap₂, sym, arith, ◌∙◌}
-use Rattle.aes_block.specs.Rounds.{add_round_key}
-use Rattle.aes_block.specs.Cipher.{rounds, round, last_round}
-use Rattle.aes_block.specs.StepsLaw.{rounds-more, cipher-key}
+use Rattle.fips197.specs.Rounds.{add_round_key}
+use Rattle.fips197.specs.Cipher.{rounds, round, last_round}
+use Rattle.fips197.specs.StepsLaw.{rounds-more, cipher-key}
 use Rattle.aes_vector.proofs.cipher.LentAesBlockPair.enc.Goals as goal
 
 pub loop-k-init : goal.loop-k-init

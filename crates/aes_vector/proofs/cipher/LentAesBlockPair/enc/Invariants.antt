@@ -1,8 +1,8 @@
 -- The state represents the block after the rounds below k.
 use Rattle.std.proofs.Common.{◌≡◌, ◌-◌, map}
-use Rattle.aes_block.specs.KeyExpansion.{round_key}
-use Rattle.aes_block.specs.Rounds.{add_round_key}
-use Rattle.aes_block.specs.Cipher.{rounds}
+use Rattle.fips197.specs.KeyExpansion.{round_key}
+use Rattle.fips197.specs.Rounds.{add_round_key}
+use Rattle.fips197.specs.Cipher.{rounds}
 use Rattle.aes_vector.specs.Tower.{element}
 use Rattle.aes_vector.proofs.cipher.LentAesBlockPair.enc.Given as goal
 

@@ -1,5 +1,5 @@
 -- The law holds at each return.
-use Rattle.aes_block.specs.KeyExpansionLaw.{key_expansion_only}
+use Rattle.fips197.specs.KeyExpansionLaw.{key_expansion_only}
 use Rattle.aes_vector.proofs.lent.LentAes.new.Goals as goal
 
 pub returns-clause-schedule : goal.returns-clause-schedule

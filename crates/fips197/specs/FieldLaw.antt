@@ -7,9 +7,9 @@ use Rattle.std.proofs.lemmas.Nat.{xor_lt, pow-add, shl_below, shr_below, shr_spl
 use Rattle.std.proofs.lemmas.Nat.Bits.{bit_at-lt, bit_at_xor, bit_at_lowest, bit_at_above, bit_at_cat_low, bit_at_cat_high}
 use Rattle.std.proofs.lemmas.Bool.Decides.{nat_tests}
 use Rattle.block_pair.specs.Words.{IsByte}
-use Rattle.aes_block.specs.Field.{modulus, polynomial_product, remainder, product, IsFieldProduct, DistributesOverXor}
-use Rattle.aes_block.specs.Xor.{xor_middle, xor_last, xor_twice, xor_zero_same, xor-shift, bit_times_xor, bits_times, bit_times-le, xor_top-lt}
-use Rattle.aes_block.specs.EveryByte.{passes_below, passes_at}
+use Rattle.fips197.specs.Field.{modulus, polynomial_product, remainder, product, IsFieldProduct, DistributesOverXor}
+use Rattle.fips197.specs.Xor.{xor_middle, xor_last, xor_twice, xor_zero_same, xor-shift, bit_times_xor, bits_times, bit_times-le, xor_top-lt}
+use Rattle.fips197.specs.EveryByte.{passes_below, passes_at}
 
 pub polynomial_product-xor_right : (n a b c : ℕ) → polynomial_product n a (bit_xor b c) ≡ bit_xor (polynomial_product n a b) (polynomial_product n a c)
 unfolding polynomial_product

@@ -1,8 +1,8 @@
 -- The cipher and the inverse cipher (FIPS 197, sections 5.1 and 5.3), for keys of 16, 24 and 32 bytes.
 use Rattle.std.specs.Prelude.{ℕ, zero, suc, ◌-◌, List, length, Bool, ◌&&◌, ◌||◌, ◌==◌, nat_lt, if◌then◌else◌}
 use Rattle.std.specs.List.{list_all}
-use Rattle.aes_block.specs.KeyExpansion.{rounds_of, round_key}
-use Rattle.aes_block.specs.Rounds.{sub_bytes, shift_rows, mix_columns, inv_sub_bytes, inv_shift_rows, inv_mix_columns, add_round_key}
+use Rattle.fips197.specs.KeyExpansion.{rounds_of, round_key}
+use Rattle.fips197.specs.Rounds.{sub_bytes, shift_rows, mix_columns, inv_sub_bytes, inv_shift_rows, inv_mix_columns, add_round_key}
 
 -- a round with its round key: SubBytes, ShiftRows, MixColumns, AddRoundKey
 abbrev pub round : List ℕ → List ℕ → List ℕ

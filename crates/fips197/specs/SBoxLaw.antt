@@ -3,9 +3,9 @@ use Rattle.std.proofs.Common.{◌≡◌, ◌↔◌, ℕ, List, Bool, true, ◌==
 use Rattle.std.specs.List.{position_or_len}
 use Rattle.std.proofs.lemmas.List.FromFn.{get_or-map-range_with_len}
 use Rattle.block_pair.specs.Words.{IsByte}
-use Rattle.aes_block.specs.Field.{polynomial_product, remainder, product, inverse}
-use Rattle.aes_block.specs.SBox.{number_with_bits, s_box, s_boxes, inv_s_box}
-use Rattle.aes_block.specs.EveryByte.{passes_below, passes_at}
+use Rattle.fips197.specs.Field.{polynomial_product, remainder, product, inverse}
+use Rattle.fips197.specs.SBox.{number_with_bits, s_box, s_boxes, inv_s_box}
+use Rattle.fips197.specs.EveryByte.{passes_below, passes_at}
 
 -- the place of the first y in a table
 abbrev pub place_of : ℕ → List ℕ → ℕ

@@ -2,7 +2,7 @@
 use Rattle.std.specs.Prelude.{ℕ, zero, suc, ◌+◌, ◌*◌, ◌%◌, ◌^◌, ◌==◌, List, map}
 use Rattle.std.specs.Int.{bit_at}
 use Rattle.std.specs.List.{position_or_len, range_with_len}
-use Rattle.aes_block.specs.Field.{inverse}
+use Rattle.fips197.specs.Field.{inverse}
 
 -- bit i of the affine map's value: b'i = bi + b(i+4) + b(i+5) + b(i+6) + b(i+7) + ci, with the indexes modulo 8 and
 -- the sum modulo 2, where c is the byte 63 (5.1.1)

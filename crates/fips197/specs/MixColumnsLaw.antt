@@ -5,13 +5,13 @@ use Rattle.std.specs.List.{AllByRecursion}
 use Rattle.std.proofs.lemmas.Nat.{xor_lt}
 use Rattle.std.proofs.lemmas.Bool.{eqb-true}
 use Rattle.block_pair.specs.Words.{IsByte, IsBlock}
-use Rattle.aes_block.specs.Field.{product, remainder, polynomial_product}
-use Rattle.aes_block.specs.FieldLaw.{product_byte, product-xor_right}
-use Rattle.aes_block.specs.Xor.{xor_middle}
-use Rattle.aes_block.specs.EveryByte.{passes_below, passes_at}
-use Rattle.aes_block.specs.State.{entry}
-use Rattle.aes_block.specs.Rounds.{sum_of_four, multiplied, mix_matrix, inv_mix_matrix}
-use Rattle.aes_block.specs.StateLaw.{byte_at, entry_byte, state_block, state_is, entry-state}
+use Rattle.fips197.specs.Field.{product, remainder, polynomial_product}
+use Rattle.fips197.specs.FieldLaw.{product_byte, product-xor_right}
+use Rattle.fips197.specs.Xor.{xor_middle}
+use Rattle.fips197.specs.EveryByte.{passes_below, passes_at}
+use Rattle.fips197.specs.State.{entry}
+use Rattle.fips197.specs.Rounds.{sum_of_four, multiplied, mix_matrix, inv_mix_matrix}
+use Rattle.fips197.specs.StateLaw.{byte_at, entry_byte, state_block, state_is, entry-state}
 
 -- ---- sums in the field
 

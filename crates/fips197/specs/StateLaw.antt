@@ -4,7 +4,7 @@ use Rattle.std.specs.List.{AllByRecursion, list_all, range_with_len}
 use Rattle.std.proofs.lemmas.Bool.{and_from, and_parts, lt-ltb, ltb-true}
 use Rattle.std.proofs.lemmas.List.FromFn.{fill_by_all, get_or-map-range_with_len}
 use Rattle.block_pair.specs.Words.{IsByte, IsBlock}
-use Rattle.aes_block.specs.State.{entry, state}
+use Rattle.fips197.specs.State.{entry, state}
 
 pub byte_at : (s : List ℕ) (i : ℕ) → AllByRecursion IsByte s → IsByte (get_or s i 0)
 byte_at [] i h = omega arith

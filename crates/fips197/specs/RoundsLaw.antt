@@ -2,14 +2,14 @@
 use Rattle.std.proofs.Common.{◌≡◌, ℕ, ◌+◌, ◌-◌, ◌%◌, List, refl, ap, bit_xor, ◌∙◌}
 use Rattle.block_pair.specs.Words.{IsByte, IsBlock}
 use Rattle.block_pair.specs.Pair.{AreInverse}
-use Rattle.aes_block.specs.Xor.{xor_twice}
-use Rattle.aes_block.specs.State.{entry, state}
-use Rattle.aes_block.specs.StateLaw.{all_bytes, entry_byte, state_block, state_is, state-entry, entry-state}
-use Rattle.aes_block.specs.SBox.{s_box, inv_s_box}
-use Rattle.aes_block.specs.SBoxLaw.{s_box_byte, inv_s_box_byte, inv_s_box-s_box, s_box-inv_s_box}
-use Rattle.aes_block.specs.Rounds.{sub_bytes, inv_sub_bytes, shift_rows, inv_shift_rows, mix_columns, inv_mix_columns, mix_matrix, inv_mix_matrix}
-use Rattle.aes_block.specs.Rounds.{add_round_key}
-use Rattle.aes_block.specs.MixColumnsLaw.{xor_byte, multiplied_block, multiplied_undone, inv_mix-mix, mix-inv_mix}
+use Rattle.fips197.specs.Xor.{xor_twice}
+use Rattle.fips197.specs.State.{entry, state}
+use Rattle.fips197.specs.StateLaw.{all_bytes, entry_byte, state_block, state_is, state-entry, entry-state}
+use Rattle.fips197.specs.SBox.{s_box, inv_s_box}
+use Rattle.fips197.specs.SBoxLaw.{s_box_byte, inv_s_box_byte, inv_s_box-s_box, s_box-inv_s_box}
+use Rattle.fips197.specs.Rounds.{sub_bytes, inv_sub_bytes, shift_rows, inv_shift_rows, mix_columns, inv_mix_columns, mix_matrix, inv_mix_matrix}
+use Rattle.fips197.specs.Rounds.{add_round_key}
+use Rattle.fips197.specs.MixColumnsLaw.{xor_byte, multiplied_block, multiplied_undone, inv_mix-mix, mix-inv_mix}
 
 -- one function on each entry, and then its inverse
 each_undone : (f g : ℕ → ℕ) → ((x : ℕ) → IsByte x → g (f x) ≡ x) → (s : List ℕ) → IsBlock s

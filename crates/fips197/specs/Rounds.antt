@@ -1,8 +1,8 @@
 -- The transformations of a round (FIPS 197, section 5.1) and their inverses (section 5.3), each on a state.
 use Rattle.std.specs.Prelude.{ℕ, ◌+◌, ◌-◌, ◌*◌, ◌%◌, List, [], ◌∷◌, slice_index, bit_xor}
-use Rattle.aes_block.specs.Field.{product}
-use Rattle.aes_block.specs.SBox.{s_box, inv_s_box}
-use Rattle.aes_block.specs.State.{entry, state}
+use Rattle.fips197.specs.Field.{product}
+use Rattle.fips197.specs.SBox.{s_box, inv_s_box}
+use Rattle.fips197.specs.State.{entry, state}
 
 -- SubBytes (5.1.1): the S-box on each byte
 unfoldable pub sub_bytes : List ℕ → List ℕ

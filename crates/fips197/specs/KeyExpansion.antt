@@ -4,7 +4,7 @@ use Rattle.std.specs.Prelude.{◌≡◌, ◌⊎◌, ℕ, zero, suc, ◌+◌, ◌
 use Rattle.std.specs.Prelude.{length, map, drop, take, slice_index}
 use Rattle.std.specs.Int.{w32, from_be_bytes, to_be_bytes}
 use Rattle.std.specs.List.{flat_map}
-use Rattle.aes_block.specs.SBox.{s_box}
+use Rattle.fips197.specs.SBox.{s_box}
 
 -- how many bytes a key-encryption key (KEK) may have (5, table 3)
 abbrev pub IsKekLength : ℕ → Type 0

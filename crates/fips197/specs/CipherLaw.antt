@@ -1,11 +1,11 @@
 -- The cipher and the inverse cipher undo each other under every key.
 use Rattle.std.proofs.Common.{ℕ, zero, suc, ◌-◌, List, refl, ap, ◌∙◌, Bool, true, false, if◌then◌else◌}
 use Rattle.block_pair.specs.Pair.{AreInverse}
-use Rattle.aes_block.specs.KeyExpansion.{rounds_of, round_key}
-use Rattle.aes_block.specs.KeyExpansionLaw.{round_key_block}
-use Rattle.aes_block.specs.Rounds.{sub_bytes, inv_sub_bytes, shift_rows, inv_shift_rows, add_round_key}
-use Rattle.aes_block.specs.RoundsLaw.{sub_bytes_inverse, shift_rows_inverse, mix_columns_inverse, add_round_key_inverse}
-use Rattle.aes_block.specs.Cipher.{round, last_round, rounds, inv_round, inv_last_round, inv_rounds, is_key, cipher, inv_cipher}
+use Rattle.fips197.specs.KeyExpansion.{rounds_of, round_key}
+use Rattle.fips197.specs.KeyExpansionLaw.{round_key_block}
+use Rattle.fips197.specs.Rounds.{sub_bytes, inv_sub_bytes, shift_rows, inv_shift_rows, add_round_key}
+use Rattle.fips197.specs.RoundsLaw.{sub_bytes_inverse, shift_rows_inverse, mix_columns_inverse, add_round_key_inverse}
+use Rattle.fips197.specs.Cipher.{round, last_round, rounds, inv_round, inv_last_round, inv_rounds, is_key, cipher, inv_cipher}
 
 -- two steps, undone in the opposite order
 both_inverse : (E D F G : List ℕ → List ℕ) → AreInverse E D → AreInverse F G → AreInverse (λ b. F (E b)) (λ b. D (G b))

@@ -1,4 +1,4 @@
--- What a key schedule computes at each step, and what it keeps: laws for each body of AES.
+-- What a key schedule computes at each step, and what it keeps: laws for each implementation of AES.
 -- The code's words are compared with the definition's place by place; bytes become words, and words bytes, four at a time.
 use Rattle.std.proofs.Common.{◌≡◌, ◌≢◌, ℕ, ◌+◌, ◌-◌, ◌*◌, ◌/◌, ◌%◌, ◌^◌, ◌<◌, ◌≤◌, bit_xor, w32, zero, suc, List, [], ◌∷◌, ◌++◌, length, get_or, take, drop}
 use Rattle.std.proofs.Common.{slice_index, refl, sym, ap, ap₂, ◌∙◌, arith, eq-eqb, ne_eqb, add-zero, lit<, drop-cons, length-drop, length-take}
@@ -8,10 +8,10 @@ use Rattle.std.specs.List.{flat_map}
 use Rattle.std.proofs.lemmas.List.{ext_get_or, get_or-drop, get_or-take, length-take-le, take_all}
 use Rattle.std.proofs.lemmas.Nat.{or_shifted, be_bytes_4}
 use Rattle.byteorder.specs.Endian.{big_number}
-use Rattle.aes_block.specs.KeyExpansionLaw.{key_expansion_is, legal_words}
-use Rattle.aes_block.specs.Columns.{block_of}
-use Rattle.aes_block.specs.Schedule.{key_of}
-use Rattle.aes_block.specs.KeyExpansion.{IsKekLength, key_words, rounds_of, key_word, key_expansion, round_key, rot_word, sub_word, round_constants, temp}
+use Rattle.fips197.specs.KeyExpansionLaw.{key_expansion_is, legal_words}
+use Rattle.fips197.specs.Words.{block_of}
+use Rattle.fips197.specs.Words.{key_of}
+use Rattle.fips197.specs.KeyExpansion.{IsKekLength, key_words, rounds_of, key_word, key_expansion, round_key, rot_word, sub_word, round_constants, temp}
 
 -- RotWord is a rotation by one byte
 pub rotated_word : (w : ℕ) → w < 2 ^ 32 → rotate_left w32 w 8 ≡ rot_word w

@@ -7,7 +7,7 @@ use Rattle.std.proofs.lemmas.List.{ext_get_or, get_or_push, get_or_append_left}
 use Rattle.std.proofs.lemmas.Bool.{cases_lt}
 use Rattle.block_pair.specs.Words.{IsByte, IsBlock}
 use Rattle.block_pair.specs.Each.{each_append}
-use Rattle.aes_block.specs.KeyExpansion.{IsKekLength, key_words, rounds_of, IsKeyExpansion, next_word, first_words, key_expansion, round_key}
+use Rattle.fips197.specs.KeyExpansion.{IsKekLength, key_words, rounds_of, IsKeyExpansion, next_word, first_words, key_expansion, round_key}
 
 -- a legal key has four to eight whole words
 pub legal_words : (K : List ℕ) → IsKekLength (length K) → (4 ≤ key_words K) × (key_words K ≤ 8) × (length K ≡ 4 * key_words K)
