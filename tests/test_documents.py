@@ -109,7 +109,7 @@ class TestRepeatedFacts:
         blocks = re.findall(r"^```.*\n((?:.*\n)*?)```", page, re.M)
         assert blocks
         assert [block for block in blocks if not any(f"\n{block}" in source for source in sources)] == []
-        names = "block_pair|fips197|aes_block|key_wrap|example_caller"
+        names = "block_pair|fips197|aes_block|key_wrap_core|key_wrap|example_caller"
         crates = re.findall(f"^(?:{names}):.*", text_of("crates.txt"), re.M)
         shown = re.search(r"(?:^    [a-z0-9_]+:.*\n)+", page[page.index("    block_pair:"):], re.M)[0]
         assert sorted(line.strip() for line in shown.splitlines()) == sorted(crates)

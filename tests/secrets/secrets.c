@@ -24,11 +24,12 @@ typedef int32_t call(size_t kek_len, size_t len);
 struct outcome {
     uint64_t first, second;
 };
-struct outcome I_WRAP_SONAME_FNNAME_ZZ(NONE, key_wrapZcZcchecksZcZcdecide)(uint64_t, uint8_t *,
-                                                                           size_t);
-struct outcome I_WRAP_SONAME_FNNAME_ZZ(NONE, key_wrapZcZcchecksZcZcdecide)(uint64_t difference,
-                                                                           uint8_t *bytes,
-                                                                           size_t len) {
+struct outcome I_WRAP_SONAME_FNNAME_ZZ(NONE, key_wrap_coreZcZcchecksZcZcdecide)(uint64_t, uint8_t *,
+                                                                                size_t);
+struct outcome I_WRAP_SONAME_FNNAME_ZZ(NONE,
+                                       key_wrap_coreZcZcchecksZcZcdecide)(uint64_t difference,
+                                                                          uint8_t *bytes,
+                                                                          size_t len) {
     OrigFn decide;
     uint64_t answer;
     VALGRIND_GET_ORIG_FN(decide);

@@ -3,7 +3,7 @@
 ghost use Rattle.std.specs.Prelude.{◌≡◌, length, IfOk, IsOkUnless, MatchOption};
 ghost use Rattle.aes_block.specs.Cipher.{cipher};
 ghost use Rattle.aes_block.specs.KeyExpansion.{IsKekLength};
-ghost use Rattle.key_wrap.specs.Answer.{NoKey};
+ghost use Rattle.key_wrap.specs.NoKey.{NoKey};
 ghost use Rattle.key_wrap.specs.Lengths.{IsPlainKeyLength, IsPlainTextLength};
 ghost use Rattle.key_wrap.specs.Plain.{Plain, default_iv};
 

@@ -1,58 +1,14 @@
--- Rewrapping in the form of the text, from the key that was found and wrapped again: what fixes what, and what the call
--- promises of its answer.
-use Rattle.std.proofs.Common.{◌≡◌, ◌↔◌, ℕ, List, length, Result, Ok, Err, Vec, IsErr, IsErrAnd, refl, sym, subst, arith}
+-- What is promised of a rewrapping that keeps the form and takes memory, at each refusal.
+use Rattle.std.proofs.Common.{◌≡◌, ◌↔◌, ℕ, List, length, Result, Ok, Err, Vec, IsErr, IsErrAnd, refl, sym, subst}
 use Rattle.block_pair.specs.Pair.{AreInverse}
-use Rattle.key_wrap.specs.declared.faults.InPlaceFault.{InPlaceFault}
-use Rattle.key_wrap.specs.declared.faults.InPlaceFault.TheVariants.{BadLength, Integrity}
+use Rattle.key_wrap_core.specs.declared.faults.InPlaceFault.{InPlaceFault}
+use Rattle.key_wrap_core.specs.declared.faults.InPlaceFault.TheVariants.{BadLength, Integrity}
+use Rattle.key_wrap_core.specs.KeepForm.{HasNoForm, IsSomeTextLength}
+use Rattle.key_wrap_core.proofs.KeptForms.{length_some}
 use Rattle.key_wrap.specs.declared.faults.UnwrapFault.{UnwrapFault}
 use Rattle.key_wrap.specs.declared.faults.UnwrapFault.TheVariants as unwrap_faults
-use Rattle.key_wrap.specs.declared.forms.Form.{Form}
-use Rattle.key_wrap.specs.declared.forms.Form.TheVariants.{Plain, Padded}
-use Rattle.key_wrap.specs.Forms.{StandsIn, IsTextLength, by_default}
-use Rattle.key_wrap.specs.Faults.{unwrap_fault}
-use Rattle.key_wrap.specs.Lengths.{IsPaddedTextLength}
-use Rattle.key_wrap.specs.KeepForm.{KeepsForm, FormKept, HasNoForm, IsSomeTextLength}
-use Rattle.key_wrap.proofs.PlainForm.{default_free}
-use Rattle.key_wrap.proofs.BothForms.{not_both_forms}
-use Rattle.key_wrap.proofs.Rewraps.{only_text, only_key, text_legal, refusal}
-
--- one key belongs to a text, in one form
-pub one_key : {E D : List ℕ → List ℕ} (form other_form : Form) (key other text : List ℕ) → AreInverse E D → StandsIn form E key text
-    → StandsIn other_form E other text → (other_form ≡ form) × (other ≡ key)
-one_key Plain Plain key other text inv h k = (refl, only_key (by_default Plain) key other text inv h k)
-one_key Padded Padded key other text inv h k = (refl, only_key (by_default Padded) key other text inv h k)
-one_key Plain Padded key other text inv h k = absurd (not_both_forms inv default_free h k)
-one_key Padded Plain key other text inv h k = absurd (not_both_forms inv default_free k h)
-
--- the wrapping of its key in its form is one text
-pub one_answer : {E D F : List ℕ → List ℕ} (form : Form) (key text answer other : List ℕ) → AreInverse E D → StandsIn form E key text
-    → StandsIn form F key answer → KeepsForm E F text other → other ≡ answer
-one_answer {F = F} form key text answer other inv h wraps kept =
-    let same = one_key form kept.0 key kept.1.0 text inv h kept.1.1 in
-    only_text (by_default form) F key answer other wraps (rw (same.0, same.1) at kept.1.2)
-
--- and the same keys belong to both
-pub same_keys : {E D F D' : List ℕ → List ℕ} (form : Form) (key text answer : List ℕ) → AreInverse E D → AreInverse F D' → StandsIn form E key text
-    → StandsIn form F key answer → (other_form : Form) (other : List ℕ) → StandsIn other_form F other answer ↔ StandsIn other_form E other text
-same_keys form key text answer inv inv' h wraps other_form other = (
-  λ k. let same = one_key form other_form key other answer inv' wraps k in rw (same.0, same.1) h,
-  λ k. let same = one_key form other_form key other text inv h k in rw (same.0, same.1) wraps,
-)
-
-padded_length : (form : Form) (len : ℕ) → IsTextLength form len → IsPaddedTextLength len
-padded_length Plain len h = (h.0, omega (arith, h.1), h.2)
-padded_length Padded len h = h
-
--- a length that is legal in some form is one in the padded form
-pub padded_of : (len : ℕ) → IsSomeTextLength len → IsPaddedTextLength len
-padded_of len some = padded_length some.0 len some.1
-
-pub some_length : (len : ℕ) → IsPaddedTextLength len → IsSomeTextLength len
-some_length len h = (Padded, h)
-
--- and the length of a text to which a key belongs is one
-pub length_some : {E D : List ℕ → List ℕ} (form : Form) (key text : List ℕ) → AreInverse E D → StandsIn form E key text → IsSomeTextLength (length text)
-length_some form key text inv h = (form, text_legal (by_default form) key text inv h)
+use Rattle.key_wrap.specs.Results.{FormKept, unwrap_fault}
+use Rattle.key_wrap.proofs.Rewraps.{refusal}
 
 module _ {Z : Type 0} (E F : List ℕ → List ℕ) (text : List ℕ) where
   -- no key belongs to a text of no legal length
@@ -62,25 +18,6 @@ module _ {Z : Type 0} (E F : List ℕ → List ℕ) (text : List ℕ) where
     rewraps = illegal;
     accepts = λ form key h. absurd (illegal (length_some form key text inv h));
     memory = λ e. cc;
-    only_answer = tt;
-    only_key = tt;
-    same_key = tt;
-    restores = tt;
-    size = tt;
-    other_form = tt;
-  }
-
-  -- there is no memory for the text
-  pub kept_unserved : (answer : Result (Vec ℕ Z) UnwrapFault) → IsSomeTextLength (length text)
-      → IsErr answer × IsErrAnd answer (λ e. e ≡ unwrap_faults.Memory) → FormKept E F text answer
-  kept_unserved (Ok v) legal r = let no = r.0 in cc
-  kept_unserved (Err unwrap_faults.BadLength) legal r = let no = r.1 in cc
-  kept_unserved (Err unwrap_faults.Integrity) legal r = let no = r.1 in cc
-  kept_unserved (Err unwrap_faults.Memory) legal r = record {
-    bad_length = (λ e. cc, λ bad. absurd (bad legal));
-    rewraps = legal;
-    accepts = λ form key h. refl;
-    memory = λ e. legal;
     only_answer = tt;
     only_key = tt;
     same_key = tt;

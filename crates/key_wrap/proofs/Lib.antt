@@ -1,25 +1,4 @@
--- The lemmas, from words and tapes up to the two forms.
-pub mod Refusals
-pub mod Behind
-pub mod Spelling
-pub mod Tapes
-pub mod Counting
-pub mod Registering
-pub mod Places
-pub mod Stepping
-pub mod Filling
-pub mod FormLengths
-pub mod PlainForm
-pub mod PaddedForm
-pub mod WrapStepping
-pub mod UnwrapStepping
-pub mod BothForms
-pub mod Differences
-pub mod ThreeChecks
-pub mod InPlaceForm
-pub mod Unwrappings
-pub mod KindForms
+-- The lemmas on the results of the calls.
 pub mod Promises
 pub mod Rewraps
-pub mod FoundForms
 pub mod KeptForms

@@ -1,34 +1,17 @@
--- What is promised of the answer of a call that takes memory, at each refusal.
-use Rattle.std.proofs.Common.{rules, ◌≡◌, ℕ, List, length, Result, Ok, Err, IsErr, IsErrAnd, Vec, refl}
+-- What is promised of the result of a call that takes memory, at each refusal.
+use Rattle.std.proofs.Common.{◌≡◌, ℕ, List, ◌++◌, length, take, drop, Result, Ok, Err, IfOk, IsErr, IsErrAnd, Vec, refl, ap}
+use Rattle.std.proofs.lemmas.List.{take_at}
+use Rattle.key_wrap_core.specs.declared.faults.InPlaceFault.{InPlaceFault}
+use Rattle.key_wrap_core.specs.declared.faults.InPlaceFault.TheVariants as in_place
+use Rattle.key_wrap_core.specs.InPlace.{KeyAnswer}
+use Rattle.key_wrap_core.specs.NoKey.{NoKey}
 use Rattle.key_wrap.specs.declared.faults.UnwrapFault.{UnwrapFault}
 use Rattle.key_wrap.specs.declared.faults.UnwrapFault.TheVariants.{BadLength, Integrity, Memory}
-use Rattle.key_wrap.specs.declared.faults.WrapFault.{WrapFault}
-use Rattle.key_wrap.specs.declared.faults.WrapFault.TheVariants as wrap_faults
-use Rattle.key_wrap.specs.Answer.{NoKey, Wrapped, Unwrapped}
+use Rattle.key_wrap.specs.Results.{UnwrapAnswer, Unwrapped, unwrap_fault}
 
-module _ {Z : Type 0} (Legal : Type 0) (Stands NoOther : List ℕ → Type 0) where
-  -- the key has no legal length
-  pub wrap_refused : ¬ Legal → Wrapped {Z = Z} Legal Stands NoOther (Err wrap_faults.BadLength)
-  wrap_refused illegal = record {
-    bad_length = (λ e. illegal, λ bad. refl);
-    memory = λ e. cc;
-    wraps = tt;
-    only_text = tt;
-    other_form = tt;
-  }
-
-  -- there is no memory for the text
-  pub wrap_unserved : (answer : Result (Vec ℕ Z) WrapFault) → Legal → IsErr answer × IsErrAnd answer (λ e. e ≡ wrap_faults.Memory)
-      → Wrapped Legal Stands NoOther answer
-  wrap_unserved (Ok text) legal r = let no = r.0 in cc
-  wrap_unserved (Err wrap_faults.BadLength) legal r = let no = r.1 in cc
-  wrap_unserved (Err wrap_faults.Memory) legal r = record {
-    bad_length = (λ e. cc, λ bad. absurd (bad legal));
-    memory = λ e. legal;
-    wraps = tt;
-    only_text = tt;
-    other_form = tt;
-  }
+-- what a slice lent from a vector leaves there
+pub written_back : (n : ℕ) (new old : List ℕ) → length new ≡ n → take n (new ++ drop (length new) old) ≡ new
+written_back n new old size = take_at new (drop (length new) old) n size
 
 module _ {Z : Type 0} (IsTextLength : ℕ → Type 0) (Stands : List ℕ → List ℕ → Type 0) (NoOther : List ℕ → Type 0) (text : List ℕ) where
   -- the text has no legal length, and so no key
@@ -38,21 +21,6 @@ module _ {Z : Type 0} (IsTextLength : ℕ → Type 0) (Stands : List ℕ → Lis
     bad_length = (λ e. illegal, λ bad. refl);
     unwraps = illegal;
     accepts = λ key h. absurd (illegal (legal key h));
-    only_key = tt;
-    restores = tt;
-    other_form = tt;
-  }
-
-  -- there is no memory to unwrap in
-  pub unwrap_unserved : (answer : Result (Vec ℕ Z) UnwrapFault) → IsTextLength (length text) → IsErr answer × IsErrAnd answer (λ e. e ≡ Memory)
-      → Unwrapped IsTextLength Stands NoOther text answer
-  unwrap_unserved (Ok key) legal r = let no = r.0 in cc
-  unwrap_unserved (Err BadLength) legal r = let no = r.1 in cc
-  unwrap_unserved (Err Integrity) legal r = let no = r.1 in cc
-  unwrap_unserved (Err Memory) legal r = record {
-    bad_length = (λ e. cc, λ bad. absurd (bad legal));
-    unwraps = legal;
-    accepts = λ key h. search rules;
     only_key = tt;
     restores = tt;
     other_form = tt;
@@ -72,3 +40,18 @@ module _ {Z : Type 0} (IsTextLength : ℕ → Type 0) (Stands : List ℕ → Lis
     restores = tt;
     other_form = tt;
   }
+
+-- if the call in the buffer refused a text of a legal length, no key belongs to it, and the call that takes memory reports it
+pub refused : {Z : Type 0} (Stands : List ℕ → List ℕ → Type 0) (Legal : Type 0) {A : Type 0} (key : A → List ℕ) (text : List ℕ) (fault : InPlaceFault)
+    (answer : Result (Vec ℕ Z) UnwrapFault)
+    → Legal → KeyAnswer Legal Stands text key (Err fault) → IsErr answer × IsErrAnd answer (λ e. e ≡ unwrap_fault fault)
+    → (answer ≡ Err Integrity) × NoKey Stands text
+refused Stands Legal key text fault (Ok k) legal a r = let no = r.0 in cc
+refused Stands Legal key text in_place.BadLength (Err e) legal a r = absurd (a legal)
+refused Stands Legal key text in_place.Integrity (Err e) legal a r = (ap Err r.1, a.1)
+
+-- the key that a call returns belongs to the text
+pub answered : {Z : Type 0} (IsTextLength : ℕ → Type 0) (Stands : List ℕ → List ℕ → Type 0) (text : List ℕ) (answer : Result (Vec ℕ Z) UnwrapFault)
+    → UnwrapAnswer IsTextLength Stands text answer → IfOk answer (λ key. Stands key.items text)
+answered IsTextLength Stands text (Ok key) a = a.1
+answered IsTextLength Stands text (Err e) a = tt

@@ -1,18 +1,15 @@
--- The definitions, from words and tapes up to what the calls answer.
-pub mod Words
-pub mod Tape
-pub mod Lengths
-pub mod Plain
-pub mod Padded
-pub mod Registers
-pub mod PaddedRegisters
-pub mod Answer
-pub mod Kind
-pub mod Calls
-pub mod Steps
-pub mod InPlace
-pub mod Faults
-pub mod Forms
-pub mod Found
-pub mod Rewrap
-pub mod KeepForm
+-- The results of the calls, and the definitions that they rest on.
+pub mod Results
+pub use Rattle.key_wrap_core.specs.Calls
+pub use Rattle.key_wrap_core.specs.Forms
+pub use Rattle.key_wrap_core.specs.InPlace
+pub use Rattle.key_wrap_core.specs.KeepForm
+pub use Rattle.key_wrap_core.specs.Kind
+pub use Rattle.key_wrap_core.specs.Lengths
+pub use Rattle.key_wrap_core.specs.NoKey
+pub use Rattle.key_wrap_core.specs.Padded
+pub use Rattle.key_wrap_core.specs.Plain
+pub use Rattle.key_wrap_core.specs.Rewrap
+pub use Rattle.key_wrap_core.specs.Steps
+pub use Rattle.key_wrap_core.specs.Tape
+pub use Rattle.key_wrap_core.specs.Words

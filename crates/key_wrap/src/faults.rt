@@ -1,11 +1,12 @@
-//! Why a call refuses.
+//! Why a call that takes memory refuses.
 
 ghost use Rattle.std.specs.Prelude.{◌≡◌};
 ghost use Rattle.key_wrap.specs.declared.faults.KindFault.TheVariants as kind_faults;
 ghost use Rattle.key_wrap.specs.declared.faults.UnwrapFault.TheVariants as unwrap_faults;
 ghost use Rattle.key_wrap.specs.declared.faults.WrapFault.TheVariants as wrap_faults;
-ghost use Rattle.key_wrap.specs.Faults.{unwrap_fault};
+ghost use Rattle.key_wrap.specs.Results.{unwrap_fault};
 
+use key_wrap_core::InPlaceFault;
 use std::alloc::AllocError;
 use thiserror::Error;
 
@@ -76,25 +77,3 @@ impl From<AllocError> for KindFault {
         KindFault::Memory
     }
 }
-
-/// Why a call in the caller's buffers refuses.
-#[derive(Clone, Copy, Debug, PartialEq, Eq, Error)]
-pub enum InPlaceFault {
-    /// A length is not legal, or a buffer is of another length than the one that goes with it.
-    #[error("bad length")]
-    BadLength,
-    /// What is unwrapped is the wrapping of no key (RFC 3394, section 2.2.3; RFC 5649, section 3).
-    #[error("integrity check failed")]
-    Integrity,
-}
-
-/// The scratch buffer must be 8 bytes shorter than the wrapped key.
-#[derive(Clone, Copy, Debug, PartialEq, Eq, Error)]
-#[error("bad length")]
-pub struct BadScratchLength;
-
-/// The first four bytes of an initial value are A65959A6, as in the padded form (RFC 5649, section
-/// 3).
-#[derive(Clone, Copy, Debug, PartialEq, Eq, Error)]
-#[error("initial value is reserved for the padded form")]
-pub struct ReservedIv;

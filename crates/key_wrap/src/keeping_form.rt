@@ -1,15 +1,14 @@
 //! Rewrapping in whichever form the wrapped key is in, with one allocation.
 
 ghost use Rattle.std.specs.Prelude.{◌≡◌, ◌↔◌, ℕ, List, length, Err, IfOk, IsOkUnless};
-ghost use Rattle.key_wrap.specs.Forms.{StandsIn, by_default};
-ghost use Rattle.key_wrap.specs.Rewrap.{NoOtherForm};
-ghost use Rattle.key_wrap.specs.KeepForm.{FormKept, KeepsForm, KeptAnswer, IsSomeTextLength};
+ghost use Rattle.key_wrap_core.specs.Forms.{StandsIn, by_default};
+ghost use Rattle.key_wrap_core.specs.Rewrap.{NoOtherForm};
+ghost use Rattle.key_wrap_core.specs.KeepForm.{KeepsForm, IsSomeTextLength};
+ghost use Rattle.key_wrap.specs.Results.{FormKept, KeptAnswer};
 
 use crate::faults::UnwrapFault;
-use crate::forms::Form;
-use crate::keeping_form_in_place::rewrap_keeping_form_in_place;
-use crate::lengths::padded_text_length_ok;
 use block_pair::{BlockPair, Meter};
+use key_wrap_core::{Form, padded_text_length_ok, rewrap_keeping_form_in_place};
 use std::alloc::{Allocator, Global};
 
 /// Returns the wrapping under the new pair of the one key whose wrapping under the old pair is

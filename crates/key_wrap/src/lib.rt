@@ -9,56 +9,32 @@
 //! let key = unwrap_padded(rt.alloc(), &pair, &wrapped)?;
 //! ```
 //!
-//! The calls that end in `_in_place` and `_into` take no memory and count their block calls.
+//! The calls that end in `_in_place` and `_into` take no memory and count their block calls. They
+//! come from `key_wrap_core`.
 #![tactic(auto)]
 
-mod agreed_form;
-mod buffers;
-mod checks;
 mod faults;
-mod forms;
-mod found;
-mod in_place;
-mod initial_value;
-mod into;
-mod into_with;
 mod keeping_form;
-mod keeping_form_in_place;
 mod kinds;
-mod lengths;
-mod machine;
 mod padded;
 mod plain;
 mod rewrapping;
-mod rewrapping_in_place;
-mod steps;
-mod unwrap_steps;
-mod unwrapping;
-mod whole_runs;
-mod wrap_steps;
 
-pub use agreed_form::AgreedForm;
-pub use faults::{BadScratchLength, InPlaceFault, KindFault, ReservedIv, UnwrapFault, WrapFault};
-pub use forms::{Form, Kind};
-pub use in_place::{unwrap_in_place, unwrap_padded_in_place, wrap_in_place, wrap_padded_in_place};
-pub use initial_value::InitialValue;
-pub use into::{unwrap_into, unwrap_padded_into, wrap_into, wrap_padded_into};
-pub use into_with::{unwrap_into_with, wrap_into_with};
+pub use faults::{KindFault, UnwrapFault, WrapFault};
 pub use keeping_form::rewrap_keeping_form;
-pub use keeping_form_in_place::rewrap_keeping_form_in_place;
-pub use kinds::{kind, kind_into, kind_into_with};
-pub use lengths::{
-    MAX_KEY, key_length_ok, padded_length_ok, padded_text_length_ok, text_length_ok,
+pub use key_wrap_core::{
+    AgreedForm, BadScratchLength, Form, InPlaceFault, InitialValue, Kind, MAX_KEY, ReservedIv,
+    begin_unwrap, begin_unwrap_padded, begin_wrap, begin_wrap_padded, end_unwrap,
+    end_unwrap_padded, end_wrap, key_length_ok, kind_into, kind_into_with, padded_length_ok,
+    padded_text_length_ok, rewrap_in_place, rewrap_in_place_with, rewrap_keeping_form_in_place,
+    step_unwrap, step_wrap, text_length_ok, unwrap_in_place, unwrap_into, unwrap_into_with,
+    unwrap_padded_in_place, unwrap_padded_into, whole_unwrap_law, whole_wrap_law, wrap_in_place,
+    wrap_into, wrap_into_with, wrap_padded_in_place, wrap_padded_into,
 };
+pub use kinds::kind;
 pub use padded::{unwrap_padded, wrap_padded};
 pub use plain::{unwrap, unwrap_with, wrap, wrap_with};
 pub use rewrapping::rewrap;
-pub use rewrapping_in_place::{rewrap_in_place, rewrap_in_place_with};
-pub use unwrap_steps::{
-    begin_unwrap, begin_unwrap_padded, end_unwrap, end_unwrap_padded, step_unwrap,
-};
-pub use whole_runs::{whole_unwrap_law, whole_wrap_law};
-pub use wrap_steps::{begin_wrap, begin_wrap_padded, end_wrap, step_wrap};
 
 #[cfg(test)]
 mod tests;

@@ -2,16 +2,17 @@
 
 ghost use Rattle.std.specs.Prelude.{◌≡◌, ◌↔◌, ℕ, ◌+◌, ◌*◌, List, length, Ok, Err, IfOk, OnOk};
 ghost use Rattle.std.specs.Prelude.{IsOkUnless};
-ghost use Rattle.key_wrap.specs.Lengths.{IsPaddedKeyLength, IsPaddedTextLength};
-ghost use Rattle.key_wrap.specs.Plain.{Plain, default_iv};
-ghost use Rattle.key_wrap.specs.Padded.{Padded, word_count};
-ghost use Rattle.key_wrap.specs.Answer.{NoPlainKey, UnwrapAnswer, Wrapped, Unwrapped};
+ghost use Rattle.key_wrap_core.specs.Lengths.{IsPaddedKeyLength, IsPaddedTextLength};
+ghost use Rattle.key_wrap_core.specs.Plain.{Plain, default_iv};
+ghost use Rattle.key_wrap_core.specs.Padded.{Padded, word_count};
+ghost use Rattle.key_wrap_core.specs.NoKey.{NoPlainKey};
+ghost use Rattle.key_wrap.specs.Results.{UnwrapAnswer, Wrapped, Unwrapped};
 
-use crate::buffers::{key_of, room_for};
 use crate::faults::{UnwrapFault, WrapFault};
-use crate::in_place::{unwrap_padded_in_place, wrap_padded_in_place};
-use crate::lengths::{padded_length_ok, padded_text_length_ok};
 use block_pair::{BlockPair, Meter};
+use key_wrap_core::{
+    padded_length_ok, padded_text_length_ok, unwrap_padded_into, wrap_padded_into,
+};
 use std::alloc::{Allocator, Global};
 
 /// Returns the padded wrapping of `key` (RFC 5649, section 4.1): 8 bytes more than the key and its
@@ -44,9 +45,9 @@ pub(crate) fn wrap_padded_on<A: Allocator, B: BlockPair>(
     if !padded_length_ok(key.len()) {
         return Err(WrapFault::BadLength);
     }
-    let mut text = room_for(alloc, key)?;
-    // The buffer has the length of the wrapped key, so it is not refused.
-    wrap_padded_in_place(&mut Meter::new(pair), &mut text, key.len()).unwrap();
+    let mut text = vec![in alloc; 0; 8 + key.len().next_multiple_of(8)]?;
+    // The buffer has the length of the wrapped key, so nothing is refused.
+    wrap_padded_into(&mut Meter::new(pair), key, &mut text).unwrap();
     Ok(text)
 }
 
@@ -94,7 +95,9 @@ pub(crate) fn unwrap_padded_on<A: Allocator, B: BlockPair>(
     if !padded_text_length_ok(text.len()) {
         return Err(UnwrapFault::BadLength);
     }
-    let mut buffer = Vec::from_slice(alloc, text)?;
-    let len = unwrap_padded_in_place(&mut Meter::new(pair), &mut buffer)?;
-    Ok(key_of(buffer, len))
+    let mut key = vec![in alloc; 0; text.len() - 8]?;
+    let len = unwrap_padded_into(&mut Meter::new(pair), text, &mut key)?;
+    // Only the zero padding follows the key.
+    key.truncate(len);
+    Ok(key)
 }

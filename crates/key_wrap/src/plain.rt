@@ -2,17 +2,17 @@
 
 ghost use Rattle.std.specs.Prelude.{◌≡◌, ◌↔◌, ℕ, ◌+◌, List, length, Ok, Err, IfOk, OnOk};
 ghost use Rattle.std.specs.Prelude.{IsOkUnless};
-ghost use Rattle.key_wrap.specs.Lengths.{IsPlainKeyLength, IsPlainTextLength};
-ghost use Rattle.key_wrap.specs.Plain.{Plain, default_iv};
-ghost use Rattle.key_wrap.specs.Padded.{Padded};
-ghost use Rattle.key_wrap.specs.Answer.{NoKey, UnwrapAnswer, Wrapped, Unwrapped};
+ghost use Rattle.key_wrap_core.specs.Lengths.{IsPlainKeyLength, IsPlainTextLength};
+ghost use Rattle.key_wrap_core.specs.Plain.{Plain, default_iv};
+ghost use Rattle.key_wrap_core.specs.Padded.{Padded};
+ghost use Rattle.key_wrap_core.specs.NoKey.{NoKey};
+ghost use Rattle.key_wrap.specs.Results.{UnwrapAnswer, Wrapped, Unwrapped};
 
-use crate::buffers::{key_of, room_for};
 use crate::faults::{UnwrapFault, WrapFault};
-use crate::in_place::{unwrap_buffer, wrap_buffer};
-use crate::initial_value::InitialValue;
-use crate::lengths::{key_length_ok, text_length_ok};
 use block_pair::{BlockPair, Meter};
+use key_wrap_core::{
+    InitialValue, key_length_ok, text_length_ok, unwrap_into_with, wrap_into_with,
+};
 use std::alloc::{Allocator, Global};
 
 /// Returns the plain wrapping of `key` (RFC 3394, section 2.2.1): 8 bytes more than the key.
@@ -68,8 +68,9 @@ pub(crate) fn wrap_on<A: Allocator, B: BlockPair>(
     if !key_length_ok(key.len()) {
         return Err(WrapFault::BadLength);
     }
-    let mut text = room_for(alloc, key)?;
-    wrap_buffer(&mut Meter::new(pair), iv.word(), &mut text);
+    let mut text = vec![in alloc; 0; key.len() + 8]?;
+    // The buffer has the length of the wrapped key, so nothing is refused.
+    wrap_into_with(&mut Meter::new(pair), iv, key, &mut text).unwrap();
     Ok(text)
 }
 
@@ -149,7 +150,7 @@ pub(crate) fn unwrap_on<A: Allocator, B: BlockPair>(
     if !text_length_ok(text.len()) {
         return Err(UnwrapFault::BadLength);
     }
-    let mut buffer = Vec::from_slice(alloc, text)?;
-    unwrap_buffer(&mut Meter::new(pair), iv.word(), &mut buffer)?;
-    Ok(key_of(buffer, text.len() - 8))
+    let mut key = vec![in alloc; 0; text.len() - 8]?;
+    unwrap_into_with(&mut Meter::new(pair), iv, text, &mut key)?;
+    Ok(key)
 }

@@ -2,16 +2,13 @@
 
 ghost use Rattle.std.specs.Prelude.{◌≡◌, ◌↔◌, ◌⊎◌, ℕ, List, length, Err, IfOk};
 ghost use Rattle.std.specs.Prelude.{IsOkUnless, IsTrue};
-ghost use Rattle.key_wrap.specs.Forms.{StandsIn, IsKeyLength, IsTextLength, by_default};
-ghost use Rattle.key_wrap.specs.Rewrap.{AreWrappings, HasBadKey, NoOtherForm, RewrapAnswer};
-ghost use Rattle.key_wrap.specs.Rewrap.{Rewrapped};
+ghost use Rattle.key_wrap_core.specs.Forms.{StandsIn, IsKeyLength, IsTextLength, by_default};
+ghost use Rattle.key_wrap_core.specs.Rewrap.{AreWrappings, HasBadKey, NoOtherForm};
+ghost use Rattle.key_wrap.specs.Results.{RewrapAnswer, Rewrapped};
 
-use crate::agreed_form::AgreedForm;
 use crate::faults::UnwrapFault;
-use crate::forms::Form;
-use crate::lengths::is_text_length;
-use crate::rewrapping_in_place::rewrap_in_place_with;
 use block_pair::{BlockPair, Meter};
+use key_wrap_core::{Form, padded_text_length_ok, rewrap_in_place, text_length_ok};
 use std::alloc::{Allocator, Global};
 
 /// Returns the wrapping, in the new form under the new pair, of the one key whose wrapping in the
@@ -81,13 +78,21 @@ pub(crate) fn rewrap_on<A: Allocator, O: BlockPair, N: BlockPair>(
     ensures { Rewrapped (by_default old_form) (O.encrypted old.now) (by_default new_form)
         (N.encrypted new.now) text.now result }
 {
-    let from = AgreedForm::by_default(old_form);
-    let to = AgreedForm::by_default(new_form);
-    if !is_text_length(&from, text.len()) {
+    if !is_text_length(old_form, text.len()) {
         return Err(UnwrapFault::BadLength);
     }
     let mut buffer = Vec::from_slice(alloc, text)?;
     let (mut unwraps, mut wraps) = (Meter::new(old), Meter::new(new));
-    rewrap_in_place_with(&mut unwraps, &from, &mut wraps, &to, &mut buffer)?;
+    rewrap_in_place(&mut unwraps, old_form, &mut wraps, new_form, &mut buffer)?;
     Ok(buffer)
+}
+
+// Whether `len` bytes can be a wrapping in this form.
+fn is_text_length(form: Form, len: usize) -> bool
+    ensures { IsTrue result ↔ IsTextLength form len }
+{
+    match form {
+        Form::Plain => text_length_ok(len),
+        Form::Padded => padded_text_length_ok(len),
+    }
 }

@@ -1,7 +1,7 @@
 //! Reads the arguments into a `Command`.
 
 use crate::command::{Command, LineOptions, Run, agreed_form};
-use key_wrap::{Form, InitialValue};
+use key_wrap_core::{Form, InitialValue};
 use keywrap_args::{Args, Subcommand, parse};
 use keywrap_cli::{
     Direction, IvFault, Job, Notation, Operation, ProgramFault, RewrapForms, Rewrapping, Task,

@@ -1,6 +1,6 @@
 //! What a command line asks for.
 
-use key_wrap::{AgreedForm, Form, InitialValue};
+use key_wrap_core::{AgreedForm, Form, InitialValue};
 use keywrap_cli::{Direction, Operation};
 use keywrap_io::FileRole;
 

@@ -3,8 +3,8 @@
 use crate::command::{Run, agreed_form};
 use key_files::{FileFault, MAX_FILE};
 use key_lines::LineFault;
-use key_wrap::AgreedForm::{self, Padded, Plain};
-use key_wrap::{InPlaceFault, InitialValue, MAX_KEY, padded_text_length_ok};
+use key_wrap_core::AgreedForm::{self, Padded, Plain};
+use key_wrap_core::{InPlaceFault, InitialValue, MAX_KEY, padded_text_length_ok};
 use keywrap_args::Escaped;
 use keywrap_cli::{Job, JobFault, Notation, Operation, ProgramFault, RewrapForms};
 use keywrap_io::{FileRole, Inspected, Inspection, Reason};

@@ -3,7 +3,7 @@
 use crate::command::Run;
 use crate::prompt::is_typed;
 use key_lines::{RefusalLog, RefusedLine, RunFault, RunSummary};
-use key_wrap::InPlaceFault;
+use key_wrap_core::InPlaceFault;
 use keywrap_cli::{Job, Operation, Outcome, ProgramFault, statuses};
 use keywrap_io::{
     CountingReader, FileRole, InputSource, Inspected, LineCounts, Progress, Streams,

@@ -2,17 +2,17 @@
 
 ghost use Rattle.std.specs.Prelude.{◌≡◌, ◌↔◌, ◌⊎◌, ℕ, ◌+◌, ◌≤◌, ◌++◌, List, length, take, All};
 ghost use Rattle.block_pair.specs.Pair.{AreInverse};
-ghost use Rattle.key_wrap.specs.Lengths.{IsPlainKeyLength, IsPlainTextLength, IsPaddedTextLength};
-ghost use Rattle.key_wrap.specs.Plain.{Plain};
-ghost use Rattle.key_wrap.specs.Padded.{Padded, padded};
-ghost use Rattle.key_wrap.specs.Answer.{NoKey, NoPlainKey};
-ghost use Rattle.key_wrap.specs.Calls.{block_calls};
-ghost use Rattle.key_wrap.specs.Steps.{UnwrapState};
+ghost use Rattle.key_wrap_core.specs.Lengths.{IsPlainKeyLength, IsPlainTextLength, IsPaddedTextLength};
+ghost use Rattle.key_wrap_core.specs.Plain.{Plain};
+ghost use Rattle.key_wrap_core.specs.Padded.{Padded, padded};
+ghost use Rattle.key_wrap_core.specs.NoKey.{NoKey, NoPlainKey};
+ghost use Rattle.key_wrap_core.specs.Calls.{block_calls};
+ghost use Rattle.key_wrap_core.specs.Steps.{UnwrapState};
 ghost use Rattle.keywrap_calls.specs.Status.{IsDone, IsBadIv, IsBadLength, IsIntegrity};
 ghost use Rattle.keywrap_calls.specs.Answers.{IsUnwrapping};
 ghost use Rattle.keywrap_calls.specs.AgreedValue.{IsIv, iv_word};
 
-use key_wrap::{
+use key_wrap_core::{
     InPlaceFault, begin_unwrap, begin_unwrap_padded, end_unwrap, end_unwrap_padded, step_unwrap,
 };
 use keywrap_calls::{BAD_IV, BAD_LENGTH, DONE, INTEGRITY, initial_value};

@@ -1,16 +1,16 @@
 //! Wrapping step by step, for an AES outside the library.
 
 ghost use Rattle.std.specs.Prelude.{◌≡◌, ◌↔◌, ◌⊎◌, ℕ, ◌+◌, ◌<◌, ◌++◌, List, length, take};
-ghost use Rattle.key_wrap.specs.Lengths.{IsPlainKeyLength, IsPaddedKeyLength, IsPaddedTextLength};
-ghost use Rattle.key_wrap.specs.Plain.{Plain};
-ghost use Rattle.key_wrap.specs.Padded.{Padded, aiv, padded};
-ghost use Rattle.key_wrap.specs.InPlace.{IsPaddedRoom};
-ghost use Rattle.key_wrap.specs.Calls.{block_calls};
-ghost use Rattle.key_wrap.specs.Steps.{WrapState};
+ghost use Rattle.key_wrap_core.specs.Lengths.{IsPlainKeyLength, IsPaddedKeyLength, IsPaddedTextLength};
+ghost use Rattle.key_wrap_core.specs.Plain.{Plain};
+ghost use Rattle.key_wrap_core.specs.Padded.{Padded, aiv, padded};
+ghost use Rattle.key_wrap_core.specs.InPlace.{IsPaddedRoom};
+ghost use Rattle.key_wrap_core.specs.Calls.{block_calls};
+ghost use Rattle.key_wrap_core.specs.Steps.{WrapState};
 ghost use Rattle.keywrap_calls.specs.Status.{IsDone, IsBadIv, IsBadLength};
 ghost use Rattle.keywrap_calls.specs.AgreedValue.{IsIv, iv_word};
 
-use key_wrap::{begin_wrap, begin_wrap_padded, end_wrap, step_wrap};
+use key_wrap_core::{begin_wrap, begin_wrap_padded, end_wrap, step_wrap};
 use keywrap_calls::{BAD_IV, BAD_LENGTH, DONE, initial_value};
 
 /// Begins the plain wrapping of the key in `registers` under the initial value `iv` (RFC 3394,

@@ -1,4 +1,4 @@
--- What a call promises under a KEK that is not refused, from what key_wrap ensures of its outcome.
+-- What a call promises under a KEK that is not refused, from what key_wrap_core ensures of its outcome.
 use Rattle.std.proofs.Common.{◌≡◌, ◌↔◌, ℕ, List, length, refl, All, Result, Ok, Err, rules, subst, ◌∙◌}
 use lib.IntN.{ℤ}
 use mir.Syntax.{w32}
@@ -6,10 +6,10 @@ use mir.Val.{SFits, of_z, to_z}
 use Rattle.std.proofs.lemmas.Int.{to_z-of_z}
 use Rattle.std.specs.Prelude.{IfOk, OnOk, IsOkUnless}
 use Rattle.fips197.specs.KeyExpansion.{IsKekLength}
-use Rattle.key_wrap.specs.declared.faults.InPlaceFault.{InPlaceFault}
-use Rattle.key_wrap.specs.declared.faults.InPlaceFault.TheVariants.{BadLength, Integrity}
-use Rattle.key_wrap.specs.Answer.{NoKey}
-use Rattle.key_wrap.specs.InPlace.{KeyAnswer}
+use Rattle.key_wrap_core.specs.declared.faults.InPlaceFault.{InPlaceFault}
+use Rattle.key_wrap_core.specs.declared.faults.InPlaceFault.TheVariants.{BadLength, Integrity}
+use Rattle.key_wrap_core.specs.NoKey.{NoKey}
+use Rattle.key_wrap_core.specs.InPlace.{KeyAnswer}
 use Rattle.keywrap_calls.specs.Status.{outcome_status}
 use Rattle.keywrap_calls.specs.Calls.{IsWrapCall, IsUnwrapCall, IsCallWith}
 use Rattle.keywrap_calls.specs.AgreedValue.{IsIv}

@@ -11,7 +11,7 @@ use Rattle.std.proofs.lemmas.Slice.Eq.{slice_eq-Decides}
 use Rattle.std.specs.Cmp.Lexicographic.{pointwise}
 use Rattle.std.specs.Prelude.{Decides}
 use Rattle.fips197.specs.KeyExpansion.{IsKekLength}
-use Rattle.key_wrap.specs.InPlace.{IsPaddedRoom, ArePaddedLengths, ArePlainLengths}
+use Rattle.key_wrap_core.specs.InPlace.{IsPaddedRoom, ArePaddedLengths, ArePlainLengths}
 use Rattle.keywrap_calls.specs.Status.{IsDone, IsIntegrity}
 use Rattle.keywrap_calls.specs.Calls.{IsWrapCall, IsUnwrapCall}
 

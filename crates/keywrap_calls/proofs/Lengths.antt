@@ -2,13 +2,13 @@
 use Rattle.std.proofs.Common.{ℕ, List, length, drop, arith, length-drop, ◌+◌, ◌≤◌, ◌%◌, ◌≡◌}
 use Rattle.std.proofs.Math.Decide.{dec_le}
 use Rattle.std.proofs.Math.Logic.{by_cases}
-use Rattle.key_wrap.specs.declared.lengths.TheConstants.{MAX_KEY}
-use Rattle.key_wrap.specs.declared.forms.Form.{Form}
-use Rattle.key_wrap.specs.declared.forms.Form.TheVariants as forms
-use Rattle.key_wrap.specs.Forms.{IsTextLength}
-use Rattle.key_wrap.specs.Lengths.{IsPlainKeyLength, IsPlainTextLength, IsPaddedTextLength}
-use Rattle.key_wrap.specs.InPlace.{IsPaddedRoom, ArePlainLengths}
-use Rattle.key_wrap.specs.KeepForm.{IsSomeTextLength}
+use Rattle.key_wrap_core.specs.declared.lengths.TheConstants.{MAX_KEY}
+use Rattle.key_wrap_core.specs.declared.forms.Form.{Form}
+use Rattle.key_wrap_core.specs.declared.forms.Form.TheVariants as forms
+use Rattle.key_wrap_core.specs.Forms.{IsTextLength}
+use Rattle.key_wrap_core.specs.Lengths.{IsPlainKeyLength, IsPlainTextLength, IsPaddedTextLength}
+use Rattle.key_wrap_core.specs.InPlace.{IsPaddedRoom, ArePlainLengths}
+use Rattle.key_wrap_core.specs.KeepForm.{IsSomeTextLength}
 use Rattle.keywrap_calls.specs.Kinds.{HasScratch}
 
 -- a buffer whose key has a legal length after the first word

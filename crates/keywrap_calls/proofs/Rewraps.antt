@@ -2,8 +2,8 @@
 use Rattle.std.proofs.Common.{◌≡◌, ◌↔◌, ◌⊎◌, ℕ, List, length, refl, All, Result, Ok, Err, rules}
 use Rattle.std.specs.Prelude.{IsOk, IsErr, OnOk}
 use Rattle.fips197.specs.KeyExpansion.{IsKekLength}
-use Rattle.key_wrap.specs.declared.faults.InPlaceFault.{InPlaceFault}
-use Rattle.key_wrap.specs.declared.faults.InPlaceFault.TheVariants.{BadLength, Integrity}
+use Rattle.key_wrap_core.specs.declared.faults.InPlaceFault.{InPlaceFault}
+use Rattle.key_wrap_core.specs.declared.faults.InPlaceFault.TheVariants.{BadLength, Integrity}
 use Rattle.keywrap_calls.specs.declared.rewrapping.Asked.{Asked}
 use Rattle.keywrap_calls.specs.declared.rewrapping.Asked.TheVariants.{Between, Keep}
 use Rattle.keywrap_calls.specs.Status.{outcome_status}

@@ -1,7 +1,7 @@
 -- The initial value that both ends agreed on, as the bytes that a caller gives.
 use Rattle.std.specs.Prelude.{◌≡◌, ℕ, List, length}
 use Rattle.byteorder.specs.Endian.{big_number}
-use Rattle.key_wrap.specs.Plain.{IsReserved}
+use Rattle.key_wrap_core.specs.Plain.{IsReserved}
 
 -- the word of the eight bytes, the most significant first
 unfoldable pub iv_word : List ℕ → ℕ

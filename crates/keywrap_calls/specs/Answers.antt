@@ -1,10 +1,10 @@
 -- The buffers after a successful call, in the form with this relation of keys and texts.
 use Rattle.std.specs.Prelude.{◌≡◌, ◌↔◌, ℕ, List}
-use Rattle.key_wrap.specs.declared.forms.Form.{Form}
-use Rattle.key_wrap.specs.Answer.{NoKey}
-use Rattle.key_wrap.specs.Forms.{StandsIn, by_default}
-use Rattle.key_wrap.specs.Rewrap.{AreWrappings}
-use Rattle.key_wrap.specs.KeepForm.{KeepsForm}
+use Rattle.key_wrap_core.specs.declared.forms.Form.{Form}
+use Rattle.key_wrap_core.specs.NoKey.{NoKey}
+use Rattle.key_wrap_core.specs.Forms.{StandsIn, by_default}
+use Rattle.key_wrap_core.specs.Rewrap.{AreWrappings}
+use Rattle.key_wrap_core.specs.KeepForm.{KeepsForm}
 
 -- the text wraps the key, and no other text does
 pub record IsWrapping (Stands : List ℕ → List ℕ → Type 0) (key text : List ℕ) : Type 0 where

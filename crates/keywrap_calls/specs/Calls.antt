@@ -2,11 +2,11 @@
 -- the block permutation of the KEK.
 use Rattle.std.specs.Prelude.{◌≡◌, ◌↔◌, ◌++◌, ℕ, ℤ, List, length, drop, take, All}
 use Rattle.fips197.specs.KeyExpansion.{IsKekLength}
-use Rattle.key_wrap.specs.Lengths.{IsPlainTextLength, IsPaddedTextLength}
-use Rattle.key_wrap.specs.Plain.{Plain, default_iv}
-use Rattle.key_wrap.specs.Padded.{Padded, padded}
-use Rattle.key_wrap.specs.Answer.{NoKey, NoPlainKey}
-use Rattle.key_wrap.specs.InPlace.{IsPaddedRoom, ArePlainLengths, ArePaddedLengths, key_in}
+use Rattle.key_wrap_core.specs.Lengths.{IsPlainTextLength, IsPaddedTextLength}
+use Rattle.key_wrap_core.specs.Plain.{Plain, default_iv}
+use Rattle.key_wrap_core.specs.Padded.{Padded, padded}
+use Rattle.key_wrap_core.specs.NoKey.{NoKey, NoPlainKey}
+use Rattle.key_wrap_core.specs.InPlace.{IsPaddedRoom, ArePlainLengths, ArePaddedLengths, key_in}
 use Rattle.keywrap_calls.specs.Status.{IsDone, IsBadIv, IsBadKek, IsBadLength, IsIntegrity, IsWrapStatus, IsUnwrapStatus}
 use Rattle.keywrap_calls.specs.Answers.{IsWrapping, IsUnwrapping}
 use Rattle.keywrap_calls.specs.AgreedValue.{IsIv, iv_word}

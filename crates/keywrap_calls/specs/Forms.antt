@@ -1,11 +1,11 @@
 -- What the flags of a rewrapping request, and the result of such a rewrapping.
 use Rattle.std.specs.Prelude.{◌≡◌, ◌↔◌, ◌⊎◌, ℕ, ℤ, List, length, All, ◌<◌, ◌/◌, ◌%◌, zero, suc}
 use Rattle.fips197.specs.KeyExpansion.{IsKekLength}
-use Rattle.key_wrap.specs.declared.forms.Form.{Form}
-use Rattle.key_wrap.specs.declared.forms.Form.TheVariants.{Plain, Padded}
-use Rattle.key_wrap.specs.Forms.{StandsIn, IsKeyLength, IsTextLength, by_default}
-use Rattle.key_wrap.specs.Rewrap as rewrap
-use Rattle.key_wrap.specs.KeepForm.{HasNoForm, IsSomeTextLength}
+use Rattle.key_wrap_core.specs.declared.forms.Form.{Form}
+use Rattle.key_wrap_core.specs.declared.forms.Form.TheVariants.{Plain, Padded}
+use Rattle.key_wrap_core.specs.Forms.{StandsIn, IsKeyLength, IsTextLength, by_default}
+use Rattle.key_wrap_core.specs.Rewrap as rewrap
+use Rattle.key_wrap_core.specs.KeepForm.{HasNoForm, IsSomeTextLength}
 use Rattle.keywrap_calls.specs.declared.rewrapping.Asked.{Asked}
 use Rattle.keywrap_calls.specs.declared.rewrapping.Asked.TheVariants.{Between, Keep}
 use Rattle.keywrap_calls.specs.Status.{IsDone, IsBadKek, IsBadLength, IsIntegrity, IsUnwrapStatus}

@@ -1,13 +1,13 @@
 -- The promise about the form in which a key was wrapped.
 use Rattle.std.specs.Prelude.{◌≡◌, ◌↔◌, ◌⊎◌, ◌+◌, ℕ, zero, suc, ℤ, List, length, All}
 use Rattle.fips197.specs.KeyExpansion.{IsKekLength}
-use Rattle.key_wrap.specs.declared.forms.Kind.{Kind}
-use Rattle.key_wrap.specs.declared.forms.Kind.TheVariants.{Plain, Padded}
-use Rattle.key_wrap.specs.Lengths.{IsPaddedTextLength}
-use Rattle.key_wrap.specs.Plain as plain_form
-use Rattle.key_wrap.specs.Padded as padded_form
-use Rattle.key_wrap.specs.Answer.{NoKey}
-use Rattle.key_wrap.specs.Kind.{IsKindOf, NoOtherKey}
+use Rattle.key_wrap_core.specs.declared.forms.Kind.{Kind}
+use Rattle.key_wrap_core.specs.declared.forms.Kind.TheVariants.{Plain, Padded}
+use Rattle.key_wrap_core.specs.Lengths.{IsPaddedTextLength}
+use Rattle.key_wrap_core.specs.Plain as plain_form
+use Rattle.key_wrap_core.specs.Padded as padded_form
+use Rattle.key_wrap_core.specs.NoKey.{NoKey}
+use Rattle.key_wrap_core.specs.Kind.{IsKindOf, NoOtherKey}
 use Rattle.keywrap_calls.specs.Status.{IsDone, IsBadKek, IsBadLength, IsIntegrity, IsUnwrapStatus}
 
 -- the scratch buffer is 8 bytes shorter than the wrapped key, if the length of the wrapped key is legal in a form

@@ -3,9 +3,9 @@ use Rattle.std.specs.Prelude.{⊤, ℕ, List, length}
 use Rattle.std.specs.List.{AllByRecursion}
 use Rattle.fips197.specs.Cipher.{cipher}
 use Rattle.fips197.specs.KeyExpansion.{IsKekLength}
-use Rattle.key_wrap.specs.Answer.{NoKey}
-use Rattle.key_wrap.specs.Padded.{Padded}
-use Rattle.key_wrap.specs.Plain.{Plain, default_iv}
+use Rattle.key_wrap_core.specs.NoKey.{NoKey}
+use Rattle.key_wrap_core.specs.Padded.{Padded}
+use Rattle.key_wrap_core.specs.Plain.{Plain, default_iv}
 use Rattle.test_vectors.specs.Published.{published_vectors, damaged, damaged_kek}
 use Rattle.test_vectors.specs.Vectors.{TestVector}
 use Rattle.test_vectors.specs.declared.table.Algorithm.{Algorithm}

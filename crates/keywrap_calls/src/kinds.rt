@@ -6,7 +6,7 @@ ghost use Rattle.keywrap_calls.specs.Kinds.{FindsKind};
 use crate::status::{BAD_KEK, BAD_LENGTH, DONE, INTEGRITY};
 use block_pair::Meter;
 use fips197::KeyInit;
-use key_wrap::{Kind, kind_into};
+use key_wrap_core::{Kind, kind_into};
 
 /// Finds the form in which `text` is a wrapping under `kek`, and the length of its key: `*padded`
 /// is 0 in the plain form, under the default initial value, and 1 in the padded form (RFC 3394, RFC

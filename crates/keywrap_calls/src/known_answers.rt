@@ -4,9 +4,9 @@ ghost use Rattle.std.specs.Prelude.{◌↔◌, ◌⊎◌, ◌≤◌, [], length,
 ghost use Rattle.std.specs.List.{AllByRecursion};
 ghost use Rattle.fips197.specs.Cipher.{cipher};
 ghost use Rattle.fips197.specs.KeyExpansion.{IsKekLength};
-ghost use Rattle.key_wrap.specs.Answer.{NoKey};
-ghost use Rattle.key_wrap.specs.Padded.{Padded};
-ghost use Rattle.key_wrap.specs.Plain.{Plain, default_iv};
+ghost use Rattle.key_wrap_core.specs.NoKey.{NoKey};
+ghost use Rattle.key_wrap_core.specs.Padded.{Padded};
+ghost use Rattle.key_wrap_core.specs.Plain.{Plain, default_iv};
 ghost use Rattle.keywrap_calls.specs.Calls.{Wraps, Unwraps, WrapsPadded, UnwrapsPadded};
 ghost use Rattle.keywrap_calls.specs.Calls.{IsPaddedKey};
 ghost use Rattle.keywrap_calls.specs.SelfTest.{IsAllRight, IsRight};

@@ -7,7 +7,7 @@ ghost use Rattle.keywrap_calls.specs.Calls.{WrapsPadded, UnwrapsPadded, IsPadded
 use crate::status::{BAD_KEK, DONE, fault_status, status_of};
 use block_pair::Meter;
 use fips197::KeyInit;
-use key_wrap::{unwrap_padded_into, wrap_padded_into};
+use key_wrap_core::{unwrap_padded_into, wrap_padded_into};
 
 /// Wraps `key` under `kek` in the padded form, into `text` (RFC 5649, section 4.1).
 pub fn wrap_padded<A: KeyInit>(room: A::Room, kek: &[u8], key: &[u8], text: &mut [u8]) -> i32

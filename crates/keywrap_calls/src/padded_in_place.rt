@@ -2,7 +2,7 @@
 
 ghost use Rattle.std.specs.Prelude.{replicate};
 ghost use Rattle.fips197.specs.Cipher.{cipher};
-ghost use Rattle.key_wrap.specs.InPlace.{key_in};
+ghost use Rattle.key_wrap_core.specs.InPlace.{key_in};
 ghost use Rattle.keywrap_calls.specs.Calls.{WrapsPaddedInPlace, UnwrapsPaddedInPlace, IsPaddedKey};
 
 use crate::status::{BAD_KEK, DONE, fault_status, status_of};
@@ -22,7 +22,7 @@ pub fn wrap_padded_in_place<A: KeyInit>(
     let Ok(aes) = A::new_in(kek, room) else {
         return BAD_KEK;
     };
-    status_of(key_wrap::wrap_padded_in_place(&mut Meter::new(&aes), buffer, key_len))
+    status_of(key_wrap_core::wrap_padded_in_place(&mut Meter::new(&aes), buffer, key_len))
 }
 
 /// Unwraps the padded wrapping in `buffer`, which becomes 8 zero bytes, its key under `kek`, of
@@ -43,7 +43,7 @@ pub fn unwrap_padded_in_place<A: KeyInit>(
     let Ok(aes) = A::new_in(kek, room) else {
         return BAD_KEK;
     };
-    match key_wrap::unwrap_padded_in_place(&mut Meter::new(&aes), buffer) {
+    match key_wrap_core::unwrap_padded_in_place(&mut Meter::new(&aes), buffer) {
         Ok(m) => {
             *key_len = m;
             DONE

@@ -6,7 +6,7 @@ ghost use Rattle.keywrap_calls.specs.Calls.{Wraps, Unwraps};
 use crate::status::{BAD_KEK, status_of};
 use block_pair::Meter;
 use fips197::KeyInit;
-use key_wrap::{unwrap_into, wrap_into};
+use key_wrap_core::{unwrap_into, wrap_into};
 
 /// Wraps `key` under `kek` in the plain form, into `text` (RFC 3394, section 2.2.1).
 pub fn wrap<A: KeyInit>(room: A::Room, kek: &[u8], key: &[u8], text: &mut [u8]) -> i32

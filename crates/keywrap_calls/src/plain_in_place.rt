@@ -17,7 +17,7 @@ pub fn wrap_in_place<A: KeyInit>(room: A::Room, kek: &[u8], buffer: &mut [u8]) -
     let Ok(aes) = A::new_in(kek, room) else {
         return BAD_KEK;
     };
-    status_of(key_wrap::wrap_in_place(&mut Meter::new(&aes), buffer))
+    status_of(key_wrap_core::wrap_in_place(&mut Meter::new(&aes), buffer))
 }
 
 /// Unwraps the plain wrapping in `buffer`, which becomes 8 zero bytes and its key under `kek` (RFC
@@ -29,5 +29,5 @@ pub fn unwrap_in_place<A: KeyInit>(room: A::Room, kek: &[u8], buffer: &mut [u8])
     let Ok(aes) = A::new_in(kek, room) else {
         return BAD_KEK;
     };
-    status_of(key_wrap::unwrap_in_place(&mut Meter::new(&aes), buffer))
+    status_of(key_wrap_core::unwrap_in_place(&mut Meter::new(&aes), buffer))
 }

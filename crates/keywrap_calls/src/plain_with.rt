@@ -8,7 +8,7 @@ ghost use Rattle.keywrap_calls.specs.Calls.{WrapsWith, UnwrapsWith};
 use crate::status::{BAD_IV, BAD_KEK, status_of};
 use block_pair::Meter;
 use fips197::KeyInit;
-use key_wrap::{InitialValue, unwrap_into_with, wrap_into_with};
+use key_wrap_core::{InitialValue, unwrap_into_with, wrap_into_with};
 
 /// Wraps `key` under `kek` and the initial value `iv` in the plain form, into `text` (RFC 3394,
 /// sections 2.2.1 and 2.2.3.2).

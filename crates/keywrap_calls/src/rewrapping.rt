@@ -9,7 +9,7 @@ ghost use Rattle.keywrap_calls.specs.Forms.{HasNoKey, HasGoodKey, Rewraps, Rewra
 use crate::status::{BAD_KEK, status_of};
 use block_pair::{BlockPair, Meter};
 use fips197::KeyInit;
-use key_wrap::{Form, InPlaceFault, rewrap_keeping_form_in_place};
+use key_wrap_core::{Form, InPlaceFault, rewrap_keeping_form_in_place};
 
 // The flag of a wrapped key that is given in the padded form.
 const OLD_PADDED: u32 = 1;
@@ -79,7 +79,7 @@ fn rewrap_as<O: BlockPair, N: BlockPair>(
         → HasGoodKey (asked flags) (O.encrypted old.old.pair) buf.old → IsOk result }
 {
     match asked_of(flags) {
-        Some(Asked::Between(from, to)) => key_wrap::rewrap_in_place(old, from, new, to, buf),
+        Some(Asked::Between(from, to)) => key_wrap_core::rewrap_in_place(old, from, new, to, buf),
         Some(Asked::Keep) => rewrap_keeping_form_in_place(old, new, buf),
         None => Err(InPlaceFault::BadLength),
     }

@@ -3,7 +3,7 @@
 ghost use Rattle.std.specs.Prelude.{◌≡◌};
 ghost use Rattle.keywrap_calls.specs.Status.{fault_status, outcome_status};
 
-use key_wrap::InPlaceFault;
+use key_wrap_core::InPlaceFault;
 
 /// Done.
 pub const DONE: i32 = 0;

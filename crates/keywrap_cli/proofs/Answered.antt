@@ -4,8 +4,8 @@ use Rattle.std.proofs.KnownBytes.{Keeps-refl}
 use Rattle.std.specs.declared.alloc.Global.{Global}
 use Rattle.key_lines.specs.Answers.{Answer}
 use Rattle.key_lines.specs.declared.job.Mark.TheVariants.{Unmarked}
-use Rattle.key_wrap.specs.declared.faults.InPlaceFault.{InPlaceFault}
-use Rattle.key_wrap.specs.declared.faults.InPlaceFault.TheVariants.{BadLength, Integrity}
+use Rattle.key_wrap_core.specs.declared.faults.InPlaceFault.{InPlaceFault}
+use Rattle.key_wrap_core.specs.declared.faults.InPlaceFault.TheVariants.{BadLength, Integrity}
 use Rattle.keywrap_cli.specs.Answers.{AnswerOfJob, HasMark, MakesConversion, job_of}
 use Rattle.keywrap_cli.specs.Engine.{RunsInput, WritesAnswer, WritesFrom, WritesOutput, job_fault_of}
 use Rattle.keywrap_cli.specs.Files.{printed}

@@ -2,12 +2,12 @@
 use Rattle.std.proofs.Common.{◌≡◌, ◌↔◌, ℕ, List, length, Result, Ok, Err, OnOk, refl}
 use Rattle.std.specs.Prelude.{IsOkUnless}
 use Rattle.key_lines.specs.Answers.{made}
-use Rattle.key_wrap.specs.Forms.{IsTextLength, Stands, with_value}
-use Rattle.key_wrap.specs.InPlace.{KeyAnswer}
-use Rattle.key_wrap.specs.Rewrap.{NoOtherForm}
-use Rattle.key_wrap.specs.declared.faults.InPlaceFault.{InPlaceFault}
-use Rattle.key_wrap.specs.declared.faults.InPlaceFault.TheVariants.{BadLength, Integrity}
-use Rattle.key_wrap.specs.declared.forms.Form.{Form}
+use Rattle.key_wrap_core.specs.Forms.{IsTextLength, Stands, with_value}
+use Rattle.key_wrap_core.specs.InPlace.{KeyAnswer}
+use Rattle.key_wrap_core.specs.Rewrap.{NoOtherForm}
+use Rattle.key_wrap_core.specs.declared.faults.InPlaceFault.{InPlaceFault}
+use Rattle.key_wrap_core.specs.declared.faults.InPlaceFault.TheVariants.{BadLength, Integrity}
+use Rattle.key_wrap_core.specs.declared.forms.Form.{Form}
 use Rattle.keywrap_cli.specs.Answers.{MakesConversion}
 use Rattle.keywrap_cli.specs.Conversion.{IsInputLength}
 use Rattle.keywrap_cli.specs.declared.convert.Direction.TheVariants.{Wrap, Unwrap}

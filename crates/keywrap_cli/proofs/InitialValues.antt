@@ -14,7 +14,7 @@ use Rattle.hex.specs.Hex.{decode_pairs, decode_sized, hex_digit_value, is_hex_di
 use Rattle.hex.specs.declared.error.FromHexError.{FromHexError}
 use Rattle.hex.proofs.HexLemmas.{IsOk-decode_sized, IsOk-written, decode_pairs-ok}
 use Rattle.hex.proofs.Pairs.{cons_byte, decode_pairs-ok_pair, decode_sized-pairs}
-use Rattle.key_wrap.specs.Plain.{IsReserved}
+use Rattle.key_wrap_core.specs.Plain.{IsReserved}
 use Rattle.keywrap_cli.specs.InitialValue.{DenotesIv, IsSixteenDigits}
 use Rattle.keywrap_cli.specs.declared.initial_value.IvFault.{IvFault}
 use Rattle.keywrap_cli.specs.declared.initial_value.IvFault.TheVariants.{NotSixteenDigits, Reserved}

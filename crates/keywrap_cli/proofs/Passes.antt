@@ -1,9 +1,9 @@
 -- What passes a rewrapping, and that what it answers is answered as it is.
 use Rattle.std.proofs.Common.{◌≡◌, ℕ, List, length, Err, inl, inr, refl, sym, subst}
-use Rattle.key_wrap.specs.declared.faults.InPlaceFault.{InPlaceFault}
-use Rattle.key_wrap.specs.declared.faults.InPlaceFault.TheVariants.{BadLength, Integrity}
-use Rattle.key_wrap.specs.declared.agreed_form.AgreedForm.{AgreedForm}
-use Rattle.key_wrap.specs.Forms.{by_default}
+use Rattle.key_wrap_core.specs.declared.faults.InPlaceFault.{InPlaceFault}
+use Rattle.key_wrap_core.specs.declared.faults.InPlaceFault.TheVariants.{BadLength, Integrity}
+use Rattle.key_wrap_core.specs.declared.agreed_form.AgreedForm.{AgreedForm}
+use Rattle.key_wrap_core.specs.Forms.{by_default}
 use Rattle.keywrap_cli.specs.Forms.{IsNoOld, IsOldLength, IsPassed, IsRewrapped, IsRewrappedAs, IsRewrappedOrPassed, Rewraps, to_itself}
 use Rattle.keywrap_cli.specs.declared.rewrapping.RewrapForms.{RewrapForms}
 use Rattle.keywrap_cli.specs.declared.rewrapping.RewrapForms.TheVariants.{Kept, Changed}

@@ -2,13 +2,13 @@
 -- form that is kept.
 use Rattle.std.proofs.Common.{◌≡◌, ◌↔◌, ℕ, List, length, Result, Ok, Err, OnOk, refl}
 use Rattle.key_lines.specs.Answers.{made}
-use Rattle.key_wrap.specs.Forms.{StandsAs, StandsIn}
-use Rattle.key_wrap.specs.KeepForm.{HasNoForm, IsSomeTextLength, KeepsForm}
-use Rattle.key_wrap.specs.Rewrap.{AreWrappings, HasBadLength, HasNoWrapping}
-use Rattle.key_wrap.specs.declared.faults.InPlaceFault.{InPlaceFault}
-use Rattle.key_wrap.specs.declared.faults.InPlaceFault.TheVariants.{BadLength, Integrity}
-use Rattle.key_wrap.specs.declared.agreed_form.AgreedForm.{AgreedForm}
-use Rattle.key_wrap.specs.declared.forms.Form.{Form}
+use Rattle.key_wrap_core.specs.Forms.{StandsAs, StandsIn}
+use Rattle.key_wrap_core.specs.KeepForm.{HasNoForm, IsSomeTextLength, KeepsForm}
+use Rattle.key_wrap_core.specs.Rewrap.{AreWrappings, HasBadLength, HasNoWrapping}
+use Rattle.key_wrap_core.specs.declared.faults.InPlaceFault.{InPlaceFault}
+use Rattle.key_wrap_core.specs.declared.faults.InPlaceFault.TheVariants.{BadLength, Integrity}
+use Rattle.key_wrap_core.specs.declared.agreed_form.AgreedForm.{AgreedForm}
+use Rattle.key_wrap_core.specs.declared.forms.Form.{Form}
 use Rattle.keywrap_cli.specs.Forms.{IsRewrapped, IsRewrappedInForm, Rewraps}
 use Rattle.keywrap_cli.specs.declared.rewrapping.RewrapForms.TheVariants.{Kept, Changed}
 

@@ -1,12 +1,12 @@
--- Wrapping and unwrapping in either form, in terms of key_wrap. The plain form has an initial value `iv`, which the
+-- Wrapping and unwrapping in either form, in terms of key_wrap_core. The plain form has an initial value `iv`, which the
 -- padded form ignores.
 use Rattle.std.specs.Prelude.{◌≡◌, ℕ, List, length}
-use Rattle.key_wrap.specs.declared.forms.Form.{Form}
-use Rattle.key_wrap.specs.declared.forms.Form.TheVariants.{Plain, Padded}
-use Rattle.key_wrap.specs.Answer.{NoKey}
-use Rattle.key_wrap.specs.Forms.{Stands, IsKeyLength, IsTextLength, with_value}
-use Rattle.key_wrap.specs.InPlace.{ArePaddedLengths, ArePlainLengths, IsPaddedRoom}
-use Rattle.key_wrap.specs.Rewrap.{NoOtherForm}
+use Rattle.key_wrap_core.specs.declared.forms.Form.{Form}
+use Rattle.key_wrap_core.specs.declared.forms.Form.TheVariants.{Plain, Padded}
+use Rattle.key_wrap_core.specs.NoKey.{NoKey}
+use Rattle.key_wrap_core.specs.Forms.{Stands, IsKeyLength, IsTextLength, with_value}
+use Rattle.key_wrap_core.specs.InPlace.{ArePaddedLengths, ArePlainLengths, IsPaddedRoom}
+use Rattle.key_wrap_core.specs.Rewrap.{NoOtherForm}
 use Rattle.keywrap_cli.specs.declared.convert.Direction.{Direction}
 use Rattle.keywrap_cli.specs.declared.convert.Direction.TheVariants.{Wrap, Unwrap}
 

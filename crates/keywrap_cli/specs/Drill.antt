@@ -5,8 +5,8 @@ use Rattle.block_pair.specs.Halves.{swapped_halves}
 use Rattle.key_files.specs.Meaning.{file_meaning, hex_meaning}
 use Rattle.key_files.specs.declared.fault.FileFault.{FileFault}
 use Rattle.key_files.specs.declared.fault.FileFault.TheVariants as files
-use Rattle.key_wrap.specs.Plain.{default_iv}
-use Rattle.key_wrap.specs.declared.forms.Form.{Form}
+use Rattle.key_wrap_core.specs.Plain.{default_iv}
+use Rattle.key_wrap_core.specs.declared.forms.Form.{Form}
 use Rattle.keywrap_cli.specs.declared.convert.Direction.{Direction}
 use Rattle.keywrap_cli.specs.declared.drilling.DrillFault.{DrillFault}
 use Rattle.keywrap_cli.specs.declared.drilling.DrillFault.TheVariants.{TooLong, BadDigit, OddDigits, BadLength, Integrity, Memory}

@@ -3,14 +3,14 @@ use Rattle.std.specs.Prelude.{◌≡◌, ◌⊎◌, Bool, true, false, ℕ, List
 use Rattle.key_lines.specs.Answers.{Answer}
 use Rattle.key_lines.specs.declared.job.Mark.{Mark}
 use Rattle.key_lines.specs.declared.job.Mark.TheVariants.{Unmarked, Marked}
-use Rattle.key_wrap.specs.Forms.{IsTextLengthAs, StandsAs, StandsIn, by_default}
-use Rattle.key_wrap.specs.KeepForm.{HasNoForm, IsSomeTextLength}
-use Rattle.key_wrap.specs.Rewrap.{HasBadLength, HasNoWrapping}
-use Rattle.key_wrap.specs.declared.faults.InPlaceFault.{InPlaceFault}
-use Rattle.key_wrap.specs.declared.faults.InPlaceFault.TheVariants.{BadLength, Integrity}
-use Rattle.key_wrap.specs.declared.agreed_form.AgreedForm.{AgreedForm}
-use Rattle.key_wrap.specs.declared.agreed_form.AgreedForm.TheVariants as agreed
-use Rattle.key_wrap.specs.declared.forms.Form.{Form}
+use Rattle.key_wrap_core.specs.Forms.{IsTextLengthAs, StandsAs, StandsIn, by_default}
+use Rattle.key_wrap_core.specs.KeepForm.{HasNoForm, IsSomeTextLength}
+use Rattle.key_wrap_core.specs.Rewrap.{HasBadLength, HasNoWrapping}
+use Rattle.key_wrap_core.specs.declared.faults.InPlaceFault.{InPlaceFault}
+use Rattle.key_wrap_core.specs.declared.faults.InPlaceFault.TheVariants.{BadLength, Integrity}
+use Rattle.key_wrap_core.specs.declared.agreed_form.AgreedForm.{AgreedForm}
+use Rattle.key_wrap_core.specs.declared.agreed_form.AgreedForm.TheVariants as agreed
+use Rattle.key_wrap_core.specs.declared.forms.Form.{Form}
 use Rattle.keywrap_cli.specs.declared.rewrapping.RewrapForms.{RewrapForms}
 use Rattle.keywrap_cli.specs.declared.rewrapping.RewrapForms.TheVariants.{Kept, Changed}
 

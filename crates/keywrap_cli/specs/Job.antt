@@ -2,7 +2,7 @@
 -- form has the initial value `iv`.
 use Rattle.std.specs.Prelude.{ℕ, List, Option, Result}
 use Rattle.fips197.specs.Cipher.{cipher}
-use Rattle.key_wrap.specs.declared.forms.Form.TheVariants.{Plain}
+use Rattle.key_wrap_core.specs.declared.forms.Form.TheVariants.{Plain}
 use Rattle.keywrap_cli.specs.Answers.{JobAnswer, WritesFor, done_of, job_of}
 use Rattle.keywrap_cli.specs.Engine.{AnswersInput, IsRefusedBefore, UnderKek, UnderReadKek, WritesOutput}
 use Rattle.keywrap_cli.specs.Readings.{kek_fault_of}

@@ -6,7 +6,7 @@ use Rattle.key_lines.specs.declared.fault.RefusedLine.{RefusedLine}
 use Rattle.key_lines.specs.declared.fault.RunFault.{RunFault}
 use Rattle.key_lines.specs.declared.run.RunOptions.{RunOptions}
 use Rattle.key_lines.specs.declared.summary.RunSummary.{RunSummary}
-use Rattle.key_wrap.specs.declared.faults.InPlaceFault.{InPlaceFault}
+use Rattle.key_wrap_core.specs.declared.faults.InPlaceFault.{InPlaceFault}
 use Rattle.keywrap_cli.specs.Answers.{JobAnswer, RewrappingAnswer}
 use Rattle.keywrap_cli.specs.Engine.{AnswersLines, IsRefusedBefore, UnderKek, UnderKeks, UnderReadKek}
 use Rattle.keywrap_cli.specs.Files.{line_notation, text_notation}

@@ -3,8 +3,8 @@ use Rattle.std.specs.Prelude.{◌≡◌, ◌&&◌, ◌↔◌, ⊤, ℕ, Bool, tr
 use Rattle.fips197.specs.Cipher.{cipher}
 use Rattle.fips197.specs.KeyExpansion.{IsKekLength}
 use Rattle.block_pair.specs.Words.{IsBlock}
-use Rattle.key_wrap.specs.Padded.{Padded}
-use Rattle.key_wrap.specs.Plain.{Plain, default_iv}
+use Rattle.key_wrap_core.specs.Padded.{Padded}
+use Rattle.key_wrap_core.specs.Plain.{Plain, default_iv}
 use Rattle.test_vectors.specs.Vectors.{TestVector}
 use Rattle.test_vectors.specs.declared.table.Algorithm.{Algorithm}
 use Rattle.test_vectors.specs.declared.table.Algorithm.TheVariants.{KeyWrap, KeyWrapWithPadding, Encryption}

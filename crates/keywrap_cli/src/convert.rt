@@ -6,7 +6,7 @@ ghost use Rattle.keywrap_cli.specs.Answers.{MakesConversion};
 ghost use Rattle.keywrap_cli.specs.Conversion.{HasRoom, IsInputLength};
 
 use block_pair::{BlockPair, Meter};
-use key_wrap::{
+use key_wrap_core::{
     Form, InPlaceFault, InitialValue, key_length_ok, padded_length_ok, padded_text_length_ok,
     text_length_ok, unwrap_into_with, unwrap_padded_into, wrap_into_with, wrap_padded_into,
 };

@@ -8,7 +8,7 @@ ghost use Rattle.keywrap_cli.specs.Drill.{DrillAnswer, TextAnswer, drill_meaning
 use crate::convert::{Direction, convert_into};
 use block_pair::SwapHalves;
 use key_files::{FileFault, MAX_FILE, decode_hex};
-use key_wrap::{Form, InPlaceFault, InitialValue};
+use key_wrap_core::{Form, InPlaceFault, InitialValue};
 use std::alloc::Global;
 use thiserror::Error;
 

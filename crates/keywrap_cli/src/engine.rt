@@ -9,7 +9,7 @@ use crate::files::{input_fault, read_file};
 use crate::job::{JobFault, Notation};
 use key_files::{Alphabet, print_base64, print_hex, write_raw};
 use key_lines::{LineJob, Mark};
-use key_wrap::InPlaceFault;
+use key_wrap_core::InPlaceFault;
 use std::alloc::{AllocError, Global};
 use std::io::{Read, Write};
 

@@ -7,7 +7,7 @@ use crate::report::VectorsFault;
 use crate::statuses;
 use key_files::{FileFault, HexWriteFault, WriteFault};
 use key_lines::{LineFault, RefusedLine};
-use key_wrap::InPlaceFault;
+use key_wrap_core::InPlaceFault;
 use thiserror::Error;
 
 /// A fault of the program, other than one of its arguments. Its message is its line on standard

@@ -11,7 +11,7 @@ use crate::fault::ProgramFault;
 use crate::report::vectors;
 use crate::statuses;
 use key_files::{write_hex, write_raw};
-use key_wrap::Form;
+use key_wrap_core::Form;
 use std::alloc::Global;
 use std::io::Write;
 

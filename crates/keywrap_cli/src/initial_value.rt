@@ -1,10 +1,10 @@
 //! Parses an initial value.
 
 ghost use Rattle.std.specs.Prelude.{◌≡◌, ◌↔◌, ℕ, Ok, Err};
-ghost use Rattle.key_wrap.specs.Plain.{IsReserved};
+ghost use Rattle.key_wrap_core.specs.Plain.{IsReserved};
 ghost use Rattle.keywrap_cli.specs.InitialValue.{DenotesIv, IsSixteenDigits};
 
-use key_wrap::InitialValue;
+use key_wrap_core::InitialValue;
 use thiserror::Error;
 
 /// Why a text is not an initial value.

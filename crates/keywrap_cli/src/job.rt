@@ -1,7 +1,7 @@
 //! The jobs, which wrap, unwrap or check an input under a KEK.
 
 ghost use Rattle.std.specs.Prelude.{◌≡◌, IsOk};
-ghost use Rattle.key_wrap.specs.Plain.{default_iv};
+ghost use Rattle.key_wrap_core.specs.Plain.{default_iv};
 ghost use Rattle.keywrap_cli.specs.Job.{RunsJob, WritesTheAnswer, plain_task};
 ghost use Rattle.keywrap_cli.specs.Answers.{done_of, job_of};
 
@@ -11,7 +11,7 @@ use crate::kek_file::read_kek;
 use crate::key_job::KeyJob;
 use key_files::FileFault;
 use key_lines::Mark;
-use key_wrap::{Form, InitialValue};
+use key_wrap_core::{Form, InitialValue};
 use std::alloc::Global;
 use std::io::{Read, Write};
 use thiserror::Error;

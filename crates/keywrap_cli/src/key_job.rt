@@ -10,7 +10,7 @@ use crate::engine::print_in;
 use crate::job::{Job, Task};
 use block_pair::{BlockPair, Meter};
 use key_lines::{LineJob, Mark};
-use key_wrap::{InPlaceFault, InitialValue, Kind, kind_into_with};
+use key_wrap_core::{InPlaceFault, InitialValue, Kind, kind_into_with};
 use std::alloc::{AllocError, Global};
 
 /// A job under a block permutation. Only the plain form uses the initial value.

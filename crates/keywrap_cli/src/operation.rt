@@ -16,7 +16,7 @@ use crate::rewrap::rewrap;
 use crate::rewrap_job::RewrapJob;
 use crate::rewrapping::{RewrapForms, Rewrapping};
 use key_lines::{LineRun, LineSource, RefusalLog, RunFault, RunOptions, RunSummary};
-use key_wrap::{AgreedForm, InPlaceFault, InitialValue};
+use key_wrap_core::{AgreedForm, InPlaceFault, InitialValue};
 use std::alloc::Global;
 use std::io::{Read, Write};
 

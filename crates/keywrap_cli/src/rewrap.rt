@@ -1,7 +1,7 @@
 //! Rewrapping one key: from one KEK to another, without writing the key.
 
 ghost use Rattle.std.specs.Prelude.{IfOk, IsOk};
-ghost use Rattle.key_wrap.specs.Forms.{by_default};
+ghost use Rattle.key_wrap_core.specs.Forms.{by_default};
 ghost use Rattle.keywrap_cli.specs.Rewrapping.{RunsRewrap, TellsSameKek, WritesTheNewText};
 ghost use Rattle.keywrap_cli.specs.Rewrapping.{result_of, rewrapping};
 
@@ -10,7 +10,7 @@ use crate::job::{Done, JobFault, Notation, Outcome};
 use crate::kek_file::{Keks, read_keks};
 use crate::rewrap_job::RewrapJob;
 use crate::rewrapping::{RewrapForms, Rewrapping};
-use key_wrap::{AgreedForm, Form};
+use key_wrap_core::{AgreedForm, Form};
 use std::alloc::Global;
 use std::io::{Read, Write};
 

@@ -9,7 +9,7 @@ use crate::engine::print_in;
 use crate::rewrapping::{RewrapForms, Rewrapping};
 use block_pair::{BlockPair, Meter};
 use key_lines::{LineJob, Mark};
-use key_wrap::{
+use key_wrap_core::{
     AgreedForm, InPlaceFault, padded_text_length_ok, rewrap_in_place_with,
     rewrap_keeping_form_in_place, text_length_ok,
 };

@@ -1,7 +1,7 @@
 //! The forms and notations of a rewrapping.
 
 use crate::job::Notation;
-use key_wrap::AgreedForm;
+use key_wrap_core::AgreedForm;
 
 /// The old and the new form of a rewrapping.
 #[derive(Clone, Copy)]

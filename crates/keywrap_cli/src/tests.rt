@@ -13,3 +13,4 @@ mod operations;
 mod rewraps;
 mod standards;
 mod vectors;
+mod wrapping;

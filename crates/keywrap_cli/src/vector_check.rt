@@ -2,15 +2,15 @@
 
 ghost use Rattle.std.specs.Prelude.{◌≡◌, ◌≢◌, ◌↔◌, length, IfOk, IsTrue, MatchOption};
 ghost use Rattle.block_pair.specs.Words.{IsBlock};
-ghost use Rattle.key_wrap.specs.Plain.{default_iv};
-ghost use Rattle.key_wrap.specs.Forms.{Stands};
+ghost use Rattle.key_wrap_core.specs.Plain.{default_iv};
+ghost use Rattle.key_wrap_core.specs.Forms.{Stands};
 ghost use Rattle.keywrap_cli.specs.Vectors.{IsRight, Takes};
 ghost use Rattle.test_vectors.specs.Vectors.{shown};
 
 use crate::convert::{Direction, convert_into};
 use crate::kek_file::Aes;
 use block_pair::BlockPair;
-use key_wrap::{Form, InitialValue};
+use key_wrap_core::{Form, InitialValue};
 use std::alloc::{AllocError, Global};
 use test_vectors::{Algorithm, Vector};
 

@@ -2,7 +2,7 @@
 
 ghost use Rattle.std.specs.Prelude.{replicate};
 ghost use Rattle.aes_block.specs.Cipher.{cipher};
-ghost use Rattle.key_wrap.specs.InPlace.{key_in};
+ghost use Rattle.key_wrap_core.specs.InPlace.{key_in};
 ghost use Rattle.keywrap_calls.specs.Calls.{WrapsPaddedInPlace, UnwrapsPaddedInPlace, IsPaddedKey};
 
 use aes_block::Aes;

@@ -3,13 +3,14 @@
 ghost use Rattle.block_pair.specs.Halves.{swapped_halves};
 ghost use Rattle.block_pair.specs.HalvesLaw.{swap_halves_lawful};
 
+use super::wrapping::wrapped;
 use crate::job::{Job, Notation, Task};
 use crate::key_job::KeyJob;
 use crate::rewrap_job::RewrapJob;
 use crate::rewrapping::{RewrapForms, Rewrapping};
 use block_pair::{BlockPair, SwapHalves};
 use key_lines::LineJob;
-use key_wrap::{AgreedForm, Form, InitialValue, wrap, wrap_padded};
+use key_wrap_core::{AgreedForm, Form, InitialValue};
 use std::cell::Cell;
 use std::test::Fail;
 
@@ -146,10 +147,8 @@ fn a_rewrapped_line_costs_an_unwrapping_and_a_wrapping(rt: HostRuntime) -> Resul
         };
         let mut key = Vec::new(rt.alloc());
         key.resize(len, 0)?;
-        let mut bytes = match form {
-            Form::Plain => wrap(rt.alloc(), &SwapHalves, &key)?,
-            Form::Padded => wrap_padded(rt.alloc(), &SwapHalves, &key)?,
-        };
+        let iv = InitialValue::default();
+        let mut bytes = wrapped(rt.alloc(), form, &iv, &SwapHalves, &key)?;
         let mut output = Vec::new(rt.alloc());
         let _outcome = run.answer(&mut bytes, &mut output);
         assert_eq!(rt;

@@ -4,7 +4,7 @@ use super::doubles::{Narrow, Trickle};
 use crate::convert::Direction;
 use crate::job::{Done, Job, JobFault, Notation, Task, run_job, run_with};
 use crate::rewrap::run_rewrap;
-use key_wrap::{Form, InitialValue};
+use key_wrap_core::{Form, InitialValue};
 use std::alloc::Global;
 use std::io::Write;
 use std::process::Abort;

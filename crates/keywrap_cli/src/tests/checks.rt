@@ -3,7 +3,7 @@
 use super::cases::{Answer, Call, Case, HEX, WRITTEN};
 use super::jobs::{BLANKS, HEX_KEK, HEX_TEXT, PADDED_KEK, TEXT_OF_7, TEXT_OF_20};
 use crate::job::{Done, Job};
-use key_wrap::Form;
+use key_wrap_core::Form;
 
 const CHECK: Call = Call::Job(Job::Check, Form::Plain, HEX, HEX);
 

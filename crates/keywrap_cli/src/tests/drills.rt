@@ -3,7 +3,7 @@
 
 use crate::convert::Direction;
 use crate::drilling::{DrillFault, drill};
-use key_wrap::Form;
+use key_wrap_core::Form;
 use std::alloc::Global;
 use std::test::Fail;
 

@@ -4,7 +4,7 @@
 use super::cases::{Answer, Call, Case, HEX, RAW, WRITTEN};
 use crate::job::{Job, JobFault};
 use key_files::FileFault;
-use key_wrap::Form;
+use key_wrap_core::Form;
 
 /// The KEK, the key and its text.
 pub const HEX_KEK: &[u8] = b"000102030405060708090a0b0c0d0e0f\n";

@@ -7,7 +7,7 @@ use super::rewraps::{NEW_KEK, NEW_OF_7, NEW_PADDED, NEW_TEXT};
 use crate::operation::Operation;
 use crate::rewrapping::{RewrapForms, Rewrapping};
 use key_lines::{LineFault, RefusalLog, RefusedLine, RunSummary};
-use key_wrap::{AgreedForm, Form, InPlaceFault};
+use key_wrap_core::{AgreedForm, Form, InPlaceFault};
 use std::io::BufReader;
 use std::test::Fail;
 

@@ -7,7 +7,7 @@ use super::jobs::{
 };
 use crate::job::JobFault;
 use key_files::FileFault;
-use key_wrap::Form;
+use key_wrap_core::Form;
 
 /// The KEK of RFC 3394, section 4.3.
 pub const NEW_KEK: &[u8] = b"000102030405060708090a0b0c0d0e0f101112131415161718191a1b1c1d1e1f\n";

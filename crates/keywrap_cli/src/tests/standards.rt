@@ -1,6 +1,6 @@
 //! The wrappings among the published vectors, as bytes.
 
-use key_wrap::Form;
+use key_wrap_core::Form;
 use std::alloc::Global;
 use std::test::Fail;
 use test_vectors::{Algorithm, published};

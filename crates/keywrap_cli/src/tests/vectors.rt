@@ -5,7 +5,7 @@ use crate::convert::Direction;
 use crate::fault::ProgramFault;
 use crate::flushed::{run_drill, run_vectors, write_help};
 use crate::report::{report_on, vectors};
-use key_wrap::Form;
+use key_wrap_core::Form;
 use std::alloc::{AllocError, Global};
 use std::process::Abort;
 use std::test::Fail;

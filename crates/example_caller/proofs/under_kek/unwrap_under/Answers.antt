@@ -1,7 +1,7 @@
 -- What `unwrap` ensures of its `aes`, said of the KEK.
 use Rattle.std.proofs.Common.{ℕ, List, refl, subst}
 use Rattle.aes_block.specs.Cipher.{cipher}
-use Rattle.key_wrap.specs.Answer.{NoKey}
+use Rattle.key_wrap.specs.NoKey.{NoKey}
 use Rattle.key_wrap.specs.Plain.{Plain, default_iv}
 use Rattle.example_caller.proofs.under_kek.unwrap_under.Goals as goal
 

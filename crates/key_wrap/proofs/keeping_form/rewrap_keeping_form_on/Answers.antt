@@ -1,10 +1,11 @@
 -- The buffer holds the text, so what the call in it promises of the text is what is promised here.
 use Rattle.std.proofs.Common.{rules, ◌≡◌, ℕ, List, length, arith, ap, ◌∙◌}
-use Rattle.key_wrap.specs.KeepForm.{IsSomeTextLength}
-use Rattle.key_wrap.proofs.Refusals.{ok_or_err, true_or_false}
-use Rattle.key_wrap.proofs.PlainForm.{written_back}
+use Rattle.key_wrap_core.specs.KeepForm.{IsSomeTextLength}
+use Rattle.key_wrap_core.proofs.Refusals.{ok_or_err, true_or_false}
+use Rattle.key_wrap.proofs.Promises.{written_back}
 use Rattle.key_wrap.proofs.Rewraps.{other_form}
-use Rattle.key_wrap.proofs.KeptForms.{padded_of, some_length, kept_refused, kept_unserved, kept_fault}
+use Rattle.key_wrap.proofs.KeptForms.{kept_refused, kept_fault}
+use Rattle.key_wrap_core.proofs.KeptForms.{padded_of, some_length}
 use Rattle.key_wrap.proofs.keeping_form.rewrap_keeping_form_on.Goals as goal
 
 pub returns-then-not-padded_text_length_ok : goal.returns-then-not-padded_text_length_ok
@@ -13,12 +14,6 @@ returns-then-not-padded_text_length_ok g c =
     let illegal : ¬ IsSomeTextLength (length text) = λ h.
     true_or_false c.if-not-padded_text_length_ok.true (c.padded_text_length_ok.ensures.1 (padded_of (length text) h)) in
     kept_refused (g.O.BlockPair.encrypted c.args.old.now) (g.N.BlockPair.encrypted c.args.new.now) text (g.met.O.BlockPair.lawful c.args.old.now) illegal
-
-pub returns-in_err-buffer : goal.returns-in_err-buffer
-returns-in_err-buffer g c =
-    let legal = some_length (length c.args.text.now) (c.padded_text_length_ok.ensures.0 c.if-not-padded_text_length_ok.false) in
-    kept_unserved (g.O.BlockPair.encrypted c.args.old.now) (g.N.BlockPair.encrypted c.args.new.now) c.args.text.now c.from_residual.result legal
-    c.from_residual.ensures
 
 pub returns-in_err-rewrap_keeping_form_in_place : goal.returns-in_err-rewrap_keeping_form_in_place
 returns-in_err-rewrap_keeping_form_in_place g c =

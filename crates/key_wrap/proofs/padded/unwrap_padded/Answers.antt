@@ -1,10 +1,11 @@
 -- What is promised of any allocator, and a wrapping is a word longer than its key data.
 use Rattle.std.proofs.lemmas.Result.{IfOk-weaker}
-use Rattle.key_wrap.specs.Lengths.{IsPaddedTextLength}
+use Rattle.key_wrap_core.specs.Lengths.{IsPaddedTextLength}
 use Rattle.std.proofs.Common.{arith}
-use Rattle.key_wrap.specs.Padded.{Padded}
-use Rattle.key_wrap.proofs.FormLengths.{padded_text_length}
-use Rattle.key_wrap.proofs.Unwrappings.{answered, default_among}
+use Rattle.key_wrap_core.specs.Padded.{Padded}
+use Rattle.key_wrap_core.proofs.FormLengths.{padded_text_length}
+use Rattle.key_wrap.proofs.Promises.{answered}
+use Rattle.key_wrap_core.proofs.Unwrappings.{default_among}
 use Rattle.key_wrap.proofs.padded.unwrap_padded.Goals as goal
 
 pub returns : goal.returns

@@ -1,7 +1,7 @@
 -- What is promised of any allocator, and a wrapping is a word longer than its key data.
 use Rattle.std.proofs.lemmas.Result.{IfOk-weaker}
 use Rattle.std.proofs.Common.{arith}
-use Rattle.key_wrap.proofs.FormLengths.{padded_text_length}
+use Rattle.key_wrap_core.proofs.FormLengths.{padded_text_length}
 use Rattle.key_wrap.proofs.padded.wrap_padded.Goals as goal
 
 pub returns : goal.returns

@@ -1,9 +1,9 @@
 -- The initial value is the default, and a wrapping is a word longer than its key data.
 use Rattle.std.proofs.lemmas.Result.{IfOk-weaker}
-use Rattle.key_wrap.specs.Lengths.{IsPlainTextLength}
-use Rattle.key_wrap.specs.Plain.{Plain, default_iv}
-use Rattle.key_wrap.proofs.FormLengths.{plain_text_length}
-use Rattle.key_wrap.proofs.Unwrappings.{answered}
+use Rattle.key_wrap_core.specs.Lengths.{IsPlainTextLength}
+use Rattle.key_wrap_core.specs.Plain.{Plain, default_iv}
+use Rattle.key_wrap_core.proofs.FormLengths.{plain_text_length}
+use Rattle.key_wrap.proofs.Promises.{answered}
 use Rattle.key_wrap.proofs.plain.unwrap.Goals as goal
 
 pub returns : goal.returns

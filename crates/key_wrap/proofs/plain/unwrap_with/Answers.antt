@@ -1,9 +1,9 @@
 -- What is promised of any allocator, and a wrapping is a word longer than its key data.
 use Rattle.std.proofs.lemmas.Result.{IfOk-weaker}
-use Rattle.key_wrap.specs.Lengths.{IsPlainTextLength}
-use Rattle.key_wrap.specs.Plain.{Plain}
-use Rattle.key_wrap.proofs.FormLengths.{plain_text_length}
-use Rattle.key_wrap.proofs.Unwrappings.{answered}
+use Rattle.key_wrap_core.specs.Lengths.{IsPlainTextLength}
+use Rattle.key_wrap_core.specs.Plain.{Plain}
+use Rattle.key_wrap_core.proofs.FormLengths.{plain_text_length}
+use Rattle.key_wrap.proofs.Promises.{answered}
 use Rattle.key_wrap.proofs.plain.unwrap_with.Goals as goal
 
 pub returns : goal.returns

@@ -1,6 +1,6 @@
 -- What is promised of any allocator, and a wrapping is a word longer than its key data.
 use Rattle.std.proofs.lemmas.Result.{IfOk-weaker}
-use Rattle.key_wrap.proofs.FormLengths.{plain_text_length}
+use Rattle.key_wrap_core.proofs.FormLengths.{plain_text_length}
 use Rattle.key_wrap.proofs.plain.wrap_with.Goals as goal
 
 pub returns : goal.returns

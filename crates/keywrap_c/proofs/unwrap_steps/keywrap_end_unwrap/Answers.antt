@@ -1,8 +1,8 @@
--- What the call of key_wrap ensures, said of the bytes of the initial value.
+-- What the call of key_wrap_core ensures, said of the bytes of the initial value.
 use Rattle.std.proofs.Common.{rules, ◌≡◌, ℕ, List, subst}
-use Rattle.key_wrap.specs.Plain.{Plain}
-use Rattle.key_wrap.specs.Padded.{Padded}
-use Rattle.key_wrap.specs.Answer.{NoKey}
+use Rattle.key_wrap_core.specs.Plain.{Plain}
+use Rattle.key_wrap_core.specs.Padded.{Padded}
+use Rattle.key_wrap_core.specs.NoKey.{NoKey}
 use Rattle.keywrap_calls.specs.Answers.{IsUnwrapping}
 use Rattle.keywrap_calls.specs.AgreedValue.{iv_word}
 use Rattle.keywrap_c.proofs.unwrap_steps.keywrap_end_unwrap.Goals as goal

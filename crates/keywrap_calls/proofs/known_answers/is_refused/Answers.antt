@@ -2,7 +2,7 @@ use Rattle.std.proofs.Common.{rules}
 use mir.Syntax.{w32}
 use mir.Val.{SFits}
 use Rattle.fips197.specs.KeyExpansion.{IsKekLength}
-use Rattle.key_wrap.specs.InPlace.{ArePlainLengths}
+use Rattle.key_wrap_core.specs.InPlace.{ArePlainLengths}
 use Rattle.keywrap_calls.proofs.KnownAnswers.{is_integrity}
 use Rattle.keywrap_calls.proofs.known_answers.is_refused.Goals as goal
 

@@ -3,7 +3,7 @@ use Rattle.std.proofs.Common.{◌≡◌, ℕ, [], replicate, ap, ◌∙◌, subs
 use mir.Syntax.{w32}
 use mir.Val.{SFits}
 use Rattle.fips197.specs.Cipher.{cipher}
-use Rattle.key_wrap.specs.InPlace.{key_in}
+use Rattle.key_wrap_core.specs.InPlace.{key_in}
 use Rattle.keywrap_calls.specs.Status.{outcome_status}
 use Rattle.keywrap_calls.specs.Calls.{UnwrapsPaddedInPlace, IsPaddedKey}
 use Rattle.keywrap_calls.proofs.Calls.{unwraps, passed_on}

@@ -3,7 +3,7 @@ use Rattle.std.proofs.Common.{◌≡◌, ap, ◌∙◌, subst, sym, refl, rules}
 use mir.Syntax.{w32}
 use mir.Val.{SFits}
 use Rattle.fips197.specs.Cipher.{cipher}
-use Rattle.key_wrap.specs.declared.forms.Form.TheVariants as forms
+use Rattle.key_wrap_core.specs.declared.forms.Form.TheVariants as forms
 use Rattle.keywrap_calls.specs.Status.{outcome_status}
 use Rattle.keywrap_calls.specs.Calls.{WrapsInPlace}
 use Rattle.keywrap_calls.proofs.Calls.{wraps, passed_on}

@@ -3,8 +3,8 @@ use Rattle.std.proofs.Common.{◌≡◌, length, ap, ◌∙◌, subst, sym, refl
 use mir.Syntax.{w32}
 use mir.Val.{SFits}
 use Rattle.fips197.specs.Cipher.{cipher}
-use Rattle.key_wrap.specs.Plain.{Plain}
-use Rattle.key_wrap.specs.InPlace.{ArePlainLengths}
+use Rattle.key_wrap_core.specs.Plain.{Plain}
+use Rattle.key_wrap_core.specs.InPlace.{ArePlainLengths}
 use Rattle.keywrap_calls.specs.Status.{outcome_status}
 use Rattle.keywrap_calls.specs.AgreedValue.{iv_word}
 use Rattle.keywrap_calls.specs.Calls.{WrapsWith, IsWrapCall}

@@ -1,10 +1,10 @@
 use Rattle.std.proofs.Common.{◌≡◌, ◌+◌, ◌∙◌, ℕ, List, length, take, drop, OnOk, arith, ap}
 use Rattle.std.proofs.lemmas.List.{take_at}
 use Rattle.std.proofs.lemmas.Result.{on_ok_weaker}
-use Rattle.key_wrap.specs.Forms.{IsTextLength}
-use Rattle.key_wrap.specs.InPlace.{ArePlainLengths}
-use Rattle.key_wrap.specs.Plain.{Plain}
-use Rattle.key_wrap.specs.declared.forms.Form.TheVariants as forms
+use Rattle.key_wrap_core.specs.Forms.{IsTextLength}
+use Rattle.key_wrap_core.specs.InPlace.{ArePlainLengths}
+use Rattle.key_wrap_core.specs.Plain.{Plain}
+use Rattle.key_wrap_core.specs.declared.forms.Form.TheVariants as forms
 use Rattle.keywrap_cli.proofs.Conversions.{unwrapped, wrapped}
 use Rattle.keywrap_cli.proofs.convert.convert_in_room.Goals as goal
 

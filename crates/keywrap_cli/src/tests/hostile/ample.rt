@@ -4,11 +4,12 @@ use super::super::cases::{Call, Case, HEX, RAW, WRITTEN};
 use super::super::initial_values::OTHER;
 use super::super::jobs::{HEX_KEK, RAW_KEK};
 use super::super::rewraps::{NEW_KEK, RAW_NEW_KEK};
+use super::super::wrapping::wrapped;
 use crate::convert::Direction;
 use crate::drilling::drill;
 use crate::job::{Job, Notation};
 use aes_vector::VectorAes;
-use key_wrap::{Form, InitialValue, MAX_KEY, wrap, wrap_padded, wrap_with};
+use key_wrap_core::{Form, InitialValue, MAX_KEY};
 use std::alloc::{AllocError, Global};
 use std::process::Abort;
 use std::test::Fail;
@@ -75,9 +76,10 @@ fn run_each_length(rt: &impl Abort, alloc: Global, size: usize) -> Result<(), Fa
 // Makes each call in each form that the key has: wraps, rewraps and unwraps.
 fn run_on_key(rt: &impl Abort, alloc: Global, key: &[u8], size: usize) -> Result<(), Fail> {
     let (old, new) = (VectorAes::new(RAW_KEK)?, VectorAes::new(RAW_NEW_KEK)?);
+    let iv = InitialValue::default();
     for form in FORMS {
         if is_key_length(form, key.len()) {
-            let text = wrapped(alloc, &old, form, key)?;
+            let text = wrapped(alloc, form, &iv, &old, key)?;
             let wrap = Call::Job(Job::Wrap, form, RAW, RAW);
             writes(rt, alloc, wrap, key, &text, size)?;
             let unwrap = Call::Job(Job::Unwrap, form, RAW, RAW);
@@ -88,7 +90,7 @@ fn run_on_key(rt: &impl Abort, alloc: Global, key: &[u8], size: usize) -> Result
             assert!(rt; drills(alloc, form, key), "{} bytes", key.len());
             for new_form in FORMS {
                 if is_key_length(new_form, key.len()) {
-                    let new_text = wrapped(alloc, &new, new_form, key)?;
+                    let new_text = wrapped(alloc, new_form, &iv, &new, key)?;
                     let rewrap = Call::Rewrap(form, new_form, RAW, RAW);
                     writes(rt, alloc, rewrap, &text, &new_text, size)?;
                 }
@@ -96,20 +98,13 @@ fn run_on_key(rt: &impl Abort, alloc: Global, key: &[u8], size: usize) -> Result
         }
     }
     if is_key_length(Form::Plain, key.len()) {
-        let text = wrap_with(alloc, &old, &InitialValue::new(OTHER)?, key)?;
+        let text = wrapped(alloc, Form::Plain, &InitialValue::new(OTHER)?, &old, key)?;
         let wrap = Call::With(OTHER, Direction::Wrap, RAW, RAW);
         writes(rt, alloc, wrap, key, &text, size)?;
         let unwrap = Call::With(OTHER, Direction::Unwrap, RAW, RAW);
         writes(rt, alloc, unwrap, &text, key, size)?;
     }
     Ok(())
-}
-
-fn wrapped(alloc: Global, aes: &VectorAes, form: Form, key: &[u8]) -> Result<Vec<u8>, Fail> {
-    Ok(match form {
-        Form::Plain => wrap(alloc, aes, key)?,
-        Form::Padded => wrap_padded(alloc, aes, key)?,
-    })
 }
 
 fn check_line(alloc: Global, form: Form, len: usize) -> Result<String, AllocError> {

@@ -4,7 +4,7 @@
 use super::super::standards::wrappings;
 use aes_vector::VectorAes;
 use block_pair::{BlockPair, Meter};
-use key_wrap::{
+use key_wrap_core::{
     Form, InPlaceFault, unwrap_in_place, unwrap_padded_in_place, wrap_in_place,
     wrap_padded_in_place,
 };

@@ -9,7 +9,7 @@ use crate::convert::Direction;
 use crate::drilling::{DrillFault, drill};
 use crate::job::JobFault;
 use crate::report::{VectorsFault, vectors};
-use key_wrap::Form;
+use key_wrap_core::Form;
 use std::alloc::Global;
 use std::process::Abort;
 

@@ -7,7 +7,7 @@ use super::in_place::unwraps_to;
 use crate::convert::Direction;
 use crate::drilling::{DrillFault, drill};
 use block_pair::SwapHalves;
-use key_wrap::Form;
+use key_wrap_core::Form;
 use std::alloc::Global;
 use std::process::Abort;
 use std::test::Fail;

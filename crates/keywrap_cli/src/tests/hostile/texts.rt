@@ -8,7 +8,7 @@ use super::change_bit;
 use super::in_place::unwraps_to;
 use crate::job::Job;
 use aes_vector::VectorAes;
-use key_wrap::Form;
+use key_wrap_core::Form;
 use std::alloc::Global;
 use std::process::Abort;
 use std::test::Fail;

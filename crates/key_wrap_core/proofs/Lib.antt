@@ -1,0 +1,23 @@
+-- The lemmas, from words and tapes up to the two forms.
+pub mod Refusals
+pub mod Behind
+pub mod Spelling
+pub mod Tapes
+pub mod Counting
+pub mod Registering
+pub mod Places
+pub mod Stepping
+pub mod FormLengths
+pub mod PlainForm
+pub mod PaddedForm
+pub mod WrapStepping
+pub mod UnwrapStepping
+pub mod BothForms
+pub mod Differences
+pub mod ThreeChecks
+pub mod InPlaceForm
+pub mod Unwrappings
+pub mod KindForms
+pub mod Rewraps
+pub mod FoundForms
+pub mod KeptForms

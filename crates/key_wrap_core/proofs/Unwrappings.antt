@@ -1,0 +1,138 @@
+-- What an unwrapping call that takes no memory promises, from the state in which the machine left the registers.
+use Rattle.std.proofs.Common.{rules, ◌≡◌, ◌↔◌, ℕ, bit_xor, ◌+◌, List, ◌++◌, length, take, drop, Result, Ok, Err}
+use Rattle.std.proofs.Common.{OnOk, IsOk, IsOkUnless, IsErr, IsErrAnd}
+use Rattle.std.proofs.Common.{refl, sym, ap, subst}
+use Rattle.std.proofs.Common.{arith, length-append}
+use Rattle.std.proofs.lemmas.List.{drop_at}
+use Rattle.block_pair.specs.Pair.{AreInverse}
+use Rattle.block_pair.specs.Words.{IsWord}
+use Rattle.key_wrap_core.specs.declared.faults.InPlaceFault.{InPlaceFault}
+use Rattle.key_wrap_core.specs.declared.faults.InPlaceFault.TheVariants.{BadLength, Integrity}
+use Rattle.key_wrap_core.specs.Words.{word_bytes}
+use Rattle.key_wrap_core.specs.Lengths.{IsPlainTextLength, IsPaddedTextLength, IsPaddedKeyLength}
+use Rattle.key_wrap_core.specs.Plain.{Plain, IsReserved, default_iv}
+use Rattle.key_wrap_core.specs.Padded.{Padded}
+use Rattle.key_wrap_core.specs.Registers.{Registers}
+use Rattle.key_wrap_core.specs.PaddedRegisters.{PaddedRegisters, Holds, HoldsLength}
+use Rattle.key_wrap_core.specs.NoKey.{NoKey, NoPlainKey}
+use Rattle.key_wrap_core.specs.InPlace.{Unwrapping}
+use Rattle.key_wrap_core.proofs.Spelling.{length-word_bytes, word_front}
+use Rattle.key_wrap_core.proofs.Tapes.{wraps_iv, registers_length, registers_backward}
+use Rattle.key_wrap_core.proofs.PlainForm.{default_free, plain_registers, registers_plain, plain_only_key, plain_only_text}
+use Rattle.key_wrap_core.proofs.PaddedForm.{padded_unwrapped, padded_refused}
+use Rattle.key_wrap_core.proofs.BothForms.{not_both_forms}
+use Rattle.key_wrap_core.proofs.Differences.{xor_same, same_xor}
+
+-- no key belongs to the text
+none_found : {A : Type 0} {Legal : Type 0} {Stands : List ℕ → List ℕ → Type 0} {NoOther : List ℕ → Type 0} {text : List ℕ} {key : A → List ℕ}
+    → Legal → NoKey Stands text → Unwrapping Legal Stands NoOther text key (Err Integrity)
+none_found legal none = record {
+  bad_length = (λ e. cc, λ bad. absurd (bad legal));
+  unwraps = (legal, none);
+  accepts = λ other k. absurd (none other k);
+  only_key = search rules;
+  restores = search rules;
+  other_form = search rules;
+}
+
+-- the same lengths, said in another way
+pub legally : {A : Type 0} {Legal Legal' : Type 0} {Stands : List ℕ → List ℕ → Type 0} {NoOther : List ℕ → Type 0} {text : List ℕ} {key : A → List ℕ}
+    {answer : Result A InPlaceFault} → Legal → Legal' → Unwrapping Legal Stands NoOther text key answer → Unwrapping Legal' Stands NoOther text key answer
+legally {answer = Ok m} legal legal' u = record {
+  bad_length = (λ e. cc, λ bad. absurd (bad legal'));
+  unwraps = (legal', u.unwraps.1);
+  accepts = u.accepts;
+  only_key = u.only_key;
+  restores = u.restores;
+  other_form = u.other_form;
+}
+legally {answer = Err BadLength} legal legal' u = absurd (u.unwraps legal)
+legally {answer = Err Integrity} legal legal' u = none_found legal' u.unwraps.1
+
+-- the registers run back to the initial value and the key
+pub plain_found : {E D : List ℕ → List ℕ} (iv : ℕ) (key text : List ℕ) → AreInverse E D → IsWord iv → ¬ IsReserved iv → IsPlainTextLength (length text)
+    → Registers E (word_bytes iv ++ key) text
+    → Unwrapping (IsPlainTextLength (length text)) (Plain E iv) (NoKey (Padded E)) text (λ (_ : Unit {0}). key) (Ok tt)
+plain_found {E = E} iv key text inv word free legal run =
+    let size : length text ≡ 8 + length key = omega (arith, registers_length run, length-append (word_bytes iv) key, length-word_bytes iv) in
+    let stands : Plain E iv key text = registers_plain iv key text word (omega arith, omega arith, omega arith) run in
+    record {
+      bad_length = (λ e. cc, λ bad. absurd (bad legal));
+      unwraps = (legal, stands);
+      accepts = search rules;
+      only_key = λ other k. plain_only_key inv stands k;
+      restores = λ other k. plain_only_text stands k;
+      other_form = λ other k. not_both_forms inv free stands k;
+    }
+
+-- and if they run back to another initial value, no key belongs to the text
+pub plain_none : {E D : List ℕ → List ℕ} {found : ℕ} (iv : ℕ) (registers key text : List ℕ) → AreInverse E D → IsPlainTextLength (length text) → IsWord found
+    → ¬ (found ≡ iv) → Registers E (word_bytes found ++ registers) text
+    → Unwrapping (IsPlainTextLength (length text)) (Plain E iv) (NoKey (Padded E)) text (λ (_ : Unit {0}). key) (Err Integrity)
+plain_none {found = found} iv registers key text inv legal word other run =
+    none_found legal (λ k h. other (word_front found iv registers k word (wraps_iv h.wraps) (registers_backward inv run (plain_registers h))).0)
+
+-- the decision of an unwrapping, from the difference of the initial values
+pub plain_decided : {E D : List ℕ → List ℕ} (iv found : ℕ) (registers left text : List ℕ) (answer : Result (Unit {0}) InPlaceFault) → AreInverse E D
+    → IsWord iv → IsWord found → ¬ IsReserved iv → IsPlainTextLength (length text) → Registers E (word_bytes found ++ registers) text
+    → IsOk answer ↔ (bit_xor found iv ≡ 0) → IsOkUnless answer Integrity → OnOk answer (left ≡ registers)
+    → Unwrapping (IsPlainTextLength (length text)) (Plain E iv) (NoKey (Padded E)) text (λ (_ : Unit {0}). left) answer
+plain_decided {E = E} iv found registers left text (Ok done) inv word word' free legal run passes only kept =
+    let same : found ≡ iv = xor_same found iv (passes.0 refl) in
+    plain_found iv left text inv word free legal (rw (kept, ← same) run)
+plain_decided iv found registers left text (Err BadLength) inv word word' free legal run passes only kept =
+    absurd (let bad : BadLength ≡ Integrity = only in cc)
+plain_decided iv found registers left text (Err Integrity) inv word word' free legal run passes only kept =
+    plain_none iv registers left text inv legal word' (λ same. absurd (let ok = passes.1 (same_xor found iv same) in cc)) run
+
+-- the registers run back to an initial value and registers that hold a key of len bytes
+pub padded_found : {E D : List ℕ → List ℕ} {len : ℕ} (iv : ℕ) (registers text : List ℕ) → AreInverse E D → IsPaddedTextLength (length text)
+    → PaddedRegisters E (word_bytes iv ++ registers) text → HoldsLength (word_bytes iv ++ registers) len
+    → Unwrapping (IsPaddedTextLength (length text)) (Padded E) (NoPlainKey E) text (λ m. take m registers) (Ok len)
+padded_found {len = len} iv registers text inv legal run held =
+    let cut : take len registers ≡ take len (drop 8 (word_bytes iv ++ registers)) =
+    ap (take len) (sym (drop_at (word_bytes iv) registers 8 (length-word_bytes iv))) in
+    let w = padded_unwrapped (word_bytes iv ++ registers) text (take len registers) len inv run refl refl held cut in
+    record {
+      bad_length = (λ e. cc, λ bad. absurd (bad legal));
+      unwraps = (legal, w.0);
+      accepts = search rules;
+      only_key = w.1;
+      restores = w.2;
+      other_form = λ iv' word free other k. not_both_forms inv free k w.0;
+    }
+
+-- and if they hold no key, none belongs to the text
+pub padded_none : {E D : List ℕ → List ℕ} (iv : ℕ) (registers : List ℕ) (key : ℕ → List ℕ) (text : List ℕ) → AreInverse E D → IsPaddedTextLength (length text)
+    → PaddedRegisters E (word_bytes iv ++ registers) text
+    → ((other : List ℕ) → IsPaddedKeyLength (length other) → ¬ Holds (word_bytes iv ++ registers) other)
+    → Unwrapping (IsPaddedTextLength (length text)) (Padded E) (NoPlainKey E) text key (Err Integrity)
+padded_none iv registers key text inv legal run holds =
+    none_found legal (padded_refused (word_bytes iv ++ registers) text inv run refl refl holds)
+
+-- the text and the key, named in another way
+pub renamed : {A : Type 0} (L : ℕ → Type 0) {Stands : List ℕ → List ℕ → Type 0} {NoOther : List ℕ → Type 0} {text text' : List ℕ} {key key' : A → List ℕ}
+    {answer : Result A InPlaceFault}
+    → text ≡ text' → key ≡ key' → Unwrapping (L (length text)) Stands NoOther text key answer → Unwrapping (L (length text')) Stands NoOther text' key' answer
+renamed L {Stands = Stands} {NoOther = NoOther} {text' = text'} {key = key} {answer = answer} same own u =
+    subst (λ k. Unwrapping (L (length text')) Stands NoOther text' k answer) own
+    (subst (λ (t : List ℕ). Unwrapping (L (length t)) Stands NoOther t key answer) same u)
+
+-- an answer that is no fault is not one but BadLength
+pub ok_unless : {A : Type 0} (answer : Result A InPlaceFault) → IsOk answer → IsOkUnless answer BadLength
+ok_unless (Ok m) h = tt
+ok_unless (Err e) h = cc
+
+-- the refusal, passed on
+pub passed_on : {A : Type 0} {Legal : Type 0} {Stands : List ℕ → List ℕ → Type 0} {NoOther : List ℕ → Type 0} {text : List ℕ} {key : A → List ℕ}
+    (answer : Result A InPlaceFault) (fault : InPlaceFault) → IsErr answer × IsErrAnd answer (λ e. e ≡ fault) → fault ≡ Integrity
+    → Unwrapping Legal Stands NoOther text key (Err Integrity) → Unwrapping Legal Stands NoOther text key answer
+passed_on (Ok m) fault r is u = let no = r.0 in cc
+passed_on (Err BadLength) fault r is u = let no = r.1 in cc
+passed_on (Err Integrity) fault r is u = u
+
+-- of all the initial values the default is one
+pub default_among : {A F : Type 0} (E : List ℕ → List ℕ) (text : List ℕ) (answer : Result A F) → OnOk answer (NoPlainKey E text)
+    → OnOk answer (NoKey (Plain E default_iv) text)
+default_among E text (Ok m) none = none default_iv (omega arith) default_free
+default_among E text (Err e) none = tt

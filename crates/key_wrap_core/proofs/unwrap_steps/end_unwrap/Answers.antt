@@ -1,0 +1,21 @@
+-- The steps led back to an initial value and registers.
+use Rattle.std.proofs.Common.{◌≡◌, arith}
+use Rattle.key_wrap_core.proofs.Refusals.{never_bad}
+use Rattle.key_wrap_core.proofs.UnwrapStepping.{unended_plain}
+use Rattle.key_wrap_core.proofs.unwrap_steps.end_unwrap.Goals as goal
+
+pub returns : goal.returns
+returns c =
+    let zero : c.args.left ≡ 0 = omega arith in
+    let legal = c.key_length_ok.ensures.0 c.if-not-key_length_ok.false in
+    let only = c.end_plain.ensures.only_fault in
+    record {
+      bad_length = (λ e. never_bad c.end_plain.result only e, λ bad. absurd (bad (legal, zero)));
+      registers_kept = λ e. never_bad c.end_plain.result only e;
+      block_kept = λ e. never_bad c.end_plain.result only e;
+      answer = λ _ E D text inv state.
+          let run = unended_plain c.take_value-found.result (omega arith) c.take_value-found.ensures.value (rw zero at state) in
+          rw c.word.ensures.value at (c.end_plain.ensures.answer E D text inv run);
+      cleared = c.end_plain.ensures.cleared;
+      block_cleared = λ _. c.take_value-found.ensures.cleared;
+    }

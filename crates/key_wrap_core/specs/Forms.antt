@@ -1,0 +1,45 @@
+-- The two forms: their relations of keys and wrapped keys, and their legal lengths. Both ends agree on a form and, in
+-- the plain form, on its initial value.
+use Rattle.std.specs.Prelude.{ℕ, List}
+use Rattle.key_wrap_core.specs.declared.forms.Form.{Form}
+use Rattle.key_wrap_core.specs.declared.forms.Form.TheVariants as forms
+use Rattle.key_wrap_core.specs.declared.agreed_form.AgreedForm.{AgreedForm}
+use Rattle.key_wrap_core.specs.declared.agreed_form.AgreedForm.TheVariants.{Plain as InPlain, Padded as InPadded}
+use Rattle.key_wrap_core.specs.Lengths.{IsPlainKeyLength, IsPlainTextLength, IsPaddedKeyLength, IsPaddedTextLength}
+use Rattle.key_wrap_core.specs.Plain.{Plain, default_iv}
+use Rattle.key_wrap_core.specs.Padded.{Padded}
+
+-- the wrapped key is the wrapping of the key in this form under E
+abbrev pub StandsAs : AgreedForm → (List ℕ → List ℕ) → List ℕ → List ℕ → Type 0
+StandsAs (InPlain iv) E key text = Plain E iv key text
+StandsAs InPadded E key text = Padded E key text
+
+-- the form, with this initial value if it is the plain form
+abbrev pub with_value : Form → ℕ → AgreedForm
+with_value forms.Plain iv = InPlain iv
+with_value forms.Padded iv = InPadded
+
+-- the form with the default initial value
+abbrev pub by_default : Form → AgreedForm
+by_default form = with_value form default_iv
+
+abbrev pub Stands : Form → ℕ → (List ℕ → List ℕ) → List ℕ → List ℕ → Type 0
+Stands form iv E key text = StandsAs (with_value form iv) E key text
+
+-- the wrapped key is the standard's wrapping of the key in this form under E: the plain one has the default initial value
+abbrev pub StandsIn : Form → (List ℕ → List ℕ) → List ℕ → List ℕ → Type 0
+StandsIn form E key text = StandsAs (by_default form) E key text
+
+abbrev pub IsKeyLengthAs : AgreedForm → ℕ → Type 0
+IsKeyLengthAs (InPlain iv) len = IsPlainKeyLength len
+IsKeyLengthAs InPadded len = IsPaddedKeyLength len
+
+abbrev pub IsTextLengthAs : AgreedForm → ℕ → Type 0
+IsTextLengthAs (InPlain iv) len = IsPlainTextLength len
+IsTextLengthAs InPadded len = IsPaddedTextLength len
+
+abbrev pub IsKeyLength : Form → ℕ → Type 0
+IsKeyLength form len = IsKeyLengthAs (by_default form) len
+
+abbrev pub IsTextLength : Form → ℕ → Type 0
+IsTextLength form len = IsTextLengthAs (by_default form) len

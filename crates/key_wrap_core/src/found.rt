@@ -1,0 +1,83 @@
+//! What an unwrapping found, the initial value and the registers: the unwrapping and the wrapping
+//! of a whole buffer, and the difference from what a wrapping in a form holds. No step here hangs
+//! on the length of the key that was found.
+
+ghost use Rattle.std.specs.Prelude.{◌≡◌, ◌↔◌, ◌⊎◌, ℕ, ◌+◌, ◌++◌, List, length, drop};
+ghost use Rattle.block_pair.specs.Metered.{counted};
+ghost use Rattle.key_wrap_core.specs.Words.{word_bytes};
+ghost use Rattle.key_wrap_core.specs.Lengths.{IsPaddedTextLength};
+ghost use Rattle.key_wrap_core.specs.PaddedRegisters.{PaddedRegisters};
+ghost use Rattle.key_wrap_core.specs.NoKey.{NoKey};
+ghost use Rattle.key_wrap_core.specs.Calls.{block_calls};
+ghost use Rattle.key_wrap_core.specs.declared.forms.Form.{Form};
+ghost use Rattle.key_wrap_core.specs.Forms.{IsTextLengthAs, by_default};
+ghost use Rattle.key_wrap_core.specs.Found.{HoldsIn};
+
+use crate::agreed_form::AgreedForm;
+use crate::checks::{is_zero, padded_difference};
+use crate::forms::Form;
+use crate::lengths::WORD;
+use crate::machine::{unwrap_slice, wrap_slice};
+use block_pair::{BlockPair, Meter};
+use byteorder::{BigEndian, ByteOrder};
+
+// C1 .. Cn after the first word of the buffer become the registers that the machine runs back to,
+// and the answer is the initial value. For two words and more both forms unwrap by the same steps.
+pub(crate) fn unwrap_found<B: BlockPair>(meter: &mut Meter<B>, buf: &mut [u8]) -> u64
+    requires { IsPaddedTextLength (length buf.old) }
+    ensures found { PaddedRegisters (B.encrypted meter.old.pair)
+        (word_bytes result ++ drop 8 buf.new) buf.old }
+    ensures calls { meter.new ≡ counted (block_calls (length buf.old)) meter.old }
+{
+    let c0 = BigEndian::read_u64(buf);
+    unwrap_slice(meter, c0, &mut buf[WORD..])
+}
+
+// The registers after the first word of the buffer become what they are wrapped to under this
+// initial value, the whole buffer.
+pub(crate) fn wrap_found<B: BlockPair>(meter: &mut Meter<B>, iv: u64, buf: &mut [u8])
+    requires { IsPaddedTextLength (length buf.old) }
+    ensures wrapped { PaddedRegisters (B.encrypted meter.old.pair)
+        (word_bytes iv ++ drop 8 buf.old) buf.new }
+    ensures calls { meter.new ≡ counted (block_calls (length buf.old)) meter.old }
+{
+    let c0 = wrap_slice(meter, iv, &mut buf[WORD..]);
+    BigEndian::write_u64(buf, c0);
+}
+
+// 0 if the initial value and the registers hold a key in this form.
+pub(crate) fn form_difference(form: &AgreedForm, iv: u64, registers: &[u8]) -> u64
+    requires { IsTextLengthAs form.now (8 + length registers.now) }
+    ensures passes { result ≡ 0
+        → (key : List ℕ) × HoldsIn form.now key (word_bytes iv ++ registers.now) }
+    ensures refuses { ¬ (result ≡ 0) → NoKey (HoldsIn form.now) (word_bytes iv ++ registers.now) }
+{
+    match form {
+        AgreedForm::Plain(agreed) => iv ^ agreed.word(),
+        AgreedForm::Padded => padded_difference(iv, registers),
+    }
+}
+
+// 0 if they hold a key in one of the two forms, under the default initial value; one word of key
+// data is wrapped only in the padded form.
+pub(crate) fn either_difference(iv: u64, registers: &[u8]) -> u64
+    requires { IsPaddedTextLength (8 + length registers.now) }
+    ensures passes { result ≡ 0
+        → (form : Form) × (key : List ℕ) × HoldsIn (by_default form) key (word_bytes iv ++ registers.now) }
+    ensures refuses { ¬ (result ≡ 0)
+        → (form : Form) → NoKey (HoldsIn (by_default form)) (word_bytes iv ++ registers.now) }
+{
+    let padded = form_difference(&AgreedForm::Padded, iv, registers);
+    if registers.len() == WORD {
+        return padded;
+    }
+    let plain = AgreedForm::by_default(Form::Plain);
+    either(form_difference(&plain, iv, registers), padded)
+}
+
+// 0 if one of the two is 0, with no branch.
+fn either(first: u64, second: u64) -> u64
+    ensures { (result ≡ 0) ↔ ((first ≡ 0) ⊎ (second ≡ 0)) }
+{
+    is_zero(is_zero(first) + is_zero(second))
+}

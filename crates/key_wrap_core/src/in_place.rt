@@ -1,0 +1,193 @@
+//! The calls in the caller's buffer. They take no memory.
+
+ghost use Rattle.std.specs.Prelude.{◌≡◌, ◌↔◌, ◌+◌, ◌*◌, ◌++◌, ℕ, List, length, take, drop};
+ghost use Rattle.std.specs.Prelude.{replicate, All, Ok, Err, OnOk, IfOk, IsOk, IsOkUnless};
+ghost use Rattle.block_pair.specs.Metered.{counted};
+ghost use Rattle.key_wrap_core.specs.Lengths.{IsPlainTextLength, IsPaddedTextLength};
+ghost use Rattle.key_wrap_core.specs.Plain.{Plain, IsReserved, default_iv};
+ghost use Rattle.key_wrap_core.specs.Padded.{Padded, padded, word_count};
+ghost use Rattle.key_wrap_core.specs.NoKey.{NoKey, NoPlainKey};
+ghost use Rattle.key_wrap_core.specs.Calls.{block_calls};
+ghost use Rattle.key_wrap_core.specs.InPlace.{KeyAnswer, Unwrapping, IsPaddedRoom, key_in};
+
+use crate::checks::{DEFAULT_IV, initial_value};
+use crate::faults::InPlaceFault;
+use crate::lengths::{WORD, padded_length_ok, padded_text_length_ok, text_length_ok};
+use crate::machine::wrap_slice;
+use crate::unwrapping::{unwrap_padded_registers, unwrap_registers};
+use block_pair::{BlockPair, Meter};
+use byteorder::{BigEndian, ByteOrder};
+
+/// Wraps the key at offset 8 in place (RFC 3394, section 2.2.1). Afterwards the whole buffer is the
+/// plain wrapping. The first 8 bytes are ignored.
+///
+/// `BadLength`, with the buffer and the meter unchanged, if `text_length_ok` is false for the
+/// buffer's length.
+pub fn wrap_in_place<B: BlockPair>(meter: &mut Meter<B>, buf: &mut [u8]) -> Result<(), InPlaceFault>
+    ensures bad_length { (result ≡ Err InPlaceFault.BadLength)
+        ↔ ¬ IsPlainTextLength (length buf.old) }
+    ensures only_fault { IsOkUnless result InPlaceFault.BadLength }
+    ensures buffer_kept { result ≡ Err InPlaceFault.BadLength → buf.new ≡ buf.old }
+    ensures meter_kept { result ≡ Err InPlaceFault.BadLength → meter.new ≡ meter.old }
+    ensures answer { OnOk result (
+        Plain (B.encrypted meter.old.pair) default_iv (drop 8 buf.old) buf.new) }
+    ensures only_text { OnOk result (
+        (other : List ℕ) → Plain (B.encrypted meter.old.pair) default_iv (drop 8 buf.old) other
+        → other ≡ buf.new) }
+    ensures calls { OnOk result (meter.new ≡ counted (block_calls (length buf.old)) meter.old) }
+{
+    if !text_length_ok(buf.len()) {
+        return Err(InPlaceFault::BadLength);
+    }
+    wrap_buffer(meter, DEFAULT_IV, buf);
+    Ok(())
+}
+
+// The key after the first 8 bytes of the buffer becomes its plain wrapping under this initial
+// value, the whole buffer.
+pub(crate) fn wrap_buffer<B: BlockPair>(meter: &mut Meter<B>, iv: u64, buf: &mut [u8])
+    requires { IsPlainTextLength (length buf.old) }
+    ensures answer { Plain (B.encrypted meter.old.pair) iv (drop 8 buf.old) buf.new }
+    ensures calls { meter.new ≡ counted (block_calls (length buf.old)) meter.old }
+{
+    let c0 = wrap_slice(meter, iv, &mut buf[WORD..]);
+    BigEndian::write_u64(buf, c0);
+}
+
+/// Unwraps the plain wrapping in the buffer, which becomes 8 zero bytes and the key (RFC 3394,
+/// section 2.2.2).
+///
+/// `BadLength`, with the buffer and the meter unchanged, if `text_length_ok` is false for the
+/// buffer's length. `Integrity` if the buffer holds the plain wrapping of no key; then every byte
+/// of it becomes zero, and the meter counts as many calls as for a key.
+pub fn unwrap_in_place<B: BlockPair>(
+    meter: &mut Meter<B>,
+    buf: &mut [u8],
+) -> Result<(), InPlaceFault>
+    ensures bad_length { (result ≡ Err InPlaceFault.BadLength)
+        ↔ ¬ IsPlainTextLength (length buf.old) }
+    ensures buffer_kept { result ≡ Err InPlaceFault.BadLength → buf.new ≡ buf.old }
+    ensures meter_kept { result ≡ Err InPlaceFault.BadLength → meter.new ≡ meter.old }
+    ensures answer { KeyAnswer (IsPlainTextLength (length buf.old))
+        (Plain (B.encrypted meter.old.pair) default_iv)
+        buf.old (λ _. drop 8 buf.new) result }
+
+    // A wrapping is not refused.
+    ensures accepts { (key : List ℕ) → Plain (B.encrypted meter.old.pair) default_iv key buf.old
+        → IsOk result }
+    ensures only_key { OnOk result (
+        (other : List ℕ) → Plain (B.encrypted meter.old.pair) default_iv other buf.old
+        → other ≡ drop 8 buf.new) }
+
+    // Wrapping the answer again gives the input.
+    ensures restores { OnOk result (
+        (other : List ℕ) → Plain (B.encrypted meter.old.pair) default_iv (drop 8 buf.new) other
+        → other ≡ buf.old) }
+    ensures other_form { OnOk result (NoKey (Padded (B.encrypted meter.old.pair)) buf.old) }
+    ensures first_word { OnOk result (take 8 buf.new ≡ replicate 8 0) }
+    ensures cleared { result ≡ Err InPlaceFault.Integrity → All (λ byte. byte ≡ 0) buf.new }
+    ensures calls { ¬ (result ≡ Err InPlaceFault.BadLength)
+        → meter.new ≡ counted (block_calls (length buf.old)) meter.old }
+{
+    if !text_length_ok(buf.len()) {
+        return Err(InPlaceFault::BadLength);
+    }
+    unwrap_buffer(meter, DEFAULT_IV, buf)
+}
+
+// The plain wrapping in the buffer becomes 8 zero bytes and the key whose wrapping it is under this
+// initial value, or only zeros if there is none.
+pub(crate) fn unwrap_buffer<B: BlockPair>(
+    meter: &mut Meter<B>,
+    iv: u64,
+    buf: &mut [u8],
+) -> Result<(), InPlaceFault>
+    requires length { IsPlainTextLength (length buf.old) }
+    requires free { ¬ IsReserved iv }
+    ensures answer { Unwrapping (IsPlainTextLength (length buf.old))
+        (Plain (B.encrypted meter.old.pair) iv) (NoKey (Padded (B.encrypted meter.old.pair)))
+        buf.old (λ _. drop 8 buf.new) result }
+    ensures first_word { OnOk result (take 8 buf.new ≡ replicate 8 0) }
+    ensures cleared { result ≡ Err InPlaceFault.Integrity → All (λ byte. byte ≡ 0) buf.new }
+    ensures calls { meter.new ≡ counted (block_calls (length buf.old)) meter.old }
+{
+    let c0 = BigEndian::read_u64(buf);
+    buf[..WORD].fill(0);
+    unwrap_registers(meter, iv, c0, &mut buf[WORD..])
+}
+
+/// Wraps the `m`-byte key at offset 8 in place (RFC 5649, section 4.1). Afterwards the whole buffer
+/// is the padded wrapping. Other bytes of the buffer are ignored.
+///
+/// `BadLength`, with the buffer and the meter unchanged, if `padded_length_ok` is false for `m`, or
+/// if the buffer is not 8 bytes longer than `m` rounded up to a multiple of 8.
+pub fn wrap_padded_in_place<B: BlockPair>(
+    meter: &mut Meter<B>,
+    buf: &mut [u8],
+    m: usize,
+) -> Result<(), InPlaceFault>
+    ensures bad_length { (result ≡ Err InPlaceFault.BadLength) ↔ ¬ IsPaddedRoom m (length buf.old) }
+    ensures only_fault { IsOkUnless result InPlaceFault.BadLength }
+    ensures buffer_kept { result ≡ Err InPlaceFault.BadLength → buf.new ≡ buf.old }
+    ensures meter_kept { result ≡ Err InPlaceFault.BadLength → meter.new ≡ meter.old }
+    ensures answer { OnOk result (Padded (B.encrypted meter.old.pair) (key_in m buf.old) buf.new) }
+    ensures only_text { OnOk result (
+        (other : List ℕ) → Padded (B.encrypted meter.old.pair) (key_in m buf.old) other
+        → other ≡ buf.new) }
+    ensures calls { OnOk result (meter.new ≡ counted (block_calls (length buf.old)) meter.old) }
+{
+    if !padded_length_ok(m) || buf.len() != WORD + m.next_multiple_of(WORD) {
+        return Err(InPlaceFault::BadLength);
+    }
+    buf[WORD + m..].fill(0);
+    let c0 = wrap_slice(meter, initial_value(m), &mut buf[WORD..]);
+    BigEndian::write_u64(buf, c0);
+    Ok(())
+}
+
+/// Unwraps the padded wrapping in the buffer, which becomes 8 zero bytes, the key, and zero bytes
+/// to the end (RFC 5649, section 4.2). Returns the length of the key.
+///
+/// `BadLength`, with the buffer and the meter unchanged, if `padded_text_length_ok` is false for
+/// the buffer's length. `Integrity` if the buffer holds the padded wrapping of no key; then every
+/// byte of it becomes zero, and the meter counts as many calls as for a key.
+pub fn unwrap_padded_in_place<B: BlockPair>(
+    meter: &mut Meter<B>,
+    buf: &mut [u8],
+) -> Result<usize, InPlaceFault>
+    ensures bad_length { (result ≡ Err InPlaceFault.BadLength)
+        ↔ ¬ IsPaddedTextLength (length buf.old) }
+    ensures buffer_kept { result ≡ Err InPlaceFault.BadLength → buf.new ≡ buf.old }
+    ensures meter_kept { result ≡ Err InPlaceFault.BadLength → meter.new ≡ meter.old }
+    ensures answer { KeyAnswer (IsPaddedTextLength (length buf.old))
+        (Padded (B.encrypted meter.old.pair))
+        buf.old (λ m. key_in m buf.new) result }
+
+    // A wrapping is not refused.
+    ensures accepts { (key : List ℕ) → Padded (B.encrypted meter.old.pair) key buf.old
+        → IsOk result }
+    ensures only_key { IfOk result (λ m.
+        (other : List ℕ) → Padded (B.encrypted meter.old.pair) other buf.old
+        → other ≡ key_in m buf.new) }
+
+    // Wrapping the answer again gives the input.
+    ensures restores { IfOk result (λ m.
+        (other : List ℕ) → Padded (B.encrypted meter.old.pair) (key_in m buf.new) other
+        → other ≡ buf.old) }
+    ensures other_form { OnOk result (
+        NoKey (Plain (B.encrypted meter.old.pair) default_iv) buf.old) }
+    ensures other_values { OnOk result (NoPlainKey (B.encrypted meter.old.pair) buf.old) }
+    ensures size { IfOk result (λ m. length (key_in m buf.new) ≡ m) }
+    ensures room { IfOk result (λ m. length buf.old ≡ 8 + 8 * word_count m) }
+    ensures around { IfOk result (λ m. buf.new ≡ replicate 8 0 ++ padded (key_in m buf.new)) }
+    ensures cleared { result ≡ Err InPlaceFault.Integrity → All (λ byte. byte ≡ 0) buf.new }
+    ensures calls { ¬ (result ≡ Err InPlaceFault.BadLength)
+        → meter.new ≡ counted (block_calls (length buf.old)) meter.old }
+{
+    if !padded_text_length_ok(buf.len()) {
+        return Err(InPlaceFault::BadLength);
+    }
+    let c0 = BigEndian::read_u64(buf);
+    buf[..WORD].fill(0);
+    unwrap_padded_registers(meter, c0, &mut buf[WORD..])
+}

@@ -1,0 +1,53 @@
+//! The AES Key Wrap of RFC 3394 and RFC 5649 over any block permutation, in the caller's buffers.
+//!
+//! A key is wrapped under a block permutation, a `pair`, AES under a KEK for one, and unwrapped
+//! again:
+//!
+//! ```
+//! let aes = Aes::new(&kek)?;
+//! let mut meter = Meter::new(&aes);
+//! wrap_into(&mut meter, &key, &mut wrapped)?;
+//! unwrap_into(&mut meter, &wrapped, &mut key)?;
+//! ```
+//!
+//! No call takes memory. `key_wrap` has calls that return a `Vec`.
+#![tactic(auto)]
+
+mod agreed_form;
+mod checks;
+mod faults;
+mod forms;
+mod found;
+mod in_place;
+mod initial_value;
+mod into;
+mod into_with;
+mod keeping_form_in_place;
+mod kinds;
+mod lengths;
+mod machine;
+mod rewrapping_in_place;
+mod steps;
+mod unwrap_steps;
+mod unwrapping;
+mod whole_runs;
+mod wrap_steps;
+
+pub use agreed_form::AgreedForm;
+pub use faults::{BadScratchLength, InPlaceFault, ReservedIv};
+pub use forms::{Form, Kind};
+pub use in_place::{unwrap_in_place, unwrap_padded_in_place, wrap_in_place, wrap_padded_in_place};
+pub use initial_value::InitialValue;
+pub use into::{unwrap_into, unwrap_padded_into, wrap_into, wrap_padded_into};
+pub use into_with::{unwrap_into_with, wrap_into_with};
+pub use keeping_form_in_place::rewrap_keeping_form_in_place;
+pub use kinds::{kind_into, kind_into_with};
+pub use lengths::{
+    MAX_KEY, key_length_ok, padded_length_ok, padded_text_length_ok, text_length_ok,
+};
+pub use rewrapping_in_place::{rewrap_in_place, rewrap_in_place_with};
+pub use unwrap_steps::{
+    begin_unwrap, begin_unwrap_padded, end_unwrap, end_unwrap_padded, step_unwrap,
+};
+pub use whole_runs::{whole_unwrap_law, whole_wrap_law};
+pub use wrap_steps::{begin_wrap, begin_wrap_padded, end_wrap, step_wrap};

@@ -1,0 +1,170 @@
+//! One step of a wrapping, and one step undone, over the registers and the block. The caller
+//! encrypts or decrypts the block between two steps, so the cipher may be outside the program.
+
+ghost use Rattle.std.specs.Prelude.{◌≡◌, ◌↔◌, ◌+◌, ◌*◌, ◌/◌, ◌-◌, ◌%◌, ◌≤◌, ◌<◌, ◌++◌, ℕ, List, length};
+ghost use Rattle.std.specs.Prelude.{IsTrue};
+ghost use Rattle.block_pair.specs.Words.{IsBlock};
+ghost use Rattle.key_wrap_core.specs.Words.{word_bytes};
+ghost use Rattle.key_wrap_core.specs.Lengths.{IsPaddedTextLength};
+ghost use Rattle.key_wrap_core.specs.Calls.{block_calls};
+ghost use Rattle.key_wrap_core.specs.Steps.{WrapSteps, WrapState, UnwrapSteps, UnwrapState};
+
+use crate::lengths::{MAX_KEY, WORD};
+use byteorder::{BigEndian, ByteOrder};
+
+// Whether a wrapping, in either form, can have registers of `len` bytes.
+pub(crate) fn registers_ok(len: usize) -> bool
+    ensures { IsTrue result ↔ IsPaddedTextLength (8 + len) }
+{
+    len % 8 == 0 && 8 <= len && len <= MAX_KEY
+}
+
+// The number of steps over registers of `len` bytes, each with one block call.
+pub(crate) fn step_count(len: usize) -> u64
+    requires { len ≤ MAX_KEY }
+    ensures { result ≡ block_calls (8 + len) }
+{
+    if len == WORD {
+        1
+    } else {
+        6 * (len / WORD) as u64
+    }
+}
+
+// The first block to encrypt: the initial value and the first register.
+pub(crate) fn first_block(iv: u64, registers: &[u8]) -> [u8; 16]
+    requires { IsPaddedTextLength (8 + length registers.now) }
+    ensures { (E : List ℕ → List ℕ) → WrapState E iv registers.now 0 registers.now result }
+{
+    word_and_register(iv, &registers[..WORD])
+}
+
+// The first block to decrypt: C0, with the number of the last step, and the last register.
+pub(crate) fn last_block(c0: u64, registers: &[u8]) -> [u8; 16]
+    requires { IsPaddedTextLength (8 + length registers.now) }
+    ensures { (E : List ℕ → List ℕ) → UnwrapState E (word_bytes c0 ++ registers.now)
+        (block_calls (8 + length registers.now)) registers.now result }
+{
+    let a = c0 ^ last_counter(registers.len());
+    word_and_register(a, &registers[registers.len() - WORD..])
+}
+
+// The counter of the last step; the one step of one word has none.
+fn last_counter(len: usize) -> u64
+    requires { len ≤ MAX_KEY }
+    ensures one_word { len ≡ 8 → result ≡ 0 }
+    ensures more { ¬ (len ≡ 8) → result ≡ 6 * (len / 8) }
+{
+    if len == WORD {
+        0
+    } else {
+        6 * (len / WORD) as u64
+    }
+}
+
+// The next block, with `done` steps done and the last block encrypted to this one. The block is passed
+// by value, and the functions are inlined, so that it stays in registers of the processor: read back
+// from memory, it would wait for the two stores of its halves.
+#[inline(always)]
+pub(crate) fn step_registers(registers: &mut [u8], done: u64, block: [u8; 16]) -> [u8; 16]
+    requires legal { IsPaddedTextLength (8 + length registers.old) }
+    requires left { done < block_calls (8 + length registers.old) }
+    ensures { (E : List ℕ → List ℕ) (iv : ℕ) (key before : List ℕ)
+        → WrapState E iv key done registers.old before
+        → block ≡ E before
+        → WrapState E iv key (done + 1) registers.new result }
+{
+    if registers.len() > WORD {
+        return step_words(registers, done as usize, block);
+    }
+    registers.copy_from_slice(&block[WORD..]);
+    block
+}
+
+// The second half of the block goes into its register, and the block of the next step comes out (RFC
+// 3394, section 2.2.1).
+#[inline(always)]
+pub(crate) fn step_words(registers: &mut [u8], done: usize, block: [u8; 16]) -> [u8; 16]
+    requires whole_words { length registers.old % 8 ≡ 0 }
+    requires some { 8 ≤ length registers.old }
+    requires within { length registers.old ≤ MAX_KEY }
+    requires left { done < 6 * (length registers.old / 8) }
+    ensures { (E : List ℕ → List ℕ) (iv : ℕ) (key before : List ℕ)
+        → WrapSteps E iv key done registers.old before
+        → block ≡ E before
+        → WrapSteps E iv key (done + 1) registers.new result }
+{
+    let n = registers.len() / WORD;
+    let a = BigEndian::read_u64(&block) ^ (done as u64 + 1);
+    let place = WORD * (done % n);
+    registers[place..place + WORD].copy_from_slice(&block[WORD..]);
+    let next = WORD * register_after(done % n, n);
+    word_and_register(a, &registers[next..next + WORD])
+}
+
+// The next block, with `left + 1` steps left to undo and the last block decrypted to this one.
+#[inline(always)]
+pub(crate) fn unstep_registers(registers: &mut [u8], left: u64, block: [u8; 16]) -> [u8; 16]
+    requires legal { IsPaddedTextLength (8 + length registers.old) }
+    requires left { left < block_calls (8 + length registers.old) }
+    requires block { IsBlock block }
+    ensures { (E : List ℕ → List ℕ) (text before : List ℕ)
+        → UnwrapState E text (left + 1) registers.old before
+        → E block ≡ before
+        → UnwrapState E text left registers.new result }
+{
+    if registers.len() > WORD {
+        return unstep_words(registers, left as usize, block);
+    }
+    registers.copy_from_slice(&block[WORD..]);
+    block
+}
+
+// The second half of the block goes into its register, and the block of the step before comes out
+// (section 2.2.2).
+#[inline(always)]
+fn unstep_words(registers: &mut [u8], left: usize, block: [u8; 16]) -> [u8; 16]
+    requires whole_words { length registers.old % 8 ≡ 0 }
+    requires some { 8 ≤ length registers.old }
+    requires within { length registers.old ≤ MAX_KEY }
+    requires left { left < 6 * (length registers.old / 8) }
+    ensures { (E : List ℕ → List ℕ) (text before : List ℕ)
+        → UnwrapSteps E text (left + 1) registers.old before
+        → E block ≡ before
+        → UnwrapSteps E text left registers.new result }
+{
+    let n = registers.len() / WORD;
+    let a = BigEndian::read_u64(&block) ^ left as u64;
+    let restored = WORD * (left % n);
+    registers[restored..restored + WORD].copy_from_slice(&block[WORD..]);
+    let next = WORD * register_before(left % n, n);
+    word_and_register(a, &registers[next..next + WORD])
+}
+
+// The number of the register after this one of `n`, without a second division.
+fn register_after(i: usize, n: usize) -> usize
+    requires { i < n }
+    ensures { result ≡ (i + 1) % n }
+{
+    if i + 1 == n { 0 } else { i + 1 }
+}
+
+// The number of the register before this one of `n`.
+fn register_before(i: usize, n: usize) -> usize
+    requires { i < n }
+    ensures { result ≡ (n + i - 1) % n }
+{
+    if i == 0 { n - 1 } else { i - 1 }
+}
+
+// The block A | R, written as two words, so that it stays in registers of the processor: copied there
+// as bytes and read back, it would wait for the two stores.
+fn word_and_register(a: u64, register: &[u8]) -> [u8; 16]
+    requires { length register.now ≡ WORD }
+    ensures { result ≡ word_bytes a ++ register.now }
+{
+    let mut block = [0; 16];
+    BigEndian::write_u64(&mut block, a);
+    BigEndian::write_u64(&mut block[WORD..], BigEndian::read_u64(register));
+    block
+}

@@ -1,0 +1,204 @@
+//! An unwrapping step by step, for a block permutation that is not a value in memory: the AES of a
+//! token, or of the processor.
+//!
+//! The caller holds the registers, which are the wrapped key after its first 8 bytes, the number of
+//! steps left, and a block. It begins, and then decrypts the block and undoes a step, until none is
+//! left. A block that was not decrypted, or a number that the caller changed, cannot be noticed, and
+//! an unwrapping that is not ended leaves key material in the registers and the block.
+
+ghost use Rattle.std.specs.Prelude.{◌≡◌, ◌↔◌, ℕ, ◌+◌, ◌*◌, ◌≤◌, ◌++◌, List, length, take, All};
+ghost use Rattle.std.specs.Prelude.{Ok, Err, OnOk, IfOk, IsOkUnless};
+ghost use Rattle.block_pair.specs.Pair.{AreInverse};
+ghost use Rattle.key_wrap_core.specs.Lengths.{IsPlainKeyLength, IsPlainTextLength, IsPaddedTextLength};
+ghost use Rattle.key_wrap_core.specs.Plain.{Plain};
+ghost use Rattle.key_wrap_core.specs.Padded.{Padded, padded, word_count};
+ghost use Rattle.key_wrap_core.specs.NoKey.{NoKey, NoPlainKey};
+ghost use Rattle.key_wrap_core.specs.Calls.{block_calls};
+ghost use Rattle.key_wrap_core.specs.InPlace.{Unwrapping};
+ghost use Rattle.key_wrap_core.specs.Steps.{UnwrapState};
+ghost use Rattle.key_wrap_core.specs.Words.{word_bytes};
+
+use crate::faults::InPlaceFault;
+use crate::initial_value::InitialValue;
+use crate::lengths::key_length_ok;
+use crate::steps::{last_block, registers_ok, step_count, unstep_registers};
+use crate::unwrapping::{end_padded, end_plain};
+use byteorder::{BigEndian, ByteOrder};
+
+/// Begins the plain unwrapping of the text of which `first` has the first 8 bytes and the registers
+/// the rest (RFC 3394, section 2.2.2): `left` becomes the number of steps, and the block the first
+/// to decrypt.
+///
+/// `BadLength`, with everything as it was, if `text_length_ok` refuses the length of the text.
+pub fn begin_unwrap(
+    first: &[u8; 8],
+    registers: &[u8],
+    left: &mut u64,
+    block: &mut [u8; 16],
+) -> Result<(), InPlaceFault>
+    ensures bad_length { (result ≡ Err InPlaceFault.BadLength)
+        ↔ ¬ IsPlainTextLength (8 + length registers.now) }
+    ensures only_fault { IsOkUnless result InPlaceFault.BadLength }
+    ensures left_kept { result ≡ Err InPlaceFault.BadLength → left.new ≡ left.old }
+    ensures block_kept { result ≡ Err InPlaceFault.BadLength → block.new ≡ block.old }
+    ensures all_left { OnOk result (left.new ≡ block_calls (8 + length registers.now)) }
+    ensures begins { OnOk result ((E : List ℕ → List ℕ)
+        → UnwrapState E (first.now ++ registers.now) left.new registers.now block.new) }
+{
+    if !key_length_ok(registers.len()) {
+        return Err(InPlaceFault::BadLength);
+    }
+    begin_last(first, registers, left, block);
+    Ok(())
+}
+
+/// As `begin_unwrap`, for the padded form (RFC 5649, section 4.2).
+///
+/// `BadLength`, with everything as it was, if `padded_text_length_ok` refuses the length of the text.
+pub fn begin_unwrap_padded(
+    first: &[u8; 8],
+    registers: &[u8],
+    left: &mut u64,
+    block: &mut [u8; 16],
+) -> Result<(), InPlaceFault>
+    ensures bad_length { (result ≡ Err InPlaceFault.BadLength)
+        ↔ ¬ IsPaddedTextLength (8 + length registers.now) }
+    ensures only_fault { IsOkUnless result InPlaceFault.BadLength }
+    ensures left_kept { result ≡ Err InPlaceFault.BadLength → left.new ≡ left.old }
+    ensures block_kept { result ≡ Err InPlaceFault.BadLength → block.new ≡ block.old }
+    ensures all_left { OnOk result (left.new ≡ block_calls (8 + length registers.now)) }
+    ensures begins { OnOk result ((E : List ℕ → List ℕ)
+        → UnwrapState E (first.now ++ registers.now) left.new registers.now block.new) }
+{
+    if !registers_ok(registers.len()) {
+        return Err(InPlaceFault::BadLength);
+    }
+    begin_last(first, registers, left, block);
+    Ok(())
+}
+
+// The number of the steps, and the block of the last one.
+fn begin_last(first: &[u8; 8], registers: &[u8], left: &mut u64, block: &mut [u8; 16])
+    requires { IsPaddedTextLength (8 + length registers.now) }
+    ensures all_left { left.new ≡ block_calls (8 + length registers.now) }
+    ensures begins { (E : List ℕ → List ℕ)
+        → UnwrapState E (first.now ++ registers.now) left.new registers.now block.new }
+{
+    *left = step_count(registers.len());
+    *block = last_block(BigEndian::read_u64(first), registers);
+}
+
+/// Undoes one step more, with the block decrypted since the last: `left` counts down, and the block
+/// becomes the next to decrypt.
+///
+/// `BadLength`, with everything as it was, if the registers have no legal length, no step is left, or
+/// more than there are.
+pub fn step_unwrap(
+    registers: &mut [u8],
+    left: &mut u64,
+    block: &mut [u8; 16],
+) -> Result<(), InPlaceFault>
+    ensures bad_length { (result ≡ Err InPlaceFault.BadLength)
+        ↔ ¬ (IsPaddedTextLength (8 + length registers.old) × (1 ≤ left.old)
+        × (left.old ≤ block_calls (8 + length registers.old))) }
+    ensures only_fault { IsOkUnless result InPlaceFault.BadLength }
+    ensures registers_kept { result ≡ Err InPlaceFault.BadLength → registers.new ≡ registers.old }
+    ensures left_kept { result ≡ Err InPlaceFault.BadLength → left.new ≡ left.old }
+    ensures block_kept { result ≡ Err InPlaceFault.BadLength → block.new ≡ block.old }
+    ensures counts { OnOk result (left.old ≡ left.new + 1) }
+
+    // For every E: if E takes the block to the last one, one step less is left of the unwrapping.
+    ensures steps { OnOk result ((E : List ℕ → List ℕ) (text before : List ℕ)
+        → UnwrapState E text left.old registers.old before
+        → E block.old ≡ before
+        → UnwrapState E text left.new registers.new block.new) }
+{
+    if !registers_ok(registers.len()) || *left == 0 || *left > step_count(registers.len()) {
+        return Err(InPlaceFault::BadLength);
+    }
+    *left -= 1;
+    *block = unstep_registers(registers, *left, *block);
+    Ok(())
+}
+
+/// Ends a plain unwrapping: the registers hold the key whose wrapping under this initial value the
+/// text is. The block becomes zeros.
+///
+/// `BadLength`, with everything as it was, if the registers have no legal length, or a step is left;
+/// `Integrity` if the text is the plain wrapping of no key, and then every byte of the registers is
+/// zero.
+pub fn end_unwrap(
+    iv: &InitialValue,
+    registers: &mut [u8],
+    left: u64,
+    block: &mut [u8; 16],
+) -> Result<(), InPlaceFault>
+    ensures bad_length { (result ≡ Err InPlaceFault.BadLength)
+        ↔ ¬ (IsPlainKeyLength (length registers.old) × (left ≡ 0)) }
+    ensures registers_kept { result ≡ Err InPlaceFault.BadLength → registers.new ≡ registers.old }
+    ensures block_kept { result ≡ Err InPlaceFault.BadLength → block.new ≡ block.old }
+
+    // For every E that has an inverse: the refusals and the key of the call in place.
+    ensures answer { ¬ (result ≡ Err InPlaceFault.BadLength)
+        → (E D : List ℕ → List ℕ) (text : List ℕ)
+        → AreInverse E D
+        → UnwrapState E text left registers.old block.old
+        → Unwrapping (IsPlainTextLength (length text)) (Plain E iv.now) (NoKey (Padded E)) text
+        (λ _. registers.new) result }
+    ensures cleared { result ≡ Err InPlaceFault.Integrity → All (λ byte. byte ≡ 0) registers.new }
+    ensures block_cleared { ¬ (result ≡ Err InPlaceFault.BadLength)
+        → All (λ byte. byte ≡ 0) block.new }
+{
+    if !key_length_ok(registers.len()) || left != 0 {
+        return Err(InPlaceFault::BadLength);
+    }
+    let found = take_value(block);
+    end_plain(found, iv.word(), registers)
+}
+
+/// Ends a padded unwrapping: the registers hold the key, of as many bytes as the answer says, and
+/// zero bytes to the end. The block becomes zeros.
+///
+/// `BadLength`, with everything as it was, if the registers have no legal length, or a step is left;
+/// `Integrity` if the text is the padded wrapping of no key, and then every byte of the registers is
+/// zero.
+pub fn end_unwrap_padded(
+    registers: &mut [u8],
+    left: u64,
+    block: &mut [u8; 16],
+) -> Result<usize, InPlaceFault>
+    ensures bad_length { (result ≡ Err InPlaceFault.BadLength)
+        ↔ ¬ (IsPaddedTextLength (8 + length registers.old) × (left ≡ 0)) }
+    ensures registers_kept { result ≡ Err InPlaceFault.BadLength → registers.new ≡ registers.old }
+    ensures block_kept { result ≡ Err InPlaceFault.BadLength → block.new ≡ block.old }
+
+    // For every E that has an inverse: the refusals and the key of the call in place.
+    ensures answer { ¬ (result ≡ Err InPlaceFault.BadLength)
+        → (E D : List ℕ → List ℕ) (text : List ℕ)
+        → AreInverse E D
+        → UnwrapState E text left registers.old block.old
+        → Unwrapping (IsPaddedTextLength (length text)) (Padded E) (NoPlainKey E) text
+        (λ m. take m registers.new) result }
+    ensures size { IfOk result (λ m. length (take m registers.new) ≡ m) }
+    ensures room { IfOk result (λ m. length registers.new ≡ 8 * word_count m) }
+    ensures padding { IfOk result (λ m. registers.new ≡ padded (take m registers.new)) }
+    ensures cleared { result ≡ Err InPlaceFault.Integrity → All (λ byte. byte ≡ 0) registers.new }
+    ensures block_cleared { ¬ (result ≡ Err InPlaceFault.BadLength)
+        → All (λ byte. byte ≡ 0) block.new }
+{
+    if !registers_ok(registers.len()) || left != 0 {
+        return Err(InPlaceFault::BadLength);
+    }
+    let found = take_value(block);
+    end_padded(found, registers)
+}
+
+// The initial value that the steps led back to; the block becomes zeros.
+fn take_value(block: &mut [u8; 16]) -> u64
+    ensures value { word_bytes result ≡ take 8 block.old }
+    ensures cleared { All (λ byte. byte ≡ 0) block.new }
+{
+    let found = BigEndian::read_u64(&block[..]);
+    block.fill(0);
+    found
+}
