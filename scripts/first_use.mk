@@ -2,7 +2,7 @@
 # launcher calls, from the top of the repository.
 #
 # It calls the kit's compiler, rattle, as `rt ci` does. So a crate loads what the crates below it state, and not their
-# proofs. With `rt lib`, which has no option for that, this takes a quarter longer.
+# proofs, which takes long. `rt lib` has no option for that.
 #
 # CRATES are the crates below the program that have a directory here, and JOBS is the greatest number of jobs of rattle.
 # The directory LOGS, of the environment, gets the output for crates/NAME: NAME.log while rattle works on it and if it
@@ -18,7 +18,7 @@ kit := $(shell dirname -- "$$(dirname -- "$$(readlink -f -- "$$(command -v rt)")
 # What a build leaves for the next one: NAME.rlib for the crates above, and NAME.sums, the checksums of what it was made
 # of: the sources of NAME and of the crates below it, and the kit.
 kept = crates/keywrap/out/kept
-# The crates that a crate names in crates.txt, those of them that have a directory here, and all below it.
+# The crates that a crate names in crates.txt; the ones that have a directory here; and all crates below it.
 named = $(shell sed -n 's/^$(1): *//p' crates.txt)
 below = $(filter $(CRATES),$(call named,$(1)))
 all_below = $(sort $(foreach crate,$(call below,$(1)),$(crate) $(call all_below,$(crate))))

@@ -37,7 +37,7 @@ launched() {
     noted "$1" "${@:5}"
     verdict "$1: what is left" "$(left)"
 }
-starts='keywrap: proving and building the program, about 10 minutes the first time (logs: LOGS)'
+starts='keywrap: proving and building the program, 5 to 10 minutes the first time (logs: LOGS)'
 # said CRATE: what rattle prints for it.
 said() { printf '%s\n' "the first line of $1" 'the second line'; }
 
