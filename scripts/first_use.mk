@@ -43,8 +43,10 @@ rattle = cd 'crates/$@' && exec $(gently) '$(kit)/bin/rattle' build --crate-name
     --logic-built '$(kit)/logic_built' --links $@= --jobs $(jobs)
 is_proved = @mv "$$LOGS/$@.log" "$$LOGS/$@.proved"
 
+# The old checksums go first, so that they are never beside a newer NAME.rlib.
 $(changed):
-	@mkdir -p $(kept) && $(rattle) --statements -o ../../$(kept)/$@.rlib src/lib.rt >"$$LOGS/$@.log" 2>&1
+	@mkdir -p $(kept) && rm -f $(kept)/$@.sums
+	@$(rattle) --statements -o ../../$(kept)/$@.rlib src/lib.rt >"$$LOGS/$@.log" 2>&1
 	@mv "$$LOGS/$@.sums" $(kept)
 	$(is_proved)
 

@@ -51,9 +51,29 @@ TMPDIR=$tree/missing launch
 launched 'no folder for the logs' 70 '' "keywrap: no folder for the build's logs"
 launch a 'b c'
 launched 'the first use' 5 "child of $$, 2 words: a b c"$'\n' "$starts" "${steps[@]}"
+kept=../../crates/keywrap/out/kept
+kit_words=(-L "dependency=$tree/rlibs" -L "dependency=$kept" --antt-project "$tree/rattle/logic/antt-project.json"
+    --logic-built "$tree/logic_built")
+verdict "rattle's words for a crate" "$(diff words.aes_block <(printf '%s\n' build --crate-name aes_block \
+    --extern "std=$tree/rlibs/std.rlib" --extern "byteorder=$tree/rlibs/byteorder.rlib" \
+    --extern block_pair=$kept/block_pair.rlib "${kit_words[@]}" --links aes_block= --jobs 2 \
+    --statements -o $kept/aes_block.rlib src/lib.rt))"
+verdict "rattle's words for the program" "$(diff words.keywrap <(printf '%s\n' build --crate-name keywrap \
+    --extern "std=$tree/rlibs/std.rlib" --extern "clap=$tree/rlibs/clap.rlib" \
+    --extern block_pair=$kept/block_pair.rlib --extern aes_block=$kept/aes_block.rlib "${kit_words[@]}" \
+    --links keywrap= --jobs 4 --backend rattle --toolchain "$tree/toolchain" -o out/kept/keywrap.o src/main.rt))"
+verdict "rattle-link's words" "$(diff words.link <(printf '%s\n' --target x86_64-unknown-linux-gnu \
+    --toolchain "$tree/toolchain" -o "${kept#../../}/keywrap" "${kept#../../}/keywrap.o" \
+    "$tree"/c/lib{os,libc}_c.a))"
+# The launcher's lock is descriptor 9. The program gets the descriptor 9 of the caller instead.
+fresh
+for way in 'the first use' 'the program as it is built'; do
+    row "the descriptor 9 of the caller, $way" eval './keywrap --version 9<crates.txt | grep -x "$tree/crates.txt"'
+done
 fresh; at='.*' event='cat >>"$tree/notes"' launch <crates.txt
 noted 'the input is left to the program' "${steps[@]}"
-mkdir -p 'far/a tree' && ln -s ../keywrap far/link
+mkdir -p 'far/a tree' && ln -s ../keywrap far/link && ln -s ../../bin/rt 'far/a tree/rt'
+echo '$(error this file is read)' >far/stops.mk
 : >notes
 find crates -name '*.rt' -exec touch {} +
 for way in far/link 'sh keywrap' "PATH='$tree':\$PATH && cd / && keywrap" \
@@ -61,8 +81,8 @@ for way in far/link 'sh keywrap' "PATH='$tree':\$PATH && cd / && keywrap" \
     verdict "$way" "$(eval "$way --version" 2>&1 | grep -vx 'child of [0-9]*, 1 words: --version'; cat notes)"
 done
 for way in far/link "cd .. && CDPATH='$tree/far' 'a tree/keywrap'" 'TMPDIR=tmp ./keywrap' \
-    'MAKEFLAGS=n MAKEFILES=missing.mk ./keywrap' 'JOBS=7 CRATES=others WORDS=x ./keywrap' \
-    'make -s -j3 JOBS=7 build && ./keywrap'; do
+    'MAKEFLAGS=n MAKEFILES=far/stops.mk GNUMAKEFLAGS=n ./keywrap' 'JOBS=7 CRATES=others WORDS=x ./keywrap' \
+    'PATH="far/a tree:$PATH" ./keywrap' 'make -s -j3 JOBS=7 build && ./keywrap'; do
     fresh
     verdict "the first use by $way" "$(eval "$way --version" 2>&1 |
         grep -vx -e 'child of [0-9]*, 1 words: --version' -e "${starts% (*} (logs: .*)")"
@@ -76,11 +96,13 @@ append WHAT; append crates/keywrap/src/lib.rt
 fresh; at=block_pair event='echo other >>src/lib.rt' launch
 fresh; at='a tree' event='cd crates/keywrap; echo other >>src/lib.rt' make gate
 END_OF_CHANGES
-# A crate is proved again only if it or a crate below it changed.
+# A crate is proved again only if it or a crate below it changed, or if its last proof did not end well.
+main=crates/keywrap/src/lib.rt
 rebuilds './keywrap --version' "${steps[@]:2}" <<END_OF_CHANGES
 append crates/aes_block/specs/Lib.antt
+append crates/aes_block/src/lib.rt; at=aes_block event='echo first >src/lib.rt; exit 1' launch; append $main
 append crates/aes_block/src/lib.rt; at=aes_block event='exit 1' launch
-rm -r crates/keywrap/out/kept/aes_block.rlib; append crates/keywrap/src/lib.rt
+rm -r crates/keywrap/out/kept/aes_block.rlib; append $main
 END_OF_CHANGES
 rebuilds './keywrap --version' "${steps[@]:4}" <<END_OF_CHANGES
 rm -r crates/keywrap/proofs
@@ -89,13 +111,23 @@ touch -d tomorrow $program
 append crates/aes_block/src/lib.rt; at=keywrap event='kill -s KILL \$\$' launch
 fresh; (trap '' XFSZ; at=keywrap event='prlimit --fsize=999 --pid \$launcher' ./keywrap)
 END_OF_CHANGES
-rebuilds './keywrap --version' <<<"fresh; at='a tree' event='cd crates/keywrap' make gate"
+rebuilds './keywrap --version' <<END_OF_CHANGES
+fresh; at='a tree' event='cd crates/keywrap' make gate
+append crates/aes_block/must-fail/edit
+END_OF_CHANGES
 fresh; (trap '' XFSZ; at=keywrap event='prlimit --fsize=999 --pid $launcher' ./keywrap >out 2>err)
 verdict 'a record that can not be written: what is left' "$(left)"
 
+# rt takes this lock while it works.
+fresh
+{ flock 8; ./keywrap --version >second 2>&1 8<&- & until_true grep -qs waiting second; } 8<crates/keywrap
+row 'an rt at work' [ $? = 0 ]
+wait $!
+noted 'an rt at work' "${steps[@]}"
+
 # Another launcher begins while this one is at work: it waits, and then runs the same program.
 fresh
-at=keywrap event='at= "$tree/keywrap" --version >"$tree/second" 2>&1 &
+at=keywrap event='at= "$tree/keywrap" --version >"$tree/second" 2>&1 9<&- &
     until_true grep -q waiting "$tree/second"' launch
 launched 'two at once' 5 "child of $$, 0 words: "$'\n' "$starts" "${steps[@]}"
 until_true grep -q words second

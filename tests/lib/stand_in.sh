@@ -18,8 +18,8 @@ crates() {
     printf '%s\n' "$@" >crates.txt
     for crate in "${@%%[: ]*}"; do
         [ -d "crates/$crate" ] && continue
-        mkdir -p "crates/$crate"/{src,specs,proofs/part}
-        echo first | tee "crates/$crate"/{src/lib.rt,specs/Lib.antt,proofs/part/Answers.antt} >/dev/null
+        mkdir -p "crates/$crate"/{src,specs,proofs/part,must-fail}
+        echo first | tee "crates/$crate"/{src/lib.rt,specs/Lib.antt,proofs/part/Answers.antt,must-fail/edit} >/dev/null
     done
 }
 crates block_pair: 'aes_block: block_pair byteorder' 'keywrap_c staticlib: block_pair aes_block' \
@@ -29,15 +29,18 @@ echo 1.2.3-dev >VERSION
 program=crates/keywrap/out/keywrap archive=crates/keywrap_c/out/libkeywrap_c.a
 export tree=$PWD helpers=$root/tests/lib/expect.sh PATH=$PWD/bin:$PATH TMPDIR=$PWD/tmp TERM=xterm processors=4
 unset MAKEFLAGS MAKELEVEL TESTS KEYWRAP_ARCHIVES KEYWRAP_ALL
+exec 9<&-
 
 # The fake rt and rattle: in the crates that the pattern $at names they run $event, with $launcher as the process above
 # their make, and wait until the file $screen says that no other crate is being built. Each program and archive that
-# they build is another. The program prints its caller and its arguments. Of rattle's words only two are recorded.
+# they build is another. The program prints its caller and its arguments, and the path of descriptor 9 if it is open.
+# The notes have two of rattle's words, and the file words.CRATE has all.
 install -m 755 /dev/stdin bin/rt <<'END_OF_RT'
 #!/bin/bash
 . "$helpers"
 crate=${PWD##*/} words=$* output=out/keywrap
 if [ "${0##*/}" = rattle ]; then
+    printf '%s\n' "$@" >"$tree/words.$crate"
     [[ $words =~ (--jobs [0-9]+).* ]] && words="$1 ${BASH_REMATCH[1]}"
     output=$(grep -oP -- ' -o \K\S+' <<<"$*")
 fi
@@ -56,7 +59,7 @@ echo 'the second line' >&2
 [[ ! $crate =~ ^(${at:-})$ ]] || eval "$event"
 install -D -m 755 /dev/stdin "$output" <<END_OF_PROGRAM
 #!/bin/sh
-echo "child of \$PPID, \$# words: \$*"
+echo "child of \$PPID, \$# words: \$*"; readlink /proc/\$\$/fd/9
 [ "\$1" = --version ] || exit 5
 # $(date +%N)
 END_OF_PROGRAM
@@ -67,6 +70,7 @@ END_OF_RT
 cp bin/rt bin/rattle && echo 'the kit' >WHAT
 install -m 755 /dev/stdin bin/rattle-link <<'END_OF_LINK'
 #!/bin/sh
+printf '%s\n' "$@" >"$tree/words.link"
 while [ "$1" != -o ]; do shift; done
 install -m 755 "$3" "$2"
 END_OF_LINK
