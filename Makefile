@@ -281,12 +281,16 @@ dist-library: library
 
 dist-wheel: wheel
 
-dist-js: js
-	scripts/dist_files.sh package '$(DIST)/keywrap-$(version).tgz' '$(JS)'/*
+# Packs copies of files, in a directory: $(call pack,DIRECTORY,ARCHIVE,FILES)
+pack = rm -rf '$(DIST)/room' && install -d '$(DIST)/room/$(1)' && cp $(3) '$(DIST)/room/$(1)' && \
+    scripts/pack.sh '$(DIST)/room' '$(1)' "$$(readlink -m '$(DIST)/$(2)')" && rm -r '$(DIST)/room'
 
+dist-js: js
+	@$(call pack,package,keywrap-$(version).tgz,'$(JS)'/*)
+
+portable_files = $(addprefix '$(PORTABLE)'/,README keywrap.c keywrap.h vectors.c Makefile CMakeLists.txt)
 dist-portable: portable
-	scripts/dist_files.sh 'keywrap-portable-$(version)' '$(DIST)/keywrap-portable-$(version).tar.gz' \
-	    $(addprefix '$(PORTABLE)'/,README keywrap.c keywrap.h vectors.c Makefile CMakeLists.txt)
+	@$(call pack,keywrap-portable-$(version),keywrap-portable-$(version).tar.gz,$(portable_files))
 
 dist-sdist: sdist
 

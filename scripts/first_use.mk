@@ -25,7 +25,8 @@ all_below = $(sort $(foreach crate,$(call below,$(1)),$(crate) $(call all_below,
 is_kept = $(shell [ -e $(kept)/$(1).rlib ] && b2sum --check --status $(kept)/$(1).sums 2>/dev/null && echo yes)
 changed := $(foreach crate,$(CRATES),$(if $(call is_kept,$(crate)),,$(crate)))
 # The checksums are of the sources as they are at the start: a source that changes meanwhile differs from them.
-sums = { scripts/sources.sh $(patsubst %,crates/%,$(1) $(call all_below,$(1))); b2sum '$(kit)/WHAT'; } >"$$LOGS/$(1).sums"
+sources = $(patsubst %,crates/%,$(1) $(call all_below,$(1)))
+sums = { scripts/sources.sh $(call sources,$(1)); b2sum '$(kit)/WHAT'; } >"$$LOGS/$(1).sums"
 $(foreach crate,$(changed),$(shell $(call sums,$(crate))))
 
 # The chain key_files, key_lines, keywrap_cli, keywrap takes the longest, so it comes first. The crates that it does not

@@ -30,7 +30,9 @@ left() {
     find crates -name 'built_from.*'
 }
 # launched NAME STATUS ANSWER LINES NOTE..: the run ended so, and left nothing at work or behind.
+order=(:)
 launched() {
+    LC_ALL=C "${order[@]}"
     sed -i '/^mktemp: /d; s/(logs: .*)/(logs: LOGS)/' err
     verdict "$1" "$([ "$status" = "$2" ] || echo "status $status, not $2"
         diff out <(printf %s "$3"); diff err <(printf %s "${4:+$4$'\n'}"))"
@@ -51,20 +53,10 @@ TMPDIR=$tree/missing launch
 launched 'no folder for the logs' 70 '' "keywrap: no folder for the build's logs"
 launch a 'b c'
 launched 'the first use' 5 "child of $$, 2 words: a b c"$'\n' "$starts" "${steps[@]}"
-kept=../../crates/keywrap/out/kept
-kit_words=(-L "dependency=$tree/rlibs" -L "dependency=$kept" --antt-project "$tree/rattle/logic/antt-project.json"
-    --logic-built "$tree/logic_built")
-verdict "rattle's words for a crate" "$(diff words.aes_block <(printf '%s\n' build --crate-name aes_block \
-    --extern "std=$tree/rlibs/std.rlib" --extern "byteorder=$tree/rlibs/byteorder.rlib" \
-    --extern block_pair=$kept/block_pair.rlib "${kit_words[@]}" --links aes_block= --jobs 2 \
-    --statements -o $kept/aes_block.rlib src/lib.rt))"
-verdict "rattle's words for the program" "$(diff words.keywrap <(printf '%s\n' build --crate-name keywrap \
-    --extern "std=$tree/rlibs/std.rlib" --extern "clap=$tree/rlibs/clap.rlib" \
-    --extern block_pair=$kept/block_pair.rlib --extern aes_block=$kept/aes_block.rlib "${kit_words[@]}" \
-    --links keywrap= --jobs 4 --backend rattle --toolchain "$tree/toolchain" -o out/kept/keywrap.o src/main.rt))"
-verdict "rattle-link's words" "$(diff words.link <(printf '%s\n' --target x86_64-unknown-linux-gnu \
-    --toolchain "$tree/toolchain" -o "${kept#../../}/keywrap" "${kept#../../}/keywrap.o" \
-    "$tree"/c/lib{os,libc}_c.a))"
+for made in aes_block keywrap link; do
+    verdict "the words for $made" "$(diff <(paste -sd ' ' words.$made) \
+        <(sed -n "s|^$made: ||p" "$root/tests/launcher.txt" | sed "s|TREE|$tree|g"))"
+done
 # The launcher's lock is descriptor 9. The program gets the descriptor 9 of the caller instead.
 fresh
 for way in 'the first use' 'the program as it is built'; do
@@ -121,13 +113,11 @@ verdict 'a record that can not be written: what is left' "$(left)"
 # rt takes this lock while it works.
 fresh
 { flock 8; ./keywrap --version >second 2>&1 8<&- & until_true grep -qs waiting second; } 8<crates/keywrap
-row 'an rt at work' [ $? = 0 ]
-wait $!
+row 'an rt at work' [ $? = 0 ]; wait $!
 noted 'an rt at work' "${steps[@]}"
 
 # Another launcher begins while this one is at work: it waits, and then runs the same program.
-fresh
-at=keywrap event='at= "$tree/keywrap" --version >"$tree/second" 2>&1 9<&- &
+fresh; at=keywrap event='at= "$tree/keywrap" --version >"$tree/second" 2>&1 9<&- &
     until_true grep -q waiting "$tree/second"' launch
 launched 'two at once' 5 "child of $$, 0 words: "$'\n' "$starts" "${steps[@]}"
 until_true grep -q words second
@@ -147,8 +137,7 @@ at=keywrap event='exit 5' launch
 launched 'the program is not proved' 70 '' "$starts
 $(said keywrap)
 keywrap: the build failed: keywrap" "${steps[@]:2:3}"
-mv scripts/first_use.mk kept.mk && fresh
-launch
+mv scripts/first_use.mk kept.mk && fresh; launch
 verdict 'make itself fails' "$(left; [ "$status" = 70 ] || echo "status $status"
     grep -c '^make: .*first_use.mk' err | grep -vx '[1-9]')"
 mv kept.mk scripts/first_use.mk
@@ -160,8 +149,9 @@ crates first_four: second_four: third_four: fourth_four: 'above_second: second_f
     'keywrap: first_four second_four third_four fourth_four above_second'
 begins=('first_four: build --jobs 2' 'fourth_four: build --jobs 2' 'second_four: build --jobs 2'
     'third_four: build --jobs 2')
-# sorted_notes: the notes of those that are at work side by side may come in any order.
-sorted_notes() { LC_ALL=C sort -o notes notes; }
+all_ended=('ended first_four' 'ended fourth_four' 'ended second_four' 'ended third_four')
+# The notes of those that are at work side by side may come in any order.
+order=(sort -o notes notes)
 # most_at_once: how many were at work at once.
 most_at_once() { awk '/^[a-z_]*: /{ n++ } /^end/{ n-- } n > most { most = n } END { print most + 0 }' notes; }
 # at_once PROCESSORS JOBS N EVENT: N are at work at once, with two jobs each if there are as many processors, and the
@@ -190,12 +180,10 @@ verdict 'a crate begins where those below it are proved' "$([ "$status" = 5 ] ||
 fresh; at='(first|second)_four' event='until_true begun 4
     [ $crate = second_four ] || { touch ../../failed; exit 1; }
     until_true [ -e ../../failed ]; sleep 0.5' launch
-sorted_notes
 launched 'a proof fails beside others' 70 '' "$starts
 $(said first_four)
 keywrap: the build failed: first_four" 'ends fourth_four' 'ends second_four' 'ends third_four' "${begins[@]}"
 fresh; at='(first|third)_four' event='until_true begun 4; sleep 0.5; exit 1' launch
-sorted_notes
 launched 'two proofs fail' 70 '' "$starts
 $(said first_four)
 $(said third_four)
@@ -206,9 +194,7 @@ for signal in HUP INT QUIT TERM; do
     fresh
     at='.*_four' event="until_true begun 4; [ \$crate != second_four ] || kill -s $signal \$launcher
         until_true false" launch 2>/dev/null
-    sorted_notes
-    launched "$signal" "$((128 + $(kill -l $signal)))" '' "$starts" \
-        'ended first_four' 'ended fourth_four' 'ended second_four' 'ended third_four' "${begins[@]}"
+    launched "$signal" "$((128 + $(kill -l $signal)))" '' "$starts" "${all_ended[@]}" "${begins[@]}"
 done
 
 ### On a terminal
@@ -231,9 +217,8 @@ if has script bsdutils 'the launcher on a terminal'; then
         grep -oP '\e\[K\K[^\r\e]{80,}' screen)"
     at='.*_four' event='until_true begun 4
         [ $crate != first_four ] || printf "\003" >../../keys; until_true false' on_screen
-    sorted_notes
-    launched 'Ctrl-C' 130 '' "$starts" \
-        'ended first_four' 'ended fourth_four' 'ended second_four' 'ended third_four' "${begins[@]}"
+    launched 'Ctrl-C' 130 '' "$starts" "${all_ended[@]}" "${begins[@]}"
+    order=(:)
     crates block_pair: 'aes_block: block_pair' 'keywrap: block_pair aes_block clap'
     TERM=dumb on_screen
     verdict 'a terminal that cannot rewrite a line' "$(grep $'\e' screen)"
