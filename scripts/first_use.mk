@@ -2,7 +2,7 @@
 # launcher calls, from the top of the repository.
 #
 # It calls the kit's compiler, rattle, as `rt ci` does. So a crate loads what the crates below it state, and not their
-# proofs, which takes long. `rt lib` has no option for that.
+# proofs: loading these takes long, and `rt lib` has no option to leave them out.
 #
 # CRATES are the crates below the program that have a directory here, and JOBS is the greatest number of jobs of rattle.
 # The directory LOGS, of the environment, gets the output for crates/NAME: NAME.log while rattle works on it and if it
