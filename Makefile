@@ -60,7 +60,7 @@ wheel = $(DIST)/$(call wheel_of,$(machine))
 # What the library is made of: the sources of the exports' crate and of those that crates.txt names below it,
 # unless the archive is one from elsewhere.
 of_exports = $(filter crates/%,$(ARCHIVE))
-# What was built of which content; of another machine, in the same folder too, it is another record.
+# Checksums of the sources that the library was built from. Each TARGET has its own file.
 record = $(LIBRARY)/built_from$(other)
 crates = keywrap_c $(shell sed -n 's/^keywrap_c staticlib: *//p' crates.txt)
 folders = $(wildcard $(foreach crate,$(crates),$(addprefix crates/$(crate)/,src specs proofs)))
@@ -77,11 +77,11 @@ for_bash = $(share)/bash-completion/completions
 for_zsh = $(share)/zsh/site-functions
 for_fish = $(share)/fish/vendor_completions.d
 
-.PHONY: help version build library library-anew test gate install uninstall install-command uninstall-command \
+.PHONY: help version build library library-anew test test-all packages proofs gate install uninstall install-command uninstall-command \
     install-library uninstall-library install-provider uninstall-provider provider examples needs needs-wheel wheel \
     js portable sdist dist dist-each dist-command dist-library dist-wheel dist-js dist-portable dist-sdist packed \
     bench pictures clean
-# What a goal needs is looked at before anything is built for it; and what rt builds of the exports has one place.
+# Goals run one at a time: the tools are checked before anything is built, and rt writes every archive to one path.
 .NOTPARALLEL:
 
 help:
@@ -96,7 +96,9 @@ help:
 	@echo 'make portable           builds the library as one file of C for other machines, as $(PORTABLE)'
 	@echo 'make sdist              packs the Python package with that file, in $(DIST), for pip to build elsewhere'
 	@echo 'make test               runs the tests of the built command and the libraries; with KEYWRAP_ALL=1 all of them'
-	@echo 'make gate               runs rt ci, which proves all from nothing and tries each edit, and then all tests'
+	@echo 'make packages           installs the packages that the tests use: tests/packages.txt'
+	@echo 'make gate               runs rt ci, which proves all from nothing and tries each edit, and then all tests:'
+	@echo '                        make proofs, make test-all'
 	@echo 'make install            installs the two below, under $$(DESTDIR)$$(prefix), with their documents'
 	@echo 'make install-command    installs the program, its manual page, and completions for bash, zsh and fish'
 	@echo 'make install-library    installs the C library: in lib, include, lib/pkgconfig and lib/cmake'
@@ -184,23 +186,30 @@ sdist: portable
 
 # The scripts prove and build what is not built yet, and nothing else.
 test:
-	scripts/tests.sh
+	@scripts/tests.sh
 
-# The scripts run the program that rt ci proved and built, by the compiler of the first use, and the launcher finds
-# it built of its sources. One that is changed meanwhile is no longer what was written down before. They run its
-# test programs, too.
-gate:
+packages:
+	scripts/packages.sh
+
+# The tests run the program that rt ci proved and built, by the compiler of the first use, and the launcher finds it built
+# of its sources. A source that is changed meanwhile is no longer what was written down before.
+proofs:
 	built_from=$$(scripts/sources.sh) && rt ci && \
 	    { [ ! -e crates/keywrap/out/keywrap.by-rattle ] || \
 	        install -m 755 crates/keywrap/out/keywrap.by-rattle crates/keywrap/out/keywrap; } && \
 	    printf '%s\n' "$$built_from" >crates/keywrap/out/built_from
+
+# They also run the test programs that rt ci built.
+test-all:
 	TESTS=crates KEYWRAP_ALL=1 $(MAKE) --no-print-directory test
+
+gate: proofs test-all
 
 install: install-command install-library
 
 uninstall: uninstall-command uninstall-library
 
-# What the program's folder of documents and the library's have both, and what the library's has beside.
+# Documents of both packages, and documents of the library only.
 documents = docs/RECIPES.md docs/rotation SECURITY.md CHANGELOG.md
 of_library = docs/C_LIBRARY.md docs/OPENSSL.md
 install_documents = scripts/documents.sh '$(doc)' '$(version)' '$(machine)'

@@ -9,8 +9,8 @@
 /* How a peer computes a block: in software, or by the AES instructions of the processor. */
 enum blocks { SOFTWARE, INSTRUCTIONS };
 
-/* Each call makes its key schedule, and answers whether it was done. `len` is the key's length, and
- * the text is 8 bytes longer. */
+/* Each call makes its key schedule, and returns whether it succeeded. `len` is the length of the
+ * key. The text is 8 bytes longer. */
 struct peer {
     const char *name;
     enum blocks blocks;

@@ -1,6 +1,6 @@
 /* provider.c: how long a wrap and an unwrap by EVP take, each with a context of its own, by
  * OpenSSL's own provider and by ours, which is keywrap.so in the directory that is given. Both
- * must answer the same bytes. They take turns, and the best time of each counts, by the processor
+ * must write the same bytes. They take turns, and the best time of each counts, by the processor
  * time of this thread. bench/provider compiles and runs it. */
 
 #define _POSIX_C_SOURCE 200809L
@@ -39,7 +39,7 @@ static double now(void) {
     return (double)t.tv_sec * 1e9 + (double)t.tv_nsec;
 }
 
-/* The answer's length, or 0 at a refusal. */
+/* Returns the length of the result, or 0 after a refusal. */
 static int call(const EVP_CIPHER *cipher, int wraps, const uint8_t *in, int len, uint8_t *out) {
     EVP_CIPHER_CTX *ctx = EVP_CIPHER_CTX_new();
     int out_len = 0, more = 0;
@@ -50,7 +50,7 @@ static int call(const EVP_CIPHER *cipher, int wraps, const uint8_t *in, int len,
     return done ? out_len + more : 0;
 }
 
-/* Nanoseconds a call, over a turn of so many. */
+/* Returns the nanoseconds per call, over a turn of `calls` calls. */
 static double turn(const EVP_CIPHER *cipher, const struct row *row, unsigned calls) {
     uint8_t out[LONGEST + 32];
     double start = now();
@@ -60,7 +60,7 @@ static double turn(const EVP_CIPHER *cipher, const struct row *row, unsigned cal
     return (now() - start) / calls;
 }
 
-/* Whether both wrap to the same, and each unwraps that. */
+/* Returns whether both make the same wrapped key, and each unwraps it. */
 static int agree(EVP_CIPHER *const ciphers[], const struct row *row) {
     uint8_t out[LONGEST + 32];
     int text_len = row->len + 8;

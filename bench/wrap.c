@@ -19,13 +19,13 @@
 
 enum direction { WRAP, UNWRAP };
 
-/* The lengths of key. The last is the longest, unless the one before it is. */
+/* The lengths of the keys. The last is the longest that the library takes. */
 static const size_t LENS[] = {16, 32, 256, 4096, KEYWRAP_MAX_KEY};
 enum { LEN_COUNT = KEYWRAP_MAX_KEY > 4096 ? 5 : 4 };
 
 enum { ROUNDS_AT_LEAST = 5, TURN_NS = 300000, LONG_NS = 3000000 };
 
-/* One row of the answer: what is timed, in one of how many rounds, how often in a turn, and the
+/* One row of the result: what is timed, once in `every` rounds, in turns of `calls` calls, and the
  * best time of a call. */
 struct row {
     enum direction direction;
@@ -54,12 +54,12 @@ static int call(const struct row *row, int p) {
                                   : PEERS[p].unwrap(kek, row->kek_len, text, row->len, answer);
 }
 
-/* The row's text, which every unwrap of it takes. */
+/* Makes the wrapped key of the row, which its unwraps read. */
 static int prepare(const struct row *row) {
     return PEERS->wrap(kek, row->kek_len, key, row->len, text);
 }
 
-/* Whether each peer answers this library's text, or the key. */
+/* Returns whether each peer writes what this library writes. */
 static int agree(const struct row *row) {
     if (!prepare(row)) return 0;
     for (int p = 0; p < PEER_COUNT; p++) {
@@ -76,7 +76,7 @@ static int agree(const struct row *row) {
     return 1;
 }
 
-/* Nanoseconds a call, over a turn of so many calls. */
+/* Returns the nanoseconds per call, over a turn of `calls` calls. */
 static double turn(const struct row *row, int p, unsigned calls) {
     double start = now();
     for (unsigned i = 0; i < calls; i++)
@@ -84,7 +84,7 @@ static double turn(const struct row *row, int p, unsigned calls) {
     return (now() - start) / calls;
 }
 
-/* Whether the row can be timed. */
+/* Prepares a row, and returns whether it can be timed. */
 static int start(struct row *row) {
     if (!agree(row)) return 0;
     for (int p = 0; p < PEER_COUNT; p++) {

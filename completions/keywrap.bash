@@ -24,7 +24,8 @@ _keywrap() {
         options='wrap unwrap rewrap check drill vectors help'
         [ "${word:0:1}" != - ] || options=$help
         ;;
-    wrap | unwrap) options="--kek --padded --iv --verbose $notations $lines $files $help" ;;
+    wrap) options="--kek --padded --iv --verbose $notations $lines $files $help" ;;
+    unwrap) options="--kek --padded --any-form --iv --verbose $notations $lines $files $help" ;;
     rewrap)
         options="--kek --new-kek --padded --new-padded --iv --new-iv --keep-form --pass-new --verbose $notations $lines"
         options="$options $files $help"
@@ -39,9 +40,10 @@ _keywrap() {
         case ${COMP_WORDS[at]} in
         -i | --input) gone=(-i --input) ;;
         -o | --output) gone=(-o --output) ;;
-        --padded) gone=(--padded --iv --keep-form) ;;
+        --padded) gone=(--padded --any-form --iv --keep-form) ;;
         --new-padded) gone=(--new-padded --new-iv --keep-form) ;;
         --keep-form) gone=(--keep-form --padded --new-padded --iv --new-iv) ;;
+        --any-form) gone=(--any-form --padded) ;;
         --iv) gone=(--iv --padded --keep-form) ;;
         --new-iv) gone=(--new-iv --new-padded --keep-form) ;;
         --raw) gone=(--raw --base64 --base64url --lines --keep-going --quiet) ;;

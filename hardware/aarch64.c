@@ -23,21 +23,58 @@ int has_instructions(void) {
 }
 
 /* ShiftRows changes nothing in a block of four equal columns. */
-BY_AES uint32_t sub_word(uint32_t word) {
+BY_AES static uint32_t sub_word(uint32_t word) {
     uint8x16_t columns = vreinterpretq_u8_u32(vdupq_n_u32(word));
     return vgetq_lane_u32(vreinterpretq_u32_u8(vaeseq_u8(columns, vdupq_n_u8(0))), 0);
+}
+
+static uint32_t word_at(const struct aes *aes, unsigned i) {
+    uint32_t word;
+    memcpy(&word, aes->keys + 4 * i, 4);
+    return word;
+}
+
+/* Words are in the order of their bytes in memory. */
+void expand(struct aes *aes, const uint8_t *kek, size_t kek_len) {
+    unsigned n = (unsigned)kek_len / 4;
+    uint32_t constant = 1;
+    memcpy(aes->keys, kek, kek_len);
+    for (unsigned i = n; i < 4 * (aes->rounds + 1); i++) {
+        uint32_t word = word_at(aes, i - 1);
+        if (i % n == 0) {
+            word = sub_word(word >> 8 | word << 24) ^ constant;
+            constant = constant << 1 ^ (constant >> 7) * 0x11b;
+        } else if (n == 8 && i % n == 4) {
+            word = sub_word(word);
+        }
+        word ^= word_at(aes, i - n);
+        memcpy(aes->keys + 4 * i, &word, 4);
+    }
 }
 
 static uint8x16_t round_key(const struct aes *aes, unsigned i) {
     return vld1q_u8(aes->keys + BLOCK * i);
 }
 
-static uint8x16_t load(const uint8_t block[BLOCK]) {
-    return vcombine_u8(vld1_u8(block), vld1_u8(block + 8));
+static void set_round_key(struct aes *aes, unsigned i, uint8x16_t key) {
+    vst1q_u8(aes->keys + BLOCK * i, key);
 }
 
-BY_AES void inverse_mix(uint8_t key[BLOCK]) {
-    vst1q_u8(key, vaesimcq_u8(vld1q_u8(key)));
+/* In the other order, with all but the outer two mixed. */
+BY_AES void invert(struct aes *aes) {
+    unsigned low = 1, high = aes->rounds - 1;
+    uint8x16_t first = round_key(aes, 0);
+    set_round_key(aes, 0, round_key(aes, aes->rounds));
+    set_round_key(aes, aes->rounds, first);
+    for (; low <= high; low++, high--) {
+        uint8x16_t key = vaesimcq_u8(round_key(aes, low));
+        set_round_key(aes, low, vaesimcq_u8(round_key(aes, high)));
+        set_round_key(aes, high, key);
+    }
+}
+
+static uint8x16_t load(const uint8_t block[BLOCK]) {
+    return vcombine_u8(vld1_u8(block), vld1_u8(block + 8));
 }
 
 BY_AES void encrypt_block(const struct aes *aes, uint8_t block[BLOCK]) {

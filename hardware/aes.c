@@ -1,4 +1,4 @@
-/* aes.c: the key schedules, and the known-answer test. */
+/* aes.c: the lengths of a KEK, and the known-answer test. */
 
 #include "aes.h"
 
@@ -9,39 +9,18 @@ void wipe(void *memory, size_t len) {
     __asm__ volatile("" : : "r"(memory) : "memory");
 }
 
-/* Key expansion (FIPS 197, section 5.2). Words are in the order of their bytes in memory. */
+/* Key expansion (FIPS 197, section 5.2). */
 int aes_set_encrypt(struct aes *aes, const uint8_t *kek, size_t kek_len) {
     if (kek_len != 16 && kek_len != 24 && kek_len != 32) return 0;
-    unsigned n = (unsigned)kek_len / 4;
-    uint32_t words[SCHEDULE / 4], constant = 1;
-    aes->rounds = n + 6;
-    memcpy(words, kek, kek_len);
-    for (unsigned i = n; i < 4 * (aes->rounds + 1); i++) {
-        uint32_t word = words[i - 1];
-        if (i % n == 0) {
-            word = sub_word(word >> 8 | word << 24) ^ constant;
-            constant = constant << 1 ^ (constant >> 7) * 0x11b;
-        } else if (n == 8 && i % n == 4) {
-            word = sub_word(word);
-        }
-        words[i] = words[i - n] ^ word;
-    }
-    memcpy(aes->keys, words, BLOCK * (aes->rounds + 1));
-    wipe(words, sizeof words);
+    aes->rounds = (unsigned)kek_len / 4 + 6;
+    expand(aes, kek, kek_len);
     return 1;
 }
 
 /* The schedule of the equivalent inverse cipher (section 5.3.5). */
 int aes_set_decrypt(struct aes *aes, const uint8_t *kek, size_t kek_len) {
-    struct aes forward;
-    if (!aes_set_encrypt(&forward, kek, kek_len)) return 0;
-    aes->rounds = forward.rounds;
-    for (unsigned i = 0; i <= aes->rounds; i++) {
-        uint8_t *round_key = aes->keys + BLOCK * i;
-        memcpy(round_key, forward.keys + BLOCK * (aes->rounds - i), BLOCK);
-        if (i > 0 && i < aes->rounds) inverse_mix(round_key);
-    }
-    wipe(&forward, sizeof forward);
+    if (!aes_set_encrypt(aes, kek, kek_len)) return 0;
+    invert(aes);
     return 1;
 }
 

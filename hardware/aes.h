@@ -32,10 +32,11 @@ void aes_decrypt(const struct aes *aes, uint8_t block[BLOCK]);
 /* wipe clears memory even if nothing reads it afterwards. */
 void wipe(void *memory, size_t len);
 
-/* What each processor provides, in x86_64.c and aarch64.c. */
+/* What each processor provides, in x86_64.c and aarch64.c. expand writes the round keys of a KEK, and
+ * invert turns them into the round keys of the inverse cipher. The number of rounds is set before. */
 int has_instructions(void);
-uint32_t sub_word(uint32_t word);
-void inverse_mix(uint8_t round_key[BLOCK]);
+void expand(struct aes *aes, const uint8_t *kek, size_t kek_len);
+void invert(struct aes *aes);
 void encrypt_block(const struct aes *aes, uint8_t block[BLOCK]);
 void decrypt_block(const struct aes *aes, uint8_t block[BLOCK]);
 

@@ -15,24 +15,99 @@ int has_instructions(void) {
     return __get_cpuid(1, &a, &b, &c, &d) && (c & bit_AES);
 }
 
-BY_AES uint32_t sub_word(uint32_t word) {
-    __m128i words = _mm_set1_epi32((int)word);
-    return (uint32_t)_mm_cvtsi128_si32(_mm_aeskeygenassist_si128(words, 0));
-}
-
 BY_AES static __m128i round_key(const struct aes *aes, unsigned i) {
     return _mm_loadu_si128((const __m128i *)(aes->keys + BLOCK * i));
+}
+
+BY_AES static void set_round_key(struct aes *aes, unsigned i, __m128i key) {
+    _mm_storeu_si128((__m128i *)(aes->keys + BLOCK * i), key);
+}
+
+/* Each word is the sum of the words up to it. */
+BY_AES static __m128i sums(__m128i words) {
+    words = _mm_xor_si128(words, _mm_slli_si128(words, 4));
+    return _mm_xor_si128(words, _mm_slli_si128(words, 8));
+}
+
+/* SubWord and an addition, in four equal words: ShiftRows changes nothing in equal columns. This is
+ * several times as fast as AESKEYGENASSIST. */
+BY_AES static __m128i sub_words(__m128i words, __m128i constant) {
+    return _mm_aesenclast_si128(words, constant);
+}
+
+/* RotWord, in four equal words. */
+BY_AES static __m128i rotated(__m128i words) {
+    return _mm_or_si128(_mm_srli_epi32(words, 8), _mm_slli_epi32(words, 24));
+}
+
+BY_AES static void expand_16(struct aes *aes, __m128i a) {
+    __m128i constant = _mm_set1_epi32(1);
+    set_round_key(aes, 0, a);
+    for (unsigned i = 1; i <= 10; i++) {
+        __m128i last = rotated(_mm_shuffle_epi32(a, 0xff));
+        if (i == 9) constant = _mm_set1_epi32(0x1b);
+        a = _mm_xor_si128(sums(a), sub_words(last, constant));
+        set_round_key(aes, i, a);
+        constant = _mm_slli_epi32(constant, 1);
+    }
+}
+
+/* Turns: six words each, in a and the lower half of b. */
+BY_AES static void expand_24(struct aes *aes, __m128i a, __m128i b) {
+    __m128i constant = _mm_set1_epi32(1);
+    uint8_t *at = aes->keys;
+    for (unsigned turn = 0;; turn++, at += 24) {
+        _mm_storeu_si128((__m128i *)at, a);
+        if (turn == 8) break;
+        _mm_storel_epi64((__m128i *)(at + 16), b);
+        __m128i last = rotated(_mm_shuffle_epi32(b, 0x55));
+        a = _mm_xor_si128(sums(a), sub_words(last, constant));
+        b = _mm_xor_si128(sums(b), _mm_shuffle_epi32(a, 0xff));
+        constant = _mm_slli_epi32(constant, 1);
+    }
+}
+
+BY_AES static void expand_32(struct aes *aes, __m128i a, __m128i b) {
+    __m128i constant = _mm_set1_epi32(1);
+    set_round_key(aes, 0, a);
+    set_round_key(aes, 1, b);
+    for (unsigned i = 2;; i += 2) {
+        a = _mm_xor_si128(sums(a), sub_words(rotated(_mm_shuffle_epi32(b, 0xff)), constant));
+        set_round_key(aes, i, a);
+        if (i == 14) break;
+        b = _mm_xor_si128(sums(b), sub_words(_mm_shuffle_epi32(a, 0xff), _mm_setzero_si128()));
+        set_round_key(aes, i + 1, b);
+        constant = _mm_slli_epi32(constant, 1);
+    }
+}
+
+BY_AES void expand(struct aes *aes, const uint8_t *kek, size_t kek_len) {
+    __m128i a = _mm_loadu_si128((const __m128i *)kek);
+    if (kek_len == 16)
+        expand_16(aes, a);
+    else if (kek_len == 24)
+        expand_24(aes, a, _mm_loadl_epi64((const __m128i *)(kek + 16)));
+    else
+        expand_32(aes, a, _mm_loadu_si128((const __m128i *)(kek + 16)));
+}
+
+/* In the other order, with all but the outer two mixed. */
+BY_AES void invert(struct aes *aes) {
+    unsigned low = 1, high = aes->rounds - 1;
+    __m128i first = round_key(aes, 0);
+    set_round_key(aes, 0, round_key(aes, aes->rounds));
+    set_round_key(aes, aes->rounds, first);
+    for (; low <= high; low++, high--) {
+        __m128i key = _mm_aesimc_si128(round_key(aes, low));
+        set_round_key(aes, low, _mm_aesimc_si128(round_key(aes, high)));
+        set_round_key(aes, high, key);
+    }
 }
 
 BY_AES static __m128i load(const uint8_t block[BLOCK]) {
     __m128i low = _mm_loadl_epi64((const __m128i *)block);
     __m128i high = _mm_loadl_epi64((const __m128i *)(block + 8));
     return _mm_unpacklo_epi64(low, high);
-}
-
-BY_AES void inverse_mix(uint8_t key[BLOCK]) {
-    __m128i *at = (__m128i *)key;
-    _mm_storeu_si128(at, _mm_aesimc_si128(_mm_loadu_si128(at)));
 }
 
 BY_AES void encrypt_block(const struct aes *aes, uint8_t block[BLOCK]) {

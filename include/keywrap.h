@@ -69,25 +69,31 @@
 #define KEYWRAP_ROOM(wrapped_len) ((wrapped_len) < 8 ? 0 : (wrapped_len) - 8)
 
 /* The status that a call returns. If several refusals apply, it is the first in this list.
- * KEYWRAP_BAD_KEK and KEYWRAP_BAD_LENGTH depend only on the lengths. At these two and at
- * KEYWRAP_BAD_IV no buffer is written. There is one exception: keywrap_rewrap_in_place, at the end
- * of this file, has more causes of KEYWRAP_BAD_LENGTH, and after one of them its buffer is all
- * zeros. */
+ * KEYWRAP_BAD_KEK and KEYWRAP_BAD_LENGTH depend only on the lengths and flags. At these two, at
+ * KEYWRAP_BAD_IV and at KEYWRAP_KEY_NOT_PLAIN the buffers are unchanged. There is one exception:
+ * keywrap_rewrap_in_place, at the end of this file, has one more cause of KEYWRAP_BAD_LENGTH, and
+ * after it the buffer is all zeros. */
 enum keywrap_status {
     KEYWRAP_OK = 0,
     KEYWRAP_BAD_IV = 2,     /* the initial value is refused; only a _with call returns it */
     KEYWRAP_BAD_KEK = 3,    /* the KEK is not 16, 24 or 32 bytes long */
     KEYWRAP_BAD_LENGTH = 4, /* the call does not accept a length */
-    KEYWRAP_INTEGRITY = 5   /* the integrity check failed: another KEK, form or initial value, or
+    KEYWRAP_INTEGRITY = 5,  /* the integrity check failed: another KEK, form or initial value, or
                                damage; no wrap returns it */
+    KEYWRAP_KEY_NOT_PLAIN = 8 /* the wrapped key is genuine, but no plain key has the length of its
+                                 key; only keywrap_rewrap returns it */
 };
 
-/* The flags of keywrap_rewrap_in_place: the old or the new wrapped key has the padded form. Without
- * its flag it has the plain form. KEYWRAP_KEEP_FORM excludes the other flags: the wrapped key may
- * have either form, and keeps it. It exists since version 1.1; an older library refuses it. */
+/* The flags of a rewrap: the old or the new wrapped key has the padded form. Without its flag it has
+ * the plain form. */
 #define KEYWRAP_OLD_PADDED 1u
 #define KEYWRAP_NEW_PADDED 2u
+
+/* The flags of keywrap_rewrap beside them, since version 1.1. KEYWRAP_KEEP_FORM excludes the flags
+ * above: the wrapped key may have either form, and keeps it. KEYWRAP_PASS_NEW goes with any flags: a
+ * wrapped key that is new already is left as it is. */
 #define KEYWRAP_KEEP_FORM 4u
+#define KEYWRAP_PASS_NEW 8u
 
 /* If the compiler can, it warns of NULL, of an unused status, and (GCC) of an overlap and of a
  * buffer that is shorter than its length argument. */
@@ -133,8 +139,8 @@ KEYWRAP_NONNULL KEYWRAP_WRITES(2, 3)
 size_t keywrap_status_text(int32_t status, char *KEYWRAP_RESTRICT text, size_t capacity);
 
 /* Tests the library: wraps and unwraps the published vectors of RFC 3394 and RFC 5649, and unwraps a
- * damaged wrapped key. Returns KEYWRAP_OK if each result is right, else KEYWRAP_INTEGRITY. From
- * version 1.1 on. */
+ * damaged wrapped key. Returns KEYWRAP_OK if each result is right, else KEYWRAP_INTEGRITY. Since
+ * version 1.1. */
 KEYWRAP_CALL
 int32_t keywrap_self_test(void);
 
@@ -254,7 +260,8 @@ int32_t keywrap_unwrap_padded_in_place(const uint8_t *kek, size_t kek_len,
  * keywrap_kind finds the form in which a key was wrapped, plain (with the default initial value) or
  * padded, and the length of the key:
  *   wrapped_len  any: a length that neither form has is KEYWRAP_INTEGRITY
- *   room         KEYWRAP_ROOM(wrapped_len), the size of the scratch buffer
+ *   room         KEYWRAP_ROOM(wrapped_len), the size of the scratch buffer; any, if neither form has
+ *                the length wrapped_len
  *   KEYWRAP_OK          *padded is 0, or 1 (KEYWRAP_OLD_PADDED), *key_len is the key's length, and
  *                       scratch is all zeros
  *   KEYWRAP_INTEGRITY   it is not a wrapped key under this KEK in either form; scratch is all
@@ -266,23 +273,58 @@ int32_t keywrap_kind(const uint8_t *kek, size_t kek_len, const uint8_t *wrapped,
                      uint8_t *KEYWRAP_RESTRICT scratch, size_t room,
                      uint32_t *KEYWRAP_RESTRICT padded, size_t *KEYWRAP_RESTRICT key_len);
 
+/* Either form, two buffers. Since version 1.1.
+ *
+ * keywrap_unwrap_any finds the key that was wrapped, plain (with the default initial value) or
+ * padded. No wrapped key has both forms:
+ *   wrapped_len  a multiple of 8 from 16 to KEYWRAP_MAX_TEXT
+ *   room         KEYWRAP_ROOM(wrapped_len), the size of the buffer at key
+ *   KEYWRAP_OK          the first *key_len bytes at key are the key, and zeros, up to 7, come
+ *                       after it; *padded is 0, or 1 (KEYWRAP_OLD_PADDED); no other key has this
+ *                       wrapping
+ *   KEYWRAP_INTEGRITY   there is no such key in either form; the buffer at key is all zeros
+ *   any other           the buffer at key is unchanged
+ * At each refusal *padded and *key_len are 0. */
+KEYWRAP_CALL KEYWRAP_READS(1, 2) KEYWRAP_READS(3, 4) KEYWRAP_WRITES(5, 6)
+int32_t keywrap_unwrap_any(const uint8_t *kek, size_t kek_len, const uint8_t *wrapped,
+                           size_t wrapped_len, uint8_t *KEYWRAP_RESTRICT key, size_t room,
+                           uint32_t *KEYWRAP_RESTRICT padded, size_t *KEYWRAP_RESTRICT key_len);
+
 /* From one KEK to another, in one buffer of wrapped_len bytes. The new wrapped key is as long as
  * the old one, in either form. The key is not returned: it is in the buffer only while the call
  * runs.
  *
- * keywrap_rewrap_in_place turns a key wrapped under old_kek into that key wrapped under new_kek:
+ * keywrap_rewrap turns a key wrapped under old_kek into that key wrapped under new_kek. Since
+ * version 1.1:
  *   wrapped_len  a multiple of 8 from 24, with KEYWRAP_OLD_PADDED or KEYWRAP_KEEP_FORM from 16, to
  *                KEYWRAP_MAX_TEXT
- *   forms        0, or the flags KEYWRAP_OLD_PADDED, KEYWRAP_NEW_PADDED or both, or
- *                only KEYWRAP_KEEP_FORM, and no other bit
+ *   flags        0, or the flags KEYWRAP_OLD_PADDED, KEYWRAP_NEW_PADDED or both, or
+ *                KEYWRAP_KEEP_FORM; each also with KEYWRAP_PASS_NEW; and no other bit
+ *   KEYWRAP_OK             the buffer holds the new wrapped key of the same key, and *already is 0;
+ *                          or *already is 1 (see below)
+ *   KEYWRAP_BAD_KEK        one of the KEKs is refused
+ *   KEYWRAP_BAD_LENGTH     flags or wrapped_len is refused
+ *   KEYWRAP_INTEGRITY      it is not a wrapped key under old_kek in this form (with
+ *                          KEYWRAP_KEEP_FORM in either form)
+ *   KEYWRAP_KEY_NOT_PLAIN  with KEYWRAP_OLD_PADDED but not KEYWRAP_NEW_PADDED: it is a wrapped key,
+ *                          but the length of its key is not a multiple of 8 bytes from 16 on
+ * After each refusal the buffer is unchanged, and *already is 0. With KEYWRAP_PASS_NEW a buffer that
+ * is not a wrapped key under old_kek, but is one under new_kek in the form of a new wrapped key, is
+ * KEYWRAP_OK: the buffer is unchanged, and *already is 1. */
+KEYWRAP_CALL KEYWRAP_READS(1, 2) KEYWRAP_READS(3, 4) KEYWRAP_CHANGES(5, 6)
+int32_t keywrap_rewrap(const uint8_t *old_kek, size_t old_kek_len, const uint8_t *new_kek,
+                       size_t new_kek_len, uint8_t *KEYWRAP_RESTRICT buffer, size_t wrapped_len,
+                       uint32_t flags, uint32_t *KEYWRAP_RESTRICT already);
+
+/* keywrap_rewrap_in_place is the rewrap of version 1.0. It returns what keywrap_rewrap returns, but
+ * a failed check leaves zeros:
+ *   forms        0, or the flags KEYWRAP_OLD_PADDED, KEYWRAP_NEW_PADDED or both, and no other bit
  *   KEYWRAP_OK          the buffer holds the new wrapped key of the same key
  *   KEYWRAP_BAD_KEK     one of the KEKs is refused; the buffer is unchanged
  *   KEYWRAP_BAD_LENGTH  forms or wrapped_len is refused, and the buffer is unchanged; or, with only
  *                       KEYWRAP_OLD_PADDED, the length of the key is not a multiple of 8 bytes from
  *                       16 on, and the buffer is all zeros
- *   KEYWRAP_INTEGRITY   it is not a wrapped key under old_kek in this form (with KEYWRAP_KEEP_FORM
- *                       in either form); the buffer is all zeros
- * To keep the old wrapped key after a refusal, copy it first. */
+ *   KEYWRAP_INTEGRITY   it is not a wrapped key under old_kek in this form; the buffer is all zeros */
 KEYWRAP_CALL KEYWRAP_READS(1, 2) KEYWRAP_READS(3, 4) KEYWRAP_CHANGES(5, 6)
 int32_t keywrap_rewrap_in_place(const uint8_t *old_kek, size_t old_kek_len, const uint8_t *new_kek,
                                 size_t new_kek_len, uint8_t *KEYWRAP_RESTRICT buffer,

@@ -12,14 +12,11 @@ export class BadKekLength extends KeywrapError {}
 /** The length of the key or the wrapped key is not legal in this form. */
 export class BadLength extends KeywrapError {}
 
+/** The wrapped key is genuine, but no plain key has the length of its key. */
+export class KeyNotPlain extends BadLength {}
+
 /** The integrity check failed: another KEK, form or initial value, or damage. */
 export class IntegrityFailed extends KeywrapError {}
-
-/**
- * Never thrown: the module no longer needs 64-bit memory.
- * @deprecated
- */
-export class NoMemory64 extends Error {}
 
 /** An initial value of 8 bytes that both ends agreed on (RFC 3394, 2.2.3.2), instead of the default. */
 export interface Plain {
@@ -28,18 +25,27 @@ export interface Plain {
 
 /**
  * Which wrapped keys have the padded form: the given one, or the returned one. `keepForm` excludes
- * both: the given one may have either form, and the returned one has the same form.
+ * both: the given one may have either form, and the returned one has the same form. With `passNew`
+ * a wrapped key that is already under the new KEK, in the form of the returned one, is returned as
+ * it is.
  */
 export interface Forms {
     oldPadded?: boolean;
     newPadded?: boolean;
     keepForm?: boolean;
+    passNew?: boolean;
 }
 
 /** The form in which a key was wrapped, and the length of the key in bytes. */
 export interface Kind {
     form: 'plain' | 'padded';
     length: number;
+}
+
+/** A key, and the form in which it was wrapped. */
+export interface Found {
+    form: 'plain' | 'padded';
+    key: Uint8Array;
 }
 
 /**
@@ -75,8 +81,15 @@ export interface Keywrap {
     unwrapPadded(kek: Uint8Array, wrapped: Uint8Array): Uint8Array;
 
     /**
+     * Returns the key whose wrapping this is, plain (with the default initial value) or padded, and
+     * its form: `IntegrityFailed` if there is none. No wrapped key has both forms. The wrapped key has
+     * a multiple of 8 bytes from 16 to 1,048,584.
+     */
+    unwrapAny(kek: Uint8Array, wrapped: Uint8Array): Found;
+
+    /**
      * Rewraps a wrapped key from the old KEK to the new one. The result has the same length.
-     * `BadLength` also if the length of the key is not legal in the new form. The key is never
+     * `KeyNotPlain` if it would be plain and no plain key has the length of the key. The key is never
      * returned.
      */
     rewrap(

@@ -9,14 +9,12 @@ export class KeywrapError extends Error {}
 export class BadInitialValue extends KeywrapError {}
 export class BadKekLength extends KeywrapError {}
 export class BadLength extends KeywrapError {}
+export class KeyNotPlain extends BadLength {}
 export class IntegrityFailed extends KeywrapError {}
-
-// Nothing throws it: versions up to 1.1.0 did, in a host without 64-bit memory.
-export class NoMemory64 extends Error {}
 
 // Minifiers rename a class, but not a string.
 const ERRORS = {
-    KeywrapError, BadInitialValue, BadKekLength, BadLength, IntegrityFailed, NoMemory64,
+    KeywrapError, BadInitialValue, BadKekLength, BadLength, KeyNotPlain, IntegrityFailed,
 };
 for (const [name, error] of Object.entries(ERRORS)) {
     error.prototype.name = name;
@@ -84,6 +82,7 @@ const BAD_IV = 2;
 const BAD_KEK = 3;
 const BAD_LENGTH = 4;
 const INTEGRITY = 5;
+const KEY_NOT_PLAIN = 8;
 
 const isBadKek = ({ kind, bytes }) => kind === KEK && ![16, 24, 32].includes(bytes.length);
 const lengthIs = ({ kind, bytes }) =>
@@ -104,6 +103,10 @@ function refusalOf(status, call, inputs) {
     if (status === BAD_LENGTH) {
         return new BadLength(`bad length: ${lengthIs(inputs[inputs.length - 1])}`);
     }
+    if (status === KEY_NOT_PLAIN) {
+        return new KeyNotPlain('bad length: no plain key has the length of the key; '
+            + `it must be ${PLAIN_KEY.legal} bytes`);
+    }
     if (status === INTEGRITY) {
         return new IntegrityFailed('integrity check failed: no wrapped key under this KEK');
     }
@@ -112,19 +115,30 @@ function refusalOf(status, call, inputs) {
 
 /* The calls over the module's memory */
 
-// An instance and its memory, which nothing else uses. Up to `start` the memory stays as it was made,
-// the stack included. The module writes two numbers at `start`. After them are copies of the inputs
-// of a call, and room for its answer. No caller sees a machine.
+// The size of the module's stack, which begins at address 0: a call that needs more traps. The linker
+// would give it 64 KiB, and clearing them after each call would take a fifth of the time.
+const STACK = 8192;
+
+// An instance and its memory, which nothing else uses: the stack, constants, and from `start` on two
+// numbers that the module writes, copies of the inputs of a call, and room for its result. No caller
+// sees a machine.
 class Machine {
     constructor(exports) {
         this.exports = exports;
         this.memory = new Uint8Array(exports.memory.buffer);
         this.start = Math.ceil(Number(exports.__heap_base.value) / 8) * 8;
-        this.made = this.memory.slice(0, this.start);
+    }
+
+    // Calls the module, from the state of a new instance: an earlier call may have been cut off because
+    // the host's stack ended.
+    run(name, given) {
+        this.exports.__stack_pointer.value = BigInt(STACK);
+        this.exports.__in_call.value = 0;
+        return this.exports[name](...given);
     }
 
     get version() {
-        const number = this.exports.keywrap_version();
+        const number = this.run('keywrap_version', []);
         return [number >>> 16, number >>> 8 & 255, number & 255].join('.');
     }
 
@@ -132,7 +146,7 @@ class Machine {
     get atLength() { return BigInt(this.start); }
     get atPadded() { return BigInt(this.start + 8); }
     get length() { return this.number(0); }
-    get isPadded() { return this.number(8) === 1; }
+    get form() { return this.number(8) === 1 ? 'padded' : 'plain'; }
 
     number(at) {
         return new DataView(this.memory.buffer, this.start + at).getUint32(0, true);
@@ -154,14 +168,14 @@ class Machine {
         const places = lengths.map((length) => [(end += length) - length, length]);
         try {
             copied.forEach((bytes, of) => this.memory.set(bytes, places[of][0]));
-            const status = this.exports[name](...places.flat().map(BigInt), ...rest);
+            const status = this.run(name, [...places.flat().map(BigInt), ...rest]);
             if (status !== 0) {
                 throw refusalOf(status, name, inputs);
             }
             return answer(...places[places.length - 1]);
         } finally {
             this.memory.fill(0, this.start, end);
-            this.memory.set(this.made);
+            this.memory.fill(0, 0, STACK);
         }
     }
 }
@@ -205,30 +219,35 @@ function unwrapPadded(machine, kek, wrapped, options = {}) {
     });
 }
 
-// From padded to plain what is wrapped may have a legal length, and the key in it none.
-const NOT_PLAIN = 'bad length: the key that is wrapped cannot be plain: '
-    + `it is not ${PLAIN_KEY.legal} bytes long`;
-
-function isLegal({ kind, bytes: { length } }) {
-    const least = kind === WRAPPED_PADDED ? 16 : 24;
-    return length % 8 === 0 && length >= least && length <= kind.longest;
+function unwrapAny(machine, kek, wrapped, options = {}) {
+    optionsOf(options);
+    const inputs = [taken(KEK, kek), taken(WRAPPED_PADDED, wrapped)];
+    return machine.call('keywrap_unwrap_any', inputs, {
+        room: keyRoom,
+        rest: [machine.atPadded, machine.atLength],
+        answer: (at) => ({ form: machine.form, key: machine.copy(at, machine.length) }),
+    });
 }
 
+// The flags of keywrap_rewrap.
+const OLD_PADDED = 1;
+const NEW_PADDED = 2;
+const KEEP_FORM = 4;
+const PASS_NEW = 8;
+
 function rewrap(machine, oldKek, newKek, wrapped, options = {}) {
-    const { oldPadded = false, newPadded = false, keepForm = false } =
-        optionsOf(options, 'oldPadded', 'newPadded', 'keepForm');
-    const forms = flagOf('oldPadded', oldPadded) | flagOf('newPadded', newPadded) << 1
-        | flagOf('keepForm', keepForm) << 2;
-    if (forms > 4) {
+    const { oldPadded = false, newPadded = false, keepForm = false, passNew = false } =
+        optionsOf(options, 'oldPadded', 'newPadded', 'keepForm', 'passNew');
+    const flags = flagOf('oldPadded', oldPadded) * OLD_PADDED
+        | flagOf('newPadded', newPadded) * NEW_PADDED
+        | flagOf('keepForm', keepForm) * KEEP_FORM
+        | flagOf('passNew', passNew) * PASS_NEW;
+    if (keepForm && (oldPadded || newPadded)) {
         throw new TypeError('keepForm goes with neither oldPadded nor newPadded');
     }
     const old = taken(oldPadded || keepForm ? WRAPPED_PADDED : WRAPPED_PLAIN, wrapped);
     const inputs = [taken(KEK, oldKek), taken(KEK, newKek), old];
-    try {
-        return machine.call('keywrap_rewrap_in_place', inputs, { rest: [forms] });
-    } catch (error) {
-        throw error instanceof BadLength && isLegal(old) ? new BadLength(NOT_PLAIN) : error;
-    }
+    return machine.call('keywrap_rewrap', inputs, { rest: [flags, machine.atPadded] });
 }
 
 function check(machine, kek, wrapped, options = {}) {
@@ -238,9 +257,7 @@ function check(machine, kek, wrapped, options = {}) {
         return machine.call('keywrap_kind', inputs, {
             room: keyRoom,
             rest: [machine.atPadded, machine.atLength],
-            answer: () => ({
-                form: machine.isPadded ? 'padded' : 'plain', length: machine.length,
-            }),
+            answer: () => ({ form: machine.form, length: machine.length }),
         });
     } catch (error) {
         if (error instanceof IntegrityFailed) {
@@ -251,8 +268,8 @@ function check(machine, kek, wrapped, options = {}) {
 }
 
 function selfTest(machine) {
-    const status = machine.exports.keywrap_self_test();
-    machine.memory.set(machine.made);
+    const status = machine.run('keywrap_self_test', []);
+    machine.memory.fill(0, 0, STACK);
     if (status !== 0) {
         throw new Error('self test failed: this host computes wrong results');
     }
@@ -282,7 +299,9 @@ export async function load(source) {
     const module = source instanceof WebAssembly.Module
         ? source : await WebAssembly.compile(source === undefined ? await beside() : source);
     const machine = new Machine((await WebAssembly.instantiate(module)).exports);
-    const calls = { wrap, unwrap, wrapPadded, unwrapPadded, rewrap, check, selfTest };
+    const calls = {
+        wrap, unwrap, wrapPadded, unwrapPadded, unwrapAny, rewrap, check, selfTest,
+    };
     const bound = Object.entries(calls).map(
         ([name, call]) => [name, (...given) => call(machine, ...given)]);
     return Object.freeze({ version: machine.version, ...Object.fromEntries(bound) });

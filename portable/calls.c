@@ -25,8 +25,8 @@ struct call {
     u64 addresses[MOST_BUFFERS];
     u64 number;        /* an argument that is no buffer */
     int always_writes; /* whether a refusal may change a buffer, too */
-    size_t *key_len;   /* receives the numbers, if any */
-    uint32_t *padded;
+    size_t *key_len;   /* receives the first number, if any */
+    uint32_t *flag;    /* receives the second one, if any */
 };
 
 #define READS(bytes, len, longest) {(bytes), NULL, (len), (longest)}
@@ -58,9 +58,9 @@ static void copy_in(const struct call *call, struct memory memory) {
     }
 }
 
-static void copy_numbers_out(const struct call *call, u64 key_len, u32 padded) {
+static void copy_numbers_out(const struct call *call, u64 key_len, u32 flag) {
     if (call->key_len) *call->key_len = (size_t)key_len;
-    if (call->padded) *call->padded = padded;
+    if (call->flag) *call->flag = flag;
 }
 
 /* Only a call that is done and a failed check write a buffer. */
@@ -304,7 +304,43 @@ int32_t keywrap_kind(const uint8_t *kek, size_t kek_len, const uint8_t *wrapped,
         .buffers = {KEK(kek, kek_len), READS(wrapped, wrapped_len, KEYWRAP_MAX_TEXT),
                     WRITES(scratch, room, KEYWRAP_MAX_KEY)},
         .key_len = key_len,
-        .padded = padded,
+        .flag = padded,
+    };
+    return (int32_t)perform(&call);
+}
+
+static u64 run_unwrap_any(struct instance *module, const struct call *call) {
+    return w2c_keywrap_unwrap_any(module, BUFFER(0), BUFFER(1), BUFFER(2), FIRST + NUMBERS + 8,
+                                  FIRST + NUMBERS);
+}
+
+int32_t keywrap_unwrap_any(const uint8_t *kek, size_t kek_len, const uint8_t *wrapped,
+                           size_t wrapped_len, uint8_t *key, size_t room, uint32_t *padded,
+                           size_t *key_len) {
+    struct call call = {
+        .run = run_unwrap_any,
+        .buffers = {KEK(kek, kek_len), READS(wrapped, wrapped_len, KEYWRAP_MAX_TEXT),
+                    WRITES(key, room, KEYWRAP_MAX_KEY)},
+        .key_len = key_len,
+        .flag = padded,
+    };
+    return (int32_t)perform(&call);
+}
+
+static u64 run_rewrap(struct instance *module, const struct call *call) {
+    return w2c_keywrap_rewrap(module, BUFFER(0), BUFFER(1), BUFFER(2), (u32)call->number,
+                              FIRST + NUMBERS + 8);
+}
+
+int32_t keywrap_rewrap(const uint8_t *old_kek, size_t old_kek_len, const uint8_t *new_kek,
+                       size_t new_kek_len, uint8_t *buffer, size_t wrapped_len, uint32_t flags,
+                       uint32_t *already) {
+    struct call call = {
+        .run = run_rewrap,
+        .buffers = {KEK(old_kek, old_kek_len), KEK(new_kek, new_kek_len),
+                    WRITES(buffer, wrapped_len, KEYWRAP_MAX_TEXT)},
+        .number = flags,
+        .flag = already,
     };
     return (int32_t)perform(&call);
 }

@@ -19,8 +19,7 @@ for document in "$@"; do
     copy=$folder/${document##*/}
     if [ -d "$document" ]; then
         install -d -- "$copy"
-        install -m 755 -- "$document"/*.sh "$copy"
-        install -m 644 -- "$document"/*.py "$copy"
+        install -m 644 -- "$document"/* "$copy"
     else
         # shellcheck disable=SC2086
         scripts/links.sh $names <"$document" >"$copy"

@@ -1,10 +1,11 @@
 # `make library HARDWARE=1`: libkeywrap_hw, with the calls of libkeywrap by the processor's AES, over the proved steps.
-# The proved calls are in it under other names, which no caller sees.
+# The proved calls are in it under other names, which no caller sees: ld and objcopy do that, so the objects have code even
+# with -flto.
 
 hw_tools = $(if $(other),aarch64-linux-gnu-)
 hw_soname = libkeywrap_hw.so.1
 hw_shared = libkeywrap_hw.so.$(of_debian)
-hw_objects = $(patsubst hardware/%.c,$(LIBRARY)/hw/%.o,$(wildcard hardware/*.c))
+hw_names = $(basename $(notdir $(wildcard hardware/*.c)))
 
 install_hardware = install -m 644 '$(LIBRARY)/libkeywrap_hw.a' '$(lib)/libkeywrap_hw.a' && \
     $(install_stripped) -m 644 '$(LIBRARY)/$(hw_shared)' '$(lib)/$(hw_shared)' && \
@@ -14,10 +15,11 @@ install_hardware = install -m 644 '$(LIBRARY)/libkeywrap_hw.a' '$(lib)/libkeywra
 library-hardware:
 	rm -rf '$(LIBRARY)/hw'
 	install -d '$(LIBRARY)/hw'
-	for source in $(basename $(notdir $(wildcard hardware/*.c))); do $(compile) -std=c99 -fPIC -Iinclude \
+	for source in $(hw_names); do $(compile) -fno-lto -std=c99 -fPIC -Iinclude \
 	    -c "hardware/$$source.c" -o "$(LIBRARY)/hw/$$source.o" || exit; done
 	$(hw_tools)objcopy --redefine-syms=hardware/names '$(LIBRARY)/libkeywrap.a' '$(LIBRARY)/hw/proved.a'
-	$(hw_tools)ld -r -o '$(LIBRARY)/hw/all.o' $(hw_objects) --whole-archive '$(LIBRARY)/hw/proved.a'
+	$(hw_tools)ld -r -o '$(LIBRARY)/hw/all.o' $(foreach name,$(hw_names),'$(LIBRARY)/hw/$(name).o') \
+	    --whole-archive '$(LIBRARY)/hw/proved.a'
 	sed -n 's/^ *\(keywrap_[a-z_]*\);/\1/p' include/keywrap.map >'$(LIBRARY)/hw/shown'
 	$(hw_tools)objcopy --keep-global-symbols='$(LIBRARY)/hw/shown' '$(LIBRARY)/hw/all.o'
 	rm -f '$(LIBRARY)/libkeywrap_hw.a'

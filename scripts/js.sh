@@ -26,9 +26,13 @@ trap 'exit 1' HUP INT TERM
 # A memory that never grows: the stack, which comes first, and twice the longest wrapped key.
 "$kit/bin/rattle-link" --target $target --toolchain "$kit/toolchain" --memory 2228224 --stack 65536 \
     -o "$room/wide.wasm" crates/keywrap_wasm/out/libkeywrap_wasm.a
-# The features that the module uses. A host needs the second.
-"$wasm_opt" --mvp-features --enable-memory64 --enable-bulk-memory --memory64-lowering \
-    "$room/wide.wasm" -o "$folder/keywrap.wasm"
+# keywrap.js resets the state beside the memory, so the module has to export it.
+"${wasm_opt%opt}dis" --enable-memory64 --enable-bulk-memory "$room/wide.wasm" -o "$room/wide.wat"
+sed -i 's/^ (export "__heap_base" .*/&\
+    (export "__stack_pointer" (global $__stack_pointer)) (export "__in_call" (global $in_call))/' "$room/wide.wat"
+# The features that the module uses. A host needs the last two.
+"$wasm_opt" --mvp-features --enable-memory64 --enable-bulk-memory --enable-mutable-globals --memory64-lowering \
+    "$room/wide.wat" -o "$folder/keywrap.wasm"
 cp js/keywrap.js js/keywrap.d.ts js/example.html "$folder"
 scripts/links.sh <js/README.md >"$folder/README.md"
 sed "s|@VERSION@|$1|" js/package.json.in >"$folder/package.json"

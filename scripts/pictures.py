@@ -90,7 +90,8 @@ class Drawing:
         width, height = self.size
         digest = hashlib.sha256(source.encode()).hexdigest()
         return "\n".join([
-            f'<svg xmlns="http://www.w3.org/2000/svg" viewBox="0 0 {width} {height}" role="img">',
+            f'<svg xmlns="http://www.w3.org/2000/svg" width="{width}" height="{height}" viewBox="0 0 {width} {height}" '
+            'role="img">',
             f"<!-- input: sha256 {digest} -->", f"<title>{escape(self.title)}</title>",
             f"<style>\n{STYLE}\n</style>", *self.elements, "</svg>", ""])
 
@@ -173,16 +174,16 @@ def padded():
 
 def output():
     """What --output FILE does, step by step, and what FILE is if the run stops after a step."""
-    drawing = Drawing(480, 330, "What --output FILE does, step by step")
+    drawing = Drawing(480, 352, "What --output FILE does, step by step")
     drawing.text(16, 24, "step", "small")
     drawing.text(300, 24, "FILE", "small")
     drawing.text(380, 24, "FILE.part0", "small")
     rows = [
         ("1  open KEK and input", "old", ""),
         ("2  create FILE.part0, mode 0600", "old", "empty"),
-        ("3  compute the whole answer", "old", "empty"),
-        ("4  write the answer", "old", "answer"),
-        ("5  copy owner, group and mode", "old", "answer"),
+        ("3  copy owner, group and mode", "old", "empty"),
+        ("4  compute the whole answer", "old", "empty"),
+        ("5  write the answer", "old", "answer"),
         ("6  sync the new file", "old", "answer"),
         ("7  rename it to FILE", "answer", ""),
         ("8  sync the directory", "answer", ""),
@@ -196,11 +197,13 @@ def output():
             drawing.box(376, y, 88, 28, "tested")
             drawing.text(420, y + 19, part, "middle small")
     drawing.text(16, 324, "At any moment FILE is the old file or the whole answer.", "small")
+    drawing.text(16, 344, "unwrap skips step 3: only its owner can read the new file.", "small")
     return drawing
 
 
 def rotation():
-    """A terminal during and after the rotation of a million keys, as scripts/record_rotation.py recorded it."""
+    """A terminal during and after the rotation of a million keys of 16 bytes, which scripts/record_rotation.py
+    recorded."""
     shown = []
     for line in (PICTURES / "rotation.txt").read_text(encoding="utf-8").splitlines():
         mark, _, words = line.partition(" ")
@@ -210,7 +213,7 @@ def rotation():
         else:
             kind = "faint" if mark == "during:" else "shown"
             shown += [(kind, part) for part in textwrap.wrap(words, 61)]
-    drawing = Drawing(480, 28 + 20 * len(shown), "A terminal during and after a rotation of a million keys")
+    drawing = Drawing(480, 28 + 20 * len(shown), "A terminal during and after a rotation of a million keys of 16 bytes")
     drawing.box(1, 1, 478, 26 + 20 * len(shown), "screen")
     for number, (kind, words) in enumerate(shown):
         drawing.text(14, 28 + 20 * number, words, kind)

@@ -18,6 +18,9 @@ PARTS = ROOT / "portable"
 WASM2C = os.environ.get("WASM2C", "wasm2c")
 CONSTANTS = re.compile(r"static const u8 data_segment_data_w2c_d0\[\] = \{\n(.*?)\n\};", re.S)
 FRAME = re.compile(r"w2c_j0 = instance->w2c_g0;\s+w2c_j1 = (\d+)ull;\s+w2c_j0 -= w2c_j1;")
+# A function without a frame, which only looks whether so many bytes are left.
+LOOK = re.compile(r"w2c_j0 = instance->w2c_g0;\s+(w2c_l\d+) = w2c_j0;\s+w2c_j1 = (\d+)ull;\s+"
+                  r"w2c_i0 = \(u64\)\(\(s64\)w2c_j0 ([<>]) \(s64\)w2c_j1\);")
 
 
 def translated(wasm):
@@ -25,14 +28,31 @@ def translated(wasm):
     with tempfile.TemporaryDirectory() as room:
         out = pathlib.Path(room) / "module.c"
         subprocess.run([WASM2C, "-n", "keywrap", wasm, "-o", out], check=True)
-        return out.read_text().replace("Z_keywrap_instance_t* ", "struct instance *").replace(
-            "Z_keywrap_instance_t*", "struct instance *")
+        text = out.read_text()
+    # The two globals that the module exports for keywrap.js have no names here.
+    names = {"Z_keywrap_instance_t* ": "struct instance *", "Z_keywrap_instance_t*": "struct instance *",
+             "w2c___stack_pointer": "w2c_g0", "w2c___in_call": "w2c_g1"}
+    for name, ours in names.items():
+        text = text.replace(name, ours)
+    return text
 
 
 def the_number(pattern, text):
     """The number in the text, which has the pattern exactly once."""
     found, = re.findall(pattern, text)
     return int(found)
+
+
+def frame_of(name, body):
+    """The bytes by which the function moves the stack, and those that it wants left."""
+    if frame := FRAME.search(body):
+        return int(frame[1]), 0
+    look = LOOK.search(body)
+    stores = body.count("instance->w2c_g0 = ")
+    kept = stores and look and body.count(f"{look[1]} = ") == 2  # its declaration, and what was read
+    restored = kept and len(re.findall(rf"w2c_j0 = {look[1]};\s+instance->w2c_g0 = w2c_j0;", body))
+    assert stores == (restored or 0), f"{name} moves the stack in another way"
+    return 0, int(look[2]) + (look[3] == ">") if look else 0
 
 
 def stack_need(functions):
@@ -44,9 +64,8 @@ def stack_need(functions):
         for name, body in bodies.items():
             calls = set(re.findall(r"\b(w2c_\w+)\(instance", body))
             if name not in need and calls <= need.keys():
-                frame = FRAME.search(body)
-                assert bool(frame) == ("w2c_g0 =" in body), f"{name} moves the stack in another way"
-                need[name] = int(frame[1] if frame else 0) + max((need[call] for call in calls), default=0)
+                frame, left = frame_of(name, body)
+                need[name] = max(left, frame + max((need[call] for call in calls), default=0))
         assert len(need) > known, "the module recurses"
     return max(need.values())
 

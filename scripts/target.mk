@@ -1,12 +1,11 @@
-# What differs with the machine that TARGET names. Another than x86-64 is built for by Debian's cross compiler, of what
-# scripts/sysroot.sh unpacks, and only the C library and the wheel are built: the kit has no archive there for
-# programs.
+# Settings for each TARGET. For aarch64 we use Debian's cross compiler and the headers of scripts/sysroot.sh, and build
+# only the C library and the wheel: the kit has no archive for programs there.
 
 of_program = build test gate install install-command dist-command bench
 targets = x86_64-unknown-linux-gnu aarch64-unknown-linux-gnu
 
-# What `make dist` hands out, by goal and by name: what is for no one machine, the package for npm, the portable library
-# and the source distribution, goes with x86-64's.
+# What `make dist` hands out, by goal and by name. The packages for every machine (npm, the portable library, the source
+# distribution) are made with those for x86-64.
 wheel_of = keywrap-$(of_python)-cp39-abi3-manylinux_2_17_$(1).whl
 of_machine = keywrap-library-$(version)-$(1)-linux.tar.gz $(call wheel_of,$(1))
 of_command = keywrap-$(version)-x86_64-linux
@@ -28,14 +27,14 @@ other = -$(TARGET)
 CC = aarch64-linux-gnu-gcc
 strip_program = aarch64-linux-gnu-strip
 ifneq ($(filter $(of_program),$(MAKECMDGOALS)),)
-$(error make $(firstword $(filter $(of_program),$(MAKECMDGOALS))): the program is for x86-64 alone, not for $(TARGET))
+$(error make $(firstword $(filter $(of_program),$(MAKECMDGOALS))): the program is only for x86-64, not for $(TARGET))
 endif
 else
 $(error TARGET='$(TARGET)' is none of x86_64-unknown-linux-gnu and aarch64-unknown-linux-gnu)
 endif
 
-# Of another machine: what must be there; what rt builds for it by, which has one place for the archive of each
-# machine, so that x86-64's comes back there; and its compiler, for the wheel.
+# For aarch64: the tools that must be there, the option of rt, and the compiler for the wheel. rt writes the archive of
+# every machine to one path, so x86-64's archive is set aside and put back.
 ifneq ($(other),)
 # Outside of this folder, in which rt accepts no symbolic link.
 SYSROOT ?= $(or $(XDG_CACHE_HOME),$(HOME)/.cache)/keywrap/sysroot$(other)

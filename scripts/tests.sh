@@ -38,28 +38,25 @@ run_scripts() {
     wait
 }
 
-# run_files: the tests of pytest, by the first Python that has it. Debian's need not be the first on the PATH. They are
-# many and short, so they take the time that the scripts leave.
+# run_files: the tests of pytest. They are many and short, so they take the time that the scripts leave. Without pytest
+# nobody asks for their tools, so all that are missing are named.
 run_files() {
-    local python parallel=()
-    for python in "${PYTHON:-python3}" /usr/bin/python3 none; do
-        "$python" -c 'import pytest' 2>/dev/null && break
-    done
+    local parallel=()
     if [ "$python" = none ]; then
-        echo 'SKIPPED: the tests of the program: no pytest (apt-get install python3-pytest)'
+        echo "SKIPPED: the tests of the program: $(bash tests/lib/tools.sh)"
         echo '0 passed, 0 failed, 1 skipped'
         return
     fi
     ! "$python" -c 'import xdist' 2>/dev/null || parallel=(-n "$(nproc)")
-    KEYWRAP_JS=${KEYWRAP_JS:-$built/js} nice -n 5 "$python" -m pytest "${parallel[@]}" "${files[@]}"
+    KEYWRAP_BUILT=$built KEYWRAP_JS=${KEYWRAP_JS:-$built/js} nice -n 5 "$python" -m pytest "${parallel[@]}" "${files[@]}"
 }
 
 # over_library NAME..: builds the archives of the C library, and then runs these tests over them. If the archives
 # cannot be built, each test reports it.
 over_library() {
     local more=()
-    [[ " $* " != *' arm64 '* && " $* " != *' facts '* ]] || more+=(arm64)
-    [[ " $* " != *' js '* && " $* " != *' dist '* && " $* " != *' facts '* ]] || more+=(js)
+    [[ " $* " != *' arm64 '* ]] || more+=(arm64)
+    [[ " $* " != *' js '* ]] || more+=(js)
     tests/library/build.sh "$built" "${more[@]}" >"$built/log" 2>&1 &&
         export KEYWRAP_ARCHIVES="$built/rattle.a $built/llvm.a"
     [ ! -d "$built/arm64" ] || export KEYWRAP_ARM64=$built/arm64
@@ -67,10 +64,17 @@ over_library() {
     run_scripts "$@"
 }
 
+# The first Python that has pytest: Debian's need not be the first on the PATH.
+for python in "${PYTHON:-python3}" /usr/bin/python3 none; do
+    "$python" -c 'import pytest' 2>/dev/null && break
+done
+[ "$python" != none ] || [ ${#files[@]} = 0 ] ||
+    echo 'most tests of the program need pytest, and are skipped: apt-get install python3-pytest, or make packages'
+
 # They share the program, which is built before the first of them. Of those over the C library the longest begin first.
 ./keywrap --version || exit
 over_archives=() others=()
-over=' python hardware library js arm64 debian secrets provider dist facts '
+over=' hardware library js arm64 secrets '
 for script in $over; do [[ " ${scripts[*]} " != *" $script "* ]] || over_archives+=("$script"); done
 for script in "${scripts[@]}"; do [[ $over = *" $script "* ]] || others+=("$script"); done
 [ ${#files[@]} = 0 ] || run pytest run_files &
@@ -94,7 +98,7 @@ for script in "${scripts[@]}"; do
 done
 echo
 packages=$(sed -n 's/^SKIPPED: .*(apt-get install \(.*\))$/\1/p' "$logs"/* | tr ' ' '\n' | sort -u | paste -sd ' ')
-[ -z "$packages" ] || echo "what was skipped needs: apt-get install $packages (all: tests/packages.txt)"
+[ -z "$packages" ] || echo "what was skipped needs: make packages, or apt-get install $packages"
 slow=$(sed -n 's/^SLOW: \([0-9]*\) .*/\1/p' "$logs"/* | paste -sd +)
 echo "$passed passed, $failed failed, $skipped skipped${slow:+, $((slow)) slow left to KEYWRAP_ALL=1 make test}"
 [ "$failed" = 0 ]

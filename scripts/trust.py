@@ -43,7 +43,7 @@ def clauses(text):
 
 
 def spec_file(path):
-    """The file in a folder specs/ of this repository for a module's path, or None."""
+    """The file in a directory specs/ of this repository for a module's path, or None."""
     crate, *rest = path.split(".")
     if rest[:1] != ["specs"] or len(rest) < 2 or rest[1] == "declared":
         return None

@@ -17,7 +17,7 @@ rm -rf "$package"
 cp -R --no-preserve=mode python "$package"
 cp --no-preserve=mode VERSION include/keywrap.h "$library/libkeywrap.a" "$package"
 scripts/links.sh <python/README.md >"$package/README.md"
-# No symbol of glibc that it needs is newer than 2.17: tests/python.sh looks.
+# No symbol of glibc that it needs is newer than 2.17: tests/test_dist.py looks.
 printf '[bdist_wheel]\nplat_name = manylinux_2_17_%s\n' "$machine" >"$package/setup.cfg"
 if [ -n "$sysroot" ]; then
     headers=include/$machine-linux-gnu

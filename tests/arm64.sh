@@ -22,10 +22,7 @@ are_arm() { [ "$(LC_ALL=C readelf -h "$@" | sed -n 's/^ *Machine: *//p' | sort -
 
 ### The library
 
-for needed in aarch64-linux-gnu-gcc:gcc-aarch64-linux-gnu qemu-aarch64:qemu-user; do
-    has "${needed%:*}" "${needed#*:}" 'all of aarch64' || { finish; exit; }
-done
-has_header stdio.h libc6-dev-arm64-cross 'all of aarch64' || { finish; exit; }
+needs 'all of aarch64' aarch64-linux-gnu-gcc qemu-aarch64 || { finish; exit; }
 
 row 'make library' making library || { finish; exit; }
 row 'the library is of aarch64' are_arm "$library"/libkeywrap.{a,so.1}
@@ -39,8 +36,8 @@ shuffles() {
 row 'the shuffles' shuffles
 
 # By the shared object, on an early processor; what depends on secrets and the package go by the archive.
-row 'the calls: compile' "$cc" -std=c99 -O2 -Wall -Wextra -pedantic -Werror "-I$root/include" "-I$root/bench" \
-    "$root"/tests/library/*.c "$root/bench/one_table.c" "$library/libkeywrap.so.1" -o checks
+row 'the calls: compile' "$cc" -std=c99 -O2 -Wall -Wextra -pedantic -Werror "-I$root/include" "-I$root/tests/reference" \
+    "$root"/tests/library/*.c "$root/tests/reference/one_table.c" "$library/libkeywrap.so.1" -o checks
 # They run beside what follows.
 "${runs[@]}" -cpu cortex-a53 -E "LD_LIBRARY_PATH=$library" ./checks few >calls.log 2>&1 &
 calls=$!
@@ -64,7 +61,7 @@ fi
 packed=keywrap-library-$version-aarch64-linux wheel=keywrap-${version/-dev/.dev0}-cp39-abi3-manylinux_2_17_aarch64.whl
 if [ ! -d "$sysroot" ]; then
     skip 'the wheel' "$of_debian"
-elif has_python cffi,setuptools,wheel,build 'the wheel'; then
+elif needs_python 'the wheel' build cffi setuptools wheel; then
     row 'make dist' making dist PYTHON="$python"
     row 'what it makes' diff <(ls dist) \
         <(printf '%s\n' SHA256SUMS "$wheel" "keywrap-$version.cdx.json" "$packed.tar.gz" | sort)
@@ -73,13 +70,13 @@ elif has_python cffi,setuptools,wheel,build 'the wheel'; then
 fi
 [ -d dist ] || row 'make dist-library' making dist-library
 row 'it unpacks' tar -xzf "dist/$packed.tar.gz"
-row 'what it packs, but for documents' diff <(cd "$packed" && find . -path ./share -prune -o ! -type d -print | sort) \
+row 'what it packs, except documents' diff <(cd "$packed" && find . -path ./share -prune -o ! -type d -print | sort) \
     <(printf './%s\n' README include/keywrap{,_steps}.h lib/cmake/keywrap/keywrap-config{-version,}.cmake \
         lib/libkeywrap.{a,so,so.1,"so.${version/-/\~}"} lib/pkgconfig/keywrap.pc)
 row 'its documents' test -s "$packed/share/doc/keywrap/C_LIBRARY.md"
 row 'it is of aarch64' are_arm "$packed"/lib/libkeywrap.{a,so}
 row 'its README says so' grep -q 'Linux on aarch64' "$packed/README"
-if has pkg-config pkg-config 'the C example over the packed library'; then
+if needs 'the C example over the packed library' pkg-config; then
     read -ra flags < <(PKG_CONFIG_PATH=$packed/lib/pkgconfig pkg-config --cflags --libs keywrap)
     row 'the C example: builds' "$cc" -std=c99 "$root/examples/c/wrap.c" "${flags[@]}" -o example
     row 'the C example: runs' writes 96778b25ae6ca435f92b5b97c050aed2468ab8a17ad84e5d \

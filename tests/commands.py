@@ -16,11 +16,11 @@ SAME_KEK = "rewrap --kek kek16.hex --new-kek kek16.hex"
 MAX_FILE = 4194304
 
 
-def table(name, section):
+def table(name, section, **values):
     """The rows of a section of NAME.txt: the fields between bars, with the values of $NAMES. `\\` joins two lines."""
     text = pathlib.Path(__file__).with_name(f"{name}.txt").read_text().replace("\\\n", "")
     lines = re.search(rf"^\[{section}\]\n((?:.+\n)+)", text, re.M)[1]
-    filled = string.Template(lines).substitute({**VALUES, **globals()})
+    filled = string.Template(lines).substitute({**VALUES, **globals(), **values})
     return [[field.strip() for field in line.split("|")] for line in filled.splitlines() if line[0] != "#"]
 
 

@@ -17,10 +17,15 @@ import pytest
 
 pytest.register_assert_rewrite("checks")
 
+from builds import built, debs, dist, library, once, portable, python, thing, words  # noqa: F401
 from commands import FILES, LARGE
 from program import SLOW, Ended, Program, shared, wait_for
+from tools import need
 
 ROOT = pathlib.Path(__file__).resolve().parent.parent
+# The files of long tests.
+LONG = ("test_portable", "test_python", "test_dist", "test_debian", "test_handed_out",
+        "test_provider", "test_facts")
 
 
 def pytest_addoption(parser):
@@ -44,12 +49,17 @@ def pytest_collection_modifyitems(config, items):
     """Shares the long tests out among the processes of pytest-xdist: each first gets a block of the items."""
     processes = int(os.environ.get("PYTEST_XDIST_WORKER_COUNT", "1"))
     block = len(items) // (4 * processes)
-    long = [item for item in items if item.path.name.startswith(("test_rotation", "test_portable"))]
+    long = [item for item in items if item.path.name.startswith(LONG)]
     items[:] = [item for item in items if item not in long]
     for number, item in enumerate(long):
         items.insert(number % processes * block, item)
     if config.getoption("reversed"):
         items.reverse()
+
+
+def pytest_runtest_setup(item):
+    for mark in item.iter_markers("needs"):
+        need(*mark.args)
 
 
 def pytest_unconfigure(config):
@@ -59,12 +69,14 @@ def pytest_unconfigure(config):
         kinds = "passed", "failed", "error", "skipped"
         passed, failed, errors, skipped = (reporter.stats.get(kind, []) for kind in kinds)
         reasons = [report.longrepr[2].removeprefix("Skipped: ") for report in skipped]
+        # A test that runs other tests has a property for each that was skipped.
+        reasons += [reason for report in passed for name, reason in report.user_properties if name == "skipped"]
         left = reasons.count(SLOW)
         for reason in sorted({*reasons} - {SLOW}):
             print("SKIPPED:", reason)
         if left:
             print("SLOW:", left, SLOW)
-        print(f"{len(passed)} passed, {len(failed + errors)} failed, {len(skipped) - left} skipped")
+        print(f"{len(passed)} passed, {len(failed + errors)} failed, {len(reasons) - left} skipped")
 
 
 def pytest_make_parametrize_id(val):
@@ -108,7 +120,8 @@ def compiled(tmp_path_factory):
         for compiler in ["cc"], [f"{kit}/clang", f"-fuse-ld={kit}/ld.lld"]:
             if shutil.which(compiler[0]) and not subprocess.run([*compiler, *words], capture_output=True).returncode:
                 return library
-        pytest.skip("no C compiler (apt-get install gcc)")
+        need("cc")
+        pytest.fail(f"cc does not build {name}.c")
 
     return build
 
@@ -184,7 +197,8 @@ class Terminal(NamedTuple):
 @pytest.fixture
 def terminal(keywrap, files):
     """terminal("keywrap wrap --kek kek16.hex >out") runs a line of sh on a terminal, and returns a `Terminal`."""
-    pexpect = pytest.importorskip("pexpect", reason="no pexpect (apt-get install python3-pexpect)")
+    need("import pexpect", "pseudo-terminals")
+    import pexpect
     os.mkdir("bin")
     os.symlink(keywrap.path, "bin/keywrap")
 

@@ -1,7 +1,7 @@
 #!/usr/bin/env bash
 # Runs the steps of the C library around OpenSSL's AES and a token's. Runs the calls of tests/library, NIST's cases and
 # the provider's comparisons over libkeywrap_hw, with and without the processor's AES, on x86-64 and aarch64.
-# A part whose tool is not there is skipped, with a line that says what to install.
+# A part without its tool is skipped, with a line that says what to install.
 #
 # usage: tests/hardware.sh        (KEYWRAP_ARCHIVES='PATH ..' tries the last of these, which was built before)
 
@@ -9,22 +9,42 @@ set -u
 # shellcheck source=tests/library/rows.sh
 . "${BASH_SOURCE[0]%/*}/library/rows.sh"
 
+needs 'all of libkeywrap_hw' cc || { finish; exit; }
 row 'make library HARDWARE=1' in_library library HARDWARE=1 || { finish; exit; }
 row 'the names of the archive' shows -g "$library/libkeywrap_hw.a"
 row 'the names of the shared object' versioned "$library/libkeywrap_hw.so.1"
 row 'it needs nothing more' wants "$library/libkeywrap_hw.a"
-options=(-std=c99 -O2 -Wall -Wextra -pedantic -Werror "-I$root/include" "-I$root/bench")
+row 'a hardened shared object' hardened "$library/libkeywrap_hw.so.1"
+row 'its own name' grep -q 'SONAME.*\[libkeywrap_hw\.so\.1\]' elf
+# installs FILE..: these files of the library are installed, with their modes and the targets of their links.
+installs() {
+    in_library install-library HARDWARE=1 prefix="$room/stage" &&
+        diff <(find stage/lib -name '*_hw*' -printf '%m %f %l\n' | sort) <(printf '%s\n' "$@" | sort)
+}
+of_debian=libkeywrap_hw.so.${version/-/\~}
+row 'make install-library HARDWARE=1' installs '644 libkeywrap_hw.a ' "644 $of_debian " \
+    "777 libkeywrap_hw.so.1 $of_debian" '777 libkeywrap_hw.so libkeywrap_hw.so.1'
+options=(-std=c99 -O2 -Wall -Wextra -pedantic -Werror "-I$root/include" "-I$root/tests/reference")
+# with_lto COMPILER: the library is built by these flags, in a directory with a blank in its name, and a program over it
+# passes.
+with_lto() {
+    make -s -C "$root" library HARDWARE=1 CC="$1" CFLAGS='-O2 -flto' LIBRARY="$room/with lto" ARCHIVE="$archive" &&
+        "$1" -flto "${options[@]}" "$root"/tests/library/*.c "$root/tests/reference/one_table.c" \
+            'with lto/libkeywrap_hw.a' -o 'with lto/checks' &&
+        writes ' passed, 0 failed' 'with lto/checks' few
+}
+row 'with -flto' with_lto cc
 
 ### The header
 
 printf '#include <keywrap_steps.h>\n' >steps_header.c
 cp steps_header.c steps_header.cc
 for std in c89 c99 c11; do row "the header in $std" cc -std=$std "${options[@]:1}" -fsyntax-only steps_header.c; done
-row 'the header in C++' c++ -std=c++11 "-I$root/include" -fsyntax-only steps_header.cc
+! needs 'the header in C++' c++ || row 'the header in C++' c++ -std=c++11 "-I$root/include" -fsyntax-only steps_header.cc
 
 ### The steps
 
-if has_header openssl/evp.h libssl-dev "the steps around OpenSSL's AES"; then
+if needs "the steps around OpenSSL's AES" '<openssl/evp.h>'; then
     for name in keywrap keywrap_hw; do
         row "the steps around OpenSSL's AES, $name" cc "${options[@]}" "$root/tests/hardware/steps.c" \
             "$library/lib$name.a" -lcrypto -o steps &&
@@ -35,27 +55,22 @@ if has_header openssl/evp.h libssl-dev "the steps around OpenSSL's AES"; then
     row 'the example of OpenSSL' writes 1fa68b0a8112b447aef34bd8fb5a7b829d3e862371d2cfe5 ./evp
 fi
 
-if ! has softhsm2-util softhsm2 'a KEK in a token'; then
-    :
-elif ! read -ra pkcs11 < <(pkg-config --cflags p11-kit-1 2>/dev/null); then
-    skip 'a KEK in a token' 'no p11-kit/pkcs11.h (apt-get install libp11-kit-dev)'
-else
+if needs 'a KEK in a token' openssl softhsm2-util 'pkcs11.h of p11-kit' pkg-config; then
+    read -ra pkcs11 < <(pkg-config --cflags p11-kit-1)
     # The recipe, over the library as it is installed.
-    row 'make install-library HARDWARE=1' in_library install-library HARDWARE=1 prefix="$room/stage"
-    row 'the installed library by AES instructions' test -e "$room/stage/lib/libkeywrap_hw.so"
     sed -n '/^## A KEK that never leaves a token/,/^## A CMS/s/^    //p' "$root/docs/RECIPES.md" >recipe
     sed -n 's/^[$] //p' recipe >script
-    row 'the recipe of a token' diff <(mkdir token && cd token && DOC=$room/stage/share/doc/keywrap \
-        PKG_CONFIG_PATH=$room/stage/lib/pkgconfig LD_LIBRARY_PATH=$room/stage/lib bash ../script 2>&1) \
-        <(grep -v '^[$] ' recipe)
+    mkdir token && cp stage/share/doc/keywrap/examples/c/token.c token
+    row 'the recipe of a token' diff <(cd token && PKG_CONFIG_PATH=$room/stage/lib/pkgconfig \
+        LD_LIBRARY_PATH=$room/stage/lib bash ../script 2>&1) <(grep -v '^[$] ' recipe)
     row 'the example of a token: no warning' cc "${options[@]}" "${pkcs11[@]}" -c "$root/examples/c/token.c" -o token.o
 fi
 
-# reports NAME MOST: the line of this name has at most so many reports.
+# reports NAME MOST: the line of this name has at most MOST reports.
 reports() {
     awk -F ': ' -v name="$1" -v most="$2" '$1 == name && $2 <= most { found = 1 } END { exit !found }' reported
 }
-if has valgrind valgrind 'what depends on secrets in the steps'; then
+if needs 'what depends on secrets in the steps' valgrind '<valgrind/memcheck.h>'; then
     row 'secrets: compiles' cc "${options[@]:0:2}" -g "-I$root/include" "$root/tests/hardware/secrets.c" \
         "$library/libkeywrap.a" -o secrets
     row 'secrets: runs' writes 'ends of an unwrap' valgrind -q --error-limit=no --log-file=valgrind.log \
@@ -63,34 +78,37 @@ if has valgrind valgrind 'what depends on secrets in the steps'; then
     for name in 'wraps' 'steps of an unwrap' 'ends of an unwrap'; do row "secrets: $name" reports "$name" 0; done
     slow row 'secrets: with the decision' writes 'ends of an unwrap' valgrind -q --error-limit=no \
         --log-file=valgrind.log ./secrets && cp written reported
-    slow row 'secrets: the decision is seen' fails reports 'ends of an unwrap' 0
+    slow row 'secrets: memcheck sees the decision' fails reports 'ends of an unwrap' 0
     slow row 'secrets of libkeywrap_hw: compiles' cc "${options[@]}" -O1 -g "$root/tests/secrets/secrets.c" \
-        "$root/bench/one_table.c" "$library/libkeywrap_hw.a" -o hw_secrets
+        "$root/tests/reference/one_table.c" "$library/libkeywrap_hw.a" -o hw_secrets
     slow row 'secrets of libkeywrap_hw: runs' writes 'keywrap_kind: 0 reports' valgrind -q --error-limit=no \
         --log-file=valgrind.log --suppressions="$root/tests/secrets/decision.supp" ./hw_secrets 264
-    slow row 'secrets of libkeywrap_hw: the length of a rewrapped key' diff <(sed '/: 0 reports/d; s/:.*//' written) \
-        <(printf '%s\n' 'keywrap_rewrap_in_place, to plain' 'keywrap_rewrap_in_place, padded' tables)
+    slow row 'secrets of libkeywrap_hw: whether a length is plain' diff <(sed '/: 0 reports/d; s/:.*//' written) \
+        <(printf '%s\n' 'keywrap_rewrap_in_place, to plain' 'keywrap_rewrap, to plain' \
+            'keywrap_rewrap, to plain, not plain' tables)
 fi
 
 ### libkeywrap_hw, on each processor
 
-! has_python cryptography_vectors "NIST's cases" || "$python" "$root/tests/nist_cases.py" >cases
+python3 "$root/tests/published.py" foreign >cases
+! needs_python "NIST's cases" cryptography_vectors || "$python" "$root/tests/published.py" nist >>cases
 mapfile -t comparing < <(printf '%s\n' "$root"/tests/provider/*.c | grep -v '/direct\.c$')
-# builds FOLDER COMPILER WORD..: in the folder, the programs over $library/libkeywrap_hw.so.1.
+# builds DIRECTORY COMPILER WORD..: builds there the programs over $library/libkeywrap_hw.so.1.
 builds() {
     mkdir -p "$1" && set -- "$1" "${@:2}" "${options[@]}" &&
-        "${@:2}" "$root"/tests/library/*.c "$root/bench/one_table.c" "$library/libkeywrap_hw.so.1" -o "$1/checks" &&
-        "${@:2}" "$root/tests/portable/nist.c" "$library/libkeywrap_hw.so.1" -o "$1/nist" &&
+        "${@:2}" "$root"/tests/library/*.c "$root/tests/reference/one_table.c" "$library/libkeywrap_hw.so.1" \
+            -o "$1/checks" &&
+        "${@:2}" "$root/tests/published.c" "$library/libkeywrap_hw.so.1" -o "$1/published" &&
         "${@:2}" "$root/tests/hardware/chosen.c" "$root"/hardware/{aes,x86_64,aarch64}.c -o "$1/chosen"
 }
-# compares FOLDER LIBCRYPTO COMPILER WORD..: in the folder, what compares the provider there with OpenSSL's own.
+# compares DIRECTORY LIBCRYPTO COMPILER WORD..: builds there the program that compares the provider with OpenSSL's.
 compares() { "${@:3}" "${options[@]}" "${comparing[@]}" "$2" -o "$1/compared"; }
 # on PROCESSOR FOLDER AES COMMAND..: run by the command, the programs use this AES and find no fault.
 on() {
     local part
     row "$1: the AES" writes "$3" "${@:4}" "$2/chosen"
     row "$1: the calls" writes ' passed, 0 failed' "${@:4}" "$2/checks" few
-    [ ! -s cases ] || row "$1: NIST's cases" writes '6000 right' "${@:4}" "$2/nist" <cases
+    row "$1: the published cases" writes "$(wc -l <cases) right" "${@:4}" "$2/published" <cases
     [ -e "${2%_without}/compared" ] || return
     row "$1: the provider, parameters" "${@:4}" "$2/compared" "$2" parameters
     # shellcheck disable=SC2086
@@ -106,7 +124,7 @@ if [ -x evp ]; then
     row 'the comparisons: compile' compares here -lcrypto cc
 fi
 export LD_LIBRARY_PATH=$library KEYWRAP_VERSION=$version
-if has qemu-x86_64 qemu-user 'each processor'; then
+if needs 'each processor' qemu-x86_64; then
     on 'x86-64 with AES' here instructions qemu-x86_64 -cpu max
     on 'x86-64 without AES' here software qemu-x86_64 -cpu Nehalem
     slow row 'planted bugs' python3 "$root/tests/hardware/bugs.py" "$library/libkeywrap.a"
@@ -114,22 +132,27 @@ fi
 # left MOST: no call but the first, which makes the known-answer test, leaves more bytes that depend on a secret below
 # the stack pointer. The 16 bytes are a block of the wrapped key.
 left() {
-    awk -v most="$1" 'NR > 1 && ($4 > most || $5 > most || $6 > most) { print; bad = 1 } END { exit bad || NR < 200 }' \
-        stacked
+    awk -v most="$1" 'NR > 1 && ($4 > most || $5 > most || $6 > most) { print; bad = 1 } END { exit bad }' stacked
 }
+if grep -qw aes /proc/cpuinfo; then
+    row 'the AES of each call: compiles' eval 'objcopy --redefine-syms="$root/hardware/names" "$library/libkeywrap.a" \
+        proved.a && cc "${options[@]}" "$root"/tests/hardware/{uses,wrong_aes}.c "$root"/hardware/{keywrap,aes}.c \
+        proved.a -o uses'
+    row 'the AES of each call' diff <(./uses) <(printf 'software for a KEK of %s bytes:\n' 16 24 32)
+fi
 row 'the stack: compiles' cc -std=c99 -O1 -g "${options[@]:2}" "$root/tests/secrets/stack.c" \
     "$library/libkeywrap_hw.a" -Wl,-z,now -o stack
 row 'the stack: runs' ./stack && cp row.log stacked
+row 'the stack: every export' diff <(sed 's/[, ].*//; s/^/keywrap_/' stacked | sort -u) <(echo "$exports")
 row 'the stack: round keys are cleared' left 16
 row 'the calls, all' writes ' passed, 0 failed' here/checks
-slow row "the provider's other tests" env KEYWRAP_ARCHIVES="$library/libkeywrap_hw.a" bash "$root/tests/provider.sh"
+export KEYWRAP=$root/keywrap
+needs_python "the provider's other tests" pytest && slow row "the provider's other tests" env \
+    KEYWRAP_ARCHIVES="$library/libkeywrap_hw.a" "$python" -m pytest "$root/tests/test_provider.py"
 unset LD_LIBRARY_PATH
 
 arm=aarch64-linux-gnu
-if ! has $arm-gcc gcc-$arm 'aarch64' || ! has qemu-aarch64 qemu-user 'aarch64'; then
-    finish
-    exit
-fi
+needs 'aarch64' $arm-gcc qemu-aarch64 || { finish; exit; }
 export TARGET=aarch64-unknown-linux-gnu
 # shellcheck source=tests/library/machine.sh
 . "$root/tests/library/machine.sh"
@@ -137,7 +160,7 @@ library=$room/arm_library
 made=(make -s -C "$root" HARDWARE=1 LIBRARY="$library" ${KEYWRAP_ARM64:+ARCHIVE="$KEYWRAP_ARM64/libkeywrap.a"})
 row 'aarch64: make library HARDWARE=1' "${made[@]}" library
 row 'aarch64: the programs: compile' builds arm $arm-gcc
-# Every processor of qemu has the instructions, so these programs answer in place of the C library that it has none.
+# Every processor of qemu has the instructions, so these programs replace getauxval.
 slow row 'aarch64 without AES: the programs: compile' builds arm_without $arm-gcc -rdynamic "$root/tests/hardware/no_aes.c"
 if [ -d "$sysroot/usr/include/openssl" ]; then
     runs=(qemu-aarch64 -L "$sysroot")

@@ -1,6 +1,6 @@
 #!/usr/bin/env bash
 # Builds the package for browsers, Node and Deno, and runs its tests in Node without a flag and in Chromium, Firefox
-# and WebKit: each call, NIST's tables, the module's memory after each call, bundles. Also uses its page in Chromium, as
+# and WebKit: each call, published cases, the module's memory after each call, bundles. Also uses its page in Chromium, as
 # a person does. Deno is not in Debian, so it is not tested.
 #
 # usage: tests/js.sh        (KEYWRAP_JS=FOLDER: over the package that make built there before)
@@ -18,12 +18,14 @@ if [ -d "${KEYWRAP_JS:-}" ]; then
     mkdir node_modules
     row 'the package' cp -R "$KEYWRAP_JS" "$package"
 else
-    has wasm-opt binaryen 'the package for browsers' || { finish; exit; }
+    needs 'the package for browsers' wasm-opt || { finish; exit; }
     row 'make js' make -s -C "$root" js JS="$package" || { finish; exit; }
 fi
 row 'its files' test "$(cd "$package" && echo *)" = \
     'README.md example.html keywrap.d.ts keywrap.js keywrap.wasm package.json'
-row 'the module has at most 30 KB' test "$(stat -c %s "$package/keywrap.wasm")" -le 30720
+size=$(stat -c %s "$package/keywrap.wasm")
+row 'the module has at most 30 KB' test "$size" -le 30720
+row "README has the module's size" grep -qF "\`keywrap.wasm\` ($(((size + 500) / 1000)) KB)" "$package/README.md"
 
 ### Bundles
 
@@ -39,16 +41,17 @@ bundles() {
             --log-level=warning && cp "$package/keywrap.wasm" bundles
 }
 built=
-if has esbuild esbuild 'bundles'; then
+if needs 'bundles' esbuild; then
     row 'bundles by esbuild' bundles && built=$PWD/bundles
     row 'the syntax of older hosts' same_syntax
 fi
 
 ### Node
 
-tables=
-! has_python cryptography_vectors "NIST's tables" ||
-    tables=$("$python" -c 'import cryptography_vectors; print(cryptography_vectors.__path__[0])')/keywrap/kwtestvectors
+# The published cases, as tests/published.py prints them.
+tables=$room/tables
+mkdir "$tables" && python3 "$root/tests/published.py" foreign >"$tables/foreign.txt"
+! needs_python "NIST's cases" cryptography_vectors || "$python" "$root/tests/published.py" nist >"$tables/nist.txt"
 
 # same_version: the package has the version of the program, and the module in it the numbers.
 same_version() {
@@ -63,17 +66,18 @@ same_version() {
 readme_runs() {
     sed -n '/^<!-- tests\/js.sh runs this/,/^- /s/^    //p' "$package/README.md" >readme.mjs
     sed -n 's|^ *console.log.*;  *// ||p' readme.mjs >wanted
-    test "$(wc -l <wanted)" = 2 && node readme.mjs | diff wanted -
+    test "$(wc -l <wanted)" = 3 && node readme.mjs | diff wanted -
 }
 
-if has node nodejs 'the package in Node'; then
+if needs 'the package in Node' node; then
     row 'the version' same_version
     row "the README's program" readme_runs
     row 'the calls' node calls.mjs
+    row 'every rewrap' node rewraps.mjs
     row 'many calls' node --expose-gc growth.mjs
     row 'hostile objects' node objects.mjs
     [ -z "$built" ] || row 'the bundles in Node' node bundles.mjs "$built"
-    [ -z "$tables" ] || row "NIST's tables" node vectors.mjs "$tables"
+    row 'the published cases' node vectors.mjs "$tables"
 fi
 
 ### The other engines
@@ -82,38 +86,33 @@ fi
 in_engine() {
     mkdir "engine_$1" && timeout 1500 node engines.mjs "$1" "$2" "$PWD/engine_$1" "$package" "$built" "$tables"
 }
-if has node nodejs 'the package in browsers'; then
-    ! has chromium chromium 'the package in Chromium' || row 'the package in Chromium' in_engine chromium chromium
-    ! has firefox-esr firefox-esr 'the package in Firefox' ||
-        slow row 'the package in Firefox' in_engine firefox firefox-esr
+! needs 'the package in Chromium' node chromium || row 'the package in Chromium' in_engine chromium chromium
+! needs 'the package in Firefox' node firefox-esr || slow row 'the package in Firefox' in_engine firefox firefox-esr
+if needs 'the package in WebKit' node MiniBrowser xvfb-run dbus-run-session; then
     mini=$(compgen -G '/usr/lib/*/webkit2gtk-4.*/MiniBrowser' | head -n 1)
-    if [ -z "$mini" ]; then
-        skip 'the package in WebKit' 'no MiniBrowser (apt-get install webkit2gtk-driver)'
-    elif has xvfb-run 'xvfb xauth' 'the package in WebKit' &&
-        has dbus-run-session dbus-x11 'the package in WebKit'; then
-        slow row 'the package in WebKit' in_engine webkit "$mini"
-    fi
+    slow row 'the package in WebKit' in_engine webkit "$mini"
 fi
 
 ### The types
 
-if has tsc node-typescript 'the types of the package'; then
+if needs 'the types of the package' tsc; then
     types=(tsc --noEmit --strict --target es2022 --module node16 --moduleResolution node16)
-    head='import { load, NoMemory64, type Kind } from "keywrap"; const k = await load(); const b = new Uint8Array();'
+    head='import { load, BadLength, KeyNotPlain, type Kind } from "keywrap"; const k = await load(); const b = new Uint8Array();'
     echo "$head const kind: Kind | null = k.check(k.wrap(b, b), k.rewrap(b, b, b, { newPadded: true }));
 k.rewrap(b, b, b, { oldPadded: true, keepForm: false }); k.wrap(b, b, { iv: b }); k.unwrap(b, b, { iv: b });
-k.unwrapPadded(b, k.wrapPadded(b, b)); const text: string = k.version; const error: Error = new NoMemory64();" >right.mts
+k.unwrapPadded(b, k.wrapPadded(b, b)); const text: string = k.version; const error: BadLength = new KeyNotPlain();
+k.rewrap(b, b, b, { passNew: true }); const key: Uint8Array = k.unwrapAny(b, b).key;" >right.mts
     row 'the types of a caller' "${types[@]}" right.mts
     # wrong MESSAGE PROGRAM: tsc refuses a program with this message.
     wrong() { echo "$head $2" >wrong.mts && ! "${types[@]}" wrong.mts >log && grep -q "$1" log; }
-    row 'a text is no answer' wrong "type 'string'" 'const text: string = k.wrap(b, b, { iv: b });'
+    row 'a result is not a string' wrong "type 'string'" 'const text: string = k.wrap(b, b, { iv: b });'
     row 'a padded form has no initial value' wrong 'Expected 2 arguments' 'k.wrapPadded(b, b, { iv: b });'
     row 'what load returns cannot be changed' wrong 'read-only' 'k.version = "1.0.0";'
 fi
 
 ### The page
 
-if has node nodejs 'the page' && has chromium chromium 'the page'; then
+if needs 'the page' node chromium; then
     row 'the page' timeout 600 node page.mjs "$package" chromium "$room/chromium"
 fi
 finish

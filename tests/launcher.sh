@@ -9,6 +9,7 @@
 set -u
 # shellcheck source=tests/lib/stand_in.sh
 . "${BASH_SOURCE[0]%/*}/lib/stand_in.sh"
+needs 'the launcher' pgrep /proc || { finish; exit; }
 # No script is run after the gate.
 printf '#!/bin/sh\n' >scripts/tests.sh
 
@@ -29,7 +30,7 @@ left() {
     done
     find crates -name 'built_from.*'
 }
-# launched NAME STATUS ANSWER LINES NOTE..: the run ended so, and left nothing at work or behind.
+# launched NAME STATUS ANSWER LINES NOTE..: the run ended in this way, and left no process and no file.
 order=(:)
 launched() {
     LC_ALL=C "${order[@]}"
@@ -108,7 +109,7 @@ fresh; at='a tree' event='cd crates/keywrap' make gate
 append crates/aes_block/must-fail/edit
 END_OF_CHANGES
 fresh; (trap '' XFSZ; at=keywrap event='prlimit --fsize=999 --pid $launcher' ./keywrap >out 2>err)
-verdict 'a record that can not be written: what is left' "$(left)"
+verdict 'a record that cannot be written: what is left' "$(left)"
 
 # rt takes this lock while it works.
 fresh
@@ -144,7 +145,7 @@ mv kept.mk scripts/first_use.mk
 
 ### Side by side
 
-# Four that need no other of these, and a fifth above the second.
+# Four crates that use none of the others, and a fifth that uses the second.
 crates first_four: second_four: third_four: fourth_four: 'above_second: second_four' 'keywrap_c staticlib:' \
     'keywrap: first_four second_four third_four fourth_four above_second'
 begins=('first_four: build --jobs 2' 'fourth_four: build --jobs 2' 'second_four: build --jobs 2'
@@ -152,7 +153,7 @@ begins=('first_four: build --jobs 2' 'fourth_four: build --jobs 2' 'second_four:
 all_ended=('ended first_four' 'ended fourth_four' 'ended second_four' 'ended third_four')
 # The notes of those that are at work side by side may come in any order.
 order=(sort -o notes notes)
-# most_at_once: how many were at work at once.
+# most_at_once: the greatest number of crates at one time.
 most_at_once() { awk '/^[a-z_]*: /{ n++ } /^end/{ n-- } n > most { most = n } END { print most + 0 }' notes; }
 # at_once PROCESSORS JOBS N EVENT: N are at work at once, with two jobs each if there are as many processors, and the
 # program comes last, with JOBS.
@@ -176,7 +177,7 @@ verdict 'a crate begins where those below it are proved' "$([ "$status" = 5 ] ||
         diff - <(printf '%s\n' 'ends second_four' 'above_second: build --jobs 2' 'ends above_second')
     grep -A 9 '^ends above' notes | grep -c '^ends .*_four' | grep -vx 3)"
 
-# What is at work when a proof fails ends, and no other begins.
+# If a proof fails, the proofs beside it are ended, and no other begins.
 fresh; at='(first|second)_four' event='until_true begun 4
     [ $crate = second_four ] || { touch ../../failed; exit 1; }
     until_true [ -e ../../failed ]; sleep 0.5' launch
@@ -208,11 +209,11 @@ on_screen() {
     status=$?
     tr -d '\r' <screen | sed -n '/^keywrap: proving/,$ { s/.*\x1b\[K//; /^Script done/d; /./p }' >err
 }
-# states: what the line said in turn, but for the seconds.
+# states: the texts of the line, in order, without the seconds.
 states() { grep -oP '\e\[Kkeywrap: [0-9]+ s, \K[^\r\e]+' screen | uniq; }
-if has script bsdutils 'the launcher on a terminal'; then
+if needs 'the launcher on a terminal' script pseudo-terminals; then
     at='.*_four' event='until_true begun 4; until_true grep -q "first_four fourth" "$tree/screen"' on_screen
-    verdict 'how far it is, side by side' "$([ "$status" = 5 ] || cat err
+    verdict 'the progress of crates side by side' "$([ "$status" = 5 ] || cat err
         states | grep -q '^0 of 6 crates proved, at work: first_four fourth_four second_four' || states
         grep -oP '\e\[K\K[^\r\e]{80,}' screen)"
     at='.*_four' event='until_true begun 4
@@ -224,8 +225,17 @@ if has script bsdutils 'the launcher on a terminal'; then
     verdict 'a terminal that cannot rewrite a line' "$(grep $'\e' screen)"
     screen=$tree/screen on_screen
     launched 'the first use on a terminal' 5 "$(<out)"$'\n' "$starts" "${steps[@]}"
-    verdict 'how far it is' "$(states | grep 'work: .' | diff - <(printf '%s of 3 crates proved, at work: %s\n' \
+    verdict 'the progress' "$(states | grep 'work: .' | diff - <(printf '%s of 3 crates proved, at work: %s\n' \
         0 block_pair 1 aes_block 2 keywrap))"
 fi
+
+### Beside other work
+
+crates key_files: keywrap_io: block_pair: 'keywrap_cli: key_files' \
+    'keywrap: key_files keywrap_io block_pair keywrap_cli'
+fresh; at='.*' event='echo "$crate $(nice)" >>"$tree/niceness"' launch
+own=$(nice)
+same 'crates that can wait are proved gently' "$(printf '%s\n' "block_pair $((own < 9 ? own + 10 : 19))" \
+    "key_files $own" "keywrap $own" "keywrap_cli $own" 'keywrap_io 19')" "$(sort niceness)"
 
 finish

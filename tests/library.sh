@@ -16,17 +16,17 @@ read -ra archives <<<"${KEYWRAP_ARCHIVES:-$room/rattle.a $room/llvm.a}"
 
 compilers=()
 for compiler in gcc clang; do
-    has $compiler $compiler "C by $compiler" && compilers+=("$compiler")
+    needs "C by $compiler" $compiler && compilers+=("$compiler")
 done
 [ ${#compilers[@]} -gt 0 ] || compilers=(cc)
 of_cpp=()
 for compiler in g++ clang++; do
-    has $compiler "${compiler/clang++/clang}" "C++ by $compiler" && of_cpp+=("$compiler")
+    needs "C++ by $compiler" $compiler && of_cpp+=("$compiler")
 done
 
 ### The header
 
-include=("-I$root/include" -I"$root/bench")
+include=("-I$root/include" -I"$root/tests/reference")
 strict=(-Wall -Wextra -pedantic -Werror)
 printf '#include <keywrap.h>\n' >header.c
 # in_each STANDARDS LANGUAGE COMPILER..: no compiler warns of the header.
@@ -56,8 +56,13 @@ calls=(
     'keywrap_wrap_padded_in_place kek:32,wrapped:24 16'
     'keywrap_unwrap_padded_in_place kek:32,wrapped:24 &len'
     'keywrap_kind kek:32,wrapped:24,key:16 &form,&len'
+    'keywrap_unwrap_any kek:32,wrapped:24,key:16 &form,&len'
+    'keywrap_rewrap kek:32,new_kek:16,wrapped:24 0,&form'
     'keywrap_rewrap_in_place kek:32,new_kek:16,wrapped:24 0'
 )
+
+# changes NAME: the call takes what is in the last buffer.
+changes() { [[ $1 = *_in_place || $1 = keywrap_rewrap ]]; }
 
 # caller NAME BUFFERS MORE SHORT ARGUMENTS: a function on one line that makes the call, with buffers of
 # their sizes but one, which is a byte short; what the call only writes is not set before, nor is $unset.
@@ -66,7 +71,7 @@ caller() {
     for buffer in ${buffers//,/ }; do
         local bytes=${buffer%:*} size=${buffer#*:} set=' = {1}'
         [ "$bytes" != "$short" ] || size=$((size - 1))
-        [[ $buffers != *"$buffer" || $name = *_in_place ]] && [ "$bytes" != "${unset:-}" ] || set=''
+        { [[ $buffers != *"$buffer" ]] || changes "$name"; } && [ "$bytes" != "${unset:-}" ] || set=''
         declared+="uint8_t ${bytes}[$size]$set; "
         given+="${given:+, }$bytes, ${buffer#*:}"
     done
@@ -88,11 +93,11 @@ every() {
         short) for buffer in ${buffers//,/ }; do caller "$name" "$buffers" "$more" "${buffer%:*}"; done ;;
         in_place)
             buffer=${buffers##*,}
-            [[ $name != *_in_place ]] || caller "$name" "$buffers" "$more" "${buffer%:*}"
+            ! changes "$name" || caller "$name" "$buffers" "$more" "${buffer%:*}"
             ;;
         unset)
             for buffer in ${buffers//,/ }; do
-                [[ $buffers = *"$buffer" && $name != *_in_place ]] ||
+                { [[ $buffers = *"$buffer" ]] && ! changes "$name"; } ||
                     unset=${buffer%:*} caller "$name" "$buffers" "$more" ''
             done
             ;;
@@ -134,7 +139,7 @@ warns() {
 defines() {
     cc -std=c99 "${include[@]}" -dM -E header.c | sed -n 's/^#define \(KEYWRAP_[A-Z_]*\).*/\1/p' | sort |
         diff - <(printf 'KEYWRAP_%s\n' CPU_SUPPORTED H KEEP_FORM MAX_KEY MAX_TEXT NEW_PADDED OLD_PADDED \
-            PADDED_TEXT_LEN PRERELEASE ROOM TEXT_LEN VERSION VERSION_MAJOR VERSION_MINOR VERSION_PATCH)
+            PADDED_TEXT_LEN PASS_NEW PRERELEASE ROOM TEXT_LEN VERSION VERSION_MAJOR VERSION_MINOR VERSION_PATCH)
 }
 
 # restricts: a compiler that is not like GCC sees restrict in C99.
@@ -145,22 +150,22 @@ row 'restrict in C99' restricts
 row 'the calls of the header are those of the table' header_names
 for compiler in "${compilers[@]}"; do
     { echo '#include <keywrap.h>' && every exact | sed 's/^\(.*\)(void) {/\1(void);\n&/'; } >exact.c
-    row "$compiler warns of no right call" \
+    row "$compiler does not warn of right calls" \
         "$compiler" -O2 -std=c99 "${strict[@]}" "${include[@]}" -c exact.c -o exact.o
-    row "$compiler warns of each answer that is not looked at" warns unused "$compiler" -Wunused-result
+    row "$compiler warns of each unused status" warns unused "$compiler" -Wunused-result
     row "$compiler warns of each NULL" warns null "$compiler" -Wnonnull
 done
 if [ "${compilers[0]}" = gcc ]; then
     row 'gcc warns of each overlap' warns overlap gcc -Wrestrict
     row 'gcc warns of each buffer that is a byte short' warns short gcc
-    row 'gcc warns of each buffer that is written in place and is too short' warns in_place gcc -Wno-stringop-overread
-    row 'gcc warns of each buffer that is read and was not set' warns unset gcc -Wuninitialized -Wmaybe-uninitialized
+    row 'gcc warns of each buffer of a call in place that is too short' warns in_place gcc -Wno-stringop-overread
+    row 'gcc warns of each buffer that is read before it is set' warns unset gcc -Wuninitialized -Wmaybe-uninitialized
 fi
 
 ### The library, by each of the archives
 
 # The other AES is built once, and without the sanitizers.
-row 'the other AES: compiles' cc -std=c99 -O2 "${strict[@]}" -c "$root/bench/one_table.c" -o one_table.o
+row 'the other AES: compiles' cc -std=c99 -O2 "${strict[@]}" -c "$root/tests/reference/one_table.c" -o one_table.o
 checks=("$root"/tests/library/*.c one_table.o)
 
 # run_calls NAME OPTION..: the C program, linked with the library by these options, finds no fault.
@@ -173,7 +178,7 @@ run_calls() {
 each_way() {
     run_calls "$name by $compiler, static" "$library/libkeywrap.a"
     run_calls "$name by $compiler, shared" "$library/libkeywrap.so.1"
-    if sanitizes "$compiler"; then
+    if needs "the sanitizers of $compiler" "sanitizers of $compiler"; then
         run_calls "$name by $compiler, static, sanitized" "${sanitize[@]}" "$library/libkeywrap.a"
         run_calls "$name by $compiler, shared, sanitized" "${sanitize[@]}" "$library/libkeywrap.so.1"
     fi
@@ -216,7 +221,7 @@ comes_before() {
 runs_example() { row "$1: builds" "${@:3}" -o example && row "$1: runs" writes "$2" ./example; }
 
 flags=("-I$prefix/include" "-L$prefix/lib" -lkeywrap)
-if has pkg-config pkg-config 'keywrap.pc'; then
+if needs 'keywrap.pc' pkg-config; then
     export PKG_CONFIG_PATH=$prefix/lib/pkgconfig
     read -ra flags < <(pkg-config --cflags --libs keywrap)
     row 'pkg-config names a version' pkg-config --atleast-version=1 keywrap
@@ -226,6 +231,17 @@ rfc3394_41=1fa68b0a8112b447aef34bd8fb5a7b829d3e862371d2cfe5
 rfc3394_42=96778b25ae6ca435f92b5b97c050aed2468ab8a17ad84e5d
 runs_example 'the C example' $rfc3394_42 cc -std=c99 "${strict[@]}" "$root/examples/c/wrap.c" "${flags[@]}"
 row 'the C example names a refused value' writes 'reserved value: initial value is not 8 bytes' ./example
+# A library that accepts a damaged wrapped key.
+cat >accepts.c <<'END'
+#include <keywrap.h>
+int32_t accepts(const uint8_t *kek, size_t kek_len, const uint8_t *text, size_t text_len, uint8_t *out, size_t room) {
+    int32_t status = keywrap_unwrap(kek, kek_len, text, text_len, out, room);
+    return status == KEYWRAP_INTEGRITY ? KEYWRAP_OK : status;
+}
+END
+row 'the C example over a wrong library: builds' eval 'cc -std=c99 -c accepts.c "${flags[@]}" && cc -std=c99 \
+    -Dkeywrap_unwrap=accepts "$root/examples/c/wrap.c" accepts.o "${flags[@]}" -o wrong'
+row 'the C example over a wrong library' fails ./wrong
 
 # shellcheck disable=SC2086
 printf 'reinterpret_cast<void *>(%s),\n' $names >names.h
@@ -234,27 +250,25 @@ for compiler in "${of_cpp[@]}"; do
         "$compiler" -std=c++11 "${strict[@]}" -I. "$installed/calls.cc" "${flags[@]}"
 done
 
-if has rustc rustc 'the Rust example'; then
+if needs 'the Rust example' rustc; then
     rust=(rustc --edition 2021 -D warnings -L "native=$prefix/lib")
     row 'the tests of the Rust module: build' "${rust[@]}" --test "$root/examples/rust/keywrap.rs" -A dead_code -o example
     row 'the tests of the Rust module' writes '2 passed' ./example
     runs_example 'the Rust example, shared' $rfc3394_41 "${rust[@]}" "$root/examples/rust/wrap.rs"
 fi
-if has go golang-go 'the Go example'; then
+if needs 'the Go example' go gcc pkg-config; then
     row 'the Go example: builds' env GOFLAGS=-mod=mod GO111MODULE=off GOCACHE="$room/go" \
         go build -o example "$root/examples/go/wrap.go" &&
         row 'the Go example: runs' writes $rfc3394_41 ./example &&
         row 'the Go example, padded' writes 'ForPasi <nil>' ./example
 fi
 jna=/usr/share/java/jna.jar
-if has javac default-jdk-headless 'the Java example' && { [ -f $jna ] || ! skip 'the Java example' \
-    'no JNA (apt-get install libjna-java)'; }; then
+if needs 'the Java example' javac jna.jar; then
     row 'the Java example' writes $rfc3394_41 java -Djava.io.tmpdir="$room" -Djna.library.path="$prefix/lib" -cp $jna \
         "$root/examples/java/Wrap.java"
 fi
-node_headers=$(command -v node >/dev/null && node -p 'require("path").join(process.execPath, "../../include/node")')
-if has node nodejs 'the Node example' && { [ -f "$node_headers/node_api.h" ] || ! skip 'the Node example' \
-    'no node_api.h (apt-get install libnode-dev)'; }; then
+if needs 'the Node example' node node_api.h; then
+    node_headers=$(dirname "$(command -v node)")/../include/node
     row 'the Node example: builds' cc -std=c11 -shared -fPIC "${strict[@]}" -I"$node_headers" \
         "$root/examples/node/keywrap.c" "${flags[@]}" -o keywrap.node
     row 'the Node example: runs' writes $rfc3394_41 node "$root/examples/node/wrap.js" keywrap.node
@@ -290,13 +304,13 @@ row 'includedir, docdir' lies 'prefix=/a libdir=/b/lib includedir=/c docdir=/d/d
 row 'keywrap.pc outside the prefix' diff <(head -n 3 stage/b/lib/pkgconfig/keywrap.pc) \
     <(printf '%s\n' prefix=/a libdir=/b/lib includedir=/c)
 row 'the documents in docdir' test -f stage/d/doc/C_LIBRARY.md
-if has cmake cmake 'the package file of CMake'; then
+if needs 'the package file of CMake' cmake; then
     row 'CMake, include elsewhere' by_cmake "$room/stage/b/lib" 1
     row 'CMake' by_cmake "$prefix/lib" "$number"
     row 'CMake, a version that is not there' fails by_cmake "$prefix/lib" 1.99
     row 'CMake, another major version' fails by_cmake "$prefix/lib" 2
 fi
-row 'uninstalled by the same words' eval 'in_library uninstall-library DESTDIR="$room/stage" prefix=/a libdir=/b/lib \
+row 'its make uninstall-library' eval 'in_library uninstall-library DESTDIR="$room/stage" prefix=/a libdir=/b/lib \
     includedir=/c docdir=/d/doc && [ -z "$(find stage ! -type d)" ]'
 # stripped: the shared object has no symbols but those that it shows, and the archive all.
 stripped() {
@@ -316,7 +330,7 @@ at_most_sse41() {
 printf '#include <keywrap.h>\nint main(void) { return KEYWRAP_CPU_SUPPORTED() ? 0 : 7; }\n' >supported.c
 # ends STATUS COMMAND..
 ends() { "${@:2}"; [ $? = "$1" ]; }
-if [ "$(uname -m)" = x86_64 ] && has qemu-x86_64 qemu-user 'old processors'; then
+if [ "$(uname -m)" = x86_64 ] && needs 'old processors' qemu-x86_64; then
     row 'the instructions of the archive' at_most_sse41
     for compiler in "${compilers[@]}"; do
         row "KEYWRAP_CPU_SUPPORTED by $compiler" \
@@ -340,10 +354,7 @@ as_installed() {
             'keywrap openssl nettle gcrypt C
 software software AES AES software' ]
 }
-if ! grep -qw aes /proc/cpuinfo; then
-    skip 'the bench' 'the processor has no AES instructions'
-elif has_header nettle/aes.h nettle-dev 'the bench' && has_header gcrypt.h libgcrypt20-dev 'the bench' &&
-    has_header openssl/aes.h libssl-dev 'the bench'; then
+if needs 'the bench' "the processor's AES" '<nettle/aes.h>' '<gcrypt.h>' '<openssl/evp.h>'; then
     row 'the bench times each library as it is installed' as_installed
 fi
 
@@ -366,9 +377,9 @@ same_text() {
 program=${KEYWRAP:-$root/crates/keywrap/out/keywrap}
 if [ -x "$program" ]; then
     echo 000102030405060708090a0b0c0d0e0f | tee kek.hex >key.hex
-    row 'the caller under a value: builds' cc -std=c99 "${strict[@]}" "$installed/agreed.c" "${flags[@]}" -o agreed
+    row 'the caller with an IV: builds' cc -std=c99 "${strict[@]}" "$installed/agreed.c" "${flags[@]}" -o agreed
     for value in a6a6a6a6a6a6a6a6 0123456789abcdef a65959a700000010 a65959a600000010 a65959a6ffffffff; do
-        row "the value $value in the library and in the command" agrees $value
+        row "the initial value $value in the library and in the command" agrees $value
     done
     row 'the text of a status: builds' cc -std=c99 "${strict[@]}" "$installed/text.c" "${flags[@]}" -o text
     echo 00 >short.hex
@@ -380,7 +391,7 @@ else
 fi
 
 row 'make uninstall-library' in_library uninstall-library PREFIX="$prefix"
-row 'nothing is left of it' test -z "$(find "$prefix" ! -type d)"
-row 'no link stands in the tree' test -z "$(find "$root" -name 'libkeywrap*' -type l)"
+row 'it leaves nothing' test -z "$(find "$prefix" ! -type d)"
+row 'no symbolic link is in the tree' test -z "$(find "$root" -name 'libkeywrap*' -type l)"
 
 finish

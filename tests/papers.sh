@@ -8,7 +8,7 @@ set -u
 # shellcheck source=tests/lib/program.sh
 . "${BASH_SOURCE[0]%/*}/lib/program.sh"
 
-### What the help says
+### The options in the help
 
 # options_of WORD..: the options that the help of a command names; of no words, those without a command.
 options_of() {
@@ -21,14 +21,14 @@ options=$(echo "$options" | sort -u)
 ### The completions
 
 completions=$root/completions
-# What the files say, where their shells are not there too.
+# words FILE: the options in a completion file. This needs no shell.
 words() { grep -v '^ *#' "$1" | grep -oE -e '--[a-z0-9-]+'; }
 same 'help and bash: the options of the file' "$(grep -e -- <<<"$options")" "$(words "$completions/keywrap.bash")"
 same 'help and zsh: the options of the file' "$(grep -e -- <<<"$options")" "$(words "$completions/_keywrap")"
 same 'help and fish: the options of the file' "$(grep -e -- <<<"$options")" \
     "$(grep '^complete' "$completions/keywrap.fish" | grep -oE -e ' -l [a-z0-9-]+' | sed 's/ -l /--/')"
 
-# offers_SHELL LINE: what the shell offers behind a line, in the folder `files`.
+# offers_SHELL LINE: what the shell offers after a line, in the directory `files`.
 offers_bash() (
     cd files || exit
     # shellcheck source=completions/keywrap.bash
@@ -88,7 +88,7 @@ completes() {
 }
 
 iv=0123456789abcdef
-# goes WORD..: whether the program takes these words, which name no KEK file that is there.
+# goes WORD..: whether the program accepts these arguments, which name a KEK file that does not exist.
 goes() {
     # Two flags need a third.
     [[ " $* " = *' --lines '* || ! " $* " =~ ' --keep-going '|' --quiet ' ]] || set -- "$@" --lines
@@ -96,8 +96,8 @@ goes() {
     [ $? = 6 ]
 }
 
-# Flags, and beside each of a command those that the program takes with it.
-printf '%s\n' --padded --new-padded --keep-form --pass-new --iv --new-iv --raw --raw-kek --base64 --base64url --base64-kek \
+# All flags, and for each flag of a command the flags that the program accepts with it.
+printf '%s\n' --padded --new-padded --any-form --keep-form --pass-new --iv --new-iv --raw --raw-kek --base64 --base64url --base64-kek \
     --lines --keep-going --quiet --verbose >flags
 mkdir beside
 for command in wrap unwrap rewrap check; do
@@ -114,7 +114,7 @@ done
 mkdir files files/folder
 touch 'files/a key' files/b.hex
 completes bash
-# Names of files are quoted by bash, and folders get a slash, if it knows that they are such names.
+# Bash quotes file names, and adds a slash to directories, if it knows that they are file names.
 : >compopt
 offered bash 'keywrap wrap --kek ' >/dev/null
 same 'bash: files are offered as files' '-o filenames' "$(<compopt)"
@@ -128,18 +128,18 @@ same 'bash: neither -o nor --output twice' $'-i\n--input' \
     "$(offered bash 'keywrap check --kek b.hex -o c.hex -' | grep -x -e -i -e --input -e -o -e --output)"
 same 'bash: neither -i nor --input twice' $'-o\n--output' \
     "$(offered bash 'keywrap check --kek b.hex --input c.hex -' | grep -x -e -i -e --input -e -o -e --output)"
-if has zsh zsh 'the completion for zsh'; then
+if needs 'the completion for zsh' zsh pseudo-terminals; then
     row 'zsh -n' zsh -n "$completions/_keywrap"
     completes zsh
 fi
-if has fish fish 'the completion for fish'; then
+if needs 'the completion for fish' fish; then
     row 'fish --no-execute' fish --no-execute "$completions/keywrap.fish"
     completes fish
 fi
 
 ### make install, make uninstall
 
-# An archive in place of the exports': tests/library.sh tries the real one, and what is installed of it.
+# A small archive instead of the real one, which tests/library.sh installs.
 made() {
     make -s --no-print-directory -o build -C "$root" "$@" PROGRAM="$program" \
         LIBRARY="$room/library" ARCHIVE="$room/library.a"
@@ -147,14 +147,7 @@ made() {
 documents='644 share/doc/keywrap/CHANGELOG.md
 644 share/doc/keywrap/RECIPES.md
 644 share/doc/keywrap/SECURITY.md
-644 share/doc/keywrap/rotation/csv_column.py
-644 share/doc/keywrap/rotation/json_list.py
-644 share/doc/keywrap/rotation/kubernetes_secret.py
-755 share/doc/keywrap/rotation/lines.sh
-755 share/doc/keywrap/rotation/lines_parallel.sh
-755 share/doc/keywrap/rotation/objects.sh
-755 share/doc/keywrap/rotation/postgresql.sh
-755 share/doc/keywrap/rotation/postgresql_batches.sh'
+644 share/doc/keywrap/rotation/kubernetes_secret.py'
 command_files='755 bin/keywrap
 644 share/bash-completion/completions/keywrap
 644 share/doc/keywrap/README
@@ -162,32 +155,32 @@ command_files='755 bin/keywrap
 644 share/man/man1/keywrap.1
 644 share/zsh/site-functions/_keywrap
 '$documents
-# files_of FOLDER: what lies below it, with the modes.
+# files_of DIRECTORY: the files below it, with their modes.
 files_of() { find "$1" ! -type d -printf '%m %P\n'; }
 
-# A file that is there already, in a folder of another's.
+# A file of another package, in a directory that exists already.
 mkdir -p "stage to/opt/share/man/man1"
 echo other >"stage to/opt/share/man/man1/other.1"
 stage="$room/stage to"
-row 'make install-command, by a umask' eval 'umask 077; made install-command DESTDIR="$stage" PREFIX=/opt; umask 022'
+row 'make install-command, with a umask' eval 'umask 077; made install-command DESTDIR="$stage" PREFIX=/opt; umask 022'
 same 'what make install-command installs' "$command_files"$'\n644 share/man/man1/other.1' "$(files_of "$stage/opt")"
 row 'the installed program is the program' cmp "$program" "$stage/opt/bin/keywrap"
 row 'the installed page is the page' cmp "$root/man/keywrap.1" "$stage/opt/share/man/man1/keywrap.1"
 row 'make uninstall-command' made uninstall-command DESTDIR="$stage" PREFIX=/opt
-same 'make uninstall-command leaves what is not its own' '644 opt/share/man/man1/other.1' "$(files_of "$stage")"
-if has cc gcc 'make install with the C library'; then
+same 'make uninstall-command leaves the files of others' '644 opt/share/man/man1/other.1' "$(files_of "$stage")"
+if needs 'make install with the C library' cc; then
     echo 'int keywrap_wrap(void) { return 0; }' >library.c
     row 'an archive to install' cc -fPIC -c library.c -o library.o
     row 'an archive to install' ar rc library.a library.o
     row 'make install' made install DESTDIR="$stage" PREFIX=/usr
-    same 'what make install installs, but for the C library' "$command_files" "$(files_of "$stage/usr" |
+    same 'what make install installs, except the C library' "$command_files" "$(files_of "$stage/usr" |
         grep -vE ' (include|lib)/| share/doc/keywrap/(C_LIBRARY.md|OPENSSL.md|README.library|examples/|provider/)')"
     row 'make uninstall-library' made uninstall-library DESTDIR="$stage" PREFIX=/usr
-    same 'it leaves what is of the command, and its documents' "$command_files" "$(files_of "$stage/usr")"
+    same 'it leaves the files of the command, and its documents' "$command_files" "$(files_of "$stage/usr")"
     row 'make install-library' made install-library DESTDIR="$stage" PREFIX=/usr
     row 'make install installs the C library' test -e "$stage/usr/lib/libkeywrap.so"
     row 'make uninstall-command' made uninstall-command DESTDIR="$stage" PREFIX=/usr
-    same 'it leaves the documents, which are of the library too' "$documents" \
+    same 'it leaves the documents, which the library has, too' "$documents" \
         "$(files_of "$stage/usr" | grep -E '/(CHANGELOG|RECIPES|SECURITY).md$|/rotation/')"
     row 'make uninstall' made uninstall DESTDIR="$stage" PREFIX=/usr
     same 'make uninstall leaves nothing' '' "$(files_of "$stage/usr")"

@@ -4,7 +4,6 @@ import concurrent.futures
 import contextlib
 import os
 import pathlib
-import re
 import resource
 import signal
 import subprocess
@@ -76,15 +75,6 @@ def wait_for(ready):
     while not ready():
         assert time.monotonic() < end, "the run does not come to this point"
         time.sleep(0.01)
-
-
-def table(name):
-    """The rows of a file beside this one: the line above a command line, the command line, and the lines below it."""
-    text = (pathlib.Path(__file__).parent / name).read_text()
-    rows = [(above, *row.rstrip("\n").partition("\n    ")[::2])
-            for above, group in re.findall(r"^(\w.*)\n((?: .*\n)+)", text, re.M) for row in group.split("    $ ")[1:]]
-    assert len(rows) == text.count("    $ ")
-    return rows
 
 
 class Program:

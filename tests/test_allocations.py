@@ -46,6 +46,14 @@ def succeeds(keywrap, command):
     return run
 
 
+@pytest.mark.parametrize("number", ["1", "1+"])
+def test_first_allocation(preloaded, number):
+    """The library makes allocations fail: no command gets on without the first."""
+    for command in ANSWERS:
+        ended = preloaded("fail_alloc")(command.args, stdin=command.given, FAIL_ALLOC=number)
+        assert ended == refused(7, MEMORY), command
+
+
 @pytest.mark.parametrize("command", COMMANDS)
 def test_each_allocation(preloaded, command, succeeds):
     program = preloaded("fail_alloc")

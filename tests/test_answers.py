@@ -5,18 +5,20 @@ import random
 
 import pytest
 
-from checks import DONE, comes_to
+from checks import DONE, comes_to, fresh, keeps
 from commands import UNWRAP, table
 from program import Ended, answered, refused
 from vectors import BAD_LENGTH, drilled_zeros, raw, zeros
 
 BOTH_WAYS = [(f"{job} {flags} --kek {kek}.hex", *values) for flags, kek, key, wrapped in table("answers", "both ways")
              for job, *values in (("wrap", key, wrapped), ("unwrap", wrapped, key))]
+ANY_FORM = [(f"unwrap --any-form {flags} --kek {kek}.hex", wrapped, key)
+            for flags, kek, wrapped, key in table("answers", "any form")]
 REWRAP = [(f"rewrap {flags} --kek {old}.hex --new-kek {new}.hex", wrapped, answer)
           for old, new, wrapped, answer, flags in table("answers", "rewrap")]
 
 
-@pytest.mark.parametrize("args, given, answer", BOTH_WAYS + REWRAP + table("answers", "check"))
+@pytest.mark.parametrize("args, given, answer", BOTH_WAYS + ANY_FORM + REWRAP + table("answers", "check"))
 def test_answers(keywrap, args, given, answer):
     """KEKs in hex and raw; keys in hex, in either case, and raw, and in lines."""
     status = 5 if answer == "none" else 0
@@ -30,9 +32,13 @@ def test_answers(keywrap, args, given, answer):
 
 @pytest.mark.parametrize("args, given, status, message", table("answers", "refused"))
 def test_refused(keywrap, args, given, status, message):
+    """Neither the output file changes, nor an input file that would be replaced."""
+    fresh(given.encode())
     for args in args, args.replace(".hex", ".raw") + " --raw-kek":
         ended = keywrap(args, stdin=given)
         assert ended == keywrap(args, "--raw", stdin=raw(given)) == refused(int(status), message)
+        keeps(keywrap, f"{args} -o to/file", ended, stdin=given)
+        keeps(keywrap, f"{args} -i to/file -o to/file", ended)
 
 
 @pytest.mark.parametrize("size, flags, rewrap_flags, new_flags", [

@@ -4,13 +4,13 @@ the version, and the manual page, which must agree with the help. All their exam
 import os
 import pathlib
 import re
-import shutil
 import subprocess
 import unicodedata
 
 import pytest
 
-from program import Ended, refused, table, words
+from commands import table
+from program import Ended, refused, words
 from vectors import IV, RESERVED_IV
 
 ROOT = pathlib.Path(__file__).resolve().parent.parent
@@ -21,6 +21,9 @@ USAGE = {"": "<COMMAND>", "wrap": "wrap [OPTIONS] --kek <FILE> < KEY > WRAPPED",
          "check": "check [OPTIONS] --kek <FILE> < WRAPPED", "drill": "drill", "vectors": "vectors"}
 COMMANDS = [command for command in USAGE if command]
 FILES_HINT = "files are named by options: --kek FILE, --input FILE, --output FILE"
+COMMANDS_HINT = "the first argument is wrap, unwrap, rewrap, check, drill or vectors"
+KEK_HINT, NEW_KEK_HINT = (f"a KEK on standard input is {option} /dev/stdin; a file of this name is ./-"
+                          for option in ("--kek", "--new-kek"))
 NO_IV, RESERVED = "is not 16 hex digits", "is reserved for the padded form"
 
 
@@ -34,10 +37,19 @@ def message(keywrap, args):
 
 
 class TestRefusals:
-    @pytest.mark.parametrize("above, args, below", [*table("arguments.txt"), ("refused", ["drill", b"\xff"], "")])
-    def test_refused(self, keywrap, above, args, below):
-        _, hints = message(keywrap, args)
-        assert above == "refused" or hints == ([] if above == "no tip" else [above.removeprefix("tip: ")])
+    @pytest.mark.parametrize("args", [*(args for args, in table("arguments", "refused")), ["drill", b"\xff"]])
+    def test_refused(self, keywrap, args):
+        message(keywrap, args)
+
+    @pytest.mark.parametrize("args, hint", table(
+        "arguments", "with a hint", FILES_HINT=FILES_HINT, COMMANDS_HINT=COMMANDS_HINT, KEK_HINT=KEK_HINT,
+        NEW_KEK_HINT=NEW_KEK_HINT))
+    def test_with_a_hint(self, keywrap, args, hint):
+        assert message(keywrap, args)[1] == [hint]
+
+    @pytest.mark.parametrize("args", [args for args, in table("arguments", "without a hint")])
+    def test_without_a_hint(self, keywrap, args):
+        assert message(keywrap, args)[1] == []
 
     @pytest.mark.parametrize("text", ["\x1b[31mred", "\x1b]0;title\a", "back\b\r", "\x7f", "tab\t", "\x9b31m",
                                       "\u202ereversed", "two\u2028lines"], ids=repr)
@@ -152,10 +164,29 @@ class TestHelp:
             "at most 4194304", "16 to 1048576", "1 to 1048576", "24 to 1048584", "16 to 1048584", "at most 4194304"]
         assert re.search("32, 48 or 64 hex digits; .* 22, 32 or 43 characters and", one_line)
 
+    def test_messages_of_the_page(self):
+        """The messages that the page quotes end a text in the sources of the program. N is a number there."""
+        sources = "\n".join(path.read_text() for name in ("key_files", "keywrap_cli", "keywrap_io", "keywrap")
+                            for path in (ROOT / "crates" / name / "src").glob("*.rt"))
+        first = "no |bad |cannot |too |odd |base64 |length |last |refused |output: "
+        quoted = re.findall(rf"(?m)^\.(?:It |Pq )?Ql ((?:{first}).*?)[ .,:]*$", PAGE)
+        quoted += re.findall("(?m)^(keywrap: (?:output|the new|the KEK).*)", PAGE)
+        assert len(quoted) == 21
+        assert [text for text in quoted if not f'{text}"' in re.sub(r"\{\w+\}", "N", sources)] == []
+
+    @pytest.mark.parametrize("source, pattern, phrases", [
+        ("keywrap_io/src/output_file.rt", r"\.mode\(0o(\d+)\)", ["and keeps mode 0{}"]),
+        ("keywrap_args/src/help.rt", r"any FILE of unwrap, has mode\n0(\d+);", ["created with mode 0{}"]),
+        ("keywrap_args/src/help.rt", "(The new wrapped key is as long as the old one)", ["{}."]),
+        ("keywrap_args/src/help.rt", r"line, has at most (\d+) bytes", ["A line has at most {} bytes, including"])])
+    def test_numbers_of_the_page(self, source, pattern, phrases):
+        """Numbers and a rule of the page that the sources of the program have, too."""
+        value, = set(re.findall(pattern, (ROOT / "crates" / source).read_text()))
+        assert all(phrase.format(value) in PAGE.replace("\n", " ") for phrase in phrases)
+
+    @pytest.mark.needs("mandoc")
     def test_form_of_the_page(self):
         """The pages that it refers to need not be installed on this machine."""
-        if not shutil.which("mandoc"):
-            pytest.skip("no mandoc (apt-get install mandoc)")
         found = subprocess.run(["mandoc", "-T", "lint", ROOT / "man/keywrap.1"], capture_output=True, text=True).stdout
         elsewhere = r"mandoc\.db|referenced manual not found"
         assert [line for line in found.splitlines() if not re.search(elsewhere, line)] == []

@@ -1,7 +1,7 @@
 """--base64, --base64url and --base64-kek: which texts denote which bytes, what is written, what is refused.
 
-Expected values are the vectors of RFC 3394, RFC 4648 and RFC 5649, of JOSE (RFC 7516 and 7517), NIST's cases, and a
-model of base64, `denoted`."""
+Expected values are the vectors of RFC 3394, RFC 4648 and RFC 5649, of JOSE (RFC 7516 and 7517), and a model of base64,
+`denoted`. test_published.py has NIST's cases in base64."""
 
 import base64
 import itertools
@@ -11,7 +11,6 @@ import re
 
 import pytest
 
-import nist_cases
 from checks import DONE
 from commands import CHECK, MAX_FILE, REWRAP, UNWRAP, WRAP, table, unescaped
 from program import Ended, answered, refused
@@ -113,23 +112,6 @@ def test_text_of_up_to_4_characters_as_one_key(keywrap, part):
             assert (ended.stderr, back) == ("", Ended(0, answer)), text
         else:
             assert ended == (refused(4, answer) if answer == BAD_LENGTH else refused(6, f"input: {answer}")), text
-
-
-@pytest.mark.parametrize("cipher", range(6))
-def test_nist(keywrap, cipher):
-    """A fifth of NIST's cases (CAVP, SP 800-38F, with AES as the cipher function), through base64. The tests of the C
-    library, the Python package and the package for browsers try all."""
-    pytest.importorskip("cryptography_vectors",
-                        reason="no tables of NIST (apt-get install python3-cryptography-vectors)")
-    cases = [case.split()[1:] for case in nist_cases.cases() if case[0] == str(cipher)][::5]
-    flags = "--base64 --base64-kek --kek kek" + " --padded" * (cipher >= 3)
-    for kek, key, wrapped in cases:
-        pathlib.Path("kek").write_text(in_base64(kek))
-        ended = keywrap(f"unwrap {flags}", stdin=in_base64(wrapped))
-        assert ended == (refused(5, INTEGRITY) if key == "-" else answered(in_base64(key))), (kek, wrapped)
-        if key != "-":
-            assert keywrap(f"wrap {flags}", stdin=in_base64(key)) == answered(in_base64(wrapped)), (kek, key)
-    assert len(cases) == 200 and [key for _, key, _ in cases].count("-") > 5
 
 
 @pytest.mark.parametrize("job", [WRAP, UNWRAP, REWRAP, CHECK])

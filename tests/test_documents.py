@@ -17,6 +17,11 @@ def text_of(document):
     return (ROOT / document).read_text()
 
 
+def measured(name):
+    """The rows of a measurement. The first has the names of the columns."""
+    return [row.split(",") for row in text_of(f"docs/pictures/{name}.csv").splitlines() if row[0] != "#"]
+
+
 @pytest.mark.parametrize("document", DOCUMENTS, ids=str)
 class TestEachDocument:
     def test_links(self, document):
@@ -89,6 +94,81 @@ class TestRepeatedFacts:
         search += "keywrap Makefile man completions scripts python js".split()
         search += [f"crates/{name}" for name in ("keywrap", "keywrap_cli", "keywrap_args")]
         assert subprocess.run(search, cwd=ROOT, stdout=subprocess.PIPE, text=True).stdout == f"{sources}\n"
+
+    def test_first_screen(self):
+        """README is short, and its first paragraph has what decides for a visitor."""
+        page = text_of("README.md")
+        assert len(page.split()) <= 1200
+        first = " ".join(page.split("\n\n")[1].split())
+        assert re.search("^`keywrap` encrypts .* licence .* Nothing has been released.* needs the Rattle kit;", first)
+
+    def test_times(self):
+        """The time of the first build is the launcher's, and `make test` takes the same in both documents."""
+        readme, gate = text_of("README.md"), text_of("docs/ARCHITECTURE.md").rpartition("## What the gate takes")[2]
+        build, = re.findall("# first proves and builds the program: (.* minutes)", readme)
+        tests, = re.findall(r"make test +# (\d+) minutes", readme)
+        assert f"program, {build} the first time" in text_of("keywrap")
+        assert f"the first `./keywrap` {build}, " in gate and f"`make test` {tests}." in gate
+
+    @pytest.mark.needs("rt")
+    def test_kit(self):
+        """README names the logic of the kit in use, and no other file names a kit."""
+        used = re.search(r"logic (\w+)", subprocess.run(["rt", "version"], capture_output=True, text=True).stdout)[1]
+        named, = re.findall(r"`logic (\w+)`", text_of("README.md"))
+        assert used == named, (f"this kit has logic {used}: with it all proofs are made again, and may fail. Run `make "
+                               f"proofs`. If it passes, write {used} into README instead of {named}")
+        search = ["git", "-C", ROOT, "grep", "-lE", f"rattle-kit-[0-9]|{named}"]
+        assert subprocess.run(search, capture_output=True, text=True).stdout == "README.md\n"
+
+    def test_calls_since_1_1(self):
+        """The header, its page and the changes have the calls of include/keywrap.map's second version."""
+        header, changes = text_of("include/keywrap.h"), text_of("CHANGELOG.md").partition("Added:")[2]
+        second = re.search(r"KEYWRAP_1.1 \{(.*?)\}", text_of("include/keywrap.map"), re.S)[1]
+        new = {call for call in re.findall(r"(keywrap_\w+);", second) if re.search(rf"\b{call}\(", header)}
+        assert len(new) >= 4
+        blocks = [block for block in header.split("\n/* ") if re.search("version 1\\.1[.:]", block.replace("\n *", ""))]
+        assert {call for block in blocks for call in re.findall(r"^\w+ (keywrap_\w+)\(", block, re.M)} == new
+        page = " ".join(text_of("docs/C_LIBRARY.md").split())
+        assert set(re.findall(r"`(keywrap_\w+)[^`]*` \(since 1\.1\)", page)) == new
+        listed = re.search(r"^- C: (.*?)^- ", changes, re.M | re.S)[1]
+        assert set(re.findall(r"`(keywrap_[a-z_]+)`", listed)) == new
+
+    def test_keys_of_the_pictures(self):
+        """README has the length of the keys in the recorded rotation, and of those that bench/lines times."""
+        readme = " ".join(text_of("README.md").split())
+        wrapped, = re.findall('WRAPPED = "([0-9A-F]+)"', text_of("scripts/record_rotation.py"))
+        length, = re.findall(r"random \$\(\((\d+) \* lines\)\) >keys", text_of("bench/lines"))
+        assert f"keys of {len(wrapped) // 2 - 8} bytes](docs/pictures/rotation.svg)" in readme
+        assert f"keys of {length} bytes per second with `--lines`](docs/pictures/lines.svg)" in readme
+
+    def test_times_of_the_libraries(self):
+        """docs/C_LIBRARY.md has the times of docs/pictures/wrap.csv. README and docs/OPENSSL.md compare them."""
+        times = {tuple(row[:5]): float(row[5]) for row in measured("wrap")[1:] if row[2] == "32" and row[4] == "4096"}
+        by_name = {"keywrap": "keywrap,software", "OpenSSL 3.0": "openssl,software", "one table in C": "C,software",
+                   "libgcrypt 1.10": "gcrypt,AES inst.", "nettle 3.8": "nettle,AES inst."}
+        names, _, *rows = [[cell.strip() for cell in line.split("|")[1:-1]]
+                           for line in text_of("docs/C_LIBRARY.md").rpartition("## How fast it is")[2].splitlines()
+                           if line.startswith("|")]
+        timed = {name: {row[0]: times[(*by_name[name].split(","), "32", row[0], "4096")] for row in rows}
+                 for name in by_name}
+        for row in rows:
+            assert {name: int(cell) for name, cell in zip(names, row) if name in by_name} == {
+                name: round(timed[name][row[0]]) for name in by_name}
+        ours = timed["keywrap"]["wrap"]
+        assert 0.45 < ours / timed["OpenSSL 3.0"]["wrap"] < 0.55                        # about half as long
+        assert 2.5 < ours / timed["libgcrypt 1.10"]["wrap"] < ours / timed["nettle 3.8"]["wrap"] < 4    # three times
+        provider = [(row[1], int(row[4]) / int(row[3])) for row in measured("provider")[1:]]
+        assert all(0.4 < ratio < 0.6 for call, ratio in provider if call == "wrap")
+        assert all(ratio < 0.5 for call, ratio in provider if call == "unwrap")
+
+    def test_times_of_the_browsers(self):
+        """js/README.md has the times of docs/pictures/js.csv, in microseconds and for 1 MiB in milliseconds."""
+        rows = measured("js")
+        page = " ".join(text_of("js/README.md").split())
+        short, long = (list(map(int, re.findall(r"\d+", words))) for words in re.search(
+            "A wrap of 32 bytes takes (.*); a wrap of 1 MiB (.*), with KEKs", page).groups())
+        assert short == [round(float(time)) for row in rows if row[1] == "32" for time in row[2:]]
+        assert long == [round(float(row[way]) / 1000) for way in (2, 3) for row in rows if row[1] == "1048576"]
 
     @pytest.mark.parametrize("words, elsewhere", [
         ("reserved for the padded form", "python/src/keywrap/_refusals.py js/keywrap.js provider/errors.c"),

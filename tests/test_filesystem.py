@@ -9,7 +9,6 @@ import os
 import pathlib
 import re
 import select
-import shutil
 import signal
 import stat
 import subprocess
@@ -99,8 +98,8 @@ class TestFaults:
     def test_directory_that_cannot_be_read(self, failing, files, cwd, name):
         """Then it is not synced, and no other directory either. Root needs two rights less for this."""
         setpriv = ["setpriv", "--bounding-set=-dac_override,-dac_read_search"] if os.getuid() == 0 else ["env"]
-        if not shutil.which(setpriv[0]) or subprocess.run([*setpriv, "true"], capture_output=True).returncode:
-            pytest.skip("setpriv takes no right away (apt-get install util-linux)")
+        if subprocess.run([*setpriv, "true"], capture_output=True).returncode:
+            pytest.skip("setpriv takes no right away")
         os.chmod("to", 0o300)
         args = f"wrap --kek {files}/kek16.hex -i {files}/key.hex -o {name}"
         assert failing(args, cwd=cwd, prefix=setpriv) == DONE
@@ -115,11 +114,12 @@ class TestFaults:
         assert (PART.read_bytes(), state(str(PART))) == (b"", before)
         lands(keywrap, WRAP_FILE, WRAPPED)
 
+    @pytest.mark.needs("chattr")
     @pytest.mark.parametrize("attribute, name, part", [("+i", "to/file", None), ("+a", "to", WRAPPED)])
     def test_attribute(self, keywrap, attribute, name, part):
         """An immutable file; and a directory in which no file can be renamed or removed, so that the new one stays."""
-        if not shutil.which("chattr") or subprocess.run(["chattr", attribute, name], capture_output=True).returncode:
-            pytest.skip("chattr is not allowed here (apt-get install e2fsprogs)")
+        if subprocess.run(["chattr", attribute, name], capture_output=True).returncode:
+            pytest.skip("chattr is not allowed here")
         before = state(str(PART))
         try:
             assert keywrap(WRAP_FILE) == FLUSH_FAULT
@@ -127,6 +127,7 @@ class TestFaults:
         finally:
             subprocess.run(["chattr", "-ia", name], check=True)
 
+    @pytest.mark.needs("tmpfs in a namespace")
     @pytest.mark.parametrize("script, ended", [
         # Their first files have the same inode number. The KEK file is on one of them, the output on the other.
         ("""mkdir one other; mount -t tmpfs none one; mount -t tmpfs none other
@@ -137,13 +138,19 @@ class TestFaults:
         ("""mount --bind kek24.hex to/file
             "$program" wrap --kek kek16.hex -i key.hex -o to/file || echo "status $?"
             cat to/file; ls to""",
-         FLUSH_FAULT._replace(status=0, stdout=f"status 6\n{FILES['kek24.hex'].decode()}file\n"))],
-        ids=["equal numbers on two file systems", "mount point"])
+         FLUSH_FAULT._replace(status=0, stdout=f"status 6\n{FILES['kek24.hex'].decode()}file\n")),
+        # While a run waits for its input, a file of another file system takes the name and the number of its new file.
+        ("""mkdir one; mount -t tmpfs none one; echo old >one/file; mkfifo pipe; exec 3<>pipe
+            "$program" wrap --kek kek16.hex -i pipe -o one/file 3<&- & run=$!
+            until [ -e one/file.part0 ]; do sleep 0.01; done
+            number=$(stat -c %i one/file.part0)
+            mount -t tmpfs none one; echo old >one/file; echo other >one/file.part0
+            [ "$(stat -c %i one/file.part0)" = "$number" ] || exit 77
+            cat key.hex >&3; exec 3>&-; wait $run || echo "status $?"
+            cat one/file one/file.part0""", FLUSH_FAULT._replace(status=0, stdout="status 6\nold\nother\n"))],
+        ids=["equal numbers on two file systems", "mount point", "equal number meanwhile"])
     def test_mounts(self, keywrap, script, ended):
         unshare, env = ["unshare", "-rm", "sh", "-eu", "-c"], {**os.environ, "program": keywrap.path}
-        if not shutil.which("unshare") or subprocess.run([*unshare, "mount -t tmpfs none to"],
-                                                         capture_output=True).returncode:
-            pytest.skip("unshare -rm is not allowed here (apt-get install util-linux)")
         run = subprocess.run([*unshare, script], env=env, capture_output=True, text=True, timeout=240)
         if run.returncode == 77:
             pytest.skip("the file systems give other numbers")
@@ -247,10 +254,9 @@ class TestLines:
                 assert ask(run, f"{KEY16[at:]}\n", 1) == f"{WRAPPED16}\n"
             assert finish(run).status == 4
 
+    @pytest.mark.needs("strace")
     def test_many_lines_are_written_in_few_pieces(self, keywrap):
         """So a file of many lines is as fast as before."""
-        if shutil.which("strace") is None:
-            pytest.skip("no strace (apt-get install strace)")
         pathlib.Path("many").write_text(f"{WRAPPED16}\n" * 20_000)
         strace = "strace -f -o calls -e trace=write".split()
         assert keywrap(f"{CHECK} --lines --input many --output answers", prefix=strace) == DONE

@@ -14,6 +14,7 @@ import pytest
 from checks import NO_OUTPUT, fresh, keeps, lands, no_output
 from commands import CHECK, SAME_KEK, UNWRAP, WRAP
 from program import CLOSED, Ended, failing_after, piped, refused
+from tools import need
 from vectors import (KEY16, FULL, INTEGRITY, KEK24, KEK32, KEY7, WRAPPED16, WRAPPED24, WRAPPED32, WRAPPED7, in_base64,
                      in_url, raw)
 
@@ -141,8 +142,8 @@ class TestRandomKeys:
     @pytest.fixture
     def both(self):
         """The keys, alternately plain and padded, wrapped by pyca under the old KEK and under the new one."""
-        keywraps = pytest.importorskip("cryptography.hazmat.primitives.keywrap",
-                                       reason="no cryptography (apt-get install python3-cryptography)")
+        need("import cryptography")
+        from cryptography.hazmat.primitives import keywrap as keywraps
         wraps = keywraps.aes_key_wrap, keywraps.aes_key_wrap_with_padding
         return [[wrap(raw(kek), raw(key)).hex() for key in self.KEYS for wrap in wraps] for kek in (KEK24, KEK32)]
 

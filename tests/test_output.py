@@ -151,7 +151,7 @@ class TestStreams:
         (1, "stdin", refused(6, "input: cannot be opened")), (2, "stdout", refused(6, "output: cannot be opened")),
         (3, "stderr", Ended(6)), (4, None, answered(WRAPPED16))])
     def test_descriptors(self, keywrap, count, closed, ended):
-        """Fewer than four are too few. There is no second line: the stream that failed is not a file of the run."""
+        """Fewer than four are too few. No second line is written: the stream that failed is not a file of the run."""
         for args in WRAP, f"{WRAP} --verbose":
             streams = {"stdin": KEY16} | ({closed: CLOSED} if closed else {})
             assert keywrap(args, **streams, limits={"NOFILE": count}) == ended

@@ -6,7 +6,7 @@ import os
 import pathlib
 import pwd
 import random
-import shutil
+import re
 import stat
 import subprocess
 
@@ -173,14 +173,32 @@ def test_owner_and_mode(keywrap, args, answer, owner, mode, mask):
     replaces(keywrap, args if owner is ME else args.replace("-i wrapped.hex", "-i to/file"), *wanted, answer)
 
 
+@pytest.mark.needs("strace")
+@pytest.mark.parametrize("args, skipped", [(WRAP_FILE, []), (UNWRAP_FILE, ["copy"])])
+def test_steps_of_the_picture(keywrap, args, skipped):
+    """The system calls come in the order of docs/pictures/output.svg."""
+    picture = pathlib.Path(__file__).resolve().parent.parent / "docs/pictures/output.svg"
+    fresh(b"old\n", 0o644)
+    strace = "strace -f -o calls -e trace=openat,fchown,fchmod,read,write,fsync,rename".split()
+    assert keywrap(args, prefix=strace) == DONE
+    calls = pathlib.Path("calls").read_text()
+    names = re.findall(r'(?m)^\d+ +(openat\(.*O_CREAT.* 0600\)|\w+)(?!.*"to/")', calls[calls.index('"kek16.hex"'):])
+    verbs = {"fchown": "copy", "fchmod": "copy", "read": "compute", "write": "write", "fsync": "sync",
+             "rename": "rename", "openat": "open"}
+    steps = ["open", *(verbs.get(name, "create") for name in names)]
+    steps = [step for step, before in zip(steps, ["", *steps]) if step != before]
+    assert steps == [step for step in re.findall(r">\d  (\w+)", picture.read_text()) if step not in skipped]
+
+
+@pytest.mark.needs("setfacl")
 @pytest.mark.parametrize("args, mode, answer", [(WRAP_FILE, None, WRAPPED), (UNWRAP_FILE, None, KEY),
                                                 (WRAP_FILE, 0o604, WRAPPED)])
 def test_directory_whose_files_others_may_read(keywrap, args, mode, answer):
     """The directory has a default access control list."""
     fresh(b"old\n" if mode else None, mode)
     setfacl = ["setfacl", "-d", "-m", "u::rwx,g::rwx,o::rwx,u:nobody:rwx", "to"]
-    if not shutil.which("setfacl") or subprocess.run(setfacl).returncode:
-        pytest.skip("no setfacl, or not on this file system (apt-get install acl)")
+    if subprocess.run(setfacl).returncode:
+        pytest.skip("no access control lists on this file system")
     replaces(keywrap, args, ME, mode or 0o600, answer)
     listed = subprocess.run(["getfacl", "-cE", "to/file"], capture_output=True, text=True).stdout
     assert mode or "mask::---" in listed.splitlines()

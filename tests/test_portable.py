@@ -1,7 +1,6 @@
-"""The portable C library: the checks of tests/library and NIST's cases by each compiler and machine, the memory of a
+"""The portable C library: the checks of tests/library and published cases by each compiler and machine, the memory of a
 call, what the object needs, and planted bugs. KEYWRAP_JS=FOLDER takes the module from there if it is built there."""
 
-import fcntl
 import os
 import pathlib
 import re
@@ -11,77 +10,38 @@ import sys
 
 import pytest
 
-import nist_cases
+import published
+from builds import run
 from hardware.bugs import plant
 from program import ALL, all_of, slow
+from tools import need
 
 ROOT = pathlib.Path(__file__).resolve().parent.parent
-LIBRARY = [*sorted(map(str, (ROOT / "tests/library").glob("*.c"))), f"{ROOT}/bench/one_table.c"]
+LIBRARY = [*sorted(map(str, (ROOT / "tests/library").glob("*.c"))), f"{ROOT}/tests/reference/one_table.c"]
 STRICT = ["-std=c99", "-Wall", "-Wextra", "-pedantic", "-Werror"]
 OWN = ROOT / "tests/portable"
 SANITIZED = ["-fsanitize=address,undefined", "-fno-sanitize-recover=all"]
 WATCHED = ["-Dmalloc=watched_malloc", "-Dfree=watched_free"]
 
-# Each compiler: its command, what runs its programs here, and the package.
+# Each compiler: its command, and what runs its programs here.
 MACHINES = {
-    "gcc": (["gcc"], [], "gcc"),
-    "clang": (["clang"], [], "clang"),
-    "aarch64": (["aarch64-linux-gnu-gcc", "-static"], ["qemu-aarch64"], "gcc-aarch64-linux-gnu libc6-dev-arm64-cross"),
-    "riscv64": (["riscv64-linux-gnu-gcc", "-static"], ["qemu-riscv64"],
-                "gcc-riscv64-linux-gnu libc6-dev-riscv64-cross"),
-    "arm": (["arm-linux-gnueabihf-gcc", "-static"], ["qemu-arm"], "gcc-arm-linux-gnueabihf libc6-dev-armhf-cross"),
+    "gcc": (["gcc"], []),
+    "clang": (["clang"], []),
+    "aarch64": (["aarch64-linux-gnu-gcc", "-static"], ["qemu-aarch64"]),
+    "riscv64": (["riscv64-linux-gnu-gcc", "-static"], ["qemu-riscv64"]),
+    "arm": (["arm-linux-gnueabihf-gcc", "-static"], ["qemu-arm"]),
 }
 NATIVE = ["gcc", "clang"]
 
 
-def needs(*commands, package):
-    for command in commands:
-        if not shutil.which(command):
-            pytest.skip(f"no {command} (apt-get install {package})")
-
-
-def run(*command, **options):
-    """The standard output of a command that succeeds."""
-    ended = subprocess.run(list(map(str, command)), capture_output=True, text=True, **options)
-    assert ended.returncode == 0, f"{command[0]}: {ended.returncode}\n{ended.stdout[-2000:]}{ended.stderr[-2000:]}"
-    return ended.stdout
-
-
-def built(folder, name, sources, *options, library=()):
-    """The command of a program, over the keywrap.c in the folder, by the compiler of this name."""
-    compiler, runner, package = MACHINES[name]
-    needs(compiler[0], package=package)
-    needs(*runner, package="qemu-user")
-    command = [*compiler, *STRICT, f"-I{folder}", f"-I{ROOT}/bench", f"-I{OWN}", *options]
+def compiled_program(folder, name, sources, *options, library=()):
+    """Compiles a program over the keywrap.c in the directory, by the compiler of this name. Returns its command."""
+    compiler, runner = MACHINES[name]
+    need(compiler[0], *runner)
+    command = [*compiler, *STRICT, f"-I{folder}", f"-I{ROOT}/tests/reference", f"-I{OWN}", *options]
     run(*command, *library, "-c", f"{folder}/keywrap.c", "-o", "keywrap.o")
     run(*command, "-DKEYWRAP_PORTABLE", *sources, "keywrap.o", "-o", "program")
     return [*runner, "./program"]
-
-
-@pytest.fixture(scope="session")
-def portable(tmp_path_factory):
-    """The directory that `make portable` makes. The processes of pytest-xdist share it: the first one makes it."""
-    base = tmp_path_factory.getbasetemp()
-    folder = (base.parent if "PYTEST_XDIST_WORKER" in os.environ else base) / "portable"
-    needs("wasm2c", package="wabt")
-    with open(f"{folder}.lock", "w") as lock:
-        fcntl.flock(lock, fcntl.LOCK_EX)
-        if folder.exists():
-            pass
-        elif os.path.isdir(js := os.environ.get("KEYWRAP_JS", "")):
-            run(sys.executable, ROOT / "scripts/portable.py", f"{js}/keywrap.wasm", "1.0", folder)
-        else:
-            needs("wasm-opt", package="binaryen")
-            run("make", "-s", "-C", ROOT, "portable", f"JS={folder}/js", f"PORTABLE={folder}")
-    return folder
-
-
-@pytest.fixture(scope="session")
-def cases():
-    """NIST's cases, as nist.c reads them."""
-    pytest.importorskip("cryptography_vectors", reason="no cryptography_vectors (apt-get install "
-                        "python3-cryptography-vectors)")
-    return nist_cases.cases()
 
 
 @pytest.mark.parametrize("compiler", NATIVE)
@@ -89,7 +49,7 @@ def cases():
     "-O2 -std=c17"]))
 def test_compiles_without_a_warning(portable, compiler, options):
     """The other tests compile it with -O2 as C99."""
-    needs(compiler, package=compiler)
+    need(compiler)
     run(compiler, *STRICT, *options.split(), "-c", portable / "keywrap.c", "-o", "keywrap.o")
 
 
@@ -97,42 +57,43 @@ def test_compiles_without_a_warning(portable, compiler, options):
 def test_calls(portable, name):
     """The checks of tests/library."""
     few = ["few"] if name not in NATIVE or not ALL else []
-    last = run(*built(portable, name, LIBRARY, "-O2"), *few).splitlines()[-1]
+    last = run(*compiled_program(portable, name, LIBRARY, "-O2"), *few).splitlines()[-1]
     assert re.fullmatch(r"\d{6,} passed, 0 failed", last)
 
 
 @pytest.mark.parametrize("name", MACHINES)
-def test_nist(portable, cases, name):
-    some = cases[::1 if ALL or name == "gcc" else 6]
-    said = run(*built(portable, name, [OWN / "nist.c"], "-O2"), input="".join(some))
-    assert re.fullmatch(rf"{len(some)} right, \d{{2,4}} refused\n", said)
+def test_published(portable, name):
+    program = compiled_program(portable, name, [ROOT / "tests/published.c"], "-O2")
+    for cases in published.foreign(), published.nist_or_skip()[::1 if ALL or name == "gcc" else 6]:
+        assert run(*program, input="".join(published.lines(cases))) == published.all_right(cases)
 
 
 @slow
 @pytest.mark.parametrize("name", NATIVE)
 def test_sanitizers(portable, name):
-    assert run(*built(portable, name, LIBRARY, "-O2", "-g", *SANITIZED), "few").endswith(" 0 failed\n")
+    need(f"sanitizers of {name}")
+    assert run(*compiled_program(portable, name, LIBRARY, "-O2", "-g", *SANITIZED), "few").endswith(" 0 failed\n")
 
 
 @slow
-def test_valgrind(portable, cases):
-    needs("valgrind", package="valgrind")
-    program = built(portable, "gcc", [OWN / "nist.c"], "-O1", "-g")
-    some = "".join(cases[::1 if ALL else 60])
+def test_valgrind(portable):
+    need("valgrind")
+    program = compiled_program(portable, "gcc", [ROOT / "tests/published.c"], "-O1", "-g")
+    some = "".join(published.lines(published.foreign()))
     run("valgrind", "-q", "--error-exitcode=9", "--leak-check=full", *program, input=some)
 
 
 @pytest.mark.parametrize("name", all_of([*NATIVE, "arm"], ["gcc"]))
 def test_memory_is_cleared(portable, name):
     """Every check of tests/library, each call in a block of its own: it is all zeros when it is freed."""
-    program = built(portable, name, [*LIBRARY, OWN / "watched.c"], "-O2",
+    program = compiled_program(portable, name, [*LIBRARY, OWN / "watched.c"], "-O2",
                     library=[*WATCHED, "-DKEYWRAP_STACK_KEY=-64"])
     assert run(*program, "few").endswith(" 0 failed\n")
 
 
 @pytest.mark.parametrize("name", all_of(MACHINES, ["gcc"]))
 def test_no_memory_and_longest_keys(portable, name):
-    program = built(portable, name, [OWN / "memory.c", OWN / "watched.c"], "-O2", "-DKEYWRAP_STACK_KEY=256",
+    program = compiled_program(portable, name, [OWN / "memory.c", OWN / "watched.c"], "-O2", "-DKEYWRAP_STACK_KEY=256",
                     library=WATCHED)
     fixed = int(re.search(r"memory of its own: (\d+) bytes", (portable / "README").read_text())[1])
     # What `kind` copies: the KEK, the wrapped key and the scratch buffer.
@@ -140,20 +101,23 @@ def test_no_memory_and_longest_keys(portable, name):
 
 
 @pytest.mark.parametrize("name", NATIVE)
-def test_stack(portable, name):
-    """Bytes that depend on a KEK or a key, below the stack pointer after each call: 23 by gcc 12, 36 by clang 14."""
-    program = built(portable, name, [ROOT / "tests/secrets/stack.c"], "-O2", "-Wl,-z,now", "-Wno-error")
+@pytest.mark.parametrize("level", all_of(["-O1", "-O2", "-O3", "-Os"], ["-O2"]))
+def test_stack(portable, name, level):
+    """Below the stack pointer SECURITY.md's bytes depend on a KEK or a key: 12 to 54 by gcc 12, 40 to 50 by clang 14."""
+    program = compiled_program(portable, name, [ROOT / "tests/secrets/stack.c"], level, "-Wl,-z,now", "-Wno-error")
     counts = [list(map(int, line.split()[3:7])) for line in run(*program).splitlines()]
-    assert len(counts) == 249
+    exports = re.findall(r"^int32_t keywrap_", (portable / "keywrap.h").read_text(), re.M)
+    assert len(counts) >= 6 * len(exports)
     kek, new_kek, key, copies = map(max, zip(*counts))
-    assert max(kek, new_kek, key) <= 40 and copies == 0, (kek, new_kek, key, copies)
+    most, = re.findall(r"at most (\d+) bytes\s+below the stack pointer", (ROOT / "SECURITY.md").read_text())
+    assert max(kek, new_kek, key) <= int(most) and copies == 0, (kek, new_kek, key, copies)
 
 
 @pytest.mark.parametrize("name", MACHINES)
 def test_object(portable, name):
     """What the object needs, that it shows the calls of the header only, and that none of its data can be written."""
-    compiler, _, package = MACHINES[name]
-    needs(compiler[0], package=package)
+    compiler, _ = MACHINES[name]
+    need(compiler[0])
     tools = compiler[0].removesuffix("gcc") if name not in NATIVE else ""
     run(compiler[0], *STRICT, "-O2", "-fno-pic", "-c", portable / "keywrap.c", "-o", "keywrap.o")
     needed, shown = ({line.split()[-1] for line in run(f"{tools}nm", *options, "keywrap.o").splitlines()}
@@ -169,7 +133,7 @@ def test_object(portable, name):
 
 @pytest.mark.parametrize("options, phrase", [([], "is on the stack"), (["-DKEYWRAP_STACK_KEY=64"], "use the stack")])
 def test_readme_has_the_stack_of_a_call(portable, options, phrase):
-    needs("gcc", package="gcc")
+    need("gcc")
     stack = int(re.search(rf"{phrase} \((\d+) bytes\)", (portable / "README").read_text())[1])
     run("gcc", *STRICT, "-O1", "-fstack-usage", *options, "-c", portable / "keywrap.c", "-o", "keywrap.o")
     used = max(int(line.split("\t")[1]) for line in pathlib.Path("keywrap.su").read_text().splitlines())
@@ -177,13 +141,13 @@ def test_readme_has_the_stack_of_a_call(portable, options, phrase):
 
 
 def test_self_test_sees_a_changed_byte(portable):
-    needs("gcc", package="gcc")
+    need("gcc")
     run("gcc", *STRICT, "-O2", "-shared", "-fPIC", portable / "keywrap.c", "-o", "keywrap.so")
-    run(sys.executable, ROOT / "tests/library/patched.py", "keywrap.so")
+    run(sys.executable, ROOT / "tests/library/patched.py", "keywrap.so", "decryption")
 
 
 def test_big_endian_is_refused(portable):
-    needs("gcc", package="gcc")
+    need("gcc")
     ended = subprocess.run(["gcc", "-U__BYTE_ORDER__", "-D__BYTE_ORDER__=__ORDER_BIG_ENDIAN__", "-c",
                             portable / "keywrap.c"], capture_output=True, text=True)
     assert ended.returncode != 0 and "little-endian machines" in ended.stderr
@@ -200,6 +164,7 @@ def test_numbers_in_documents(portable):
 
 
 def test_makefile(portable):
+    need("cc")
     folder = shutil.copytree(portable, "copy", ignore=shutil.ignore_patterns("js"))
     run("make", "-C", folder, "check", "CPPFLAGS=-DKEYWRAP_NO_MALLOC")
     assert "malloc" not in run("nm", "-u", f"{folder}/keywrap.o")
@@ -209,7 +174,7 @@ def test_makefile(portable):
 
 
 def test_cmake(portable):
-    needs("cmake", "ctest", package="cmake")
+    need("cmake", "cc")
     run("cmake", "-S", portable, "-B", "built", "-DCMAKE_C_FLAGS=-fno-pie", "-DCMAKE_EXE_LINKER_FLAGS=-no-pie")
     run("cmake", "--build", "built")
     run("ctest", "--test-dir", "built", "--no-tests=error")
@@ -219,16 +184,15 @@ def test_cmake(portable):
 @slow
 def test_windows(portable):
     """Compiles with mingw; the vectors run under wine."""
-    needs("x86_64-w64-mingw32-gcc", package="gcc-mingw-w64-x86-64")
+    need("x86_64-w64-mingw32-gcc", "wine")
     run("x86_64-w64-mingw32-gcc", *STRICT, "-O2", "-DKEYWRAP_PORTABLE", portable / "vectors.c", portable / "keywrap.c",
         "-o", "vectors.exe")
-    needs("wine", package="wine wine64")
     run("wine", "./vectors.exe", env={**os.environ, "WINEPREFIX": f"{os.getcwd()}/wine", "WINEDEBUG": "-all"})
 
 
 def test_freestanding(portable):
     """Links for a Cortex-M0 without a C library, with three functions of the caller's own."""
-    needs("arm-none-eabi-gcc", package="gcc-arm-none-eabi")
+    need("arm-none-eabi-gcc")
     small = ["-DKEYWRAP_STACK_KEY=64", "-DKEYWRAP_NO_MALLOC", "-DKEYWRAP_TRAP()=__builtin_trap()"]
     run("arm-none-eabi-gcc", "-mcpu=cortex-m0", "-mthumb", "-ffreestanding", *STRICT, "-Os", *small, f"-I{portable}",
         "-fno-tree-loop-distribute-patterns", OWN / "freestanding.c", portable / "keywrap.c", "-nostdlib",
@@ -239,9 +203,7 @@ def test_freestanding(portable):
 @pytest.mark.parametrize("compiler", NATIVE)
 def test_sdist(portable, compiler):
     """pip builds the source distribution without the kit, and the package's tests pass on it. It is the same again."""
-    needs(compiler, package=compiler)
-    for module in "build", "cffi", "setuptools", "wheel", "venv":
-        pytest.importorskip(module, reason=f"no {module} (apt-get install python3-{module})")
+    need(compiler, *[f"import {module}" for module in ("build", "cffi", "ensurepip", "setuptools", "wheel")])
     kit = pathlib.Path(shutil.which("rt") or "/rt").parent
     path = ":".join(folder for folder in os.environ["PATH"].split(":") if pathlib.Path(folder) != kit)
     env = {**os.environ, "PATH": path, "CC": compiler, "LDSHARED": f"{compiler} -shared",
@@ -270,8 +232,13 @@ FINDERS = [
 @pytest.mark.parametrize("bug", all_of([path.stem for path in sorted(OWN.glob("bugs/*.edit"))], [
     "no-wipe-after-a-refusal"]))
 def test_bug_is_caught(portable, tmp_path, bug):
+    need("sanitizers of gcc")
     for name in "keywrap.c", "keywrap.h":
         shutil.copy(portable / name, tmp_path)
     plant(OWN / f"bugs/{bug}.edit", tmp_path)
-    assert any(subprocess.run([*built(tmp_path, "gcc", sources, *options, "-Wno-error", library=library), *words],
-                              capture_output=True).returncode for sources, options, library, words in FINDERS)
+
+    def finds(sources, options, library, words):
+        program = compiled_program(tmp_path, "gcc", sources, *options, "-Wno-error", library=library)
+        return subprocess.run([*program, *words], capture_output=True).returncode != 0
+
+    assert any(finds(*finder) for finder in FINDERS)

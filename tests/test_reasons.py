@@ -2,17 +2,15 @@
 that looks like text, a padded key that becomes plain, and a rewrap that changes nothing. Most are in reasons.txt."""
 
 import pathlib
-import re
 import shlex
 
 import pytest
 
-from commands import MAX_FILE, WRAP
-from program import Ended, answered, refused, sh, table, words
+from commands import MAX_FILE, WRAP, table, unescaped
+from program import Ended, answered, refused, sh, words
 from vectors import FULL, KEK, KEK16, NOT_OPENED, WRAPPED16, in_base64, zeros
 
 NO_FILE = "No such file or directory (os error 2)"
-ROWS = table("reasons.txt")
 
 
 @pytest.fixture(autouse=True)
@@ -23,6 +21,7 @@ def more_files():
             "kek.base64": in_base64(KEK16).encode(), "kek16.base64": in_base64(KEK16).encode() + b"\n",
             "kek17.base64": in_base64(KEK[:34]).encode(), "kek.digits": KEK16.encode(), "kek.short": KEK[:16].encode(),
             "kek.line": KEK[:23].encode() + b"\n", "kek.crlf": KEK[:30].encode() + b"\r\n", "kek.ends": b"\n" * 16,
+            "kek.signs": b"AAEC+wQ/BgcICQoL", "kek.url": b"AAEC-wQ_BgcICQoL",
             "kek.nul": KEK[:15].encode() + b"\0", "kek.words": b"correct horse ba",
             "kek.other": KEK[:30].encode() + b"ff"}.items():
         pathlib.Path(name).write_bytes(content)
@@ -36,18 +35,17 @@ def explains(keywrap, args, status, message, reason, **options):
 
 
 class TestReasons:
-    @pytest.mark.parametrize("above, args, reason", [row for row in ROWS if row[0] != "answered"])
-    def test_refusals_of_the_table(self, keywrap, above, args, reason):
-        status, message = above.split(" ", 1)
+    @pytest.mark.parametrize("args, status, message, reason", table("reasons", "refused"))
+    def test_refusals_of_the_table(self, keywrap, args, status, message, reason):
         given = None if "--lines" in args else pathlib.Path("key7.hex")
         explains(keywrap, shlex.split(args), int(status), message, reason, stdin=given)
 
-    @pytest.mark.parametrize("args, lines", [row[1:] for row in ROWS if row[0] == "answered"])
+    @pytest.mark.parametrize("args, lines", table("reasons", "answered"))
     def test_answers_of_the_table(self, keywrap, args, lines):
         """The answer is the same without --verbose, which only adds the lines, with --output, too."""
         quiet = keywrap(args, text=False)
         assert quiet.status == (5 if args.startswith("check") else 0) and quiet.stdout != b"" and quiet.stderr == ""
-        error = re.sub(" *(.+)\n?", r"keywrap: \1\n", lines)
+        error = "".join(f"keywrap: {line}\n" for line in unescaped(lines).splitlines())
         assert keywrap(args, "--verbose", text=False) == quiet._replace(stderr=error)
         assert keywrap(f"{args} --verbose -o file") == Ended(quiet.status, "", error)
         assert pathlib.Path("file").read_bytes() == quiet.stdout

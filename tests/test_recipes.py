@@ -3,18 +3,18 @@
 import os
 import pathlib
 import re
-import shutil
 import subprocess
 
 import pytest
 
+from tools import need
+
 ROOT = pathlib.Path(__file__).resolve().parent.parent
 RECIPES = (ROOT / "docs/RECIPES.md").read_text()
 SECTIONS = dict(section.split("\n", 1) for section in re.split("^## ", RECIPES, flags=re.M)[1:])
-FIRST, *PARTS = re.split("^#: ", (ROOT / "tests/lib/recipes.sh").read_text(), flags=re.M)
+PARTS = re.split("^#: after ", (ROOT / "tests/lib/recipes.sh").read_text(), flags=re.M)[1:]
 PARTS = dict(part.split("\n", 1) for part in PARTS)
-TOOLS = {"openssl": "openssl", "xxd": "xxd", "basenc": "coreutils", "awk": "mawk", "softhsm2-util": "softhsm2",
-         "pkcs11-tool": "opensc", "psql": "postgresql", "jq": "jq", "parallel": "parallel"}
+TOOLS = "openssl", "xxd", "softhsm2-util", "pkcs11-tool", "jq"
 
 
 def typed_and_shown(section):
@@ -29,25 +29,10 @@ def typed_and_shown(section):
     return typed, shown
 
 
-@pytest.fixture(scope="module")
-def server():
-    """The variables by which psql finds a PostgreSQL server."""
-    from rotation_store import Server, server_programs
-    if not server_programs():
-        pytest.skip("no PostgreSQL server (apt-get install postgresql)")
-    started = Server()
-    yield started.environment
-    started.end()
-
-
-def follow(request, keywrap, files, script):
+def follow(keywrap, files, script):
     """Runs the lines in an empty directory, and returns their output."""
-    for tool, package in TOOLS.items():
-        if re.search(rf"\b{tool}\b|_{tool}\.", script) and not shutil.which(tool):
-            pytest.skip(f"no {tool} (apt-get install {package})")
+    need(*[tool for tool in TOOLS if re.search(rf"\b{tool}\b|_{tool}\.", script)])
     environment = {**os.environ, "DOC": str(ROOT / "docs"), "PATH": f"{files}/bin:{os.environ['PATH']}"}
-    if "psql" in script or "postgresql" in script:
-        environment.update(request.getfixturevalue("server"))
     if re.search("wrap-pad|cipher-pad", script):
         ciphers = subprocess.run(["openssl", "enc", "-list"], capture_output=True, text=True).stdout
         if "id-aes256-wrap-pad" not in ciphers:
@@ -62,26 +47,24 @@ def follow(request, keywrap, files, script):
     return ended.stdout
 
 
-# Two kinds are tested elsewhere: recipes with the Python package in python/tests/test_rotate_recipes.py, the recipe
+# Two kinds are tested elsewhere: recipes with the Python package in python/tests/test_rotation_recipes.py, the recipe
 # that compiles a program with the C library in tests/hardware.sh.
 @pytest.mark.parametrize("name", [name for name, section in SECTIONS.items()
                                   if not re.search(r"keywrap.rotate|\.py|pkg-config", typed_and_shown(section)[0])])
-def test_recipe(request, keywrap, files, name):
+def test_recipe(keywrap, files, name):
     script, shown = typed_and_shown(SECTIONS[name])
-    before = PARTS.get(f"before {name}")
-    script = (FIRST + before if before else "") + script + PARTS.get(f"after {name}", "")
-    assert follow(request, keywrap, files, script) == shown
+    assert follow(keywrap, files, script + PARTS.get(name, "")) == shown
 
 
 def test_names_of_recipes():
     """Each part of recipes.sh has the name of a recipe, and each script of docs/rotation has a recipe."""
-    assert {name.split(" ", 1)[1] for name in PARTS} <= SECTIONS.keys()
+    assert PARTS.keys() <= SECTIONS.keys()
     linked = set(re.findall(r"\]\((rotation/[^)]*)", RECIPES))
     assert linked == {f"rotation/{path.name}" for path in (ROOT / "docs/rotation").iterdir()}
 
 
-def test_readme(request, keywrap, files):
+def test_readme(keywrap, files):
     """README's lines before its first section, in one directory."""
     typed, shown = typed_and_shown((ROOT / "README.md").read_text().split("\n## ")[0])
     assert typed
-    assert follow(request, keywrap, files, typed.replace("./keywrap", "keywrap")) == shown
+    assert follow(keywrap, files, typed.replace("./keywrap", "keywrap")) == shown

@@ -8,7 +8,7 @@ import time
 import pytest
 
 from commands import WRAP, table, unescaped
-from program import Ended
+from program import Ended, wait_for
 from vectors import KEK16, KEY16, VECTOR_LINES, WRAPPED16
 
 RAW = "keywrap: output: raw bytes do not go to a terminal; redirect it or use --output\n"
@@ -92,8 +92,10 @@ class TestProgress:
         return pathlib.Path(name).read_text() == f"{WRAPPED16}\n" * count
 
     def test_how_far_it_is(self, terminal):
-        """The input is a pipe, whose length is unknown. The runs are parallel."""
+        """The input is a pipe, whose length is unknown. The runs are parallel. With --output, standard output may be a
+        pipe, too."""
         rows = [(f"{self.SLOWLY} >out", 0, COUNTS.format(4999)),
+                (f"{self.SLOWLY} --output piped | cat", 0, COUNTS.format(4999)),
                 (f"{self.REFUSED} >refused", 6, REFUSAL.format(5000) + "  standard input: not hex\n"),
                 (f"{self.REFUSED} --keep-going --verbose --input /dev/stdin --output other", 6,
                  REFUSAL.format(5000) + "keywrap: 5000 lines: 4999 answered, 1 refused\n")]
@@ -104,7 +106,7 @@ class TestProgress:
             again = f"(?:{rewritten(FAR)})?" if "--keep-going" in line else ""
             wanted = again.join(map(re.escape, rest.splitlines(keepends=True)))
             assert re.fullmatch(rewritten(FAR) + wanted, ended.stdout), line
-        assert self.answers()
+        assert self.answers() and self.answers("piped")
 
     def test_none(self, terminal):
         """With --quiet, standard error in a file, answers into a pipe, or a terminal that cannot rewrite a line."""
@@ -131,28 +133,31 @@ class TestProgress:
         assert terminal(f"cat few few | {LINES} --verbose").ended() == Ended(0, f"{WRAPPED16}\n" * 4)
 
     def test_typed_lines(self, terminal):
-        """Nothing is shown while lines are typed."""
-        runs = [terminal(f"{LINES} 2>err"), terminal(f"{LINES} >out")]
-        runs[1].child.expect("Ctrl-D ends it\r\n")
+        """Nothing is shown while lines are typed, or afterwards."""
+        runs = [terminal(f"{LINES} {rest}") for rest in ("2>err", ">out", "--verbose >verbose")]
+        for run in runs[1:]:
+            run.child.expect("Ctrl-D ends it\r\n")
         for _ in 1, 2:
             time.sleep(0.8)
             for run in runs:
                 run.child.sendline(KEY16)
         for run in runs:
             run.child.sendeof()
-        assert [run.ended() for run in runs] == [Ended(0, f"{WRAPPED16}\n" * 2), Ended(0)]
-        assert self.answers(count=2)
+        assert [run.ended() for run in runs] == [Ended(0, f"{WRAPPED16}\n" * 2), Ended(0), Ended(0)]
+        assert self.answers(count=2) and self.answers("verbose", 2)
 
     def test_nothing_in_the_first_half_second(self, terminal):
-        """On a busy machine a run may take longer."""
-        pathlib.Path("in").write_text(f"{KEY16}\n" * 10000)
-        for _ in range(5):
+        """On a busy machine a run may take longer, and is tried again."""
+        pathlib.Path("in").write_text(f"{KEY16}\n" * 4000)
+        screens = []
+
+        def is_fast():
             began = time.monotonic()
-            screen = terminal(f"{LINES} --input in >out").ended()
-            if time.monotonic() - began < 0.5:
-                assert screen == Ended(0, COUNTS.format(10000))
-                return
-        pytest.skip("the machine is too busy")
+            screens.append(terminal(f"{LINES} --input in >out").ended())
+            return time.monotonic() - began < 0.5
+
+        wait_for(is_fast)
+        assert screens[-1] == Ended(0, COUNTS.format(4000))
 
     def test_how_far_a_file_is(self, terminal, compiled):
         """The length of a regular file is known. It is read in five parts of 65,536 bytes, with a pause after each."""
@@ -171,3 +176,14 @@ class TestProgress:
             assert lines / seconds - 1 <= pace <= lines / (at * pause)
             assert 100 * part - 1 <= done <= 100 * part + 1
             assert at * pause * (1 - part) / part - 1 <= left <= seconds * (1 - part) / part + 1
+
+    def test_a_file_that_grows(self, terminal, compiled):
+        """All of it is read. When more is read than it had at first, it is done as far as the program knows."""
+        pathlib.Path("in").write_text(f"{KEY16}\n" * 3000)
+        run = terminal(f"env LD_PRELOAD={compiled('fail_read')} SLOW_READ=600 {LINES} --input in >out")
+        run.child.expect("% done, [0-9]+ s left")
+        with open("in", "a") as more:
+            more.write(f"{KEY16}\n" * 6000)
+        status, screen, _ = run.ended()
+        reports = re.findall(FAR + r", (\d+) % done, (\d+) s left", screen)
+        assert (status, self.answers(count=9000), reports[-1][2:]) == (0, True, ("100", "0"))

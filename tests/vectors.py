@@ -26,7 +26,7 @@ def in_url(digits):
 
 
 def drilled_zeros(words):
-    """The wrapping of so many words 00 over the drill block, E(A | R) = R | A.
+    """The wrapping of `words` words of zeros over the drill block, E(A | R) = R | A.
 
     The word at t is the xor of t, t - (n + 1), t - 2(n + 1) and so on, and of the initial value if n + 1 divides t. The
     first word of the answer is A at 6n, and the others are A at 5n to 6n - 1."""

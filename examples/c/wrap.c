@@ -15,7 +15,7 @@ static void print(const char *what, int32_t status, const uint8_t *bytes, size_t
     printf("\n");
 }
 
-/* A buffer of its own for the wrapped key, and one for what is unwrapped. */
+/* Two buffers: one for the wrapped key, and one for the key. */
 static int two_buffers(const uint8_t *kek, size_t kek_len, const uint8_t key[16]) {
     uint8_t wrapped[KEYWRAP_TEXT_LEN(16)], back[16];
     int32_t status = keywrap_wrap(kek, kek_len, key, 16, wrapped, sizeof wrapped);
@@ -32,7 +32,7 @@ static int two_buffers(const uint8_t *kek, size_t kek_len, const uint8_t key[16]
     return status == KEYWRAP_INTEGRITY; /* and `back` is all zeros */
 }
 
-/* A key of any length, whose padding an unwrap takes off. */
+/* A key of any length. An unwrap removes its padding. */
 static int padded(const uint8_t *kek, size_t kek_len, const uint8_t key[7]) {
     uint8_t wrapped[KEYWRAP_PADDED_TEXT_LEN(7)], back[KEYWRAP_ROOM(sizeof wrapped)];
     size_t key_len;

@@ -21,7 +21,7 @@ static bool take(napi_env env, napi_value value, uint8_t **bytes, size_t *len) {
     return true;
 }
 
-/* The call's answer, of `more` bytes more than what is given, as a Buffer; or its status. */
+/* Returns the result of the call, a Buffer of `more` bytes more than the input, or its status. */
 static napi_value answer(napi_env env, napi_callback_info info, call *f, ptrdiff_t more) {
     napi_value given[2], result;
     uint8_t *kek, *in, *out;

@@ -16,6 +16,8 @@ pub enum Error {
     BadLength = 4,
     /// The integrity check failed: another KEK, form or initial value, or damage.
     Integrity = 5,
+    /// The wrapped key is genuine, but no plain key has the length of its key.
+    KeyNotPlain = 8,
 }
 
 impl fmt::Display for Error {
@@ -54,8 +56,8 @@ extern "C" {
         -> i32;
     fn keywrap_unwrap_padded_in_place(k: Bytes, n: usize, buffer: Buffer, len: usize,
         m: *mut usize) -> i32;
-    fn keywrap_rewrap_in_place(old: Bytes, n: usize, new: Bytes, m: usize, buffer: Buffer,
-        len: usize, forms: u32) -> i32;
+    fn keywrap_rewrap(old: Bytes, n: usize, new: Bytes, m: usize, buffer: Buffer, len: usize,
+        flags: u32, already: *mut u32) -> i32;
 }
 
 fn answer(status: i32) -> Result<(), Error> {
@@ -64,6 +66,7 @@ fn answer(status: i32) -> Result<(), Error> {
         2 => Err(Error::BadValue),
         3 => Err(Error::BadKek),
         4 => Err(Error::BadLength),
+        8 => Err(Error::KeyNotPlain),
         // 5, or one that this version does not know: no key is given out.
         _ => Err(Error::Integrity),
     }
@@ -168,10 +171,6 @@ pub fn unwrap_padded_in_place<'a>(kek: &[u8], buffer: &'a mut [u8]) -> Result<&'
     Ok(&mut buffer[8..8 + len])
 }
 
-const OLD_PADDED: u32 = 1;
-const NEW_PADDED: u32 = 2;
-const KEEP_FORM: u32 = 4;
-
 /// The form in which a key is wrapped.
 #[derive(Clone, Copy, Debug, PartialEq, Eq)]
 pub enum Form {
@@ -181,37 +180,68 @@ pub enum Form {
     Padded,
 }
 
-impl Form {
-    fn flag(self, padded: u32) -> u32 {
+/// The forms of a rewrap.
+#[derive(Clone, Copy, Debug, PartialEq, Eq)]
+pub enum Forms {
+    /// Either form, which is kept.
+    Kept,
+    /// The old form and the new one.
+    Changed(Form, Form),
+}
+
+impl Forms {
+    fn flags(self) -> u32 {
         match self {
-            Form::Plain => 0,
-            Form::Padded => padded,
+            Forms::Changed(old, new) => {
+                u32::from(old == Form::Padded) | u32::from(new == Form::Padded) << 1
+            }
+            Forms::Kept => 4,
         }
     }
 }
 
-/// Rewraps the key in the buffer from the old KEK to the new one. At `Integrity`, and if the new
-/// form takes no key of this length, the buffer becomes all zeros.
-pub fn rewrap_in_place(
+/// What a rewrap has done.
+#[derive(Clone, Copy, Debug, PartialEq, Eq)]
+pub enum Rewrapped {
+    /// The buffer holds the new wrapped key.
+    Fresh,
+    /// The buffer was under the new KEK already.
+    AlreadyNew,
+}
+
+const PASS_NEW: u32 = 8;
+
+/// Rewraps the key in the buffer from the old KEK to the new one. With `pass_new` a wrapped key that
+/// is under the new KEK already, in the new form, is left as it is. After an error the buffer is
+/// unchanged. The library is of version 1.1.
+pub fn rewrap(
     old_kek: &[u8],
-    old_form: Form,
     new_kek: &[u8],
-    new_form: Form,
     buffer: &mut [u8],
-) -> Result<(), Error> {
-    let forms = old_form.flag(OLD_PADDED) | new_form.flag(NEW_PADDED);
-    rewrap_as(old_kek, new_kek, buffer, forms)
-}
-
-/// The same in whichever form the wrapped key is, which it keeps; the library is of version 1.1.
-pub fn rewrap_keeping_form(old_kek: &[u8], new_kek: &[u8], buffer: &mut [u8]) -> Result<(), Error> {
-    rewrap_as(old_kek, new_kek, buffer, KEEP_FORM)
-}
-
-fn rewrap_as(old_kek: &[u8], new_kek: &[u8], buffer: &mut [u8], forms: u32) -> Result<(), Error> {
+    forms: Forms,
+    pass_new: bool,
+) -> Result<Rewrapped, Error> {
+    let mut already = 0;
     let (k, m) = (old_kek.as_ptr(), new_kek.as_ptr());
     let (b, len) = (buffer.as_mut_ptr(), buffer.len());
-    answer(unsafe { keywrap_rewrap_in_place(k, old_kek.len(), m, new_kek.len(), b, len, forms) })
+    let flags = forms.flags() | if pass_new { PASS_NEW } else { 0 };
+    answer(unsafe {
+        keywrap_rewrap(
+            k,
+            old_kek.len(),
+            m,
+            new_kek.len(),
+            b,
+            len,
+            flags,
+            &mut already,
+        )
+    })?;
+    Ok(if already == 1 {
+        Rewrapped::AlreadyNew
+    } else {
+        Rewrapped::Fresh
+    })
 }
 
 #[cfg(test)]
@@ -232,5 +262,6 @@ mod tests {
         assert!(said(3).contains("key length") && answer(3) == Err(Error::BadKek));
         assert!(said(4).contains("bad length") && answer(4) == Err(Error::BadLength));
         assert!(said(5).contains("integrity") && answer(5) == Err(Error::Integrity));
+        assert!(said(8).contains("no plain key") && answer(8) == Err(Error::KeyNotPlain));
     }
 }

@@ -4,7 +4,7 @@
 
 mod keywrap;
 
-use keywrap::{Error, Form};
+use keywrap::{Error, Form::*, Forms::*, Rewrapped::*};
 
 fn hex(bytes: &[u8]) -> String {
     bytes.iter().map(|byte| format!("{byte:02x}")).collect()
@@ -101,36 +101,53 @@ fn rewrapped() -> Result<(), Error> {
     let key: Vec<u8> = (0..16).map(|i| 0x11 * i).collect();
     let wrapped = keywrap::wrap(&old_kek, &key)?;
 
+    let rewrap = |from: &[u8], to: &[u8], forms, buffer: &mut [u8]| {
+        keywrap::rewrap(from, to, buffer, forms, false)
+    };
     let mut buffer = wrapped.clone();
-    keywrap::rewrap_in_place(&old_kek, Form::Plain, &new_kek, Form::Plain, &mut buffer)?;
+    rewrap(&old_kek, &new_kek, Changed(Plain, Plain), &mut buffer)?;
     println!("rewrap: {}", hex(&buffer));
     assert_eq!(
         hex(&buffer),
         "64e8c3f9ce0f5ba263e9777905818a2a93c8191e7d6e8ae7"
     );
-    keywrap::rewrap_in_place(&new_kek, Form::Plain, &old_kek, Form::Padded, &mut buffer)?;
+    assert_eq!(
+        keywrap::rewrap(&old_kek, &new_kek, &mut buffer, Kept, true),
+        Ok(AlreadyNew)
+    );
+    rewrap(&new_kek, &old_kek, Changed(Plain, Padded), &mut buffer)?;
     assert_eq!(
         hex(&buffer),
         "2cef0c9e30de26016c230cb78bc60d51b1fe083ba0c79cd5"
     );
-    keywrap::rewrap_keeping_form(&old_kek, &new_kek, &mut buffer)?;
+    assert_eq!(rewrap(&old_kek, &new_kek, Kept, &mut buffer), Ok(Fresh));
     assert_eq!(
         hex(&buffer),
         "afc860015ffe2d75bedf43c444fe58f4ad9d89c4ec71e23b"
     );
-    keywrap::rewrap_in_place(&new_kek, Form::Padded, &old_kek, Form::Plain, &mut buffer)?;
+    rewrap(&new_kek, &old_kek, Changed(Padded, Plain), &mut buffer)?;
     assert_eq!(buffer, wrapped);
 
-    let rewrap = |new_kek: &[u8], buffer: &mut [u8]| {
-        keywrap::rewrap_in_place(&old_kek, Form::Plain, new_kek, Form::Plain, buffer)
-    };
-    assert_eq!(rewrap(&[], &mut buffer), Err(Error::BadKek));
-    assert_eq!(rewrap(&new_kek, &mut []), Err(Error::BadLength));
-    assert_eq!(rewrap(&new_kek, &mut buffer[..23]), Err(Error::BadLength));
-    assert_eq!(buffer, wrapped);
+    assert_eq!(rewrap(&old_kek, &[], Kept, &mut buffer), Err(Error::BadKek));
+    for len in [0, 23] {
+        let short = &mut buffer[..len];
+        assert_eq!(
+            rewrap(&old_kek, &new_kek, Kept, short),
+            Err(Error::BadLength)
+        );
+    }
     buffer[3] ^= 1;
-    assert_eq!(rewrap(&new_kek, &mut buffer), Err(Error::Integrity));
-    assert_eq!(buffer, [0; 24]);
+    assert_eq!(
+        rewrap(&old_kek, &new_kek, Kept, &mut buffer),
+        Err(Error::Integrity)
+    );
+    buffer[3] ^= 1;
+    assert_eq!(buffer, wrapped);
+
+    let mut short = keywrap::wrap_padded(&old_kek, &key[..7])?;
+    let to_plain = rewrap(&old_kek, &new_kek, Changed(Padded, Plain), &mut short);
+    assert_eq!(to_plain, Err(Error::KeyNotPlain));
+    assert_eq!(keywrap::unwrap_padded(&old_kek, &short)?, key[..7]);
     Ok(())
 }
 

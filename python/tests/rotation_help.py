@@ -2,6 +2,7 @@
 
 import os
 import random
+import time
 
 import pytest
 from cryptography.hazmat.primitives import keywrap as pyca
@@ -13,10 +14,16 @@ slow = pytest.mark.skipif(os.environ.get("KEYWRAP_ALL") != "1", reason="left to 
 SECRETS = (KEK.hex().encode(), NEW_KEK.hex().encode(), KEK, NEW_KEK)
 
 
-def skip_if_busy():
-    """Skips a test that kills processes at the right moment if the machine is busy, more than by `make test`."""
-    if os.getloadavg()[0] > 2.5 * os.cpu_count():
-        pytest.skip("the machine is too busy to disturb a rotation at the right moment")
+def secrets_in(text, *more):
+    """The KEKs, and the secrets in `more`, that the text shows in hex or as bytes."""
+    return [secret for secret in (*SECRETS, *more) if secret in text]
+
+
+def wait_while_busy():
+    """Waits until a rotation can be disturbed at the right moment, for at most 5 minutes."""
+    end = time.monotonic() + 300
+    while os.getloadavg()[0] > 2.5 * os.cpu_count() and time.monotonic() < end:
+        time.sleep(1)
 
 
 def wrapped_under(kek, key):
@@ -46,3 +53,9 @@ def set_keks(directory, monkeypatch, kek=KEK, new_kek=NEW_KEK):
 
 def left_over(directory):
     return [name for _, _, names in os.walk(directory) for name in names if name.startswith(".rotating.")]
+
+
+def seen(path):
+    """Everything about a file except the time of its last read."""
+    status = os.lstat(path)
+    return (*status[:7], status.st_mtime_ns, status.st_ctime_ns, path.read_bytes() if path.is_file() else None)

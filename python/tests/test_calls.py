@@ -86,7 +86,7 @@ def test_passes_what_is_under_the_new_kek():
         ("IntegrityFailed", (KEK, KEK_32, WRAPPED_32), {}),
         ("IntegrityFailed", (KEK, KEK_32, PADDED_32), {"keep_form": True}),
         # Under the old KEK, though its key has no length of the new form.
-        ("BadLength", (KEK_5649, KEK_5649, PADDED_OF_20), {"old_padded": True, "pass_new": True}),
+        ("KeyNotPlain", (KEK_5649, KEK_5649, PADDED_OF_20), {"old_padded": True, "pass_new": True}),
         ("BadLength", (KEK, KEK_5649, FORPASI), {"pass_new": True}),
         ("BadKekLength", (KEK[1:], KEK_32, WRAPPED_32), {"pass_new": True}),
         ("BadKekLength", (KEK, KEK_32[1:], WRAPPED_32), {"pass_new": True}),
@@ -105,6 +105,32 @@ def test_checks():
         assert keywrap.check(KEK, other) is None
     with pytest.raises(keywrap.BadKekLength):
         keywrap.check(b"", WRAPPED)
+
+
+@pytest.mark.parametrize(
+    "name, helper, given",
+    [
+        ("check", "_kind", (KEK, WRAPPED)),
+        ("check_with_length", "_kind", (KEK, WRAPPED)),
+        ("unwrap_any", "_unwrap_any", (KEK, WRAPPED)),
+        ("unwrap_padded", "_unwrap_padded", (KEK, WRAPPED)),
+        ("unwrap", "_unwrap", (KEK, WRAPPED)),
+        ("wrap", "_wrap", (KEK, KEY)),
+        ("rewrap", "_rewrap", (KEK, KEK, WRAPPED)),
+    ],
+)
+def test_without_memory(monkeypatch, name, helper, given):
+    """The portable library then returns 7. A valid key is not refused."""
+    ending = -7 if helper in ("_kind", "_unwrap_any", "_unwrap_padded") else 7
+    monkeypatch.setattr(keywrap, helper, lambda *_: ending)
+    with pytest.raises(MemoryError):
+        getattr(keywrap, name)(*given)
+
+
+def test_the_status_without_memory():
+    text = keywrap._ffi.ffi.new("char[]", 80)
+    keywrap._lib.keywrap_status_text(keywrap._lib.NO_MEMORY, text, 80)
+    assert keywrap._ffi.ffi.string(text) == b"out of memory"
 
 
 def test_checks_with_the_length():
@@ -127,6 +153,7 @@ def test_every_call_takes_any_bytes_like_object(given):
     assert keywrap.unwrap_padded(kek, given(keywrap.wrap_padded(kek, key))) == KEY
     assert keywrap.rewrap(kek, given(KEK_32), wrapped, new_padded=True) == PADDED_32
     assert keywrap.check(kek, wrapped) is Kind.PLAIN
+    assert keywrap.unwrap_any(kek, wrapped) == (KEY, Kind.PLAIN)
 
 
 PLAIN_LENGTHS = "it must be a multiple of 8 from 16 to 1048576 bytes"
@@ -158,8 +185,8 @@ PLAIN_LENGTHS = "it must be a multiple of 8 from 16 to 1048576 bytes"
          (KEK, KEK, FORPASI)),
         ("BadLength", "the wrapped key is 8 bytes long; it must be a multiple of 8 from 16", "rewrap",
          (KEK, KEK, FORPASI[:8], True)),
-        ("BadLength", "the key that is wrapped cannot be plain", "rewrap", (KEK_5649, KEK, FORPASI, True)),
-        ("BadLength", "the key that is wrapped cannot be plain", "rewrap", (KEK_5649, KEK, PADDED_OF_20, True)),
+        ("KeyNotPlain", "bad length: no plain key has the length of the key; it must be a multiple of 8 from 16 to "
+         "1048576 bytes", "rewrap", (KEK_5649, KEK, FORPASI, True)),
         ("BadInitialValue", "the initial value is 0 bytes long; it must be 8 bytes", "wrap", (KEK, KEY, b"")),
         ("BadInitialValue", "the initial value is 0 bytes long", "unwrap", (KEK, WRAPPED, b"")),
         ("BadInitialValue", "the initial value is 9 bytes long", "unwrap", (KEK, WRAPPED, IV + b"0")),

@@ -1,4 +1,4 @@
-"""What objects can say of themselves makes no call read or write past them. tests/python.sh runs this
+"""Objects with a false length do not make a call read or write out of bounds. tests/test_python.py runs this
 file under the address sanitizer too."""
 
 import array
@@ -52,6 +52,7 @@ CALLS = [
     (keywrap.unwrap, (KEK, WRAPPED, b"\xa6" * 8), KEY),
     (keywrap.wrap_padded, (KEK, KEY), keywrap.wrap_padded(KEK, KEY)),
     (keywrap.unwrap_padded, (KEK, keywrap.wrap_padded(KEK, KEY)), KEY),
+    (keywrap.unwrap_any, (KEK, WRAPPED), (KEY, keywrap.Kind.PLAIN)),
     (keywrap.rewrap, (KEK, KEK, WRAPPED), WRAPPED),
     (keywrap.check, (KEK, WRAPPED), keywrap.Kind.PLAIN),
     (keywrap.check_with_length, (KEK, WRAPPED), (keywrap.Kind.PLAIN, 16)),
@@ -173,7 +174,7 @@ def test_given_objects_are_not_written():
     kek, wrapped = bytearray(KEK), bytearray(WRAPPED)
     wrapped[0] ^= 1
     before = bytes(wrapped)
-    for call in (keywrap.unwrap, keywrap.unwrap_padded, keywrap.check):
+    for call in (keywrap.unwrap, keywrap.unwrap_padded, keywrap.unwrap_any, keywrap.check):
         for given in (wrapped, before):
             try:
                 call(kek, given)
@@ -197,7 +198,8 @@ def test_what_a_call_copies_is_wiped(monkeypatch):
         assert len(copied) == 2 * len(given) and all(item == bytes(len(item)) for item in copied)
     wiped.clear()
     assert keywrap.unwrap_padded(KEK, keywrap.wrap_padded(KEK, b"seven..")) == b"seven.."
-    assert wiped == [bytes(8)]
+    assert keywrap.unwrap_any(KEK, keywrap.wrap_padded(KEK, b"nine byte"))[0] == b"nine byte"
+    assert wiped == [bytes(8), bytes(16)]
 
 
 def test_eight_threads():

@@ -9,7 +9,7 @@ import pytest
 from keywrap import pyca as ours
 
 theirs = pytest.importorskip(
-    "cryptography.hazmat.primitives.keywrap", reason="apt-get install python3-cryptography"
+    "cryptography.hazmat.primitives.keywrap", reason="no cryptography (apt-get install python3-cryptography)"
 )
 
 CALLS = [name for name in ours.__all__ if name != "InvalidUnwrap"]

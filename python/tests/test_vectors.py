@@ -1,46 +1,138 @@
-"""NIST's vectors (CAVP, SP 800-38F), with AES as the cipher function, and Botan's of RFC 5649."""
+"""NIST's vectors (CAVP, SP 800-38F), Botan's of RFC 5649, and `python3 -m keywrap.vectors`."""
 
+import json
 import re
+import subprocess
+import sys
 
 import pytest
 
 import keywrap
+from keywrap._vector_files import Verdict, read
 
-vectors = pytest.importorskip("cryptography_vectors", reason="apt-get install python3-cryptography-vectors")
+REASON = "no cryptography_vectors (apt-get install python3-cryptography-vectors)"
+vectors = pytest.importorskip("cryptography_vectors", reason=REASON)
 
-CALLS = {"KW": (keywrap.wrap, keywrap.unwrap), "KWP": (keywrap.wrap_padded, keywrap.unwrap_padded)}
-
-
-def rows(name):
-    """Each block of lines of a file: its words and their bytes. `FAIL` has no bytes."""
-    with vectors.open_vector_file(f"keywrap/{name}", "r") as file:
-        blocks = file.read().split("\n\n")
-    for block in blocks:
-        row = dict(re.findall(r"^(\w+)(?: = ([0-9A-Fa-f]+))?$", block, re.M))
-        if "COUNT" in row:
-            yield {word: bytes.fromhex(digits) for word, digits in row.items() if word != "COUNT"}
+FILES = [f"{form}_{direction}_{bits}" for form in ("KW", "KWP") for direction in ("AE", "AD")
+         for bits in (128, 192, 256)]
 
 
-@pytest.mark.parametrize("bits", [128, 192, 256])
-@pytest.mark.parametrize("form", ["KW", "KWP"])
-def test_nist_both_ways(form, bits):
-    wrap, unwrap = CALLS[form]
-    counts = [0, 0]
-    for row in [*rows(f"kwtestvectors/{form}_AE_{bits}.txt"), *rows(f"kwtestvectors/{form}_AD_{bits}.txt")]:
-        if "FAIL" in row:
-            counts[1] += 1
+def text_of(name):
+    with vectors.open_vector_file(f"keywrap/{name}", "rb") as file:
+        return file.read().decode()
+
+
+@pytest.mark.parametrize("name", FILES)
+def test_nist_both_ways(name):
+    refused = 0
+    cases = read(text_of(f"kwtestvectors/{name}.txt")).cases
+    for case in (turned for case in cases for turned in case.both_ways()):
+        call = getattr(keywrap, case.call.value)
+        if case.verdict is Verdict.INVALID:
+            refused += 1
             with pytest.raises(keywrap.IntegrityFailed):
-                unwrap(row["K"], row["C"])
+                call(case.kek, case.given)
         else:
-            counts[0] += 1
-            assert wrap(row["K"], row["P"]) == row["C"]
-            assert unwrap(row["K"], row["C"]) == row["P"]
-    assert counts[0] + counts[1] == 1000 and counts[1] > 50
+            assert case.verdict is Verdict.VALID
+            assert call(case.kek, case.given) == case.answer
+    assert (len(cases), refused) == (500, 100 if "AD" in name else 0)
 
 
 def test_botan_both_ways():
-    found = list(rows("kwp_botan.txt"))
+    blocks = text_of("kwp_botan.txt").split("\n\n")
+    found = [dict(re.findall(r"^(\w+) = ([0-9A-Fa-f]+)$", block, re.M)) for block in blocks if "COUNT" in block]
     assert len(found) > 20
     for row in found:
-        assert keywrap.wrap_padded(row["Key"], row["Input"]) == row["Output"]
-        assert keywrap.unwrap_padded(row["Key"], row["Output"]) == row["Input"]
+        kek, key, wrapped = (bytes.fromhex(row[name]) for name in ("Key", "Input", "Output"))
+        assert keywrap.wrap_padded(kek, key) == wrapped
+        assert keywrap.unwrap_padded(kek, wrapped) == key
+
+
+class TestCommand:
+    """Requests and responses are NIST's, with and without the answers."""
+
+    @pytest.fixture(autouse=True)
+    def in_directory(self, tmp_path, monkeypatch):
+        monkeypatch.chdir(tmp_path)
+        self.room = tmp_path
+
+    def command(self, **texts):
+        """Runs the command over files of these names and texts. Returns the status and both outputs."""
+        for name, text in texts.items():
+            (self.room / name).write_bytes(text.encode())
+        ended = subprocess.run([sys.executable, "-m", "keywrap.vectors", *texts], capture_output=True)
+        return ended.returncode, ended.stdout.decode(), ended.stderr.decode()
+
+    @pytest.mark.parametrize("name", FILES)
+    def test_response_to_cavp(self, name):
+        text = text_of(f"kwtestvectors/{name}.txt")
+        request = re.sub(r"^(P = \w+|FAIL)\r?\n" if "AD" in name else r"^C = \w+\r?\n", "", text, flags=re.M)
+        assert request.count("COUNT") == 500 and len(request) < len(text)
+        assert self.command(request=request) == (0, text, "")
+        # The last line of a file may have no end.
+        status, out, err = self.command(request=request.rstrip())
+        assert (status, out.rstrip(), err) == (0, text.rstrip(), "")
+
+    def test_wrong_digit(self):
+        right, refusals = text_of("kwtestvectors/KWP_AD_192.txt"), "500 cases: 400 answered, 100 refused, 0 of them"
+        assert self.command(file=right) == (0, f"file: {refusals} acceptable, 0 wrong\n", "")
+        section = right.index("[PLAINTEXT LENGTH = 64]")
+        for value in "K", "C", "P":
+            # The first case of this section that has a key.
+            found = re.compile(rf"COUNT = (\d+)\r\nK = (\w+)\r\nC = (\w+)\r\nP = (\w+)").search(right, section)
+            start = found.start("KCP".index(value) + 2)
+            status, out, err = self.command(file=right[:start] + f"{int(right[start], 16) ^ 1:x}" + right[start + 1:])
+            counts = refusals if value == "P" else refusals.replace("400", "399").replace("100", "101")
+            assert (status, out) == (5, f"file: {counts} acceptable, 1 wrong\n")
+            name = f"[PLAINTEXT LENGTH = 64] COUNT = {found[1]}"
+            assert err == f"keywrap.vectors: file: {name}: wrong answer of unwrap_padded\n"
+
+    def test_acvp(self):
+        kek, key = bytes(range(16)), bytes(range(100, 124))
+        groups = [{"tgId": 1, "direction": "encrypt", "kwCipher": "cipher", "tests": [
+            {"tcId": 1, "key": kek.hex(), "pt": key.hex()}]},
+            {"tgId": 2, "direction": "decrypt", "kwCipher": "cipher", "tests": [
+                {"tcId": 2, "key": kek.hex(), "ct": keywrap.wrap_padded(kek, key[:5]).hex()},
+                {"tcId": 3, "key": kek.hex(), "ct": bytes(16).hex()}]}]
+        request = json.dumps([{"url": "here"}, {"algorithm": "ACVP-AES-KWP", "vsId": 9, "testGroups": groups}])
+        status, out, err = self.command(request=request)
+        assert (status, err) == (0, "")
+        assert json.loads(out) == [{"url": "here"}, {"vsId": 9, "testGroups": [
+            {"tgId": 1, "tests": [{"tcId": 1, "ct": keywrap.wrap_padded(kek, key).hex()}]},
+            {"tgId": 2, "tests": [{"tcId": 2, "pt": key[:5].hex(), "testPassed": True},
+                                  {"tcId": 3, "testPassed": False}]}]}]
+        counts = "request: 3 cases: 2 answered, 1 refused, 0 of them acceptable, {} wrong\n"
+        assert self.command(request=request, response=out) == (0, counts.format(0), "")
+        for tcid, call, wrong in [(2, "unwrap_padded", out.replace(key[:5].hex(), key[1:6].hex())),
+                                  (3, "unwrap_padded", out.replace('"testPassed": false', '"pt": "00"'))]:
+            assert self.command(request=request, response=wrong) == (
+                5, counts.format(1), f"keywrap.vectors: request: tcId {tcid}: wrong answer of {call}\n")
+        assert self.command(response=out)[0] == 2
+        assert self.command(request=request, other=request)[:2] == (2, "")
+
+    def test_wycheproof(self):
+        kek, key = bytes(32), b"five."
+        row = {"key": kek.hex(), "flags": ["SmallKey"], "msg": key.hex(), "ct": keywrap.wrap_padded(kek, key).hex()}
+        tests = [{**row, "tcId": 1, "result": "valid"}, {**row, "tcId": 2, "result": "acceptable"},
+                 {**row, "tcId": 3, "msg": "", "ct": "00" * 16, "result": "acceptable"},
+                 {**row, "tcId": 4, "ct": "00" * 16, "result": "invalid", "flags": []}]
+        text = json.dumps({"algorithm": "KWP", "testGroups": [{"tests": tests}]})
+        assert self.command(file=text) == (
+            0, "file: tcId 3 SmallKey: unwrap_padded refuses it; acceptable\n"
+            "file: tcId 3 SmallKey: wrap_padded refuses it; acceptable\n"
+            "file: 7 cases: 4 answered, 3 refused, 2 of them acceptable, 0 wrong\n", "")
+        assert self.command(file=text.replace('"invalid"', '"valid"'))[0] == 5
+        assert self.command(file=text.replace('"valid"', '"invalid"'))[0] == 5
+
+    @pytest.mark.parametrize("name", ["KW_AE_128_inv", "KWP_AD_256_inv", "TKW_AE", "Readme"])
+    def test_not_offered(self, name):
+        status, out, err = self.command(file=text_of(f"kwtestvectors/{name}.txt"))
+        assert (status, out) == (2, "")
+        assert ("file: not a file of vectors" if name == "Readme" else " function is not offered\n") in err
+
+    def test_usage(self):
+        assert self.command()[:2] == (2, "")
+        ended = subprocess.run([sys.executable, "-m", "keywrap.vectors", "missing"], capture_output=True)
+        assert (ended.returncode, ended.stdout) == (6, b"")
+        ended = subprocess.run([sys.executable, "-m", "keywrap.vectors", "--help"], capture_output=True)
+        assert ended.returncode == 0 and b"Exit status" in ended.stdout

@@ -13,8 +13,8 @@ import sys
 import tempfile
 
 ROOT = pathlib.Path(__file__).resolve().parent.parent.parent
-COMPILE = "cc -std=c99 -O2 -Wall -Wextra -Iinclude -Ibench -o program "
-CALLS = "tests/library/*.c bench/one_table.c hardware/*.c proved.a"
+COMPILE = "cc -std=c99 -O2 -Wall -Wextra -Iinclude -Itests/reference -o program "
+CALLS = "tests/library/*.c tests/reference/one_table.c hardware/*.c proved.a"
 NO_FAULT = r".*\d passed, 0 failed\n"
 # Each program, in this order: its sources and options, how it is run, and what is written if no fault is found.
 PROGRAMS = {
@@ -27,16 +27,17 @@ PROGRAMS = {
     "tests_itself": ("tests/hardware/self_test.c tests/hardware/wrong_aes.c hardware/keywrap.c hardware/aes.c proved.a",
                      "qemu-x86_64 -cpu max ./program", "0 5\n"),
     "calls": (CALLS, "./program few", NO_FAULT),
-    # At most 16 bytes below the stack pointer depend on a secret: they are a block of the wrapped key.
-    "clears": ("tests/secrets/stack.c hardware/*.c proved.a -Wl,-z,now",
-               "./program | awk 'NR > 1 && ($4 > 16 || $5 > 16 || $6 > 16); END { exit NR < 202 }'", ""),
+    # At most 16 bytes below the stack pointer depend on a secret: they are a block of the wrapped key. With -flto the
+    # compiler sees that nothing reads what is cleared.
+    "clears": ("tests/secrets/stack.c hardware/*.c proved.a -flto -Wl,-z,now",
+               "set -o pipefail; ./program | awk 'NR > 1 && ($4 > 16 || $5 > 16 || $6 > 16)'", ""),
     # -Os aligns no variable beyond its type.
     "sanitized": (CALLS + " -Os -g -fsanitize=undefined -fno-sanitize-recover=all", "./program few", NO_FAULT),
 }
 
 
 def plant(edit, folder):
-    """Makes the edit in the copy in the folder. Lines `old:` in a row are one text, which the file has exactly once."""
+    """Makes the edit in a copy. Lines `old:` in a row are one text, which the file has exactly once."""
     text = edit.read_text()
     path = pathlib.Path(folder, re.match("file: (.*)", text)[1])
     code = path.read_text()
@@ -50,7 +51,7 @@ def plant(edit, folder):
 def caught_by(archive, bug):
     """The first program that finds a fault over a copy with the bug, or None."""
     with tempfile.TemporaryDirectory() as folder:
-        for name in "bench", "hardware", "include", "tests":
+        for name in "hardware", "include", "tests":
             shutil.copytree(ROOT / name, f"{folder}/{name}")
         subprocess.run(["objcopy", "--redefine-syms=hardware/names", archive, "proved.a"], cwd=folder, check=True)
         if bug:
@@ -69,7 +70,7 @@ def main(archive):
         found = list(pool.map(lambda bug: caught_by(archive, bug), bugs))
     for bug, program in zip(bugs, found):
         print(f"{bug.stem if bug else 'no bug'}: {program or 'not caught'}")
-    return int(len(bugs) < 39 or found[0] is not None or None in found[1:])
+    return int(len(bugs) == 1 or found[0] is not None or None in found[1:])
 
 
 if __name__ == "__main__":

@@ -1,4 +1,4 @@
-/* no_aes.c: returns in place of the C library that the processor has all of Armv8.0 but AES. */
+/* no_aes.c: replaces getauxval of the C library: this processor has all of Armv8.0 except AES. */
 
 unsigned long getauxval(unsigned long type);
 

@@ -7,7 +7,7 @@ import * as keywrapModule from 'keywrap';
 import { readModule, webcrypto } from './host.mjs';
 import * as openssl from './openssl.mjs';
 import {
-    BadInitialValue, BadKekLength, BadLength, IntegrityFailed, KeywrapError, NoMemory64, isAsMade,
+    BadInitialValue, BadKekLength, BadLength, IntegrityFailed, KeyNotPlain, KeywrapError, isAsMade,
     isEqual, watched,
 } from './watched.mjs';
 
@@ -40,7 +40,7 @@ const RESERVED = bytes('a65959a600000000');
 const damaged = (wrapped) => wrapped.map((byte, at) => at ? byte : byte ^ 1);
 
 const { keywrap, exports } = await watched();
-const { wrap, unwrap, wrapPadded, unwrapPadded, rewrap, check } = keywrap;
+const { wrap, unwrap, wrapPadded, unwrapPadded, unwrapAny, rewrap, check } = keywrap;
 
 // The flags of the memory of a module, from the bytes of its memory section.
 function memoryFlags(module) {
@@ -233,8 +233,7 @@ const PLAIN_LENGTHS = 'it must be a multiple of 8 from 16 to 1048576 bytes';
 const PADDED_LENGTHS = 'it must be from 1 to 1048576 bytes';
 const WRAPPED_PLAIN = 'it must be a multiple of 8 from 24 to 1048584 bytes';
 const WRAPPED_PADDED = 'it must be a multiple of 8 from 16 to 1048584 bytes';
-const NOT_PLAIN = 'the key that is wrapped cannot be plain: '
-    + 'it is not a multiple of 8 from 16 to 1048576 bytes long';
+const NOT_PLAIN = `no plain key has the length of the key; ${PLAIN_LENGTHS}`;
 const FAILED = 'integrity check failed: no wrapped key under this KEK';
 const KEKS = 'it must be 16, 24 or 32 bytes';
 const OLD = { oldPadded: true };
@@ -262,8 +261,8 @@ const REFUSED = [
         rewrap, KEK, KEK, zeros(1048592), OLD],
     [BadLength, `the wrapped key is 8 bytes long; ${WRAPPED_PADDED}`,
         rewrap, KEK, KEK, zeros(8), KEEP],
-    [BadLength, NOT_PLAIN, rewrap, KEK_5649, KEK, PADDED_7, OLD],
-    [BadLength, NOT_PLAIN, rewrap, KEK_5649, KEK, PADDED_20, OLD],
+    [KeyNotPlain, NOT_PLAIN, rewrap, KEK_5649, KEK, PADDED_7, OLD],
+    [BadLength, `the wrapped key is 17 bytes long; ${WRAPPED_PADDED}`, unwrapAny, KEK, zeros(17)],
     [BadInitialValue, 'the initial value is 0 bytes long; it must be 8 bytes',
         wrap, KEK, KEY, { iv: zeros(0) }],
     [BadInitialValue, 'the initial value is 9 bytes long; it must be 8 bytes',
@@ -286,7 +285,7 @@ test('each refusal, its class and its message; and the memory after it', () => {
         assert.throws(() => call(...given), (error) => {
             assert.equal(error.constructor, refusal);
             assert.ok(error instanceof KeywrapError && error instanceof Error);
-            const words = refusal === BadLength ? `bad length: ${message}` : message;
+            const words = error instanceof BadLength ? `bad length: ${message}` : message;
             assert.deepEqual([error.name, error.message], [refusal.name, words]);
             return true;
         });
@@ -305,6 +304,8 @@ const CALLS = [
     [unwrapPadded, [KEK_32, PADDED_32], KEY],
     [rewrap, [KEK, KEK_32, WRAPPED, NEW], PADDED_32],
     [rewrap, [KEK, KEK_32, WRAPPED, KEEP], WRAPPED_32],
+    [rewrap, [KEK, KEK_32, WRAPPED_32, { passNew: true }], WRAPPED_32],
+    [unwrapAny, [KEK_5649, PADDED_7], { form: 'padded', key: KEY_7 }],
     [check, [KEK, WRAPPED], { form: 'plain', length: 16 }],
     [check, [KEK_5649, PADDED_20], { form: 'padded', length: 20 }],
 ];
@@ -359,6 +360,60 @@ test('a module that stops leaves no secret in its memory', async () => {
     assert.ok(isAsMade(other.exports));
 });
 
+test('after 300 calls in which the stack of the host ended, calls work', async () => {
+    const other = await watched();
+    let ended = 0, inside = 0;
+    // From the end of the stack up, calls until one works, which this returns.
+    function fromEnd(...padding) {
+        let works = false;
+        try {
+            works = fromEnd(...padding);
+        } catch {
+            // Here the stack ends.
+        }
+        if (works) {
+            return works;
+        }
+        try {
+            return other.keywrap.wrap(KEK, KEY);
+        } catch {
+            ended++;
+            inside += other.exports.__in_call.value;
+            return false;
+        }
+    }
+    for (let turn = 0; ended < 300; turn++) {
+        assert.deepEqual(fromEnd(...zeros(turn % 13)), WRAPPED);
+    }
+    assert.ok(inside > 0);
+    other.keywrap.selfTest();
+    assert.ok(isAsMade(other.exports));
+});
+
+test('no call uses half of the stack of the module', async () => {
+    const used = {};
+    const { keywrap: other } = await watched(undefined, (made) => {
+        const stack = new Uint8Array(made.memory.buffer, 0, Number(made.__stack_pointer.value));
+        const measured = ([name, call]) => [name, (...given) => {
+            const end = Number(made.__stack_pointer.value);
+            stack.fill(0x5b, 0, end);
+            const status = call(...given);
+            used[name] = end - stack.findIndex((byte) => byte !== 0x5b);
+            assert.equal(end, 8192);
+            return status;
+        }];
+        const calls = Object.entries(made).filter(([name]) => name.startsWith('keywrap_'));
+        return { ...made, ...Object.fromEntries(calls.map(measured)) };
+    });
+    const nameOf = (call) => Object.keys(keywrap).find((name) => keywrap[name] === call);
+    CALLS.forEach(([call, given]) => other[nameOf(call)](...given));
+    other.selfTest();
+    assert.ok(used.keywrap_self_test > 0);
+    for (const [name, bytes] of Object.entries(used)) {
+        assert.ok(bytes < 4096, `${name}: ${bytes}`);
+    }
+});
+
 test('a host without WebAssembly', async () => {
     const { WebAssembly: kept } = globalThis;
     globalThis.WebAssembly = undefined;
@@ -373,21 +428,19 @@ test('a host without WebAssembly', async () => {
 
 test('the exports, and the classes of the errors', () => {
     assert.deepEqual(Object.keys(keywrapModule).sort(), [
-        'BadInitialValue', 'BadKekLength', 'BadLength', 'IntegrityFailed', 'KeywrapError',
-        'NoMemory64', 'load',
+        'BadInitialValue', 'BadKekLength', 'BadLength', 'IntegrityFailed', 'KeyNotPlain',
+        'KeywrapError', 'load',
     ]);
     for (const refusal of [BadInitialValue, BadKekLength, BadLength, IntegrityFailed]) {
         assert.equal(Object.getPrototypeOf(refusal), KeywrapError);
     }
-    for (const error of [KeywrapError, NoMemory64]) {
-        assert.equal(Object.getPrototypeOf(error), Error);
-    }
-    assert.equal(new NoMemory64('words').name, 'NoMemory64');
+    assert.equal(Object.getPrototypeOf(KeyNotPlain), BadLength);
+    assert.equal(Object.getPrototypeOf(KeywrapError), Error);
 });
 
 test('the object that load returns cannot be changed', () => {
-    const names = ['version', 'wrap', 'unwrap', 'wrapPadded', 'unwrapPadded', 'rewrap', 'check',
-        'selfTest'];
+    const names = ['version', 'wrap', 'unwrap', 'wrapPadded', 'unwrapPadded', 'unwrapAny', 'rewrap',
+        'check', 'selfTest'];
     assert.deepEqual(Object.keys(keywrap), names);
     for (const name of [...names, 'other']) {
         assert.throws(() => { keywrap[name] = () => KEY; }, TypeError);

@@ -1,10 +1,10 @@
 // Opens a page in an engine. The page runs the tests and posts what they came to. A server on this
-// machine, only for this run, has the package, the tests, NIST's tables and the answers of OpenSSL.
+// machine, only for this run, has the package, the tests, published cases and the answers of OpenSSL.
 //
 // usage: node engines.mjs ENGINE PROGRAM ROOM PACKAGE BUNDLES TABLES
 //            ENGINE: chromium, firefox or webkit (whose program is MiniBrowser)
-//            ROOM: an empty folder, for what the engine keeps
-//            BUNDLES, TABLES: the folders of the bundles and of NIST's tables; '' if there are none
+//            ROOM: an empty directory for the engine's own files
+//            BUNDLES, TABLES: the directories of the bundles ('' if there are none) and of published cases
 //        With the name of another module after these, the page runs that one.
 
 import { spawn } from 'node:child_process';
@@ -23,7 +23,7 @@ const COMMANDS = {
 const TESTS = new URL('.', import.meta.url).pathname;
 const FOLDERS = { keywrap: packed, tests: TESTS, page: `${TESTS}page`, bundles, tables };
 const NAMES = other ? [other] : [
-    'page_self', 'calls', 'objects', 'example', ...bundles ? ['bundles'] : [], ...tables ? ['vectors'] : [],
+    'page_self', 'calls', 'rewraps', 'objects', 'example', ...bundles ? ['bundles'] : [], 'vectors',
 ];
 const TYPES = {
     '.mjs': 'text/javascript', '.js': 'text/javascript', '.wasm': 'application/wasm',

@@ -12,13 +12,13 @@ const { resolve: resolved } = createRequire(import.meta.url);
 
 export const readModule = () => readFile(resolved('keywrap/keywrap.wasm'));
 
-// A file of NIST's tables, in the folder that the command line names.
-export const readTable = (name) => readFile(`${process.argv[2]}/${name}`, 'utf8');
+// A file of published cases, in the directory that the command line names. Without one it is empty.
+export const readTable = (name) => readFile(`${process.argv[2]}/${name}`, 'utf8').catch(() => '');
 
 // The same bytes, as a Uint8Array of another realm.
 export const inOtherRealm = (given) => runInNewContext('Uint8Array.from(given)', { given });
 
-// The bundles in the folder that the command line names, each as a call that wraps.
+// The bundles in the directory that the command line names, each as a call that wraps.
 export async function readBundles() {
     const from = (name) => import(pathToFileURL(resolve(process.argv[2], name)));
     await from('inside.js');

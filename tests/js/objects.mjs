@@ -1,4 +1,4 @@
-// What objects can say of themselves changes no answer, and what is no Uint8Array is a TypeError.
+// Objects with false properties change no result. Anything but a Uint8Array is a TypeError.
 
 import assert from 'node:assert/strict';
 import { test } from 'node:test';
@@ -11,7 +11,7 @@ const KEY = bytes('00112233445566778899aabbccddeeff');
 const WRAPPED = bytes('1fa68b0a8112b447aef34bd8fb5a7b829d3e862371d2cfe5');
 const IV = new Uint8Array(8).fill(0xa6);
 const { keywrap, exports } = await watched();
-const { wrap, unwrap, wrapPadded, unwrapPadded, rewrap, check } = keywrap;
+const { wrap, unwrap, wrapPadded, unwrapPadded, unwrapAny, rewrap, check } = keywrap;
 const PADDED = wrapPadded(KEK, KEY);
 
 // Each call as one of only bytes, with its result.
@@ -22,6 +22,7 @@ const CALLS = [
     [(kek, wrapped, iv) => unwrap(kek, wrapped, { iv }), [KEK, WRAPPED, IV], KEY],
     [wrapPadded, [KEK, KEY], PADDED],
     [unwrapPadded, [KEK, PADDED], KEY],
+    [unwrapAny, [KEK, WRAPPED], { form: 'plain', key: KEY }],
     [rewrap, [KEK, KEK, WRAPPED], WRAPPED],
     [check, [KEK, WRAPPED], { form: 'plain', length: 16 }],
 ];
@@ -117,9 +118,11 @@ test('options that are none, or of another call, are a TypeError', () => {
         [unwrap, [KEK, WRAPPED], [IV, new Uint8Array(0), null, 'iv', { IV }, { padded: true }]],
         [wrapPadded, [KEK, KEY], [IV, null, { iv: IV }]],
         [unwrapPadded, [KEK, PADDED], [IV, null, { iv: IV }]],
+        [unwrapAny, [KEK, PADDED], [IV, null, { iv: IV }]],
         [check, [KEK, WRAPPED], [IV, null, { iv: IV }]],
         [rewrap, [KEK, KEK, WRAPPED], [true, null, { iv: IV }, { padded: true }, { newPadded: 1 },
-            { newPadded: 'false' }, { oldPadded: null }, { oldPadded: 0 }, { keepForm: 1 }]],
+            { newPadded: 'false' }, { oldPadded: null }, { oldPadded: 0 }, { keepForm: 1 },
+            { passNew: 1 }]],
     ];
     for (const [call, given, options] of others) {
         call(...given, {});

@@ -101,6 +101,18 @@ test('an answer goes once the form is changed', async () => {
     await browser.press('plain');
 });
 
+test('the steps of an older result are not shown, and the browser keeps no field', async () => {
+    await done(KEK, KEY, 'wrap');
+    const outcome = await browser.evaluate(`new Promise((later) => {
+        document.getElementById('wrap').click();
+        document.body.dispatchEvent(new Event('input'));
+        setTimeout(() => later(document.getElementById('steps').hidden), 500);
+    })`);
+    assert.equal(outcome, true);
+    const kept = "[...document.querySelectorAll('textarea')].map((field) => field.autocomplete)";
+    assert.deepEqual(await browser.evaluate(kept), ['off', 'off']);
+});
+
 test('where there is no WebAssembly the page says so', async () => {
     const source = 'delete globalThis.WebAssembly';
     const { identifier } = await browser.send('Page.addScriptToEvaluateOnNewDocument', { source });
@@ -123,4 +135,19 @@ test('nothing was sent, and nothing went wrong in the page', () => {
     const names = ['example.html', 'keywrap.js', 'keywrap.wasm', 'favicon.ico'];
     assert.deepEqual(asked.filter((it) => !names.map((name) => `GET ${name}`).includes(it)), []);
     assert.deepEqual(browser.errors, []);
+});
+
+test('the page connects to no other server', async () => {
+    let requests = 0;
+    const other = createServer((request, response) => {
+        requests++;
+        response.writeHead(200, { 'access-control-allow-origin': '*' }).end();
+    });
+    await new Promise((listening) => other.listen(0, '127.0.0.1', listening));
+    const elsewhere = `http://127.0.0.1:${other.address().port}/`;
+    await browser.open(url, '!document.getElementById("check").disabled');
+    const sent = await browser.evaluate(
+        `fetch('${elsewhere}').then(() => 'sent', () => 'refused')`);
+    assert.deepEqual([sent, requests], ['refused', 0]);
+    other.close();
 });

@@ -1,7 +1,7 @@
 // Loads the package so that the exports of each instance of its module can be seen, and replaced.
 
 export {
-    BadInitialValue, BadKekLength, BadLength, IntegrityFailed, KeywrapError, NoMemory64,
+    BadInitialValue, BadKekLength, BadLength, IntegrityFailed, KeyNotPlain, KeywrapError,
 } from 'keywrap';
 import { load } from 'keywrap';
 

@@ -36,9 +36,21 @@ skip() {
     echo "SKIPPED: $1: $2"
 }
 
-# has TOOL PACKAGE PART: whether the tool is installed. If not, the part is skipped.
-has() {
-    command -v "$1" >/dev/null || { skip "$3" "no $1 (apt-get install $2)" && false; }
+# needs PART TOOL..: whether these tools of tests/packages.txt are here. If not, the part is skipped.
+needs() {
+    local missing
+    missing=$(lacks "${@:2}") || { verdict "$1" "$missing"; return 1; }
+    [ -z "$missing" ] || { skip "$1" "$missing" && false; }
+}
+
+# needs_python PART MODULE..: the same for modules of Python. Sets $python to a Python that has them, which need not be
+# the first on the PATH.
+needs_python() {
+    local modules=("${@:2}")
+    for python in "${PYTHON:-python3}" /usr/bin/python3; do
+        [ -n "$(lacks "${modules[@]/#/import }")" ] || return 0
+    done
+    needs "$1" "${modules[@]/#/import }"
 }
 
 # finish: prints the counts, and is the status of the script.

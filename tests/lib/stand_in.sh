@@ -12,7 +12,7 @@ cp -R "$root"/{.ci,keywrap,Makefile,man,completions,include,scripts,python,docs,
 cp "$root"/{SECURITY,CHANGELOG}.md .
 cp "$root/tests/library/build.sh" tests/library
 sed -i "1s|.*|#!${SH:-/bin/sh}|" keywrap
-# crates LINE..: crates.txt, and a folder for each crate that has none yet.
+# crates LINE..: writes crates.txt, and makes a directory for each crate that has none yet.
 crates() {
     local crate
     printf '%s\n' "$@" >crates.txt
@@ -80,7 +80,7 @@ echo "$processors"
 END_OF_NPROC
 
 fresh() { rm -rf crates/*/out && : >notes; }
-# append FILE: makes it another.
+# append FILE: changes it.
 append() { echo other >>"$1"; }
 # noted NAME NOTE..: these are the notes, in this order.
 noted() { verdict "$1: what is built" "$(diff notes <([ $# = 1 ] || printf '%s\n' "${@:2}"))"; }

@@ -1,6 +1,7 @@
 #!/usr/bin/env bash
 # Builds the C library by both of the toolchain's compilers, as the archives rattle.a and llvm.a of a directory. If
 # asked and possible, it also builds the library for aarch64 as its directory arm64, and the package for browsers as js.
+# An archive that exists is not built again. A second process waits for the first one.
 #
 # usage: tests/library/build.sh FOLDER [arm64] [js]
 
@@ -10,13 +11,16 @@ of_arm() {
     make -s -C ../.. library TARGET=aarch64-unknown-linux-gnu LIBRARY="$1" || rm -rf "$1"
 }
 
-# of_js FOLDER: the folder is whole once it is there.
+# of_js DIRECTORY: makes it complete or not at all.
 of_js() { make -s -C ../.. js JS="$1.new" && mv "$1.new" "$1"; }
 
-# The last build is LLVM's, so that it is what stays in the crate's folder.
+exec 9>"$1/lock" && flock 9 || exit
 jobs=$(nproc) && [ "$jobs" -le 4 ] || jobs=4
-cd "$(dirname "${BASH_SOURCE[0]}")/../../crates/keywrap_c" &&
+cd "$(dirname "${BASH_SOURCE[0]}")/../../crates/keywrap_c" || exit
+# The last build is LLVM's, so that it is what stays in the crate's folder. `make library` for aarch64 puts it back.
+if [ ! -e "$1/llvm.a" ]; then
     rt lib --jobs "$jobs" --backend rattle && cp out/libkeywrap_c.a "$1/rattle.a" &&
-    { [[ " $* " != *' arm64 '* ]] || of_arm "$1/arm64"; } &&
-    { [[ " $* " != *' js '* ]] || of_js "$1/js" || rm -rf "$1/js.new"; } &&
-    rt lib --jobs "$jobs" && cp out/libkeywrap_c.a "$1/llvm.a"
+        rt lib --jobs "$jobs" && cp out/libkeywrap_c.a "$1/llvm.a" || exit
+fi
+[[ " $* " != *' arm64 '* ]] || [ -d "$1/arm64" ] || of_arm "$1/arm64"
+[[ " $* " != *' js '* ]] || [ -d "$1/js" ] || of_js "$1/js" || rm -rf "$1/js.new"

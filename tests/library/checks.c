@@ -1,5 +1,5 @@
 /* checks.c: the expected results follow from the rules of the lengths, and from another AES
- * (bench/one_table.c) over the loop of RFC 3394. Every buffer that a call writes is between bytes
+ * (tests/reference/one_table.c) over the loop of RFC 3394. Every buffer that a call writes is between bytes
  * that it must not write, at a different alignment each time. */
 
 #include "checks.h"
@@ -156,7 +156,7 @@ static int32_t unwrap(enum form form, enum place place, const uint8_t *kek, size
                : keywrap_unwrap_padded(kek, kek_len, text, text_len, out, room, key_len);
 }
 
-/* What a buffer holds after an unwrap that answered this status: `head` zeros, the key, zeros. */
+/* The content of a buffer after an unwrap with this status: `head` zeros, the key, zeros. */
 static int holds(const struct buffer *b, int32_t status, size_t head, const uint8_t *key,
                  size_t key_len) {
     const uint8_t *found = b->bytes + head;
@@ -253,42 +253,77 @@ void kinds(enum form form, const uint8_t *kek, size_t kek_len, const uint8_t *te
           "kind", form, TWO_BUFFERS, kek_len, text_len, room);
 }
 
-/* Whether a rewrap refuses its flags or its text's length, before it looks at the text. */
-static int32_t first_status(uint32_t flags, size_t old_kek_len, size_t new_kek_len,
-                            size_t text_len) {
-    size_t least = flags & (KEYWRAP_OLD_PADDED | KEYWRAP_KEEP_FORM) ? 16 : 24;
-    if (!legal_kek(old_kek_len) || !legal_kek(new_kek_len)) return KEYWRAP_BAD_KEK;
-    return flags <= KEYWRAP_KEEP_FORM && text_len % 8 == 0 && text_len >= least
-                   && text_len <= KEYWRAP_MAX_TEXT
-               ? KEYWRAP_OK
-               : KEYWRAP_BAD_LENGTH;
+void unwraps_any(enum form form, const uint8_t *kek, size_t kek_len, const uint8_t *text,
+                 size_t text_len, size_t room, const uint8_t *key, size_t key_len) {
+    uint8_t *k = frame(&kek_buffer, kek_len), *out = frame(&buffer, room);
+    int32_t status, due = unwrap_status(PADDED, kek_len, text_len, room, key);
+    uint32_t padded = UINT32_MAX;
+    size_t answered = SIZE_MAX;
+    memcpy(k, kek, kek_len);
+    keep(&kek_buffer);
+    keep(&buffer);
+    status = keywrap_unwrap_any(k, kek_len, text, text_len, out, room, &padded, &answered);
+    count(status == due && sides_stand(&buffer) && is_kept(&kek_buffer)
+              && padded == (due == KEYWRAP_OK && form == PADDED)
+              && answered == (due == KEYWRAP_OK ? key_len : 0)
+              && holds(&buffer, due, 0, key, key_len),
+          "unwrap in either form", form, TWO_BUFFERS, kek_len, text_len, room);
 }
 
-void rewraps(uint32_t flags, const struct kek *old_kek, const struct kek *new_kek,
-             const uint8_t *text, size_t text_len, enum form form, const uint8_t *key,
-             size_t key_len) {
+/* Whether a call takes these flags. */
+static int legal_flags(int in_place, uint32_t flags) {
+    return in_place ? flags < 4 : flags < 16 && flags % 8 <= 4;
+}
+
+static int legal_text(uint32_t flags, size_t len) {
+    size_t least = flags & (KEYWRAP_OLD_PADDED | KEYWRAP_KEEP_FORM) ? 16 : 24;
+    return len % 8 == 0 && len >= least && len <= KEYWRAP_MAX_TEXT;
+}
+
+/* The call of version 1.0 (in_place) or the other one. */
+static void rewraps_by(int in_place, uint32_t flags, const struct wrapped *w, const struct kek *old,
+                       const struct kek *new) {
     static uint8_t wanted[LONGEST];
-    enum form new_form = flags == KEYWRAP_KEEP_FORM ? form
-                         : flags & KEYWRAP_NEW_PADDED ? PADDED
-                                                      : PLAIN;
-    uint8_t *out = frame(&buffer, text_len), *k = frame(&kek_buffer, old_kek->len);
-    uint8_t *new_k = frame(&new_kek_buffer, new_kek->len);
-    int32_t first = first_status(flags, old_kek->len, new_kek->len, text_len), due = first, status;
-    memcpy(out, text, text_len);
-    memcpy(k, old_kek->bytes, old_kek->len);
-    memcpy(new_k, new_kek->bytes, new_kek->len);
+    int keeps = (flags & KEYWRAP_KEEP_FORM) != 0;
+    enum form old_form = flags & KEYWRAP_OLD_PADDED ? PADDED : PLAIN;
+    enum form new_form = flags & KEYWRAP_NEW_PADDED ? PADDED : PLAIN;
+    int is_old = w->under & UNDER_OLD && (keeps || w->form == old_form);
+    int is_new = w->under & UNDER_NEW && (keeps || w->form == new_form);
+    int legal = legal_flags(in_place, flags);
+    uint8_t *out = frame(&buffer, w->len), *k = frame(&kek_buffer, old->len);
+    uint8_t *new_k = frame(&new_kek_buffer, new->len);
+    int32_t status, due = !legal_kek(old->len) || !legal_kek(new->len) ? KEYWRAP_BAD_KEK
+                          : !legal                                    ? KEYWRAP_BAD_LENGTH
+                                                                      : KEYWRAP_OK;
+    uint32_t due_already = 0, already = in_place ? 0 : UINT32_MAX;
+    if (keeps) new_form = w->form;
+    memcpy(out, w->text, w->len);
+    memcpy(k, old->bytes, old->len);
+    memcpy(new_k, new->bytes, new->len);
     keep(&buffer);
     keep(&kek_buffer);
     keep(&new_kek_buffer);
-    if (first == KEYWRAP_OK) {
-        memset(wanted, 0, text_len);
-        due = key == NULL                      ? KEYWRAP_INTEGRITY
-              : !legal_key(new_form, key_len) ? KEYWRAP_BAD_LENGTH
-                                              : KEYWRAP_OK;
-        if (due == KEYWRAP_OK) wrap_key(new_form, new_k, new_kek->len, key, key_len, wanted);
+    memcpy(wanted, w->text, w->len);
+    if (due == KEYWRAP_OK && is_old && legal_key(new_form, w->key_len)) {
+        wrap_key(new_form, new->bytes, new->len, w->key, w->key_len, wanted);
+    } else if (due == KEYWRAP_OK && !is_old && is_new && flags & KEYWRAP_PASS_NEW) {
+        due_already = 1;
+    } else if (due == KEYWRAP_OK && !legal_text(flags, w->len)) {
+        due = KEYWRAP_BAD_LENGTH;
+    } else if (due == KEYWRAP_OK) {
+        due = !is_old ? KEYWRAP_INTEGRITY : in_place ? KEYWRAP_BAD_LENGTH : KEYWRAP_KEY_NOT_PLAIN;
+        if (in_place) memset(wanted, 0, w->len);
     }
-    status = keywrap_rewrap_in_place(k, old_kek->len, new_k, new_kek->len, out, text_len, flags);
-    count(status == due && sides_stand(&buffer) && is_kept(&kek_buffer) && is_kept(&new_kek_buffer)
-              && (first == KEYWRAP_OK ? !memcmp(out, wanted, text_len) : is_kept(&buffer)),
-          "rewrap", form, IN_PLACE, old_kek->len, text_len, key_len);
+    status = in_place ? keywrap_rewrap_in_place(k, old->len, new_k, new->len, out, w->len, flags)
+                      : keywrap_rewrap(k, old->len, new_k, new->len, out, w->len, flags, &already);
+    count(status == due && already == due_already && sides_stand(&buffer) && is_kept(&kek_buffer)
+              && is_kept(&new_kek_buffer) && !memcmp(out, wanted, w->len),
+          in_place ? "rewrap in place" : "rewrap", w->form, IN_PLACE, old->len, w->len,
+          w->key_len);
+}
+
+void rewraps(uint32_t flags, const struct wrapped *wrapped, const struct kek *old,
+             const struct kek *new) {
+    rewraps_by(0, flags, wrapped, old, new);
+    rewraps_by(1, flags, wrapped, old, new);
 }

@@ -1,4 +1,4 @@
-/* checks.h: one call of the C library, in either form and place, compared with what is due. */
+/* checks.h: compares one call of the C library, in either form and place, with its rules. */
 
 #ifndef CHECKS_H
 #define CHECKS_H
@@ -17,16 +17,28 @@ enum { LONGEST = KEYWRAP_MAX_TEXT + 64 };
 #define DEFAULT_VALUE 0xA6A6A6A6A6A6A6A6u
 #define AIV_PREFIX 0xA65959A600000000u
 
-/* An initial value that a caller gives: so many bytes. */
+/* An initial value of a caller, and its length. */
 struct value {
     uint8_t bytes[16];
     size_t len;
 };
 
-/* A KEK: so many bytes. */
+/* A KEK, and its length. */
 struct kek {
     const uint8_t *bytes;
     size_t len;
+};
+
+/* A text to rewrap: the key, its form, and under which of the KEKs it was wrapped. */
+enum { UNDER_NONE, UNDER_OLD, UNDER_NEW, UNDER_BOTH };
+
+struct wrapped {
+    const uint8_t *text;
+    size_t len;
+    unsigned under;
+    enum form form;
+    const uint8_t *key;
+    size_t key_len;
 };
 
 extern unsigned passed, failed;
@@ -35,7 +47,7 @@ extern unsigned passed, failed;
 void count(int right, const char *what, enum form form, enum place place, size_t kek_len,
            size_t in_len, size_t out_len);
 
-/* What a wrap of these lengths answers. */
+/* The status of a wrap of these lengths. */
 int32_t wrap_status(enum form form, size_t kek_len, size_t key_len, size_t text_len);
 
 /* The next multiple of 8. */
@@ -54,13 +66,13 @@ void wrap_key(enum form form, const uint8_t *kek, size_t kek_len, const uint8_t 
 void wraps(enum form form, enum place place, const uint8_t *kek, size_t kek_len, const uint8_t *key,
            size_t key_len, size_t text_len);
 
-/* An unwrap does what is expected. If the lengths are right, it writes `key` and zeros behind it,
+/* An unwrap does what is expected. If the lengths are right, it writes `key` and zeros after it,
  * or, if `key` is NULL, it fails the check and writes only zeros. Else it refuses and writes
  * nothing. In place the length of the text gives the room. */
 void unwraps(enum form form, enum place place, const uint8_t *kek, size_t kek_len,
              const uint8_t *text, size_t text_len, size_t room, const uint8_t *key, size_t key_len);
 
-/* The same of the plain calls of two buffers under the initial value. */
+/* The same for the plain calls with two buffers and an initial value. */
 void wraps_with(const struct value *iv, const uint8_t *kek, size_t kek_len, const uint8_t *key,
                 size_t key_len, size_t text_len);
 void unwraps_with(const struct value *iv, const uint8_t *kek, size_t kek_len, const uint8_t *text,
@@ -71,12 +83,16 @@ void unwraps_with(const struct value *iv, const uint8_t *kek, size_t kek_len, co
 void kinds(enum form form, const uint8_t *kek, size_t kek_len, const uint8_t *text, size_t text_len,
            size_t room, const uint8_t *key, size_t key_len);
 
-/* A rewrap in place does what is expected, under these flags. From the wrapping of `key` in `form`
- * under the old KEK it makes the wrapping under the new KEK or, if `key` is NULL, it fails the
- * check and writes only zeros. It also writes zeros if the new form takes no key of this length. Else it
- * refuses and writes nothing. */
-void rewraps(uint32_t flags, const struct kek *old_kek, const struct kek *new_kek,
-             const uint8_t *text, size_t text_len, enum form form, const uint8_t *key,
-             size_t key_len);
+/* The unwrap in either form does what is expected: as `unwraps` of two buffers, and it names the
+ * form. */
+void unwraps_any(enum form form, const uint8_t *kek, size_t kek_len, const uint8_t *text,
+                 size_t text_len, size_t room, const uint8_t *key, size_t key_len);
+
+/* A rewrap does what is expected, under these flags, and so does the call of version 1.0. From the
+ * wrapping of a key under the old KEK it makes the wrapping under the new KEK. With KEYWRAP_PASS_NEW
+ * what is under the new KEK already is left. A refusal leaves the text as it was, in version 1.0
+ * zeros if it looked at the text. */
+void rewraps(uint32_t flags, const struct wrapped *wrapped, const struct kek *old,
+             const struct kek *new);
 
 #endif

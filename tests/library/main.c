@@ -59,6 +59,7 @@ static const char *const UNDER_A_VALUE[] = {
 #define TEXT_41 "1fa68b0a8112b447aef34bd8fb5a7b829d3e862371d2cfe5"
 #define TEXT_43 "64e8c3f9ce0f5ba263e9777905818a2a93c8191e7d6e8ae7"
 #define TEXT_OF_20 "138bdeaa9b8fa7fc61f97742e72248ee5ae6ae5360d1ae6a5f54f373fa543b6a"
+#define TEXT_OF_7 "afbeb0f07dfbf5419200f2ccb50bb24f"
 #define ZEROS_16 "00000000000000000000000000000000"
 #define ZEROS_24 ZEROS_16 "0000000000000000"
 
@@ -67,14 +68,15 @@ static const char *const UNDER_A_VALUE[] = {
 #define PADDED_41 "2cef0c9e30de26016c230cb78bc60d51b1fe083ba0c79cd5"
 #define PADDED_43 "afc860015ffe2d75bedf43c444fe58f4ad9d89c4ec71e23b"
 
-/* The old KEK, the new one, the flags, the text, the status, and what the buffer holds then. */
+/* The call of version 1.0: the old KEK, the new KEK, the flags, the text, the status, and the
+ * buffer after the call. */
 static const struct {
     const char *old_kek, *new_kek;
     uint32_t flags;
     const char *text;
     int32_t status;
     const char *left;
-} REWRAPPED[] = {
+} IN_PLACE_ROWS[] = {
     {KEK16, KEK32, 0, TEXT_41, KEYWRAP_OK, TEXT_43},
     {KEK32, KEK16, 0, TEXT_43, KEYWRAP_OK, TEXT_41},
     {KEK16, KEK16, 0, TEXT_41, KEYWRAP_OK, TEXT_41},
@@ -83,7 +85,7 @@ static const struct {
     {KEK16, KEK32, KEYWRAP_OLD_PADDED | KEYWRAP_NEW_PADDED, PADDED_41, KEYWRAP_OK, PADDED_43},
     {KEK_5649, KEK_5649, 3, TEXT_OF_20, KEYWRAP_OK, TEXT_OF_20},
     {KEK_5649, KEK16, 1, TEXT_OF_20, KEYWRAP_BAD_LENGTH, ZEROS_16 ZEROS_16},
-    {KEK_5649, KEK16, 1, "afbeb0f07dfbf5419200f2ccb50bb24f", KEYWRAP_BAD_LENGTH, ZEROS_16},
+    {KEK_5649, KEK16, 1, TEXT_OF_7, KEYWRAP_BAD_LENGTH, ZEROS_16},
     {KEK16, KEK32, 0, "1fa68b0b8112b447aef34bd8fb5a7b829d3e862371d2cfe5", KEYWRAP_INTEGRITY,
      ZEROS_24},
     {KEK32, KEK16, 0, TEXT_41, KEYWRAP_INTEGRITY, ZEROS_24},
@@ -93,12 +95,7 @@ static const struct {
      "1fa68b0a8112b447aef34bd8fb5a7b829d3e862371d2cf"},
     {KEK16, KEK32, 0, "1fa68b0a8112b447aef34bd8fb5a7b82", KEYWRAP_BAD_LENGTH,
      "1fa68b0a8112b447aef34bd8fb5a7b82"},
-    {KEK16, KEK32, KEYWRAP_KEEP_FORM, TEXT_41, KEYWRAP_OK, TEXT_43},
-    {KEK16, KEK32, KEYWRAP_KEEP_FORM, PADDED_41, KEYWRAP_OK, PADDED_43},
-    {KEK_5649, KEK_5649, 4, TEXT_OF_20, KEYWRAP_OK, TEXT_OF_20},
-    {KEK32, KEK16, 4, PADDED_41, KEYWRAP_INTEGRITY, ZEROS_24},
-    {KEK16, KEK32, 4, "1fa68b0a8112b447aef34bd8fb5a7b82", KEYWRAP_INTEGRITY, ZEROS_16},
-    {KEK16, KEK32, 4, "1fa68b0a8112b447", KEYWRAP_BAD_LENGTH, "1fa68b0a8112b447"},
+    {KEK16, KEK32, KEYWRAP_KEEP_FORM, TEXT_41, KEYWRAP_BAD_LENGTH, TEXT_41},
     {KEK16, KEK32, 4 | KEYWRAP_OLD_PADDED, PADDED_41, KEYWRAP_BAD_LENGTH, PADDED_41},
     {KEK16, KEK32, 4 | KEYWRAP_NEW_PADDED, TEXT_41, KEYWRAP_BAD_LENGTH, TEXT_41},
     {KEK16, KEK32, 8, TEXT_41, KEYWRAP_BAD_LENGTH, TEXT_41},
@@ -107,6 +104,50 @@ static const struct {
     {"000102030405060708090a0b0c0d0e", KEK32, 0, TEXT_41, KEYWRAP_BAD_KEK, TEXT_41},
     {KEK16, "000102030405060708090a0b0c0d0e", 4, TEXT_41, KEYWRAP_BAD_KEK, TEXT_41},
     {"", "", 4, "", KEYWRAP_BAD_KEK, ""},
+};
+
+/* The other call: the old KEK, the new one, the flags, the text, the status, *already, and the answer
+ * if it is not the text. */
+static const struct {
+    const char *old_kek, *new_kek;
+    uint32_t flags;
+    const char *text;
+    int32_t status;
+    uint32_t already;
+    const char *answer;
+} ROWS[] = {
+    {KEK16, KEK32, 0, TEXT_41, KEYWRAP_OK, 0, TEXT_43},
+    {KEK16, KEK16, 0, TEXT_41, KEYWRAP_OK, 0, TEXT_41},
+    {KEK16, KEK32, KEYWRAP_NEW_PADDED, TEXT_41, KEYWRAP_OK, 0, PADDED_43},
+    {KEK32, KEK16, KEYWRAP_OLD_PADDED, PADDED_43, KEYWRAP_OK, 0, TEXT_41},
+    {KEK16, KEK32, KEYWRAP_OLD_PADDED | KEYWRAP_NEW_PADDED, PADDED_41, KEYWRAP_OK, 0, PADDED_43},
+    {KEK16, KEK32, KEYWRAP_KEEP_FORM, TEXT_41, KEYWRAP_OK, 0, TEXT_43},
+    {KEK16, KEK32, KEYWRAP_KEEP_FORM, PADDED_41, KEYWRAP_OK, 0, PADDED_43},
+    {KEK16, KEK32, 4 | KEYWRAP_PASS_NEW, PADDED_41, KEYWRAP_OK, 0, PADDED_43},
+    {KEK16, KEK16, 4 | KEYWRAP_PASS_NEW, PADDED_41, KEYWRAP_OK, 0, PADDED_41},
+    {KEK32, KEK16, 4 | KEYWRAP_PASS_NEW, PADDED_41, KEYWRAP_OK, 1, NULL},
+    {KEK32, KEK16, 4 | KEYWRAP_PASS_NEW, TEXT_41, KEYWRAP_OK, 1, NULL},
+    {KEK32, KEK16, KEYWRAP_PASS_NEW, TEXT_41, KEYWRAP_OK, 1, NULL},
+    {KEK32, KEK16, 0, TEXT_41, KEYWRAP_INTEGRITY, 0, NULL},
+    {KEK32, KEK16, KEYWRAP_PASS_NEW, PADDED_41, KEYWRAP_INTEGRITY, 0, NULL},
+    {KEK32, KEK16, KEYWRAP_PASS_NEW | KEYWRAP_NEW_PADDED, TEXT_41, KEYWRAP_INTEGRITY, 0, NULL},
+    {KEK32, KEK_5649, KEYWRAP_PASS_NEW | KEYWRAP_NEW_PADDED, TEXT_OF_7, KEYWRAP_OK, 1, NULL},
+    {KEK32, KEK_5649, KEYWRAP_NEW_PADDED, TEXT_OF_7, KEYWRAP_BAD_LENGTH, 0, NULL},
+    {KEK32, KEK16, KEYWRAP_PASS_NEW | KEYWRAP_NEW_PADDED, TEXT_OF_7, KEYWRAP_BAD_LENGTH, 0, NULL},
+    {KEK_5649, KEK16, 1, TEXT_OF_20, KEYWRAP_KEY_NOT_PLAIN, 0, NULL},
+    {KEK_5649, KEK16, 1, TEXT_OF_7, KEYWRAP_KEY_NOT_PLAIN, 0, NULL},
+    {KEK_5649, KEK_5649, 1 | KEYWRAP_PASS_NEW, TEXT_OF_7, KEYWRAP_KEY_NOT_PLAIN, 0, NULL},
+    {KEK16, KEK_5649, 1 | KEYWRAP_PASS_NEW, TEXT_OF_7, KEYWRAP_INTEGRITY, 0, NULL},
+    {KEK16, KEK32, 12, "1fa68b0b8112b447aef34bd8fb5a7b829d3e862371d2cfe5", KEYWRAP_INTEGRITY, 0,
+     NULL},
+    {KEK16, KEK32, 4, "1fa68b0a8112b447aef34bd8fb5a7b82", KEYWRAP_INTEGRITY, 0, NULL},
+    {KEK16, KEK32, 4, "1fa68b0a8112b447", KEYWRAP_BAD_LENGTH, 0, NULL},
+    {KEK16, KEK32, 4 | KEYWRAP_OLD_PADDED, PADDED_41, KEYWRAP_BAD_LENGTH, 0, NULL},
+    {KEK16, KEK32, 12 | KEYWRAP_NEW_PADDED, TEXT_41, KEYWRAP_BAD_LENGTH, 0, NULL},
+    {KEK16, KEK32, 16, TEXT_41, KEYWRAP_BAD_LENGTH, 0, NULL},
+    {KEK16, KEK32, 0x80000000u, TEXT_41, KEYWRAP_BAD_LENGTH, 0, NULL},
+    {"000102030405060708090a0b0c0d0e", KEK32, 16, TEXT_41, KEYWRAP_BAD_KEK, 0, NULL},
+    {KEK32, "000102030405060708090a0b0c0d0e", 12, TEXT_41, KEYWRAP_BAD_KEK, 0, NULL},
 };
 
 static size_t from_hex(const char *digits, uint8_t *bytes) {
@@ -128,12 +169,19 @@ static void scatter(uint8_t *bytes, size_t len) {
     }
 }
 
+/* The results of the calls in either form. */
+static void either_form(enum form form, const uint8_t *k, size_t kek_len, size_t text_len,
+                        size_t room, const uint8_t *found, size_t found_len) {
+    kinds(form, k, kek_len, text, text_len, room, found, found_len);
+    unwraps_any(form, k, kek_len, text, text_len, room, found, found_len);
+}
+
 static void refuses(enum form form, const uint8_t *k, size_t kek_len, size_t text_len) {
     for (enum place place = TWO_BUFFERS; place <= IN_PLACE; place++)
         unwraps(form, place, k, kek_len, text, text_len, text_len - 8, NULL, 0);
 }
 
-/* The texts of `wraps` are the other AES's: so these are compared with the vectors too. */
+/* The texts of `wraps` come from the other AES, so they are compared with the vectors, too. */
 static void vectors(void) {
     uint8_t vector_kek[32], vector_key[32], other[40];
     for (size_t i = 0; i < sizeof VECTORS / sizeof *VECTORS; i++) {
@@ -159,7 +207,7 @@ static void macros(enum form form, size_t key_len, size_t text_len) {
           form, TWO_BUFFERS, 0, key_len, text_len);
 }
 
-/* What they say of texts that are too short, and of the longest. */
+/* Their values for texts that are too short, and for the longest. */
 static void macros_at_ends(void) {
     for (size_t len = 0; len < 8; len++)
         count(KEYWRAP_ROOM(len) == 0, "the room of a short text", PLAIN, TWO_BUFFERS, 0, len, 0);
@@ -193,7 +241,7 @@ static void version(void) {
           "the version", PLAIN, TWO_BUFFERS, 0, found, KEYWRAP_VERSION);
 }
 
-/* A key of this length and a text of that one, in each call. */
+/* Each call with a key and a text of these lengths. */
 static void lengths(enum form form, size_t kek_len, size_t key_len, size_t text_len) {
     int done = wrap_status(form, kek_len, key_len, text_len) == KEYWRAP_OK;
     if (done) {
@@ -201,7 +249,8 @@ static void lengths(enum form form, size_t kek_len, size_t key_len, size_t text_
         wrap_key(form, kek, kek_len, key, key_len, text);
     }
     kinds(form, kek, kek_len, scattered, text_len, key_len, NULL, 0);
-    if (done) kinds(form, kek, kek_len, text, text_len, text_len - 8, key, key_len);
+    unwraps_any(form, kek, kek_len, scattered, text_len, key_len, NULL, 0);
+    if (done) either_form(form, kek, kek_len, text_len, text_len - 8, key, key_len);
     for (enum place place = TWO_BUFFERS; place <= IN_PLACE; place++) {
         wraps(form, place, kek, kek_len, key, key_len, text_len);
         unwraps(form, place, kek, kek_len, scattered, text_len, key_len, NULL, 0);
@@ -251,7 +300,7 @@ static void tampered(enum form form, size_t kek_len, size_t key_len) {
         uint8_t bit = i % 2 ? 0x80 : 0x01;
         text[i / 2] ^= bit;
         refuses(form, kek, kek_len, text_len);
-        kinds(form, kek, kek_len, text, text_len, text_len - 8, NULL, 0);
+        either_form(form, kek, kek_len, text_len, text_len - 8, NULL, 0);
         text[i / 2] ^= bit;
     }
     refuses(form, kek + 1, kek_len, text_len);
@@ -284,13 +333,13 @@ static void initial_values(void) {
     }
 }
 
-/* The unwrap under a value refuses a text from this other one. */
+/* An unwrap with an initial value refuses a text that was wrapped with another. */
 static void refuses_from(uint64_t other, const struct value *iv, size_t kek_len, size_t key_len) {
     wrap_words(kek, kek_len, other, key, key_len, text);
     unwraps_with(iv, kek, kek_len, text, key_len + 8, key_len, NULL);
 }
 
-/* The calls under a value, of these lengths. */
+/* The calls with an initial value, for keys and texts of these lengths. */
 static void lengths_with(const struct value *iv, size_t kek_len, size_t key_len, size_t text_len) {
     uint64_t word = iv->len == 8 ? load_word(iv->bytes) : 0;
     wraps_with(iv, kek, kek_len, key, key_len, text_len);
@@ -316,7 +365,7 @@ static void agreed_values(void) {
     }
 }
 
-/* OpenSSL's text, which the calls without a value refuse; and the longest. */
+/* OpenSSL's text, which the calls without an initial value refuse, and the longest. */
 static void under_a_value(void) {
     uint8_t vector_kek[24], vector_key[16], vector_text[24];
     struct value iv;
@@ -343,6 +392,7 @@ static void paddings(void) {
             words[at] = 1;
             wrap_words(kek, 16, AIV_PREFIX | (len - 7), words, len, text);
             refuses(PADDED, kek, 16, len + 8);
+            either_form(PADDED, kek, 16, len + 8, len, NULL, 0);
         }
 }
 
@@ -354,99 +404,126 @@ static void long_paddings(void) {
             memcpy(words, key, key_len);
             wrap_words(kek, 16, AIV_PREFIX | key_len, words, len, text);
             refuses(PADDED, kek, 16, len + 8);
+            either_form(PADDED, kek, 16, len + 8, len, NULL, 0);
         }
 }
 
 /* The rows, whose texts are the standards' and OpenSSL's. */
-static void rewrapped_vectors(void) {
+static void rewrapped_in_place(void) {
     uint8_t old_kek[32], new_kek[32], buffer[32], left[32];
-    for (size_t i = 0; i < sizeof REWRAPPED / sizeof *REWRAPPED; i++) {
-        size_t old_len = from_hex(REWRAPPED[i].old_kek, old_kek);
-        size_t new_len = from_hex(REWRAPPED[i].new_kek, new_kek);
-        size_t len = from_hex(REWRAPPED[i].text, buffer);
+    for (size_t i = 0; i < sizeof IN_PLACE_ROWS / sizeof *IN_PLACE_ROWS; i++) {
+        size_t old_len = from_hex(IN_PLACE_ROWS[i].old_kek, old_kek);
+        size_t new_len = from_hex(IN_PLACE_ROWS[i].new_kek, new_kek);
+        size_t len = from_hex(IN_PLACE_ROWS[i].text, buffer);
         int32_t status;
-        from_hex(REWRAPPED[i].left, left);
+        from_hex(IN_PLACE_ROWS[i].left, left);
         status = keywrap_rewrap_in_place(old_kek, old_len, new_kek, new_len, buffer, len,
-                                         REWRAPPED[i].flags);
-        count(status == REWRAPPED[i].status && !memcmp(buffer, left, len), "rewrap of a vector",
-              REWRAPPED[i].flags & KEYWRAP_OLD_PADDED ? PADDED : PLAIN, IN_PLACE, old_len, len, i);
+                                         IN_PLACE_ROWS[i].flags);
+        count(status == IN_PLACE_ROWS[i].status && !memcmp(buffer, left, len),
+              "rewrap of a vector in place", PLAIN, IN_PLACE, old_len, len, i);
     }
 }
 
-/* What a rewrap with these flags is given. */
-static enum form given_form(uint32_t flags) {
-    return flags & KEYWRAP_OLD_PADDED ? PADDED : PLAIN;
+static void rewrapped(void) {
+    uint8_t old_kek[32], new_kek[32], buffer[32], left[32];
+    for (size_t i = 0; i < sizeof ROWS / sizeof *ROWS; i++) {
+        size_t old_len = from_hex(ROWS[i].old_kek, old_kek);
+        size_t new_len = from_hex(ROWS[i].new_kek, new_kek);
+        size_t len = from_hex(ROWS[i].text, buffer);
+        uint32_t already = UINT32_MAX;
+        int32_t status;
+        from_hex(ROWS[i].answer ? ROWS[i].answer : ROWS[i].text, left);
+        status = keywrap_rewrap(old_kek, old_len, new_kek, new_len, buffer, len, ROWS[i].flags,
+                                &already);
+        count(status == ROWS[i].status && already == ROWS[i].already && !memcmp(buffer, left, len),
+              "rewrap of a vector", PLAIN, IN_PLACE, old_len, len, i);
+    }
 }
 
-/* The wrapped key of a key of this length in this form, if it has one. */
-static void rewraps_key_in(enum form form, uint32_t flags, size_t old_len, size_t new_len,
-                           size_t key_len) {
-    struct kek old_kek = {kek, old_len}, new_kek = {kek + 20, new_len};
-    size_t text_len = padded_len(key_len) + 8;
-    if (wrap_status(form, old_len, key_len, text_len) != KEYWRAP_OK) return;
-    wrap_key(form, kek, old_len, key, key_len, text);
-    rewraps(flags, &old_kek, &new_kek, text, text_len, form, key, key_len);
+/* Two KEKs of these lengths. */
+static struct kek kek_of(size_t len) {
+    return (struct kek){kek, len};
 }
 
-/* The same in this form, or in both. */
-static void rewraps_key(uint32_t flags, size_t old_len, size_t new_len, size_t key_len) {
-    rewraps_key_in(given_form(flags), flags, old_len, new_len, key_len);
-    if (flags == KEYWRAP_KEEP_FORM) rewraps_key_in(PADDED, flags, old_len, new_len, key_len);
+static struct kek new_kek_of(size_t len) {
+    return (struct kek){kek + 20, len};
 }
 
-/* This many bytes that are no text. */
+/* The wrapping of a key of this length in this form under the old KEK, under the new one, and under
+ * both, if they are equal; if there is one. */
+static void rewraps_key(enum form form, uint32_t flags, size_t old_len, size_t new_len,
+                        size_t key_len) {
+    struct kek old = kek_of(old_len), new = new_kek_of(new_len);
+    struct wrapped w = {text, padded_len(key_len) + 8, UNDER_OLD, form, key, key_len};
+    if (wrap_status(form, old_len, key_len, w.len) != KEYWRAP_OK) return;
+    wrap_key(form, old.bytes, old_len, key, key_len, text);
+    rewraps(flags, &w, &old, &new);
+    w.under = UNDER_BOTH;
+    rewraps(flags, &w, &old, &old);
+    if (wrap_status(form, new_len, key_len, w.len) != KEYWRAP_OK) return;
+    wrap_key(form, new.bytes, new_len, key, key_len, text);
+    w.under = UNDER_NEW;
+    rewraps(flags, &w, &old, &new);
+}
+
+static void rewraps_key_in_both(uint32_t flags, size_t old_len, size_t new_len, size_t key_len) {
+    rewraps_key(PLAIN, flags, old_len, new_len, key_len);
+    rewraps_key(PADDED, flags, old_len, new_len, key_len);
+}
+
+/* This many bytes that are not a wrapped key. */
 static void rewraps_scattered(uint32_t flags, size_t old_len, size_t new_len, size_t len) {
-    struct kek old_kek = {kek, old_len}, new_kek = {kek + 20, new_len};
-    rewraps(flags, &old_kek, &new_kek, scattered, len, given_form(flags), NULL, 0);
+    struct kek old = kek_of(old_len), new = new_kek_of(new_len);
+    struct wrapped w = {scattered, len, UNDER_NONE, PLAIN, NULL, 0};
+    rewraps(flags, &w, &old, &new);
 }
 
-/* Every pair of forms and flags of other bits: keys and texts of short lengths, the longest, and
- * longer ones; and KEKs of every length. */
+/* All flags, and other bits: keys and texts of short lengths, the longest, and longer ones; and KEKs
+ * of every length. */
 static void rewraps_of_lengths(void) {
-    static const uint32_t flags[] = {0, 1, 2, 3, 4, 5, 6, 7, 8, 0x80000000u};
+    static const uint32_t flags[] = {0, 1,  2,  3,  4,  5,  6,  7,  8,           9,
+                                     10, 11, 12, 13, 14, 15, 16, 20, 0x80000000u, 0x80000004u};
     for (size_t i = 0; i < sizeof flags / sizeof *flags; i++) {
         for (size_t len = 0; len <= 88; len++)
             for (size_t kek_len = 16; kek_len <= 32; kek_len += 8) {
-                rewraps_key(flags[i], kek_len, 48 - kek_len, len);
+                rewraps_key_in_both(flags[i], kek_len, 48 - kek_len, len);
                 rewraps_scattered(flags[i], kek_len, 48 - kek_len, len);
             }
         for (size_t old_len = 0; old_len <= 40; old_len++)
             for (size_t new_len = 0; new_len <= 40; new_len++) {
-                rewraps_key(flags[i], old_len, new_len, 16);
+                rewraps_key_in_both(flags[i], old_len, new_len, 16);
                 rewraps_scattered(flags[i], old_len, new_len, 24);
             }
-        if (!few) rewraps_key(flags[i], 16, 32, KEYWRAP_MAX_KEY);
+        if (!few && flags[i] % 8 <= 4) rewraps_key(PADDED, flags[i], 16, 32, KEYWRAP_MAX_KEY);
         rewraps_scattered(flags[i], 16, 32, KEYWRAP_MAX_TEXT + 8);
     }
 }
 
-/* Texts with one bit changed, and the right text under another KEK or as one of the other form. */
+/* Texts with one bit changed, and the right text under other KEKs. */
 static void rewraps_tampered(enum form form, uint32_t flags, size_t key_len) {
-    struct kek old_kek = {kek, 16}, new_kek = {kek + 20, 32}, other = {kek + 1, 16};
-    size_t text_len = padded_len(key_len) + 8;
-    wrap_key(form, kek, 16, key, key_len, text);
-    for (size_t i = 0; i < 8 * text_len; i++) {
+    struct kek old = kek_of(16), new = new_kek_of(32), other = {kek + 1, 16};
+    struct wrapped w = {text, padded_len(key_len) + 8, UNDER_NONE, form, key, key_len};
+    wrap_key(form, old.bytes, 16, key, key_len, text);
+    for (size_t i = 0; i < 8 * w.len; i++) {
         uint8_t bit = (uint8_t)(1u << i % 8);
         text[i / 8] ^= bit;
-        rewraps(flags, &old_kek, &new_kek, text, text_len, form, NULL, 0);
+        rewraps(flags, &w, &old, &new);
         text[i / 8] ^= bit;
     }
-    rewraps(flags, &other, &new_kek, text, text_len, form, NULL, 0);
-    rewraps(flags, &new_kek, &old_kek, text, text_len, form, NULL, 0);
-    rewraps(flags ^ KEYWRAP_OLD_PADDED, &old_kek, &new_kek, text, text_len, form, NULL, 0);
+    rewraps(flags, &w, &other, &new);
 }
 
 static void rewraps_of_tampered_texts(void) {
-    for (uint32_t flags = 0; flags <= KEYWRAP_KEEP_FORM; flags++)
-        for (size_t key_len = 16; key_len <= 48; key_len += 8)
-            rewraps_tampered(given_form(flags), flags, key_len);
-    rewraps_tampered(PADDED, KEYWRAP_OLD_PADDED, 20);
-    rewraps_tampered(PADDED, KEYWRAP_OLD_PADDED | KEYWRAP_NEW_PADDED, 7);
-    rewraps_tampered(PADDED, KEYWRAP_KEEP_FORM, 20);
-    rewraps_tampered(PADDED, KEYWRAP_KEEP_FORM, 7);
+    static const uint32_t all[] = {0, 1, 2, 3, 4, 8, 9, 10, 11, 12};
+    for (size_t i = 0; i < sizeof all / sizeof *all; i++)
+        for (size_t key_len = 16; key_len <= 48; key_len += 16) {
+            rewraps_tampered(PLAIN, all[i], key_len);
+            rewraps_tampered(PADDED, all[i], key_len);
+            rewraps_tampered(PADDED, all[i], key_len - 11);
+        }
 }
 
-/* The text of a status: whole, cut to each capacity, and with the bytes behind it as they were. */
+/* The text of a status: whole, cut to each capacity, with the bytes after it unchanged. */
 static void status_text(int32_t status, const char *text) {
     const size_t len = strlen(text);
     for (size_t capacity = 0; capacity <= 90; capacity++) {
@@ -466,14 +543,16 @@ static void status_text(int32_t status, const char *text) {
 
 /* Each status has its text, and each other number the text of an unknown one. */
 static void status_texts(void) {
-    static const int32_t unknown[] = {INT32_MIN, -1, 1, 6, 70, INT32_MAX};
+    static const int32_t unknown[] = {INT32_MIN, -1, 1, 6, 9, 70, INT32_MAX};
     status_text(KEYWRAP_OK, "done");
     status_text(KEYWRAP_BAD_IV, "initial value is not 8 bytes, or is reserved for the padded form");
     status_text(KEYWRAP_BAD_KEK, "key length is not 16, 24 or 32 bytes");
     status_text(KEYWRAP_BAD_LENGTH, "bad length");
     status_text(KEYWRAP_INTEGRITY, "integrity check failed");
     status_text(7, "out of memory");
-    for (size_t i = 0; i < 6; i++) status_text(unknown[i], "unknown status");
+    status_text(KEYWRAP_KEY_NOT_PLAIN, "no plain key has the length of the key");
+    for (size_t i = 0; i < sizeof unknown / sizeof *unknown; i++)
+        status_text(unknown[i], "unknown status");
 }
 
 int main(int argc, char **argv) {
@@ -499,7 +578,8 @@ int main(int argc, char **argv) {
     agreed_values();
     paddings();
     long_paddings();
-    rewrapped_vectors();
+    rewrapped_in_place();
+    rewrapped();
     rewraps_of_lengths();
     rewraps_of_tampered_texts();
     printf("%u passed, %u failed\n", passed, failed);

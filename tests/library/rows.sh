@@ -26,29 +26,6 @@ writes() {
 # in_library TARGET VARIABLE=VALUE..: makes the target over the archive $archive, in the directory $library.
 in_library() { make -s -C "$root" "$@" LIBRARY="$library" ARCHIVE="$archive"; }
 
-# has_header HEADER PACKAGES PART: whether the compiler finds the header. If not, the part is skipped.
-has_header() {
-    printf '#include <%s>\n' stddef.h stdint.h "$1" | "$cc" -fsyntax-only -x c - 2>/dev/null ||
-        { skip "$3" "no $1 (apt-get install $2)" && false; }
-}
-
-# has_python MODULES [PART]: sets $python to a Python that has the modules. Debian's need not be the first on the PATH.
-# If there is none, the part is skipped.
-has_python() {
-    for python in "${PYTHON:-python3}" /usr/bin/python3; do
-        "$python" -c "import $1" 2>/dev/null && return
-    done
-    local packages=python3-${1//,/ python3-}
-    [ $# = 1 ] || skip "$2" "no Python with its modules (apt-get install ${packages//_/-})"
-    return 1
-}
-
-# sanitizes COMPILER: whether its sanitizers run here. If not, they are skipped.
-sanitizes() {
-    echo 'int main(void) { return 0; }' | "$1" "${sanitize[@]}" -x c - -o empty 2>/dev/null && ./empty ||
-        { skip "$1's sanitizers" '(apt-get install libasan8 libubsan1 libclang-rt-dev)' && false; }
-}
-
 # of_glibc_2_17 FILE: it needs no symbol of glibc that is newer than 2.17.
 of_glibc_2_17() {
     "${tools}objdump" -T "$1" | grep -oE 'GLIBC_[0-9.]+' | sort -Vu >needed
@@ -57,6 +34,8 @@ of_glibc_2_17() {
 
 ### Names and needs of the C library in $library
 
+# The calls that return a status.
+exports=$(sed -n 's/^int32_t \(keywrap_[a-z_]*\)(.*/\1/p' "$root/include/keywrap.h" | sort)
 names=$(sed -nE 's/^(u?int32_t|size_t) (keywrap_[a-z_]*)\(.*/\2/p' "$root"/include/keywrap{,_steps}.h | sort)
 
 # shows NM_OPTION.. FILE: the file shows the headers' names, and no others.
@@ -69,7 +48,7 @@ shows_only() { [ "$("${tools}nm" -D --defined-only "$2" | awk '{ print $3 }')" =
 versioned() {
     shows -D --without-symbol-versions "$1" &&
         diff <("${tools}nm" -D --defined-only "$1" | awk '$2 != "A" { print $3 }' | sort) \
-            <(sed -E 's/$/@@KEYWRAP_1/; /^keywrap_(status_text|self_test|(begin|step|end)_.*)@/s/$/.1/' <<<"$names" | sort)
+            <(sed -E 's/$/@@KEYWRAP_1/; /^keywrap_(status_text|self_test|rewrap|unwrap_any|(begin|step|end)_.*)@/s/$/.1/' <<<"$names" | sort)
 }
 
 # wants FILE: the archive wants nothing but these of the C library.
@@ -85,11 +64,12 @@ hardened() {
 
 # shown NAME: the rows.
 shown() {
-    row "$1: an archive that wants nothing else" wants "$library/libkeywrap.a"
+    row "$1: the archive needs nothing else" wants "$library/libkeywrap.a"
     row "$1: the names of the archive" shows -g "$library/libkeywrap.a"
     row "$1: the names of the shared object" versioned "$library/libkeywrap.so.1"
     row "$1: a hardened shared object" hardened "$library/libkeywrap.so.1"
     row "$1: its name" grep -q 'SONAME.*\[libkeywrap\.so\.1\]' "$room/elf"
     [ -n "$tools" ] ||
-        row "$1: its self test sees a changed byte" python3 "$root/tests/library/patched.py" "$library/libkeywrap.so.1"
+        row "$1: its self test sees a changed byte" \
+            python3 "$root/tests/library/patched.py" "$library/libkeywrap.so.1" $([ "$1" = rattle ] || echo decryption)
 }

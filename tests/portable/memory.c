@@ -8,13 +8,13 @@
 
 #include "watched.h"
 
-enum { MAX = KEYWRAP_MAX_KEY, BYTE = 0x5A, LONG = 2 * KEYWRAP_STACK_KEY + 128 };
+enum { MAX = KEYWRAP_MAX_KEY, BYTE = 0x5A, LONG = 2 * KEYWRAP_STACK_KEY + 128, CALLS = 14 };
 
 static uint8_t kek[32], iv[8] = {1}, key[MAX], wrapped[MAX + 8], out[MAX + 8];
 static size_t key_len;
 static uint32_t padded;
 
-/* Makes the call of this number with a key of so many bytes, and returns its status. */
+/* Makes the call of this number with a key of this length, and returns its status. */
 static int32_t call(int number, size_t len) {
     size_t text = len + 8;
     switch (number) {
@@ -26,10 +26,12 @@ static int32_t call(int number, size_t len) {
     case 5: return keywrap_unwrap(kek, 32, wrapped, text, out, len);
     case 6: return keywrap_unwrap_with(kek, 32, iv, 8, wrapped, text, out, len);
     case 7: return keywrap_unwrap_in_place(kek, 32, out, text);
-    case 8: return keywrap_rewrap_in_place(kek, 32, kek, 16, out, text, KEYWRAP_KEEP_FORM);
+    case 8: return keywrap_rewrap_in_place(kek, 32, kek, 16, out, text, 0);
     case 9: return keywrap_unwrap_padded(kek, 32, wrapped, text, out, len, &key_len);
     case 10: return keywrap_unwrap_padded_in_place(kek, 32, out, text, &key_len);
-    default: return keywrap_kind(kek, 32, wrapped, text, out, len, &padded, &key_len);
+    case 11: return keywrap_kind(kek, 32, wrapped, text, out, len, &padded, &key_len);
+    case 12: return keywrap_unwrap_any(kek, 32, wrapped, text, out, len, &padded, &key_len);
+    default: return keywrap_rewrap(kek, 32, kek, 16, out, text, KEYWRAP_KEEP_FORM, &padded);
     }
 }
 
@@ -43,7 +45,7 @@ static void check(int right, const char *what, int number) {
 static int is_kept(int number) {
     for (size_t i = 0; i < sizeof out; i++)
         if (out[i] != BYTE) return 0;
-    return key_len == (number < 9 ? 1u : 0u) && padded == (number < 11 ? 1u : 0u);
+    return key_len == (number < 9 || number == 13 ? 1u : 0u) && padded == (number < 11 ? 1u : 0u);
 }
 
 /* A length that is legal in its low 32 bits is refused as any other. */
@@ -61,7 +63,7 @@ static void refuses_huge_lengths(void) {
 
 int main(void) {
     refuses_huge_lengths();
-    for (int number = 0; number < 12; number++) {
+    for (int number = 0; number < CALLS; number++) {
         memset(out, BYTE, sizeof out);
         key_len = padded = 1;
         watched_limit = 0;
@@ -74,12 +76,12 @@ int main(void) {
         check(call(number, KEYWRAP_STACK_KEY) == (number < 5 ? KEYWRAP_OK : KEYWRAP_INTEGRITY),
               "the status on the stack", number);
         watched_limit = (size_t)-1;
-        check(call(number, MAX + 8) == (number < 11 ? KEYWRAP_BAD_LENGTH : KEYWRAP_INTEGRITY),
+        check(call(number, MAX + 8) == (number != 11 ? KEYWRAP_BAD_LENGTH : KEYWRAP_INTEGRITY),
               "the status of a key that is too long", number);
     }
     check(call(0, MAX) == KEYWRAP_OK, "the longest key", 0);
     check(call(11, MAX) == KEYWRAP_INTEGRITY, "the longest wrapped key", 11);
-    check(watched_frees == 26 - 12, "the number of blocks", 0);
+    check(watched_frees == CALLS + 2, "the number of blocks", 0);
     printf("%zu\n", watched_most);
     return 0;
 }

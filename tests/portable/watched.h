@@ -2,7 +2,7 @@
 
 #include <stddef.h>
 
-/* No block is made beyond so many bytes. */
+/* No block is made that is longer than this. */
 extern size_t watched_limit;
 /* The largest block, and how many were freed. */
 extern size_t watched_most;

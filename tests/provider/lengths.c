@@ -7,7 +7,7 @@
 
 enum { LONGEST = 200 };
 
-/* Two buffers; in place; the output a little before and behind the input; none. */
+/* Two buffers; in place; the output a little before and after the input; no output. */
 static const struct place PLACES[] = {{64, 600, 0},
                                       {INSIDE, INSIDE, 0},
                                       {INSIDE, INSIDE + 8, 0},

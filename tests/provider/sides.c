@@ -90,8 +90,8 @@ void begin(struct side *side, int which, const uint8_t *kek, const uint8_t *iv, 
     record_number(side, first_reason());
 }
 
-/* OpenSSL's own has one reason for a plain key of 8 bytes and for what was not wrapped so; ours
- * says which it is: the length. */
+/* OpenSSL's own has one reason for a plain key of 8 bytes and for a failed check. Ours reports the
+ * bad length. */
 static int reason_of(const struct side *side, int len) {
     int reason = first_reason(), wraps = EVP_CIPHER_CTX_is_encrypting(side->ctx);
     int padded = EVP_CIPHER_CTX_get_iv_length(side->ctx) == 4;
@@ -99,8 +99,8 @@ static int reason_of(const struct side *side, int len) {
     return reason == 102 && !padded && len == (wraps ? 8 : 16) ? 230 : reason;
 }
 
-/* OpenSSL's own clears, after a refused padded unwrap, the 8 bytes behind the key's room too: they
- * are put back here, so that the rest is compared, and that ours leaves them. */
+/* After a refused padded unwrap OpenSSL's own also clears the 8 bytes after the key's room. They are
+ * put back here, so that the rest is compared, and that ours leaves them. */
 static void put_back(struct side *side, uint8_t *out, const uint8_t *before, int len, int status) {
     if (side == sides && status != 1 && EVP_CIPHER_CTX_get_iv_length(side->ctx) == 4
         && !EVP_CIPHER_CTX_is_encrypting(side->ctx) && len >= 16 && len % 8 == 0)
@@ -119,7 +119,7 @@ int run_update(struct side *side, struct place place, const uint8_t *input, int 
         status = EVP_Cipher(side->ctx, out, in, (unsigned)len);
     else
         status = EVP_CipherUpdate(side->ctx, out, &out_len, in, len);
-    /* EVP_Cipher passes on what OpenSSL's own answers: 1 at a refusal, too. */
+    /* EVP_Cipher returns what OpenSSL's own returns: 1 after a refusal, too. */
     if (once && side == sides && ERR_peek_error() != 0) status = 0;
     if (out != NULL) put_back(side, out, before + place.out, len, status);
     if (got != NULL && out != NULL && status == 1 && out_len > 0) memcpy(got, out, (size_t)out_len);

@@ -1,6 +1,6 @@
 /* sides.h: the ciphers of two providers, each call of which is made in both: the default one of
- * OpenSSL, and ours. Every call writes what it answered into the side's record; compare() holds the
- * two records against each other. */
+ * OpenSSL, and ours. Every call writes its result into the record of its side, and compare()
+ * compares the two records. */
 
 #ifndef SIDES_H
 #define SIDES_H
@@ -32,11 +32,11 @@ extern unsigned passed, failed;
 /* Counts a check, and prints the first that fail. */
 void check(int right, const char *format, ...);
 
-/* Loads the default provider, and ours from the folder, into one library context. */
+/* Loads the default provider, and ours from the directory, into one library context. */
 int load_sides(const char *folder);
 void unload_sides(void);
 
-/* Whether cipher number `which` is of the padded form, and the length of its KEK. */
+/* Whether cipher number `which` has the padded form, and the length of its KEK. */
 int is_padded(int which);
 int kek_len(int which);
 
@@ -51,12 +51,11 @@ struct place {
     int in, out, out_null;
 };
 
-/* Begins, as EVP_CipherInit_ex; `which` is the cipher, or -1 for that which is there. */
+/* Begins, as EVP_CipherInit_ex; `which` is the cipher, or -1 to keep it. */
 void begin(struct side *side, int which, const uint8_t *kek, const uint8_t *iv, int wraps);
 
-/* Updates over an arena filled with `fill`, and records the answer and the whole arena. Where
- * `once` is set it is EVP_Cipher. Answers the length, or -1 at a refusal; the answer goes to `got`.
- */
+/* Updates over an arena filled with `fill`, and records the result and the whole arena. With `once`
+ * it calls EVP_Cipher. Returns the length, or -1 after a refusal. The output goes to `got`. */
 int run_update(struct side *side, struct place place, const uint8_t *input, int len, int once,
                uint8_t *got);
 

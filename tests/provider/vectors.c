@@ -1,5 +1,5 @@
-/* vectors.c: NIST's cases from standard input, in both sides, by each sequence of calls. A line is
- * the cipher's number, the KEK, the key or `-`, and the wrapped key; with `-` there is none. */
+/* vectors.c: the lines of tests/published.py from standard input, in both sides, by each sequence of
+ * calls. */
 
 #include <stdio.h>
 #include <string.h>
@@ -16,8 +16,8 @@ static int bytes_of(const char *hex, uint8_t *bytes) {
     return len;
 }
 
-/* The ways to the answer: at once; the length asked for first; in place; in a copied context; in a
- * context that went the other way before. */
+/* The ways to the result: at once; after a request for the length; in place; in a copied context;
+ * in a context that was used in the other direction before. */
 enum way { AT_ONCE, ASKED, IN_PLACE, COPIED, TURNED, WAYS };
 
 static int answer(struct side *side, enum way way, const uint8_t *input, int len, uint8_t *out) {
@@ -29,7 +29,7 @@ static int answer(struct side *side, enum way way, const uint8_t *input, int len
     return out_len;
 }
 
-/* Whether the side returns this, in this way; or refuses, if the length due is -1. */
+/* Returns whether the side returns this in this way, or refuses if the expected length is -1. */
 static int answers(struct side *side, int which, enum way way, int wraps, const uint8_t *kek,
                    const uint8_t *input, int len, const uint8_t *due, int due_len) {
     uint8_t out[2 * LONGEST];
@@ -48,22 +48,19 @@ static int answers(struct side *side, int which, enum way way, int wraps, const 
 }
 
 void try_vectors(void) {
-    static char line[LINE], kek_hex[LINE], key_hex[LINE], text_hex[LINE];
-    static uint8_t kek[LONGEST], key[LONGEST], text[LONGEST];
-    int which, cases = 0;
+    static char line[LINE], name[LINE], kek_hex[LINE], given_hex[LINE], due_hex[LINE];
+    static uint8_t kek[LONGEST], given[LONGEST], due[LONGEST];
+    int cases = 0;
     while (fgets(line, sizeof line, stdin) != NULL) {
-        if (sscanf(line, "%d %s %s %s", &which, kek_hex, key_hex, text_hex) != 4) break;
-        int given = bytes_of(kek_hex, kek) == kek_len(which), text_len = bytes_of(text_hex, text);
-        int key_len = key_hex[0] == '-' ? -1 : bytes_of(key_hex, key);
+        if (sscanf(line, "%s %s %s %s", name, kek_hex, given_hex, due_hex) != 4) break;
+        int wraps = strncmp(name, "un", 2) != 0, given_len = bytes_of(given_hex, given);
+        int which = (bytes_of(kek_hex, kek) - 16) / 8 + (strstr(name, "_padded") ? 3 : 0);
+        int due_len = due_hex[0] == '-' ? -1 : bytes_of(due_hex, due);
         cases++;
         for (struct side *side = sides; side < sides + 2; side++)
-            for (enum way way = 0; way < WAYS; way++) {
-                check(given && answers(side, which, way, 0, kek, text, text_len, key, key_len),
-                      "%s: unwrap, case %d, way %d", side->name, cases, way);
-                check(
-                    key_len < 0 || answers(side, which, way, 1, kek, key, key_len, text, text_len),
-                    "%s: wrap, case %d, way %d", side->name, cases, way);
-            }
+            for (enum way way = 0; way < WAYS; way++)
+                check(answers(side, which, way, wraps, kek, given, given_len, due, due_len),
+                      "%s: %s, case %d, way %d", side->name, name, cases, way);
     }
     printf("%d cases\n", cases);
 }

@@ -13,7 +13,7 @@
 
 enum { LONGEST = 1024, ROOM = LONGEST + 8, LONGEST_DAMAGED = 40 };
 
-/* One call on the bytes below, at a KEK and a key of so many bytes: what it answers. */
+/* One call on the bytes below, with a KEK and a key of these lengths. Returns its status. */
 typedef int32_t call(size_t kek_len, size_t len);
 
 #ifdef __aarch64__
@@ -43,7 +43,7 @@ static const uint8_t IV[8] = {0x01, 0x23, 0x45, 0x67, 0x89, 0xab, 0xcd, 0xef};
 
 static uint8_t kek[32], new_kek[32], key[ROOM], text[ROOM], out[ROOM];
 static size_t out_len;
-static uint32_t forms, padded;
+static uint32_t forms, padded, already;
 
 static size_t padded_len(size_t len) {
     return KEYWRAP_PADDED_TEXT_LEN(len);
@@ -103,10 +103,30 @@ static int32_t kind_padded(size_t kek_len, size_t len) {
     return keywrap_kind(kek, kek_len, text, room + 8, out, room, &padded, &out_len);
 }
 
+static int32_t unwrap_any(size_t kek_len, size_t len) {
+    size_t room = padded_len(len) - 8;
+    return keywrap_unwrap_any(kek, kek_len, text, room + 8, out, room, &padded, &out_len);
+}
+
 static int32_t rewrap_in_place(size_t kek_len, size_t len) {
     size_t text_len = padded_len(len);
     memcpy(out, text, text_len);
     return keywrap_rewrap_in_place(kek, kek_len, new_kek, kek_len, out, text_len, forms);
+}
+
+static int32_t rewrap(size_t kek_len, size_t len) {
+    size_t text_len = padded_len(len);
+    memcpy(out, text, text_len);
+    return keywrap_rewrap(kek, kek_len, new_kek, kek_len, out, text_len, forms, &already);
+}
+
+/* A wrapped key that is already under the new KEK. */
+static int32_t wrap_new(size_t kek_len, size_t len) {
+    return keywrap_wrap(new_kek, kek_len, key, len, out, len + 8);
+}
+
+static int32_t wrap_new_padded(size_t kek_len, size_t len) {
+    return keywrap_wrap_padded(new_kek, kek_len, key, len, out, padded_len(len));
 }
 
 /* An AES that looks its tables up by secrets, to see that memcheck reports it. */
@@ -117,37 +137,49 @@ static int32_t tables(size_t kek_len, size_t len) {
     return KEYWRAP_OK;
 }
 
-/* The calls: which one makes the text that is taken, and of which lengths the keys are. */
+/* The calls: which one makes the text that it takes, the lengths of its keys, the flags, and the
+ * status if the text is not damaged. */
 static const struct watched {
     const char *name;
     call *run, *prepare;
     size_t shortest, step, most;
     uint32_t forms;
+    int32_t status;
 } CALLS[] = {
-    {"keywrap_wrap", wrap, NULL, 16, 8, LONGEST, 0},
-    {"keywrap_wrap_with", wrap_with, NULL, 16, 8, LONGEST, 0},
-    {"keywrap_wrap_in_place", wrap_in_place, NULL, 16, 8, LONGEST, 0},
-    {"keywrap_wrap_padded", wrap_padded, NULL, 1, 1, LONGEST, 0},
-    {"keywrap_wrap_padded_in_place", wrap_padded_in_place, NULL, 1, 1, LONGEST, 0},
-    {"keywrap_unwrap", unwrap, wrap, 16, 8, LONGEST, 0},
-    {"keywrap_unwrap_with", unwrap_with, wrap_with, 16, 8, LONGEST, 0},
-    {"keywrap_unwrap_in_place", unwrap_in_place, wrap, 16, 8, LONGEST, 0},
-    {"keywrap_unwrap_padded", unwrap_padded, wrap_padded, 1, 1, LONGEST, 0},
-    {"keywrap_unwrap_padded_in_place", unwrap_padded_in_place, wrap_padded, 1, 1, LONGEST, 0},
-    {"keywrap_kind", kind, wrap, 16, 8, LONGEST, 0},
-    {"keywrap_kind, padded", kind_padded, wrap_padded, 1, 1, LONGEST, 0},
-    {"keywrap_rewrap_in_place", rewrap_in_place, wrap, 16, 8, LONGEST, 0},
+    {"keywrap_wrap", wrap, NULL, 16, 8, LONGEST, 0, 0},
+    {"keywrap_wrap_with", wrap_with, NULL, 16, 8, LONGEST, 0, 0},
+    {"keywrap_wrap_in_place", wrap_in_place, NULL, 16, 8, LONGEST, 0, 0},
+    {"keywrap_wrap_padded", wrap_padded, NULL, 1, 1, LONGEST, 0, 0},
+    {"keywrap_wrap_padded_in_place", wrap_padded_in_place, NULL, 1, 1, LONGEST, 0, 0},
+    {"keywrap_unwrap", unwrap, wrap, 16, 8, LONGEST, 0, 0},
+    {"keywrap_unwrap_with", unwrap_with, wrap_with, 16, 8, LONGEST, 0, 0},
+    {"keywrap_unwrap_in_place", unwrap_in_place, wrap, 16, 8, LONGEST, 0, 0},
+    {"keywrap_unwrap_padded", unwrap_padded, wrap_padded, 1, 1, LONGEST, 0, 0},
+    {"keywrap_unwrap_padded_in_place", unwrap_padded_in_place, wrap_padded, 1, 1, LONGEST, 0, 0},
+    {"keywrap_kind", kind, wrap, 16, 8, LONGEST, 0, 0},
+    {"keywrap_kind, padded", kind_padded, wrap_padded, 1, 1, LONGEST, 0, 0},
+    {"keywrap_unwrap_any", unwrap_any, wrap, 16, 8, LONGEST, 0, 0},
+    {"keywrap_unwrap_any, padded", unwrap_any, wrap_padded, 1, 1, LONGEST, 0, 0},
+    {"keywrap_rewrap_in_place", rewrap_in_place, wrap, 16, 8, LONGEST, 0, 0},
     {"keywrap_rewrap_in_place, to padded", rewrap_in_place, wrap, 16, 8, LONGEST,
-     KEYWRAP_NEW_PADDED},
+     KEYWRAP_NEW_PADDED, 0},
     {"keywrap_rewrap_in_place, to plain", rewrap_in_place, wrap_padded, 16, 8, LONGEST,
-     KEYWRAP_OLD_PADDED},
+     KEYWRAP_OLD_PADDED, 0},
     {"keywrap_rewrap_in_place, padded", rewrap_in_place, wrap_padded, 1, 1, LONGEST,
-     KEYWRAP_OLD_PADDED | KEYWRAP_NEW_PADDED},
-    {"keywrap_rewrap_in_place, plain and kept", rewrap_in_place, wrap, 16, 8, LONGEST,
-     KEYWRAP_KEEP_FORM},
-    {"keywrap_rewrap_in_place, padded and kept", rewrap_in_place, wrap_padded, 1, 1, LONGEST,
-     KEYWRAP_KEEP_FORM},
-    {"tables", tables, NULL, 16, 8, 48, 0},
+     KEYWRAP_OLD_PADDED | KEYWRAP_NEW_PADDED, 0},
+    {"keywrap_rewrap", rewrap, wrap, 16, 8, LONGEST, 0, 0},
+    {"keywrap_rewrap, to padded", rewrap, wrap, 16, 8, LONGEST, KEYWRAP_NEW_PADDED, 0},
+    {"keywrap_rewrap, to plain", rewrap, wrap_padded, 16, 8, LONGEST, KEYWRAP_OLD_PADDED, 0},
+    {"keywrap_rewrap, to plain, not plain", rewrap, wrap_padded, 17, 8, LONGEST,
+     KEYWRAP_OLD_PADDED | KEYWRAP_PASS_NEW, KEYWRAP_KEY_NOT_PLAIN},
+    {"keywrap_rewrap, padded", rewrap, wrap_padded, 1, 1, LONGEST,
+     KEYWRAP_OLD_PADDED | KEYWRAP_NEW_PADDED, 0},
+    {"keywrap_rewrap, plain and kept", rewrap, wrap, 16, 8, LONGEST, KEYWRAP_KEEP_FORM, 0},
+    {"keywrap_rewrap, padded and kept", rewrap, wrap_padded, 1, 1, LONGEST, KEYWRAP_KEEP_FORM, 0},
+    {"keywrap_rewrap, plain and new", rewrap, wrap_new, 16, 8, LONGEST, KEYWRAP_PASS_NEW, 0},
+    {"keywrap_rewrap, padded and new", rewrap, wrap_new_padded, 1, 1, LONGEST,
+     KEYWRAP_KEEP_FORM | KEYWRAP_PASS_NEW, 0},
+    {"tables", tables, NULL, 16, 8, 48, 0, 0},
 };
 
 static void mark(int undefined) {
@@ -163,7 +195,7 @@ static void mark(int undefined) {
  * damage the text that it takes fails its integrity check. */
 static unsigned reports(const struct watched *watched, size_t kek_len, size_t len, int damage) {
     static uint8_t expected[ROOM];
-    int32_t wanted = damage ? KEYWRAP_INTEGRITY : KEYWRAP_OK;
+    int32_t wanted = damage ? KEYWRAP_INTEGRITY : watched->status;
     forms = watched->forms;
     mark(0);
     if (watched->prepare) {
@@ -184,7 +216,7 @@ static unsigned reports(const struct watched *watched, size_t kek_len, size_t le
     return found;
 }
 
-/* Watches a call at all sizes of KEK and at keys of up to so many bytes, and prints its line. */
+/* Watches a call with all lengths of KEK and keys of up to this length, and prints its line. */
 static void watch(const struct watched *watched, size_t longest, int damage) {
     unsigned found = 0, calls = 0;
     for (size_t kek_len = 16; kek_len <= 32; kek_len += 8)
@@ -195,7 +227,7 @@ static void watch(const struct watched *watched, size_t longest, int damage) {
     fflush(stdout);
 }
 
-/* usage: secrets LENGTHS        keys of up to so many bytes, damaged ones of up to 40 */
+/* usage: secrets LENGTHS        keys of up to LENGTHS bytes, damaged ones of up to 40 */
 int main(int argc, char **argv) {
     size_t longest = argc == 2 ? strtoul(argv[1], NULL, 10) : 0;
     if (longest < 16 || longest > LONGEST || !RUNNING_ON_VALGRIND) return 64;

@@ -17,7 +17,7 @@
 enum { STACK = 1 << 16, KEY_LEN = 32, TEXT_LEN = KEY_LEN + 8 };
 
 /* The ways in which a call ends, each with its status. */
-enum way { DONE, DAMAGED, BAD_IV, BAD_KEK, BAD_NEW_KEK, SHORT, BAD_FLAGS, BAD_KEY, WAYS };
+enum way { DONE, DAMAGED, BAD_IV, BAD_KEK, BAD_NEW_KEK, SHORT, BAD_FLAGS, BAD_KEY, NOT_PLAIN, WAYS };
 
 static const struct {
     const char *name;
@@ -31,12 +31,13 @@ static const struct {
     {"bad_length", KEYWRAP_BAD_LENGTH},
     {"bad_flags", KEYWRAP_BAD_LENGTH},
     {"bad_key", KEYWRAP_BAD_LENGTH},
+    {"not_plain", KEYWRAP_KEY_NOT_PLAIN},
 };
 
 static uint8_t kek[32], new_kek[32], key[TEXT_LEN], text[TEXT_LEN], out[TEXT_LEN];
 static uint8_t iv[8];
 static size_t kek_len, new_kek_len, text_len, key_len, out_len;
-static uint32_t forms, padded;
+static uint32_t forms, padded, already;
 static int32_t status;
 
 static void wrap(void) {
@@ -57,6 +58,14 @@ static void wrap_padded(void) {
 
 static void wrap_padded_in_place(void) {
     status = keywrap_wrap_padded_in_place(kek, kek_len, out, text_len, key_len);
+}
+
+static void wrap_short(void) {
+    status = keywrap_wrap_padded(kek, kek_len, key, 8, out, 16);
+}
+
+static void wrap_short_in_place(void) {
+    status = keywrap_wrap_padded_in_place(kek, kek_len, out, 16, 8);
 }
 
 static void unwrap(void) {
@@ -84,8 +93,22 @@ static void kind(void) {
     status = keywrap_kind(kek, kek_len, text, TEXT_LEN, out, text_len - 8, &padded, &out_len);
 }
 
+/* What it refuses for its length is the key's buffer. */
+static void unwrap_any(void) {
+    status = keywrap_unwrap_any(kek, kek_len, text, TEXT_LEN, out, text_len - 8, &padded, &out_len);
+}
+
 static void rewrap_in_place(void) {
     status = keywrap_rewrap_in_place(kek, kek_len, new_kek, new_kek_len, out, text_len, forms);
+}
+
+static void rewrap(void) {
+    status = keywrap_rewrap(kek, kek_len, new_kek, new_kek_len, out, text_len, forms, &already);
+}
+
+/* A text that is new already. */
+static void wrap_new(void) {
+    status = keywrap_wrap(new_kek, kek_len, key, KEY_LEN, out, text_len);
 }
 
 static void self_test(void) {
@@ -111,6 +134,8 @@ static const struct watched {
     {"wrap_in_place", wrap_in_place, NULL, 0, WRAPS},
     {"wrap_padded", wrap_padded, NULL, 0, WRAPS},
     {"wrap_padded_in_place", wrap_padded_in_place, NULL, 0, WRAPS},
+    {"wrap_padded,8", wrap_short, NULL, 0, 1 << DONE},
+    {"wrap_padded_in_place,8", wrap_short_in_place, NULL, 0, 1 << DONE},
     {"unwrap", unwrap, wrap, 0, UNWRAPS},
     {"unwrap_with", unwrap_with, wrap_with, 0, UNWRAPS | 1 << BAD_IV},
     {"unwrap_in_place", unwrap_in_place, wrap, 0, UNWRAPS},
@@ -118,13 +143,18 @@ static const struct watched {
     {"unwrap_padded_in_place", unwrap_padded_in_place, wrap_padded, 0, UNWRAPS},
     {"kind,plain", kind, wrap, 0, UNWRAPS},
     {"kind,padded", kind, wrap_padded, 0, UNWRAPS},
+    {"unwrap_any,plain", unwrap_any, wrap, 0, UNWRAPS},
+    {"unwrap_any,padded", unwrap_any, wrap_padded, 0, UNWRAPS},
     {"rewrap_in_place,plain", rewrap_in_place, wrap, 0, REWRAPS},
     {"rewrap_in_place,to_padded", rewrap_in_place, wrap, KEYWRAP_NEW_PADDED, REWRAPS},
     {"rewrap_in_place,to_plain", rewrap_in_place, wrap_padded, KEYWRAP_OLD_PADDED,
      REWRAPS | 1 << BAD_KEY},
     {"rewrap_in_place,padded", rewrap_in_place, wrap_padded, BOTH_PADDED, REWRAPS},
-    {"rewrap_in_place,keep_plain", rewrap_in_place, wrap, KEYWRAP_KEEP_FORM, REWRAPS},
-    {"rewrap_in_place,keep_padded", rewrap_in_place, wrap_padded, KEYWRAP_KEEP_FORM, REWRAPS},
+    {"rewrap,plain", rewrap, wrap, 0, REWRAPS},
+    {"rewrap,to_plain", rewrap, wrap_padded, KEYWRAP_OLD_PADDED, REWRAPS | 1 << NOT_PLAIN},
+    {"rewrap,keep_plain", rewrap, wrap, KEYWRAP_KEEP_FORM, REWRAPS},
+    {"rewrap,keep_padded", rewrap, wrap_padded, KEYWRAP_KEEP_FORM, REWRAPS},
+    {"rewrap,pass_new", rewrap, wrap_new, KEYWRAP_PASS_NEW, REWRAPS},
     {"self_test", self_test, NULL, 0, 1 << DONE},
 };
 
@@ -143,7 +173,7 @@ static ucontext_t start;
 static void prepare(const struct watched *watched, enum way way, size_t len) {
     kek_len = new_kek_len = len;
     text_len = TEXT_LEN;
-    key_len = way == BAD_KEY ? KEY_LEN - 1 : KEY_LEN;
+    key_len = way == BAD_KEY || way == NOT_PLAIN ? KEY_LEN - 1 : KEY_LEN;
     forms = watched->forms;
     memset(iv, 1, sizeof iv);
     memcpy(out + 8, key, KEY_LEN);
@@ -162,7 +192,7 @@ static void change(enum way way) {
     case BAD_KEK: kek_len--; break;
     case BAD_NEW_KEK: new_kek_len--; break;
     case SHORT: text_len--; break;
-    case BAD_FLAGS: forms |= 8; break;
+    case BAD_FLAGS: forms |= 16; break;
     default: break;
     }
 }

@@ -2,8 +2,8 @@
 use Rattle.std.specs.Prelude.{⊤, ◌+◌, ◌≡◌, ◌≢◌, ◌↔◌, ℕ, List, Result, Ok, Err, IfOk, IsOk}
 use Rattle.std.specs.declared.vec.Vec.{Vec}
 use Rattle.key_files.specs.declared.fault.FileFault.{FileFault}
-use Rattle.key_files.specs.declared.fault.FileFault.TheVariants.{BadDigit, OddDigits, BadBase64, Memory}
-use Rattle.key_files.specs.declared.fault.Base64Fault.TheVariants.{Character, BehindPadding}
+use Rattle.key_files.specs.declared.fault.FileFault.TheVariants.{Read, TooLong, BadDigit, OddDigits, BadBase64, Memory}
+use Rattle.key_files.specs.declared.fault.Base64Fault.TheVariants.{Character, BehindPadding, Length, TrailingBits}
 use Rattle.key_files.specs.Meaning.{hex_meaning}
 
 -- the answer is what the text denotes, or Memory in the place of bytes
@@ -38,4 +38,9 @@ abbrev pub fault_behind : ℕ → FileFault → FileFault
 fault_behind n (BadDigit at) = BadDigit (n + at)
 fault_behind n (BadBase64 (Character at)) = BadBase64 (Character (n + at))
 fault_behind n (BadBase64 (BehindPadding at)) = BadBase64 (BehindPadding (n + at))
-fault_behind n fault = fault
+fault_behind n (BadBase64 Length) = BadBase64 Length
+fault_behind n (BadBase64 TrailingBits) = BadBase64 TrailingBits
+fault_behind n OddDigits = OddDigits
+fault_behind n Read = Read
+fault_behind n TooLong = TooLong
+fault_behind n Memory = Memory

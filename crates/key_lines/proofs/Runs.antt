@@ -13,14 +13,16 @@ use Rattle.key_lines.specs.Block.{Sends}
 use Rattle.key_lines.specs.Lines.{lines_of, EndsWithLf, EndsLine}
 use Rattle.key_lines.specs.Meaning.{line_limit}
 use Rattle.key_lines.specs.Reading.{IsAllOf, ReadsLine, TakesLine}
-use Rattle.key_lines.specs.Running.{AreResults, FindsLine, LineAnswer, LineResult, RunsLines, StepEnds, Steps, StopsFor, is_own, written_for}
+use Rattle.key_lines.specs.Running.{AreResults, FindsLine, LineAnswer, LineResult, MakesOutput, RunsLines, StepEnds, Steps, StopsFor, is_own, written_for}
 use Rattle.key_lines.specs.Summary.{HasRoom, counted, counted_all}
 use Rattle.key_lines.specs.declared.line.Line.{Line}
 use Rattle.key_lines.specs.declared.line.Line.TheVariants.{Ended, Last, Missing}
 use Rattle.key_lines.specs.declared.fault.LineFault.{LineFault}
 use Rattle.key_lines.specs.declared.fault.LineFault.TheVariants.{Input, Refused}
 use Rattle.key_lines.specs.declared.fault.RefusedLine.{RefusedLine}
+use Rattle.key_lines.specs.declared.fault.RunFault.{RunFault}
 use Rattle.key_lines.specs.declared.fault.RunFault.TheVariants.{AtLine, Write}
+use Rattle.key_files.specs.declared.fault.WriteFault.{WriteFault}
 use Rattle.key_lines.specs.declared.job.Mark.{Mark}
 use Rattle.key_lines.specs.declared.run.RunOptions.{RunOptions}
 use Rattle.key_lines.specs.declared.summary.RunSummary.{RunSummary}
@@ -123,6 +125,11 @@ module _ {R : Type 0} (options : RunOptions) (answers : List ℕ → Result Answ
       at (Input Read) (inr m) = cc m.1
       at (Input TooLong) (inr m) = cc m.1
       at (Input Memory) (inr m) = cc m.1
+
+  -- what makes the output of a line does not find that it cannot be read
+  pub never_unread : (line output : List ℕ) (fault : LineFault R) → MakesOutput options answers line output (Err fault) → fault ≢ Input Read
+  never_unread line output fault (inl is) e = cc
+  never_unread line output fault (inr m) e = cc m.1
 
   -- the block was written
   pub FindsLine-sent : {found : Result Line (LineFault R)} {a c o : Option (List ℕ)} (q : Option (List ℕ)) {log log' : Option (List (RefusedLine R))}
@@ -291,3 +298,13 @@ module _ {R : Type 0} (options : RunOptions) (answers : List ℕ → Result Answ
         sends = all.sends;
         all_but = (size, subst (λ n. 0 < n) size some);
       }
+
+-- the line at which a run stops that cannot read it, for want of a number
+pub last_line : {R : Type 0} (line lines : ℕ) (fault : LineFault R)
+    → (let met : Result (Result Line (LineFault R)) WriteFault = Ok (Err fault) in met ≡ Ok (Err (Input Read)) → lines ≡ 18446744073709551614)
+    → (let answer : Result (RunSummary R) (RunFault R) = Err (AtLine (lines + 1) fault) in answer ≡ Err (AtLine line (Input Read)))
+    → line ≡ 18446744073709551615
+last_line line lines fault read e =
+    let same : fault ≡ Input Read = cc e in
+    let place : lines + 1 ≡ line = cc e in
+    omega (arith, place, read (cc same))

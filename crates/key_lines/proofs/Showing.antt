@@ -1,6 +1,6 @@
 -- The front of what a reader shows that is moved to the line.
 use Rattle.std.proofs.Common.{◌≡◌, ℕ, ◌+◌, ◌-◌, ◌<◌, ◌≤◌, ◌==◌, true, min, List, [], ◌∷◌, ◌++◌, length, take, drop, Option, None, Some, IfSome, Result, Ok, Err, slice_index, sym, ap, ◌∙◌, arith, subst, take-append-drop, length-append}
-use Rattle.std.specs.Prelude.{IsErrAnd}
+use Rattle.std.specs.Prelude.{◌≢◌, IsErrAnd}
 use Rattle.std.specs.Io.{StartsWith}
 use Rattle.std.proofs.KnownBytes.{Consumes-kept, Consumes-nil}
 use Rattle.std.specs.Io.KnownBytes.{Consumes, Keeps}
@@ -89,3 +89,7 @@ pub MovesPart-memory : (limit : ℕ) (old mid : Option (List ℕ)) (before after
 MovesPart-memory limit old mid before after (Ok part) is kept same = absurd is
 MovesPart-memory limit old mid before after (Err fault) is kept same =
     subst (λ f. MovesPart limit old mid before after (Err f)) (sym is) (Consumes-kept old old mid [] (Consumes-nil old) kept, same)
+
+-- of a front that ends no line something is taken
+pub some_moved : (front : List ℕ) (len : ℕ) → len ≤ length front → length front ≤ len → length front ≢ 0 → 0 < length (take len front)
+some_moved front len bound all some = omega (arith, bound, all, some, length-take len front)

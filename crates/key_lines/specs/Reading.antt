@@ -1,5 +1,5 @@
 -- What a call that reads a line takes from its reader, and answers.
-use Rattle.std.specs.Prelude.{◌≡◌, ◌≢◌, ℕ, ◌+◌, ◌≤◌, ◌⊎◌, List, [], ◌∷◌, ◌++◌, length, All, Option, Result, Ok, Err, IfSome}
+use Rattle.std.specs.Prelude.{◌≡◌, ◌≢◌, ℕ, ◌+◌, ◌<◌, ◌≤◌, ◌⊎◌, List, [], ◌∷◌, ◌++◌, length, All, Option, Result, Ok, Err, IfSome}
 use Rattle.std.specs.Io.KnownBytes.{Consumes}
 use Rattle.key_files.specs.declared.fault.FileFault.{FileFault}
 use Rattle.key_files.specs.declared.fault.FileFault.TheVariants.{Read, TooLong, Memory}
@@ -44,7 +44,7 @@ abbrev pub MovesPart : ℕ → Option (List ℕ) → Option (List ℕ) → List 
 MovesPart limit old new before after (Ok Ended) =
     (part : List ℕ) × HasNoLf part × Consumes old new (part ++ 10 ∷ []) × (after ≡ before ++ part) × (length after ≤ limit)
 MovesPart limit old new before after (Ok More) =
-    (part : List ℕ) × HasNoLf part × Consumes old new part × (after ≡ before ++ part) × (length after ≤ limit)
+    (part : List ℕ) × HasNoLf part × Consumes old new part × (after ≡ before ++ part) × (length after ≤ limit) × (0 < length part)
 MovesPart limit old new before after (Ok Missing) = Consumes old new [] × IsAllOf [] old × (after ≡ before)
 MovesPart limit old new before after (Err TooLong) =
     (part : List ℕ) × HasNoLf part × Consumes old new part × (after ≡ before ++ part) × (length after ≡ limit + 1)

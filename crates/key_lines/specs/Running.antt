@@ -35,7 +35,9 @@ is_own (Refused refusal) = true
 is_own (Input (BadDigit at)) = true
 is_own (Input OddDigits) = true
 is_own (Input (BadBase64 wrong)) = true
-is_own (Input fault) = false
+is_own (Input Read) = false
+is_own (Input TooLong) = false
+is_own (Input Memory) = false
 
 -- What a run makes of a line: its answer or, if the run continues after refusals, why the line is refused for itself.
 abbrev pub LineResult : {R : Type 0} → RunOptions → (List ℕ → Result Answer R → Type 0) → List ℕ → Result Answer (LineFault R) → Type 0

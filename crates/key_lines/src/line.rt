@@ -1,12 +1,13 @@
 //! Reads lines one after another.
 
 ghost use Rattle.std.specs.Prelude.{◌≡◌, ◌≢◌, ◌<◌, ◌≤◌, length, take, slice_index, All, vec_len};
+ghost use Rattle.std.specs.Prelude.{Err, false};
 ghost use Rattle.key_lines.specs.Reading.{MovesPart, ReadsLine};
 
+use crate::source::LineSource;
 use key_files::FileFault;
 use memchr::memchr;
 use std::alloc::Allocator;
-use std::io::BufRead;
 
 // How a part of a line ended.
 #[derive(Clone, Copy)]
@@ -34,19 +35,20 @@ pub(crate) enum Line {
 // end, and need not be called again.
 //
 // Takes at most `limit + 1` bytes of the line; TooLong if they have no LF. Returns Read for any
-// error of a read, even if it was only interrupted, and Memory for a failed allocation, when they
-// occur; `line` then holds the bytes that were taken.
-pub(crate) fn read_line<R: BufRead, A: Allocator>(
+// error of a read, even if it was only interrupted, and for nothing else, and Memory for a failed
+// allocation, when they occur; `line` then holds the bytes that were taken.
+pub(crate) fn read_line<R: LineSource, A: Allocator>(
     reader: &mut R,
     line: &mut Vec<u8, A>,
     limit: usize,
 ) -> Result<Line, FileFault>
     requires { limit < usize.MAX }
-    ensures { ReadsLine limit (R.remaining reader.old) (R.remaining reader.new) line.new.items
-        result }
+    ensures line { ReadsLine limit (R.remaining reader.old) (R.remaining reader.new)
+        line.new.items result }
+    ensures read { R.can_fail ≡ false → result ≢ Err FileFault.Read }
 {
     line.clear();
-    for _ in 0..u64::MAX {
+    loop {
         match move_part(reader, line, limit)? {
             Part::More => {}
             Part::Ended => return Ok(Line::Ended),
@@ -54,22 +56,22 @@ pub(crate) fn read_line<R: BufRead, A: Allocator>(
             Part::Missing => return Ok(Line::Last),
         }
     }
-    Err(FileFault::Read)
 }
 
 // Moves the bytes of the line that the reader shows, at most one past the limit.
-fn move_part<R: BufRead, A: Allocator>(
+fn move_part<R: LineSource, A: Allocator>(
     reader: &mut R,
     line: &mut Vec<u8, A>,
     limit: usize,
 ) -> Result<Part, FileFault>
     requires wide { limit < usize.MAX }
     requires room { vec_len line.old ≤ limit }
-    ensures { MovesPart limit (R.remaining reader.old) (R.remaining reader.new)
+    ensures part { MovesPart limit (R.remaining reader.old) (R.remaining reader.new)
         line.old.items line.new.items result }
+    ensures read { R.can_fail ≡ false → result ≢ Err FileFault.Read }
 {
     let room = limit + 1 - line.len();
-    let shown = match reader.fill_buf() {
+    let shown = match reader.show() {
         Ok(shown) => shown,
         Err(_) => return Err(FileFault::Read),
     };

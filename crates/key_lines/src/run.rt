@@ -1,6 +1,6 @@
 //! A run over the lines of an input.
 
-ghost use Rattle.std.specs.Prelude.{◌≡◌, ◌≤◌, ℕ, List, Option, length, IfSome};
+ghost use Rattle.std.specs.Prelude.{◌≡◌, ◌≤◌, ℕ, List, Option, Ok, Err, false, length, IfSome};
 ghost use Rattle.key_lines.specs.Answers.{answered};
 ghost use Rattle.key_lines.specs.Meaning.{LinesAreFiles, PrintsBack};
 ghost use Rattle.key_lines.specs.Running.{FindsLine, MakesAnswer, MakesOutput, RunsLines};
@@ -21,11 +21,6 @@ use std::io::Write;
 
 // A run stops after this number of lines, so that each has a number.
 const MAX_LINES: u64 = u64::MAX - 1;
-
-// Pins the constant: a run cannot stop after fewer lines.
-fn max_lines_value()
-    ensures { MAX_LINES ≡ 18446744073709551614 }
-{}
 
 /// How a run reads lines, and what it does after a refusal.
 #[derive(Clone, Copy)]
@@ -85,6 +80,10 @@ impl<J: LineJob> LineRun<J> {
         // printed for bytes is one line, which denotes them.
         ensures as_files { LinesAreFiles self.now.options.notation }
         ensures read_back { PrintsBack self.now.options.notation }
+        // Nothing but a failed read, or the last number of a line, ends the run as unreadable.
+        ensures read { R.can_fail ≡ false → (line : ℕ)
+            → result ≡ Err (RunFault.AtLine line (LineFault.Input FileFault.Read))
+            → line ≡ 18446744073709551615 }
     {
         let mut buffers = Buffers {
             line: Vec::new(alloc),
@@ -128,11 +127,14 @@ impl<J: LineJob> LineRun<J> {
         summary: &mut RunSummary<J::Refusal>,
     ) -> Result<Result<Line, LineFault<J::Refusal>>, WriteFault>
         requires { HasRoom summary.old }
-        ensures { StepsLine self.now.options (J.answers self.now.job)
+        ensures steps { StepsLine self.now.options (J.answers self.now.job)
             (R.remaining input.old) (R.remaining input.new)
             (W.contents out.old) (W.contents out.new)
             (L.received log.old) (L.received log.new)
             buffers.old.block.items buffers.new.block.items summary.old summary.new result }
+        ensures read { R.can_fail ≡ false
+            → result ≡ Ok (Err (LineFault.Input FileFault.Read))
+            → summary.new.lines ≡ 18446744073709551614 }
     {
         let found = self.next(log, input, buffers, summary);
         if let Ok(Line::Ended) = found {
@@ -155,10 +157,12 @@ impl<J: LineJob> LineRun<J> {
         summary: &mut RunSummary<J::Refusal>,
     ) -> Result<Line, LineFault<J::Refusal>>
         requires { HasRoom summary.old }
-        ensures { (out : Option (List ℕ)) → FindsLine self.now.options (J.answers self.now.job)
+        ensures finds { (out : Option (List ℕ)) → FindsLine self.now.options (J.answers self.now.job)
             (R.remaining input.old) (R.remaining input.new) out out
             (L.received log.old) (L.received log.new)
             buffers.old.block.items buffers.new.block.items summary.old summary.new result }
+        ensures read { R.can_fail ≡ false → result ≡ Err (LineFault.Input FileFault.Read)
+            → summary.new.lines ≡ 18446744073709551614 }
     {
         if summary.lines == MAX_LINES {
             return Err(LineFault::Input(FileFault::Read));
@@ -238,6 +242,6 @@ fn is_own<F>(fault: &LineFault<F>) -> bool
         LineFault::Input(FileFault::BadDigit { .. }) => true,
         LineFault::Input(FileFault::OddDigits) => true,
         LineFault::Input(FileFault::BadBase64(_)) => true,
-        LineFault::Input(_) => false,
+        LineFault::Input(FileFault::Read | FileFault::TooLong | FileFault::Memory) => false,
     }
 }

@@ -60,7 +60,11 @@ fn fault_behind(before: usize, fault: FileFault) -> FileFault
         FileFault::BadBase64(Base64Fault::BehindPadding { at }) => {
             FileFault::BadBase64(Base64Fault::BehindPadding { at: before + at })
         }
-        fault => fault,
+        FileFault::BadBase64(Base64Fault::Length | Base64Fault::TrailingBits)
+        | FileFault::OddDigits
+        | FileFault::Read
+        | FileFault::TooLong
+        | FileFault::Memory => fault,
     }
 }
 

@@ -1,4 +1,3 @@
 -- The lemmas on the results of the calls.
 pub mod Promises
 pub mod Rewraps
-pub mod KeptForms

@@ -4,9 +4,9 @@ ghost use Rattle.std.specs.Prelude.{◌≡◌};
 ghost use Rattle.key_wrap.specs.declared.faults.KindFault.TheVariants as kind_faults;
 ghost use Rattle.key_wrap.specs.declared.faults.UnwrapFault.TheVariants as unwrap_faults;
 ghost use Rattle.key_wrap.specs.declared.faults.WrapFault.TheVariants as wrap_faults;
-ghost use Rattle.key_wrap.specs.Results.{unwrap_fault};
+ghost use Rattle.key_wrap.specs.Results.{rewrap_fault, unwrap_fault};
 
-use key_wrap_core::InPlaceFault;
+use key_wrap_core::{InPlaceFault, RewrapFault};
 use std::alloc::AllocError;
 use thiserror::Error;
 
@@ -50,6 +50,18 @@ impl From<InPlaceFault> for UnwrapFault {
         match fault {
             InPlaceFault::BadLength => UnwrapFault::BadLength,
             InPlaceFault::Integrity => UnwrapFault::Integrity,
+        }
+    }
+}
+
+impl From<RewrapFault> for UnwrapFault {
+    ghost from_gives = { λ fault given. given ≡ rewrap_fault fault };
+
+    fn from(fault: RewrapFault) -> UnwrapFault {
+        match fault {
+            RewrapFault::BadLength => UnwrapFault::BadLength,
+            RewrapFault::Integrity => UnwrapFault::Integrity,
+            RewrapFault::KeyNotPlain => UnwrapFault::BadLength,
         }
     }
 }

@@ -14,27 +14,26 @@
 #![tactic(auto)]
 
 mod faults;
-mod keeping_form;
 mod kinds;
 mod padded;
 mod plain;
 mod rewrapping;
 
 pub use faults::{KindFault, UnwrapFault, WrapFault};
-pub use keeping_form::rewrap_keeping_form;
 pub use key_wrap_core::{
-    AgreedForm, BadScratchLength, Form, InPlaceFault, InitialValue, Kind, MAX_KEY, ReservedIv,
-    begin_unwrap, begin_unwrap_padded, begin_wrap, begin_wrap_padded, end_unwrap,
-    end_unwrap_padded, end_wrap, key_length_ok, kind_into, kind_into_with, padded_length_ok,
-    padded_text_length_ok, rewrap_in_place, rewrap_in_place_with, rewrap_keeping_form_in_place,
-    step_unwrap, step_wrap, text_length_ok, unwrap_in_place, unwrap_into, unwrap_into_with,
-    unwrap_padded_in_place, unwrap_padded_into, whole_unwrap_law, whole_wrap_law, wrap_in_place,
-    wrap_into, wrap_into_with, wrap_padded_in_place, wrap_padded_into,
+    AgreedForm, BadScratchLength, Form, FoundKey, InPlaceFault, InitialValue, Kind, MAX_KEY,
+    ReservedIv, RewrapFault, RewrapForms, Rewrapped, begin_unwrap, begin_unwrap_padded, begin_wrap,
+    begin_wrap_padded, end_unwrap, end_unwrap_padded, end_wrap, key_length_ok, kind_into,
+    kind_into_with, padded_length_ok, padded_text_length_ok, rewrap as rewrap_in_place,
+    rewrap_length_ok, step_unwrap, step_wrap, text_length_ok, unwrap_any_in_place, unwrap_any_into,
+    unwrap_in_place, unwrap_into, unwrap_into_with, unwrap_padded_in_place, unwrap_padded_into,
+    whole_unwrap_law, whole_wrap_law, wrap_in_place, wrap_into, wrap_into_with,
+    wrap_padded_in_place, wrap_padded_into,
 };
 pub use kinds::kind;
 pub use padded::{unwrap_padded, wrap_padded};
 pub use plain::{unwrap, unwrap_with, wrap, wrap_with};
-pub use rewrapping::rewrap;
+pub use rewrapping::{rewrap, rewrap_keeping_form};
 
 #[cfg(test)]
 mod tests;

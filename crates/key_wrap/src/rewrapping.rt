@@ -1,14 +1,13 @@
-//! Rewrapping from one pair and form to another, with one allocation.
+//! Rewrapping from one pair to another, with the form changed or kept, with one allocation.
 
-ghost use Rattle.std.specs.Prelude.{◌≡◌, ◌↔◌, ◌⊎◌, ℕ, List, length, Err, IfOk};
-ghost use Rattle.std.specs.Prelude.{IsOkUnless, IsTrue};
-ghost use Rattle.key_wrap_core.specs.Forms.{StandsIn, IsKeyLength, IsTextLength, by_default};
-ghost use Rattle.key_wrap_core.specs.Rewrap.{AreWrappings, HasBadKey, NoOtherForm};
-ghost use Rattle.key_wrap.specs.Results.{RewrapAnswer, Rewrapped};
+ghost use Rattle.std.specs.Prelude.{IfOk};
+ghost use Rattle.key_wrap_core.specs.declared.one_rewrap.RewrapForms.{RewrapForms};
+ghost use Rattle.key_wrap_core.specs.Forms.{NoOtherForm, by_default};
+ghost use Rattle.key_wrap.specs.Results.{Rewraps};
 
 use crate::faults::UnwrapFault;
 use block_pair::{BlockPair, Meter};
-use key_wrap_core::{Form, padded_text_length_ok, rewrap_in_place, text_length_ok};
+use key_wrap_core::{AgreedForm, Form, RewrapForms, rewrap_length_ok};
 use std::alloc::{Allocator, Global};
 
 /// Returns the wrapping, in the new form under the new pair, of the one key whose wrapping in the
@@ -26,73 +25,52 @@ pub fn rewrap<O: BlockPair, N: BlockPair>(
     new_form: Form,
     text: &[u8],
 ) -> Result<Vec<u8>, UnwrapFault>
-    ensures answer { RewrapAnswer (by_default old_form) (O.encrypted old.now)
-        (by_default new_form) (N.encrypted new.now) text.now result }
-    ensures text_length { ¬ IsTextLength old_form (length text.now)
-        → result ≡ Err UnwrapFault.BadLength }
-    ensures key_length { HasBadKey (by_default old_form) (O.encrypted old.now)
-        (by_default new_form) text.now
-        → (result ≡ Err UnwrapFault.BadLength) ⊎ (result ≡ Err UnwrapFault.Memory) }
-
-    // A wrapping whose key has a legal length in the new form is refused only if there is no
-    // memory.
-    ensures accepts { (key : List ℕ) → StandsIn old_form (O.encrypted old.now) key text.now
-        → IsKeyLength new_form (length key) → IsOkUnless result UnwrapFault.Memory }
-    ensures memory { result ≡ Err UnwrapFault.Memory → IsTextLength old_form (length text.now) }
-    ensures only_answer { IfOk result (λ answer. (other : List ℕ)
-        → AreWrappings (by_default old_form) (O.encrypted old.now) (by_default new_form)
-        (N.encrypted new.now) text.now other
-        → other ≡ answer.items) }
-
-    // It is the wrapping of only one key.
-    ensures only_key { IfOk result (λ answer. (key other : List ℕ)
-        → StandsIn old_form (O.encrypted old.now) key text.now
-        → StandsIn old_form (O.encrypted old.now) other text.now → other ≡ key) }
-
-    // Unwrapping the answer gives exactly the old key.
-    ensures same_key { IfOk result (λ answer. (key : List ℕ)
-        → StandsIn new_form (N.encrypted new.now) key answer.items
-        ↔ StandsIn old_form (O.encrypted old.now) key text.now) }
-
-    // Rewrapping back gives the old wrapping.
-    ensures restores { IfOk result (λ answer. (other : List ℕ)
-        → AreWrappings (by_default new_form) (N.encrypted new.now) (by_default old_form)
-        (O.encrypted old.now)
-        answer.items other → other ≡ text.now) }
-    ensures size { IfOk result (λ answer. length answer.items ≡ length text.now) }
+    ensures rewraps { Rewraps (RewrapForms.Changed (by_default old_form) (by_default new_form))
+        (O.encrypted old.now) (N.encrypted new.now) text.now result }
     ensures other_form { IfOk result (λ answer.
         NoOtherForm (by_default new_form) (N.encrypted new.now) answer.items) }
 {
-    rewrap_on(alloc, old, old_form, new, new_form, text)
+    let old_form = AgreedForm::by_default(old_form);
+    let new_form = AgreedForm::by_default(new_form);
+    let forms = RewrapForms::Changed {
+        old: old_form,
+        new: new_form,
+    };
+    rewrap_on(alloc, old, new, &forms, text)
 }
 
-// `rewrap` on any allocator, so that a test can refuse its allocation.
+/// Returns the wrapping under the new pair of the one key whose wrapping under the old pair is
+/// `text`, in the form of `text` and with as many bytes. No wrapped key has both forms, so there is
+/// one answer.
+///
+/// `BadLength` if `text`'s length is legal in neither form, before any memory is taken. Then
+/// `Memory`, before the first block call. `Integrity` if `text` is a wrapping in neither form.
+pub fn rewrap_keeping_form<O: BlockPair, N: BlockPair>(
+    alloc: Global,
+    old: &O,
+    new: &N,
+    text: &[u8],
+) -> Result<Vec<u8>, UnwrapFault>
+    ensures { Rewraps RewrapForms.Kept (O.encrypted old.now) (N.encrypted new.now) text.now result }
+{
+    rewrap_on(alloc, old, new, &RewrapForms::Kept, text)
+}
+
+// The rewrapping on any allocator, so that a test can refuse its allocation.
 pub(crate) fn rewrap_on<A: Allocator, O: BlockPair, N: BlockPair>(
     alloc: A,
     old: &O,
-    old_form: Form,
     new: &N,
-    new_form: Form,
+    forms: &RewrapForms,
     text: &[u8],
 ) -> Result<Vec<u8, A>, UnwrapFault>
-    ensures { Rewrapped (by_default old_form) (O.encrypted old.now) (by_default new_form)
-        (N.encrypted new.now) text.now result }
+    ensures { Rewraps forms.now (O.encrypted old.now) (N.encrypted new.now) text.now result }
 {
-    if !is_text_length(old_form, text.len()) {
+    if !rewrap_length_ok(forms, text.len()) {
         return Err(UnwrapFault::BadLength);
     }
     let mut buffer = Vec::from_slice(alloc, text)?;
     let (mut unwraps, mut wraps) = (Meter::new(old), Meter::new(new));
-    rewrap_in_place(&mut unwraps, old_form, &mut wraps, new_form, &mut buffer)?;
+    key_wrap_core::rewrap(&mut unwraps, &mut wraps, forms, false, &mut buffer)?;
     Ok(buffer)
-}
-
-// Whether `len` bytes can be a wrapping in this form.
-fn is_text_length(form: Form, len: usize) -> bool
-    ensures { IsTrue result ↔ IsTextLength form len }
-{
-    match form {
-        Form::Plain => text_length_ok(len),
-        Form::Padded => padded_text_length_ok(len),
-    }
 }

@@ -1,26 +1,24 @@
 -- The initial value and the registers that were found, the key that they hold, and the texts that they are wrapped to.
-use Rattle.std.proofs.Common.{◌≡◌, ◌⊎◌, ℕ, ◌+◌, ◌-◌, ◌%◌, ◌^◌, ◌≤◌, List, ◌++◌, length, take, drop, bit_xor, Result, Ok, Err, IsErr, IsErrAnd, inl, inr}
-use Rattle.std.proofs.Common.{refl, ap, ◌∙◌, arith, length-append, length-drop}
+use Rattle.std.proofs.Common.{◌≡◌, ◌⊎◌, ℕ, ◌+◌, ◌-◌, ◌%◌, ◌^◌, ◌≤◌, List, ◌++◌, length, take, drop, bit_xor, inl, inr}
+use Rattle.std.proofs.Common.{refl, ap, arith, length-append, length-drop}
 use Rattle.std.proofs.lemmas.List.{take_all}
 use Rattle.block_pair.specs.Pair.{AreInverse}
 use Rattle.block_pair.specs.Words.{IsWord}
-use Rattle.key_wrap_core.specs.declared.faults.InPlaceFault.{InPlaceFault}
 use Rattle.key_wrap_core.specs.declared.agreed_form.AgreedForm.{AgreedForm}
 use Rattle.key_wrap_core.specs.declared.agreed_form.AgreedForm.TheVariants.{Plain, Padded}
 use Rattle.key_wrap_core.specs.declared.forms.Form.{Form}
 use Rattle.key_wrap_core.specs.declared.forms.Form.TheVariants as forms
 use Rattle.key_wrap_core.specs.Words.{word_bytes}
-use Rattle.key_wrap_core.specs.Lengths.{IsPlainKeyLength, IsPlainTextLength, IsPaddedTextLength}
-use Rattle.key_wrap_core.specs.Plain.{default_iv}
+use Rattle.key_wrap_core.specs.Lengths.{IsPlainKeyLength, IsPlainTextLength, IsPaddedKeyLength, IsPaddedTextLength}
 use Rattle.key_wrap_core.specs.Padded.{aiv, padded}
-use Rattle.key_wrap_core.specs.PaddedRegisters.{PaddedRegisters, HoldsLength}
+use Rattle.key_wrap_core.specs.PaddedRegisters.{PaddedRegisters, Holds, HoldsLength}
 use Rattle.key_wrap_core.specs.NoKey.{NoKey}
-use Rattle.key_wrap_core.specs.Forms.{StandsAs, by_default}
+use Rattle.key_wrap_core.specs.Forms.{StandsAs, with_value}
 use Rattle.key_wrap_core.specs.Found.{HoldsIn}
 use Rattle.key_wrap_core.proofs.Spelling.{length-word_bytes, word_front}
 use Rattle.key_wrap_core.proofs.Tapes.{wraps_iv}
 use Rattle.key_wrap_core.proofs.PlainForm.{plain_registers, registers_plain, padded_whole}
-use Rattle.key_wrap_core.proofs.PaddedForm.{aiv_word, many_registers, registers_many, padded_registers, registers_padded, padded_registers_backward}
+use Rattle.key_wrap_core.proofs.PaddedForm.{many_registers, registers_many, padded_registers, registers_padded, padded_registers_backward}
 use Rattle.key_wrap_core.proofs.ThreeChecks.{held_word}
 use Rattle.key_wrap_core.proofs.Differences.{xor_same, same_xor}
 
@@ -44,9 +42,9 @@ stands_found Padded key before text inv run h = (h.legal, padded_registers_backw
 
 -- the difference from the initial value
 pub plain_holds : (iv found : ℕ) (registers : List ℕ) → IsWord iv → IsPlainTextLength (8 + length registers) → bit_xor found iv ≡ 0
-    → (key : List ℕ) × HoldsIn (Plain iv) key (word_bytes found ++ registers)
+    → HoldsIn (Plain iv) registers (word_bytes found ++ registers)
 plain_holds iv found registers word legal zero =
-    (registers, ((omega arith, omega arith, omega arith), ap (λ (v : ℕ). word_bytes v ++ registers) (xor_same found iv zero), word))
+    ((omega arith, omega arith, omega arith), ap (λ (v : ℕ). word_bytes v ++ registers) (xor_same found iv zero), word)
 
 pub plain_differs : (iv found : ℕ) (registers : List ℕ) → IsWord found → ¬ (bit_xor found iv ≡ 0)
     → NoKey (HoldsIn (Plain iv)) (word_bytes found ++ registers)
@@ -56,6 +54,10 @@ plain_differs iv found registers word differs key holds =
 -- the three checks passed
 pub padded_holds : (len : ℕ) (buffer : List ℕ) → HoldsLength buffer len → (key : List ℕ) × HoldsIn Padded key buffer
 padded_holds len buffer held = (take len (drop 8 buffer), (rw held.size held.legal, held.holds))
+
+-- and if they do not pass, no key is held
+pub padded_none_held : (buffer : List ℕ) → ((key : List ℕ) → IsPaddedKeyLength (length key) → ¬ Holds buffer key) → NoKey (HoldsIn Padded) buffer
+padded_none_held buffer none key holds = none key holds.0 holds.1
 
 -- one word holds no plain key
 pub one_word : (iv found : ℕ) (registers : List ℕ) → length registers ≡ 8 → NoKey (HoldsIn (Plain iv)) (word_bytes found ++ registers)
@@ -70,15 +72,10 @@ one_word iv found registers short key holds = absurd (omega (
 ))
 
 -- what holds a key in neither form
-pub no_form : (buffer : List ℕ) → NoKey (HoldsIn (Plain default_iv)) buffer → NoKey (HoldsIn Padded) buffer
-    → (form : Form) → NoKey (HoldsIn (by_default form)) buffer
-no_form buffer plain padded forms.Plain = plain
-no_form buffer plain padded forms.Padded = padded
-
--- so if one word holds no padded key, it holds none
-pub one_word_none : (iv : ℕ) (registers : List ℕ) → length registers ≡ 8 → NoKey (HoldsIn Padded) (word_bytes iv ++ registers)
-    → (form : Form) → NoKey (HoldsIn (by_default form)) (word_bytes iv ++ registers)
-one_word_none iv registers short none = no_form (word_bytes iv ++ registers) (one_word default_iv iv registers short) none
+pub no_form : (iv : ℕ) (buffer : List ℕ) → NoKey (HoldsIn (Plain iv)) buffer → NoKey (HoldsIn Padded) buffer
+    → (form : Form) → NoKey (HoldsIn (with_value form iv)) buffer
+no_form iv buffer plain padded forms.Plain = plain
+no_form iv buffer plain padded forms.Padded = padded
 
 -- a plain key is held in the padded form too
 pub to_padded : (iv found : ℕ) (registers key : List ℕ) → IsWord found → HoldsIn (Plain iv) key (word_bytes found ++ registers)
@@ -95,16 +92,7 @@ to_value iv value found registers key word word' holds =
     let rest : registers ≡ key = (word_front found iv registers key word holds.2 holds.1).1 in
     (holds.0, ap (λ (bs : List ℕ). word_bytes value ++ bs) rest, word')
 
--- a padded key that fills its words, two and more, is held in the plain form too
-pub to_plain : (iv found : ℕ) (registers key : List ℕ) → IsWord found → IsWord iv → IsPaddedTextLength (8 + length registers) → ¬ (length registers ≡ 8)
-    → found % 2 ^ 32 ≡ length registers → HoldsIn Padded key (word_bytes found ++ registers) → HoldsIn (Plain iv) key (word_bytes iv ++ registers)
-to_plain iv found registers key word word' legal more fills holds =
-    let h = held_word found registers key word holds.0 holds.1 in
-    let size : length key ≡ length registers = omega (arith, h.1) in
-    let rest = (word_front found (aiv (length key)) registers (padded key) word (aiv_word (length key) holds.0.1) holds.1).1 in
-    ((omega arith, omega arith, omega arith), ap (λ (bs : List ℕ). word_bytes iv ++ bs) (rest ∙ padded_whole key (omega arith)), word')
-
--- and any other has no legal length there
+-- a padded key that does not fill its words, two and more, has no legal length in the plain form
 pub not_plain : (found : ℕ) (registers key : List ℕ) → IsWord found → IsPaddedTextLength (8 + length registers)
     → (length registers ≡ 8) ⊎ ¬ (found % 2 ^ 32 ≡ length registers) → HoldsIn Padded key (word_bytes found ++ registers)
     → ¬ IsPlainKeyLength (length key)
@@ -118,9 +106,3 @@ not_plain found registers key word legal (inr other) holds plain =
 -- the registers lent are all after the first word
 pub behind_first : (buf : List ℕ) → take (length buf - 8) (drop 8 buf) ≡ drop 8 buf
 behind_first buf = take_all (length buf - 8) (drop 8 buf) (omega (arith, length-drop 8 buf))
-
--- the refusal, passed on
-pub refused_as : {A : Type 0} (answer : Result A InPlaceFault) (fault cause : InPlaceFault) → IsErr answer × IsErrAnd answer (λ e. e ≡ fault) → fault ≡ cause
-    → answer ≡ Err cause
-refused_as (Ok m) fault cause r is = let no = r.0 in cc
-refused_as (Err e) fault cause r is = ap Err (r.1 ∙ is)

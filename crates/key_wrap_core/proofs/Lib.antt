@@ -1,6 +1,5 @@
 -- The lemmas, from words and tapes up to the two forms.
 pub mod Refusals
-pub mod Behind
 pub mod Spelling
 pub mod Tapes
 pub mod Counting
@@ -17,7 +16,9 @@ pub mod Differences
 pub mod ThreeChecks
 pub mod InPlaceForm
 pub mod Unwrappings
-pub mod KindForms
 pub mod Rewraps
 pub mod FoundForms
-pub mod KeptForms
+pub mod EitherForms
+pub mod KindForms
+pub mod OneRewraps
+pub mod OneResults

@@ -9,9 +9,6 @@ ok_or_err e = cc
 pub true_or_false : {P : Type 0} {b : Bool} → b ≡ false → b ≡ true → P
 true_or_false e f = cc
 
-pub one_fault : {A P : Type 0} {answer : Result A InPlaceFault} → answer ≡ Err BadLength → answer ≡ Err Integrity → P
-one_fault e f = cc
-
 pub never_bad : {A P : Type 0} (answer : Result A InPlaceFault) → IsOkUnless answer Integrity → answer ≡ Err BadLength → P
 never_bad (Ok m) only e = cc
 never_bad (Err BadLength) only e = cc

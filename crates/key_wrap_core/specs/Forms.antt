@@ -8,6 +8,7 @@ use Rattle.key_wrap_core.specs.declared.agreed_form.AgreedForm.TheVariants.{Plai
 use Rattle.key_wrap_core.specs.Lengths.{IsPlainKeyLength, IsPlainTextLength, IsPaddedKeyLength, IsPaddedTextLength}
 use Rattle.key_wrap_core.specs.Plain.{Plain, default_iv}
 use Rattle.key_wrap_core.specs.Padded.{Padded}
+use Rattle.key_wrap_core.specs.NoKey.{NoKey, NoPlainKey}
 
 -- the wrapped key is the wrapping of the key in this form under E
 abbrev pub StandsAs : AgreedForm → (List ℕ → List ℕ) → List ℕ → List ℕ → Type 0
@@ -43,3 +44,8 @@ IsKeyLength form len = IsKeyLengthAs (by_default form) len
 
 abbrev pub IsTextLength : Form → ℕ → Type 0
 IsTextLength form len = IsTextLengthAs (by_default form) len
+
+-- the wrapped key is not a wrapping in the other form, under any initial value
+abbrev pub NoOtherForm : AgreedForm → (List ℕ → List ℕ) → List ℕ → Type 0
+NoOtherForm (InPlain iv) E text = NoKey (Padded E) text
+NoOtherForm InPadded E text = NoPlainKey E text

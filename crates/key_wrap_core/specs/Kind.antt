@@ -1,10 +1,17 @@
 -- The kind of a wrapped key.
 use Rattle.std.specs.Prelude.{◌≡◌, ℕ, List, length}
+use Rattle.key_wrap_core.specs.declared.forms.Form.{Form}
+use Rattle.key_wrap_core.specs.declared.forms.Form.TheVariants as forms
 use Rattle.key_wrap_core.specs.declared.forms.Kind.{Kind}
 use Rattle.key_wrap_core.specs.declared.forms.Kind.TheVariants.{Plain as InPlain, Padded as InPadded, Neither}
 use Rattle.key_wrap_core.specs.Plain.{Plain, default_iv}
 use Rattle.key_wrap_core.specs.Padded.{Padded}
 use Rattle.key_wrap_core.specs.NoKey.{NoKey, NoPlainKey}
+
+-- the kind of a key of this length in this form
+abbrev pub kind_as : Form → ℕ → Kind
+kind_as forms.Plain m = InPlain m
+kind_as forms.Padded m = InPadded m
 
 -- it is the wrapping of a key of that length in that form, in the plain form with the initial value `iv`; or it is not
 -- a wrapping in either form

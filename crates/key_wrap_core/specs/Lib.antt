@@ -12,6 +12,6 @@ pub mod Calls
 pub mod Steps
 pub mod InPlace
 pub mod Forms
+pub mod EitherForm
 pub mod Found
-pub mod Rewrap
-pub mod KeepForm
+pub mod OneRewrap

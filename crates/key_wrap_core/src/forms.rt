@@ -9,6 +9,15 @@ pub enum Form {
     Padded,
 }
 
+/// The form in which a wrapped key was found, and the length of its key.
+#[derive(Clone, Copy, Debug, PartialEq, Eq)]
+pub struct FoundKey {
+    /// The form of the wrapped key.
+    pub form: Form,
+    /// The length of the key, in bytes.
+    pub len: usize,
+}
+
 /// The form in which bytes are a wrapping, with the length of their key.
 #[derive(Clone, Copy, Debug, PartialEq, Eq)]
 pub enum Kind {

@@ -1,8 +1,7 @@
-//! What an unwrapping found, the initial value and the registers: the unwrapping and the wrapping
-//! of a whole buffer, and the difference from what a wrapping in a form holds. No step here hangs
-//! on the length of the key that was found.
+//! Unwraps a buffer before the form is known, compares what it found with each form, and wraps the
+//! buffer again. No branch depends on the key's length.
 
-ghost use Rattle.std.specs.Prelude.{◌≡◌, ◌↔◌, ◌⊎◌, ℕ, ◌+◌, ◌++◌, List, length, drop};
+ghost use Rattle.std.specs.Prelude.{◌≡◌, ◌↔◌, ◌⊎◌, ℕ, ◌+◌, ◌*◌, ◌++◌, List, length, drop, IsErr, IsOk, IsTrue};
 ghost use Rattle.block_pair.specs.Metered.{counted};
 ghost use Rattle.key_wrap_core.specs.Words.{word_bytes};
 ghost use Rattle.key_wrap_core.specs.Lengths.{IsPaddedTextLength};
@@ -10,12 +9,13 @@ ghost use Rattle.key_wrap_core.specs.PaddedRegisters.{PaddedRegisters};
 ghost use Rattle.key_wrap_core.specs.NoKey.{NoKey};
 ghost use Rattle.key_wrap_core.specs.Calls.{block_calls};
 ghost use Rattle.key_wrap_core.specs.declared.forms.Form.{Form};
+ghost use Rattle.key_wrap_core.specs.declared.agreed_form.AgreedForm.{AgreedForm};
 ghost use Rattle.key_wrap_core.specs.Forms.{IsTextLengthAs, by_default};
 ghost use Rattle.key_wrap_core.specs.Found.{HoldsIn};
 
 use crate::agreed_form::AgreedForm;
-use crate::checks::{is_zero, padded_difference};
-use crate::forms::Form;
+use crate::checks::{DEFAULT_IV, is_zero, padded_difference};
+use crate::faults::InPlaceFault;
 use crate::lengths::WORD;
 use crate::machine::{unwrap_slice, wrap_slice};
 use block_pair::{BlockPair, Meter};
@@ -45,6 +45,76 @@ pub(crate) fn wrap_found<B: BlockPair>(meter: &mut Meter<B>, iv: u64, buf: &mut 
     BigEndian::write_u64(buf, c0);
 }
 
+// The registers after the first word of the buffer become the text again in which they and this
+// initial value were found.
+pub(crate) fn restore<B: BlockPair>(meter: &mut Meter<B>, found: u64, buf: &mut [u8])
+    requires { IsPaddedTextLength (length buf.old) }
+    ensures restored { (text : List ℕ) → PaddedRegisters (B.encrypted meter.old.pair)
+        (word_bytes found ++ drop 8 buf.old) text → buf.new ≡ text }
+    ensures calls { meter.new ≡ counted (block_calls (length buf.old)) meter.old }
+{
+    wrap_found(meter, found, buf);
+}
+
+/// An unwrapping that is restored leaves the buffer as it was, whatever it holds.
+pub fn restored<B: BlockPair>(meter: &mut Meter<B>, buf: &mut [u8])
+    requires { IsPaddedTextLength (length buf.old) }
+    ensures same { buf.new ≡ buf.old }
+    ensures calls { meter.new ≡ counted (2 * block_calls (length buf.old)) meter.old }
+{
+    let found = unwrap_found(meter, buf);
+    restore(meter, found, buf);
+}
+
+// Whether a difference is 0; if it is not, the registers become the text again.
+pub(crate) fn decide_or_restore<B: BlockPair>(
+    meter: &mut Meter<B>,
+    found: u64,
+    difference: u64,
+    buf: &mut [u8],
+) -> bool
+    requires { IsPaddedTextLength (length buf.old) }
+    ensures passes { IsTrue result ↔ (difference ≡ 0) }
+    ensures kept { IsTrue result → buf.new ≡ buf.old }
+    ensures meter_kept { IsTrue result → meter.new ≡ meter.old }
+    ensures restored { ¬ IsTrue result → (text : List ℕ)
+        → PaddedRegisters (B.encrypted meter.old.pair) (word_bytes found ++ drop 8 buf.old) text
+        → buf.new ≡ text }
+    ensures calls { ¬ IsTrue result
+        → meter.new ≡ counted (block_calls (length buf.old)) meter.old }
+{
+    match settle(meter, found, difference, buf) {
+        Ok(()) => true,
+        Err(_) => false,
+    }
+}
+
+// The one decision over a difference. Not inlined, so that a tool that follows secrets can name the
+// one place in which control depends on them. It answers a value that is not a bit: of a `bool` the
+// compiler answers the comparison itself, and the callers would branch on the secret again.
+#[inline(never)]
+fn settle<B: BlockPair>(
+    meter: &mut Meter<B>,
+    found: u64,
+    difference: u64,
+    buf: &mut [u8],
+) -> Result<(), InPlaceFault>
+    requires { IsPaddedTextLength (length buf.old) }
+    ensures passes { IsOk result ↔ (difference ≡ 0) }
+    ensures kept { IsOk result → buf.new ≡ buf.old }
+    ensures meter_kept { IsOk result → meter.new ≡ meter.old }
+    ensures restored { IsErr result → (text : List ℕ)
+        → PaddedRegisters (B.encrypted meter.old.pair) (word_bytes found ++ drop 8 buf.old) text
+        → buf.new ≡ text }
+    ensures calls { IsErr result → meter.new ≡ counted (block_calls (length buf.old)) meter.old }
+{
+    if difference == 0 {
+        return Ok(());
+    }
+    restore(meter, found, buf);
+    Err(InPlaceFault::Integrity)
+}
+
 // 0 if the initial value and the registers hold a key in this form.
 pub(crate) fn form_difference(form: &AgreedForm, iv: u64, registers: &[u8]) -> u64
     requires { IsTextLengthAs form.now (8 + length registers.now) }
@@ -53,13 +123,27 @@ pub(crate) fn form_difference(form: &AgreedForm, iv: u64, registers: &[u8]) -> u
     ensures refuses { ¬ (result ≡ 0) → NoKey (HoldsIn form.now) (word_bytes iv ++ registers.now) }
 {
     match form {
-        AgreedForm::Plain(agreed) => iv ^ agreed.word(),
+        AgreedForm::Plain(agreed) => plain_difference(agreed.word(), iv, registers),
         AgreedForm::Padded => padded_difference(iv, registers),
     }
 }
 
-// 0 if they hold a key in one of the two forms, under the default initial value; one word of key
-// data is wrapped only in the padded form.
+// 0 if the registers are a plain key under the initial value found, which is the expected one. One
+// word of key data is wrapped only in the padded form.
+pub(crate) fn plain_difference(expected: u64, iv: u64, registers: &[u8]) -> u64
+    requires { IsPaddedTextLength (8 + length registers.now) }
+    ensures passes { result ≡ 0
+        → HoldsIn (AgreedForm.Plain expected) registers.now (word_bytes iv ++ registers.now) }
+    ensures refuses { ¬ (result ≡ 0)
+        → NoKey (HoldsIn (AgreedForm.Plain expected)) (word_bytes iv ++ registers.now) }
+{
+    if registers.len() == WORD {
+        return 1;
+    }
+    iv ^ expected
+}
+
+// 0 if they hold a key in one of the two forms, under the default initial value.
 pub(crate) fn either_difference(iv: u64, registers: &[u8]) -> u64
     requires { IsPaddedTextLength (8 + length registers.now) }
     ensures passes { result ≡ 0
@@ -67,16 +151,12 @@ pub(crate) fn either_difference(iv: u64, registers: &[u8]) -> u64
     ensures refuses { ¬ (result ≡ 0)
         → (form : Form) → NoKey (HoldsIn (by_default form)) (word_bytes iv ++ registers.now) }
 {
-    let padded = form_difference(&AgreedForm::Padded, iv, registers);
-    if registers.len() == WORD {
-        return padded;
-    }
-    let plain = AgreedForm::by_default(Form::Plain);
-    either(form_difference(&plain, iv, registers), padded)
+    let plain = plain_difference(DEFAULT_IV, iv, registers);
+    either(plain, padded_difference(iv, registers))
 }
 
 // 0 if one of the two is 0, with no branch.
-fn either(first: u64, second: u64) -> u64
+pub(crate) fn either(first: u64, second: u64) -> u64
     ensures { (result ≡ 0) ↔ ((first ≡ 0) ⊎ (second ≡ 0)) }
 {
     is_zero(is_zero(first) + is_zero(second))

@@ -7,15 +7,14 @@ ghost use Rattle.key_wrap_core.specs.Plain.{Plain, default_iv};
 ghost use Rattle.key_wrap_core.specs.Padded.{Padded};
 ghost use Rattle.key_wrap_core.specs.NoKey.{NoKey};
 ghost use Rattle.key_wrap_core.specs.Calls.{block_calls};
-ghost use Rattle.key_wrap_core.specs.Kind.{IsKindOf, IsKindWith, NoOtherKey};
+ghost use Rattle.key_wrap_core.specs.Kind.{IsKindOf, IsKindWith, NoOtherKey, kind_as};
 
-use crate::faults::BadScratchLength;
-use crate::forms::Kind;
+use crate::any_form::unwrap_any_into;
+use crate::faults::{BadScratchLength, InPlaceFault};
+use crate::forms::{Form, FoundKey, Kind};
 use crate::initial_value::InitialValue;
-use crate::lengths::{WORD, padded_text_length_ok};
-use crate::unwrapping::kind_of_registers;
+use crate::lengths::padded_text_length_ok;
 use block_pair::{BlockPair, Meter};
-use byteorder::{BigEndian, ByteOrder};
 
 /// Returns the form in which `text` is the wrapping of a key under the meter's pair, or `Neither`.
 /// No wrapped key has both forms. The scratch buffer must be 8 bytes shorter than `text`, and
@@ -87,10 +86,22 @@ pub fn kind_into_with<B: BlockPair>(
     if !padded_text_length_ok(text.len()) {
         return Ok(Kind::Neither);
     }
-    if scratch.len() != text.len() - WORD {
-        return Err(BadScratchLength);
+    match unwrap_any_into(meter, iv, text, scratch) {
+        Ok(found) => {
+            scratch.fill(0);
+            Ok(kind_of(found))
+        }
+        Err(InPlaceFault::Integrity) => Ok(Kind::Neither),
+        Err(InPlaceFault::BadLength) => Err(BadScratchLength),
     }
-    scratch.copy_from_slice(&text[WORD..]);
-    let c0 = BigEndian::read_u64(text);
-    Ok(kind_of_registers(meter, iv.word(), c0, scratch))
+}
+
+// The kind of a key that was found.
+fn kind_of(found: FoundKey) -> Kind
+    ensures { result ≡ kind_as found.form found.len }
+{
+    match found.form {
+        Form::Plain => Kind::Plain(found.len),
+        Form::Padded => Kind::Padded(found.len),
+    }
 }

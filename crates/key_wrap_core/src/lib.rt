@@ -14,6 +14,7 @@
 #![tactic(auto)]
 
 mod agreed_form;
+mod any_form;
 mod checks;
 mod faults;
 mod forms;
@@ -22,11 +23,10 @@ mod in_place;
 mod initial_value;
 mod into;
 mod into_with;
-mod keeping_form_in_place;
 mod kinds;
 mod lengths;
 mod machine;
-mod rewrapping_in_place;
+mod one_rewrap;
 mod steps;
 mod unwrap_steps;
 mod unwrapping;
@@ -34,18 +34,21 @@ mod whole_runs;
 mod wrap_steps;
 
 pub use agreed_form::AgreedForm;
+pub use any_form::{unwrap_any_in_place, unwrap_any_into};
 pub use faults::{BadScratchLength, InPlaceFault, ReservedIv};
-pub use forms::{Form, Kind};
+pub use forms::{Form, FoundKey, Kind};
+pub use found::restored;
 pub use in_place::{unwrap_in_place, unwrap_padded_in_place, wrap_in_place, wrap_padded_in_place};
 pub use initial_value::InitialValue;
 pub use into::{unwrap_into, unwrap_padded_into, wrap_into, wrap_padded_into};
 pub use into_with::{unwrap_into_with, wrap_into_with};
-pub use keeping_form_in_place::rewrap_keeping_form_in_place;
 pub use kinds::{kind_into, kind_into_with};
 pub use lengths::{
     MAX_KEY, key_length_ok, padded_length_ok, padded_text_length_ok, text_length_ok,
 };
-pub use rewrapping_in_place::{rewrap_in_place, rewrap_in_place_with};
+pub use one_rewrap::{
+    RewrapFault, RewrapForms, Rewrapped, one_result_law, rewrap, rewrap_length_ok,
+};
 pub use unwrap_steps::{
     begin_unwrap, begin_unwrap_padded, end_unwrap, end_unwrap_padded, step_unwrap,
 };

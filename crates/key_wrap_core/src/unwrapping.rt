@@ -2,7 +2,7 @@
 //! their own.
 
 ghost use Rattle.std.specs.Prelude.{◌≡◌, ◌+◌, ◌*◌, ◌++◌, ℕ, List, length, take, All, Err};
-ghost use Rattle.std.specs.Prelude.{IfOk, IsOkUnless};
+ghost use Rattle.std.specs.Prelude.{IfOk, IsErr, IsOkUnless, ◌%◌, ◌^◌};
 ghost use Rattle.block_pair.specs.Pair.{AreInverse};
 ghost use Rattle.block_pair.specs.Metered.{counted};
 ghost use Rattle.key_wrap_core.specs.Words.{word_bytes};
@@ -14,12 +14,15 @@ ghost use Rattle.key_wrap_core.specs.PaddedRegisters.{PaddedRegisters};
 ghost use Rattle.key_wrap_core.specs.NoKey.{NoKey, NoPlainKey};
 ghost use Rattle.key_wrap_core.specs.Calls.{block_calls};
 ghost use Rattle.key_wrap_core.specs.InPlace.{Unwrapping};
-ghost use Rattle.key_wrap_core.specs.Kind.{IsTheKind};
+ghost use Rattle.key_wrap_core.specs.declared.forms.Form.{Form};
+ghost use Rattle.key_wrap_core.specs.Forms.{NoOtherForm, with_value};
+ghost use Rattle.key_wrap_core.specs.Found.{HoldsIn};
+ghost use Rattle.key_wrap_core.specs.EitherForm.{IsEither, IsOnlyWrapping, NoKeyIn};
 
 use crate::checks::{decide, given_length, padded_difference};
 use crate::faults::InPlaceFault;
-use crate::forms::Kind;
-use crate::lengths::WORD;
+use crate::forms::{Form, FoundKey};
+use crate::found::{either, plain_difference};
 use crate::machine::unwrap_slice;
 use block_pair::{BlockPair, Meter};
 
@@ -97,32 +100,68 @@ pub(crate) fn end_padded(found: u64, registers: &mut [u8]) -> Result<usize, InPl
     Ok(given_length(found) as usize)
 }
 
-// The kind of C0, C1 .. Cn, whose registers become zeros. For two words and more both forms unwrap
-// by the same steps, and one word has only a padded wrapping. So one unwrapping is enough, and the
-// initial value found tells the form.
-pub(crate) fn kind_of_registers<B: BlockPair>(
+// C1 .. Cn in the registers become the key whose wrapping in either form they are with C0, in the
+// padded form with its padding, or zeros if there is none. For two words and more both forms unwrap
+// by the same steps.
+pub(crate) fn unwrap_any_registers<B: BlockPair>(
     meter: &mut Meter<B>,
     iv: u64,
     c0: u64,
     registers: &mut [u8],
-) -> Kind
+) -> Result<FoundKey, InPlaceFault>
     requires length { IsPaddedTextLength (8 + length registers.old) }
     requires free { ¬ IsReserved iv }
-    ensures answer { let text = word_bytes c0 ++ registers.old in
-        IsTheKind iv (B.encrypted meter.old.pair) text result }
-    ensures cleared { All (λ byte. byte ≡ 0) registers.new }
+    ensures wraps { IfOk result (λ found. IsOnlyWrapping (IsEither iv)
+        (B.encrypted meter.old.pair) (with_value found.form iv) (take found.len registers.new)
+        (word_bytes c0 ++ registers.old)) }
+    ensures none { IsErr result
+        → NoKeyIn (IsEither iv) (B.encrypted meter.old.pair) (word_bytes c0 ++ registers.old) }
+    ensures other_form { IfOk result (λ found. NoOtherForm (with_value found.form iv)
+        (B.encrypted meter.old.pair) (word_bytes c0 ++ registers.old)) }
+    ensures only_fault { IsOkUnless result InPlaceFault.Integrity }
+    ensures size { IfOk result (λ found. length (take found.len registers.new) ≡ found.len) }
+    ensures padding { IfOk result (λ found.
+        registers.new ≡ padded (take found.len registers.new)) }
+    ensures cleared { IsErr result → All (λ byte. byte ≡ 0) registers.new }
     ensures calls { meter.new ≡ counted (block_calls (8 + length registers.old)) meter.old }
 {
     let found = unwrap_slice(meter, c0, registers);
+    end_any(found, iv, registers)
+}
+
+// The registers that the steps led back to stay if they hold a key in one of the two forms under
+// the initial value found, and become zeros if they do not.
+pub(crate) fn end_any(found: u64, iv: u64, registers: &mut [u8]) -> Result<FoundKey, InPlaceFault>
+    requires { IsPaddedTextLength (8 + length registers.old) }
+    ensures holds { IfOk result (λ key. HoldsIn (with_value key.form iv)
+        (take key.len registers.new) (word_bytes found ++ registers.old)
+        × (length (take key.len registers.new) ≡ key.len)
+        × (registers.new ≡ padded (take key.len registers.new))) }
+    ensures none { IsErr result
+        → (form : Form) → NoKey (HoldsIn (with_value form iv)) (word_bytes found ++ registers.old) }
+    ensures only_fault { IsOkUnless result InPlaceFault.Integrity }
+    ensures cleared { IsErr result → All (λ byte. byte ≡ 0) registers.new }
+{
     let padded = padded_difference(found, registers);
-    let is_plain = decide(found ^ iv, registers).is_ok();
-    let is_padded = decide(padded, registers).is_ok();
-    registers.fill(0);
-    if is_plain && registers.len() > WORD {
-        Kind::Plain(registers.len())
-    } else if is_padded {
-        Kind::Padded(given_length(found) as usize)
-    } else {
-        Kind::Neither
+    let plain = plain_difference(iv, found, registers);
+    decide(either(plain, padded), registers)?;
+    Ok(found_key(padded, found, registers.len()))
+}
+
+// The form and the length of the key that was found. The caller learns them. It is a padded key
+// exactly if the difference from one is 0.
+fn found_key(padded: u64, found: u64, len: usize) -> FoundKey
+    ensures padded { padded ≡ 0 → (result.form ≡ Form.Padded) × (result.len ≡ found % 2 ^ 32) }
+    ensures plain { ¬ (padded ≡ 0) → (result.form ≡ Form.Plain) × (result.len ≡ len) }
+{
+    match decide(padded, &mut []) {
+        Ok(()) => FoundKey {
+            form: Form::Padded,
+            len: given_length(found) as usize,
+        },
+        Err(_) => FoundKey {
+            form: Form::Plain,
+            len,
+        },
     }
 }

@@ -1,11 +1,10 @@
 //! Reads the arguments into a `Command`.
 
 use crate::command::{Command, LineOptions, Run, agreed_form};
-use key_wrap_core::{Form, InitialValue};
+use key_wrap_core::{Form, InitialValue, RewrapForms};
 use keywrap_args::{Args, Subcommand, parse};
 use keywrap_cli::{
-    Direction, IvFault, Job, Notation, Operation, ProgramFault, RewrapForms, Rewrapping, Task,
-    parse_iv,
+    Direction, IvFault, Job, Notation, Operation, ProgramFault, Rewrapping, Task, parse_iv,
 };
 use std::alloc::Global;
 
@@ -41,6 +40,7 @@ pub fn read_command<'a>(alloc: Global, args: &'a [String]) -> Result<Command<'a>
 fn command<'a>(args: &Args<'a>) -> Result<Command<'a>, Stop> {
     let operation = match args.subcommand {
         Subcommand::Wrap => job(Job::Wrap, args)?,
+        Subcommand::Unwrap if args.has("any-form") => job(Job::UnwrapAny, args)?,
         Subcommand::Unwrap => job(Job::Unwrap, args)?,
         Subcommand::Check => job(Job::Check, args)?,
         Subcommand::Rewrap => rewrap(args)?,
@@ -56,7 +56,7 @@ fn command<'a>(args: &Args<'a>) -> Result<Command<'a>, Stop> {
     }))
 }
 
-// A check tries both forms and ignores this one.
+// UnwrapAny and Check try both forms and ignore this one.
 fn job<'a>(job: Job, args: &Args<'a>) -> Result<Operation<&'a str>, Stop> {
     let kek = args.kek_file("kek")?;
     let iv = initial_value(args, "iv").map_err(ProgramFault::Iv)?;

@@ -4,11 +4,15 @@ use crate::command::{Run, agreed_form};
 use key_files::{FileFault, MAX_FILE};
 use key_lines::LineFault;
 use key_wrap_core::AgreedForm::{self, Padded, Plain};
-use key_wrap_core::{InPlaceFault, InitialValue, MAX_KEY, padded_text_length_ok};
+use key_wrap_core::{InitialValue, MAX_KEY, RewrapForms};
 use keywrap_args::Escaped;
-use keywrap_cli::{Job, JobFault, Notation, Operation, ProgramFault, RewrapForms};
+use keywrap_cli::{Job, JobFault, Notation, Operation, ProgramFault, Refusal};
 use keywrap_io::{FileRole, Inspected, Inspection, Reason};
 use std::fmt;
+
+// The reason for a key that no plain key can be.
+const KEY_NOT_PLAIN: &str =
+    "its key cannot be wrapped in the plain form: 16 bytes or more, a multiple of 8";
 
 /// The file that caused a fault, and the reason: the second line of a refusal.
 pub type Cause = (FileRole, Reason);
@@ -74,6 +78,7 @@ fn job_cause<F>(
         JobFault::InputFile(fault) => (FileRole::Input, file_reason(fault, input)),
         JobFault::BadLength => (FileRole::Input, length_reason(operation, input)),
         JobFault::Integrity => integrity_cause(operation),
+        JobFault::KeyNotPlain => (FileRole::Input, Reason::Text(KEY_NOT_PLAIN)),
         JobFault::Write { .. } | JobFault::Memory => return None,
     })
 }
@@ -81,17 +86,14 @@ fn job_cause<F>(
 fn line_cause<F>(
     operation: &Operation<Inspected<F>>,
     input: &Inspection,
-    fault: LineFault<InPlaceFault>,
+    fault: LineFault<Refusal>,
 ) -> Cause {
     let reason = match fault {
         LineFault::Input(FileFault::OddDigits) => Reason::NameOnly,
         LineFault::Input(fault) => file_reason(fault, input),
-        LineFault::Refused(InPlaceFault::Integrity) => return integrity_cause(operation),
-        // The length of the key may be illegal instead.
-        LineFault::Refused(InPlaceFault::BadLength) if operation.drops_padding() => {
-            Reason::NameOnly
-        }
-        LineFault::Refused(InPlaceFault::BadLength) => Reason::Text(legal_lengths(operation)),
+        LineFault::Refused(Refusal::Integrity) => return integrity_cause(operation),
+        LineFault::Refused(Refusal::BadLength) => Reason::Text(legal_lengths(operation)),
+        LineFault::Refused(Refusal::KeyNotPlain) => Reason::Text(KEY_NOT_PLAIN),
     };
     (FileRole::Input, reason)
 }
@@ -121,11 +123,13 @@ fn denoted_bytes(notation: Notation, seen: &Inspection) -> u64 {
     }
 }
 
-// Returns the form of the input or, for a key, of its wrapped key. It is unknown if a rewrap keeps
-// the form.
+// Returns the form of the input or, for a key, of its wrapped key, unless both forms are tried.
 fn input_form<K>(operation: &Operation<K>) -> Option<AgreedForm> {
     match operation {
-        Operation::Job { iv, task, .. } => Some(agreed_form(task.form, *iv)),
+        Operation::Job { iv, task, .. } => match task.job {
+            Job::Wrap | Job::Unwrap => Some(agreed_form(task.form, *iv)),
+            Job::UnwrapAny | Job::Check => None,
+        },
         Operation::Rewrap { task, .. } => match task.forms {
             RewrapForms::Kept => None,
             RewrapForms::Changed { old, .. } => Some(old),
@@ -141,10 +145,6 @@ fn length_reason<K>(operation: &Operation<K>, input: &Inspection) -> Reason {
     };
     if bytes > most as u64 {
         Reason::TooLong(bytes, what, most)
-    } else if operation.drops_padding() && padded_text_length_ok(bytes as usize) {
-        Reason::Text(
-            "its key cannot be wrapped in the plain form: 16 bytes or more, a multiple of 8",
-        )
     } else {
         Reason::Length(bytes, legal_lengths(operation))
     }

@@ -3,8 +3,7 @@
 use crate::command::Run;
 use crate::prompt::is_typed;
 use key_lines::{RefusalLog, RefusedLine, RunFault, RunSummary};
-use key_wrap_core::InPlaceFault;
-use keywrap_cli::{Job, Operation, Outcome, ProgramFault, statuses};
+use keywrap_cli::{Operation, Outcome, ProgramFault, Refusal, lines_status};
 use keywrap_io::{
     CountingReader, FileRole, InputSource, Inspected, LineCounts, Progress, Streams,
     is_output_piped,
@@ -20,7 +19,7 @@ const READ_BUFFER: usize = 65_536;
 /// The exit status of an operation that was not refused, and the counts if they are shown.
 pub type Answer = Outcome<(u8, Option<LineCounts>)>;
 
-type RunResult = Result<RunSummary<InPlaceFault>, RunFault<InPlaceFault>>;
+type RunResult = Result<RunSummary<Refusal>, RunFault<Refusal>>;
 
 /// The options of a run over lines.
 #[derive(Clone, Copy)]
@@ -74,7 +73,7 @@ impl LineRun {
             refused: result.refused,
             passed,
         };
-        let status = lines_status(operation, &result);
+        let status = lines_status(operation.job(), &result);
         let result = (status, self.shows_counts.then_some(counts));
         Ok(Outcome { result, same_kek })
     }
@@ -95,7 +94,7 @@ impl LineRun {
     }
 }
 
-fn summary(run: RunResult, written: usize) -> Result<RunSummary<InPlaceFault>, ProgramFault> {
+fn summary(run: RunResult, written: usize) -> Result<RunSummary<Refusal>, ProgramFault> {
     match run {
         Ok(summary) if summary.lines == 0 => Err(ProgramFault::NoLines),
         Ok(summary) => Ok(summary),
@@ -106,24 +105,12 @@ fn summary(run: RunResult, written: usize) -> Result<RunSummary<InPlaceFault>, P
     }
 }
 
-// Returns the exit status of a run over lines: the status of the first refused line. A check marks
-// the lines for which it found no key.
-fn lines_status<K>(operation: &Operation<K>, summary: &RunSummary<InPlaceFault>) -> u8 {
-    if let Some(refused) = summary.first_refused {
-        return ProgramFault::Line(refused).status();
-    }
-    match operation.job() {
-        Some(Job::Check) if summary.marked > 0 => statuses::FAILED,
-        _ => statuses::DONE,
-    }
-}
-
 // Prints the message of each skipped line.
 #[derive(Drop)]
 struct RefusedLines<'p, 'r, R>(&'p Progress<'r, R>);
 
-impl<R: Eprint + AllocGlobal + Env + Clock> RefusalLog<InPlaceFault> for RefusedLines<'_, '_, R> {
-    fn receive(&mut self, refused: &RefusedLine<InPlaceFault>) {
+impl<R: Eprint + AllocGlobal + Env + Clock> RefusalLog<Refusal> for RefusedLines<'_, '_, R> {
+    fn receive(&mut self, refused: &RefusedLine<Refusal>) {
         self.0.print_line(ProgramFault::Line(*refused));
     }
 }

@@ -6,13 +6,13 @@ use crate::host::Host;
 use crate::lines::{Answer, LineRun};
 use crate::prompt::prompt;
 use crate::warnings::warn;
-use keywrap_cli::{Done, Job, Operation, Outcome, ProgramFault, statuses};
+use keywrap_cli::{Job, Operation, Outcome, ProgramFault, done_status};
 use keywrap_io::{
     Access, FileId, FileRole, InputSource, Inspected, Output, OutputFault, OutputFile, Protected,
     Reason, Streams, occupy_closed, open,
 };
 use std::alloc::Global;
-use std::io::{self, Read, Write};
+use std::io::{self, Printer, Read, Write};
 use std::rt::Files;
 
 /// A run on files, with all that its steps need.
@@ -106,13 +106,13 @@ impl<'a, R: Host> Session<'a, R> {
         &self,
         operation: &Opened<R::Reader>,
         input: &Source<R::Reader>,
-    ) -> Result<Inspected<Output<'a, R>>, Refused> {
+    ) -> Result<Inspected<Output<'a, Printer<'a, R>>>, Refused> {
         let output = match self.run.output {
             Some(name) => {
                 let protected = self.protected(operation, input);
                 let access = match self.run.operation.job() {
-                    Some(Job::Unwrap) => Access::Private,
-                    _ => Access::LikeOld,
+                    Some(Job::Unwrap | Job::UnwrapAny) => Access::Private,
+                    Some(Job::Wrap | Job::Check) | None => Access::LikeOld,
                 };
                 match OutputFile::create(self.rt, name, &protected, access) {
                     Ok(file) => Output::File(file),
@@ -147,7 +147,7 @@ impl<'a, R: Host> Session<'a, R> {
         &self,
         operation: &mut Opened<R::Reader>,
         input: &mut Source<R::Reader>,
-        output: &mut Inspected<Output<'a, R>>,
+        output: &mut Inspected<Output<'a, Printer<'a, R>>>,
     ) -> Result<u8, Refused> {
         match self.operate(operation, input, output) {
             Ok(answer) => {
@@ -171,7 +171,7 @@ impl<'a, R: Host> Session<'a, R> {
         &self,
         operation: &mut Opened<R::Reader>,
         input: &mut Source<R::Reader>,
-        output: &mut Inspected<Output<'a, R>>,
+        output: &mut Inspected<Output<'a, Printer<'a, R>>>,
     ) -> Result<Answer, ProgramFault> {
         match LineRun::new(self.rt, self.run, self.streams) {
             Some(lines) => lines.answer(self.rt, operation, input, output),
@@ -220,10 +220,6 @@ fn run_whole<K: Read, I: Read, W: Write>(
 ) -> Result<Answer, ProgramFault> {
     let run = operation.run(alloc, input, out);
     let Outcome { result, same_kek } = run.map_err(ProgramFault::Job)?;
-    let status = match result {
-        Done::Written => statuses::DONE,
-        Done::Neither => statuses::FAILED,
-    };
-    let result = (status, None);
+    let result = (done_status(result), None);
     Ok(Outcome { result, same_kek })
 }

@@ -2,6 +2,7 @@
 
 use crate::command::Run;
 use crate::explain::{ShownName, raw_kek_looks_like};
+use key_wrap_core::{AgreedForm, RewrapForms};
 use keywrap_cli::Operation;
 use keywrap_io::{FileRole, Inspected};
 
@@ -18,11 +19,25 @@ pub fn warn<R: Eprint, F>(rt: &R, run: &Run<'_>, files: &Operation<Inspected<F>>
     if let Some(new_kek) = files.new_kek() {
         warn_of_kek(rt, run, FileRole::NewKek, new_kek);
     }
-    if files.drops_padding() {
+    if becomes_plain(files) {
         let _ = rt.eprintln(BECAME_PLAIN);
     }
     if same_kek && run.operation.keeps_form() {
         let _ = rt.eprintln(SAME_KEK);
+    }
+}
+
+// Returns whether a padded wrapped key becomes a plain one.
+fn becomes_plain<K>(operation: &Operation<K>) -> bool {
+    match operation {
+        Operation::Job { .. } => false,
+        Operation::Rewrap { task, .. } => matches!(
+            task.forms,
+            RewrapForms::Changed {
+                old: AgreedForm::Padded,
+                new: AgreedForm::Plain(_),
+            }
+        ),
     }
 }
 

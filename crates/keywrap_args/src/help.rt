@@ -40,6 +40,11 @@ pub const KEEP_FORM: &str = "\
 Takes either form, and the new wrapped key keeps it. Not with
 --padded, --new-padded, --iv or --new-iv";
 
+/// The long help of `--any-form`.
+pub const ANY_FORM: &str = "\
+Takes either form, as check does; --iv is the initial value of the
+plain form. Not with --padded";
+
 /// The long help of `--pass-new`.
 pub const PASS_NEW: &str = "\
 A wrapped key that is already under the new KEK, in the form that
@@ -101,7 +106,7 @@ Example, in an empty directory, with the first vector of RFC 3394:
 
 Hex, base64 and the exit statuses: keywrap --help.
 A wrapped key that does not fit this KEK and this form is refused with status
-5, and no byte is written. keywrap check prints the form that fits the KEK.";
+5, and no byte is written. With --any-form both forms are tried.";
 
 /// An example of `rewrap`.
 pub const REWRAP_EXAMPLE: &str = "\

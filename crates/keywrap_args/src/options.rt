@@ -21,6 +21,7 @@ pub(crate) enum Users {
     Keyed,
     // Those to which the form is given.
     Formed,
+    Unwrap,
     Rewrap,
     Drill,
 }
@@ -92,7 +93,7 @@ const FLAG: Rules<'static> = Rules {
 };
 
 // The arguments in the order of the help.
-static ARGUMENTS: [Argument<'static>; 21] = [
+static ARGUMENTS: [Argument<'static>; 22] = [
     argument!(Keyed: "kek", "The file of the KEK: 16, 24 or 32 bytes, in hex", value: Value::Kek),
     argument! {
         Rewrap: "new-kek", "The file of the KEK of the new wrapped key, in hex",
@@ -118,6 +119,10 @@ static ARGUMENTS: [Argument<'static>; 21] = [
     argument! {
         Rewrap: "keep-form", "Takes either form, and the new wrapped key keeps it",
         long_help: Some(help::KEEP_FORM), conflicts: &["padded", "new-padded"]
+    },
+    argument! {
+        Unwrap: "any-form", "Takes either form",
+        long_help: Some(help::ANY_FORM), conflicts: &["padded"]
     },
     argument! {
         Rewrap: "pass-new", "Copies a wrapped key that is already under the new KEK",

@@ -140,8 +140,9 @@ impl Subcommand {
     // Returns whether the subcommand is one of these.
     fn has(self, users: Users) -> bool {
         match self {
-            Subcommand::Wrap | Subcommand::Unwrap => matches!(users, Users::Keyed | Users::Formed),
-            Subcommand::Rewrap => !matches!(users, Users::Drill),
+            Subcommand::Wrap => matches!(users, Users::Keyed | Users::Formed),
+            Subcommand::Unwrap => { matches!(users, Users::Keyed | Users::Formed | Users::Unwrap) }
+            Subcommand::Rewrap => !matches!(users, Users::Unwrap | Users::Drill),
             Subcommand::Check => matches!(users, Users::Keyed),
             Subcommand::Drill => matches!(users, Users::Formed | Users::Drill),
             Subcommand::Vectors => false,

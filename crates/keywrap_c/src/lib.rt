@@ -2,6 +2,7 @@
 //! that is cleared last. `include/keywrap.h` declares them.
 #![tactic(auto)]
 
+mod any_form;
 mod kinds;
 mod padded;
 mod padded_in_place;

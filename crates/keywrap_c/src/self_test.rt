@@ -6,6 +6,7 @@ ghost use Rattle.keywrap_calls.specs.Calls.{Wraps, Unwraps, WrapsPadded, Unwraps
 ghost use Rattle.keywrap_calls.specs.Calls.{IsPaddedKey};
 ghost use Rattle.keywrap_calls.specs.SelfTest.{IsAllRight};
 ghost use Rattle.keywrap_calls.specs.Status.{IsDone, IsIntegrity};
+ghost use Rattle.keywrap_calls.specs.Tried.{exports};
 
 use crate::padded::{keywrap_unwrap_padded, keywrap_wrap_padded};
 use crate::plain::{keywrap_unwrap, keywrap_wrap};
@@ -15,6 +16,8 @@ use keywrap_calls::TestedCalls;
 struct Exports;
 
 impl TestedCalls for Exports {
+    ghost calls = { exports };
+
     fn wrap(kek: &[u8], key: &[u8], text: &mut [u8]) -> i32 {
         keywrap_wrap(kek, key, text)
     }

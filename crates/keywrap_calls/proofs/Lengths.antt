@@ -3,12 +3,8 @@ use Rattle.std.proofs.Common.{ℕ, List, length, drop, arith, length-drop, ◌+�
 use Rattle.std.proofs.Math.Decide.{dec_le}
 use Rattle.std.proofs.Math.Logic.{by_cases}
 use Rattle.key_wrap_core.specs.declared.lengths.TheConstants.{MAX_KEY}
-use Rattle.key_wrap_core.specs.declared.forms.Form.{Form}
-use Rattle.key_wrap_core.specs.declared.forms.Form.TheVariants as forms
-use Rattle.key_wrap_core.specs.Forms.{IsTextLength}
 use Rattle.key_wrap_core.specs.Lengths.{IsPlainKeyLength, IsPlainTextLength, IsPaddedTextLength}
 use Rattle.key_wrap_core.specs.InPlace.{IsPaddedRoom, ArePlainLengths}
-use Rattle.key_wrap_core.specs.KeepForm.{IsSomeTextLength}
 use Rattle.keywrap_calls.specs.Kinds.{HasScratch}
 
 -- a buffer whose key has a legal length after the first word
@@ -47,24 +43,10 @@ room-not_refused m len kept =
     let most : m ≤ MAX_KEY = ≤-not_refused _ _ (λ no. kept (λ it. no it.0.1)) in
     ((least, most), ≡-not_refused _ _ (λ no. kept (λ it. no it.1)))
 
--- a text's length that is not refused in the form
-pub text_length-not_refused : (form : Form) (len : ℕ) → ¬ (¬ IsTextLength form len) → IsTextLength form len
-text_length-not_refused forms.Plain len kept =
+-- a length of a plain text that is not refused
+pub plain_text-not_refused : (len : ℕ) → ¬ (¬ IsPlainTextLength len) → IsPlainTextLength len
+plain_text-not_refused len kept =
     let whole : len % 8 ≡ 0 = ≡-not_refused _ _ (λ no. kept (λ they. no they.0)) in
     let least : 24 ≤ len = ≤-not_refused _ _ (λ no. kept (λ they. no they.1)) in
     let most : len ≤ MAX_KEY + 8 = ≤-not_refused _ _ (λ no. kept (λ they. no they.2)) in
     (whole, least, most)
-text_length-not_refused forms.Padded len kept =
-    let whole : len % 8 ≡ 0 = ≡-not_refused _ _ (λ no. kept (λ they. no they.0)) in
-    let least : 16 ≤ len = ≤-not_refused _ _ (λ no. kept (λ they. no they.1)) in
-    let most : len ≤ MAX_KEY + 8 = ≤-not_refused _ _ (λ no. kept (λ they. no they.2)) in
-    (whole, least, most)
-
--- a length that is not refused in both forms is legal in the padded one, which takes the plain one's
-pub some_length-not_refused : (len : ℕ) → ¬ (¬ IsSomeTextLength len) → IsSomeTextLength len
-some_length-not_refused len kept =
-    (forms.Padded, text_length-not_refused forms.Padded len (λ no. kept (λ it. no (padded_length it.0 it.1))))
-  where
-    padded_length : (form : Form) → IsTextLength form len → IsTextLength forms.Padded len
-    padded_length forms.Plain they = (they.0, omega (arith, they.1), they.2)
-    padded_length forms.Padded they = they

@@ -1,7 +1,8 @@
 -- Lemmas that several calls share.
 pub mod Calls
 pub mod Finding
+pub mod AnyForm
 pub mod KnownAnswers
-pub mod Rewraps
 pub mod Lengths
+pub mod Rewraps
 pub mod Endings

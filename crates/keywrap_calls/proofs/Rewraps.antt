@@ -1,70 +1,97 @@
--- What a rewrap promises under KEKs that are not refused, from what is known of its outcome.
-use Rattle.std.proofs.Common.{◌≡◌, ◌↔◌, ◌⊎◌, ℕ, List, length, refl, All, Result, Ok, Err, rules}
-use Rattle.std.specs.Prelude.{IsOk, IsErr, OnOk}
-use Rattle.fips197.specs.KeyExpansion.{IsKekLength}
-use Rattle.key_wrap_core.specs.declared.faults.InPlaceFault.{InPlaceFault}
-use Rattle.key_wrap_core.specs.declared.faults.InPlaceFault.TheVariants.{BadLength, Integrity}
-use Rattle.keywrap_calls.specs.declared.rewrapping.Asked.{Asked}
-use Rattle.keywrap_calls.specs.declared.rewrapping.Asked.TheVariants.{Between, Keep}
-use Rattle.keywrap_calls.specs.Status.{outcome_status}
-use Rattle.keywrap_calls.specs.Forms.{AreFlags, asked, IsGivenLength, HasBadLength, HasNoKey, HasGoodKey, Rewraps, RewrapsInPlace}
+-- What the rewraps promise, from what is known of the outcome.
+use Rattle.std.proofs.Common.{◌≡◌, subst, ℕ, List, refl, ◌∙◌, All, Result, Ok, Err, false, ◌⊎◌, inl, inr, ◌<◌, ◌/◌, arith}
+use lib.IntN.{ℤ}
+use Rattle.std.specs.Prelude.{IsErr}
+use Rattle.key_wrap_core.specs.declared.one_rewrap.Rewrapped.{Rewrapped}
+use Rattle.key_wrap_core.specs.declared.one_rewrap.RewrapFault.{RewrapFault}
+use Rattle.key_wrap_core.specs.declared.one_rewrap.RewrapFault.TheVariants.{BadLength, Integrity, KeyNotPlain}
+use Rattle.key_wrap_core.specs.OneRewrap.{IsRewrapping}
+use Rattle.keywrap_calls.specs.Status.{IsBadKek, IsBadLength, IsIntegrity, IsKeyNotPlain}
+use Rattle.keywrap_calls.specs.Rewraps.{AreKeks, AreFlags, forms_of, passes_new, rewrap_status, already_of, IsRewrapResult, Rewraps}
+use Rattle.keywrap_calls.specs.Rewraps.{in_place_status, IsLeft, RewrapsInPlace}
 
--- a text that is the wrapping of no key has a legal length
-given_length : (E : List ℕ → List ℕ) (text : List ℕ) (a : Asked) → HasNoKey a E text → IsGivenLength a (length text)
-given_length E text (Between old new) none = none.0
-given_length E text Keep none = none.0
+module _ (E F : List ℕ → List ℕ) (old_kek new_kek : List ℕ) (flags : ℕ) (old new : List ℕ) where
+  result_of : (outcome : Result Rewrapped RewrapFault) → (AreFlags flags → IsRewrapping (passes_new flags) (forms_of flags) E F old outcome new)
+      → AreFlags flags → IsRewrapResult (passes_new flags) (forms_of flags) E F old new (already_of outcome) (rewrap_status outcome)
+  result_of outcome told legal = record { result = outcome; rewraps = told legal; status_is = refl; already_is = refl }
 
-pub rewraps : (E F : List ℕ → List ℕ) (old_kek new_kek : List ℕ) (flags : ℕ) (old new : List ℕ) (outcome : Result (Unit {0}) InPlaceFault)
-    → IsKekLength (length old_kek) → IsKekLength (length new_kek)
-    → ((outcome ≡ Err BadLength) ↔ (¬ AreFlags flags ⊎ HasBadLength (asked flags) E old))
-    → ((outcome ≡ Err Integrity) ↔ (AreFlags flags × HasNoKey (asked flags) E old))
-    → (IsOk outcome → AreFlags flags × IsGivenLength (asked flags) (length old))
-    → (¬ AreFlags flags → new ≡ old) → (¬ IsGivenLength (asked flags) (length old) → new ≡ old)
-    → (IsErr outcome → AreFlags flags → IsGivenLength (asked flags) (length old) → All (λ byte. byte ≡ 0) new)
-    → OnOk outcome (Rewraps (asked flags) E F old new)
-    → (AreFlags flags → HasGoodKey (asked flags) E old → IsOk outcome)
-    → RewrapsInPlace E F old_kek new_kek flags old new (outcome_status outcome)
-rewraps E F old_kek new_kek flags old new (Ok _) legal_old legal_new bad_length integrity done kept_flags kept_text cleared answer accepts = record {
-  statuses = search rules;
-  bad_kek = (λ s. absurd (let wrong = s in cc), search rules);
-  bad_length = (λ s. absurd (let wrong = s in cc), λ they. absurd (let wrong = bad_length.1 they.2 in cc));
-  integrity = (λ s. absurd (let wrong = s in cc), λ they. absurd (let wrong = integrity.1 (they.2, they.3) in cc));
-  done = λ _. (legal_old, legal_new, (done refl).0, (done refl).1);
-  kept_at_bad_kek = λ s. absurd (let wrong = s in cc);
-  kept_at_bad_flags = kept_flags;
-  kept_at_bad_text = kept_text;
-  cleared = λ s. absurd (let wrong = s in cc);
-  cleared_at_bad_key = λ s. absurd (let wrong = s in cc);
-  answer = λ _. answer;
-  accepts = λ _ _ _ _. refl;
-}
-rewraps E F old_kek new_kek flags old new (Err BadLength) legal_old legal_new bad_length integrity done kept_flags kept_text cleared answer accepts = record {
-  statuses = search rules;
-  bad_kek = (λ s. absurd (let wrong = s in cc), search rules);
-  bad_length = (λ _. (legal_old, legal_new, bad_length.0 refl), λ _. refl);
-  integrity = (λ s. absurd (let wrong = s in cc), λ they. absurd (let wrong = integrity.1 (they.2, they.3) in cc));
-  done = λ s. absurd (let wrong = s in cc);
-  kept_at_bad_kek = λ s. absurd (let wrong = s in cc);
-  kept_at_bad_flags = kept_flags;
-  kept_at_bad_text = kept_text;
-  cleared = λ s. absurd (let wrong = s in cc);
-  cleared_at_bad_key = λ _ flags given. cleared refl flags given;
-  answer = λ s. absurd (let wrong = s in cc);
-  accepts = λ _ _ flags good. absurd (let wrong = accepts flags good in cc);
-}
-rewraps E F old_kek new_kek flags old new (Err Integrity) legal_old legal_new bad_length integrity done kept_flags kept_text cleared answer accepts =
-    let none : AreFlags flags × HasNoKey (asked flags) E old = integrity.0 refl in
-    record {
-      statuses = search rules;
-      bad_kek = (λ s. absurd (let wrong = s in cc), search rules);
-      bad_length = (λ s. absurd (let wrong = s in cc), λ they. absurd (let wrong = bad_length.1 they.2 in cc));
-      integrity = (λ _. (legal_old, legal_new, none.0, none.1), λ _. refl);
-      done = λ s. absurd (let wrong = s in cc);
-      kept_at_bad_kek = λ s. absurd (let wrong = s in cc);
-      kept_at_bad_flags = kept_flags;
-      kept_at_bad_text = kept_text;
-      cleared = λ _. cleared refl none.0 (given_length E old (asked flags) none.1);
-      cleared_at_bad_key = λ s. absurd (let wrong = s in cc);
-      answer = λ s. absurd (let wrong = s in cc);
-      accepts = λ _ _ flags good. absurd (let wrong = accepts flags good in cc);
-    }
+  pub rewraps : (outcome : Result Rewrapped RewrapFault) → AreKeks old_kek new_kek
+      → (AreFlags flags → IsRewrapping (passes_new flags) (forms_of flags) E F old outcome new) → (¬ AreFlags flags → outcome ≡ Err BadLength)
+      → (IsErr outcome → new ≡ old) → Rewraps E F old_kek new_kek flags old new (already_of outcome) (rewrap_status outcome)
+  rewraps (Ok done) keks told bad_flags kept = record {
+    bad_kek = (λ s. absurd (let wrong = s in cc), λ no. absurd (no keks));
+    bad_flags = λ _ bad. absurd (let wrong = bad_flags bad in cc);
+    rewraps = λ _ legal. result_of (Ok done) told legal;
+    kept = λ no. absurd (no refl);
+    not_already = λ no. absurd (no refl);
+  }
+  rewraps (Err BadLength) keks told bad_flags kept = record {
+    bad_kek = (λ s. absurd (let wrong = s in cc), λ no. absurd (no keks));
+    bad_flags = λ _ _. refl;
+    rewraps = λ _ legal. result_of (Err BadLength) told legal;
+    kept = λ _. kept refl;
+    not_already = λ _. refl;
+  }
+  rewraps (Err Integrity) keks told bad_flags kept = record {
+    bad_kek = (λ s. absurd (let wrong = s in cc), λ no. absurd (no keks));
+    bad_flags = λ _ bad. absurd (let wrong = bad_flags bad in cc);
+    rewraps = λ _ legal. result_of (Err Integrity) told legal;
+    kept = λ _. kept refl;
+    not_already = λ _. refl;
+  }
+  rewraps (Err KeyNotPlain) keks told bad_flags kept = record {
+    bad_kek = (λ s. absurd (let wrong = s in cc), λ no. absurd (no keks));
+    bad_flags = λ _ bad. absurd (let wrong = bad_flags bad in cc);
+    rewraps = λ _ legal. result_of (Err KeyNotPlain) told legal;
+    kept = λ _. kept refl;
+    not_already = λ _. refl;
+  }
+
+-- the call of version 1.0, from the other call with the same flags, or with a bit that is no flag
+module _ (E F : List ℕ → List ℕ) (old_kek new_kek : List ℕ) (forms flags : ℕ) (old after : List ℕ) (already : ℕ)
+    (same : forms < 4 → flags ≡ forms) (other : ¬ (forms < 4) → flags ≡ 16) where
+  refused : ¬ (forms < 4) → ¬ AreFlags flags
+  refused large legal = omega (arith, other large, legal.0)
+
+  legal_flags : forms < 4 → AreFlags forms
+  legal_flags small = (omega (arith, small), omega (arith, small))
+
+  no_pass : forms < 4 → passes_new forms ≡ false
+  no_pass small = let none : forms / 8 ≡ 0 = omega (arith, small) in rw none refl
+
+  with_forms : (result : Result Rewrapped RewrapFault) → flags ≡ forms → forms < 4
+      → IsRewrapping (passes_new flags) (forms_of flags) E F old result after → IsRewrapping false (forms_of forms) E F old result after
+  with_forms result given small is =
+      subst (λ passes. IsRewrapping passes (forms_of forms) E F old result after) (no_pass small)
+      (subst (λ f. IsRewrapping (passes_new f) (forms_of f) E F old result after) given is)
+
+  -- what comes of each result
+  in_place_result : (result : Result Rewrapped RewrapFault) (status first : ℤ) (new : List ℕ) → status ≡ rewrap_status result
+      → (IsKeyNotPlain status → IsBadLength first) → (¬ IsKeyNotPlain status → first ≡ status)
+      → (IsIntegrity status ⊎ IsKeyNotPlain status → All (λ byte. byte ≡ 0) new) → (¬ (IsIntegrity status ⊎ IsKeyNotPlain status) → new ≡ after)
+      → (first ≡ in_place_status result) × IsLeft result after new
+  in_place_result (Ok done) status first new is short_key other cleared kept =
+      (other (λ s. let wrong = s in cc) ∙ is, kept (λ s. elim s [ inl x ↦ let wrong = x in cc | inr x ↦ let wrong = x in cc ]))
+  in_place_result (Err BadLength) status first new is short_key other cleared kept =
+      (other (λ s. let wrong = s in cc) ∙ is, kept (λ s. elim s [ inl x ↦ let wrong = x in cc | inr x ↦ let wrong = x in cc ]))
+  in_place_result (Err Integrity) status first new is short_key other cleared kept =
+      (other (λ s. let wrong = s in cc) ∙ is, cleared (inl is))
+  in_place_result (Err KeyNotPlain) status first new is short_key other cleared kept = (short_key is, cleared (inr is))
+
+  pub in_place : (status first : ℤ) (new : List ℕ) → Rewraps E F old_kek new_kek flags old after already status
+      → (IsKeyNotPlain status → IsBadLength first) → (¬ IsKeyNotPlain status → first ≡ status)
+      → (IsIntegrity status ⊎ IsKeyNotPlain status → All (λ byte. byte ≡ 0) new) → (¬ (IsIntegrity status ⊎ IsKeyNotPlain status) → new ≡ after)
+      → (IsBadKek first → IsBadKek status) → RewrapsInPlace E F old_kek new_kek forms old new first
+  in_place status first new call short_key other_status cleared kept bad_kek =
+      record {
+        bad_kek = (λ s. call.bad_kek.0 (bad_kek s), λ none. let is = call.bad_kek.1 none in other_status (λ s. let wrong = s in cc) ∙ is);
+        kept = λ s. let is = bad_kek s in
+            kept (λ s. elim s [ inl x ↦ let wrong = x in cc | inr x ↦ let wrong = x in cc ]) ∙ call.kept (λ done. let wrong = done in cc);
+        bad_flags = λ keks large. let is = call.bad_flags keks (refused large) in (
+          other_status (λ s. let wrong = s in cc) ∙ is,
+          kept (λ s. elim s [ inl x ↦ let wrong = x in cc | inr x ↦ let wrong = x in cc ]) ∙ call.kept (λ done. let wrong = done in cc),
+        );
+        rewraps = λ keks small. let is = call.rewraps keks (rw (same small) (legal_flags small)) in
+            let of = in_place_result is.result status first new is.status_is short_key other_status cleared kept in
+            record { result = is.result; after = after; rewraps = with_forms is.result (same small) small is.rewraps; status_is = of.0; new_is = of.1 };
+      }

@@ -3,8 +3,10 @@ pub mod Status
 pub mod Answers
 pub mod AgreedValue
 pub mod Calls
-pub mod Forms
+pub mod Rewraps
 pub mod Kinds
+pub mod Any
 pub mod StatusTexts
 pub mod SelfTest
 pub mod Version
+pub mod Tried

@@ -23,6 +23,10 @@ IsBadLength status = status ≡ pos 4
 abbrev pub IsIntegrity : ℤ → Type 0
 IsIntegrity status = status ≡ pos 5
 
+-- the wrapped key is the wrapping of a key whose length no plain key has
+abbrev pub IsKeyNotPlain : ℤ → Type 0
+IsKeyNotPlain status = status ≡ pos 8
+
 -- the statuses of a wrapping call
 abbrev pub IsWrapStatus : ℤ → Type 0
 IsWrapStatus status = IsDone status ⊎ (IsBadKek status ⊎ IsBadLength status)

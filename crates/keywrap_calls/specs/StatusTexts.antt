@@ -11,7 +11,8 @@ text_of status =
     else (if int_eq status (pos 4) then codes "bad length"
     else (if int_eq status (pos 5) then codes "integrity check failed"
     else (if int_eq status (pos 7) then codes "out of memory"
-    else codes "unknown status")))))
+    else (if int_eq status (pos 8) then codes "no plain key has the length of the key"
+    else codes "unknown status"))))))
 
 -- as much of a text as a buffer has room for, with a zero after it
 abbrev pub fitting : List ℕ → List ℕ → List ℕ

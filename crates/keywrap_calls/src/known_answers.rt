@@ -11,6 +11,7 @@ ghost use Rattle.keywrap_calls.specs.Calls.{Wraps, Unwraps, WrapsPadded, Unwraps
 ghost use Rattle.keywrap_calls.specs.Calls.{IsPaddedKey};
 ghost use Rattle.keywrap_calls.specs.SelfTest.{IsAllRight, IsRight};
 ghost use Rattle.keywrap_calls.specs.Status.{IsDone, IsIntegrity};
+ghost use Rattle.keywrap_calls.specs.Tried.{AllTried, Calls, Gives, GivesBoth, GivesKey, Refuses};
 ghost use Rattle.test_vectors.specs.Published.{published_vectors, damaged, damaged_kek};
 
 use crate::status::{DONE, INTEGRITY};
@@ -25,29 +26,38 @@ const LONGEST: usize = 32;
 
 /// The calls of a library that its self test makes.
 pub trait TestedCalls {
+    /// What was called, and what it gave. Without a meaning, so that the self test has to call.
+    ghost calls: { Calls };
+
     /// Wraps in the plain form.
     fn wrap(kek: &[u8], key: &[u8], text: &mut [u8]) -> i32
-        ensures { Wraps (cipher kek.now) kek.now key.now text.old text.new result };
+        ensures wraps { Wraps (cipher kek.now) kek.now key.now text.old text.new result }
+        ensures made { calls.wrap kek.now key.now text.old text.new result };
 
     /// Unwraps in the plain form.
     fn unwrap(kek: &[u8], text: &[u8], key: &mut [u8]) -> i32
-        ensures { Unwraps (cipher kek.now) kek.now text.now key.old key.new result };
+        ensures unwraps { Unwraps (cipher kek.now) kek.now text.now key.old key.new result }
+        ensures made { calls.unwrap kek.now text.now key.old key.new result };
 
     /// Wraps in the padded form.
     fn wrap_padded(kek: &[u8], key: &[u8], text: &mut [u8]) -> i32
-        ensures { WrapsPadded (cipher kek.now) kek.now key.now text.old text.new result };
+        ensures wraps { WrapsPadded (cipher kek.now) kek.now key.now text.old text.new result }
+        ensures made { calls.wrap_padded kek.now key.now text.old text.new result };
 
     /// Unwraps in the padded form.
     fn unwrap_padded(kek: &[u8], text: &[u8], key: &mut [u8], key_len: &mut usize) -> i32
         ensures unwraps { UnwrapsPadded (cipher kek.now) kek.now text.now key.old key.new key_len.new result }
         ensures key { IsPaddedKey (cipher kek.now)
-            text.now (take key_len.new key.new) [] key.new key_len.new result };
+            text.now (take key_len.new key.new) [] key.new key_len.new result }
+        ensures made { calls.unwrap_padded
+            kek.now text.now key.old key.new key_len.new result };
 }
 
 /// Wraps and unwraps the published vectors of RFC 3394 and RFC 5649, and unwraps a damaged wrapped
-/// key. Returns `DONE` if each result is right, and else `INTEGRITY`.
+/// key, and makes each of these calls. Returns `DONE` if each result is right, and else `INTEGRITY`.
 pub fn self_test<C: TestedCalls>() -> i32
     ensures exactly { IsDone result ↔ IsAllRight }
+    ensures tried { IsDone result → AllTried C.calls }
     ensures statuses { IsDone result ⊎ IsIntegrity result }
 {
     let right = wrappings_are_right::<C>();
@@ -56,7 +66,9 @@ pub fn self_test<C: TestedCalls>() -> i32
 }
 
 fn wrappings_are_right<C: TestedCalls>() -> bool
-    ensures { IsTrue result ↔ AllByRecursion IsRight published_vectors }
+    ensures right { IsTrue result ↔ AllByRecursion IsRight published_vectors }
+    ensures tried { IsTrue result → AllByRecursion
+        (λ v. GivesBoth C.calls v.algorithm v.key v.input v.output) published_vectors }
 {
     let one = is_plain::<C>(KEY_16, DATA_16, RFC3394_4_1);
     let two = is_plain::<C>(KEY_24, DATA_16, RFC3394_4_2);
@@ -74,8 +86,10 @@ fn wrappings_are_right<C: TestedCalls>() -> bool
 #[inline(never)]
 fn is_plain<C: TestedCalls>(kek: &[u8], key: &[u8], text: &[u8]) -> bool
     requires { length key.now ≤ 32 }
-    ensures { IsTrue result ↔ (IsKekLength (length kek.now)
+    ensures right { IsTrue result ↔ (IsKekLength (length kek.now)
         × Plain (cipher kek.now) default_iv key.now text.now) }
+    ensures tried { IsTrue result → Gives C.calls.wrap kek.now key.now text.now
+        × Gives C.calls.unwrap kek.now text.now key.now }
 {
     let mut wrapped = [0; LONGEST + 8];
     let wrapped = &mut wrapped[..key.len() + 8];
@@ -97,8 +111,10 @@ fn is_plain<C: TestedCalls>(kek: &[u8], key: &[u8], text: &[u8]) -> bool
 #[inline(never)]
 fn is_padded<C: TestedCalls>(kek: &[u8], key: &[u8], text: &[u8]) -> bool
     requires { length key.now ≤ 32 }
-    ensures { IsTrue result ↔ (IsKekLength (length kek.now)
+    ensures right { IsTrue result ↔ (IsKekLength (length kek.now)
         × Padded (cipher kek.now) key.now text.now) }
+    ensures tried { IsTrue result → Gives C.calls.wrap_padded kek.now key.now text.now
+        × GivesKey C.calls kek.now text.now key.now }
 {
     let room = key.len().next_multiple_of(8);
     let mut wrapped = [0; LONGEST + 8];
@@ -120,7 +136,8 @@ fn is_padded<C: TestedCalls>(kek: &[u8], key: &[u8], text: &[u8]) -> bool
 
 // Whether the damaged wrapped key is refused.
 fn is_refused<C: TestedCalls>() -> bool
-    ensures { IsTrue result ↔ NoKey (Plain (cipher damaged_kek) default_iv) damaged }
+    ensures right { IsTrue result ↔ NoKey (Plain (cipher damaged_kek) default_iv) damaged }
+    ensures tried { IsTrue result → Refuses C.calls damaged_kek damaged }
 {
     let mut key = [0; 16];
     C::unwrap(KEY_16, DAMAGED, &mut key) == INTEGRITY

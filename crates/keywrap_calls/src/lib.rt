@@ -2,6 +2,7 @@
 //! and without state. The AES is a parameter, so that each library brings its own.
 #![tactic(auto)]
 
+mod any_form;
 mod kinds;
 mod known_answers;
 mod padded;
@@ -14,6 +15,7 @@ mod status;
 mod texts;
 mod version_number;
 
+pub use any_form::unwrap_any;
 pub use kinds::kind;
 pub use known_answers::{TestedCalls, self_test};
 pub use padded::{unwrap_padded, wrap_padded};
@@ -21,7 +23,7 @@ pub use padded_in_place::{unwrap_padded_in_place, wrap_padded_in_place};
 pub use plain::{unwrap, wrap};
 pub use plain_in_place::{unwrap_in_place, wrap_in_place};
 pub use plain_with::{initial_value, unwrap_with, wrap_with};
-pub use rewrapping::rewrap_in_place;
-pub use status::{BAD_IV, BAD_KEK, BAD_LENGTH, DONE, INTEGRITY, NO_MEMORY};
+pub use rewrapping::{rewrap, rewrap_in_place};
+pub use status::{BAD_IV, BAD_KEK, BAD_LENGTH, DONE, INTEGRITY, KEY_NOT_PLAIN, NO_MEMORY};
 pub use texts::status_text;
 pub use version_number::version;

@@ -1,15 +1,17 @@
 //! Rewrapping in one buffer: from one KEK and form to another, the key never given out.
 
-ghost use Rattle.std.specs.Prelude.{◌≡◌, ◌↔◌, ◌⊎◌, length, All, Err, IfSome, IfNone};
-ghost use Rattle.std.specs.Prelude.{IsErr, IsOk, OnOk};
+ghost use Rattle.std.specs.Prelude.{◌≡◌, ◌<◌, ◌⊎◌, All, IfSome, IfNone, IsErr, Err};
 ghost use Rattle.fips197.specs.Cipher.{cipher};
-ghost use Rattle.keywrap_calls.specs.Forms.{AreFlags, asked, IsGivenLength, HasBadLength};
-ghost use Rattle.keywrap_calls.specs.Forms.{HasNoKey, HasGoodKey, Rewraps, RewrapsInPlace};
+ghost use Rattle.keywrap_calls.specs.Status.{IsBadKek, IsBadLength, IsIntegrity, IsKeyNotPlain};
+ghost use Rattle.keywrap_calls.specs.Rewraps.{AreForms, AreFlags, forms_of, passes_new};
+ghost use Rattle.keywrap_calls.specs.Rewraps.{Rewraps, RewrapsInPlace, already_of, rewrap_status};
+ghost use Rattle.key_wrap_core.specs.Forms.{by_default};
+ghost use Rattle.key_wrap_core.specs.OneRewrap.{IsRewrapping};
 
-use crate::status::{BAD_KEK, status_of};
+use crate::status::{BAD_KEK, BAD_LENGTH, DONE, INTEGRITY, KEY_NOT_PLAIN};
 use block_pair::{BlockPair, Meter};
 use fips197::KeyInit;
-use key_wrap_core::{Form, InPlaceFault, rewrap_keeping_form_in_place};
+use key_wrap_core::{AgreedForm, Form, RewrapFault, RewrapForms, Rewrapped};
 
 // The flag of a wrapped key that is given in the padded form.
 const OLD_PADDED: u32 = 1;
@@ -22,21 +24,47 @@ const BOTH_PADDED: u32 = OLD_PADDED + NEW_PADDED;
 // The flag of a wrapped key that may be in either form, and keeps it.
 const KEEP_FORM: u32 = 4;
 
-// The forms that the flags request: the old form and the new one, or either form, which is kept.
-enum Asked {
-    Between(Form, Form),
-    Keep,
+// The flag beside each of these: a wrapped key that is new already is passed.
+const PASS_NEW: u32 = 8;
+
+// A bit that is no flag.
+const NO_FLAG: u32 = 16;
+
+/// Replaces the wrapped key in `buffer`, under the old KEK, by the same key wrapped under the new
+/// KEK, of the same length (RFC 3394 and RFC 5649). `keywrap.h` has the `flags`. `*already` is
+/// 1 if the wrapped key was under the new KEK already, else 0.
+///
+/// After each refusal the buffer is what it was. `KEY_NOT_PLAIN` means that the wrapped key is
+/// genuine, but that its key has a length that no plain key has.
+pub fn rewrap<A: KeyInit>(
+    rooms: (A::Room, A::Room),
+    old_kek: &[u8],
+    new_kek: &[u8],
+    buffer: &mut [u8],
+    flags: u32,
+    already: &mut u32,
+) -> i32
+    ensures { Rewraps (cipher old_kek.now) (cipher new_kek.now)
+        old_kek.now new_kek.now flags buffer.old buffer.new already.new result }
+{
+    *already = 0;
+    let Ok(old) = A::new_in(old_kek, rooms.0) else {
+        return BAD_KEK;
+    };
+    let Ok(new) = A::new_in(new_kek, rooms.1) else {
+        return BAD_KEK;
+    };
+    let outcome = rewrap_as(&mut Meter::new(&old), &mut Meter::new(&new), flags, buffer);
+    *already = already_of(outcome);
+    rewrap_status(outcome)
 }
 
-/// Replaces the wrapped key in `buffer`, under `old_kek`, by the same key wrapped under `new_kek`,
-/// of the same length. `forms` has a flag for each wrapped key with the padded form, as in
-/// `keywrap.h`, or only the flag that keeps the form, and no other bit (RFC 3394 and RFC 5649).
-///
-/// After a failed integrity check, and if the length of the key is not legal in the new form, every
-/// byte of the buffer is zero.
+/// The call of version 1.0: `forms` has a flag for each wrapped key with the padded form, and no
+/// other bit. It returns what `rewrap` returns, with two differences. A key whose length is not
+/// legal in the new form is `BAD_LENGTH`, and after this refusal and after `INTEGRITY` every byte
+/// of the buffer is zero.
 pub fn rewrap_in_place<A: KeyInit>(
-    old_room: A::Room,
-    new_room: A::Room,
+    rooms: (A::Room, A::Room),
     old_kek: &[u8],
     new_kek: &[u8],
     buffer: &mut [u8],
@@ -45,57 +73,105 @@ pub fn rewrap_in_place<A: KeyInit>(
     ensures { RewrapsInPlace (cipher old_kek.now) (cipher new_kek.now)
         old_kek.now new_kek.now forms buffer.old buffer.new result }
 {
-    let Ok(old) = A::new_in(old_kek, old_room) else {
-        return BAD_KEK;
-    };
-    let Ok(new) = A::new_in(new_kek, new_room) else {
-        return BAD_KEK;
-    };
-    status_of(rewrap_as(&mut Meter::new(&old), &mut Meter::new(&new), forms, buffer))
+    let mut already = 0;
+    let flags = in_place_flags(forms);
+    let status = rewrap::<A>(rooms, old_kek, new_kek, buffer, flags, &mut already);
+    in_place_status(status, buffer)
 }
 
-// Rewraps as the flags ask, under any pairs. Not inlined, its frame lies over what the making of
-// the key schedules left on the stack.
+// The flags of version 1.0, or a bit that is no flag.
+fn in_place_flags(forms: u32) -> u32
+    ensures same { forms < 4 → result ≡ forms }
+    ensures other { ¬ (forms < 4) → result ≡ 16 }
+{
+    if forms <= BOTH_PADDED { forms } else { NO_FLAG }
+}
+
+// The status of version 1.0, and its buffer.
+fn in_place_status(status: i32, buffer: &mut [u8]) -> i32
+    ensures not_plain { IsKeyNotPlain status → IsBadLength result }
+    ensures same { ¬ IsKeyNotPlain status → result ≡ status }
+    ensures bad_kek { IsBadKek result → IsBadKek status }
+    ensures cleared { IsIntegrity status ⊎ IsKeyNotPlain status
+        → All (λ byte. byte ≡ 0) buffer.new }
+    ensures kept { ¬ (IsIntegrity status ⊎ IsKeyNotPlain status) → buffer.new ≡ buffer.old }
+{
+    if status == INTEGRITY || status == KEY_NOT_PLAIN {
+        buffer.fill(0);
+    }
+    if status == KEY_NOT_PLAIN {
+        BAD_LENGTH
+    } else {
+        status
+    }
+}
+
+// Rewraps as the flags request, under any pairs. Not inlined, its frame lies over what the making
+// of the key schedules left on the stack.
 #[inline(never)]
 fn rewrap_as<O: BlockPair, N: BlockPair>(
     old: &mut Meter<O>,
     new: &mut Meter<N>,
     flags: u32,
     buf: &mut [u8],
-) -> Result<(), InPlaceFault>
-    ensures bad_length { (result ≡ Err InPlaceFault.BadLength)
-        ↔ (¬ AreFlags flags ⊎ HasBadLength (asked flags) (O.encrypted old.old.pair) buf.old) }
-    ensures integrity { (result ≡ Err InPlaceFault.Integrity)
-        ↔ (AreFlags flags × HasNoKey (asked flags) (O.encrypted old.old.pair) buf.old) }
-    ensures done { IsOk result → AreFlags flags × IsGivenLength (asked flags) (length buf.old) }
-    ensures kept_at_bad_flags { ¬ AreFlags flags → buf.new ≡ buf.old }
-    ensures kept_at_bad_text { ¬ IsGivenLength (asked flags) (length buf.old)
-        → buf.new ≡ buf.old }
-    ensures cleared { IsErr result → AreFlags flags → IsGivenLength (asked flags) (length buf.old)
-        → All (λ byte. byte ≡ 0) buf.new }
-    ensures answer { OnOk result (Rewraps (asked flags)
-        (O.encrypted old.old.pair) (N.encrypted new.old.pair) buf.old buf.new) }
-    ensures accepts { AreFlags flags
-        → HasGoodKey (asked flags) (O.encrypted old.old.pair) buf.old → IsOk result }
+) -> Result<Rewrapped, RewrapFault>
+    ensures rewraps { AreFlags flags → IsRewrapping (passes_new flags) (forms_of flags)
+        (O.encrypted old.old.pair) (N.encrypted new.old.pair) buf.old result buf.new }
+    ensures bad_flags { ¬ AreFlags flags → result ≡ Err RewrapFault.BadLength }
+    ensures kept { IsErr result → buf.new ≡ buf.old }
 {
-    match asked_of(flags) {
-        Some(Asked::Between(from, to)) => key_wrap_core::rewrap_in_place(old, from, new, to, buf),
-        Some(Asked::Keep) => rewrap_keeping_form_in_place(old, new, buf),
-        None => Err(InPlaceFault::BadLength),
+    if flags >= NO_FLAG {
+        return Err(RewrapFault::BadLength);
     }
+    let Some(forms) = forms_of(flags % PASS_NEW) else {
+        return Err(RewrapFault::BadLength);
+    };
+    key_wrap_core::rewrap(old, new, &forms, flags >= PASS_NEW, buf)
 }
 
 // Returns the forms that these flags request.
-fn asked_of(flags: u32) -> Option<Asked>
-    ensures named { IfSome result (λ found. AreFlags flags × (found ≡ asked flags)) }
-    ensures refused { IfNone result (¬ AreFlags flags) }
+fn forms_of(flags: u32) -> Option<RewrapForms>
+    ensures named { IfSome result (λ forms. AreForms flags × (forms ≡ forms_of flags)) }
+    ensures refused { IfNone result (¬ AreForms flags) }
 {
     match flags {
-        0 => Some(Asked::Between(Form::Plain, Form::Plain)),
-        OLD_PADDED => Some(Asked::Between(Form::Padded, Form::Plain)),
-        NEW_PADDED => Some(Asked::Between(Form::Plain, Form::Padded)),
-        BOTH_PADDED => Some(Asked::Between(Form::Padded, Form::Padded)),
-        KEEP_FORM => Some(Asked::Keep),
+        0 => Some(changed(Form::Plain, Form::Plain)),
+        OLD_PADDED => Some(changed(Form::Padded, Form::Plain)),
+        NEW_PADDED => Some(changed(Form::Plain, Form::Padded)),
+        BOTH_PADDED => Some(changed(Form::Padded, Form::Padded)),
+        KEEP_FORM => Some(RewrapForms::Kept),
         _ => None,
+    }
+}
+
+// From one form to another, with the default initial value.
+fn changed(old: Form, new: Form) -> RewrapForms
+    ensures { result ≡ RewrapForms.Changed (by_default old) (by_default new) }
+{
+    RewrapForms::Changed {
+        old: AgreedForm::by_default(old),
+        new: AgreedForm::by_default(new),
+    }
+}
+
+// 1 for a wrapped key that was new already, else 0.
+fn already_of(outcome: Result<Rewrapped, RewrapFault>) -> u32
+    ensures { result ≡ already_of outcome }
+{
+    match outcome {
+        Ok(Rewrapped::AlreadyNew) => 1,
+        Ok(Rewrapped::Fresh) | Err(_) => 0,
+    }
+}
+
+// The status of an outcome.
+fn rewrap_status(outcome: Result<Rewrapped, RewrapFault>) -> i32
+    ensures { result ≡ rewrap_status outcome }
+{
+    match outcome {
+        Ok(_) => DONE,
+        Err(RewrapFault::BadLength) => BAD_LENGTH,
+        Err(RewrapFault::Integrity) => INTEGRITY,
+        Err(RewrapFault::KeyNotPlain) => KEY_NOT_PLAIN,
     }
 }

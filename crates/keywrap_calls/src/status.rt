@@ -23,6 +23,9 @@ pub const INTEGRITY: i32 = 5;
 /// There is no memory for the copies of a call. Only the portable C around the calls returns it.
 pub const NO_MEMORY: i32 = 7;
 
+/// The wrapped key is genuine, but no plain key has the length of its key.
+pub const KEY_NOT_PLAIN: i32 = 8;
+
 // The status of an outcome.
 pub(crate) fn status_of(outcome: Result<(), InPlaceFault>) -> i32
     ensures { result ≡ outcome_status outcome }

@@ -3,7 +3,7 @@
 ghost use Rattle.std.specs.Prelude.{◌≡◌, ◌<◌, length};
 ghost use Rattle.keywrap_calls.specs.StatusTexts.{text_of, fitting, begun_with};
 
-use crate::status::{BAD_IV, BAD_KEK, BAD_LENGTH, DONE, INTEGRITY, NO_MEMORY};
+use crate::status::{BAD_IV, BAD_KEK, BAD_LENGTH, DONE, INTEGRITY, KEY_NOT_PLAIN, NO_MEMORY};
 
 /// Writes the text of `status` into `text`, cut to fit, and a zero byte after it. Writes nothing if
 /// `text` is empty. Returns the length of the whole text without the zero: if it is not less than
@@ -35,6 +35,7 @@ fn words_of(status: i32) -> &'static [u8]
         BAD_LENGTH => b"bad length",
         INTEGRITY => b"integrity check failed",
         NO_MEMORY => b"out of memory",
+        KEY_NOT_PLAIN => b"no plain key has the length of the key",
         _ => b"unknown status",
     }
 }

@@ -6,15 +6,18 @@ use Rattle.key_lines.specs.Answers.{Answer}
 use Rattle.key_lines.specs.declared.job.Mark.TheVariants.{Unmarked}
 use Rattle.key_wrap_core.specs.declared.faults.InPlaceFault.{InPlaceFault}
 use Rattle.key_wrap_core.specs.declared.faults.InPlaceFault.TheVariants.{BadLength, Integrity}
-use Rattle.keywrap_cli.specs.Answers.{AnswerOfJob, HasMark, MakesConversion, job_of}
+use Rattle.keywrap_cli.specs.Answers.{AnswerOfJob, FindsKey, HasMark, MakesConversion, job_of, job_refusal}
 use Rattle.keywrap_cli.specs.Engine.{RunsInput, WritesAnswer, WritesFrom, WritesOutput, job_fault_of}
 use Rattle.keywrap_cli.specs.Files.{printed}
 use Rattle.keywrap_cli.specs.Readings.{ReadsInput}
 use Rattle.keywrap_cli.specs.declared.convert.Direction.{Direction}
 use Rattle.keywrap_cli.specs.declared.convert.Direction.TheVariants as directions
+use Rattle.keywrap_cli.specs.declared.job.Job.TheVariants.{UnwrapAny}
 use Rattle.keywrap_cli.specs.declared.job.JobFault.{JobFault}
 use Rattle.keywrap_cli.specs.declared.job.Notation.{Notation}
 use Rattle.keywrap_cli.specs.declared.job.Task.{Task}
+use Rattle.keywrap_cli.specs.declared.refusal.Refusal.{Refusal}
+use Rattle.keywrap_cli.specs.declared.refusal.Refusal.TheVariants as refusals
 
 -- a conversion is no check
 pub unmarked : (direction : Direction) (text : List ℕ) → HasMark (job_of direction) text Unmarked
@@ -23,7 +26,7 @@ unmarked directions.Unwrap text h = let no = h.0 in cc
 
 -- what a job answers to bytes, from what its conversion makes of them
 pub converted_refusal : (direction : Direction) (iv : ℕ) (task : Task) (E : List ℕ → List ℕ) (X : List ℕ) (refusal : InPlaceFault)
-    → MakesConversion direction task.form iv E X (Err refusal) → AnswerOfJob (job_of direction) iv task E X (Err refusal)
+    → MakesConversion direction task.form iv E X (Err refusal) → AnswerOfJob (job_of direction) iv task E X (Err (job_refusal refusal))
 converted_refusal directions.Wrap iv task E X BadLength h = h
 converted_refusal directions.Unwrap iv task E X BadLength h = h
 converted_refusal directions.Wrap iv task E X Integrity h = h.1
@@ -35,14 +38,25 @@ pub converted : (direction : Direction) (iv : ℕ) (task : Task) (E : List ℕ �
 converted directions.Wrap iv task E X Y text h is = ((Y, h, is), unmarked directions.Wrap text)
 converted directions.Unwrap iv task E X Y text h is = ((Y, h, is), unmarked directions.Unwrap text)
 
+-- what an unwrapping in either form answers, from what it finds
+pub found_refusal : (iv : ℕ) (task : Task) (E : List ℕ → List ℕ) (X : List ℕ) (refusal : InPlaceFault)
+    → FindsKey iv E X (Err refusal) → AnswerOfJob UnwrapAny iv task E X (Err (job_refusal refusal))
+found_refusal iv task E X BadLength h = h
+found_refusal iv task E X Integrity h = h
+
+pub found : (iv : ℕ) (task : Task) (E : List ℕ → List ℕ) (X Y text : List ℕ) → FindsKey iv E X (Ok Y) → text ≡ printed task.input Y
+    → AnswerOfJob UnwrapAny iv task E X (Ok (record { text = text; mark = Unmarked }))
+found iv task E X Y text h is = ((h.0, Y, h.1, is), λ no. let wrong = no.0 in cc)
+
 -- a refusal writes nothing
-pub refused_write : (answers : List ℕ → Result Answer InPlaceFault → Type 0) (X : List ℕ) (out : Option (List ℕ)) (refusal : InPlaceFault)
+pub refused_write : (answers : List ℕ → Result Answer Refusal → Type 0) (X : List ℕ) (out : Option (List ℕ)) (refusal : Refusal)
     → answers X (Err refusal) → WritesAnswer answers X out out (Err (job_fault_of refusal))
-refused_write answers X out BadLength h = (h, Keeps-refl out)
-refused_write answers X out Integrity h = (h, Keeps-refl out)
+refused_write answers X out refusals.BadLength h = (h, Keeps-refl out)
+refused_write answers X out refusals.Integrity h = (h, Keeps-refl out)
+refused_write answers X out refusals.KeyNotPlain h = (h, Keeps-refl out)
 
 -- what was written for an input that was answered
-output_from : (notation : Notation) (answers : List ℕ → Result Answer InPlaceFault → Type 0) (Is : List ℕ → List ℕ → Type 0)
+output_from : (notation : Notation) (answers : List ℕ → Result Answer Refusal → Type 0) (Is : List ℕ → List ℕ → Type 0)
     (input input' out out' : Option (List ℕ)) (answer : Answer) → ((X : List ℕ) → answers X (Ok answer) → Is X answer.text)
     → (text : Result (Vec ℕ Global) JobFault) → ReadsInput notation input input' text → WritesFrom answers text out out' (Ok answer)
     → WritesOutput notation Is input input' out out'
@@ -55,7 +69,7 @@ output_from notation answers Is input input' out out' answer each (Ok X) read re
 }
 output_from notation answers Is input input' out out' answer each (Err fault) read rest = let no = rest.0 in cc
 
-pub written_output : (notation : Notation) (answers : List ℕ → Result Answer InPlaceFault → Type 0) (Is : List ℕ → List ℕ → Type 0)
+pub written_output : (notation : Notation) (answers : List ℕ → Result Answer Refusal → Type 0) (Is : List ℕ → List ℕ → Type 0)
     (input input' out out' : Option (List ℕ)) (answer : Answer) → ((X : List ℕ) → answers X (Ok answer) → Is X answer.text)
     → RunsInput notation answers input input' out out' (Ok answer) → WritesOutput notation Is input input' out out'
 written_output notation answers Is input input' out out' answer each run =

@@ -3,13 +3,15 @@ use Rattle.std.proofs.Common.{◌≡◌, ◌↔◌, ℕ, List, length, Result, O
 use Rattle.std.specs.Prelude.{IsOkUnless}
 use Rattle.key_lines.specs.Answers.{made}
 use Rattle.key_wrap_core.specs.Forms.{IsTextLength, Stands, with_value}
-use Rattle.key_wrap_core.specs.InPlace.{KeyAnswer}
-use Rattle.key_wrap_core.specs.Rewrap.{NoOtherForm}
+use Rattle.key_wrap_core.specs.EitherForm.{IsEither, IsOnlyWrapping, NoKeyIn}
+use Rattle.key_wrap_core.specs.InPlace.{ArePaddedLengths, KeyAnswer}
+use Rattle.key_wrap_core.specs.Forms.{NoOtherForm}
 use Rattle.key_wrap_core.specs.declared.faults.InPlaceFault.{InPlaceFault}
 use Rattle.key_wrap_core.specs.declared.faults.InPlaceFault.TheVariants.{BadLength, Integrity}
 use Rattle.key_wrap_core.specs.declared.forms.Form.{Form}
-use Rattle.keywrap_cli.specs.Answers.{MakesConversion}
-use Rattle.keywrap_cli.specs.Conversion.{IsInputLength}
+use Rattle.key_wrap_core.specs.declared.forms.FoundKey.{FoundKey}
+use Rattle.keywrap_cli.specs.Answers.{FindsKey, MakesConversion}
+use Rattle.keywrap_cli.specs.Conversion.{IsInputLength, IsKeyOf}
 use Rattle.keywrap_cli.specs.declared.convert.Direction.TheVariants.{Wrap, Unwrap}
 
 -- a wrapping of a key with a legal length
@@ -41,3 +43,23 @@ unwrapped form iv Fits E text key Legal (Ok done) legal fits to from h alone res
     record { stands = from key h.1; alone = alone; restores = restores; one_form = one }
 unwrapped form iv Fits E text key Legal (Err fault) legal fits to from h alone restores one =
     refused_unwrap {A = Unit {0}} form iv Fits E text Legal (λ (_ : Unit {0}). key) fault legal fits to h
+
+abbrev refusal : InPlaceFault → Result FoundKey InPlaceFault
+refusal fault = Err fault
+
+-- an unwrapping in either form of a text with a legal length, into a room of this length
+pub none_found : (iv room : ℕ) (E : List ℕ → List ℕ) (text : List ℕ) (fault : InPlaceFault) → ArePaddedLengths room (length text)
+    → ((refusal fault ≡ refusal BadLength) ↔ ¬ ArePaddedLengths room (length text))
+    → ((refusal fault ≡ refusal Integrity) ↔ (ArePaddedLengths room (length text) × NoKeyIn (IsEither iv) E text))
+    → FindsKey iv E text (Err fault)
+none_found iv room E text BadLength legal bad none = absurd (bad.0 refl legal)
+none_found iv room E text Integrity legal bad none = (legal.0, λ own. (none.0 refl).1 (with_value own iv) (own, refl))
+
+pub is_found : (iv : ℕ) (E : List ℕ → List ℕ) (form : Form) (key text : List ℕ)
+    → IsOnlyWrapping (IsEither iv) E (with_value form iv) key text → NoOtherForm (with_value form iv) E text → IsKeyOf form iv E text key
+is_found iv E form key text is one = record {
+  stands = is.stands;
+  alone = λ other h. (is.only (with_value form iv) other (form, refl) h).1;
+  restores = is.alone;
+  one_form = one;
+}

@@ -1,9 +1,8 @@
 pub mod Answered
 pub mod Conversions
 pub mod Drills
+pub mod EndsWell
 pub mod InitialValues
 pub mod KindLines
-pub mod Passes
 pub mod Readings
 pub mod Reports
-pub mod Rewraps

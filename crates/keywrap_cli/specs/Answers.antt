@@ -6,23 +6,30 @@ use Rattle.key_lines.specs.Answers.{Answer}
 use Rattle.key_lines.specs.declared.job.Mark.{Mark}
 use Rattle.key_lines.specs.declared.job.Mark.TheVariants.{Unmarked, Marked}
 use Rattle.key_wrap_core.specs.NoKey.{NoKey}
-use Rattle.key_wrap_core.specs.Forms.{Stands}
+use Rattle.key_wrap_core.specs.Forms.{Stands, IsTextLength}
 use Rattle.key_wrap_core.specs.Kind.{IsKindWith}
 use Rattle.key_wrap_core.specs.declared.faults.InPlaceFault.{InPlaceFault}
-use Rattle.key_wrap_core.specs.declared.faults.InPlaceFault.TheVariants.{BadLength, Integrity}
+use Rattle.key_wrap_core.specs.declared.faults.InPlaceFault.TheVariants as in_place
+use Rattle.key_wrap_core.specs.OneRewrap.{IsRefused, IsRewrapping}
+use Rattle.key_wrap_core.specs.declared.one_rewrap.RewrapFault.{RewrapFault}
+use Rattle.key_wrap_core.specs.declared.one_rewrap.RewrapFault.TheVariants as rewraps
+use Rattle.key_wrap_core.specs.declared.one_rewrap.Rewrapped.{Rewrapped}
+use Rattle.key_wrap_core.specs.declared.one_rewrap.Rewrapped.TheVariants.{Fresh, AlreadyNew}
 use Rattle.key_wrap_core.specs.declared.forms.Form.{Form}
+use Rattle.key_wrap_core.specs.declared.forms.Form.TheVariants.{Padded}
 use Rattle.key_wrap_core.specs.declared.forms.Kind.{Kind}
 use Rattle.key_wrap_core.specs.declared.forms.Kind.TheVariants as kinds
 use Rattle.keywrap_cli.specs.Conversion.{HasNoAnswer, IsAnswer, IsInputLength, IsKeyOf, IsTextOf}
 use Rattle.keywrap_cli.specs.Files.{printed}
-use Rattle.keywrap_cli.specs.Forms.{Makes, MakesMarked}
 use Rattle.keywrap_cli.specs.declared.convert.Direction.{Direction}
 use Rattle.keywrap_cli.specs.declared.convert.Direction.TheVariants as directions
 use Rattle.keywrap_cli.specs.declared.job.Done.{Done}
 use Rattle.keywrap_cli.specs.declared.job.Done.TheVariants.{Written, Neither}
 use Rattle.keywrap_cli.specs.declared.job.Job.{Job}
-use Rattle.keywrap_cli.specs.declared.job.Job.TheVariants.{Wrap, Unwrap, Check}
+use Rattle.keywrap_cli.specs.declared.job.Job.TheVariants.{Wrap, Unwrap, UnwrapAny, Check}
 use Rattle.keywrap_cli.specs.declared.job.Task.{Task}
+use Rattle.keywrap_cli.specs.declared.refusal.Refusal.{Refusal}
+use Rattle.keywrap_cli.specs.declared.refusal.Refusal.TheVariants.{BadLength, Integrity, KeyNotPlain}
 use Rattle.keywrap_cli.specs.declared.rewrapping.Rewrapping.{Rewrapping}
 
 -- the line of a check: the form and the key's length in decimal
@@ -38,18 +45,23 @@ WritesFor Wrap iv task E X output =
     (text : List ℕ) × IsTextOf task.form iv E X text × (output ≡ printed task.input text)
 WritesFor Unwrap iv task E X output =
     (key : List ℕ) × IsKeyOf task.form iv E X key × (output ≡ printed task.input key)
+WritesFor UnwrapAny iv task E X output =
+    (form : Form) × (key : List ℕ) × IsKeyOf form iv E X key × (output ≡ printed task.input key)
 WritesFor Check iv task E X output = (kind : Kind) × IsKindWith iv E X kind × (output ≡ kind_line kind)
 
--- the bytes X have an illegal length for the job; a check accepts any length
+-- the bytes X have an illegal length for the job, in either form if it takes both: the padded form has all lengths of
+-- the plain form; a check accepts any length
 abbrev pub HasBadLength : Job → Form → List ℕ → Type 0
 HasBadLength Wrap form X = ¬ IsInputLength directions.Wrap form (length X)
 HasBadLength Unwrap form X = ¬ IsInputLength directions.Unwrap form (length X)
+HasBadLength UnwrapAny form X = ¬ IsTextLength Padded (length X)
 HasBadLength Check form X = ⊥
 
 -- the bytes X have a legal length, but are not the wrapping of a key; only an unwrapping is refused for that
 abbrev pub HasNoKey : Job → Form → ℕ → (List ℕ → List ℕ) → List ℕ → Type 0
 HasNoKey Wrap form iv E X = ⊥
 HasNoKey Unwrap form iv E X = IsInputLength directions.Unwrap form (length X) × NoKey (Stands form iv E) X
+HasNoKey UnwrapAny form iv E X = IsTextLength Padded (length X) × ((own : Form) → NoKey (Stands own iv E) X)
 HasNoKey Check form iv E X = ⊥
 
 -- an answer is marked exactly if a check found no key
@@ -57,14 +69,25 @@ abbrev pub HasMark : Job → List ℕ → Mark → Type 0
 HasMark job text Unmarked = ¬ ((job ≡ Check) × (text ≡ kind_line kinds.Neither))
 HasMark job text Marked = (job ≡ Check) × (text ≡ kind_line kinds.Neither)
 
+-- the refusals of a job and of a rewrapping
+abbrev pub job_refusal : InPlaceFault → Refusal
+job_refusal in_place.BadLength = BadLength
+job_refusal in_place.Integrity = Integrity
+
+abbrev pub rewrap_refusal : RewrapFault → Refusal
+rewrap_refusal rewraps.BadLength = BadLength
+rewrap_refusal rewraps.Integrity = Integrity
+rewrap_refusal rewraps.KeyNotPlain = KeyNotPlain
+
 -- the answer of this job to the bytes X, by cases, in the form and the notation of the task
-abbrev pub AnswerOfJob : Job → ℕ → Task → (List ℕ → List ℕ) → List ℕ → Result Answer InPlaceFault → Type 0
+abbrev pub AnswerOfJob : Job → ℕ → Task → (List ℕ → List ℕ) → List ℕ → Result Answer Refusal → Type 0
 AnswerOfJob job iv task E X (Ok answer) = WritesFor job iv task E X answer.text × HasMark job answer.text answer.mark
 AnswerOfJob job iv task E X (Err BadLength) = HasBadLength job task.form X
 AnswerOfJob job iv task E X (Err Integrity) = HasNoKey job task.form iv E X
+AnswerOfJob job iv task E X (Err KeyNotPlain) = ⊥
 
 -- the answer of the task's job to the bytes X
-abbrev pub JobAnswer : ℕ → Task → (List ℕ → List ℕ) → List ℕ → Result Answer InPlaceFault → Type 0
+abbrev pub JobAnswer : ℕ → Task → (List ℕ → List ℕ) → List ℕ → Result Answer Refusal → Type 0
 JobAnswer iv task E X answer = AnswerOfJob task.job iv task E X answer
 
 -- the result of a call whose answer has this mark
@@ -77,12 +100,18 @@ abbrev pub job_of : Direction → Job
 job_of directions.Wrap = Wrap
 job_of directions.Unwrap = Unwrap
 
+-- an answer of a rewrapping is marked exactly if the text was new already
+abbrev pub rewrap_mark : Rewrapped → Mark
+rewrap_mark Fresh = Unmarked
+rewrap_mark AlreadyNew = Marked
+
 -- the answer of a rewrapping to the text, printed in its notation
-abbrev pub RewrappingAnswer : Rewrapping → (List ℕ → List ℕ) → (List ℕ → List ℕ) → List ℕ → Result Answer InPlaceFault → Type 0
+abbrev pub RewrappingAnswer : Rewrapping → (List ℕ → List ℕ) → (List ℕ → List ℕ) → List ℕ → Result Answer Refusal → Type 0
 RewrappingAnswer task E F text (Ok answer) =
-    (made : List ℕ) × MakesMarked task.pass_new task.forms E F text (Ok (record { text = made; mark = answer.mark }))
-    × (answer.text ≡ printed task.input made)
-RewrappingAnswer task E F text (Err refusal) = Makes task.pass_new task.forms E F text (Err refusal)
+    (rewrapped : Rewrapped) × (made : List ℕ) × IsRewrapping task.pass_new task.forms E F text (Ok rewrapped) made
+    × (answer.mark ≡ rewrap_mark rewrapped) × (answer.text ≡ printed task.input made)
+RewrappingAnswer task E F text (Err refusal) =
+    (fault : RewrapFault) × IsRefused task.pass_new task.forms E F text fault × (refusal ≡ rewrap_refusal fault)
 
 -- the result of a rewrapping that wrote its output does not depend on the mark
 abbrev pub written : Mark → Done
@@ -91,11 +120,18 @@ written mark = Written
 -- an output of a rewrapping for this text, printed in its notation
 abbrev pub RewrapsTo : Rewrapping → (List ℕ → List ℕ) → (List ℕ → List ℕ) → List ℕ → List ℕ → Type 0
 RewrapsTo task E F text output =
-    (made : List ℕ) × Makes task.pass_new task.forms E F text (Ok made) × (output ≡ printed task.input made)
+    (rewrapped : Rewrapped) × (made : List ℕ) × IsRewrapping task.pass_new task.forms E F text (Ok rewrapped) made
+    × (output ≡ printed task.input made)
 
 -- the result of a conversion of the bytes X, by cases
 abbrev pub MakesConversion : Direction → Form → ℕ → (List ℕ → List ℕ) → List ℕ → Result (List ℕ) InPlaceFault → Type 0
 MakesConversion direction form iv E X (Ok Y) = IsAnswer direction form iv E X Y
-MakesConversion direction form iv E X (Err BadLength) = ¬ IsInputLength direction form (length X)
-MakesConversion direction form iv E X (Err Integrity) =
+MakesConversion direction form iv E X (Err in_place.BadLength) = ¬ IsInputLength direction form (length X)
+MakesConversion direction form iv E X (Err in_place.Integrity) =
     IsInputLength direction form (length X) × HasNoAnswer direction form iv E X
+
+-- the result of an unwrapping of the bytes X in either form, by cases
+abbrev pub FindsKey : ℕ → (List ℕ → List ℕ) → List ℕ → Result (List ℕ) InPlaceFault → Type 0
+FindsKey iv E X (Ok Y) = (form : Form) × IsKeyOf form iv E X Y
+FindsKey iv E X (Err in_place.BadLength) = ¬ IsTextLength Padded (length X)
+FindsKey iv E X (Err in_place.Integrity) = IsTextLength Padded (length X) × ((own : Form) → NoKey (Stands own iv E) X)

@@ -4,9 +4,8 @@ use Rattle.std.specs.Prelude.{◌≡◌, ℕ, List, length}
 use Rattle.key_wrap_core.specs.declared.forms.Form.{Form}
 use Rattle.key_wrap_core.specs.declared.forms.Form.TheVariants.{Plain, Padded}
 use Rattle.key_wrap_core.specs.NoKey.{NoKey}
-use Rattle.key_wrap_core.specs.Forms.{Stands, IsKeyLength, IsTextLength, with_value}
+use Rattle.key_wrap_core.specs.Forms.{Stands, NoOtherForm, IsKeyLength, IsTextLength, with_value}
 use Rattle.key_wrap_core.specs.InPlace.{ArePaddedLengths, ArePlainLengths, IsPaddedRoom}
-use Rattle.key_wrap_core.specs.Rewrap.{NoOtherForm}
 use Rattle.keywrap_cli.specs.declared.convert.Direction.{Direction}
 use Rattle.keywrap_cli.specs.declared.convert.Direction.TheVariants.{Wrap, Unwrap}
 

@@ -12,15 +12,15 @@ use Rattle.key_lines.specs.declared.fault.RefusedLine.{RefusedLine}
 use Rattle.key_lines.specs.declared.fault.RunFault.{RunFault}
 use Rattle.key_lines.specs.declared.run.RunOptions.{RunOptions}
 use Rattle.key_lines.specs.declared.summary.RunSummary.{RunSummary}
-use Rattle.key_wrap_core.specs.declared.faults.InPlaceFault.{InPlaceFault}
-use Rattle.key_wrap_core.specs.declared.faults.InPlaceFault.TheVariants as refusals
 use Rattle.keywrap_cli.specs.Readings.{OpensKek, ReadsFile, ReadsInput, ReadsKek, kek_fault_of}
 use Rattle.keywrap_cli.specs.declared.job.Done.{Done}
 use Rattle.keywrap_cli.specs.declared.job.JobFault.{JobFault}
-use Rattle.keywrap_cli.specs.declared.job.JobFault.TheVariants.{BadLength, Integrity, Write, Memory}
+use Rattle.keywrap_cli.specs.declared.job.JobFault.TheVariants.{BadLength, Integrity, KeyNotPlain, Write, Memory}
 use Rattle.keywrap_cli.specs.declared.job.Notation.{Notation}
 use Rattle.keywrap_cli.specs.declared.kek_file.KekRole.TheVariants.{Kek, NewKek}
 use Rattle.keywrap_cli.specs.declared.kek_file.Keks.{Keks}
+use Rattle.keywrap_cli.specs.declared.refusal.Refusal.{Refusal}
+use Rattle.keywrap_cli.specs.declared.refusal.Refusal.TheVariants as refusals
 
 -- The effect of a call that reads a KEK file: if the file denotes a KEK, `Then` holds for it, and otherwise `Refused`
 -- for the reason.
@@ -54,24 +54,25 @@ IsRefusedBefore fault input input' out out' answer = (answer ≡ Err fault) × (
 
 -- The bytes in the writer after an input X, by cases: the whole output of the job, or its first `written` bytes, or
 -- none.
-abbrev pub WritesAnswer : (List ℕ → Result Answer InPlaceFault → Type 0) → List ℕ → Option (List ℕ) → Option (List ℕ)
+abbrev pub WritesAnswer : (List ℕ → Result Answer Refusal → Type 0) → List ℕ → Option (List ℕ) → Option (List ℕ)
     → Result Answer JobFault → Type 0
 WritesAnswer answers X old new (Ok answer) = answers X (Ok answer) × Appends old new answer.text
 WritesAnswer answers X old new (Err (Write written)) =
     (answer : Answer) × answers X (Ok answer) × (written < length answer.text) × Appends old new (take written answer.text)
 WritesAnswer answers X old new (Err BadLength) = answers X (Err refusals.BadLength) × Keeps old new
 WritesAnswer answers X old new (Err Integrity) = answers X (Err refusals.Integrity) × Keeps old new
+WritesAnswer answers X old new (Err KeyNotPlain) = answers X (Err refusals.KeyNotPlain) × Keeps old new
 WritesAnswer answers X old new (Err Memory) = Keeps old new
 WritesAnswer answers X old new (Err fault) = ⊥
 
 -- the same, after the input was read or refused
-abbrev pub WritesFrom : (List ℕ → Result Answer InPlaceFault → Type 0) → Result (Vec ℕ Global) JobFault → Option (List ℕ)
+abbrev pub WritesFrom : (List ℕ → Result Answer Refusal → Type 0) → Result (Vec ℕ Global) JobFault → Option (List ℕ)
     → Option (List ℕ) → Result Answer JobFault → Type 0
 WritesFrom answers (Ok X) out out' outcome = WritesAnswer answers X.items out out' outcome
 WritesFrom answers (Err fault) out out' outcome = (outcome ≡ Err fault) × (out' ≡ out)
 
 -- The effect of a run over a whole input.
-pub record RunsInput (notation : Notation) (answers : List ℕ → Result Answer InPlaceFault → Type 0)
+pub record RunsInput (notation : Notation) (answers : List ℕ → Result Answer Refusal → Type 0)
     (input input' out out' : Option (List ℕ)) (outcome : Result Answer JobFault) : Type 0 where
   pub text : Result (Vec ℕ Global) JobFault
   pub read : ReadsInput notation input input' text
@@ -84,23 +85,24 @@ IsDoneAs done (Err fault) (Err other) = other ≡ fault
 IsDoneAs done outcome answer = ⊥
 
 -- the effect of a run over a whole input, with the result of the call
-abbrev pub AnswersInput : Notation → (List ℕ → Result Answer InPlaceFault → Type 0) → (Mark → Done)
+abbrev pub AnswersInput : Notation → (List ℕ → Result Answer Refusal → Type 0) → (Mark → Done)
     → Option (List ℕ) → Option (List ℕ) → Option (List ℕ) → Option (List ℕ) → Result Done JobFault → Type 0
 AnswersInput notation answers done input input' out out' answer =
     (outcome : Result Answer JobFault) × RunsInput notation answers input input' out out' outcome × IsDoneAs done outcome answer
 
 -- The effect of a run over lines of at most 4,194,304 bytes. If the rest of the input is known, the answers to its
 -- first lines were written, in order.
-abbrev pub AnswersLines : RunOptions → (List ℕ → Result Answer InPlaceFault → Type 0) → Option (List ℕ) → Option (List ℕ)
-    → Option (List ℕ) → Option (List ℕ) → Option (List (RefusedLine InPlaceFault)) → Option (List (RefusedLine InPlaceFault))
-    → Result (Result (RunSummary InPlaceFault) (RunFault InPlaceFault)) JobFault → Type 0
+abbrev pub AnswersLines : RunOptions → (List ℕ → Result Answer Refusal → Type 0) → Option (List ℕ) → Option (List ℕ)
+    → Option (List ℕ) → Option (List ℕ) → Option (List (RefusedLine Refusal)) → Option (List (RefusedLine Refusal))
+    → Result (Result (RunSummary Refusal) (RunFault Refusal)) JobFault → Type 0
 AnswersLines options answers input input' out out' log log' answer = IsOkAnd answer (λ run.
     RunsLines options answers input input' out out' log log' run × IfSome input (λ text. WritesAnswers options answers text out out' run))
 
 -- a job's fault for a refusal of its bytes
-abbrev pub job_fault_of : InPlaceFault → JobFault
+abbrev pub job_fault_of : Refusal → JobFault
 job_fault_of refusals.BadLength = BadLength
 job_fault_of refusals.Integrity = Integrity
+job_fault_of refusals.KeyNotPlain = KeyNotPlain
 
 -- The bytes that were read from the KEK file denote the KEK K, and `Then` holds for K.
 pub record UnderReadKek (notation : Notation) (file file' : Option (List ℕ)) (Then : List ℕ → Type 0) : Type 0 where

@@ -1,12 +1,13 @@
 pub mod Answers
 pub mod Conversion
 pub mod Drill
+pub mod EndsWell
 pub mod Engine
 pub mod Files
-pub mod Forms
 pub mod InitialValue
 pub mod Job
 pub mod Operation
 pub mod Readings
 pub mod Rewrapping
+pub mod Statuses
 pub mod Vectors

@@ -6,7 +6,6 @@ use Rattle.key_lines.specs.declared.fault.RefusedLine.{RefusedLine}
 use Rattle.key_lines.specs.declared.fault.RunFault.{RunFault}
 use Rattle.key_lines.specs.declared.run.RunOptions.{RunOptions}
 use Rattle.key_lines.specs.declared.summary.RunSummary.{RunSummary}
-use Rattle.key_wrap_core.specs.declared.faults.InPlaceFault.{InPlaceFault}
 use Rattle.keywrap_cli.specs.Answers.{JobAnswer, RewrappingAnswer}
 use Rattle.keywrap_cli.specs.Engine.{AnswersLines, IsRefusedBefore, UnderKek, UnderKeks, UnderReadKek}
 use Rattle.keywrap_cli.specs.Files.{line_notation, text_notation}
@@ -20,6 +19,7 @@ use Rattle.keywrap_cli.specs.declared.job.Task.{Task}
 use Rattle.keywrap_cli.specs.declared.kek_file.KekRole.TheVariants.{Kek}
 use Rattle.keywrap_cli.specs.declared.operation.Operation.{Operation}
 use Rattle.keywrap_cli.specs.declared.operation.Operation.TheVariants.{Job, Rewrap}
+use Rattle.keywrap_cli.specs.declared.refusal.Refusal.{Refusal}
 use Rattle.keywrap_cli.specs.declared.rewrapping.Rewrapping.{Rewrapping}
 
 -- a property of a job, or of a rewrap
@@ -70,8 +70,8 @@ lines_of task = record { forms = task.forms; pass_new = task.pass_new; input = l
 
 -- The same line by line: the KEK files are read first, and then each line is answered.
 abbrev pub RunsOperationLines : {K : Type 0} → (K → Option (List ℕ)) → Bool → Operation K → Operation K → Option (List ℕ)
-    → Option (List ℕ) → Option (List ℕ) → Option (List ℕ) → Option (List (RefusedLine InPlaceFault)) → Option (List (RefusedLine InPlaceFault))
-    → Result (Result (RunSummary InPlaceFault) (RunFault InPlaceFault)) JobFault → Type 0
+    → Option (List ℕ) → Option (List ℕ) → Option (List ℕ) → Option (List (RefusedLine Refusal)) → Option (List (RefusedLine Refusal))
+    → Result (Result (RunSummary Refusal) (RunFault Refusal)) JobFault → Type 0
 RunsOperationLines known keep_going old new input input' out out' log log' answer = MatchOperations old new
     (λ iv task kek iv' task' kek'. UnderKek task.kek (known kek) (known kek')
     (λ K. AnswersLines (line_options task.input keep_going) (JobAnswer iv (in_lines task) (cipher K)) input input' out out' log log' answer)
@@ -83,7 +83,7 @@ RunsOperationLines known keep_going old new input input' out out' log log' answe
 -- The headline of lines. If the rest of the input is known, the answers to its first lines were written, in order, each
 -- under AES of the KEKs that the KEK files denote.
 abbrev pub WritesTheLinesOf : {K : Type 0} → (K → Option (List ℕ)) → Bool → Operation K → Operation K → Option (List ℕ) → Option (List ℕ)
-    → Option (List ℕ) → Result (RunSummary InPlaceFault) (RunFault InPlaceFault) → Type 0
+    → Option (List ℕ) → Result (RunSummary Refusal) (RunFault Refusal) → Type 0
 WritesTheLinesOf known keep_going old new input out out' run = MatchOperations old new
     (λ iv task kek iv' task' kek'. UnderReadKek task.kek (known kek) (known kek') (λ K. IfSome input
     (λ text. WritesAnswers (line_options task.input keep_going) (JobAnswer iv (in_lines task) (cipher K)) text out out' run)))

@@ -7,15 +7,15 @@ ghost use Rattle.keywrap_cli.specs.Files.{printed};
 
 use crate::files::{input_fault, read_file};
 use crate::job::{JobFault, Notation};
+use crate::refusal::Refusal;
 use key_files::{Alphabet, print_base64, print_hex, write_raw};
 use key_lines::{LineJob, Mark};
-use key_wrap_core::InPlaceFault;
 use std::alloc::{AllocError, Global};
 use std::io::{Read, Write};
 
 /// Reads the input, writes the answer of the job for this input, and returns the answer's mark.
 /// Nothing is written before the whole output is made, and the call does not flush.
-pub fn run_input<J: LineJob<Refusal = InPlaceFault>, R: Read, W: Write>(
+pub fn run_input<J: LineJob<Refusal = Refusal>, R: Read, W: Write>(
     alloc: Global,
     notation: Notation,
     job: &J,
@@ -33,7 +33,7 @@ pub fn run_input<J: LineJob<Refusal = InPlaceFault>, R: Read, W: Write>(
 }
 
 // Makes the whole answer for the bytes, and then writes it.
-fn write_answer<J: LineJob<Refusal = InPlaceFault>, W: Write>(
+fn write_answer<J: LineJob<Refusal = Refusal>, W: Write>(
     alloc: Global,
     job: &J,
     bytes: &mut Vec<u8>,
@@ -57,12 +57,13 @@ fn write_answer<J: LineJob<Refusal = InPlaceFault>, W: Write>(
 }
 
 // Returns the job's fault for a refusal of its bytes.
-fn job_fault(refusal: InPlaceFault) -> JobFault
+fn job_fault(refusal: Refusal) -> JobFault
     ensures { result ≡ job_fault_of refusal }
 {
     match refusal {
-        InPlaceFault::BadLength => JobFault::BadLength,
-        InPlaceFault::Integrity => JobFault::Integrity,
+        Refusal::BadLength => JobFault::BadLength,
+        Refusal::Integrity => JobFault::Integrity,
+        Refusal::KeyNotPlain => JobFault::KeyNotPlain,
     }
 }
 

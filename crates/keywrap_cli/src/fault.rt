@@ -1,13 +1,16 @@
 //! The faults of the program, with their lines on standard error and their exit statuses.
 
+ghost use Rattle.std.specs.Prelude.{◌≡◌, ◌↔◌, ◌⊎◌};
+ghost use Rattle.keywrap_cli.specs.Statuses.{drill_status, fault_status, job_status, line_status};
+
 use crate::drilling::DrillFault;
 use crate::initial_value::IvFault;
 use crate::job::JobFault;
+use crate::refusal::Refusal;
 use crate::report::VectorsFault;
 use crate::statuses;
 use key_files::{FileFault, HexWriteFault, WriteFault};
 use key_lines::{LineFault, RefusedLine};
-use key_wrap_core::InPlaceFault;
 use thiserror::Error;
 
 /// A fault of the program, other than one of its arguments. Its message is its line on standard
@@ -33,7 +36,7 @@ pub enum ProgramFault {
     #[error("keywrap: {0}")]
     Job(JobFault),
     #[error("keywrap: {0}")]
-    Line(RefusedLine<InPlaceFault>),
+    Line(RefusedLine<Refusal>),
     #[error("keywrap: no lines")]
     NoLines,
     #[error("keywrap: {0}")]
@@ -50,7 +53,9 @@ pub enum ProgramFault {
 
 impl ProgramFault {
     /// Returns the exit status.
-    pub fn status(&self) -> u8 {
+    pub fn status(&self) -> u8
+        ensures { result ≡ fault_status self.now }
+    {
         match self {
             ProgramFault::Iv(_) | ProgramFault::NewIv(_) | ProgramFault::RawToTerminal =>
                 statuses::REFUSED_WORDS,
@@ -69,10 +74,18 @@ impl ProgramFault {
     }
 }
 
-fn job_status(fault: &JobFault) -> u8 {
+fn job_status(fault: &JobFault) -> u8
+    ensures status { result ≡ job_status fault.now }
+    ensures kek { (result ≡ 3) ↔ ((fault.now ≡ JobFault.KekLength)
+        ⊎ (fault.now ≡ JobFault.NewKekLength)) }
+    ensures length { (result ≡ 4) ↔ ((fault.now ≡ JobFault.BadLength)
+        ⊎ (fault.now ≡ JobFault.KeyNotPlain)) }
+    ensures integrity { (result ≡ 5) ↔ (fault.now ≡ JobFault.Integrity) }
+    ensures memory { (result ≡ 7) ↔ (fault.now ≡ JobFault.Memory) }
+{
     match fault {
         JobFault::KekLength | JobFault::NewKekLength => statuses::KEK_LENGTH,
-        JobFault::BadLength => statuses::BAD_LENGTH,
+        JobFault::BadLength | JobFault::KeyNotPlain => statuses::BAD_LENGTH,
         JobFault::Integrity => statuses::FAILED,
         JobFault::KekFile(_)
         | JobFault::NewKekFile(_)
@@ -82,16 +95,26 @@ fn job_status(fault: &JobFault) -> u8 {
     }
 }
 
-fn line_status(fault: LineFault<InPlaceFault>) -> u8 {
+pub(crate) fn line_status(fault: LineFault<Refusal>) -> u8
+    ensures { result ≡ line_status fault }
+{
     match fault {
-        LineFault::Refused(InPlaceFault::BadLength) => statuses::BAD_LENGTH,
-        LineFault::Refused(InPlaceFault::Integrity) => statuses::FAILED,
+        LineFault::Refused(Refusal::BadLength | Refusal::KeyNotPlain) => { statuses::BAD_LENGTH }
+        LineFault::Refused(Refusal::Integrity) => statuses::FAILED,
         LineFault::Input(FileFault::Memory) => statuses::MEMORY,
-        LineFault::Input(_) => statuses::INPUT_OUTPUT,
+        LineFault::Input(
+            FileFault::Read
+            | FileFault::TooLong
+            | FileFault::BadDigit { .. }
+            | FileFault::OddDigits
+            | FileFault::BadBase64(_),
+        ) => statuses::INPUT_OUTPUT,
     }
 }
 
-fn drill_status(fault: &DrillFault) -> u8 {
+fn drill_status(fault: &DrillFault) -> u8
+    ensures { result ≡ drill_status fault.now }
+{
     match fault {
         DrillFault::BadLength => statuses::BAD_LENGTH,
         DrillFault::Integrity => statuses::FAILED,

@@ -23,6 +23,8 @@ pub enum Job {
     Wrap,
     /// The input is a wrapped key, and the output the key.
     Unwrap,
+    /// The same for a wrapped key in either form.
+    UnwrapAny,
     /// The input is a wrapped key, and the output a line with its form and the length of its key.
     Check,
 }
@@ -46,9 +48,9 @@ pub enum Notation {
 pub struct Task {
     /// The kind of the job.
     pub job: Job,
-    /// The form of the wrapping. `Check` tries both forms.
+    /// The form of the wrapping. `UnwrapAny` and `Check` try both forms.
     pub form: Form,
-    /// The notation of the input, and of the output of `Wrap` and `Unwrap`.
+    /// The notation of the input, and of the output unless this is a `Check`.
     pub input: Notation,
     /// The notation of the KEK file.
     pub kek: Notation,
@@ -95,6 +97,10 @@ pub enum JobFault {
     /// The input is not a wrapping in this form under this KEK.
     #[error("integrity check failed")]
     Integrity,
+    /// A rewrap found the key, but no plain key has its length. `run_rewrap` returns BadLength
+    /// instead.
+    #[error("bad length")]
+    KeyNotPlain,
     /// The writer took only `written` bytes of the output.
     #[error("output: refused after {written} bytes")]
     Write {

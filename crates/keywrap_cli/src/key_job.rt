@@ -1,16 +1,19 @@
 //! Runs a job under a KEK on the bytes of an input or of a line.
 
-ghost use Rattle.std.specs.Prelude.{◌≡◌, IfOk, string_bytes};
+ghost use Rattle.std.specs.Prelude.{◌≡◌, IfOk, OnOk, string_bytes};
 ghost use Rattle.key_files.specs.Writing.{IsLine};
 ghost use Rattle.key_lines.specs.Answers.{answered};
 ghost use Rattle.keywrap_cli.specs.Answers.{AnswerOfJob, JobAnswer, job_of, kind_line};
+ghost use Rattle.keywrap_cli.specs.Files.{printed};
 
+use crate::any_form::unwrap_any;
 use crate::convert::{Direction, convert_into};
 use crate::engine::print_in;
 use crate::job::{Job, Task};
+use crate::refusal::{Refusal, job_refusal};
 use block_pair::{BlockPair, Meter};
 use key_lines::{LineJob, Mark};
-use key_wrap_core::{InPlaceFault, InitialValue, Kind, kind_into_with};
+use key_wrap_core::{InitialValue, Kind, kind_into_with};
 use std::alloc::{AllocError, Global};
 
 /// A job under a block permutation. Only the plain form uses the initial value.
@@ -23,7 +26,7 @@ pub struct KeyJob<B: BlockPair> {
 }
 
 impl<B: BlockPair> LineJob for KeyJob<B> {
-    type Refusal = InPlaceFault;
+    type Refusal = Refusal;
 
     ghost answers = { λ job bytes answer. JobAnswer job.iv job.task (B.encrypted job.pair)
         bytes answer };
@@ -32,10 +35,11 @@ impl<B: BlockPair> LineJob for KeyJob<B> {
         &self,
         bytes: &mut Vec<u8>,
         output: &mut Vec<u8>,
-    ) -> Result<Result<Mark, InPlaceFault>, AllocError> {
+    ) -> Result<Result<Mark, Refusal>, AllocError> {
         match self.task.job {
             Job::Wrap => self.convert(Direction::Wrap, bytes, output),
             Job::Unwrap => self.convert(Direction::Unwrap, bytes, output),
+            Job::UnwrapAny => self.unwrap_any(bytes, output),
             Job::Check => self.check(bytes, output),
         }
     }
@@ -48,7 +52,7 @@ impl<B: BlockPair> KeyJob<B> {
         direction: Direction,
         bytes: &mut Vec<u8>,
         output: &mut Vec<u8>,
-    ) -> Result<Result<Mark, InPlaceFault>, AllocError>
+    ) -> Result<Result<Mark, Refusal>, AllocError>
         ensures { IfOk result (λ mark. AnswerOfJob (job_of direction) self.now.iv self.now.task
             (B.encrypted self.now.pair) bytes.old.items (answered output.new.items mark)) }
     {
@@ -61,21 +65,42 @@ impl<B: BlockPair> KeyJob<B> {
             output,
         ) {
             Ok(Ok(())) => {}
-            Ok(Err(refusal)) => return Ok(Err(refusal)),
+            Ok(Err(fault)) => return Ok(Err(job_refusal(fault))),
             Err(fault) => return Err(fault),
         }
-        // The answer is in `output`. It is printed into `bytes`.
-        print_in(self.task.input, output, bytes)?;
-        std::mem::swap(bytes, output);
+        self.print(bytes, output)?;
         Ok(Ok(Mark::Unmarked))
     }
 
-    // Makes the answer of a check. `output` is the room for the registers.
-    fn check(
+    // Makes the answer of an unwrapping in either form.
+    fn unwrap_any(
         &self,
-        text: &[u8],
+        bytes: &mut Vec<u8>,
         output: &mut Vec<u8>,
-    ) -> Result<Result<Mark, InPlaceFault>, AllocError>
+    ) -> Result<Result<Mark, Refusal>, AllocError>
+        ensures { IfOk result (λ mark. AnswerOfJob Job.UnwrapAny self.now.iv self.now.task
+            (B.encrypted self.now.pair) bytes.old.items (answered output.new.items mark)) }
+    {
+        match unwrap_any(&self.iv, &self.pair, bytes, output) {
+            Ok(Ok(())) => {}
+            Ok(Err(fault)) => return Ok(Err(job_refusal(fault))),
+            Err(fault) => return Err(fault),
+        }
+        self.print(bytes, output)?;
+        Ok(Ok(Mark::Unmarked))
+    }
+
+    // Prints the answer in `output`. `bytes` is room for it.
+    fn print(&self, bytes: &mut Vec<u8>, output: &mut Vec<u8>) -> Result<(), AllocError>
+        ensures { OnOk result (output.new.items ≡ printed self.now.task.input output.old.items) }
+    {
+        print_in(self.task.input, output, bytes)?;
+        std::mem::swap(bytes, output);
+        Ok(())
+    }
+
+    // Makes the answer of a check. `output` is the room for the registers.
+    fn check(&self, text: &[u8], output: &mut Vec<u8>) -> Result<Result<Mark, Refusal>, AllocError>
         ensures { IfOk result (λ mark. AnswerOfJob Job.Check self.now.iv self.now.task
             (B.encrypted self.now.pair) text.now (answered output.new.items mark)) }
     {

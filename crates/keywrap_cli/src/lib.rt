@@ -1,8 +1,9 @@
 //! The command `keywrap`, as calls over readers and writers: jobs over a whole input and line by
-//! line, rewrapping, the drill, the published vectors. Also the message and the exit status of each
-//! fault, which are tested and not proved.
+//! line, rewrapping, the drill, the published vectors. Also the exit status of each fault and of each
+//! run, and the messages, which are tested and not proved.
 #![tactic(auto)]
 
+mod any_form;
 mod convert;
 mod drilling;
 mod engine;
@@ -15,10 +16,12 @@ mod kek_file;
 mod key_job;
 mod lines;
 mod operation;
+mod refusal;
 mod report;
 mod rewrap;
 mod rewrap_job;
 mod rewrapping;
+mod run_status;
 pub mod statuses;
 #[cfg(test)]
 mod tests;
@@ -31,6 +34,8 @@ pub use flushed::{run_drill, run_vectors, write_help};
 pub use initial_value::{IvFault, parse_iv};
 pub use job::{Done, Job, JobFault, Notation, Outcome, Task, run_job, run_with};
 pub use operation::Operation;
+pub use refusal::Refusal;
 pub use report::{VectorsFault, vectors};
 pub use rewrap::run_rewrap;
-pub use rewrapping::{RewrapForms, Rewrapping};
+pub use rewrapping::Rewrapping;
+pub use run_status::{done_status, lines_status};

@@ -2,7 +2,8 @@
 
 ghost use Rattle.std.specs.Prelude.{◌≡◌, ◌≢◌, ◌↔◌, Some, None, MatchOption};
 ghost use Rattle.std.specs.Prelude.{IfOk, IsOk, IsTrue, false};
-ghost use Rattle.keywrap_cli.specs.Forms.{DropsPadding, to_itself};
+ghost use Rattle.key_wrap_core.specs.OneRewrap.{to_itself};
+ghost use Rattle.keywrap_cli.specs.EndsWell.{AnswersAllLines, EndsWell, job_in};
 ghost use Rattle.keywrap_cli.specs.Operation.{IsSameTask, MatchOperation};
 ghost use Rattle.keywrap_cli.specs.Operation.{RunsOperation, RunsOperationLines};
 ghost use Rattle.keywrap_cli.specs.Operation.{TellsSameKekOf, WritesTheAnswerOf, WritesTheLinesOf};
@@ -12,11 +13,12 @@ use crate::job::{Done, Job, JobFault, Notation, Outcome, Task, run};
 use crate::kek_file::{Keks, read_kek, read_keks};
 use crate::key_job::KeyJob;
 use crate::lines::{line_notation, text_notation};
+use crate::refusal::Refusal;
 use crate::rewrap::rewrap;
 use crate::rewrap_job::RewrapJob;
-use crate::rewrapping::{RewrapForms, Rewrapping};
+use crate::rewrapping::Rewrapping;
 use key_lines::{LineRun, LineSource, RefusalLog, RunFault, RunOptions, RunSummary};
-use key_wrap_core::{AgreedForm, InPlaceFault, InitialValue};
+use key_wrap_core::{AgreedForm, InitialValue, RewrapForms};
 use std::alloc::Global;
 use std::io::{Read, Write};
 
@@ -102,23 +104,6 @@ impl<K> Operation<K> {
         !is_check && matches!(self.input_notation(), Notation::Raw)
     }
 
-    /// Whether a padded wrapped key becomes a plain one.
-    pub fn drops_padding(&self) -> bool
-        ensures { MatchOperation self.now (λ iv task kek. result ≡ false)
-            (λ task kek new. IsTrue result ↔ DropsPadding task.forms) }
-    {
-        match self {
-            Operation::Job { .. } => false,
-            Operation::Rewrap { task, .. } => matches!(
-                task.forms,
-                RewrapForms::Changed {
-                    old: AgreedForm::Padded,
-                    new: AgreedForm::Plain(_),
-                }
-            ),
-        }
-    }
-
     /// Whether a rewrap changes neither the form nor the initial value.
     pub fn keeps_form(&self) -> bool
         ensures { MatchOperation self.now (λ iv task kek. result ≡ false)
@@ -182,14 +167,14 @@ impl<K: Read> Operation<K> {
     ///
     /// The outer `Err` is the fault of a KEK file: then the input was not read, and nothing was
     /// written. `marked` in the summary counts answers that are `none` or a copied wrapped key.
-    pub fn run_lines<L: RefusalLog<InPlaceFault>, I: LineSource, W: Write>(
+    pub fn run_lines<L: RefusalLog<Refusal>, I: LineSource, W: Write>(
         &mut self,
         alloc: Global,
         keep_going: bool,
         log: &mut L,
         input: &mut I,
         out: &mut W,
-    ) -> Result<Outcome<Result<RunSummary<InPlaceFault>, RunFault<InPlaceFault>>>, JobFault>
+    ) -> Result<Outcome<Result<RunSummary<Refusal>, RunFault<Refusal>>>, JobFault>
         ensures run { RunsOperationLines K.remaining keep_going self.old self.new
             (I.remaining input.old) (I.remaining input.new)
             (W.contents out.old) (W.contents out.new)
@@ -200,6 +185,10 @@ impl<K: Read> Operation<K> {
         ensures headline { IfOk result (λ outcome. WritesTheLinesOf K.remaining keep_going
             self.old self.new (I.remaining input.old)
             (W.contents out.old) (W.contents out.new) outcome.result) }
+        // If the run ends with status 0, each line was answered: see [`lines_status`].
+        ensures ends_well { IfOk result (λ outcome. IfOk outcome.result (λ summary.
+            EndsWell (job_in self.old) summary → AnswersAllLines K.remaining self.old self.new
+            (I.remaining input.old) (W.contents out.old) (W.contents out.new))) }
         ensures same_kek { IfOk result (λ outcome.
             TellsSameKekOf K.remaining self.old self.new outcome.same_kek) }
         ensures same_task { IsSameTask self.old self.new }

@@ -1,16 +1,16 @@
 //! Rewrapping one key: from one KEK to another, without writing the key.
 
-ghost use Rattle.std.specs.Prelude.{IfOk, IsOk};
+ghost use Rattle.std.specs.Prelude.{◌≡◌, IfOk, IsOk, Result};
 ghost use Rattle.key_wrap_core.specs.Forms.{by_default};
 ghost use Rattle.keywrap_cli.specs.Rewrapping.{RunsRewrap, TellsSameKek, WritesTheNewText};
-ghost use Rattle.keywrap_cli.specs.Rewrapping.{result_of, rewrapping};
+ghost use Rattle.keywrap_cli.specs.Rewrapping.{result_of, rewrapping, without_cause};
 
 use crate::engine::run_input;
 use crate::job::{Done, JobFault, Notation, Outcome};
 use crate::kek_file::{Keks, read_keks};
 use crate::rewrap_job::RewrapJob;
-use crate::rewrapping::{RewrapForms, Rewrapping};
-use key_wrap_core::{AgreedForm, Form};
+use crate::rewrapping::Rewrapping;
+use key_wrap_core::{AgreedForm, Form, RewrapForms};
 use std::alloc::Global;
 use std::io::{Read, Write};
 
@@ -33,13 +33,13 @@ pub fn run_rewrap<K: Read, N: Read, R: Read, W: Write>(
     input: &mut R,
     out: &mut W,
 ) -> Result<Done, JobFault>
-    ensures run { RunsRewrap
+    ensures run { (answer : Result Done JobFault) × RunsRewrap
         (rewrapping (RewrapForms.Changed (by_default old_form) (by_default new_form))
         input_notation kek_notation)
         (K.remaining old_kek.old) (K.remaining old_kek.new)
         (N.remaining new_kek.old) (N.remaining new_kek.new)
         (R.remaining input.old) (R.remaining input.new)
-        (W.contents out.old) (W.contents out.new) result }
+        (W.contents out.old) (W.contents out.new) answer × (result ≡ without_cause answer) }
 
     // The output wraps exactly the key that the input wrapped.
     ensures headline { IsOk result → WritesTheNewText
@@ -61,6 +61,7 @@ pub fn run_rewrap<K: Read, N: Read, R: Read, W: Write>(
     };
     match rewrap(alloc, &task, old_kek, new_kek, input, out) {
         Ok(outcome) => Ok(outcome.result),
+        Err(JobFault::KeyNotPlain) => Err(JobFault::BadLength),
         Err(fault) => Err(fault),
     }
 }

@@ -1,21 +1,7 @@
 //! The forms and notations of a rewrapping.
 
 use crate::job::Notation;
-use key_wrap_core::AgreedForm;
-
-/// The old and the new form of a rewrapping.
-#[derive(Clone, Copy)]
-pub enum RewrapForms {
-    /// The form of the input, which is kept. The initial value is the default.
-    Kept,
-    /// The old form and the new one, which may be the same.
-    Changed {
-        /// The form of the old wrapped keys.
-        old: AgreedForm,
-        /// The form of the new wrapped keys.
-        new: AgreedForm,
-    },
-}
+use key_wrap_core::RewrapForms;
 
 /// A rewrapping, with the forms of both wrapped keys and the notations of its files.
 #[derive(Clone, Copy)]

@@ -1,19 +1,22 @@
 //! The output of a run: a file, or standard output.
 
+ghost use Rattle.keywrap_io.specs.Adapters.{output_contents};
+
 use crate::output_file::OutputFile;
 use crate::reason::Reason;
 use std::fs::File;
-use std::io::{self, Printer, Write};
+use std::io::{self, Write};
 use std::rt::Files;
 
 /// The output of a run.
 #[derive(Drop)]
-pub enum Output<'a, R> {
-    File(OutputFile<'a>),
-    Stdout(Printer<'a, R>),
+pub enum Output<'a, W, F = File> {
+    File(OutputFile<'a, F>),
+    /// Standard output itself.
+    Stdout(W),
 }
 
-impl<R: Print> Output<'_, R> {
+impl<W: Write> Output<'_, W> {
     /// Ends a run that was not refused: the file takes its place, or standard output is flushed.
     pub fn commit<F: Files<File = File>>(&mut self, rt: &F) -> Result<(), Reason> {
         match self {
@@ -30,7 +33,9 @@ impl<R: Print> Output<'_, R> {
     }
 }
 
-impl<R: Print> Write for Output<'_, R> {
+impl<W: Write, F: Write> Write for Output<'_, W, F> {
+    ghost contents = { output_contents W.contents F.contents };
+
     fn write(&mut self, buf: &[u8]) -> io::Result<usize> {
         match self {
             Output::File(file) => file.file.write(buf),

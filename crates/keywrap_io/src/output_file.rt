@@ -42,9 +42,9 @@ pub enum Access {
 
 /// A new file, which replaces the old file, if any, once it is whole.
 #[derive(Drop)]
-pub struct OutputFile<'a> {
+pub struct OutputFile<'a, F = File> {
     /// The new file.
-    pub file: File,
+    pub file: F,
     name: &'a str,
     temporary: String,
 }

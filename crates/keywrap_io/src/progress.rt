@@ -118,6 +118,8 @@ pub struct CountingReader<'i, 'p, 'r, I, R> {
 }
 
 impl<I: Read, R: Eprint + Clock + Env + AllocGlobal> Read for CountingReader<'_, '_, '_, I, R> {
+    ghost remaining = { λ s. I.remaining s.input.now };
+
     fn read(&mut self, buf: &mut [u8]) -> io::Result<usize> {
         let count = self.input.read(buf)?;
         self.progress.count(&buf[..count]);

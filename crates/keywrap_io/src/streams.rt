@@ -1,5 +1,7 @@
 //! The standard streams as the program starts, and opening a file or standard input by name.
 
+ghost use Rattle.keywrap_io.specs.Adapters.{source_remaining};
+
 use crate::file_role::FileRole;
 use crate::protected::FileId;
 use std::fs::{self, File, OpenFile};
@@ -77,8 +79,8 @@ fn occupy<R: Files>(rt: &R, stream: StreamKind) -> io::Result<Option<PipeReader>
 
 /// A file to read, or standard input, which cannot be opened by name if it is a socket.
 #[derive(Drop)]
-pub enum InputSource<I> {
-    File(File),
+pub enum InputSource<I, F = File> {
+    File(F),
     /// Standard input itself.
     Stdin(I),
 }
@@ -122,7 +124,9 @@ pub fn is_standard_input(name: &str) -> bool {
     matches!(name, "/dev/stdin" | "/dev/fd/0" | "/proc/self/fd/0")
 }
 
-impl<I: Read> Read for InputSource<I> {
+impl<I: Read, F: Read> Read for InputSource<I, F> {
+    ghost remaining = { source_remaining I.remaining F.remaining };
+
     fn read(&mut self, buf: &mut [u8]) -> io::Result<usize> {
         match self {
             InputSource::File(file) => file.read(buf),

@@ -2,6 +2,7 @@
 //! the memory of the module after each call.
 #![tactic(auto)]
 
+mod any_form;
 mod kinds;
 mod padded;
 mod padded_in_place;

@@ -18,7 +18,7 @@ if not _ffi.lib.cpu_supported():
     raise ImportError("this processor lacks SSSE3 or SSE4.1, which keywrap needs", name=__name__)
 
 from . import _refusals
-from ._refusals import BadInitialValue, BadKekLength, BadLength, IntegrityFailed, KeywrapError
+from ._refusals import BadInitialValue, BadKekLength, BadLength, IntegrityFailed, KeyNotPlain, KeywrapError
 
 if TYPE_CHECKING:
     from _typeshed import ReadableBuffer
@@ -28,6 +28,7 @@ __all__ = [
     "BadKekLength",
     "BadLength",
     "IntegrityFailed",
+    "KeyNotPlain",
     "KeywrapError",
     "Kind",
     "check",
@@ -35,12 +36,13 @@ __all__ = [
     "rewrap",
     "self_test",
     "unwrap",
+    "unwrap_any",
     "unwrap_padded",
     "wrap",
     "wrap_padded",
 ]
 
-for _refusal in (KeywrapError, BadInitialValue, BadKekLength, BadLength, IntegrityFailed):
+for _refusal in (KeywrapError, BadInitialValue, BadKekLength, BadLength, KeyNotPlain, IntegrityFailed):
     _refusal.__module__ = __name__
 
 _lib = _ffi.lib
@@ -52,6 +54,7 @@ _wrap_with = _lib.keywrap_wrap_with
 _unwrap_with = _lib.keywrap_unwrap_with
 _wrap_padded = _lib.keywrap_wrap_padded
 _unwrap_padded = _lib.unwrap_padded
+_unwrap_any = _lib.unwrap_any
 _rewrap = _lib.rewrap
 _kind = _lib.kind
 _wipe = _lib.wipe
@@ -183,17 +186,34 @@ def unwrap_padded(kek: ReadableBuffer, wrapped: ReadableBuffer) -> bytes:
     """
     if type(kek) is not bytes or type(wrapped) is not bytes:
         return _on_copies(unwrap_padded, kek, wrapped)
+    return _unwrap_by(_unwrap_padded, kek, wrapped)[0]
+
+
+def unwrap_any(kek: ReadableBuffer, wrapped: ReadableBuffer) -> Tuple[bytes, Kind]:
+    """Returns the key whose wrapping this is, plain or padded, and its form, or raises `IntegrityFailed`.
+
+    No wrapped key has both forms. The plain one has the default initial value. For lengths see
+    `unwrap_padded`.
+    """
+    if type(kek) is not bytes or type(wrapped) is not bytes:
+        return _on_copies(unwrap_any, kek, wrapped)
+    return _unwrap_by(_unwrap_any, kek, wrapped)
+
+
+def _unwrap_by(call: Callable[..., int], kek: bytes, wrapped: bytes) -> Tuple[bytes, Kind]:
+    """Returns the key that the call finds, and its form. Wipes the buffer of the call if it has padding."""
     length = len(wrapped)
     room = length - 8 if length > 8 else 0
     padded = bytes(room)
-    found = _unwrap_padded(kek, len(kek), wrapped, length, padded, room)
+    found = call(kek, len(kek), wrapped, length, padded, room)
     if found < 0:
         raise _refusals.refusal(-found, "the wrapped key", length, _refusals.WRAPPED_PADDED, kek)
-    if found == room:
-        return padded
-    key = padded[:found]
+    key_len, form = found >> 1, _KINDS[found & 1]
+    if key_len == room:
+        return padded, form
+    key = padded[:key_len]
     _wipe(padded, room)
-    return key
+    return key, form
 
 
 def rewrap(
@@ -211,35 +231,33 @@ def rewrap(
     Both wrapped keys are in the plain form, unless a flag makes one padded. With `keep_form` the old
     form may be either, and is kept; a flag of a form beside it raises `ValueError`. With `pass_new` a
     wrapped key that is already under the new KEK, in the form of a result, is returned unchanged.
-    `BadLength` also if the length of the key is not legal in the new form. For other exceptions see
-    `unwrap` and `unwrap_padded`.
+    `KeyNotPlain`, a `BadLength`, if the result would be plain and the key has no length of a plain key.
+    For other exceptions see `unwrap` and `unwrap_padded`.
     """
     if keep_form and (old_padded or new_padded):
         raise ValueError("keep_form goes with neither old_padded nor new_padded")
     if type(old_kek) is not bytes or type(new_kek) is not bytes or type(wrapped) is not bytes:
-        flags = {"old_padded": old_padded, "new_padded": new_padded, "keep_form": keep_form, "pass_new": pass_new}
-        return _on_copies(rewrap, old_kek, new_kek, wrapped, **flags)
+        given = {"old_padded": old_padded, "new_padded": new_padded, "keep_form": keep_form, "pass_new": pass_new}
+        return _on_copies(rewrap, old_kek, new_kek, wrapped, **given)
     length = len(wrapped)
-    answer = bytes(max(length, 16))
-    old = _lib.KEYWRAP_OLD_PADDED if old_padded else 0
-    new = _lib.KEYWRAP_NEW_PADDED if new_padded else 0
-    forms = _lib.KEYWRAP_KEEP_FORM if keep_form else old | new
-    status = _rewrap(old_kek, len(old_kek), new_kek, len(new_kek), wrapped, length, answer, forms)
-    if not status:
-        return answer
-    legal = _refusals.WRAPPED_PADDED if old_padded or keep_form else _refusals.WRAPPED_PLAIN
-    if pass_new and status != _lib.KEYWRAP_BAD_KEK and not _refusals.is_of_key(status, length, legal):
-        # From the new KEK to itself, in the form of an answer on both sides.
-        forms = forms if keep_form else (new | _lib.KEYWRAP_OLD_PADDED if new_padded else 0)
-        if not _rewrap(new_kek, len(new_kek), new_kek, len(new_kek), wrapped, length, answer, forms):
-            return answer
-    raise _refusals.of_rewrap(status, length, legal, old_kek, new_kek)
+    result = bytes(max(length, 16))
+    flags = (
+        (_lib.KEYWRAP_OLD_PADDED if old_padded else 0)
+        | (_lib.KEYWRAP_NEW_PADDED if new_padded else 0)
+        | (_lib.KEYWRAP_KEEP_FORM if keep_form else 0)
+        | (_lib.KEYWRAP_PASS_NEW if pass_new else 0)
+    )
+    status = _rewrap(old_kek, len(old_kek), new_kek, len(new_kek), wrapped, length, result, flags)
+    if status:
+        legal = _refusals.WRAPPED_PADDED if old_padded or keep_form else _refusals.WRAPPED_PLAIN
+        raise _refusals.refusal(status, "the wrapped key", length, legal, old_kek, new_kek)
+    return result
 
 
 def check(kek: ReadableBuffer, wrapped: ReadableBuffer) -> Optional[Kind]:
     """Returns the form of the wrapped key, or `None` if it is not valid under the KEK.
 
-    The key is not returned. `BadKekLength` is the only exception.
+    The key is not returned. `BadKekLength` is the only refusal.
     """
     found = check_with_length(kek, wrapped)
     return found[0] if found else None
@@ -255,8 +273,8 @@ def check_with_length(kek: ReadableBuffer, wrapped: ReadableBuffer) -> Optional[
     found = _kind(kek, len(kek), wrapped, length, scratch, room)
     if found >= 0:
         return _KINDS[found & 1], found >> 1
-    if found in (-_lib.KEYWRAP_BAD_KEK, -_refusals.NO_MEMORY):
-        raise _refusals.refusal(-found, "", 0, "", kek)
+    if found != -_lib.KEYWRAP_INTEGRITY:
+        raise _refusals.refusal(-found, "the wrapped key", length, _refusals.WRAPPED_PADDED, kek)
     return None
 
 

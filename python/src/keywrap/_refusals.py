@@ -7,9 +7,6 @@ from ._ffi import ffi, lib
 _MAX_KEY: int = lib.KEYWRAP_MAX_KEY
 _MAX_WRAPPED: int = lib.KEYWRAP_MAX_TEXT
 
-#: Only the portable library returns it: malloc failed.
-NO_MEMORY = 7
-
 #: What the lengths must be, in bytes.
 KEKS = "16, 24 or 32"
 PLAIN_KEYS = f"a multiple of 8 from 16 to {_MAX_KEY}"
@@ -27,6 +24,7 @@ def _text(status: int) -> str:
 
 
 _BAD_LENGTH = _text(lib.KEYWRAP_BAD_LENGTH)
+_KEY_NOT_PLAIN = _text(lib.KEYWRAP_KEY_NOT_PLAIN)
 _INTEGRITY = _text(lib.KEYWRAP_INTEGRITY)
 
 
@@ -46,6 +44,10 @@ class BadLength(KeywrapError, ValueError):
     """The key or the wrapped key has a length that this form does not take."""
 
 
+class KeyNotPlain(BadLength):
+    """The wrapped key is genuine, but no plain key has the length of its key."""
+
+
 class IntegrityFailed(KeywrapError):
     """The integrity check failed: another KEK, form or initial value, or damage."""
 
@@ -57,13 +59,15 @@ def bad_length(what: str, length: int, legal: str) -> BadLength:
 
 def refusal(status: int, what: str, length: int, legal: str, *keks: bytes) -> KeywrapError:
     """What a call on these KEKs refused by its status, where `what` is of that length. Raises `MemoryError` itself."""
-    if status == NO_MEMORY:
+    if status == lib.NO_MEMORY:
         raise MemoryError
     if status == lib.KEYWRAP_BAD_KEK:
         length = next(len(kek) for kek in keks if len(kek) not in (16, 24, 32))
         return BadKekLength(f"the KEK is {length} bytes long; it must be {KEKS} bytes")
     if status == lib.KEYWRAP_BAD_LENGTH:
         return bad_length(what, length, legal)
+    if status == lib.KEYWRAP_KEY_NOT_PLAIN:
+        return KeyNotPlain(f"{_BAD_LENGTH}: {_KEY_NOT_PLAIN}; it must be {PLAIN_KEYS} bytes")
     return IntegrityFailed(f"{_INTEGRITY}: no wrapped key under this KEK")
 
 
@@ -72,16 +76,3 @@ def bad_initial_value(iv: bytes) -> BadInitialValue:
     if len(iv) != 8:
         return BadInitialValue(f"the initial value is {len(iv)} bytes long; it must be 8 bytes")
     return BadInitialValue("the initial value is reserved for the padded form: it begins with a6 59 59 a6")
-
-
-def is_of_key(status: int, length: int, legal: str) -> bool:
-    """Whether a rewrap of this many bytes refused the length of the key in them."""
-    least = 16 if legal == WRAPPED_PADDED else 24
-    return bool(status == lib.KEYWRAP_BAD_LENGTH) and length % 8 == 0 and least <= length <= _MAX_WRAPPED
-
-
-def of_rewrap(status: int, length: int, legal: str, *keks: bytes) -> KeywrapError:
-    """What a rewrap of this many bytes refused."""
-    if is_of_key(status, length, legal):
-        return BadLength(f"{_BAD_LENGTH}: the key that is wrapped cannot be plain: it is not {PLAIN_KEYS} bytes long")
-    return refusal(status, "the wrapped key", length, legal, *keks)

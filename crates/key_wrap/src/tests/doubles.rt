@@ -1,5 +1,6 @@
-//! The pair of the tests that count blocks.
+//! The pairs of the tests: one counts blocks, the other leaves them as they are.
 
+ghost use Rattle.std.specs.Prelude.{refl};
 ghost use Rattle.block_pair.specs.Halves.{swapped_halves};
 ghost use Rattle.block_pair.specs.HalvesLaw.{swap_halves_lawful};
 
@@ -45,4 +46,29 @@ impl BlockPair for Tally {
     }
 
     ghost lawful = { λ _. swap_halves_lawful };
+}
+
+/// A pair that leaves each block as it is. A wrapping under it is its key, after the initial value
+/// xored with the steps' numbers.
+pub struct Unchanged;
+
+impl BlockPair for Unchanged {
+    ghost encrypted = { λ _ block. block };
+
+    ghost decrypted = { λ _ block. block };
+
+    fn enc(&self, b: [u8; 16]) -> [u8; 16] {
+        b
+    }
+
+    fn dec(&self, b: [u8; 16]) -> [u8; 16] {
+        b
+    }
+
+    ghost lawful = { λ _. record {
+      encrypts = λ block is. is;
+      decrypts = λ block is. is;
+      undone = λ block is. refl;
+      redone = λ block is. refl;
+    } };
 }

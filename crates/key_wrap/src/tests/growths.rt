@@ -3,7 +3,6 @@
 
 use super::doubles::Tally;
 use super::initial_values::OTHER;
-use crate::keeping_form::rewrap_keeping_form_on;
 use crate::kinds::kind_on;
 use crate::padded::{unwrap_padded_on, wrap_padded_on};
 use crate::plain::{unwrap_on, wrap_on};
@@ -61,6 +60,10 @@ fn rewraps_after_one_growth(rt: HostRuntime) -> Result<(), Fail> {
     let plain = wrap(rt.alloc(), &SwapHalves, &key)?;
     let padded = wrap_padded(rt.alloc(), &SwapHalves, &key)?;
     let (iv, old, new) = (InitialValue::default(), Tally::new(), Tally::new());
+    let to_padded = RewrapForms::Changed {
+        old: AgreedForm::by_default(Form::Plain),
+        new: AgreedForm::Padded,
+    };
     for size in (0..=TEXT).step_by(STEP) {
         let heap = LocalHeap::new(rt.alloc(), size)?;
         let serves = size >= TEXT;
@@ -68,11 +71,11 @@ fn rewraps_after_one_growth(rt: HostRuntime) -> Result<(), Fail> {
         for text in [&plain, &padded] {
             let answer = kind_on(&heap, &old, &iv, text).is_ok();
             assert!(rt; answer == serves && old.take() == blocks, "{size} bytes");
-            let answer = rewrap_keeping_form_on(&heap, &old, &new, text).is_ok();
+            let answer = rewrap_on(&heap, &old, &new, &RewrapForms::Kept, text).is_ok();
             assert!(rt; answer == serves && old.take() == blocks, "{size} bytes");
             assert!(rt; new.take() == blocks, "{size} bytes");
         }
-        let answer = rewrap_on(&heap, &old, Form::Plain, &new, Form::Padded, &plain).is_ok();
+        let answer = rewrap_on(&heap, &old, &new, &to_padded, &plain).is_ok();
         assert!(rt; answer == serves && old.take() == blocks, "{size} bytes");
         assert!(rt; new.take() == blocks, "{size} bytes");
     }
@@ -105,9 +108,11 @@ fn asks_the_pair_once_a_block_padded(rt: HostRuntime) -> Result<(), Fail> {
         );
         assert!(rt; again == text && kept == text, "rewraps {len} bytes");
         let plain = rewrap(alloc, &tally, Form::Padded, &new, Form::Plain, &text).is_ok();
-        let wraps = if plain { calls } else { 0 };
+        // A refused wrapped key is wrapped again under the old pair.
+        let twice = calls.saturating_add(calls);
+        let (old_calls, wraps) = if plain { (calls, calls) } else { (twice, 0) };
         assert!(rt;
-            plain == (len >= 16) && tally.take() == calls,
+            plain == (len >= 16) && tally.take() == old_calls,
             "{len} bytes to plain"
         );
         assert!(rt; new.take() == wraps, "{len} bytes to plain");
@@ -157,10 +162,12 @@ fn asks_the_pair_as_often_where_it_refuses(rt: HostRuntime) -> Result<(), Fail> 
             answer == Ok(Kind::Neither) && tally.take() == calls,
             "{len} bytes"
         );
+        // A rewrap wraps it again.
+        let twice = calls.saturating_add(calls);
         let answer = rewrap(alloc, &tally, Form::Padded, &new, Form::Padded, &text).err();
-        assert!(rt; answer == refused && tally.take() == calls, "{len} bytes");
+        assert!(rt; answer == refused && tally.take() == twice, "{len} bytes");
         let answer = rewrap_keeping_form(alloc, &tally, &new, &text).err();
-        assert!(rt; answer == refused && tally.take() == calls, "{len} bytes");
+        assert!(rt; answer == refused && tally.take() == twice, "{len} bytes");
         if len >= 16 {
             let answer = unwrap(alloc, &tally, &text).err();
             assert!(rt; answer == refused && tally.take() == calls, "{len} bytes");
@@ -181,9 +188,13 @@ fn takes_no_memory_at_an_illegal_length(rt: HostRuntime) -> Result<(), Fail> {
     assert!(rt; wrap_padded_on(&heap, &tally, &[]).err() == Some(WrapFault::BadLength));
     assert!(rt; unwrap_padded_on(&heap, &tally, &bytes).err() == Some(UnwrapFault::BadLength));
     assert!(rt; kind_on(&heap, &tally, &iv, &bytes) == Ok(Kind::Neither));
-    let answer = rewrap_on(&heap, &tally, Form::Plain, &tally, Form::Plain, &bytes).err();
+    let forms = RewrapForms::Changed {
+        old: AgreedForm::by_default(Form::Plain),
+        new: AgreedForm::by_default(Form::Plain),
+    };
+    let answer = rewrap_on(&heap, &tally, &tally, &forms, &bytes).err();
     assert!(rt; answer == Some(UnwrapFault::BadLength));
-    let answer = rewrap_keeping_form_on(&heap, &tally, &tally, &bytes).err();
+    let answer = rewrap_on(&heap, &tally, &tally, &RewrapForms::Kept, &bytes).err();
     assert!(rt; answer == Some(UnwrapFault::BadLength));
     assert!(rt; tally.take() == 0);
     Ok(())

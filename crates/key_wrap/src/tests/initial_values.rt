@@ -92,12 +92,20 @@ fn rewraps_from_value_to_value(rt: HostRuntime) -> Result<(), Fail> {
     ] {
         let (mut unwraps, mut wraps) = (Meter::new(&SwapHalves), Meter::new(&SwapHalves));
         let mut buffer = Vec::from_slice(rt.alloc(), text)?;
-        let answer = rewrap_in_place_with(&mut unwraps, &from, &mut wraps, &to, &mut buffer);
-        assert!(rt; answer == Ok(()) && buffer.as_slice() == want, "{text:?}");
-        let mut buffer = Vec::from_slice(rt.alloc(), want)?;
-        let answer = rewrap_in_place_with(&mut unwraps, &from, &mut wraps, &to, &mut buffer);
+        let forms = RewrapForms::Changed { old: from, new: to };
+        let answer = rewrap_in_place(&mut unwraps, &mut wraps, &forms, false, &mut buffer);
         assert!(rt;
-            answer == Err(InPlaceFault::Integrity) && is_cleared(&buffer),
+            answer == Ok(Rewrapped::Fresh) && buffer.as_slice() == want,
+            "{text:?}"
+        );
+        let answer = rewrap_in_place(&mut unwraps, &mut wraps, &forms, false, &mut buffer);
+        assert!(rt;
+            answer == Err(RewrapFault::Integrity) && buffer.as_slice() == want,
+            "{text:?}"
+        );
+        let answer = rewrap_in_place(&mut unwraps, &mut wraps, &forms, true, &mut buffer);
+        assert!(rt;
+            answer == Ok(Rewrapped::AlreadyNew) && buffer.as_slice() == want,
             "{text:?}"
         );
     }

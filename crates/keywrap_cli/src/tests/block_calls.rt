@@ -7,10 +7,10 @@ use super::wrapping::wrapped;
 use crate::job::{Job, Notation, Task};
 use crate::key_job::KeyJob;
 use crate::rewrap_job::RewrapJob;
-use crate::rewrapping::{RewrapForms, Rewrapping};
+use crate::rewrapping::Rewrapping;
 use block_pair::{BlockPair, SwapHalves};
 use key_lines::LineJob;
-use key_wrap_core::{AgreedForm, Form, InitialValue};
+use key_wrap_core::{AgreedForm, Form, InitialValue, RewrapForms};
 use std::cell::Cell;
 use std::test::Fail;
 
@@ -110,10 +110,10 @@ fn forms_of((kept, old, new): Change) -> RewrapForms {
     }
 }
 
-// The forms, whether keys under the new KEK pass, the form and the length of the wrapped key, and
-// the calls under the old KEK and under the new one. Each unwrapping and wrapping costs as much as
-// above, even if it is refused. A key that may pass is unwrapped under the new KEK, and wrapped
-// again.
+// The forms, whether keys under the new KEK are copied, the form and the length of the wrapped key,
+// and the calls under the old KEK and under the new one. Each unwrapping and wrapping costs as much
+// as above. What a KEK refuses is unwrapped and wrapped again under it, which restores the bytes;
+// so is a wrapped key that is new already.
 static REWRAPS: [(Change, bool, Form, usize, [u64; 2]); 13] = [
     (KEPT, false, Form::Plain, 24, [18, 18]),
     (KEPT, false, Form::Padded, 8, [1, 1]),
@@ -123,13 +123,13 @@ static REWRAPS: [(Change, bool, Form, usize, [u64; 2]); 13] = [
     (TO_PLAIN, false, Form::Padded, 24, [18, 18]),
     (PADDED, false, Form::Padded, 8, [1, 1]),
     // a key whose length is not plain, and wrapped keys in the wrong form
-    (TO_PLAIN, false, Form::Padded, 8, [1, 0]),
-    (TO_PLAIN, true, Form::Padded, 17, [18, 0]),
-    (PLAIN, false, Form::Padded, 24, [18, 0]),
-    (PLAIN, true, Form::Padded, 24, [18, 18]),
+    (TO_PLAIN, false, Form::Padded, 8, [2, 0]),
+    (TO_PLAIN, true, Form::Padded, 17, [36, 0]),
+    (PLAIN, false, Form::Padded, 24, [36, 0]),
+    (PLAIN, true, Form::Padded, 24, [36, 36]),
     // not a wrapping in the old form, but in the new one
-    (TO_PLAIN, true, Form::Plain, 24, [18, 36]),
-    (TO_PADDED, true, Form::Padded, 24, [18, 36]),
+    (TO_PLAIN, true, Form::Plain, 24, [36, 36]),
+    (TO_PADDED, true, Form::Padded, 24, [36, 36]),
 ];
 
 #[test]

@@ -4,10 +4,12 @@ use super::cases::{Answer, HEX, WRITTEN};
 use super::doubles::{Narrow, Trickle};
 use super::jobs::{BAD_LENGTH, HEX_KEK, HEX_TEXT, INTEGRITY, PADDED_KEK, TEXT_OF_20};
 use super::rewraps::{NEW_KEK, NEW_OF_7, NEW_PADDED, NEW_TEXT};
+use crate::job::JobFault;
 use crate::operation::Operation;
-use crate::rewrapping::{RewrapForms, Rewrapping};
+use crate::refusal::Refusal;
+use crate::rewrapping::Rewrapping;
 use key_lines::{LineFault, RefusalLog, RefusedLine, RunSummary};
-use key_wrap_core::{AgreedForm, Form, InPlaceFault};
+use key_wrap_core::{AgreedForm, Form, RewrapForms};
 use std::io::BufReader;
 use std::test::Fail;
 
@@ -22,6 +24,8 @@ const TO_PADDED: Forms = Some((Form::Plain, Form::Padded));
 
 const TO_PLAIN: Forms = Some((Form::Padded, Form::Plain));
 
+const KEY_NOT_PLAIN: Answer = Err(JobFault::KeyNotPlain);
+
 // The forms, the KEK, the input, the result and the output. All rows have the same new KEK.
 static ROWS: [(Forms, &[u8], &[u8], Answer, &[u8]); 10] = [
     (PLAIN, HEX_KEK, HEX_TEXT, WRITTEN, NEW_TEXT),
@@ -35,7 +39,7 @@ static ROWS: [(Forms, &[u8], &[u8], Answer, &[u8]); 10] = [
     (KEPT, HEX_KEK, NEW_TEXT, WRITTEN, NEW_TEXT),
     (KEPT, HEX_KEK, NEW_OF_7, WRITTEN, NEW_OF_7),
     // a wrapping under the old KEK, of a key that has no plain wrapping
-    (TO_PLAIN, PADDED_KEK, TEXT_OF_20, BAD_LENGTH, b""),
+    (TO_PLAIN, PADDED_KEK, TEXT_OF_20, KEY_NOT_PLAIN, b""),
 ];
 
 fn operation(forms: Forms, kek: &'static [u8]) -> Operation<Trickle<'static>> {
@@ -78,8 +82,8 @@ fn passes_what_is_new_already(rt: HostRuntime) {
 #[derive(Drop)]
 struct NoLog;
 
-impl RefusalLog<InPlaceFault> for NoLog {
-    fn receive(&mut self, _refused: &RefusedLine<InPlaceFault>) {}
+impl RefusalLog<Refusal> for NoLog {
+    fn receive(&mut self, _refused: &RefusedLine<Refusal>) {}
 }
 
 #[test]
@@ -97,7 +101,7 @@ fn counts_the_lines_that_pass(rt: HostRuntime) -> Result<(), Fail> {
     };
     let first_refused = Some(RefusedLine {
         line: 3,
-        fault: LineFault::Refused(InPlaceFault::BadLength),
+        fault: LineFault::Refused(Refusal::BadLength),
     });
     assert!(rt;
         run == Ok(Ok(RunSummary {

@@ -1,19 +1,9 @@
--- What is promised of any allocator.
+-- The answer is a wrapping in the new form, and so none in the other.
+use Rattle.key_wrap.proofs.Rewraps.{new_form_only}
 use Rattle.key_wrap.proofs.rewrapping.rewrap.Goals as goal
 
-pub returns : goal.returns
-returns g c =
-    let w = c.rewrap_on.ensures in
-    record {
-      answer = w.rewraps;
-      text_length = w.text_length;
-      key_length = w.key_length;
-      accepts = w.accepts;
-      memory = w.memory;
-      only_answer = w.only_answer;
-      only_key = w.only_key;
-      same_key = w.same_key;
-      restores = w.restores;
-      size = w.size;
-      other_form = w.other_form;
-    }
+pub returns-clause-other_form : goal.returns-clause-other_form
+returns-clause-other_form g c =
+    let is = rw (c.by_default-old_form.ensures, c.by_default-new_form.ensures) at c.rewrap_on.ensures.is in
+    new_form_only c.args.new_form _ (g.O.BlockPair.encrypted c.args.old.now) (g.N.BlockPair.encrypted c.args.new.now) c.args.text.now c.rewrap_on.result
+    (g.met.N.BlockPair.lawful c.args.new.now) is

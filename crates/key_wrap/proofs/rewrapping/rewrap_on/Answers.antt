@@ -1,27 +1,24 @@
 -- The buffer holds the text, so what the call in it promises of the text is what is promised here.
-use Rattle.std.proofs.Common.{rules, ◌≡◌, ℕ, List, length, arith, ap, ◌∙◌}
-use Rattle.key_wrap_core.specs.Forms.{by_default}
+use Rattle.std.proofs.Common.{rules, ◌≡◌, ℕ, List, length, Ok, arith, ap, ◌∙◌}
+use Rattle.key_wrap_core.specs.declared.one_rewrap.RewrapFault.TheVariants.{BadLength}
 use Rattle.key_wrap_core.proofs.Refusals.{true_or_false}
 use Rattle.key_wrap.proofs.Promises.{written_back}
-use Rattle.key_wrap.proofs.Rewraps.{other_form, rewrap_refused, rewrap_served, refused_rewrap}
+use Rattle.key_wrap.proofs.Rewraps.{refused_rewrap, renamed, rewrap_served, with_fault}
 use Rattle.key_wrap.proofs.rewrapping.rewrap_on.Goals as goal
 
-pub returns-then-not-is_text_length : goal.returns-then-not-is_text_length
-returns-then-not-is_text_length g c =
-    rewrap_refused (by_default c.args.old_form) (g.O.BlockPair.encrypted c.args.old.now) (by_default c.args.new_form)
-    (g.N.BlockPair.encrypted c.args.new.now) c.args.text.now (g.met.O.BlockPair.lawful c.args.old.now)
-    (λ legal. true_or_false c.if-not-is_text_length.true (c.is_text_length.ensures.1 legal))
+pub returns-then-not-rewrap_length_ok : goal.returns-then-not-rewrap_length_ok
+returns-then-not-rewrap_length_ok g c =
+    with_fault c.args.forms.now (g.O.BlockPair.encrypted c.args.old.now) (g.N.BlockPair.encrypted c.args.new.now) c.args.text.now BadLength
+    (g.met.O.BlockPair.lawful c.args.old.now) (λ legal. true_or_false c.if-not-rewrap_length_ok.true (c.rewrap_length_ok.ensures.1 legal))
 
-pub returns-in_err-rewrap_in_place : goal.returns-in_err-rewrap_in_place
-returns-in_err-rewrap_in_place g c =
-    let legal = c.is_text_length.ensures.0 c.if-not-is_text_length.false in
+pub returns-in_err-rewrap : goal.returns-in_err-rewrap
+returns-in_err-rewrap g c =
     let same : c.deref_mut.result.now ≡ c.args.text.now = c.deref_mut.ensures.value ∙ c.in_ok-buffer.ensures.items in
     let own = ap (λ m. m.pair) c.new-unwraps.ensures in
-    let bad_length = rw (own, same) at c.in_err-rewrap_in_place.ensures.bad_length in
-    let integrity = rw (own, same) at c.in_err-rewrap_in_place.ensures.integrity in
-    refused_rewrap (by_default c.args.old_form) (g.O.BlockPair.encrypted c.args.old.now) (by_default c.args.new_form)
-    (g.N.BlockPair.encrypted c.args.new.now) c.args.text.now c.in_err-rewrap_in_place.field-0.0 c.from_residual-in_err-rewrap_in_place.result
-    (g.met.O.BlockPair.lawful c.args.old.now) legal bad_length integrity c.from_residual-in_err-rewrap_in_place.ensures
+    let own' = ap (λ m. m.pair) c.new-wraps.ensures in
+    let is = rw (own, own', same) at c.in_err-rewrap.ensures.rewraps in
+    refused_rewrap c.args.forms.now (g.O.BlockPair.encrypted c.args.old.now) (g.N.BlockPair.encrypted c.args.new.now) c.args.text.now
+    c.in_err-rewrap.field-0.0 c.from_residual-in_err-rewrap.result (g.met.O.BlockPair.lawful c.args.old.now) is.0.0 c.from_residual-in_err-rewrap.ensures
 
 pub returns : goal.returns
 returns g c =
@@ -29,11 +26,11 @@ returns g c =
     let same : c.deref_mut.result.now ≡ text = c.deref_mut.ensures.value ∙ c.in_ok-buffer.ensures.items in
     let own = ap (λ m. m.pair) c.new-unwraps.ensures in
     let own' = ap (λ m. m.pair) c.new-wraps.ensures in
-    let new : List ℕ = c.rewrap_in_place.new.buf in
+    let new : List ℕ = c.rewrap.new.buf in
     let size : length new ≡ length text = search rules in
     let back = written_back c.in_ok-buffer.buffer.len new c.in_ok-buffer.buffer.items (omega arith) in
-    let both = rw (own, own', same) at c.in_ok-rewrap_in_place.ensures.answer in
-    let inv' = g.met.N.BlockPair.lawful c.args.new.now in
-    rewrap_served (by_default c.args.old_form) (g.O.BlockPair.encrypted c.args.old.now) (by_default c.args.new_form)
-    (g.N.BlockPair.encrypted c.args.new.now) text _ new back (g.met.O.BlockPair.lawful c.args.old.now) inv' both
-    (other_form c.args.new_form both.0 new inv' both.2) size
+    let is = renamed c.args.forms.now (Ok c.in_ok-rewrap.field-0) new (ap (λ p. g.O.BlockPair.encrypted p) own) (ap (λ p. g.N.BlockPair.encrypted p) own') same
+    c.in_ok-rewrap.ensures.rewraps in
+    let results = rw (own, own', same) at c.in_ok-rewrap.ensures.results in
+    rewrap_served c.args.forms.now (g.O.BlockPair.encrypted c.args.old.now) (g.N.BlockPair.encrypted c.args.new.now) text c.in_ok-rewrap.field-0 _ new back
+    (g.met.O.BlockPair.lawful c.args.old.now) is results size

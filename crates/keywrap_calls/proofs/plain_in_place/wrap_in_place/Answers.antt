@@ -3,11 +3,10 @@ use Rattle.std.proofs.Common.{◌≡◌, ap, ◌∙◌, subst, sym, refl, rules}
 use mir.Syntax.{w32}
 use mir.Val.{SFits}
 use Rattle.fips197.specs.Cipher.{cipher}
-use Rattle.key_wrap_core.specs.declared.forms.Form.TheVariants as forms
 use Rattle.keywrap_calls.specs.Status.{outcome_status}
 use Rattle.keywrap_calls.specs.Calls.{WrapsInPlace}
 use Rattle.keywrap_calls.proofs.Calls.{wraps, passed_on}
-use Rattle.keywrap_calls.proofs.Lengths.{text_length-not_refused}
+use Rattle.keywrap_calls.proofs.Lengths.{plain_text-not_refused}
 use Rattle.keywrap_calls.proofs.plain_in_place.wrap_in_place.Goals as goal
 
 pub returns : goal.returns
@@ -19,4 +18,4 @@ returns g c =
     let fits : SFits w32 c.status_of.result = search rules in
     subst (λ status. WrapsInPlace (cipher c.args.kek.now) c.args.kek.now c.args.buffer.now c.wrap_in_place.new.buf status) (sym (passed_on fits c.status_of.ensures))
     (subst (λ E. WrapsInPlace E c.args.kek.now c.args.buffer.now c.wrap_in_place.new.buf (outcome_status c.wrap_in_place.result)) under
-    (wraps _ _ _ _ _ _ _ legal_kek (text_length-not_refused forms.Plain _) told.bad_length told.only_fault told.buffer_kept told.answer told.only_text))
+    (wraps _ _ _ _ _ _ _ legal_kek (plain_text-not_refused _) told.bad_length told.only_fault told.buffer_kept told.answer told.only_text))

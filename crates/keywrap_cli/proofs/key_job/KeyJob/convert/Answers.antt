@@ -1,5 +1,5 @@
 -- What the conversion makes of the bytes, in the notation of the task.
-use Rattle.std.proofs.Common.{◌∙◌, ℕ, List, Err, ap, subst}
+use Rattle.std.proofs.Common.{ℕ, List, Err, subst}
 use Rattle.keywrap_cli.specs.Answers.{MakesConversion}
 use Rattle.keywrap_cli.proofs.Answered.{converted, converted_refusal}
 use Rattle.keywrap_cli.proofs.key_job.KeyJob.convert.Goals as goal
@@ -7,14 +7,15 @@ use Rattle.keywrap_cli.proofs.key_job.KeyJob.convert.Goals as goal
 pub returns-in-Ok-Err : goal.returns-in-Ok-Err
 returns-in-Ok-Err g c =
     let E = g.B.BlockPair.encrypted c.args.self.now.pair in
-    let made : MakesConversion c.args.direction c.args.self.now.task.form c.args.self.now.iv E c.deref.result.now (Err c.in-Ok-Err.refusal) =
+    let made : MakesConversion c.args.direction c.args.self.now.task.form c.args.self.now.iv E c.deref.result.now (Err c.in-Ok-Err.fault) =
     rw c.in-Ok-Err.field-0-is at c.in-Ok-Err.ensures in
-    converted_refusal c.args.direction c.args.self.now.iv c.args.self.now.task E c.args.bytes.now.items c.in-Ok-Err.refusal
-    (subst (λ (X : List ℕ). MakesConversion c.args.direction c.args.self.now.task.form c.args.self.now.iv E X (Err c.in-Ok-Err.refusal))
-    c.deref.ensures.value made)
+    let refused = converted_refusal c.args.direction c.args.self.now.iv c.args.self.now.task E c.args.bytes.now.items c.in-Ok-Err.fault
+    (subst (λ (X : List ℕ). MakesConversion c.args.direction c.args.self.now.task.form c.args.self.now.iv E X (Err c.in-Ok-Err.fault))
+    c.deref.ensures.value made) in
+    rw c.job_refusal.ensures refused
 
 pub returns : goal.returns
 returns g c =
     converted c.args.direction c.args.self.now.iv c.args.self.now.task (g.B.BlockPair.encrypted c.args.self.now.pair) c.args.bytes.now.items
-    c.convert_into.new.output.items c.swap.new.y.items (rw (c.in-Ok-Ok.field-0-is, c.deref.ensures.value) at c.in-Ok-Ok.ensures)
-    (ap (λ v. v.items) c.swap.ensures.y_after ∙ c.in_ok-print_in.ensures)
+    c.convert_into.new.output.items c.print.new.output.items (rw (c.in-Ok-Ok.field-0-is, c.deref.ensures.value) at c.in-Ok-Ok.ensures)
+    c.in_ok-print.ensures

@@ -8,3 +8,6 @@ returns-in-Unwrap g c = rw c.in-Unwrap.is c.convert-in-Unwrap.ensures
 
 pub returns-in-Check : goal.returns-in-Check
 returns-in-Check g c = rw c.in-Check.is (rw c.deref.ensures.value at c.check.ensures)
+
+pub returns-in-UnwrapAny : goal.returns-in-UnwrapAny
+returns-in-UnwrapAny g c = rw c.in-UnwrapAny.is c.unwrap_any.ensures

@@ -1,5 +1,6 @@
 -- The KEKs were read, and then each line was answered, or one was refused.
 use Rattle.std.proofs.Common.{Ok, Err, ap, refl}
+use Rattle.keywrap_cli.proofs.EndsWell.{job_answers, rewrap_answers}
 use Rattle.keywrap_cli.proofs.Readings.{refused_lines, under_keks}
 use Rattle.keywrap_cli.proofs.operation.Operation.run_lines.Goals as goal
 
@@ -44,3 +45,15 @@ returns-in-Ok-read_keks-clause-headline g c =
 pub returns-in-Ok-read_keks-clause-same_kek : goal.returns-in-Ok-read_keks-clause-same_kek
 returns-in-Ok-read_keks-clause-same_kek g c =
     rw c.in-Rewrap.is (under_keks _ _ _ _ _ c.in-Ok-read_keks.keks _ c.in-Ok-read_keks.ensures c.in-Ok-read_keks.ensures.2)
+
+pub returns-in-Ok-clause-ends_well : goal.returns-in-Ok-clause-ends_well
+returns-in-Ok-clause-ends_well g c =
+    let own = rw c.in-Job.is at c.input_notation.ensures in
+    let over = rw (c.line_notation.ensures, c.text_notation-notation.ensures, own) at c.run.ensures in
+    rw c.in-Job.is (job_answers _ _ _ c.in-Ok.pair c.in-Ok.ensures _ _ _ _ _ _ c.run.result over.headline)
+
+pub returns-in-Ok-read_keks-clause-ends_well : goal.returns-in-Ok-read_keks-clause-ends_well
+returns-in-Ok-read_keks-clause-ends_well g c =
+    let own = rw c.in-Rewrap.is at c.input_notation.ensures in
+    let over = rw (c.line_notation-in-Rewrap.ensures, c.text_notation-notation.ensures, own) at c.run-in-Rewrap.ensures in
+    rw c.in-Rewrap.is (rewrap_answers _ _ _ _ _ c.in-Ok-read_keks.keks c.in-Ok-read_keks.ensures _ _ _ _ _ c.run-in-Rewrap.result over.headline)

@@ -1,8 +1,10 @@
--- What was made of the text, in the notation of the task.
+-- The fault of the call in the buffer, with the meters' pairs.
+use Rattle.std.proofs.Common.{ap}
 use Rattle.keywrap_cli.proofs.rewrap_job.RewrapJobLineJob.answer.Goals as goal
 
-pub returns-in-Ok-Err : goal.returns-in-Ok-Err
-returns-in-Ok-Err g c = rw c.in-Ok-Err.field-0-is at c.in-Ok-Err.ensures
-
-pub returns : goal.returns
-returns g c = (c.make.new.text.items, rw c.in-Ok-Ok.field-0-is at c.in-Ok-Ok.ensures, c.in_ok-print_in.ensures)
+pub returns-in-Err : goal.returns-in-Err
+returns-in-Err g c =
+    let own = ap (λ m. m.pair) c.new-old.ensures in
+    let own' = ap (λ m. m.pair) c.new-new.ensures in
+    let e = rw (own, own', c.deref_mut.ensures.value) at c.in-Err.ensures in
+    (c.in-Err.fault, e.rewraps.0, c.rewrap_refusal.ensures)

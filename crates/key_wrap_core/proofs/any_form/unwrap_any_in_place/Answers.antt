@@ -1,0 +1,43 @@
+-- The machine was given the text, and leaves the key after eight zeros, or only zeros.
+use Rattle.std.proofs.Common.{rules, ◌≡◌, ℕ, List, take, replicate, ◌++◌, arith, ap, ◌∙◌}
+use Rattle.std.proofs.lemmas.List.Elements.{All-append, All-replicate}
+use Rattle.std.proofs.lemmas.Result.{IfOk-weaker}
+use Rattle.block_pair.specs.Metered.{counted}
+use Rattle.key_wrap_core.specs.Words.{word_bytes}
+use Rattle.key_wrap_core.specs.Calls.{block_calls}
+use Rattle.key_wrap_core.proofs.Refusals.{true_or_false}
+use Rattle.key_wrap_core.proofs.Spelling.{read_word, each_byte}
+use Rattle.key_wrap_core.proofs.InPlaceForm.{first_cleared}
+use Rattle.key_wrap_core.proofs.EitherForms.{any_answered, either_legal}
+use Rattle.key_wrap_core.proofs.any_form.unwrap_any_in_place.Goals as goal
+
+pub returns-then-not-padded_text_length_ok-clause-accepts : goal.returns-then-not-padded_text_length_ok-clause-accepts
+returns-then-not-padded_text_length_ok-clause-accepts g c = λ form key h.
+    let inv = g.met.B.BlockPair.lawful c.args.meter.now.pair in
+    true_or_false c.if-not-padded_text_length_ok.true (c.padded_text_length_ok.ensures.1 (either_legal c.args.iv.now form key c.args.buf.now inv h))
+
+pub returns : goal.returns
+returns g c =
+    let text : List ℕ = c.args.buf.now in
+    let c0 : ℕ = c.read_u64-c0.result in
+    let legal = c.padded_text_length_ok.ensures.0 c.if-not-padded_text_length_ok.false in
+    let front : word_bytes c0 ≡ take 8 text = read_word text c0 (omega arith) (each_byte text (search rules)) c.read_u64-c0.ensures in
+    let registers : List ℕ = c.unwrap_any_registers.new.registers in
+    let states = first_cleared c0 text c.fill.new.self registers (omega arith) front (c.fill.ensures.after (λ y e. e)) (search rules) in
+    let r = c.unwrap_any_registers.result in
+    let w = rw (states.given, c.word.ensures.value) at c.unwrap_any_registers.ensures in
+    let u = any_answered c.args.iv.now _ text _ r legal w.only_fault w.wraps w.none in
+    record {
+      bad_length = u.bad_length;
+      integrity = u.integrity;
+      buffer_kept = λ e. absurd (u.bad_length.0 e legal);
+      meter_kept = λ e. absurd (u.bad_length.0 e legal);
+      answer = rw states.left w.wraps;
+      accepts = u.accepts;
+      other_form = w.other_form;
+      size = rw states.left w.size;
+      around = rw states.left (IfOk-weaker r _ _ (λ found e. ap (λ (bs : List ℕ). replicate 8 0 ++ bs) e) w.padding);
+      cleared = λ e. rw states.left
+          (All-append (λ (byte : ℕ). byte ≡ 0) (replicate 8 0) registers (All-replicate (λ (byte : ℕ). byte ≡ 0) 8 0 (search rules)) (w.cleared (u.failed e)));
+      calls = λ _. w.calls ∙ ap (λ (len : ℕ). counted (block_calls len) c.args.meter.now) states.long;
+    }

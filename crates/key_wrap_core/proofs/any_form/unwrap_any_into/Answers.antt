@@ -1,0 +1,37 @@
+-- The machine was given the text: its first word, and the rest copied into the buffer for the key.
+use Rattle.std.proofs.Common.{rules, ◌≡◌, ℕ, List, length, take, ◌+◌, arith, ap, ◌∙◌, length-append}
+use Rattle.block_pair.specs.Metered.{counted}
+use Rattle.key_wrap_core.specs.Words.{word_bytes}
+use Rattle.key_wrap_core.specs.Calls.{block_calls}
+use Rattle.key_wrap_core.specs.InPlace.{ArePaddedLengths}
+use Rattle.key_wrap_core.proofs.Spelling.{read_word, each_byte, length-word_bytes}
+use Rattle.key_wrap_core.proofs.InPlaceForm.{text_again}
+use Rattle.key_wrap_core.proofs.Unwrappings.{ok_unless}
+use Rattle.key_wrap_core.proofs.EitherForms.{any_answered}
+use Rattle.key_wrap_core.proofs.any_form.unwrap_any_into.Goals as goal
+
+pub returns : goal.returns
+returns g c =
+    let text : List ℕ = c.args.text.now in
+    let A : ℕ = c.read_u64.result in
+    let legal = c.padded_text_length_ok.ensures.0 c.if-not-padded_text_length_ok.false in
+    let lengths : ArePaddedLengths (length c.args.key.now) (length text) = (legal, omega arith) in
+    let front : word_bytes A ≡ take 8 text = read_word text A (omega arith) (each_byte text (search rules)) c.read_u64.ensures in
+    let whole = text_again A text c.copy_from_slice.new.self (omega arith) front c.copy_from_slice.ensures.after in
+    let size : 8 + length c.copy_from_slice.new.self ≡ length text =
+    omega (arith, ap length whole, length-append (word_bytes A) c.copy_from_slice.new.self, length-word_bytes A) in
+    let w = rw (whole, c.word.ensures.value) at c.unwrap_any_registers.ensures in
+    let u = any_answered c.args.iv.now _ text _ c.unwrap_any_registers.result lengths w.only_fault w.wraps w.none in
+    record {
+      bad_length = u.bad_length;
+      integrity = u.integrity;
+      key_kept = λ e. absurd (u.bad_length.0 e lengths);
+      meter_kept = λ e. absurd (u.bad_length.0 e lengths);
+      answer = w.wraps;
+      accepts = λ form other h. ok_unless c.unwrap_any_registers.result (u.accepts form other h);
+      other_form = w.other_form;
+      size = w.size;
+      behind = w.padding;
+      cleared = λ e. w.cleared (u.failed e);
+      calls = λ _. w.calls ∙ ap (λ (len : ℕ). counted (block_calls len) c.args.meter.now) size;
+    }

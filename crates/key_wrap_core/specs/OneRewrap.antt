@@ -1,0 +1,124 @@
+-- One rewrapping, from E to F, with the form kept or changed, and past what is new already.
+use Rattle.std.specs.Prelude.{◌≡◌, ◌↔◌, Bool, true, ℕ, List, length, Result, Ok, Err}
+use Rattle.key_wrap_core.specs.declared.forms.Form.{Form}
+use Rattle.key_wrap_core.specs.declared.agreed_form.AgreedForm.{AgreedForm}
+use Rattle.key_wrap_core.specs.declared.one_rewrap.RewrapForms.{RewrapForms}
+use Rattle.key_wrap_core.specs.declared.one_rewrap.RewrapForms.TheVariants.{Kept, Changed}
+use Rattle.key_wrap_core.specs.declared.one_rewrap.Rewrapped.{Rewrapped}
+use Rattle.key_wrap_core.specs.declared.one_rewrap.Rewrapped.TheVariants.{Fresh, AlreadyNew}
+use Rattle.key_wrap_core.specs.declared.one_rewrap.RewrapFault.{RewrapFault}
+use Rattle.key_wrap_core.specs.declared.one_rewrap.RewrapFault.TheVariants.{BadLength, Integrity, KeyNotPlain}
+use Rattle.key_wrap_core.specs.Forms.{StandsAs, IsKeyLengthAs, IsTextLengthAs, by_default}
+use Rattle.key_wrap_core.specs.PaddedRegisters.{PaddedRegisters}
+use Rattle.key_wrap_core.specs.Found.{HoldsIn}
+use Rattle.key_wrap_core.specs.NoKey.{NoKey}
+
+-- a form in which the text may be a wrapping
+abbrev pub IsFrom : RewrapForms → AgreedForm → Type 0
+IsFrom Kept form = (own : Form) × (form ≡ by_default own)
+IsFrom (Changed old new) form = form ≡ old
+
+-- the form of the new wrapping of what is a wrapping in this form
+abbrev pub to_form : RewrapForms → AgreedForm → AgreedForm
+to_form Kept form = form
+to_form (Changed old new) form = new
+
+-- the forms of a rewrapping from F to itself: the new form on both sides
+abbrev pub to_itself : RewrapForms → RewrapForms
+to_itself Kept = Kept
+to_itself (Changed old new) = Changed new new
+
+-- a length that is legal in one of the forms
+abbrev pub IsOldLength : RewrapForms → ℕ → Type 0
+IsOldLength forms len = (form : AgreedForm) × IsFrom forms form × IsTextLengthAs form len
+
+-- The text is the wrapping of this key in this form under E. It is the wrapping of no other key and in no other form,
+-- and the key has no other wrapping in this form.
+pub record IsWrapping (forms : RewrapForms) (E : List ℕ → List ℕ) (form : AgreedForm) (key text : List ℕ) : Type 0 where
+  pub from : IsFrom forms form
+  pub stands : StandsAs form E key text
+  pub only : (other_form : AgreedForm) (other : List ℕ) → IsFrom forms other_form → StandsAs other_form E other text
+      → (other_form ≡ form) × (other ≡ key)
+  pub alone : (other : List ℕ) → StandsAs form E key other → other ≡ text
+
+-- it is the wrapping of a key
+abbrev pub IsOld : RewrapForms → (List ℕ → List ℕ) → List ℕ → Type 0
+IsOld forms E text = (form : AgreedForm) × (key : List ℕ) × IsWrapping forms E form key text
+
+-- it is the wrapping of none
+abbrev pub IsNoWrapping : RewrapForms → (List ℕ → List ℕ) → List ℕ → Type 0
+IsNoWrapping forms E text = (form : AgreedForm) → IsFrom forms form → NoKey (StandsAs form E) text
+
+-- The answer is the new wrapping, under F, of the only key of which the text is a wrapping under E. So unwrapping the
+-- answer gives exactly the old key, and rewrapping back gives the text.
+abbrev pub IsRewrapped : RewrapForms → (List ℕ → List ℕ) → (List ℕ → List ℕ) → List ℕ → List ℕ → Type 0
+IsRewrapped forms E F text answer = (form : AgreedForm) × (key : List ℕ) × IsWrapping forms E form key text
+    × IsWrapping (to_itself forms) F (to_form forms form) key answer
+
+-- the text is the wrapping of a key whose length is not legal in the new form
+abbrev pub HasBadKey : RewrapForms → (List ℕ → List ℕ) → List ℕ → Type 0
+HasBadKey forms E text = (form : AgreedForm) × (key : List ℕ) × IsWrapping forms E form key text
+    × ¬ IsKeyLengthAs (to_form forms form) (length key)
+
+-- the registers hold a key in one of the forms, and are wrapped to the text
+abbrev pub IsFound : RewrapForms → (List ℕ → List ℕ) → (text before : List ℕ) → Type 0
+IsFound forms E text before = (form : AgreedForm) × IsFrom forms form × (key : List ℕ) × HoldsIn form key before × PaddedRegisters E before text
+
+-- why a text is no wrapping
+abbrev pub HasNone : RewrapForms → (List ℕ → List ℕ) → List ℕ → RewrapFault → Type 0
+HasNone forms E text BadLength = ¬ IsOldLength forms (length text)
+HasNone forms E text Integrity = IsOldLength forms (length text) × IsNoWrapping forms E text
+HasNone forms E text KeyNotPlain = ⊥
+
+-- why a text is refused
+abbrev pub HasFault : RewrapForms → (List ℕ → List ℕ) → List ℕ → RewrapFault → Type 0
+HasFault forms E text BadLength = ¬ IsOldLength forms (length text)
+HasFault forms E text Integrity = IsOldLength forms (length text) × IsNoWrapping forms E text
+HasFault forms E text KeyNotPlain = HasBadKey forms E text
+
+-- the result and the buffer of a rewrapping that does not look for what is new
+abbrev pub RewrapsOld : RewrapForms → (List ℕ → List ℕ) → (List ℕ → List ℕ) → List ℕ → Result Unit RewrapFault → List ℕ → Type 0
+RewrapsOld forms E F text (Ok done) after = IsRewrapped forms E F text after
+RewrapsOld forms E F text (Err fault) after = HasFault forms E text fault × (after ≡ text)
+
+-- The text is no wrapping under E, but one under F in the new form.
+pub record IsNew (forms : RewrapForms) (E F : List ℕ → List ℕ) (text : List ℕ) : Type 0 where
+  pub no_old : IsNoWrapping forms E text
+  pub new : IsOld (to_itself forms) F text
+
+-- a text that is refused with `pass_new` is not new already
+abbrev pub IsRefused : Bool → RewrapForms → (List ℕ → List ℕ) → (List ℕ → List ℕ) → List ℕ → RewrapFault → Type 0
+IsRefused pass_new forms E F text fault = HasFault forms E text fault × (pass_new ≡ true → ¬ IsNew forms E F text)
+
+-- the result and the buffer of a rewrapping: of two results only one comes, and it is this one
+abbrev pub IsRewrapping : Bool → RewrapForms → (List ℕ → List ℕ) → (List ℕ → List ℕ) → List ℕ → Result Rewrapped RewrapFault
+    → List ℕ → Type 0
+IsRewrapping pass_new forms E F text (Ok Fresh) after = IsRewrapped forms E F text after
+IsRewrapping pass_new forms E F text (Ok AlreadyNew) after = (pass_new ≡ true) × IsNew forms E F text × (after ≡ text)
+IsRewrapping pass_new forms E F text (Err fault) after = IsRefused pass_new forms E F text fault × (after ≡ text)
+
+-- the forms of the rewrapping back
+abbrev pub back : RewrapForms → RewrapForms
+back Kept = Kept
+back (Changed old new) = Changed new old
+
+-- the text is the wrapping of a key whose length is legal in the new form
+abbrev pub HasGoodKey : RewrapForms → (List ℕ → List ℕ) → List ℕ → Type 0
+HasGoodKey forms E text = (form : AgreedForm) × (key : List ℕ) × IsWrapping forms E form key text
+    × IsKeyLengthAs (to_form forms form) (length key)
+
+-- Exactly when each result of a rewrapping comes, what it leaves in the buffer, and what a fresh wrapping is.
+pub record RewrapResults (pass_new : Bool) (forms : RewrapForms) (E F : List ℕ → List ℕ) (text : List ℕ) (result : Result Rewrapped RewrapFault)
+    (after : List ℕ) : Type 0 where
+  pub fresh : (result ≡ Ok Fresh) ↔ HasGoodKey forms E text
+  pub already_new : (result ≡ Ok AlreadyNew) ↔ ((pass_new ≡ true) × IsNew forms E F text)
+  pub bad_length : (result ≡ Err BadLength) ↔ IsRefused pass_new forms E F text BadLength
+  pub integrity : (result ≡ Err Integrity) ↔ IsRefused pass_new forms E F text Integrity
+  pub key_not_plain : (result ≡ Err KeyNotPlain) ↔ HasBadKey forms E text
+  -- the buffer is what it was after each other result
+  pub kept : ¬ (result ≡ Ok Fresh) → after ≡ text
+  -- unwrapping the new wrapped key gives exactly the old key
+  pub same_key : result ≡ Ok Fresh → (form : AgreedForm) → IsFrom forms form → (key : List ℕ)
+      → StandsAs (to_form forms form) F key after ↔ StandsAs form E key text
+  -- rewrapping back gives the old wrapped key
+  pub restores : result ≡ Ok Fresh → (other : List ℕ) → IsRewrapped (back forms) F E after other → other ≡ text

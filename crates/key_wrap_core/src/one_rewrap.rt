@@ -1,0 +1,316 @@
+//! Rewrapping in the caller's buffer: from one pair to another, with the form kept or changed, and
+//! past what is new already. It takes no memory, and a refusal leaves the buffer as it was.
+
+ghost use Rattle.std.specs.Prelude.{◌≡◌, ◌↔◌, ℕ, ◌+◌, ◌*◌, ◌++◌, List, length, drop, true, false};
+ghost use Rattle.std.specs.Prelude.{Bool, Result, Ok, Err, IsErr, IsOk, OnOk, IfOk, IfErr, IsTrue};
+ghost use Rattle.block_pair.specs.Metered.{counted};
+ghost use Rattle.key_wrap_core.specs.Words.{word_bytes};
+ghost use Rattle.key_wrap_core.specs.Lengths.{IsPaddedTextLength};
+ghost use Rattle.key_wrap_core.specs.Calls.{block_calls};
+ghost use Rattle.key_wrap_core.specs.Forms.{IsKeyLengthAs};
+ghost use Rattle.key_wrap_core.specs.Found.{HoldsIn};
+ghost use Rattle.key_wrap_core.specs.NoKey.{NoKey};
+ghost use Rattle.key_wrap_core.specs.OneRewrap.{IsFrom, IsOldLength, IsRewrapping, IsRewrapped, IsOld, RewrapResults};
+ghost use Rattle.key_wrap_core.specs.OneRewrap.{IsFound, HasNone, RewrapsOld, to_form, to_itself, IsWrapping, IsNoWrapping};
+
+use crate::agreed_form::AgreedForm;
+use crate::checks::{given_length, initial_value, is_zero};
+use crate::found::{
+    decide_or_restore, either_difference, form_difference, restore, unwrap_found, wrap_found,
+};
+use crate::lengths::{WORD, is_text_length, padded_text_length_ok};
+use block_pair::{BlockPair, Meter};
+use thiserror::Error;
+
+/// The old and the new form of a rewrapping.
+#[derive(Clone, Copy, Debug)]
+pub enum RewrapForms {
+    /// The form of the wrapped key, which is kept. The initial value is the default.
+    Kept,
+    /// The old form and the new one, which may be the same.
+    Changed {
+        /// The form of the old wrapped key.
+        old: AgreedForm,
+        /// The form of the new wrapped key.
+        new: AgreedForm,
+    },
+}
+
+/// What a rewrapping made.
+#[derive(Clone, Copy, Debug, PartialEq, Eq)]
+pub enum Rewrapped {
+    /// The buffer holds the new wrapped key.
+    Fresh,
+    /// The buffer was the new wrapped key already.
+    AlreadyNew,
+}
+
+/// Why a rewrapping refuses.
+#[derive(Clone, Copy, Debug, PartialEq, Eq, Error)]
+pub enum RewrapFault {
+    /// The wrapped key's length is legal in no old form.
+    #[error("bad length")]
+    BadLength,
+    /// It is the wrapping of no key.
+    #[error("integrity check failed")]
+    Integrity,
+    /// It is the padded wrapping of a key whose length no plain key has.
+    #[error("bad length")]
+    KeyNotPlain,
+}
+
+/// Rewraps the wrapped key in the buffer in place, from the old pair to the new one. With
+/// `pass_new`, a wrapped key that is already under the new pair, in the new form, is left as it is.
+/// The old pair is tried first. After a refusal the buffer is what it was.
+pub fn rewrap<O: BlockPair, N: BlockPair>(
+    old: &mut Meter<O>,
+    new: &mut Meter<N>,
+    forms: &RewrapForms,
+    pass_new: bool,
+    buf: &mut [u8],
+) -> Result<Rewrapped, RewrapFault>
+    ensures rewraps { IsRewrapping pass_new forms.now (O.encrypted old.old.pair)
+        (N.encrypted new.old.pair) buf.old result buf.new }
+    ensures results { RewrapResults pass_new forms.now (O.encrypted old.old.pair)
+        (N.encrypted new.old.pair) buf.old result buf.new }
+    ensures unwrap_calls { result ≡ Ok Rewrapped.Fresh
+        → old.new ≡ counted (block_calls (length buf.old)) old.old }
+    ensures wrap_calls { result ≡ Ok Rewrapped.Fresh
+        → new.new ≡ counted (block_calls (length buf.old)) new.old }
+
+    // What was unwrapped under the old pair is wrapped again.
+    ensures old_calls { ¬ (result ≡ Ok Rewrapped.Fresh) → IsOldLength forms.now (length buf.old)
+        → old.new ≡ counted (2 * block_calls (length buf.old)) old.old }
+    ensures old_meter_kept { ¬ IsOldLength forms.now (length buf.old) → old.new ≡ old.old }
+    ensures new_calls { result ≡ Ok Rewrapped.AlreadyNew
+        → new.new ≡ counted (2 * block_calls (length buf.old)) new.old }
+    ensures new_refused_calls { IsErr result → pass_new ≡ true
+        → ¬ (result ≡ Err RewrapFault.KeyNotPlain)
+        → IsOldLength (to_itself forms.now) (length buf.old)
+        → new.new ≡ counted (2 * block_calls (length buf.old)) new.old }
+    ensures new_unasked { IsErr result → pass_new ≡ false → new.new ≡ new.old }
+    ensures new_untried { result ≡ Err RewrapFault.KeyNotPlain → new.new ≡ new.old }
+    ensures new_illegal { IsErr result
+        → ¬ IsOldLength (to_itself forms.now) (length buf.old) → new.new ≡ new.old }
+{
+    let fault = match rewrap_old(old, new, forms, buf) {
+        Ok(()) => return Ok(Rewrapped::Fresh),
+        Err(fault) => fault,
+    };
+    if pass_new && fault != RewrapFault::KeyNotPlain && is_wrapped(new, &to_itself(forms), buf) {
+        return Ok(Rewrapped::AlreadyNew);
+    }
+    Err(fault)
+}
+
+// Rewraps a wrapping under the old pair. A refusal leaves the buffer as it was.
+fn rewrap_old<O: BlockPair, N: BlockPair>(
+    old: &mut Meter<O>,
+    new: &mut Meter<N>,
+    forms: &RewrapForms,
+    buf: &mut [u8],
+) -> Result<(), RewrapFault>
+    ensures rewraps { RewrapsOld forms.now (O.encrypted old.old.pair) (N.encrypted new.old.pair)
+        buf.old result buf.new }
+    ensures unwrap_calls { OnOk result (old.new ≡ counted (block_calls (length buf.old)) old.old) }
+    ensures wrap_calls { OnOk result (new.new ≡ counted (block_calls (length buf.old)) new.old) }
+    ensures refused_calls { IsErr result → IsOldLength forms.now (length buf.old)
+        → old.new ≡ counted (2 * block_calls (length buf.old)) old.old }
+    ensures old_meter_kept { ¬ IsOldLength forms.now (length buf.old) → old.new ≡ old.old }
+    ensures new_meter_kept { IsErr result → new.new ≡ new.old }
+{
+    let found = find(old, forms, buf)?;
+    let misfit = misfit(forms, found, &buf[WORD..]);
+    if !decide_or_restore(old, found, misfit, buf) {
+        return Err(RewrapFault::KeyNotPlain);
+    }
+    let iv = new_iv(forms, found, &buf[WORD..]);
+    wrap_found(new, iv, buf);
+    Ok(())
+}
+
+// Unwraps a wrapping in one of the old forms. A refusal leaves the buffer as it was.
+fn find<B: BlockPair>(
+    meter: &mut Meter<B>,
+    forms: &RewrapForms,
+    buf: &mut [u8],
+) -> Result<u64, RewrapFault>
+    ensures found { IfOk result (λ found. IsFound forms.now (B.encrypted meter.old.pair) buf.old
+        (word_bytes found ++ drop 8 buf.new)) }
+    ensures refused { IfErr result (λ fault. HasNone forms.now (B.encrypted meter.old.pair) buf.old
+        fault) }
+    ensures same { IsErr result → buf.new ≡ buf.old }
+    ensures legal { IsOk result → IsOldLength forms.now (length buf.old) }
+    ensures calls { IsOk result → meter.new ≡ counted (block_calls (length buf.old)) meter.old }
+    ensures refused_calls { IsErr result → IsOldLength forms.now (length buf.old)
+        → meter.new ≡ counted (2 * block_calls (length buf.old)) meter.old }
+    ensures meter_kept { ¬ IsOldLength forms.now (length buf.old) → meter.new ≡ meter.old }
+{
+    if !rewrap_length_ok(forms, buf.len()) {
+        return Err(RewrapFault::BadLength);
+    }
+    let found = unwrap_found(meter, buf);
+    let difference = old_difference(forms, found, &buf[WORD..]);
+    if !decide_or_restore(meter, found, difference, buf) {
+        return Err(RewrapFault::Integrity);
+    }
+    Ok(found)
+}
+
+// Whether the buffer holds a wrapping in one of the old forms. The buffer stays as it is.
+fn is_wrapped<B: BlockPair>(meter: &mut Meter<B>, forms: &RewrapForms, buf: &mut [u8]) -> bool
+    ensures is { IsTrue result → IsOld forms.now (B.encrypted meter.old.pair) buf.old }
+    ensures is_not { ¬ IsTrue result → IsNoWrapping forms.now (B.encrypted meter.old.pair) buf.old }
+    ensures same { buf.new ≡ buf.old }
+    ensures legal { IsTrue result → IsOldLength forms.now (length buf.old) }
+    ensures calls { IsOldLength forms.now (length buf.old)
+        → meter.new ≡ counted (2 * block_calls (length buf.old)) meter.old }
+    ensures meter_kept { ¬ IsOldLength forms.now (length buf.old) → meter.new ≡ meter.old }
+{
+    match find(meter, forms, buf) {
+        Ok(found) => {
+            restore(meter, found, buf);
+            true
+        }
+        Err(_) => false,
+    }
+}
+
+// The forms of a rewrapping from the new pair to itself.
+fn to_itself(forms: &RewrapForms) -> RewrapForms
+    ensures { result ≡ to_itself forms.now }
+{
+    match forms {
+        RewrapForms::Kept => RewrapForms::Kept,
+        RewrapForms::Changed { new, .. } => {
+            let old = *new;
+            RewrapForms::Changed { old, new: *new }
+        }
+    }
+}
+
+/// Whether `len` bytes can be a wrapped key in one of the old forms.
+pub fn rewrap_length_ok(forms: &RewrapForms, len: usize) -> bool
+    ensures { IsTrue result ↔ IsOldLength forms.now len }
+{
+    match forms {
+        RewrapForms::Kept => padded_text_length_ok(len),
+        RewrapForms::Changed { old, .. } => is_text_length(old, len),
+    }
+}
+
+// 0 if the initial value and the registers hold a key in one of the old forms.
+fn old_difference(forms: &RewrapForms, iv: u64, registers: &[u8]) -> u64
+    requires { IsOldLength forms.now (8 + length registers.now) }
+    ensures passes { result ≡ 0 → (form : AgreedForm) × IsFrom forms.now form
+        × (key : List ℕ) × HoldsIn form key (word_bytes iv ++ registers.now) }
+    ensures refuses { ¬ (result ≡ 0) → (form : AgreedForm) → IsFrom forms.now form
+        → NoKey (HoldsIn form) (word_bytes iv ++ registers.now) }
+{
+    match forms {
+        RewrapForms::Kept => either_difference(iv, registers),
+        RewrapForms::Changed { old, .. } => form_difference(old, iv, registers),
+    }
+}
+
+// 0 if the length of the key that they hold is legal in the new form. A padded key may have a
+// length that no plain key has: it does not fill its words, or has only one word.
+fn misfit(forms: &RewrapForms, iv: u64, registers: &[u8]) -> u64
+    requires { IsPaddedTextLength (8 + length registers.now) }
+    ensures passes { result ≡ 0 → (form : AgreedForm) → IsFrom forms.now form → (key : List ℕ)
+        → HoldsIn form key (word_bytes iv ++ registers.now)
+        → IsKeyLengthAs (to_form forms.now form) (length key) }
+    ensures refuses { ¬ (result ≡ 0) → (form : AgreedForm) → IsFrom forms.now form → (key : List ℕ)
+        → HoldsIn form key (word_bytes iv ++ registers.now)
+        → ¬ IsKeyLengthAs (to_form forms.now form) (length key) }
+{
+    match forms {
+        RewrapForms::Kept => 0,
+        RewrapForms::Changed { old, new } => match (old, new) {
+            (AgreedForm::Padded, AgreedForm::Plain(_)) => {
+                let one_word = is_zero((registers.len() - WORD) as u64);
+                one_word | (given_length(iv) ^ registers.len() as u64)
+            }
+            _ => 0,
+        },
+    }
+}
+
+// The initial value under which the registers hold the key in the new form.
+fn new_iv(forms: &RewrapForms, iv: u64, registers: &[u8]) -> u64
+    requires { IsPaddedTextLength (8 + length registers.now) }
+    ensures { (form : AgreedForm) → IsFrom forms.now form → (key : List ℕ)
+        → HoldsIn form key (word_bytes iv ++ registers.now)
+        → IsKeyLengthAs (to_form forms.now form) (length key)
+        → HoldsIn (to_form forms.now form) key (word_bytes result ++ registers.now) }
+{
+    match forms {
+        RewrapForms::Kept => iv,
+        RewrapForms::Changed { old, new } => match (old, new) {
+            (AgreedForm::Plain(_), AgreedForm::Padded) => initial_value(registers.len()),
+            (AgreedForm::Padded, AgreedForm::Plain(agreed)) => agreed.word(),
+            (AgreedForm::Plain(_), AgreedForm::Plain(agreed)) => agreed.word(),
+            (AgreedForm::Padded, AgreedForm::Padded) => iv,
+        },
+    }
+}
+
+/// Shows that a text has one result, and one buffer after it, for every two block permutations. It
+/// does nothing.
+pub fn one_result_law<O: BlockPair, N: BlockPair>(old: &O, new: &N)
+    ensures { (pass_new : Bool) (forms : RewrapForms) (text after other : List ℕ)
+        → (result other_result : Result Rewrapped RewrapFault)
+        → IsRewrapping pass_new forms (O.encrypted old.now) (N.encrypted new.now) text result after
+        → IsRewrapping pass_new forms (O.encrypted old.now) (N.encrypted new.now) text other_result other
+        → (other_result ≡ result) × (other ≡ after) }
+{}
+
+#[cfg(test)]
+mod tests {
+    use super::*;
+    use crate::{Form, wrap_in_place, wrap_padded_in_place};
+    use block_pair::SwapHalves;
+
+    // Of each result the buffer after it, over the drill block.
+    #[test]
+    fn restores_what_it_refuses(rt: HostRuntime) {
+        let pair = SwapHalves;
+        let (mut old, mut new) = (Meter::new(&pair), Meter::new(&pair));
+        let mut buf = *b"0123456789abcdefghijklmn";
+        let kept = RewrapForms::Kept;
+        let answer = rewrap(&mut old, &mut new, &kept, true, &mut buf);
+        assert!(rt; answer == Err(RewrapFault::Integrity));
+        assert_eq!(rt; buf, *b"0123456789abcdefghijklmn");
+        assert!(rt; old.count() == 24 && new.count() == 24);
+
+        let changed = RewrapForms::Changed {
+            old: AgreedForm::Padded,
+            new: AgreedForm::by_default(Form::Plain),
+        };
+        let mut short = *b"a key of 14 b..         ";
+        let wrapped = wrap_padded_in_place(&mut old, &mut short, 14);
+        assert!(rt; wrapped.is_ok());
+        let before = short;
+        let answer = rewrap(&mut old, &mut new, &changed, true, &mut short);
+        assert!(rt; answer == Err(RewrapFault::KeyNotPlain));
+        assert_eq!(rt; short, before);
+        let answer = rewrap(&mut old, &mut new, &kept, true, &mut short);
+        assert!(rt; answer == Ok(Rewrapped::Fresh));
+        assert_eq!(rt; short, before);
+
+        let mut plain = *b"........a key of 16 byte";
+        let wrapped = wrap_in_place(&mut new, &mut plain);
+        assert!(rt; wrapped.is_ok());
+        let before = plain;
+        let answer = rewrap(&mut old, &mut new, &changed, true, &mut plain);
+        assert!(rt; answer == Ok(Rewrapped::AlreadyNew));
+        assert_eq!(rt; plain, before);
+        let answer = rewrap(&mut old, &mut new, &changed, false, &mut plain);
+        assert!(rt; answer == Err(RewrapFault::Integrity));
+        assert_eq!(rt; plain, before);
+        let mut odd = *b"01234567890123456789";
+        let answer = rewrap(&mut old, &mut new, &kept, false, &mut odd);
+        assert!(rt; answer == Err(RewrapFault::BadLength));
+        assert_eq!(rt; odd, *b"01234567890123456789");
+    }
+}

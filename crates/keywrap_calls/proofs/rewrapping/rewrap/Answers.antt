@@ -1,0 +1,24 @@
+-- The pairs in the meters are AES under the KEKs (`from`, `to`).
+use Rattle.std.proofs.Common.{◌≡◌, ap, ◌∙◌, sym, refl, rules}
+use mir.Syntax.{w32}
+use mir.Val.{SFits}
+use Rattle.fips197.specs.Cipher.{cipher}
+use Rattle.keywrap_calls.proofs.Calls.{passed_on}
+use Rattle.keywrap_calls.proofs.Rewraps.{rewraps}
+use Rattle.keywrap_calls.proofs.rewrapping.rewrap.Goals as goal
+
+pub returns : goal.returns
+returns g c =
+    let from : g.A.BlockPair.encrypted c.new.result.pair ≡ cipher c.args.old_kek.now =
+    ap (λ m. g.A.BlockPair.encrypted m.pair) c.new.ensures ∙ c.in-Ok.ensures.cipher in
+    let to : g.A.BlockPair.encrypted c.new-2.result.pair ≡ cipher c.args.new_kek.now =
+    ap (λ m. g.A.BlockPair.encrypted m.pair) c.new-2.ensures ∙ c.in-Ok-new_in.ensures.cipher in
+    let told = c.rewrap_as-outcome.ensures in
+    let fits : SFits w32 c.rewrap_status.result = search rules in
+    let outcome = c.rewrap_as-outcome.result in
+    let flags = c.args.flags in
+    let old_kek = c.args.old_kek.now in
+    let new_kek = c.args.new_kek.now in
+    let old = c.args.buffer.now in
+    let new = c.rewrap_as-outcome.new.buf in
+    rw (passed_on fits c.rewrap_status.ensures, c.already_of.ensures, sym from, sym to) (rewraps _ _ old_kek new_kek flags old new outcome (c.in-Ok.ensures.accepted.0 refl, c.in-Ok-new_in.ensures.accepted.0 refl) told.rewraps told.bad_flags told.kept)

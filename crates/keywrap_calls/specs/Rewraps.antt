@@ -1,0 +1,110 @@
+-- What the flags of a rewrap request, and the promises of the calls that rewrap.
+use Rattle.std.specs.Prelude.{◌≡◌, ◌↔◌, ℕ, zero, suc, ℤ, pos, Bool, true, false, List, length, All, Result, Ok, Err, ◌<◌, ◌/◌, ◌%◌}
+use Rattle.fips197.specs.KeyExpansion.{IsKekLength}
+use Rattle.key_wrap_core.specs.declared.forms.Form.{Form}
+use Rattle.key_wrap_core.specs.declared.forms.Form.TheVariants.{Plain, Padded}
+use Rattle.key_wrap_core.specs.declared.one_rewrap.RewrapForms.{RewrapForms}
+use Rattle.key_wrap_core.specs.declared.one_rewrap.RewrapForms.TheVariants.{Kept, Changed}
+use Rattle.key_wrap_core.specs.declared.one_rewrap.Rewrapped.{Rewrapped}
+use Rattle.key_wrap_core.specs.declared.one_rewrap.Rewrapped.TheVariants.{Fresh, AlreadyNew}
+use Rattle.key_wrap_core.specs.declared.one_rewrap.RewrapFault.{RewrapFault}
+use Rattle.key_wrap_core.specs.declared.one_rewrap.RewrapFault.TheVariants.{BadLength, Integrity, KeyNotPlain}
+use Rattle.key_wrap_core.specs.Forms.{by_default}
+use Rattle.key_wrap_core.specs.OneRewrap.{IsRewrapping}
+use Rattle.keywrap_calls.specs.Status.{IsDone, IsBadKek, IsBadLength}
+
+-- the flags of the forms: only bits of the first two are set, or only the third one
+abbrev pub AreForms : ℕ → Type 0
+AreForms flags = flags < 5
+
+-- and each also with the fourth bit
+abbrev pub AreFlags : ℕ → Type 0
+AreFlags flags = (flags < 16) × AreForms (flags % 8)
+
+-- the form that a bit names: padded exactly if it is set
+abbrev pub form_of_bit : ℕ → Form
+form_of_bit zero = Plain
+form_of_bit (suc _) = Padded
+
+-- bit 0 is about the old form, bit 1 about the new one
+abbrev pub changed : ℕ → RewrapForms
+changed flags = Changed (by_default (form_of_bit (flags % 2))) (by_default (form_of_bit (flags / 2 % 2)))
+
+-- if bit 2 is set, the form is kept
+abbrev pub kept_if : ℕ → RewrapForms → RewrapForms
+kept_if zero forms = forms
+kept_if (suc _) forms = Kept
+
+abbrev pub forms_of : ℕ → RewrapForms
+forms_of flags = kept_if (flags / 4 % 2) (changed flags)
+
+abbrev pub is_set : ℕ → Bool
+is_set zero = false
+is_set (suc _) = true
+
+-- if bit 3 is set, a wrapped key that is new already is passed
+abbrev pub passes_new : ℕ → Bool
+passes_new flags = is_set (flags / 8)
+
+-- both KEKs have legal lengths
+abbrev pub AreKeks : List ℕ → List ℕ → Type 0
+AreKeks old_kek new_kek = IsKekLength (length old_kek) × IsKekLength (length new_kek)
+
+abbrev pub rewrap_status : Result Rewrapped RewrapFault → ℤ
+rewrap_status (Ok done) = pos 0
+rewrap_status (Err BadLength) = pos 4
+rewrap_status (Err Integrity) = pos 5
+rewrap_status (Err KeyNotPlain) = pos 8
+
+-- 1 if the wrapped key was new already
+abbrev pub already_of : Result Rewrapped RewrapFault → ℕ
+already_of (Ok Fresh) = 0
+already_of (Ok AlreadyNew) = 1
+already_of (Err fault) = 0
+
+-- the buffer, the number and the status that come of a rewrapping of the old buffer. There is only one such result
+pub record IsRewrapResult (pass_new : Bool) (forms : RewrapForms) (E F : List ℕ → List ℕ) (old new : List ℕ) (already : ℕ) (status : ℤ)
+    : Type 0 where
+  pub result : Result Rewrapped RewrapFault
+  pub rewraps : IsRewrapping pass_new forms E F old result new
+  pub status_is : status ≡ rewrap_status result
+  pub already_is : already ≡ already_of result
+
+-- a call that rewraps from E (the old KEK) to F (the new KEK); each refusal leaves the buffer unchanged
+pub record Rewraps (E F : List ℕ → List ℕ) (old_kek new_kek : List ℕ) (flags : ℕ) (old new : List ℕ) (already : ℕ) (status : ℤ)
+    : Type 0 where
+  pub bad_kek : IsBadKek status ↔ ¬ AreKeks old_kek new_kek
+  pub bad_flags : AreKeks old_kek new_kek → ¬ AreFlags flags → IsBadLength status
+  pub rewraps : AreKeks old_kek new_kek → AreFlags flags
+      → IsRewrapResult (passes_new flags) (forms_of flags) E F old new already status
+  pub kept : ¬ IsDone status → new ≡ old
+  pub not_already : ¬ IsDone status → already ≡ 0
+
+-- In the call of version 1.0 a key whose length is not legal in the new form is a bad length, and two refusals leave the
+-- buffer zero.
+abbrev pub in_place_status : Result Rewrapped RewrapFault → ℤ
+in_place_status (Ok done) = pos 0
+in_place_status (Err BadLength) = pos 4
+in_place_status (Err Integrity) = pos 5
+in_place_status (Err KeyNotPlain) = pos 4
+
+abbrev pub IsLeft : Result Rewrapped RewrapFault → (after new : List ℕ) → Type 0
+IsLeft (Ok done) after new = new ≡ after
+IsLeft (Err BadLength) after new = new ≡ after
+IsLeft (Err Integrity) after new = All (λ byte. byte ≡ 0) new
+IsLeft (Err KeyNotPlain) after new = All (λ byte. byte ≡ 0) new
+
+pub record IsInPlaceResult (forms : RewrapForms) (E F : List ℕ → List ℕ) (old new : List ℕ) (status : ℤ) : Type 0 where
+  pub result : Result Rewrapped RewrapFault
+  pub after : List ℕ
+  pub rewraps : IsRewrapping false forms E F old result after
+  pub status_is : status ≡ in_place_status result
+  pub new_is : IsLeft result after new
+
+-- the call of version 1.0, which keeps no form and passes nothing
+pub record RewrapsInPlace (E F : List ℕ → List ℕ) (old_kek new_kek : List ℕ) (flags : ℕ) (old new : List ℕ) (status : ℤ)
+    : Type 0 where
+  pub bad_kek : IsBadKek status ↔ ¬ AreKeks old_kek new_kek
+  pub kept : IsBadKek status → new ≡ old
+  pub bad_flags : AreKeks old_kek new_kek → ¬ (flags < 4) → IsBadLength status × (new ≡ old)
+  pub rewraps : AreKeks old_kek new_kek → flags < 4 → IsInPlaceResult (forms_of flags) E F old new status

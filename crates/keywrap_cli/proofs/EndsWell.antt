@@ -1,0 +1,149 @@
+-- What a run over lines says that ends with status 0.
+use Rattle.std.proofs.Common.{◌≡◌, ◌≢◌, ℕ, ◌+◌, List, [], ◌∷◌, ◌++◌, length, map, Option, Some, None, Result, Ok, Err, refl, sym, subst, ap, ◌∙◌, arith, append-nil}
+use Rattle.std.specs.Prelude.{IfOk, IfSome}
+use Rattle.std.specs.List.{AllByRecursion}
+use Rattle.std.specs.Io.KnownBytes.{Appends}
+use Rattle.fips197.specs.Cipher.{cipher}
+use Rattle.key_lines.specs.Answers.{Answer, mark_count, marks_of, output_of, refusals_of}
+use Rattle.key_lines.specs.Lines.{lines_of}
+use Rattle.key_lines.specs.Running.{AreResults, WritesAnswers, written_for}
+use Rattle.key_lines.specs.Summary.{first_of}
+use Rattle.key_lines.specs.declared.fault.LineFault.{LineFault}
+use Rattle.key_lines.specs.declared.fault.RunFault.{RunFault}
+use Rattle.key_lines.specs.declared.job.Mark.{Mark}
+use Rattle.key_lines.specs.declared.job.Mark.TheVariants.{Unmarked, Marked}
+use Rattle.key_lines.specs.declared.run.RunOptions.{RunOptions}
+use Rattle.key_lines.specs.declared.summary.RunSummary.{RunSummary}
+use Rattle.key_wrap_core.specs.Forms.{Stands}
+use Rattle.key_wrap_core.specs.Kind.{IsKindWith}
+use Rattle.key_wrap_core.specs.declared.forms.Form.{Form}
+use Rattle.key_wrap_core.specs.declared.forms.Form.TheVariants as forms
+use Rattle.key_wrap_core.specs.declared.forms.Kind.{Kind}
+use Rattle.key_wrap_core.specs.declared.forms.Kind.TheVariants as kinds
+use Rattle.keywrap_cli.specs.Answers.{AnswerOfJob, HasMark, JobAnswer, RewrappingAnswer, kind_line}
+use Rattle.keywrap_cli.specs.Engine.{OpensKeks, UnderReadKek}
+use Rattle.keywrap_cli.specs.Readings.{ReadsKek}
+use Rattle.keywrap_cli.proofs.Readings.{under_keks}
+use Rattle.keywrap_cli.specs.EndsWell.{AreOutputs, AreWrappedLines, EndsWell, IsRewrappedLine, IsWrappedLine, RewrapsLines}
+use Rattle.keywrap_cli.specs.declared.job.Job.{Job}
+use Rattle.keywrap_cli.specs.declared.job.Job.TheVariants.{Check}
+use Rattle.keywrap_cli.specs.declared.job.Notation.{Notation}
+use Rattle.keywrap_cli.specs.declared.job.Task.{Task}
+use Rattle.keywrap_cli.specs.declared.kek_file.Keks.{Keks}
+use Rattle.keywrap_cli.specs.declared.refusal.Refusal.{Refusal}
+use Rattle.keywrap_cli.specs.declared.rewrapping.Rewrapping.{Rewrapping}
+
+abbrev Results : Type 0
+Results = List (Result Answer (LineFault Refusal))
+
+nothing_first : {A : Type 0} (xs : List A) → first_of xs ≡ None → xs ≡ []
+nothing_first [] h = refl
+nothing_first (x ∷ xs) h = cc
+
+-- a check whose answer has no mark found a key
+of_kind : (iv : ℕ) (E : List ℕ → List ℕ) (X text : List ℕ) (mark : Mark) (kind : Kind) → IsKindWith iv E X kind → text ≡ kind_line kind
+    → HasMark Check text mark → mark_count mark ≡ 0 → (form : Form) × (key : List ℕ) × Stands form iv E key X
+of_kind iv E X text Unmarked (kinds.Plain m) is same mark zero = (forms.Plain, is.0, is.2)
+of_kind iv E X text Unmarked (kinds.Padded m) is same mark zero = (forms.Padded, is.0, is.2)
+of_kind iv E X text Unmarked kinds.Neither is same mark zero = absurd (mark (refl, same))
+of_kind iv E X text Marked kind is same mark zero = cc
+
+checked : (iv : ℕ) (task : Task) (E : List ℕ → List ℕ) (X : List ℕ) (answer : Answer) → task.job ≡ Check → JobAnswer iv task E X (Ok answer)
+    → mark_count answer.mark ≡ 0 → (form : Form) × (key : List ℕ) × Stands form iv E key X
+checked iv task E X answer job h zero =
+    let own = subst (λ (j : Job). AnswerOfJob j iv task E X (Ok answer)) job h in
+    of_kind iv E X answer.text answer.mark own.0.0 own.0.1 own.0.2 own.1 zero
+
+same_length : (options : RunOptions) (answers : List ℕ → Result Answer Refusal → Type 0) (lines : List (List ℕ)) (results : Results)
+    → AreResults options answers lines results → length lines ≡ length results
+same_length options answers [] [] are = refl
+same_length options answers (line ∷ lines) (result ∷ results) (h, rest) =
+    let same = same_length options answers lines results rest in
+    omega (arith, same)
+same_length options answers [] (result ∷ results) are = absurd are
+same_length options answers (line ∷ lines) [] are = absurd are
+
+all_wrapped : (options : RunOptions) (iv : ℕ) (task : Task) (E : List ℕ → List ℕ) (lines : List (List ℕ)) (results : Results) (n : ℕ)
+    → task.job ≡ Check → AreResults options (JobAnswer iv task E) lines results → refusals_of n results ≡ [] → marks_of results ≡ 0
+    → AllByRecursion (IsWrappedLine options.notation iv E) lines
+all_wrapped options iv task E [] [] n job are none zero = tt
+all_wrapped options iv task E (line ∷ lines) (Ok answer ∷ results) n job (h, rest) none zero =
+    let found = checked iv task E h.0 answer job h.2 (omega (arith, zero)) in
+    ((h.0, h.1, found), all_wrapped options iv task E lines results (n + 1) job rest none (omega (arith, zero)))
+all_wrapped options iv task E (line ∷ lines) (Err fault ∷ results) n job are none zero = cc
+all_wrapped options iv task E [] (result ∷ results) n job are none zero = absurd are
+all_wrapped options iv task E (line ∷ lines) [] n job are none zero = absurd are
+
+all_rewrapped : (options : RunOptions) (task : Rewrapping) (E F : List ℕ → List ℕ) (lines : List (List ℕ)) (results : Results) (n : ℕ)
+    → AreResults options (RewrappingAnswer task E F) lines results → refusals_of n results ≡ []
+    → AreOutputs (IsRewrappedLine options.notation task E F) lines (map output_of results)
+all_rewrapped options task E F [] [] n are none = tt
+all_rewrapped options task E F (line ∷ lines) (Ok answer ∷ results) n (h, rest) none =
+    let made = h.2 in
+    ((h.0, h.1, (made.0, made.1, made.2, made.4)), all_rewrapped options task E F lines results (n + 1) rest none)
+all_rewrapped options task E F (line ∷ lines) (Err fault ∷ results) n are none = cc
+all_rewrapped options task E F [] (result ∷ results) n are none = absurd are
+all_rewrapped options task E F (line ∷ lines) [] n are none = absurd are
+
+-- the text has the lines of a run that reached its end
+some_lines : (text : List ℕ) (lines more : List (List ℕ)) (results : Results) (summary : RunSummary Refusal)
+    → lines_of text ≡ lines ++ more → more ≡ [] → length lines ≡ length results → summary.lines ≡ length results → summary.lines ≢ 0
+    → lines_of text ≢ []
+some_lines text lines more results summary split end same count some empty =
+    let none : lines ++ more ≡ [] = sym split ∙ empty in
+    let whole : lines ++ more ≡ lines = ap (λ m. lines ++ m) end ∙ append-nil lines in
+    let zero : length lines ≡ 0 = ap length (sym whole ∙ none) in
+    some (omega (arith, count, same, zero))
+
+pub check_ends_well : (input out out' : Option (List ℕ)) (options : RunOptions) (iv : ℕ) (task : Task) (E : List ℕ → List ℕ)
+    (summary : RunSummary Refusal) (job : Option Job) → job ≡ Some task.job → task.job ≡ Check → EndsWell job summary
+    → IfSome input (λ text. WritesAnswers options (JobAnswer iv task E) text out out' (Ok summary))
+    → IfSome input (λ text. AreWrappedLines options.notation iv E text)
+check_ends_well None out out' options iv task E summary job own is well w = tt
+check_ends_well (Some text) out out' options iv task E summary job own is well w =
+    let none : refusals_of 1 w.results ≡ [] = nothing_first (refusals_of 1 w.results) (sym w.counts.0.first_refused ∙ well.none_refused) in
+    let zero : marks_of w.results ≡ 0 = sym w.counts.0.marked ∙ well.all_found (own ∙ ap Some is) in
+    let all = all_wrapped options iv task E w.lines w.results 1 is w.answered none zero in
+    let whole : w.lines ≡ lines_of text = sym (w.split ∙ ap (λ m. w.lines ++ m) w.counts.1 ∙ append-nil w.lines) in (
+      some_lines text w.lines w.more w.results summary w.split w.counts.1 (same_length options (JobAnswer iv task E) w.lines w.results w.answered)
+          w.counts.0.lines well.some,
+      subst (λ (lines : List (List ℕ)). AllByRecursion (IsWrappedLine options.notation iv E) lines) whole all,
+    )
+
+pub rewrap_ends_well : (input out out' : Option (List ℕ)) (options : RunOptions) (task : Rewrapping) (E F : List ℕ → List ℕ)
+    (summary : RunSummary Refusal) (job : Option Job) → EndsWell job summary
+    → IfSome input (λ text. WritesAnswers options (RewrappingAnswer task E F) text out out' (Ok summary))
+    → IfSome input (λ text. RewrapsLines options.notation task E F text out out')
+rewrap_ends_well None out out' options task E F summary job well w = tt
+rewrap_ends_well (Some text) out out' options task E F summary job well w =
+    let none : refusals_of 1 w.results ≡ [] = nothing_first (refusals_of 1 w.results) (sym w.counts.0.first_refused ∙ well.none_refused) in
+    let all = all_rewrapped options task E F w.lines w.results 1 w.answered none in
+    let whole : w.lines ≡ lines_of text = sym (w.split ∙ ap (λ m. w.lines ++ m) w.counts.1 ∙ append-nil w.lines) in
+    let sent : w.sends.sent ≡ written_for w.results =
+    sym (w.sends.kept ∙ ap (λ m. w.sends.sent ++ m) w.all_but ∙ append-nil w.sends.sent) in
+    record {
+      some = some_lines text w.lines w.more w.results summary w.split w.counts.1
+          (same_length options (RewrappingAnswer task E F) w.lines w.results w.answered) w.counts.0.lines well.some;
+      outputs = map output_of w.results;
+      each = subst (λ (lines : List (List ℕ)). AreOutputs (IsRewrappedLine options.notation task E F) lines (map output_of w.results)) whole all;
+      written = subst (λ (s : List ℕ). Appends out out' s) sent w.sends.written;
+    }
+
+pub job_answers : (notation : Notation) (file file' : Option (List ℕ)) (K : List ℕ) → ReadsKek notation file file' (Ok K)
+    → (input out out' : Option (List ℕ)) (options : RunOptions) (iv : ℕ) (task : Task) (run : Result (RunSummary Refusal) (RunFault Refusal))
+    → IfSome input (λ text. WritesAnswers options (JobAnswer iv task (cipher K)) text out out' run)
+    → IfOk run (λ summary. EndsWell (Some task.job) summary → task.job ≡ Check → UnderReadKek notation file file'
+    (λ K. IfSome input (λ text. AreWrappedLines options.notation iv (cipher K) text)))
+job_answers notation file file' K read input out out' options iv task (Ok summary) w =
+    λ well is. record { K = K; read = read; then = check_ends_well input out out' options iv task (cipher K) summary (Some task.job) refl is well w }
+job_answers notation file file' K read input out out' options iv task (Err fault) w = tt
+
+pub rewrap_answers : (notation : Notation) (kek kek' new new' : Option (List ℕ)) (keks : Keks) → OpensKeks notation kek kek' new new' (Ok keks)
+    → (input out out' : Option (List ℕ)) (options : RunOptions) (task : Rewrapping) (run : Result (RunSummary Refusal) (RunFault Refusal))
+    → IfSome input (λ text. WritesAnswers options (RewrappingAnswer task (cipher keks.old) (cipher keks.new)) text out out' run)
+    → IfOk run (λ summary. EndsWell None summary → UnderReadKek notation kek kek' (λ K. UnderReadKek notation new new'
+    (λ L. IfSome input (λ text. RewrapsLines options.notation task (cipher K) (cipher L) text out out'))))
+rewrap_answers notation kek kek' new new' keks opened input out out' options task (Ok summary) w = λ well.
+    under_keks notation kek kek' new new' keks (λ K L. IfSome input (λ text. RewrapsLines options.notation task (cipher K) (cipher L) text out out'))
+    opened (rewrap_ends_well input out out' options task (cipher keks.old) (cipher keks.new) summary None well w)
+rewrap_answers notation kek kek' new new' keks opened input out out' options task (Err fault) w = tt

@@ -1,0 +1,27 @@
+-- What the call in the room promises.
+use Rattle.std.proofs.Common.{rules, ◌≡◌, ◌-◌, ◌∙◌, ℕ, List, length, take, drop, arith, ap}
+use Rattle.std.proofs.lemmas.List.{take_at}
+use Rattle.key_wrap_core.specs.InPlace.{ArePaddedLengths}
+use Rattle.key_wrap_core.specs.Lengths.{IsPaddedTextLength}
+use Rattle.keywrap_cli.proofs.Conversions.{is_found, none_found}
+use Rattle.keywrap_cli.proofs.any_form.unwrap_any.Goals as goal
+
+pub returns-in-Ok : goal.returns-in-Ok
+returns-in-Ok g c =
+    let own = ap (λ m. m.pair) c.new.ensures in
+    let w = rw own at c.in-Ok.ensures in
+    let made : List ℕ = c.unwrap_any_into.new.key in
+    let back = take_at made (drop (length made) c.resize.new.self.items) c.resize.new.self.len (omega arith) in
+    let key : c.truncate.new.self.items ≡ take c.in-Ok.found.len made = c.truncate.ensures.items ∙ ap (take c.in-Ok.found.len) back in
+    rw key (c.in-Ok.found.form, is_found _ _ _ _ _ w.answer w.other_form)
+
+pub returns-in-Err : goal.returns-in-Err
+returns-in-Err g c =
+    let own = ap (λ m. m.pair) c.new.ensures in
+    let w = rw own at c.in-Err.ensures in
+    let text = c.args.input.now in
+    let room = length c.deref_mut.result.now in
+    let ok : IsPaddedTextLength (length text) = search rules in
+    let size : room ≡ length text - 8 = search rules in
+    let legal : ArePaddedLengths room (length text) = (ok, omega (arith, ok, size)) in
+    none_found _ room _ text _ legal w.bad_length w.integrity

@@ -1,0 +1,69 @@
+-- What a run over lines that ends with status 0 says of the lines of its input.
+use Rattle.std.specs.Prelude.{◌≡◌, ◌≢◌, ⊤, ℕ, List, [], ◌∷◌, Option, Some, None, Ok, IfSome}
+use Rattle.std.specs.List.{AllByRecursion, concat}
+use Rattle.std.specs.Io.KnownBytes.{Appends}
+use Rattle.fips197.specs.Cipher.{cipher}
+use Rattle.key_lines.specs.Lines.{lines_of}
+use Rattle.key_lines.specs.Meaning.{line_meaning}
+use Rattle.key_lines.specs.declared.summary.RunSummary.{RunSummary}
+use Rattle.key_lines.specs.declared.text.TextNotation.{TextNotation}
+use Rattle.key_wrap_core.specs.Forms.{Stands}
+use Rattle.key_wrap_core.specs.declared.forms.Form.{Form}
+use Rattle.keywrap_cli.specs.Answers.{RewrapsTo}
+use Rattle.keywrap_cli.specs.Engine.{UnderReadKek}
+use Rattle.keywrap_cli.specs.Files.{text_notation}
+use Rattle.keywrap_cli.specs.Operation.{MatchOperations, lines_of as lines_of_task}
+use Rattle.keywrap_cli.specs.declared.job.Job.{Job}
+use Rattle.keywrap_cli.specs.declared.job.Job.TheVariants.{Check}
+use Rattle.keywrap_cli.specs.declared.operation.Operation.{Operation}
+use Rattle.keywrap_cli.specs.declared.operation.Operation.TheVariants.{Job as OfJob, Rewrap}
+use Rattle.keywrap_cli.specs.declared.refusal.Refusal.{Refusal}
+use Rattle.keywrap_cli.specs.declared.rewrapping.Rewrapping.{Rewrapping}
+
+-- a run over lines that ends with status 0: there was a line, none was refused, and a check found a key in each
+pub record EndsWell (job : Option Job) (summary : RunSummary Refusal) : Type 0 where
+  pub some : summary.lines ≢ 0
+  pub none_refused : summary.first_refused ≡ None
+  pub all_found : job ≡ Some Check → summary.marked ≡ 0
+
+-- the job of an operation that is no rewrap
+abbrev pub job_in : {K : Type 0} → Operation K → Option Job
+job_in (OfJob iv task kek) = Some task.job
+job_in (Rewrap task kek new) = None
+
+-- the line denotes the wrapping, in some form, of some key
+abbrev pub IsWrappedLine : TextNotation → ℕ → (List ℕ → List ℕ) → List ℕ → Type 0
+IsWrappedLine notation iv E line =
+    (X : List ℕ) × (line_meaning notation line ≡ Ok X) × ((form : Form) × (key : List ℕ) × Stands form iv E key X)
+
+-- the text has a line, and each of its lines denotes a wrapping
+abbrev pub AreWrappedLines : TextNotation → ℕ → (List ℕ → List ℕ) → List ℕ → Type 0
+AreWrappedLines notation iv E text = (lines_of text ≢ []) × AllByRecursion (IsWrappedLine notation iv E) (lines_of text)
+
+-- the output is the printed rewrapping of the bytes that the line denotes
+abbrev pub IsRewrappedLine : TextNotation → Rewrapping → (List ℕ → List ℕ) → (List ℕ → List ℕ) → List ℕ → List ℕ → Type 0
+IsRewrappedLine notation task E F line output = (X : List ℕ) × (line_meaning notation line ≡ Ok X) × RewrapsTo task E F X output
+
+-- one output for each line, in order
+abbrev pub AreOutputs : (List ℕ → List ℕ → Type 0) → List (List ℕ) → List (List ℕ) → Type 0
+AreOutputs Is [] [] = ⊤
+AreOutputs Is (line ∷ lines) (output ∷ outputs) = Is line output × AreOutputs Is lines outputs
+AreOutputs Is lines outputs = ⊥
+
+-- each line of the text was rewrapped, and the outputs were written in order
+pub record RewrapsLines (notation : TextNotation) (task : Rewrapping) (E F : List ℕ → List ℕ) (text : List ℕ) (out out' : Option (List ℕ)) : Type 0 where
+  pub some : lines_of text ≢ []
+  pub outputs : List (List ℕ)
+  pub each : AreOutputs (IsRewrappedLine notation task E F) (lines_of text) outputs
+  pub written : Appends out out' (concat outputs)
+
+-- What a run says that ends with status 0. If a check does, the input has a line, and each line denotes a wrapping, in
+-- some form, of some key under AES of the KEK. If a rewrap does, line i of the output is the wrapping, under AES of the
+-- new KEK, of the key of line i of the input.
+abbrev pub AnswersAllLines : {K : Type 0} → (K → Option (List ℕ)) → Operation K → Operation K → Option (List ℕ) → Option (List ℕ)
+    → Option (List ℕ) → Type 0
+AnswersAllLines known old new input out out' = MatchOperations old new
+    (λ iv task kek iv' task' kek'. task.job ≡ Check → UnderReadKek task.kek (known kek) (known kek')
+    (λ K. IfSome input (λ text. AreWrappedLines (text_notation task.input) iv (cipher K) text)))
+    (λ task kek new task' kek' new'. UnderReadKek task.kek (known kek) (known kek') (λ K. UnderReadKek task.kek (known new) (known new')
+    (λ L. IfSome input (λ text. RewrapsLines (text_notation task.input) (lines_of_task task) (cipher K) (cipher L) text out out'))))

@@ -1,0 +1,61 @@
+-- The exit status of each fault: 2 for the arguments, 3 for a KEK, 4 for a length, 5 for the integrity check, 6 for a
+-- file, 7 for memory.
+use Rattle.std.specs.Prelude.{ℕ}
+use Rattle.key_files.specs.declared.fault.FileFault.TheVariants as files
+use Rattle.key_lines.specs.declared.fault.LineFault.{LineFault}
+use Rattle.key_lines.specs.declared.fault.LineFault.TheVariants.{Input, Refused}
+use Rattle.keywrap_cli.specs.declared.drilling.DrillFault.{DrillFault}
+use Rattle.keywrap_cli.specs.declared.drilling.DrillFault.TheVariants as drills
+use Rattle.keywrap_cli.specs.declared.fault.ProgramFault.{ProgramFault}
+use Rattle.keywrap_cli.specs.declared.fault.ProgramFault.TheVariants as program
+use Rattle.keywrap_cli.specs.declared.job.JobFault.{JobFault}
+use Rattle.keywrap_cli.specs.declared.job.JobFault.TheVariants as jobs
+use Rattle.keywrap_cli.specs.declared.refusal.Refusal.{Refusal}
+use Rattle.keywrap_cli.specs.declared.refusal.Refusal.TheVariants.{BadLength, Integrity, KeyNotPlain}
+
+abbrev pub job_status : JobFault → ℕ
+job_status (jobs.KekFile fault) = 6
+job_status jobs.KekLength = 3
+job_status (jobs.NewKekFile fault) = 6
+job_status jobs.NewKekLength = 3
+job_status (jobs.InputFile fault) = 6
+job_status jobs.BadLength = 4
+job_status jobs.Integrity = 5
+job_status jobs.KeyNotPlain = 4
+job_status (jobs.Write written) = 6
+job_status jobs.Memory = 7
+
+abbrev pub line_status : LineFault Refusal → ℕ
+line_status (Input files.Read) = 6
+line_status (Input files.TooLong) = 6
+line_status (Input (files.BadDigit at)) = 6
+line_status (Input files.OddDigits) = 6
+line_status (Input (files.BadBase64 wrong)) = 6
+line_status (Input files.Memory) = 7
+line_status (Refused BadLength) = 4
+line_status (Refused Integrity) = 5
+line_status (Refused KeyNotPlain) = 4
+
+abbrev pub drill_status : DrillFault → ℕ
+drill_status drills.TooLong = 6
+drill_status (drills.BadDigit at) = 6
+drill_status drills.OddDigits = 6
+drill_status drills.BadLength = 4
+drill_status drills.Integrity = 5
+drill_status drills.Memory = 7
+
+abbrev pub fault_status : ProgramFault → ℕ
+fault_status (program.Iv fault) = 2
+fault_status (program.NewIv fault) = 2
+fault_status program.KekOpen = 6
+fault_status program.NewKekOpen = 6
+fault_status program.InputOpen = 6
+fault_status program.OutputOpen = 6
+fault_status program.RawToTerminal = 2
+fault_status (program.Job fault) = job_status fault
+fault_status (program.Line line) = line_status line.fault
+fault_status program.NoLines = 4
+fault_status (program.Drill fault) = drill_status fault
+fault_status (program.Write written) = 6
+fault_status program.Flush = 6
+fault_status program.Memory = 7

@@ -1,0 +1,34 @@
+//! Unwrapping in whichever form a key is wrapped.
+
+ghost use Rattle.std.specs.Prelude.{IfOk};
+ghost use Rattle.key_lines.specs.Answers.{made};
+ghost use Rattle.keywrap_cli.specs.Answers.{FindsKey};
+
+use block_pair::{BlockPair, Meter};
+use key_wrap_core::{InPlaceFault, InitialValue, padded_text_length_ok, unwrap_any_into};
+use std::alloc::AllocError;
+
+/// Replaces `output` with the key of a wrapping in either form. The plain form has this initial
+/// value.
+pub fn unwrap_any<B: BlockPair>(
+    iv: &InitialValue,
+    pair: &B,
+    input: &[u8],
+    output: &mut Vec<u8>,
+) -> Result<Result<(), InPlaceFault>, AllocError>
+    ensures { IfOk result (λ done. FindsKey iv.now (B.encrypted pair.now) input.now
+        (made output.new.items done)) }
+{
+    // The padded form has all legal lengths of the plain form.
+    if !padded_text_length_ok(input.len()) {
+        return Ok(Err(InPlaceFault::BadLength));
+    }
+    output.resize(input.len() - 8, 0)?;
+    match unwrap_any_into(&mut Meter::new(pair), iv, input, output) {
+        Ok(found) => {
+            output.truncate(found.len);
+            Ok(Ok(()))
+        }
+        Err(fault) => Ok(Err(fault)),
+    }
+}

@@ -1,0 +1,44 @@
+//! The exit status of a run that was not refused.
+
+ghost use Rattle.std.specs.Prelude.{◌≡◌, ◌≢◌, ◌↔◌, Some, None};
+ghost use Rattle.keywrap_cli.specs.EndsWell.{EndsWell};
+ghost use Rattle.keywrap_cli.specs.Statuses.{line_status};
+
+use crate::fault::line_status;
+use crate::job::{Done, Job};
+use crate::refusal::Refusal;
+use crate::statuses;
+use key_lines::{RefusedLine, RunSummary};
+
+/// Returns the exit status of a run over a whole input.
+pub fn done_status(done: Done) -> u8
+    ensures done { (result ≡ 0) ↔ (done ≡ Done.Written) }
+    ensures neither { (result ≡ 5) ↔ (done ≡ Done.Neither) }
+{
+    match done {
+        Done::Written => statuses::DONE,
+        Done::Neither => statuses::FAILED,
+    }
+}
+
+/// Returns the exit status of a run over lines: the status of the first refused line. A check marks
+/// the lines for which it found no key. A run over no lines is refused.
+pub fn lines_status(job: Option<Job>, summary: &RunSummary<Refusal>) -> u8
+    ensures done { (result ≡ 0) ↔ EndsWell job summary.now }
+    ensures no_lines { summary.now.lines ≡ 0 → result ≡ 4 }
+    ensures refused { summary.now.lines ≢ 0 → (refused : RefusedLine Refusal)
+        → summary.now.first_refused ≡ Some refused → result ≡ line_status refused.fault }
+    ensures none { summary.now.lines ≢ 0 → summary.now.first_refused ≡ None → result ≢ 0
+        → result ≡ 5 }
+{
+    if summary.lines == 0 {
+        return statuses::BAD_LENGTH;
+    }
+    if let Some(refused) = summary.first_refused {
+        return line_status(refused.fault);
+    }
+    match job {
+        Some(Job::Check) if summary.marked > 0 => statuses::FAILED,
+        _ => statuses::DONE,
+    }
+}

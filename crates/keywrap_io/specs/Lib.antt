@@ -1,0 +1,2 @@
+-- The definitions: which bytes the adapters have left to read, or hold.
+pub mod Adapters

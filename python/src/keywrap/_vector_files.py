@@ -1,0 +1,187 @@
+"""Reads published test vectors: NIST's CAVP files, ACVP's JSON and Wycheproof's JSON.
+
+This module imports nothing of the package, so the tests of the other languages read the files by it.
+"""
+
+from __future__ import annotations
+
+import enum
+import json
+import re
+from typing import Any, Dict, Iterable, Iterator, List, NamedTuple, Optional, Union
+
+
+class Call(enum.Enum):
+    """A call, by its name in the package."""
+
+    WRAP = "wrap"
+    UNWRAP = "unwrap"
+    WRAP_PADDED = "wrap_padded"
+    UNWRAP_PADDED = "unwrap_padded"
+
+    @property
+    def inverse(self) -> Call:
+        """Returns the call that undoes it."""
+        return Call(self.value[2:] if self.unwraps else "un" + self.value)
+
+    @property
+    def unwraps(self) -> bool:
+        """Returns whether it is given a wrapped key."""
+        return self.value.startswith("un")
+
+
+class Verdict(enum.Enum):
+    """The result that a file expects: an answer, an answer or a refusal, a refusal, or none in a request."""
+
+    VALID = "valid"
+    ACCEPTABLE = "acceptable"
+    INVALID = "invalid"
+    ASKED = "asked"
+
+
+class Case(NamedTuple):
+    """A call with its arguments. The answer is None after a refusal, and in a request."""
+
+    name: str
+    call: Call
+    kek: bytes
+    given: bytes
+    verdict: Verdict
+    answer: Optional[bytes] = None
+
+    def both_ways(self) -> Iterator[Case]:
+        """Yields this case, and its inverse if there is an answer."""
+        yield self
+        if self.answer is not None:
+            yield self._replace(call=self.call.inverse, given=self.answer, answer=self.given)
+
+
+class NotOffered(ValueError):
+    """The text is not a file of vectors, or its vectors are of a function that is not offered."""
+
+
+#: The answer to each case of a request. None is a refusal.
+Answers = Iterable[Optional[bytes]]
+_CALLS = {
+    ("KW", True): Call.WRAP,
+    ("KW", False): Call.UNWRAP,
+    ("KWP", True): Call.WRAP_PADDED,
+    ("KWP", False): Call.UNWRAP_PADDED,
+}
+_CAVP_HEADER = re.compile(r"'NIST SP 800-38F (\w+)-A([DE]) with (\S+) (.*)function'")
+
+
+class Cavp:
+    """A CAVP file, a request or a response: lines of names and values."""
+
+    def __init__(self, text: str) -> None:
+        header = _CAVP_HEADER.search(text)
+        if header is None:
+            raise NotOffered("not a file of vectors for AES Key Wrap")
+        form, direction, cipher, variant = header.groups()
+        if (form, cipher[:3], variant.strip()) not in [(form, "AES", "cipher") for form in ("KW", "KWP")]:
+            raise NotOffered(f"{form} with the {cipher} {variant}function is not offered")
+        self._call = _CALLS[form, direction == "E"]
+        self._given, self._answer = ("C", "P") if self._call.unwraps else ("P", "C")
+        self._parts = re.split(r"^(?=COUNT = |\[)", text, flags=re.M)
+        self.cases = [self._case(number) for number in self._numbers()]
+
+    def _numbers(self) -> List[int]:
+        return [number for number, part in enumerate(self._parts) if part.startswith("COUNT")]
+
+    def _case(self, number: int) -> Case:
+        part = self._parts[number]
+        values = dict(re.findall(r"^(\w+)(?: = (\w+))?\r?$", part, re.M))
+        section = next((part for part in self._parts[number::-1] if part[0] == "["), "").split("]")[0]
+        name = f"{section}] COUNT = {values['COUNT']}"
+        kek, given = bytes.fromhex(values["K"]), bytes.fromhex(values[self._given])
+        if self._answer in values:
+            return Case(name, self._call, kek, given, Verdict.VALID, bytes.fromhex(values[self._answer]))
+        return Case(name, self._call, kek, given, Verdict.INVALID if "FAIL" in values else Verdict.ASKED)
+
+    def response(self, answers: Answers) -> str:
+        """Returns the response to a request: its text, with a line for each answer."""
+        parts = self._parts[:]
+        for number, answer in zip(self._numbers(), answers):
+            text = parts[number].rstrip()
+            end = "\r\n" if "\r\n" in parts[number] else "\n"
+            line = "FAIL" if answer is None else f"{self._answer} = {answer.hex()}"
+            parts[number] = f"{text}{end}{line}{parts[number][len(text):] or end}"
+        return "".join(parts)
+
+
+class Acvp:
+    """A request of ACVP, and perhaps the response to it."""
+
+    def __init__(self, request: List[Any]) -> None:
+        self._request = request
+        form = request[-1]["algorithm"].replace("ACVP-AES-", "")
+        self.cases = []
+        for group in request[-1]["testGroups"]:
+            if (form, group["kwCipher"]) not in [("KW", "cipher"), ("KWP", "cipher")]:
+                raise NotOffered(f"{form} with kwCipher {group['kwCipher']} is not offered")
+            call = _CALLS[form, group["direction"] == "encrypt"]
+            for test in group["tests"]:
+                kek, given = bytes.fromhex(test["key"]), bytes.fromhex(test["ct" if call.unwraps else "pt"])
+                self.cases.append(Case(f"tcId {test['tcId']}", call, kek, given, Verdict.ASKED))
+
+    def expect(self, response: List[Any]) -> None:
+        """Takes the expected answers from a response."""
+        tests = {f"tcId {test['tcId']}": test for group in response[-1]["testGroups"] for test in group["tests"]}
+        if tests.keys() != {case.name for case in self.cases}:
+            raise NotOffered("a response to other cases than the request's")
+        for number, case in enumerate(self.cases):
+            digits = tests[case.name].get("pt" if case.call.unwraps else "ct")
+            case = case._replace(verdict=Verdict.INVALID if digits is None else Verdict.VALID)
+            self.cases[number] = case._replace(answer=None if digits is None else bytes.fromhex(digits))
+
+    def response(self, answers: Answers) -> str:
+        """Returns the response to the request."""
+        given = iter(answers)
+
+        def answered(test: Dict[str, Any], direction: str) -> Dict[str, Any]:
+            answer = next(given)
+            passed = {} if direction == "encrypt" else {"testPassed": answer is not None}
+            value = {} if answer is None else {"ct" if direction == "encrypt" else "pt": answer.hex()}
+            return {"tcId": test["tcId"], **value, **passed}
+
+        groups = [
+            {"tgId": group["tgId"], "tests": [answered(test, group["direction"]) for test in group["tests"]]}
+            for group in self._request[-1]["testGroups"]
+        ]
+        head = [{"vsId": self._request[-1]["vsId"], "testGroups": groups}]
+        return json.dumps(self._request[:-1] + head, indent=2) + "\n"
+
+
+class Wycheproof:
+    """A file of Wycheproof. Each test has a case for each direction that it decides."""
+
+    def __init__(self, file: Dict[str, Any]) -> None:
+        form = file["algorithm"]
+        if (form, True) not in _CALLS:
+            raise NotOffered(f"{form} is not offered")
+        self.cases = [
+            case for group in file["testGroups"] for test in group["tests"] for case in self._cases(form, test)
+        ]
+
+    @staticmethod
+    def _cases(form: str, test: Dict[str, Any]) -> Iterator[Case]:
+        """Yields the unwrapping, and the wrapping if it is valid, or invalid because of the key's length."""
+        verdict = Verdict(test["result"])
+        kek, key, wrapped = (bytes.fromhex(test[name]) for name in ("key", "msg", "ct"))
+        name = " ".join([f"tcId {test['tcId']}", *test["flags"]])
+        case = Case(name, _CALLS[form, False], kek, wrapped, verdict)
+        if verdict is not Verdict.INVALID:
+            yield from case._replace(answer=key).both_ways()
+            return
+        yield case
+        if not key or (form == "KW" and (len(key) < 16 or len(key) % 8)):
+            yield case._replace(call=_CALLS[form, True], given=key)
+
+
+def read(text: str) -> Union[Cavp, Acvp, Wycheproof]:
+    """Reads a file of vectors. A response of ACVP is none: see `Acvp.expect`."""
+    if not text.lstrip().startswith(("{", "[{", "[\n")):
+        return Cavp(text)
+    content = json.loads(text)
+    return Acvp(content) if isinstance(content, list) else Wycheproof(content)

@@ -1,0 +1,151 @@
+"""Rotates, verifies or counts one unit of any store. Each call may run twice, at once, and be killed at any point."""
+
+from __future__ import annotations
+
+import contextlib
+import hashlib
+import socket
+import time
+from typing import Any, Callable, Dict, Iterator, List, Tuple
+
+from . import keks
+from .keks import Challenges
+from .keys import Block, Changed, Elsewhere, Fresh, Gone, Refused, Unsynced
+from .keys import all_under, material, rewrapped, unchanged, under_which
+from .stores import Opened, Store, Unit
+
+#: How often a unit is rotated again if somebody else wrote it meanwhile.
+ATTEMPTS = 3
+#: How many refused keys of a unit are named. The others are counted.
+NAMED = 1000
+
+Answer = Dict[str, Any]
+Beat = Callable[[int], None]
+
+
+def answer_of(unit: Unit, outcome: str, why: Any = None, **more: Any) -> Answer:
+    """Returns the line of a unit in a report.
+
+    The outcome is new, verified, counted, refused, gone, elsewhere or unanswered.
+    """
+    return {"unit": unit.name, "outcome": outcome, "why": why, "machine": socket.gethostname(), "keys": 0, "passed": 0,
+            "refused": 0, "named": [], **more}  # fmt: skip
+
+
+class _Count:
+    """What was found in a unit."""
+
+    def __init__(self) -> None:
+        self.keys = self.changed = self.refused = 0
+        self.named: List[Tuple[str, str]] = []
+
+    def add(self, block: Block, keys: int, changed: int, refused: List[Tuple[int, str]]) -> None:
+        self.keys += keys
+        self.changed += changed
+        self.refused += len(refused)
+        self.named += [(block.place(at), why) for at, why in refused[: NAMED - len(self.named)]]
+
+    def answer(self, unit: Unit, outcome: str, **more: Any) -> Answer:
+        counts = {"keys": self.keys, "refused": self.refused, "named": self.named}
+        return answer_of(unit, outcome, **{**counts, **more})
+
+
+@contextlib.contextmanager
+def _read(store: Store, unit: Unit, beat: Beat) -> Iterator[Tuple[Opened, Iterator[Block]]]:
+    """Opens a unit. What a failed attempt has read does not count as progress."""
+    done = 0
+
+    def blocks() -> Iterator[Block]:
+        nonlocal done
+        for block in opened.blocks():
+            yield block
+            done += block.weight
+            beat(block.weight)
+
+    try:
+        with store.open(unit) as opened:
+            yield opened, blocks()
+    except BaseException:
+        beat(-done)
+        raise
+
+
+def _answered(unit: Unit, attempt: Callable[[], Answer]) -> Answer:
+    """Makes an attempt, again after a change by somebody else. Its errors become our words."""
+    why = "somebody else wrote it"
+    for number in range(ATTEMPTS):
+        try:
+            return attempt()
+        except Changed as changed:
+            why = str(changed) or why
+            time.sleep(0.05 * number)
+        except Gone:
+            return answer_of(unit, "gone")
+        except Elsewhere:
+            return answer_of(unit, "elsewhere")
+        except Unsynced as error:
+            return answer_of(unit, "unanswered", str(error))
+        except Refused as refusal:
+            return answer_of(unit, "refused", str(refusal))
+        except OSError as error:
+            return answer_of(unit, "refused", error.strerror or type(error).__name__)
+        except MemoryError:
+            return answer_of(unit, "unanswered", "not enough memory")
+    return answer_of(unit, "refused", f"{why}, in each of {ATTEMPTS} attempts")
+
+
+def rotate_unit(store: Store, unit: Unit, pair: Challenges, whole: bool = False, beat: Beat = lambda _: None) -> Answer:
+    """Rewraps all keys of a unit. A refused key stays as it is; with `whole` all keys do, if one is refused.
+
+    Raises `WrongKeks` if this machine's KEKs do not fit the challenges.
+    """
+    both = keks.keks_of(pair)
+
+    def attempt() -> Answer:
+        count, is_new = _Count(), True
+        with _read(store, unit, beat) as (opened, blocks):
+            for block in blocks:
+                # After a restart the first keys are new: one check of each finds the first old key.
+                is_new = is_new and all_under(both[1], block)
+                fresh: Fresh = unchanged(block) if is_new else rewrapped(both, block)
+                count.add(block, fresh.keys, fresh.changed, fresh.refused)
+                opened.write(block, fresh)
+            if whole and count.refused:
+                return count.answer(unit, "refused", why="nothing of it was changed", keys=0)
+            opened.replace()
+        return count.answer(unit, "new", passed=count.keys - count.changed - count.refused)
+
+    return _answered(unit, attempt)
+
+
+def verify_unit(store: Store, unit: Unit, challenge: str, beat: Beat = lambda _: None) -> Answer:
+    """Checks all keys of a unit under the new KEK, without the KEK, and returns the digest of its content."""
+    kek = keks.new_kek_of(challenge)
+
+    def attempt() -> Answer:
+        count, digest = _Count(), hashlib.sha256()
+        with _read(store, unit, beat) as (_, blocks):
+            for block in blocks:
+                (found,), refused = under_which([kek], block)
+                count.add(block, found + len(refused), 0, refused)
+                digest.update(material(block))
+        return count.answer(unit, "verified", passed=count.keys - count.refused, digest=digest.hexdigest())
+
+    return _answered(unit, attempt)
+
+
+def count_unit(store: Store, unit: Unit, pair: Challenges, beat: Beat = lambda _: None) -> Answer:
+    """Counts the keys of a unit under the KEK, under the new KEK and under neither. Writes nothing."""
+    both = keks.keks_of(pair)
+
+    def attempt() -> Answer:
+        count = _Count()
+        old = 0
+        with _read(store, unit, beat) as (_, blocks):
+            for block in blocks:
+                (new, under_old), refused = under_which([both[1], both[0]], block)
+                count.add(block, new + under_old + len(refused), 0, refused)
+                old += under_old
+        return count.answer(unit, "counted", passed=count.keys - old - count.refused)
+
+    return _answered(unit, attempt)

@@ -1,0 +1,66 @@
+"""What a store is for the engine: it lists units, and opens one to read its keys and to replace it."""
+
+from __future__ import annotations
+
+from typing import Any, ContextManager, Iterable, Iterator, NamedTuple, Protocol
+
+from .keks import Challenges
+from .keys import Block, Fresh
+
+
+class Unit(NamedTuple):
+    """A part of a store that is rotated at once. The name is for people, the place for the store."""
+
+    name: str
+    place: Any
+    #: How large it is: bytes, rows or objects.
+    weight: int
+
+
+class Opened(Protocol):
+    """A unit that is being read. What `write` was given counts only after `replace`."""
+
+    def blocks(self) -> Iterator[Block]:
+        """Reads the keys from the start."""
+
+    def write(self, block: Block, fresh: Fresh) -> None:
+        """Takes what a block becomes."""
+
+    def replace(self) -> None:
+        """Replaces what was read, or raises `Changed`."""
+
+
+class Store(Protocol):
+    """A store of wrapped keys."""
+
+    #: The name of a unit, and the measure of its weight.
+    noun: str
+    measure: str
+
+    def units(self) -> Iterable[Unit]:
+        """Lists the units in an order that is the same each time."""
+
+    def notes(self) -> Iterable[str]:
+        """Returns what a person has to know or to do, found while the units were listed."""
+
+    def begin(self, challenges: Challenges) -> None:
+        """Makes what several runs share. Raises `WrongKeks` if others have begun it with other KEKs."""
+
+    def remaining(self) -> Iterable[Unit]:
+        """Lists units that have to be rotated again, after all were."""
+
+    def open(self, unit: Unit) -> ContextManager[Opened]:
+        """Opens a unit. Raises `Gone`, `Changed` or `Refused`."""
+
+
+class Simple:
+    """The parts that most stores do not need."""
+
+    def notes(self) -> Iterable[str]:
+        return ()
+
+    def begin(self, challenges: Challenges) -> None:
+        pass
+
+    def remaining(self) -> Iterable[Unit]:
+        return ()

@@ -1,0 +1,25 @@
+#!/usr/bin/env bash
+# Installs what the tests use and this machine lacks: the Debian packages of tests/packages.txt, and for aarch64 what
+# scripts/sysroot.sh unpacks. A package that cannot be installed does not keep the others from it. The last line is what
+# is still missing, which is then the exit status, too.
+
+set -u
+cd "$(dirname "${BASH_SOURCE[0]}")/.." || exit
+
+# missing: the packages of the tools that are not here.
+missing() { bash tests/lib/tools.sh | sed -n 's/.*(apt-get install \(.*\))$/\1/p'; }
+install() { timeout 900 apt-get install -y --no-install-recommends --no-upgrade "$@" </dev/null; }
+
+read -ra packages < <(missing)
+if [ ${#packages[@]} -gt 0 ]; then
+    if [ "$(id -u)" != 0 ] || ! command -v apt-get >/dev/null; then
+        echo "packages.sh: as root: apt-get install ${packages[*]}" >&2 && exit 1
+    fi
+    export DEBIAN_FRONTEND=noninteractive
+    timeout 300 apt-get update
+    install "${packages[@]}" || for package in "${packages[@]}"; do install "$package"; done
+fi
+timeout 600 scripts/sysroot.sh || echo 'packages.sh: scripts/sysroot.sh failed' >&2
+missing=$(bash tests/lib/tools.sh)
+echo "${missing:-all tools of tests/packages.txt are here}"
+[ -z "$missing" ]

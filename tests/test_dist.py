@@ -1,0 +1,259 @@
+"""The archives of `make dist` for x86-64: what is written in them, and that they work as their READMEs say, in a root
+directory that has only the archive and the system's C library. test_handed_out.py compares their files."""
+
+import hashlib
+import json
+import os
+import pathlib
+import re
+import shutil
+import subprocess
+
+import pytest
+
+from builds import MACHINE, NAMES, ROOT, copied_tree, run
+from program import slow
+from vectors import KEY16, WRAPPED24
+
+VERSION = NAMES["VERSION"]
+# Each archive that is used as its README says: its README, the root of the archive, and the directory of the documents.
+ARCHIVES = ["command", "library"]
+
+
+def archive_name(name):
+    return f"keywrap-{'library-' * (name == 'library')}{VERSION}-x86_64-linux"
+
+
+class TestWhole:
+    def test_checksums(self, dist):
+        run("sha256sum", "-c", "--strict", "SHA256SUMS", cwd=dist)
+        assert {line.split()[1] for line in (dist / "SHA256SUMS").read_text().splitlines()} == {
+            path.name for path in dist.iterdir()} - {"SHA256SUMS"}
+
+    def test_bill_of_materials(self, dist):
+        """This version, the kit's, its crates that are linked in, and the hash of each file."""
+        bill = json.loads((dist / f"keywrap-{VERSION}.cdx.json").read_text())
+        assert (bill["bomFormat"], bill["specVersion"]) == ("CycloneDX", "1.4")
+        assert bill["metadata"]["component"]["version"] == VERSION
+        kit, *parts = bill["components"]
+        kit_id = (pathlib.Path(shutil.which("rt")).resolve().parent.parent / "KIT-ID").read_text()
+        assert kit_id.startswith(f"rattle-kit-{kit['version']} ") and len(kit["hashes"][0]["content"]) == 64
+        assert {part["name"] for part in parts if part["type"] == "library"} == {
+            "std", "base64", "byteorder", "clap", "hex", "linked_list_allocator", "memchr", "thiserror"}
+        files = {part["name"]: part["hashes"][0]["content"] for part in parts if part["type"] == "file"}
+        assert files == {path.name: hashlib.sha256(path.read_bytes()).hexdigest() for path in dist.iterdir()
+                         if path.suffix in (".gz", ".tgz", ".whl")}
+
+    def test_hashes_in_trust(self, dist):
+        run("python3", ROOT / "scripts/trust.py", "--check-hashes", dist / "SHA256SUMS")
+
+    def test_lines_of_installing(self, dist):
+        page = (ROOT / "docs/INSTALLING.md").read_text().partition("### From an archive")[2]
+        lines = re.findall("^    (.*)", page, re.M)
+        assert lines
+        copy = shutil.copytree(dist, "copy")
+        run("bash", "-ec", "\n".join(lines), cwd=copy)
+
+    @slow
+    def test_same_elsewhere(self, dist, built, python, pytestconfig):
+        """make dist in a copy of the tree, of another path, umask and time, gives the same checksums. With
+        KEYWRAP_REBUILD=1 rt builds again, too, over the proofs that it keeps."""
+        tree = copied_tree(pathlib.Path("another"), pytestconfig.program, built("llvm.a"))
+        run("find", tree, "-exec", "touch", "-d", "2001-02-03", "{}", "+")
+        made = [f"PROGRAM={pytestconfig.program}", f"JS={built('js')}", f"ARCHIVE={built('llvm.a')}"]
+        words = [*made, "-o", "build", "-o", "js"]
+        run("sh", "-c", 'umask 077; exec make -s "$@"', "-", "-C", tree, "dist", f"PYTHON={python}", MACHINE,
+            *([] if os.environ.get("KEYWRAP_REBUILD") else words))
+        assert (tree / "out/SHA256SUMS").read_text() == (dist / "SHA256SUMS").read_text()
+
+
+def headings(document):
+    return [re.sub("[^a-z0-9 _-]", "", heading.lower()).replace(" ", "-")
+            for heading in re.findall("^#+ (.*)", document.read_text(), re.M)]
+
+
+@pytest.mark.parametrize("name", ARCHIVES)
+class TestDocuments:
+    def test_links(self, thing, name):
+        """Each link that does not lead to the web leads to a file there, and to its heading."""
+        found = []
+        for document in (thing(f"archive of {name}") / "share/doc/keywrap").glob("*.md"):
+            for target in re.findall(r"\]\(([^)]*)\)", document.read_text().replace("\n", " ")):
+                if not target.startswith("https:"):
+                    file, _, anchor = target.partition("#")
+                    file = document.parent / file if file else document
+                    assert file.exists(), (document.name, target)
+                    assert not anchor or anchor in headings(file), (document.name, target)
+                    found.append(target)
+        assert any("#" in target for target in found)
+
+    def test_processor_and_c_library(self, thing, name):
+        """The README names what the processor must have, without a year, and the version of the C library."""
+        text = (thing(f"archive of {name}") / "README").read_text()
+        assert ("x86-64-v2 (SSE4.2" if name == "command" else "x86-64 with SSE4.1") in text
+        assert not re.search("(19|20)[0-9]{2} on", text)
+        if name == "command":
+            content = (thing("archive of command") / "bin/keywrap").read_bytes()
+            newest = max(map(int, re.findall(rb"GLIBC_2\.([0-9]+)", content)))
+            assert f"glibc 2.{newest} or newer" in text
+        else:
+            assert "glibc" not in text.lower()
+
+
+@pytest.mark.parametrize("name, path", [("archive of library", "lib/libkeywrap.so"), ("wheel", "keywrap/_ffi.abi3.so")])
+def test_no_new_glibc(thing, name, path):
+    """No symbol is newer than glibc 2.17."""
+    needed = re.findall(r"GLIBC_2\.([0-9]+)", run("objdump", "-T", thing(name) / path))
+    assert needed and max(map(int, needed)) <= 17
+
+
+def test_packed_program(thing, keywrap):
+    assert (thing("archive of command") / "bin/keywrap").read_bytes() == pathlib.Path(keywrap.path).read_bytes()
+
+
+@pytest.mark.needs("pkg-config")
+def test_pkg_config(thing):
+    """keywrap.pc finds the header and the library in the unpacked archive."""
+    root = thing("archive of library")
+    said = run("pkg-config", "--cflags-only-I", "--libs-only-L", "keywrap", env={
+        **os.environ, "PKG_CONFIG_PATH": str(root / "lib/pkgconfig")})
+    header, library = (pathlib.Path(word[2:]) for word in said.split())
+    assert (header / "keywrap.h").samefile(root / "include/keywrap.h")
+    assert (library / "libkeywrap.so").samefile(root / "lib/libkeywrap.so")
+
+
+def typed(readme):
+    """The lines that a README has to type, with those that continue them, and the answers."""
+    lines, answers, goes_on = [], [], False
+    for line in readme.read_text().splitlines():
+        if line.startswith("    $ ") or goes_on:
+            lines.append(line[6:])
+            goes_on = line.endswith("\\")
+        elif line.startswith("    ") and lines:
+            answers.append(line[4:])
+    return lines, answers
+
+
+# Runs typed lines in the archive's directory, with an empty /usr/local and a loader list of its own. Programs run in
+# the root directory `bare`, which has /proc: the loader uses it to find their directory, until there is a copy in
+# /usr/local.
+IN_BARE = r"""
+bare() { unshare -R "$room/bare" -w "/$name" "$@"; }
+mkdir etc && cp -a /etc/alternatives /etc/ld.so.conf* etc 2>log || true
+mount -t tmpfs none /usr/local && mount --bind etc /etc
+[ ! -d /var/cache/ldconfig ] || mount -t tmpfs none /var/cache/ldconfig
+mkdir -p bare/proc && mount --rbind /proc bare/proc
+export PATH=/usr/local/bin:/usr/sbin:/usr/bin:/sbin:/bin
+cd "bare/$name"
+"""
+
+
+@pytest.mark.needs("tmpfs in a namespace", "cc", "pkg-config")
+@pytest.mark.parametrize("name", ARCHIVES)
+def test_readme_in_an_empty_root(thing, keywrap, name):
+    """The README's lines are done, but for the provider, with its answers. Each of the library's three programs gives
+    the result of RFC 3394, 4.2."""
+    root = pathlib.Path("bare")
+    root.mkdir()
+    shutil.copytree(thing(f"archive of {name}"), root / archive_name(name), symlinks=True)
+    for file in re.findall(r"(/\S+) \(0x", run("ldd", keywrap.path)):
+        (root / file[1:]).parent.mkdir(parents=True, exist_ok=True)
+        shutil.copy(file, root / file[1:])
+    lines, answers = typed(root / archive_name(name) / "README")
+    lines = lines[:next((at for at, line in enumerate(lines) if line.startswith("cc") and ".so" in line), len(lines))]
+    assert len(lines) == (7 if name == "command" else 9)
+    script = []
+    for line in lines:
+        if line.startswith("cp -r "):
+            script.append('bare() { "$@"; }')
+        script.append(re.sub(r"(^|\| )(bin/keywrap|\./wrap)", r"\1bare \2", line))
+    said = run("unshare", "-rm", "bash", "-ec", IN_BARE + "\n".join(script), env={
+        **os.environ, "room": os.getcwd(), "name": archive_name(name)})
+    if name == "command":
+        assert said.splitlines() == answers and len(answers) == 4 and KEY16 in answers
+    else:
+        assert re.findall("^wrap: done: (.*)$", said, re.M) == [WRAPPED24] * 3
+
+
+@pytest.mark.needs("<openssl/evp.h>", "openssl")
+def test_readme_builds_the_provider(thing):
+    root = shutil.copytree(thing("archive of library"), "archive", symlinks=True)
+    lines, _ = typed(pathlib.Path(root) / "README")
+    at, = (at for at, line in enumerate(lines) if line.startswith("cc") and "keywrap.so" in line)
+    run("bash", "-ec", "\n".join(lines[at:]), cwd=root)
+    assert f"version: {VERSION}" in run("openssl", "list", "-providers", "-provider-path", root, "-provider", "keywrap")
+
+
+@pytest.mark.needs("cc", "cmake")
+def test_cmake(thing):
+    """The target is shared, and the other one static."""
+    room, example = os.getcwd(), ROOT / "examples/c/wrap.c"
+    run("cmake", "-S", ROOT / "tests/library/installed", "-B", "built", "-Dasked=", f"-Dexample={example}",
+        f"-Dkeywrap_DIR={thing('archive of library')}/lib/cmake/keywrap")
+    run("cmake", "--build", "built")
+    for program, needed in [("shared", ["libkeywrap.so.1", "libc.so.6"]), ("static", ["libc.so.6"])]:
+        assert re.findall(r"\(NEEDED\).*\[(.*)\]", run("readelf", "-d", f"{room}/built/{program}")) == needed
+        assert f"wrap: done: {WRAPPED24}" in run(f"{room}/built/{program}")
+
+
+def test_help(dist):
+    """The files that make help names are those that make dist makes."""
+    said = run("make", "-s", "-C", ROOT, "help", "DIST=there", MACHINE)
+    named = re.findall(r"there/(keywrap\S*)", said)
+    assert named and set(named) <= {path.name for path in dist.iterdir()}
+
+
+@pytest.mark.needs("cc")
+class TestPortable:
+    @pytest.fixture(autouse=True)
+    def copy(self, thing):
+        shutil.copytree(thing("portable"), "portable")
+
+    def test_vectors(self):
+        """The archive builds by its Makefile, and its vectors are right. `make check` fails if one is wrong."""
+        run("make", "-C", "portable", "check")
+        vectors = pathlib.Path("portable/vectors.c")
+        text = vectors.read_text()
+        for digits in [WRAPPED24[:16], KEY16[:16]]:
+            assert digits in text.lower()
+            at = text.lower().rindex(digits)
+            vectors.write_text(f"{text[:at]}e{text[at + 1:]}")
+            assert subprocess.run(["make", "-C", "portable", "check"], capture_output=True).returncode != 0
+
+    def test_default_in_readme(self):
+        """The length of the longest key whose memory is on the stack."""
+        source = pathlib.Path("portable/keywrap.c").read_text()
+        default, = re.findall("^#define KEYWRAP_STACK_KEY ([0-9]+)$", source, re.M)
+        readme = " ".join(pathlib.Path("portable/README").read_text().split())
+        assert f"For keys of up to {default} bytes this memory is on the stack" in readme
+
+    @pytest.mark.needs("cmake")
+    def test_cmake_target(self):
+        """A user of the target has the definition that keywrap.h asks for."""
+        pathlib.Path("main.c").write_text(
+            "#include <keywrap.h>\nint main(void) { return keywrap_self_test() == KEYWRAP_NO_MEMORY; }\n")
+        pathlib.Path("CMakeLists.txt").write_text(
+            "cmake_minimum_required(VERSION 3.13)\nproject(user C)\nadd_subdirectory(portable)\n"
+            "add_executable(user main.c)\ntarget_link_libraries(user keywrap)\n")
+        run("cmake", "-S", ".", "-B", "built")
+        run("cmake", "--build", "built", "--target", "user")
+        run("built/user")
+
+
+class TestNpm:
+    def test_readme_links_to_no_file(self, thing):
+        assert not re.search(r"\]\((\.\.|[a-z_]*/)", (thing("npm") / "README.md").read_text())
+
+    @pytest.mark.needs("npm")
+    def test_packed_and_installed_by_npm(self, thing, dist, built):
+        """npm packs the same files, and installs the archive by the README's line."""
+        env = {**os.environ, "npm_config_cache": f"{os.getcwd()}/npm", "npm_config_update_notifier": "false"}
+        pathlib.Path("by_npm").mkdir()
+        run("npm", "pack", "--silent", "--offline", "--pack-destination", "by_npm", built("js"), env=env)
+        run("tar", "-C", "by_npm", "-xzf", f"by_npm/keywrap-{VERSION}.tgz")
+        run("diff", "-r", thing("npm"), "by_npm/package")
+        line, = re.findall("^    npm install (.*)", (thing("npm") / "README.md").read_text(), re.M)
+        pathlib.Path("a_program").mkdir()
+        shutil.copy(dist / f"keywrap-{VERSION}.tgz", "a_program")
+        run("bash", "-ec", f"npm install --offline --silent {line}", cwd="a_program", env=env)
+        run("diff", "-r", thing("npm"), "a_program/node_modules/keywrap")

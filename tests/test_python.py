@@ -1,0 +1,179 @@
+"""The Python package: its wheel is installed as README says, and its own tests, pyca's and published cases run there.
+test_handed_out.py compares its files and fields, test_dist.py builds the wheel a second time."""
+
+import os
+import pathlib
+import re
+import shutil
+import subprocess
+
+import pytest
+
+import published
+from builds import NAMES, ROOT, run
+from program import SLOW
+from tools import need
+
+TESTS = ROOT / "python/tests"
+# A processor that lacks what the library needs, and one that has only that.
+WITHOUT_SSE41 = ["qemu-x86_64", "-cpu", "qemu64,-ssse3,-sse4.1,-sse4.2,-popcnt"]
+WITH_SSE41 = ["qemu-x86_64", "-cpu", "qemu64,+ssse3,+sse4.1,-sse4.2,-popcnt"]
+
+
+def test_make_wheel_without_build(python):
+    """A Python that lacks what it builds by is refused, with what to install, and nothing is built."""
+    run(python, "-m", "venv", "--without-pip", "bare")
+    ended = subprocess.run(["make", "-s", "-C", ROOT, "wheel", f"LIBRARY={os.getcwd()}/library",
+                            f"PYTHON={os.getcwd()}/bare/bin/python3"], capture_output=True, text=True)
+    assert ended.returncode != 0 and not os.path.exists("library")
+    assert "apt-get install python3-build python3-cffi python3-setuptools python3-wheel" in ended.stderr
+
+
+def test_make_wheel_names_it_last(words, python, dist):
+    said = run("make", "-s", "-C", ROOT, "wheel", *words, f"DIST={os.getcwd()}", f"PYTHON={python}")
+    wheel, = pathlib.Path().glob("*.whl")
+    assert said.splitlines()[-1] == str(wheel.absolute())
+    assert wheel.read_bytes() == (dist / wheel.name).read_bytes()
+
+
+def test_metadata(thing):
+    """Its description links to no file, and it has classifiers, but none of a licence."""
+    text, = (path.read_text() for path in thing("wheel").glob("*.dist-info/METADATA"))
+    links = re.findall(r"\]\(([^)]*)", text)
+    assert links and all(link.startswith("https://") for link in links)
+    classifiers = re.findall("^Classifier: (.*)", text, re.M)
+    assert len(classifiers) >= 5 and not any("licen" in line.lower() for line in classifiers)
+
+
+def test_stripped_extension(thing):
+    extension = thing("wheel") / "keywrap/_ffi.abi3.so"
+    assert "no symbols" in subprocess.run(["nm", extension], capture_output=True, text=True).stderr
+    assert ".debug" not in run("readelf", "-S", extension)
+
+
+@pytest.fixture(scope="session")
+def installed(once, dist, python):
+    """The Python of an environment with the wheel, by the README's lines. The last one wraps as OpenSSL does."""
+    def build(folder):
+        wheel, = dist.glob("*.whl")
+        shutil.copy(wheel, folder)
+        (folder / "first").mkdir()
+        (folder / "first/python3").symlink_to(python)
+        lines = re.findall(r"^    ((?:python3 -m venv|env/bin/).*)", (ROOT / "python/README.md").read_text(), re.M)
+        assert len(lines) == 3
+        said = run("bash", "-ec", "\n".join(lines), cwd=folder, env={
+            **os.environ, "PATH": f"{folder}/first:{os.environ['PATH']}", "PIP_NO_INDEX": "1"})
+        assert said.splitlines()[-1] == "b595a1c0afbe7a89ce43807cb3b2ba5737ff5d71d0a35cd7"
+
+    return once("python-installed", build) / "env/bin/python3"
+
+
+def test_version(installed):
+    """The package has the version of the program, and so has its METADATA; the library in it the numbers."""
+    said = run(installed, "-c", """
+import importlib.metadata, keywrap
+number = keywrap._ffi.lib.keywrap_version()
+print(keywrap.__version__, importlib.metadata.version("keywrap"), end=" ")
+print(number >> 16, number >> 8 & 255, number & 255, sep=".")""")
+    version = NAMES["PYTHON"]
+    assert said == f"{version} {version} {version.removesuffix('.dev0')}\n"
+
+
+@pytest.mark.needs("qemu-x86_64")
+def test_processor_without_sse41(installed):
+    """An import raises an error on an old processor. A call would end the process."""
+    call = "import keywrap; print(keywrap.wrap(bytes(range(16)), bytes(range(0, 256, 17))).hex())"
+    ended = subprocess.run([*WITHOUT_SSE41, installed, "-c", call], capture_output=True, text=True)
+    assert ended.returncode != 0
+    assert ended.stderr.splitlines()[-1] == "ImportError: this processor lacks SSSE3 or SSE4.1, which keywrap needs"
+    assert run(*WITH_SSE41, installed, "-c", call).startswith("1fa68b0a8112b447")
+
+
+@pytest.fixture
+def own_tests(installed, keywrap, record_property):
+    """Runs tests in the environment. What they skip is counted as skipped here."""
+    def call(*args, cwd=None, **env):
+        path = f"{installed.parent}:{os.environ['PATH']}"
+        said = run(installed, "-B", "-m", "pytest", "-q", "-rs", "-p", "no:cacheprovider", *args, cwd=cwd,
+                   env={**os.environ, "PATH": path, "KEYWRAP": keywrap.path, **env})
+        for count, reason in re.findall(r"^SKIPPED \[(\d+)\] \S+ (.*)$", said, re.M):
+            for _ in range(int(count)):
+                record_property("skipped", SLOW if reason == SLOW else reason)
+        assert re.search(r"^\d+ (passed|skipped|deselected)", said, re.M), said
+
+    return call
+
+
+@pytest.mark.parametrize("file", sorted(path.name for path in TESTS.glob("test_*.py")))
+def test_own_tests(own_tests, file):
+    own_tests(TESTS / file)
+
+
+@pytest.mark.needs("sanitizers of gcc")
+def test_hostile_objects_under_the_address_sanitizer(own_tests):
+    """The system's allocator has each object in a block of its own, whose ends the sanitizer watches."""
+    sanitizer = run("gcc", "-print-file-name=libasan.so").strip()
+    own_tests(TESTS / "test_objects.py", "-k", "not many_calls and not thread", PYTHONMALLOC="malloc",
+              ASAN_OPTIONS="detect_leaks=0", LD_PRELOAD=sanitizer)
+
+
+@pytest.mark.needs("import cryptography", "import cryptography_vectors", "import pytest_subtests")
+def test_tests_of_pyca(own_tests):
+    """pyca's tests of these calls, from Debian's source package, over keywrap.pyca by their one import."""
+    os.mkdir("source")
+    ended = subprocess.run(["apt-get", "-qq", "source", "--download-only", "python-cryptography"], cwd="source",
+                           capture_output=True, timeout=60)
+    if ended.returncode:
+        pytest.skip("apt-get has no source packages here (deb-src)")
+    packed, = pathlib.Path("source").glob("*.orig.tar.xz") or pathlib.Path("source").glob("*.orig.tar.gz")
+    os.mkdir("pyca")
+    run("tar", "-C", "pyca", "-xf", packed, "--strip-components=1", "--wildcards", "*/tests")
+    file = pathlib.Path("pyca/tests/hazmat/primitives/test_keywrap.py")
+    old, new = "from cryptography.hazmat.primitives import keywrap\n", "from keywrap import pyca as keywrap\n"
+    assert file.read_text().count(old) == 1
+    file.write_text(file.read_text().replace(old, new))
+    own_tests(file.relative_to("pyca"), cwd="pyca")
+
+
+def test_foreign_vectors(installed):
+    """keywrap.vectors over the files of Wycheproof and ACVP. The three keys of 0 bytes are refused, as they allow."""
+    names = ["kw_test", "kwp_test"]
+    for form in "KW", "KWP":
+        names += [f"ACVP-AES-{form}", f"ACVP-AES-{form}.expected"]
+    for name in names:
+        pathlib.Path(name).write_text(published.foreign_text(name))
+    said = run(installed, "-m", "keywrap.vectors", *names)
+    refused = [line for line in said.splitlines() if "refuses it" in line]
+    assert refused == [f"kwp_test: tcId {tcid} SmallKey: {call} refuses it; acceptable" for tcid in (11, 86, 171)
+                       for call in ("unwrap_padded", "wrap_padded")]
+    counts = re.findall(r"^(\S+): \d+ cases: .*, (\d+) wrong$", said, re.M)
+    assert counts == [(name, "0") for name in names if not name.endswith(".expected")]
+
+
+@pytest.mark.needs("import mypy")
+class TestTypes:
+    def test_package(self, python):
+        cache = f"--cache-dir={os.getcwd()}/mypy"
+        run(python, "-m", "mypy", "--strict", cache, "--config-file=", ROOT / "python/src/keywrap")
+
+    def test_caller(self, installed, python):
+        """Over the package as it is installed: it is typed."""
+        pathlib.Path("wrong.py").write_text('import keywrap\nx: int = keywrap.wrap(b"", b"")\n')
+        ended = subprocess.run([python, "-m", "mypy", "--strict", "--cache-dir=/dev/null", "--config-file=",
+                                "--python-executable", installed, "wrong.py"], capture_output=True, text=True)
+        assert ended.returncode == 1 and 'type "bytes"' in ended.stdout, ended.stdout
+
+
+def test_wipe_is_not_left_out(thing):
+    """The source of the extension writes by a volatile pointer, so that no compiler drops the writes."""
+    need("gcc")
+    source = (ROOT / "python/build_ffi.py").read_text()
+    wipe = re.search(r"^static (void wipe\(.*?^\})", source, re.M | re.S)[1]
+    pathlib.Path("wipe.c").write_text(f"""#include <stddef.h>
+#include <stdint.h>
+static {wipe}
+void caller(void) {{ uint8_t key[32]; for (int i = 0; i < 32; i++) ((volatile uint8_t *)key)[i] = 1; wipe(key, 32); }}
+""")
+    run("gcc", "-O3", "-S", "-fno-tree-vectorize", "wipe.c")
+    # One loop or row of writes sets the key, a second one clears it.
+    assert re.search(r"movb\s+\$0, ", pathlib.Path("wipe.s").read_text())
