@@ -35,6 +35,8 @@ $(CRATES): jobs = $(if $(filter 1,$(JOBS)),1,2)
 keywrap keywrap_cli: jobs = $(JOBS)
 $(filter-out key_files key_lines keywrap_cli,$(CRATES)): gently = nice -n 10
 keywrap_io keywrap_args: gently = nice -n 19
+# A second job costs a seventh of a crate's processor time, and these are done before anything waits for them.
+keywrap_io keywrap_args aes_vector: jobs = 1
 
 externs = $(foreach crate,std $(filter-out $(CRATES),$(call named,$@)),--extern $(crate)='$(kit)/rlibs/$(crate).rlib') \
     $(foreach crate,$(call below,$@),--extern $(crate)=../../$(kept)/$(crate).rlib)
