@@ -1,21 +1,21 @@
 -- What is promised of a rewrapping that takes memory, at each result of the call in its buffer.
 use Rattle.std.proofs.Common.{◌≡◌, ℕ, List, length, false, Result, Ok, Err, Vec, IfOk, IsErr, IsErrAnd, inl, inr, refl, sym, subst}
 use Rattle.block_pair.specs.Pair.{AreInverse}
-use Rattle.key_wrap_core.specs.declared.one_rewrap.RewrapForms.{RewrapForms}
-use Rattle.key_wrap_core.specs.declared.one_rewrap.RewrapFault.{RewrapFault}
-use Rattle.key_wrap_core.specs.declared.one_rewrap.RewrapFault.TheVariants.{BadLength, Integrity, KeyNotPlain}
-use Rattle.key_wrap_core.specs.declared.one_rewrap.Rewrapped.{Rewrapped}
-use Rattle.key_wrap_core.specs.declared.one_rewrap.Rewrapped.TheVariants.{Fresh, AlreadyNew}
+use Rattle.key_wrap_core.specs.declared.rewrapping.RewrapForms.{RewrapForms}
+use Rattle.key_wrap_core.specs.declared.rewrapping.RewrapFault.{RewrapFault}
+use Rattle.key_wrap_core.specs.declared.rewrapping.RewrapFault.TheVariants.{BadLength, Integrity, KeyNotPlain}
+use Rattle.key_wrap_core.specs.declared.rewrapping.Rewrapped.{Rewrapped}
+use Rattle.key_wrap_core.specs.declared.rewrapping.Rewrapped.TheVariants.{Fresh, AlreadyNew}
 use Rattle.key_wrap_core.specs.declared.forms.Form.{Form}
 use Rattle.key_wrap_core.specs.declared.agreed_form.AgreedForm.{AgreedForm}
-use Rattle.key_wrap_core.specs.declared.one_rewrap.RewrapForms.TheVariants.{Changed}
+use Rattle.key_wrap_core.specs.declared.rewrapping.RewrapForms.TheVariants.{Changed}
 use Rattle.key_wrap_core.specs.Plain.{default_iv}
 use Rattle.key_wrap_core.specs.Forms.{NoOtherForm, by_default}
-use Rattle.key_wrap_core.specs.OneRewrap.{HasFault, IsOldLength, IsRewrapping, RewrapResults}
+use Rattle.key_wrap_core.specs.Rewrap.{HasFault, IsOldLength, IsRewrapping, RewrapResults}
 use Rattle.key_wrap_core.proofs.PlainForm.{default_free}
 use Rattle.key_wrap_core.proofs.EitherForms.{no_other_form}
-use Rattle.key_wrap_core.proofs.OneRewraps.{stands_old}
-use Rattle.key_wrap_core.proofs.OneResults.{same_answer}
+use Rattle.key_wrap_core.proofs.Rewraps.{stands_old}
+use Rattle.key_wrap_core.proofs.Results.{same_answer}
 use Rattle.key_wrap.specs.declared.faults.UnwrapFault.{UnwrapFault}
 use Rattle.key_wrap.specs.declared.faults.UnwrapFault.TheVariants as unwrap_faults
 use Rattle.key_wrap.specs.Results.{RewrapAnswer, Rewraps, rewrap_fault}

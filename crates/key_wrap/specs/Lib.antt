@@ -9,7 +9,7 @@ pub use Rattle.key_wrap_core.specs.Lengths
 pub use Rattle.key_wrap_core.specs.NoKey
 pub use Rattle.key_wrap_core.specs.Padded
 pub use Rattle.key_wrap_core.specs.Plain
-pub use Rattle.key_wrap_core.specs.OneRewrap
+pub use Rattle.key_wrap_core.specs.Rewrap
 pub use Rattle.key_wrap_core.specs.Steps
 pub use Rattle.key_wrap_core.specs.Tape
 pub use Rattle.key_wrap_core.specs.Words

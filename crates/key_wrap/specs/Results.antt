@@ -3,12 +3,12 @@ use Rattle.std.specs.Prelude.{◌≡◌, ◌↔◌, ◌⊎◌, ℕ, List, length
 use Rattle.key_wrap_core.specs.declared.agreed_form.AgreedForm.{AgreedForm}
 use Rattle.key_wrap_core.specs.declared.faults.InPlaceFault.{InPlaceFault}
 use Rattle.key_wrap_core.specs.declared.faults.InPlaceFault.TheVariants as in_place
-use Rattle.key_wrap_core.specs.declared.one_rewrap.RewrapForms.{RewrapForms}
-use Rattle.key_wrap_core.specs.declared.one_rewrap.RewrapFault.{RewrapFault}
-use Rattle.key_wrap_core.specs.declared.one_rewrap.RewrapFault.TheVariants as rewraps
+use Rattle.key_wrap_core.specs.declared.rewrapping.RewrapForms.{RewrapForms}
+use Rattle.key_wrap_core.specs.declared.rewrapping.RewrapFault.{RewrapFault}
+use Rattle.key_wrap_core.specs.declared.rewrapping.RewrapFault.TheVariants as rewraps
 use Rattle.key_wrap_core.specs.NoKey.{NoKey}
 use Rattle.key_wrap_core.specs.Forms.{StandsAs, IsKeyLengthAs}
-use Rattle.key_wrap_core.specs.OneRewrap.{IsFrom, IsOldLength, IsNoWrapping, IsRewrapped, HasBadKey, back, to_form}
+use Rattle.key_wrap_core.specs.Rewrap.{IsFrom, IsOldLength, IsNoWrapping, IsRewrapped, HasBadKey, back, to_form}
 use Rattle.key_wrap.specs.declared.faults.UnwrapFault.{UnwrapFault}
 use Rattle.key_wrap.specs.declared.faults.UnwrapFault.TheVariants.{BadLength, Integrity, Memory}
 use Rattle.key_wrap.specs.declared.faults.WrapFault.{WrapFault}

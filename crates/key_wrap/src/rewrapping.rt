@@ -1,7 +1,7 @@
 //! Rewrapping from one pair to another, with the form changed or kept, with one allocation.
 
 ghost use Rattle.std.specs.Prelude.{IfOk};
-ghost use Rattle.key_wrap_core.specs.declared.one_rewrap.RewrapForms.{RewrapForms};
+ghost use Rattle.key_wrap_core.specs.declared.rewrapping.RewrapForms.{RewrapForms};
 ghost use Rattle.key_wrap_core.specs.Forms.{NoOtherForm, by_default};
 ghost use Rattle.key_wrap.specs.Results.{Rewraps};
 

@@ -26,8 +26,7 @@ use Rattle.key_wrap_core.proofs.PlainForm.{padded_whole}
 use Rattle.key_wrap_core.proofs.PaddedForm.{aiv_word}
 use Rattle.key_wrap_core.proofs.InPlaceForm.{held_size}
 use Rattle.key_wrap_core.proofs.BothForms.{not_both_forms}
-use Rattle.key_wrap_core.proofs.FoundForms.{stands_found}
-use Rattle.key_wrap_core.proofs.Rewraps.{only_key, only_text}
+use Rattle.key_wrap_core.proofs.FoundForms.{only_key, only_text, stands_found}
 
 -- one key belongs to a text, in one form
 pub one_either : {E D : List ℕ → List ℕ} (iv : ℕ) (form other_form : Form) (key other text : List ℕ) → AreInverse E D → ¬ IsReserved iv

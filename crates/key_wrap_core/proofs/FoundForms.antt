@@ -13,14 +13,29 @@ use Rattle.key_wrap_core.specs.Lengths.{IsPlainKeyLength, IsPlainTextLength, IsP
 use Rattle.key_wrap_core.specs.Padded.{aiv, padded}
 use Rattle.key_wrap_core.specs.PaddedRegisters.{PaddedRegisters, Holds, HoldsLength}
 use Rattle.key_wrap_core.specs.NoKey.{NoKey}
-use Rattle.key_wrap_core.specs.Forms.{StandsAs, with_value}
+use Rattle.key_wrap_core.specs.Forms.{StandsAs, IsTextLengthAs, with_value}
 use Rattle.key_wrap_core.specs.Found.{HoldsIn}
 use Rattle.key_wrap_core.proofs.Spelling.{length-word_bytes, word_front}
 use Rattle.key_wrap_core.proofs.Tapes.{wraps_iv}
-use Rattle.key_wrap_core.proofs.PlainForm.{plain_registers, registers_plain, padded_whole}
-use Rattle.key_wrap_core.proofs.PaddedForm.{many_registers, registers_many, padded_registers, registers_padded, padded_registers_backward}
+use Rattle.key_wrap_core.proofs.FormLengths.{plain_text_legal, padded_text_legal}
+use Rattle.key_wrap_core.proofs.PlainForm.{plain_registers, registers_plain, padded_whole, plain_only_text, plain_only_key}
+use Rattle.key_wrap_core.proofs.PaddedForm.{many_registers, registers_many, padded_registers, registers_padded, padded_registers_backward, padded_only_text, padded_only_key}
 use Rattle.key_wrap_core.proofs.ThreeChecks.{held_word}
 use Rattle.key_wrap_core.proofs.Differences.{xor_same, same_xor}
+
+-- In each form a key has one wrapping, and a wrapping one key and a legal length.
+pub only_text : (form : AgreedForm) (E : List ℕ → List ℕ) (key text other : List ℕ) → StandsAs form E key text → StandsAs form E key other → other ≡ text
+only_text (Plain iv) E key text other h k = plain_only_text h k
+only_text Padded E key text other h k = padded_only_text h k
+
+pub only_key : {E D : List ℕ → List ℕ} (form : AgreedForm) (key other text : List ℕ) → AreInverse E D → StandsAs form E key text → StandsAs form E other text
+    → other ≡ key
+only_key (Plain iv) key other text inv h k = plain_only_key inv h k
+only_key Padded key other text inv h k = padded_only_key inv h k
+
+pub text_legal : {E D : List ℕ → List ℕ} (form : AgreedForm) (key text : List ℕ) → AreInverse E D → StandsAs form E key text → IsTextLengthAs form (length text)
+text_legal (Plain iv) key text inv h = plain_text_legal h
+text_legal Padded key text inv h = padded_text_legal inv h
 
 -- registers that hold a key are wrapped to a text to which the key belongs
 pub found_stands : {E : List ℕ → List ℕ} (form : AgreedForm) (key before text : List ℕ) → HoldsIn form key before → PaddedRegisters E before text

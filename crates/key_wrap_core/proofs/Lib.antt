@@ -16,9 +16,8 @@ pub mod Differences
 pub mod ThreeChecks
 pub mod InPlaceForm
 pub mod Unwrappings
-pub mod Rewraps
 pub mod FoundForms
 pub mod EitherForms
 pub mod KindForms
-pub mod OneRewraps
-pub mod OneResults
+pub mod Rewraps
+pub mod Results

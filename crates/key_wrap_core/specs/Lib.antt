@@ -14,4 +14,4 @@ pub mod InPlace
 pub mod Forms
 pub mod EitherForm
 pub mod Found
-pub mod OneRewrap
+pub mod Rewrap

@@ -56,16 +56,6 @@ pub(crate) fn restore<B: BlockPair>(meter: &mut Meter<B>, found: u64, buf: &mut 
     wrap_found(meter, found, buf);
 }
 
-/// An unwrapping that is restored leaves the buffer as it was, whatever it holds.
-pub fn restored<B: BlockPair>(meter: &mut Meter<B>, buf: &mut [u8])
-    requires { IsPaddedTextLength (length buf.old) }
-    ensures same { buf.new ≡ buf.old }
-    ensures calls { meter.new ≡ counted (2 * block_calls (length buf.old)) meter.old }
-{
-    let found = unwrap_found(meter, buf);
-    restore(meter, found, buf);
-}
-
 // Whether a difference is 0; if it is not, the registers become the text again.
 pub(crate) fn decide_or_restore<B: BlockPair>(
     meter: &mut Meter<B>,

@@ -26,7 +26,7 @@ mod into_with;
 mod kinds;
 mod lengths;
 mod machine;
-mod one_rewrap;
+mod rewrapping;
 mod steps;
 mod unwrap_steps;
 mod unwrapping;
@@ -37,7 +37,6 @@ pub use agreed_form::AgreedForm;
 pub use any_form::{unwrap_any_in_place, unwrap_any_into};
 pub use faults::{BadScratchLength, InPlaceFault, ReservedIv};
 pub use forms::{Form, FoundKey, Kind};
-pub use found::restored;
 pub use in_place::{unwrap_in_place, unwrap_padded_in_place, wrap_in_place, wrap_padded_in_place};
 pub use initial_value::InitialValue;
 pub use into::{unwrap_into, unwrap_padded_into, wrap_into, wrap_padded_into};
@@ -46,7 +45,7 @@ pub use kinds::{kind_into, kind_into_with};
 pub use lengths::{
     MAX_KEY, key_length_ok, padded_length_ok, padded_text_length_ok, text_length_ok,
 };
-pub use one_rewrap::{
+pub use rewrapping::{
     RewrapFault, RewrapForms, Rewrapped, one_result_law, rewrap, rewrap_length_ok,
 };
 pub use unwrap_steps::{

@@ -2,10 +2,10 @@
 use Rattle.std.proofs.Common.{◌≡◌, subst, ℕ, List, refl, ◌∙◌, All, Result, Ok, Err, false, ◌⊎◌, inl, inr, ◌<◌, ◌/◌, arith}
 use lib.IntN.{ℤ}
 use Rattle.std.specs.Prelude.{IsErr}
-use Rattle.key_wrap_core.specs.declared.one_rewrap.Rewrapped.{Rewrapped}
-use Rattle.key_wrap_core.specs.declared.one_rewrap.RewrapFault.{RewrapFault}
-use Rattle.key_wrap_core.specs.declared.one_rewrap.RewrapFault.TheVariants.{BadLength, Integrity, KeyNotPlain}
-use Rattle.key_wrap_core.specs.OneRewrap.{IsRewrapping}
+use Rattle.key_wrap_core.specs.declared.rewrapping.Rewrapped.{Rewrapped}
+use Rattle.key_wrap_core.specs.declared.rewrapping.RewrapFault.{RewrapFault}
+use Rattle.key_wrap_core.specs.declared.rewrapping.RewrapFault.TheVariants.{BadLength, Integrity, KeyNotPlain}
+use Rattle.key_wrap_core.specs.Rewrap.{IsRewrapping}
 use Rattle.keywrap_calls.specs.Status.{IsBadKek, IsBadLength, IsIntegrity, IsKeyNotPlain}
 use Rattle.keywrap_calls.specs.Rewraps.{AreKeks, AreFlags, forms_of, passes_new, rewrap_status, already_of, IsRewrapResult, Rewraps}
 use Rattle.keywrap_calls.specs.Rewraps.{in_place_status, IsLeft, RewrapsInPlace}

@@ -3,14 +3,14 @@ use Rattle.std.specs.Prelude.{◌≡◌, ◌↔◌, ℕ, zero, suc, ℤ, pos, Bo
 use Rattle.fips197.specs.KeyExpansion.{IsKekLength}
 use Rattle.key_wrap_core.specs.declared.forms.Form.{Form}
 use Rattle.key_wrap_core.specs.declared.forms.Form.TheVariants.{Plain, Padded}
-use Rattle.key_wrap_core.specs.declared.one_rewrap.RewrapForms.{RewrapForms}
-use Rattle.key_wrap_core.specs.declared.one_rewrap.RewrapForms.TheVariants.{Kept, Changed}
-use Rattle.key_wrap_core.specs.declared.one_rewrap.Rewrapped.{Rewrapped}
-use Rattle.key_wrap_core.specs.declared.one_rewrap.Rewrapped.TheVariants.{Fresh, AlreadyNew}
-use Rattle.key_wrap_core.specs.declared.one_rewrap.RewrapFault.{RewrapFault}
-use Rattle.key_wrap_core.specs.declared.one_rewrap.RewrapFault.TheVariants.{BadLength, Integrity, KeyNotPlain}
+use Rattle.key_wrap_core.specs.declared.rewrapping.RewrapForms.{RewrapForms}
+use Rattle.key_wrap_core.specs.declared.rewrapping.RewrapForms.TheVariants.{Kept, Changed}
+use Rattle.key_wrap_core.specs.declared.rewrapping.Rewrapped.{Rewrapped}
+use Rattle.key_wrap_core.specs.declared.rewrapping.Rewrapped.TheVariants.{Fresh, AlreadyNew}
+use Rattle.key_wrap_core.specs.declared.rewrapping.RewrapFault.{RewrapFault}
+use Rattle.key_wrap_core.specs.declared.rewrapping.RewrapFault.TheVariants.{BadLength, Integrity, KeyNotPlain}
 use Rattle.key_wrap_core.specs.Forms.{by_default}
-use Rattle.key_wrap_core.specs.OneRewrap.{IsRewrapping}
+use Rattle.key_wrap_core.specs.Rewrap.{IsRewrapping}
 use Rattle.keywrap_calls.specs.Status.{IsDone, IsBadKek, IsBadLength}
 
 -- the flags of the forms: only bits of the first two are set, or only the third one

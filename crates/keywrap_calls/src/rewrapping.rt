@@ -6,7 +6,7 @@ ghost use Rattle.keywrap_calls.specs.Status.{IsBadKek, IsBadLength, IsIntegrity,
 ghost use Rattle.keywrap_calls.specs.Rewraps.{AreForms, AreFlags, forms_of, passes_new};
 ghost use Rattle.keywrap_calls.specs.Rewraps.{Rewraps, RewrapsInPlace, already_of, rewrap_status};
 ghost use Rattle.key_wrap_core.specs.Forms.{by_default};
-ghost use Rattle.key_wrap_core.specs.OneRewrap.{IsRewrapping};
+ghost use Rattle.key_wrap_core.specs.Rewrap.{IsRewrapping};
 
 use crate::status::{BAD_KEK, BAD_LENGTH, DONE, INTEGRITY, KEY_NOT_PLAIN};
 use block_pair::{BlockPair, Meter};

@@ -10,11 +10,11 @@ use Rattle.key_wrap_core.specs.Forms.{Stands, IsTextLength}
 use Rattle.key_wrap_core.specs.Kind.{IsKindWith}
 use Rattle.key_wrap_core.specs.declared.faults.InPlaceFault.{InPlaceFault}
 use Rattle.key_wrap_core.specs.declared.faults.InPlaceFault.TheVariants as in_place
-use Rattle.key_wrap_core.specs.OneRewrap.{IsRefused, IsRewrapping}
-use Rattle.key_wrap_core.specs.declared.one_rewrap.RewrapFault.{RewrapFault}
-use Rattle.key_wrap_core.specs.declared.one_rewrap.RewrapFault.TheVariants as rewraps
-use Rattle.key_wrap_core.specs.declared.one_rewrap.Rewrapped.{Rewrapped}
-use Rattle.key_wrap_core.specs.declared.one_rewrap.Rewrapped.TheVariants.{Fresh, AlreadyNew}
+use Rattle.key_wrap_core.specs.Rewrap.{IsRefused, IsRewrapping}
+use Rattle.key_wrap_core.specs.declared.rewrapping.RewrapFault.{RewrapFault}
+use Rattle.key_wrap_core.specs.declared.rewrapping.RewrapFault.TheVariants as rewraps
+use Rattle.key_wrap_core.specs.declared.rewrapping.Rewrapped.{Rewrapped}
+use Rattle.key_wrap_core.specs.declared.rewrapping.Rewrapped.TheVariants.{Fresh, AlreadyNew}
 use Rattle.key_wrap_core.specs.declared.forms.Form.{Form}
 use Rattle.key_wrap_core.specs.declared.forms.Form.TheVariants.{Padded}
 use Rattle.key_wrap_core.specs.declared.forms.Kind.{Kind}

@@ -2,7 +2,7 @@
 -- writes the new wrapped key.
 use Rattle.std.specs.Prelude.{◌≡◌, ◌↔◌, ℕ, Bool, false, IsTrue, List, Option, Result, Ok, Err}
 use Rattle.fips197.specs.Cipher.{cipher}
-use Rattle.key_wrap_core.specs.declared.one_rewrap.RewrapForms.{RewrapForms}
+use Rattle.key_wrap_core.specs.declared.rewrapping.RewrapForms.{RewrapForms}
 use Rattle.keywrap_cli.specs.Answers.{RewrappingAnswer, RewrapsTo, written}
 use Rattle.keywrap_cli.specs.Engine.{AnswersInput, IsRefusedBefore, UnderKeks, UnderReadKek, WritesOutput}
 use Rattle.keywrap_cli.specs.declared.job.Done.{Done}

@@ -2,7 +2,7 @@
 
 ghost use Rattle.std.specs.Prelude.{◌≡◌, ◌≢◌, ◌↔◌, Some, None, MatchOption};
 ghost use Rattle.std.specs.Prelude.{IfOk, IsOk, IsTrue, false};
-ghost use Rattle.key_wrap_core.specs.OneRewrap.{to_itself};
+ghost use Rattle.key_wrap_core.specs.Rewrap.{to_itself};
 ghost use Rattle.keywrap_cli.specs.EndsWell.{AnswersAllLines, EndsWell, job_in};
 ghost use Rattle.keywrap_cli.specs.Operation.{IsSameTask, MatchOperation};
 ghost use Rattle.keywrap_cli.specs.Operation.{RunsOperation, RunsOperationLines};

@@ -1,6 +1,6 @@
 -- The buffer holds the text, so what the call in it promises of the text is what is promised here.
 use Rattle.std.proofs.Common.{rules, ◌≡◌, ℕ, List, length, Ok, arith, ap, ◌∙◌}
-use Rattle.key_wrap_core.specs.declared.one_rewrap.RewrapFault.TheVariants.{BadLength}
+use Rattle.key_wrap_core.specs.declared.rewrapping.RewrapFault.TheVariants.{BadLength}
 use Rattle.key_wrap_core.proofs.Refusals.{true_or_false}
 use Rattle.key_wrap.proofs.Promises.{written_back}
 use Rattle.key_wrap.proofs.Rewraps.{refused_rewrap, renamed, rewrap_served, with_fault}

@@ -1,7 +1,7 @@
 -- Only a padded key may have a length that is not legal in the new form.
 use Rattle.std.proofs.Common.{rules}
-use Rattle.key_wrap_core.proofs.OneRewraps.{fits_plain, fits_not}
-use Rattle.key_wrap_core.proofs.one_rewrap.misfit.Goals as goal
+use Rattle.key_wrap_core.proofs.Rewraps.{fits_plain, fits_not}
+use Rattle.key_wrap_core.proofs.rewrapping.misfit.Goals as goal
 
 pub returns-in-Padded-Plain-clause-passes : goal.returns-in-Padded-Plain-clause-passes
 returns-in-Padded-Plain-clause-passes c = rw (c.in-Changed.is, c.in-Padded-Plain.is-0, c.in-Padded-Plain.is-1, c.given_length.ensures)

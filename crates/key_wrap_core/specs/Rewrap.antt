@@ -2,12 +2,12 @@
 use Rattle.std.specs.Prelude.{◌≡◌, ◌↔◌, Bool, true, ℕ, List, length, Result, Ok, Err}
 use Rattle.key_wrap_core.specs.declared.forms.Form.{Form}
 use Rattle.key_wrap_core.specs.declared.agreed_form.AgreedForm.{AgreedForm}
-use Rattle.key_wrap_core.specs.declared.one_rewrap.RewrapForms.{RewrapForms}
-use Rattle.key_wrap_core.specs.declared.one_rewrap.RewrapForms.TheVariants.{Kept, Changed}
-use Rattle.key_wrap_core.specs.declared.one_rewrap.Rewrapped.{Rewrapped}
-use Rattle.key_wrap_core.specs.declared.one_rewrap.Rewrapped.TheVariants.{Fresh, AlreadyNew}
-use Rattle.key_wrap_core.specs.declared.one_rewrap.RewrapFault.{RewrapFault}
-use Rattle.key_wrap_core.specs.declared.one_rewrap.RewrapFault.TheVariants.{BadLength, Integrity, KeyNotPlain}
+use Rattle.key_wrap_core.specs.declared.rewrapping.RewrapForms.{RewrapForms}
+use Rattle.key_wrap_core.specs.declared.rewrapping.RewrapForms.TheVariants.{Kept, Changed}
+use Rattle.key_wrap_core.specs.declared.rewrapping.Rewrapped.{Rewrapped}
+use Rattle.key_wrap_core.specs.declared.rewrapping.Rewrapped.TheVariants.{Fresh, AlreadyNew}
+use Rattle.key_wrap_core.specs.declared.rewrapping.RewrapFault.{RewrapFault}
+use Rattle.key_wrap_core.specs.declared.rewrapping.RewrapFault.TheVariants.{BadLength, Integrity, KeyNotPlain}
 use Rattle.key_wrap_core.specs.Forms.{StandsAs, IsKeyLengthAs, IsTextLengthAs, by_default}
 use Rattle.key_wrap_core.specs.PaddedRegisters.{PaddedRegisters}
 use Rattle.key_wrap_core.specs.Found.{HoldsIn}

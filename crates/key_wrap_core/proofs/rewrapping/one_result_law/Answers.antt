@@ -1,5 +1,5 @@
-use Rattle.key_wrap_core.proofs.OneResults.{one_result}
-use Rattle.key_wrap_core.proofs.one_rewrap.one_result_law.Goals as goal
+use Rattle.key_wrap_core.proofs.Results.{one_result}
+use Rattle.key_wrap_core.proofs.rewrapping.one_result_law.Goals as goal
 
 pub returns : goal.returns
 returns g c = λ pass_new forms text after other result other_result h k.

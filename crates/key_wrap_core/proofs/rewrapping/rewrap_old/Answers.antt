@@ -4,11 +4,11 @@ use Rattle.key_wrap_core.specs.declared.agreed_form.AgreedForm.{AgreedForm}
 use Rattle.key_wrap_core.specs.Words.{word_bytes}
 use Rattle.key_wrap_core.specs.PaddedRegisters.{PaddedRegisters}
 use Rattle.key_wrap_core.specs.Forms.{StandsAs, IsKeyLengthAs}
-use Rattle.key_wrap_core.specs.OneRewrap.{to_form, to_itself}
+use Rattle.key_wrap_core.specs.Rewrap.{to_form, to_itself}
 use Rattle.key_wrap_core.proofs.Refusals.{true_or_false}
 use Rattle.key_wrap_core.proofs.FoundForms.{found_stands, behind_first}
-use Rattle.key_wrap_core.proofs.OneRewraps.{old_of, wrapping_of, from_itself}
-use Rattle.key_wrap_core.proofs.one_rewrap.rewrap_old.Goals as goal
+use Rattle.key_wrap_core.proofs.Rewraps.{old_of, wrapping_of, from_itself}
+use Rattle.key_wrap_core.proofs.rewrapping.rewrap_old.Goals as goal
 
 pub returns-then-not-decide_or_restore-clause-rewraps : goal.returns-then-not-decide_or_restore-clause-rewraps
 returns-then-not-decide_or_restore-clause-rewraps g c =

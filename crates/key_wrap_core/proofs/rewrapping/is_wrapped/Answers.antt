@@ -2,8 +2,8 @@
 use Rattle.std.proofs.Common.{◌++◌, drop, refl}
 use Rattle.key_wrap_core.specs.Words.{word_bytes}
 use Rattle.key_wrap_core.specs.PaddedRegisters.{PaddedRegisters}
-use Rattle.key_wrap_core.proofs.OneRewraps.{old_of, none_old}
-use Rattle.key_wrap_core.proofs.one_rewrap.is_wrapped.Goals as goal
+use Rattle.key_wrap_core.proofs.Rewraps.{old_of, none_old}
+use Rattle.key_wrap_core.proofs.rewrapping.is_wrapped.Goals as goal
 
 pub returns-in-Ok-clause-is : goal.returns-in-Ok-clause-is
 returns-in-Ok-clause-is g c = λ yes.

@@ -1,9 +1,9 @@
 -- What was refused is what it was, so the new pair unwraps the text.
 use Rattle.std.proofs.Common.{rules, ◌≡◌, ℕ, List, refl, ◌∙◌}
-use Rattle.key_wrap_core.specs.declared.one_rewrap.RewrapFault.TheVariants.{KeyNotPlain}
-use Rattle.key_wrap_core.proofs.OneRewraps.{no_old}
-use Rattle.key_wrap_core.proofs.OneResults.{results_of}
-use Rattle.key_wrap_core.proofs.one_rewrap.rewrap.Goals as goal
+use Rattle.key_wrap_core.specs.declared.rewrapping.RewrapFault.TheVariants.{KeyNotPlain}
+use Rattle.key_wrap_core.proofs.Rewraps.{no_old}
+use Rattle.key_wrap_core.proofs.Results.{results_of}
+use Rattle.key_wrap_core.proofs.rewrapping.rewrap.Goals as goal
 
 pub returns-then-is_wrapped-clause-rewraps : goal.returns-then-is_wrapped-clause-rewraps
 returns-then-is_wrapped-clause-rewraps g c =

@@ -3,15 +3,15 @@ use Rattle.std.proofs.Common.{◌≡◌, Bool, ℕ, List, length, Result, Ok, Er
 use Rattle.block_pair.specs.Pair.{AreInverse}
 use Rattle.key_wrap_core.specs.declared.agreed_form.AgreedForm.{AgreedForm}
 use Rattle.key_wrap_core.specs.declared.agreed_form.AgreedForm.TheVariants as agreed
-use Rattle.key_wrap_core.specs.declared.one_rewrap.RewrapForms.{RewrapForms}
-use Rattle.key_wrap_core.specs.declared.one_rewrap.RewrapForms.TheVariants.{Kept, Changed}
-use Rattle.key_wrap_core.specs.declared.one_rewrap.Rewrapped.{Rewrapped}
-use Rattle.key_wrap_core.specs.declared.one_rewrap.Rewrapped.TheVariants.{Fresh, AlreadyNew}
-use Rattle.key_wrap_core.specs.declared.one_rewrap.RewrapFault.{RewrapFault}
-use Rattle.key_wrap_core.specs.declared.one_rewrap.RewrapFault.TheVariants.{BadLength, Integrity, KeyNotPlain}
+use Rattle.key_wrap_core.specs.declared.rewrapping.RewrapForms.{RewrapForms}
+use Rattle.key_wrap_core.specs.declared.rewrapping.RewrapForms.TheVariants.{Kept, Changed}
+use Rattle.key_wrap_core.specs.declared.rewrapping.Rewrapped.{Rewrapped}
+use Rattle.key_wrap_core.specs.declared.rewrapping.Rewrapped.TheVariants.{Fresh, AlreadyNew}
+use Rattle.key_wrap_core.specs.declared.rewrapping.RewrapFault.{RewrapFault}
+use Rattle.key_wrap_core.specs.declared.rewrapping.RewrapFault.TheVariants.{BadLength, Integrity, KeyNotPlain}
 use Rattle.key_wrap_core.specs.Forms.{StandsAs, IsKeyLengthAs}
-use Rattle.key_wrap_core.specs.OneRewrap.{IsFrom, IsRewrapped, IsRewrapping, IsNew, IsRefused, HasFault, HasBadKey, HasGoodKey, RewrapResults, back, to_form}
-use Rattle.key_wrap_core.proofs.OneRewraps.{stands_old}
+use Rattle.key_wrap_core.specs.Rewrap.{IsFrom, IsRewrapped, IsRewrapping, IsNew, IsRefused, HasFault, HasBadKey, HasGoodKey, RewrapResults, back, to_form}
+use Rattle.key_wrap_core.proofs.Rewraps.{stands_old}
 
 key_legal : (F : List ℕ → List ℕ) (form : AgreedForm) (key text : List ℕ) → StandsAs form F key text → IsKeyLengthAs form (length key)
 key_legal F (agreed.Plain iv) key text h = h.legal

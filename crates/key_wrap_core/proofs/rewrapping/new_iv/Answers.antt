@@ -2,8 +2,8 @@
 use Rattle.std.proofs.Common.{rules}
 use Rattle.block_pair.specs.Words.{IsWord}
 use Rattle.key_wrap_core.proofs.FoundForms.{to_padded, to_value}
-use Rattle.key_wrap_core.proofs.OneRewraps.{holds_plain}
-use Rattle.key_wrap_core.proofs.one_rewrap.new_iv.Goals as goal
+use Rattle.key_wrap_core.proofs.Rewraps.{holds_plain}
+use Rattle.key_wrap_core.proofs.rewrapping.new_iv.Goals as goal
 
 pub returns-in-Plain-Padded : goal.returns-in-Plain-Padded
 returns-in-Plain-Padded c = rw (c.in-Changed.is, c.in-Plain-Padded.is-0, c.in-Plain-Padded.is-1, c.initial_value.ensures) (λ form from key holds fits.

@@ -4,10 +4,10 @@ use Rattle.key_wrap_core.specs.declared.agreed_form.AgreedForm.{AgreedForm}
 use Rattle.key_wrap_core.specs.Words.{word_bytes}
 use Rattle.key_wrap_core.specs.NoKey.{NoKey}
 use Rattle.key_wrap_core.specs.Found.{HoldsIn}
-use Rattle.key_wrap_core.specs.OneRewrap.{IsFrom}
+use Rattle.key_wrap_core.specs.Rewrap.{IsFrom}
 use Rattle.key_wrap_core.proofs.Refusals.{true_or_false}
 use Rattle.key_wrap_core.proofs.FoundForms.{stands_found, behind_first}
-use Rattle.key_wrap_core.proofs.one_rewrap.find.Goals as goal
+use Rattle.key_wrap_core.proofs.rewrapping.find.Goals as goal
 
 pub returns-then-not-decide_or_restore-clause-refused : goal.returns-then-not-decide_or_restore-clause-refused
 returns-then-not-decide_or_restore-clause-refused g c =

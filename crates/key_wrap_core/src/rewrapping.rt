@@ -10,8 +10,8 @@ ghost use Rattle.key_wrap_core.specs.Calls.{block_calls};
 ghost use Rattle.key_wrap_core.specs.Forms.{IsKeyLengthAs};
 ghost use Rattle.key_wrap_core.specs.Found.{HoldsIn};
 ghost use Rattle.key_wrap_core.specs.NoKey.{NoKey};
-ghost use Rattle.key_wrap_core.specs.OneRewrap.{IsFrom, IsOldLength, IsRewrapping, IsRewrapped, IsOld, RewrapResults};
-ghost use Rattle.key_wrap_core.specs.OneRewrap.{IsFound, HasNone, RewrapsOld, to_form, to_itself, IsWrapping, IsNoWrapping};
+ghost use Rattle.key_wrap_core.specs.Rewrap.{IsFrom, IsOldLength, IsRewrapping, IsRewrapped, IsOld, RewrapResults};
+ghost use Rattle.key_wrap_core.specs.Rewrap.{IsFound, HasNone, RewrapsOld, to_form, to_itself, IsWrapping, IsNoWrapping};
 
 use crate::agreed_form::AgreedForm;
 use crate::checks::{given_length, initial_value, is_zero};
