@@ -102,6 +102,50 @@ KEYWRAP_CALL
 int32_t keywrap_end_unwrap_padded(uint8_t *registers, size_t len, uint64_t left, uint8_t *block,
                                   size_t *key_len);
 
+/* The calls for many keys of one length make the same step of each, for an AES that works on many
+ * blocks side by side. All have the same number of steps done or left.
+ *   texts     wrapped keys of text_len bytes, one behind the other: 8 bytes, and the registers
+ *   text_len  a multiple of 8 from 24 to KEYWRAP_MAX_TEXT
+ *   blocks    16 bytes for each text
+ * A refusal changes nothing. If texts_len or blocks_len is not that of as many texts, a call returns
+ * KEYWRAP_BAD_LENGTH.
+ *
+ * keywrap_begin_wrap_many begins plain wrappings under the 8 bytes at iv. keywrap_step_wrap_many
+ * makes a step, and keywrap_end_wrap_many writes the first 8 bytes of each text, in either form. To
+ * make the steps of padded wrappings of two words or more, begin each by itself. */
+KEYWRAP_CALL
+int32_t keywrap_begin_wrap_many(const uint8_t *iv, size_t iv_len, const uint8_t *texts,
+                                size_t texts_len, size_t text_len, uint64_t *done, uint8_t *blocks,
+                                size_t blocks_len);
+
+KEYWRAP_CALL
+int32_t keywrap_step_wrap_many(uint8_t *texts, size_t texts_len, size_t text_len, uint64_t *done,
+                               uint8_t *blocks, size_t blocks_len);
+
+KEYWRAP_CALL
+int32_t keywrap_end_wrap_many(uint8_t *texts, size_t texts_len, size_t text_len, uint64_t done,
+                              const uint8_t *blocks, size_t blocks_len);
+
+/* keywrap_begin_unwrap_many begins to unwrap, and keywrap_step_unwrap_many undoes a step.
+ * keywrap_end_unwrap_many checks the plain form of each text with the 8 bytes at iv. Padded texts
+ * are ended each by itself.
+ *   statuses    one byte for each text, of statuses_len: KEYWRAP_OK, and its registers are the key,
+ *               or KEYWRAP_INTEGRITY, and they are all zeros
+ *   KEYWRAP_OK  the statuses are written, and the blocks are all zeros
+ * The first 8 bytes of each text stay as they are. */
+KEYWRAP_CALL
+int32_t keywrap_begin_unwrap_many(const uint8_t *texts, size_t texts_len, size_t text_len,
+                                  uint64_t *left, uint8_t *blocks, size_t blocks_len);
+
+KEYWRAP_CALL
+int32_t keywrap_step_unwrap_many(uint8_t *texts, size_t texts_len, size_t text_len, uint64_t *left,
+                                 uint8_t *blocks, size_t blocks_len);
+
+KEYWRAP_CALL
+int32_t keywrap_end_unwrap_many(const uint8_t *iv, size_t iv_len, uint8_t *texts, size_t texts_len,
+                                size_t text_len, uint64_t left, uint8_t *blocks, size_t blocks_len,
+                                uint8_t *statuses, size_t statuses_len);
+
 #ifdef __cplusplus
 }
 #endif

@@ -4,6 +4,7 @@
 
 mod any_form;
 mod kinds;
+mod many_steps;
 mod padded;
 mod padded_in_place;
 mod plain;

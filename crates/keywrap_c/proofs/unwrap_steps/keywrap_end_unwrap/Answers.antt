@@ -1,5 +1,5 @@
 -- What the call of key_wrap_core ensures, said of the bytes of the initial value.
-use Rattle.std.proofs.Common.{rules, ◌≡◌, ℕ, List, subst}
+use Rattle.std.proofs.Common.{◌≡◌, ℕ, subst}
 use Rattle.key_wrap_core.specs.Plain.{Plain}
 use Rattle.key_wrap_core.specs.Padded.{Padded}
 use Rattle.key_wrap_core.specs.NoKey.{NoKey}

@@ -1,5 +1,4 @@
 -- What the call of key_wrap_core ensures.
-use Rattle.std.proofs.Common.{rules, ◌≡◌, ℕ, List}
 use Rattle.keywrap_c.proofs.unwrap_steps.keywrap_end_unwrap_padded.Goals as goal
 
 pub returns-in-Ok-clause-answer : goal.returns-in-Ok-clause-answer

@@ -1,0 +1,15 @@
+//! The steps of many wrappings and unwrappings at once, of as many bytes each: for an AES outside
+//! the program that works on many blocks side by side.
+//!
+//! The texts stand behind each other in one buffer, and each has its block of 16 bytes in another.
+//! A text is 8 bytes and the registers. The calls are those of `key_wrap_core` for one text, made
+//! once for all.
+#![tactic(auto)]
+
+mod lane_turns;
+mod lanes;
+mod unwrap_many;
+mod wrap_many;
+
+pub use unwrap_many::{begin_unwrap_many, end_unwrap_many, step_unwrap_many};
+pub use wrap_many::{begin_wrap_many, end_wrap_many, step_wrap_many};
