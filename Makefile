@@ -314,8 +314,10 @@ bench: build library library-hardware provider wheel portable
 	bench/js '$(JS)'
 	$(PYTHON) bench/rotation '$(PROGRAM)' '$(wheel)'
 
-# The drawings of docs/pictures, the map of the crates in docs/ARCHITECTURE.md and the tables of docs/TRUST.md.
+# The completions, the drawings of docs/pictures, the map of the crates in docs/ARCHITECTURE.md and the tables of
+# docs/TRUST.md.
 pictures:
+	scripts/facts.py
 	scripts/pictures.py
 	scripts/trust.py
 

@@ -65,9 +65,9 @@ class TestRepeatedFacts:
         for name in "python/pyproject.toml", "python/setup.py", "js/package.json.in":
             assert not re.search(r'(?im)^ *"?licen[cs]e|License ::', text_of(name)), name
 
-    @pytest.mark.parametrize("script", ["pictures.py", "trust.py"])
+    @pytest.mark.parametrize("script", ["facts.py", "pictures.py", "trust.py"])
     def test_what_scripts_make(self, script):
-        """The pictures and the map of the crates, and the definitions that a reader has to read."""
+        """The completions, the pictures and the map of the crates, and the definitions that a reader has to read."""
         ended = subprocess.run([ROOT / "scripts" / script, "--check"], capture_output=True, text=True)
         assert (ended.returncode, ended.stdout) == (0, "")
 
