@@ -17,10 +17,20 @@ int32_t rewrap(const uint8_t *old_kek, size_t old_kek_len, const uint8_t *new_ke
                uint32_t flags);
 int64_t kind(const uint8_t *kek, size_t kek_len, const uint8_t *wrapped, size_t wrapped_len,
              uint8_t *scratch, size_t room);
+int32_t wrap_many(const uint8_t *kek, size_t kek_len, uint8_t *texts, size_t key_len, size_t count,
+                  uint32_t padded, uint8_t *statuses);
+int32_t unwrap_many(const uint8_t *kek, size_t kek_len, uint8_t *texts, size_t text_len,
+                    size_t count, uint32_t padded, size_t *key_lens, uint8_t *statuses);
+int32_t rewrap_many(const uint8_t *old_kek, size_t old_kek_len, const uint8_t *new_kek,
+                    size_t new_kek_len, uint8_t *texts, size_t text_len, size_t count,
+                    uint32_t flags, uint8_t *statuses);
+int32_t check_many(const uint8_t *kek, size_t kek_len, const uint8_t *texts, size_t text_len,
+                   size_t count, uint8_t *scratch, uint8_t *forms);
 void wipe(uint8_t *bytes, size_t len);
 int cpu_supported(void);
 static const char *const VERSION;
 #define NO_MEMORY ...
+#define ALREADY ...
 """
 
 SOURCE = """
@@ -64,6 +74,67 @@ static int32_t rewrap(const uint8_t *old_kek, size_t old_kek_len, const uint8_t 
     memcpy(result, wrapped, wrapped_len);
     return keywrap_rewrap(old_kek, old_kek_len, new_kek, new_kek_len, result, wrapped_len, flags,
                           &already);
+}
+
+/* The status of a slot that KEYWRAP_PASS_NEW left as it is; no refusal has this number. */
+#define ALREADY 1
+
+/* Whether a status is that of the whole call. */
+static int of_call(int32_t status) {
+    return status != KEYWRAP_OK && status != KEYWRAP_INTEGRITY && status != KEYWRAP_KEY_NOT_PLAIN;
+}
+
+static int32_t wrap_many(const uint8_t *kek, size_t kek_len, uint8_t *texts, size_t key_len,
+                         size_t count, uint32_t padded, uint8_t *statuses) {
+    size_t len = padded ? KEYWRAP_PADDED_TEXT_LEN(key_len) : KEYWRAP_TEXT_LEN(key_len);
+    for (size_t i = 0; i < count; i++) {
+        int32_t status =
+            padded ? keywrap_wrap_padded_in_place(kek, kek_len, texts + i * len, len, key_len)
+                   : keywrap_wrap_in_place(kek, kek_len, texts + i * len, len);
+        if (of_call(status)) return status;
+        statuses[i] = (uint8_t)status;
+    }
+    return KEYWRAP_OK;
+}
+
+static int32_t unwrap_many(const uint8_t *kek, size_t kek_len, uint8_t *texts, size_t text_len,
+                           size_t count, uint32_t padded, size_t *key_lens, uint8_t *statuses) {
+    for (size_t i = 0; i < count; i++) {
+        uint8_t *text = texts + i * text_len;
+        key_lens[i] = text_len - 8;
+        int32_t status =
+            padded ? keywrap_unwrap_padded_in_place(kek, kek_len, text, text_len, &key_lens[i])
+                   : keywrap_unwrap_in_place(kek, kek_len, text, text_len);
+        if (of_call(status)) return status;
+        statuses[i] = (uint8_t)status;
+    }
+    return KEYWRAP_OK;
+}
+
+static int32_t rewrap_many(const uint8_t *old_kek, size_t old_kek_len, const uint8_t *new_kek,
+                           size_t new_kek_len, uint8_t *texts, size_t text_len, size_t count,
+                           uint32_t flags, uint8_t *statuses) {
+    for (size_t i = 0; i < count; i++) {
+        uint32_t already;
+        int32_t status = keywrap_rewrap(old_kek, old_kek_len, new_kek, new_kek_len,
+                                        texts + i * text_len, text_len, flags, &already);
+        if (of_call(status)) return status;
+        statuses[i] = already ? ALREADY : (uint8_t)status;
+    }
+    return KEYWRAP_OK;
+}
+
+static int32_t check_many(const uint8_t *kek, size_t kek_len, const uint8_t *texts, size_t text_len,
+                          size_t count, uint8_t *scratch, uint8_t *forms) {
+    for (size_t i = 0; i < count; i++) {
+        uint32_t padded;
+        size_t key_len;
+        int32_t status = keywrap_kind(kek, kek_len, texts + i * text_len, text_len, scratch,
+                                      KEYWRAP_ROOM(text_len), &padded, &key_len);
+        if (of_call(status)) return status;
+        forms[i] = status == KEYWRAP_OK ? (uint8_t)(1 + padded) : 0;
+    }
+    return KEYWRAP_OK;
 }
 
 /* By volatile writes, which no compiler leaves out. */

@@ -11,6 +11,13 @@ KEK = bytes(range(16))
 NEW_KEK = bytes(range(100, 132))
 # Slow tests run only with KEYWRAP_ALL=1, which `make gate` sets.
 slow = pytest.mark.skipif(os.environ.get("KEYWRAP_ALL") != "1", reason="left to KEYWRAP_ALL=1")
+# How a program that a test starts does something before each key that it rewraps.
+ONE_BY_ONE = f"""
+import sys
+sys.path.insert(0, {os.path.dirname(os.path.abspath(__file__))!r})
+from keywrap import _many
+from one_by_one import before_each_key
+"""
 SECRETS = (KEK.hex().encode(), NEW_KEK.hex().encode(), KEK, NEW_KEK)
 
 

@@ -18,23 +18,29 @@ import pytest
 
 pytest.importorskip("cryptography", reason="no cryptography (apt-get install python3-cryptography)")
 
-from rotation_help import KEK, NEW_KEK, left_over, lines_under, make_keys, secrets_in, set_keks, wrapped_under  # noqa: E402
+from rotation_help import (  # noqa: E402
+    KEK,
+    NEW_KEK,
+    ONE_BY_ONE,
+    left_over,
+    lines_under,
+    make_keys,
+    secrets_in,
+    set_keks,
+    wrapped_under,
+)
 
 import keywrap  # noqa: E402
 from keywrap.rotation import command, jobs, report  # noqa: E402
 
 FILES = 8
 KEYS = [make_keys(30, seed) for seed in range(FILES)]
-SLOW = """
+SLOW = ONE_BY_ONE + """
 import time
-import keywrap
-real = keywrap.rewrap
-def rewrap(*words, **more):
+def act(text):
     time.sleep(0.01)
-    return real(*words, **more)
-keywrap.rewrap = rewrap
+_many.rewrap_slots = before_each_key(act)
 from keywrap.rotate import main
-import sys
 sys.exit(main())
 """
 
@@ -750,7 +756,7 @@ def test_killed_workers_are_replaced(store):
 
 
 def test_a_file_that_kills_its_worker_is_unanswered(store):
-    program = "import os" + SLOW.replace("time.sleep(0.01)", "words[2] != bytes(24) or os.kill(os.getpid(), 9)")
+    program = "import os" + SLOW.replace("time.sleep(0.01)", "text != bytes(24) or os.kill(os.getpid(), 9)")
     (store / "5.hex").write_bytes(b"00" * 24 + b"\n")
     running = started(program, "--report", "report", *names(store))
     lines = running.communicate(timeout=240)[1].decode().splitlines()
@@ -763,7 +769,7 @@ def test_a_file_that_kills_its_worker_is_unanswered(store):
 
 
 def test_a_worker_that_hangs_is_given_up(store):
-    program = SLOW.replace("time.sleep(0.01)", "words[2] != bytes(24) or time.sleep(1000)")
+    program = SLOW.replace("time.sleep(0.01)", "text != bytes(24) or time.sleep(1000)")
     (store / "5.hex").write_bytes(b"00" * 24 + b"\n")
     running = started(program, "--timeout", "2", *names(store))
     lines = running.communicate(timeout=240)[1].decode().splitlines()
@@ -782,7 +788,7 @@ def test_a_slow_file_is_not_given_up(store):
 
 
 def test_a_defect_is_one_unanswered_file(store):
-    program = SLOW.replace("time.sleep(0.01)", "if words[2] == bytes(24): raise ZeroDivisionError('a secret')")
+    program = SLOW.replace("time.sleep(0.01)", "if text == bytes(24): raise ZeroDivisionError('a secret')")
     (store / "5.hex").write_bytes(b"00" * 24 + b"\n")
     running = started(program, *names(store))
     lines = running.communicate(timeout=240)[1].decode().splitlines()

@@ -22,6 +22,7 @@ from rotation_help import (  # noqa: E402
     left_over,
     lines_under,
     make_keys,
+    ONE_BY_ONE,
     secrets_in,
     set_keks,
     slow,
@@ -30,15 +31,9 @@ from rotation_help import (  # noqa: E402
 
 FILES = 8
 KEYS = [make_keys(60, seed) for seed in range(FILES)]
-SLOW = """
+SLOW = ONE_BY_ONE + """
 import os, time
-import keywrap
-def slowed(real):
-    def rewrap(*words, **more):
-        time.sleep(float(os.environ["DELAY"]))
-        return real(*words, **more)
-    return rewrap
-keywrap.rewrap = slowed(keywrap.rewrap)
+_many.rewrap_slots = before_each_key(lambda text: time.sleep(float(os.environ["DELAY"])))
 """
 
 

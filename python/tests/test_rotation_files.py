@@ -11,16 +11,18 @@ import pytest
 
 pytest.importorskip("cryptography", reason="no cryptography (apt-get install python3-cryptography)")
 
+from one_by_one import before_each_key  # noqa: E402
 from rotation_help import KEK, NEW_KEK, left_over, lines_under, make_keys, seen, set_keks, wrapped_under  # noqa: E402
 
-import keywrap  # noqa: E402
-from keywrap import rotate  # noqa: E402
-from keywrap.rotation import engine, keys, lines, replacing  # noqa: E402
-from keywrap.rotation.fields import CsvColumn, JsonMember  # noqa: E402
+from keywrap import _many, rotate  # noqa: E402
+from keywrap.rotation import engine, lines, replacing  # noqa: E402
+from keywrap.rotation.csv_column import CsvColumn  # noqa: E402
 from keywrap.rotation.files import Files  # noqa: E402
+from keywrap.rotation.json_member import JsonMember  # noqa: E402
 from keywrap.rotation.lines import Lines, OneKey  # noqa: E402
 
 KEYS = make_keys(12)
+EQUAL = [key[:16] + key[:16] for key in KEYS]
 OLD, NEW = lines_under(KEK, KEYS), lines_under(NEW_KEK, KEYS)
 FOREIGN = wrapped_under(bytes(32), KEYS[1]).hex().encode() + b"\n"
 
@@ -43,14 +45,13 @@ def meanwhile(monkeypatch):
     """meanwhile(change, times, at): runs the change while a file is rotated: before `times` keys, from key `at` on."""
 
     def install(change, times=1, at=1):
-        real, calls = keywrap.rewrap, iter(range(1, 1000))
+        calls = iter(range(1, 1000))
 
-        def rewrap(*words, **more):
+        def act(text):
             if at <= next(calls) < at + times:
                 change()
-            return real(*words, **more)
 
-        monkeypatch.setattr(keywrap, "rewrap", rewrap)
+        monkeypatch.setattr(_many, "rewrap_slots", before_each_key(act))
 
     return install
 
@@ -124,7 +125,7 @@ def test_a_restart_finds_the_first_old_key(file, pair, monkeypatch, new, block):
 
 def test_a_new_file_is_only_checked(file, pair, monkeypatch):
     file.write_bytes(NEW)
-    monkeypatch.setattr(keywrap, "rewrap", None)
+    monkeypatch.setattr(_many, "rewrap_slots", None)
     assert rotated(file, pair)["passed"] == 12
 
 
@@ -199,9 +200,15 @@ def test_a_long_line_is_refused_before_it_is_read_whole(file, pair, format):
 
 
 @pytest.mark.parametrize("wrong", [0, 11])
-def test_replaces_nothing_before_its_check(file, pair, monkeypatch, wrong):
-    under = [wrapped_under(NEW_KEK, key) for number, key in enumerate(KEYS) if number != wrong]
-    monkeypatch.setattr(keys, "is_under", lambda kek, wrapped: wrapped in under)
+@pytest.mark.parametrize("plain", [KEYS, EQUAL], ids=["of both forms", "of one length"])
+def test_replaces_nothing_before_its_check(file, pair, monkeypatch, wrong, plain):
+    file.write_bytes(lines_under(KEK, plain))
+    under = [wrapped_under(NEW_KEK, key) for number, key in enumerate(plain) if number != wrong]
+
+    def check_slots(kek, texts, length):
+        return bytes(bytes(texts[at : at + length]) in under for at in range(0, len(texts), length))
+
+    monkeypatch.setattr(_many, "check_slots", check_slots)
     assert refusal(file, pair) == "a rewrapped key is not under the new KEK"
 
 

@@ -20,21 +20,20 @@ pytest.importorskip("cryptography", reason="no cryptography (apt-get install pyt
 
 from cryptography.hazmat.primitives import keywrap as pyca  # noqa: E402
 from postgresql_server import Server, server_programs  # noqa: E402
-from rotation_help import KEK, NEW_KEK, left_over, set_keks, wrapped_under  # noqa: E402
+from rotation_help import KEK, NEW_KEK, ONE_BY_ONE, left_over, set_keks, wrapped_under  # noqa: E402
 
 ROUNDS = int(os.environ.get("KEYWRAP_KILLS", "2"))
 PLACES, FILES = 120, 8
-SLOWLY = """
-import random, sys, time
-import keywrap
-from keywrap.rotation import postgresql, replacing, rows, sqlite
-rows.ROWS = sqlite.ROWS = postgresql.ROWS = 10
+SLOWLY = ONE_BY_ONE + """
+import random, time
+from keywrap.rotation import postgresql_queue, replacing, rows, sqlite
+rows.ROWS = sqlite.ROWS = postgresql_queue.ROWS = 10
 def slowed(real, seconds):
     def slow(*words, **more):
         time.sleep(random.random() * seconds)
         return real(*words, **more)
     return slow
-keywrap.rewrap = slowed(keywrap.rewrap, 0.004)
+_many.rewrap_slots = before_each_key(lambda text: time.sleep(random.random() * 0.004))
 replacing.Successor._give_name = slowed(replacing.Successor._give_name, 0.01)  # right before the exchange
 from keywrap.rotate import main
 sys.exit(main())

@@ -16,15 +16,15 @@ pytest.importorskip("cryptography", reason="no cryptography (apt-get install pyt
 pytest.importorskip("psycopg", reason="no psycopg (apt-get install python3-psycopg)")
 
 from postgresql_server import Server, server_programs  # noqa: E402
-from rotation_help import KEK, NEW_KEK, make_keys, secrets_in, set_keks, slow, wrapped_under  # noqa: E402
+from rotation_help import KEK, NEW_KEK, ONE_BY_ONE, make_keys, secrets_in, set_keks, slow, wrapped_under  # noqa: E402
 
 if not server_programs():
     pytest.skip("no PostgreSQL server (apt-get install postgresql)", allow_module_level=True)
 
 SMALL = """
 import sys
-from keywrap.rotation import postgresql
-postgresql.ROWS = {rows}
+from keywrap.rotation import postgresql_queue
+postgresql_queue.ROWS = {rows}
 from keywrap.rotate import main
 sys.exit(main())
 """
@@ -275,16 +275,14 @@ def test_the_isolation_of_the_role_does_not_matter(server, monkeypatch, level):
     ids=["changed", "added", "removed"])  # fmt: skip
 def test_a_row_that_changes_meanwhile_is_kept(server, statement, changed):
     """No lock is held while keys are rewrapped: the other process does not wait."""
-    program = """
-import os, subprocess, sys
-import keywrap
-real, calls = keywrap.rewrap, iter(range(1, 1000))
-def rewrap(*words, **more):
+    program = ONE_BY_ONE + """
+import os, subprocess
+calls = iter(range(1, 1000))
+def act(text):
     if next(calls) == 3:
         subprocess.run(["psql", "-qXc", os.environ["STATEMENT"]], check=True)
         open("done", "w").close()
-    return real(*words, **more)
-keywrap.rewrap = rewrap
+_many.rewrap_slots = before_each_key(act)
 from keywrap.rotate import main
 sys.exit(main())
 """

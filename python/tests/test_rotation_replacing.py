@@ -363,7 +363,7 @@ def test_renames_at_random_moments_are_never_lost(file):
     until, replaced, refused = time.monotonic() + 4, 0, 0
     while time.monotonic() < until:
         old = file.read_bytes()
-        number = int(old.split()[-1]) if old.startswith(b"their") else 0
+        number = int(old.split()[-1]) if old.startswith((b"their", b"ours")) else 0
         try:
             replace(str(file), b"ours, of %d\n" % number, old_bytes=old)
             replaced += 1

@@ -11,11 +11,11 @@ import pytest
 
 pytest.importorskip("cryptography", reason="no cryptography (apt-get install python3-cryptography)")
 
+from one_by_one import before_each_key  # noqa: E402
 from rotation_help import KEK, NEW_KEK, make_keys, set_keks, wrapped_under  # noqa: E402
 
-import keywrap  # noqa: E402
-from keywrap import rotate  # noqa: E402
-from keywrap.rotation import engine, rows, sqlite  # noqa: E402
+from keywrap import _many, rotate  # noqa: E402
+from keywrap.rotation import databases, engine, rows, sqlite  # noqa: E402
 from keywrap.rotation.rows import Table  # noqa: E402
 from keywrap.rotation.sqlite import Sqlite  # noqa: E402
 
@@ -261,14 +261,13 @@ def meanwhile(monkeypatch):
     """meanwhile(change, at): runs the change while a range is rewrapped, before this key."""
 
     def install(change, at=1):
-        real, calls = keywrap.rewrap, iter(range(1, 1000))
+        calls = iter(range(1, 1000))
 
-        def rewrap(*words, **more):
+        def act(text):
             if next(calls) == at:
                 change()
-            return real(*words, **more)
 
-        monkeypatch.setattr(keywrap, "rewrap", rewrap)
+        monkeypatch.setattr(_many, "rewrap_slots", before_each_key(act))
 
     return install
 
@@ -322,11 +321,11 @@ def test_a_whole_table_is_locked(database, pair, meanwhile):
 
 @pytest.mark.parametrize("lock", ["BEGIN IMMEDIATE", "BEGIN EXCLUSIVE"])
 def test_a_locked_database(database, pair, monkeypatch, lock):
-    monkeypatch.setattr(sqlite, "LOCK_SECONDS", 0.2)
+    monkeypatch.setattr(databases, "LOCK_SECONDS", 0.2)
     other = sqlite3.connect(database, isolation_level=None, check_same_thread=False)
     other.execute(lock)
     assert rotated(database, pair)[0]["why"] == "another program has locked the database"
-    monkeypatch.setattr(sqlite, "LOCK_SECONDS", 60)
+    monkeypatch.setattr(databases, "LOCK_SECONDS", 60)
     unlocking = threading.Timer(0.5, other.execute, ["COMMIT"])
     unlocking.start()
     rotated_all(database, pair)

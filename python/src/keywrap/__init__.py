@@ -32,13 +32,17 @@ __all__ = [
     "KeywrapError",
     "Kind",
     "check",
+    "check_many",
     "check_with_length",
     "rewrap",
+    "rewrap_many",
     "self_test",
     "unwrap",
     "unwrap_any",
+    "unwrap_many",
     "unwrap_padded",
     "wrap",
+    "wrap_many",
     "wrap_padded",
 ]
 
@@ -216,6 +220,18 @@ def _unwrap_by(call: Callable[..., int], kek: bytes, wrapped: bytes) -> Tuple[by
     return key, form
 
 
+def _flags(old_padded: bool, new_padded: bool, keep_form: bool, pass_new: bool) -> int:
+    if keep_form and (old_padded or new_padded):
+        raise ValueError("keep_form goes with neither old_padded nor new_padded")
+    flags: int = (
+        (_lib.KEYWRAP_OLD_PADDED if old_padded else 0)
+        | (_lib.KEYWRAP_NEW_PADDED if new_padded else 0)
+        | (_lib.KEYWRAP_KEEP_FORM if keep_form else 0)
+        | (_lib.KEYWRAP_PASS_NEW if pass_new else 0)
+    )
+    return flags
+
+
 def rewrap(
     old_kek: ReadableBuffer,
     new_kek: ReadableBuffer,
@@ -234,19 +250,12 @@ def rewrap(
     `KeyNotPlain`, a `BadLength`, if the result would be plain and the key has no length of a plain key.
     For other exceptions see `unwrap` and `unwrap_padded`.
     """
-    if keep_form and (old_padded or new_padded):
-        raise ValueError("keep_form goes with neither old_padded nor new_padded")
+    flags = _flags(old_padded, new_padded, keep_form, pass_new)
     if type(old_kek) is not bytes or type(new_kek) is not bytes or type(wrapped) is not bytes:
         given = {"old_padded": old_padded, "new_padded": new_padded, "keep_form": keep_form, "pass_new": pass_new}
         return _on_copies(rewrap, old_kek, new_kek, wrapped, **given)
     length = len(wrapped)
     result = bytes(max(length, 16))
-    flags = (
-        (_lib.KEYWRAP_OLD_PADDED if old_padded else 0)
-        | (_lib.KEYWRAP_NEW_PADDED if new_padded else 0)
-        | (_lib.KEYWRAP_KEEP_FORM if keep_form else 0)
-        | (_lib.KEYWRAP_PASS_NEW if pass_new else 0)
-    )
     status = _rewrap(old_kek, len(old_kek), new_kek, len(new_kek), wrapped, length, result, flags)
     if status:
         legal = _refusals.WRAPPED_PADDED if old_padded or keep_form else _refusals.WRAPPED_PLAIN
@@ -285,3 +294,10 @@ def self_test() -> None:
     """
     if _lib.keywrap_self_test() != _lib.KEYWRAP_OK:
         raise RuntimeError("self test failed: this machine computes wrong results")
+
+
+# It needs the names above.
+from ._many import check_many, rewrap_many, unwrap_many, wrap_many  # noqa: E402
+
+for _call in (check_many, rewrap_many, unwrap_many, wrap_many):
+    _call.__module__ = __name__

@@ -37,11 +37,11 @@ def rewrap_all(keys: Mapping[str, bytes], pair: Challenges) -> Dict[str, bytes]:
     `WrongKeks` if this machine's KEKs are others, and `Refused` with the names of the keys that are under neither KEK.
     """
     names = list(keys)
-    block = Block([keys[name] for name in names], "raw", names.__getitem__, len(names))
+    block = Block(lambda: [keys[name] for name in names], "raw", names.__getitem__, len(names))
     fresh = rewrapped(keks_of(pair), block)
     if fresh.refused:
         raise Refused("; ".join(f"{names[at]}: {why}" for at, why in fresh.refused))
-    return {name: keys[name] if new is None else new for name, new in zip(names, fresh.texts)}
+    return {name: fresh.texts.get(at, keys[name]) for at, name in enumerate(names)}
 
 
 if __name__ == "__main__":

@@ -9,7 +9,7 @@ import heapq
 import json
 import os
 import tempfile
-from typing import IO, Dict, Iterable, Iterator, List, Optional, Protocol, Sequence
+from typing import IO, Dict, Iterable, Iterator, List, Mapping, Optional, Protocol, Sequence
 
 from .keys import Block, Changed, Fresh, Readable, Refused
 from .replacing import BLOCK, Successor, is_temporary, opened, recover, short
@@ -23,7 +23,7 @@ class Format(Protocol):
     def blocks(self, file: Readable) -> Iterator[Block]:
         """Reads the keys of a file. The content of a block is the bytes that it was made from."""
 
-    def joined(self, block: Block, texts: List[Optional[bytes]]) -> bytes:
+    def joined(self, block: Block, texts: Mapping[int, bytes]) -> bytes:
         """Returns the content of the block with the new texts. Everything else stays to the byte."""
 
 
@@ -60,7 +60,7 @@ class _OpenFile:
             new = self.successor.make()
             self._copy(new)
         if new is not None:
-            new.write(self.files.format.joined(block, fresh.texts))
+            new.write(self.files.format.joined(block, fresh.texts) if fresh.content is None else fresh.content)
 
     def _copy(self, new: Successor) -> None:
         """Copies what was read before this block, and compares it with what was read."""

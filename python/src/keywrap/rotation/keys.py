@@ -4,11 +4,12 @@ from __future__ import annotations
 
 import base64
 import binascii
-from typing import Any, Callable, Dict, List, NamedTuple, Optional, Protocol, Sequence, Tuple, Union
+from typing import Any, Callable, Dict, List, Mapping, NamedTuple, Optional, Protocol, Sequence, Tuple, TypeVar, Union
 
 import keywrap
+from keywrap import _flags, _many
 
-from .keks import Keks, is_under
+from .keks import Keks
 
 BLANKS = b" \t\r\n"
 #: The longest wrapped key in bytes, and as hex with some blanks around it.
@@ -74,10 +75,38 @@ class Readable(Protocol):
 Text = Union[bytes, str, None]
 
 
+class HexLines(NamedTuple):
+    """The keys of lines that all have one length, behind each other. They are decoded and encoded at once."""
+
+    keys: bytes
+    length: int
+
+    @staticmethod
+    def of(content: bytes) -> Optional["HexLines"]:
+        """Returns the keys if each line is hex digits and LF, and all are equally long."""
+        size = content.find(b"\n") + 1
+        count, rest = divmod(len(content), size or 1)
+        # `fromhex` skips blanks: with LF at the end of each line, there are no others if all else is digits.
+        if size < 3 or rest or content[size - 1 :: size] != b"\n" * count:
+            return None
+        try:
+            keys = bytes.fromhex(content.decode("ascii"))
+        except ValueError:
+            return None
+        return HexLines(keys, size // 2) if 2 * len(keys) + count == len(content) else None
+
+    def each(self) -> List[bytes]:
+        return [self.keys[at : at + self.length] for at in range(0, len(self.keys), self.length)]
+
+    def content(self) -> bytes:
+        return binascii.hexlify(self.keys, b"\n", self.length) + b"\n"
+
+
 class Block(NamedTuple):
     """Some wrapped keys of a unit in their notation."""
 
-    texts: Sequence[Text]
+    #: Returns the text of each place.
+    split: Callable[[], Sequence[Text]]
     notation: str
     #: Names a place in the unit: "line 3", "row 17".
     place: Callable[[int], str]
@@ -87,27 +116,52 @@ class Block(NamedTuple):
     content: bytes = b""
     #: What else the store has to know to write the block.
     parts: Any = None
+    #: The same keys, if all lines are equally long.
+    lines: Optional[HexLines] = None
 
 
 class Fresh(NamedTuple):
-    """What a block becomes: a new text for each place, or `None` if the place stays as it is."""
+    """What a block becomes."""
 
-    texts: List[Optional[bytes]]
+    #: The new texts, by their places. All other places stay as they are.
+    texts: Mapping[int, bytes]
     #: The places whose text was refused, and why.
     refused: List[Tuple[int, str]]
     keys: int
     changed: int
+    #: If all lines are new: they themselves. Then there are no texts.
+    content: Optional[bytes] = None
+
+
+Result = TypeVar("Result")
+
+
+def by_length(call: Callable[[List[bytes]], Sequence[Result]], keys: Sequence[bytes]) -> List[Result]:
+    """Makes a call for the keys of each length, and returns the results in the order of the keys."""
+    places: Dict[int, List[int]] = {}
+    for place, key in enumerate(keys):
+        places.setdefault(len(key), []).append(place)
+    found: Dict[int, Result] = {}
+    for some in places.values():
+        found.update(zip(some, call([keys[place] for place in some])))
+    return [found[place] for place in range(len(keys))]
 
 
 def rewrap_block(keks: Keks, keys: Sequence[bytes]) -> List[Union[bytes, keywrap.KeywrapError]]:
     """Rewraps each key, or returns its refusal. A key that is under the new KEK already is returned as it is."""
-    results: List[Union[bytes, keywrap.KeywrapError]] = []
-    for wrapped in keys:
+
+    def rewrap(some: List[bytes]) -> Sequence[Union[bytes, keywrap.KeywrapError]]:
         try:
-            results.append(keywrap.rewrap(*keks, wrapped, keep_form=True, pass_new=True))
-        except keywrap.KeywrapError as refusal:
-            results.append(refusal)
-    return results
+            return keywrap.rewrap_many(*keks, some, keep_form=True, pass_new=True)
+        except keywrap.BadLength as refusal:
+            return [refusal.with_traceback(None)] * len(some)
+
+    return by_length(rewrap, keys)
+
+
+def are_under(kek: bytes, keys: Sequence[bytes]) -> List[bool]:
+    """Whether each key is under the KEK."""
+    return by_length(lambda some: [kind is not None for kind in keywrap.check_many(kek, some)], keys)
 
 
 def why(refusal: Exception) -> str:
@@ -117,13 +171,16 @@ def why(refusal: Exception) -> str:
     return "bad length" if isinstance(refusal, keywrap.BadLength) else "not in the notation of the store"
 
 
-def _decoded(block: Block) -> Tuple[List[int], List[bytes], List[Tuple[int, str]]]:
+def _decoded(block: Block) -> Tuple[Sequence[int], List[bytes], List[Tuple[int, str]]]:
     """Returns the places and the bytes of the keys that are in the notation, and the refusals of the others."""
+    if block.lines is not None:
+        keys = block.lines.each()
+        return range(len(keys)), keys, []
     decode = NOTATIONS[block.notation].decode
     places: List[int] = []
-    keys: List[bytes] = []
+    keys = []
     refused: List[Tuple[int, str]] = []
-    for place, text in enumerate(block.texts):
+    for place, text in enumerate(block.split()):
         if text is None:
             continue
         if isinstance(text, str):
@@ -142,49 +199,63 @@ def _decoded(block: Block) -> Tuple[List[int], List[bytes], List[Tuple[int, str]
     return places, keys, refused
 
 
+_NOT_UNDER = "a rewrapped key is not under the new KEK"
+_FLAGS = _flags(False, False, True, True)
+
+
+def _all_rewrapped(keks: Keks, lines: HexLines) -> Optional[Fresh]:
+    """Rewraps all lines at once, or returns `None` if a key is refused, or is under the new KEK already."""
+    texts = bytearray(lines.keys)
+    try:
+        statuses = _many.rewrap_slots(*keks, texts, lines.length, _FLAGS)
+    except keywrap.BadLength:
+        return None
+    if any(statuses):
+        return None
+    content = HexLines(texts, lines.length).content()
+    if not all(_many.check_slots(keks[1], bytes.fromhex(content.decode("ascii")), lines.length)):
+        raise Refused(_NOT_UNDER)
+    return Fresh({}, [], len(statuses), len(statuses), content)
+
+
 def rewrapped(keks: Keks, block: Block) -> Fresh:
     """Rewraps a block. Each new text is under the new KEK: it was read and checked."""
+    found = None if block.lines is None else _all_rewrapped(keks, block.lines)
+    return found or _each_rewrapped(keks, block)
+
+
+def _each_rewrapped(keks: Keks, block: Block) -> Fresh:
     notation = NOTATIONS[block.notation]
     places, keys, refused = _decoded(block)
     count = len(keys) + len(refused)
-    fresh: List[Optional[bytes]] = [None] * len(block.texts)
-    changed = 0
+    fresh: Dict[int, bytes] = {}
     for place, old, new in zip(places, keys, rewrap_block(keks, keys)):
         if isinstance(new, keywrap.KeywrapError):
             refused.append((place, why(new)))
         elif new != old:
-            text = notation.encode(new)
-            if not is_under(keks[1], notation.decode(text)):
-                raise Refused("a rewrapped key is not under the new KEK")
-            fresh[place], changed = text, changed + 1
-    return Fresh(fresh, refused, count, changed)
+            fresh[place] = notation.encode(new)
+    if not all(are_under(keks[1], [notation.decode(text) for text in fresh.values()])):
+        raise Refused(_NOT_UNDER)
+    return Fresh(fresh, refused, count, len(fresh))
 
 
-def unchanged(block: Block) -> Fresh:
-    """Returns that all keys of the block stay."""
-    return Fresh([None] * len(block.texts), [], sum(text is not None for text in block.texts), 0)
-
-
-def all_under(kek: bytes, block: Block) -> bool:
-    """Whether all keys of the block are under the KEK. Stops at the first one that is not."""
-    decode = NOTATIONS[block.notation].decode
-    try:
-        return all(isinstance(text, bytes) and is_under(kek, decode(text)) for text in block.texts if text is not None)
-    except ValueError:
-        return False
+def passed(kek: bytes, block: Block) -> Optional[Fresh]:
+    """Returns that the block stays, if all its keys are under the KEK. The first key decides for most blocks."""
+    _, keys, refused = _decoded(block)
+    is_new = not refused and all(are_under(kek, keys[:1])) and all(are_under(kek, keys))
+    return Fresh({}, [], len(keys), 0) if is_new else None
 
 
 def under_which(keks: Sequence[bytes], block: Block) -> Tuple[List[int], List[Tuple[int, str]]]:
     """Counts the keys of a block under each of the KEKs, and returns the places of those under none of them."""
-    counts = [0] * len(keks)
+    counts: List[int] = []
     places, keys, refused = _decoded(block)
-    for place, wrapped in zip(places, keys):
-        found = next((number for number, kek in enumerate(keks) if is_under(kek, wrapped)), None)
-        if found is None:
-            refused.append((place, "integrity check failed"))
-        else:
-            counts[found] += 1
-    return counts, refused
+    left = list(zip(places, keys))
+    for kek in keks:
+        under = are_under(kek, [key for _, key in left])
+        counts.append(sum(under))
+        left = [pair for pair, is_under in zip(left, under) if not is_under]
+    return counts, refused + [(place, "integrity check failed") for place, _ in left]
 
 
 def material(block: Block) -> bytes:
@@ -192,7 +263,7 @@ def material(block: Block) -> bytes:
     if block.content:
         return block.content
     lines = []
-    for at, text in enumerate(block.texts):
+    for at, text in enumerate(block.split()):
         key = b"-" if text is None else text.encode() if isinstance(text, str) else text
         lines.append(f"{block.place(at)}\0{block.notation}\0{len(key)}\0".encode("utf-8", "surrogateescape") + key)
     return b"".join(lines)

@@ -2,9 +2,10 @@
 
 from __future__ import annotations
 
-from typing import Iterator, List, Optional
+import io
+from typing import Iterator, List, Mapping
 
-from .keys import BLANKS, LONGEST, Block, Readable, Refused, Text
+from .keys import BLANKS, LONGEST, Block, HexLines, Readable, Refused, Text
 from .replacing import BLOCK
 
 
@@ -22,31 +23,24 @@ class Lines:
             if end:
                 block = self._block(rest[:end], number)
                 yield block
-                number, rest = number + len(block.texts), rest[end:]
+                number, rest = number + block.parts, rest[end:]
             elif len(rest) > LONGEST:
                 raise Refused(f"line {number}: longer than any wrapped key")
         if rest:
             yield self._block(rest, number)
 
     def _block(self, content: bytes, first: int) -> Block:
-        lines = content.split(b"\n")
-        if not lines[-1]:
-            del lines[-1]
-        texts: List[Text] = [line.strip(BLANKS) for line in lines]
-        return Block(texts, self.notation, lambda at: f"line {first + at}", len(content), content)
+        equal = HexLines.of(content) if self.notation == "hex" else None
+        count = content.count(b"\n") if equal is None else len(equal.keys) // equal.length
 
-    def joined(self, block: Block, texts: List[Optional[bytes]]) -> bytes:
-        if None not in texts:
-            return b"\n".join(texts) + b"\n"  # type: ignore[arg-type]
-        old = _lines(block.content)
-        return b"".join(line if text is None else text + b"\n" for line, text in zip(old, texts))
+        def split() -> List[Text]:
+            return [line.strip(BLANKS) for line in io.BytesIO(content)]
 
+        return Block(split, self.notation, lambda at: f"line {first + at}", len(content), content, count, equal)
 
-def _lines(content: bytes) -> List[bytes]:
-    """Splits at LF only."""
-    lines = [line + b"\n" for line in content.split(b"\n")]
-    last = lines.pop()[:-1]
-    return [*lines, last] if last else lines
+    def joined(self, block: Block, texts: Mapping[int, bytes]) -> bytes:
+        old = io.BytesIO(block.content)
+        return b"".join(texts[at] + b"\n" if at in texts else line for at, line in enumerate(old))
 
 
 class OneKey:
@@ -63,8 +57,7 @@ class OneKey:
             raise Refused("longer than any wrapped key")
         text = content if self.notation == "raw" else content.translate(None, BLANKS)
         if text:
-            yield Block([text], self.notation, lambda at: "its key", len(content), content)
+            yield Block(lambda: [text], self.notation, lambda at: "its key", len(content), content)
 
-    def joined(self, block: Block, texts: List[Optional[bytes]]) -> bytes:
-        assert texts[0] is not None
+    def joined(self, block: Block, texts: Mapping[int, bytes]) -> bytes:
         return texts[0] if self.notation == "raw" else texts[0] + b"\n"

@@ -8,15 +8,17 @@ from typing import Any, Optional, Sequence
 
 import keywrap
 
-from .fields import CsvColumn, JsonMember
+from .csv_column import CsvColumn
 from .files import Files, Format
+from .json_member import JsonMember
 from .keys import Refused
 from .lines import Lines, OneKey
-from .objects import Commands, Objects
+from .objects import Objects
 from .postgresql import Postgresql
 from .rows import Table
 from .sqlite import Sqlite
 from .stores import Store
+from .user_commands import Commands
 
 EPILOG = """Exit status: 0 all keys are under the new KEK; 2 arguments, or a report, a record or a store that belongs to
 other KEKs, were refused; 3 a machine lacks the KEKs of the rotation; 4 the report, record or progress file cannot be

@@ -140,6 +140,7 @@ class Successor:
         self.path, self.before = path, before
         self.directory = os.path.dirname(path) or b"."
         self.name: Optional[bytes] = None
+        self.digest = hashlib.blake2b()
         if len(self._temporary("0" * _DIGITS, "0" * _DIGITS)) > 255:
             raise Refused("its name is too long for a temporary name beside it")
         try:
@@ -157,6 +158,7 @@ class Successor:
         return f".rotating.{random}.{old}.{new}.".encode() + os.path.basename(self.path)
 
     def write(self, content: bytes) -> None:
+        self.digest.update(content)
         view = memoryview(content)
         while view:
             view = view[os.write(self.descriptor, view) :]
@@ -201,7 +203,7 @@ class Successor:
 
     def _give_name(self, read: str) -> None:
         """Gives the new file the name that says what it is made from."""
-        name = os.path.join(self.directory, self._temporary(read, digest_of(self.descriptor)))
+        name = os.path.join(self.directory, self._temporary(read, short(self.digest)))
         if self.name is not None:
             os.rename(self.name, name)
         else:

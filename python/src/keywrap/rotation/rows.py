@@ -2,14 +2,21 @@
 
 from __future__ import annotations
 
-from typing import Any, Iterator, List, NamedTuple, Optional, Protocol, Sequence, Tuple
+from typing import Any, Iterable, Iterator, List, NamedTuple, Optional, Protocol, Sequence, Tuple
 
-from .keys import BLANKS, Block, Fresh, Refused, Text
+from .keys import BLANKS, LONGEST, Block, Changed, Fresh, Refused, Text
+from .stores import Simple
 
 #: How many rows a unit has at most, and how many bytes a block has about.
 ROWS, BLOCK_BYTES = 1000, 1 << 20
 #: The value of a key, its row, and the value that it replaces.
 Write = Tuple[Any, Any, Any]
+#: A row, its value, and whether that is NULL. A value that is longer than any key is not read, but `None`.
+Read = Tuple[Any, Any, bool]
+#: What each database reads of a row, and how it finds out whether the column of --id finds each row.
+READ = "{row}, CASE WHEN {octets}({key}) <= " + str(LONGEST) + " THEN {key} END, {key} IS NULL"
+FINDS_EACH = "SELECT count(*) = count(DISTINCT {row}) FROM {table}"
+NOT_EACH_ROW = "the column of --id has a NULL, or the same value twice"
 
 
 class Table(NamedTuple):
@@ -27,25 +34,54 @@ class Range(NamedTuple):
     last: Any = None
 
 
+class Ranges(Simple):
+    """A store whose units are ranges of rows, or whole tables."""
+
+    noun, measure = "ranges", "rows"
+
+    def __init__(self, table: Table, notation: str, whole: bool) -> None:
+        self.table, self.notation, self.whole = table, notation, whole
+
+
 class Row(NamedTuple):
     row: Any
-    #: The value as the driver reads it: bytes, or text as `str`; or `None`, or why it is no key.
     value: Any
-    is_raw: bool = False
-    why: Optional[str] = None
+    #: Why it is no key.
+    why: Optional[str]
+
+    @property
+    def is_raw(self) -> bool:
+        return isinstance(self.value, bytes)
+
+    @property
+    def text(self) -> Text:
+        if self.why is not None or self.value is None:
+            return self.why
+        value: Any = self.value
+        text: bytes = value if self.is_raw else value.encode("utf-8", "surrogateescape").strip(BLANKS)
+        return text
+
+
+def _row(row: Any, value: Any, is_null: bool) -> Row:
+    if isinstance(value, (bytes, str)) or is_null:
+        return Row(row, value, None)
+    return Row(row, None, "neither BLOB nor TEXT" if value is not None else "longer than any wrapped key")
 
 
 class Driver(Protocol):
     """What differs between databases."""
 
-    def rows(self, after: Any) -> Iterator[Row]:
+    def rows(self, after: Any) -> Iterable[Read]:
         """Reads the rows of the range in their order, after this one."""
 
-    def put(self, writes: Sequence[Write]) -> None:
-        """Writes each value whose row still has the old value."""
+    def put(self, writes: Sequence[Write]) -> Tuple[int, int]:
+        """Writes each value whose row still has the old value. The rows are in their order.
 
-    def commit(self, refused: Sequence[Any]) -> None:
-        """Ends the transaction, and notes the refused rows. Raises `Changed` if some rows were not written."""
+        Returns how many rows were written, and how many of them have the new value now.
+        """
+
+    def commit(self, refused: Sequence[Any], are_left: bool) -> bool:
+        """Ends the transaction, and notes the refused rows. Returns false if the range has to be read again."""
 
 
 class OpenRows:
@@ -53,8 +89,9 @@ class OpenRows:
 
     def __init__(self, driver: Driver, notation: str, whole: bool, may_be_empty: bool) -> None:
         self.driver, self.notation, self.whole, self.may_be_empty = driver, notation, whole, may_be_empty
-        self.writes: List[Write] = []
+        self.writes: List[List[Write]] = []
         self.refused: List[Any] = []
+        self.are_left = False
 
     def blocks(self) -> Iterator[Block]:
         after = None
@@ -71,39 +108,36 @@ class OpenRows:
         """Reads rows until they are many or long."""
         found: List[Row] = []
         size = 0
-        for row in self.driver.rows(after):
-            found.append(row)
-            size += len(row.value or b"")
+        for read in self.driver.rows(after):
+            found.append(_row(*read))
+            size += len(found[-1].value or b"")
             if len(found) == ROWS or size > BLOCK_BYTES:
                 break
         return found
 
     def write(self, block: Block, fresh: Fresh) -> None:
         rows: List[Row] = block.parts
-        for row, new in zip(rows, fresh.texts):
-            if new is not None:
-                self.writes.append((new if row.is_raw else new.decode("ascii"), row.row, row.value))
+        new = ((rows[at], text) for at, text in fresh.texts.items())
+        self.writes.append(
+            [(text if row.is_raw else text.decode("ascii"), row.row, row.value) for row, text in new]
+        )
         self.refused += [rows[at].row for at, _ in fresh.refused]
         if self.whole:
             self._put()
 
     def _put(self) -> None:
-        if self.writes:
-            self.driver.put(self.writes)
+        for writes in filter(None, self.writes):
+            done, are_new = self.driver.put(writes)
+            if are_new < done:
+                raise Refused("the table does not contain what was written")
+            self.are_left |= done < len(writes)
         self.writes = []
 
     def replace(self) -> None:
         self._put()
-        self.driver.commit(self.refused)
+        if not self.driver.commit(self.refused, self.are_left):
+            raise Changed
 
 
 def _block(rows: List[Row], notation: str) -> Block:
-    return Block([_text(row) for row in rows], notation, lambda at: f"row {rows[at].row}", len(rows), parts=rows)
-
-
-def _text(row: Row) -> Text:
-    if row.why is not None or row.value is None:
-        return row.why
-    value: Any = row.value
-    text: bytes = value if row.is_raw else value.encode("utf-8", "surrogateescape").strip(BLANKS)
-    return text
+    return Block(lambda: [row.text for row in rows], notation, lambda at: f"row {rows[at].row}", len(rows), parts=rows)

@@ -1,0 +1,189 @@
+"""The calls for many keys of one length. They lie in slots behind each other in a buffer; each slot has a status.
+
+Item i of a result is what the call for one key returns for item i, or the refusal that it raises.
+"""
+
+from __future__ import annotations
+
+from typing import TYPE_CHECKING, Iterable, List, NamedTuple, Optional, Union
+
+from . import KeywrapError, Kind, _ffi, _flags, _on_copies, _refusals
+from ._refusals import BadLength
+
+if TYPE_CHECKING:
+    from _typeshed import ReadableBuffer
+
+    Items = Union[ReadableBuffer, Iterable[ReadableBuffer]]
+
+_lib = _ffi.lib
+_from = _ffi.ffi.from_buffer
+_new = _ffi.ffi.new
+_FORMS = {1: Kind.PLAIN, 2: Kind.PADDED}
+#: With one of these flags a wrapped key may have the lengths of the padded form.
+_EITHER_LENGTH = _lib.KEYWRAP_OLD_PADDED | _lib.KEYWRAP_KEEP_FORM
+#: The status of a slot that a rewrap with `KEYWRAP_PASS_NEW` left as it is.
+ALREADY: int = _lib.ALREADY
+
+
+class _Slots(NamedTuple):
+    """A buffer of our own with `number` slots from an offset on, whose items have `length` bytes each."""
+
+    # No view: before 3.12, Python crashes if it collects a view that C uses.
+    buffer: bytearray
+    offset: int
+    number: int
+    length: int
+
+    def wipe(self) -> None:
+        _lib.wipe(_from(self.buffer), len(self.buffer))
+
+    def each(self, size: int) -> List[bytes]:
+        content = bytes(self.buffer)
+        begins = (self.offset + size * at for at in range(self.number))
+        return [content[begin : begin + size] for begin in begins]
+
+
+def _listed(items: Items, length: Optional[int]) -> List[ReadableBuffer]:
+    if length is None:
+        return list(items)  # type: ignore[arg-type]
+    view = memoryview(items).cast("B")  # type: ignore[arg-type]
+    if length < 1 or len(view) % length:
+        raise BadLength(f"bad length: {len(view)} bytes are not items of {length} bytes")
+    return [view[at : at + length] for at in range(0, len(view), length)]
+
+
+def _slots(items: Items, length: Optional[int], what: str, gap: int = 0, padded: bool = False) -> _Slots:
+    """Copies the items into slots, each after a gap of zeros, and before zeros up to a multiple of 8 if it is padded."""
+    try:
+        parts = _listed(items, length)
+        lengths = {len(part) if type(part) is bytes else memoryview(part).nbytes for part in parts} or {0}
+        each, zeros = max(lengths), -max(lengths) % 8 if padded else 0
+        # One copy, and none besides it that would have to be wiped: the gaps and zeros are what joins the items.
+        buffer = bytearray(zeros + gap).join([b"", *parts, b""] if zeros + gap else parts)
+    except BadLength:
+        raise
+    except (TypeError, ValueError, BufferError):
+        raise TypeError("contiguous bytes-like objects are required: a list, or one and the length of an item") from None
+    slots = _Slots(buffer, zeros, len(parts), each)
+    if len(lengths) > 1 or len(buffer) != len(parts) * (gap + each + zeros) + gap + zeros:
+        slots.wipe()
+        raise BadLength(f"bad length: {what} is {max(lengths)} bytes long, another one {min(lengths)}")
+    return slots
+
+
+def _ended(status: int, what: str, length: int, legal: str, *keks: bytes) -> None:
+    """Raises the refusal of a whole call."""
+    if status:
+        raise _refusals.refusal(status, what, length, legal, *keks)
+
+
+def _results(results: List[bytes], statuses: bytearray, legal: str) -> List[Union[bytes, KeywrapError]]:
+    """Returns the result or the refusal of each slot."""
+    if statuses.count(0) + statuses.count(ALREADY) == len(statuses):
+        return list(results)
+    refused = (0, ALREADY)
+    return [
+        result if status in refused else _refusals.refusal(status, "the wrapped key", len(result), legal)
+        for result, status in zip(results, statuses)
+    ]
+
+
+def wrap_many(kek: ReadableBuffer, keys: Items, length: Optional[int] = None, *, padded: bool = False) -> List[bytes]:
+    """Wraps keys of one length, each as `wrap` does, or as `wrap_padded` if it is `padded`.
+
+    The keys are in a list, or, with their `length` in bytes, behind each other in one buffer. Lengths that differ raise
+    `BadLength`. For the other exceptions see these calls.
+    """
+    if type(kek) is not bytes:
+        return _on_copies(wrap_many, kek, keys=keys, length=length, padded=padded)
+    slots = _slots(keys, length, "the key", 8, padded)
+    try:
+        if slots.number:
+            legal = _refusals.PADDED_KEYS if padded else _refusals.PLAIN_KEYS
+            buffer, statuses = _from("uint8_t[]", slots.buffer), _from(bytearray(slots.number))
+            texts = buffer + slots.offset
+            status = _lib.wrap_many(kek, len(kek), texts, slots.length, slots.number, padded, statuses)
+            _ended(status, "the key", slots.length, legal, kek)
+        return slots.each(8 + slots.length + slots.offset)
+    finally:
+        slots.wipe()
+
+
+def unwrap_many(
+    kek: ReadableBuffer, wrapped: Items, length: Optional[int] = None, *, padded: bool = False
+) -> List[Union[bytes, KeywrapError]]:
+    """Unwraps wrapped keys of one length, each as `unwrap` does, or as `unwrap_padded` if it is `padded`.
+
+    A wrapped key that fails the integrity check has `IntegrityFailed` in the place of the key; it is not raised. For
+    everything else see `wrap_many`.
+    """
+    if type(kek) is not bytes:
+        return _on_copies(unwrap_many, kek, wrapped=wrapped, length=length, padded=padded)
+    slots = _slots(wrapped, length, "the wrapped key")
+    try:
+        if not slots.number:
+            return []
+        legal = _refusals.WRAPPED_PADDED if padded else _refusals.WRAPPED_PLAIN
+        statuses, lengths = bytearray(slots.number), _new("size_t[]", slots.number)
+        buffer, ended = _from(slots.buffer), _from(statuses)
+        status = _lib.unwrap_many(kek, len(kek), buffer, slots.length, slots.number, padded, lengths, ended)
+        _ended(status, "the wrapped key", slots.length, legal, kek)
+        begins, view = range(8, len(slots.buffer) + 8, slots.length), memoryview(slots.buffer)
+        keys = [bytes(view[at : at + size]) for at, size in zip(begins, lengths)]
+        return _results(keys, statuses, legal)
+    finally:
+        slots.wipe()
+
+
+def rewrap_many(
+    old_kek: ReadableBuffer,
+    new_kek: ReadableBuffer,
+    wrapped: Items,
+    length: Optional[int] = None,
+    *,
+    old_padded: bool = False,
+    new_padded: bool = False,
+    keep_form: bool = False,
+    pass_new: bool = False,
+) -> List[Union[bytes, KeywrapError]]:
+    """Rewraps wrapped keys of one length, each as `rewrap` does.
+
+    A wrapped key that is refused has the refusal, `IntegrityFailed` or `KeyNotPlain`, in its place; it is not raised.
+    For everything else see `wrap_many` and `rewrap`.
+    """
+    flags = _flags(old_padded, new_padded, keep_form, pass_new)
+    if type(old_kek) is not bytes or type(new_kek) is not bytes:
+        given = {"old_padded": old_padded, "new_padded": new_padded, "keep_form": keep_form, "pass_new": pass_new}
+        return _on_copies(rewrap_many, old_kek, new_kek, wrapped=wrapped, length=length, **given)
+    slots = _slots(wrapped, length, "the wrapped key")
+    statuses = rewrap_slots(old_kek, new_kek, slots.buffer, slots.length, flags)
+    return _results(slots.each(slots.length), statuses, "")
+
+
+def rewrap_slots(old_kek: bytes, new_kek: bytes, texts: bytearray, length: int, flags: int) -> bytearray:
+    """Rewraps the wrapped keys in the slots of `texts`, and returns their statuses. A refused one stays as it is."""
+    statuses = bytearray(len(texts) // length if length else 0)
+    if statuses:
+        keks, slots = (old_kek, len(old_kek), new_kek, len(new_kek)), (_from(texts), length, len(statuses))
+        status = _lib.rewrap_many(*keks, *slots, flags, _from(statuses))
+        legal = _refusals.WRAPPED_PADDED if flags & _EITHER_LENGTH else _refusals.WRAPPED_PLAIN
+        _ended(status, "the wrapped key", length, legal, old_kek, new_kek)
+    return statuses
+
+
+def check_many(kek: ReadableBuffer, wrapped: Items, length: Optional[int] = None) -> List[Optional[Kind]]:
+    """Checks wrapped keys of one length, and returns for each what `check` does. For the arguments see `wrap_many`."""
+    if type(kek) is not bytes:
+        return _on_copies(check_many, kek, wrapped=wrapped, length=length)
+    slots = _slots(wrapped, length, "the wrapped key")
+    return [_FORMS.get(form) for form in check_slots(kek, slots.buffer, slots.length)]
+
+
+def check_slots(kek: bytes, texts: Union[bytes, bytearray], length: int) -> bytearray:
+    """Returns a byte for each slot: 0 if it is not a wrapped key, 1 if it is a plain one, and 2 if it is padded."""
+    forms = bytearray(len(texts) // length if length else 0)
+    if forms:
+        slots, scratch = (_from(texts), length, len(forms)), bytes(length)
+        status = _lib.check_many(kek, len(kek), *slots, scratch, _from(forms))
+        _ended(status, "the wrapped key", length, _refusals.WRAPPED_PADDED, kek)
+    return forms

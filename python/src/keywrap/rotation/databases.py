@@ -1,0 +1,87 @@
+"""Connections to databases. Their errors become refusals in our words: a driver's text may contain a value."""
+
+from __future__ import annotations
+
+import contextlib
+import importlib
+import os
+import sqlite3
+from pathlib import Path
+from typing import Any, Iterator, Sequence
+
+from .files import listed
+from .keys import Gone, Refused
+from .rows import Table
+
+#: How long SQLite, and a statement of PostgreSQL, wait for a lock.
+LOCK_SECONDS = 60.0
+#: How SQLite's texts begin, and our words.
+_WORDS = {
+    "database is locked": "another program has locked the database",
+    "file is not a database": "not a database",
+    "unable to open database file": "the database cannot be opened",
+    "no such table": "the database has no such table",
+    "no such column": "the table has no such column; one WITHOUT ROWID needs --id",
+    "attempt to write a readonly database": "the database cannot be written",
+    "database or disk is full": "the disk is full",
+}
+
+
+@contextlib.contextmanager
+def sqlite_database(path: str) -> Iterator[sqlite3.Connection]:
+    """Connects to an existing database. No statement begins a transaction by itself."""
+    if not os.path.lexists(path):
+        raise Gone
+    try:
+        uri = Path(path).as_uri() + "?mode=rw"
+        with contextlib.closing(sqlite3.connect(uri, LOCK_SECONDS, isolation_level=None, uri=True)) as database:
+            database.text_factory = lambda text: text.decode("utf-8", "surrogateescape")
+            yield database
+    except sqlite3.Error as error:
+        known = (ours for theirs, ours in _WORDS.items() if str(error).startswith(theirs))
+        raise Refused(next(known, f"SQLite failed: {type(error).__name__}")) from None
+
+
+def sqlite_files(names: Sequence[str], exclude: Sequence[str]) -> Iterator[str]:
+    """Lists files. Those that SQLite keeps beside a database are none."""
+    for path in listed(names, exclude, []):
+        base, _, kind = path.rpartition("-")
+        if kind not in ("wal", "shm", "journal") or not os.path.exists(base):
+            yield path
+
+
+class Statements:
+    """A connection to PostgreSQL. The names of a table are quoted in its statements, and values are parameters."""
+
+    def __init__(self, connection: Any, table: Table) -> None:
+        sql: Any = importlib.import_module("psycopg.sql")
+        self.connection, self.sql = connection, sql
+        *schema, name = table.name.split(".")
+        self.queue = sql.Identifier(*schema, f"{name}_rotation")
+        self.names = {"table": sql.Identifier(*schema, name), "name": sql.Identifier(name), "queue": self.queue,
+                      "column": sql.Identifier(table.column), "key": sql.Identifier(name, table.column),
+                      "row": sql.Identifier(name, table.row), "octets": sql.SQL("octet_length")}  # fmt: skip
+
+    def composed(self, statement: str, types: str = "", text: Any = None) -> Any:
+        return self.sql.SQL(statement).format(**self.names, types=self.sql.SQL(types), text=self.sql.Literal(text))
+
+    def run(self, statement: str, *words: Any, **more: Any) -> Any:
+        return self.connection.execute(self.composed(statement, **more), words)
+
+    def one(self, statement: str, *words: Any) -> Any:
+        """Returns the only value of a statement, or `None`."""
+        found = self.run(statement, *words).fetchone()
+        return None if found is None else found[0]
+
+
+@contextlib.contextmanager
+def postgresql_database(table: Table) -> Iterator[Statements]:
+    """Connects as libpq's variables say. The transaction is committed if the block ends well."""
+    psycopg = importlib.import_module("psycopg")
+    try:
+        with psycopg.connect("", options=f"-c lock_timeout={LOCK_SECONDS:g}s") as connection:
+            connection.isolation_level = psycopg.IsolationLevel.READ_COMMITTED
+            yield Statements(connection, table)
+    except psycopg.Error as error:
+        state = f" ({error.sqlstate})" if error.sqlstate else ""
+        raise Refused(f"PostgreSQL failed: {type(error).__name__}{state}") from None
