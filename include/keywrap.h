@@ -330,6 +330,52 @@ int32_t keywrap_rewrap_in_place(const uint8_t *old_kek, size_t old_kek_len, cons
                                 size_t new_kek_len, uint8_t *KEYWRAP_RESTRICT buffer,
                                 size_t wrapped_len, uint32_t forms);
 
+/* Many keys of one length in one call, each in a slot of one buffer. Since version 1.1. The key
+ * schedules are made once, and libkeywrap_hw works on many keys side by side.
+ *   texts      count slots of one length, one behind the other: texts_len is a multiple of count
+ *   statuses   one byte for each of the count slots, not 0
+ * Slot i and statuses[i] are what the call for one key makes of that slot and returns:
+ *   keywrap_rewrap_many  keywrap_rewrap; the byte is KEYWRAP_ALREADY_NEW where *already is 1
+ *   keywrap_wrap_many    keywrap_wrap_in_place, with KEYWRAP_NEW_PADDED
+ *                        keywrap_wrap_padded_in_place; a slot is as long as its wrapped key, and the
+ *                        key of key_len bytes begins 8 bytes after its start
+ *   keywrap_unwrap_many  keywrap_unwrap_in_place, with KEYWRAP_OLD_PADDED
+ *                        keywrap_unwrap_padded_in_place; key_lens[i] is the key's length, or 0
+ *   keywrap_kind_many    keywrap_kind, for slots of a length of a wrapped key: forms[i] and
+ *                        key_lens[i] are its two numbers, and room is that of one slot
+ *   flags      those of keywrap_rewrap; KEYWRAP_NEW_PADDED or 0 to wrap, KEYWRAP_OLD_PADDED or 0 to
+ *              unwrap
+ * The numbers after key_lens and forms are how many there are, which is count.
+ *   KEYWRAP_OK          each slot has its status
+ *   KEYWRAP_BAD_KEK     a KEK is refused
+ *   KEYWRAP_BAD_LENGTH  the flags, a length or a number is refused
+ * After these two refusals no buffer is changed. */
+#define KEYWRAP_ALREADY_NEW 1
+
+KEYWRAP_CALL KEYWRAP_READS(1, 2) KEYWRAP_READS(3, 4) KEYWRAP_CHANGES(5, 6) KEYWRAP_WRITES(8, 9)
+int32_t keywrap_rewrap_many(const uint8_t *old_kek, size_t old_kek_len, const uint8_t *new_kek,
+                            size_t new_kek_len, uint8_t *KEYWRAP_RESTRICT texts, size_t texts_len,
+                            uint32_t flags, uint8_t *KEYWRAP_RESTRICT statuses, size_t count);
+
+KEYWRAP_CALL KEYWRAP_READS(1, 2) KEYWRAP_CHANGES(3, 4) KEYWRAP_WRITES(7, 8)
+int32_t keywrap_wrap_many(const uint8_t *kek, size_t kek_len, uint8_t *KEYWRAP_RESTRICT texts,
+                          size_t texts_len, size_t key_len, uint32_t flags,
+                          uint8_t *KEYWRAP_RESTRICT statuses, size_t count);
+
+KEYWRAP_CALL KEYWRAP_READS(1, 2) KEYWRAP_CHANGES(3, 4) KEYWRAP_WRITES(6, 7) KEYWRAP_WRITES(8, 9)
+int32_t keywrap_unwrap_many(const uint8_t *kek, size_t kek_len, uint8_t *KEYWRAP_RESTRICT texts,
+                            size_t texts_len, uint32_t flags, size_t *KEYWRAP_RESTRICT key_lens,
+                            size_t key_lens_count, uint8_t *KEYWRAP_RESTRICT statuses,
+                            size_t count);
+
+KEYWRAP_CALL KEYWRAP_READS(1, 2) KEYWRAP_READS(3, 4) KEYWRAP_WRITES(5, 6) KEYWRAP_WRITES(7, 8)
+KEYWRAP_WRITES(9, 10) KEYWRAP_WRITES(11, 12)
+int32_t keywrap_kind_many(const uint8_t *kek, size_t kek_len, const uint8_t *texts,
+                          size_t texts_len, uint8_t *KEYWRAP_RESTRICT scratch, size_t room,
+                          uint8_t *KEYWRAP_RESTRICT forms, size_t forms_count,
+                          size_t *KEYWRAP_RESTRICT key_lens, size_t key_lens_count,
+                          uint8_t *KEYWRAP_RESTRICT statuses, size_t count);
+
 #ifdef __cplusplus
 }
 #endif

@@ -55,7 +55,7 @@ pub extern "C" fn keywrap_rewrap_in_place(
 // Writes zeros over both rooms, and over what the making of the key schedules left on the stack:
 // its own room lies there.
 #[inline(never)]
-fn clear_rooms(old: &mut Room, new: &mut Room)
+pub(crate) fn clear_rooms(old: &mut Room, new: &mut Room)
     ensures old { All (λ x. x ≡ 0) old.new }
     ensures new { All (λ x. x ≡ 0) new.new }
 {

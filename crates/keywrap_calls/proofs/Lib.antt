@@ -6,3 +6,4 @@ pub mod KnownAnswers
 pub mod Lengths
 pub mod Rewraps
 pub mod Endings
+pub mod Slots

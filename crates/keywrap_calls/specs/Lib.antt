@@ -10,3 +10,4 @@ pub mod StatusTexts
 pub mod SelfTest
 pub mod Version
 pub mod Tried
+pub mod Many

@@ -1,10 +1,12 @@
 //! In which form a key was wrapped.
 
+ghost use Rattle.std.specs.Prelude.{◌<◌, ℕ, List, length};
 ghost use Rattle.fips197.specs.Cipher.{cipher};
+ghost use Rattle.fips197.specs.KeyExpansion.{IsKekLength};
 ghost use Rattle.keywrap_calls.specs.Kinds.{FindsKind};
 
 use crate::status::{BAD_KEK, BAD_LENGTH, DONE, INTEGRITY};
-use block_pair::Meter;
+use block_pair::{BlockPair, Meter};
 use fips197::KeyInit;
 use key_wrap_core::{Kind, kind_into};
 
@@ -31,7 +33,25 @@ pub fn kind<A: KeyInit>(
     let Ok(aes) = A::new_in(kek, room) else {
         return BAD_KEK;
     };
-    match kind_into(&mut Meter::new(&aes), text, scratch) {
+    kind_under(&aes, text, scratch, padded, key_len)
+}
+
+// The call under AES that is made.
+#[inline(always)]
+pub(crate) fn kind_under<B: BlockPair>(
+    pair: &B,
+    text: &[u8],
+    scratch: &mut [u8],
+    padded: &mut u32,
+    key_len: &mut usize,
+) -> i32
+    ensures finds { (kek : List ℕ) → IsKekLength (length kek) → FindsKind (B.encrypted pair.now)
+        kek text.now scratch.old scratch.new padded.new key_len.new result }
+    ensures bit { padded.new < 2 }
+{
+    *padded = 0;
+    *key_len = 0;
+    match kind_into(&mut Meter::new(pair), text, scratch) {
         Ok(Kind::Plain(m)) => {
             *key_len = m;
             DONE

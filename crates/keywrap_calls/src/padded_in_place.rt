@@ -1,12 +1,13 @@
 //! The padded form in one buffer of the wrapped key's length: the key follows the first 8 bytes.
 
-ghost use Rattle.std.specs.Prelude.{replicate};
+ghost use Rattle.std.specs.Prelude.{ℕ, List, length, replicate};
 ghost use Rattle.fips197.specs.Cipher.{cipher};
+ghost use Rattle.fips197.specs.KeyExpansion.{IsKekLength};
 ghost use Rattle.key_wrap_core.specs.InPlace.{key_in};
 ghost use Rattle.keywrap_calls.specs.Calls.{WrapsPaddedInPlace, UnwrapsPaddedInPlace, IsPaddedKey};
 
 use crate::status::{BAD_KEK, DONE, fault_status, status_of};
-use block_pair::Meter;
+use block_pair::{BlockPair, Meter};
 use fips197::KeyInit;
 
 /// Wraps the key of `key_len` bytes after the first 8 bytes of `buffer` under `kek` in the padded
@@ -22,7 +23,16 @@ pub fn wrap_padded_in_place<A: KeyInit>(
     let Ok(aes) = A::new_in(kek, room) else {
         return BAD_KEK;
     };
-    status_of(key_wrap_core::wrap_padded_in_place(&mut Meter::new(&aes), buffer, key_len))
+    wrap_padded_under(&aes, buffer, key_len)
+}
+
+// The call under AES that is made.
+#[inline(always)]
+pub(crate) fn wrap_padded_under<B: BlockPair>(pair: &B, buffer: &mut [u8], key_len: usize) -> i32
+    ensures { (kek : List ℕ) → IsKekLength (length kek) → WrapsPaddedInPlace (B.encrypted pair.now)
+        kek key_len buffer.old buffer.new result }
+{
+    status_of(key_wrap_core::wrap_padded_in_place(&mut Meter::new(pair), buffer, key_len))
 }
 
 /// Unwraps the padded wrapping in `buffer`, which becomes 8 zero bytes, its key under `kek`, of
@@ -43,7 +53,24 @@ pub fn unwrap_padded_in_place<A: KeyInit>(
     let Ok(aes) = A::new_in(kek, room) else {
         return BAD_KEK;
     };
-    match key_wrap_core::unwrap_padded_in_place(&mut Meter::new(&aes), buffer) {
+    unwrap_padded_under(&aes, buffer, key_len)
+}
+
+// The call under AES that is made.
+#[inline(always)]
+pub(crate) fn unwrap_padded_under<B: BlockPair>(
+    pair: &B,
+    buffer: &mut [u8],
+    key_len: &mut usize,
+) -> i32
+    ensures unwraps { (kek : List ℕ) → IsKekLength (length kek)
+        → UnwrapsPaddedInPlace (B.encrypted pair.now)
+        kek buffer.old buffer.new key_len.new result }
+    ensures key { IsPaddedKey (B.encrypted pair.now)
+        buffer.old (key_in key_len.new buffer.new) (replicate 8 0) buffer.new key_len.new result }
+{
+    *key_len = 0;
+    match key_wrap_core::unwrap_padded_in_place(&mut Meter::new(pair), buffer) {
         Ok(m) => {
             *key_len = m;
             DONE

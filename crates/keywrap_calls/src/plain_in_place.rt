@@ -1,12 +1,13 @@
 //! The plain form in one buffer of the wrapped key's length: the key follows the first 8 bytes.
 
-ghost use Rattle.std.specs.Prelude.{◌≡◌, take, replicate};
+ghost use Rattle.std.specs.Prelude.{◌≡◌, ℕ, List, length, take, replicate};
 ghost use Rattle.fips197.specs.Cipher.{cipher};
+ghost use Rattle.fips197.specs.KeyExpansion.{IsKekLength};
 ghost use Rattle.keywrap_calls.specs.Status.{IsDone};
 ghost use Rattle.keywrap_calls.specs.Calls.{WrapsInPlace, UnwrapsInPlace};
 
 use crate::status::{BAD_KEK, status_of};
-use block_pair::Meter;
+use block_pair::{BlockPair, Meter};
 use fips197::KeyInit;
 
 /// Wraps the key after the first 8 bytes of `buffer`, which are ignored, under `kek` in the plain
@@ -17,7 +18,16 @@ pub fn wrap_in_place<A: KeyInit>(room: A::Room, kek: &[u8], buffer: &mut [u8]) -
     let Ok(aes) = A::new_in(kek, room) else {
         return BAD_KEK;
     };
-    status_of(key_wrap_core::wrap_in_place(&mut Meter::new(&aes), buffer))
+    wrap_under(&aes, buffer)
+}
+
+// The call under AES that is made.
+#[inline(always)]
+pub(crate) fn wrap_under<B: BlockPair>(pair: &B, buffer: &mut [u8]) -> i32
+    ensures { (kek : List ℕ) → IsKekLength (length kek)
+        → WrapsInPlace (B.encrypted pair.now) kek buffer.old buffer.new result }
+{
+    status_of(key_wrap_core::wrap_in_place(&mut Meter::new(pair), buffer))
 }
 
 /// Unwraps the plain wrapping in `buffer`, which becomes 8 zero bytes and its key under `kek` (RFC
@@ -29,5 +39,15 @@ pub fn unwrap_in_place<A: KeyInit>(room: A::Room, kek: &[u8], buffer: &mut [u8])
     let Ok(aes) = A::new_in(kek, room) else {
         return BAD_KEK;
     };
-    status_of(key_wrap_core::unwrap_in_place(&mut Meter::new(&aes), buffer))
+    unwrap_under(&aes, buffer)
+}
+
+// The call under AES that is made.
+#[inline(always)]
+pub(crate) fn unwrap_under<B: BlockPair>(pair: &B, buffer: &mut [u8]) -> i32
+    ensures unwraps { (kek : List ℕ) → IsKekLength (length kek)
+        → UnwrapsInPlace (B.encrypted pair.now) kek buffer.old buffer.new result }
+    ensures first_word { IsDone result → take 8 buffer.new ≡ replicate 8 0 }
+{
+    status_of(key_wrap_core::unwrap_in_place(&mut Meter::new(pair), buffer))
 }

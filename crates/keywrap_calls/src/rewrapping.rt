@@ -14,10 +14,10 @@ use fips197::KeyInit;
 use key_wrap_core::{AgreedForm, Form, RewrapFault, RewrapForms, Rewrapped};
 
 // The flag of a wrapped key that is given in the padded form.
-const OLD_PADDED: u32 = 1;
+pub(crate) const OLD_PADDED: u32 = 1;
 
 // The flag of a wrapped key that is to be answered in the padded form.
-const NEW_PADDED: u32 = 2;
+pub(crate) const NEW_PADDED: u32 = 2;
 
 const BOTH_PADDED: u32 = OLD_PADDED + NEW_PADDED;
 
@@ -25,10 +25,10 @@ const BOTH_PADDED: u32 = OLD_PADDED + NEW_PADDED;
 const KEEP_FORM: u32 = 4;
 
 // The flag beside each of these: a wrapped key that is new already is passed.
-const PASS_NEW: u32 = 8;
+pub(crate) const PASS_NEW: u32 = 8;
 
 // A bit that is no flag.
-const NO_FLAG: u32 = 16;
+pub(crate) const NO_FLAG: u32 = 16;
 
 /// Replaces the wrapped key in `buffer`, under the old KEK, by the same key wrapped under the new
 /// KEK, of the same length (RFC 3394 and RFC 5649). `keywrap.h` has the `flags`. `*already` is
@@ -109,7 +109,7 @@ fn in_place_status(status: i32, buffer: &mut [u8]) -> i32
 // Rewraps as the flags request, under any pairs. Not inlined, its frame lies over what the making
 // of the key schedules left on the stack.
 #[inline(never)]
-fn rewrap_as<O: BlockPair, N: BlockPair>(
+pub(crate) fn rewrap_as<O: BlockPair, N: BlockPair>(
     old: &mut Meter<O>,
     new: &mut Meter<N>,
     flags: u32,
@@ -130,7 +130,7 @@ fn rewrap_as<O: BlockPair, N: BlockPair>(
 }
 
 // Returns the forms that these flags request.
-fn forms_of(flags: u32) -> Option<RewrapForms>
+pub(crate) fn forms_of(flags: u32) -> Option<RewrapForms>
     ensures named { IfSome result (λ forms. AreForms flags × (forms ≡ forms_of flags)) }
     ensures refused { IfNone result (¬ AreForms flags) }
 {

@@ -1,0 +1,35 @@
+-- One slot after the other.
+use Rattle.std.proofs.Common.{◌≡◌, ◌≢◌, ℕ, ◌+◌, ◌*◌, ◌-◌, ◌<◌, ◌≤◌, List, length, arith, rules, ◌∙◌, get_or-set_other, get_or-set_same}
+use Rattle.keywrap_calls.proofs.Slots.{no_slot, slot_next, slot_room, slot_length}
+use Rattle.keywrap_calls.proofs.many_wraps.unwrap_slots.Goals as goal
+
+pub loop-slot-init : goal.loop-slot-init
+loop-slot-init g c = no_slot _ _ _
+
+pub loop-slot-preserved : goal.loop-slot-preserved
+loop-slot-preserved g c =
+    let len : ℕ = c.args.len in
+    let i : ℕ = c.loop-slot.slot in
+    let texts : List ℕ = c.loop-slot.texts in
+    let text : List ℕ = c.unwrap_slot-status.new.text in
+    let below : i < length c.args.statuses.now = c.loop-slot-test.true in
+    let same : length texts ≡ length c.args.texts.now = c.loop-slot.auto.texts in
+    let same' : length c.loop-slot.statuses ≡ length c.args.statuses.now = c.loop-slot.auto.statuses in
+    let same'' : length c.loop-slot.key_lens ≡ length c.args.key_lens.now = c.loop-slot.auto.key_lens in
+    let lens : length c.args.key_lens.now ≡ length c.args.statuses.now = c.requires.lens in
+    let here : i < length c.loop-slot.statuses = omega arith in
+    let here' : i < length c.loop-slot.key_lens = omega arith in
+    let room : len * i + len ≤ length texts = slot_room len i (length c.args.statuses.now) (length texts) below (same ∙ c.requires.slots) in
+    let whole : len * i + len - len * i ≡ len = omega arith in
+    let size : length text ≡ len = c.unwrap_slot-status.auto.text ∙ slot_length len i (len * i + len - len * i) texts whole room in
+    slot_next _ _ (len * i + len - len * i) text whole size room c.loop-slot.invariant
+    (λ j less a b before kek legal. let apart : j ≢ i = omega arith in
+    rw (get_or-set_other c.loop-slot.statuses i j c.unwrap_slot-status.result.0 0 apart, get_or-set_other c.loop-slot.key_lens i j c.unwrap_slot-status.result.1 0 apart)
+    (before kek legal))
+    (λ kek legal. rw (get_or-set_same c.loop-slot.statuses i c.unwrap_slot-status.result.0 0 here, get_or-set_same c.loop-slot.key_lens i c.unwrap_slot-status.result.1 0 here')
+    (c.unwrap_slot-status.ensures kek legal))
+
+pub returns : goal.returns
+returns g c = λ kek legal i below.
+    let end : length c.args.statuses.now ≤ c.loop-slot.slot = search rules in
+    c.loop-slot.invariant.done i (omega (arith, below, end)) kek legal

@@ -1,0 +1,124 @@
+//! Rewrapping many wrapped keys of one length in one buffer.
+
+ghost use Rattle.std.specs.Prelude.{◌≡◌, ◌+◌, ◌*◌, ◌/◌, ◌<◌, ℕ, List, length, pos, slice_index, IfSome, IfNone, IsTrue, ◌↔◌, Err};
+ghost use Rattle.fips197.specs.Cipher.{cipher};
+ghost use Rattle.keywrap_calls.specs.Rewraps.{AreFlags, AreKeks, already_of, forms_of, rewrap_status};
+ghost use Rattle.key_wrap_core.specs.Rewrap.{IsOldLength};
+ghost use Rattle.keywrap_calls.specs.Many.{AreRewrapSlots, RewrapsMany, RewrapsSlot, slot_at};
+
+use crate::many_slots::slot_len;
+use crate::rewrapping::{NO_FLAG, PASS_NEW, forms_of, rewrap_as};
+use crate::status::{BAD_KEK, BAD_LENGTH, DONE};
+use block_pair::{BlockPair, Meter};
+use fips197::KeyInit;
+use key_wrap_core::{RewrapFault, Rewrapped, rewrap_length_ok};
+
+/// Rewraps, as `rewrap` does, the wrapped key in each slot of `texts`: as many slots of one length
+/// as there are `statuses`, each with its status, or with 1 if the wrapped key was under the new
+/// KEK already.
+///
+/// A refused slot is what it was. A refusal of the call leaves both buffers as they were.
+pub fn rewrap_many<A: KeyInit>(
+    rooms: (A::Room, A::Room),
+    old_kek: &[u8],
+    new_kek: &[u8],
+    texts: &mut [u8],
+    flags: u32,
+    statuses: &mut [u8],
+) -> i32
+    ensures { RewrapsMany (cipher old_kek.now) (cipher new_kek.now)
+        old_kek.now new_kek.now flags texts.old texts.new statuses.old statuses.new result }
+{
+    let Ok(old) = A::new_in(old_kek, rooms.0) else {
+        return BAD_KEK;
+    };
+    let Ok(new) = A::new_in(new_kek, rooms.1) else {
+        return BAD_KEK;
+    };
+    let Some(len) = rewrap_slot_len(flags, texts.len(), statuses.len()) else {
+        return BAD_LENGTH;
+    };
+    rewrap_slots(&old, &new, flags, len, texts, statuses);
+    DONE
+}
+
+// The length of each slot, if it is legal in one of the old forms, and the flags are legal.
+fn rewrap_slot_len(flags: u32, len: usize, count: usize) -> Option<usize>
+    ensures some { IfSome result (λ n. AreRewrapSlots flags len count
+        × (n ≡ len / count) × (len ≡ n * count)) }
+    ensures none { IfNone result (¬ AreRewrapSlots flags len count) }
+{
+    let n = slot_len(len, count)?;
+    if is_rewrap_length(flags, n) {
+        Some(n)
+    } else {
+        None
+    }
+}
+
+// Whether the flags are legal, and a wrapped key in one of the old forms can have this length.
+fn is_rewrap_length(flags: u32, len: usize) -> bool
+    ensures { IsTrue result ↔ (AreFlags flags × IsOldLength (forms_of flags) len) }
+{
+    if flags >= NO_FLAG {
+        return false;
+    }
+    match forms_of(flags % PASS_NEW) {
+        Some(forms) => rewrap_length_ok(&forms, len),
+        None => false,
+    }
+}
+
+// Rewraps each slot of `len` bytes. Not inlined, its frame lies over what the making of the key
+// schedules left on the stack.
+#[inline(never)]
+fn rewrap_slots<O: BlockPair, N: BlockPair>(
+    old: &O,
+    new: &N,
+    flags: u32,
+    len: usize,
+    texts: &mut [u8],
+    statuses: &mut [u8],
+)
+    requires { length texts.old ≡ len * length statuses.old }
+    ensures { (old_kek new_kek : List ℕ) → AreKeks old_kek new_kek → (i : ℕ) → i < length statuses.old
+        → RewrapsSlot (O.encrypted old.now) (N.encrypted new.now) old_kek new_kek flags
+        (slot_at len i texts.old) (slot_at len i texts.new) (slice_index statuses.new i) }
+{
+    for slot in 0..statuses.len() {
+        let start = len * slot;
+        statuses[slot] = rewrap_slot(old, new, flags, &mut texts[start..start + len]);
+    }
+}
+
+// Rewraps one wrapped key, and returns its byte.
+fn rewrap_slot<O: BlockPair, N: BlockPair>(old: &O, new: &N, flags: u32, text: &mut [u8]) -> u8
+    ensures { (old_kek new_kek : List ℕ) → AreKeks old_kek new_kek
+        → RewrapsSlot (O.encrypted old.now) (N.encrypted new.now) old_kek new_kek flags
+        text.old text.new result }
+{
+    outcome_byte(rewrap_as(&mut Meter::new(old), &mut Meter::new(new), flags, text))
+}
+
+// The byte of an outcome.
+fn outcome_byte(outcome: Result<Rewrapped, RewrapFault>) -> u8
+    ensures { (code : ℕ) × (rewrap_status outcome ≡ pos code)
+        × (result ≡ code + already_of outcome) }
+{
+    match outcome {
+        Ok(Rewrapped::Fresh) => 0,
+        Ok(Rewrapped::AlreadyNew) => 1,
+        Err(fault) => refusal_byte(fault),
+    }
+}
+
+// The byte of a refusal.
+fn refusal_byte(fault: RewrapFault) -> u8
+    ensures { rewrap_status (Err fault) ≡ pos result }
+{
+    match fault {
+        RewrapFault::BadLength => 4,
+        RewrapFault::Integrity => 5,
+        RewrapFault::KeyNotPlain => 8,
+    }
+}

@@ -1,0 +1,226 @@
+//! Wrapping and unwrapping many keys of one length in one buffer.
+
+ghost use Rattle.std.specs.Prelude.{◌≡◌, ◌↔◌, ◌*◌, ◌/◌, ◌<◌, ℕ, List, length, pos, slice_index, IfSome, IfNone, IsTrue};
+ghost use Rattle.fips197.specs.Cipher.{cipher};
+ghost use Rattle.fips197.specs.KeyExpansion.{IsKekLength};
+ghost use Rattle.keywrap_calls.specs.Rewraps.{form_of_bit};
+ghost use Rattle.keywrap_calls.specs.Many.{slot_at, AreWrapFlags, wrap_form, IsKeySlot, AreWrapSlots, WrapsSlot, WrapsMany};
+ghost use Rattle.keywrap_calls.specs.Many.{AreUnwrapFlags, IsSlotLength, AreUnwrapSlots, UnwrapsPlainSlot, UnwrapsSlot, UnwrapsMany};
+
+use crate::many_slots::{slot_len, status_byte};
+use crate::padded_in_place::{unwrap_padded_under, wrap_padded_under};
+use crate::plain_in_place::{unwrap_under, wrap_under};
+use crate::rewrapping::{NEW_PADDED, OLD_PADDED};
+use crate::status::{BAD_KEK, BAD_LENGTH, DONE};
+use block_pair::BlockPair;
+use fips197::KeyInit;
+use key_wrap_core::{Form, key_length_ok, padded_length_ok, padded_text_length_ok, text_length_ok};
+
+/// Wraps the key of `key_len` bytes after the first 8 bytes of each slot of `texts`: as many slots
+/// of the length of its wrapped key as there are `statuses`. `flags` is 0, or 2 for the padded
+/// form. Slot and status are those of `wrap_in_place` or `wrap_padded_in_place`.
+///
+/// A refusal of the call leaves both buffers as they were.
+pub fn wrap_many<A: KeyInit>(
+    room: A::Room,
+    kek: &[u8],
+    texts: &mut [u8],
+    key_len: usize,
+    flags: u32,
+    statuses: &mut [u8],
+) -> i32
+    ensures { WrapsMany (cipher kek.now)
+        kek.now key_len flags texts.old texts.new statuses.old statuses.new result }
+{
+    let Ok(aes) = A::new_in(kek, room) else {
+        return BAD_KEK;
+    };
+    let Some((form, len)) = wrap_slots_of(flags, key_len, texts.len(), statuses.len()) else {
+        return BAD_LENGTH;
+    };
+    wrap_slots(&aes, form, key_len, len, texts, statuses);
+    DONE
+}
+
+// The form that the flags request, and the length of each slot, if flags and lengths are legal.
+fn wrap_slots_of(flags: u32, key_len: usize, len: usize, count: usize) -> Option<(Form, usize)>
+    ensures some { IfSome result (λ slots. AreWrapSlots flags key_len len count
+        × (slots.0 ≡ wrap_form flags) × (slots.1 ≡ len / count) × (len ≡ slots.1 * count)) }
+    ensures none { IfNone result (¬ AreWrapSlots flags key_len len count) }
+{
+    let n = slot_len(len, count)?;
+    let form = new_form(flags)?;
+    if is_key_slot(form, key_len, n) {
+        Some((form, n))
+    } else {
+        None
+    }
+}
+
+// The form that the flags of a wrap request.
+fn new_form(flags: u32) -> Option<Form>
+    ensures some { IfSome result (λ form. AreWrapFlags flags × (form ≡ wrap_form flags)) }
+    ensures none { IfNone result (¬ AreWrapFlags flags) }
+{
+    match flags {
+        0 => Some(Form::Plain),
+        NEW_PADDED => Some(Form::Padded),
+        _ => None,
+    }
+}
+
+// Whether a slot of `len` bytes is as long as the wrapped key of a key of `key_len` bytes.
+fn is_key_slot(form: Form, key_len: usize, len: usize) -> bool
+    ensures { IsTrue result ↔ IsKeySlot form key_len len }
+{
+    match form {
+        Form::Plain => key_length_ok(key_len) && len == key_len + 8,
+        Form::Padded => padded_length_ok(key_len) && len == 8 + key_len.next_multiple_of(8),
+    }
+}
+
+// Wraps the key in each slot of `len` bytes.
+#[inline(never)]
+fn wrap_slots<B: BlockPair>(
+    pair: &B,
+    form: Form,
+    key_len: usize,
+    len: usize,
+    texts: &mut [u8],
+    statuses: &mut [u8],
+)
+    requires { length texts.old ≡ len * length statuses.old }
+    ensures { (kek : List ℕ) → IsKekLength (length kek) → (i : ℕ) → i < length statuses.old
+        → WrapsSlot form (B.encrypted pair.now) kek key_len
+        (slot_at len i texts.old) (slot_at len i texts.new) (pos (slice_index statuses.new i)) }
+{
+    for slot in 0..statuses.len() {
+        let start = len * slot;
+        statuses[slot] = wrap_slot(pair, form, key_len, &mut texts[start..start + len]);
+    }
+}
+
+// Wraps the key in one slot, and returns the byte of its status.
+fn wrap_slot<B: BlockPair>(pair: &B, form: Form, key_len: usize, text: &mut [u8]) -> u8
+    ensures { (kek : List ℕ) → IsKekLength (length kek)
+        → WrapsSlot form (B.encrypted pair.now) kek key_len text.old text.new (pos result) }
+{
+    match form {
+        Form::Plain => status_byte(wrap_under(pair, text)),
+        Form::Padded => status_byte(wrap_padded_under(pair, text, key_len)),
+    }
+}
+
+/// Unwraps the wrapped key in each slot of `texts`: as many slots of one length as there are
+/// `key_lens` and `statuses`. `flags` is 0, or 1 for the padded form. Slot and status are those of
+/// `unwrap_in_place` or `unwrap_padded_in_place`. The length of each key is in `key_lens`, or 0 for
+/// a refused slot.
+///
+/// A refusal of the call leaves the buffers as they were.
+pub fn unwrap_many<A: KeyInit>(
+    room: A::Room,
+    kek: &[u8],
+    texts: &mut [u8],
+    flags: u32,
+    key_lens: &mut [usize],
+    statuses: &mut [u8],
+) -> i32
+    ensures { UnwrapsMany (cipher kek.now) kek.now flags texts.old texts.new
+        key_lens.old key_lens.new statuses.old statuses.new result }
+{
+    let Ok(aes) = A::new_in(kek, room) else {
+        return BAD_KEK;
+    };
+    let count = statuses.len();
+    let Some((form, len)) = unwrap_slots_of(flags, texts.len(), count, key_lens.len()) else {
+        return BAD_LENGTH;
+    };
+    unwrap_slots(&aes, form, len, texts, key_lens, statuses);
+    DONE
+}
+
+// The form that the flags request, and the length of each slot, if flags and lengths are legal.
+fn unwrap_slots_of(flags: u32, len: usize, count: usize, lens: usize) -> Option<(Form, usize)>
+    ensures some { IfSome result (λ slots. AreUnwrapSlots flags len count lens
+        × (slots.0 ≡ form_of_bit flags) × (slots.1 ≡ len / count) × (len ≡ slots.1 * count)) }
+    ensures none { IfNone result (¬ AreUnwrapSlots flags len count lens) }
+{
+    let n = slot_len(len, count)?;
+    let form = old_form(flags)?;
+    if lens == count && is_slot_length(form, n) {
+        Some((form, n))
+    } else {
+        None
+    }
+}
+
+// The form that the flags of an unwrap request.
+fn old_form(flags: u32) -> Option<Form>
+    ensures some { IfSome result (λ form. AreUnwrapFlags flags × (form ≡ form_of_bit flags)) }
+    ensures none { IfNone result (¬ AreUnwrapFlags flags) }
+{
+    match flags {
+        0 => Some(Form::Plain),
+        OLD_PADDED => Some(Form::Padded),
+        _ => None,
+    }
+}
+
+// Whether a wrapped key can have this length.
+fn is_slot_length(form: Form, len: usize) -> bool
+    ensures { IsTrue result ↔ IsSlotLength form len }
+{
+    match form {
+        Form::Plain => text_length_ok(len),
+        Form::Padded => padded_text_length_ok(len),
+    }
+}
+
+// Unwraps each slot of `len` bytes.
+#[inline(never)]
+fn unwrap_slots<B: BlockPair>(
+    pair: &B,
+    form: Form,
+    len: usize,
+    texts: &mut [u8],
+    key_lens: &mut [usize],
+    statuses: &mut [u8],
+)
+    requires slots { length texts.old ≡ len * length statuses.old }
+    requires lens { length key_lens.old ≡ length statuses.old }
+    ensures { (kek : List ℕ) → IsKekLength (length kek) → (i : ℕ) → i < length statuses.old
+        → UnwrapsSlot form (B.encrypted pair.now) kek (slot_at len i texts.old)
+        (slot_at len i texts.new) (slice_index key_lens.new i) (pos (slice_index statuses.new i)) }
+{
+    for slot in 0..statuses.len() {
+        let start = len * slot;
+        let (status, key_len) = unwrap_slot(pair, form, &mut texts[start..start + len]);
+        statuses[slot] = status;
+        key_lens[slot] = key_len;
+    }
+}
+
+// Unwraps one slot, and returns the byte of its status, and the length of the key.
+fn unwrap_slot<B: BlockPair>(pair: &B, form: Form, text: &mut [u8]) -> (u8, usize)
+    ensures { (kek : List ℕ) → IsKekLength (length kek)
+        → UnwrapsSlot form (B.encrypted pair.now) kek text.old text.new result.1 (pos result.0) }
+{
+    match form {
+        Form::Plain => unwrap_plain_slot(pair, text),
+        Form::Padded => {
+            let mut key_len = 0;
+            let status = unwrap_padded_under(pair, text, &mut key_len);
+            (status_byte(status), key_len)
+        }
+    }
+}
+
+// The same in the plain form.
+fn unwrap_plain_slot<B: BlockPair>(pair: &B, text: &mut [u8]) -> (u8, usize)
+    ensures { (kek : List ℕ) → IsKekLength (length kek)
+        → UnwrapsPlainSlot (B.encrypted pair.now) kek text.old text.new result.1 (pos result.0) }
+{
+    let status = unwrap_under(pair, text);
+    let key_len = if status == DONE { text.len() - 8 } else { 0 };
+    (status_byte(status), key_len)
+}
