@@ -1,9 +1,13 @@
-"""Random kills and stops of a rotation, over each kind of store, with live writers and several rotations at once.
+"""Random kills and stops of a rotation, over each kind of store, with live writers, a KEK that is replaced for a moment,
+and several rotations at once, also with different KEKs.
 
-`cryptography` (OpenSSL) checks every key: none is lost, none is under a foreign KEK, and what a report says is true. With
-KEYWRAP_KILLS=N each kind of store gets N rounds; `make gate` runs a few.
+`cryptography` (OpenSSL) checks every key: none is lost, none is under a foreign KEK, and what a report says is true.
+With KEYWRAP_KILLS=N each kind of store gets N rounds; `make gate` runs a few.
 """
 
+import collections
+import contextlib
+import fcntl
 import json
 import os
 import random
@@ -23,7 +27,8 @@ from postgresql_server import Server, server_programs  # noqa: E402
 from rotation_help import KEK, NEW_KEK, ONE_BY_ONE, left_over, set_keks, wrapped_under  # noqa: E402
 
 ROUNDS = int(os.environ.get("KEYWRAP_KILLS", "2"))
-PLACES, FILES = 120, 8
+FILES = 8
+OTHER_KEK = bytes(range(200, 224))
 SLOWLY = ONE_BY_ONE + """
 import random, time
 from keywrap.rotation import postgresql_queue, replacing, rows, sqlite
@@ -43,11 +48,11 @@ sys.exit(main())
 class Files:
     """FILES files with several keys each. A writer renames a new file into the place of an old one."""
 
-    words = ["store"]
+    words, places = ["store"], 120
 
     def __init__(self, keys):
         self.keys = dict(keys)
-        os.makedirs("store", exist_ok=True)
+        os.makedirs("store")
         for number in range(FILES):
             self.rename(number)
 
@@ -88,6 +93,16 @@ class Csv(Files):
         return [bytes.fromhex(line.split(",")[0]) for line in open(f"store/{number}").read().splitlines()[1:]]
 
 
+class Json(Files):
+    words = ["--json", "key", "store"]
+
+    def content(self, wrapped):
+        return "".join(f'{{"n": 1.50, "key" : "{key.hex()}"}}\n' for key in wrapped)
+
+    def lines(self, number):
+        return [bytes.fromhex(json.loads(line)["key"]) for line in open(f"store/{number}")]
+
+
 class OneKey(Files):
     words = ["--raw", "store"]
 
@@ -105,8 +120,36 @@ class OneKey(Files):
         return {place: open(f"store/{place}", "rb").read() for place in self.keys}
 
 
+class Objects(OneKey):
+    """Objects with compare-and-swap: a version is the digest of the content."""
+
+    places = 16
+    words = ["--objects", "manifest", "--get", "sh object get {name} {file}", "--put", "sh object put {name} {file} {version}"]
+    commands = """version() { sha256sum <"$1" | cut -c 1-64; }
+        case $1 in
+        get) cp "store/$2" "$3" && version "$3" ;;
+        put) exec 9>lock && flock 9 && [ "$(version "store/$2")" = "$4" ] && cp "$3" "new.$$" && mv "new.$$" "store/$2" ;;
+        esac"""
+
+    def __init__(self, keys):
+        for name, content in (("object", self.commands), ("manifest", "\n".join(map(str, keys)))):
+            with open(name, "w") as file:
+                file.write(content)
+        super().__init__(keys)
+
+    def write(self, place, wrapped):
+        with open("lock", "w") as lock:
+            fcntl.flock(lock, fcntl.LOCK_EX)
+            with open("their", "w") as file:
+                file.write(wrapped.hex() + "\n")
+            os.rename("their", f"store/{place}")
+
+    def held(self):
+        return {place: bytes.fromhex(open(f"store/{place}").read()) for place in self.keys}
+
+
 class Sqlite:
-    words = ["--table", "keys", "keys.db"]
+    words, places = ["--table", "keys", "keys.db"], 120
 
     def __init__(self, keys):
         self.run("CREATE TABLE keys (id INTEGER PRIMARY KEY, key BLOB)")
@@ -129,7 +172,7 @@ class Sqlite:
 
 
 class Postgresql:
-    words = ["--postgresql", "keys"]
+    words, places = ["--postgresql", "keys"], 120
 
     def __init__(self, keys, server):
         self.server = server
@@ -154,7 +197,7 @@ def server():
 
 def unwrapped(wrapped):
     """The key, and the KEK that it is under."""
-    for kek in (NEW_KEK, KEK):
+    for kek in (NEW_KEK, KEK, OTHER_KEK):
         try:
             return pyca.aes_key_unwrap(kek, wrapped), kek
         except pyca.InvalidUnwrap:
@@ -163,10 +206,17 @@ def unwrapped(wrapped):
 
 
 def disturb(source, running):
-    """Kills or stops a run, one of its processes, or all of them."""
+    """Kills or stops a run, one of its processes, or all of them, or replaces the new KEK for a moment."""
     time.sleep(source.random() * 0.6)
-    how = source.choice(["run", "worker", "all", "stop", "terminate"])
+    how = source.choice(["run", "worker", "all", "stop", "terminate", "KEK"])
     try:
+        if how == "KEK":
+            for content in (OTHER_KEK, NEW_KEK):
+                with open("other", "w") as file:
+                    file.write(content.hex())
+                os.rename("other", "new-kek.hex")
+                time.sleep(source.random() * 0.2)
+            return
         with open(f"/proc/{running.pid}/task/{running.pid}/children", encoding="ascii") as file:
             workers = [int(child) for child in file.read().split()]
         if how == "stop":
@@ -194,50 +244,105 @@ class Writer(threading.Thread):
 
     def run(self):
         while not self.stopped.is_set():
-            place, key = self.source.randrange(PLACES), self.source.randbytes(24)
+            place, key = self.source.randrange(self.store.places), self.source.randbytes(24)
             self.store.write(place, wrapped_under(NEW_KEK, key))
             self.acknowledged[place] = key
             time.sleep(self.source.random() * 0.02)
 
 
-KINDS = {"lines": Files, "CSV": Csv, "files of one key": OneKey, "SQLite": Sqlite, "PostgreSQL": Postgresql}
+KINDS = {"lines": Files, "CSV": Csv, "JSON Lines": Json, "files of one key": OneKey, "objects": Objects,
+         "SQLite": Sqlite, "PostgreSQL": Postgresql}  # fmt: skip
+
+
+@pytest.fixture
+def filled(request, tmp_path, monkeypatch):
+    """filled(kind, number): a store of random keys under the KEK, the keys by their places, and a source of numbers."""
+    monkeypatch.chdir(tmp_path)
+    set_keks(tmp_path, monkeypatch)
+
+    def fill(kind, number):
+        source = random.Random(f"{kind} {number}")
+        keys = {place: source.randbytes(32) for place in range(KINDS[kind].places)}
+        more = []
+        if kind == "PostgreSQL":
+            more = [request.getfixturevalue("server")]
+            for name, value in more[0].environment.items():
+                monkeypatch.setenv(name, value)
+        return KINDS[kind]({place: wrapped_under(KEK, key) for place, key in keys.items()}, *more), keys, source
+
+    return fill
+
+
+def start(store, report, *words):
+    run = [sys.executable, "-B", "-c", SLOWLY, "--jobs", "2", "--report", report, *words, *store.words]
+    return subprocess.Popen(run, start_new_session=True, stderr=subprocess.DEVNULL)
+
+
+@contextlib.contextmanager
+def writing(store, source):
+    writer = Writer(store, source)
+    writer.start()
+    try:
+        yield writer.acknowledged
+    finally:
+        writer.stopped.set()
+        writer.join(timeout=60)
+
+
+def counts_of(report):
+    """The last line of a report."""
+    return [json.loads(line) for line in open(report) if line.endswith("}\n")][-1]
+
+
+def held_by(store):
+    """The keys, and the number of keys under each KEK."""
+    found = {place: unwrapped(wrapped) for place, wrapped in store.held().items()}
+    return {place: key for place, (key, _) in found.items()}, collections.Counter(kek for _, kek in found.values())
 
 
 @pytest.mark.parametrize("number", range(ROUNDS))
 @pytest.mark.parametrize("kind", KINDS)
-def test_random_kills(request, tmp_path, monkeypatch, kind, number):
-    source = random.Random(f"{kind} {number}")
-    monkeypatch.chdir(tmp_path)
-    set_keks(tmp_path, monkeypatch)
-    keys = {place: source.randbytes(32) for place in range(PLACES)}
-    more = []
-    if kind == "PostgreSQL":
-        more = [request.getfixturevalue("server")]
-        for name, value in more[0].environment.items():
-            monkeypatch.setenv(name, value)
-    store = KINDS[kind]({place: wrapped_under(KEK, key) for place, key in keys.items()}, *more)
-    writer = Writer(store, source)
-    writer.start()
-
-    def start(name):
-        run = [sys.executable, "-B", "-c", SLOWLY, "--jobs", "2", "--report", name, *store.words]
-        return subprocess.Popen(run, start_new_session=True, stderr=subprocess.DEVNULL)
-
-    try:
+def test_random_kills(filled, tmp_path, kind, number):
+    store, keys, source = filled(kind, number)
+    with writing(store, source) as acknowledged:
         for _ in range(3):
-            runs = [start(f"report{at}") for at in range(source.choice([1, 2]))]
+            runs = [start(store, f"report{at}") for at in range(source.choice([1, 2]))]
             for running in runs:
                 disturb(source, running)
             for running in runs:
                 running.wait(timeout=240)
-    finally:
-        writer.stopped.set()
-        writer.join(timeout=60)
-    assert start("report0").wait(timeout=240) == 0
-    expected = {**keys, **writer.acknowledged}
-    found = {place: unwrapped(wrapped) for place, wrapped in store.held().items()}
-    assert {place: key for place, (key, _) in found.items()} == expected
-    assert {kek for _, kek in found.values()} == {NEW_KEK}
+    assert start(store, "report0").wait(timeout=240) == 0
+    assert held_by(store) == ({**keys, **acknowledged}, {NEW_KEK: len(keys)})
     assert left_over(tmp_path) == []
-    lines = [json.loads(line) for line in open("report0") if line.endswith("}\n")]
-    assert lines[-1]["status"] == 0 and lines[-1]["keys_refused"] == 0
+    counts = counts_of("report0")
+    assert (counts["status"], counts["keys"], counts["keys_refused"]) == (0, len(keys), 0)
+
+
+@pytest.mark.parametrize("number", range(ROUNDS))
+@pytest.mark.parametrize("kind", KINDS)
+def test_rotations_with_different_keks(filled, tmp_path, kind, number):
+    """One takes keys to another KEK: the other one names them, and leaves them. A third one has no KEK of this store."""
+    store, keys, source = filled(kind, number)
+    for name, kek in (("other.hex", OTHER_KEK), ("foreign.hex", bytes(32))):
+        (tmp_path / name).write_text(kek.hex())
+    others = ["--new-kek", str(tmp_path / "other.hex")]
+    with writing(store, source) as acknowledged:
+        for _ in range(2):
+            started = [["report"], ["others", *others], ["none", "--kek", "foreign.hex"]]
+            runs = [start(store, *words) for words in source.sample(started, 3)]
+            disturb(source, source.choice(runs))
+            for running in runs:
+                running.wait(timeout=240)
+    expected = {**keys, **acknowledged}
+    if kind == "PostgreSQL":  # Its queue belongs to the rotation that began first, and keeps what that one refused.
+        store.server.sql("DROP TABLE IF EXISTS keys_rotation")
+    status = start(store, "report").wait(timeout=240)
+    found, keks = held_by(store)
+    counts = counts_of("report")
+    assert (found, set(keks) - {NEW_KEK, OTHER_KEK}) == (expected, set())
+    assert (status, counts["keys_refused"]) == (5 if keks[OTHER_KEK] else 0, keks[OTHER_KEK])
+    if kind == "PostgreSQL":
+        store.server.sql("DROP TABLE IF EXISTS keys_rotation")
+    assert start(store, "back", "--kek", str(tmp_path / "other.hex")).wait(timeout=240) == 0
+    assert held_by(store) == (expected, {NEW_KEK: len(keys)})
+    assert left_over(tmp_path) == []
