@@ -251,14 +251,14 @@ install-library: library
 	for file in $(for_packages); do install -m 644 "include/$${file##*/}.in" '$(lib)'/$$file || exit; done
 	cd '$(lib)' && $(fill_in) $(for_packages)
 	$(install_documents) README.library $(of_library) $(documents)
-	find examples provider -type d -exec install -d '$(doc)/{}' ';' -o -exec install -m 644 {} '$(doc)/{}' ';'
+	find examples java provider -type d -exec install -d '$(doc)/{}' ';' -o -exec install -m 644 {} '$(doc)/{}' ';'
 
 uninstall-library:
 	rm -f '$(lib)/libkeywrap.a' '$(lib)/$(shared)' '$(lib)/$(soname)' '$(lib)/libkeywrap.so' \
 	    '$(include)/keywrap.h' '$(include)/keywrap_steps.h' $(for_packages:%='$(lib)/%') \
 	    '$(lib)/libkeywrap_hw.a' '$(lib)/$(hw_shared)' '$(lib)/$(hw_soname)' '$(lib)/libkeywrap_hw.so'
 	rmdir '$(lib)/cmake/keywrap' '$(lib)/cmake' 2>/dev/null || true
-	$(call gone,README.library examples provider $(notdir $(of_library)),$(bin)/keywrap)
+	$(call gone,README.library examples java provider $(notdir $(of_library)),$(bin)/keywrap)
 
 install-provider: provider
 	install -d '$(modules)'

@@ -9,8 +9,9 @@ import pytest
 
 ROOT = pathlib.Path(__file__).resolve().parent.parent
 DOCUMENTS = [path.relative_to(ROOT) for path in [
-    *sorted(ROOT.glob("*.md")), *sorted(ROOT.glob("docs/*.md")), ROOT / "python/README.md", ROOT / "js/README.md"]]
-DIRECTORIES = (r"\.ci|bench|completions|crates|docs|examples|include|man|provider|python|scripts|specs|src|tests"
+    *sorted(ROOT.glob("*.md")), *sorted(ROOT.glob("docs/*.md")), ROOT / "python/README.md", ROOT / "js/README.md",
+    ROOT / "java/README.md"]]
+DIRECTORIES = (r"\.ci|bench|completions|crates|docs|examples|include|java|man|provider|python|scripts|specs|src|tests"
                "|[a-z0-9_]+/(?:specs|src|proofs)")
 
 def text_of(document):

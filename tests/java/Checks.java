@@ -1,0 +1,311 @@
+// Compares the provider with the JDK's own ciphers, and refuses what it has to. The argument is the name of a check.
+// Fails with an exception.
+
+import java.nio.ByteBuffer;
+import java.security.AlgorithmParameters;
+import java.security.InvalidAlgorithmParameterException;
+import java.security.InvalidKeyException;
+import java.security.Key;
+import java.security.KeyPair;
+import java.security.KeyPairGenerator;
+import java.security.PublicKey;
+import java.security.Security;
+import java.util.Arrays;
+import java.util.HashSet;
+import java.util.List;
+import java.util.Map;
+import java.util.Random;
+import java.util.Set;
+import java.util.concurrent.Callable;
+import javax.crypto.Cipher;
+import javax.crypto.IllegalBlockSizeException;
+import javax.crypto.ShortBufferException;
+import javax.crypto.spec.IvParameterSpec;
+import javax.crypto.spec.SecretKeySpec;
+
+final class Checks {
+    private static final String OURS = "Keywrap", THEIRS = "SunJCE";
+    private static final String[] FORMS = {"AES/KW/NoPadding", "AES/KWP/NoPadding"};
+    private static final Random RANDOM = new Random(78);
+
+    private static void check(boolean right, Object what) {
+        if (!right) {
+            throw new AssertionError(what);
+        }
+    }
+
+    /** Returns the class and the message of the exception that a call throws. */
+    private static String thrown(Callable<?> call) {
+        try {
+            call.call();
+        } catch (Exception e) {
+            return e.getClass().getSimpleName() + ": " + e.getMessage();
+        }
+        throw new AssertionError("nothing was thrown");
+    }
+
+    private static void throwsOne(Class<?> due, Callable<?> call) {
+        check(thrown(call).startsWith(due.getSimpleName() + ": "), thrown(call));
+    }
+
+    private static byte[] random(int length) {
+        byte[] bytes = new byte[length];
+        RANDOM.nextBytes(bytes);
+        return bytes;
+    }
+
+    private static Key aes(byte[] bytes) {
+        return new SecretKeySpec(bytes, "AES");
+    }
+
+    private static Cipher begun(String name, String provider, int mode, Key kek, byte... iv) throws Exception {
+        Cipher cipher = Cipher.getInstance(name, provider);
+        cipher.init(mode, kek, iv.length == 0 ? null : new IvParameterSpec(iv));
+        return cipher;
+    }
+
+    private static byte[] wrapped(String name, String provider, Key kek, byte[] key, byte... iv) throws Exception {
+        return begun(name, provider, Cipher.ENCRYPT_MODE, kek, iv).doFinal(key);
+    }
+
+    private static byte[] unwrapped(String name, String provider, Key kek, byte[] given, byte... iv) throws Exception {
+        return begun(name, provider, Cipher.DECRYPT_MODE, kek, iv).doFinal(given);
+    }
+
+    /** Each name that the JDK has leads to this provider, and takes the KEKs that the JDK's takes. */
+    static void names() throws Exception {
+        Set<String> names = new HashSet<>();
+        for (Map.Entry<Object, Object> entry : Security.getProvider(THEIRS).entrySet()) {
+            String key = entry.getKey().toString(), alias = "Alg.Alias.Cipher.";
+            if (key.startsWith(alias) && entry.getValue().toString().matches("AES.*/KWP?/NoPadding")) {
+                names.add(key.substring(alias.length()));
+                names.add(entry.getValue().toString());
+            }
+        }
+        // The JDK's eight, as many short names, and six object identifiers, also after "OID.".
+        check(names.size() == 8 + 8 + 2 * 6, names);
+        for (String name : names) {
+            for (int length = 0; length <= 40; length++) {
+                Key kek = aes(random(Math.max(length, 1)));
+                if (kek.getEncoded().length == length && takes(name, THEIRS, kek)) {
+                    Cipher cipher = Cipher.getInstance(name);
+                    cipher.init(Cipher.WRAP_MODE, kek);
+                    check(cipher.getProvider().getName().equals(OURS), name);
+                    Key key = aes(random(32));
+                    Cipher reader = begun(name, THEIRS, Cipher.UNWRAP_MODE, kek);
+                    check(reader.unwrap(cipher.wrap(key), "AES", Cipher.SECRET_KEY).equals(key), name);
+                } else {
+                    check(!takes(name, OURS, kek), name + " " + length);
+                }
+            }
+        }
+        check(Cipher.getInstance("AES/KW/PKCS5Padding").getProvider().getName().equals(THEIRS), "KW/PKCS5Padding");
+    }
+
+    private static boolean takes(String name, String provider, Key kek) throws Exception {
+        try {
+            begun(name, provider, Cipher.WRAP_MODE, kek);
+            return true;
+        } catch (InvalidKeyException e) {
+            return false;
+        }
+    }
+
+    /** Both ways with the JDK, for all short lengths: the same bytes, or both refuse. */
+    static void lengths() throws Exception {
+        for (String name : FORMS) {
+            int refused = 0;
+            for (int bits = 128; bits <= 256; bits += 64) {
+                for (int length = 0; length <= 80; length++) {
+                    Key kek = aes(random(bits / 8));
+                    byte[] key = random(length), copy = key.clone();
+                    byte[] due;
+                    try {
+                        due = wrapped(name, THEIRS, kek, key);
+                    } catch (IllegalBlockSizeException e) {
+                        throwsOne(IllegalBlockSizeException.class, () -> wrapped(name, OURS, kek, key));
+                        refused++;
+                        continue;
+                    } finally {
+                        throwsOne(IllegalBlockSizeException.class, () -> unwrapped(name, OURS, kek, key));
+                    }
+                    check(Arrays.equals(wrapped(name, OURS, kek, key), due), name + " " + length);
+                    check(Arrays.equals(unwrapped(name, OURS, kek, due), key), name + " " + length);
+                    check(Arrays.equals(key, copy), "the input was changed");
+                }
+            }
+            check(refused == (name.contains("KWP") ? 3 : 3 * (81 - 9)), refused);
+        }
+    }
+
+    /** The initial values of both forms, by a specification and by parameters. */
+    static void values() throws Exception {
+        Key kek = aes(random(24));
+        byte[] key = random(40), iv = random(8), reserved = {-0x5a, 0x59, 0x59, -0x5a, 0, 0, 0, 40};
+        byte[] due = wrapped(FORMS[0], THEIRS, kek, key, iv);
+        check(Arrays.equals(wrapped(FORMS[0], OURS, kek, key, iv), due), "wrapped under a value");
+        check(Arrays.equals(unwrapped(FORMS[0], OURS, kek, due, iv), key), "unwrapped under a value");
+        throwsOne(IllegalBlockSizeException.class, () -> unwrapped(FORMS[0], OURS, kek, due));
+        byte[] aiv = Arrays.copyOf(reserved, 4), other = {-0x5a, 0x59, 0x59, -0x59};
+        check(Arrays.equals(wrapped(FORMS[1], OURS, kek, key, aiv), wrapped(FORMS[1], THEIRS, kek, key)), "padded");
+        byte[][][] refused = {{reserved, random(7), random(9), aiv}, {other, reserved, random(8), random(1)}};
+        for (int form = 0; form < 2; form++) {
+            for (byte[] value : refused[form]) {
+                String name = FORMS[form];
+                throwsOne(InvalidAlgorithmParameterException.class, () -> wrapped(name, OURS, kek, key, value));
+            }
+        }
+        for (String name : FORMS) {
+            Cipher ours = begun(name, OURS, Cipher.ENCRYPT_MODE, kek);
+            Cipher theirs = begun(name, THEIRS, Cipher.ENCRYPT_MODE, kek);
+            check(Arrays.equals(ours.getIV(), theirs.getIV()), name);
+            AlgorithmParameters parameters = ours.getParameters();
+            check(Arrays.equals(parameters.getEncoded(), theirs.getParameters().getEncoded()), name);
+            ours.init(Cipher.ENCRYPT_MODE, kek, parameters);
+            check(Arrays.equals(ours.doFinal(key), theirs.doFinal(key)), name);
+        }
+    }
+
+    /** Updates in pieces, arrays with offsets, one array for input and output, buffers, a cipher used again. */
+    static void calls() throws Exception {
+        for (String name : FORMS) {
+            Key kek = aes(random(32));
+            byte[] key = random(3000 * 8), due = wrapped(name, THEIRS, kek, key);
+            for (int mode : new int[] {Cipher.ENCRYPT_MODE, Cipher.DECRYPT_MODE}) {
+                byte[] in = mode == Cipher.ENCRYPT_MODE ? key : due, out = mode == Cipher.ENCRYPT_MODE ? due : key;
+                Cipher cipher = begun(name, OURS, mode, kek);
+                for (int at = 0, piece = 0; at < in.length; at += piece) {
+                    piece = Math.min(in.length - at, RANDOM.nextInt(500));
+                    check(cipher.update(in, at, piece) == null, "an update returned bytes");
+                }
+                check(Arrays.equals(cipher.doFinal(), out), "in pieces");
+                byte[] large = new byte[in.length + 100];
+                System.arraycopy(in, 0, large, 50, in.length);
+                check(cipher.doFinal(large, 50, in.length, large, 60) == out.length, "the length");
+                check(Arrays.equals(Arrays.copyOfRange(large, 60, 60 + out.length), out), "in one array");
+                cipher.update(in, 0, 100);
+                byte[] small = new byte[out.length - 1];
+                throwsOne(ShortBufferException.class, () -> cipher.doFinal(in, 100, in.length - 100, small, 0));
+                check(Arrays.equals(small, new byte[small.length]), "a small array was written");
+                check(Arrays.equals(cipher.doFinal(in, 100, in.length - 100), out), "after a small array");
+                for (boolean direct : new boolean[] {false, true}) {
+                    int size = out.length;
+                    ByteBuffer result = direct ? ByteBuffer.allocateDirect(size) : ByteBuffer.allocate(size);
+                    ByteBuffer given = ByteBuffer.allocateDirect(in.length).put(in).flip();
+                    check(cipher.doFinal(given, result) == out.length && given.remaining() == 0, "a buffer");
+                    check(result.flip().equals(ByteBuffer.wrap(out)), "in buffers");
+                }
+                check(cipher.getOutputSize(in.length) == out.length, "the length of the result");
+            }
+        }
+    }
+
+    /** Every failed check has one exception, and the caller's array is unchanged. */
+    static void damaged() throws Exception {
+        Key kek = aes(random(16));
+        byte[] aiv = {-0x5a, 0x59, 0x59, -0x5a, 0, 0, 0, 0}, key = random(32);
+        Arrays.fill(key, 25, 32, (byte) 0);
+        Set<String> found = new HashSet<>(), byTheirs = new HashSet<>();
+        for (int length = 0; length < 256; length++) {
+            aiv[7] = (byte) length;
+            byte[] given = wrapped(FORMS[0], THEIRS, kek, key, aiv);
+            if (length < 25 || length > 32) {
+                refuses(FORMS[1], kek, given, found);
+                byTheirs.add(thrown(() -> unwrapped(FORMS[1], THEIRS, kek, given)));
+            } else {
+                check(Arrays.equals(unwrapped(FORMS[1], OURS, kek, given), Arrays.copyOf(key, length)), length);
+            }
+        }
+        key[31] = 1;
+        aiv[7] = 30;
+        byte[] unclean = wrapped(FORMS[0], THEIRS, kek, key, aiv), plain = wrapped(FORMS[0], THEIRS, kek, key);
+        refuses(FORMS[1], kek, unclean, found);
+        refuses(FORMS[1], kek, plain, found);
+        for (String name : FORMS) {
+            byte[] good = wrapped(name, THEIRS, kek, key);
+            for (int bit = 0; bit < 8 * good.length; bit++) {
+                byte[] given = good.clone();
+                given[bit / 8] ^= (byte) (1 << bit % 8);
+                refuses(name, kek, given, found);
+            }
+            refuses(name, aes(random(16)), good, found);
+        }
+        check(found.equals(Set.of("IllegalBlockSizeException: integrity check failed",
+            "InvalidKeyException: integrity check failed")), found);
+        check(byTheirs.size() > 2, "the JDK's messages no longer tell which check failed");
+    }
+
+    private static void refuses(String name, Key kek, byte[] given, Set<String> found) throws Exception {
+        byte[] out = random(given.length), copy = out.clone(), input = given.clone();
+        Cipher cipher = begun(name, OURS, Cipher.DECRYPT_MODE, kek);
+        found.add(thrown(() -> cipher.doFinal(given, 0, given.length, out, 0)));
+        check(Arrays.equals(out, copy) && Arrays.equals(given, input), "an array was written");
+        check(thrown(cipher::doFinal).equals("IllegalBlockSizeException: bad length"), "bytes were kept");
+        Cipher other = begun(name, OURS, Cipher.UNWRAP_MODE, kek);
+        found.add(thrown(() -> other.unwrap(given, "AES", Cipher.SECRET_KEY)));
+    }
+
+    /** After a refused init a cipher has no KEK, not even the one before. */
+    static void ignored() throws Exception {
+        for (String name : FORMS) {
+            Cipher cipher = begun(name, OURS, Cipher.ENCRYPT_MODE, aes(random(16)));
+            AlgorithmParameters none = AlgorithmParameters.getInstance("GCM");
+            none.init(new javax.crypto.spec.GCMParameterSpec(128, new byte[12]));
+            Key good = aes(random(16));
+            List<Callable<Void>> refused = List.of(
+                () -> { cipher.init(Cipher.ENCRYPT_MODE, aes(random(15))); return null; },
+                () -> { cipher.init(Cipher.ENCRYPT_MODE, good, new IvParameterSpec(new byte[3])); return null; },
+                () -> { cipher.init(Cipher.ENCRYPT_MODE, good, none); return null; });
+            for (Callable<Void> init : refused) {
+                cipher.init(Cipher.ENCRYPT_MODE, aes(random(16)));
+                check(cipher.doFinal(new byte[16]).length == 24, "begun again");
+                thrown(init);
+                throwsOne(IllegalStateException.class, () -> cipher.doFinal(new byte[16]));
+                check(cipher.getIV() == null, "an initial value was kept");
+            }
+        }
+    }
+
+    /** Keys of other kinds, and keys without bytes. */
+    static void keys() throws Exception {
+        Key kek = aes(random(32));
+        KeyPairGenerator generator = KeyPairGenerator.getInstance("EC");
+        generator.initialize(256);
+        KeyPair pair = generator.generateKeyPair();
+        String name = FORMS[1];
+        for (Key key : List.of(pair.getPrivate(), pair.getPublic())) {
+            int type = key instanceof PublicKey ? Cipher.PUBLIC_KEY : Cipher.PRIVATE_KEY;
+            byte[] wrapped = begun(name, OURS, Cipher.WRAP_MODE, kek).wrap(key);
+            check(begun(name, THEIRS, Cipher.UNWRAP_MODE, kek).unwrap(wrapped, "EC", type).equals(key), "to theirs");
+            check(begun(name, OURS, Cipher.UNWRAP_MODE, kek).unwrap(wrapped, "EC", type).equals(key), "to ours");
+            byte[] noKey = wrapped(name, THEIRS, kek, random(50));
+            throwsOne(InvalidKeyException.class,
+                () -> begun(name, OURS, Cipher.UNWRAP_MODE, kek).unwrap(noKey, "EC", type));
+        }
+        Key hidden = new Key() {
+            private static final long serialVersionUID = 1;
+
+            public String getAlgorithm() {
+                return "AES";
+            }
+
+            public String getFormat() {
+                return null;
+            }
+
+            public byte[] getEncoded() {
+                return null;
+            }
+        };
+        throwsOne(InvalidKeyException.class, () -> begun(name, OURS, Cipher.WRAP_MODE, hidden));
+        throwsOne(InvalidKeyException.class, () -> begun(name, OURS, Cipher.WRAP_MODE, kek).wrap(hidden));
+        throwsOne(IllegalBlockSizeException.class, () -> wrapped(name, OURS, kek, new byte[1048577]));
+        check(Arrays.equals(wrapped(name, OURS, kek, new byte[1048576]), wrapped(name, THEIRS, kek, new byte[1048576])),
+            "the longest key");
+    }
+
+    public static void main(String[] args) throws Exception {
+        Security.insertProviderAt(new keywrap.KeywrapProvider(), 1);
+        Checks.class.getDeclaredMethod(args[0]).invoke(null);
+    }
+}

@@ -1,0 +1,107 @@
+"""The provider for Java: its lengths, exceptions and results compared with the JDK's, messages of BouncyCastle, and the
+lines of java/README.md. The programs are in java/."""
+
+import os
+import pathlib
+import re
+import subprocess
+
+import pytest
+
+import published
+from builds import ROOT, run
+
+pytestmark = pytest.mark.needs("javac", "jna.jar")
+
+SOURCES = sorted((ROOT / "java/keywrap").glob("*.java"))
+PROGRAMS = ROOT / "tests/java"
+SHARED = pathlib.Path("/usr/share/java")
+JNA = SHARED / "jna.jar"
+BOUNCY_CASTLE = [SHARED / f"{name}.jar" for name in ("bcprov", "bcpkix", "bcutil")]
+
+
+def compiled(folder, path, *sources):
+    run("javac", "-Xlint:all,-path", "-Werror", "-d", folder, "-cp", ":".join(map(str, [folder, *path])), *sources)
+
+
+@pytest.fixture(scope="session")
+def classes(once):
+    return once("java-classes", lambda folder: compiled(
+        folder, [JNA], *SOURCES, *(PROGRAMS / f"{name}.java" for name in ("Checks", "Cleared", "Published"))))
+
+
+@pytest.fixture
+def java(classes, library):
+    """java("Checks", "names") runs a class over the library."""
+    def call(name, *args, path=(), **options):
+        return run("java", f"-Djna.library.path={library}", f"-Djava.io.tmpdir={os.getcwd()}", "-cp",
+                   ":".join(map(str, [classes, JNA, *path])), name, *args, **options)
+
+    return call
+
+
+def test_no_warning():
+    """The sources of the provider and of the example compile without one, for Java 11 too."""
+    for options in [], ["--release", "11"]:
+        run("javac", "-Xlint:all", "-Werror", *options, "-cp", JNA, "-d", ".", *SOURCES, ROOT / "java/Example.java")
+
+
+@pytest.mark.parametrize("check", ["names", "lengths", "values", "calls", "damaged", "ignored", "keys"])
+def test_compared(java, check):
+    java("Checks", check)
+
+
+@pytest.mark.parametrize("cases", [published.nist_or_skip, published.foreign], ids=["nist", "foreign"])
+def test_published(java, cases):
+    found = cases()
+    assert java("Published", input="".join(published.lines(found))) == published.all_right(found)
+
+
+@pytest.mark.needs("/proc")
+def test_native_memory_is_cleared(java):
+    assert java("Cleared", env={**os.environ, "MALLOC_ARENA_MAX": "1"}) == "\n"
+
+
+@pytest.mark.needs("bcpkix.jar")
+def test_cms(java, classes):
+    compiled(pathlib.Path("cms"), [classes, *BOUNCY_CASTLE], PROGRAMS / "Cms.java")
+    java("Cms", path=[pathlib.Path("cms").absolute(), *BOUNCY_CASTLE])
+
+
+class TestReadme:
+    BUILD, EXAMPLE, UNCHANGED = (re.findall(r"^    (.*)", (ROOT / "java/README.md").read_text(), re.M)[lines]
+                                 for lines in (slice(2), slice(2, 3), slice(3, None)))
+    # It knows nothing of the provider.
+    PROGRAM = """
+public class Program {
+    public static void main(String[] args) throws Exception {
+        for (String name : new String[] {"AESWrap", "AES/KWP/NoPadding", "AES/CBC/PKCS5Padding"})
+            System.out.println(javax.crypto.Cipher.getInstance(name).getProvider().getName());
+    }
+}
+"""
+
+    @pytest.fixture
+    def tried(self):
+        """Runs lines after those that build the provider."""
+        pathlib.Path("Program.java").write_text(self.PROGRAM)
+        run("javac", "Program.java")
+        said = subprocess.run(["java", "-XshowSettings:properties", "-version"], capture_output=True, text=True).stderr
+        home = re.search(r"java\.home = (.*)", said)[1]
+
+        def call(lines, library):
+            given = {"JAVA": f"{ROOT}/java", "LIB": str(library), "JAVA_HOME": home, "LD_LIBRARY_PATH": ""}
+            return subprocess.run(["bash", "-ec", "\n".join(self.BUILD + lines)], capture_output=True, text=True,
+                                  env={**os.environ, **given})
+
+        return call
+
+    def test_lines(self, tried, library):
+        ended = tried(self.EXAMPLE + self.UNCHANGED, library)
+        assert ended.stdout.splitlines() == ["true", "Keywrap b595a1c0afbe7a89ce43807cb3b2ba5737ff5d71d0a35cd7",
+                                             "Keywrap", "Keywrap", "SunJCE"], ended
+
+    def test_without_the_library(self, tried):
+        """The example fails with the reason. The program takes the JDK's ciphers."""
+        assert "Unable to load library 'keywrap'" in tried(self.EXAMPLE, "/none").stderr
+        assert tried(self.UNCHANGED, "/none").stdout.splitlines() == ["SunJCE"] * 3
