@@ -1,6 +1,6 @@
 /* steps.c: the calls of keywrap_steps.h around OpenSSL's AES: every form and length against the
- * calls of keywrap.h, a tampered text, and each refusal, which changes nothing. The last line is 'N
- * passed, M failed'. */
+ * calls of keywrap.h, one by one and many at once, a tampered text, and each refusal, which changes
+ * nothing. The last line is 'N passed, M failed'. */
 
 #include <keywrap.h>
 #include <keywrap_steps.h>
@@ -210,6 +210,141 @@ static void refusals(void) {
             16);
 }
 
+enum { LANES = 25 };
+
+static uint8_t texts[LANES * (LONGEST + 8)], expected[LANES * (LONGEST + 8)], blocks[LANES * 16];
+
+/* The block of each lane, encrypted or decrypted. */
+static void all_blocks(EVP_CIPHER_CTX *context, size_t count) {
+    for (size_t i = 0; i < count; i++) ecb(context, blocks + 16 * i);
+}
+
+/* The text that is damaged, and at which byte: the last, the first, or one between. */
+static int is_damaged(size_t lane) { return lane % 3 == 1; }
+
+static void damage(uint8_t *text, size_t lane, size_t text_len) {
+    if (is_damaged(lane)) text[lane % 2 ? text_len - 1 : lane % text_len] ^= 0x10;
+}
+
+/* Unwraps what is in texts, some of it damaged, and compares each text and its status. */
+static void many_undone(size_t len, size_t count) {
+    const size_t text_len = len + 8;
+    uint8_t statuses[LANES + 1];
+    uint64_t left = 7;
+    memset(statuses, 0xee, sizeof statuses);
+    for (size_t i = 0; i < count; i++) damage(texts + i * text_len, i, text_len);
+    memcpy(expected, texts, count * text_len);
+    int is = keywrap_begin_unwrap_many(texts, count * text_len, text_len, &left, blocks, 16 * count)
+                 == KEYWRAP_OK
+             && left == 6 * (len / 8);
+    while (is && left > 0) {
+        all_blocks(decrypting, count);
+        is = keywrap_step_unwrap_many(texts, count * text_len, text_len, &left, blocks, 16 * count)
+             == KEYWRAP_OK;
+    }
+    check(is, "many, unwrapped", count);
+    check(keywrap_end_unwrap_many(IV, 8, texts, count * text_len, text_len, 0, blocks, 16 * count,
+                                  statuses, count)
+              == KEYWRAP_OK,
+          "many, ended", count);
+    check(is_zero(blocks, 16 * count) && statuses[count] == 0xee, "many, zeros in blocks", count);
+    for (size_t i = 0; i < count; i++) {
+        const uint8_t *text = texts + i * text_len;
+        check(!memcmp(text, expected + i * text_len, 8), "many, the first bytes stay", i);
+        is = is_damaged(i) ? statuses[i] == KEYWRAP_INTEGRITY && is_zero(text + 8, len)
+                           : statuses[i] == KEYWRAP_OK;
+        for (size_t j = 0; j < len && !is_damaged(i); j++)
+            is = is && text[8 + j] == (uint8_t)(len + 31 * j + 7 * i);
+        check(is, "many, a text and its status", i);
+    }
+}
+
+/* As many texts as lanes, each with a key of its own, against the call for one. */
+static void many(size_t kek_len, size_t len, size_t count) {
+    const size_t text_len = len + 8;
+    uint64_t done = 7;
+    memset(texts, 0xee, sizeof texts);
+    for (size_t i = 0; i < count; i++) {
+        uint8_t *key = texts + i * text_len + 8;
+        for (size_t j = 0; j < len; j++) key[j] = (uint8_t)(len + 31 * j + 7 * i);
+        check(keywrap_wrap(kek, kek_len, key, len, expected + i * text_len, text_len) == KEYWRAP_OK,
+              "the call for one", len);
+    }
+    int is = keywrap_begin_wrap_many(IV, 8, texts, count * text_len, text_len, &done, blocks,
+                                     16 * count)
+                 == KEYWRAP_OK
+             && done == 0;
+    while (is && done < 6 * (len / 8)) {
+        all_blocks(encrypting, count);
+        is = keywrap_step_wrap_many(texts, count * text_len, text_len, &done, blocks, 16 * count)
+             == KEYWRAP_OK;
+    }
+    check(is, "many, wrapped", count);
+    check(keywrap_end_wrap_many(texts, count * text_len, text_len, done, blocks, 16 * count)
+              == KEYWRAP_OK,
+          "many, ended", count);
+    check(!memcmp(texts, expected, count * text_len), "many, as one by one", count);
+    many_undone(len, count);
+}
+
+/* What is refused leaves texts, number, blocks and statuses as they were. */
+static void many_refusals(void) {
+    static const struct {
+        size_t texts_len, text_len, blocks_len;
+    } LENS[] = {{80, 40, 16},  {80, 40, 48},   {79, 40, 32},   {80, 40, 31},  {32, 16, 32},
+                {72, 36, 32},  {0, 40, 16},    {80, 0, 32},    {80, 8, 32},   {40, 40, 24},
+                {80, (size_t)-8, 32}, {0, 2097152, 0}};
+    uint8_t before[80], was[48], statuses[3] = {9, 9, 9};
+    uint64_t n;
+    memset(texts, 0x5a, sizeof texts);
+    memset(blocks, 0xa5, sizeof blocks);
+    memcpy(before, texts, sizeof before);
+    memcpy(was, blocks, sizeof was);
+#define MANY_REFUSED(call, status, number, what, at)                                               \
+    do {                                                                                           \
+        n = (number);                                                                              \
+        int is = (call) == (status) && n == (number) && !memcmp(texts, before, sizeof before)      \
+                 && !memcmp(blocks, was, sizeof was) && statuses[0] == 9 && statuses[1] == 9;      \
+        check(is, what, at);                                                                       \
+    } while (0)
+    for (size_t i = 0; i < sizeof LENS / sizeof *LENS; i++) {
+        const size_t all = LENS[i].texts_len, each = LENS[i].text_len, room = LENS[i].blocks_len;
+        MANY_REFUSED(keywrap_begin_wrap_many(IV, 8, texts, all, each, &n, blocks, room),
+                     KEYWRAP_BAD_LENGTH, 3, "begin_wrap_many", i);
+        MANY_REFUSED(keywrap_step_wrap_many(texts, all, each, &n, blocks, room), KEYWRAP_BAD_LENGTH,
+                     0, "step_wrap_many", i);
+        MANY_REFUSED(keywrap_end_wrap_many(texts, all, each, 24, blocks, room), KEYWRAP_BAD_LENGTH,
+                     0, "end_wrap_many", i);
+        MANY_REFUSED(keywrap_begin_unwrap_many(texts, all, each, &n, blocks, room),
+                     KEYWRAP_BAD_LENGTH, 3, "begin_unwrap_many", i);
+        MANY_REFUSED(keywrap_step_unwrap_many(texts, all, each, &n, blocks, room),
+                     KEYWRAP_BAD_LENGTH, 1, "step_unwrap_many", i);
+        MANY_REFUSED(keywrap_end_unwrap_many(IV, 8, texts, all, each, 0, blocks, room, statuses, 2),
+                     KEYWRAP_BAD_LENGTH, 0, "end_unwrap_many", i);
+    }
+    for (uint64_t done = 24; done < 27; done++)
+        MANY_REFUSED(keywrap_step_wrap_many(texts, 80, 40, &n, blocks, 32), KEYWRAP_BAD_LENGTH,
+                     done, "many, a step after the last", done);
+    for (uint64_t done = 0; done < 26; done += done == 0 ? 23 : 2)
+        MANY_REFUSED(keywrap_end_wrap_many(texts, 80, 40, done, blocks, 32), KEYWRAP_BAD_LENGTH, 0,
+                     "many, an end of a wrap", done);
+    static const uint64_t LEFT[] = {0, 25, UINT64_MAX};
+    for (size_t i = 0; i < sizeof LEFT / sizeof *LEFT; i++)
+        MANY_REFUSED(keywrap_step_unwrap_many(texts, 80, 40, &n, blocks, 32), KEYWRAP_BAD_LENGTH,
+                     LEFT[i], "many, a step that is not left", i);
+    MANY_REFUSED(keywrap_end_unwrap_many(IV, 8, texts, 80, 40, 1, blocks, 32, statuses, 2),
+                 KEYWRAP_BAD_LENGTH, 0, "many, an early end", 1);
+    for (size_t count = 0; count < 4; count++)
+        if (count != 2)
+            MANY_REFUSED(keywrap_end_unwrap_many(IV, 8, texts, 80, 40, 0, blocks, 32, statuses,
+                                                 count),
+                         KEYWRAP_BAD_LENGTH, 0, "many, another number of statuses", count);
+    MANY_REFUSED(keywrap_begin_wrap_many(IV, 7, texts, 80, 40, &n, blocks, 32), KEYWRAP_BAD_IV, 3,
+                 "many, 7 bytes of an initial value", 7);
+    MANY_REFUSED(keywrap_end_unwrap_many(IV, 9, texts, 80, 40, 0, blocks, 32, statuses, 2),
+                 KEYWRAP_BAD_IV, 0, "many, 9 bytes of an initial value", 9);
+}
+
 int main(void) {
     for (size_t kek_len = 16; kek_len <= sizeof kek; kek_len += 8) {
         for (size_t i = 0; i < sizeof kek; i++) kek[i] = (uint8_t)(kek_len * 3 + i);
@@ -217,10 +352,14 @@ int main(void) {
         decrypting = keyed(kek_len, 0);
         for (size_t len = 0; len <= LONGEST; len++) plain(kek_len, len);
         for (size_t len = 1; len <= LONGEST; len++) padded(kek_len, len);
+        for (size_t len = 16; len <= LONGEST; len += len < 64 ? 8 : 96)
+            for (size_t count = 0; count <= LANES; count += count < 3 ? 1 : 11)
+                many(kek_len, len, count);
         EVP_CIPHER_CTX_free(encrypting);
         EVP_CIPHER_CTX_free(decrypting);
     }
     refusals();
+    many_refusals();
     printf("%u passed, %u failed\n", passed, failed);
     return failed != 0;
 }

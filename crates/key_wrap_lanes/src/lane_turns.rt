@@ -53,7 +53,8 @@ fn turn_lane(text: &mut [u8], counter: u64, own: usize, next: usize, block: &mut
     turn_registers(&mut text[WORD..], counter, own, next, block);
 }
 
-// Turns the registers of a lane.
+// Turns the registers of a lane. Words are read before they are written: of a copy from one slice to
+// another the compiler tests whether the two overlap.
 #[inline(always)]
 fn turn_registers(registers: &mut [u8], counter: u64, own: usize, next: usize, block: &mut [u8])
     requires within { length registers.old ≤ 1048576 }
@@ -66,9 +67,11 @@ fn turn_registers(registers: &mut [u8], counter: u64, own: usize, next: usize, b
         ++ take 8 (drop (8 * next) registers.new) }
 {
     let a = BigEndian::read_u64(block) ^ counter;
+    let half = BigEndian::read_u64(&block[WORD..]);
     let place = WORD * own;
-    registers[place..place + WORD].copy_from_slice(&block[WORD..]);
+    BigEndian::write_u64(&mut registers[place..place + WORD], half);
     let after = WORD * next;
+    let register = BigEndian::read_u64(&registers[after..after + WORD]);
     BigEndian::write_u64(block, a);
-    block[WORD..].copy_from_slice(&registers[after..after + WORD]);
+    BigEndian::write_u64(&mut block[WORD..], register);
 }

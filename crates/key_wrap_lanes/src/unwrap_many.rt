@@ -83,9 +83,10 @@ pub fn step_unwrap_many(
         return Err(InPlaceFault::BadLength);
     }
     *left -= 1;
-    let n = text_len / WORD - 1;
-    let own = *left as usize % n;
-    turn_lanes(texts, text_len, *left, own, register_before(own, n), blocks);
+    let n = (text_len / WORD - 1) as u32;
+    let own = *left as u32 % n;
+    let next = register_before(own, n);
+    turn_lanes(texts, text_len, *left, own as usize, next as usize, blocks);
     Ok(())
 }
 
@@ -158,7 +159,7 @@ fn begin_lane(text: &[u8]) -> [u8; 16]
 }
 
 // The number of the register before this one of `n`.
-fn register_before(i: usize, n: usize) -> usize
+fn register_before(i: u32, n: u32) -> u32
     requires { i < n }
     ensures within { result < n }
     ensures number { result ≡ (n + i - 1) % n }

@@ -11,8 +11,8 @@ returns-clause-steps c = λ i below E origin before state decrypted.
     let lanes = c.lanes_ok.ensures.0 c.if-not-lanes_ok.false in
     let own : (c.args.left.now - 1) % n < n = search rules in
     let number = c.step_count.ensures.number in
-    let lane = lane_of c.args.texts.now c.args.blocks.now lanes (each_byte c.args.blocks.now (search rules)) below own c.register_before.ensures.within in
-    unwrap_turned lane (omega arith) refl c.register_before.ensures.number (c.turn_lanes.ensures i below) (rw again state) decrypted
+    let lane = lane_of c.args.texts.now c.args.blocks.now lanes (each_byte c.args.blocks.now (search rules)) below own c.register_before-next.ensures.within in
+    unwrap_turned lane (omega arith) refl c.register_before-next.ensures.number (c.turn_lanes.ensures i below) (rw again state) decrypted
 
 pub returns-clause-firsts : goal.returns-clause-firsts
 returns-clause-firsts c = λ i below. (c.turn_lanes.ensures i below).first

@@ -10,8 +10,8 @@ returns-clause-steps c = λ i below E iv key before state encrypted.
     let lanes = c.lanes_ok.ensures.0 c.if-not-lanes_ok.false in
     let own : c.args.done.now % n < n = search rules in
     let number = c.step_count.ensures.number in
-    let lane = lane_of c.args.texts.now c.args.blocks.now lanes (each_byte c.args.blocks.now (search rules)) below own c.register_after.ensures.within in
-    wrap_turned lane (omega arith) refl c.register_after.ensures.number (c.turn_lanes.ensures i below) state encrypted
+    let lane = lane_of c.args.texts.now c.args.blocks.now lanes (each_byte c.args.blocks.now (search rules)) below own c.register_after-next.ensures.within in
+    wrap_turned lane (omega arith) refl c.register_after-next.ensures.number (c.turn_lanes.ensures i below) state encrypted
 
 pub returns-clause-firsts : goal.returns-clause-firsts
 returns-clause-firsts c = λ i below. (c.turn_lanes.ensures i below).first
