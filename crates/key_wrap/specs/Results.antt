@@ -1,14 +1,14 @@
 -- The results of the calls that allocate memory.
-use Rattle.std.specs.Prelude.{◌≡◌, ◌↔◌, ◌⊎◌, ℕ, List, length, Result, Ok, Err, IfOk, OnOk, IsOkUnless, Vec}
+use Rattle.std.specs.Prelude.{◌≡◌, ◌↔◌, ℕ, false, List, length, Result, Ok, Err, IfOk, OnOk, IsOkUnless, Vec}
 use Rattle.key_wrap_core.specs.declared.agreed_form.AgreedForm.{AgreedForm}
 use Rattle.key_wrap_core.specs.declared.faults.InPlaceFault.{InPlaceFault}
 use Rattle.key_wrap_core.specs.declared.faults.InPlaceFault.TheVariants as in_place
 use Rattle.key_wrap_core.specs.declared.rewrapping.RewrapForms.{RewrapForms}
+use Rattle.key_wrap_core.specs.declared.rewrapping.Rewrapped.{Rewrapped}
 use Rattle.key_wrap_core.specs.declared.rewrapping.RewrapFault.{RewrapFault}
 use Rattle.key_wrap_core.specs.declared.rewrapping.RewrapFault.TheVariants as rewraps
 use Rattle.key_wrap_core.specs.NoKey.{NoKey}
-use Rattle.key_wrap_core.specs.Forms.{StandsAs, IsKeyLengthAs}
-use Rattle.key_wrap_core.specs.Rewrap.{IsFrom, IsOldLength, IsNoWrapping, IsRewrapped, HasBadKey, back, to_form}
+use Rattle.key_wrap_core.specs.Rewrap.{IsOldLength, RewrapResults}
 use Rattle.key_wrap.specs.declared.faults.UnwrapFault.{UnwrapFault}
 use Rattle.key_wrap.specs.declared.faults.UnwrapFault.TheVariants.{BadLength, Integrity, Memory}
 use Rattle.key_wrap.specs.declared.faults.WrapFault.{WrapFault}
@@ -52,28 +52,16 @@ rewrap_fault rewraps.BadLength = BadLength
 rewrap_fault rewraps.Integrity = Integrity
 rewrap_fault rewraps.KeyNotPlain = BadLength
 
--- The result of a rewrap, by cases: the new wrapping of its key; BadLength if a length is not legal; Integrity if it is
--- not an old wrapping; or Memory.
-abbrev pub RewrapAnswer : {Z : Type 0} → RewrapForms → (List ℕ → List ℕ) → (List ℕ → List ℕ) → List ℕ
-    → Result (Vec ℕ Z) UnwrapFault → Type 0
-RewrapAnswer forms E F text (Ok answer) = IsRewrapped forms E F text answer.items
-RewrapAnswer forms E F text (Err BadLength) = ¬ IsOldLength forms (length text) ⊎ HasBadKey forms E text
-RewrapAnswer forms E F text (Err Integrity) = IsOldLength forms (length text) × IsNoWrapping forms E text
-RewrapAnswer forms E F text (Err Memory) = IsOldLength forms (length text)
+-- the answer that comes of the result of the call in its buffer, and of the buffer after it
+abbrev pub IsAnswerOf : {Z : Type 0} → Result Rewrapped RewrapFault → List ℕ → Result (Vec ℕ Z) UnwrapFault → Type 0
+IsAnswerOf (Ok done) after (Ok out) = out.items ≡ after
+IsAnswerOf (Ok done) after (Err fault) = ⊥
+IsAnswerOf (Err fault) after answer = answer ≡ Err (rewrap_fault fault)
 
--- the promise about the result of a rewrap that takes memory
+-- The promise about the result of a rewrap that takes memory: it is that of the call in its buffer, or there was no memory for a
+-- text of a legal length.
 pub record Rewraps {Z : Type 0} (forms : RewrapForms) (E F : List ℕ → List ℕ) (text : List ℕ) (answer : Result (Vec ℕ Z) UnwrapFault) : Type 0 where
-  pub is : RewrapAnswer forms E F text answer
-  pub text_length : ¬ IsOldLength forms (length text) → answer ≡ Err BadLength
-  pub key_length : HasBadKey forms E text → (answer ≡ Err BadLength) ⊎ (answer ≡ Err Memory)
-  -- a wrapping whose key has a legal length in the new form is refused only if there is no memory
-  pub accepts : (form : AgreedForm) (key : List ℕ) → IsFrom forms form → StandsAs form E key text
-      → IsKeyLengthAs (to_form forms form) (length key) → IsOkUnless answer Memory
   pub memory : answer ≡ Err Memory → IsOldLength forms (length text)
-  pub only_answer : IfOk answer (λ out. (other : List ℕ) → IsRewrapped forms E F text other → other ≡ out.items)
-  -- unwrapping the answer gives exactly the old key
-  pub same_key : IfOk answer (λ out. (form : AgreedForm) → IsFrom forms form → (key : List ℕ)
-      → StandsAs (to_form forms form) F key out.items ↔ StandsAs form E key text)
-  -- rewrapping back gives the old wrapping
-  pub restores : IfOk answer (λ out. (other : List ℕ) → IsRewrapped (back forms) F E out.items other → other ≡ text)
+  pub results : ¬ (answer ≡ Err Memory) → (result : Result Rewrapped RewrapFault) × (after : List ℕ)
+      × RewrapResults false forms E F text result after × IsAnswerOf result after answer
   pub size : IfOk answer (λ out. length out.items ≡ length text)

@@ -4,6 +4,6 @@ use Rattle.key_wrap.proofs.rewrapping.rewrap.Goals as goal
 
 pub returns-clause-other_form : goal.returns-clause-other_form
 returns-clause-other_form g c =
-    let is = rw (c.by_default-old_form.ensures, c.by_default-new_form.ensures) at c.rewrap_on.ensures.is in
+    let is = rw (c.by_default-old_form.ensures, c.by_default-new_form.ensures) at c.rewrap_on.ensures in
     new_form_only c.args.new_form _ (g.O.BlockPair.encrypted c.args.old.now) (g.N.BlockPair.encrypted c.args.new.now) c.args.text.now c.rewrap_on.result
     (g.met.N.BlockPair.lawful c.args.new.now) is
