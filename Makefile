@@ -35,7 +35,7 @@ version := $(shell cat VERSION)
 number = $(patsubst %-dev,%,$(version))
 of_debian = $(subst -,~,$(version))
 of_python = $(patsubst %-dev,%.dev0,$(version))
-# Where `make dist` puts what is handed out; in a folder that is never committed.
+# Where `make dist` puts what is handed out; in a directory that is never committed.
 DIST ?= out
 # The directory in which the C library is put together; never committed.
 LIBRARY ?= out/library$(other)
@@ -63,8 +63,8 @@ of_exports = $(filter crates/%,$(ARCHIVE))
 # Checksums of the sources that the library was built from. Each TARGET has its own file.
 record = $(LIBRARY)/built_from$(other)
 crates = keywrap_c $(shell sed -n 's/^keywrap_c staticlib: *//p' crates.txt)
-folders = $(wildcard $(foreach crate,$(crates),$(addprefix crates/$(crate)/,src specs proofs)))
-made_of = include/keywrap.map $(if $(of_exports),$(shell find crates.txt $(folders) -type f),'$(ARCHIVE)')
+directories = $(wildcard $(foreach crate,$(crates),$(addprefix crates/$(crate)/,src specs proofs)))
+made_of = include/keywrap.map $(if $(of_exports),$(shell find crates.txt $(directories) -type f),'$(ARCHIVE)')
 
 bin = $(DESTDIR)$(bindir)
 lib = $(DESTDIR)$(libdir)
@@ -72,15 +72,15 @@ include = $(DESTDIR)$(includedir)
 share = $(DESTDIR)$(datarootdir)
 man = $(DESTDIR)$(mandir)/man1
 doc = $(DESTDIR)$(docdir)
-modules = $(DESTDIR)$(or $(MODULESDIR),$(error no openssl here: MODULESDIR= names its folder of modules))
+modules = $(DESTDIR)$(or $(MODULESDIR),$(error no openssl here: MODULESDIR= names its directory of modules))
 for_bash = $(share)/bash-completion/completions
 for_zsh = $(share)/zsh/site-functions
 for_fish = $(share)/fish/vendor_completions.d
 
-.PHONY: help version build library library-anew test test-all packages proofs gate install uninstall install-command uninstall-command \
-    install-library uninstall-library install-provider uninstall-provider provider examples needs needs-wheel wheel \
-    js portable sdist dist dist-each dist-command dist-library dist-wheel dist-js dist-portable dist-sdist packed \
-    bench pictures clean
+.PHONY: help version build library library-anew test test-all packages proofs gate install uninstall \
+    install-command uninstall-command install-library uninstall-library install-provider uninstall-provider \
+    provider examples needs needs-wheel wheel js portable sdist dist dist-each dist-command dist-library dist-wheel \
+    dist-js dist-portable dist-sdist packed bench pictures clean
 # Goals run one at a time: the tools are checked before anything is built, and rt writes every archive to one path.
 .NOTPARALLEL:
 
@@ -102,7 +102,7 @@ help:
 	@echo 'make install            installs the two below, under $$(DESTDIR)$$(prefix), with their documents'
 	@echo 'make install-command    installs the program, its manual page, and completions for bash, zsh and fish'
 	@echo 'make install-library    installs the C library: in lib, include, lib/pkgconfig and lib/cmake'
-	@echo 'make install-provider   installs the provider in $$(DESTDIR)$$(MODULESDIR): OpenSSL'"'"'s folder of modules'
+	@echo 'make install-provider   installs the provider in $$(DESTDIR)$$(MODULESDIR): OpenSSL'"'"'s directory of modules'
 	@echo 'make uninstall          removes what make install put there; uninstall-command, uninstall-library and'
 	@echo '                        uninstall-provider remove theirs'
 	@echo '                        These take the names of GNU: prefix, bindir, libdir, includedir, mandir, docdir;'
@@ -191,8 +191,8 @@ test:
 packages:
 	scripts/packages.sh
 
-# The tests run the program that rt ci proved and built, by the compiler of the first use, and the launcher finds it built
-# of its sources. A source that is changed meanwhile is no longer what was written down before.
+# The tests run the program that rt ci proved and built, by the compiler of the first use, and the launcher finds it
+# built of its sources. A source that is changed meanwhile is no longer what was written down before.
 proofs:
 	built_from=$$(scripts/sources.sh) && rt ci && \
 	    { [ ! -e crates/keywrap/out/keywrap.by-rattle ] || \
@@ -303,7 +303,7 @@ dist-portable: portable
 
 dist-sdist: sdist
 
-# With BENCH=FOLDER it also writes FOLDER/*.csv; `make bench BENCH=docs/pictures` renews the data of the plots.
+# With BENCH=DIRECTORY it also writes DIRECTORY/*.csv; `make bench BENCH=docs/pictures` renews the data of the plots.
 export BENCH
 bench: build library library-hardware provider wheel portable
 	PORTABLE='$(PORTABLE)' bench/wrap '$(LIBRARY)/libkeywrap.a'

@@ -1,9 +1,9 @@
 #!/bin/sh
-# Builds the package for browsers, Node and Deno in FOLDER. rt builds the exports for WebAssembly,
+# Builds the package for browsers, Node and Deno in DIRECTORY. rt builds the exports for WebAssembly,
 # and rattle-link links them into a module with 64-bit memory, since the kit has no other. wasm-opt
 # turns it into a module with 32-bit memory, which every engine supports. `make js` calls it.
 #
-# usage: scripts/js.sh VERSION FOLDER
+# usage: scripts/js.sh VERSION DIRECTORY
 #        scripts/js.sh --needs           (fails if a tool is missing; builds nothing)
 
 set -eu
@@ -12,7 +12,7 @@ wasm_opt=${WASM_OPT:-wasm-opt}
 command -v "$wasm_opt" >/dev/null || { echo "js.sh: no $wasm_opt: apt-get install binaryen" >&2 && exit 1; }
 [ "$1" != --needs ] || exit 0
 mkdir -p -- "${2:?}"
-folder=$(cd -- "$2" && pwd)
+directory=$(cd -- "$2" && pwd)
 cd -- "$(dirname -- "$0")/.."
 kit=$(readlink -f -- "$rt")
 kit=${kit%/bin/rt}
@@ -32,8 +32,8 @@ sed -i 's/^ (export "__heap_base" .*/&\
     (export "__stack_pointer" (global $__stack_pointer)) (export "__in_call" (global $in_call))/' "$room/wide.wat"
 # The features that the module uses. A host needs the last two.
 "$wasm_opt" --mvp-features --enable-memory64 --enable-bulk-memory --enable-mutable-globals --memory64-lowering \
-    "$room/wide.wat" -o "$folder/keywrap.wasm"
-cp js/keywrap.js js/keywrap.d.ts js/example.html "$folder"
-scripts/links.sh <js/README.md >"$folder/README.md"
-sed "s|@VERSION@|$1|" js/package.json.in >"$folder/package.json"
-echo "$folder"
+    "$room/wide.wat" -o "$directory/keywrap.wasm"
+cp js/keywrap.js js/keywrap.d.ts js/example.html "$directory"
+scripts/links.sh <js/README.md >"$directory/README.md"
+sed "s|@VERSION@|$1|" js/package.json.in >"$directory/package.json"
+echo "$directory"

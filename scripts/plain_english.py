@@ -1,7 +1,7 @@
 #!/usr/bin/env python3
 """Counts phrases that cost readers a second pass, in the documents, the manual page and all comments.
 
-usage: scripts/plain_english.py [--list] [FOLDER]
+usage: scripts/plain_english.py [--list] [DIRECTORY]
 
 Prints one line per kind of phrase with its count, then the sum. --list prints each place, too.
 """

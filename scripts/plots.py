@@ -6,8 +6,8 @@ A CSV begins with comments: the processor, the date and the commit of the run.
 import csv
 import math
 
-NAMES = {"keywrap": "keywrap", "hardware": "keywrap_hw", "openssl": "OpenSSL", "nettle": "nettle", "gcrypt": "libgcrypt",
-         "C": "C, tables", "portable": "portable C"}
+NAMES = {"keywrap": "keywrap", "hardware": "keywrap_hw", "openssl": "OpenSSL", "nettle": "nettle",
+         "gcrypt": "libgcrypt", "C": "C, tables", "portable": "portable C"}
 DASHES = {"OpenSSL": "8 3", "C, tables": "2 3", "nettle": "8 3 2 3", "nettle, AES inst.": "1 3", "libgcrypt": "5 5",
           "keywrap_hw": "14 3", "portable C": "2 6"}
 LEFT, PLOT = 44, 286
@@ -134,7 +134,8 @@ def provider(drawing_of, text):
     groups = []
     for row in read(text)[1]:
         if row["cipher"] == "AES-256-WRAP":
-            both = [("OpenSSL's provider", float(row["default_ns"]), False), ("keywrap", float(row["keywrap_ns"]), True)]
+            both = [("OpenSSL's provider", float(row["default_ns"]), False),
+                    ("keywrap", float(row["keywrap_ns"]), True)]
             groups.append((f"{row['call']}, key of {row['key']} bytes",
                            [(name, ns / 1000, f"{ns / 1000:.1f}", ours) for name, ns, ours in both]))
     return plot_bars(drawing_of, text, "Microseconds for a call by EVP, by both providers",

@@ -1,9 +1,9 @@
-"""Writes the portable C library into FOLDER: keywrap.c, which is the runtime, the module that wasm2c translates to C,
-and the calls; and what is beside it. Nothing of wasm2c's own template is kept: only the functions and constants of the
-module. `make portable` calls this script.
+"""Writes the portable C library into DIRECTORY: keywrap.c, which is the runtime, the module that wasm2c translates to
+C, and the calls; and what is beside it. Nothing of wasm2c's own template is kept: only the functions and constants of
+the module. `make portable` calls this script.
 
-usage: portable.py KEYWRAP.WASM VERSION FOLDER        (WASM2C names another wasm2c)
-       portable.py --needs                            (fails if a tool is missing; builds nothing)"""
+usage: portable.py KEYWRAP.WASM VERSION DIRECTORY        (WASM2C names another wasm2c)
+       portable.py --needs                               (fails if a tool is missing; builds nothing)"""
 
 import os
 import pathlib
@@ -102,19 +102,19 @@ def room(key_len):
     return 2 * 32 + 8 + key_len + key_len + 16
 
 
-def main(wasm, version, folder):
-    folder = pathlib.Path(folder)
-    folder.mkdir(parents=True, exist_ok=True)
+def main(wasm, version, directory):
+    directory = pathlib.Path(directory)
+    directory.mkdir(parents=True, exist_ok=True)
     numbers, module = module_of(translated(wasm))
     macros = "".join(f"#define {name} {value}\n" for name, value in numbers.items())
     runtime, calls = [(PARTS / name).read_text() for name in ("runtime.c", "calls.c")]
     runtime = runtime.replace("@NUMBERS@\n", macros)
-    (folder / "keywrap.c").write_text(f"{runtime}\n/*** The module, by wasm2c ***/\n\n{module}\n{calls}")
+    (directory / "keywrap.c").write_text(f"{runtime}\n/*** The module, by wasm2c ***/\n\n{module}\n{calls}")
     lines = sum(part.count("\n") for part in (runtime, calls))
-    (folder / "README").write_text(readme(numbers, version, lines))
+    (directory / "README").write_text(readme(numbers, version, lines))
     for path in (ROOT / "include/keywrap.h", *(PARTS / name for name in ("vectors.c", "Makefile", "CMakeLists.txt"))):
-        shutil.copyfile(path, folder / path.name)
-    print(folder)
+        shutil.copyfile(path, directory / path.name)
+    print(directory)
 
 
 if __name__ == "__main__":

@@ -24,12 +24,12 @@ ROTATE = ("keywrap rewrap --lines --keep-form --kek kek.hex --new-kek new-kek.he
 CHECK = "keywrap check --lines --kek new-kek.hex --input rewrapped.hex > /dev/null"
 
 
-def on_terminal(program, line, folder):
+def on_terminal(program, line, directory):
     """Runs a command line in a terminal of its own; returns all that it wrote there."""
     words = [str(program), *shlex.split(line.removesuffix(" > /dev/null"))[1:]]
     child, screen = pty.fork()
     if child == 0:
-        os.chdir(folder)
+        os.chdir(directory)
         if line.endswith(" > /dev/null"):
             os.dup2(os.open(os.devnull, os.O_WRONLY), 1)
         os.execve(program, words, {**os.environ, "TERM": "xterm"})
@@ -56,12 +56,12 @@ def screens(written):
 
 
 def main(program):
-    with tempfile.TemporaryDirectory() as folder:
-        Path(folder, "kek.hex").write_text(KEK + "\n")
-        Path(folder, "new-kek.hex").write_text(os.urandom(32).hex() + "\n")
-        Path(folder, "wrapped.hex").write_text((WRAPPED + "\n") * KEYS)
+    with tempfile.TemporaryDirectory() as directory:
+        Path(directory, "kek.hex").write_text(KEK + "\n")
+        Path(directory, "new-kek.hex").write_text(os.urandom(32).hex() + "\n")
+        Path(directory, "wrapped.hex").write_text((WRAPPED + "\n") * KEYS)
         for line in ROTATE, CHECK:
-            during, after = screens(on_terminal(program, line, folder))
+            during, after = screens(on_terminal(program, line, directory))
             print("$", line)
             print("during:", during)
             for shown in after:

@@ -1,7 +1,7 @@
 #!/bin/sh
-# Builds the source distribution of the Python package in DIST, out of a copy of its sources beside the portable library:
-# pip builds it on any little-endian machine. The same sources and SOURCE_DATE_EPOCH give the same bytes. `make sdist`
-# calls it.
+# Builds the source distribution of the Python package in DIST, out of a copy of its sources beside the portable
+# library: pip builds it on any little-endian machine. The same sources and SOURCE_DATE_EPOCH give the same bytes.
+# `make sdist` calls it.
 #
 # usage: scripts/sdist.sh PYTHON PORTABLE VERSION DIST         (PORTABLE: what `make portable` made)
 

@@ -1,9 +1,9 @@
 #!/bin/sh
 # Unpacks Debian's packages for arm64 that are needed to build the wheel for aarch64 and to test it under qemu: Python
 # with the modules of the tests, OpenSSL and valgrind. Any user may call it, since apt-get uses a directory of its own.
-# FOLDER is made completely or not at all. An existing FOLDER is not changed.
+# DIRECTORY is made completely or not at all. An existing DIRECTORY is not changed.
 #
-# usage: scripts/sysroot.sh [FOLDER]        (if none: where scripts/target.mk looks for it)
+# usage: scripts/sysroot.sh [DIRECTORY]        (if none: where scripts/target.mk looks for it)
 
 set -eu
 packages='python3 libpython3-dev python3-cffi-backend python3-pytest python3-cryptography python3-cryptography-vectors

@@ -36,7 +36,7 @@ endif
 # For aarch64: the tools that must be there, the option of rt, and the compiler for the wheel. rt writes the archive of
 # every machine to one path, so x86-64's archive is set aside and put back.
 ifneq ($(other),)
-# Outside of this folder, in which rt accepts no symbolic link.
+# Outside of this directory, in which rt accepts no symbolic link.
 SYSROOT ?= $(or $(XDG_CACHE_HOME),$(HOME)/.cache)/keywrap/sysroot$(other)
 needs_compiler = @command -v $(firstword $(CC)) >/dev/null || \
     { echo 'no $(firstword $(CC)): apt-get install gcc-aarch64-linux-gnu libc6-dev-arm64-cross' >&2; exit 1; }

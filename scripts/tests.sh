@@ -48,7 +48,8 @@ run_files() {
         return
     fi
     ! "$python" -c 'import xdist' 2>/dev/null || parallel=(-n "$(nproc)")
-    KEYWRAP_BUILT=$built KEYWRAP_JS=${KEYWRAP_JS:-$built/js} nice -n 5 "$python" -m pytest "${parallel[@]}" "${files[@]}"
+    KEYWRAP_BUILT=$built KEYWRAP_JS=${KEYWRAP_JS:-$built/js} \
+        nice -n 5 "$python" -m pytest "${parallel[@]}" "${files[@]}"
 }
 
 # over_library NAME..: builds the archives of the C library, and then runs these tests over them. If the archives

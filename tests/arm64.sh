@@ -3,7 +3,7 @@
 # calls from C, what depends on secrets in them, the package's tests with NIST's and OpenSSL's cases, what is packed.
 # A part whose tool is not there is skipped, with a line that says what to install.
 #
-# usage: tests/arm64.sh        (KEYWRAP_ARM64=FOLDER: over the library that make built there before)
+# usage: tests/arm64.sh        (KEYWRAP_ARM64=DIRECTORY: over the library that make built there before)
 
 set -u
 # shellcheck disable=SC2034
@@ -36,8 +36,9 @@ shuffles() {
 row 'the shuffles' shuffles
 
 # By the shared object, on an early processor; what depends on secrets and the package go by the archive.
-row 'the calls: compile' "$cc" -std=c99 -O2 -Wall -Wextra -pedantic -Werror "-I$root/include" "-I$root/tests/reference" \
-    "$root"/tests/library/*.c "$root/tests/reference/one_table.c" "$library/libkeywrap.so.1" -o checks
+row 'the calls: compile' "$cc" -std=c99 -O2 -Wall -Wextra -pedantic -Werror "-I$root/include" \
+    "-I$root/tests/reference" "$root"/tests/library/*.c "$root/tests/reference/one_table.c" "$library/libkeywrap.so.1" \
+    -o checks
 # They run beside what follows.
 "${runs[@]}" -cpu cortex-a53 -E "LD_LIBRARY_PATH=$library" ./checks few >calls.log 2>&1 &
 calls=$!

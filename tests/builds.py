@@ -32,34 +32,34 @@ def once(tmp_path_factory):
     base = base.parent if "PYTEST_XDIST_WORKER" in os.environ else base
 
     def make(name, build):
-        folder, made = base / name, base / f"{name}.made"
-        with open(f"{folder}.lock", "w") as lock:
+        directory, made = base / name, base / f"{name}.made"
+        with open(f"{directory}.lock", "w") as lock:
             fcntl.flock(lock, fcntl.LOCK_EX)
             if not made.exists():
-                shutil.rmtree(folder, ignore_errors=True)
+                shutil.rmtree(directory, ignore_errors=True)
                 mask = os.umask(0o022)
-                folder.mkdir()
-                build(folder)
+                directory.mkdir()
+                build(directory)
                 os.umask(mask)
                 made.touch()
-        return folder
+        return directory
 
     return make
 
 
 @pytest.fixture(scope="session")
 def built(once):
-    """built("llvm.a") is a file or directory of tests/library/build.sh. KEYWRAP_BUILT=FOLDER: of the scripts' build.
+    """built("llvm.a") is a file or directory of tests/library/build.sh. KEYWRAP_BUILT=DIRECTORY: of the scripts' build.
     KEYWRAP_ARCHIVES='PATH ..': the last of these is in the place of llvm.a."""
     def find(name):
         if name == "llvm.a" and (archives := os.environ.get("KEYWRAP_ARCHIVES", "").split()):
             return pathlib.Path(archives[-1]).absolute()
 
         given = os.environ.get("KEYWRAP_BUILT")
-        folder = pathlib.Path(given) if given else once("built", lambda _: None)
+        directory = pathlib.Path(given) if given else once("built", lambda _: None)
         # It builds what is not there, and waits for another process that does.
-        run(ROOT / "tests/library/build.sh", folder, *([] if name.endswith(".a") else [name]))
-        return folder / name
+        run(ROOT / "tests/library/build.sh", directory, *([] if name.endswith(".a") else [name]))
+        return directory / name
 
     return functools.cache(find)
 
@@ -67,23 +67,23 @@ def built(once):
 @pytest.fixture(scope="session")
 def library(once, built):
     """The directory of `make library`."""
-    def build(folder):
-        run("make", "-s", "-C", ROOT, "library", f"LIBRARY={folder}", f"ARCHIVE={built('llvm.a')}")
+    def build(directory):
+        run("make", "-s", "-C", ROOT, "library", f"LIBRARY={directory}", f"ARCHIVE={built('llvm.a')}")
 
     return once("library", build)
 
 
 @pytest.fixture(scope="session")
 def portable(once):
-    """The directory of `make portable`. KEYWRAP_JS=FOLDER takes the module from there if it is built there."""
+    """The directory of `make portable`. KEYWRAP_JS=DIRECTORY takes the module from there if it is built there."""
     need("wasm2c")
 
-    def build(folder):
+    def build(directory):
         if os.path.isdir(js := os.environ.get("KEYWRAP_JS", "")):
-            run(sys.executable, ROOT / "scripts/portable.py", f"{js}/keywrap.wasm", "1.0", folder)
+            run(sys.executable, ROOT / "scripts/portable.py", f"{js}/keywrap.wasm", "1.0", directory)
         else:
             need("wasm-opt")
-            run("make", "-s", "-C", ROOT, "portable", f"JS={folder}/js", f"PORTABLE={folder}")
+            run("make", "-s", "-C", ROOT, "portable", f"JS={directory}/js", f"PORTABLE={directory}")
 
     return once("portable", build)
 
@@ -94,10 +94,10 @@ NAMES = {"VERSION": VERSION, "DEBIAN": VERSION.replace("-", "~"), "PYTHON": VERS
 MACHINE = "TARGET=x86_64-unknown-linux-gnu"
 
 
-def copied_tree(folder, program, archive):
+def copied_tree(directory, program, archive):
     """A copy of the repository with the program and the archive, so that make there builds neither. Its rt only accepts
     `rt lib`."""
-    tree = folder / "tree"
+    tree = directory / "tree"
     tree.mkdir(parents=True)
     without = ["--exclude=.git", "--exclude=out", "--exclude=__pycache__"]
     packed = subprocess.Popen(["tar", "-C", ROOT, *without, "-cf", "-", "."], stdout=subprocess.PIPE)
@@ -107,11 +107,11 @@ def copied_tree(folder, program, archive):
         (tree / "crates" / place).parent.mkdir()
         shutil.copy(source, tree / "crates" / place)
     (tree / "crates/keywrap/out/built_from").write_text(run(tree / "scripts/sources.sh"))
-    (folder / "bin").mkdir()
-    noted = f'echo "$*" >>{folder}/calls; exec /usr/bin/python3 "$@"'
+    (directory / "bin").mkdir()
+    noted = f'echo "$*" >>{directory}/calls; exec /usr/bin/python3 "$@"'
     for name, script in [("rt", '[ "$1" = lib ]'), ("python3", noted)]:
-        (folder / "bin" / name).write_text(f"#!/bin/sh\n{script}\n")
-        (folder / "bin" / name).chmod(0o755)
+        (directory / "bin" / name).write_text(f"#!/bin/sh\n{script}\n")
+        (directory / "bin" / name).chmod(0o755)
     return tree
 
 
@@ -133,10 +133,10 @@ def dist(once, words, built, python, pytestconfig):
     """The directory of `make dist` for this machine."""
     need("wasm-opt", "wasm2c")
 
-    def build(folder):
-        made = [f"PROGRAM={pytestconfig.program}", f"JS={built('js')}", f"PORTABLE={folder.parent}/dist.portable"]
-        run("make", "-s", "-C", ROOT, "dist", *words, *made, f"DIST={folder}", f"PYTHON={python}", "-o", "build", "-o",
-            "js")
+    def build(directory):
+        made = [f"PROGRAM={pytestconfig.program}", f"JS={built('js')}", f"PORTABLE={directory.parent}/dist.portable"]
+        run("make", "-s", "-C", ROOT, "dist", *words, *made, f"DIST={directory}", f"PYTHON={python}", "-o", "build",
+            "-o", "js")
 
     return once("dist", build)
 
@@ -147,11 +147,11 @@ def debs(once, built, pytestconfig):
     need("dpkg-buildpackage", "dh", "dh_python3", "import build", "import cffi", "import setuptools", "import wheel",
          "<openssl/evp.h>")
 
-    def build(folder):
-        tree = copied_tree(folder, pytestconfig.program, built("llvm.a"))
-        path = f"{folder}/bin:/usr/sbin:/usr/bin:/sbin:/bin"
+    def build(directory):
+        tree = copied_tree(directory, pytestconfig.program, built("llvm.a"))
+        path = f"{directory}/bin:/usr/sbin:/usr/bin:/sbin:/bin"
         log = run("dpkg-buildpackage", "-b", "-us", "-uc", cwd=tree, env={**os.environ, "PATH": path})
-        (folder / "log").write_text(log)
+        (directory / "log").write_text(log)
 
     return once("debs", build)
 
@@ -161,66 +161,66 @@ def package_of(debs, name):
     return debs / f"{name.removeprefix('deb ')}_{NAMES['DEBIAN']}_amd64.deb"
 
 
-def unpacked(archive, folder):
+def unpacked(archive, directory):
     """The only directory of a tar archive, whose members are of no user of this machine."""
     with tarfile.open(archive) as packed:
         for member in packed:
             assert (member.uid, member.gid, member.mtime) == (0, 0, 1767225600), member.name
-    folder.mkdir()
-    run("tar", "-C", folder, "-xpzf", archive)
-    return next(folder.iterdir())
+    directory.mkdir()
+    run("tar", "-C", directory, "-xpzf", archive)
+    return next(directory.iterdir())
 
 
 @pytest.fixture(scope="session")
 def thing(request, once):
     """thing("wheel") is the directory with all of its files, as a user has it."""
     def installed(goal, *more):
-        def build(folder):
-            run("make", "-s", "-C", ROOT, goal, *request.getfixturevalue("words"), f"DESTDIR={folder}", "prefix=",
+        def build(directory):
+            run("make", "-s", "-C", ROOT, goal, *request.getfixturevalue("words"), f"DESTDIR={directory}", "prefix=",
                 f"PROGRAM={request.config.program}", "-o", "build", *more)
 
         return build
 
-    def hardware(folder):
+    def hardware(directory):
         """Only what is there beside the library's files."""
-        words = [f"LIBRARY={folder}/build", *request.getfixturevalue("words")[1:]]
+        words = [f"LIBRARY={directory}/build", *request.getfixturevalue("words")[1:]]
         for goal, words in [("one", [*words, "HARDWARE=1"]), ("two", request.getfixturevalue("words"))]:
-            run("make", "-s", "-C", ROOT, "install-library", *words, f"DESTDIR={folder}/{goal}", "prefix=")
-        for path in (folder / "two").rglob("*"):
+            run("make", "-s", "-C", ROOT, "install-library", *words, f"DESTDIR={directory}/{goal}", "prefix=")
+        for path in (directory / "two").rglob("*"):
             if path.is_symlink() or path.is_file():
-                (folder / "one" / path.relative_to(folder / "two")).unlink()
-        shutil.move(folder / "one/lib", folder / "lib")
+                (directory / "one" / path.relative_to(directory / "two")).unlink()
+        shutil.move(directory / "one/lib", directory / "lib")
         for name in "build", "one", "two":
-            shutil.rmtree(folder / name)
+            shutil.rmtree(directory / name)
 
-    def wheel(folder):
+    def wheel(directory):
         packed, = request.getfixturevalue("dist").glob("*.whl")
         with zipfile.ZipFile(packed) as files:
-            files.extractall(folder)
+            files.extractall(directory)
             for member in files.infolist():
-                (folder / member.filename).chmod(stat.S_IMODE(member.external_attr >> 16))
+                (directory / member.filename).chmod(stat.S_IMODE(member.external_attr >> 16))
 
     def archive(pattern):
-        def build(folder):
+        def build(directory):
             packed, = request.getfixturevalue("dist").glob(pattern)
-            for path in unpacked(packed, folder / "packed").iterdir():
-                shutil.move(path, folder / path.name)
-            shutil.rmtree(folder / "packed")
+            for path in unpacked(packed, directory / "packed").iterdir():
+                shutil.move(path, directory / path.name)
+            shutil.rmtree(directory / "packed")
 
         return build
 
-    def provider(folder):
+    def provider(directory):
         need("<openssl/evp.h>")
-        installed("install-provider", f"PROVIDER={folder}.built", "MODULESDIR=/modules")(folder)
-        shutil.rmtree(f"{folder}.built")
+        installed("install-provider", f"PROVIDER={directory}.built", "MODULESDIR=/modules")(directory)
+        shutil.rmtree(f"{directory}.built")
 
     def deb(name):
-        return lambda folder: run("dpkg-deb", "-x", package_of(request.getfixturevalue("debs"), name), folder)
+        return lambda directory: run("dpkg-deb", "-x", package_of(request.getfixturevalue("debs"), name), directory)
 
-    def sdist_built(folder):
+    def sdist_built(directory):
         """As pip installs it."""
         packed, = request.getfixturevalue("dist").glob(f"keywrap-{NAMES['PYTHON']}.tar.gz")
-        options = ["--no-build-isolation", "--no-index", "--no-deps", "--target", folder]
+        options = ["--no-build-isolation", "--no-index", "--no-deps", "--target", directory]
         run(request.getfixturevalue("python"), "-m", "pip", "install", *options, packed)
 
     makers = {

@@ -56,9 +56,9 @@ int fchown(int descriptor, unsigned owner, unsigned group) {
     return fails("fchown", ++calls) ? -1 : (int)syscall(SYS_FCHOWN, descriptor, owner, group);
 }
 
-int statx(int folder, const char *path, int flags, unsigned mask, void *found) {
+int statx(int directory, const char *path, int flags, unsigned mask, void *found) {
     static long calls;
-    if (fails("statx", ++calls) || syscall(SYS_STATX, folder, path, flags, mask, found) != 0)
+    if (fails("statx", ++calls) || syscall(SYS_STATX, directory, path, flags, mask, found) != 0)
         return -1;
     if (!*path && getenv("ONE_MODE"))
         *(unsigned short *)((char *)found + MODE) |= (unsigned short)number(getenv("ONE_MODE"));

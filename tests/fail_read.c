@@ -1,8 +1,10 @@
 /* A read for the tests of --lines, built as a shared library that LD_PRELOAD names. FAIL_READ=N makes the Nth call
    fail with EIO, and then a byte goes to the descriptor that MET names. SLOW_READ=N makes each call wait N
-   milliseconds. No header is included, since the kit's compiler has none. */
+   milliseconds. KEEP_READ=N keeps N bytes of memory for each 33 that a call reads, and a call fails if there are none.
+   No header is included, since the kit's compiler has none. */
 
 extern char *getenv(const char *name);
+extern void *malloc(unsigned long size);
 extern int usleep(unsigned microseconds);
 extern long write(int descriptor, const void *bytes, unsigned long count);
 extern long syscall(long number, ...);
@@ -20,9 +22,13 @@ static long wish(const char *name) {
 
 long read(int descriptor, void *bytes, unsigned long count) {
     static long calls;
+    static void *volatile kept;
     usleep(1000 * (unsigned)wish("SLOW_READ"));
-    if (++calls != wish("FAIL_READ"))
-        return syscall(SYS_READ, descriptor, bytes, count);
+    if (++calls != wish("FAIL_READ")) {
+        long got = syscall(SYS_READ, descriptor, bytes, count), keep = got > 0 ? got * wish("KEEP_READ") / 33 : 0;
+        if (!keep || (kept = malloc((unsigned long)keep)))
+            return got;
+    }
     (void)!write((int)wish("MET"), ".", 1);
     *__errno_location() = EIO;
     return -1;

@@ -2,8 +2,8 @@
 # Makes a root directory with a minimal Debian, the packages that README names and the kit. Clones the repository there,
 # and runs the commands of README's "Run it". This needs root, debootstrap, a Debian mirror and about half an hour.
 #
-# usage: KEYWRAP_FRESH=1 tests/fresh.sh        (without it nothing is run; KEYWRAP_FRESH=FOLDER keeps the root directory
-#        there, or takes the one that was kept)
+# usage: KEYWRAP_FRESH=1 tests/fresh.sh        (without it nothing is run; KEYWRAP_FRESH=DIRECTORY keeps the root
+#        directory there, or takes the one that was kept)
 
 set -u
 # shellcheck source=tests/lib/room.sh

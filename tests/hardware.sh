@@ -40,7 +40,8 @@ row 'with -flto' with_lto cc
 printf '#include <keywrap_steps.h>\n' >steps_header.c
 cp steps_header.c steps_header.cc
 for std in c89 c99 c11; do row "the header in $std" cc -std=$std "${options[@]:1}" -fsyntax-only steps_header.c; done
-! needs 'the header in C++' c++ || row 'the header in C++' c++ -std=c++11 "-I$root/include" -fsyntax-only steps_header.cc
+! needs 'the header in C++' c++ ||
+    row 'the header in C++' c++ -std=c++11 "-I$root/include" -fsyntax-only steps_header.cc
 
 ### The steps
 
@@ -103,7 +104,7 @@ builds() {
 }
 # compares DIRECTORY LIBCRYPTO COMPILER WORD..: builds there the program that compares the provider with OpenSSL's.
 compares() { "${@:3}" "${options[@]}" "${comparing[@]}" "$2" -o "$1/compared"; }
-# on PROCESSOR FOLDER AES COMMAND..: run by the command, the programs use this AES and find no fault.
+# on PROCESSOR DIRECTORY AES COMMAND..: run by the command, the programs use this AES and find no fault.
 on() {
     local part
     row "$1: the AES" writes "$3" "${@:4}" "$2/chosen"
@@ -161,7 +162,8 @@ made=(make -s -C "$root" HARDWARE=1 LIBRARY="$library" ${KEYWRAP_ARM64:+ARCHIVE=
 row 'aarch64: make library HARDWARE=1' "${made[@]}" library
 row 'aarch64: the programs: compile' builds arm $arm-gcc
 # Every processor of qemu has the instructions, so these programs replace getauxval.
-slow row 'aarch64 without AES: the programs: compile' builds arm_without $arm-gcc -rdynamic "$root/tests/hardware/no_aes.c"
+slow row 'aarch64 without AES: the programs: compile' builds arm_without $arm-gcc -rdynamic \
+    "$root/tests/hardware/no_aes.c"
 if [ -d "$sysroot/usr/include/openssl" ]; then
     runs=(qemu-aarch64 -L "$sysroot")
     of_debian=(-idirafter "$sysroot/usr/include" -idirafter "$sysroot/usr/include/$arm")

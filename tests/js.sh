@@ -1,9 +1,9 @@
 #!/usr/bin/env bash
 # Builds the package for browsers, Node and Deno, and runs its tests in Node without a flag and in Chromium, Firefox
-# and WebKit: each call, published cases, the module's memory after each call, bundles. Also uses its page in Chromium, as
-# a person does. Deno is not in Debian, so it is not tested.
+# and WebKit: each call, published cases, the module's memory after each call, bundles. Also uses its page in Chromium,
+# as a person does. Deno is not in Debian, so it is not tested.
 #
-# usage: tests/js.sh        (KEYWRAP_JS=FOLDER: over the package that make built there before)
+# usage: tests/js.sh        (KEYWRAP_JS=DIRECTORY: over the package that make built there before)
 
 set -u
 # shellcheck disable=SC2154
@@ -97,7 +97,8 @@ fi
 
 if needs 'the types of the package' tsc; then
     types=(tsc --noEmit --strict --target es2022 --module node16 --moduleResolution node16)
-    head='import { load, BadLength, KeyNotPlain, type Kind } from "keywrap"; const k = await load(); const b = new Uint8Array();'
+    head='import { load, BadLength, KeyNotPlain, type Kind } from "keywrap";
+const k = await load(); const b = new Uint8Array();'
     echo "$head const kind: Kind | null = k.check(k.wrap(b, b), k.rewrap(b, b, b, { newPadded: true }));
 k.rewrap(b, b, b, { oldPadded: true, keepForm: false }); k.wrap(b, b, { iv: b }); k.unwrap(b, b, { iv: b });
 k.unwrapPadded(b, k.wrapPadded(b, b)); const text: string = k.version; const error: BadLength = new KeyNotPlain();

@@ -51,7 +51,7 @@ launched 'no rt' 70 '' 'keywrap: not built yet, and rt, which proves and builds 
 mkdir alone && cp bin/rt alone && PATH=$tree/alone launch
 launched 'no make' 70 '' 'keywrap: not built yet, and make, which proves and builds it, is not on the PATH'
 TMPDIR=$tree/missing launch
-launched 'no folder for the logs' 70 '' "keywrap: no folder for the build's logs"
+launched 'no directory for the logs' 70 '' "keywrap: no directory for the build's logs"
 launch a 'b c'
 launched 'the first use' 5 "child of $$, 2 words: a b c"$'\n' "$starts" "${steps[@]}"
 for made in aes_block keywrap link; do

@@ -252,7 +252,8 @@ done
 
 if needs 'the Rust example' rustc; then
     rust=(rustc --edition 2021 -D warnings -L "native=$prefix/lib")
-    row 'the tests of the Rust module: build' "${rust[@]}" --test "$root/examples/rust/keywrap.rs" -A dead_code -o example
+    row 'the tests of the Rust module: build' "${rust[@]}" --test "$root/examples/rust/keywrap.rs" -A dead_code \
+        -o example
     row 'the tests of the Rust module' writes '2 passed' ./example
     runs_example 'the Rust example, shared' $rfc3394_41 "${rust[@]}" "$root/examples/rust/wrap.rs"
 fi
@@ -314,7 +315,8 @@ row 'its make uninstall-library' eval 'in_library uninstall-library DESTDIR="$ro
     includedir=/c docdir=/d/doc && [ -z "$(find stage ! -type d)" ]'
 # stripped: the shared object has no symbols but those that it shows, and the archive all.
 stripped() {
-    lies 'prefix= STRIP=1' include/keywrap{,_steps}.h $(of_lib lib) && nm stage/lib/libkeywrap.so 2>&1 | grep 'no symbols' &&
+    lies 'prefix= STRIP=1' include/keywrap{,_steps}.h $(of_lib lib) &&
+        nm stage/lib/libkeywrap.so 2>&1 | grep 'no symbols' &&
         shows -D --without-symbol-versions stage/lib/libkeywrap.so && shows -g stage/lib/libkeywrap.a
 }
 row 'STRIP=1' stripped

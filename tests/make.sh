@@ -191,7 +191,8 @@ rebuilds "$make library ARCHIVE=another.a" linked <<<'rm -r library; append anot
 flags="CPPFLAGS=-DX CFLAGS=-O1 LDFLAGS=-Wl,-x"
 rebuilds "$make library $flags && grep -q -- '-O1 -Wl,-x ' linked" "${linked[@]}" <<<"$make library"
 for goal in provider examples; do
-    row "the flags of make $goal" eval "$make $goal PROVIDER=provider EXAMPLES=built $flags; grep -- '-DX -O1 -Wl,-x ' linked"
+    row "the flags of make $goal" \
+        eval "$make $goal PROVIDER=provider EXAMPLES=built $flags; grep -- '-DX -O1 -Wl,-x ' linked"
 done
 $make library
 
@@ -289,7 +290,8 @@ rm -r stage dist
 { ./keywrap --version; $make library; } >/dev/null 2>&1
 does 'no wheel' 2 '' $make wheel PYTHON=false --
 no_wheel=1 does 'a wheel that cannot be built' 2 '' $make wheel --
-verdict 'it is not named, and what the build wrote is shown' "$(grep whl wrote; grep -qx 'no wheel here' err || cat err)"
+verdict 'it is not named, and what the build wrote is shown' \
+    "$(grep whl wrote; grep -qx 'no wheel here' err || cat err)"
 no_wheel=1 does 'nor is one packed' 2 '' $make dist $x86 --
 verdict 'no checksums of it' "$(ls dist/SHA256SUMS 2>/dev/null)"
 rm -r dist

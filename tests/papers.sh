@@ -97,8 +97,8 @@ goes() {
 }
 
 # All flags, and for each flag of a command the flags that the program accepts with it.
-printf '%s\n' --padded --new-padded --any-form --keep-form --pass-new --iv --new-iv --raw --raw-kek --base64 --base64url --base64-kek \
-    --lines --keep-going --quiet --verbose >flags
+printf '%s\n' --padded --new-padded --any-form --keep-form --pass-new --iv --new-iv --raw --raw-kek --base64 \
+    --base64url --base64-kek --lines --keep-going --quiet --verbose >flags
 mkdir beside
 for command in wrap unwrap rewrap check; do
     words=("$command" --kek missing)

@@ -32,8 +32,8 @@ def nist_files():
     """The paths of NIST's files. Raises ImportError without python3-cryptography-vectors."""
     import cryptography_vectors
 
-    folder = pathlib.Path(cryptography_vectors.__path__[0]) / "keywrap/kwtestvectors"
-    return sorted(folder.glob("KW*_A[DE]_???.txt"))
+    directory = pathlib.Path(cryptography_vectors.__path__[0]) / "keywrap/kwtestvectors"
+    return sorted(directory.glob("KW*_A[DE]_???.txt"))
 
 
 def nist_or_skip():

@@ -46,10 +46,11 @@ row 'the stack: the copies of half a secret' leaves 7 0 0
 
 { [ -x "${memcheck[-1]}" ] || needs 'memcheck' valgrind; } && needs 'memcheck' '<valgrind/memcheck.h>' ||
     { finish; exit; }
-row 'compiles' "$cc" "${options[@]}" "$root/tests/secrets/secrets.c" "$root/tests/reference/one_table.c" "$archive" -o secrets
+row 'compiles' "$cc" "${options[@]}" "$root/tests/secrets/secrets.c" "$root/tests/reference/one_table.c" "$archive" \
+    -o secrets
 
-# reports FILE LENGTHS OPTION..: runs the calls, and writes a line for each with its reports. No report is taken for one of
-# the caller of its function, as some are if memcheck follows a call.
+# reports FILE LENGTHS OPTION..: runs the calls, and writes a line for each with its reports. No report is taken for one
+# of the caller of its function, as some are if memcheck follows a call.
 reports() {
     "${memcheck[@]}" -q --vex-guest-chase=no --error-limit=no --log-file=valgrind.log "${@:3}" ./secrets "$2" >"$1"
 }

@@ -1,5 +1,5 @@
-"""The documents: links and paths lead to what is there, no term is one that docs/DEFINITIONS.md rejects, no line is
-longer than 120 columns, bad phrases do not grow, what a script makes is up to date, and repeated facts agree."""
+"""The documents: links and paths lead to what is there, no term is one that docs/DEFINITIONS.md rejects, bad phrases do
+not grow, what a script makes is up to date, and repeated facts agree. No line is too long."""
 
 import pathlib
 import re
@@ -41,9 +41,6 @@ class TestEachDocument:
             if re.fullmatch(f"(?:{DIRECTORIES})/[A-Za-z0-9_./*-]*", path) and not re.search("NAME|MODULE|TOPIC", path):
                 assert any(any(ROOT.glob(place + path.rstrip("/"))) for place in ("", "crates/", "crates/*/")), path
 
-    def test_width(self, document):
-        assert [line for line in text_of(document).splitlines() if len(line) > 120] == []
-
     def test_terms(self, document):
         """The text without code, tables of terms and the targets of links has no rejected term."""
         table = re.search(r"^\| Term \| Is \| not \|\n\|.*?\n(.*?)^$", text_of("docs/DEFINITIONS.md"), re.M | re.S)[1]
@@ -55,6 +52,15 @@ class TestEachDocument:
             text = re.sub(pattern, rest, text, flags=re.M | re.S)
         found = rf"(?i).{{0,30}}\b(?:{'|'.join(map(re.escape, terms))})\b.{{0,20}}"
         assert re.findall(found, " ".join(text.split())) == []
+
+
+@pytest.mark.needs("git")
+def test_width():
+    """No line outside crates/ and python/ has more than 120 columns, but for data."""
+    data = [":!crates", ":!python", ":!crates.txt", ":!*.csv", ":!*.svg", ":!tests/launcher.txt"]
+    search = ["git", "-C", ROOT, "grep", "-I", "--count", "-E", ".{121}", "--", "."]
+    assert "crates.txt:1\n" in subprocess.run(search, capture_output=True, text=True).stdout
+    assert subprocess.run([*search, *data], capture_output=True, text=True).stdout == ""
 
 
 class TestRepeatedFacts:

@@ -60,10 +60,10 @@ class Library:
 @pytest.fixture(scope="session")
 def facts(once, request):
     """facts("aarch64") is the library of the machine, by the name of its column in the page."""
-    def portable_object(folder):
+    def portable_object(directory):
         portable = request.getfixturevalue("portable")
         run("arm-linux-gnueabihf-gcc", "-mthumb", "-Os", "-ffunction-sections", "-fdata-sections", *SMALL, "-c",
-            portable / "keywrap.c", "-o", folder / "thumb.o")
+            portable / "keywrap.c", "-o", directory / "thumb.o")
 
     def find(machine):
         if machine == "x86-64":
@@ -113,8 +113,8 @@ def test_registers_of_aarch64(facts):
 @pytest.mark.needs("arm-none-eabi-gcc")
 def test_code_of_thumb_1(portable):
     """The most that a call for a Cortex-M0 has beyond the column for Thumb-2."""
-    run("arm-none-eabi-gcc", "-mcpu=cortex-m0", "-mthumb", "-Os", "-ffunction-sections", "-fdata-sections", *SMALL, "-c",
-        portable / "keywrap.c", "-o", "cortex.o")
+    run("arm-none-eabi-gcc", "-mcpu=cortex-m0", "-mthumb", "-Os", "-ffunction-sections", "-fdata-sections", *SMALL,
+        "-c", portable / "keywrap.c", "-o", "cortex.o")
     library = Library("Cortex-M0", "cortex.o", "arm-none-eabi-")
     most = max(library.code(call) / code for call, (code, _) in sheet("portable C on 32-bit Arm").items())
     percent, = re.findall(r"up to (\d+) % more code", PAGE)

@@ -1,5 +1,5 @@
 """The portable C library: the checks of tests/library and published cases by each compiler and machine, the memory of a
-call, what the object needs, and planted bugs. KEYWRAP_JS=FOLDER takes the module from there if it is built there."""
+call, what the object needs, and planted bugs. KEYWRAP_JS=DIRECTORY takes the module from there if it is built there."""
 
 import os
 import pathlib
@@ -34,12 +34,12 @@ MACHINES = {
 NATIVE = ["gcc", "clang"]
 
 
-def compiled_program(folder, name, sources, *options, library=()):
+def compiled_program(directory, name, sources, *options, library=()):
     """Compiles a program over the keywrap.c in the directory, by the compiler of this name. Returns its command."""
     compiler, runner = MACHINES[name]
     need(compiler[0], *runner)
-    command = [*compiler, *STRICT, f"-I{folder}", f"-I{ROOT}/tests/reference", f"-I{OWN}", *options]
-    run(*command, *library, "-c", f"{folder}/keywrap.c", "-o", "keywrap.o")
+    command = [*compiler, *STRICT, f"-I{directory}", f"-I{ROOT}/tests/reference", f"-I{OWN}", *options]
+    run(*command, *library, "-c", f"{directory}/keywrap.c", "-o", "keywrap.o")
     run(*command, "-DKEYWRAP_PORTABLE", *sources, "keywrap.o", "-o", "program")
     return [*runner, "./program"]
 
@@ -103,7 +103,7 @@ def test_no_memory_and_longest_keys(portable, name):
 @pytest.mark.parametrize("name", NATIVE)
 @pytest.mark.parametrize("level", all_of(["-O1", "-O2", "-O3", "-Os"], ["-O2"]))
 def test_stack(portable, name, level):
-    """Below the stack pointer SECURITY.md's bytes depend on a KEK or a key: 12 to 54 by gcc 12, 40 to 50 by clang 14."""
+    """Below the stack pointer SECURITY.md's bytes depend on a KEK or a key: gcc 12 has 12 to 54, clang 14 40 to 50."""
     program = compiled_program(portable, name, [ROOT / "tests/secrets/stack.c"], level, "-Wl,-z,now", "-Wno-error")
     counts = [list(map(int, line.split()[3:7])) for line in run(*program).splitlines()]
     exports = re.findall(r"^int32_t keywrap_", (portable / "keywrap.h").read_text(), re.M)
@@ -165,11 +165,11 @@ def test_numbers_in_documents(portable):
 
 def test_makefile(portable):
     need("cc")
-    folder = shutil.copytree(portable, "copy", ignore=shutil.ignore_patterns("js"))
-    run("make", "-C", folder, "check", "CPPFLAGS=-DKEYWRAP_NO_MALLOC")
-    assert "malloc" not in run("nm", "-u", f"{folder}/keywrap.o")
-    run("make", "-C", folder, "clean")
-    assert {path.name for path in pathlib.Path(folder).iterdir()} == {
+    directory = shutil.copytree(portable, "copy", ignore=shutil.ignore_patterns("js"))
+    run("make", "-C", directory, "check", "CPPFLAGS=-DKEYWRAP_NO_MALLOC")
+    assert "malloc" not in run("nm", "-u", f"{directory}/keywrap.o")
+    run("make", "-C", directory, "clean")
+    assert {path.name for path in pathlib.Path(directory).iterdir()} == {
         "CMakeLists.txt", "Makefile", "README", "keywrap.c", "keywrap.h", "vectors.c"}
 
 
@@ -205,13 +205,13 @@ def test_sdist(portable, compiler):
     """pip builds the source distribution without the kit, and the package's tests pass on it. It is the same again."""
     need(compiler, *[f"import {module}" for module in ("build", "cffi", "ensurepip", "setuptools", "wheel")])
     kit = pathlib.Path(shutil.which("rt") or "/rt").parent
-    path = ":".join(folder for folder in os.environ["PATH"].split(":") if pathlib.Path(folder) != kit)
+    path = ":".join(directory for directory in os.environ["PATH"].split(":") if pathlib.Path(directory) != kit)
     env = {**os.environ, "PATH": path, "CC": compiler, "LDSHARED": f"{compiler} -shared",
            "SOURCE_DATE_EPOCH": "1767225600"}
     version = (ROOT / "VERSION").read_text().strip().replace("-dev", ".dev0")
-    for folder in "one", "two":
-        run(ROOT / "scripts/sdist.sh", sys.executable, portable, version, folder, env=env)
-    packed = [pathlib.Path(folder, f"keywrap-{version}.tar.gz").resolve() for folder in ("one", "two")]
+    for directory in "one", "two":
+        run(ROOT / "scripts/sdist.sh", sys.executable, portable, version, directory, env=env)
+    packed = [pathlib.Path(directory, f"keywrap-{version}.tar.gz").resolve() for directory in ("one", "two")]
     assert packed[0].read_bytes() == packed[1].read_bytes()
     run(sys.executable, "-m", "venv", "--system-site-packages", "env")
     run("env/bin/python3", "-m", "pip", "install", "--no-build-isolation", "--no-index", packed[0], env=env)

@@ -34,11 +34,11 @@ def environment():
         yield
 
 
-def programs(folder, *options):
+def programs(directory, *options):
     """Compiles the two programs."""
     sources = [path for path in sorted(OWN.glob("*.c")) if path.name != "direct.c"]
-    run("cc", *STRICT, "-O1", "-g", *options, *sources, "-lcrypto", "-o", folder / "compared")
-    run("cc", *STRICT, "-O1", "-g", *options, OWN / "direct.c", "-ldl", "-o", folder / "direct")
+    run("cc", *STRICT, "-O1", "-g", *options, *sources, "-lcrypto", "-o", directory / "compared")
+    run("cc", *STRICT, "-O1", "-g", *options, OWN / "direct.c", "-ldl", "-o", directory / "direct")
 
 
 @pytest.fixture(scope="session")
@@ -48,10 +48,11 @@ def compiled_programs(once):
 
 @pytest.fixture(scope="session")
 def sanitized(once, library):
-    def build(folder):
+    def build(directory):
         run("cc", *STRICT, "-O1", "-g", "-fPIC", "-shared", *SANITIZE, *sorted((ROOT / "provider").glob("*.c")),
-            library / "libkeywrap.a", f"-Wl,--version-script,{ROOT}/provider/provider.map", "-o", folder / "keywrap.so")
-        programs(folder, *SANITIZE)
+            library / "libkeywrap.a", f"-Wl,--version-script,{ROOT}/provider/provider.map",
+            "-o", directory / "keywrap.so")
+        programs(directory, *SANITIZE)
 
     return once("provider-sanitized", build)
 
@@ -103,13 +104,13 @@ class TestCompared:
 @pytest.mark.parametrize("words", [[], ["MODULESDIR=/opt/modules"]])
 def test_installed_and_removed(library, words):
     """In OpenSSL's directory of modules, or in another: one file, which make uninstall-provider removes."""
-    folder = "/opt/modules" if words else re.search('"(.*)"', run("openssl", "version", "-m"))[1]
+    directory = "/opt/modules" if words else re.search('"(.*)"', run("openssl", "version", "-m"))[1]
     room = os.getcwd()
     made = ["make", "-s", "-C", ROOT, f"LIBRARY={library}", f"DESTDIR={room}/stage", f"PROVIDER={room}/built"]
     run(*made, "install-provider", "-o", "library", *words)
     stage = pathlib.Path("stage")
-    assert [path for path in stage.rglob("*") if path.is_file()] == [stage / folder[1:] / "keywrap.so"]
-    assert (stage / folder[1:] / "keywrap.so").stat().st_mode & 0o777 == 0o644
+    assert [path for path in stage.rglob("*") if path.is_file()] == [stage / directory[1:] / "keywrap.so"]
+    assert (stage / directory[1:] / "keywrap.so").stat().st_mode & 0o777 == 0o644
     run(*made, "uninstall-provider", *words)
     assert not [path for path in stage.rglob("*") if path.is_file()]
 
@@ -150,7 +151,8 @@ class TestOpenssl:
 
     def test_descriptions(self, modules):
         """OpenSSL lists six ciphers, with these descriptions."""
-        said = run("openssl", "list", "-verbose", "-cipher-algorithms", "-provider-path", modules, "-provider", "keywrap")
+        given = "-provider-path", modules, "-provider", "keywrap"
+        said = run("openssl", "list", "-verbose", "-cipher-algorithms", *given)
         found = [re.search("description: (.*)", part) for part in said.split("@ keywrap\n")[1:]]
         assert sorted(match[1] if match else "" for match in found) == [
             *["AES Key Wrap (RFC 3394), proved"] * 3, *["AES Key Wrap with Padding (RFC 5649), proved"] * 3]

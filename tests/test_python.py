@@ -54,15 +54,15 @@ def test_stripped_extension(thing):
 @pytest.fixture(scope="session")
 def installed(once, dist, python):
     """The Python of an environment with the wheel, by the README's lines. The last one wraps as OpenSSL does."""
-    def build(folder):
+    def build(directory):
         wheel, = dist.glob("*.whl")
-        shutil.copy(wheel, folder)
-        (folder / "first").mkdir()
-        (folder / "first/python3").symlink_to(python)
+        shutil.copy(wheel, directory)
+        (directory / "first").mkdir()
+        (directory / "first/python3").symlink_to(python)
         lines = re.findall(r"^    ((?:python3 -m venv|env/bin/).*)", (ROOT / "python/README.md").read_text(), re.M)
         assert len(lines) == 3
-        said = run("bash", "-ec", "\n".join(lines), cwd=folder, env={
-            **os.environ, "PATH": f"{folder}/first:{os.environ['PATH']}", "PIP_NO_INDEX": "1"})
+        said = run("bash", "-ec", "\n".join(lines), cwd=directory, env={
+            **os.environ, "PATH": f"{directory}/first:{os.environ['PATH']}", "PIP_NO_INDEX": "1"})
         assert said.splitlines()[-1] == "b595a1c0afbe7a89ce43807cb3b2ba5737ff5d71d0a35cd7"
 
     return once("python-installed", build) / "env/bin/python3"

@@ -11,7 +11,7 @@ import pytest
 
 @functools.cache
 def missing(*tools):
-    """The tools that are not here and their packages, as the reason of a skip. Modules are looked for in this Python."""
+    """The tools that are not here and their packages, as the reason of a skip. Modules are this Python's."""
     script = pathlib.Path(__file__).with_name("lib") / "tools.sh"
     looked = subprocess.run(["bash", script, *tools], stdout=subprocess.PIPE, text=True,
                             env={**os.environ, "python": sys.executable})

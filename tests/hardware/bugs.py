@@ -36,10 +36,10 @@ PROGRAMS = {
 }
 
 
-def plant(edit, folder):
+def plant(edit, directory):
     """Makes the edit in a copy. Lines `old:` in a row are one text, which the file has exactly once."""
     text = edit.read_text()
-    path = pathlib.Path(folder, re.match("file: (.*)", text)[1])
+    path = pathlib.Path(directory, re.match("file: (.*)", text)[1])
     code = path.read_text()
     for pair in re.findall(r"((?:old:.*\n)+)((?:new:.*\n)+)", text):
         old, new = ("\n".join(line[5:] for line in lines.splitlines()) for lines in pair)
@@ -50,16 +50,16 @@ def plant(edit, folder):
 
 def caught_by(archive, bug):
     """The first program that finds a fault over a copy with the bug, or None."""
-    with tempfile.TemporaryDirectory() as folder:
+    with tempfile.TemporaryDirectory() as directory:
         for name in "hardware", "include", "tests":
-            shutil.copytree(ROOT / name, f"{folder}/{name}")
-        subprocess.run(["objcopy", "--redefine-syms=hardware/names", archive, "proved.a"], cwd=folder, check=True)
+            shutil.copytree(ROOT / name, f"{directory}/{name}")
+        subprocess.run(["objcopy", "--redefine-syms=hardware/names", archive, "proved.a"], cwd=directory, check=True)
         if bug:
-            plant(bug, folder)
+            plant(bug, directory)
         for name, (sources, command, wanted) in PROGRAMS.items():
             # What does not build is a bug of the edit.
-            subprocess.run(COMPILE + sources, shell=True, cwd=folder, check=True)
-            ended = subprocess.run(["bash", "-c", command], cwd=folder, capture_output=True, text=True)
+            subprocess.run(COMPILE + sources, shell=True, cwd=directory, check=True)
+            ended = subprocess.run(["bash", "-c", command], cwd=directory, capture_output=True, text=True)
             if ended.returncode or not re.fullmatch(wanted, ended.stdout, re.S):
                 return name
 

@@ -18,9 +18,9 @@ export class Browser {
     #rest = '';
     errors = [];
 
-    static async start(program, folder) {
+    static async start(program, directory) {
         const browser = new Browser();
-        browser.#process = spawn(program, [...FLAGS, `--user-data-dir=${folder}`, 'about:blank'], {
+        browser.#process = spawn(program, [...FLAGS, `--user-data-dir=${directory}`, 'about:blank'], {
             stdio: ['ignore', 'ignore', 'ignore', 'pipe', 'pipe'],
         });
         browser.#process.stdio[4].setEncoding('utf8').on('data', (text) => browser.#read(text));

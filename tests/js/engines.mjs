@@ -21,7 +21,7 @@ const COMMANDS = {
     webkit: (url) => ['xvfb-run', '-a', 'dbus-run-session', '--', program, url],
 };
 const TESTS = new URL('.', import.meta.url).pathname;
-const FOLDERS = { keywrap: packed, tests: TESTS, page: `${TESTS}page`, bundles, tables };
+const DIRECTORIES = { keywrap: packed, tests: TESTS, page: `${TESTS}page`, bundles, tables };
 const NAMES = other ? [other] : [
     'page_self', 'calls', 'rewraps', 'objects', 'example', ...bundles ? ['bundles'] : [], 'vectors',
 ];
@@ -81,8 +81,8 @@ async function answer(request) {
     if (request.url === '/') {
         return [PAGE, 'text/html'];
     }
-    const [, folder, name] = request.url.split('/');
-    const file = await readFile(`${FOLDERS[folder]}/${basename(name)}`);
+    const [, directory, name] = request.url.split('/');
+    const file = await readFile(`${DIRECTORIES[directory]}/${basename(name)}`);
     return [file, TYPES[extname(name)] ?? 'text/plain'];
 }
 

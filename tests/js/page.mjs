@@ -1,6 +1,6 @@
 // The page example.html in Chromium: a person types, presses and reads.
 //
-// usage: node page.mjs PACKAGE CHROMIUM FOLDER        (FOLDER: for what Chromium keeps)
+// usage: node page.mjs PACKAGE CHROMIUM DIRECTORY        (DIRECTORY: for what Chromium keeps)
 
 import assert from 'node:assert/strict';
 import { readFile } from 'node:fs/promises';
@@ -8,7 +8,7 @@ import { createServer } from 'node:http';
 import { after, test } from 'node:test';
 import { Browser } from './browser.mjs';
 
-const [, , folder, program, kept] = process.argv;
+const [, , directory, program, kept] = process.argv;
 const TYPES = {
     'example.html': 'text/html',
     'keywrap.js': 'text/javascript',
@@ -21,7 +21,7 @@ const server = createServer(async (request, response) => {
     const name = request.url.slice(1);
     asked.push(`${request.method} ${name}`);
     if (TYPES[name]) {
-        const file = await readFile(`${folder}/${name}`);
+        const file = await readFile(`${directory}/${name}`);
         response.writeHead(200, { 'content-type': TYPES[name] }).end(file);
     } else {
         response.writeHead(404).end();

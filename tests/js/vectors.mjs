@@ -1,6 +1,6 @@
 // Published cases, of NIST, Wycheproof and ACVP: the lines that tests/published.py prints.
 //
-// usage: node vectors.mjs FOLDER        (the one that has foreign.txt, and nist.txt if it is there)
+// usage: node vectors.mjs DIRECTORY        (the one that has foreign.txt, and nist.txt if it is there)
 // In a page, too.
 
 import assert from 'node:assert/strict';

@@ -1,6 +1,6 @@
 # Prints what zsh offers after a line. It completes only on a terminal; each offer passes through compadd.
 #
-# usage: completions=FOLDER zsh -f offers.zsh LINE
+# usage: completions=DIRECTORY zsh -f offers.zsh LINE
 
 zmodload zsh/zpty
 zpty child zsh -f -i

@@ -1,5 +1,5 @@
 # shellcheck shell=bash disable=SC2086
-# The lines that tests/test_recipes.py runs after recipes of docs/RECIPES.md: each part begins with a line `#: after NAME`.
+# The lines that tests/test_recipes.py runs after recipes of docs/RECIPES.md: each part begins with `#: after NAME`.
 
 #: after Import a key into a key store or a hardware module
 # A key store gets the key from each file. imported HASH FILE: the first part is as long as the store's key.

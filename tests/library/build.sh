@@ -3,9 +3,9 @@
 # asked and possible, it also builds the library for aarch64 as its directory arm64, and the package for browsers as js.
 # An archive that exists is not built again. A second process waits for the first one.
 #
-# usage: tests/library/build.sh FOLDER [arm64] [js]
+# usage: tests/library/build.sh DIRECTORY [arm64] [js]
 
-# of_arm FOLDER: tests/arm64.sh says why, if this fails.
+# of_arm DIRECTORY: tests/arm64.sh says why, if this fails.
 of_arm() {
     command -v aarch64-linux-gnu-gcc || return 0
     make -s -C ../.. library TARGET=aarch64-unknown-linux-gnu LIBRARY="$1" || rm -rf "$1"
@@ -17,7 +17,7 @@ of_js() { make -s -C ../.. js JS="$1.new" && mv "$1.new" "$1"; }
 exec 9>"$1/lock" && flock 9 || exit
 jobs=$(nproc) && [ "$jobs" -le 4 ] || jobs=4
 cd "$(dirname "${BASH_SOURCE[0]}")/../../crates/keywrap_c" || exit
-# The last build is LLVM's, so that it is what stays in the crate's folder. `make library` for aarch64 puts it back.
+# The last build is LLVM's, so that it is what stays in the crate's directory. `make library` for aarch64 puts it back.
 if [ ! -e "$1/llvm.a" ]; then
     rt lib --jobs "$jobs" --backend rattle && cp out/libkeywrap_c.a "$1/rattle.a" &&
         rt lib --jobs "$jobs" && cp out/libkeywrap_c.a "$1/llvm.a" || exit

@@ -21,9 +21,9 @@ DAMAGED = "9d3e862371d2cfe4"
 DECRYPTION = ["000d0a0704010e0b0805020f0c090603", "52096ad53036a538bf40a39e81f3d7fb"]
 
 original = pathlib.Path(sys.argv[1]).read_bytes()
-with tempfile.TemporaryDirectory() as folder:
+with tempfile.TemporaryDirectory() as directory:
     def self_test(name, library):
-        path = pathlib.Path(folder, f"{name}.so")
+        path = pathlib.Path(directory, f"{name}.so")
         path.write_bytes(library)
         return ctypes.CDLL(str(path)).keywrap_self_test()
 
@@ -32,7 +32,7 @@ with tempfile.TemporaryDirectory() as folder:
         wrapped = ctypes.create_string_buffer(24)
         key = bytes.fromhex("00112233445566778899aabbccddeeff")
         arguments = [bytes(range(16)), ctypes.c_size_t(16), key, ctypes.c_size_t(16), wrapped, ctypes.c_size_t(24)]
-        status = ctypes.CDLL(str(pathlib.Path(folder, f"{name}.so"))).keywrap_wrap(*arguments)
+        status = ctypes.CDLL(str(pathlib.Path(directory, f"{name}.so"))).keywrap_wrap(*arguments)
         return status == 0 and wrapped.raw.hex() == "1fa68b0a8112b447aef34bd8fb5a7b829d3e862371d2cfe5"
 
     assert self_test("original", original) == 0

@@ -1,6 +1,6 @@
 /* main.c: compares OpenSSL's own provider with ours, which is keywrap.so in the directory.
  *
- * usage: provider FOLDER PART [COUNT|few]        (PART: lengths, sequences, parameters, refusals,
+ * usage: provider DIRECTORY PART [COUNT|few]        (PART: lengths, sequences, parameters, refusals,
  * vectors; few: without the longest keys, since an emulator takes seconds for each) */
 
 #include <stdio.h>

@@ -53,8 +53,8 @@ static int load(struct side *side) {
     return side->ctx != NULL;
 }
 
-int load_sides(const char *folder) {
-    if (OSSL_PROVIDER_set_default_search_path(NULL, folder) && load(sides) && load(sides + 1))
+int load_sides(const char *directory) {
+    if (OSSL_PROVIDER_set_default_search_path(NULL, directory) && load(sides) && load(sides + 1))
         return 1;
     ERR_print_errors_fp(stdout);
     return 0;

@@ -33,7 +33,7 @@ extern unsigned passed, failed;
 void check(int right, const char *format, ...);
 
 /* Loads the default provider, and ours from the directory, into one library context. */
-int load_sides(const char *folder);
+int load_sides(const char *directory);
 void unload_sides(void);
 
 /* Whether cipher number `which` has the padded form, and the length of its KEK. */
