@@ -1,4 +1,4 @@
-# Completion of keywrap for fish: the commands, the options of each, and file names after those that take one.
+# Completion of keywrap for fish: the commands, their options, and file names after those that take one.
 # Written by scripts/facts.py from the tables of crates/keywrap_args.
 
 function __keywrap_is

@@ -55,11 +55,13 @@ def options():
     """The options in the order of the help, and the argument without a name."""
     table = re.search(r"static ARGUMENTS: .*?; (\d+)\] = \[(.*?)\n\];", text_of("options.rt"), re.DOTALL)
     found, of_users = {}, users()
-    for who, name, about, rest in re.findall(r'(\w+): "([\w-]+)",\s*"(.*?)"(.*?)(?=\n    argument!|\Z)', table[2], re.DOTALL):
+    rows = re.findall(r'(\w+): "([\w-]+)",\s*"(.*?)"(.*?)(?=\n    argument!|\Z)', table[2], re.DOTALL)
+    for who, name, about, rest in rows:
         value, short = (re.findall(r"Value::(\w+)(?:\('(\w)'\))?", rest) or [("", "")])[0]
         excludes = re.findall(r'"([\w-]+)"', "".join(re.findall(r"conflicts: &\[(.*?)\]", rest)))
         found[name] = Option(name, about, value, short, excludes, of_users[who])
-    assert len(found) == int(table[1]) and all(option.commands for option in found.values()), "options.rt is not as it was"
+    used = all(option.commands for option in found.values())
+    assert len(found) == int(table[1]) and used, "options.rt is not as it was"
     for option in [*found.values()]:
         for other in option.conflicts:
             if option.name not in found[other].conflicts:
@@ -209,7 +211,7 @@ def fish():
                           for name, about in [*COMMANDS.items(), ("help", HELP)])
     common = "\n".join(f"complete -c keywrap -s {short} -l {name} -d '{about}' -n 'not __keywrap_is help'"
                        for short, name, about in COMMON)
-    return f"""# Completion of keywrap for fish: the commands, the options of each, and file names after those that take one.
+    return f"""# Completion of keywrap for fish: the commands, their options, and file names after those that take one.
 {BY}
 
 function __keywrap_is

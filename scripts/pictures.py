@@ -118,7 +118,8 @@ def layers():
     drawing.text(280, 20, "wrapped key", "middle")
     drawing.arrow((120, 26), (120, 52))
     drawing.arrow((280, 52), (280, 26))
-    drawing.text(8, 420, "Solid box: every function is proved to return, and to meet its contract where it has one.", "small")
+    proved = "Solid box: every function is proved to return, and to meet its contract where it has one."
+    drawing.text(8, 420, proved, "small")
     return drawing
 
 
