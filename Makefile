@@ -171,6 +171,7 @@ needs-wheel:
 
 # The wheel's name is the last line.
 wheel: needs-wheel library
+	@$(MAKE) --no-print-directory library-hardware
 	$(for_machine) scripts/wheel.sh '$(PYTHON)' '$(LIBRARY)' '$(machine)' '$(DIST)' $(if $(other),'$(SYSROOT)')
 	@echo '$(wheel)'
 

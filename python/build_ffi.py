@@ -17,20 +17,10 @@ int32_t rewrap(const uint8_t *old_kek, size_t old_kek_len, const uint8_t *new_ke
                uint32_t flags);
 int64_t kind(const uint8_t *kek, size_t kek_len, const uint8_t *wrapped, size_t wrapped_len,
              uint8_t *scratch, size_t room);
-int32_t wrap_many(const uint8_t *kek, size_t kek_len, uint8_t *texts, size_t key_len, size_t count,
-                  uint32_t padded, uint8_t *statuses);
-int32_t unwrap_many(const uint8_t *kek, size_t kek_len, uint8_t *texts, size_t text_len,
-                    size_t count, uint32_t padded, size_t *key_lens, uint8_t *statuses);
-int32_t rewrap_many(const uint8_t *old_kek, size_t old_kek_len, const uint8_t *new_kek,
-                    size_t new_kek_len, uint8_t *texts, size_t text_len, size_t count,
-                    uint32_t flags, uint8_t *statuses);
-int32_t check_many(const uint8_t *kek, size_t kek_len, const uint8_t *texts, size_t text_len,
-                   size_t count, uint8_t *scratch, uint8_t *forms);
 void wipe(uint8_t *bytes, size_t len);
 int cpu_supported(void);
 static const char *const VERSION;
 #define NO_MEMORY ...
-#define ALREADY ...
 """
 
 SOURCE = """
@@ -76,67 +66,6 @@ static int32_t rewrap(const uint8_t *old_kek, size_t old_kek_len, const uint8_t 
                           &already);
 }
 
-/* The status of a slot that KEYWRAP_PASS_NEW left as it is; no refusal has this number. */
-#define ALREADY 1
-
-/* Whether a status is that of the whole call. */
-static int of_call(int32_t status) {
-    return status != KEYWRAP_OK && status != KEYWRAP_INTEGRITY && status != KEYWRAP_KEY_NOT_PLAIN;
-}
-
-static int32_t wrap_many(const uint8_t *kek, size_t kek_len, uint8_t *texts, size_t key_len,
-                         size_t count, uint32_t padded, uint8_t *statuses) {
-    size_t len = padded ? KEYWRAP_PADDED_TEXT_LEN(key_len) : KEYWRAP_TEXT_LEN(key_len);
-    for (size_t i = 0; i < count; i++) {
-        int32_t status =
-            padded ? keywrap_wrap_padded_in_place(kek, kek_len, texts + i * len, len, key_len)
-                   : keywrap_wrap_in_place(kek, kek_len, texts + i * len, len);
-        if (of_call(status)) return status;
-        statuses[i] = (uint8_t)status;
-    }
-    return KEYWRAP_OK;
-}
-
-static int32_t unwrap_many(const uint8_t *kek, size_t kek_len, uint8_t *texts, size_t text_len,
-                           size_t count, uint32_t padded, size_t *key_lens, uint8_t *statuses) {
-    for (size_t i = 0; i < count; i++) {
-        uint8_t *text = texts + i * text_len;
-        key_lens[i] = text_len - 8;
-        int32_t status =
-            padded ? keywrap_unwrap_padded_in_place(kek, kek_len, text, text_len, &key_lens[i])
-                   : keywrap_unwrap_in_place(kek, kek_len, text, text_len);
-        if (of_call(status)) return status;
-        statuses[i] = (uint8_t)status;
-    }
-    return KEYWRAP_OK;
-}
-
-static int32_t rewrap_many(const uint8_t *old_kek, size_t old_kek_len, const uint8_t *new_kek,
-                           size_t new_kek_len, uint8_t *texts, size_t text_len, size_t count,
-                           uint32_t flags, uint8_t *statuses) {
-    for (size_t i = 0; i < count; i++) {
-        uint32_t already;
-        int32_t status = keywrap_rewrap(old_kek, old_kek_len, new_kek, new_kek_len,
-                                        texts + i * text_len, text_len, flags, &already);
-        if (of_call(status)) return status;
-        statuses[i] = already ? ALREADY : (uint8_t)status;
-    }
-    return KEYWRAP_OK;
-}
-
-static int32_t check_many(const uint8_t *kek, size_t kek_len, const uint8_t *texts, size_t text_len,
-                          size_t count, uint8_t *scratch, uint8_t *forms) {
-    for (size_t i = 0; i < count; i++) {
-        uint32_t padded;
-        size_t key_len;
-        int32_t status = keywrap_kind(kek, kek_len, texts + i * text_len, text_len, scratch,
-                                      KEYWRAP_ROOM(text_len), &padded, &key_len);
-        if (of_call(status)) return status;
-        forms[i] = status == KEYWRAP_OK ? (uint8_t)(1 + padded) : 0;
-    }
-    return KEYWRAP_OK;
-}
-
 /* By volatile writes, which no compiler leaves out. */
 static void wipe(uint8_t *bytes, size_t len) {
     volatile uint8_t *at = bytes;
@@ -150,9 +79,79 @@ static int cpu_supported(void) {
 static const char *const VERSION = PACKAGE_VERSION;
 """
 
+# The portable library has no calls for many keys.
+MANY = """
+/* Whether a status is that of the whole call. */
+static int of_call(int32_t status) {
+    return status != KEYWRAP_OK && status != KEYWRAP_INTEGRITY && status != KEYWRAP_KEY_NOT_PLAIN;
+}
+
+int32_t keywrap_wrap_many(const uint8_t *kek, size_t kek_len, uint8_t *texts, size_t texts_len,
+                          size_t key_len, uint32_t flags, uint8_t *statuses, size_t count) {
+    size_t len = texts_len / count;
+    for (size_t i = 0; i < count; i++) {
+        int32_t status =
+            flags ? keywrap_wrap_padded_in_place(kek, kek_len, texts + i * len, len, key_len)
+                  : keywrap_wrap_in_place(kek, kek_len, texts + i * len, len);
+        if (of_call(status)) return status;
+        statuses[i] = (uint8_t)status;
+    }
+    return KEYWRAP_OK;
+}
+
+int32_t keywrap_unwrap_many(const uint8_t *kek, size_t kek_len, uint8_t *texts, size_t texts_len,
+                            uint32_t flags, size_t *key_lens, size_t key_lens_count,
+                            uint8_t *statuses, size_t count) {
+    size_t len = texts_len / count;
+    for (size_t i = 0; i < key_lens_count; i++) {
+        uint8_t *text = texts + i * len;
+        int32_t status =
+            flags ? keywrap_unwrap_padded_in_place(kek, kek_len, text, len, &key_lens[i])
+                  : keywrap_unwrap_in_place(kek, kek_len, text, len);
+        if (of_call(status)) return status;
+        if (!flags) key_lens[i] = status == KEYWRAP_OK ? len - 8 : 0;
+        statuses[i] = (uint8_t)status;
+    }
+    return KEYWRAP_OK;
+}
+
+int32_t keywrap_rewrap_many(const uint8_t *old_kek, size_t old_kek_len, const uint8_t *new_kek,
+                            size_t new_kek_len, uint8_t *texts, size_t texts_len, uint32_t flags,
+                            uint8_t *statuses, size_t count) {
+    size_t len = texts_len / count;
+    for (size_t i = 0; i < count; i++) {
+        uint32_t already;
+        int32_t status = keywrap_rewrap(old_kek, old_kek_len, new_kek, new_kek_len, texts + i * len,
+                                        len, flags, &already);
+        if (of_call(status)) return status;
+        statuses[i] = already ? KEYWRAP_ALREADY_NEW : (uint8_t)status;
+    }
+    return KEYWRAP_OK;
+}
+
+int32_t keywrap_kind_many(const uint8_t *kek, size_t kek_len, const uint8_t *texts,
+                          size_t texts_len, uint8_t *scratch, size_t room, uint8_t *forms,
+                          size_t forms_count, size_t *key_lens, size_t key_lens_count,
+                          uint8_t *statuses, size_t count) {
+    size_t len = texts_len / count;
+    (void)forms_count;
+    (void)key_lens_count;
+    for (size_t i = 0; i < count; i++) {
+        uint32_t padded;
+        int32_t status = keywrap_kind(kek, kek_len, texts + i * len, len, scratch, room, &padded,
+                                      &key_lens[i]);
+        if (of_call(status)) return status;
+        forms[i] = (uint8_t)padded;
+        statuses[i] = (uint8_t)status;
+    }
+    return KEYWRAP_OK;
+}
+"""
+
 
 NUMBERS = [
-    f"KEYWRAP_{name}" for name in ("MAX_KEY", "MAX_TEXT", "OLD_PADDED", "NEW_PADDED", "KEEP_FORM", "PASS_NEW")
+    f"KEYWRAP_{name}"
+    for name in ("MAX_KEY", "MAX_TEXT", "OLD_PADDED", "NEW_PADDED", "KEEP_FORM", "PASS_NEW", "ALREADY_NEW")
 ]
 
 
@@ -185,7 +184,7 @@ PORTABLE = {
 portable = Path("keywrap.c").exists()
 ffi.set_source(
     "keywrap._ffi",
-    SOURCE,
+    SOURCE + MANY if portable else SOURCE,
     include_dirs=["."],
     define_macros=[
         ("PACKAGE_VERSION", f'"{VERSION}"'),

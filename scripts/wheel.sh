@@ -1,9 +1,9 @@
 #!/bin/sh
-# Builds the Python package as a wheel in DIST, from a copy of its sources with the header and the library. The same
-# sources and SOURCE_DATE_EPOCH always give the same bytes. `make wheel` calls it.
+# Builds the Python package as a wheel in DIST, from a copy of its sources with the header and the library, which uses
+# the processor's AES if it can. The same sources and SOURCE_DATE_EPOCH always give the same bytes. `make wheel` calls it.
 #
 # usage: scripts/wheel.sh PYTHON LIBRARY MACHINE DIST [SYSROOT]
-#        (LIBRARY: what `make library` made; SYSROOT: for another machine than this, where its Python is, with its
+#        (LIBRARY: what `make library HARDWARE=1` made; SYSROOT: for another machine than this, where its Python is, with its
 #        compiler in CC)
 
 set -eu
@@ -15,7 +15,8 @@ package=$library/python
 umask 022
 rm -rf "$package"
 cp -R --no-preserve=mode python "$package"
-cp --no-preserve=mode VERSION include/keywrap.h "$library/libkeywrap.a" "$package"
+cp --no-preserve=mode VERSION include/keywrap.h "$package"
+cp --no-preserve=mode "$library/libkeywrap_hw.a" "$package/libkeywrap.a"
 scripts/links.sh <python/README.md >"$package/README.md"
 # No symbol of glibc that it needs is newer than 2.17: tests/test_dist.py looks.
 printf '[bdist_wheel]\nplat_name = manylinux_2_17_%s\n' "$machine" >"$package/setup.cfg"

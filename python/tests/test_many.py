@@ -116,9 +116,9 @@ def test_the_statuses_of_slots():
     statuses = _many.rewrap_slots(OLD, NEW, buffer, 24, flags)
     assert list(statuses) == [0, _many.ALREADY, keywrap._lib.KEYWRAP_INTEGRITY] and _many.ALREADY not in (0, 5)
     assert buffer == texts[1] + texts[1] + texts[2]
-    assert list(_many.check_slots(NEW, buffer, 24)) == [1, 1, 0]
     padded = pyca.aes_key_wrap_with_padding(NEW, bytes(16))
-    assert list(_many.check_slots(NEW, texts[0] + padded, 24)) == [0, 2]
+    assert _many.check_slots(NEW, bytes(buffer) + padded, 24) == (bytes([0, 0, 5, 0]), bytes([0, 0, 0, 1]))
+    assert _many.check_slots(NEW, bytes(27), 9) == (bytes([5, 5, 5]), bytes(3))
 
 
 MANY = {
@@ -221,7 +221,7 @@ def test_without_memory(monkeypatch, name):
 
     class Library:
         def __getattr__(self, call):
-            return (lambda *_: 7) if call == name else getattr(keywrap._lib, call)
+            return (lambda *_: 7) if call == f"keywrap_{name.replace('check', 'kind')}" else getattr(keywrap._lib, call)
 
     monkeypatch.setattr(_many, "_lib", Library())
     with pytest.raises(MemoryError):

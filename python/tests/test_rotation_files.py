@@ -206,7 +206,7 @@ def test_replaces_nothing_before_its_check(file, pair, monkeypatch, wrong, plain
     under = [wrapped_under(NEW_KEK, key) for number, key in enumerate(plain) if number != wrong]
 
     def check_slots(kek, texts, length):
-        return bytes(bytes(texts[at : at + length]) in under for at in range(0, len(texts), length))
+        return [bytes(texts[at : at + length]) not in under for at in range(0, len(texts), length)], bytes(len(texts))
 
     monkeypatch.setattr(_many, "check_slots", check_slots)
     assert refusal(file, pair) == "a rewrapped key is not under the new KEK"

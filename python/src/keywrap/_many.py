@@ -5,7 +5,7 @@ Item i of a result is what the call for one key returns for item i, or the refus
 
 from __future__ import annotations
 
-from typing import TYPE_CHECKING, Iterable, List, NamedTuple, Optional, Union
+from typing import TYPE_CHECKING, Iterable, List, NamedTuple, Optional, Tuple, Union
 
 from . import KeywrapError, Kind, _ffi, _flags, _on_copies, _refusals
 from ._refusals import BadLength
@@ -18,11 +18,11 @@ if TYPE_CHECKING:
 _lib = _ffi.lib
 _from = _ffi.ffi.from_buffer
 _new = _ffi.ffi.new
-_FORMS = {1: Kind.PLAIN, 2: Kind.PADDED}
+_KINDS = (Kind.PLAIN, Kind.PADDED)
 #: With one of these flags a wrapped key may have the lengths of the padded form.
 _EITHER_LENGTH = _lib.KEYWRAP_OLD_PADDED | _lib.KEYWRAP_KEEP_FORM
 #: The status of a slot that a rewrap with `KEYWRAP_PASS_NEW` left as it is.
-ALREADY: int = _lib.ALREADY
+ALREADY: int = _lib.KEYWRAP_ALREADY_NEW
 
 
 class _Slots(NamedTuple):
@@ -97,14 +97,16 @@ def wrap_many(kek: ReadableBuffer, keys: Items, length: Optional[int] = None, *,
     if type(kek) is not bytes:
         return _on_copies(wrap_many, kek, keys=keys, length=length, padded=padded)
     slots = _slots(keys, length, "the key", 8, padded)
+    size = 8 + slots.length + slots.offset
     try:
         if slots.number:
             legal = _refusals.PADDED_KEYS if padded else _refusals.PLAIN_KEYS
-            buffer, statuses = _from("uint8_t[]", slots.buffer), _from(bytearray(slots.number))
-            texts = buffer + slots.offset
-            status = _lib.wrap_many(kek, len(kek), texts, slots.length, slots.number, padded, statuses)
+            buffer, statuses = _from("uint8_t[]", slots.buffer), _new("uint8_t[]", slots.number)
+            texts = buffer + slots.offset, slots.number * size, slots.length
+            flags = _lib.KEYWRAP_NEW_PADDED if padded else 0
+            status = _lib.keywrap_wrap_many(kek, len(kek), *texts, flags, statuses, slots.number)
             _ended(status, "the key", slots.length, legal, kek)
-        return slots.each(8 + slots.length + slots.offset)
+        return slots.each(size)
     finally:
         slots.wipe()
 
@@ -125,8 +127,9 @@ def unwrap_many(
             return []
         legal = _refusals.WRAPPED_PADDED if padded else _refusals.WRAPPED_PLAIN
         statuses, lengths = bytearray(slots.number), _new("size_t[]", slots.number)
-        buffer, ended = _from(slots.buffer), _from(statuses)
-        status = _lib.unwrap_many(kek, len(kek), buffer, slots.length, slots.number, padded, lengths, ended)
+        texts, flags = (_from(slots.buffer), len(slots.buffer)), _lib.KEYWRAP_OLD_PADDED if padded else 0
+        filled = lengths, slots.number, _from(statuses), slots.number
+        status = _lib.keywrap_unwrap_many(kek, len(kek), *texts, flags, *filled)
         _ended(status, "the wrapped key", slots.length, legal, kek)
         begins, view = range(8, len(slots.buffer) + 8, slots.length), memoryview(slots.buffer)
         keys = [bytes(view[at : at + size]) for at, size in zip(begins, lengths)]
@@ -164,8 +167,8 @@ def rewrap_slots(old_kek: bytes, new_kek: bytes, texts: bytearray, length: int, 
     """Rewraps the wrapped keys in the slots of `texts`, and returns their statuses. A refused one stays as it is."""
     statuses = bytearray(len(texts) // length if length else 0)
     if statuses:
-        keks, slots = (old_kek, len(old_kek), new_kek, len(new_kek)), (_from(texts), length, len(statuses))
-        status = _lib.rewrap_many(*keks, *slots, flags, _from(statuses))
+        keks = old_kek, len(old_kek), new_kek, len(new_kek)
+        status = _lib.keywrap_rewrap_many(*keks, _from(texts), len(texts), flags, _from(statuses), len(statuses))
         legal = _refusals.WRAPPED_PADDED if flags & _EITHER_LENGTH else _refusals.WRAPPED_PLAIN
         _ended(status, "the wrapped key", length, legal, old_kek, new_kek)
     return statuses
@@ -176,14 +179,20 @@ def check_many(kek: ReadableBuffer, wrapped: Items, length: Optional[int] = None
     if type(kek) is not bytes:
         return _on_copies(check_many, kek, wrapped=wrapped, length=length)
     slots = _slots(wrapped, length, "the wrapped key")
-    return [_FORMS.get(form) for form in check_slots(kek, slots.buffer, slots.length)]
+    statuses, forms = check_slots(kek, slots.buffer, slots.length)
+    return [None if status else _KINDS[form] for status, form in zip(statuses, forms)]
 
 
-def check_slots(kek: bytes, texts: Union[bytes, bytearray], length: int) -> bytearray:
-    """Returns a byte for each slot: 0 if it is not a wrapped key, 1 if it is a plain one, and 2 if it is padded."""
-    forms = bytearray(len(texts) // length if length else 0)
-    if forms:
-        slots, scratch = (_from(texts), length, len(forms)), bytes(length)
-        status = _lib.check_many(kek, len(kek), *slots, scratch, _from(forms))
+def check_slots(kek: bytes, texts: Union[bytes, bytearray], length: int) -> Tuple[bytearray, bytearray]:
+    """Returns for each slot a status, 0 if it is a wrapped key, and 1 if it is a padded one, else 0."""
+    number = len(texts) // length if length else 0
+    statuses, forms = bytearray(number), bytearray(number)
+    if number:
+        room = max(length - 8, 0)
+        scratch, lengths = _new("uint8_t[]", room), _new("size_t[]", number)
+        filled = scratch, room, _from(forms), number, lengths, number, _from(statuses), number
+        status = _lib.keywrap_kind_many(kek, len(kek), _from(texts), len(texts), *filled)
+        if status == _lib.KEYWRAP_BAD_LENGTH:
+            return bytearray([_lib.KEYWRAP_INTEGRITY]) * number, forms
         _ended(status, "the wrapped key", length, _refusals.WRAPPED_PADDED, kek)
-    return forms
+    return statuses, forms

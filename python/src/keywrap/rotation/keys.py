@@ -213,7 +213,7 @@ def _all_rewrapped(keks: Keks, lines: HexLines) -> Optional[Fresh]:
     if any(statuses):
         return None
     content = HexLines(texts, lines.length).content()
-    if not all(_many.check_slots(keks[1], bytes.fromhex(content.decode("ascii")), lines.length)):
+    if any(_many.check_slots(keks[1], bytes.fromhex(content.decode("ascii")), lines.length)[0]):
         raise Refused(_NOT_UNDER)
     return Fresh({}, [], len(statuses), len(statuses), content)
 
