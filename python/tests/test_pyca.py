@@ -12,7 +12,7 @@ theirs = pytest.importorskip(
     "cryptography.hazmat.primitives.keywrap", reason="no cryptography (apt-get install python3-cryptography)"
 )
 
-CALLS = [name for name in ours.__all__ if name != "InvalidUnwrap"]
+CALLS = [name for name in ours.__all__ if name.startswith("aes_")]
 KEK_LENGTHS = [0, 1, 15, 16, 17, 23, 24, 25, 31, 32, 33, 40]
 rng = random.Random(20)
 

@@ -3,12 +3,16 @@
 They return the same bytes and raise the same kinds of exception, with messages that contain pyca's words. There
 are two differences: keys of 0 bytes (padded) and of more than 1,048,576 bytes are a `ValueError`, and a wrapped
 key of more than 1,048,584 bytes, or (padded) not of a multiple of 8, is `InvalidUnwrap`. If `cryptography` is
-installed, this is its `InvalidUnwrap`, so a handler of either catches both.
+installed, this is its `InvalidUnwrap`, so a handler of either catches both. `install()` puts them in the place of
+pyca's, for libraries that import those.
 """
 
 from __future__ import annotations
 
-from typing import TYPE_CHECKING, Any
+import importlib
+import sys
+import types
+from typing import TYPE_CHECKING, Any, Callable
 
 from . import BadKekLength, BadLength, KeywrapError, unwrap, unwrap_padded, wrap, wrap_padded
 
@@ -21,6 +25,8 @@ __all__ = [
     "aes_key_unwrap_with_padding",
     "aes_key_wrap",
     "aes_key_wrap_with_padding",
+    "install",
+    "uninstall",
 ]
 
 
@@ -93,3 +99,42 @@ def _unwrap_refused(error: KeywrapError, length: int, least: int) -> Exception:
     if isinstance(error, BadKekLength):
         return BadKekLength(f"{_KEK_WORDS}: {error}")
     return InvalidUnwrap(str(error))
+
+
+def _copy(function: Callable[..., Any]) -> Callable[..., Any]:
+    """Another function, that `uninstall` can tell from the one that a program imported from here."""
+    return types.FunctionType(function.__code__, globals(), function.__name__, function.__defaults__)
+
+
+_FUNCTIONS = (aes_key_wrap, aes_key_unwrap, aes_key_wrap_with_padding, aes_key_unwrap_with_padding)
+_OURS = {function.__name__: _copy(function) for function in _FUNCTIONS}
+_THEIRS: dict[str, Callable[..., Any]] = {}
+
+
+def _exchange(pairs: list[tuple[Any, Any]]) -> None:
+    """Replaces the first of each pair by the second, wherever it is a global name of a loaded module."""
+    new = {id(old): (old, replacement) for old, replacement in pairs}
+    for module in list(sys.modules.values()):
+        # Some objects there only pretend to be modules, and some modules load others if they are asked themselves.
+        is_module = issubclass(type(module), types.ModuleType)
+        names = object.__getattribute__(module, "__dict__") if is_module else {}
+        for name, value in list(names.items()):
+            if id(value) in new:
+                names[name] = new[id(value)][1]
+
+
+def install() -> None:
+    """Makes pyca's functions these, also in the modules that have imported them by name.
+
+    Raises `ImportError` without `cryptography`. A second call replaces what other code has put there since.
+    """
+    theirs = vars(importlib.import_module("cryptography.hazmat.primitives.keywrap"))
+    for name, function in _OURS.items():
+        if theirs[name] is not function:
+            _THEIRS[name] = theirs[name]
+    _exchange([(_THEIRS[name], function) for name, function in _OURS.items()])
+
+
+def uninstall() -> None:
+    """Undoes `install`: pyca's functions are its own again, also in modules that were imported since."""
+    _exchange([(_OURS[name], function) for name, function in _THEIRS.items()])

@@ -1,0 +1,144 @@
+"""keywrap.pyca.install: libraries over pyca encrypt and decrypt by our calls, which are counted."""
+
+import subprocess
+import sys
+import types
+
+import pytest
+
+from keywrap import pyca as ours
+
+theirs = pytest.importorskip(
+    "cryptography.hazmat.primitives.keywrap", reason="no cryptography (apt-get install python3-cryptography)"
+)
+
+CALLS = [name for name in ours.__all__ if name.startswith("aes_")]
+PYCAS = {name: getattr(theirs, name) for name in CALLS}
+OURS = {name: getattr(ours, name) for name in CALLS}
+
+
+@pytest.fixture
+def calls(monkeypatch):
+    """Installs them, and lists the calls of the package that they make."""
+    made = []
+
+    def counted(name, call):
+        def counting(*given):
+            made.append(name)
+            return call(*given)
+
+        return counting
+
+    for name in "wrap", "unwrap", "wrap_padded", "unwrap_padded":
+        monkeypatch.setattr(ours, name, counted(name, getattr(ours, name)))
+    ours.install()
+    yield made
+    ours.uninstall()
+
+
+def jwcrypto():
+    jwk = pytest.importorskip("jwcrypto.jwk", reason="no jwcrypto (apt-get install python3-jwcrypto)")
+    from jwcrypto import jwe
+
+    key = jwk.JWK.generate(kty="oct", size=256)
+    token = jwe.JWE(b"a message", '{"alg": "A256KW", "enc": "A256GCM"}', recipient=key).serialize(compact=True)
+    yield
+    read = jwe.JWE()
+    read.deserialize(token, key)
+    assert read.payload == b"a message"
+
+
+def jose():
+    jwe = pytest.importorskip("jose.jwe", reason="no python-jose (apt-get install python3-jose)")
+    token = jwe.encrypt(b"a message", bytes(range(32)), algorithm="A256KW", encryption="A256GCM")
+    yield
+    assert jwe.decrypt(token, bytes(range(32))) == b"a message"
+
+
+def authlib():
+    jose = pytest.importorskip("authlib.jose", reason="no Authlib (apt-get install python3-authlib)")
+    jwe = jose.JsonWebEncryption()
+    token = jwe.serialize_compact({"alg": "A256KW", "enc": "A256GCM"}, b"a message", bytes(range(32)))
+    yield
+    assert jwe.deserialize_compact(token, bytes(range(32)))["payload"] == b"a message"
+
+
+def pgpy():
+    pgp = pytest.importorskip("pgpy", reason="no PGPy (apt-get install python3-pgpy)")
+    from pgpy import constants
+
+    key = pgp.PGPKey.new(constants.PubKeyAlgorithm.ECDSA, constants.EllipticCurveOID.NIST_P256)
+    ciphers = [constants.SymmetricKeyAlgorithm.AES256]
+    key.add_uid(pgp.PGPUID.new("reader"), usage={constants.KeyFlags.Sign}, hashes=[constants.HashAlgorithm.SHA256],
+                ciphers=ciphers)
+    part = pgp.PGPKey.new(constants.PubKeyAlgorithm.ECDH, constants.EllipticCurveOID.NIST_P256)
+    key.add_subkey(part, usage={constants.KeyFlags.EncryptCommunications})
+    message = key.pubkey.encrypt(pgp.PGPMessage.new("a message"), cipher=ciphers[0])
+    yield
+    assert key.decrypt(message).message == "a message"
+
+
+@pytest.mark.filterwarnings("ignore")
+@pytest.mark.parametrize("library", [jwcrypto, jose, authlib, pgpy])
+class TestLibraries:
+    def test_both_ways(self, library, calls):
+        steps = library()
+        next(steps)
+        assert calls == ["wrap"]
+        assert next(steps, "end") == "end"
+        assert calls == ["wrap", "unwrap"]
+
+    @pytest.mark.parametrize("ours_first", [True, False])
+    def test_with_pyca(self, library, calls, ours_first):
+        """One side is pyca's."""
+        if not ours_first:
+            ours.uninstall()
+        steps = library()
+        next(steps)
+        (ours.uninstall if ours_first else ours.install)()
+        assert next(steps, "end") == "end"
+        assert calls == ["wrap" if ours_first else "unwrap"]
+
+
+@pytest.fixture
+def importer():
+    """A module that imported pyca's function under another name, and one that imported ours."""
+    module = types.ModuleType("importer")
+    module.of_pyca, module.of_ours = PYCAS["aes_key_wrap"], ours.aes_key_wrap
+    sys.modules["importer"] = module
+    yield module
+    del sys.modules["importer"]
+
+
+def test_names(importer, calls):
+    """The names in pyca's module and in others, and back; the second call of either changes nothing."""
+    for _ in range(2):
+        assert importer.of_pyca is theirs.aes_key_wrap is not PYCAS["aes_key_wrap"]
+        assert importer.of_pyca(bytes(16), bytes(16)) == PYCAS["aes_key_wrap"](bytes(16), bytes(16))
+        ours.install()
+    assert calls == ["wrap", "wrap"]
+    later = types.ModuleType("later")
+    later.call = theirs.aes_key_unwrap
+    sys.modules["later"] = later
+    for _ in range(2):
+        ours.uninstall()
+        assert importer.of_pyca is PYCAS["aes_key_wrap"] and importer.of_ours is OURS["aes_key_wrap"]
+        assert {name: getattr(theirs, name) for name in CALLS} == PYCAS
+        assert {name: getattr(ours, name) for name in CALLS} == OURS
+        assert later.call is PYCAS["aes_key_unwrap"]
+    del sys.modules["later"]
+
+
+def test_functions_look_like_pycas(calls):
+    for name in CALLS:
+        function = getattr(theirs, name)
+        assert (function.__name__, function.__module__) == (name, "keywrap.pyca")
+        assert function.__code__.co_varnames[:3] == PYCAS[name].__code__.co_varnames[:3]
+        with pytest.raises(ours.InvalidUnwrap) if "unwrap" in name else pytest.raises(ValueError):
+            function(bytes(16), b"", backend=None)
+
+
+def test_without_pyca():
+    code = 'import sys; sys.modules["cryptography"] = None; from keywrap import pyca; pyca.install()'
+    ended = subprocess.run([sys.executable, "-c", code], capture_output=True, text=True)
+    assert ended.stderr.splitlines()[-1].startswith("ModuleNotFoundError")
