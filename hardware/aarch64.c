@@ -93,6 +93,38 @@ BY_AES void decrypt_block(const struct aes *aes, uint8_t block[BLOCK]) {
     vst1q_u8(block, veorq_u8(state, round_key(aes, aes->rounds)));
 }
 
+#define EACH(X) X(0) X(1) X(2) X(3) X(4) X(5) X(6) X(7)
+#define BEGIN(i) uint8x16_t b##i = load(blocks + BLOCK * i);
+#define END(i) vst1q_u8(blocks + BLOCK * i, veorq_u8(b##i, key));
+#define ENCRYPT(i) b##i = vaesmcq_u8(vaeseq_u8(b##i, key));
+#define ENCRYPT_LAST(i) b##i = vaeseq_u8(b##i, key);
+#define DECRYPT(i) b##i = vaesimcq_u8(vaesdq_u8(b##i, key));
+#define DECRYPT_LAST(i) b##i = vaesdq_u8(b##i, key);
+
+BY_AES void encrypt_8_blocks(const struct aes *aes, uint8_t blocks[8 * BLOCK]) {
+    uint8x16_t key = round_key(aes, 0);
+    EACH(BEGIN)
+    for (unsigned i = 1; i < aes->rounds; i++) {
+        EACH(ENCRYPT)
+        key = round_key(aes, i);
+    }
+    EACH(ENCRYPT_LAST)
+    key = round_key(aes, aes->rounds);
+    EACH(END)
+}
+
+BY_AES void decrypt_8_blocks(const struct aes *aes, uint8_t blocks[8 * BLOCK]) {
+    uint8x16_t key = round_key(aes, 0);
+    EACH(BEGIN)
+    for (unsigned i = 1; i < aes->rounds; i++) {
+        EACH(DECRYPT)
+        key = round_key(aes, i);
+    }
+    EACH(DECRYPT_LAST)
+    key = round_key(aes, aes->rounds);
+    EACH(END)
+}
+
 #else
 typedef int of_another_processor;
 #endif

@@ -32,6 +32,14 @@ void aes_decrypt(const struct aes *aes, uint8_t block[BLOCK]) {
     decrypt_block(aes, block);
 }
 
+void aes_encrypt_many(const struct aes *aes, uint8_t *blocks, size_t count) {
+    for (size_t i = 0; i < count; i += 8) encrypt_8_blocks(aes, blocks + BLOCK * i);
+}
+
+void aes_decrypt_many(const struct aes *aes, uint8_t *blocks, size_t count) {
+    for (size_t i = 0; i < count; i += 8) decrypt_8_blocks(aes, blocks + BLOCK * i);
+}
+
 /* The ciphertexts of 00112233445566778899aabbccddeeff under 00 01 02 .. (FIPS 197, appendix C). */
 static const uint8_t CIPHERTEXTS[3][BLOCK] = {
     {0x69, 0xc4, 0xe0, 0xd8, 0x6a, 0x7b, 0x04, 0x30, 0xd8, 0xcd, 0xb7, 0x80, 0x70, 0xb4, 0xc5,
@@ -42,18 +50,28 @@ static const uint8_t CIPHERTEXTS[3][BLOCK] = {
      0x89},
 };
 
+/* Whether each of 8 blocks is this one. */
+static int are_all(const uint8_t blocks[8 * BLOCK], const uint8_t block[BLOCK]) {
+    int same = 1;
+    for (unsigned i = 0; i < 8; i++) same &= memcmp(blocks + BLOCK * i, block, BLOCK) == 0;
+    return same;
+}
+
 int aes_known_answers(void) {
-    uint8_t kek[32], plaintext[BLOCK], block[BLOCK];
+    uint8_t kek[32], plaintext[BLOCK], block[BLOCK], blocks[8 * BLOCK];
     for (unsigned i = 0; i < sizeof kek; i++) kek[i] = (uint8_t)i;
     for (unsigned i = 0; i < BLOCK; i++) block[i] = plaintext[i] = (uint8_t)(0x11 * i);
+    for (unsigned i = 0; i < 8; i++) memcpy(blocks + BLOCK * i, plaintext, BLOCK);
     for (unsigned i = 0; i < 3; i++) {
         struct aes aes;
         if (!aes_set_encrypt(&aes, kek, 16 + 8 * i)) return 0;
         encrypt_block(&aes, block);
-        if (memcmp(block, CIPHERTEXTS[i], BLOCK) != 0) return 0;
+        encrypt_8_blocks(&aes, blocks);
+        if (memcmp(block, CIPHERTEXTS[i], BLOCK) != 0 || !are_all(blocks, block)) return 0;
         if (!aes_set_decrypt(&aes, kek, 16 + 8 * i)) return 0;
         decrypt_block(&aes, block);
-        if (memcmp(block, plaintext, BLOCK) != 0) return 0;
+        decrypt_8_blocks(&aes, blocks);
+        if (memcmp(block, plaintext, BLOCK) != 0 || !are_all(blocks, block)) return 0;
     }
     return 1;
 }

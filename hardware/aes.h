@@ -29,6 +29,10 @@ int aes_set_decrypt(struct aes *aes, const uint8_t *kek, size_t kek_len);
 void aes_encrypt(const struct aes *aes, uint8_t block[BLOCK]);
 void aes_decrypt(const struct aes *aes, uint8_t block[BLOCK]);
 
+/* Work on the blocks side by side, 8 at once: count is a multiple of 8. */
+void aes_encrypt_many(const struct aes *aes, uint8_t *blocks, size_t count);
+void aes_decrypt_many(const struct aes *aes, uint8_t *blocks, size_t count);
+
 /* wipe clears memory even if nothing reads it afterwards. */
 void wipe(void *memory, size_t len);
 
@@ -39,5 +43,7 @@ void expand(struct aes *aes, const uint8_t *kek, size_t kek_len);
 void invert(struct aes *aes);
 void encrypt_block(const struct aes *aes, uint8_t block[BLOCK]);
 void decrypt_block(const struct aes *aes, uint8_t block[BLOCK]);
+void encrypt_8_blocks(const struct aes *aes, uint8_t blocks[8 * BLOCK]);
+void decrypt_8_blocks(const struct aes *aes, uint8_t blocks[8 * BLOCK]);
 
 #endif

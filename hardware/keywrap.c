@@ -7,6 +7,7 @@
 #include <string.h>
 
 #include "aes.h"
+#include "run.h"
 
 /* The calls of the library that is proved as a whole, renamed by hardware/names. */
 int32_t proved_keywrap_wrap(const uint8_t *, size_t, const uint8_t *, size_t, uint8_t *, size_t);
@@ -32,18 +33,6 @@ int32_t proved_keywrap_rewrap(const uint8_t *, size_t, const uint8_t *, size_t, 
 int32_t proved_keywrap_rewrap_in_place(const uint8_t *, size_t, const uint8_t *, size_t, uint8_t *,
                                        size_t, uint32_t);
 int32_t proved_keywrap_self_test(void);
-
-static const uint8_t DEFAULT_IV[8] = {0xa6, 0xa6, 0xa6, 0xa6, 0xa6, 0xa6, 0xa6, 0xa6};
-
-/* A wrapping or an unwrapping that has begun. */
-struct run {
-    uint64_t steps;
-    uint8_t block[BLOCK];
-};
-
-static int is_kek(size_t len) {
-    return aes_works() && (len == 16 || len == 24 || len == 32);
-}
 
 /* Makes all steps, and writes the first 8 bytes of the wrapped key. */
 static int32_t wrap(const uint8_t *kek, size_t kek_len, struct run *run, uint8_t *first,
@@ -207,8 +196,8 @@ static int holds_padded(const struct run *run, const uint8_t *registers, size_t 
 }
 
 /* A wrong choice of the form would be refused: the proved end of that form decides. */
-static int32_t end_unwrap_any(struct run *run, uint8_t *registers, size_t len, uint32_t *padded,
-                              size_t *key_len) {
+int32_t end_unwrap_any(struct run *run, uint8_t *registers, size_t len, uint32_t *padded,
+                       size_t *key_len) {
     *padded = len == 8 || holds_padded(run, registers, len);
     if (*padded) return keywrap_end_unwrap_padded(registers, len, run->steps, run->block, key_len);
     *key_len = len;

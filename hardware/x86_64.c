@@ -124,6 +124,39 @@ BY_AES void decrypt_block(const struct aes *aes, uint8_t block[BLOCK]) {
     _mm_storeu_si128((__m128i *)block, state);
 }
 
+/* The processor begins a round of each block before the round of the first one ends. */
+#define EACH(X) X(0) X(1) X(2) X(3) X(4) X(5) X(6) X(7)
+#define BEGIN(i) __m128i b##i = _mm_xor_si128(load(blocks + BLOCK * i), key);
+#define END(i) _mm_storeu_si128((__m128i *)(blocks + BLOCK * i), b##i);
+#define ENCRYPT(i) b##i = _mm_aesenc_si128(b##i, key);
+#define ENCRYPT_LAST(i) b##i = _mm_aesenclast_si128(b##i, key);
+#define DECRYPT(i) b##i = _mm_aesdec_si128(b##i, key);
+#define DECRYPT_LAST(i) b##i = _mm_aesdeclast_si128(b##i, key);
+
+BY_AES void encrypt_8_blocks(const struct aes *aes, uint8_t blocks[8 * BLOCK]) {
+    __m128i key = round_key(aes, 0);
+    EACH(BEGIN)
+    for (unsigned i = 1; i < aes->rounds; i++) {
+        key = round_key(aes, i);
+        EACH(ENCRYPT)
+    }
+    key = round_key(aes, aes->rounds);
+    EACH(ENCRYPT_LAST)
+    EACH(END)
+}
+
+BY_AES void decrypt_8_blocks(const struct aes *aes, uint8_t blocks[8 * BLOCK]) {
+    __m128i key = round_key(aes, 0);
+    EACH(BEGIN)
+    for (unsigned i = 1; i < aes->rounds; i++) {
+        key = round_key(aes, i);
+        EACH(DECRYPT)
+    }
+    key = round_key(aes, aes->rounds);
+    EACH(DECRYPT_LAST)
+    EACH(END)
+}
+
 #else
 typedef int of_another_processor;
 #endif

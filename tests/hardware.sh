@@ -86,7 +86,7 @@ if needs 'what depends on secrets in the steps' valgrind '<valgrind/memcheck.h>'
         --log-file=valgrind.log --suppressions="$root/tests/secrets/decision.supp" ./hw_secrets 264
     slow row 'secrets of libkeywrap_hw: whether a length is plain' diff <(sed '/: 0 reports/d; s/:.*//' written) \
         <(printf '%s\n' 'keywrap_rewrap_in_place, to plain' 'keywrap_rewrap, to plain' \
-            'keywrap_rewrap, to plain, not plain' tables)
+            'keywrap_rewrap, to plain, not plain' 'keywrap_rewrap_many, to plain' tables)
 fi
 
 ### libkeywrap_hw, on each processor
@@ -137,7 +137,7 @@ left() {
 }
 if grep -qw aes /proc/cpuinfo; then
     row 'the AES of each call: compiles' eval 'objcopy --redefine-syms="$root/hardware/names" "$library/libkeywrap.a" \
-        proved.a && cc "${options[@]}" "$root"/tests/hardware/{uses,wrong_aes}.c "$root"/hardware/{keywrap,aes}.c \
+        proved.a && cc "${options[@]}" "$root"/tests/hardware/{uses,wrong_aes}.c "$root"/hardware/{keywrap,many,aes}.c \
         proved.a -o uses'
     row 'the AES of each call' diff <(./uses) <(printf 'software for a KEK of %s bytes:\n' 16 24 32)
 fi

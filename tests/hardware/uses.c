@@ -70,6 +70,40 @@ static int32_t kind(size_t kek) {
     return status;
 }
 
+/* The calls for many keys, with one slot. */
+static int32_t wrap_many(size_t kek) {
+    uint8_t status;
+    return keywrap_wrap_many(KEK, kek, out, TEXT, ROOM, 0, &status, 1) | status;
+}
+static int32_t wrap_many_padded(size_t kek) {
+    uint8_t status;
+    return keywrap_wrap_many(KEK, kek, out, TEXT, ROOM, KEYWRAP_NEW_PADDED, &status, 1) | status;
+}
+static int32_t unwrap_many(size_t kek) {
+    uint8_t status;
+    return keywrap_unwrap_many(KEK, kek, out, TEXT, 0, &found, 1, &status, 1) | status;
+}
+static int32_t rewrap_many(size_t kek) {
+    uint8_t status;
+    return keywrap_rewrap_many(KEK, kek, KEK, 32, out, TEXT, KEYWRAP_KEEP_FORM, &status, 1)
+           | status;
+}
+static int32_t rewrap_many_passing_new(size_t kek) {
+    uint8_t status;
+    int32_t answer =
+        keywrap_rewrap_many(KEY, 32, KEK, kek, out, TEXT, KEYWRAP_PASS_NEW, &status, 1);
+    out[0] = status;
+    return answer;
+}
+static int32_t kind_many(size_t kek) {
+    uint8_t scratch[ROOM], form, status;
+    int32_t answer = keywrap_kind_many(KEK, kek, padded, TEXT, scratch, ROOM, &form, 1, &found, 1,
+                                       &status, 1);
+    out[0] = form;
+    out[1] = (uint8_t)found;
+    return answer | status;
+}
+
 static const struct {
     const char *name;
     int32_t (*make)(size_t kek);
@@ -90,6 +124,12 @@ static const struct {
     {"rewrap, of what is new", rewrap_passing_new, plain},
     {"unwrap_any", unwrap_any, KEY},
     {"kind", kind, KEY},
+    {"wrap_many", wrap_many, KEY},
+    {"wrap_many, padded", wrap_many_padded, KEY},
+    {"unwrap_many", unwrap_many, plain},
+    {"rewrap_many, with the form kept", rewrap_many, padded},
+    {"rewrap_many, of what is new", rewrap_many_passing_new, plain},
+    {"kind_many", kind_many, KEY},
 };
 
 /* Whether the call gives the same while the AES is wrong in this place, as e10. */
@@ -115,7 +155,9 @@ int main(void) {
             return 1;
         printf("software for a KEK of %u bytes:", (unsigned)kek);
         for (unsigned i = 0; i < sizeof CALLS / sizeof *CALLS; i++)
-            if (is_same(i, kek, 'e') && is_same(i, kek, 'd')) printf(" %s;", CALLS[i].name);
+            if (is_same(i, kek, 'e') && is_same(i, kek, 'd') && is_same(i, kek, 'E')
+                && is_same(i, kek, 'D'))
+                printf(" %s;", CALLS[i].name);
         printf("\n");
     }
     return 0;

@@ -1,5 +1,6 @@
 /* wrong_aes.c: hardware/x86_64.c on a processor whose AES is wrong in one place, if the variable
- * WRONG names one: e or d, to encrypt or to decrypt, and the number of rounds. */
+ * WRONG names one: e or d, to encrypt or to decrypt, E or D for the first of 8 blocks, F or C for
+ * the last of them; and the number of rounds. */
 
 #include <stdio.h>
 #include <stdlib.h>
@@ -7,9 +8,13 @@
 
 #define encrypt_block right_encrypt_block
 #define decrypt_block right_decrypt_block
+#define encrypt_8_blocks right_encrypt_8_blocks
+#define decrypt_8_blocks right_decrypt_8_blocks
 #include "../../hardware/x86_64.c"
 #undef encrypt_block
 #undef decrypt_block
+#undef encrypt_8_blocks
+#undef decrypt_8_blocks
 
 static void spoil(char way, unsigned rounds, uint8_t block[BLOCK]) {
     const char *wrong = getenv("WRONG");
@@ -28,4 +33,18 @@ void decrypt_block(const struct aes *aes, uint8_t block[BLOCK]);
 void decrypt_block(const struct aes *aes, uint8_t block[BLOCK]) {
     right_decrypt_block(aes, block);
     spoil('d', aes->rounds, block);
+}
+
+void encrypt_8_blocks(const struct aes *aes, uint8_t blocks[8 * BLOCK]);
+void encrypt_8_blocks(const struct aes *aes, uint8_t blocks[8 * BLOCK]) {
+    right_encrypt_8_blocks(aes, blocks);
+    spoil('E', aes->rounds, blocks);
+    spoil('F', aes->rounds, blocks + 7 * BLOCK);
+}
+
+void decrypt_8_blocks(const struct aes *aes, uint8_t blocks[8 * BLOCK]);
+void decrypt_8_blocks(const struct aes *aes, uint8_t blocks[8 * BLOCK]) {
+    right_decrypt_8_blocks(aes, blocks);
+    spoil('D', aes->rounds, blocks);
+    spoil('C', aes->rounds, blocks + 7 * BLOCK);
 }

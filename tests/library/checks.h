@@ -95,4 +95,8 @@ void unwraps_any(enum form form, const uint8_t *kek, size_t kek_len, const uint8
 void rewraps(uint32_t flags, const struct wrapped *wrapped, const struct kek *old,
              const struct kek *new);
 
+/* The calls for many keys do in each slot what the call for one key does. `keks` has 34 bytes, and
+ * `keys` as many as 1,000 slots need. */
+void many_keys(const uint8_t *keks, const uint8_t *keys, int few);
+
 #endif

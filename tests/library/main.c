@@ -582,6 +582,7 @@ int main(int argc, char **argv) {
     rewrapped();
     rewraps_of_lengths();
     rewraps_of_tampered_texts();
+    many_keys(kek, scattered, few);
     printf("%u passed, %u failed\n", passed, failed);
     return failed != 0;
 }

@@ -46,7 +46,7 @@ shows_only() { [ "$("${tools}nm" -D --defined-only "$2" | awk '{ print $3 }')" =
 
 # versioned FILE: each name of the shared object is under the node of its version.
 versioned() {
-    local new='status_text|self_test|rewrap|unwrap_any|(begin|step|end)_.*'
+    local new='status_text|self_test|rewrap|unwrap_any|[a-z]+_many|(begin|step|end)_.*'
     shows -D --without-symbol-versions "$1" &&
         diff <("${tools}nm" -D --defined-only "$1" | awk '$2 != "A" { print $3 }' | sort) \
             <(sed -E "s/\$/@@KEYWRAP_1/; /^keywrap_($new)@/s/\$/.1/" <<<"$names" | sort)

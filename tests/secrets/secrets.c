@@ -41,7 +41,7 @@ struct outcome I_WRAP_SONAME_FNNAME_ZZ(NONE,
 
 static const uint8_t IV[8] = {0x01, 0x23, 0x45, 0x67, 0x89, 0xab, 0xcd, 0xef};
 
-static uint8_t kek[32], new_kek[32], key[ROOM], text[ROOM], out[ROOM];
+static uint8_t kek[32], new_kek[32], key[ROOM], text[ROOM], out[2 * ROOM];
 static size_t out_len;
 static uint32_t forms, padded, already;
 
@@ -120,6 +120,50 @@ static int32_t rewrap(size_t kek_len, size_t len) {
     return keywrap_rewrap(kek, kek_len, new_kek, kek_len, out, text_len, forms, &already);
 }
 
+/* The calls for many keys, with two slots. Returns the status of the second one. */
+static uint8_t statuses[2], slot_forms[2];
+static size_t slot_lens[2];
+
+static int32_t of_second(int32_t status) {
+    if (status != KEYWRAP_OK) return status;
+    (void)VALGRIND_MAKE_MEM_DEFINED(statuses, sizeof statuses);
+    return statuses[1] == KEYWRAP_ALREADY_NEW ? KEYWRAP_OK : statuses[1];
+}
+
+static void in_slots(const uint8_t *bytes, size_t at, size_t len, size_t slot_len) {
+    memcpy(out + at, bytes, len);
+    memcpy(out + slot_len + at, bytes, len);
+}
+
+static int32_t wrap_many(size_t kek_len, size_t len) {
+    const size_t slot = padded_len(len);
+    in_slots(key, 8, len, slot);
+    return of_second(keywrap_wrap_many(kek, kek_len, out, 2 * slot, len, forms, statuses, 2));
+}
+
+static int32_t unwrap_many(size_t kek_len, size_t len) {
+    const size_t slot = padded_len(len);
+    in_slots(text, 0, slot, slot);
+    return of_second(
+        keywrap_unwrap_many(kek, kek_len, out, 2 * slot, forms, slot_lens, 2, statuses, 2));
+}
+
+static int32_t kind_many(size_t kek_len, size_t len) {
+    static uint8_t texts[2 * ROOM];
+    const size_t slot = padded_len(len);
+    memcpy(texts, text, slot);
+    memcpy(texts + slot, text, slot);
+    return of_second(keywrap_kind_many(kek, kek_len, texts, 2 * slot, out, slot - 8, slot_forms, 2,
+                                       slot_lens, 2, statuses, 2));
+}
+
+static int32_t rewrap_many(size_t kek_len, size_t len) {
+    const size_t slot = padded_len(len);
+    in_slots(text, 0, slot, slot);
+    return of_second(keywrap_rewrap_many(kek, kek_len, new_kek, kek_len, out, 2 * slot, forms,
+                                         statuses, 2));
+}
+
 /* A wrapped key that is already under the new KEK. */
 static int32_t wrap_new(size_t kek_len, size_t len) {
     return keywrap_wrap(new_kek, kek_len, key, len, out, len + 8);
@@ -179,6 +223,22 @@ static const struct watched {
     {"keywrap_rewrap, plain and new", rewrap, wrap_new, 16, 8, LONGEST, KEYWRAP_PASS_NEW, 0},
     {"keywrap_rewrap, padded and new", rewrap, wrap_new_padded, 1, 1, LONGEST,
      KEYWRAP_KEEP_FORM | KEYWRAP_PASS_NEW, 0},
+    {"keywrap_wrap_many", wrap_many, NULL, 16, 8, LONGEST, 0, 0},
+    {"keywrap_wrap_many, padded", wrap_many, NULL, 1, 1, LONGEST, KEYWRAP_NEW_PADDED, 0},
+    {"keywrap_unwrap_many", unwrap_many, wrap, 16, 8, LONGEST, 0, 0},
+    {"keywrap_unwrap_many, padded", unwrap_many, wrap_padded, 1, 1, LONGEST, KEYWRAP_OLD_PADDED,
+     0},
+    {"keywrap_kind_many", kind_many, wrap, 16, 8, LONGEST, 0, 0},
+    {"keywrap_kind_many, padded", kind_many, wrap_padded, 1, 1, LONGEST, 0, 0},
+    {"keywrap_rewrap_many", rewrap_many, wrap, 16, 8, LONGEST, 0, 0},
+    {"keywrap_rewrap_many, to plain", rewrap_many, wrap_padded, 16, 8, LONGEST,
+     KEYWRAP_OLD_PADDED, 0},
+    {"keywrap_rewrap_many, padded", rewrap_many, wrap_padded, 1, 1, LONGEST,
+     KEYWRAP_OLD_PADDED | KEYWRAP_NEW_PADDED, 0},
+    {"keywrap_rewrap_many, padded and kept", rewrap_many, wrap_padded, 1, 1, LONGEST,
+     KEYWRAP_KEEP_FORM, 0},
+    {"keywrap_rewrap_many, plain and new", rewrap_many, wrap_new, 16, 8, LONGEST,
+     KEYWRAP_KEEP_FORM | KEYWRAP_PASS_NEW, 0},
     {"tables", tables, NULL, 16, 8, 48, 0, 0},
 };
 
@@ -194,7 +254,7 @@ static void mark(int undefined) {
 /* The reports of one call on secrets, whose answer must be the one on bytes that are none; with
  * damage the text that it takes fails its integrity check. */
 static unsigned reports(const struct watched *watched, size_t kek_len, size_t len, int damage) {
-    static uint8_t expected[ROOM];
+    static uint8_t expected[2 * ROOM];
     int32_t wanted = damage ? KEYWRAP_INTEGRITY : watched->status;
     forms = watched->forms;
     mark(0);

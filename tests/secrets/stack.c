@@ -106,6 +106,34 @@ static void rewrap(void) {
     status = keywrap_rewrap(kek, kek_len, new_kek, new_kek_len, out, text_len, forms, &already);
 }
 
+/* The calls for many keys, with one slot, and the status of the slot. */
+static uint8_t slot_status, slot_form;
+
+static int32_t of_slot(int32_t answer) {
+    if (answer != KEYWRAP_OK) return answer;
+    return slot_status == KEYWRAP_ALREADY_NEW ? KEYWRAP_OK : slot_status;
+}
+
+static void wrap_many(void) {
+    status = of_slot(
+        keywrap_wrap_many(kek, kek_len, out, text_len, KEY_LEN, forms, &slot_status, 1));
+}
+
+static void unwrap_many(void) {
+    status = of_slot(keywrap_unwrap_many(kek, kek_len, out, text_len, forms, &out_len, 1,
+                                         &slot_status, 1));
+}
+
+static void kind_many(void) {
+    status = of_slot(keywrap_kind_many(kek, kek_len, text, TEXT_LEN, out, text_len - 8, &slot_form,
+                                       1, &out_len, 1, &slot_status, 1));
+}
+
+static void rewrap_many(void) {
+    status = of_slot(keywrap_rewrap_many(kek, kek_len, new_kek, new_kek_len, out, text_len, forms,
+                                         &slot_status, 1));
+}
+
 /* A text that is new already. */
 static void wrap_new(void) {
     status = keywrap_wrap(new_kek, kek_len, key, KEY_LEN, out, text_len);
@@ -155,6 +183,17 @@ static const struct watched {
     {"rewrap,keep_plain", rewrap, wrap, KEYWRAP_KEEP_FORM, REWRAPS},
     {"rewrap,keep_padded", rewrap, wrap_padded, KEYWRAP_KEEP_FORM, REWRAPS},
     {"rewrap,pass_new", rewrap, wrap_new, KEYWRAP_PASS_NEW, REWRAPS},
+    {"wrap_many,plain", wrap_many, NULL, 0, WRAPS | 1 << BAD_FLAGS},
+    {"wrap_many,padded", wrap_many, NULL, KEYWRAP_NEW_PADDED, WRAPS | 1 << BAD_FLAGS},
+    {"unwrap_many,plain", unwrap_many, wrap, 0, UNWRAPS | 1 << BAD_FLAGS},
+    {"unwrap_many,padded", unwrap_many, wrap_padded, KEYWRAP_OLD_PADDED, UNWRAPS | 1 << BAD_FLAGS},
+    {"kind_many,plain", kind_many, wrap, 0, UNWRAPS},
+    {"kind_many,padded", kind_many, wrap_padded, 0, UNWRAPS},
+    {"rewrap_many,plain", rewrap_many, wrap, 0, REWRAPS},
+    {"rewrap_many,to_plain", rewrap_many, wrap_padded, KEYWRAP_OLD_PADDED,
+     REWRAPS | 1 << NOT_PLAIN},
+    {"rewrap_many,keep_padded", rewrap_many, wrap_padded, KEYWRAP_KEEP_FORM, REWRAPS},
+    {"rewrap_many,pass_new", rewrap_many, wrap_new, KEYWRAP_PASS_NEW, REWRAPS},
     {"self_test", self_test, NULL, 0, 1 << DONE},
 };
 
