@@ -2,7 +2,7 @@
 and several rotations at once, also with different KEKs.
 
 `cryptography` (OpenSSL) checks every key: none is lost, none is under a foreign KEK, and what a report says is true.
-With KEYWRAP_KILLS=N each kind of store gets N rounds; `make gate` runs a few.
+With KEYWRAP_KILLS=N each kind of store gets N rounds of both tests, else one.
 """
 
 import collections
@@ -26,7 +26,7 @@ from cryptography.hazmat.primitives import keywrap as pyca  # noqa: E402
 from postgresql_server import Server, server_programs  # noqa: E402
 from rotation_help import KEK, NEW_KEK, ONE_BY_ONE, left_over, set_keks, wrapped_under  # noqa: E402
 
-ROUNDS = int(os.environ.get("KEYWRAP_KILLS", "2"))
+ROUNDS = int(os.environ.get("KEYWRAP_KILLS", "1"))
 FILES = 8
 OTHER_KEK = bytes(range(200, 224))
 SLOWLY = ONE_BY_ONE + """
@@ -205,18 +205,23 @@ def unwrapped(wrapped):
     return None, None
 
 
+def replace_kek(source, runs):
+    """Replaces the new KEK for a moment, after each run has begun its report."""
+    for report, running in runs.items():
+        while running.poll() is None and not (os.path.exists(report) and os.path.getsize(report)):
+            time.sleep(0.01)
+    for content in (OTHER_KEK, NEW_KEK):
+        with open("other", "w") as file:
+            file.write(content.hex())
+        os.rename("other", "new-kek.hex")
+        time.sleep(source.random() * 0.2)
+
+
 def disturb(source, running):
-    """Kills or stops a run, one of its processes, or all of them, or replaces the new KEK for a moment."""
+    """Kills or stops a run, one of its processes, or all of them."""
     time.sleep(source.random() * 0.6)
-    how = source.choice(["run", "worker", "all", "stop", "terminate", "KEK"])
+    how = source.choice(["run", "worker", "all", "stop", "terminate"])
     try:
-        if how == "KEK":
-            for content in (OTHER_KEK, NEW_KEK):
-                with open("other", "w") as file:
-                    file.write(content.hex())
-                os.rename("other", "new-kek.hex")
-                time.sleep(source.random() * 0.2)
-            return
         with open(f"/proc/{running.pid}/task/{running.pid}/children", encoding="ascii") as file:
             workers = [int(child) for child in file.read().split()]
         if how == "stop":
@@ -306,16 +311,19 @@ def test_random_kills(filled, tmp_path, kind, number):
     store, keys, source = filled(kind, number)
     with writing(store, source) as acknowledged:
         for _ in range(3):
-            runs = [start(store, f"report{at}") for at in range(source.choice([1, 2]))]
-            for running in runs:
+            runs = {f"report{at}": start(store, f"report{at}") for at in range(source.choice([1, 2]))}
+            if source.randrange(3) == 0:
+                replace_kek(source, runs)
+            for running in runs.values():
                 disturb(source, running)
-            for running in runs:
+            for running in runs.values():
                 running.wait(timeout=240)
     assert start(store, "report0").wait(timeout=240) == 0
     assert held_by(store) == ({**keys, **acknowledged}, {NEW_KEK: len(keys)})
     assert left_over(tmp_path) == []
     counts = counts_of("report0")
-    assert (counts["status"], counts["keys"], counts["keys_refused"]) == (0, len(keys), 0)
+    assert (counts["status"], counts["keys_refused"]) == (0, 0)
+    assert counts["keys"] == len(keys) or kind == "PostgreSQL"  # Its queue has only what is left.
 
 
 @pytest.mark.parametrize("number", range(ROUNDS))

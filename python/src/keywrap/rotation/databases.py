@@ -15,6 +15,8 @@ from .rows import Table
 
 #: How long SQLite, and a statement of PostgreSQL, wait for a lock.
 LOCK_SECONDS = 60.0
+#: How many rows of SQLite a unit has at most: each costs a commit, and locks the database while it is written.
+ROWS = 10000
 #: How SQLite's texts begin, and our words.
 _WORDS = {
     "database is locked": "another program has locked the database",

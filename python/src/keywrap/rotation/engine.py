@@ -10,7 +10,7 @@ from typing import Any, Callable, Dict, Iterator, List, Tuple
 
 from . import keks
 from .keks import Challenges
-from .keys import Block, Changed, Elsewhere, Gone, Refused, Unsynced, material, passed, rewrapped, under_which
+from .keys import Block, Changed, Elsewhere, Gone, Refused, Unsynced, material, rewrapped, under_which
 from .stores import Opened, Store, Unit
 
 #: How often a unit is rotated again if somebody else wrote it meanwhile.
@@ -105,9 +105,8 @@ def rotate_unit(store: Store, unit: Unit, pair: Challenges, whole: bool = False,
         with _read(store, unit, beat) as (opened, blocks):
             for block in blocks:
                 # After a restart the first keys are new: one check of each finds the first old key.
-                found = passed(both[1], block) if is_new else None
-                is_new = found is not None
-                fresh = found or rewrapped(both, block)
+                fresh = rewrapped(both, block, is_new)
+                is_new = is_new and not (fresh.changed or fresh.refused)
                 count.add(block, fresh.keys, fresh.changed, fresh.refused)
                 opened.write(block, fresh)
             if whole and count.refused:

@@ -138,6 +138,8 @@ Result = TypeVar("Result")
 
 def by_length(call: Callable[[List[bytes]], Sequence[Result]], keys: Sequence[bytes]) -> List[Result]:
     """Makes a call for the keys of each length, and returns the results in the order of the keys."""
+    if len(set(map(len, keys))) == 1:
+        return list(call(list(keys)))
     places: Dict[int, List[int]] = {}
     for place, key in enumerate(keys):
         places.setdefault(len(key), []).append(place)
@@ -171,7 +173,11 @@ def why(refusal: Exception) -> str:
     return "bad length" if isinstance(refusal, keywrap.BadLength) else "not in the notation of the store"
 
 
-def _decoded(block: Block) -> Tuple[Sequence[int], List[bytes], List[Tuple[int, str]]]:
+#: The places and the bytes of keys, and the refusals of other places.
+Decoded = Tuple[Sequence[int], List[bytes], List[Tuple[int, str]]]
+
+
+def _decoded(block: Block) -> Decoded:
     """Returns the places and the bytes of the keys that are in the notation, and the refusals of the others."""
     if block.lines is not None:
         keys = block.lines.each()
@@ -218,15 +224,22 @@ def _all_rewrapped(keks: Keks, lines: HexLines) -> Optional[Fresh]:
     return Fresh({}, [], len(statuses), len(statuses), content)
 
 
-def rewrapped(keks: Keks, block: Block) -> Fresh:
-    """Rewraps a block. Each new text is under the new KEK: it was read and checked."""
-    found = None if block.lines is None else _all_rewrapped(keks, block.lines)
-    return found or _each_rewrapped(keks, block)
+def rewrapped(keks: Keks, block: Block, may_be_new: bool = True) -> Fresh:
+    """Rewraps a block. Each new text is under the new KEK: it was read and checked.
+
+    If all its keys may be new already, they are checked under the new KEK first. For most blocks one key decides.
+    """
+    decoded = None
+    if may_be_new:
+        decoded = _, keys, refused = _decoded(block)
+        if not refused and all(are_under(keks[1], keys[:1])) and all(are_under(keks[1], keys)):
+            return Fresh({}, [], len(keys), 0)
+    fresh = None if block.lines is None else _all_rewrapped(keks, block.lines)
+    return fresh or _each_rewrapped(keks, NOTATIONS[block.notation], decoded or _decoded(block))
 
 
-def _each_rewrapped(keks: Keks, block: Block) -> Fresh:
-    notation = NOTATIONS[block.notation]
-    places, keys, refused = _decoded(block)
+def _each_rewrapped(keks: Keks, notation: Notation, decoded: Decoded) -> Fresh:
+    places, keys, refused = decoded
     count = len(keys) + len(refused)
     fresh: Dict[int, bytes] = {}
     for place, old, new in zip(places, keys, rewrap_block(keks, keys)):
@@ -237,13 +250,6 @@ def _each_rewrapped(keks: Keks, block: Block) -> Fresh:
     if not all(are_under(keks[1], [notation.decode(text) for text in fresh.values()])):
         raise Refused(_NOT_UNDER)
     return Fresh(fresh, refused, count, len(fresh))
-
-
-def passed(kek: bytes, block: Block) -> Optional[Fresh]:
-    """Returns that the block stays, if all its keys are under the KEK. The first key decides for most blocks."""
-    _, keys, refused = _decoded(block)
-    is_new = not refused and all(are_under(kek, keys[:1])) and all(are_under(kek, keys))
-    return Fresh({}, [], len(keys), 0) if is_new else None
 
 
 def under_which(keks: Sequence[bytes], block: Block) -> Tuple[List[int], List[Tuple[int, str]]]:

@@ -2,7 +2,7 @@
 
 from __future__ import annotations
 
-from typing import Any, Iterable, Iterator, List, NamedTuple, Optional, Protocol, Sequence, Tuple
+from typing import Any, Iterable, Iterator, List, NamedTuple, Protocol, Sequence, Tuple
 
 from .keys import BLANKS, LONGEST, Block, Changed, Fresh, Refused, Text
 from .stores import Simple
@@ -46,26 +46,17 @@ class Ranges(Simple):
 class Row(NamedTuple):
     row: Any
     value: Any
-    #: Why it is no key.
-    why: Optional[str]
-
-    @property
-    def is_raw(self) -> bool:
-        return isinstance(self.value, bytes)
-
-    @property
-    def text(self) -> Text:
-        if self.why is not None or self.value is None:
-            return self.why
-        value: Any = self.value
-        text: bytes = value if self.is_raw else value.encode("utf-8", "surrogateescape").strip(BLANKS)
-        return text
+    is_raw: bool
+    text: Text
 
 
 def _row(row: Any, value: Any, is_null: bool) -> Row:
-    if isinstance(value, (bytes, str)) or is_null:
-        return Row(row, value, None)
-    return Row(row, None, "neither BLOB nor TEXT" if value is not None else "longer than any wrapped key")
+    if isinstance(value, bytes):
+        return Row(row, value, True, value)
+    if isinstance(value, str):
+        return Row(row, value, False, value.encode("utf-8", "surrogateescape").strip(BLANKS))
+    why = "neither BLOB nor TEXT" if value is not None else "longer than any wrapped key"
+    return Row(row, None, False, None if is_null else why)
 
 
 class Driver(Protocol):

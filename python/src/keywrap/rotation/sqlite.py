@@ -6,9 +6,9 @@ import contextlib
 import sqlite3
 from typing import Any, Iterator, Sequence, Tuple
 
-from .databases import sqlite_database, sqlite_files
+from .databases import ROWS, sqlite_database, sqlite_files
 from .keys import Gone, Refused
-from .rows import FINDS_EACH, NOT_EACH_ROW, READ, ROWS, OpenRows, Range, Ranges, Table, Write
+from .rows import FINDS_EACH, NOT_EACH_ROW, READ, OpenRows, Range, Ranges, Table, Write
 from .stores import Opened, Unit
 
 
