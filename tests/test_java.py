@@ -20,14 +20,15 @@ JNA = SHARED / "jna.jar"
 BOUNCY_CASTLE = [SHARED / f"{name}.jar" for name in ("bcprov", "bcpkix", "bcutil")]
 
 
-def compiled(folder, path, *sources):
-    run("javac", "-Xlint:all,-path", "-Werror", "-d", folder, "-cp", ":".join(map(str, [folder, *path])), *sources)
+def compiled(directory, path, *sources):
+    path = ":".join(map(str, [directory, *path]))
+    run("javac", "-Xlint:all,-path", "-Werror", "-d", directory, "-cp", path, *sources)
 
 
 @pytest.fixture(scope="session")
 def classes(once):
-    return once("java-classes", lambda folder: compiled(
-        folder, [JNA], *SOURCES, *(PROGRAMS / f"{name}.java" for name in ("Checks", "Cleared", "Published"))))
+    programs = [PROGRAMS / f"{name}.java" for name in ("Checks", "Cleared", "Published")]
+    return once("java-classes", lambda directory: compiled(directory, [JNA], *SOURCES, *programs))
 
 
 @pytest.fixture
