@@ -1,17 +1,19 @@
 -- What a run wrote if its input is known.
-use Rattle.std.proofs.Common.{◌≡◌, ℕ, List, [], ◌++◌, Option, None, Some, Result, Ok, Err, IfSome, inl, inr, refl, sym, ap, ◌∙◌, append-nil}
+use Rattle.std.proofs.Common.{◌≡◌, ℕ, List, [], ◌∷◌, ◌++◌, map, Option, None, Some, Result, Ok, Err, IfSome, inl, inr, refl, sym, subst, ap, ◌∙◌, append-nil, append_assoc, arith}
 use Rattle.std.specs.Prelude.{◌⊎◌}
 use Rattle.std.specs.Io.KnownBytes.{Consumes}
-use Rattle.key_lines.specs.Answers.{Answer}
+use Rattle.key_files.specs.Writing.{IsLine}
+use Rattle.key_lines.specs.Answers.{Answer, AreLines, AreOneEach, output_of}
 use Rattle.key_lines.specs.Lines.{lines_of, EndsLine}
 use Rattle.key_lines.specs.Reading.{IsAllOf}
-use Rattle.key_lines.specs.Running.{Counts, RunsLines, WritesAnswers}
+use Rattle.key_lines.specs.Running.{AreResults, Counts, RunsLines, WritesAnswers, written_for}
+use Rattle.key_lines.specs.declared.fault.LineFault.{LineFault}
 use Rattle.key_lines.specs.declared.fault.RefusedLine.{RefusedLine}
 use Rattle.key_lines.specs.declared.fault.RunFault.{RunFault}
 use Rattle.key_lines.specs.declared.run.RunOptions.{RunOptions}
 use Rattle.key_lines.specs.declared.summary.RunSummary.{RunSummary}
 use Rattle.key_lines.specs.declared.fault.RunFault.TheVariants.{AtLine, Write}
-use Rattle.key_lines.proofs.Splitting.{lines_of-more}
+use Rattle.key_lines.proofs.Splitting.{lines_of-ended, lines_of-more, lines_of-nil}
 
 module _ {R : Type 0} (options : RunOptions) (answers : List ℕ → Result Answer R → Type 0) where
   -- the lines of an input, of which some were taken
@@ -20,6 +22,25 @@ module _ {R : Type 0} (options : RunOptions) (answers : List ℕ → Result Answ
   rest_lines x taken None p whole = absurd p
   rest_lines x taken (Some y) p (inl ends) = (lines_of y, ap lines_of p ∙ lines_of-more taken y ends)
   rest_lines x taken (Some y) p (inr all) = ([], ap lines_of all ∙ sym (append-nil (lines_of taken)))
+
+  -- an output that is one line, and what follows it
+  line_more : (outputs : List (List ℕ)) (output rest : List ℕ) → IsLine output → AreOneEach outputs (lines_of rest)
+      → AreOneEach (output ∷ outputs) (lines_of (output ++ rest))
+  line_more outputs output rest (line, is, inside) more =
+      let split : lines_of (output ++ rest) ≡ line ∷ lines_of rest =
+      ap (λ text. lines_of (text ++ rest)) is ∙ ap lines_of (append_assoc line (10 ∷ []) rest) ∙ lines_of-ended line rest inside in
+      subst (AreOneEach (output ∷ outputs)) (sym split) (is, more)
+
+  one_each : AreLines answers → (lines : List (List ℕ)) (results : List (Result Answer (LineFault R))) → AreResults options answers lines results
+      → AreOneEach (map output_of results) (lines_of (written_for results))
+  one_each each [] [] are = subst (AreOneEach []) (sym lines_of-nil) tt
+  one_each each (line ∷ lines) (Ok answer ∷ results) are =
+      line_more (map output_of results) answer.text (written_for results) (each are.0.0 answer are.0.2) (one_each each lines results are.1)
+  one_each each (line ∷ lines) (Err fault ∷ results) are =
+      line_more (map output_of results) (10 ∷ []) (written_for results) ([], refl, λ k _ h. absurd (omega (arith, h)))
+      (one_each each lines results are.1)
+  one_each each [] (result ∷ results) are = absurd are
+  one_each each (line ∷ lines) [] are = absurd are
 
   written_of : (x : List ℕ) (b o q : Option (List ℕ)) (l m : Option (List (RefusedLine R))) (answer : Result (RunSummary R) (RunFault R))
       (r : RunsLines options answers (Some x) b o q l m answer) → (more : List (List ℕ)) → lines_of x ≡ lines_of r.lines.taken ++ more
@@ -31,6 +52,7 @@ module _ {R : Type 0} (options : RunOptions) (answers : List ℕ → Result Answ
     results = r.lines.results;
     answered = r.lines.answered;
     counts = counts;
+    one_each = λ each. one_each each (lines_of r.lines.taken) r.lines.results r.lines.answered;
     unsent = r.unsent;
     sends = r.sends;
     all_but = r.all_but;

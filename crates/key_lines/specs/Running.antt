@@ -3,7 +3,7 @@
 use Rattle.std.specs.Prelude.{◌≡◌, ◌≢◌, ℕ, ◌+◌, ◌<◌, ◌⊎◌, ⊤, Bool, true, false, List, [], ◌∷◌, ◌++◌, length, map, Option, Result, Ok, Err}
 use Rattle.std.specs.List.{concat}
 use Rattle.std.specs.Io.KnownBytes.{Consumes}
-use Rattle.key_lines.specs.Answers.{Answer, Logs, answered, output_of, refusals_of}
+use Rattle.key_lines.specs.Answers.{Answer, AreLines, AreOneEach, Logs, answered, output_of, refusals_of}
 use Rattle.key_lines.specs.Block.{Sends}
 use Rattle.key_files.specs.declared.fault.WriteFault.{WriteFault}
 use Rattle.key_files.specs.declared.fault.FileFault.TheVariants.{Read, TooLong, BadDigit, OddDigits, BadBase64, Memory}
@@ -155,7 +155,8 @@ Counts results more (Err (Write answered unsent)) = answered ≡ length results
 
 -- The headline, for an input of these bytes. What was written are the answers to its first lines, in order, and each is
 -- the answer of the job to only that line: all lines if the run ended well, else the lines before the line at which it
--- stopped. If the writer refused, the last bytes of these answers did not go out, as many as are counted.
+-- stopped. If the writer refused, the last bytes of these answers did not go out, as many as are counted. If the job
+-- answers with lines, line i of the answers is the answer to line i.
 pub record WritesAnswers {R : Type 0} (options : RunOptions) (answers : List ℕ → Result Answer R → Type 0) (text : List ℕ)
     (out out' : Option (List ℕ)) (answer : Result (RunSummary R) (RunFault R)) : Type 0 where
   pub lines : List (List ℕ)
@@ -164,6 +165,7 @@ pub record WritesAnswers {R : Type 0} (options : RunOptions) (answers : List ℕ
   pub results : List (Result Answer (LineFault R))
   pub answered : AreResults options answers lines results
   pub counts : Counts results more answer
+  pub one_each : AreLines answers → AreOneEach (map output_of results) (lines_of (written_for results))
   pub unsent : List ℕ
   pub sends : Sends out out' (written_for results) unsent
   pub all_but : AreUnsent unsent answer

@@ -1,6 +1,6 @@
 //! The job that a run makes for each line.
 
-ghost use Rattle.std.specs.Prelude.{ℕ, List, Result, IfOk};
+ghost use Rattle.std.specs.Prelude.{⊤, ℕ, List, Result, IfErr, IfOk};
 ghost use Rattle.key_lines.specs.Answers.{Answer, answered};
 
 use std::alloc::AllocError;
@@ -22,6 +22,9 @@ pub trait LineJob {
     /// The answers to the bytes of a line: a text with its mark, or a refusal.
     ghost answers: { Self → List ℕ → Result Answer Self.Refusal → Type 0 };
 
+    /// The bytes for whose answer memory may be lacking.
+    ghost may_lack_memory: { Self → List ℕ → Type 0 } = { λ _ _. ⊤ };
+
     /// Replaces `output` with the answer to `bytes` and an LF. Returns the mark of the answer, or
     /// the refusal. The call may work in `bytes`: their content afterwards is not specified.
     fn answer(
@@ -29,6 +32,7 @@ pub trait LineJob {
         bytes: &mut Vec<u8>,
         output: &mut Vec<u8>,
     ) -> Result<Result<Mark, Self::Refusal>, AllocError>
-        ensures { IfOk result (λ answer. answers self.now bytes.old.items
-            (answered output.new.items answer)) };
+        ensures answer { IfOk result (λ answer. answers self.now bytes.old.items
+            (answered output.new.items answer)) }
+        ensures memory { IfErr result (λ _. may_lack_memory self.now bytes.old.items) };
 }

@@ -7,7 +7,7 @@ use crate::host::Host;
 use crate::session::Session;
 use keywrap_args::Stop::{Help, Memory, Usage};
 use keywrap_args::arguments;
-use keywrap_cli::{ProgramFault, run_drill, run_vectors, statuses, write_help};
+use keywrap_cli::{Library, ProgramFault, run_drill, run_vectors, statuses, write_help};
 use keywrap_io::Streams;
 use std::io;
 
@@ -33,7 +33,7 @@ fn run_command<R: Host>(rt: &R, command: &Command<'_>, streams: Streams) -> u8 {
             direction,
             hex,
         } => run_drill(rt.alloc(), *form, *direction, hex, &mut io::writer(rt)),
-        Command::Vectors => run_vectors(rt.alloc(), &mut io::writer(rt)),
+        Command::Vectors => run_vectors::<Library, _>(rt.alloc(), &mut io::writer(rt)),
     };
     match result {
         Ok(status) => status,

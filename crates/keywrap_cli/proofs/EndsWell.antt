@@ -1,10 +1,12 @@
--- What a run over lines says that ends with status 0.
-use Rattle.std.proofs.Common.{◌≡◌, ◌≢◌, ℕ, ◌+◌, List, [], ◌∷◌, ◌++◌, length, map, Option, Some, None, Result, Ok, Err, refl, sym, subst, ap, ◌∙◌, arith, append-nil}
-use Rattle.std.specs.Prelude.{IfOk, IfSome}
+-- What a run says that ends with status 0, and that its answers to lines are lines.
+use Rattle.std.proofs.Common.{◌≡◌, ◌≢◌, ℕ, ◌+◌, List, [], ◌∷◌, ◌++◌, length, map, Option, Some, None, Result, Ok, Err, Vec, refl, sym, subst, ap, ◌∙◌, arith, append-nil}
+use Rattle.std.specs.Prelude.{IfOk, IfSome, MatchResult}
+use Rattle.std.specs.declared.alloc.Global.{Global}
+use Rattle.key_files.specs.declared.fault.FileFault.{FileFault}
 use Rattle.std.specs.List.{AllByRecursion}
 use Rattle.std.specs.Io.KnownBytes.{Appends}
 use Rattle.fips197.specs.Cipher.{cipher}
-use Rattle.key_lines.specs.Answers.{Answer, mark_count, marks_of, output_of, refusals_of}
+use Rattle.key_lines.specs.Answers.{Answer, AreLines, mark_count, marks_of, output_of, refusals_of}
 use Rattle.key_lines.specs.Lines.{lines_of}
 use Rattle.key_lines.specs.Running.{AreResults, WritesAnswers, written_for}
 use Rattle.key_lines.specs.Summary.{first_of}
@@ -20,13 +22,22 @@ use Rattle.key_wrap_core.specs.declared.forms.Form.{Form}
 use Rattle.key_wrap_core.specs.declared.forms.Form.TheVariants as forms
 use Rattle.key_wrap_core.specs.declared.forms.Kind.{Kind}
 use Rattle.key_wrap_core.specs.declared.forms.Kind.TheVariants as kinds
-use Rattle.keywrap_cli.specs.Answers.{AnswerOfJob, HasMark, JobAnswer, RewrappingAnswer, kind_line}
-use Rattle.keywrap_cli.specs.Engine.{OpensKeks, UnderReadKek}
-use Rattle.keywrap_cli.specs.Readings.{ReadsKek}
+use Rattle.keywrap_cli.specs.Answers.{AnswerOfJob, HasBadLength, HasMark, JobAnswer, RewrappingAnswer, done_of, kind_line}
+use Rattle.key_files.specs.Writing.{IsLine}
+use Rattle.key_lines.specs.declared.text.TextNotation.{TextNotation}
+use Rattle.key_lines.specs.declared.text.TextNotation.TheVariants as texts
+use Rattle.keywrap_cli.specs.Engine.{AnswersEachLine, AnswersInput, IsDoneAs, IsRefusedBefore, OpensKeks, RunsInput, UnderReadKek, WritesFrom}
+use Rattle.keywrap_cli.specs.Files.{IsOneLine, line_notation, text_notation}
+use Rattle.keywrap_cli.specs.Job.{RunsJob}
+use Rattle.keywrap_cli.specs.Operation.{in_lines, lines_of as lines_of_task}
+use Rattle.keywrap_cli.specs.Readings.{ReadsInput, ReadsKek, kek_fault_of}
 use Rattle.keywrap_cli.proofs.Readings.{under_keks}
-use Rattle.keywrap_cli.specs.EndsWell.{AreOutputs, AreWrappedLines, EndsWell, IsRewrappedLine, IsWrappedLine, RewrapsLines}
+use Rattle.keywrap_cli.specs.EndsWell.{AreOutputs, AreWrappedLines, EndsWell, IsRewrappedLine, IsWrappedLine, ReadsWrapping, RewrapsLines}
 use Rattle.keywrap_cli.specs.declared.job.Job.{Job}
-use Rattle.keywrap_cli.specs.declared.job.Job.TheVariants.{Check}
+use Rattle.keywrap_cli.specs.declared.job.Job.TheVariants.{Check, Unwrap, UnwrapAny, Wrap}
+use Rattle.keywrap_cli.specs.declared.job.Done.TheVariants.{Written}
+use Rattle.keywrap_cli.specs.declared.job.JobFault.{JobFault}
+use Rattle.keywrap_cli.specs.declared.kek_file.KekRole.TheVariants.{Kek}
 use Rattle.keywrap_cli.specs.declared.job.Notation.{Notation}
 use Rattle.keywrap_cli.specs.declared.job.Task.{Task}
 use Rattle.keywrap_cli.specs.declared.kek_file.Keks.{Keks}
@@ -110,12 +121,30 @@ check_ends_well (Some text) out out' options iv task E summary job own is well w
       subst (λ (lines : List (List ℕ)). AllByRecursion (IsWrappedLine options.notation iv E) lines) whole all,
     )
 
+-- an answer in a notation of lines is a line
+line_in : (notation : TextNotation) (text : List ℕ) → IsOneLine (line_notation notation) text → IsLine text
+line_in texts.Hex text line = line
+line_in texts.Base64 text line = line
+line_in texts.Base64Url text line = line
+
+pub job_lines : (iv : ℕ) (task : Task) (E : List ℕ → List ℕ) → AreLines (JobAnswer iv (in_lines task) E)
+job_lines iv task E X answer h = line_in (text_notation task.input) answer.text h.2
+
+pub rewrap_lines : (task : Rewrapping) (E F : List ℕ → List ℕ) → AreLines (RewrappingAnswer (lines_of_task task) E F)
+rewrap_lines task E F X answer h = line_in (text_notation task.input) answer.text h.5
+
+pub each_line : (input out out' : Option (List ℕ)) (options : RunOptions) (answers : List ℕ → Result Answer Refusal → Type 0)
+    (run : Result (RunSummary Refusal) (RunFault Refusal)) → AreLines answers → IfSome input (λ text. WritesAnswers options answers text out out' run)
+    → IfSome input (λ text. AnswersEachLine options answers text out out' run)
+each_line None out out' options answers run lines w = tt
+each_line (Some text) out out' options answers run lines w = record { written = w; one_each = w.one_each lines }
+
 pub rewrap_ends_well : (input out out' : Option (List ℕ)) (options : RunOptions) (task : Rewrapping) (E F : List ℕ → List ℕ)
-    (summary : RunSummary Refusal) (job : Option Job) → EndsWell job summary
+    (summary : RunSummary Refusal) (job : Option Job) → AreLines (RewrappingAnswer task E F) → EndsWell job summary
     → IfSome input (λ text. WritesAnswers options (RewrappingAnswer task E F) text out out' (Ok summary))
     → IfSome input (λ text. RewrapsLines options.notation task E F text out out')
-rewrap_ends_well None out out' options task E F summary job well w = tt
-rewrap_ends_well (Some text) out out' options task E F summary job well w =
+rewrap_ends_well None out out' options task E F summary job each well w = tt
+rewrap_ends_well (Some text) out out' options task E F summary job each well w =
     let none : refusals_of 1 w.results ≡ [] = nothing_first (refusals_of 1 w.results) (sym w.counts.0.first_refused ∙ well.none_refused) in
     let all = all_rewrapped options task E F w.lines w.results 1 w.answered none in
     let whole : w.lines ≡ lines_of text = sym (w.split ∙ ap (λ m. w.lines ++ m) w.counts.1 ∙ append-nil w.lines) in
@@ -127,6 +156,7 @@ rewrap_ends_well (Some text) out out' options task E F summary job well w =
       outputs = map output_of w.results;
       each = subst (λ (lines : List (List ℕ)). AreOutputs (IsRewrappedLine options.notation task E F) lines (map output_of w.results)) whole all;
       written = subst (λ (s : List ℕ). Appends out out' s) sent w.sends.written;
+      one_each = w.one_each each;
     }
 
 pub job_answers : (notation : Notation) (file file' : Option (List ℕ)) (K : List ℕ) → ReadsKek notation file file' (Ok K)
@@ -140,10 +170,52 @@ job_answers notation file file' K read input out out' options iv task (Err fault
 
 pub rewrap_answers : (notation : Notation) (kek kek' new new' : Option (List ℕ)) (keks : Keks) → OpensKeks notation kek kek' new new' (Ok keks)
     → (input out out' : Option (List ℕ)) (options : RunOptions) (task : Rewrapping) (run : Result (RunSummary Refusal) (RunFault Refusal))
+    → AreLines (RewrappingAnswer task (cipher keks.old) (cipher keks.new))
     → IfSome input (λ text. WritesAnswers options (RewrappingAnswer task (cipher keks.old) (cipher keks.new)) text out out' run)
     → IfOk run (λ summary. EndsWell None summary → UnderReadKek notation kek kek' (λ K. UnderReadKek notation new new'
     (λ L. IfSome input (λ text. RewrapsLines options.notation task (cipher K) (cipher L) text out out'))))
-rewrap_answers notation kek kek' new new' keks opened input out out' options task (Ok summary) w = λ well.
+rewrap_answers notation kek kek' new new' keks opened input out out' options task (Ok summary) each w = λ well.
     under_keks notation kek kek' new new' keks (λ K L. IfSome input (λ text. RewrapsLines options.notation task (cipher K) (cipher L) text out out'))
-    opened (rewrap_ends_well input out out' options task (cipher keks.old) (cipher keks.new) summary None well w)
-rewrap_answers notation kek kek' new new' keks opened input out out' options task (Err fault) w = tt
+    opened (rewrap_ends_well input out out' options task (cipher keks.old) (cipher keks.new) summary None each well w)
+rewrap_answers notation kek kek' new new' keks opened input out out' options task (Err fault) each w = tt
+
+-- ---- a run over a whole input
+
+unmarked_is_zero : (mark : Mark) → Written ≡ done_of mark → mark_count mark ≡ 0
+unmarked_is_zero Unmarked is = refl
+unmarked_is_zero Marked is = cc
+
+answered_wrapping : (job : Job) (iv : ℕ) (task : Task) (E : List ℕ → List ℕ) (X : List ℕ) (answer : Answer) → job ≢ Wrap
+    → AnswerOfJob job iv task E X (Ok answer) → mark_count answer.mark ≡ 0 → (form : Form) × (key : List ℕ) × Stands form iv E key X
+answered_wrapping Wrap iv task E X answer not h zero = absurd (not refl)
+answered_wrapping Unwrap iv task E X answer not h zero = (task.form, h.0.0, h.0.1.stands)
+answered_wrapping UnwrapAny iv task E X answer not h zero = (h.0.0, h.0.1, h.0.2.stands)
+answered_wrapping Check iv task E X answer not h zero = of_kind iv E X answer.text answer.mark h.0.0 h.0.1 h.0.2 h.1 zero
+
+module _ (iv : ℕ) (task : Task) (E : List ℕ → List ℕ) (input input' out out' : Option (List ℕ)) (not : task.job ≢ Wrap) where
+  abbrev Lacks : List ℕ → Type 0
+  Lacks X = ¬ HasBadLength task.job task.form X
+
+  of_text : (answer : Answer) → Written ≡ done_of answer.mark → (text : Result (Vec ℕ Global) JobFault) → ReadsInput task.input input input' text
+      → WritesFrom (JobAnswer iv task E) Lacks text out out' (Ok answer) → ReadsWrapping task.input iv E input input'
+  of_text answer is (Ok X) read rest =
+      let found = answered_wrapping task.job iv task E X.items answer not rest.0 (unmarked_is_zero answer.mark is) in
+      record { X = X.items; read = read; form = found.0; key = found.1; stands = found.2 }
+  of_text answer is (Err fault) read rest = let no = rest.0 in cc
+
+  of_outcome : (outcome : Result Answer JobFault) → RunsInput task.input (JobAnswer iv task E) Lacks input input' out out' outcome
+      → IsDoneAs done_of outcome (Ok Written) → ReadsWrapping task.input iv E input input'
+  of_outcome (Ok answer) run is = of_text answer is run.text run.read run.rest
+  of_outcome (Err fault) run is = absurd is
+
+pub whole_ends_well : (iv : ℕ) (task : Task) (kek kek' input input' out out' : Option (List ℕ))
+    → RunsJob iv task kek kek' input input' out out' (Ok Written) → task.job ≢ Wrap
+    → UnderReadKek task.kek kek kek' (λ K. ReadsWrapping task.input iv (cipher K) input input')
+whole_ends_well iv task kek kek' input input' out out' run not = at run.found run.read run.rest
+  where
+    at : (found : Result (List ℕ) (Option FileFault)) → ReadsKek task.kek kek kek' found
+        → MatchResult found (λ K. AnswersInput task.input (JobAnswer iv task (cipher K)) (λ X. ¬ HasBadLength task.job task.form X) done_of input input' out out' (Ok Written))
+        (λ fault. IsRefusedBefore (kek_fault_of Kek fault) input input' out out' (Ok Written))
+        → UnderReadKek task.kek kek kek' (λ K. ReadsWrapping task.input iv (cipher K) input input')
+    at (Ok K) read rest = record { K = K; read = read; then = of_outcome iv task (cipher K) input input' out out' not rest.0 rest.1 rest.2 }
+    at (Err fault) read rest = let no = rest.0 in cc

@@ -6,3 +6,4 @@ pub mod InitialValues
 pub mod KindLines
 pub mod Readings
 pub mod Reports
+pub mod VectorLaws

@@ -1,10 +1,9 @@
 -- A report grows by a line at a time: each of its parts for one vector more, and then the report itself.
 use Rattle.std.specs.Io.KnownBytes.{Appends}
-use Rattle.std.specs.List.{AllByRecursion}
-use Rattle.std.proofs.Common.{◌≡◌, ◌+◌, ◌<◌, ◌&&◌, ◌↔◌, ℕ, Option, subst, take, map, get_or, Bool, true, false, IsTrue, List, [], ◌∷◌, ◌++◌, length, refl, sym}
-use Rattle.std.proofs.Common.{ap, ◌∙◌, append_assoc, arith, length-append}
+use Rattle.std.proofs.Common.{◌≡◌, ◌+◌, ◌<◌, ◌&&◌, ℕ, Option, subst, take, map, get_or, Bool, true, false, List, [], ◌∷◌, ◌++◌, length, refl, sym}
+use Rattle.std.proofs.Common.{inl, inr, ap, ◌∙◌, append_assoc, arith, length-append}
 use Rattle.std.proofs.lemmas.List.{append-nil, map-append, take_more}
-use Rattle.keywrap_cli.specs.Vectors.{AreVerdicts, IsReport, IsRight, lines_of, verdict, all_true}
+use Rattle.keywrap_cli.specs.Vectors.{AreVerdicts, Gave, IsReport, IsVerdict, IsVerdictOnAll, lines_of, verdict, all_true}
 use Rattle.test_vectors.specs.Vectors.{TestVector}
 
 lines_more : (vectors : List TestVector) (oks : List Bool) (v : TestVector) (ok : Bool) → length oks ≡ length vectors
@@ -17,13 +16,13 @@ lines_more (w ∷ vectors) (o ∷ oks) v ok e =
     rw (lines_more vectors oks v ok rest)
     (sym (append_assoc (w.name ++ verdict o) (lines_of vectors oks) (v.name ++ verdict ok)))
 
-verdicts_more : (vectors : List TestVector) (oks : List Bool) (v : TestVector) (ok : Bool) → length oks ≡ length vectors
-    → AreVerdicts vectors oks → IsTrue ok ↔ IsRight v → AreVerdicts (vectors ++ v ∷ []) (oks ++ ok ∷ [])
-verdicts_more [] [] v ok e each more = (more, tt)
-verdicts_more [] (o ∷ oks) v ok e each more = absurd (omega arith)
-verdicts_more (w ∷ vectors) [] v ok e each more = absurd (omega arith)
-verdicts_more (w ∷ vectors) (o ∷ oks) v ok e each more =
-    (each.0, verdicts_more vectors oks v ok (omega arith) each.1 more)
+verdicts_more : (gave : Gave) (vectors : List TestVector) (oks : List Bool) (v : TestVector) (ok : Bool) → length oks ≡ length vectors
+    → AreVerdicts gave vectors oks → IsVerdict gave v ok → AreVerdicts gave (vectors ++ v ∷ []) (oks ++ ok ∷ [])
+verdicts_more gave [] [] v ok e each more = (more, tt)
+verdicts_more gave [] (o ∷ oks) v ok e each more = absurd (omega arith)
+verdicts_more gave (w ∷ vectors) [] v ok e each more = absurd (omega arith)
+verdicts_more gave (w ∷ vectors) (o ∷ oks) v ok e each more =
+    (each.0, verdicts_more gave vectors oks v ok (omega arith) each.1 more)
 
 all_more : (oks : List Bool) (ok : Bool) → all_true (oks ++ ok ∷ []) ≡ (all_true oks && ok)
 all_more [] true = refl
@@ -31,46 +30,47 @@ all_more [] false = refl
 all_more (true ∷ oks) ok = all_more oks ok
 all_more (false ∷ oks) ok = refl
 
-pub report_more : (vectors : List TestVector) (v : TestVector) (text : List ℕ) (all_ok ok : Bool) → IsReport vectors text all_ok
-    → IsTrue ok ↔ IsRight v → IsReport (vectors ++ v ∷ []) (text ++ (v.name ++ verdict ok)) (all_ok && ok)
-report_more vectors v text all_ok ok r right = record {
+pub report_more : (gave : Gave) (vectors : List TestVector) (v : TestVector) (text : List ℕ) (all_ok ok : Bool)
+    → IsReport gave vectors text all_ok → IsVerdict gave v ok → IsReport gave (vectors ++ v ∷ []) (text ++ (v.name ++ verdict ok)) (all_ok && ok)
+report_more gave vectors v text all_ok ok r right = record {
   oks = r.oks ++ ok ∷ [];
   one_each = omega (arith, length-append r.oks (ok ∷ []), length-append vectors (v ∷ []), r.one_each);
   lines = ap (λ (t : List ℕ). t ++ (v.name ++ verdict ok)) r.lines ∙ sym (lines_more vectors r.oks v ok r.one_each);
-  right = verdicts_more vectors r.oks v ok r.one_each r.right right;
+  right = verdicts_more gave vectors r.oks v ok r.one_each r.right right;
   all = ap (λ (b : Bool). b && ok) r.all ∙ sym (all_more r.oks ok);
 }
 
 -- a report grows by the line of the next element of a table
-pub report_step : {X : Type 0} (f : X → TestVector) (xs : List X) (i : ℕ) (d : X) (text text' : List ℕ) (all_ok all_ok' ok : Bool)
-    → i < length xs → IsReport (map f (take i xs)) text all_ok → IsTrue ok ↔ IsRight (f (get_or xs i d))
+pub report_step : {X : Type 0} (gave : Gave) (f : X → TestVector) (xs : List X) (i : ℕ) (d : X) (text text' : List ℕ) (all_ok all_ok' ok : Bool)
+    → i < length xs → IsReport gave (map f (take i xs)) text all_ok → IsVerdict gave (f (get_or xs i d)) ok
     → text' ≡ text ++ ((f (get_or xs i d)).name ++ verdict ok) → all_ok' ≡ (all_ok && ok)
-    → IsReport (map f (take (i + 1) xs)) text' all_ok'
-report_step f xs i d text text' all_ok all_ok' ok h report right line all =
+    → IsReport gave (map f (take (i + 1) xs)) text' all_ok'
+report_step gave f xs i d text text' all_ok all_ok' ok h report right line all =
     let vectors : map f (take (i + 1) xs) ≡ map f (take i xs) ++ f (get_or xs i d) ∷ [] =
     ap (map f) (take_more xs i d h) ∙ map-append f (take i xs) (get_or xs i d ∷ []) in
-    rw (vectors, line, all) (report_more (map f (take i xs)) (f (get_or xs i d)) text all_ok ok report right)
+    rw (vectors, line, all) (report_more gave (map f (take i xs)) (f (get_or xs i d)) text all_ok ok report right)
 
--- all are reported as right exactly if all are right
-all_said : (vectors : List TestVector) (oks : List Bool) → length oks ≡ length vectors → AreVerdicts vectors oks
-    → IsTrue (all_true oks) ↔ AllByRecursion IsRight vectors
-all_said [] [] e each = (λ said. tt, λ right. refl)
-all_said [] (o ∷ oks) e each = absurd (omega arith)
-all_said (v ∷ vectors) [] e each = absurd (omega arith)
-all_said (v ∷ vectors) (true ∷ oks) e each =
-    let rest = all_said vectors oks (omega arith) each.1 in
-    (λ said. (each.0.0 refl, rest.0 said), λ right. rest.1 right.1)
-all_said (v ∷ vectors) (false ∷ oks) e each = (λ said. (cc), λ right. each.0.1 right.0)
+-- the verdict on all vectors, from the verdicts on each
+all_said : (gave : Gave) (vectors : List TestVector) (oks : List Bool) → length oks ≡ length vectors → AreVerdicts gave vectors oks
+    → IsVerdictOnAll gave vectors (all_true oks)
+all_said gave [] [] e each = tt
+all_said gave [] (o ∷ oks) e each = absurd (omega arith)
+all_said gave (v ∷ vectors) [] e each = absurd (omega arith)
+all_said gave (v ∷ vectors) (false ∷ oks) e each = inl each.0
+all_said gave (v ∷ vectors) (true ∷ oks) e each = others (all_true oks) (all_said gave vectors oks (omega arith) each.1)
+  where
+    others : (b : Bool) → IsVerdictOnAll gave vectors b → IsVerdictOnAll gave (v ∷ vectors) b
+    others true rest = (each.0, rest)
+    others false rest = inr rest
 
-pub all_right : (vectors : List TestVector) (text : List ℕ) (all_ok : Bool) → IsReport vectors text all_ok
-    → IsTrue all_ok ↔ AllByRecursion IsRight vectors
-all_right vectors text all_ok r =
-    subst (λ (b : Bool). IsTrue b ↔ AllByRecursion IsRight vectors) (sym r.all) (all_said vectors r.oks r.one_each r.right)
+pub on_all : (gave : Gave) (vectors : List TestVector) (text : List ℕ) (all_ok : Bool) → IsReport gave vectors text all_ok
+    → IsVerdictOnAll gave vectors all_ok
+on_all gave vectors text all_ok r = subst (IsVerdictOnAll gave vectors) (sym r.all) (all_said gave vectors r.oks r.one_each r.right)
 
 -- the front of a report that was written
-pub front_of_report : (vectors : List TestVector) (text bytes : List ℕ) (old new : Option (List ℕ)) (taken written : ℕ) (all_ok : Bool)
-    → IsReport vectors text all_ok → taken ≡ written → bytes ≡ text → taken < length bytes → Appends old new (take taken bytes)
-    → (x : List ℕ) × (y : Bool) × IsReport vectors x y × (written < length x) × Appends old new (take written x)
-front_of_report vectors text bytes old new taken written all_ok report same whole short front =
-    subst (λ (n : ℕ). (x : List ℕ) × (y : Bool) × IsReport vectors x y × (n < length x) × Appends old new (take n x)) same
-    (bytes, all_ok, subst (λ (t : List ℕ). IsReport vectors t all_ok) (sym whole) report, short, front)
+pub front_of_report : (gave : Gave) (vectors : List TestVector) (text bytes : List ℕ) (old new : Option (List ℕ)) (taken written : ℕ) (all_ok : Bool)
+    → IsReport gave vectors text all_ok → taken ≡ written → bytes ≡ text → taken < length bytes → Appends old new (take taken bytes)
+    → (x : List ℕ) × (y : Bool) × IsReport gave vectors x y × (written < length x) × Appends old new (take written x)
+front_of_report gave vectors text bytes old new taken written all_ok report same whole short front =
+    subst (λ (n : ℕ). (x : List ℕ) × (y : Bool) × IsReport gave vectors x y × (n < length x) × Appends old new (take n x)) same
+    (bytes, all_ok, subst (λ (t : List ℕ). IsReport gave vectors t all_ok) (sym whole) report, short, front)

@@ -20,7 +20,7 @@ use Rattle.key_wrap_core.specs.declared.forms.Form.TheVariants.{Padded}
 use Rattle.key_wrap_core.specs.declared.forms.Kind.{Kind}
 use Rattle.key_wrap_core.specs.declared.forms.Kind.TheVariants as kinds
 use Rattle.keywrap_cli.specs.Conversion.{HasNoAnswer, IsAnswer, IsInputLength, IsKeyOf, IsTextOf}
-use Rattle.keywrap_cli.specs.Files.{printed}
+use Rattle.keywrap_cli.specs.Files.{IsOneLine, printed}
 use Rattle.keywrap_cli.specs.declared.convert.Direction.{Direction}
 use Rattle.keywrap_cli.specs.declared.convert.Direction.TheVariants as directions
 use Rattle.keywrap_cli.specs.declared.job.Done.{Done}
@@ -81,7 +81,8 @@ rewrap_refusal rewraps.KeyNotPlain = KeyNotPlain
 
 -- the answer of this job to the bytes X, by cases, in the form and the notation of the task
 abbrev pub AnswerOfJob : Job → ℕ → Task → (List ℕ → List ℕ) → List ℕ → Result Answer Refusal → Type 0
-AnswerOfJob job iv task E X (Ok answer) = WritesFor job iv task E X answer.text × HasMark job answer.text answer.mark
+AnswerOfJob job iv task E X (Ok answer) =
+    WritesFor job iv task E X answer.text × HasMark job answer.text answer.mark × IsOneLine task.input answer.text
 AnswerOfJob job iv task E X (Err BadLength) = HasBadLength job task.form X
 AnswerOfJob job iv task E X (Err Integrity) = HasNoKey job task.form iv E X
 AnswerOfJob job iv task E X (Err KeyNotPlain) = ⊥
@@ -109,9 +110,14 @@ rewrap_mark AlreadyNew = Marked
 abbrev pub RewrappingAnswer : Rewrapping → (List ℕ → List ℕ) → (List ℕ → List ℕ) → List ℕ → Result Answer Refusal → Type 0
 RewrappingAnswer task E F text (Ok answer) =
     (rewrapped : Rewrapped) × (made : List ℕ) × IsRewrapping task.pass_new task.forms E F text (Ok rewrapped) made
-    × (answer.mark ≡ rewrap_mark rewrapped) × (answer.text ≡ printed task.input made)
+    × (answer.mark ≡ rewrap_mark rewrapped) × (answer.text ≡ printed task.input made) × IsOneLine task.input answer.text
 RewrappingAnswer task E F text (Err refusal) =
     (fault : RewrapFault) × IsRefused task.pass_new task.forms E F text fault × (refusal ≡ rewrap_refusal fault)
+
+-- the text has a rewrapping
+abbrev pub HasRewrapping : Rewrapping → (List ℕ → List ℕ) → (List ℕ → List ℕ) → List ℕ → Type 0
+HasRewrapping task E F text =
+    (rewrapped : Rewrapped) × (made : List ℕ) × IsRewrapping task.pass_new task.forms E F text (Ok rewrapped) made
 
 -- the result of a rewrapping that wrote its output does not depend on the mark
 abbrev pub written : Mark → Done

@@ -1,8 +1,9 @@
--- What a run over lines that ends with status 0 says of the lines of its input.
+-- What a run that ends with status 0 says of its input, whole or line by line.
 use Rattle.std.specs.Prelude.{◌≡◌, ◌≢◌, ⊤, ℕ, List, [], ◌∷◌, Option, Some, None, Ok, IfSome}
 use Rattle.std.specs.List.{AllByRecursion, concat}
 use Rattle.std.specs.Io.KnownBytes.{Appends}
 use Rattle.fips197.specs.Cipher.{cipher}
+use Rattle.key_lines.specs.Answers.{AreOneEach}
 use Rattle.key_lines.specs.Lines.{lines_of}
 use Rattle.key_lines.specs.Meaning.{line_meaning}
 use Rattle.key_lines.specs.declared.summary.RunSummary.{RunSummary}
@@ -12,9 +13,12 @@ use Rattle.key_wrap_core.specs.declared.forms.Form.{Form}
 use Rattle.keywrap_cli.specs.Answers.{RewrapsTo}
 use Rattle.keywrap_cli.specs.Engine.{UnderReadKek}
 use Rattle.keywrap_cli.specs.Files.{text_notation}
+use Rattle.keywrap_cli.specs.Readings.{ReadsFile}
+use Rattle.keywrap_cli.specs.Rewrapping.{WritesTheNewText}
 use Rattle.keywrap_cli.specs.Operation.{MatchOperations, lines_of as lines_of_task}
 use Rattle.keywrap_cli.specs.declared.job.Job.{Job}
-use Rattle.keywrap_cli.specs.declared.job.Job.TheVariants.{Check}
+use Rattle.keywrap_cli.specs.declared.job.Job.TheVariants.{Check, Wrap}
+use Rattle.keywrap_cli.specs.declared.job.Notation.{Notation}
 use Rattle.keywrap_cli.specs.declared.operation.Operation.{Operation}
 use Rattle.keywrap_cli.specs.declared.operation.Operation.TheVariants.{Job as OfJob, Rewrap}
 use Rattle.keywrap_cli.specs.declared.refusal.Refusal.{Refusal}
@@ -56,8 +60,9 @@ pub record RewrapsLines (notation : TextNotation) (task : Rewrapping) (E F : Lis
   pub outputs : List (List ℕ)
   pub each : AreOutputs (IsRewrappedLine notation task E F) (lines_of text) outputs
   pub written : Appends out out' (concat outputs)
+  pub one_each : AreOneEach outputs (lines_of (concat outputs))
 
--- What a run says that ends with status 0. If a check does, the input has a line, and each line denotes a wrapping, in
+-- What a run over lines says that ends with status 0. If a check does, the input has a line, and each line denotes a wrapping, in
 -- some form, of some key under AES of the KEK. If a rewrap does, line i of the output is the wrapping, under AES of the
 -- new KEK, of the key of line i of the input.
 abbrev pub AnswersAllLines : {K : Type 0} → (K → Option (List ℕ)) → Operation K → Operation K → Option (List ℕ) → Option (List ℕ)
@@ -67,3 +72,20 @@ AnswersAllLines known old new input out out' = MatchOperations old new
     (λ K. IfSome input (λ text. AreWrappedLines (text_notation task.input) iv (cipher K) text)))
     (λ task kek new task' kek' new'. UnderReadKek task.kek (known kek) (known kek') (λ K. UnderReadKek task.kek (known new) (known new')
     (λ L. IfSome input (λ text. RewrapsLines (text_notation task.input) (lines_of_task task) (cipher K) (cipher L) text out out'))))
+
+-- the input denotes the wrapping, in some form, of some key
+pub record ReadsWrapping (notation : Notation) (iv : ℕ) (E : List ℕ → List ℕ) (input input' : Option (List ℕ)) : Type 0 where
+  pub X : List ℕ
+  pub read : ReadsFile notation input input' (Ok X)
+  pub form : Form
+  pub key : List ℕ
+  pub stands : Stands form iv E key X
+
+-- What a run over a whole input says that ends with status 0. Unless it wraps a key, the input is a wrapping under AES
+-- of the KEK. If it rewraps, the output is the new wrapping of the key of the input.
+abbrev pub AnswersWhole : {K : Type 0} → (K → Option (List ℕ)) → Operation K → Operation K → Option (List ℕ) → Option (List ℕ)
+    → Option (List ℕ) → Option (List ℕ) → Type 0
+AnswersWhole known old new input input' out out' = MatchOperations old new
+    (λ iv task kek iv' task' kek'. task.job ≢ Wrap → UnderReadKek task.kek (known kek) (known kek')
+    (λ K. ReadsWrapping task.input iv (cipher K) input input'))
+    (λ task kek new task' kek' new'. WritesTheNewText task (known kek) (known kek') (known new) (known new') input input' out out')

@@ -1,12 +1,13 @@
 -- The steps of a run. The KEKs are read in order. Then the input, or each line of it, is read, and the job's answer to
 -- its bytes is written. The run ends at the first step that is refused, and no later step begins. A job is represented
 -- by its answers to bytes: an output, or a refusal.
-use Rattle.std.specs.Prelude.{◌≡◌, ◌<◌, ◌↔◌, ◌⊎◌, ℕ, IsTrue, List, length, take, Option, Result, Ok, Err, Vec, IfSome, IsOkAnd, MatchResult}
+use Rattle.std.specs.Prelude.{◌≡◌, ◌<◌, ◌↔◌, ◌⊎◌, ℕ, IsTrue, List, length, map, take, Option, Result, Ok, Err, Vec, IfSome, IsOkAnd, MatchResult}
 use Rattle.std.specs.Io.KnownBytes.{Appends, Keeps}
 use Rattle.std.specs.declared.alloc.Global.{Global}
-use Rattle.key_lines.specs.Running.{RunsLines, WritesAnswers}
+use Rattle.key_lines.specs.Lines.{lines_of}
+use Rattle.key_lines.specs.Running.{RunsLines, WritesAnswers, written_for}
 use Rattle.key_files.specs.declared.fault.FileFault.{FileFault}
-use Rattle.key_lines.specs.Answers.{Answer}
+use Rattle.key_lines.specs.Answers.{Answer, AreOneEach, output_of}
 use Rattle.key_lines.specs.declared.job.Mark.{Mark}
 use Rattle.key_lines.specs.declared.fault.RefusedLine.{RefusedLine}
 use Rattle.key_lines.specs.declared.fault.RunFault.{RunFault}
@@ -53,30 +54,30 @@ abbrev pub IsRefusedBefore : {T E : Type 0} → E → Option (List ℕ) → Opti
 IsRefusedBefore fault input input' out out' answer = (answer ≡ Err fault) × (input' ≡ input) × (out' ≡ out)
 
 -- The bytes in the writer after an input X, by cases: the whole output of the job, or its first `written` bytes, or
--- none.
-abbrev pub WritesAnswer : (List ℕ → Result Answer Refusal → Type 0) → List ℕ → Option (List ℕ) → Option (List ℕ)
+-- none. Memory may only be lacking for the bytes of which `lacks` holds.
+abbrev pub WritesAnswer : (List ℕ → Result Answer Refusal → Type 0) → (List ℕ → Type 0) → List ℕ → Option (List ℕ) → Option (List ℕ)
     → Result Answer JobFault → Type 0
-WritesAnswer answers X old new (Ok answer) = answers X (Ok answer) × Appends old new answer.text
-WritesAnswer answers X old new (Err (Write written)) =
+WritesAnswer answers lacks X old new (Ok answer) = answers X (Ok answer) × Appends old new answer.text
+WritesAnswer answers lacks X old new (Err (Write written)) =
     (answer : Answer) × answers X (Ok answer) × (written < length answer.text) × Appends old new (take written answer.text)
-WritesAnswer answers X old new (Err BadLength) = answers X (Err refusals.BadLength) × Keeps old new
-WritesAnswer answers X old new (Err Integrity) = answers X (Err refusals.Integrity) × Keeps old new
-WritesAnswer answers X old new (Err KeyNotPlain) = answers X (Err refusals.KeyNotPlain) × Keeps old new
-WritesAnswer answers X old new (Err Memory) = Keeps old new
-WritesAnswer answers X old new (Err fault) = ⊥
+WritesAnswer answers lacks X old new (Err BadLength) = answers X (Err refusals.BadLength) × Keeps old new
+WritesAnswer answers lacks X old new (Err Integrity) = answers X (Err refusals.Integrity) × Keeps old new
+WritesAnswer answers lacks X old new (Err KeyNotPlain) = answers X (Err refusals.KeyNotPlain) × Keeps old new
+WritesAnswer answers lacks X old new (Err Memory) = lacks X × Keeps old new
+WritesAnswer answers lacks X old new (Err fault) = ⊥
 
 -- the same, after the input was read or refused
-abbrev pub WritesFrom : (List ℕ → Result Answer Refusal → Type 0) → Result (Vec ℕ Global) JobFault → Option (List ℕ)
+abbrev pub WritesFrom : (List ℕ → Result Answer Refusal → Type 0) → (List ℕ → Type 0) → Result (Vec ℕ Global) JobFault → Option (List ℕ)
     → Option (List ℕ) → Result Answer JobFault → Type 0
-WritesFrom answers (Ok X) out out' outcome = WritesAnswer answers X.items out out' outcome
-WritesFrom answers (Err fault) out out' outcome = (outcome ≡ Err fault) × (out' ≡ out)
+WritesFrom answers lacks (Ok X) out out' outcome = WritesAnswer answers lacks X.items out out' outcome
+WritesFrom answers lacks (Err fault) out out' outcome = (outcome ≡ Err fault) × (out' ≡ out)
 
 -- The effect of a run over a whole input.
-pub record RunsInput (notation : Notation) (answers : List ℕ → Result Answer Refusal → Type 0)
+pub record RunsInput (notation : Notation) (answers : List ℕ → Result Answer Refusal → Type 0) (lacks : List ℕ → Type 0)
     (input input' out out' : Option (List ℕ)) (outcome : Result Answer JobFault) : Type 0 where
   pub text : Result (Vec ℕ Global) JobFault
   pub read : ReadsInput notation input input' text
-  pub rest : WritesFrom answers text out out' outcome
+  pub rest : WritesFrom answers lacks text out out' outcome
 
 -- the result of a call, for the outcome of its run
 abbrev pub IsDoneAs : (Mark → Done) → Result Answer JobFault → Result Done JobFault → Type 0
@@ -85,10 +86,10 @@ IsDoneAs done (Err fault) (Err other) = other ≡ fault
 IsDoneAs done outcome answer = ⊥
 
 -- the effect of a run over a whole input, with the result of the call
-abbrev pub AnswersInput : Notation → (List ℕ → Result Answer Refusal → Type 0) → (Mark → Done)
+abbrev pub AnswersInput : Notation → (List ℕ → Result Answer Refusal → Type 0) → (List ℕ → Type 0) → (Mark → Done)
     → Option (List ℕ) → Option (List ℕ) → Option (List ℕ) → Option (List ℕ) → Result Done JobFault → Type 0
-AnswersInput notation answers done input input' out out' answer =
-    (outcome : Result Answer JobFault) × RunsInput notation answers input input' out out' outcome × IsDoneAs done outcome answer
+AnswersInput notation answers lacks done input input' out out' answer =
+    (outcome : Result Answer JobFault) × RunsInput notation answers lacks input input' out out' outcome × IsDoneAs done outcome answer
 
 -- The effect of a run over lines of at most 4,194,304 bytes. If the rest of the input is known, the answers to its
 -- first lines were written, in order.
@@ -97,6 +98,12 @@ abbrev pub AnswersLines : RunOptions → (List ℕ → Result Answer Refusal →
     → Result (Result (RunSummary Refusal) (RunFault Refusal)) JobFault → Type 0
 AnswersLines options answers input input' out out' log log' answer = IsOkAnd answer (λ run.
     RunsLines options answers input input' out out' log log' run × IfSome input (λ text. WritesAnswers options answers text out out' run))
+
+-- the answers to the lines of a text, of which line i is the answer to line i
+pub record AnswersEachLine (options : RunOptions) (answers : List ℕ → Result Answer Refusal → Type 0) (text : List ℕ)
+    (out out' : Option (List ℕ)) (run : Result (RunSummary Refusal) (RunFault Refusal)) : Type 0 where
+  pub written : WritesAnswers options answers text out out' run
+  pub one_each : AreOneEach (map output_of written.results) (lines_of (written_for written.results))
 
 -- a job's fault for a refusal of its bytes
 abbrev pub job_fault_of : Refusal → JobFault

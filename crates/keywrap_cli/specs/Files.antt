@@ -1,8 +1,9 @@
 -- What a file denotes in a notation, and how bytes are printed.
-use Rattle.std.specs.Prelude.{ℕ, List, Result}
+use Rattle.std.specs.Prelude.{⊤, ℕ, List, Result}
 use Rattle.key_files.specs.Base64Text.{base64_line, base64_meaning}
 use Rattle.key_files.specs.HexText.{hex_line}
 use Rattle.key_files.specs.Meaning.{raw_meaning, hex_meaning}
+use Rattle.key_files.specs.Writing.{IsLine}
 use Rattle.key_files.specs.declared.base64_text.Alphabet.TheVariants.{Standard, UrlSafe}
 use Rattle.key_files.specs.declared.fault.FileFault.{FileFault}
 use Rattle.key_lines.specs.declared.text.TextNotation.{TextNotation}
@@ -22,6 +23,13 @@ printed Raw bytes = bytes
 printed Hex bytes = hex_line bytes
 printed Base64 bytes = base64_line Standard bytes
 printed Base64Url bytes = base64_line UrlSafe bytes
+
+-- a text in a notation of lines is one line
+abbrev pub IsOneLine : Notation → List ℕ → Type 0
+IsOneLine Raw text = ⊤
+IsOneLine Hex text = IsLine text
+IsOneLine Base64 text = IsLine text
+IsOneLine Base64Url text = IsLine text
 
 -- the notation of files for a notation of lines
 abbrev pub line_notation : TextNotation → Notation

@@ -3,7 +3,7 @@
 use Rattle.std.specs.Prelude.{ℕ, List, Option, Result}
 use Rattle.fips197.specs.Cipher.{cipher}
 use Rattle.key_wrap_core.specs.declared.forms.Form.TheVariants.{Plain}
-use Rattle.keywrap_cli.specs.Answers.{JobAnswer, WritesFor, done_of, job_of}
+use Rattle.keywrap_cli.specs.Answers.{HasBadLength, JobAnswer, WritesFor, done_of, job_of}
 use Rattle.keywrap_cli.specs.Engine.{AnswersInput, IsRefusedBefore, UnderKek, UnderReadKek, WritesOutput}
 use Rattle.keywrap_cli.specs.Readings.{kek_fault_of}
 use Rattle.keywrap_cli.specs.declared.kek_file.KekRole.TheVariants.{Kek}
@@ -14,12 +14,12 @@ use Rattle.keywrap_cli.specs.declared.job.Notation.{Notation}
 use Rattle.keywrap_cli.specs.declared.job.Task.{Task}
 
 -- The effect of a call under an initial value. The KEK file, the input and the writer each appear twice: as known
--- before the call and after it.
+-- before the call and after it. Memory is only lacking for an answer if the length of the input is legal.
 abbrev pub RunsJob : ℕ → Task → Option (List ℕ) → Option (List ℕ) → Option (List ℕ) → Option (List ℕ) → Option (List ℕ)
     → Option (List ℕ) → Result Done JobFault → Type 0
 RunsJob iv task kek kek' input input' out out' answer =
     UnderKek task.kek kek kek'
-    (λ K. AnswersInput task.input (JobAnswer iv task (cipher K)) done_of input input' out out' answer)
+    (λ K. AnswersInput task.input (JobAnswer iv task (cipher K)) (λ X. ¬ HasBadLength task.job task.form X) done_of input input' out out' answer)
     (λ fault. IsRefusedBefore (kek_fault_of Kek fault) input input' out out' answer)
 
 -- The headline of each job, about the bytes that a call read and wrote. The output is the job's answer to the bytes X

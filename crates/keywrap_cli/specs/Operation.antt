@@ -1,13 +1,12 @@
 -- The effect of an operation whose KEK files are open. `known` is what is known of a KEK file.
 use Rattle.std.specs.Prelude.{◌≡◌, Bool, false, ℕ, List, Option, Result, IfSome}
 use Rattle.fips197.specs.Cipher.{cipher}
-use Rattle.key_lines.specs.Running.{WritesAnswers}
 use Rattle.key_lines.specs.declared.fault.RefusedLine.{RefusedLine}
 use Rattle.key_lines.specs.declared.fault.RunFault.{RunFault}
 use Rattle.key_lines.specs.declared.run.RunOptions.{RunOptions}
 use Rattle.key_lines.specs.declared.summary.RunSummary.{RunSummary}
 use Rattle.keywrap_cli.specs.Answers.{JobAnswer, RewrappingAnswer}
-use Rattle.keywrap_cli.specs.Engine.{AnswersLines, IsRefusedBefore, UnderKek, UnderKeks, UnderReadKek}
+use Rattle.keywrap_cli.specs.Engine.{AnswersEachLine, AnswersLines, IsRefusedBefore, UnderKek, UnderKeks, UnderReadKek}
 use Rattle.keywrap_cli.specs.Files.{line_notation, text_notation}
 use Rattle.keywrap_cli.specs.Job.{RunsJob, WritesTheAnswer}
 use Rattle.keywrap_cli.specs.Readings.{kek_fault_of}
@@ -81,11 +80,11 @@ RunsOperationLines known keep_going old new input input' out out' log log' answe
     (λ fault. (log' ≡ log) × IsRefusedBefore fault input input' out out' answer))
 
 -- The headline of lines. If the rest of the input is known, the answers to its first lines were written, in order, each
--- under AES of the KEKs that the KEK files denote.
+-- under AES of the KEKs that the KEK files denote. Line i of the output is the answer to line i.
 abbrev pub WritesTheLinesOf : {K : Type 0} → (K → Option (List ℕ)) → Bool → Operation K → Operation K → Option (List ℕ) → Option (List ℕ)
     → Option (List ℕ) → Result (RunSummary Refusal) (RunFault Refusal) → Type 0
 WritesTheLinesOf known keep_going old new input out out' run = MatchOperations old new
     (λ iv task kek iv' task' kek'. UnderReadKek task.kek (known kek) (known kek') (λ K. IfSome input
-    (λ text. WritesAnswers (line_options task.input keep_going) (JobAnswer iv (in_lines task) (cipher K)) text out out' run)))
+    (λ text. AnswersEachLine (line_options task.input keep_going) (JobAnswer iv (in_lines task) (cipher K)) text out out' run)))
     (λ task kek new task' kek' new'. UnderReadKek task.kek (known kek) (known kek') (λ K. UnderReadKek task.kek (known new) (known new') (λ L. IfSome input
-    (λ text. WritesAnswers (line_options task.input keep_going) (RewrappingAnswer (lines_of task) (cipher K) (cipher L)) text out out' run))))
+    (λ text. AnswersEachLine (line_options task.input keep_going) (RewrappingAnswer (lines_of task) (cipher K) (cipher L)) text out out' run))))

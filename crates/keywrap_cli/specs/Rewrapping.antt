@@ -3,7 +3,7 @@
 use Rattle.std.specs.Prelude.{◌≡◌, ◌↔◌, ℕ, Bool, false, IsTrue, List, Option, Result, Ok, Err}
 use Rattle.fips197.specs.Cipher.{cipher}
 use Rattle.key_wrap_core.specs.declared.rewrapping.RewrapForms.{RewrapForms}
-use Rattle.keywrap_cli.specs.Answers.{RewrappingAnswer, RewrapsTo, written}
+use Rattle.keywrap_cli.specs.Answers.{HasRewrapping, RewrappingAnswer, RewrapsTo, written}
 use Rattle.keywrap_cli.specs.Engine.{AnswersInput, IsRefusedBefore, UnderKeks, UnderReadKek, WritesOutput}
 use Rattle.keywrap_cli.specs.declared.job.Done.{Done}
 use Rattle.keywrap_cli.specs.declared.job.JobFault.{JobFault}
@@ -17,12 +17,12 @@ abbrev pub rewrapping : RewrapForms → Notation → Notation → Rewrapping
 rewrapping forms input kek = record { forms = forms; pass_new = false; input = input; kek = kek }
 
 -- The effect of a call. The old KEK's file, the new KEK's file, the input and the writer each appear twice: as known
--- before the call and after it.
+-- before the call and after it. Memory is only lacking for the output if there is a rewrapping.
 abbrev pub RunsRewrap : Rewrapping → Option (List ℕ) → Option (List ℕ) → Option (List ℕ) → Option (List ℕ) → Option (List ℕ)
     → Option (List ℕ) → Option (List ℕ) → Option (List ℕ) → Result Done JobFault → Type 0
 RunsRewrap task kek kek' new new' input input' out out' answer =
     UnderKeks task.kek kek kek' new new'
-    (λ K L. AnswersInput task.input (RewrappingAnswer task (cipher K) (cipher L)) written input input' out out' answer)
+    (λ K L. AnswersInput task.input (RewrappingAnswer task (cipher K) (cipher L)) (HasRewrapping task (cipher K) (cipher L)) written input input' out out' answer)
     (λ fault. IsRefusedBefore fault input input' out out' answer)
 
 -- The headline, about the bytes that a call read and wrote. The input was the old wrapping, under AES of the old KEK,

@@ -1,7 +1,8 @@
 //! Unwrapping in whichever form a key is wrapped.
 
-ghost use Rattle.std.specs.Prelude.{IfOk};
+ghost use Rattle.std.specs.Prelude.{◌≢◌, length, Ok, Err, IfOk};
 ghost use Rattle.key_lines.specs.Answers.{made};
+ghost use Rattle.key_wrap_core.specs.Lengths.{IsPaddedTextLength};
 ghost use Rattle.keywrap_cli.specs.Answers.{FindsKey};
 
 use block_pair::{BlockPair, Meter};
@@ -16,8 +17,10 @@ pub fn unwrap_any<B: BlockPair>(
     input: &[u8],
     output: &mut Vec<u8>,
 ) -> Result<Result<(), InPlaceFault>, AllocError>
-    ensures { IfOk result (λ done. FindsKey iv.now (B.encrypted pair.now) input.now
+    ensures answer { IfOk result (λ done. FindsKey iv.now (B.encrypted pair.now) input.now
         (made output.new.items done)) }
+    ensures legal { result ≢ Ok (Err InPlaceFault.BadLength)
+        → IsPaddedTextLength (length input.now) }
 {
     // The padded form has all legal lengths of the plain form.
     if !padded_text_length_ok(input.len()) {

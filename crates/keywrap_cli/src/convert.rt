@@ -1,6 +1,6 @@
 //! Wrapping and unwrapping in a direction and a form.
 
-ghost use Rattle.std.specs.Prelude.{◌↔◌, length, IfOk, IsTrue};
+ghost use Rattle.std.specs.Prelude.{◌≢◌, ◌↔◌, length, Ok, Err, IfOk, IsTrue};
 ghost use Rattle.key_lines.specs.Answers.{made};
 ghost use Rattle.keywrap_cli.specs.Answers.{MakesConversion};
 ghost use Rattle.keywrap_cli.specs.Conversion.{HasRoom, IsInputLength};
@@ -34,8 +34,10 @@ pub fn convert_into<B: BlockPair>(
     input: &[u8],
     output: &mut Vec<u8>,
 ) -> Result<Result<(), InPlaceFault>, AllocError>
-    ensures { IfOk result (λ done. MakesConversion direction form iv.now
+    ensures answer { IfOk result (λ done. MakesConversion direction form iv.now
         (B.encrypted pair.now) input.now (made output.new.items done)) }
+    ensures legal { result ≢ Ok (Err InPlaceFault.BadLength)
+        → IsInputLength direction form (length input.now) }
 {
     if !is_input_length(direction, form, input.len()) {
         return Ok(Err(InPlaceFault::BadLength));

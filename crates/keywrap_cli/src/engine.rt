@@ -3,7 +3,7 @@
 ghost use Rattle.std.specs.Prelude.{◌≡◌, List, ℕ, OnOk};
 ghost use Rattle.key_lines.specs.Answers.{answered};
 ghost use Rattle.keywrap_cli.specs.Engine.{RunsInput, WritesAnswer, job_fault_of};
-ghost use Rattle.keywrap_cli.specs.Files.{printed};
+ghost use Rattle.keywrap_cli.specs.Files.{IsOneLine, printed};
 
 use crate::files::{input_fault, read_file};
 use crate::job::{JobFault, Notation};
@@ -22,7 +22,7 @@ pub fn run_input<J: LineJob<Refusal = Refusal>, R: Read, W: Write>(
     input: &mut R,
     out: &mut W,
 ) -> Result<Mark, JobFault>
-    ensures { (text : List ℕ) × RunsInput notation (J.answers job.now)
+    ensures { (text : List ℕ) × RunsInput notation (J.answers job.now) (J.may_lack_memory job.now)
         (R.remaining input.old) (R.remaining input.new)
         (W.contents out.old) (W.contents out.new) (answered text result) }
 {
@@ -39,7 +39,8 @@ fn write_answer<J: LineJob<Refusal = Refusal>, W: Write>(
     bytes: &mut Vec<u8>,
     out: &mut W,
 ) -> Result<Mark, JobFault>
-    ensures { (text : List ℕ) × WritesAnswer (J.answers job.now) bytes.old.items
+    ensures { (text : List ℕ) × WritesAnswer (J.answers job.now)
+        (J.may_lack_memory job.now) bytes.old.items
         (W.contents out.old) (W.contents out.new) (answered text result) }
 {
     let mut output = Vec::new(alloc);
@@ -74,7 +75,8 @@ pub fn print_in(
     bytes: &mut Vec<u8>,
     output: &mut Vec<u8>,
 ) -> Result<(), AllocError>
-    ensures { OnOk result (output.new.items ≡ printed notation bytes.old.items) }
+    ensures bytes { OnOk result (output.new.items ≡ printed notation bytes.old.items) }
+    ensures one_line { OnOk result (IsOneLine notation output.new.items) }
 {
     match notation {
         Notation::Raw => {

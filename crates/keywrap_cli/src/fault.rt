@@ -1,6 +1,6 @@
 //! The faults of the program, with their lines on standard error and their exit statuses.
 
-ghost use Rattle.std.specs.Prelude.{◌≡◌, ◌↔◌, ◌⊎◌};
+ghost use Rattle.std.specs.Prelude.{◌≡◌, ◌≢◌, ◌↔◌, ◌⊎◌};
 ghost use Rattle.keywrap_cli.specs.Statuses.{drill_status, fault_status, job_status, line_status};
 
 use crate::drilling::DrillFault;
@@ -54,7 +54,8 @@ pub enum ProgramFault {
 impl ProgramFault {
     /// Returns the exit status.
     pub fn status(&self) -> u8
-        ensures { result ≡ fault_status self.now }
+        ensures status { result ≡ fault_status self.now }
+        ensures failed { result ≢ 0 }
     {
         match self {
             ProgramFault::Iv(_) | ProgramFault::NewIv(_) | ProgramFault::RawToTerminal =>
@@ -76,6 +77,7 @@ impl ProgramFault {
 
 fn job_status(fault: &JobFault) -> u8
     ensures status { result ≡ job_status fault.now }
+    ensures failed { result ≢ 0 }
     ensures kek { (result ≡ 3) ↔ ((fault.now ≡ JobFault.KekLength)
         ⊎ (fault.now ≡ JobFault.NewKekLength)) }
     ensures length { (result ≡ 4) ↔ ((fault.now ≡ JobFault.BadLength)
@@ -96,7 +98,8 @@ fn job_status(fault: &JobFault) -> u8
 }
 
 pub(crate) fn line_status(fault: LineFault<Refusal>) -> u8
-    ensures { result ≡ line_status fault }
+    ensures status { result ≡ line_status fault }
+    ensures failed { result ≢ 0 }
 {
     match fault {
         LineFault::Refused(Refusal::BadLength | Refusal::KeyNotPlain) => { statuses::BAD_LENGTH }
@@ -113,7 +116,8 @@ pub(crate) fn line_status(fault: LineFault<Refusal>) -> u8
 }
 
 fn drill_status(fault: &DrillFault) -> u8
-    ensures { result ≡ drill_status fault.now }
+    ensures status { result ≡ drill_status fault.now }
+    ensures failed { result ≢ 0 }
 {
     match fault {
         DrillFault::BadLength => statuses::BAD_LENGTH,

@@ -1,15 +1,15 @@
 //! The commands without files: they write their answer, flush it, and return the exit status.
 
-ghost use Rattle.std.specs.Prelude.{◌≡◌, IfOk};
-ghost use Rattle.std.specs.List.{AllByRecursion};
+ghost use Rattle.std.specs.Prelude.{◌≡◌, ◌⊎◌, IfOk, true, false};
 ghost use Rattle.test_vectors.specs.Published.{published_vectors};
-ghost use Rattle.keywrap_cli.specs.Vectors.{IsRight};
+ghost use Rattle.keywrap_cli.specs.Vectors.{IsVerdictOnAll};
 
 use crate::convert::Direction;
 use crate::drilling::drill;
 use crate::fault::ProgramFault;
 use crate::report::vectors;
 use crate::statuses;
+use crate::vector_check::VectorCalls;
 use key_files::{write_hex, write_raw};
 use key_wrap_core::Form;
 use std::alloc::Global;
@@ -31,14 +31,13 @@ pub fn run_drill<W: Write>(
     flush(out, statuses::DONE)
 }
 
-/// Writes the lines of [`vectors`]. The status shows whether every vector is right.
-pub fn run_vectors<W: Write>(alloc: Global, out: &mut W) -> Result<u8, ProgramFault>
-    ensures done { IfOk result (λ status.
-        AllByRecursion IsRight published_vectors → status ≡ 0) }
-    ensures failed { IfOk result (λ status.
-        ¬ AllByRecursion IsRight published_vectors → status ≡ 5) }
+/// Writes the lines of [`vectors`]. The status is 0 if every vector is right, else 5.
+pub fn run_vectors<C: VectorCalls, W: Write>(alloc: Global, out: &mut W) -> Result<u8, ProgramFault>
+    ensures { IfOk result (λ status.
+        ((status ≡ 0) × IsVerdictOnAll C.gave published_vectors true)
+        ⊎ ((status ≡ 5) × IsVerdictOnAll C.gave published_vectors false)) }
 {
-    if vectors(alloc, out)? {
+    if vectors::<C, W>(alloc, out)? {
         flush(out, statuses::DONE)
     } else {
         flush(out, statuses::FAILED)

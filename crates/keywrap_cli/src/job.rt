@@ -117,7 +117,7 @@ pub enum JobFault {
 /// answer, Integrity, Memory for the hex output or the line of a check, Write. If memory runs out
 /// while a file is read, the error is Memory instead of this file's error. The input is not read
 /// after an error of the KEK file or the KEK. Nothing is written before the whole output is made,
-/// and the call does not flush. The place of Memory in this order is tested, not proved.
+/// and the call does not flush.
 pub fn run_job<K: Read, R: Read, W: Write>(
     alloc: Global,
     task: Task,

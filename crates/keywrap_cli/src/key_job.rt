@@ -1,10 +1,10 @@
 //! Runs a job under a KEK on the bytes of an input or of a line.
 
-ghost use Rattle.std.specs.Prelude.{◌≡◌, IfOk, OnOk, string_bytes};
-ghost use Rattle.key_files.specs.Writing.{IsLine};
+ghost use Rattle.std.specs.Prelude.{◌≡◌, IfErr, IfOk, OnOk, string_bytes};
 ghost use Rattle.key_lines.specs.Answers.{answered};
-ghost use Rattle.keywrap_cli.specs.Answers.{AnswerOfJob, JobAnswer, job_of, kind_line};
-ghost use Rattle.keywrap_cli.specs.Files.{printed};
+ghost use Rattle.keywrap_cli.specs.Answers.{AnswerOfJob, HasBadLength, JobAnswer};
+ghost use Rattle.keywrap_cli.specs.Answers.{job_of, kind_line};
+ghost use Rattle.keywrap_cli.specs.Files.{IsOneLine, printed};
 
 use crate::any_form::unwrap_any;
 use crate::convert::{Direction, convert_into};
@@ -31,6 +31,8 @@ impl<B: BlockPair> LineJob for KeyJob<B> {
     ghost answers = { λ job bytes answer. JobAnswer job.iv job.task (B.encrypted job.pair)
         bytes answer };
 
+    ghost may_lack_memory = { λ job bytes. ¬ HasBadLength job.task.job job.task.form bytes };
+
     fn answer(
         &self,
         bytes: &mut Vec<u8>,
@@ -53,8 +55,11 @@ impl<B: BlockPair> KeyJob<B> {
         bytes: &mut Vec<u8>,
         output: &mut Vec<u8>,
     ) -> Result<Result<Mark, Refusal>, AllocError>
-        ensures { IfOk result (λ mark. AnswerOfJob (job_of direction) self.now.iv self.now.task
-            (B.encrypted self.now.pair) bytes.old.items (answered output.new.items mark)) }
+        ensures answer { IfOk result (λ mark. AnswerOfJob (job_of direction) self.now.iv
+            self.now.task (B.encrypted self.now.pair) bytes.old.items
+            (answered output.new.items mark)) }
+        ensures memory { IfErr result (λ _. ¬ HasBadLength (job_of direction) self.now.task.form
+            bytes.old.items) }
     {
         match convert_into(
             direction,
@@ -78,8 +83,10 @@ impl<B: BlockPair> KeyJob<B> {
         bytes: &mut Vec<u8>,
         output: &mut Vec<u8>,
     ) -> Result<Result<Mark, Refusal>, AllocError>
-        ensures { IfOk result (λ mark. AnswerOfJob Job.UnwrapAny self.now.iv self.now.task
+        ensures answer { IfOk result (λ mark. AnswerOfJob Job.UnwrapAny self.now.iv self.now.task
             (B.encrypted self.now.pair) bytes.old.items (answered output.new.items mark)) }
+        ensures memory { IfErr result (λ _. ¬ HasBadLength Job.UnwrapAny self.now.task.form
+            bytes.old.items) }
     {
         match unwrap_any(&self.iv, &self.pair, bytes, output) {
             Ok(Ok(())) => {}
@@ -92,7 +99,9 @@ impl<B: BlockPair> KeyJob<B> {
 
     // Prints the answer in `output`. `bytes` is room for it.
     fn print(&self, bytes: &mut Vec<u8>, output: &mut Vec<u8>) -> Result<(), AllocError>
-        ensures { OnOk result (output.new.items ≡ printed self.now.task.input output.old.items) }
+        ensures bytes { OnOk result (output.new.items
+            ≡ printed self.now.task.input output.old.items) }
+        ensures one_line { OnOk result (IsOneLine self.now.task.input output.new.items) }
     {
         print_in(self.task.input, output, bytes)?;
         std::mem::swap(bytes, output);
@@ -128,10 +137,3 @@ pub fn kind_line(alloc: Global, kind: Kind) -> Result<String, AllocError>
         Kind::Neither => String::from_str(alloc, "none\n"),
     }
 }
-
-// A law of the definition: the line of a check is one line, with one LF, at its end.
-fn kind_line_is_line(len: usize)
-    ensures plain { IsLine (kind_line (Kind.Plain len)) }
-    ensures padded { IsLine (kind_line (Kind.Padded len)) }
-    ensures none { IsLine (kind_line Kind.Neither) }
-{}

@@ -39,3 +39,4 @@ pub use report::{VectorsFault, vectors};
 pub use rewrap::run_rewrap;
 pub use rewrapping::Rewrapping;
 pub use run_status::{done_status, lines_status};
+pub use vector_check::{Library, VectorCalls, library_law};

@@ -3,7 +3,7 @@
 ghost use Rattle.std.specs.Prelude.{◌≡◌, ◌≢◌, ◌↔◌, Some, None, MatchOption};
 ghost use Rattle.std.specs.Prelude.{IfOk, IsOk, IsTrue, false};
 ghost use Rattle.key_wrap_core.specs.Rewrap.{to_itself};
-ghost use Rattle.keywrap_cli.specs.EndsWell.{AnswersAllLines, EndsWell, job_in};
+ghost use Rattle.keywrap_cli.specs.EndsWell.{AnswersAllLines, AnswersWhole, EndsWell, job_in};
 ghost use Rattle.keywrap_cli.specs.Operation.{IsSameTask, MatchOperation};
 ghost use Rattle.keywrap_cli.specs.Operation.{RunsOperation, RunsOperationLines};
 ghost use Rattle.keywrap_cli.specs.Operation.{TellsSameKekOf, WritesTheAnswerOf, WritesTheLinesOf};
@@ -144,6 +144,10 @@ impl<K: Read> Operation<K> {
         ensures headline { IsOk result → WritesTheAnswerOf K.remaining self.old self.new
             (I.remaining input.old) (I.remaining input.new)
             (W.contents out.old) (W.contents out.new) }
+        // If the run ends with status 0, it was done: see [`done_status`].
+        ensures ends_well { IfOk result (λ outcome. outcome.result ≡ Done.Written
+            → AnswersWhole K.remaining self.old self.new (I.remaining input.old)
+            (I.remaining input.new) (W.contents out.old) (W.contents out.new)) }
         ensures same_kek { IfOk result (λ outcome.
             TellsSameKekOf K.remaining self.old self.new outcome.same_kek) }
         ensures same_task { IsSameTask self.old self.new }

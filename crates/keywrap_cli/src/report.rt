@@ -1,14 +1,13 @@
 //! The published vectors of RFC 3394, RFC 5649 and FIPS 197.
 
-ghost use Rattle.std.specs.Prelude.{◌≡◌, ◌<◌, ◌↔◌, Bool, List, ℕ, length, take, map, IfOk, Err};
-ghost use Rattle.std.specs.Prelude.{IsTrue, string_bytes};
-ghost use Rattle.std.specs.List.{AllByRecursion};
+ghost use Rattle.std.specs.Prelude.{◌≡◌, ◌<◌, Bool, List, ℕ, length, take, map, IfOk, Err};
+ghost use Rattle.std.specs.Prelude.{string_bytes};
 ghost use Rattle.std.specs.Io.KnownBytes.{Appends, Keeps};
-ghost use Rattle.keywrap_cli.specs.Vectors.{IsReport, IsRight, verdict};
+ghost use Rattle.keywrap_cli.specs.Vectors.{IsReport, IsVerdictOnAll, verdict};
 ghost use Rattle.test_vectors.specs.Published.{published_vectors};
 ghost use Rattle.test_vectors.specs.Vectors.{shown};
 
-use crate::vector_check::is_right;
+use crate::vector_check::{VectorCalls, is_right};
 use key_files::write_raw;
 use std::alloc::{AllocError, Global};
 use std::io::Write;
@@ -29,23 +28,23 @@ pub enum VectorsFault {
     },
 }
 
-/// Writes a line for each vector: its name, and `ok` if it is right, else `failed`. Returns true if
-/// all lines have `ok`.
+/// Writes a line for each vector: its name, and `ok` if calls give its bytes in both directions,
+/// else `failed`. Returns true if all lines have `ok`.
 ///
 /// All lines are made before the first write, and the call does not flush.
-pub fn vectors<W: Write>(alloc: Global, out: &mut W) -> Result<bool, VectorsFault>
-    ensures report { IfOk result (λ all_ok. (text : List ℕ) × IsReport published_vectors text all_ok
+pub fn vectors<C: VectorCalls, W: Write>(alloc: Global, out: &mut W) -> Result<bool, VectorsFault>
+    ensures report { IfOk result (λ all_ok. (text : List ℕ)
+        × IsReport C.gave published_vectors text all_ok
         × Appends (W.contents out.old) (W.contents out.new) text) }
-    ensures all_right { IfOk result (λ all_ok.
-        IsTrue all_ok ↔ AllByRecursion IsRight published_vectors) }
+    ensures all { IfOk result (λ all_ok. IsVerdictOnAll C.gave published_vectors all_ok) }
     ensures untouched { result ≡ Err VectorsFault.Memory
         → Keeps (W.contents out.old) (W.contents out.new) }
     ensures front { (written : ℕ) → result ≡ Err (VectorsFault.Write written)
-        → (text : List ℕ) × (all_ok : Bool) × IsReport published_vectors text all_ok
+        → (text : List ℕ) × (all_ok : Bool) × IsReport C.gave published_vectors text all_ok
         × (written < length text)
         × Appends (W.contents out.old) (W.contents out.new) (take written text) }
 {
-    let Ok(report) = report_on(alloc, &published()) else {
+    let Ok(report) = report_on::<C>(alloc, &published()) else {
         return Err(VectorsFault::Memory);
     };
     match write_raw(out, report.text.as_bytes()) {
@@ -86,16 +85,16 @@ fn verdict(ok: bool) -> &'static str
 }
 
 /// Returns a line for each vector of a table: `ok` if it is right, else `failed`.
-pub fn report_on(alloc: Global, table: &[Vector<'_>]) -> Result<Report, AllocError>
+pub fn report_on<C: VectorCalls>(alloc: Global, table: &[Vector<'_>]) -> Result<Report, AllocError>
     ensures { IfOk result (λ report.
-        IsReport (map shown table.now) (string_bytes report.text) report.all_ok) }
+        IsReport C.gave (map shown table.now) (string_bytes report.text) report.all_ok) }
 {
     let mut report = Report {
         text: String::new(alloc),
         all_ok: true,
     };
     for vector in table {
-        let ok = is_right(alloc, vector)?;
+        let ok = is_right::<C>(alloc, vector)?;
         report.add_line(vector.name, ok)?;
     }
     Ok(report)

@@ -21,7 +21,7 @@ use std::io::{Read, Write};
 /// BadLength for the wrapped key, Integrity, BadLength for the key, Memory for the output, Write.
 /// If memory runs out while a file is read, the error is Memory instead of this file's error. A
 /// file is read only if there was no error before it. Nothing is written before the whole output
-/// is made, and the call does not flush. The place of Memory in this order is tested, not proved.
+/// is made, and the call does not flush.
 pub fn run_rewrap<K: Read, N: Read, R: Read, W: Write>(
     alloc: Global,
     old_form: Form,

@@ -1,7 +1,7 @@
 //! Rewraps the bytes of an input or of a line.
 
 ghost use Rattle.std.specs.Prelude.{◌≡◌};
-ghost use Rattle.keywrap_cli.specs.Answers.{RewrappingAnswer, rewrap_mark};
+ghost use Rattle.keywrap_cli.specs.Answers.{HasRewrapping, RewrappingAnswer, rewrap_mark};
 
 use crate::engine::print_in;
 use crate::refusal::{Refusal, rewrap_refusal};
@@ -24,6 +24,9 @@ impl<O: BlockPair, N: BlockPair> LineJob for RewrapJob<O, N> {
 
     ghost answers = { λ job text answer. RewrappingAnswer job.task
         (O.encrypted job.old) (N.encrypted job.new) text answer };
+
+    ghost may_lack_memory = { λ job text. HasRewrapping job.task
+        (O.encrypted job.old) (N.encrypted job.new) text };
 
     fn answer(
         &self,

@@ -1,11 +1,10 @@
-//! Checks a published vector.
+//! Checks a published vector in both directions.
 
-ghost use Rattle.std.specs.Prelude.{◌≡◌, ◌≢◌, ◌↔◌, length, IfOk, IsTrue, MatchOption};
+ghost use Rattle.std.specs.Prelude.{◌≡◌, ◌≢◌, ◌↔◌, length, Some, IfOk, IsTrue, MatchOption};
 ghost use Rattle.block_pair.specs.Words.{IsBlock};
-ghost use Rattle.key_wrap_core.specs.Plain.{default_iv};
-ghost use Rattle.key_wrap_core.specs.Forms.{Stands};
-ghost use Rattle.keywrap_cli.specs.Vectors.{IsRight, Takes};
-ghost use Rattle.test_vectors.specs.Vectors.{shown};
+ghost use Rattle.keywrap_cli.specs.Vectors.{Codes, Converts, Gave, Gives, IsFound, IsMissed};
+ghost use Rattle.keywrap_cli.specs.Vectors.{IsRight, IsVerdict, bytes_of};
+ghost use Rattle.test_vectors.specs.Vectors.{TestVector, shown};
 
 use crate::convert::{Direction, convert_into};
 use crate::kek_file::Aes;
@@ -14,65 +13,125 @@ use key_wrap_core::{Form, InitialValue};
 use std::alloc::{AllocError, Global};
 use test_vectors::{Algorithm, Vector};
 
-/// Returns whether a vector is right: its algorithm, with AES under its key, maps the input to the
-/// output.
-pub fn is_right(alloc: Global, vector: &Vector<'_>) -> Result<bool, AllocError>
-    ensures { IfOk result (λ right. IsTrue right ↔ IsRight (shown vector.now)) }
-{
-    let Ok(aes) = Aes::new(vector.key) else {
-        return Ok(false);
-    };
-    takes(alloc, vector.algorithm, &aes, vector.input, vector.output)
+/// The calls that a check of vectors makes.
+pub trait VectorCalls {
+    /// What a call gave. It has no meaning here, so that a check has to make the call.
+    ghost gave: { Gave };
+
+    /// Wraps or encrypts the input, or unwraps or decrypts it. Returns `None` if it is refused.
+    fn call(
+        alloc: Global,
+        direction: Direction,
+        algorithm: Algorithm,
+        key: &[u8],
+        input: &[u8],
+    ) -> Result<Option<Vec<u8>>, AllocError>
+        ensures { IfOk result (λ found. gave direction algorithm key.now input.now
+            (bytes_of found)) };
 }
 
-// Returns whether an algorithm maps the input to the output, and its inverse maps it back.
-fn takes<B: BlockPair>(
-    alloc: Global,
-    algorithm: Algorithm,
-    pair: &B,
-    input: &[u8],
-    output: &[u8],
-) -> Result<bool, AllocError>
-    ensures { IfOk result (λ right. IsTrue right
-        ↔ Takes algorithm (B.encrypted pair.now) input.now output.now) }
-{
-    match algorithm {
-        Algorithm::KeyWrap => wraps(alloc, Form::Plain, pair, input, output),
-        Algorithm::KeyWrapWithPadding => wraps(alloc, Form::Padded, pair, input, output),
-        Algorithm::Encryption => Ok(encrypts(pair, input, output)),
+/// The calls of this crate, over its AES.
+#[derive(Clone, Copy)]
+pub struct Library;
+
+impl VectorCalls for Library {
+    ghost gave = { Gives };
+
+    fn call(
+        alloc: Global,
+        direction: Direction,
+        algorithm: Algorithm,
+        key: &[u8],
+        input: &[u8],
+    ) -> Result<Option<Vec<u8>>, AllocError> {
+        let Ok(aes) = Aes::new(key) else {
+            return Ok(None);
+        };
+        match algorithm {
+            Algorithm::KeyWrap => convert(alloc, direction, Form::Plain, &aes, input),
+            Algorithm::KeyWrapWithPadding => convert(alloc, direction, Form::Padded, &aes, input),
+            Algorithm::Encryption => code(alloc, direction, &aes, input),
+        }
     }
 }
 
-fn wraps<B: BlockPair>(
+/// A law: what the calls of this crate gave is right exactly if they gave the bytes of the vector.
+pub fn library_law()
+    ensures found { (v : TestVector) → IsFound ⟦<Library as VectorCalls>⟧.gave v → IsRight v }
+    ensures missed { (v : TestVector) → IsMissed ⟦<Library as VectorCalls>⟧.gave v → ¬ IsRight v }
+{}
+
+/// Returns whether a vector is right: calls give its output for its input, and its input for its
+/// output.
+pub fn is_right<C: VectorCalls>(alloc: Global, vector: &Vector<'_>) -> Result<bool, AllocError>
+    ensures { IfOk result (λ right. IsVerdict C.gave (shown vector.now) right) }
+{
+    let (algorithm, key) = (vector.algorithm, vector.key);
+    let there = C::call(alloc, Direction::Wrap, algorithm, key, vector.input)?;
+    if !is(&there, vector.output) {
+        return Ok(false);
+    }
+    let back = C::call(alloc, Direction::Unwrap, algorithm, key, vector.output)?;
+    Ok(is(&back, vector.input))
+}
+
+// Returns whether a call gave these bytes.
+fn is(found: &Option<Vec<u8>>, wanted: &[u8]) -> bool
+    ensures { IsTrue result ↔ (bytes_of found.now ≡ Some wanted.now) }
+{
+    match found {
+        Some(bytes) => bytes.as_slice() == wanted,
+        None => false,
+    }
+}
+
+fn convert<B: BlockPair>(
     alloc: Global,
+    direction: Direction,
     form: Form,
     pair: &B,
-    key: &[u8],
-    text: &[u8],
-) -> Result<bool, AllocError>
-    ensures { IfOk result (λ right. IsTrue right
-        ↔ Stands form default_iv (B.encrypted pair.now) key.now text.now) }
+    input: &[u8],
+) -> Result<Option<Vec<u8>>, AllocError>
+    ensures { IfOk result (λ found. Converts direction form (B.encrypted pair.now) input.now
+        (bytes_of found)) }
 {
     let iv = InitialValue::default();
     let mut output = Vec::new(alloc);
-    let wrapped = convert_into(Direction::Wrap, form, &iv, pair, key, &mut output)?;
-    if wrapped.is_err() || output.as_slice() != text {
-        return Ok(false);
+    match convert_into(direction, form, &iv, pair, input, &mut output) {
+        Ok(Ok(())) => Ok(Some(output)),
+        Ok(Err(_)) => Ok(None),
+        Err(fault) => Err(fault),
     }
-    let unwrapped = convert_into(Direction::Unwrap, form, &iv, pair, text, &mut output)?;
-    Ok(unwrapped.is_ok() && output.as_slice() == key)
 }
 
-// Returns whether the cipher maps `plain` to `encrypted`, and the inverse cipher maps it back.
-fn encrypts<B: BlockPair>(pair: &B, plain: &[u8], encrypted: &[u8]) -> bool
-    ensures { IsTrue result
-        ↔ (IsBlock plain.now × (B.encrypted pair.now plain.now ≡ encrypted.now)) }
+// Encrypts or decrypts a block.
+fn code<B: BlockPair>(
+    alloc: Global,
+    direction: Direction,
+    pair: &B,
+    input: &[u8],
+) -> Result<Option<Vec<u8>>, AllocError>
+    ensures { IfOk result (λ found. Codes direction (B.encrypted pair.now) input.now
+        (bytes_of found)) }
 {
-    let Some(plain) = block_of(plain) else {
-        return false;
+    let Some(block) = block_of(input) else {
+        return Ok(None);
     };
-    let there = pair.enc(plain);
-    there.as_slice() == encrypted && pair.dec(there) == plain
+    let coded = code_block(direction, pair, block);
+    match coded.to_vec(alloc) {
+        Ok(bytes) => Ok(Some(bytes)),
+        Err(fault) => Err(fault),
+    }
+}
+
+fn code_block<B: BlockPair>(direction: Direction, pair: &B, block: [u8; 16]) -> [u8; 16]
+    requires { IsBlock block }
+    ensures { Codes direction (B.encrypted pair.now) block (Some result) }
+{
+    match direction {
+        Direction::Wrap => pair.enc(block),
+        Direction::Unwrap => pair.dec(block),
+    }
 }
 
 fn block_of(bytes: &[u8]) -> Option<[u8; 16]>

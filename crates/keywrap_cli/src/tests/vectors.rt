@@ -1,15 +1,19 @@
-//! The lines of the published vectors, and of tables with one changed vector.
+//! The lines of the published vectors, of tables with one changed vector, and over calls of which one
+//! is damaged.
+
+ghost use Rattle.std.specs.Prelude.{⊤};
 
 use super::doubles::{Narrow, Unflushed};
 use crate::convert::Direction;
 use crate::fault::ProgramFault;
 use crate::flushed::{run_drill, run_vectors, write_help};
 use crate::report::{report_on, vectors};
+use crate::vector_check::{Library, VectorCalls};
 use key_wrap_core::Form;
 use std::alloc::{AllocError, Global};
 use std::process::Abort;
 use std::test::Fail;
-use test_vectors::{Vector, published};
+use test_vectors::{Algorithm, Vector, published};
 
 pub const LINES: &str = "\
 rfc3394 4.1 ok
@@ -29,7 +33,7 @@ fips197 4 ok
 #[test]
 fn writes_twelve_lines_that_say_ok(rt: HostRuntime) {
     let mut out = Vec::new(rt.alloc());
-    assert!(rt; vectors(rt.alloc(), &mut out) == Ok(true));
+    assert!(rt; vectors::<Library, _>(rt.alloc(), &mut out) == Ok(true));
     assert!(rt; out.as_slice() == LINES.as_bytes() && out.len() == 169);
 }
 
@@ -52,7 +56,7 @@ fn change_vector(rt: &impl Abort, alloc: Global, changed: usize) -> Result<(), F
     let ok = format!(in alloc; "{} ok", vector.name)?;
     let failed = format!(in alloc; "{} failed", vector.name)?;
     let wanted = LINES.replace(alloc, ok.as_str(), failed.as_str())?;
-    let report = report_on(alloc, &table_with(alloc, &table, changed, &output)?)?;
+    let report = report_on::<Library>(alloc, &table_with(alloc, &table, changed, &output)?)?;
     assert!(rt; report.text == wanted && !report.all_ok, "{}", report.text);
     Ok(())
 }
@@ -72,13 +76,46 @@ fn table_with<'a>(
     Ok(table)
 }
 
+// The calls of this crate, but the last byte of what an unwrap or a decryption returns is changed.
+#[derive(Clone, Copy)]
+struct Damaged;
+
+impl VectorCalls for Damaged {
+    ghost gave = { λ _ _ _ _ _. ⊤ };
+
+    fn call(
+        alloc: Global,
+        direction: Direction,
+        algorithm: Algorithm,
+        key: &[u8],
+        input: &[u8],
+    ) -> Result<Option<Vec<u8>>, AllocError> {
+        let mut found = Library::call(alloc, direction, algorithm, key, input)?;
+        if let (Direction::Unwrap, Some(bytes)) = (direction, &mut found) {
+            if let Some(last) = bytes.last_mut() {
+                *last ^= 1;
+            }
+        }
+        Ok(found)
+    }
+}
+
+#[test]
+fn says_failed_where_the_way_back_is_damaged(rt: HostRuntime) -> Result<(), Fail> {
+    let mut out = Vec::new(rt.alloc());
+    assert!(rt; matches!(run_vectors::<Damaged, _>(rt.alloc(), &mut out), Ok(5)));
+    let wanted = LINES.replace(rt.alloc(), " ok", " failed")?;
+    assert!(rt; out.as_slice() == wanted.as_bytes());
+    Ok(())
+}
+
 #[test]
 fn ends_with_the_status_of_the_lines(rt: HostRuntime) {
     let mut out = Narrow::in_pieces(rt.alloc(), 7);
-    assert!(rt; matches!(run_vectors(rt.alloc(), &mut out), Ok(0)));
+    assert!(rt; matches!(run_vectors::<Library, _>(rt.alloc(), &mut out), Ok(0)));
     assert!(rt; out.out() == LINES.as_bytes() && out.is_flushed);
     let mut narrow = Narrow::failing(rt.alloc(), 15);
-    let done = run_vectors(rt.alloc(), &mut narrow);
+    let done = run_vectors::<Library, _>(rt.alloc(), &mut narrow);
     assert!(rt; matches!(done, Err(ProgramFault::Write { written: 15 })));
     assert!(rt; !narrow.is_flushed);
 }
@@ -87,7 +124,7 @@ fn ends_with_the_status_of_the_lines(rt: HostRuntime) {
 fn a_flush_that_fails_is_a_fault(rt: HostRuntime) {
     let (mut out, padded, wrap) = (Unflushed, Form::Padded, Direction::Wrap);
     let failed = [
-        run_vectors(rt.alloc(), &mut out),
+        run_vectors::<Library, _>(rt.alloc(), &mut out),
         run_drill(rt.alloc(), padded, wrap, "00", &mut out),
         write_help("help", &mut out),
     ];

@@ -6,8 +6,8 @@ use Rattle.key_wrap_core.specs.Lengths.{IsPaddedTextLength}
 use Rattle.keywrap_cli.proofs.Conversions.{is_found, none_found}
 use Rattle.keywrap_cli.proofs.any_form.unwrap_any.Goals as goal
 
-pub returns-in-Ok : goal.returns-in-Ok
-returns-in-Ok g c =
+pub returns-in-Ok-clause-answer : goal.returns-in-Ok-clause-answer
+returns-in-Ok-clause-answer g c =
     let own = ap (λ m. m.pair) c.new.ensures in
     let w = rw own at c.in-Ok.ensures in
     let made : List ℕ = c.unwrap_any_into.new.key in
@@ -15,8 +15,8 @@ returns-in-Ok g c =
     let key : c.truncate.new.self.items ≡ take c.in-Ok.found.len made = c.truncate.ensures.items ∙ ap (take c.in-Ok.found.len) back in
     rw key (c.in-Ok.found.form, is_found _ _ _ _ _ w.answer w.other_form)
 
-pub returns-in-Err : goal.returns-in-Err
-returns-in-Err g c =
+pub returns-in-Err-clause-answer : goal.returns-in-Err-clause-answer
+returns-in-Err-clause-answer g c =
     let own = ap (λ m. m.pair) c.new.ensures in
     let w = rw own at c.in-Err.ensures in
     let text = c.args.input.now in

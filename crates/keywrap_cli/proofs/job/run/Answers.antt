@@ -24,7 +24,7 @@ returns-in-Ok-run_input g c =
       headline = λ ok. record {
         K = c.in-Ok.pair;
         read = opened;
-        then = written_output task.input (JobAnswer iv task E) (WritesFor task.job iv task E) _ _ _ _ answer (λ X h. h.0) w.1;
+        then = written_output task.input (JobAnswer iv task E) _ (WritesFor task.job iv task E) _ _ _ _ answer (λ X h. h.0) w.1;
       };
     }
 

@@ -4,5 +4,5 @@ use Rattle.test_vectors.specs.Vectors.{shown}
 use Rattle.keywrap_cli.proofs.report.report_on.Given as goal
 
 abbrev pub invariant-loop-vector : goal.invariant-loop-vector
-invariant-loop-vector l =
-    IsReport (map shown (take l.vector-index l.table)) (string_bytes l.report.text) l.report.all_ok
+invariant-loop-vector g l =
+    IsReport g.C.VectorCalls.gave (map shown (take l.vector-index l.table)) (string_bytes l.report.text) l.report.all_ok

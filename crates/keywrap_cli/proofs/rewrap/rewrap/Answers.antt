@@ -26,7 +26,7 @@ returns-in-Ok-run_input g c =
     record {
       run = record { found = Ok keks.old; read = opened.0; rest = record { found = Ok keks.new; read = opened.1; rest = (Ok answer, w.1, refl) } };
       headline = λ ok. under_keks _ _ _ _ _ keks _ opened
-          (written_output task.input (RewrappingAnswer task E F) (RewrapsTo task E F) _ _ _ _ answer (λ X h. (h.0, h.1, h.2, h.4)) w.1);
+          (written_output task.input (RewrappingAnswer task E F) _ (RewrapsTo task E F) _ _ _ _ answer (λ X h. (h.0, h.1, h.2, h.4)) w.1);
       same_kek = under_keks _ _ _ _ _ keks _ opened opened.2;
     }
 

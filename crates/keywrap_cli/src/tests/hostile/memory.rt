@@ -9,6 +9,7 @@ use crate::convert::Direction;
 use crate::drilling::{DrillFault, drill};
 use crate::job::JobFault;
 use crate::report::{VectorsFault, vectors};
+use crate::vector_check::Library;
 use key_wrap_core::Form;
 use std::alloc::Global;
 use std::process::Abort;
@@ -66,7 +67,7 @@ fn refuses_each_growth_of_a_drill(rt: HostRuntime) {
 fn refuses_each_growth_of_the_vectors(rt: HostRuntime) {
     let mut room = [0; 256];
     let mut free = room.as_mut_slice();
-    let done = vectors(rt.alloc(), &mut free);
+    let done = vectors::<Library, _>(rt.alloc(), &mut free);
     let written = 256_usize.saturating_sub(free.len());
     if done == Err(VectorsFault::Memory) {
         assert!(rt; written == 0);

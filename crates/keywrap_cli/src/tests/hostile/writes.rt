@@ -5,6 +5,7 @@ use super::super::doubles::{Narrow, STOPPINGS};
 use super::super::vectors::LINES;
 use crate::job::JobFault;
 use crate::report::{VectorsFault, vectors};
+use crate::vector_check::Library;
 use std::alloc::Global;
 use std::process::Abort;
 
@@ -32,7 +33,7 @@ fn counts_the_bytes_of_the_vectors_at_each_write_that_stops(rt: HostRuntime) {
     for room in 0..=LINES.len() {
         for (stop, faults) in &STOPPINGS {
             let mut out = Narrow::stopping(rt.alloc(), room, *stop, *faults);
-            let done = vectors(rt.alloc(), &mut out);
+            let done = vectors::<Library, _>(rt.alloc(), &mut out);
             let wanted = if room < LINES.len() {
                 Err(VectorsFault::Write { written: room })
             } else {

@@ -9,7 +9,7 @@ returns-in-Err g c = MakesAnswer-input c.args.self.now.options.notation (g.J.Lin
 
 pub returns-in-Ok-Ok : goal.returns-in-Ok-Ok
 returns-in-Ok-Ok g c =
-    (_, line_meaning-within c.args.self.now.options.notation c.args.line.now c.requires ∙ c.in_default.ensures, rw c.in-Ok-Ok.field-0-is at c.in-Ok-Ok.ensures)
+    (_, line_meaning-within c.args.self.now.options.notation c.args.line.now c.requires ∙ c.in_default.ensures, rw c.in-Ok-Ok.field-0-is at c.in-Ok-Ok.ensures.answer)
 
 pub returns-in-Ok-Err : goal.returns-in-Ok-Err
 returns-in-Ok-Err g c =
@@ -18,6 +18,6 @@ returns-in-Ok-Err g c =
       (
         _,
         line_meaning-within c.args.self.now.options.notation c.args.line.now c.requires ∙ c.in_default.ensures,
-        rw c.in-Ok-Err.field-0-is at c.in-Ok-Err.ensures,
+        rw c.in-Ok-Err.field-0-is at c.in-Ok-Err.ensures.answer,
       ),
     )

@@ -1,7 +1,19 @@
 -- The line gives the text's kind, in a buffer that was cleared.
-use Rattle.std.proofs.Common.{◌≡◌, ap, refl, ◌∙◌}
-use Rattle.keywrap_cli.specs.Answers.{kind_line}
+use Rattle.std.proofs.Common.{◌≡◌, ap, refl, ◌∙◌, rules}
+use Rattle.key_lines.specs.declared.job.Mark.TheVariants.{Unmarked}
+use Rattle.keywrap_cli.specs.Answers.{HasMark, kind_line}
+use Rattle.keywrap_cli.specs.declared.job.Job.TheVariants.{Check}
+use Rattle.keywrap_cli.proofs.KindLines.{check_line}
 use Rattle.keywrap_cli.proofs.key_job.KeyJob.check.Goals as goal
+
+pub returns-in-Plain : goal.returns-in-Plain
+returns-in-Plain g c =
+    let own = ap (λ m. m.pair) c.new.ensures in
+    let w = rw own at c.in-Ok.ensures in
+    let line : c.extend_from_slice.new.self.items ≡ kind_line c.in-Ok.found =
+    c.in_ok-extend_from_slice.ensures.items ∙ (rw c.clear.ensures.items (c.as_bytes.ensures.value ∙ c.in_ok-line.ensures)) in
+    let mark : HasMark Check c.extend_from_slice.new.self.items Unmarked = search rules in
+    ((c.in-Ok.found, w.answer, line), mark, check_line _ _ _ c.args.self.now.task.input _ c.in-Ok.found w.answer line)
 
 pub returns : goal.returns
 returns g c =
@@ -9,4 +21,4 @@ returns g c =
     let w = rw own at c.in-Ok.ensures in
     let line : c.extend_from_slice.new.self.items ≡ kind_line c.in-Ok.found =
     c.in_ok-extend_from_slice.ensures.items ∙ (rw c.clear.ensures.items (c.as_bytes.ensures.value ∙ c.in_ok-line.ensures)) in
-    ((c.in-Ok.found, w.answer, line), (refl, line ∙ ap kind_line c.in-Neither.is))
+    ((c.in-Ok.found, w.answer, line), (refl, line ∙ ap kind_line c.in-Neither.is), check_line _ _ _ c.args.self.now.task.input _ c.in-Ok.found w.answer line)

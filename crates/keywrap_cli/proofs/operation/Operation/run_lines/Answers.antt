@@ -1,6 +1,6 @@
 -- The KEKs were read, and then each line was answered, or one was refused.
 use Rattle.std.proofs.Common.{Ok, Err, ap, refl}
-use Rattle.keywrap_cli.proofs.EndsWell.{job_answers, rewrap_answers}
+use Rattle.keywrap_cli.proofs.EndsWell.{each_line, job_answers, job_lines, rewrap_answers, rewrap_lines}
 use Rattle.keywrap_cli.proofs.Readings.{refused_lines, under_keks}
 use Rattle.keywrap_cli.proofs.operation.Operation.run_lines.Goals as goal
 
@@ -23,7 +23,7 @@ pub returns-in-Ok-clause-headline : goal.returns-in-Ok-clause-headline
 returns-in-Ok-clause-headline g c =
     let own = rw c.in-Job.is at c.input_notation.ensures in
     let over = rw (c.line_notation.ensures, c.text_notation-notation.ensures, own) at c.run.ensures in
-    rw c.in-Job.is (record { K = c.in-Ok.pair; read = c.in-Ok.ensures; then = over.headline })
+    rw c.in-Job.is (record { K = c.in-Ok.pair; read = c.in-Ok.ensures; then = each_line _ _ _ _ _ _ (job_lines _ c.in-Job.task _) over.headline })
 
 pub returns-in-Ok-read_keks-clause-run : goal.returns-in-Ok-read_keks-clause-run
 returns-in-Ok-read_keks-clause-run g c =
@@ -40,7 +40,7 @@ pub returns-in-Ok-read_keks-clause-headline : goal.returns-in-Ok-read_keks-claus
 returns-in-Ok-read_keks-clause-headline g c =
     let own = rw c.in-Rewrap.is at c.input_notation.ensures in
     let over = rw (c.line_notation-in-Rewrap.ensures, c.text_notation-notation.ensures, own) at c.run-in-Rewrap.ensures in
-    rw c.in-Rewrap.is (under_keks _ _ _ _ _ c.in-Ok-read_keks.keks _ c.in-Ok-read_keks.ensures over.headline)
+    rw c.in-Rewrap.is (under_keks _ _ _ _ _ c.in-Ok-read_keks.keks _ c.in-Ok-read_keks.ensures (each_line _ _ _ _ _ _ (rewrap_lines c.in-Rewrap.task _ _) over.headline))
 
 pub returns-in-Ok-read_keks-clause-same_kek : goal.returns-in-Ok-read_keks-clause-same_kek
 returns-in-Ok-read_keks-clause-same_kek g c =
@@ -56,4 +56,4 @@ pub returns-in-Ok-read_keks-clause-ends_well : goal.returns-in-Ok-read_keks-clau
 returns-in-Ok-read_keks-clause-ends_well g c =
     let own = rw c.in-Rewrap.is at c.input_notation.ensures in
     let over = rw (c.line_notation-in-Rewrap.ensures, c.text_notation-notation.ensures, own) at c.run-in-Rewrap.ensures in
-    rw c.in-Rewrap.is (rewrap_answers _ _ _ _ _ c.in-Ok-read_keks.keks c.in-Ok-read_keks.ensures _ _ _ _ _ c.run-in-Rewrap.result over.headline)
+    rw c.in-Rewrap.is (rewrap_answers _ _ _ _ _ c.in-Ok-read_keks.keks c.in-Ok-read_keks.ensures _ _ _ _ _ c.run-in-Rewrap.result (rewrap_lines c.in-Rewrap.task _ _) over.headline)
