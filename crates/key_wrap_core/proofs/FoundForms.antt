@@ -1,5 +1,5 @@
 -- The initial value and the registers that were found, the key that they hold, and the texts that they are wrapped to.
-use Rattle.std.proofs.Common.{◌≡◌, ◌⊎◌, ℕ, ◌+◌, ◌-◌, ◌%◌, ◌^◌, ◌≤◌, List, ◌++◌, length, take, drop, bit_xor, inl, inr}
+use Rattle.std.proofs.Common.{◌≡◌, ℕ, ◌+◌, ◌-◌, ◌≤◌, List, ◌++◌, length, take, drop, bit_xor}
 use Rattle.std.proofs.Common.{refl, ap, arith, length-append, length-drop}
 use Rattle.std.proofs.lemmas.List.{take_all}
 use Rattle.block_pair.specs.Pair.{AreInverse}
@@ -9,7 +9,7 @@ use Rattle.key_wrap_core.specs.declared.agreed_form.AgreedForm.TheVariants.{Plai
 use Rattle.key_wrap_core.specs.declared.forms.Form.{Form}
 use Rattle.key_wrap_core.specs.declared.forms.Form.TheVariants as forms
 use Rattle.key_wrap_core.specs.Words.{word_bytes}
-use Rattle.key_wrap_core.specs.Lengths.{IsPlainKeyLength, IsPlainTextLength, IsPaddedKeyLength, IsPaddedTextLength}
+use Rattle.key_wrap_core.specs.Lengths.{IsPlainTextLength, IsPaddedKeyLength}
 use Rattle.key_wrap_core.specs.Padded.{aiv, padded}
 use Rattle.key_wrap_core.specs.PaddedRegisters.{PaddedRegisters, Holds, HoldsLength}
 use Rattle.key_wrap_core.specs.NoKey.{NoKey}
@@ -20,7 +20,6 @@ use Rattle.key_wrap_core.proofs.Tapes.{wraps_iv}
 use Rattle.key_wrap_core.proofs.FormLengths.{plain_text_legal, padded_text_legal}
 use Rattle.key_wrap_core.proofs.PlainForm.{plain_registers, registers_plain, padded_whole, plain_only_text, plain_only_key}
 use Rattle.key_wrap_core.proofs.PaddedForm.{many_registers, registers_many, padded_registers, registers_padded, padded_registers_backward, padded_only_text, padded_only_key}
-use Rattle.key_wrap_core.proofs.ThreeChecks.{held_word}
 use Rattle.key_wrap_core.proofs.Differences.{xor_same, same_xor}
 
 -- In each form a key has one wrapping, and a wrapping one key and a legal length.
@@ -106,17 +105,6 @@ pub to_value : (iv value found : ℕ) (registers key : List ℕ) → IsWord foun
 to_value iv value found registers key word word' holds =
     let rest : registers ≡ key = (word_front found iv registers key word holds.2 holds.1).1 in
     (holds.0, ap (λ (bs : List ℕ). word_bytes value ++ bs) rest, word')
-
--- a padded key that does not fill its words, two and more, has no legal length in the plain form
-pub not_plain : (found : ℕ) (registers key : List ℕ) → IsWord found → IsPaddedTextLength (8 + length registers)
-    → (length registers ≡ 8) ⊎ ¬ (found % 2 ^ 32 ≡ length registers) → HoldsIn Padded key (word_bytes found ++ registers)
-    → ¬ IsPlainKeyLength (length key)
-not_plain found registers key word legal (inl short) holds plain =
-    let h = held_word found registers key word holds.0 holds.1 in
-    absurd (omega (arith, h.3, plain.1))
-not_plain found registers key word legal (inr other) holds plain =
-    let h = held_word found registers key word holds.0 holds.1 in
-    other (omega (arith, h.1, h.2, h.3, plain.0, legal.0))
 
 -- the registers lent are all after the first word
 pub behind_first : (buf : List ℕ) → take (length buf - 8) (drop 8 buf) ≡ drop 8 buf

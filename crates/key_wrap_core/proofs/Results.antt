@@ -10,7 +10,7 @@ use Rattle.key_wrap_core.specs.declared.rewrapping.Rewrapped.TheVariants.{Fresh,
 use Rattle.key_wrap_core.specs.declared.rewrapping.RewrapFault.{RewrapFault}
 use Rattle.key_wrap_core.specs.declared.rewrapping.RewrapFault.TheVariants.{BadLength, Integrity, KeyNotPlain}
 use Rattle.key_wrap_core.specs.Forms.{StandsAs, IsKeyLengthAs}
-use Rattle.key_wrap_core.specs.Rewrap.{IsFrom, IsRewrapped, IsRewrapping, IsNew, IsRefused, HasFault, HasBadKey, HasGoodKey, RewrapResults, back, to_form}
+use Rattle.key_wrap_core.specs.Rewrap.{IsFrom, IsRewrapped, IsRewrapping, IsNew, IsRefused, HasFault, HasGoodKey, RewrapResults, back, to_form}
 use Rattle.key_wrap_core.proofs.Rewraps.{stands_old}
 
 key_legal : (F : List ℕ → List ℕ) (form : AgreedForm) (key text : List ℕ) → StandsAs form F key text → IsKeyLengthAs form (length key)
@@ -24,18 +24,17 @@ same_answer forms E F text after other is is' =
     let same = is.2.only is'.0 is'.1 is'.2.from is'.2.stands in
     is.3.alone other (rw (same.0, same.1) at is'.3.stands)
 
--- a key that was rewrapped has a legal length
-fits : (forms : RewrapForms) (E F : List ℕ → List ℕ) (text after : List ℕ) → IsRewrapped forms E F text after → ¬ HasBadKey forms E text
-fits forms E F text after is bad =
-    let same = is.2.only bad.0 bad.1 bad.2.from bad.2.stands in
-    bad.3 (rw (same.0, same.1) (key_legal F (to_form forms is.0) is.1 after is.3.stands))
+-- what is rewrapped is the wrapping of a key whose length is legal in the new form
+good_of : (forms : RewrapForms) (E F : List ℕ → List ℕ) (text after : List ℕ) → IsRewrapped forms E F text after → HasGoodKey forms E text
+good_of forms E F text after is = (is.0, is.1, is.2, key_legal F (to_form forms is.0) is.1 after is.3.stands)
 
--- what has a fault is not rewrapped
-no_fault : {E D : List ℕ → List ℕ} (forms : RewrapForms) (F : List ℕ → List ℕ) (text after : List ℕ) (fault : RewrapFault) → AreInverse E D
-    → IsRewrapped forms E F text after → ¬ HasFault forms E text fault
-no_fault forms F text after BadLength inv is bad = bad (stands_old forms is.0 is.1 text inv is.2.from is.2.stands)
-no_fault forms F text after Integrity inv is none = none.1 is.0 is.2.from is.1 is.2.stands
-no_fault {E = E} forms F text after KeyNotPlain inv is bad = fits forms E F text after is bad
+-- and such a text has no fault
+no_fault : {E D : List ℕ → List ℕ} (forms : RewrapForms) (text : List ℕ) (fault : RewrapFault) → AreInverse E D → HasGoodKey forms E text
+    → ¬ HasFault forms E text fault
+no_fault forms text BadLength inv good bad = bad (stands_old forms good.0 good.1 text inv good.2.from good.2.stands)
+no_fault forms text Integrity inv good none = none.1 good.0 good.2.from good.1 good.2.stands
+no_fault forms text KeyNotPlain inv good bad =
+    let same = bad.2.only good.0 good.1 good.2.from good.2.stands in bad.3 (rw (same.0, same.1) at good.3)
 
 -- and has no other
 same_fault : {E D : List ℕ → List ℕ} (forms : RewrapForms) (text : List ℕ) (fault other : RewrapFault) → AreInverse E D → HasFault forms E text fault
@@ -57,8 +56,8 @@ one_result {E = E} F pass_new forms text after other (Ok Fresh) (Ok Fresh) inv h
 one_result F pass_new forms text after other (Ok AlreadyNew) (Ok AlreadyNew) inv h k = (refl, k.2 ∙ sym h.2)
 one_result F pass_new forms text after other (Ok Fresh) (Ok AlreadyNew) inv h k = absurd (k.1.no_old h.0 h.2.from h.1 h.2.stands)
 one_result F pass_new forms text after other (Ok AlreadyNew) (Ok Fresh) inv h k = absurd (h.1.no_old k.0 k.2.from k.1 k.2.stands)
-one_result F pass_new forms text after other (Ok Fresh) (Err fault) inv h k = absurd (no_fault forms F text after fault inv h k.0.0)
-one_result F pass_new forms text after other (Err fault) (Ok Fresh) inv h k = absurd (no_fault forms F text other fault inv k h.0.0)
+one_result {E = E} F pass_new forms text after other (Ok Fresh) (Err fault) inv h k = absurd (no_fault forms text fault inv (good_of forms E F text after h) k.0.0)
+one_result {E = E} F pass_new forms text after other (Err fault) (Ok Fresh) inv h k = absurd (no_fault forms text fault inv (good_of forms E F text other k) h.0.0)
 one_result F pass_new forms text after other (Ok AlreadyNew) (Err fault) inv h k = absurd (k.0.1 h.0 h.1)
 one_result F pass_new forms text after other (Err fault) (Ok AlreadyNew) inv h k = absurd (h.0.1 k.0 k.1)
 one_result F pass_new forms text after other (Err fault) (Err fault') inv h k =
@@ -69,12 +68,7 @@ good_fresh : {E D : List ℕ → List ℕ} (F : List ℕ → List ℕ) (pass_new
     (result : Result Rewrapped RewrapFault) → AreInverse E D → IsRewrapping pass_new forms E F text result after → HasGoodKey forms E text → result ≡ Ok Fresh
 good_fresh F pass_new forms text after (Ok Fresh) inv is good = refl
 good_fresh F pass_new forms text after (Ok AlreadyNew) inv is good = absurd (is.1.no_old good.0 good.2.from good.1 good.2.stands)
-good_fresh F pass_new forms text after (Err BadLength) inv is good = absurd (is.0.0 (stands_old forms good.0 good.1 text inv good.2.from good.2.stands))
-good_fresh F pass_new forms text after (Err Integrity) inv is good = absurd (is.0.0.1 good.0 good.2.from good.1 good.2.stands)
-good_fresh F pass_new forms text after (Err KeyNotPlain) inv is good =
-    let bad = is.0.0 in
-    let same = bad.2.only good.0 good.1 good.2.from good.2.stands in
-    absurd (bad.3 (rw (same.0, same.1) at good.3))
+good_fresh F pass_new forms text after (Err fault) inv is good = absurd (no_fault forms text fault inv good is.0.0)
 
 -- a result other than a fresh wrapping leaves the text
 kept_text : (E F : List ℕ → List ℕ) (pass_new : Bool) (forms : RewrapForms) (text after : List ℕ) (result : Result Rewrapped RewrapFault)
@@ -111,7 +105,7 @@ results_of {E = E} F pass_new forms text after result inv is =
     let one = one_result F pass_new forms text after text result in
     record {
       fresh = (
-        λ e. let w : IsRewrapped forms E F text after = subst relation e is in (w.0, w.1, w.2, key_legal F (to_form forms w.0) w.1 after w.3.stands),
+        λ e. good_of forms E F text after (subst relation e is),
         good_fresh F pass_new forms text after result inv is,
       );
       already_new = (

@@ -1,6 +1,5 @@
 -- One rewrapping, from E to F, with the form kept or changed, and past what is new already.
 use Rattle.std.specs.Prelude.{◌≡◌, ◌↔◌, Bool, true, ℕ, List, length, Result, Ok, Err}
-use Rattle.key_wrap_core.specs.declared.forms.Form.{Form}
 use Rattle.key_wrap_core.specs.declared.agreed_form.AgreedForm.{AgreedForm}
 use Rattle.key_wrap_core.specs.declared.rewrapping.RewrapForms.{RewrapForms}
 use Rattle.key_wrap_core.specs.declared.rewrapping.RewrapForms.TheVariants.{Kept, Changed}
@@ -8,14 +7,15 @@ use Rattle.key_wrap_core.specs.declared.rewrapping.Rewrapped.{Rewrapped}
 use Rattle.key_wrap_core.specs.declared.rewrapping.Rewrapped.TheVariants.{Fresh, AlreadyNew}
 use Rattle.key_wrap_core.specs.declared.rewrapping.RewrapFault.{RewrapFault}
 use Rattle.key_wrap_core.specs.declared.rewrapping.RewrapFault.TheVariants.{BadLength, Integrity, KeyNotPlain}
-use Rattle.key_wrap_core.specs.Forms.{StandsAs, IsKeyLengthAs, IsTextLengthAs, by_default}
+use Rattle.key_wrap_core.specs.Plain.{default_iv}
+use Rattle.key_wrap_core.specs.Forms.{StandsAs, IsKeyLengthAs, IsTextLengthAs}
+use Rattle.key_wrap_core.specs.EitherForm.{IsEither, IsOnlyWrapping, NoKeyIn}
 use Rattle.key_wrap_core.specs.PaddedRegisters.{PaddedRegisters}
 use Rattle.key_wrap_core.specs.Found.{HoldsIn}
-use Rattle.key_wrap_core.specs.NoKey.{NoKey}
 
 -- a form in which the text may be a wrapping
 abbrev pub IsFrom : RewrapForms → AgreedForm → Type 0
-IsFrom Kept form = (own : Form) × (form ≡ by_default own)
+IsFrom Kept form = IsEither default_iv form
 IsFrom (Changed old new) form = form ≡ old
 
 -- the form of the new wrapping of what is a wrapping in this form
@@ -32,14 +32,9 @@ to_itself (Changed old new) = Changed new new
 abbrev pub IsOldLength : RewrapForms → ℕ → Type 0
 IsOldLength forms len = (form : AgreedForm) × IsFrom forms form × IsTextLengthAs form len
 
--- The text is the wrapping of this key in this form under E. It is the wrapping of no other key and in no other form,
--- and the key has no other wrapping in this form.
-pub record IsWrapping (forms : RewrapForms) (E : List ℕ → List ℕ) (form : AgreedForm) (key text : List ℕ) : Type 0 where
-  pub from : IsFrom forms form
-  pub stands : StandsAs form E key text
-  pub only : (other_form : AgreedForm) (other : List ℕ) → IsFrom forms other_form → StandsAs other_form E other text
-      → (other_form ≡ form) × (other ≡ key)
-  pub alone : (other : List ℕ) → StandsAs form E key other → other ≡ text
+-- the text is the only wrapping of this key in this form, one of the old ones, under E
+abbrev pub IsWrapping : RewrapForms → (List ℕ → List ℕ) → AgreedForm → (key text : List ℕ) → Type 0
+IsWrapping forms E form key text = IsOnlyWrapping (IsFrom forms) E form key text
 
 -- it is the wrapping of a key
 abbrev pub IsOld : RewrapForms → (List ℕ → List ℕ) → List ℕ → Type 0
@@ -47,7 +42,7 @@ IsOld forms E text = (form : AgreedForm) × (key : List ℕ) × IsWrapping forms
 
 -- it is the wrapping of none
 abbrev pub IsNoWrapping : RewrapForms → (List ℕ → List ℕ) → List ℕ → Type 0
-IsNoWrapping forms E text = (form : AgreedForm) → IsFrom forms form → NoKey (StandsAs form E) text
+IsNoWrapping forms E text = NoKeyIn (IsFrom forms) E text
 
 -- The answer is the new wrapping, under F, of the only key of which the text is a wrapping under E. So unwrapping the
 -- answer gives exactly the old key, and rewrapping back gives the text.
@@ -63,12 +58,6 @@ HasBadKey forms E text = (form : AgreedForm) × (key : List ℕ) × IsWrapping f
 -- the registers hold a key in one of the forms, and are wrapped to the text
 abbrev pub IsFound : RewrapForms → (List ℕ → List ℕ) → (text before : List ℕ) → Type 0
 IsFound forms E text before = (form : AgreedForm) × IsFrom forms form × (key : List ℕ) × HoldsIn form key before × PaddedRegisters E before text
-
--- why a text is no wrapping
-abbrev pub HasNone : RewrapForms → (List ℕ → List ℕ) → List ℕ → RewrapFault → Type 0
-HasNone forms E text BadLength = ¬ IsOldLength forms (length text)
-HasNone forms E text Integrity = IsOldLength forms (length text) × IsNoWrapping forms E text
-HasNone forms E text KeyNotPlain = ⊥
 
 -- why a text is refused
 abbrev pub HasFault : RewrapForms → (List ℕ → List ℕ) → List ℕ → RewrapFault → Type 0

@@ -1,7 +1,7 @@
 //! Unwraps a buffer before the form is known, compares what it found with each form, and wraps the
 //! buffer again. No branch depends on the key's length.
 
-ghost use Rattle.std.specs.Prelude.{◌≡◌, ◌↔◌, ◌⊎◌, ℕ, ◌+◌, ◌*◌, ◌++◌, List, length, drop, IsErr, IsOk, IsTrue};
+ghost use Rattle.std.specs.Prelude.{◌≡◌, ◌↔◌, ◌⊎◌, ℕ, ◌+◌, ◌*◌, ◌++◌, List, length, drop, IsErr, IsOk};
 ghost use Rattle.block_pair.specs.Metered.{counted};
 ghost use Rattle.key_wrap_core.specs.Words.{word_bytes};
 ghost use Rattle.key_wrap_core.specs.Lengths.{IsPaddedTextLength};
@@ -34,56 +34,25 @@ pub(crate) fn unwrap_found<B: BlockPair>(meter: &mut Meter<B>, buf: &mut [u8]) -
 }
 
 // The registers after the first word of the buffer become what they are wrapped to under this
-// initial value, the whole buffer.
+// initial value, the whole buffer: under that with which they were found, the text again.
 pub(crate) fn wrap_found<B: BlockPair>(meter: &mut Meter<B>, iv: u64, buf: &mut [u8])
     requires { IsPaddedTextLength (length buf.old) }
     ensures wrapped { PaddedRegisters (B.encrypted meter.old.pair)
         (word_bytes iv ++ drop 8 buf.old) buf.new }
+    ensures restored { (text : List ℕ) → PaddedRegisters (B.encrypted meter.old.pair)
+        (word_bytes iv ++ drop 8 buf.old) text → buf.new ≡ text }
     ensures calls { meter.new ≡ counted (block_calls (length buf.old)) meter.old }
 {
     let c0 = wrap_slice(meter, iv, &mut buf[WORD..]);
     BigEndian::write_u64(buf, c0);
 }
 
-// The registers after the first word of the buffer become the text again in which they and this
-// initial value were found.
-pub(crate) fn restore<B: BlockPair>(meter: &mut Meter<B>, found: u64, buf: &mut [u8])
-    requires { IsPaddedTextLength (length buf.old) }
-    ensures restored { (text : List ℕ) → PaddedRegisters (B.encrypted meter.old.pair)
-        (word_bytes found ++ drop 8 buf.old) text → buf.new ≡ text }
-    ensures calls { meter.new ≡ counted (block_calls (length buf.old)) meter.old }
-{
-    wrap_found(meter, found, buf);
-}
-
-// Whether a difference is 0; if it is not, the registers become the text again.
-pub(crate) fn decide_or_restore<B: BlockPair>(
-    meter: &mut Meter<B>,
-    found: u64,
-    difference: u64,
-    buf: &mut [u8],
-) -> bool
-    requires { IsPaddedTextLength (length buf.old) }
-    ensures passes { IsTrue result ↔ (difference ≡ 0) }
-    ensures kept { IsTrue result → buf.new ≡ buf.old }
-    ensures meter_kept { IsTrue result → meter.new ≡ meter.old }
-    ensures restored { ¬ IsTrue result → (text : List ℕ)
-        → PaddedRegisters (B.encrypted meter.old.pair) (word_bytes found ++ drop 8 buf.old) text
-        → buf.new ≡ text }
-    ensures calls { ¬ IsTrue result
-        → meter.new ≡ counted (block_calls (length buf.old)) meter.old }
-{
-    match settle(meter, found, difference, buf) {
-        Ok(()) => true,
-        Err(_) => false,
-    }
-}
-
-// The one decision over a difference. Not inlined, so that a tool that follows secrets can name the
-// one place in which control depends on them. It answers a value that is not a bit: of a `bool` the
-// compiler answers the comparison itself, and the callers would branch on the secret again.
+// The one decision over a difference: if it is not 0, the registers become the text again. Not
+// inlined, so that a tool that follows secrets can name the one place in which control depends on
+// them. Returns no `bool`: the compiler would return the comparison itself, and the callers would
+// branch on the secret again.
 #[inline(never)]
-fn settle<B: BlockPair>(
+pub(crate) fn decide_or_restore<B: BlockPair>(
     meter: &mut Meter<B>,
     found: u64,
     difference: u64,
@@ -101,7 +70,7 @@ fn settle<B: BlockPair>(
     if difference == 0 {
         return Ok(());
     }
-    restore(meter, found, buf);
+    wrap_found(meter, found, buf);
     Err(InPlaceFault::Integrity)
 }
 

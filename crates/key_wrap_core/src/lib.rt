@@ -24,6 +24,7 @@ mod initial_value;
 mod into;
 mod into_with;
 mod kinds;
+mod laws;
 mod lengths;
 mod machine;
 mod rewrapping;
@@ -42,6 +43,7 @@ pub use initial_value::InitialValue;
 pub use into::{unwrap_into, unwrap_padded_into, wrap_into, wrap_padded_into};
 pub use into_with::{unwrap_into_with, wrap_into_with};
 pub use kinds::{kind_into, kind_into_with};
+pub use laws::{one_key_law, one_text_law};
 pub use lengths::{
     MAX_KEY, key_length_ok, padded_length_ok, padded_text_length_ok, text_length_ok,
 };

@@ -11,12 +11,12 @@ ghost use Rattle.key_wrap_core.specs.Forms.{IsKeyLengthAs};
 ghost use Rattle.key_wrap_core.specs.Found.{HoldsIn};
 ghost use Rattle.key_wrap_core.specs.NoKey.{NoKey};
 ghost use Rattle.key_wrap_core.specs.Rewrap.{IsFrom, IsOldLength, IsRewrapping, IsRewrapped, IsOld, RewrapResults};
-ghost use Rattle.key_wrap_core.specs.Rewrap.{IsFound, HasNone, RewrapsOld, to_form, to_itself, IsWrapping, IsNoWrapping};
+ghost use Rattle.key_wrap_core.specs.Rewrap.{IsFound, HasFault, RewrapsOld, to_form, to_itself, IsWrapping, IsNoWrapping};
 
 use crate::agreed_form::AgreedForm;
 use crate::checks::{given_length, initial_value, is_zero};
 use crate::found::{
-    decide_or_restore, either_difference, form_difference, restore, unwrap_found, wrap_found,
+    decide_or_restore, either_difference, form_difference, unwrap_found, wrap_found,
 };
 use crate::lengths::{WORD, is_text_length, padded_text_length_ok};
 use block_pair::{BlockPair, Meter};
@@ -121,9 +121,9 @@ fn rewrap_old<O: BlockPair, N: BlockPair>(
 {
     let found = find(old, forms, buf)?;
     let misfit = misfit(forms, found, &buf[WORD..]);
-    if !decide_or_restore(old, found, misfit, buf) {
+    let Ok(()) = decide_or_restore(old, found, misfit, buf) else {
         return Err(RewrapFault::KeyNotPlain);
-    }
+    };
     let iv = new_iv(forms, found, &buf[WORD..]);
     wrap_found(new, iv, buf);
     Ok(())
@@ -137,8 +137,9 @@ fn find<B: BlockPair>(
 ) -> Result<u64, RewrapFault>
     ensures found { IfOk result (λ found. IsFound forms.now (B.encrypted meter.old.pair) buf.old
         (word_bytes found ++ drop 8 buf.new)) }
-    ensures refused { IfErr result (λ fault. HasNone forms.now (B.encrypted meter.old.pair) buf.old
+    ensures refused { IfErr result (λ fault. HasFault forms.now (B.encrypted meter.old.pair) buf.old
         fault) }
+    ensures no_key { ¬ (result ≡ Err RewrapFault.KeyNotPlain) }
     ensures same { IsErr result → buf.new ≡ buf.old }
     ensures legal { IsOk result → IsOldLength forms.now (length buf.old) }
     ensures calls { IsOk result → meter.new ≡ counted (block_calls (length buf.old)) meter.old }
@@ -151,9 +152,9 @@ fn find<B: BlockPair>(
     }
     let found = unwrap_found(meter, buf);
     let difference = old_difference(forms, found, &buf[WORD..]);
-    if !decide_or_restore(meter, found, difference, buf) {
+    let Ok(()) = decide_or_restore(meter, found, difference, buf) else {
         return Err(RewrapFault::Integrity);
-    }
+    };
     Ok(found)
 }
 
@@ -169,7 +170,7 @@ fn is_wrapped<B: BlockPair>(meter: &mut Meter<B>, forms: &RewrapForms, buf: &mut
 {
     match find(meter, forms, buf) {
         Ok(found) => {
-            restore(meter, found, buf);
+            wrap_found(meter, found, buf);
             true
         }
         Err(_) => false,
@@ -217,12 +218,9 @@ fn old_difference(forms: &RewrapForms, iv: u64, registers: &[u8]) -> u64
 // length that no plain key has: it does not fill its words, or has only one word.
 fn misfit(forms: &RewrapForms, iv: u64, registers: &[u8]) -> u64
     requires { IsPaddedTextLength (8 + length registers.now) }
-    ensures passes { result ≡ 0 → (form : AgreedForm) → IsFrom forms.now form → (key : List ℕ)
+    ensures { (form : AgreedForm) → IsFrom forms.now form → (key : List ℕ)
         → HoldsIn form key (word_bytes iv ++ registers.now)
-        → IsKeyLengthAs (to_form forms.now form) (length key) }
-    ensures refuses { ¬ (result ≡ 0) → (form : AgreedForm) → IsFrom forms.now form → (key : List ℕ)
-        → HoldsIn form key (word_bytes iv ++ registers.now)
-        → ¬ IsKeyLengthAs (to_form forms.now form) (length key) }
+        → (result ≡ 0) ↔ IsKeyLengthAs (to_form forms.now form) (length key) }
 {
     match forms {
         RewrapForms::Kept => 0,

@@ -71,13 +71,6 @@ pub record PartsChanged (S : ℕ → (x y x' y' : List ℕ) → Type 0) (n m i :
   pub left : (j : ℕ) → i ≤ j → part_at n j xs' ≡ part_at n j xs
   pub left' : (j : ℕ) → i ≤ j → part_at m j ys' ≡ part_at m j ys
 
-pub no_part : (S : ℕ → (x y x' y' : List ℕ) → Type 0) (n m : ℕ) (xs ys : List ℕ) → PartsChanged S n m 0 xs ys xs ys
-no_part S n m xs ys = record {
-  changed = λ j below. absurd (omega arith);
-  left = λ j from. refl;
-  left' = λ j from. refl;
-}
-
 pub part_next : {S : ℕ → (x y x' y' : List ℕ) → Type 0} {n m i a k b l : ℕ} {xs ys xs' ys' x y : List ℕ} → PartsChanged S n m i xs ys xs' ys'
     → Writes n i a k xs' x → Writes m i b l ys' y → S i (take k (drop a xs')) (take l (drop b ys')) x y
     → PartsChanged S n m (i + 1) xs ys (put_mid a k xs' x) (put_mid b l ys' y)

@@ -5,6 +5,7 @@ use Rattle.block_pair.specs.Metered.{counted}
 use Rattle.key_wrap_core.specs.Calls.{block_calls}
 use Rattle.key_wrap_core.specs.Words.{word_bytes}
 use Rattle.key_wrap_core.proofs.InPlaceForm.{registers_now}
+use Rattle.key_wrap_core.proofs.PaddedForm.{padded_registers_forward}
 use Rattle.key_wrap_core.proofs.found.wrap_found.Goals as goal
 
 pub returns-clause-wrapped : goal.returns-clause-wrapped
@@ -23,3 +24,7 @@ returns-clause-calls g c =
     let whole : 8 + length (take (length old - 8) (drop 8 old)) ≡ length old =
     omega (arith, length-take (length old - 8) (drop 8 old), length-drop 8 old, c.requires.1) in
     c.wrap_slice-c0.ensures.meter ∙ ap (λ (len : ℕ). counted (block_calls len) c.args.meter.now) whole
+
+-- registers are wrapped to one text
+pub returns-clause-restored : goal.returns-clause-restored
+returns-clause-restored g c = λ text run. padded_registers_forward (returns-clause-wrapped g c) run

@@ -1,26 +1,24 @@
 -- The key that was found, in whichever of the forms, is wrapped as it is in the registers.
-use Rattle.std.proofs.Common.{ℕ, List, length, ◌++◌, drop, IsTrue, refl}
+use Rattle.std.proofs.Common.{ℕ, List, length, ◌++◌, drop, refl}
+use Rattle.std.proofs.lemmas.Bool.{false≢true}
 use Rattle.key_wrap_core.specs.declared.agreed_form.AgreedForm.{AgreedForm}
 use Rattle.key_wrap_core.specs.Words.{word_bytes}
 use Rattle.key_wrap_core.specs.PaddedRegisters.{PaddedRegisters}
 use Rattle.key_wrap_core.specs.Forms.{StandsAs, IsKeyLengthAs}
 use Rattle.key_wrap_core.specs.Rewrap.{to_form, to_itself}
-use Rattle.key_wrap_core.proofs.Refusals.{true_or_false}
 use Rattle.key_wrap_core.proofs.FoundForms.{found_stands, behind_first}
 use Rattle.key_wrap_core.proofs.Rewraps.{old_of, wrapping_of, from_itself}
 use Rattle.key_wrap_core.proofs.rewrapping.rewrap_old.Goals as goal
 
-pub returns-then-not-decide_or_restore-clause-rewraps : goal.returns-then-not-decide_or_restore-clause-rewraps
-returns-then-not-decide_or_restore-clause-rewraps g c =
+pub returns-in_default-clause-rewraps : goal.returns-in_default-clause-rewraps
+returns-in_default-clause-rewraps g c =
     let text : List ℕ = c.args.buf.now in
     let held = c.in_ok-found.ensures.found in
-    let fails : ¬ IsTrue c.decide_or_restore.result = λ yes. true_or_false c.if-not-decide_or_restore.true yes in
-    let unfit = rw (behind_first c.find.new.buf) at
-    (c.misfit-misfit.ensures.refuses (λ zero. fails (c.decide_or_restore.ensures.passes.1 zero)) held.0 held.1 held.2) in
+    let fits = rw (behind_first c.find.new.buf) at (c.misfit-misfit.ensures held.0 held.1 held.2) in
     let run : PaddedRegisters (g.O.BlockPair.encrypted c.find.new.meter.pair) (word_bytes c.in_ok-found.found ++ drop 8 c.find.new.buf) text =
     rw (c.in_ok-found.ensures.calls refl) held.4 in (
-      (held.0, held.2, old_of c.args.forms.now text _ (g.met.O.BlockPair.lawful c.args.old.now.pair) held, unfit held.3),
-      c.decide_or_restore.ensures.restored fails text run,
+      (held.0, held.2, old_of c.args.forms.now text _ (g.met.O.BlockPair.lawful c.args.old.now.pair) held, λ legal. false≢true (c.in_default.ensures.passes.1 ((fits held.3).1 legal))),
+      c.in_default.ensures.restored refl text run,
     )
 
 pub returns-clause-rewraps : goal.returns-clause-rewraps
@@ -31,10 +29,9 @@ returns-clause-rewraps g c =
     let held = c.in_ok-found.ensures.found in
     let form : AgreedForm = held.0 in
     let key : List ℕ = held.2 in
-    let d = c.decide_or_restore.ensures in
-    let kept = d.kept c.if-not-decide_or_restore.false in
-    let fits : IsKeyLengthAs (to_form forms form) (length key) = (rw (behind_first c.find.new.buf) at
-    (c.misfit-misfit.ensures.passes (d.passes.0 c.if-not-decide_or_restore.false) form held.1 key)) held.3 in
+    let kept = c.in-Ok.ensures.kept refl in
+    let fits : IsKeyLengthAs (to_form forms form) (length key) = ((rw (behind_first c.find.new.buf) at
+    (c.misfit-misfit.ensures form held.1 key)) held.3).0 (c.in-Ok.ensures.passes.0 refl) in
     let after = (rw (behind_first c.decide_or_restore.new.buf, kept) at (c.new_iv-iv.ensures form held.1 key)) held.3 fits in
     let wraps : StandsAs (to_form forms form) (g.N.BlockPair.encrypted c.args.new.now.pair) key answer =
     found_stands (to_form forms form) key (word_bytes c.new_iv-iv.result ++ drop 8 c.find.new.buf) answer after (rw kept at c.wrap_found.ensures.wrapped) in (
