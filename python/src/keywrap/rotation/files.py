@@ -4,7 +4,6 @@ from __future__ import annotations
 
 import contextlib
 import fnmatch
-import hashlib
 import heapq
 import json
 import os
@@ -12,7 +11,7 @@ import tempfile
 from typing import IO, Dict, Iterable, Iterator, List, Mapping, Optional, Protocol, Sequence
 
 from .keys import Block, Changed, Fresh, Readable, Refused
-from .replacing import BLOCK, Successor, is_temporary, opened, recover, short
+from .replacing import BLOCK, Successor, is_temporary, new_digest, opened, recover, short
 from .stores import Opened, Simple, Unit
 
 #: How many names are sorted in memory at once.
@@ -44,7 +43,7 @@ class _OpenFile:
 
     def __init__(self, descriptor: int, successor: "_Lazy", files: "Files") -> None:
         self.descriptor, self.successor, self.files = descriptor, successor, files
-        self.digest, self.length = hashlib.blake2b(), 0
+        self.digest, self.length = new_digest(), 0
 
     def blocks(self) -> Iterator[Block]:
         for block in self.files.format.blocks(_Reader(self.descriptor)):
@@ -64,7 +63,7 @@ class _OpenFile:
 
     def _copy(self, new: Successor) -> None:
         """Copies what was read before this block, and compares it with what was read."""
-        digest, offset = hashlib.blake2b(), 0
+        digest, offset = new_digest(), 0
         while offset < self.length:
             content = os.pread(self.descriptor, min(BLOCK, self.length - offset), offset)
             if not content:

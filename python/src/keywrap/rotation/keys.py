@@ -78,7 +78,7 @@ Text = Union[bytes, str, None]
 class HexLines(NamedTuple):
     """The keys of lines that all have one length, behind each other. They are decoded and encoded at once."""
 
-    keys: bytes
+    keys: Union[bytes, bytearray]
     length: int
 
     @staticmethod
@@ -96,7 +96,13 @@ class HexLines(NamedTuple):
         return HexLines(keys, size // 2) if 2 * len(keys) + count == len(content) else None
 
     def each(self) -> List[bytes]:
-        return [self.keys[at : at + self.length] for at in range(0, len(self.keys), self.length)]
+        keys = bytes(self.keys)
+        return [keys[at : at + self.length] for at in range(0, len(keys), self.length)]
+
+    def are_under(self, kek: bytes) -> bool:
+        """Whether all keys are under the KEK. For most blocks the first one decides."""
+        some = (self.keys[: self.length], self.keys)
+        return not any(any(_many.check_slots(kek, keys, self.length)[0]) for keys in some)
 
     def content(self) -> bytes:
         return binascii.hexlify(self.keys, b"\n", self.length) + b"\n"
@@ -219,7 +225,8 @@ def _all_rewrapped(keks: Keks, lines: HexLines) -> Optional[Fresh]:
     if any(statuses):
         return None
     content = HexLines(texts, lines.length).content()
-    if any(_many.check_slots(keks[1], bytes.fromhex(content.decode("ascii")), lines.length)[0]):
+    written = HexLines.of(content)
+    if written is None or not written.are_under(keks[1]):
         raise Refused(_NOT_UNDER)
     return Fresh({}, [], len(statuses), len(statuses), content)
 
@@ -229,13 +236,16 @@ def rewrapped(keks: Keks, block: Block, may_be_new: bool = True) -> Fresh:
 
     If all its keys may be new already, they are checked under the new KEK first. For most blocks one key decides.
     """
-    decoded = None
-    if may_be_new:
-        decoded = _, keys, refused = _decoded(block)
-        if not refused and all(are_under(keks[1], keys[:1])) and all(are_under(keks[1], keys)):
-            return Fresh({}, [], len(keys), 0)
-    fresh = None if block.lines is None else _all_rewrapped(keks, block.lines)
-    return fresh or _each_rewrapped(keks, NOTATIONS[block.notation], decoded or _decoded(block))
+    if block.lines is not None:
+        if may_be_new and block.lines.are_under(keks[1]):
+            return Fresh({}, [], len(block.lines.keys) // block.lines.length, 0)
+        fresh = _all_rewrapped(keks, block.lines)
+        if fresh is not None:
+            return fresh
+    decoded = _, keys, refused = _decoded(block)
+    if may_be_new and not refused and all(are_under(keks[1], keys[:1])) and all(are_under(keks[1], keys)):
+        return Fresh({}, [], len(keys), 0)
+    return _each_rewrapped(keks, NOTATIONS[block.notation], decoded)
 
 
 def _each_rewrapped(keks: Keks, notation: Notation, decoded: Decoded) -> Fresh:
