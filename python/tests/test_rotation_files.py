@@ -1,9 +1,11 @@
 """The engine over files of lines, files of one key, CSV and JSON Lines: one unit, undisturbed and beside writers."""
 
 import base64
+import io
 import json
 import os
 import pathlib
+import random
 import stat
 import tempfile
 
@@ -11,6 +13,7 @@ import pytest
 
 pytest.importorskip("cryptography", reason="no cryptography (apt-get install python3-cryptography)")
 
+from cryptography.hazmat.primitives import keywrap as pyca  # noqa: E402
 from one_by_one import before_each_key  # noqa: E402
 from rotation_help import KEK, NEW_KEK, left_over, lines_under, make_keys, seen, set_keks, wrapped_under  # noqa: E402
 
@@ -176,6 +179,51 @@ def test_a_refused_line_is_named_and_stays_to_the_byte(file, pair, monkeypatch, 
         assert file.read_bytes() == with_line(number, line, NEW)
     file.write_bytes(with_line(number, line))
     assert refusal(file, pair, whole=True) == "nothing of it was changed"
+
+
+def rotated_line(line):
+    """The line that takes the place of this one, whether it is refused, and whether it was new: by pyca alone."""
+    digits = line.strip(b" \t\r\n")
+    if len(digits) % 2 or not set(digits) <= set(b"0123456789abcdefABCDEF"):
+        return line, True, False
+    for kek in (KEK, NEW_KEK):
+        for wrap, unwrap in ((pyca.aes_key_wrap, pyca.aes_key_unwrap),
+                             (pyca.aes_key_wrap_with_padding, pyca.aes_key_unwrap_with_padding)):  # fmt: skip
+            try:
+                key = unwrap(kek, bytes.fromhex(digits.decode()))
+            except (pyca.InvalidUnwrap, ValueError):
+                continue
+            is_new = kek == NEW_KEK
+            return line if is_new else wrap(NEW_KEK, key).hex().encode() + b"\n", False, is_new
+    return line, True, False
+
+
+@pytest.mark.parametrize("seed", range(150))
+def test_lines_with_something_else_among_them(file, pair, monkeypatch, seed):
+    """Lines of one length are taken at once. Each result is that of its line."""
+    source = random.Random(seed)
+    monkeypatch.setattr(lines, "BLOCK", source.choice([82, 200, 1000, 1 << 18]))
+    wrap = source.choice([pyca.aes_key_wrap, pyca.aes_key_wrap_with_padding])
+    length = source.choice([16, 24, 32])
+    found = [wrap(KEK, source.randbytes(length)).hex().encode() + b"\n" for _ in range(source.randrange(1, 12))]
+    for at in source.sample(range(len(found)), min(len(found), source.choice([0, 1, 1, 2, 4]))):
+        line = found[at]
+        digit = source.randrange(len(line) - 1)
+        found[at] = source.choice([
+            wrap(NEW_KEK, source.randbytes(length)).hex().encode() + b"\n", wrap(bytes(16), bytes(length)).hex().encode() + b"\n",
+            wrap(NEW_KEK, bytes(length)).hex().upper().encode() + b"\n",
+            line.upper(), line[:-1] + b"\r\n", b" " + line, line[:-1] + b" \n", b"\n", b" \n", line[2:], line[1:], line + line[:2] + b"\n",
+            line[:digit] + b"\n" + line[digit + 1 :], line[:digit] + b" " + line[digit + 1 :], line[:-1],
+            line[:digit] + b"g" + line[digit + 1 :], line[:digit] + b"\xff" + line[digit + 1 :],
+            line[:digit] + b"%x" % (int(line[digit : digit + 1], 16) ^ 1) + line[digit + 1 :]])  # fmt: skip
+    content = b"".join(found)
+    file.write_bytes(content)
+    expected = [rotated_line(line) for line in io.BytesIO(content)]
+    answer = rotated(file, pair)
+    assert file.read_bytes() == b"".join(line for line, _, _ in expected)
+    refused = {f"line {at}" for at, (_, is_refused, _) in enumerate(expected, 1) if is_refused}
+    assert ({place for place, _ in answer["named"]}, answer["refused"]) == (refused, len(refused))
+    assert (answer["keys"], answer["passed"]) == (len(expected), sum(is_new for _, _, is_new in expected))
 
 
 def test_names_some_refused_lines_and_counts_all(file, pair, monkeypatch):
