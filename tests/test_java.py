@@ -58,6 +58,19 @@ def test_published(java, cases):
     assert java("Published", input="".join(published.lines(found))) == published.all_right(found)
 
 
+def test_other_library(java, thing):
+    """By its path, in the property keywrap.library."""
+    found = published.foreign()
+
+    def called(path):
+        env = {**os.environ, "JAVA_TOOL_OPTIONS": f"-Dkeywrap.library={path}"}
+        return java("Published", input="".join(published.lines(found)), env=env)
+
+    assert called(thing("hardware") / "lib/libkeywrap_hw.so.1") == published.all_right(found)
+    with pytest.raises(AssertionError, match="Unable to load library '/none.so'"):
+        called("/none.so")
+
+
 @pytest.mark.needs("/proc")
 def test_native_memory_is_cleared(java):
     assert java("Cleared", env={**os.environ, "MALLOC_ARENA_MAX": "1"}) == "\n"
