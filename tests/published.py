@@ -64,6 +64,8 @@ def foreign():
         request = files.read(foreign_text(name))
         request.expect(json.loads(foreign_text(f"{name}.expected")))
         found += [turned for case in request.cases for turned in case.both_ways()]
+    # Each of the 416 tests of Wycheproof and 54 of ACVP has an unwrap.
+    assert sum(case.call.unwraps for case in found) == 416 + 54
     return [case._replace(answer=None) if b"" in (case.given, case.answer) else case for case in found]
 
 

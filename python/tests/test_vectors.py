@@ -108,21 +108,32 @@ class TestCommand:
             assert self.command(request=request, response=wrong) == (
                 5, counts.format(1), f"keywrap.vectors: request: tcId {tcid}: wrong answer of {call}\n")
         assert self.command(response=out)[0] == 2
+        for more in out.replace('"tcId": 3', '"tcId": 4'), out.replace('"tests": [', '"tests": [{"tcId": 4},', 1):
+            status, _, err = self.command(request=request, response=more)
+            assert status == 2 and err.startswith("keywrap.vectors: response: ")
         assert self.command(request=request, other=request)[:2] == (2, "")
+        inverse = request.replace('"kwCipher": "cipher"', '"kwCipher": "inverse"', 1)
+        assert self.command(request=inverse) == (
+            2, "", "keywrap.vectors: request: KWP with kwCipher inverse is not offered\n")
 
     def test_wycheproof(self):
         kek, key = bytes(32), b"five."
         row = {"key": kek.hex(), "flags": ["SmallKey"], "msg": key.hex(), "ct": keywrap.wrap_padded(kek, key).hex()}
         tests = [{**row, "tcId": 1, "result": "valid"}, {**row, "tcId": 2, "result": "acceptable"},
                  {**row, "tcId": 3, "msg": "", "ct": "00" * 16, "result": "acceptable"},
-                 {**row, "tcId": 4, "ct": "00" * 16, "result": "invalid", "flags": []}]
+                 {**row, "tcId": 4, "ct": "00" * 16, "result": "invalid", "flags": []},
+                 {**row, "tcId": 5, "msg": "", "ct": "00" * 16, "result": "invalid", "flags": []}]
         text = json.dumps({"algorithm": "KWP", "testGroups": [{"tests": tests}]})
         assert self.command(file=text) == (
             0, "file: tcId 3 SmallKey: unwrap_padded refuses it; acceptable\n"
             "file: tcId 3 SmallKey: wrap_padded refuses it; acceptable\n"
-            "file: 7 cases: 4 answered, 3 refused, 2 of them acceptable, 0 wrong\n", "")
+            "file: 9 cases: 4 answered, 5 refused, 2 of them acceptable, 0 wrong\n", "")
         assert self.command(file=text.replace('"invalid"', '"valid"'))[0] == 5
         assert self.command(file=text.replace('"valid"', '"invalid"'))[0] == 5
+        # An acceptable case may be refused, but not answered otherwise.
+        other = {**row, "tcId": 6, "msg": b"other".hex(), "result": "acceptable"}
+        status, out, _ = self.command(file=json.dumps({"algorithm": "KWP", "testGroups": [{"tests": [other]}]}))
+        assert (status, out.split(", ")[-1]) == (5, "2 wrong\n")
 
     @pytest.mark.parametrize("name", ["KW_AE_128_inv", "KWP_AD_256_inv", "TKW_AE", "Readme"])
     def test_not_offered(self, name):

@@ -523,6 +523,19 @@ static void rewraps_of_tampered_texts(void) {
         }
 }
 
+/* Texts under the old KEK whose padding is a whole word of zeros, or more, so that no key has them. */
+static void rewraps_of_long_paddings(void) {
+    struct kek old = kek_of(16), new = new_kek_of(32);
+    for (size_t len = 8; len <= 32; len += 8)
+        for (size_t key_len = 0; key_len <= len - 8; key_len++) {
+            struct wrapped w = {text, len + 8, UNDER_NONE, PADDED, NULL, 0};
+            uint8_t words[32] = {0};
+            memcpy(words, key, key_len);
+            wrap_words(kek, 16, AIV_PREFIX | key_len, words, len, text);
+            for (uint32_t flags = 0; flags < 16; flags++) rewraps(flags, &w, &old, &new);
+        }
+}
+
 /* The text of a status: whole, cut to each capacity, with the bytes after it unchanged. */
 static void status_text(int32_t status, const char *text) {
     const size_t len = strlen(text);
@@ -582,6 +595,7 @@ int main(int argc, char **argv) {
     rewrapped();
     rewraps_of_lengths();
     rewraps_of_tampered_texts();
+    rewraps_of_long_paddings();
     many_keys(kek, scattered, few);
     printf("%u passed, %u failed\n", passed, failed);
     return failed != 0;
