@@ -1,5 +1,6 @@
 """keywrap.pyca.install: libraries over pyca encrypt and decrypt by our calls, which are counted."""
 
+import importlib.util
 import subprocess
 import sys
 import types
@@ -127,6 +128,16 @@ def test_names(importer, calls):
         assert {name: getattr(ours, name) for name in CALLS} == OURS
         assert later.call is PYCAS["aes_key_unwrap"]
     del sys.modules["later"]
+
+
+def test_loads_no_lazy_module():
+    spec = importlib.util.find_spec("colorsys")
+    lazy = importlib.util.module_from_spec(spec)
+    importlib.util.LazyLoader(spec.loader).exec_module(lazy)
+    sys.modules["lazy"] = lazy
+    ours.install()
+    ours.uninstall()
+    assert type(sys.modules.pop("lazy")) is not types.ModuleType
 
 
 def test_functions_look_like_pycas(calls):
