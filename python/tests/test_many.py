@@ -98,6 +98,9 @@ def test_new_ones_at_every_place_are_passed():
         for places in chosen:
             given = [new[at] if at in places else text for at, text in enumerate(old)]
             assert keywrap.rewrap_many(OLD, NEW, given, keep_form=True, pass_new=True) == new
+            damaged_too = [*given, damaged(old[0], 7)]
+            found = keywrap.rewrap_many(OLD, NEW, damaged_too, keep_form=True, pass_new=True)
+            assert outcomes(found) == [*new, keywrap.IntegrityFailed]
             refused = outcomes(keywrap.rewrap_many(OLD, NEW, given, keep_form=True))
             assert refused == [keywrap.IntegrityFailed if at in places else text for at, text in enumerate(new)]
 

@@ -216,6 +216,10 @@ def test_lines_with_something_else_among_them(file, pair, monkeypatch, seed):
             line[:digit] + b"\n" + line[digit + 1 :], line[:digit] + b" " + line[digit + 1 :], line[:-1],
             line[:digit] + b"g" + line[digit + 1 :], line[:digit] + b"\xff" + line[digit + 1 :],
             line[:digit] + b"%x" % (int(line[digit : digit + 1], 16) ^ 1) + line[digit + 1 :]])  # fmt: skip
+    if len(found) > 2 and source.randrange(3) == 0:  # As long together as they were, with LF in other places.
+        at = source.randrange(1, len(found) - 1)
+        one, other = found[at : at + 2]
+        found[at : at + 2] = source.choice([(other[:2] + one, other[2:]), (one[:-1] + b" " + other,)])
     content = b"".join(found)
     file.write_bytes(content)
     expected = [rotated_line(line) for line in io.BytesIO(content)]

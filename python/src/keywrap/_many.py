@@ -65,7 +65,7 @@ def _slots(items: Items, length: Optional[int], what: str, gap: int = 0, padded:
     except (TypeError, ValueError, BufferError):
         raise TypeError("contiguous bytes-like objects are required: a list, or one and the length of an item") from None
     slots = _Slots(buffer, zeros, len(parts), each)
-    if len(lengths) > 1 or len(buffer) != len(parts) * (gap + each + zeros) + gap + zeros:
+    if len(buffer) != len(parts) * (gap + each + zeros) + gap + zeros:
         slots.wipe()
         raise BadLength(f"bad length: {what} is {max(lengths)} bytes long, another one {min(lengths)}")
     return slots
