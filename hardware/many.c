@@ -1,5 +1,5 @@
 /* many.c: the calls of keywrap.h for many keys, with the steps of 24 of them side by side. The proved
- * steps, beginnings and ends are those of the calls for one key. What a call refuses goes to the
+ * steps, beginnings and ends are the same as for one key. What a call refuses goes to the
  * proved call, and slots that the steps of many do not take to the call for one key. */
 
 #include <keywrap.h>

@@ -342,8 +342,8 @@ int32_t keywrap_rewrap_in_place(const uint8_t *old_kek, size_t old_kek_len, cons
  *   keywrap_unwrap_many  keywrap_unwrap_in_place, with KEYWRAP_OLD_PADDED
  *                        keywrap_unwrap_padded_in_place; key_lens[i] is the key's length, or 0
  *   keywrap_kind_many    keywrap_kind, for slots of a length of a wrapped key: forms[i] and
- *                        key_lens[i] are its two numbers, and room is that of one slot
- *   flags      those of keywrap_rewrap; KEYWRAP_NEW_PADDED or 0 to wrap, KEYWRAP_OLD_PADDED or 0 to
+ *                        key_lens[i] are its two numbers, and room is for one slot
+ *   flags      as for keywrap_rewrap; KEYWRAP_NEW_PADDED or 0 to wrap, KEYWRAP_OLD_PADDED or 0 to
  *              unwrap
  * The numbers after key_lens and forms are how many there are, which is count.
  *   KEYWRAP_OK          each slot has its status

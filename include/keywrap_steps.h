@@ -107,7 +107,7 @@ int32_t keywrap_end_unwrap_padded(uint8_t *registers, size_t len, uint64_t left,
  *   texts     wrapped keys of text_len bytes, one behind the other: 8 bytes, and the registers
  *   text_len  a multiple of 8 from 24 to KEYWRAP_MAX_TEXT
  *   blocks    16 bytes for each text
- * A refusal changes nothing. If texts_len or blocks_len is not that of as many texts, a call returns
+ * A refusal changes nothing. If texts_len or blocks_len is not right for as many texts, a call returns
  * KEYWRAP_BAD_LENGTH.
  *
  * keywrap_begin_wrap_many begins plain wrappings under the 8 bytes at iv. keywrap_step_wrap_many

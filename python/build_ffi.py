@@ -81,7 +81,7 @@ static const char *const VERSION = PACKAGE_VERSION;
 
 # The portable library has no calls for many keys.
 MANY = """
-/* Whether a status is that of the whole call. */
+/* Whether a status is about the whole call. */
 static int of_call(int32_t status) {
     return status != KEYWRAP_OK && status != KEYWRAP_INTEGRITY && status != KEYWRAP_KEY_NOT_PLAIN;
 }

@@ -1,10 +1,11 @@
 #!/bin/sh
 # Builds the Python package as a wheel in DIST, from a copy of its sources with the header and the library, which uses
-# the processor's AES if it can. The same sources and SOURCE_DATE_EPOCH always give the same bytes. `make wheel` calls it.
+# the processor's AES if it can. The same sources and SOURCE_DATE_EPOCH always give the same bytes.
+# `make wheel` calls it.
 #
 # usage: scripts/wheel.sh PYTHON LIBRARY MACHINE DIST [SYSROOT]
-#        (LIBRARY: what `make library HARDWARE=1` made; SYSROOT: for another machine than this, where its Python is, with its
-#        compiler in CC)
+#        (LIBRARY: what `make library HARDWARE=1` made; SYSROOT: for another machine than this, where its Python is,
+#        with its compiler in CC)
 
 set -eu
 python=${1:?} library=${2:?} machine=${3:?} sysroot=${5:-}

@@ -189,7 +189,7 @@ def test_takes_objects_by_their_bytes(name):
 
 @each_call
 def test_given_objects_are_not_written(name):
-    """One item alone is no special case."""
+    """A single item is no special case."""
     call, (keks, item, _) = getattr(keywrap, name), MANY[name]
     for given in (bytes(bytearray(item)), bytearray(item)):
         for items in ([given], [given, given], (given, len(given))):

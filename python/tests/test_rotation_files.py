@@ -182,7 +182,7 @@ def test_a_refused_line_is_named_and_stays_to_the_byte(file, pair, monkeypatch, 
 
 
 def rotated_line(line):
-    """The line that takes the place of this one, whether it is refused, and whether it was new: by pyca alone."""
+    """The line that takes the place of this one, whether it is refused, and whether it was new: only by pyca."""
     digits = line.strip(b" \t\r\n")
     if len(digits) % 2 or not set(digits) <= set(b"0123456789abcdefABCDEF"):
         return line, True, False
@@ -200,7 +200,7 @@ def rotated_line(line):
 
 @pytest.mark.parametrize("seed", range(150))
 def test_lines_with_something_else_among_them(file, pair, monkeypatch, seed):
-    """Lines of one length are taken at once. Each result is that of its line."""
+    """Lines of one length are taken at once. Each line gets its own result."""
     source = random.Random(seed)
     monkeypatch.setattr(lines, "BLOCK", source.choice([82, 200, 1000, 1 << 18]))
     wrap = source.choice([pyca.aes_key_wrap, pyca.aes_key_wrap_with_padding])

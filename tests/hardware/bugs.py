@@ -21,7 +21,8 @@ PROGRAMS = {
     "chooses": ("tests/hardware/chosen.c hardware/aes.c hardware/x86_64.c",
                 "qemu-x86_64 -cpu max ./program && qemu-x86_64 -cpu Nehalem ./program", "instructions\nsoftware\n"),
     "refuses_wrong_aes": ("tests/hardware/chosen.c tests/hardware/wrong_aes.c hardware/aes.c",
-                          "for place in {e,d,E,D,F,C}1{0,2,4}; do WRONG=$place qemu-x86_64 -cpu max ./program || exit; done",
+                          "for place in {e,d,E,D,F,C}1{0,2,4}; do "
+                          "WRONG=$place qemu-x86_64 -cpu max ./program || exit; done",
                           "software\n" * 18),
     # The AES becomes wrong after its first use.
     "tests_itself": ("tests/hardware/self_test.c tests/hardware/wrong_aes.c hardware/keywrap.c hardware/aes.c proved.a",

@@ -105,7 +105,7 @@ static void kinds_many(size_t text_len, size_t slots) {
             text_len, slots);
 }
 
-/* The wrapped keys are those of the other AES. */
+/* The wrapped keys are as by the other AES. */
 static void wraps_many(enum form form, size_t key_len, size_t slots) {
     const size_t text_len = padded_len(key_len) + 8;
     for (size_t i = 0; i < slots; i++) {

@@ -58,7 +58,7 @@ IsAnswerOf (Ok done) after (Ok out) = out.items ≡ after
 IsAnswerOf (Ok done) after (Err fault) = ⊥
 IsAnswerOf (Err fault) after answer = answer ≡ Err (rewrap_fault fault)
 
--- The promise about the result of a rewrap that takes memory: it is that of the call in its buffer, or there was no memory for a
+-- The promise about the result of a rewrap that takes memory: the result of the call in its buffer, or there was no memory for a
 -- text of a legal length.
 pub record Rewraps {Z : Type 0} (forms : RewrapForms) (E F : List ℕ → List ℕ) (text : List ℕ) (answer : Result (Vec ℕ Z) UnwrapFault) : Type 0 where
   pub memory : answer ≡ Err Memory → IsOldLength forms (length text)

@@ -1,8 +1,8 @@
 //! The steps of many wrappings and unwrappings at once, of as many bytes each: for an AES outside
 //! the program that works on many blocks side by side.
 //!
-//! The texts stand behind each other in one buffer, and each has its block of 16 bytes in another.
-//! A text is 8 bytes and the registers. The calls are those of `key_wrap_core` for one text, made
+//! The texts follow each other in one buffer, and each has its block of 16 bytes in another.
+//! A text is 8 bytes and the registers. The calls of `key_wrap_core` for one text are made
 //! once for all.
 #![tactic(auto)]
 

@@ -11,7 +11,7 @@ use crate::lane_turns::turn_lanes;
 use crate::lanes::{BLOCK, WORD, lanes_ok, step_count};
 use key_wrap_core::{InPlaceFault, InitialValue, begin_unwrap, end_unwrap};
 
-// The statuses of a lane: those of the calls of the libraries.
+// The statuses of a lane, as the calls of the libraries return them.
 const DONE: u8 = 0;
 
 const INTEGRITY: u8 = 5;

@@ -171,7 +171,7 @@ fn write_firsts(texts: &mut [u8], text_len: usize, blocks: &[u8])
     }
 }
 
-// The first bytes of a text are those of its block.
+// The first bytes of a text are the first bytes of its block.
 fn write_first(text: &mut [u8], block: &[u8])
     requires text { 8 ≤ length text.old }
     requires block { length block.now ≡ 16 }

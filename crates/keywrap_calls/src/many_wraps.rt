@@ -18,7 +18,7 @@ use key_wrap_core::{Form, key_length_ok, padded_length_ok, padded_text_length_ok
 
 /// Wraps the key of `key_len` bytes after the first 8 bytes of each slot of `texts`: as many slots
 /// of the length of its wrapped key as there are `statuses`. `flags` is 0, or 2 for the padded
-/// form. Slot and status are those of `wrap_in_place` or `wrap_padded_in_place`.
+/// form. Slot and status are as from `wrap_in_place` or `wrap_padded_in_place`.
 ///
 /// A refusal of the call leaves both buffers as they were.
 pub fn wrap_many<A: KeyInit>(
@@ -112,7 +112,7 @@ fn wrap_slot<B: BlockPair>(pair: &B, form: Form, key_len: usize, text: &mut [u8]
 }
 
 /// Unwraps the wrapped key in each slot of `texts`: as many slots of one length as there are
-/// `key_lens` and `statuses`. `flags` is 0, or 1 for the padded form. Slot and status are those of
+/// `key_lens` and `statuses`. `flags` is 0, or 1 for the padded form. Slot and status are as from
 /// `unwrap_in_place` or `unwrap_padded_in_place`. The length of each key is in `key_lens`, or 0 for
 /// a refused slot.
 ///

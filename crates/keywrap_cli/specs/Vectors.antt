@@ -44,7 +44,7 @@ abbrev pub Differs : Gave → Direction → Algorithm → (key input output : Li
 Differs gave direction algorithm key input output =
     (found : Option (List ℕ)) × gave direction algorithm key input found × (found ≢ Some output)
 
--- a call gave something else for the input or, where it gave the output, another call for the output
+-- a call gave something else for the input or, if it gave the output, another call for the output
 abbrev pub IsMissed : Gave → TestVector → Type 0
 IsMissed gave v = Differs gave Wrap v.algorithm v.key v.input v.output
     ⊎ (gave Wrap v.algorithm v.key v.input (Some v.output) × Differs gave Unwrap v.algorithm v.key v.output v.input)

@@ -115,7 +115,7 @@ def _exchange(pairs: list[tuple[Any, Any]]) -> None:
     """Replaces the first of each pair by the second, wherever it is a global name of a loaded module."""
     new = {id(old): (old, replacement) for old, replacement in pairs}
     for module in list(sys.modules.values()):
-        # Some objects there only pretend to be modules, and some modules load others if they are asked themselves.
+        # Some objects there only pretend to be modules, and some modules load others if they get such a question.
         is_module = issubclass(type(module), types.ModuleType)
         names = object.__getattribute__(module, "__dict__") if is_module else {}
         for name, value in list(names.items()):
