@@ -17,21 +17,25 @@ struct buffer {
     size_t len, longest;
 };
 
-enum { MOST_BUFFERS = 4 };
+enum { MOST_BUFFERS = 6 };
 
 struct call {
     u64 (*run)(struct instance *module, const struct call *call);
     struct buffer buffers[MOST_BUFFERS];
     u64 addresses[MOST_BUFFERS];
     u64 number;        /* an argument that is no buffer */
+    u32 flags;         /* and one beside it */
     int always_writes; /* whether a refusal may change a buffer, too */
     size_t *key_len;   /* receives the first number, if any */
     uint32_t *flag;    /* receives the second one, if any */
+    size_t *key_lens;  /* receives the numbers of the buffer without `in`, if any, 8 bytes each */
 };
 
 #define READS(bytes, len, longest) {(bytes), NULL, (len), (longest)}
 #define WRITES(bytes, len, longest) {(bytes), (bytes), (len), (longest)}
 #define KEK(bytes, len) READS(bytes, len, 32)
+#define MANY(bytes, len) {(bytes), (bytes), (len), SIZE_MAX}
+#define NUMBERS_OF(count) {NULL, NULL, 8 * (count), SIZE_MAX}
 #define BUFFER(n) call->addresses[n], call->buffers[n].len
 
 static size_t copied_len(const struct buffer *buffer) {
@@ -54,7 +58,7 @@ static void copy_in(const struct call *call, struct memory memory) {
     for (int i = 0; i < MOST_BUFFERS; i++) {
         const struct buffer *buffer = &call->buffers[i];
         size_t len = copied_len(buffer);
-        if (len > 0) memcpy(at(memory, call->addresses[i], len), buffer->in, len);
+        if (len > 0 && buffer->in) memcpy(at(memory, call->addresses[i], len), buffer->in, len);
     }
 }
 
@@ -72,6 +76,9 @@ static void copy_out(const struct call *call, struct memory memory, u64 status) 
         const struct buffer *buffer = &call->buffers[i];
         size_t len = copied_len(buffer);
         if (buffer->out && len > 0) memcpy(buffer->out, at(memory, call->addresses[i], len), len);
+        else if (!buffer->in)
+            for (size_t k = 0; k < len / 8; k++)
+                call->key_lens[k] = (size_t)i64_load(memory, call->addresses[i] + 8 * k);
     }
 }
 
@@ -358,6 +365,88 @@ int32_t keywrap_rewrap_in_place(const uint8_t *old_kek, size_t old_kek_len, cons
                     WRITES(buffer, wrapped_len, KEYWRAP_MAX_TEXT)},
         .number = forms,
         .always_writes = 1,
+    };
+    return (int32_t)perform(&call);
+}
+
+/* The number of slots, or 0, which the call refuses: nothing is copied if a slot is shorter than a
+ * wrapped key, sizes are odd, or the other results are not as many. */
+static size_t slots_of(size_t texts_len, size_t count, size_t lens) {
+    return count == 0 || texts_len / count < 16 || texts_len % count != 0 || lens != count ? 0
+                                                                                            : count;
+}
+
+static u64 run_rewrap_many(struct instance *module, const struct call *call) {
+    return w2c_keywrap_rewrap_many(module, BUFFER(0), BUFFER(1), BUFFER(2), (u32)call->number,
+                                   BUFFER(3));
+}
+
+int32_t keywrap_rewrap_many(const uint8_t *old_kek, size_t old_kek_len, const uint8_t *new_kek,
+                            size_t new_kek_len, uint8_t *texts, size_t texts_len, uint32_t flags,
+                            uint8_t *statuses, size_t count) {
+    const size_t slots = slots_of(texts_len, count, count);
+    struct call call = {
+        .run = run_rewrap_many,
+        .buffers = {KEK(old_kek, old_kek_len), KEK(new_kek, new_kek_len),
+                    MANY(texts, slots ? texts_len : 0), MANY(statuses, slots)},
+        .number = flags,
+    };
+    return (int32_t)perform(&call);
+}
+
+static u64 run_wrap_many(struct instance *module, const struct call *call) {
+    return w2c_keywrap_wrap_many(module, BUFFER(0), BUFFER(1), call->number, call->flags,
+                                 BUFFER(2));
+}
+
+int32_t keywrap_wrap_many(const uint8_t *kek, size_t kek_len, uint8_t *texts, size_t texts_len,
+                          size_t key_len, uint32_t flags, uint8_t *statuses, size_t count) {
+    const size_t slots = slots_of(texts_len, count, count);
+    struct call call = {
+        .run = run_wrap_many,
+        .buffers = {KEK(kek, kek_len), MANY(texts, slots ? texts_len : 0), MANY(statuses, slots)},
+        .number = key_len,
+        .flags = flags,
+    };
+    return (int32_t)perform(&call);
+}
+
+static u64 run_unwrap_many(struct instance *module, const struct call *call) {
+    return w2c_keywrap_unwrap_many(module, BUFFER(0), BUFFER(1), (u32)call->number,
+                                   call->addresses[2], call->buffers[3].len, BUFFER(3));
+}
+
+int32_t keywrap_unwrap_many(const uint8_t *kek, size_t kek_len, uint8_t *texts, size_t texts_len,
+                            uint32_t flags, size_t *key_lens, size_t key_lens_count,
+                            uint8_t *statuses, size_t count) {
+    const size_t slots = slots_of(texts_len, count, key_lens_count);
+    struct call call = {
+        .run = run_unwrap_many,
+        .buffers = {KEK(kek, kek_len), MANY(texts, slots ? texts_len : 0), NUMBERS_OF(slots),
+                    MANY(statuses, slots)},
+        .number = flags,
+        .key_lens = key_lens,
+    };
+    return (int32_t)perform(&call);
+}
+
+static u64 run_kind_many(struct instance *module, const struct call *call) {
+    return w2c_keywrap_kind_many(module, BUFFER(0), BUFFER(1), BUFFER(2), BUFFER(3),
+                                 call->addresses[4], call->buffers[5].len, BUFFER(5));
+}
+
+int32_t keywrap_kind_many(const uint8_t *kek, size_t kek_len, const uint8_t *texts,
+                          size_t texts_len, uint8_t *scratch, size_t room, uint8_t *forms,
+                          size_t forms_count, size_t *key_lens, size_t key_lens_count,
+                          uint8_t *statuses, size_t count) {
+    const size_t slots =
+        forms_count == count ? slots_of(texts_len, count, key_lens_count) : 0;
+    struct call call = {
+        .run = run_kind_many,
+        .buffers = {KEK(kek, kek_len), {texts, NULL, slots ? texts_len : 0, SIZE_MAX},
+                    WRITES(scratch, room, KEYWRAP_MAX_KEY), MANY(forms, slots), NUMBERS_OF(slots),
+                    MANY(statuses, slots)},
+        .key_lens = key_lens,
     };
     return (int32_t)perform(&call);
 }

@@ -122,8 +122,9 @@ def test_object(portable, name):
     run(compiler[0], *STRICT, "-O2", "-fno-pic", "-c", portable / "keywrap.c", "-o", "keywrap.o")
     needed, shown = ({line.split()[-1] for line in run(f"{tools}nm", *options, "keywrap.o").splitlines()}
                      for options in (["-u"], ["-g", "--defined-only"]))
-    # The last two are of the compiler: 64-bit division on 32-bit Arm.
-    assert needed <= {"memcpy", "memmove", "memset", "malloc", "free", "abort", "__aeabi_ldivmod", "__aeabi_uldivmod"}
+    # The last three are of the compiler: division on 32-bit Arm.
+    assert needed <= {"memcpy", "memmove", "memset", "malloc", "free", "abort", "__aeabi_ldivmod", "__aeabi_uldivmod",
+                      "__aeabi_uidivmod"}
     header = (portable / "keywrap.h").read_text()
     assert header == (ROOT / "include/keywrap.h").read_text()
     assert shown == set(re.findall(r"^\w+ (keywrap_\w+)\(", header, re.M))

@@ -61,8 +61,41 @@ static void refuses_huge_lengths(void) {
           "a huge number", 4);
 }
 
+/* The calls for many keys, over two slots. */
+static int32_t many(int number, size_t text_len, uint8_t *statuses) {
+    static size_t lens[2];
+    static uint8_t forms[2];
+    const size_t all = 2 * text_len;
+    switch (number) {
+    case 0: return keywrap_wrap_many(kek, 32, out, all, text_len - 8, 0, statuses, 2);
+    case 1: return keywrap_unwrap_many(kek, 32, out, all, 0, lens, 2, statuses, 2);
+    case 2: return keywrap_rewrap_many(kek, 32, kek, 16, out, all, KEYWRAP_KEEP_FORM, statuses, 2);
+    default:
+        return keywrap_kind_many(kek, 32, out, all, wrapped, text_len - 8, forms, 2, lens, 2,
+                                 statuses, 2);
+    }
+}
+
+static void many_without_memory(void) {
+    for (int number = 0; number < 4; number++) {
+        uint8_t statuses[2] = {BYTE, BYTE};
+        memset(out, BYTE, sizeof out);
+        key_len = padded = 1;
+        watched_limit = 0;
+        check(many(number, LONG, statuses) == KEYWRAP_NO_MEMORY, "many without memory", number);
+        check(is_kept(0) && statuses[0] == BYTE && statuses[1] == BYTE, "a slot without memory",
+              number);
+        watched_limit = (size_t)-1;
+        check(many(number, LONG, statuses) == KEYWRAP_OK, "many", number);
+        check(statuses[0] == (number == 0 ? KEYWRAP_OK : KEYWRAP_INTEGRITY)
+                  && statuses[1] == statuses[0],
+              "the status of a slot", number);
+    }
+}
+
 int main(void) {
     refuses_huge_lengths();
+    many_without_memory();
     for (int number = 0; number < CALLS; number++) {
         memset(out, BYTE, sizeof out);
         key_len = padded = 1;
@@ -81,7 +114,7 @@ int main(void) {
     }
     check(call(0, MAX) == KEYWRAP_OK, "the longest key", 0);
     check(call(11, MAX) == KEYWRAP_INTEGRITY, "the longest wrapped key", 11);
-    check(watched_frees == CALLS + 2, "the number of blocks", 0);
+    check(watched_frees == CALLS + 2 + 4, "the number of blocks", 0);
     printf("%zu\n", watched_most);
     return 0;
 }

@@ -4,6 +4,9 @@
 
 mod any_form;
 mod kinds;
+mod many_kinds;
+mod many_rewraps;
+mod many_wraps;
 mod padded;
 mod padded_in_place;
 mod plain;
