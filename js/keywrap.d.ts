@@ -36,6 +36,11 @@ export interface Forms {
     passNew?: boolean;
 }
 
+/** Whether the wrapped keys have the padded form. */
+export interface Padded {
+    padded?: boolean;
+}
+
 /** The form in which a key was wrapped, and the length of the key in bytes. */
 export interface Kind {
     form: 'plain' | 'padded';
@@ -98,6 +103,21 @@ export interface Keywrap {
 
     /** Returns the form and the length of the key; null if this is not a wrapped key under the KEK. */
     check(kek: Uint8Array, wrapped: Uint8Array): Kind | null;
+
+    /**
+     * Each does what the call for one key does with each of the keys or wrapped keys, which have one
+     * length (else `BadLength`). Each result is what that call returns or throws: a key, a wrapped key,
+     * or an `IntegrityFailed` or `KeyNotPlain` in its place. An illegal KEK or length is thrown.
+     * There must be at least one. One call for many keys takes less time.
+     */
+    wrapMany(kek: Uint8Array, keys: Uint8Array[], options?: Padded): Uint8Array[];
+    unwrapMany(
+        kek: Uint8Array, wrapped: Uint8Array[], options?: Padded,
+    ): (Uint8Array | KeywrapError)[];
+    rewrapMany(
+        oldKek: Uint8Array, newKek: Uint8Array, wrapped: Uint8Array[], options?: Forms,
+    ): (Uint8Array | KeywrapError)[];
+    checkMany(kek: Uint8Array, wrapped: Uint8Array[]): (Kind | null)[];
 
     /**
      * Wraps and unwraps the published vectors of RFC 3394 and RFC 5649, and unwraps a damaged wrapped

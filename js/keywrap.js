@@ -178,6 +178,51 @@ class Machine {
             this.memory.fill(0, 0, STACK);
         }
     }
+
+    // Calls the module over slots of one length, as many at once as the memory has room for. A slot
+    // holds its input from `offset` on. `given` makes the arguments after the KEKs of the places, and
+    // `each` the result of a slot that is done.
+    many(name, keks, inputs, slot, options) {
+        const room = this.memory.length - this.start - 2 * slot - 128;
+        const most = Math.max(1, Math.floor(room / (slot + 10)));
+        const results = [];
+        for (let first = 0; first < inputs.length; first += most) {
+            this.some(name, keks, inputs.slice(first, first + most), slot, options, results);
+        }
+        return results;
+    }
+
+    some(name, keks, inputs, slot, { offset = 0, given, each }, results) {
+        const count = inputs.length;
+        let end = this.start + 16;
+        const place = (size, length = size) => [(end += size) - size, length].map(BigInt);
+        const first = keks.map(({ bytes }) => place(Math.min(bytes.length, KEK.longest + 1)));
+        const at = end;
+        const texts = place(slot * count), scratch = place(slot - 8), forms = place(count);
+        const lengths = place(8 * count, count), statuses = place(count);
+        try {
+            keks.forEach(({ bytes }, of) =>
+                this.memory.set(bytes.subarray(0, KEK.longest + 1), Number(first[of][0])));
+            inputs.forEach(({ bytes }, of) => this.memory.set(bytes, at + slot * of + offset));
+            const places = given({ texts, scratch, forms, lengths, statuses });
+            const status = this.run(name, [...first, ...places].flat());
+            if (status !== 0) {
+                throw refusalOf(status, name, [...keks, inputs[0]]);
+            }
+            const view = new DataView(this.memory.buffer);
+            for (let of = 0; of < count; of++) {
+                const status = view.getUint8(Number(statuses[0]) + of);
+                results.push(status > 1 ? refusalOf(status, name, [...keks, inputs[of]]) : each({
+                    at: at + slot * of,
+                    padded: view.getUint8(Number(forms[0]) + of) === 1,
+                    length: view.getUint32(Number(lengths[0]) + 8 * of, true),
+                }));
+            }
+        } finally {
+            this.memory.fill(0, this.start, end);
+            this.memory.fill(0, 0, STACK);
+        }
+    }
 }
 
 // The room for a wrapped key, plain and padded, and for a key.
@@ -235,7 +280,8 @@ const NEW_PADDED = 2;
 const KEEP_FORM = 4;
 const PASS_NEW = 8;
 
-function rewrap(machine, oldKek, newKek, wrapped, options = {}) {
+// The flags of these options, and what a rewrap with them takes.
+function rewrapFlags(options) {
     const { oldPadded = false, newPadded = false, keepForm = false, passNew = false } =
         optionsOf(options, 'oldPadded', 'newPadded', 'keepForm', 'passNew');
     const flags = flagOf('oldPadded', oldPadded) * OLD_PADDED
@@ -245,8 +291,12 @@ function rewrap(machine, oldKek, newKek, wrapped, options = {}) {
     if (keepForm && (oldPadded || newPadded)) {
         throw new TypeError('keepForm goes with neither oldPadded nor newPadded');
     }
-    const old = taken(oldPadded || keepForm ? WRAPPED_PADDED : WRAPPED_PLAIN, wrapped);
-    const inputs = [taken(KEK, oldKek), taken(KEK, newKek), old];
+    return { flags, kind: oldPadded || keepForm ? WRAPPED_PADDED : WRAPPED_PLAIN };
+}
+
+function rewrap(machine, oldKek, newKek, wrapped, options = {}) {
+    const { flags, kind } = rewrapFlags(options);
+    const inputs = [taken(KEK, oldKek), taken(KEK, newKek), taken(kind, wrapped)];
     return machine.call('keywrap_rewrap', inputs, { rest: [flags, machine.atPadded] });
 }
 
@@ -265,6 +315,69 @@ function check(machine, kek, wrapped, options = {}) {
         }
         throw error;
     }
+}
+
+// The inputs of a call for many keys, which have one length. An array of none is refused, as by C.
+function takenMany(kind, given) {
+    if (!Array.isArray(given)) {
+        throw new TypeError(`${kind.what}s must be an array of Uint8Arrays`);
+    }
+    const inputs = Array.from(given, (input) => taken(kind, input));
+    const [first] = inputs;
+    if (!first || inputs.some(({ bytes }) => bytes.length !== first.bytes.length)) {
+        throw new BadLength(`bad length: ${kind.what}s must have one length, and there must be one`);
+    }
+    if (first.bytes.length > kind.longest) {
+        throw new BadLength(`bad length: ${lengthIs(first)}`);
+    }
+    return inputs;
+}
+
+function wrapMany(machine, kek, keys, options = {}) {
+    const { padded = false } = optionsOf(options, 'padded');
+    const flags = flagOf('padded', padded) * NEW_PADDED;
+    const inputs = takenMany(padded ? PADDED_KEY : PLAIN_KEY, keys);
+    const length = inputs[0].bytes.length;
+    const slot = paddedRoom(length);
+    return machine.many('keywrap_wrap_many', [taken(KEK, kek)], inputs, slot, {
+        offset: 8,
+        given: ({ texts, statuses }) => [texts, BigInt(length), flags, statuses],
+        each: ({ at }) => machine.copy(at, slot),
+    });
+}
+
+function unwrapMany(machine, kek, wrapped, options = {}) {
+    const { padded = false } = optionsOf(options, 'padded');
+    const flags = flagOf('padded', padded) * OLD_PADDED;
+    const inputs = takenMany(padded ? WRAPPED_PADDED : WRAPPED_PLAIN, wrapped);
+    const slot = Math.max(inputs[0].bytes.length, 8);
+    return machine.many('keywrap_unwrap_many', [taken(KEK, kek)], inputs, slot, {
+        given: ({ texts, lengths, statuses }) => [texts, flags, lengths, statuses],
+        each: ({ at, length }) => machine.copy(at + 8, length),
+    });
+}
+
+function rewrapMany(machine, oldKek, newKek, wrapped, options = {}) {
+    const { flags, kind } = rewrapFlags(options);
+    const inputs = takenMany(kind, wrapped);
+    const slot = Math.max(inputs[0].bytes.length, 8);
+    const keks = [taken(KEK, oldKek), taken(KEK, newKek)];
+    return machine.many('keywrap_rewrap_many', keks, inputs, slot, {
+        given: ({ texts, statuses }) => [texts, flags, statuses],
+        each: ({ at }) => machine.copy(at, slot),
+    });
+}
+
+function checkMany(machine, kek, wrapped, options = {}) {
+    optionsOf(options);
+    const inputs = takenMany(WRAPPED_PADDED, wrapped);
+    const slot = Math.max(inputs[0].bytes.length, 8);
+    const results = machine.many('keywrap_kind_many', [taken(KEK, kek)], inputs, slot, {
+        given: ({ texts, scratch, forms, lengths, statuses }) =>
+            [texts, scratch, forms, lengths, statuses],
+        each: ({ padded, length }) => ({ form: padded ? 'padded' : 'plain', length }),
+    });
+    return results.map((result) => (result instanceof IntegrityFailed ? null : result));
 }
 
 function selfTest(machine) {
@@ -301,6 +414,7 @@ export async function load(source) {
     const machine = new Machine((await WebAssembly.instantiate(module)).exports);
     const calls = {
         wrap, unwrap, wrapPadded, unwrapPadded, unwrapAny, rewrap, check, selfTest,
+        wrapMany, unwrapMany, rewrapMany, checkMany,
     };
     const bound = Object.entries(calls).map(
         ([name, call]) => [name, (...given) => call(machine, ...given)]);

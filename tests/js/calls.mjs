@@ -440,11 +440,112 @@ test('the exports, and the classes of the errors', () => {
 
 test('the object that load returns cannot be changed', () => {
     const names = ['version', 'wrap', 'unwrap', 'wrapPadded', 'unwrapPadded', 'unwrapAny', 'rewrap',
-        'check', 'selfTest'];
+        'check', 'selfTest', 'wrapMany', 'unwrapMany', 'rewrapMany', 'checkMany'];
     assert.deepEqual(Object.keys(keywrap), names);
     for (const name of [...names, 'other']) {
         assert.throws(() => { keywrap[name] = () => KEY; }, TypeError);
     }
     assert.throws(() => { delete keywrap.wrap; }, TypeError);
     assert.deepEqual(keywrap.wrap(KEK, KEY), WRAPPED);
+});
+
+/* Many keys in one call */
+
+const { wrapMany, unwrapMany, rewrapMany, checkMany } = keywrap;
+
+// What a call returns, or the error that it throws, as its name and message.
+function outcome(call, ...given) {
+    try {
+        return call(...given);
+    } catch (error) {
+        return [error.name, error.message];
+    }
+}
+
+const asOutcome = (result) =>
+    (result instanceof KeywrapError ? [result.name, result.message] : result);
+
+const IV_KEK = random(24);
+
+// Wrapped keys of 32 bytes and of one length: plain, padded, damaged, under another KEK, and new.
+function manyWrapped(count) {
+    const makers = [
+        (key) => wrap(KEK, key), (key) => wrapPadded(KEK, key), (key) => damaged(wrap(KEK, key)),
+        (key) => wrap(IV_KEK, key), (key) => wrap(KEK_32, key), (key) => wrapPadded(KEK_32, key),
+        (key) => wrapPadded(KEK, key.subarray(0, 29)),
+    ];
+    return Array.from({ length: count }, (_, at) => makers[at * 5 % 7](random(32)));
+}
+
+test('many keys: each result is that of the call for one key', () => {
+    for (const count of [1, 2, 23, 24, 25, 1000]) {
+        const wrapped = manyWrapped(count);
+        const before = wrapped.map((one) => one.slice());
+        for (const options of [
+            {}, { oldPadded: true }, { newPadded: true }, { oldPadded: true, newPadded: true },
+            { keepForm: true }, { keepForm: true, passNew: true }, { newPadded: true, passNew: true },
+        ]) {
+            assert.deepEqual(rewrapMany(KEK, KEK_32, wrapped, options).map(asOutcome),
+                wrapped.map((one) => outcome(rewrap, KEK, KEK_32, one, options)));
+        }
+        assert.deepEqual(unwrapMany(KEK, wrapped).map(asOutcome),
+            wrapped.map((one) => outcome(unwrap, KEK, one)));
+        assert.deepEqual(unwrapMany(KEK, wrapped, { padded: true }).map(asOutcome),
+            wrapped.map((one) => outcome(unwrapPadded, KEK, one)));
+        assert.deepEqual(checkMany(KEK, wrapped), wrapped.map((one) => check(KEK, one)));
+        assert.deepEqual(wrapped, before);
+        assert.ok(isAsMade(exports));
+    }
+});
+
+test('many keys are wrapped as OpenSSL wraps them', () => {
+    for (const length of [1, 7, 16, 20, 32]) {
+        const keys = Array.from({ length: 5 }, () => random(length));
+        assert.deepEqual(wrapMany(KEK_32, keys, { padded: true }),
+            keys.map((key) => openssl.wrapPadded(KEK_32, key)));
+    }
+    assert.deepEqual(wrapMany(KEK, [KEY, KEY, KEY]), [WRAPPED, WRAPPED, WRAPPED]);
+    assert.ok(isAsMade(exports));
+});
+
+test('many keys: more than the memory has room for', () => {
+    const keys = [0, 1, 2].map(() => random(MAX_KEY));
+    const wrapped = wrapMany(KEK, keys);
+    assert.deepEqual(wrapped.map((one) => check(KEK, one)),
+        keys.map(() => ({ form: 'plain', length: MAX_KEY })));
+    assert.deepEqual(checkMany(KEK, wrapped), keys.map(() => ({ form: 'plain', length: MAX_KEY })));
+    assert.ok(unwrapMany(KEK, wrapped).every((key, at) => isEqual(key, keys[at])));
+    assert.ok(isAsMade(exports));
+});
+
+test('many keys: what is refused as a whole', () => {
+    const two = [WRAPPED, WRAPPED];
+    for (const kek of [zeros(0), zeros(15), zeros(33), zeros(100)]) {
+        for (const call of [
+            () => wrapMany(kek, [KEY]), () => unwrapMany(kek, two), () => checkMany(kek, two),
+            () => rewrapMany(kek, KEK, two), () => rewrapMany(KEK, kek, two),
+        ]) {
+            assert.throws(call, BadKekLength);
+        }
+    }
+    for (const many of [
+        [], [WRAPPED, WRAPPED.subarray(8)], [zeros(0)], [zeros(7), zeros(7)], [zeros(23)], [zeros(33)],
+        [zeros(MAX_KEY + 16)],
+    ]) {
+        for (const call of [unwrapMany, checkMany, (kek, them) => rewrapMany(kek, KEK, them)]) {
+            assert.throws(() => call(KEK, many), BadLength);
+        }
+    }
+    for (const keys of [[], [KEY, zeros(24)], [zeros(0)], [zeros(8)], [zeros(20)]]) {
+        assert.throws(() => wrapMany(KEK, keys), BadLength);
+    }
+    for (const call of [
+        () => wrapMany(KEK, KEY), () => unwrapMany(KEK, [WRAPPED, 'no']), () => checkMany(KEK, null),
+        () => wrapMany(KEK, [KEY], { iv: IV }), () => unwrapMany(KEK, two, { padded: 1 }),
+        () => rewrapMany(KEK, KEK, two, { keepForm: true, oldPadded: true }),
+        () => checkMany(KEK, two, { padded: true }), () => wrapMany('no', [KEY]),
+    ]) {
+        assert.throws(call, TypeError);
+    }
+    assert.ok(isAsMade(exports));
 });
