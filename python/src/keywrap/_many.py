@@ -53,7 +53,7 @@ def _listed(items: Items, length: Optional[int]) -> List[ReadableBuffer]:
 
 
 def _slots(items: Items, length: Optional[int], what: str, gap: int = 0, padded: bool = False) -> _Slots:
-    """Copies the items into slots, each after a gap of zeros, and before zeros up to a multiple of 8 if it is padded."""
+    """Copies the items into slots, each after a gap of zeros, and if it is padded before zeros up to 8 bytes."""
     try:
         parts = _listed(items, length)
         lengths = {len(part) if type(part) is bytes else memoryview(part).nbytes for part in parts} or {0}
@@ -63,7 +63,7 @@ def _slots(items: Items, length: Optional[int], what: str, gap: int = 0, padded:
     except BadLength:
         raise
     except (TypeError, ValueError, BufferError):
-        raise TypeError("contiguous bytes-like objects are required: a list, or one and the length of an item") from None
+        raise TypeError("a list of contiguous bytes-like objects is required, or one and a length") from None
     slots = _Slots(buffer, zeros, len(parts), each)
     if len(buffer) != len(parts) * (gap + each + zeros) + gap + zeros:
         slots.wipe()

@@ -86,13 +86,13 @@ class HexLines(NamedTuple):
         """Returns the keys if each line is hex digits and LF, and all are equally long."""
         size = content.find(b"\n") + 1
         count, rest = divmod(len(content), size or 1)
-        # `fromhex` skips blanks: with LF at the end of each line, there are no others if all else is digits.
         if size < 3 or rest or content[size - 1 :: size] != b"\n" * count:
             return None
         try:
-            keys = bytes.fromhex(content.decode("ascii"))
+            keys = binascii.unhexlify(content.replace(b"\n", b""))
         except ValueError:
             return None
+        # There is no other LF if all else is digits.
         return HexLines(keys, size // 2) if 2 * len(keys) + count == len(content) else None
 
     def each(self) -> List[bytes]:
