@@ -79,75 +79,6 @@ static int cpu_supported(void) {
 static const char *const VERSION = PACKAGE_VERSION;
 """
 
-# The portable library has no calls for many keys.
-MANY = """
-/* Whether a status is about the whole call. */
-static int of_call(int32_t status) {
-    return status != KEYWRAP_OK && status != KEYWRAP_INTEGRITY && status != KEYWRAP_KEY_NOT_PLAIN;
-}
-
-int32_t keywrap_wrap_many(const uint8_t *kek, size_t kek_len, uint8_t *texts, size_t texts_len,
-                          size_t key_len, uint32_t flags, uint8_t *statuses, size_t count) {
-    size_t len = texts_len / count;
-    for (size_t i = 0; i < count; i++) {
-        int32_t status =
-            flags ? keywrap_wrap_padded_in_place(kek, kek_len, texts + i * len, len, key_len)
-                  : keywrap_wrap_in_place(kek, kek_len, texts + i * len, len);
-        if (of_call(status)) return status;
-        statuses[i] = (uint8_t)status;
-    }
-    return KEYWRAP_OK;
-}
-
-int32_t keywrap_unwrap_many(const uint8_t *kek, size_t kek_len, uint8_t *texts, size_t texts_len,
-                            uint32_t flags, size_t *key_lens, size_t key_lens_count,
-                            uint8_t *statuses, size_t count) {
-    size_t len = texts_len / count;
-    for (size_t i = 0; i < key_lens_count; i++) {
-        uint8_t *text = texts + i * len;
-        int32_t status =
-            flags ? keywrap_unwrap_padded_in_place(kek, kek_len, text, len, &key_lens[i])
-                  : keywrap_unwrap_in_place(kek, kek_len, text, len);
-        if (of_call(status)) return status;
-        if (!flags) key_lens[i] = status == KEYWRAP_OK ? len - 8 : 0;
-        statuses[i] = (uint8_t)status;
-    }
-    return KEYWRAP_OK;
-}
-
-int32_t keywrap_rewrap_many(const uint8_t *old_kek, size_t old_kek_len, const uint8_t *new_kek,
-                            size_t new_kek_len, uint8_t *texts, size_t texts_len, uint32_t flags,
-                            uint8_t *statuses, size_t count) {
-    size_t len = texts_len / count;
-    for (size_t i = 0; i < count; i++) {
-        uint32_t already;
-        int32_t status = keywrap_rewrap(old_kek, old_kek_len, new_kek, new_kek_len, texts + i * len,
-                                        len, flags, &already);
-        if (of_call(status)) return status;
-        statuses[i] = already ? KEYWRAP_ALREADY_NEW : (uint8_t)status;
-    }
-    return KEYWRAP_OK;
-}
-
-int32_t keywrap_kind_many(const uint8_t *kek, size_t kek_len, const uint8_t *texts,
-                          size_t texts_len, uint8_t *scratch, size_t room, uint8_t *forms,
-                          size_t forms_count, size_t *key_lens, size_t key_lens_count,
-                          uint8_t *statuses, size_t count) {
-    size_t len = texts_len / count;
-    (void)forms_count;
-    (void)key_lens_count;
-    for (size_t i = 0; i < count; i++) {
-        uint32_t padded;
-        int32_t status = keywrap_kind(kek, kek_len, texts + i * len, len, scratch, room, &padded,
-                                      &key_lens[i]);
-        if (of_call(status)) return status;
-        forms[i] = (uint8_t)padded;
-        statuses[i] = (uint8_t)status;
-    }
-    return KEYWRAP_OK;
-}
-"""
-
 
 NUMBERS = [
     f"KEYWRAP_{name}"
@@ -184,7 +115,7 @@ PORTABLE = {
 portable = Path("keywrap.c").exists()
 ffi.set_source(
     "keywrap._ffi",
-    SOURCE + MANY if portable else SOURCE,
+    SOURCE,
     include_dirs=["."],
     define_macros=[
         ("PACKAGE_VERSION", f'"{VERSION}"'),
