@@ -3,6 +3,7 @@ not grow, what a script makes is up to date, and repeated facts agree. No line i
 
 import pathlib
 import re
+import shutil
 import subprocess
 
 import pytest
@@ -77,6 +78,16 @@ class TestRepeatedFacts:
         """The completions, the pictures and the map of the crates, and the definitions that a reader has to read."""
         ended = subprocess.run([ROOT / "scripts" / script, "--check"], capture_output=True, text=True)
         assert (ended.returncode, ended.stdout) == (0, "")
+
+    @pytest.mark.parametrize("script, made", [
+        ("facts.py", "completions/keywrap.fish"), ("pictures.py", "docs/pictures/layers.svg")])
+    def test_stale_file(self, script, made, tmp_path):
+        """The same check fails over a copy of the tree with another byte in what the script makes."""
+        tree = shutil.copytree(ROOT, tmp_path / "tree", ignore=shutil.ignore_patterns("out", ".git", "foreign"))
+        with open(tree / made, "a") as file:
+            file.write("\n")
+        ended = subprocess.run([tree / "scripts" / script, "--check"], capture_output=True, text=True)
+        assert ended.returncode == 1 and f"{made}: stale" in ended.stdout
 
     def test_plain_english(self):
         """scripts/plain_english.py --list shows the phrases. Two are left: one in a fixed message of the program, in
