@@ -142,15 +142,24 @@ cp tmp/kept scripts/sysroot.sh
 
 ### What is made, and when again
 
-# The fake compiler records its arguments, and copies the archive as the shared object. The fake for Python makes a
-# wheel of the right name, and the fake of binaryen makes its file.
+# The fake compiler records its arguments, and copies the archive as the shared object. It records nothing of
+# libkeywrap_hw, whose archive is a copy, too. The fake for Python makes a wheel of the right name, and the fake of
+# binaryen makes its file.
 install -m 755 /dev/stdin bin/linker <<'END_OF_LINKER'
 #!/bin/sh
-echo linked >>"$tree/notes"
-echo "$* " >"$tree/linked"
+words="$* "
 while [ "$1" != -o ]; do shift; done
+case $words in *' -c '* | *_hw.so*) echo >"$2" && exit ;; esac
+echo linked >>"$tree/notes"
+echo "$words" >"$tree/linked"
 cp "${2%/*}/libkeywrap.a" "$2"
 END_OF_LINKER
+for tools in '' aarch64-linux-gnu-; do
+    printf '#!/bin/sh\n[ $# != 3 ] || cp "$2" "$3"\n' | install -m 755 /dev/stdin "bin/${tools}objcopy"
+    printf '#!/bin/sh\nto=$3\nwhile [ $# != 1 ]; do shift; done\ncp "$1" "$to"\n' |
+        install -m 755 /dev/stdin "bin/${tools}ld"
+    printf '#!/bin/sh\ncp "$3" "$2"\n' | install -m 755 /dev/stdin "bin/${tools}ar"
+done
 install -m 755 /dev/stdin bin/python <<'END_OF_PYTHON'
 #!/bin/sh
 [ "${1##*/}" != portable.py ] || [ "$2" = --needs ] || { mkdir -p "$4" && cd "$4" &&

@@ -8,7 +8,7 @@
 . "${BASH_SOURCE[0]%/*}/room.sh"
 
 mkdir -p 'a tree'/{bin,tmp,tests/library} && cd 'a tree' || exit
-cp -R "$root"/{.ci,keywrap,Makefile,man,completions,include,scripts,python,docs,examples,provider,js} .
+cp -R "$root"/{.ci,keywrap,Makefile,man,completions,include,scripts,python,docs,examples,hardware,java,provider,js} .
 cp "$root"/{SECURITY,CHANGELOG}.md .
 cp "$root/tests/library/build.sh" tests/library
 sed -i "1s|.*|#!${SH:-/bin/sh}|" keywrap
