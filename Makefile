@@ -308,6 +308,7 @@ dist-sdist: sdist
 export BENCH
 bench: build library library-hardware provider wheel portable
 	PORTABLE='$(PORTABLE)' bench/wrap '$(LIBRARY)/libkeywrap.a'
+	bench/many '$(LIBRARY)/libkeywrap.a'
 	bench/provider '$(PROVIDER)/keywrap.so'
 	bench/startup '$(PROGRAM)'
 	bench/lines '$(PROGRAM)' '$(PYTHON)'

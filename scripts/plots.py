@@ -154,4 +154,15 @@ def js(drawing_of, text):
                      ["Microseconds for a wrap in a page, with a KEK of 16 bytes."], groups)
 
 
-PLOTS = {"wrap": wrap, "lines": lines, "provider": provider, "js": js}
+def many(drawing_of, text):
+    """The time of a rewrap of one of many keys, in the call for many and in the call for one."""
+    groups = []
+    for flags, name in ("0", "plain to plain"), ("12", "the form kept, what is new passed"):
+        found = [row for row in read(text)[1] if row["flags"] == flags and row["key"] == "32"]
+        groups.append((name, [(row["way"], float(row["ns_per_key"]), f"{int(row['ns_per_key']):,}",
+                               row["way"].startswith("keywrap")) for row in found]))
+    return plot_bars(drawing_of, text, "Nanoseconds for a rewrap of one of many keys",
+                     ["Nanoseconds for a rewrap, of keys and KEKs of 32 bytes, on one core."], groups)
+
+
+PLOTS = {"wrap": wrap, "many": many, "lines": lines, "provider": provider, "js": js}

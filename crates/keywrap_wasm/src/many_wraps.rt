@@ -7,7 +7,7 @@ use aes_block::Aes;
 
 /// Wraps the key of `key_len` bytes after the first 8 bytes of each slot of `texts`: as many slots
 /// of the length of its wrapped key as there are `statuses`. `flags` is 0, or 2 for the padded
-/// form. Slot and status are those of `keywrap_wrap_in_place` or `keywrap_wrap_padded_in_place`.
+/// form. Slot and status are as from `keywrap_wrap_in_place` or `keywrap_wrap_padded_in_place`.
 ///
 /// A refusal of the call leaves both buffers as they were.
 #[unsafe(no_mangle)]
@@ -25,7 +25,7 @@ pub extern "C" fn keywrap_wrap_many(
 }
 
 /// Unwraps the wrapped key in each slot of `texts`: as many slots of one length as there are
-/// `key_lens` and `statuses`. `flags` is 0, or 1 for the padded form. Slot and status are those of
+/// `key_lens` and `statuses`. `flags` is 0, or 1 for the padded form. Slot and status are as from
 /// `keywrap_unwrap_in_place` or `keywrap_unwrap_padded_in_place`. The length of each key is in
 /// `key_lens`, or 0 for a refused slot.
 ///

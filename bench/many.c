@@ -1,0 +1,153 @@
+/* many.c: measures a rewrap in the call for many keys, beside the call for one key and an unwrap and
+ * a wrap by nettle, whose key schedules are kept. All take turns, and the best time of each counts:
+ * the processor time of this thread. bench/many compiles and runs it.
+ *
+ * usage: many [FILE]        (FILE gets the times as CSV) */
+
+#define _POSIX_C_SOURCE 200809L
+
+#include <keywrap.h>
+#include <stdio.h>
+#include <stdlib.h>
+#include <string.h>
+#include <time.h>
+#ifdef HAVE_NETTLE
+#include <nettle/aes.h>
+#include <nettle/nist-keywrap.h>
+#endif
+
+enum { KEYS = 2400, SINGLE = KEYS / 8, ROUNDS = 200, LONGEST = 32 + 8 };
+
+/* The calls of libkeywrap_hw, by other names. */
+int32_t hw_rewrap(const uint8_t *, size_t, const uint8_t *, size_t, uint8_t *, size_t, uint32_t,
+                  uint32_t *);
+int32_t hw_rewrap_many(const uint8_t *, size_t, const uint8_t *, size_t, uint8_t *, size_t,
+                       uint32_t, uint8_t *, size_t);
+
+static uint8_t old_kek[32], new_kek[32], before[KEYS * LONGEST], texts[KEYS * LONGEST];
+static uint8_t wanted[KEYS * LONGEST], statuses[KEYS];
+static size_t text_len;
+static uint32_t flags;
+
+/* Each way rewraps this many keys, from the first one on. */
+static int by_hw_many(void) {
+    return hw_rewrap_many(old_kek, 32, new_kek, 32, texts, KEYS * text_len, flags, statuses, KEYS);
+}
+
+static int by_many(void) {
+    return keywrap_rewrap_many(old_kek, 32, new_kek, 32, texts, SINGLE * text_len, flags, statuses,
+                               SINGLE);
+}
+
+static int by_hw_single(void) {
+    uint32_t already;
+    int32_t status = 0;
+    for (size_t i = 0; i < SINGLE; i++)
+        status |= hw_rewrap(old_kek, 32, new_kek, 32, texts + text_len * i, text_len, flags,
+                            &already);
+    return status;
+}
+
+static int by_single(void) {
+    uint32_t already;
+    int32_t status = 0;
+    for (size_t i = 0; i < SINGLE; i++)
+        status |= keywrap_rewrap(old_kek, 32, new_kek, 32, texts + text_len * i, text_len, flags,
+                                 &already);
+    return status;
+}
+
+#ifdef HAVE_NETTLE
+static struct aes256_ctx decrypting, encrypting;
+
+static int by_nettle(void) {
+    static const uint8_t iv[8] = {0xa6, 0xa6, 0xa6, 0xa6, 0xa6, 0xa6, 0xa6, 0xa6};
+    uint8_t key[LONGEST];
+    int failed = 0;
+    for (size_t i = 0; i < SINGLE; i++) {
+        uint8_t *text = texts + text_len * i;
+        failed |= !nist_keyunwrap16(&decrypting, (nettle_cipher_func *)aes256_decrypt, iv,
+                                    text_len - 8, key, text);
+        nist_keywrap16(&encrypting, (nettle_cipher_func *)aes256_encrypt, iv, text_len, text, key);
+    }
+    return failed;
+}
+#endif
+
+static const struct way {
+    const char *name;
+    int (*run)(void);
+    size_t keys;
+} WAYS[] = {
+    {"keywrap_hw, many", by_hw_many, KEYS},
+    {"keywrap_hw, one", by_hw_single, SINGLE},
+#ifdef HAVE_NETTLE
+    {"nettle, kept schedules", by_nettle, SINGLE},
+#endif
+    {"keywrap, many", by_many, SINGLE},
+    {"keywrap, one", by_single, SINGLE},
+};
+
+enum { WAY_COUNT = sizeof WAYS / sizeof *WAYS };
+
+static double now(void) {
+    struct timespec t;
+    clock_gettime(CLOCK_THREAD_CPUTIME_ID, &t);
+    return (double)t.tv_sec * 1e9 + (double)t.tv_nsec;
+}
+
+/* Returns the nanoseconds a key. Each way must make the same of the keys. */
+static double turn(const struct way *way) {
+    memcpy(texts, before, KEYS * text_len);
+    const double start = now();
+    const int failed = way->run();
+    const double time = (now() - start) / (double)way->keys;
+    if (failed || memcmp(texts, wanted, way->keys * text_len)) {
+        printf("%s: a wrong result\n", way->name);
+        exit(1);
+    }
+    return time;
+}
+
+/* The wrapped keys, and what a rewrap makes of them. */
+static void prepare(size_t key_len) {
+    uint8_t key[LONGEST];
+    text_len = key_len + 8;
+    for (size_t i = 0; i < KEYS; i++) {
+        for (size_t k = 0; k < key_len; k++) key[k] = (uint8_t)(i * 31 + k * 7);
+        if (keywrap_wrap(old_kek, 32, key, key_len, before + text_len * i, text_len)
+            || keywrap_wrap(new_kek, 32, key, key_len, wanted + text_len * i, text_len))
+            exit(1);
+    }
+}
+
+int main(int argc, char **argv) {
+    FILE *file = argc == 2 ? fopen(argv[1], "w") : NULL;
+    if (argc == 2 && file == NULL) return 1;
+    if (file) fprintf(file, "way,flags,key,ns_per_key\n");
+    for (unsigned i = 0; i < 32; i++) old_kek[i] = (uint8_t)i, new_kek[i] = (uint8_t)(255 - i);
+#ifdef HAVE_NETTLE
+    aes256_set_decrypt_key(&decrypting, old_kek);
+    aes256_set_encrypt_key(&encrypting, new_kek);
+#endif
+    for (size_t key_len = 16; key_len <= 32; key_len += 16)
+        for (flags = 0; flags <= 12; flags += 12) {
+            double best[WAY_COUNT];
+            prepare(key_len);
+            for (int w = 0; w < WAY_COUNT; w++) best[w] = 1e18;
+            for (int round = 0; round < ROUNDS; round++)
+                for (int w = 0; w < WAY_COUNT; w++) {
+                    const double time = turn(WAYS + w);
+                    if (time < best[w]) best[w] = time;
+                }
+            printf("\nrewrap, key of %zu bytes%s: ns a key\n", key_len,
+                   flags ? ", the form kept, and what is new passed" : "");
+            for (int w = 0; w < WAY_COUNT; w++) {
+                printf("%-24s %7.0f   %5.2f\n", WAYS[w].name, best[w], best[w] / best[0]);
+                if (file)
+                    fprintf(file, "\"%s\",%u,%zu,%.0f\n", WAYS[w].name, (unsigned)flags, key_len,
+                            best[w]);
+            }
+        }
+    return file && fclose(file) != 0;
+}
