@@ -8,7 +8,7 @@ import pytest
 
 from commands import MAX_FILE, WRAP, table, unescaped
 from program import Ended, answered, refused, sh, words
-from vectors import FULL, KEK, KEK16, NOT_OPENED, WRAPPED16, in_base64, zeros
+from vectors import FULL, KEK, KEK16, KEY16, NOT_OPENED, WRAPPED16, in_base64, in_url, zeros
 
 NO_FILE = "No such file or directory (os error 2)"
 
@@ -35,6 +35,15 @@ def explains(keywrap, args, status, message, reason, **options):
 
 
 class TestReasons:
+    def test_environment_turns_verbose_on(self, keywrap):
+        """Only the value 1 does, and a run over lines shows its counts, too."""
+        reason = f"missing: {NO_FILE}"
+        for value, lines in ("1", [reason]), ("0", []), ("", []), ("11", []):
+            ended = keywrap("wrap --kek missing", env={"KEYWRAP_VERBOSE": value})
+            assert ended == refused(6, "key file: cannot be opened", *lines)
+        ended = keywrap(f"{WRAP} --lines", stdin=f"{KEY16}\n", env={"KEYWRAP_VERBOSE": "1"})
+        assert ended == Ended(0, f"{WRAPPED16}\n", "keywrap: 1 line: 1 answered, 0 refused\n")
+
     @pytest.mark.parametrize("args, status, message, reason", table("reasons", "refused"))
     def test_refusals_of_the_table(self, keywrap, args, status, message, reason):
         given = None if "--lines" in args else pathlib.Path("key7.hex")
@@ -54,9 +63,9 @@ class TestReasons:
         *[(name, "cannot be opened", f"{shown}: {NO_FILE}") for name, shown in (
             ("missing", "missing"), ("", "''"), ("a\x1b[31m\nb", r"a\x1b[31m\x0ab"), ("é", "é"),
             ("a\u202eb\u2028c\u200bd\ufeffe\u2066f", r"a\u{202e}b\u{2028}c\u{200b}d\u{feff}e\u{2066}f"))],
-        # One digit more than a KEK has, or a letter, or base64.
+        # One character more than a KEK has, or another one.
         *[(name, "cannot be opened", f"{name}: {NO_FILE}") for digits in (32, 48, 64)
-          for name in (f"0{KEK[:digits]}", f"g{KEK[1:digits]}", in_base64(KEK[:digits]))],
+          for kek in (KEK[:digits], in_base64(KEK[:digits])) for name in (f"0{kek}", f".{kek[1:]}")],
         ("key.hex/x", "cannot be opened", "key.hex/x: Not a directory (os error 20)"),
         ("folder", "cannot be read", "folder: Is a directory (os error 21)"),
         ("long.hex", "too long", f"long.hex: more than {MAX_FILE} bytes"),
@@ -73,7 +82,8 @@ class TestReasons:
                 args, flag = args.replace(".64", ".hex"), ""
             explains(keywrap, [*words(args), name, *words(flag)], 6, f"{file}: {message}", reason)
 
-    @pytest.mark.parametrize("kek", [kek for digits in (32, 48, 64) for kek in (KEK[:digits], KEK[:digits].upper())])
+    @pytest.mark.parametrize("kek", [shown for digits in (32, 48, 64) for kek in [f"00013e{KEK[6:digits]}"]
+                                     for shown in (kek, kek.upper(), in_base64(kek), in_base64(kek).rstrip("="), in_url(kek))])
     def test_kek_in_place_of_its_name_is_not_shown(self, keywrap, kek):
         reason = f"(the name of {{}} is not shown: it looks like a KEK): {NO_FILE}"
         explains(keywrap, f"check --kek {kek}", 6, "key file: cannot be opened", reason.format("the KEK"))

@@ -1,5 +1,9 @@
 //! Reads the arguments into a `Command`.
 
+ghost use Rattle.std.specs.Prelude.{◌≡◌, IfOk};
+ghost use Rattle.keywrap.specs.Arguments.{AreForms, AreLineOptions, IsCommand, IsForm};
+ghost use Rattle.keywrap.specs.Arguments.{IsInitialValue, IsJob, IsKekNotation, IsNotation, IsOperation};
+
 use crate::command::{Command, LineOptions, Run, agreed_form};
 use key_wrap_core::{Form, InitialValue, RewrapForms};
 use keywrap_args::{Args, Subcommand, parse};
@@ -37,7 +41,10 @@ pub fn read_command<'a>(alloc: Global, args: &'a [String]) -> Result<Command<'a>
     command(&parse(alloc, args)?)
 }
 
-fn command<'a>(args: &Args<'a>) -> Result<Command<'a>, Stop> {
+/// Returns the command for arguments that clap parsed.
+pub fn command<'a>(args: &Args<'a>) -> Result<Command<'a>, Stop>
+    ensures { IfOk result (λ command. IsCommand args.now command) }
+{
     let operation = match args.subcommand {
         Subcommand::Wrap => job(Job::Wrap, args)?,
         Subcommand::Unwrap if args.has("any-form") => job(Job::UnwrapAny, args)?,
@@ -57,7 +64,10 @@ fn command<'a>(args: &Args<'a>) -> Result<Command<'a>, Stop> {
 }
 
 // UnwrapAny and Check try both forms and ignore this one.
-fn job<'a>(job: Job, args: &Args<'a>) -> Result<Operation<&'a str>, Stop> {
+fn job<'a>(job: Job, args: &Args<'a>) -> Result<Operation<&'a str>, Stop>
+    requires { IsJob args.now args.now.subcommand job }
+    ensures { IfOk result (λ operation. IsOperation args.now operation) }
+{
     let kek = args.kek_file("kek")?;
     let iv = initial_value(args, "iv").map_err(ProgramFault::Iv)?;
     let task = Task {
@@ -69,7 +79,10 @@ fn job<'a>(job: Job, args: &Args<'a>) -> Result<Operation<&'a str>, Stop> {
     Ok(Operation::Job { iv, task, kek })
 }
 
-fn rewrap<'a>(args: &Args<'a>) -> Result<Operation<&'a str>, Stop> {
+fn rewrap<'a>(args: &Args<'a>) -> Result<Operation<&'a str>, Stop>
+    requires { args.now.subcommand ≡ Subcommand.Rewrap }
+    ensures { IfOk result (λ operation. IsOperation args.now operation) }
+{
     let kek = args.kek_file("kek")?;
     let new_kek = args.kek_file("new-kek")?;
     let task = Rewrapping {
@@ -82,7 +95,9 @@ fn rewrap<'a>(args: &Args<'a>) -> Result<Operation<&'a str>, Stop> {
 }
 
 // Clap refuses `--keep-form` with the arguments for one of the forms.
-fn rewrap_forms(args: &Args<'_>) -> Result<RewrapForms, Stop> {
+fn rewrap_forms(args: &Args<'_>) -> Result<RewrapForms, Stop>
+    ensures { IfOk result (λ forms. AreForms args.now forms) }
+{
     if args.has("keep-form") {
         return Ok(RewrapForms::Kept);
     }
@@ -94,7 +109,10 @@ fn rewrap_forms(args: &Args<'_>) -> Result<RewrapForms, Stop> {
     })
 }
 
-fn drill<'a>(args: &Args<'a>) -> Result<Command<'a>, Stop> {
+fn drill<'a>(args: &Args<'a>) -> Result<Command<'a>, Stop>
+    requires { args.now.subcommand ≡ Subcommand.Drill }
+    ensures { IfOk result (λ command. IsCommand args.now command) }
+{
     let direction = if args.has("unwrap") {
         Direction::Unwrap
     } else {
@@ -107,7 +125,9 @@ fn drill<'a>(args: &Args<'a>) -> Result<Command<'a>, Stop> {
     })
 }
 
-fn form(args: &Args<'_>, padded: &str) -> Form {
+fn form(args: &Args<'_>, padded: &str) -> Form
+    ensures { IsForm args.now padded.now result }
+{
     if args.has(padded) {
         Form::Padded
     } else {
@@ -116,7 +136,9 @@ fn form(args: &Args<'_>, padded: &str) -> Form {
 }
 
 // Clap refuses two of these flags.
-fn notation(args: &Args<'_>) -> Notation {
+fn notation(args: &Args<'_>) -> Notation
+    ensures { IsNotation args.now result }
+{
     if args.has("raw") {
         Notation::Raw
     } else if args.has("base64") {
@@ -129,7 +151,9 @@ fn notation(args: &Args<'_>) -> Notation {
 }
 
 // Clap refuses both flags together. A KEK is only read, and either alphabet of base64 is read.
-fn kek_notation(args: &Args<'_>) -> Notation {
+fn kek_notation(args: &Args<'_>) -> Notation
+    ensures { IsKekNotation args.now result }
+{
     if args.has("raw-kek") {
         Notation::Raw
     } else if args.has("base64-kek") {
@@ -140,14 +164,21 @@ fn kek_notation(args: &Args<'_>) -> Notation {
 }
 
 // Clap refuses the other two flags without `--lines`.
-fn lines(args: &Args<'_>) -> Option<LineOptions> {
-    args.has("lines").then_some(LineOptions {
+fn lines(args: &Args<'_>) -> Option<LineOptions>
+    ensures { AreLineOptions args.now result }
+{
+    if !args.has("lines") {
+        return None;
+    }
+    Some(LineOptions {
         keep_going: args.has("keep-going"),
         quiet: args.has("quiet"),
     })
 }
 
-fn initial_value(args: &Args<'_>, option: &str) -> Result<InitialValue, IvFault> {
+fn initial_value(args: &Args<'_>, option: &str) -> Result<InitialValue, IvFault>
+    ensures { IfOk result (λ iv. IsInitialValue args.now option.now iv) }
+{
     match args.value(option) {
         Some(digits) => parse_iv(digits),
         None => Ok(InitialValue::default()),

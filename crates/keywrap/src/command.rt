@@ -1,5 +1,8 @@
 //! What a command line asks for.
 
+ghost use Rattle.std.specs.Prelude.{◌≡◌};
+ghost use Rattle.key_wrap_core.specs.Forms.{with_value};
+
 use key_wrap_core::{AgreedForm, Form, InitialValue};
 use keywrap_cli::{Direction, Operation};
 use keywrap_io::FileRole;
@@ -56,7 +59,9 @@ impl<'a> Run<'a> {
 }
 
 /// Returns the form with its initial value.
-pub fn agreed_form(form: Form, iv: InitialValue) -> AgreedForm {
+pub fn agreed_form(form: Form, iv: InitialValue) -> AgreedForm
+    ensures { result ≡ with_value form iv }
+{
     match form {
         Form::Plain => AgreedForm::Plain(iv),
         Form::Padded => AgreedForm::Padded,

@@ -187,7 +187,7 @@ impl fmt::Display for ShownName<'_> {
     fn fmt<W: fmt::Write>(&self, f: &mut fmt::Formatter<W>) -> fmt::Result {
         let role = self.role;
         match (self.run.file_name(role), role) {
-            (Some(name), FileRole::Kek | FileRole::NewKek) if is_hex_kek(name) => {
+            (Some(name), FileRole::Kek | FileRole::NewKek) if is_kek(name) => {
                 write!(f, "(the name of {role} is not shown: it looks like a KEK)")
             }
             (Some(name), _) if name.is_empty() => f.write_str("''"),
@@ -198,7 +198,24 @@ impl fmt::Display for ShownName<'_> {
     }
 }
 
-// Returns whether a file name may be a KEK in hex that was typed instead.
+// Returns whether a file name may be a KEK that was typed instead.
+fn is_kek(name: &str) -> bool {
+    is_hex_kek(name) || is_base64_kek(name)
+}
+
 fn is_hex_kek(name: &str) -> bool {
     matches!(name.len(), 32 | 48 | 64) && name.bytes().all(|byte| byte.is_ascii_hexdigit())
+}
+
+// Base64 or base64url, with or without padding.
+fn is_base64_kek(name: &str) -> bool {
+    let symbols = name.trim_end_matches('=');
+    matches!(
+        (symbols.len(), name.len()),
+        (22, 22 | 24) | (32, 32) | (43, 43 | 44)
+    ) && symbols.bytes().all(is_base64_symbol)
+}
+
+fn is_base64_symbol(byte: u8) -> bool {
+    byte.is_ascii_alphanumeric() || matches!(byte, b'+' | b'/' | b'-' | b'_')
 }

@@ -9,7 +9,7 @@ use keywrap_args::Stop::{Help, Memory, Usage};
 use keywrap_args::arguments;
 use keywrap_cli::{Library, ProgramFault, run_drill, run_vectors, statuses, write_help};
 use keywrap_io::Streams;
-use std::io;
+use std::{env, io};
 
 /// Runs the program on the arguments that it was started with, and returns its exit status.
 pub fn run<R: Host>(rt: &R, streams: Streams) -> u8 {
@@ -21,8 +21,16 @@ pub fn run<R: Host>(rt: &R, streams: Streams) -> u8 {
 
 fn answer<R: Host>(rt: &R, streams: Streams) -> Result<u8, Stop> {
     let args = arguments(rt)?;
-    let command = read_command(rt.alloc(), args.as_slice())?;
+    let mut command = read_command(rt.alloc(), args.as_slice())?;
+    if let Command::Run(run) = &mut command {
+        run.verbose = run.verbose || is_verbose(rt);
+    }
     Ok(run_command(rt, &command, streams))
+}
+
+// Whether the environment turns `--verbose` on.
+fn is_verbose<R: Host>(rt: &R) -> bool {
+    env::var(rt, "KEYWRAP_VERBOSE").is_ok_and(|value| value.as_str() == "1")
 }
 
 fn run_command<R: Host>(rt: &R, command: &Command<'_>, streams: Streams) -> u8 {

@@ -1,5 +1,9 @@
 //! Parses the arguments with clap.
 
+ghost use Rattle.std.specs.Prelude.{◌≡◌, ◌↔◌, ◌⊎◌, Some, None, IfOk, IsTrue, MatchOption};
+ghost use Rattle.std.specs.Prelude.{codes, option_map};
+ghost use Rattle.keywrap_args.specs.Given.{given};
+
 use crate::hints::message;
 use crate::subcommands::{Subcommand, matches_of, subcommand_named};
 use clap::ArgMatches;
@@ -71,17 +75,27 @@ pub fn parse<'a>(alloc: Global, args: &'a [String]) -> Result<Args<'a>, Stop> {
 
 impl<'a> Args<'a> {
     /// Returns whether a flag is given.
-    pub fn has(&self, flag: &str) -> bool {
-        self.matches.get_flag(flag)
+    pub fn has(&self, flag: &str) -> bool
+        ensures { IsTrue result ↔ (given self.now flag.now ≡ Some (codes "true")) }
+    {
+        match self.value(flag) {
+            Some(value) => value == "true",
+            None => false,
+        }
     }
 
     /// Returns the value of an argument, if it is given.
-    pub fn value(&self, argument: &str) -> Option<&'a str> {
+    #[tactic(auto, unfolding(crate::specs::Given::given))]
+    pub fn value(&self, argument: &str) -> Option<&'a str>
+        ensures { option_map (λ s. s.now) result ≡ given self.now argument.now }
+    {
         self.matches.get_str(argument)
     }
 
     /// Returns the value of a required argument. Clap has refused arguments without it.
-    pub fn required(&self, argument: &str) -> Result<&'a str, Stop> {
+    pub fn required(&self, argument: &str) -> Result<&'a str, Stop>
+        ensures { IfOk result (λ value. given self.now argument.now ≡ Some value.now) }
+    {
         match self.value(argument) {
             Some(value) => Ok(value),
             None => Err(refusal(self.alloc, "a required argument was not provided")?),
@@ -90,16 +104,23 @@ impl<'a> Args<'a> {
 
     /// Returns the file of an option, or `None` for the standard stream: the option is not given,
     /// or its value is `-`.
-    pub fn file(&self, option: &str) -> Option<&'a str> {
+    pub fn file(&self, option: &str) -> Option<&'a str>
+        ensures { MatchOption result ((given self.now option.now ≡ None)
+            ⊎ (given self.now option.now ≡ Some (codes "-")))
+            (λ name. (given self.now option.now ≡ Some name.now) × ¬ (name.now ≡ codes "-")) }
+    {
         match self.value(option) {
-            Some("-") | None => None,
-            name => name,
+            Some(name) => if name == "-" { None } else { Some(name) },
+            None => None,
         }
     }
 
     /// Returns the KEK file of an option. `-` is rejected: elsewhere it means standard input, here
     /// it would be a file name.
-    pub fn kek_file(&self, option: &str) -> Result<&'a str, Stop> {
+    pub fn kek_file(&self, option: &str) -> Result<&'a str, Stop>
+        ensures { IfOk result (λ name. (given self.now option.now ≡ Some name.now)
+            × ¬ (name.now ≡ codes "-")) }
+    {
         let name = self.required(option)?;
         if name != "-" {
             return Ok(name);

@@ -1,0 +1,92 @@
+-- What a command is for the arguments that clap parsed, option by option. Clap refuses options that exclude each other.
+use Rattle.std.specs.Prelude.{◌≡◌, ◌↔◌, ◌⊎◌, ℕ, Bool, IsTrue, List, Option, Some, None, codes}
+use Rattle.std.specs.Borrow.{Bor}
+use Rattle.key_wrap_core.specs.Plain.{default_iv}
+use Rattle.key_wrap_core.specs.declared.agreed_form.AgreedForm.{AgreedForm}
+use Rattle.key_wrap_core.specs.declared.forms.Form.{Form}
+use Rattle.key_wrap_core.specs.declared.forms.Form.TheVariants.{Plain, Padded}
+use Rattle.key_wrap_core.specs.Forms.{with_value}
+use Rattle.key_wrap_core.specs.declared.rewrapping.RewrapForms.{RewrapForms}
+use Rattle.key_wrap_core.specs.declared.rewrapping.RewrapForms.TheVariants.{Kept, Changed}
+use Rattle.keywrap_args.specs.Given.{Has, IsSet, Lacks}
+use Rattle.keywrap_args.specs.declared.parser.Args.{Args}
+use Rattle.keywrap_args.specs.declared.subcommands.Subcommand.{Subcommand}
+use Rattle.keywrap_args.specs.declared.subcommands.Subcommand.TheVariants as words
+use Rattle.keywrap_cli.specs.InitialValue.{DenotesIv}
+use Rattle.keywrap_cli.specs.declared.convert.Direction.TheVariants as directions
+use Rattle.keywrap_cli.specs.declared.job.Job.{Job}
+use Rattle.keywrap_cli.specs.declared.job.Job.TheVariants as jobs
+use Rattle.keywrap_cli.specs.declared.job.Notation.{Notation}
+use Rattle.keywrap_cli.specs.declared.job.Notation.TheVariants.{Raw, Hex, Base64, Base64Url}
+use Rattle.keywrap_cli.specs.declared.operation.Operation.{Operation}
+use Rattle.keywrap_cli.specs.declared.operation.Operation.TheVariants as operations
+use Rattle.keywrap.specs.declared.command.Command.{Command}
+use Rattle.keywrap.specs.declared.command.Command.TheVariants.{Run, Drill, Vectors}
+use Rattle.keywrap.specs.declared.command.LineOptions.{LineOptions}
+
+-- the padded form with this flag, else the plain form
+pub record IsForm (args : Args) (flag : List ℕ) (form : Form) : Type 0 where
+  pub padded : IsSet args flag → form ≡ Padded
+  pub plain : ¬ IsSet args flag → form ≡ Plain
+
+-- the notation of the input and of the output
+pub record IsNotation (args : Args) (notation : Notation) : Type 0 where
+  pub raw : IsSet args (codes "raw") → notation ≡ Raw
+  pub base64 : ¬ IsSet args (codes "raw") → IsSet args (codes "base64") → notation ≡ Base64
+  pub base64url : ¬ IsSet args (codes "raw") → ¬ IsSet args (codes "base64") → IsSet args (codes "base64url") → notation ≡ Base64Url
+  pub hex : ¬ IsSet args (codes "raw") → ¬ IsSet args (codes "base64") → ¬ IsSet args (codes "base64url") → notation ≡ Hex
+
+-- the notation of the KEK files
+pub record IsKekNotation (args : Args) (notation : Notation) : Type 0 where
+  pub raw : IsSet args (codes "raw-kek") → notation ≡ Raw
+  pub base64 : ¬ IsSet args (codes "raw-kek") → IsSet args (codes "base64-kek") → notation ≡ Base64
+  pub hex : ¬ IsSet args (codes "raw-kek") → ¬ IsSet args (codes "base64-kek") → notation ≡ Hex
+
+-- the initial value of an option, or the default
+pub record IsInitialValue (args : Args) (option : List ℕ) (iv : ℕ) : Type 0 where
+  pub own : (digits : List ℕ) → Has args option digits → DenotesIv digits iv
+  pub default : Lacks args option → iv ≡ default_iv
+
+-- the form with its initial value
+abbrev pub IsAgreedForm : Args → (flag option : List ℕ) → AgreedForm → Type 0
+IsAgreedForm args flag option agreed = (form : Form) × (iv : ℕ) × IsForm args flag form × IsInitialValue args option iv × (agreed ≡ with_value form iv)
+
+-- the job of a subcommand
+abbrev pub IsJob : Args → Subcommand → Job → Type 0
+IsJob args words.Wrap job = job ≡ jobs.Wrap
+IsJob args words.Unwrap job = (IsSet args (codes "any-form") → job ≡ jobs.UnwrapAny) × (¬ IsSet args (codes "any-form") → job ≡ jobs.Unwrap)
+IsJob args words.Check job = job ≡ jobs.Check
+IsJob args subcommand job = ⊥
+
+-- the forms of a rewrap
+abbrev pub AreForms : Args → RewrapForms → Type 0
+AreForms args Kept = IsSet args (codes "keep-form")
+AreForms args (Changed old new) = (¬ IsSet args (codes "keep-form")) × IsAgreedForm args (codes "padded") (codes "iv") old × IsAgreedForm args (codes "new-padded") (codes "new-iv") new
+
+abbrev pub IsOperation : Args → Operation (Bor (List ℕ)) → Type 0
+IsOperation args (operations.Job iv task kek) =
+    IsJob args args.subcommand task.job × Has args (codes "kek") kek.now × IsInitialValue args (codes "iv") iv × IsForm args (codes "padded") task.form
+    × IsNotation args task.input × IsKekNotation args task.kek
+IsOperation args (operations.Rewrap task kek new) =
+    (args.subcommand ≡ words.Rewrap) × Has args (codes "kek") kek.now × Has args (codes "new-kek") new.now × AreForms args task.forms
+    × (IsTrue task.pass_new ↔ IsSet args (codes "pass-new")) × IsNotation args task.input × IsKekNotation args task.kek
+
+-- the file of an option, or a standard stream
+abbrev pub IsFile : Args → List ℕ → Option (Bor (List ℕ)) → Type 0
+IsFile args option (Some name) = Has args option name.now
+IsFile args option None = Lacks args option ⊎ Has args option (codes "-")
+
+-- the options that go with `--lines`
+abbrev pub AreLineOptions : Args → Option LineOptions → Type 0
+AreLineOptions args (Some lines) =
+    IsSet args (codes "lines") × (IsTrue lines.keep_going ↔ IsSet args (codes "keep-going")) × (IsTrue lines.quiet ↔ IsSet args (codes "quiet"))
+AreLineOptions args None = ¬ IsSet args (codes "lines")
+
+abbrev pub IsCommand : Args → Command → Type 0
+IsCommand args (Run run) =
+    IsOperation args run.operation × IsFile args (codes "input") run.input × IsFile args (codes "output") run.output × AreLineOptions args run.lines
+    × (IsTrue run.verbose ↔ IsSet args (codes "verbose"))
+IsCommand args (Drill form direction hex) =
+    (args.subcommand ≡ words.Drill) × IsForm args (codes "padded") form × (IsSet args (codes "unwrap") → direction ≡ directions.Unwrap)
+    × (¬ IsSet args (codes "unwrap") → direction ≡ directions.Wrap) × Has args (codes "hex") hex.now
+IsCommand args Vectors = args.subcommand ≡ words.Vectors

@@ -1,0 +1,2 @@
+-- What the contracts of the arguments cite.
+pub mod Given
