@@ -82,8 +82,9 @@ class TestReasons:
                 args, flag = args.replace(".64", ".hex"), ""
             explains(keywrap, [*words(args), name, *words(flag)], 6, f"{file}: {message}", reason)
 
-    @pytest.mark.parametrize("kek", [shown for digits in (32, 48, 64) for kek in [f"00013e{KEK[6:digits]}"]
-                                     for shown in (kek, kek.upper(), in_base64(kek), in_base64(kek).rstrip("="), in_url(kek))])
+    @pytest.mark.parametrize("kek", [
+        shown for digits in (32, 48, 64) for kek in [f"00013e{KEK[6:digits]}"]
+        for shown in (kek, kek.upper(), in_base64(kek), in_base64(kek).rstrip("="), in_url(kek))])
     def test_kek_in_place_of_its_name_is_not_shown(self, keywrap, kek):
         reason = f"(the name of {{}} is not shown: it looks like a KEK): {NO_FILE}"
         explains(keywrap, f"check --kek {kek}", 6, "key file: cannot be opened", reason.format("the KEK"))
