@@ -174,7 +174,7 @@ if needs 'make install with the C library' cc; then
     row 'an archive to install' ar rc library.a library.o
     row 'make install' made install DESTDIR="$stage" PREFIX=/usr
     same 'what make install installs, except the C library' "$command_files" "$(files_of "$stage/usr" |
-        grep -vE ' (include|lib)/| share/doc/keywrap/(C_LIBRARY.md|OPENSSL.md|README.library|examples/|provider/)')"
+        grep -vE ' (include|lib)/| share/doc/keywrap/(C_LIBRARY.md|OPENSSL.md|README.lib|(examples|java|provider)/)')"
     row 'make uninstall-library' made uninstall-library DESTDIR="$stage" PREFIX=/usr
     same 'it leaves the files of the command, and its documents' "$command_files" "$(files_of "$stage/usr")"
     row 'make install-library' made install-library DESTDIR="$stage" PREFIX=/usr
