@@ -36,8 +36,7 @@ class _Rows:
             yield from cursor.execute(self.database.composed(_ROWS), words)
 
     def put(self, writes: Sequence[Write]) -> Tuple[int, int]:
-        columns = (list(column) for column in zip(*writes))
-        found = self.database.run(_PUT, *columns, types=types_of(writes)).fetchall()
+        found = self.database.run(_PUT, *map(list, zip(*writes)), types=types_of(writes)).fetchall()
         self.done += [row for row, _ in found]
         self.writes.append(writes)
         return len(found), sum(is_new is True for _, is_new in found)
