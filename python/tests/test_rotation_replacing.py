@@ -165,7 +165,7 @@ NAME = ".rotating.0123abcd.{}.{}.file"
 def digest(content):
     import hashlib
 
-    return hashlib.sha1(content).hexdigest()[:24]
+    return hashlib.blake2b(content).hexdigest()[:24]
 
 
 def killed(file, left, current, *, read=OLD, new=NEW):

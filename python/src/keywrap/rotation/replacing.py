@@ -51,9 +51,9 @@ def exchange(one: bytes, other: bytes) -> None:
 _WITHOUT = "this file system cannot exchange two files: stop all writers, then use --quiesced"
 
 
-def new_digest() -> "hashlib._Hash":
-    """Tells contents apart that nobody forges: whoever could do that could also write the file. It is the fastest."""
-    return hashlib.sha1(usedforsecurity=False)
+def new_digest() -> "hashlib.blake2b":
+    """Returns the digest by which two contents are told apart."""
+    return hashlib.blake2b()
 
 
 def digest_of(descriptor: int) -> str:
@@ -65,7 +65,7 @@ def digest_of(descriptor: int) -> str:
     return short(digest)
 
 
-def short(digest: "hashlib._Hash") -> str:
+def short(digest: "hashlib.blake2b") -> str:
     return digest.hexdigest()[:_DIGITS]
 
 
