@@ -52,7 +52,7 @@ _WITHOUT = "this file system cannot exchange two files: stop all writers, then u
 
 
 def new_digest() -> "hashlib.blake2b":
-    """Returns the digest by which two contents are told apart."""
+    """Returns a digest for the content of a file."""
     return hashlib.blake2b()
 
 
