@@ -118,7 +118,7 @@ class TestRepeatedFacts:
         page = text_of("README.md")
         assert len(page.split()) <= 1200
         first = " ".join(page.split("\n\n")[1].split())
-        assert re.search("^`keywrap` encrypts .* licence .* Nothing has been released.* needs the kit of Rattle ", first)
+        assert re.search("^`keywrap` encrypts .* licence .* Nothing has been released.* the kit of Rattle ", first)
 
     def test_times(self):
         """The time of the first build is the launcher's, and `make test` takes the same in both documents."""
