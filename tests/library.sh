@@ -59,10 +59,14 @@ calls=(
     'keywrap_unwrap_any kek:32,wrapped:24,key:16 &form,&len'
     'keywrap_rewrap kek:32,new_kek:16,wrapped:24 0,&form'
     'keywrap_rewrap_in_place kek:32,new_kek:16,wrapped:24 0'
+    'keywrap_rewrap_many kek:32,new_kek:16,texts:48 0,statuses,2'
+    'keywrap_wrap_many kek:32,texts:48 16,0,statuses,2'
+    'keywrap_unwrap_many kek:32,texts:48 0,key_lens,2,statuses,2'
+    'keywrap_kind_many kek:32,texts:48,scratch:16 forms,2,key_lens,2,statuses,2'
 )
 
 # changes NAME: the call takes what is in the last buffer.
-changes() { [[ $1 = *_in_place || $1 = keywrap_rewrap ]]; }
+changes() { [[ $1 = *_in_place || $1 = keywrap_rewrap || ($1 = *_many && $1 != keywrap_kind_many) ]]; }
 
 # caller NAME BUFFERS MORE SHORT ARGUMENTS: a function on one line that makes the call, with buffers of
 # their sizes but one, which is a byte short; what the call only writes is not set before, nor is $unset.
@@ -77,6 +81,9 @@ caller() {
     done
     [[ $more != *'&len'* ]] || declared+='size_t len; '
     [[ $more != *'&form'* ]] || declared+='uint32_t form; '
+    [[ $more != *key_lens* ]] || declared+='size_t key_lens[2]; '
+    [[ $more != *forms* ]] || declared+='uint8_t forms[2]; '
+    [[ $more != *statuses* ]] || declared+='uint8_t statuses[2]; '
     echo "int32_t f$((++callers))(void) { ${declared}int32_t s = $name(${5:-$given${more:+, $more}}); return s; }"
 }
 
@@ -89,7 +96,10 @@ every() {
         case $1 in
         exact) caller "$name" "$buffers" "$more" '' ;;
         unused) caller "$name" "$buffers" "$more" '' | sed 's/int32_t s = //; s/return s/return 0/' ;;
-        overlap) caller "$name" "$buffers" "$more" '' "$(sed "s/\(.*\)\(wrapped\|key\), /\1kek, /" <<<"$given")" ;;
+        overlap)
+            caller "$name" "$buffers" "$more" '' \
+                "$(sed "s/\(.*\)\(wrapped\|key\|texts\|scratch\), /\1kek, /" <<<"$given")"
+            ;;
         short) for buffer in ${buffers//,/ }; do caller "$name" "$buffers" "$more" "${buffer%:*}"; done ;;
         in_place)
             buffer=${buffers##*,}
@@ -105,7 +115,7 @@ every() {
             for buffer in ${buffers//,/ }; do
                 caller "$name" "$buffers" "$more" '' "${given/"${buffer%:*}, "/NULL, }"
             done
-            for buffer in '&form' '&len'; do
+            for buffer in '&form' '&len' forms key_lens statuses; do
                 [[ $more != *"$buffer"* ]] || caller "$name" "$buffers" "$more" '' "${given/"$buffer"/NULL}"
             done
             ;;
@@ -138,7 +148,7 @@ warns() {
 # defines: the macros that the header defines, KEYWRAP_H among them.
 defines() {
     cc -std=c99 "${include[@]}" -dM -E header.c | sed -n 's/^#define \(KEYWRAP_[A-Z_]*\).*/\1/p' | sort |
-        diff - <(printf 'KEYWRAP_%s\n' CPU_SUPPORTED H KEEP_FORM MAX_KEY MAX_TEXT NEW_PADDED OLD_PADDED \
+        diff - <(printf 'KEYWRAP_%s\n' ALREADY_NEW CPU_SUPPORTED H KEEP_FORM MAX_KEY MAX_TEXT NEW_PADDED OLD_PADDED \
             PADDED_TEXT_LEN PASS_NEW PRERELEASE ROOM TEXT_LEN VERSION VERSION_MAJOR VERSION_MINOR VERSION_PATCH)
 }
 
