@@ -3,6 +3,7 @@ has the challenges of the rotation."""
 
 from __future__ import annotations
 
+import importlib
 import secrets
 import time
 from contextlib import contextmanager
@@ -58,8 +59,16 @@ class Queue:
 
     @staticmethod
     def _is_there(database: Statements) -> bool:
+        """Whether there is a queue, which then no other run drops before the transaction ends."""
         queue = database.queue.as_string(database.connection)
-        return database.one("SELECT to_regclass(%s) IS NOT NULL", queue) is True
+        if database.one("SELECT to_regclass(%s) IS NOT NULL", queue) is not True:
+            return False
+        try:
+            with database.connection.transaction():
+                database.run("LOCK TABLE {queue} IN ACCESS SHARE MODE")
+        except importlib.import_module("psycopg").errors.UndefinedTable:
+            return False
+        return True
 
     def begin(self, challenges: Challenges, may_make: bool) -> None:
         """Makes the queue, or compares the KEKs with the challenges in it."""
