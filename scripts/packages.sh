@@ -6,6 +6,8 @@
 set -u
 cd "$(dirname "${BASH_SOURCE[0]}")/.." || exit
 
+# A package of Debian has its modules for Debian's Python.
+[ ! -x /usr/bin/python3 ] || export python=/usr/bin/python3
 # missing: the packages of the tools that are not here.
 missing() { bash tests/lib/tools.sh | sed -n 's/.*(apt-get install \(.*\))$/\1/p'; }
 install() { timeout 900 apt-get install -y --no-install-recommends --no-upgrade "$@" </dev/null; }
