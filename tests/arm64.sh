@@ -93,7 +93,7 @@ assert utils.parse_wheel_filename(sys.argv[1])[3] & set(tags.sys_tags())' "$whee
 }
 
 # package_tests: none of the package's tests fails, or lacks what it needs. What threads do is Python's. One test, and
-# those of keywrap.rotate, keywrap.vectors and install(), start other programs, which qemu does not.
+# the files on keywrap.rotate, keywrap.vectors and install(), start other programs, which qemu does not.
 package_tests() {
     PYTHONPATH=$room/site KEYWRAP_CALLS=10000 "${arm_python[@]}" -m pytest -q -p no:cacheprovider \
         -k 'not thread and not one_exception and not pyca_installed' "$root"/python/tests/test_[!rv]*.py >tests.log
