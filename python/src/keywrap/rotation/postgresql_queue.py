@@ -59,7 +59,7 @@ class Queue:
 
     @staticmethod
     def _is_there(database: Statements) -> bool:
-        """Whether there is a queue, which then no other run drops before the transaction ends."""
+        """Whether there is a queue. If so, no other run drops it before the transaction ends."""
         queue = database.queue.as_string(database.connection)
         if database.one("SELECT to_regclass(%s) IS NOT NULL", queue) is not True:
             return False
