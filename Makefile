@@ -51,14 +51,14 @@ PROVIDER ?= out/provider
 EXAMPLES ?= out/examples
 # With HARDWARE=1 the library and the provider use the processor's AES: scripts/hardware.mk.
 HARDWARE ?=
-# What builds the Python package: scripts/wheel_needs.sh says what it needs.
+# The Python that builds the package: scripts/wheel_needs.sh prints what it lacks.
 PYTHON ?= python3
 
 soname = libkeywrap.so.1
 shared = libkeywrap.so.$(of_debian)
 wheel = $(DIST)/$(call wheel_of,$(machine))
-# What the library is made of: the sources of the exports' crate and of those that crates.txt names below it,
-# unless the archive is one from elsewhere.
+# The sources of the library: of the crate of the exports, and of the crates that crates.txt names below it. An archive
+# from elsewhere has none.
 of_exports = $(filter crates/%,$(ARCHIVE))
 # Checksums of the sources that the library was built from. Each TARGET has its own file.
 record = $(LIBRARY)/built_from$(other)
@@ -125,15 +125,15 @@ version:
 build:
 	@./keywrap --version >/dev/null
 
-# Built if that is not done, or if the flags or the content of a file have changed since: files out of an archive have
-# old times. b2sum ignores the line of the flags.
+# Builds if nothing is built, or if the flags or the content of a file changed: files from an archive have old times.
+# b2sum ignores the line with the flags.
 library:
 	@{ grep -qxF '# $(link)' '$(record)' && b2sum --check --status '$(record)'; } 2>/dev/null || \
 	    $(MAKE) --no-print-directory library-anew
 	$(if $(HARDWARE),@$(MAKE) --no-print-directory library-hardware)
 
-# A source that is changed while rt works is no longer what was written down before. The loader finds the
-# shared object by its soname; a hard link, since rt accepts no symbolic link here.
+# The checksums come first: a source that changes while rt works then differs from them. The loader finds the shared
+# object by its soname, a hard link, since rt accepts no symbolic link here.
 library-anew:
 	$(needs_compiler)
 	install -d '$(LIBRARY)'
@@ -148,7 +148,7 @@ library-anew:
 	b2sum '$(LIBRARY)/libkeywrap.a' '$(LIBRARY)/$(shared)' '$(LIBRARY)/$(soname)' >>'$(LIBRARY)/begun'
 	mv '$(LIBRARY)/begun' '$(record)'
 
-# Nothing of libcrypto is linked: what it needs of it the core hands over.
+# libcrypto is not linked: OpenSSL's core passes the functions that the provider calls.
 provider: library
 	install -d '$(PROVIDER)'
 	$(compile) -std=c99 -fPIC -shared -Iinclude -o '$(PROVIDER)/keywrap.so' provider/*.c \
@@ -192,8 +192,8 @@ test:
 packages:
 	scripts/packages.sh
 
-# The tests run the program that rt ci proved and built, by the compiler of the first use, and the launcher finds it
-# built of its sources. A source that is changed meanwhile is no longer what was written down before.
+# The tests run the program that rt ci proved, and built by the compiler of the first use. The checksums come first: a
+# source that changes meanwhile then differs from them, and the launcher builds again.
 proofs:
 	built_from=$$(scripts/sources.sh) && rt ci && \
 	    { [ ! -e crates/keywrap/out/keywrap.by-rattle ] || \
@@ -268,7 +268,8 @@ install-provider: provider
 uninstall-provider:
 	rm -f '$(modules)/keywrap.so'
 
-# Without TARGET for each machine, each in a make of its own. What lists the files is made whole or not at all.
+# Without TARGET for each machine, each in a make of its own. The lists of the files are written completely or not at
+# all.
 all_machines = $(filter file,$(origin TARGET))
 dist: $(if $(all_machines),dist-each,needs $(packed))
 	cd '$(DIST)' && $(PYTHON) '$(CURDIR)/scripts/sbom.py' '$(version)' $(packed_files) >sbom.new && mv sbom.new '$(sbom)'

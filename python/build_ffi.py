@@ -101,7 +101,7 @@ header = Path("keywrap.h").read_text(encoding="utf-8")
 (no_memory,) = re.findall(r"^#define KEYWRAP_NO_MEMORY (\d+)$", header, re.M)
 ffi = FFI()
 ffi.cdef(declarations(header) + HELPERS)
-# Of the library: without debugging information, which names the folder, and stripped. The package calls the library
+# Of the library: without debugging information, which names the directory, and stripped. The package calls the library
 # that is in it, whatever another one in the process shows.
 NATIVE = {
     "extra_objects": ["libkeywrap.a"],

@@ -1,5 +1,5 @@
-# Proves the crates of the program side by side, each after those below it, and then builds the program: what the
-# launcher calls, from the top of the repository.
+# Proves the crates of the program side by side, each after the crates below it, and then builds the program. The
+# launcher calls this from the top of the repository.
 #
 # It calls the kit's compiler, rattle, as `rt ci` does. So a crate loads what the crates below it state, and not their
 # proofs: loading these takes long, and `rt lib` has no option to leave them out.
@@ -8,15 +8,15 @@
 # The directory LOGS, of the environment, gets the output for crates/NAME: NAME.log while rattle works on it and if it
 # fails, and NAME.proved afterwards.
 #
-# The program is compiled by Rattle's own compiler: clang takes a minute and a half for it, and makes none that is
-# faster. The gate runs what either makes.
+# Rattle's own compiler compiles the program: clang takes a minute and a half, and the result is not faster. The gate
+# runs both.
 
 .DEFAULT_GOAL = keywrap
 .PHONY: keywrap $(CRATES)
 
 kit := $(shell dirname -- "$$(dirname -- "$$(readlink -f -- "$$(command -v rt)")")")
-# What a build leaves for the next one: NAME.rlib for the crates above, and NAME.sums, the checksums of what it was made
-# of: the sources of NAME and of the crates below it, and the kit.
+# A build leaves two files of each crate for the next one: NAME.rlib for the crates above, and NAME.sums, the checksums
+# of the sources of NAME and of the crates below it, and of the kit.
 kept = crates/keywrap/out/kept
 # The crates that a crate names in crates.txt; the ones that have a directory here; and all crates below it.
 named = $(shell sed -n 's/^$(1): *//p' crates.txt)
@@ -29,8 +29,8 @@ sources = $(patsubst %,crates/%,$(1) $(call all_below,$(1)))
 sums = { scripts/sources.sh $(call sources,$(1)); b2sum '$(kit)/WHAT'; } >"$$LOGS/$(1).sums"
 $(foreach crate,$(changed),$(shell $(call sums,$(crate))))
 
-# The chain key_files, key_lines, keywrap_cli, keywrap takes the longest, so it comes first. The crates that it does not
-# need before the program get the time that it leaves.
+# The chain key_files, key_lines, keywrap_cli, keywrap takes the longest, so it comes first. The other crates, which
+# only the program needs, get the time that it leaves.
 $(CRATES): jobs = $(if $(filter 1,$(JOBS)),1,2)
 keywrap keywrap_cli: jobs = $(JOBS)
 $(filter-out key_files key_lines keywrap_cli,$(CRATES)): gently = nice -n 10

@@ -1,6 +1,6 @@
 # `make library HARDWARE=1`: libkeywrap_hw, with the calls of libkeywrap by the processor's AES, over the proved steps.
-# The proved calls are in it under other names, which no caller sees: ld and objcopy do that, so the objects have code
-# even with -flto.
+# It has the proved calls under names that no caller sees. ld and objcopy rename them, which takes objects with code, so
+# the objects are compiled with -fno-lto.
 
 hw_tools = $(if $(other),aarch64-linux-gnu-)
 hw_soname = libkeywrap_hw.so.1

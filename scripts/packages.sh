@@ -1,7 +1,7 @@
 #!/usr/bin/env bash
 # Installs what the tests use and this machine lacks: the Debian packages of tests/packages.txt, and for aarch64 what
-# scripts/sysroot.sh unpacks. A package that cannot be installed does not keep the others from it. The last line is what
-# is still missing, which is then the exit status, too.
+# scripts/sysroot.sh unpacks. If a package cannot be installed, the others still are. The last lines name what is still
+# missing. Then the exit status is 1.
 
 set -u
 cd "$(dirname "${BASH_SOURCE[0]}")/.." || exit

@@ -35,7 +35,7 @@ Dir::State::status "$room/status";
 Dir::Cache "$room/cache";
 Dir::Cache::archives "$room/cache/archives";
 CONF
-# A list that has nothing for arm64 is none of Debian's.
+# A list without packages for arm64 is not Debian's.
 apt-get -qq -c "$room/conf" update || echo 'sysroot.sh: some lists of packages are not there' >&2
 # shellcheck disable=SC2086
 apt-get -qq -c "$room/conf" install -y --download-only $packages >&2

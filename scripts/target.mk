@@ -4,7 +4,7 @@
 of_program = build test gate install install-command dist-command bench
 targets = x86_64-unknown-linux-gnu aarch64-unknown-linux-gnu
 
-# What `make dist` hands out, by goal and by name. The packages for every machine (npm, the portable library, the source
+# The goals and files of `make dist`. The packages for every machine (npm, the portable library, the source
 # distribution) are made with those for x86-64.
 wheel_of = keywrap-$(of_python)-cp39-abi3-manylinux_2_17_$(1).whl
 of_machine = keywrap-library-$(version)-$(1)-linux.tar.gz $(call wheel_of,$(1))

@@ -21,14 +21,14 @@ for name in "$@"; do
     fi
 done
 
-# run NAME COMMAND..: its lines go to a file, and its status as the last of them.
+# run NAME COMMAND..: writes its output to a file, with its status as the last line.
 run() {
     local began=$SECONDS status
     "${@:2}" </dev/null >"$logs/$1" 2>&1
     status=$?
     echo "$1: $((SECONDS - began)) s, status $status" >>"$logs/$1"
 }
-# run_scripts NAME..: as many at once as there are processors, and waits for them.
+# run_scripts NAME..: runs as many at once as there are processors, and waits for all.
 run_scripts() {
     local script
     for script in "$@"; do
@@ -38,8 +38,8 @@ run_scripts() {
     wait
 }
 
-# run_files: the tests of pytest. They are many and short, so they take the time that the scripts leave. Without pytest
-# nobody asks for their tools, so all that are missing are named.
+# run_files: runs pytest. Its tests are many and short, so they take the time that the scripts leave. Without pytest no
+# test names its tools, so all missing tools are named here.
 run_files() {
     local parallel=()
     if [ "$python" = none ]; then
@@ -72,7 +72,7 @@ done
 [ "$python" != none ] || [ ${#files[@]} = 0 ] ||
     echo 'most tests of the program need pytest, and are skipped: apt-get install python3-pytest, or make packages'
 
-# They share the program, which is built before the first of them. Of those over the C library the longest begin first.
+# The tests share the program, so it is built before the first test. The longest tests of the C library begin first.
 ./keywrap --version || exit
 over_archives=() others=()
 over=' hardware library js arm64 secrets '
@@ -88,7 +88,7 @@ counts='^([0-9]+) passed, ([0-9]+) failed, ([0-9]+) skipped'$'\n''.* status ([0-
 for script in "${scripts[@]}"; do
     echo
     cat "$logs/$script"
-    # The last two lines are the script's own and its status, which has to fit it.
+    # The last two lines are the script's counts and its status, which must agree.
     if [[ $(tail -n 2 "$logs/$script") =~ $counts ]]; then
         passed=$((passed + BASH_REMATCH[1])) failed=$((failed + BASH_REMATCH[2])) skipped=$((skipped + BASH_REMATCH[3]))
         [ "$((BASH_REMATCH[2] == 0))" = "$((BASH_REMATCH[4] == 0))" ] || failed=$((failed + 1))

@@ -19,7 +19,7 @@ cp -R --no-preserve=mode python "$package"
 cp --no-preserve=mode VERSION include/keywrap.h "$package"
 cp --no-preserve=mode "$library/libkeywrap_hw.a" "$package/libkeywrap.a"
 scripts/links.sh <python/README.md >"$package/README.md"
-# No symbol of glibc that it needs is newer than 2.17: tests/test_dist.py looks.
+# It needs no symbol of glibc that is newer than 2.17: tests/test_dist.py checks this.
 printf '[bdist_wheel]\nplat_name = manylinux_2_17_%s\n' "$machine" >"$package/setup.cfg"
 if [ -n "$sysroot" ]; then
     headers=include/$machine-linux-gnu

@@ -13,11 +13,11 @@ export TARGET=aarch64-unknown-linux-gnu
 # shellcheck source=tests/library/machine.sh
 . "$root/tests/library/machine.sh"
 
-# making GOAL VARIABLE=VALUE..: has this made for aarch64.
+# making GOAL VARIABLE=VALUE..: makes the goal for aarch64.
 library=${KEYWRAP_ARM64:-$room/library}
 making() { make -s -C "$root" "$@" LIBRARY="$library" SYSROOT="$sysroot" DIST="$room/dist"; }
 
-# are_arm FILE..: all that is in these is for aarch64.
+# are_arm FILE..: all objects in these files are for aarch64.
 are_arm() { [ "$(LC_ALL=C readelf -h "$@" | sed -n 's/^ *Machine: *//p' | sort -u)" = AArch64 ]; }
 
 ### The library
@@ -28,24 +28,24 @@ row 'make library' making library || { finish; exit; }
 row 'the library is of aarch64' are_arm "$library"/libkeywrap.{a,so.1}
 shown aarch64
 
-# shuffles: the shuffles of bytes are the processor's, and none of its instructions is one that it may lack.
+# shuffles: the library has the processor's byte shuffles, and no instruction that a processor may lack.
 shuffles() {
     "${tools}objdump" -d --no-show-raw-insn "$library/libkeywrap.a" | awk '{ print $2 }' >instructions
     [ "$(grep -cx tbl instructions)" -gt 100 ] && ! grep -xE 'aes.*|sha.*|pmull2?|tbx|sdot|udot' instructions
 }
 row 'the shuffles' shuffles
 
-# By the shared object, on an early processor; what depends on secrets and the package go by the archive.
+# The calls run over the shared object, on an early processor. The other tests use the archive.
 row 'the calls: compile' "$cc" -std=c99 -O2 -Wall -Wextra -pedantic -Werror "-I$root/include" \
     "-I$root/tests/reference" "$root"/tests/library/*.c "$root/tests/reference/one_table.c" "$library/libkeywrap.so.1" \
     -o checks
-# They run beside what follows.
+# They run beside the next rows.
 "${runs[@]}" -cpu cortex-a53 -E "LD_LIBRARY_PATH=$library" ./checks few >calls.log 2>&1 &
 calls=$!
 
 ### What depends on secrets
 
-# secrets: tests/secrets.sh passes over this library, the whole of it.
+# secrets: all of tests/secrets.sh passes over this library.
 secrets() {
     KEYWRAP_ARCHIVES=$library/libkeywrap.a bash "$root/tests/secrets.sh" 24 >secrets.log
     grep -q ' 0 failed, 0 skipped$' secrets.log || { cat secrets.log && false; }
@@ -76,7 +76,7 @@ row 'what it packs, except documents' diff <(cd "$packed" && find . -path ./shar
         lib/libkeywrap.{a,so,so.1,"so.${version/-/\~}"} lib/pkgconfig/keywrap.pc)
 row 'its documents' test -s "$packed/share/doc/keywrap/C_LIBRARY.md"
 row 'it is of aarch64' are_arm "$packed"/lib/libkeywrap.{a,so}
-row 'its README says so' grep -q 'Linux on aarch64' "$packed/README"
+row 'its README names aarch64' grep -q 'Linux on aarch64' "$packed/README"
 if needs 'the C example over the packed library' pkg-config; then
     read -ra flags < <(PKG_CONFIG_PATH=$packed/lib/pkgconfig pkg-config --cflags --libs keywrap)
     row 'the C example: builds' "$cc" -std=c99 "$root/examples/c/wrap.c" "${flags[@]}" -o example
@@ -86,14 +86,14 @@ fi
 
 ### The Python package
 
-# takes: Python of aarch64 installs a wheel of this name.
+# takes: the Python for aarch64 accepts the tags in the wheel's name.
 takes() {
     "${arm_python[@]}" -c 'import sys; from packaging import tags, utils
 assert utils.parse_wheel_filename(sys.argv[1])[3] & set(tags.sys_tags())' "$wheel"
 }
 
-# package_tests: none of the package's tests fails, or lacks what it needs. What threads do is Python's. One test, and
-# the files on keywrap.rotate, keywrap.vectors and install(), start other programs, which qemu does not.
+# package_tests: no test of the package fails or is skipped. Tests of threads are left out, and tests that start other
+# programs, which qemu cannot: one_exception, keywrap.rotate, keywrap.vectors and install().
 package_tests() {
     PYTHONPATH=$room/site KEYWRAP_CALLS=10000 "${arm_python[@]}" -m pytest -q -p no:cacheprovider \
         -k 'not thread and not one_exception and not pyca_installed' "$root"/python/tests/test_[!rv]*.py >tests.log

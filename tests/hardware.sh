@@ -94,7 +94,7 @@ fi
 python3 "$root/tests/published.py" foreign >cases
 ! needs_python "NIST's cases" cryptography_vectors || "$python" "$root/tests/published.py" nist >>cases
 mapfile -t comparing < <(printf '%s\n' "$root"/tests/provider/*.c | grep -v '/direct\.c$')
-# builds DIRECTORY COMPILER WORD..: builds there the programs over $library/libkeywrap_hw.so.1.
+# builds DIRECTORY COMPILER WORD..: builds the programs over $library/libkeywrap_hw.so.1 in the directory.
 builds() {
     mkdir -p "$1" && set -- "$1" "${@:2}" "${options[@]}" &&
         "${@:2}" "$root"/tests/library/*.c "$root/tests/reference/one_table.c" "$library/libkeywrap_hw.so.1" \
@@ -102,7 +102,7 @@ builds() {
         "${@:2}" "$root/tests/published.c" "$library/libkeywrap_hw.so.1" -o "$1/published" &&
         "${@:2}" "$root/tests/hardware/chosen.c" "$root"/hardware/{aes,x86_64,aarch64}.c -o "$1/chosen"
 }
-# compares DIRECTORY LIBCRYPTO COMPILER WORD..: builds there the program that compares the provider with OpenSSL's.
+# compares DIRECTORY LIBCRYPTO COMPILER WORD..: builds the program that compares the provider with OpenSSL's.
 compares() { "${@:3}" "${options[@]}" "${comparing[@]}" "$2" -o "$1/compared"; }
 # on PROCESSOR DIRECTORY AES COMMAND..: run by the command, the programs use this AES and find no fault.
 on() {
@@ -130,8 +130,8 @@ if needs 'each processor' qemu-x86_64; then
     on 'x86-64 without AES' here software qemu-x86_64 -cpu Nehalem
     slow row 'planted bugs' python3 "$root/tests/hardware/bugs.py" "$library/libkeywrap.a"
 fi
-# left MOST: no call but the first, which makes the known-answer test, leaves more bytes that depend on a secret below
-# the stack pointer. The 16 bytes are a block of the wrapped key.
+# left MOST: no call leaves more bytes below the stack pointer that depend on a secret, except the first call, which
+# makes the known-answer test. The 16 bytes are a block of the wrapped key.
 left() {
     awk -v most="$1" 'NR > 1 && ($4 > most || $5 > most || $6 > most) { print; bad = 1 } END { exit bad }' stacked
 }

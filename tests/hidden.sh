@@ -27,7 +27,8 @@ print(*(spec and (spec.submodule_search_locations or [spec.origin]) or []), sep=
     *) mapfile -t files < <(type -aP "$1"; eval "${found_by[$1]}" | grep '^/') ;;
     esac
     [ ${#files[@]} = 0 ] || rm -rf "${files[@]}"
-    # A module has its name in other files, too. What is not a file of this name goes with all files of its packages.
+    # The name of a module is in other files, too. A tool without a file of its name is hidden with all files of its
+    # packages.
     [[ $1 = import* ]] || is_here "$1" || return 0
     # shellcheck disable=SC2086
     dpkg -L $(tr ' ' '\n' <<<"${packages_of[$1]}" | grep -vxE 'gcc|libc6-dev') 2>/dev/null | while read -r file; do
@@ -56,7 +57,7 @@ row_without() {
         "$(tail -n 1 log | grep -vE '^[0-9]+ passed, 0 failed, '; grep -E '^FAILED|cannot be hidden' log)"
 }
 
-# tools_but TOOLS: those with a package, but for these in a line each. What has no package is what the machine allows.
+# tools_but TOOLS: all tools with a package except these, one a line. A tool without a package depends on the machine.
 tools_but() {
     for tool in "${!packages_of[@]}"; do [ -z "${packages_of[$tool]}" ] || echo "$tool"; done | sort | grep -vxF -e "$1"
 }

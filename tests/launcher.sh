@@ -30,7 +30,7 @@ left() {
     done
     find crates -name 'built_from.*'
 }
-# launched NAME STATUS ANSWER LINES NOTE..: the run ended in this way, and left no process and no file.
+# launched NAME STATUS ANSWER LINES NOTE..: the run ended like this, and left no process and no file.
 order=(:)
 launched() {
     LC_ALL=C "${order[@]}"
@@ -151,11 +151,11 @@ crates first_four: second_four: third_four: fourth_four: 'above_second: second_f
 begins=('first_four: build --jobs 2' 'fourth_four: build --jobs 2' 'second_four: build --jobs 2'
     'third_four: build --jobs 2')
 all_ended=('ended first_four' 'ended fourth_four' 'ended second_four' 'ended third_four')
-# The notes of those that are at work side by side may come in any order.
+# The notes of crates that are built side by side may come in any order.
 order=(sort -o notes notes)
 # most_at_once: the greatest number of crates at one time.
 most_at_once() { awk '/^[a-z_]*: /{ n++ } /^end/{ n-- } n > most { most = n } END { print most + 0 }' notes; }
-# at_once PROCESSORS JOBS N EVENT: N are at work at once, with two jobs each if there are as many processors, and the
+# at_once PROCESSORS JOBS N EVENT: N crates are built at once, with two jobs each if there are two processors. The
 # program comes last, with JOBS.
 at_once() {
     local each=$(($1 > 1 ? 2 : 1))
@@ -200,8 +200,8 @@ done
 
 ### On a terminal
 
-# on_screen: runs the launcher on a terminal, whose keys are what is written to the pipe `keys`. What it shows
-# comes as the file `screen`; `err` has the launcher's lines that were not rewritten.
+# on_screen: runs the launcher on a terminal. The pipe `keys` types. The file `screen` has all that is shown, and `err`
+# the launcher's lines that were not rewritten.
 mkfifo keys && exec 3<>keys
 on_screen() {
     fresh

@@ -128,7 +128,7 @@ every() {
     esac
 }
 
-# texts BYTES TEXT: a function that has a text written, whose length need not be looked at.
+# texts BYTES TEXT: a function that gets the text of a status, and may ignore its length.
 texts() { echo "void f$((++callers))(void) { char text[$1]; keywrap_status_text(0, $2, 8); }"; }
 
 # header_names: the calls of the header that return a status are the table's.
@@ -298,7 +298,7 @@ by_cmake() {
         -Dkeywrap_DIR="$1/cmake/keywrap" && cmake --build by_cmake && writes $rfc3394_42 by_cmake/static &&
         LD_LIBRARY_PATH=$1 writes $rfc3394_42 by_cmake/shared
 }
-# lies WORDS FILE..: installed by these words, these files are there, and nothing else is but the documents.
+# lies WORDS FILE..: an install with these words makes these files, and no others except documents.
 lies() {
     rm -rf stage && in_library install-library DESTDIR="$room/stage" $1 &&
         diff <(cd stage && find . -name doc -prune -o ! -type d -print | sort) <(printf './%s\n' "${@:2}" | sort)
@@ -323,7 +323,7 @@ if needs 'the package file of CMake' cmake; then
 fi
 row 'its make uninstall-library' eval 'in_library uninstall-library DESTDIR="$room/stage" prefix=/a libdir=/b/lib \
     includedir=/c docdir=/d/doc && [ -z "$(find stage ! -type d)" ]'
-# stripped: the shared object has no symbols but those that it shows, and the archive all.
+# stripped: the shared object has only the symbols that it exports, and the archive all.
 stripped() {
     lies 'prefix= STRIP=1' include/keywrap{,_steps}.h $(of_lib lib) &&
         nm stage/lib/libkeywrap.so 2>&1 | grep 'no symbols' &&
@@ -333,7 +333,7 @@ row 'STRIP=1' stripped
 
 ### What it needs of the processor
 
-# at_most_sse41: no instruction in the archive is of SSE4.2, POPCNT, AES or AVX: all that the header's check looks for.
+# at_most_sse41: the archive has no instruction of SSE4.2, POPCNT, AES or AVX, which the header does not check for.
 at_most_sse41() {
     objdump -d --no-show-raw-insn "$library/libkeywrap.a" | awk -F '\t' 'NF > 1 { sub(/ .*/, "", $2); print $2 }' >used
     grep -qx pshufb used &&

@@ -272,8 +272,8 @@ keeps_sums() {
     rm "bin/$2"
     [ $status = 2 ] && cmp old.sums dist/SHA256SUMS
 }
-row 'make dist, where sha256sum fails' keeps_sums 'echo half' sha256sum $all dist $arm
-row 'make dist, where a file is not packed' keeps_sums '' gzip $all dist $arm
+row 'make dist, if sha256sum fails' keeps_sums 'echo half' sha256sum $all dist $arm
+row 'make dist, if a file is not packed' keeps_sums '' gzip $all dist $arm
 verdict 'make dist leaves nothing in the directory of temporary files' "$(ls "$TMPDIR")"
 # A missing tool is named before anything is built.
 fresh

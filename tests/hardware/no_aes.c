@@ -2,7 +2,7 @@
 
 unsigned long getauxval(unsigned long type);
 
-/* AT_HWCAP, and of its bits (asm/hwcap.h) FP, ASIMD, PMULL, SHA1, SHA2 and CRC32. */
+/* AT_HWCAP, with these of its bits (asm/hwcap.h): FP, ASIMD, PMULL, SHA1, SHA2 and CRC32. */
 unsigned long getauxval(unsigned long type) {
     return type == 16 ? 0xf3 : 0;
 }

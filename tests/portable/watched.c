@@ -1,6 +1,6 @@
 /* watched.c: replaces malloc and free in keywrap.c, which is compiled with -Dmalloc=watched_malloc
  * and -Dfree=watched_free. Each block is between bytes that a call may not write, and must be all
- * zeros when it is freed, but for a last word that is not full. `watched_limit` is the length of
+ * zeros when it is freed, except for an incomplete last word. `watched_limit` is the length of
  * the longest block that is made. */
 
 #include "watched.h"

@@ -19,7 +19,7 @@ enum { PLACE_COUNT = sizeof PLACES / sizeof *PLACES };
 
 static const uint8_t *const NO_VALUE = NULL;
 
-/* A wrapping of so many bytes as OpenSSL's own makes it; any bytes if there is none. */
+/* A wrapped key of this length by OpenSSL's own provider; any bytes if no key has one. */
 static void wrapping(int which, const uint8_t *kek, const uint8_t *iv, int len, uint8_t *text) {
     uint8_t key[LONGEST], room[LONGEST + 32];
     int short_by = is_padded(which) ? (int)below(8) : 0, text_len = 0;
@@ -64,7 +64,7 @@ static void at_length(int which, int len, const uint8_t *iv) {
     }
 }
 
-/* The wrapped keys of each length are found to be ones: else the comparison has only refusals. */
+/* Each length has inputs that are wrapped keys: otherwise only refusals would be compared. */
 static void are_wrappings(int which) {
     uint8_t kek[32], input[LONGEST];
     for (int len = is_padded(which) ? 16 : 24; len <= LONGEST; len += 8) {

@@ -22,7 +22,7 @@ static const unsigned TYPES[] = {OSSL_PARAM_INTEGER, OSSL_PARAM_UNSIGNED_INTEGER
                                  OSSL_PARAM_OCTET_PTR};
 static const size_t SIZES[] = {1, 2, 4, 8, 16};
 
-/* Records a parameter; of a pointer, the bytes that it points to. */
+/* Records a parameter, or for a pointer the bytes that it points to. */
 static void record_param(struct side *side, const OSSL_PARAM *param, const uint8_t *data) {
     const uint8_t *there;
     record_number(side, (long)param->return_size);

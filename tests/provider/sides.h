@@ -61,7 +61,7 @@ int run_update(struct side *side, struct place place, const uint8_t *input, int 
 
 void run_final(struct side *side);
 
-/* The same in both sides, after which what each recorded is compared. */
+/* Compares the records of both sides after the same calls. */
 void compare(const char *format, ...);
 
 /* The next number of a sequence of pseudo-random ones, and one below the limit. */

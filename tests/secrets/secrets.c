@@ -251,8 +251,8 @@ static void mark(int undefined) {
     }
 }
 
-/* The reports of one call on secrets, whose answer must be the one on bytes that are none; with
- * damage the text that it takes fails its integrity check. */
+/* The reports of one call on secret bytes. The same call on bytes that are not secret must have the
+ * same result. With damage the text fails its integrity check. */
 static unsigned reports(const struct watched *watched, size_t kek_len, size_t len, int damage) {
     static uint8_t expected[2 * ROOM];
     int32_t wanted = damage ? KEYWRAP_INTEGRITY : watched->status;

@@ -88,12 +88,12 @@ static void unwrap_padded_in_place(void) {
     status = keywrap_unwrap_padded_in_place(kek, kek_len, out, text_len, &out_len);
 }
 
-/* What it refuses for its length is the scratch buffer. */
+/* The wrong length is the scratch buffer's. */
 static void kind(void) {
     status = keywrap_kind(kek, kek_len, text, TEXT_LEN, out, text_len - 8, &padded, &out_len);
 }
 
-/* What it refuses for its length is the key's buffer. */
+/* The wrong length is the key's buffer's. */
 static void unwrap_any(void) {
     status = keywrap_unwrap_any(kek, kek_len, text, TEXT_LEN, out, text_len - 8, &padded, &out_len);
 }
@@ -264,7 +264,7 @@ static unsigned differing(const uint8_t *a, const uint8_t *b) {
     return count;
 }
 
-/* How often 16 bytes of a secret are there, at the secret's start or in its middle. */
+/* Counts copies of 16 bytes of a secret, from the secret's start or from its middle. */
 static unsigned copies(const uint8_t *stack) {
     unsigned count = 0;
     for (size_t i = 0; i + 16 <= STACK; i++)
