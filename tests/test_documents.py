@@ -178,7 +178,8 @@ class TestRepeatedFacts:
         short = {name: times["keywrap", "software", "32", "wrap", "32"] / times[(*key.split(","), "32", "wrap", "32")]
                  for name, key in by_name.items()}
         numbers = [round(short[name], 1) for name in ("OpenSSL 3.0", "libgcrypt 1.10", "nettle 3.8")]
-        text = "takes {:g} times as long as OpenSSL's, and {:g} to {:g} times as long as libgcrypt's and nettle's"
+        text = ("takes {:g} times as long as OpenSSL 3.0's, and {:g} to {:g} times as long as libgcrypt 1.10's and "
+                "nettle 3.8's with AES instructions")
         assert text.format(*numbers) in " ".join(text_of("README.md").split())
         provider = [(row[1], int(row[4]) / int(row[3])) for row in measured("provider")[1:]]
         assert all(0.4 < ratio < 0.6 for call, ratio in provider if call == "wrap")
