@@ -311,6 +311,7 @@ bench: build library library-hardware provider wheel portable
 	PORTABLE='$(PORTABLE)' bench/wrap '$(LIBRARY)/libkeywrap.a'
 	bench/many '$(LIBRARY)/libkeywrap.a'
 	bench/provider '$(PROVIDER)/keywrap.so'
+	bench/java '$(LIBRARY)'
 	bench/startup '$(PROGRAM)'
 	bench/lines '$(PROGRAM)' '$(PYTHON)'
 	$(PYTHON) python/bench.py '$(wheel)'

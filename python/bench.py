@@ -1,9 +1,13 @@
 """How long a call takes, beside Debian's pyca and the C call: python3 python/bench.py WHEEL
 
-The C call is made through cffi; so is the one that is refused at once, which tells what that costs.
-Microseconds by the processor time of this thread, the best of many short rounds that take turns."""
+The C call is made through cffi; so is the one that is refused at once, which shows what that costs.
+Microseconds by the processor time of this thread, the best of many short rounds that take turns.
+With BENCH=DIRECTORY the times also go into DIRECTORY/python.csv."""
 
 import importlib
+import os
+import pathlib
+import subprocess
 import sys
 import tempfile
 import time
@@ -59,9 +63,14 @@ def main(wheel):
     except ImportError:
         theirs = None
         print("left out: pyca (apt-get install python3-cryptography)")
+    recorded = ["key,call,us"]
     for length, calls in rows(keywrap, ffi, theirs):
         found = timed(calls)
+        recorded += [f"{length},{name},{best:.2f}" for name, best in found.items()]
         print(f"{length:5} bytes: " + ", ".join(f"{name} {best:.2f} us" for name, best in found.items()))
+    if os.environ.get("BENCH"):
+        record = pathlib.Path(__file__).resolve().parent.parent / "bench/record"
+        subprocess.run([record, "python"], input="\n".join(recorded) + "\n", text=True, check=True)
 
 
 if __name__ == "__main__":

@@ -19,11 +19,6 @@ def text_of(document):
     return (ROOT / document).read_text()
 
 
-def measured(name):
-    """The rows of a measurement. The first has the names of the columns."""
-    return [row.split(",") for row in text_of(f"docs/pictures/{name}.csv").splitlines() if row[0] != "#"]
-
-
 @pytest.mark.parametrize("document", DOCUMENTS, ids=str)
 class TestEachDocument:
     def test_links(self, document):
@@ -150,49 +145,6 @@ class TestRepeatedFacts:
         assert set(re.findall(r"`(keywrap_\w+)[^`]*` \(since 1\.1\)", page)) == new
         listed = re.search(r"^- C: (.*?)^- ", changes, re.M | re.S)[1]
         assert set(re.findall(r"`(keywrap_[a-z_]+)`", listed)) == new
-
-    def test_keys_of_the_pictures(self):
-        """README has the length of the keys in the recorded rotation, and of those that bench/lines times."""
-        readme = " ".join(text_of("README.md").split())
-        wrapped, = re.findall('WRAPPED = "([0-9A-F]+)"', text_of("scripts/record_rotation.py"))
-        length, = re.findall(r"random \$\(\((\d+) \* lines\)\) >keys", text_of("bench/lines"))
-        assert f"keys of {len(wrapped) // 2 - 8} bytes](docs/pictures/rotation.svg)" in readme
-        assert f"keys of {length} bytes per second with `--lines`](docs/pictures/lines.svg)" in readme
-
-    def test_times_of_the_libraries(self):
-        """docs/C_LIBRARY.md has the times of docs/pictures/wrap.csv. README and docs/OPENSSL.md compare them."""
-        times = {tuple(row[:5]): float(row[5]) for row in measured("wrap")[1:] if row[2] == "32"}
-        by_name = {"keywrap": "keywrap,software", "OpenSSL 3.0": "openssl,software", "one table in C": "C,software",
-                   "libgcrypt 1.10": "gcrypt,AES inst.", "nettle 3.8": "nettle,AES inst."}
-        names, _, *rows = [[cell.strip() for cell in line.split("|")[1:-1]]
-                           for line in text_of("docs/C_LIBRARY.md").rpartition("## How fast it is")[2].splitlines()
-                           if line.startswith("|")]
-        timed = {name: {row[0]: times[(*by_name[name].split(","), "32", row[0], "4096")] for row in rows}
-                 for name in by_name}
-        for row in rows:
-            assert {name: int(cell) for name, cell in zip(names, row) if name in by_name} == {
-                name: round(timed[name][row[0]]) for name in by_name}
-        ours = timed["keywrap"]["wrap"]
-        assert 0.45 < ours / timed["OpenSSL 3.0"]["wrap"] < 0.55                        # about half as long
-        assert 2.5 < ours / timed["libgcrypt 1.10"]["wrap"] < ours / timed["nettle 3.8"]["wrap"] < 4    # three times
-        short = {name: times["keywrap", "software", "32", "wrap", "32"] / times[(*key.split(","), "32", "wrap", "32")]
-                 for name, key in by_name.items()}
-        numbers = [round(short[name], 1) for name in ("OpenSSL 3.0", "libgcrypt 1.10", "nettle 3.8")]
-        text = ("takes {:g} times as long as OpenSSL 3.0's, and {:g} to {:g} times as long as libgcrypt 1.10's and "
-                "nettle 3.8's with AES instructions")
-        assert text.format(*numbers) in " ".join(text_of("README.md").split())
-        provider = [(row[1], int(row[4]) / int(row[3])) for row in measured("provider")[1:]]
-        assert all(0.4 < ratio < 0.6 for call, ratio in provider if call == "wrap")
-        assert all(ratio < 0.5 for call, ratio in provider if call == "unwrap")
-
-    def test_times_of_the_browsers(self):
-        """js/README.md has the times of docs/pictures/js.csv, in microseconds and for 1 MiB in milliseconds."""
-        rows = measured("js")
-        page = " ".join(text_of("js/README.md").split())
-        short, long = (list(map(int, re.findall(r"\d+", words))) for words in re.search(
-            "A wrap of 32 bytes takes (.*); a wrap of 1 MiB (.*), with KEKs", page).groups())
-        assert short == [round(float(time)) for row in rows if row[1] == "32" for time in row[2:]]
-        assert long == [round(float(row[way]) / 1000) for way in (2, 3) for row in rows if row[1] == "1048576"]
 
     @pytest.mark.parametrize("words, elsewhere", [
         ("reserved for the padded form", "python/src/keywrap/_refusals.py js/keywrap.js provider/errors.c"),

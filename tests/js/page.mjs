@@ -80,7 +80,7 @@ test('a refusal says why, and there is no answer', async () => {
     assert.deepEqual(await done(KEK_5649, WRAPPED, 'unwrap'), [failed, '', true]);
     assert.deepEqual(await done(KEK, `${WRAPPED.slice(0, -1)}4`, 'unwrap'), [failed, '', true]);
     assert.deepEqual(await done(KEK_5649, WRAPPED, 'check'),
-        ['It is no wrapped key under this KEK.', '', true]);
+        ['It is not a wrapped key under this KEK.', '', true]);
     assert.deepEqual(await done(KEK.slice(2), KEY, 'wrap'),
         ['Refused: the KEK is 15 bytes long; it must be 16, 24 or 32 bytes.', '', true]);
     const lengths = 'a multiple of 8 from 16 to 1048576 bytes';

@@ -1,0 +1,126 @@
+"""Numbers in the documents: each is in a recorded measurement, in a source or in what the program writes."""
+
+import csv
+import re
+
+from test_documents import ROOT, text_of
+
+
+def words_of(document):
+    return " ".join(text_of(document).split())
+
+
+def measured(name):
+    """The rows of a measurement. The first has the names of the columns."""
+    lines = text_of(f"docs/pictures/{name}.csv").splitlines()
+    return list(csv.reader(line for line in lines if line[0] != "#"))
+
+
+def numbers_of(text):
+    return [int(re.sub("[,_]", "", number)) for number in re.findall(r"\b\d[\d,_]*\b", text)]
+
+
+class TestMeasured:
+    def test_keys_of_the_pictures(self):
+        """README has the length of the keys in the recorded rotation, and of those that bench/lines times. Their rates
+        differ as the block calls do."""
+        readme = words_of("README.md")
+        wrapped, = re.findall('WRAPPED = "([0-9A-F]+)"', text_of("scripts/record_rotation.py"))
+        length, = re.findall(r"random \$\(\((\d+) \* lines\)\) >keys", text_of("bench/lines"))
+        recorded = len(wrapped) // 2 - 8
+        assert f"keys of {recorded} bytes](docs/pictures/rotation.svg)" in readme
+        assert f"keys of {length} bytes per second with `--lines`](docs/pictures/lines.svg)" in readme
+        rate = int(re.search(r"during: .* (\d+) a second", text_of("docs/pictures/rotation.txt"))[1])
+        lines, = [int(row[2]) for row in measured("lines") if row[:2] == ["keywrap --lines", "rewrap"]]
+        assert 0.75 < rate * recorded / (lines * int(length)) < 1.33
+
+    def test_times_of_the_libraries(self):
+        """docs/C_LIBRARY.md has the times of docs/pictures/wrap.csv. README and docs/OPENSSL.md compare them."""
+        times = {tuple(row[:5]): float(row[5]) for row in measured("wrap")[1:] if row[2] == "32"}
+        by_name = {"keywrap": "keywrap,software", "OpenSSL 3.0": "openssl,software", "one table in C": "C,software",
+                   "libgcrypt 1.10": "gcrypt,AES inst.", "nettle 3.8": "nettle,AES inst."}
+        names, _, *rows = [[cell.strip() for cell in line.split("|")[1:-1]]
+                           for line in text_of("docs/C_LIBRARY.md").rpartition("## How fast it is")[2].splitlines()
+                           if line.startswith("|")]
+        timed = {name: {row[0]: times[(*by_name[name].split(","), "32", row[0], "4096")] for row in rows}
+                 for name in by_name}
+        for row in rows:
+            assert {name: int(cell) for name, cell in zip(names, row) if name in by_name} == {
+                name: round(timed[name][row[0]]) for name in by_name}
+        ours = timed["keywrap"]["wrap"]
+        assert 0.45 < ours / timed["OpenSSL 3.0"]["wrap"] < 0.55                        # about half as long
+        assert 2.5 < ours / timed["libgcrypt 1.10"]["wrap"] < ours / timed["nettle 3.8"]["wrap"] < 4    # three times
+        short = {name: times["keywrap", "software", "32", "wrap", "32"] / times[(*key.split(","), "32", "wrap", "32")]
+                 for name, key in by_name.items()}
+        numbers = [round(short[name], 1) for name in ("OpenSSL 3.0", "libgcrypt 1.10", "nettle 3.8")]
+        text = ("takes {:g} times as long as OpenSSL 3.0's, and {:g} to {:g} times as long as libgcrypt 1.10's and "
+                "nettle 3.8's with AES instructions")
+        assert text.format(*numbers) in words_of("README.md")
+        provider = [(row[1], int(row[4]) / int(row[3])) for row in measured("provider")[1:]]
+        assert all(0.4 < ratio < 0.6 for call, ratio in provider if call == "wrap")
+        assert all(ratio < 0.5 for call, ratio in provider if call == "unwrap")
+
+    def test_times_of_many_keys(self):
+        """docs/C_LIBRARY.md has the times of docs/pictures/many.csv for a rewrap from plain to plain."""
+        times = {row[0]: int(row[3]) for row in measured("many")[1:] if row[1:3] == ["0", "32"]}
+        text = ("A rewrap of a key of 32 bytes takes {} ns in `keywrap_rewrap_many` of `libkeywrap_hw`, {:,} in its "
+                "`keywrap_rewrap`, and {:,} by nettle with kept key schedules")
+        ways = "keywrap_hw, many", "keywrap_hw, one", "nettle, kept schedules"
+        assert text.format(*map(times.get, ways)) in words_of("docs/C_LIBRARY.md")
+
+    def test_times_of_the_browsers(self):
+        """js/README.md has the times of docs/pictures/js.csv, in microseconds and for 1 MiB in milliseconds."""
+        rows = measured("js")
+        short, long = (list(map(int, re.findall(r"\d+", words))) for words in re.search(
+            "A wrap of 32 bytes takes (.*); a wrap of 1 MiB (.*), with KEKs", words_of("js/README.md")).groups())
+        assert short == [round(float(time)) for row in rows if row[1] == "32" for time in row[2:]]
+        assert long == [round(float(row[way]) / 1000) for way in (2, 3) for row in rows if row[1] == "1048576"]
+
+
+class TestSources:
+    def test_limits(self):
+        """The longest key, the longest wrapped key and the longest file: of the crates, the header and each page."""
+        longest, = numbers_of(re.search("MAX_KEY: usize = (.*);", text_of("crates/key_wrap_core/src/lengths.rt"))[1])
+        file, = numbers_of(re.search("MAX_FILE: usize = (.*);", text_of("crates/key_files/src/read.rt"))[1])
+        assert numbers_of(re.search("define KEYWRAP_MAX_KEY (.*)", text_of("include/keywrap.h"))[1]) == [longest]
+        pages = {"docs/DEFINITIONS.md": {longest, longest + 8, file}, "man/keywrap.1": {longest, longest + 8, file},
+                 "js/keywrap.d.ts": {longest, longest + 8}, "docs/OPENSSL.md": {longest}, "python/README.md": {longest},
+                 "java/README.md": {longest}}
+        for page, limits in pages.items():
+            assert {number for number in numbers_of(text_of(page)) if 10 ** 6 <= number < 10 ** 7} == limits, page
+        assert longest == 1 << 20 and "both up to 1 MiB" in words_of("README.md")
+
+    def test_memory_of_a_module(self):
+        """js/README.md has the memory that the module is linked with."""
+        size, = re.findall(r"--memory (\d+)", text_of("scripts/js.sh"))
+        assert f"An instance has {int(size) / (1 << 20):.1f} MiB of memory." in words_of("js/README.md")
+
+    def test_lines_of_hardware(self):
+        """docs/C_LIBRARY.md counts the C that is trusted beside the processor's AES, in hundreds."""
+        lines = sum(len(file.read_text().splitlines()) for file in ROOT.glob("hardware/*.[ch]"))
+        assert f"{round(lines, -2):,} lines of C in `hardware/`" in words_of("docs/C_LIBRARY.md")
+
+    def test_glibc(self):
+        """README and the archive's README need what the Debian package depends on; the wheel needs what its name says."""
+        needed, = re.findall(r"deb keywrap .* Depends .* libc6 \(>= (.*)\)", text_of("tests/handed_out.txt"))
+        assert f"glibc {needed} or newer" in words_of("README.md")
+        assert f"glibc {needed} or newer" in words_of("docs/README.in")
+        wheel, = set(re.findall(r"manylinux_(\d+_\d+)_", text_of("docs/INSTALLING.md")))
+        assert f"SSE4.1 and glibc {wheel.replace('_', '.')}" in words_of("README.md")
+        assert f"glibc {wheel.replace('_', '.')} or newer" in words_of("python/README.md")
+
+    def test_crates(self):
+        """docs/ARCHITECTURE.md lists every crate."""
+        listed = re.findall(r"^- `(\w+)`: ", text_of("docs/ARCHITECTURE.md").partition("An arrow leads")[0], re.M)
+        assert sorted(listed) == sorted(path.name for path in ROOT.glob("crates/*") if (path / "src").is_dir())
+
+    def test_lengths_under_qemu(self):
+        """SECURITY.md has the longest key with which tests/arm64.sh looks for branches on secrets."""
+        length, = re.findall(r"tests/secrets\.sh\" (\d+) >", text_of("tests/arm64.sh"))
+        assert f"under qemu, with keys of up to {length} bytes" in words_of("SECURITY.md")
+
+    def test_vectors(self, keywrap):
+        lines = keywrap("vectors").stdout.splitlines()
+        assert len(lines) == 12 and all(line.endswith(" ok") for line in lines)
+        assert "on twelve published vectors" in words_of("README.md")
+        assert "Runs the twelve published test vectors" in words_of("man/keywrap.1")
