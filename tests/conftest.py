@@ -95,7 +95,7 @@ def files(tmp_path, tmp_path_factory, monkeypatch):
         if not large.exists():
             large.write_bytes(content)
         os.symlink(large, name)
-    os.mkdir("folder")
+    os.mkdir("directory")
     mask = os.umask(0o022)
     yield tmp_path
     os.umask(mask)

@@ -111,7 +111,7 @@ for command in wrap unwrap rewrap check; do
     done
 done
 
-mkdir files files/folder
+mkdir files files/directory
 touch 'files/a key' files/b.hex
 completes bash
 # Bash quotes file names, and adds a slash to directories, if it knows that they are file names.

@@ -75,7 +75,7 @@ class TestRefusals:
     def test_initial_value(self, keywrap, option, args):
         """The values are checked before any file is opened, --iv first."""
         for value in "", IV[1:], IV + "0", IV[:-1] + "g", " " + IV, RESERVED_IV[:-1]:
-            assert keywrap(args, option, value, "-o", "folder") == refused(2, f"{option} {NO_IV}")
+            assert keywrap(args, option, value, "-o", "directory") == refused(2, f"{option} {NO_IV}")
         for value in RESERVED_IV, RESERVED_IV.upper(), "A65959a6" + "0" * 8:
             assert keywrap(args, option, value, "-i", "missing") == refused(2, f"{option} {RESERVED}")
         assert keywrap(args, option, "a65959a7" + "0" * 8) == refused(6, "key file: cannot be opened")

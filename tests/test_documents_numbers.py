@@ -101,7 +101,7 @@ class TestSources:
         assert f"{round(lines, -2):,} lines of C in `hardware/`" in words_of("docs/C_LIBRARY.md")
 
     def test_glibc(self):
-        """README and the archive's README need what the Debian package depends on; the wheel needs what its name says."""
+        """README and the archive's README name what the Debian package depends on, and what the wheel's name says."""
         needed, = re.findall(r"deb keywrap .* Depends .* libc6 \(>= (.*)\)", text_of("tests/handed_out.txt"))
         assert f"glibc {needed} or newer" in words_of("README.md")
         assert f"glibc {needed} or newer" in words_of("docs/README.in")

@@ -26,7 +26,7 @@ IN_LINES = [*ENDINGS, *(f"[ ! -e lines/file ] || {line}" for line in (
     (CHANGES, None, lands, [f"{WRAP} -i key.hex -o to/file", FILES["wrapped.hex"]]),
     (CHANGES, b"old\n", lands, [f"{WRAP} -i key.hex -o to/file", FILES["wrapped.hex"]]),
     (CHANGES, b"old\n", lands, [f"{UNWRAP} -i wrapped.hex -o to/file", FILES["key.hex"]]),
-    (CHANGES, b"old\n", keeps, [f"{WRAP} -i wrapped.hex -o folder", NO_OUTPUT]),
+    (CHANGES, b"old\n", keeps, [f"{WRAP} -i wrapped.hex -o directory", NO_OUTPUT]),
     *[(IN_LINES, None, comes_to, [WRAP, [KEY16, "00"], [WRAPPED16, (4, BAD_LENGTH)], keep_going])
       for keep_going in (False, True)]] for line in ["", *lines]])
 def test_fault(keywrap, tmp_path_factory, line, content, comparison, args):

@@ -67,14 +67,15 @@ class TestContent:
 
     @pytest.mark.parametrize("name, args", [
         ("file", ["--output", "file"]), ("file", ["-ofile"]), ("a\nkey", ["--output=a\nkey"]), ("-x", ["--output=-x"]),
-        ("--raw", ["--output=--raw"]), ("-x", ["-o", "./-x"]), ("-", ["-o", "./-"]), ("a folder/a", ["-oa folder/a"]),
+        ("--raw", ["--output=--raw"]), ("-x", ["-o", "./-x"]), ("-", ["-o", "./-"]),
+        ("a directory/a", ["-oa directory/a"]),
         *[(name, ["-o", name]) for name in ("a key", ".file", "file.part0", "*", "é")],
-        *[("file", ["-o", path]) for path in ("a folder/../file", "..//linked/file", "{}/to/file")],
+        *[("file", ["-o", path]) for path in ("a directory/../file", "..//linked/file", "{}/to/file")],
         ("0" * 249, ["-o", "0" * 249])], ids=lambda value: repr(value)[:20])
     def test_names(self, keywrap, files, name, args):
         """The answer is in the file that the arguments name, in the directory `to`."""
         fresh()
-        os.mkdir("to/a folder")
+        os.mkdir("to/a directory")
         os.symlink("to", "linked")
         args = [arg.format(files) for arg in args]
         for kek, answer in ("../kek16.hex", WRAPPED), ("../kek32.hex", WRAPPED32):
@@ -83,10 +84,10 @@ class TestContent:
     # Directories, links, pipes and what is not there; then KEK files, by whatever names of theirs.
     @pytest.mark.parametrize("args, names", [
         (f"{WRAP} -i key.hex", [
-            "to/folder", "to/folder/", "to/folder/.", "to/folder/inner/..", ".", "/", "", "to/fifo", "to/link",
-            "to/dangling", "to/linked", "to/linked/", "to/loop", "/proc/self/fd/1", "to/file/", "to/file/file",
-            "to/missing/file", "to/missing/", "to/" + "0" * 256, "to/" + "0" * 250, "to/" + "0" * 5000, "/proc/keywrap",
-            "/proc/version", "to/null"]),
+            "to/directory", "to/directory/", "to/directory/.", "to/directory/inner/..", ".", "/", "", "to/fifo",
+            "to/link", "to/dangling", "to/linked", "to/linked/", "to/loop", "/proc/self/fd/1", "to/file/",
+            "to/file/file", "to/missing/file", "to/missing/", "to/" + "0" * 256, "to/" + "0" * 250, "to/" + "0" * 5000,
+            "/proc/keywrap", "/proc/version", "to/null"]),
         *[(f"wrap -i key.hex --kek {kek}",
            ["to/kek16.hex", "./to/../to/kek16.hex", "{}/to/kek16.hex", "to/hard.kek16.hex"])
           for kek in ("to/kek16.hex", "to/hard.kek16.hex", "to/soft.kek16.hex", "/dev/stdin")],
@@ -99,9 +100,9 @@ class TestContent:
           for new in ("kek32.hex", "soft.kek32.hex", "hard.kek32.hex")]])
     def test_names_that_are_refused(self, keywrap, files, args, names):
         fresh(b"old\n")
-        sh("""cp kek16.hex kek32.hex kek16.raw kek15.hex to && cd to && mkdir -p folder/inner && mkfifo fifo
+        sh("""cp kek16.hex kek32.hex kek16.raw kek15.hex to && cd to && mkdir -p directory/inner && mkfifo fifo
             for kek in kek*; do ln $kek hard.$kek; ln -s $kek soft.$kek; done
-            ln -s file link; ln -s missing dangling; ln -s folder linked; ln -s loop loop
+            ln -s file link; ln -s missing dangling; ln -s directory linked; ln -s loop loop
             mknod null c 1 3 2>&- || mkfifo null""")
         for name in names:
             keeps(keywrap, [*words(args), "-o", name.format(files)], NO_OUTPUT, stdin=pathlib.Path("to/kek16.hex"))

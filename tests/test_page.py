@@ -68,8 +68,8 @@ def test_temporary_file(keywrap):
      "kek16.hex -i wrapped.hex", ""),
     ("cannot get the owner or the mode .*?, the run is refused: status N", f"{WRAP} -i key.hex -o to/file", "fchmod"),
     ("refuses statx 2, .* is always refused: status N", f"{WRAP} -i key.hex -o to/file", "statx"),
-    ("A run is refused with status N, output: cannot be opened, if file is a directory", f"{WRAP} -i key.hex -o folder",
-     ""),
+    ("A run is refused with status N, output: cannot be opened, if file is a directory",
+     f"{WRAP} -i key.hex -o directory", ""),
     ("refused only at the rename: .* Then the status is N", f"{WRAP} -i key.hex -o to/file", "rename"),
     ("check writes even none into file, and ends with status N", f"{CHECK} -i wrong.hex -o to/file", ""),
     ("An input without a line is refused: status N", f"{WRAP} --lines -i nothing", ""),
@@ -127,15 +127,17 @@ def test_order_of_errors(terminal):
               ("and --new-iv,", "--new-iv 0", "", "keywrap: --new-iv is not 16 hex digits"),
               ("raw output to a terminal,", "--raw", "--raw -o no/file", "keywrap: output: raw bytes do not go to a "
                "terminal; redirect it or use --output"),
-              ("then opening the KEK file,", "--kek no", "--kek folder", "keywrap: key file: cannot be opened"),
-              ("the new KEK file,", "--new-kek no", "--new-kek folder", "keywrap: new key file: cannot be opened"),
-              ("the input", "-i no", "-i folder", "keywrap: input: cannot be opened"),
+              ("then opening the KEK file,", "--kek no", "--kek directory", "keywrap: key file: cannot be opened"),
+              ("the new KEK file,", "--new-kek no", "--new-kek directory", "keywrap: new key file: cannot be opened"),
+              ("the input", "-i no", "-i directory", "keywrap: input: cannot be opened"),
               ("and the temporary file,", "-o no/file", "-o file", "keywrap: output: cannot be opened"),
-              ("then reading the KEK file,", "--kek folder", "--kek kek16.hex", "keywrap: key file: cannot be read"),
-              ("the new KEK file", "--new-kek folder", "--new-kek kek32.hex", "keywrap: new key file: cannot be read"),
-              ("and the input.", "-i folder", "-i wrapped.raw", "keywrap: input: cannot be read")]
+              ("then reading the KEK file,", "--kek directory", "--kek kek16.hex", "keywrap: key file: cannot be read"),
+              ("the new KEK file", "--new-kek directory", "--new-kek kek32.hex",
+               "keywrap: new key file: cannot be read"),
+              ("and the input.", "-i directory", "-i wrapped.raw", "keywrap: input: cannot be read")]
     assert f"The order is: {' '.join(name for name, *_ in errors)} " in TEXT
-    line = "keywrap rewrap " + " ".join(error for _, error, *_ in errors if "folder" not in error and "/" not in error)
+    line = "keywrap rewrap " + " ".join(error for _, error, *_ in errors
+                                        if "directory" not in error and "/" not in error)
     for name, error, without, message in errors:
         assert terminal(line).ended().stdout.splitlines()[0] == message, name
         line = line.replace(f" {error}", f" {without}")

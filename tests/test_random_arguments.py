@@ -67,7 +67,7 @@ class Lines(random.Random):
 def make_files():
     """Makes the directory `here`, in which the command lines run."""
     shutil.rmtree("here", ignore_errors=True)
-    os.makedirs("here/folder")
+    os.makedirs("here/directory")
     for name, content in {
             **FILES, "wrapped20.hex": WRAPPED20.encode(), "long": bytes(MAX_FILE + 1), "most": bytes(MAX_FILE),
             "largest.hex": zeros(1048576).encode(), "blank": b" \t\r\n", "mark": b"\xef\xbb\xbf00",

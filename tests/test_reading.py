@@ -78,7 +78,7 @@ class TestEachJob:
     def test_read_error(self, keywrap, job):
         """A directory, a file that is only open for writing, and a pipe that fails after some bytes."""
         with open("full", "wb") as written, failing_after(b"") as pipe, failing_after(job.given[:5]) as later:
-            for given in pathlib.Path("folder"), written, pipe, later:
+            for given in pathlib.Path("directory"), written, pipe, later:
                 assert keywrap(job.args, stdin=given) == refused(6, "input: cannot be read")
 
 
@@ -133,7 +133,7 @@ class TestFiles:
         for message, names in {
                 "cannot be opened": ["", "./-", "missing", "loop", "link/", "key.hex/", "key.hex/key", "missing/key",
                                      "/dev/fd/77", "a\nb", zeros(2500)],
-                "cannot be read": ["folder", "/proc/self/mem"], "too long": ["long.hex"],
+                "cannot be read": ["directory", "/proc/self/mem"], "too long": ["long.hex"],
                 "no hex digit at byte 1": ["digit.hex"], "no hex digit at byte 22": ["spaced"],
                 "odd number of hex digits": ["odd.hex", "odd"]}.items():
             for name in names:
@@ -196,12 +196,12 @@ class TestFiles:
 
     def test_nothing_is_read_after_a_refusal(self, keywrap):
         """The new KEK comes after the old one, and standard input after the output."""
-        for old, ended in {"missing": NO_KEK, "folder": refused(6, "key file: cannot be read"), "kek15.hex": BAD_KEK,
+        for old, ended in {"missing": NO_KEK, "directory": refused(6, "key file: cannot be read"), "kek15.hex": BAD_KEK,
                            "digit.hex": refused(6, "key file: no hex digit at byte 1")}.items():
             with piped(KEK32) as pipe:
                 assert keywrap(f"rewrap --kek {old} --new-kek {pipe}") == ended
                 assert pipe.read_text() == KEK32
-        for args in f"{WRAP} -o folder", f"{REWRAP} -o missing/file":
+        for args in f"{WRAP} -o directory", f"{REWRAP} -o missing/file":
             leaves_input(keywrap, args, refused(6, NOT_OPENED))
 
     def test_both_keks_are_opened_before_either_is_read(self, keywrap):
@@ -224,7 +224,7 @@ GIVEN = [(99, PADDED16, None), (9, "0g", NOT_HEX), (10, PADDED16[:-2], BAD), (11
          (12, PADDED7, BAD)]
 INPUT_FILES = [(3, "missing", refused(6, "input: cannot be opened")), (9, "digit.hex", NOT_HEX)]
 OUTPUTS = [(99, None, None), (13, "/dev/full", refused(6, FULL.format(0)))]
-OUTPUT_FILES = [(99, "file", None), (4, "folder", refused(6, NOT_OPENED))]
+OUTPUT_FILES = [(99, "file", None), (4, "directory", refused(6, NOT_OPENED))]
 
 
 def combined(*causes):

@@ -67,7 +67,7 @@ class TestReasons:
         *[(name, "cannot be opened", f"{name}: {NO_FILE}") for digits in (32, 48, 64)
           for kek in (KEK[:digits], in_base64(KEK[:digits])) for name in (f"0{kek}", f".{kek[1:]}")],
         ("key.hex/x", "cannot be opened", "key.hex/x: Not a directory (os error 20)"),
-        ("folder", "cannot be read", "folder: Is a directory (os error 21)"),
+        ("directory", "cannot be read", "directory: Is a directory (os error 21)"),
         ("long.hex", "too long", f"long.hex: more than {MAX_FILE} bytes"),
         ("odd.hex", "odd number of hex digits", "odd.hex: 3 hex digits"),
         *[(name, f"no hex digit at byte {at}", f"{name}: not hex")

@@ -33,7 +33,7 @@ def test_change_of_a_file(tmp_path, change):
 
 
 def test_temporary_file(tmp_path):
-    (tmp_path / "folder").mkdir()
+    (tmp_path / "directory").mkdir()
     assert left_over(tmp_path) == []
-    (tmp_path / "folder/.rotating.1").touch()
+    (tmp_path / "directory/.rotating.1").touch()
     assert left_over(tmp_path) == [".rotating.1"]
