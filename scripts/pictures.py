@@ -98,19 +98,19 @@ class Drawing:
 
 def layers():
     """From the bytes of a file to the program and the libraries, with what is proved and what is tested."""
-    drawing = Drawing(480, 432, "What is proved, from AES to files, and what is tested above it")
+    drawing = Drawing(480, 450, "What is proved, from AES to files, and what is tested above it")
     rows = [
-        ("tested", "keywrap; C, Python, JS; OpenSSL provider", "arguments, messages, headers, packages"),
+        ("tested", "keywrap; C, Python, JS, Java, OpenSSL", "arguments, messages, headers, packages"),
         ("proved", "Bytes of files and lines", "raw bytes, hex, base64; one key per line"),
         ("proved", "Wrapping", "RFC 3394 and RFC 5649, over any block permutation"),
         ("proved", "AES", "FIPS 197, with KEKs of 16, 24 and 32 bytes"),
     ]
     for number, (kind, name, what) in enumerate(rows):
         y = 52 + 92 * number
-        drawing.box(8, y, 384, 60, kind)
+        drawing.box(8, y, 376, 60, kind)
         drawing.text(24, y + 25, name, "strong")
         drawing.text(24, y + 46, what, "small")
-        drawing.text(408, y + 35, "✓ proved" if kind == "proved" else "tested", "strong" if kind == "proved" else "")
+        drawing.text(396, y + 35, "✓ proved" if kind == "proved" else "tested", "strong" if kind == "proved" else "")
         if number:
             drawing.arrow((120, y - 32), (120, y))
             drawing.arrow((280, y), (280, y - 32))
@@ -118,8 +118,8 @@ def layers():
     drawing.text(280, 20, "wrapped key", "middle")
     drawing.arrow((120, 26), (120, 52))
     drawing.arrow((280, 52), (280, 26))
-    proved = "Solid box: every function is proved to return, and to meet its contract where it has one."
-    drawing.text(8, 420, proved, "small")
+    drawing.text(8, 420, "Solid box: every function is proved to return, and to meet its", "small")
+    drawing.text(8, 438, "contract if it has one.", "small")
     return drawing
 
 

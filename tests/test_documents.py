@@ -5,6 +5,7 @@ import pathlib
 import re
 import shutil
 import subprocess
+from xml.etree import ElementTree
 
 import pytest
 
@@ -83,6 +84,19 @@ class TestRepeatedFacts:
             file.write("\n")
         ended = subprocess.run([tree / "scripts" / script, "--check"], capture_output=True, text=True)
         assert ended.returncode == 1 and f"{made}: stale" in ended.stdout
+
+    def test_texts_of_pictures(self):
+        """Texts end inside their picture, in the width of DejaVu Sans, which is wider than most."""
+        fits = []
+        for picture in sorted(ROOT.glob("docs/pictures/*.svg")):
+            drawing = ElementTree.parse(picture).getroot()
+            for text in drawing.iter("{http://www.w3.org/2000/svg}text"):
+                kinds = {*text.get("class").split()}
+                letter = 7.3 if kinds & {"shown", "faint", "mono"} else 7 if "strong" in kinds else 6.5
+                if not kinds & {"middle", "end"}:
+                    fits.append(float(text.get("x")) + letter * len(text.text) <= float(drawing.get("width")))
+                    assert fits[-1], (picture.name, text.text)
+        assert len(fits) > 100
 
     def test_plain_english(self):
         """scripts/plain_english.py --list shows the phrases. Two are left: one in a fixed message of the program, in
