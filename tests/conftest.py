@@ -33,16 +33,18 @@ def pytest_addoption(parser):
 
 
 def pytest_configure(config):
-    """Finds the program, and builds it if its sources changed. The processes of pytest-xdist take what is built."""
+    """Finds the program. It is never built here: that takes minutes."""
     # A shell that starts pytest in the background has these ignored, and so would the program.
     for number in signal.SIGINT, signal.SIGTERM, signal.SIGHUP:
         if signal.getsignal(number) == signal.SIG_IGN:
             signal.signal(number, signal.SIG_DFL)
     given = os.environ.get("KEYWRAP")
     config.program = pathlib.Path(given or ROOT / "crates/keywrap/out/keywrap").absolute()
-    if not (given or hasattr(config, "workerinput")) and subprocess.run(
-            [ROOT / "keywrap", "--version"], stdout=subprocess.DEVNULL).returncode:
-        pytest.exit("the program cannot be built", returncode=1)
+    recorded = ["b2sum", "--check", "--status", "crates/keywrap/out/built_from"]
+    if not (given or hasattr(config, "workerinput")) and (
+            not config.program.exists() or subprocess.run(recorded, cwd=ROOT, stderr=subprocess.DEVNULL).returncode):
+        pytest.exit("the program is not built of these sources: run ./keywrap --version, or name one by KEYWRAP=PATH",
+                    returncode=1)
 
 
 def pytest_collection_modifyitems(config, items):
@@ -80,8 +82,8 @@ def pytest_unconfigure(config):
 
 
 def pytest_make_parametrize_id(val):
-    """A row with a command has its name."""
-    return getattr(val, "name", None)
+    """A row with a command has its name. A long text is cut."""
+    return getattr(val, "name", None) or (val[:60] if isinstance(val, str) and len(val) > 60 else None)
 
 
 @pytest.fixture(autouse=True)

@@ -14,7 +14,7 @@ import pytest
 from checks import DONE
 from commands import CHECK, MAX_FILE, REWRAP, UNWRAP, WRAP, table, unescaped
 from program import Ended, answered, refused
-from vectors import BAD_LENGTH, INTEGRITY, KEY16, WRAPPED16, in_base64, in_url, raw
+from vectors import BAD_LENGTH, KEY16, WRAPPED16, in_base64, in_url, raw
 
 
 @pytest.fixture(autouse=True)

@@ -7,7 +7,6 @@ import subprocess
 import pytest
 
 import published
-from commands import UNWRAP, WRAP
 from program import Ended, refused
 from vectors import BAD_LENGTH, INTEGRITY, in_base64
 

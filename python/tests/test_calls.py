@@ -19,7 +19,6 @@ IV = bytes.fromhex("0123456789abcdef")
 UNDER_IV = bytes.fromhex("5faedb3ad28b498f36c1afc361861782e04e134798791145")
 KEK_5649 = bytes.fromhex("5840df6e29b02af1ab493b705bf16ea1ae8338f4dcc176a8")
 FORPASI = bytes.fromhex("afbeb0f07dfbf5419200f2ccb50bb24f")
-KEY_OF_20 = bytes.fromhex("c37b7e6492584340bed12207808941155068f738")
 PADDED_OF_20 = bytes.fromhex("138bdeaa9b8fa7fc61f97742e72248ee5ae6ae5360d1ae6a5f54f373fa543b6a")
 DAMAGED = bytes([WRAPPED[0] ^ 1]) + WRAPPED[1:]
 
