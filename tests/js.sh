@@ -24,7 +24,7 @@ fi
 row 'its files' test "$(cd "$package" && echo *)" = \
     'README.md example.html keywrap.d.ts keywrap.js keywrap.wasm package.json'
 size=$(stat -c %s "$package/keywrap.wasm")
-row 'the module has at most 30 KB' test "$size" -le 30720
+row 'the module has at most 32 KB' test "$size" -le 32768
 row "README has the module's size" grep -qF "\`keywrap.wasm\` ($(((size + 500) / 1000)) KB)" "$package/README.md"
 
 ### Bundles

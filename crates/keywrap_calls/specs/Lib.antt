@@ -11,3 +11,4 @@ pub mod SelfTest
 pub mod Version
 pub mod Tried
 pub mod Many
+pub mod Steps

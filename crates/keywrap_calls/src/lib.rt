@@ -17,7 +17,9 @@ mod plain_with;
 mod rewrapping;
 mod status;
 mod texts;
+mod unwrap_steps;
 mod version_number;
+mod wrap_steps;
 
 pub use any_form::unwrap_any;
 pub use kinds::kind;
@@ -33,4 +35,8 @@ pub use plain_with::{initial_value, unwrap_with, wrap_with};
 pub use rewrapping::{rewrap, rewrap_in_place};
 pub use status::{BAD_IV, BAD_KEK, BAD_LENGTH, DONE, INTEGRITY, KEY_NOT_PLAIN, NO_MEMORY};
 pub use texts::status_text;
+pub use unwrap_steps::{
+    begin_unwrap, begin_unwrap_padded, end_unwrap, end_unwrap_padded, step_unwrap,
+};
 pub use version_number::version;
+pub use wrap_steps::{begin_wrap, begin_wrap_padded, end_wrap, step_wrap};

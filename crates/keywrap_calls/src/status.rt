@@ -20,7 +20,7 @@ pub const BAD_LENGTH: i32 = 4;
 /// The integrity check failed: no key was wrapped to this under the KEK.
 pub const INTEGRITY: i32 = 5;
 
-/// There is no memory for the copies of a call. Only the portable C around the calls returns it.
+/// There is no memory. No call returns it.
 pub const NO_MEMORY: i32 = 7;
 
 /// The wrapped key is genuine, but no plain key has the length of its key.

@@ -15,4 +15,6 @@ mod plain_with;
 mod rewrapping;
 mod self_test;
 mod texts;
+mod unwrap_steps;
 mod version;
+mod wrap_steps;
