@@ -168,6 +168,17 @@ def digest(content):
     return hashlib.blake2b(content).hexdigest()[:24]
 
 
+@pytest.mark.parametrize("has_blake2", [True, False])
+def test_digest_of_each_openssl(file, monkeypatch, has_blake2):
+    def none(name):
+        raise ValueError(f"unsupported hash type {name}")
+
+    if not has_blake2:
+        monkeypatch.setattr(replacing.hashlib, "new", none)
+    with open(file, "rb") as opened:
+        assert replacing.digest_of(opened.fileno()) == digest(OLD)
+
+
 def killed(file, left, current, *, read=OLD, new=NEW):
     """The state that a killed run leaves: its temporary name and the file, with these contents."""
     path = file.with_name(NAME.format(digest(read), digest(new)))
