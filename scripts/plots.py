@@ -70,14 +70,14 @@ def panel(drawing, top, rows, title):
     curves = {}
     for row in rows:
         name = NAMES[row["library"]]
-        key = (name, name + (", AES inst." if row["blocks"] == "AES inst." else ""))
+        key = (name, name + ", AES inst." * (row["blocks"] == "AES inst." and row["library"] != "hardware"))
         curves.setdefault(key, []).append((x(int(row["key"])), y(float(row["ns_per_block"]))))
     ends = apart([points[-1][1] for points in curves.values()], 16)
     for ((name, label), points), end in zip(curves.items(), ends):
-        kind = "ours" if name == "keywrap" else "curve"
+        kind = "ours" if name.startswith("keywrap") else "curve"
         drawing.line(kind, *points, dash=DASHES.get(label, DASHES.get(name)))
         drawing.line("leader", points[-1], (points[-1][0] + 12, round(end, 1)))
-        drawing.text(points[-1][0] + 15, round(end + 4, 1), label, "tiny strong" if name == "keywrap" else "tiny")
+        drawing.text(points[-1][0] + 15, round(end + 4, 1), label, "tiny strong" if kind == "ours" else "tiny")
 
 
 def wrap(drawing_of, text):

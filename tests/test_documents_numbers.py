@@ -37,15 +37,16 @@ class TestMeasured:
     def test_times_of_the_libraries(self):
         """docs/C_LIBRARY.md has the times of docs/pictures/wrap.csv. README and docs/OPENSSL.md compare them."""
         times = {tuple(row[:5]): float(row[5]) for row in measured("wrap")[1:] if row[2] == "32"}
-        by_name = {"keywrap": "keywrap,software", "OpenSSL 3.0": "openssl,software", "one table in C": "C,software",
-                   "libgcrypt 1.10": "gcrypt,AES inst.", "nettle 3.8": "nettle,AES inst."}
+        by_name = {"keywrap": "keywrap,software", "portable C": "portable,software", "OpenSSL 3.0": "openssl,software",
+                   "one table in C": "C,software", "libgcrypt 1.10": "gcrypt,AES inst.",
+                   "nettle 3.8": "nettle,AES inst.", "libkeywrap_hw": "hardware,AES inst."}
         names, _, *rows = [[cell.strip() for cell in line.split("|")[1:-1]]
                            for line in text_of("docs/C_LIBRARY.md").rpartition("## How fast it is")[2].splitlines()
                            if line.startswith("|")]
         timed = {name: {row[0]: times[(*by_name[name].split(","), "32", row[0], "4096")] for row in rows}
                  for name in by_name}
         for row in rows:
-            assert {name: int(cell) for name, cell in zip(names, row) if name in by_name} == {
+            assert {name: int(cell) for name, cell in zip(names[1:], row[1:])} == {
                 name: round(timed[name][row[0]]) for name in by_name}
         ours = timed["keywrap"]["wrap"]
         assert 0.45 < ours / timed["OpenSSL 3.0"]["wrap"] < 0.55                        # about half as long
@@ -67,6 +68,15 @@ class TestMeasured:
                 "`keywrap_rewrap`, and {:,} by nettle with kept key schedules")
         ways = "keywrap_hw, many", "keywrap_hw, one", "nettle, kept schedules"
         assert text.format(*map(times.get, ways)) in words_of("docs/C_LIBRARY.md")
+
+    def test_times_in_python_and_java(self):
+        """Of a wrap of 32 bytes, in docs/pictures/python.csv and java.csv."""
+        times = {call: float(us) for key, call, us in measured("python")[1:] if key == "32"}
+        text = "A wrap of 32 bytes takes {:.1f} µs instead of pyca's {:.0f} (`cryptography` 38;"
+        assert text.format(times["wrap"], times["pyca's wrap"]) in words_of("python/README.md")
+        times = [float(us) for _, us in measured("java")[1:]]
+        text = "A wrap of 32 bytes takes {:.1f} µs, with `keywrap_hw` {:.1f} µs, and the JDK's own {:.1f} µs "
+        assert text.format(*times) in words_of("java/README.md")
 
     def test_times_of_the_browsers(self):
         """js/README.md has the times of docs/pictures/js.csv, in microseconds and for 1 MiB in milliseconds."""
