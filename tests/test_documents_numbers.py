@@ -1,8 +1,13 @@
 """Numbers in the documents: each is in a recorded measurement, in a source or in what the program writes."""
 
 import csv
+import os
 import re
 
+import pytest
+
+from builds import run
+from program import slow
 from test_documents import ROOT, text_of
 
 
@@ -85,6 +90,18 @@ class TestMeasured:
             "A wrap of 32 bytes takes (.*); a wrap of 1 MiB (.*), with KEKs", words_of("js/README.md")).groups())
         assert short == [round(float(time)) for row in rows if row[1] == "32" for time in row[2:]]
         assert long == [round(float(row[way]) / 1000) for way in (2, 3) for row in rows if row[1] == "1048576"]
+
+
+    @slow
+    @pytest.mark.needs("rt")
+    def test_time_of_a_try(self):
+        """README has it in minutes. This is time of processors, which a busy machine makes longer."""
+        before = os.times()
+        run("rt", "try", "--", "wrap", "--help", cwd=ROOT / "crates/keywrap")
+        after = os.times()
+        took = after.children_user + after.children_system - before.children_user - before.children_system
+        assert 40 < took < 150
+        assert "compiles and runs the program in one to two minutes" in words_of("README.md")
 
 
 class TestSources:
