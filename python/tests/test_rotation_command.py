@@ -96,7 +96,7 @@ def last(done=FILES, refused=0, gone=0, unanswered=0, keys=240, rewrapped=240, b
 def report_of(path):
     with open(path, encoding="utf-8") as file:
         lines = [json.loads(line) for line in file]
-    assert {*lines[0]} == {"challenges", "time"}
+    assert {*lines[0]} == {"challenges", "shard", "time"}
     assert all(re.fullmatch(r"20..-..-..T..:..:..\....\+00:00", line["time"]) for line in lines)
     return lines[1:]
 
@@ -191,7 +191,7 @@ def test_needs_a_file_and_a_kek(monkeypatch):
 def test_help_and_version():
     command_line = [sys.executable, "-B", "-m", "keywrap.rotate"]
     help = subprocess.run([*command_line, "--help"], capture_output=True, text=True, check=True).stdout
-    described = re.findall(r"^  (?:-\w, )?(--[\w-]+)(?: [A-Z]+)?(?:$|  )\s*(?=\S)", help, re.M)
+    described = re.findall(r"^  (?:-\w, )?(--[\w-]+)(?: [A-Z/]+)?(?:$|  )\s*(?=\S)", help, re.M)
     assert {*re.findall(r"--[a-z0-9-]+", help.split("options:")[0])} - {"--help"} <= {*described}
     version = subprocess.run([*command_line, "--version"], capture_output=True, text=True, check=True).stdout
     assert version == f"keywrap.rotate {keywrap.__version__}\n"
@@ -372,11 +372,11 @@ def test_a_live_directory_has_an_end(store):
 
 
 def test_more_files_than_are_sorted_in_memory(store, monkeypatch):
-    from keywrap.rotation import files
+    from keywrap.rotation import paths
 
-    found = list(files.listed([str(store)], [], []))
-    monkeypatch.setattr(files, "_RUN", 3)
-    assert list(files.listed([str(store)], [], [])) == found == names(store)
+    found = list(paths.Paths([str(store)]).listed([]))
+    monkeypatch.setattr(paths, "_RUN", 3)
+    assert list(paths.Paths([str(store)]).listed([])) == found == names(store)
 
 
 # Every option, over each store that it concerns.

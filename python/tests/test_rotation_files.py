@@ -23,6 +23,7 @@ from keywrap.rotation.csv_column import CsvColumn  # noqa: E402
 from keywrap.rotation.files import Files  # noqa: E402
 from keywrap.rotation.json_member import JsonMember  # noqa: E402
 from keywrap.rotation.lines import Lines, OneKey  # noqa: E402
+from keywrap.rotation.paths import Paths  # noqa: E402
 
 KEYS = make_keys(12)
 EQUAL = [key[:16] + key[:16] for key in KEYS]
@@ -61,7 +62,7 @@ def meanwhile(monkeypatch):
 
 def rotated(path, pair, format=None, whole=False, **more):
     """The answer of the engine. No temporary file is left."""
-    store = Files(format or Lines(), [str(path)], **more)
+    store = Files(format or Lines(), Paths([str(path)]), **more)
     (unit,) = store.units()
     answer = engine.rotate_unit(store, unit, pair, whole)
     assert left_over(path.parent) == []

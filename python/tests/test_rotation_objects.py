@@ -118,7 +118,7 @@ def test_all_or_nothing_and_a_refused_object():
 @pytest.mark.parametrize("call", ["get", "put"])
 @pytest.mark.parametrize("how, said", [
     ("sys.exit(255)", "ended with status 255"), ("os.kill(os.getpid(), 9)", "ended with status -9"),
-    ("time.sleep(100)", "did not end in 8 seconds")])  # fmt: skip
+    ("time.sleep(100)", "did not end in 6 seconds")])  # fmt: skip
 def test_a_failed_call_leaves_its_object(call, how, said):
     """And all others are rotated."""
     status, lines = rotated("--timeout", "8", meanwhile=f'if (call, name) == ("{call}", "b b"): {how}')

@@ -4,6 +4,7 @@ import fcntl
 import multiprocessing
 import os
 import random
+import re
 import shutil
 import stat
 import subprocess
@@ -13,8 +14,8 @@ import time
 import pytest
 
 from keywrap.rotation import replacing
-from keywrap.rotation.files import listed
 from keywrap.rotation.keys import Changed, Refused, Unsynced
+from keywrap.rotation.paths import Paths
 from keywrap.rotation.replacing import is_temporary, replace
 
 OLD, NEW, OTHER, THIRD = b"old\n", b"new\n", b"written by another program\n", b"and by a third\n"
@@ -193,7 +194,7 @@ def killed(file, left, current, *, read=OLD, new=NEW):
 def later(directory):
     """What a later run lists and notes, and the files that are there afterwards."""
     notes = []
-    names = [os.path.basename(path) for path in listed([str(directory)], [], notes)]
+    names = [os.path.basename(path) for path in Paths([str(directory)]).listed(notes)]
     assert not any(map(is_temporary, map(os.fsencode, names)))
     return names, notes, contents(directory)
 
@@ -226,7 +227,7 @@ def test_a_later_run_names_what_it_cannot_decide(file, current):
 
 def test_one_file_by_its_name_is_finished_too(file):
     killed(file, OTHER, NEW)
-    assert list(listed([str(file)], [], [])) == [str(file)]
+    assert list(Paths([str(file)]).listed([])) == [str(file)]
     assert contents(file.parent) == [OTHER]
 
 
@@ -371,15 +372,16 @@ def test_renames_at_random_moments_are_never_lost(file):
     writer = fork.Process(target=_renames, args=(str(file), ready, go, acknowledged))
     writer.start()
     ready.wait(60)
-    until, replaced, refused = time.monotonic() + 4, 0, 0
+    until, replaced, refused, named = time.monotonic() + 4, 0, 0, []
     while time.monotonic() < until:
         old = file.read_bytes()
         number = int(old.split()[-1]) if old.startswith((b"their", b"ours")) else 0
         try:
             replace(str(file), b"ours, of %d\n" % number, old_bytes=old)
             replaced += 1
-        except Refused:
+        except Refused as refusal:
             refused += 1
+            named += re.findall(r"\.rotating\.[0-9a-f.]+\.file", str(refusal))
         now = file.read_bytes()
         # The content was made from the last acknowledged one, or is newer.
         last = acknowledged.value
@@ -388,4 +390,5 @@ def test_renames_at_random_moments_are_never_lost(file):
     writer.join(60)
     assert int(file.read_bytes().split()[-1]) == acknowledged.value
     assert replaced > 10 and refused > 10
-    assert [path for path in file.parent.iterdir() if is_temporary(os.fsencode(path.name))] == []
+    # What two writes left around one exchange was named.
+    assert sorted(path.name for path in file.parent.iterdir() if is_temporary(os.fsencode(path.name))) == sorted(named)

@@ -16,6 +16,7 @@ from rotation_help import KEK, NEW_KEK, make_keys, set_keks, wrapped_under  # no
 
 from keywrap import _many, rotate  # noqa: E402
 from keywrap.rotation import databases, engine, rows, sqlite  # noqa: E402
+from keywrap.rotation.paths import Paths  # noqa: E402
 from keywrap.rotation.rows import Table  # noqa: E402
 from keywrap.rotation.sqlite import Sqlite  # noqa: E402
 
@@ -42,7 +43,7 @@ def database(tmp_path):
 
 
 def store_of(path, table="keys", column="key", row="rowid", notation="hex", whole=False):
-    return Sqlite(Table(table, column, row), notation, whole, [str(path)], [])
+    return Sqlite(Table(table, column, row), notation, whole, Paths([str(path)]))
 
 
 def rotated(path, pair, **more):

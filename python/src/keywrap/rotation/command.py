@@ -9,18 +9,20 @@ import os
 import signal
 import sys
 import time
-from typing import Any, Callable, Iterable, Iterator, List, Optional, Sequence, Set, Tuple
+from typing import Any, Callable, Dict, Iterable, Iterator, List, Optional, Sequence, Set, Tuple
 
 from . import engine, options as arguments, report as reports
 from .dask import Dask
+from .earlier import Resume, merge
 from .engine import Answer
 from .jobs import Jobs
-from .keks import NEW, OLD, Challenges, EqualKeks, WrongKeks, challenges, new_challenge, probe, protect_process
+from .keks import Challenges, EqualKeks, WrongKeks, challenges, new_challenges, probe, protect_process
 from .keys import Refused
 from .listing import Listing
 from .progress import Progress
 from .record import Reader, Writer, in_order
 from .report import Lines, Report, ReportFailed
+from .schedule import Rate
 from .stores import Store, Unit
 
 _ROTATED = "{keys} keys: {old} rewrapped, {keys_new} new before, {keys_refused} refused"
@@ -43,24 +45,44 @@ class Run:
 
     def run(self) -> int:
         arguments.outside(self.options)
-        pair = ("", new_challenge()) if self.verifies else challenges()
-        lines = None if self.options.report is None else Lines("--report", self.options.report)
-        self.report = Report(lines, lambda: self.progress.clear())
+        pair = new_challenges() if self.verifies else challenges()
+        self.report = Report(_lines(self.options), lambda: self.progress.clear())
         self.progress = Progress(0, self.store.measure, None)
-        self.report.begin(pair)
-        if not (self.verifies or self.options.dry_run):
-            self.store.begin(pair)
+        rotates = not (self.verifies or self.options.dry_run)
         with self._signals():
+            if rotates and self.options.keks is not None:
+                self._refuse_wrong_names(pair)
+            self.report.begin(pair, str(self.options.shard))
+            self.resume = None if self.options.resume is None else Resume(self.options.resume, self.store)
+            if rotates:
+                self.store.begin(pair)
             not_begun = self._all(pair)
         self.progress.close()
         return self._end(not_begun)
 
+    def _refuse_wrong_names(self, pair: Challenges) -> None:
+        """Reads the store before anything is written. Refuses a name none of whose first keys is under its KEK."""
+        names: Dict[str, bool] = {}
+        store = arguments.store_of(argparse.Namespace(**{**vars(self.options), "dry_run": True}))
+        listing = Listing(store.units())
+        self.engine = self._engine(functools.partial(_probe, store, pair), pair)
+        for _, answer in self.engine(listing, listing.count):
+            for name, is_right in answer.get("names", {}).items():
+                names[name] = names.get(name, False) or is_right
+        if self.stopped:
+            raise KeyboardInterrupt
+        wrong = sorted(name for name, is_right in names.items() if not is_right)
+        if wrong:
+            raise Refused(f"--keks: no key of {wrong[0]} is under its KEK ({len(wrong)} such names)")
+
     def _all(self, pair: Challenges) -> int:
         """Hands out all units, and those that remain. Returns how many were not begun."""
-        record = None if self.options.record is None else Writer(self.options.record, pair[1])
+        record = None if self.options.record is None else Writer(self.options.record, pair)
         reader = None if self.options.verify_record is None else Reader(self.options.verify_record)
         not_begun, until = 0, time.monotonic() + self.options.timeout
         units: Iterable[Unit] = self.store.units()
+        if self.resume is not None:
+            units = self.resume.left(units, self.report)
         while True:
             listing = Listing(units)
             if not listing.count:
@@ -89,7 +111,7 @@ class Run:
 
     def _answers(self, listing: Listing, pair: Challenges, record: Optional[Writer], reader: Optional[Reader]) -> int:
         """Takes the answers of the units, and returns their number. After a failure of the report it only counts."""
-        self.engine = self._engine(pair)
+        self.engine = self._engine(self._work(pair), pair)
         count = 0
         for answer in self._in_order(self.engine(listing, listing.count)):
             count += 1
@@ -124,14 +146,15 @@ class Run:
     def _in_order(self, answers: Iterator[Tuple[int, Answer]]) -> Iterator[Answer]:
         return in_order(answers) if self.verifies else (answer for _, answer in answers)
 
-    def _engine(self, pair: Challenges) -> Any:
-        work: Callable[..., Answer]
+    def _work(self, pair: Challenges) -> Callable[..., Answer]:
         if self.verifies:
-            work = functools.partial(_verify, self.store, pair[1])
-        elif self.options.dry_run:
-            work = functools.partial(_count, self.store, pair)
-        else:
-            work = functools.partial(_rotate, self.store, pair, self.options.all_or_nothing)
+            return functools.partial(_verify, self.store, pair)
+        if self.options.dry_run:
+            return functools.partial(_count, self.store, pair)
+        pace = engine.no_pace if self.options.rate is None else Rate(self.options.rate)
+        return functools.partial(_rotate, self.store, pair, self.options.all_or_nothing, pace)
+
+    def _engine(self, work: Callable[..., Answer], pair: Challenges) -> Any:
         if self.options.dask is not None:
             return Dask(self.options.dask, work, functools.partial(probe, *pair))
         return Jobs(self.options.jobs, work, self.options.timeout, self.progress.tick)
@@ -167,28 +190,43 @@ class Run:
         return status
 
 
-def _rotate(store: Store, pair: Challenges, whole: bool, unit: Unit, *beat: engine.Beat) -> Answer:
-    return engine.rotate_unit(store, unit, pair, whole, *beat)
+def _lines(options: argparse.Namespace) -> Optional[Lines]:
+    if options.resume is not None:
+        return Lines("--resume", options.resume)
+    return None if options.report is None else Lines("--report", options.report)
 
 
-def _verify(store: Store, challenge: str, unit: Unit, *beat: engine.Beat) -> Answer:
-    return engine.verify_unit(store, unit, challenge, *beat)
+def _rotate(store: Store, pair: Challenges, whole: bool, pace: engine.Pace, unit: Unit,
+            beat: engine.Beat = engine.no_beat) -> Answer:  # fmt: skip
+    return engine.rotate_unit(store, unit, pair, whole, beat, pace)
+
+
+def _verify(store: Store, pair: Challenges, unit: Unit, *beat: engine.Beat) -> Answer:
+    return engine.verify_unit(store, unit, pair, *beat)
+
+
+def _probe(store: Store, pair: Challenges, unit: Unit, *beat: engine.Beat) -> Answer:
+    return engine.probe_unit(store, unit, pair, *beat)
 
 
 def _count(store: Store, pair: Challenges, unit: Unit, *beat: engine.Beat) -> Answer:
     return engine.count_unit(store, unit, pair, *beat)
 
 
+def _merged(options: argparse.Namespace) -> int:
+    report = Report(_lines(options), lambda: None)
+    report.begin(challenges(), "1/1")
+    return report.end("units", _ROTATED, 0, merge(options.files, report))
+
+
 def main(words: Optional[Sequence[str]] = None) -> int:
     """Does what the arguments say, and returns the exit status."""
     options = arguments.parse(words)
-    for variable, name in ((OLD, options.kek), (NEW, options.new_kek)):
-        if name is not None:
-            os.environ[variable] = name
     os.umask(0o077)
     protect_process()
     try:
-        return Run(options).run()
+        arguments.take_keks(options)
+        return _merged(options) if options.merge else Run(options).run()
     except KeyboardInterrupt:
         status, why = reports.INTERRUPTED, "interrupted: run it again"
     except (EqualKeks, Refused) as error:

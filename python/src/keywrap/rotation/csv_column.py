@@ -14,24 +14,26 @@ class CsvColumn(Fields):
     def records(self, lines: Iterator[str]) -> Iterator[Record]:
         csv.field_size_limit(2 * LONGEST)
         taken: List[str] = []
-        number, column = 1, -1
+        number, column, kek = 1, -1, -1
         try:
             for row in csv.reader(_kept(lines, taken), strict=True):
                 if column < 0:
-                    text, column = None, self._column(row)
+                    text, column = None, self._column(row, self.name)
+                    kek = -1 if self.kek is None else self._column(row, self.kek)
                 else:
                     text = _cell(row, column)
-                yield Record("".join(taken), number, text, (row, column))
+                name = row[kek].strip() if 0 <= kek < len(row) else None
+                yield Record("".join(taken), number, text, (row, column), name)
                 number += len(taken)
                 taken.clear()
         except csv.Error:
             raise Refused(f"line {number}: not CSV") from None
 
-    def _column(self, head: List[str]) -> int:
+    def _column(self, head: List[str], name: str) -> int:
         names = [head[0].lstrip("\ufeff"), *head[1:]] if head else []
-        if names.count(self.name) != 1:
+        if names.count(name) != 1:
             raise Refused("the first line does not have the name of the column once")
-        return names.index(self.name)
+        return names.index(name)
 
     def parsed(self, content: str) -> Any:
         try:

@@ -7,16 +7,16 @@ import importlib
 import os
 import sqlite3
 from pathlib import Path
-from typing import Any, Iterator, Sequence
+from typing import Any, Dict, Iterator
 
-from .files import listed
 from .keys import Gone, Refused
-from .rows import Table
+from .paths import Paths
+from .rows import FINDS_EACH, Table
 
 #: How long SQLite, and a statement of PostgreSQL, wait for a lock.
 LOCK_SECONDS = 60.0
 #: How many rows of SQLite a unit has at most: each costs a commit, and locks the database while it is written.
-ROWS = 10000
+ROWS = 2000
 #: How SQLite's texts begin, and our words.
 _WORDS = {
     "database is locked": "another program has locked the database",
@@ -44,9 +44,22 @@ def sqlite_database(path: str) -> Iterator[sqlite3.Connection]:
         raise Refused(next(known, f"SQLite failed: {type(error).__name__}")) from None
 
 
-def sqlite_files(names: Sequence[str], exclude: Sequence[str]) -> Iterator[str]:
+def sqlite_names(table: Table) -> Dict[str, str]:
+    """Quotes the names of a table. SQLite takes an unknown quoted name for a string unless its table qualifies it."""
+    name, column, row, kek = ('"' + name.replace('"', '""') + '"' for name in (*table[:3], table.kek or ""))
+    names = {"table": name, "column": column, "row": f"{name}.{row}", "key": f"{name}.{column}", "octets": "length"}
+    return {**names, "kek": f"{name}.{kek}" if table.kek else "NULL"}
+
+
+def finds_each(database: sqlite3.Connection, names: Dict[str, str]) -> bool:
+    """Whether the column of --id finds each row."""
+    is_rowid = names["row"].endswith('"rowid"')
+    return is_rowid or bool(database.execute(FINDS_EACH.format(**names)).fetchone()[0])
+
+
+def sqlite_files(paths: Paths) -> Iterator[str]:
     """Lists files. Those that SQLite keeps beside a database are none."""
-    for path in listed(names, exclude, []):
+    for path in paths.listed([]):
         base, _, kind = path.rpartition("-")
         if kind not in ("wal", "shm", "journal") or not os.path.exists(base):
             yield path
@@ -62,7 +75,10 @@ class Statements:
         self.queue = sql.Identifier(*schema, f"{name}_rotation")
         self.names = {"table": sql.Identifier(*schema, name), "name": sql.Identifier(name), "queue": self.queue,
                       "column": sql.Identifier(table.column), "key": sql.Identifier(name, table.column),
-                      "row": sql.Identifier(name, table.row), "octets": sql.SQL("octet_length")}  # fmt: skip
+                      "row": sql.Identifier(name, table.row), "octets": sql.SQL("octet_length"),
+                      "kek": sql.NULL if table.kek is None else sql.Identifier(name, table.kek)}  # fmt: skip
+        # Beside parameters two percent signs are one.
+        self.names["condition"] = sql.SQL(table.condition().replace("%", "%%")).format(**self.names)
 
     def composed(self, statement: str, types: str = "", text: Any = None) -> Any:
         return self.sql.SQL(statement).format(**self.names, types=self.sql.SQL(types), text=self.sql.Literal(text))

@@ -6,26 +6,39 @@ import contextlib
 import hashlib
 import socket
 import time
-from typing import Any, Callable, Dict, Iterator, List, Tuple
+import collections
+from typing import Any, Callable, Counter, Dict, Iterator, List, Tuple
 
 from . import keks
 from .keks import Challenges
-from .keys import Block, Changed, Elsewhere, Gone, Refused, Unsynced, material, rewrapped, under_which
+from .keys import Block, Changed, Elsewhere, Gone, Refused, Unsynced, material, rewrapped, right_names, under_which
 from .stores import Opened, Store, Unit
 
 #: How often a unit is rotated again if somebody else wrote it meanwhile.
 ATTEMPTS = 3
 #: How many refused keys of a unit are named. The others are counted.
 NAMED = 1000
+_BEHIND_SECONDS = 0.5
 
 Answer = Dict[str, Any]
+#: Called for each part of a unit that is done, with its weight. Without weight it is a sign of life.
 Beat = Callable[[int], None]
+#: Called for each block, with its number of keys: returns how many seconds to wait.
+Pace = Callable[[int], float]
+
+
+def no_beat(weight: int) -> None:
+    pass
+
+
+def no_pace(keys: int) -> float:
+    return 0.0
 
 
 def answer_of(unit: Unit, outcome: str, why: Any = None, **more: Any) -> Answer:
     """Returns the line of a unit in a report.
 
-    The outcome is new, verified, counted, refused, gone, elsewhere or unanswered.
+    The outcome is new, verified, counted, probed, refused, gone, elsewhere or unanswered.
     """
     return {"unit": unit.name, "outcome": outcome, "why": why, "machine": socket.gethostname(), "keys": 0, "passed": 0,
             "refused": 0, "named": [], **more}  # fmt: skip
@@ -37,6 +50,7 @@ class _Count:
     def __init__(self) -> None:
         self.keys = self.changed = self.refused = 0
         self.named: List[Tuple[str, str]] = []
+        self.under: Counter[str] = collections.Counter()
 
     def add(self, block: Block, keys: int, changed: int, refused: List[Tuple[int, str]]) -> None:
         self.keys += keys
@@ -46,7 +60,8 @@ class _Count:
 
     def answer(self, unit: Unit, outcome: str, **more: Any) -> Answer:
         counts = {"keys": self.keys, "refused": self.refused, "named": self.named}
-        return answer_of(unit, outcome, **{**counts, **more})
+        under = {label: count for label, count in self.under.items() if label and count}
+        return answer_of(unit, outcome, **{**counts, **({"under": under} if under else {}), **more})
 
 
 @contextlib.contextmanager
@@ -93,7 +108,8 @@ def _answered(unit: Unit, attempt: Callable[[], Answer]) -> Answer:
     return answer_of(unit, "refused", f"{why}, in each of {ATTEMPTS} attempts")
 
 
-def rotate_unit(store: Store, unit: Unit, pair: Challenges, whole: bool = False, beat: Beat = lambda _: None) -> Answer:
+def rotate_unit(store: Store, unit: Unit, pair: Challenges, whole: bool = False, beat: Beat = no_beat,
+                pace: Pace = no_pace) -> Answer:  # fmt: skip
     """Rewraps all keys of a unit. A refused key stays as it is; with `whole` all keys do, if one is refused.
 
     Raises `WrongKeks` if this machine's KEKs do not fit the challenges.
@@ -102,49 +118,75 @@ def rotate_unit(store: Store, unit: Unit, pair: Challenges, whole: bool = False,
 
     def attempt() -> Answer:
         count, is_new = _Count(), True
+        while store.is_behind():
+            _wait(_BEHIND_SECONDS, beat)
         with _read(store, unit, beat) as (opened, blocks):
             for block in blocks:
                 # After a restart the first keys are new: one check of each finds the first old key.
                 fresh = rewrapped(both, block, is_new)
                 is_new = is_new and not (fresh.changed or fresh.refused)
                 count.add(block, fresh.keys, fresh.changed, fresh.refused)
+                count.under.update(fresh.under)
                 opened.write(block, fresh)
+                _wait(pace(fresh.keys), beat)
             if whole and count.refused:
                 return count.answer(unit, "refused", why="nothing of it was changed", keys=0)
-            opened.replace()
-        return count.answer(unit, "new", passed=count.keys - count.changed - count.refused)
+            state = opened.replace()
+        return count.answer(unit, "new", passed=count.keys - count.changed - count.refused, state=state)
 
     return _answered(unit, attempt)
 
 
-def verify_unit(store: Store, unit: Unit, challenge: str, beat: Beat = lambda _: None) -> Answer:
+def _wait(seconds: float, beat: Beat) -> None:
+    until = time.monotonic() + seconds
+    while (left := until - time.monotonic()) > 0:
+        beat(0)
+        time.sleep(min(left, 1.0))
+
+
+def verify_unit(store: Store, unit: Unit, pair: Challenges, beat: Beat = no_beat) -> Answer:
     """Checks all keys of a unit under the new KEK, without the KEK, and returns the digest of its content."""
-    kek = keks.new_kek_of(challenge)
+    new = keks.new_keks_of(pair)
 
     def attempt() -> Answer:
         count, digest = _Count(), hashlib.sha256()
         with _read(store, unit, beat) as (_, blocks):
             for block in blocks:
-                (found,), refused = under_which([kek], block)
-                count.add(block, found + len(refused), 0, refused)
+                under = under_which(new, block)
+                count.add(block, under.new + len(under.refused), 0, under.refused)
                 digest.update(material(block))
-        return count.answer(unit, "verified", passed=count.keys - count.refused, digest=digest.hexdigest())
+        return count.answer(unit, "verified", passed=count.keys - count.refused, digest=digest.hexdigest(),
+                            group=unit.group)  # fmt: skip
 
     return _answered(unit, attempt)
 
 
-def count_unit(store: Store, unit: Unit, pair: Challenges, beat: Beat = lambda _: None) -> Answer:
+def count_unit(store: Store, unit: Unit, pair: Challenges, beat: Beat = no_beat) -> Answer:
     """Counts the keys of a unit under the KEK, under the new KEK and under neither. Writes nothing."""
     both = keks.keks_of(pair)
 
     def attempt() -> Answer:
         count = _Count()
-        old = 0
         with _read(store, unit, beat) as (_, blocks):
             for block in blocks:
-                (new, under_old), refused = under_which([both[1], both[0]], block)
-                count.add(block, new + under_old + len(refused), 0, refused)
-                old += under_old
-        return count.answer(unit, "counted", passed=count.keys - old - count.refused)
+                under = under_which(both, block)
+                count.under.update(under.old)
+                count.add(block, under.new + sum(under.old.values()) + len(under.refused), 0, under.refused)
+        return count.answer(unit, "counted", passed=count.keys - sum(count.under.values()) - count.refused)
+
+    return _answered(unit, attempt)
+
+
+def probe_unit(store: Store, unit: Unit, pair: Challenges, beat: Beat = no_beat) -> Answer:
+    """Finds out for each name of a KEK whether some of the first keys in the unit are under it. Writes nothing."""
+    both = keks.keks_of(pair)
+
+    def attempt() -> Answer:
+        names: Dict[str, bool] = {}
+        with _read(store, unit, beat) as (_, blocks):
+            for block in blocks:
+                for name, is_right in right_names(both, block, names).items():
+                    names[name] = names.get(name, False) or is_right
+        return _Count().answer(unit, "probed", names=names)
 
     return _answered(unit, attempt)

@@ -3,19 +3,21 @@ Everything else stays to the byte."""
 
 from __future__ import annotations
 
-from typing import Any, Iterator, List, Mapping, NamedTuple
+from typing import Any, Iterator, List, Mapping, NamedTuple, Optional
 
 from .keys import LONGEST, Block, Readable, Refused, Text
 from .replacing import BLOCK
 
 
 class Record(NamedTuple):
-    """A record as it is written, the number of its first line, its key or why it has none, and what was parsed."""
+    """A record as it is written, the number of its first line, its key or why it has none, what was parsed, and the
+    name of its KEK."""
 
     content: str
     line: int
     text: Text
     parsed: Any
+    kek: Optional[str] = None
 
 
 def _lines(file: Readable) -> Iterator[str]:
@@ -38,8 +40,8 @@ def text_of(value: str) -> bytes:
 class Fields:
     """A file of records. A format parses them."""
 
-    def __init__(self, name: str, notation: str) -> None:
-        self.name, self.notation = name, notation
+    def __init__(self, name: str, notation: str, kek: Optional[str] = None) -> None:
+        self.name, self.notation, self.kek = name, notation, kek
 
     def records(self, lines: Iterator[str]) -> Iterator[Record]:
         raise NotImplementedError
@@ -67,7 +69,9 @@ class Fields:
     def _block(self, found: List[Record]) -> Block:
         content = "".join(record.content for record in found).encode("utf-8", "surrogateescape")
         texts = [record.text for record in found]
-        return Block(lambda: texts, self.notation, lambda at: f"line {found[at].line}", len(content), content, found)
+        names = [record.kek for record in found]
+        return Block(lambda: texts, self.notation, lambda at: f"line {found[at].line}", len(content), content, found,
+                     names=names)  # fmt: skip
 
     def joined(self, block: Block, texts: Mapping[int, bytes]) -> bytes:
         fresh = (

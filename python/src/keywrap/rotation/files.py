@@ -3,19 +3,13 @@
 from __future__ import annotations
 
 import contextlib
-import fnmatch
-import heapq
-import json
 import os
-import tempfile
-from typing import IO, Dict, Iterable, Iterator, List, Mapping, Optional, Protocol, Sequence
+from typing import Iterable, Iterator, List, Mapping, Optional, Protocol
 
 from .keys import Block, Changed, Fresh, Readable, Refused
-from .replacing import BLOCK, Successor, is_temporary, new_digest, opened, recover, short
-from .stores import Opened, Simple, Unit
-
-#: How many names are sorted in memory at once.
-_RUN = 50000
+from .paths import Paths
+from .replacing import BLOCK, Successor, is_as, new_digest, opened, short, state_of
+from .stores import Opened, Simple, State, Unit
 
 
 class Format(Protocol):
@@ -74,9 +68,12 @@ class _OpenFile:
         if digest.digest() != self.digest.digest():
             raise Changed
 
-    def replace(self) -> None:
-        if self.successor.made is not None:
-            self.successor.made.replace(self.descriptor, short(self.digest), quiesced=self.files.quiesced)
+    def replace(self) -> State:
+        new = self.successor.made
+        if new is None:
+            return state_of(self.successor.before, self.digest)
+        new.replace(self.descriptor, short(self.digest), quiesced=self.files.quiesced)
+        return state_of(os.fstat(new.descriptor), new.digest)
 
 
 class _Lazy:
@@ -94,10 +91,8 @@ class Files(Simple):
 
     noun, measure = "files", "bytes"
 
-    def __init__(
-        self, format: Format, names: Sequence[str], exclude: Sequence[str] = (), quiesced: bool = False
-    ) -> None:
-        self.format, self.names, self.exclude, self.quiesced = format, names, exclude, quiesced
+    def __init__(self, format: Format, paths: Paths, quiesced: bool = False) -> None:
+        self.format, self.paths, self.quiesced = format, paths, quiesced
         self.found: List[str] = []
 
     @contextlib.contextmanager
@@ -115,104 +110,14 @@ class Files(Simple):
         return self.found
 
     def units(self) -> Iterator[Unit]:
-        for path in listed(self.names, self.exclude, self.found):
+        for path in self.paths.listed(self.found):
             yield Unit(path, path, size_of(path))
+
+    def is_as(self, unit: Unit, state: State) -> bool:
+        return is_as(os.fsencode(unit.place), state)
 
 
 def size_of(path: str) -> int:
     with contextlib.suppress(OSError):
         return os.lstat(path).st_size
     return 0
-
-
-def listed(names: Sequence[str], exclude: Sequence[str], notes: List[str]) -> Iterator[str]:
-    """Lists the files in the order of their paths, before anything is changed: a walk has an end."""
-    return in_order(_below(_roots(names), exclude, notes))
-
-
-def in_order(names: Iterable[str]) -> Iterator[str]:
-    """Sorts names, each once. Many are sorted by way of temporary files."""
-    with contextlib.ExitStack() as runs:
-        files: List[IO[str]] = []
-        run: List[str] = []
-        for name in names:
-            run.append(name)
-            if len(run) == _RUN:
-                files.append(runs.enter_context(_written(sorted(run))))
-                run = []
-        last = None
-        for name in heapq.merge(sorted(run), *(map(json.loads, file) for file in files)):
-            if name != last:
-                yield name
-            last = name
-
-
-def _written(names: List[str]) -> IO[str]:
-    file = tempfile.TemporaryFile("w+", encoding="ascii")
-    file.writelines(json.dumps(name) + "\n" for name in names)
-    file.seek(0)
-    return file
-
-
-def _roots(names: Sequence[str]) -> List[str]:
-    """Returns the names as absolute paths, without those that are the same as another one or below it."""
-    places: Dict[str, str] = {}
-    for name in names:
-        path = os.path.join(os.getcwd(), name)
-        directory, base = os.path.split(path)
-        real = os.path.join(os.path.realpath(directory), base)
-        places.setdefault(os.path.realpath(path) if os.path.isdir(path) else real, path)
-    return [path for real, path in places.items() if not any(_is_below(real, other) for other in places)]
-
-
-def _is_below(path: str, directory: str) -> bool:
-    return path != directory and path.startswith(directory.rstrip("/") + "/")
-
-
-def _below(roots: Sequence[str], exclude: Sequence[str], notes: List[str]) -> Iterator[str]:
-    for root in roots:
-        if os.path.isdir(root):
-            yield from _walk(root, exclude, notes)
-        else:
-            _recover_beside(root, notes)
-            yield root
-
-
-def _walk(root: str, exclude: Sequence[str], notes: List[str]) -> Iterator[str]:
-    """Yields the files below a directory, and whatever cannot be followed there."""
-    directories = [root]
-    while directories:
-        directory = directories.pop()
-        try:
-            with os.scandir(directory) as entries:
-                for entry in entries:
-                    if is_temporary(os.fsencode(entry.name)):
-                        _recover(directory, entry.name, notes)
-                    elif any(fnmatch.fnmatchcase(name, glob) for glob in exclude for name in (entry.name, entry.path)):
-                        continue
-                    elif entry.is_dir(follow_symlinks=False):
-                        directories.append(entry.path)
-                    else:
-                        yield entry.path
-        except FileNotFoundError:
-            continue
-        except OSError:
-            yield directory
-
-
-def _recover(directory: str, name: str, notes: List[str]) -> None:
-    try:
-        left = recover(os.fsencode(directory), os.fsencode(name))
-    except OSError as error:
-        left = error.strerror
-    if left is not None:
-        notes.append(f"{os.path.join(directory, name)}: {left}")
-
-
-def _recover_beside(path: str, notes: List[str]) -> None:
-    """Finishes what a killed run began with this one file."""
-    directory, base = os.path.split(path)
-    with contextlib.suppress(OSError):
-        for name in os.listdir(directory):
-            if name.endswith("." + base) and is_temporary(os.fsencode(name)):
-                _recover(directory, name, notes)

@@ -35,11 +35,16 @@ class _Shared:
 
     def __init__(self, processes: int) -> None:
         # Anonymous memory: /dev/shm may be missing, full or not writable.
-        self.memory = mmap.mmap(-1, 8 * (processes + 1))
+        self.memory = mmap.mmap(-1, 8 * (2 * processes + 1))
         self.numbers = memoryview(self.memory).cast("q")
+        self.processes = processes
 
     def beat(self, process: int, weight: int) -> None:
         self.numbers[process + 1] += weight
+        self.numbers[process + 1 + self.processes] += 1
+
+    def beats(self, process: int) -> int:
+        return self.numbers[process + 1 + self.processes]
 
     def stop(self) -> None:
         self.numbers[0] = 1
@@ -48,7 +53,7 @@ class _Shared:
         return self.numbers[0] == 1
 
     def done(self) -> int:
-        return sum(self.numbers[1:])
+        return sum(self.numbers[1 : self.processes + 1])
 
 
 def _end_with_parent(parent: int) -> None:
@@ -100,10 +105,10 @@ class _Worker:
         self.alive()
 
     def alive(self) -> None:
-        self.seen, self.done = time.monotonic(), self.shared.numbers[self.number + 1]
+        self.seen, self.beats = time.monotonic(), self.shared.beats(self.number)
 
     def hangs(self, timeout: float) -> bool:
-        if self.done != self.shared.numbers[self.number + 1]:
+        if self.beats != self.shared.beats(self.number):
             self.alive()
         return time.monotonic() - self.seen > timeout
 

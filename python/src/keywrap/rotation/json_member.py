@@ -3,7 +3,7 @@
 from __future__ import annotations
 
 import json
-from typing import Any, Dict, Iterator, List, Tuple
+from typing import Any, Dict, Iterator, List, Optional, Tuple
 
 from .fields import Fields, Record, in_place_of, text_of
 from .keys import Text
@@ -14,7 +14,7 @@ class JsonMember(Fields):
         for number, line in enumerate(lines, 1):
             try:
                 parsed = self.parsed(line) if line.strip() else {}
-                yield Record(line, number, self._member(parsed), parsed)
+                yield Record(line, number, self._member(parsed), parsed, self._name(parsed))
             except ValueError as error:
                 yield Record(line, number, "a member comes twice" if type(error) is ValueError else "not JSON", None)
             except RecursionError:
@@ -27,6 +27,10 @@ class JsonMember(Fields):
         if value is None:
             return None
         return text_of(value) if isinstance(value, str) and not isinstance(value, _Number) else "not a string"
+
+    def _name(self, parsed: Any) -> Optional[str]:
+        value = parsed.get(self.kek) if isinstance(parsed, dict) else None
+        return None if value is None else str(value)
 
     def parsed(self, content: str) -> Any:
         return json.loads(content, object_pairs_hook=_object, parse_float=_Number, parse_constant=_Number)

@@ -4,12 +4,14 @@ from __future__ import annotations
 
 import base64
 import binascii
-from typing import Any, Callable, Dict, List, Mapping, NamedTuple, Optional, Protocol, Sequence, Tuple, TypeVar, Union
+import collections
+from typing import Any, Callable, Counter, Dict, Iterator, List, Mapping, NamedTuple, Optional, Protocol, Sequence
+from typing import Tuple, TypeVar, Union
 
 import keywrap
 from keywrap import _flags, _many
 
-from .keks import Keks
+from .keks import Keks, NamedKeks
 
 BLANKS = b" \t\r\n"
 #: The longest wrapped key in bytes, and as hex with some blanks around it.
@@ -56,6 +58,42 @@ NOTATIONS: Dict[str, Notation] = {
     "base64url": Notation(from_base64, _to_base64url),
     "raw": Notation(bytes, bytes),
 }
+
+
+class Prefix(NamedTuple):
+    """What stands before a key: the version of its KEK between two texts. New keys get the new version."""
+
+    before: bytes
+    after: bytes
+    new: str
+
+    def read(self, text: bytes) -> Tuple[str, bytes]:
+        version, after, key = text[len(self.before) :].partition(self.after)
+        if not (after and text.startswith(self.before)):
+            raise ValueError("not the prefix")
+        return version.decode("ascii"), key
+
+
+class Prefixed(str):
+    """A notation of keys that have a prefix."""
+
+    prefix: Prefix
+
+
+def prefix_of(notation: str) -> Optional[Prefix]:
+    return notation.prefix if isinstance(notation, Prefixed) else None
+
+
+def read(notation: str, text: bytes) -> Tuple[Optional[str], bytes]:
+    """Returns the version in the prefix, if there is one, and the key. Raises `ValueError`."""
+    prefix = prefix_of(notation)
+    version, text = (None, text) if prefix is None else prefix.read(text)
+    return version, NOTATIONS[notation].decode(text)
+
+
+def written(notation: str, key: bytes) -> bytes:
+    prefix, text = prefix_of(notation), NOTATIONS[notation].encode(key)
+    return text if prefix is None else prefix.before + prefix.new.encode() + prefix.after + text
 
 
 class Elsewhere(Exception):
@@ -124,6 +162,8 @@ class Block(NamedTuple):
     parts: Any = None
     #: The same keys, if all lines are equally long.
     lines: Optional[HexLines] = None
+    #: The name of the KEK of each place, if the store has names beside its keys.
+    names: Optional[Sequence[Optional[str]]] = None
 
 
 class Fresh(NamedTuple):
@@ -137,6 +177,8 @@ class Fresh(NamedTuple):
     changed: int
     #: If all lines are new: they themselves. Then there are no texts.
     content: Optional[bytes] = None
+    #: How many of them were under each of several KEKs.
+    under: Mapping[str, int] = {}
 
 
 Result = TypeVar("Result")
@@ -155,12 +197,12 @@ def by_length(call: Callable[[List[bytes]], Sequence[Result]], keys: Sequence[by
     return [found[place] for place in range(len(keys))]
 
 
-def rewrap_block(keks: Keks, keys: Sequence[bytes]) -> List[Union[bytes, keywrap.KeywrapError]]:
+def rewrap_block(old: bytes, new: bytes, keys: Sequence[bytes]) -> List[Union[bytes, keywrap.KeywrapError]]:
     """Rewraps each key, or returns its refusal. A key that is under the new KEK already is returned as it is."""
 
     def rewrap(some: List[bytes]) -> Sequence[Union[bytes, keywrap.KeywrapError]]:
         try:
-            return keywrap.rewrap_many(*keks, some, keep_form=True, pass_new=True)
+            return keywrap.rewrap_many(old, new, some, keep_form=True, pass_new=True)
         except keywrap.BadLength as refusal:
             return [refusal.with_traceback(None)] * len(some)
 
@@ -172,106 +214,189 @@ def are_under(kek: bytes, keys: Sequence[bytes]) -> List[bool]:
     return by_length(lambda some: [kind is not None for kind in keywrap.check_many(kek, some)], keys)
 
 
+_FOREIGN, _NO_KEK = "integrity check failed", "there is no KEK of its name"
+_OLD_VERSION = "it is under the new KEK, but has the prefix of another one"
+_NOT_UNDER = "a rewrapped key is not under the new KEK"
+_FLAGS = _flags(False, False, True, True)
+#: How many keys of a name show whether it has the right KEK.
+_PROBED = 8
+
+
 def why(refusal: Exception) -> str:
     """Returns the program's words for the refusal of a key; nothing of the key is in them."""
     if isinstance(refusal, keywrap.IntegrityFailed):
-        return "integrity check failed"
+        return _FOREIGN
     return "bad length" if isinstance(refusal, keywrap.BadLength) else "not in the notation of the store"
 
 
-#: The places and the bytes of keys, and the refusals of other places.
-Decoded = Tuple[Sequence[int], List[bytes], List[Tuple[int, str]]]
+class Found(NamedTuple):
+    """A key of a block: its place, its bytes, and whether it is written as new keys are."""
+
+    place: int
+    key: bytes
+    is_new_version: bool = True
 
 
-def _decoded(block: Block) -> Decoded:
-    """Returns the places and the bytes of the keys that are in the notation, and the refusals of the others."""
-    if block.lines is not None:
-        keys = block.lines.each()
-        return range(len(keys)), keys, []
-    decode = NOTATIONS[block.notation].decode
-    places: List[int] = []
-    keys = []
-    refused: List[Tuple[int, str]] = []
-    for place, text in enumerate(block.split()):
-        if text is None:
-            continue
-        if isinstance(text, str):
-            refused.append((place, text))
-            continue
-        try:
-            key = decode(text)
-        except ValueError as error:
-            refused.append((place, why(error)))
-            continue
-        if key:
-            places.append(place)
-            keys.append(key)
+class Decoded:
+    """The keys of a block by the names of their KEKs, and the places that were refused."""
+
+    def __init__(self, block: Block) -> None:
+        self.keys: Dict[Optional[str], List[Found]] = {}
+        self.refused: List[Tuple[int, str]] = []
+        if block.lines is not None:
+            self.keys[None] = [Found(place, key) for place, key in enumerate(block.lines.each())]
         else:
-            refused.append((place, "blank"))
-    return places, keys, refused
+            self._decode(block)
+        self.count = sum(map(len, self.keys.values())) + len(self.refused)
 
+    def _decode(self, block: Block) -> None:
+        prefix = prefix_of(block.notation)
+        for place, text in enumerate(block.split()):
+            if text is None:
+                continue
+            if isinstance(text, str):
+                self.refused.append((place, text))
+                continue
+            name = None if block.names is None else block.names[place]
+            try:
+                version, key = read(block.notation, text)
+            except ValueError as error:
+                self.refused.append((place, why(error)))
+                continue
+            if key:
+                is_new = prefix is None or version == prefix.new
+                self.keys.setdefault(name or version, []).append(Found(place, key, is_new))
+            else:
+                self.refused.append((place, "blank"))
 
-_NOT_UNDER = "a rewrapped key is not under the new KEK"
-_FLAGS = _flags(False, False, True, True)
+    def with_keks(self, keks: NamedKeks, notation: str) -> Iterator[Tuple[Keks, List[Found]]]:
+        """Yields the keys with their KEKs. Keys whose name has no KEK are refused."""
+        prefix = prefix_of(notation)
+        for name, some in self.keys.items():
+            pair = keks.get(name, keks.get(None))
+            if pair is None and prefix is not None and name == prefix.new:
+                pair = Keks((), next(iter(keks.values())).new)
+            if pair is None:
+                self.refused += [(key.place, _NO_KEK) for key in some]
+            else:
+                yield pair, some
 
 
 def _all_rewrapped(keks: Keks, lines: HexLines) -> Optional[Fresh]:
     """Rewraps all lines at once, or returns `None` if a key is refused, or is under the new KEK already."""
     texts = bytearray(lines.keys)
+    old = keks.old
+    if len(old) > 1:  # For most blocks the KEK of the first key is that of all.
+        first = [bytes(texts[: lines.length])]
+        old = tuple(kek for kek in old if are_under(kek[1], first) == [True]) or old
     try:
-        statuses = _many.rewrap_slots(*keks, texts, lines.length, _FLAGS)
+        statuses = _many.rewrap_slots(old[0][1], keks.new, texts, lines.length, _FLAGS)
     except keywrap.BadLength:
         return None
     if any(statuses):
         return None
     content = HexLines(texts, lines.length).content()
     written = HexLines.of(content)
-    if written is None or not written.are_under(keks[1]):
+    if written is None or not written.are_under(keks.new):
         raise Refused(_NOT_UNDER)
-    return Fresh({}, [], len(statuses), len(statuses), content)
+    return Fresh({}, [], len(statuses), len(statuses), content, {old[0][0]: len(statuses)})
 
 
-def rewrapped(keks: Keks, block: Block, may_be_new: bool = True) -> Fresh:
+def rewrapped(keks: NamedKeks, block: Block, may_be_new: bool = True) -> Fresh:
     """Rewraps a block. Each new text is under the new KEK: it was read and checked.
 
     If all its keys may be new already, they are checked under the new KEK first. For most blocks one key decides.
     """
     if block.lines is not None:
-        if may_be_new and block.lines.are_under(keks[1]):
+        if may_be_new and block.lines.are_under(keks[None].new):
             return Fresh({}, [], len(block.lines.keys) // block.lines.length, 0)
-        fresh = _all_rewrapped(keks, block.lines)
+        fresh = _all_rewrapped(keks[None], block.lines)
         if fresh is not None:
             return fresh
-    decoded = _, keys, refused = _decoded(block)
-    if may_be_new and not refused and all(are_under(keks[1], keys[:1])) and all(are_under(keks[1], keys)):
-        return Fresh({}, [], len(keys), 0)
-    return _each_rewrapped(keks, NOTATIONS[block.notation], decoded)
+    decoded = Decoded(block)
+    texts: Dict[int, bytes] = {}
+    under: Counter[str] = collections.Counter()
+    for pair, some in decoded.with_keks(keks, block.notation):
+        if not (may_be_new and _are_all_new(pair.new, some)):
+            texts.update(_each_rewrapped(pair, block.notation, some, under, decoded.refused))
+    return Fresh(texts, sorted(decoded.refused), decoded.count, len(texts), None, under)
 
 
-def _each_rewrapped(keks: Keks, notation: Notation, decoded: Decoded) -> Fresh:
-    places, keys, refused = decoded
-    count = len(keys) + len(refused)
+def _are_all_new(new: bytes, some: Sequence[Found]) -> bool:
+    if not all(found.is_new_version for found in some):
+        return False
+    return all(are_under(new, [some[0].key])) and all(are_under(new, [found.key for found in some]))
+
+
+Rewrapped = Tuple[Found, str, Union[bytes, keywrap.KeywrapError]]
+
+
+def _from_any(keks: Keks, some: Sequence[Found]) -> Iterator[Rewrapped]:
+    """Rewraps each key from the first KEK that it is under. Yields the label of this KEK, and the result."""
+    left = list(some)
+    for label, old in keks.old:
+        results = list(zip(left, rewrap_block(old, keks.new, [found.key for found in left])))
+        left = []
+        for found, result in results:
+            if isinstance(result, keywrap.IntegrityFailed):
+                left.append(found)
+            else:
+                yield found, label, result
+    for found, is_new in zip(left, are_under(keks.new, [found.key for found in left])):
+        yield found, "", found.key if is_new else keywrap.IntegrityFailed()
+
+
+def _each_rewrapped(keks: Keks, notation: str, some: Sequence[Found], under: Counter[str],
+                    refused: List[Tuple[int, str]]) -> Dict[int, bytes]:  # fmt: skip
+    """Rewraps each key, and checks the new texts. Counts the keys by their KEKs, and adds the refusals."""
     fresh: Dict[int, bytes] = {}
-    for place, old, new in zip(places, keys, rewrap_block(keks, keys)):
-        if isinstance(new, keywrap.KeywrapError):
-            refused.append((place, why(new)))
-        elif new != old:
-            fresh[place] = notation.encode(new)
-    if not all(are_under(keks[1], [notation.decode(text) for text in fresh.values()])):
+    for found, label, result in _from_any(keks, some):
+        if isinstance(result, keywrap.KeywrapError):
+            refused.append((found.place, why(result)))
+            continue
+        if result != found.key:
+            under[label] += 1
+        if result != found.key or not found.is_new_version:
+            fresh[found.place] = written(notation, result)
+    if not all(are_under(keks.new, [read(notation, text)[1] for text in fresh.values()])):
         raise Refused(_NOT_UNDER)
-    return Fresh(fresh, refused, count, len(fresh))
+    return fresh
 
 
-def under_which(keks: Sequence[bytes], block: Block) -> Tuple[List[int], List[Tuple[int, str]]]:
-    """Counts the keys of a block under each of the KEKs, and returns the places of those under none of them."""
-    counts: List[int] = []
-    places, keys, refused = _decoded(block)
-    left = list(zip(places, keys))
-    for kek in keks:
-        under = are_under(kek, [key for _, key in left])
-        counts.append(sum(under))
-        left = [pair for pair, is_under in zip(left, under) if not is_under]
-    return counts, refused + [(place, "integrity check failed") for place, _ in left]
+class Under(NamedTuple):
+    """How many keys of a block are under new KEKs, and under which others, and the places of those under none."""
+
+    new: int
+    old: Counter[str]
+    refused: List[Tuple[int, str]]
+
+
+def under_which(keks: NamedKeks, block: Block) -> Under:
+    decoded = Decoded(block)
+    found = Under(decoded.count, collections.Counter(), decoded.refused)
+    for pair, left in decoded.with_keks(keks, block.notation):
+        for label, kek in (("", pair.new), *pair.old):
+            under = are_under(kek, [key.key for key in left])
+            if kek is not pair.new:
+                found.old[label] += sum(under)
+            else:
+                old = (key.place for key, is_new in zip(left, under) if is_new and not (key.is_new_version or pair.old))
+                found.refused.extend((place, _OLD_VERSION) for place in old)
+            left = [key for key, is_under in zip(left, under) if not is_under]
+        found.refused.extend((key.place, _FOREIGN) for key in left)
+    new = decoded.count - sum(found.old.values()) - len(found.refused)
+    return found._replace(new=new, refused=sorted(found.refused))
+
+
+def right_names(keks: NamedKeks, block: Block, known: Mapping[str, bool]) -> Dict[str, bool]:
+    """Whether some of the first keys of each name are under its KEK or its new KEK. Known ones are not tried again."""
+    found: Dict[str, bool] = {}
+    for name, some in Decoded(block).keys.items():
+        if name is not None and name in keks and not known.get(name):
+            keys = [key.key for key in some[:_PROBED]]
+            pair = keks[name]
+            found[name] = any(any(are_under(kek, keys)) for kek in (pair.new, *(old for _, old in pair.old)))
+    return found
 
 
 def material(block: Block) -> bytes:

@@ -5,7 +5,7 @@ from __future__ import annotations
 import io
 from typing import Iterator, List, Mapping
 
-from .keys import BLANKS, LONGEST, Block, HexLines, Readable, Refused, Text
+from .keys import BLANKS, LONGEST, Block, HexLines, Readable, Refused, Text, prefix_of
 from .replacing import BLOCK
 
 
@@ -30,7 +30,7 @@ class Lines:
             yield self._block(rest, number)
 
     def _block(self, content: bytes, first: int) -> Block:
-        equal = HexLines.of(content) if self.notation == "hex" else None
+        equal = HexLines.of(content) if self.notation == "hex" and not prefix_of(self.notation) else None
         count = content.count(b"\n") if equal is None else len(equal.keys) // equal.length
 
         def split() -> List[Text]:

@@ -7,10 +7,11 @@ from contextlib import contextmanager
 from pathlib import Path
 from typing import Iterator
 
-from .user_commands import Commands
-from .files import Format, in_order
+from .files import Format
 from .keys import Block, Changed, Fresh, Refused
-from .stores import Opened, Simple, Unit
+from .paths import Shard, in_order, names_in
+from .stores import Opened, Simple, State, Unit
+from .user_commands import Commands
 
 
 class _OpenObject:
@@ -33,13 +34,14 @@ class _OpenObject:
             self.is_changed = True
             self.new.write_bytes(self.objects.format.joined(block, fresh.texts))
 
-    def replace(self) -> None:
+    def replace(self) -> State:
         """Puts the new object, unless the object has another version by now."""
         if self.is_changed:
             try:
                 self.objects.commands.run("put", {**self.values, "file": str(self.new)})
             except Refused as refusal:
                 raise Changed(f"{refusal}: it has another version by now, or cannot be put") from None
+        return None
 
 
 class Objects(Simple):
@@ -47,8 +49,8 @@ class Objects(Simple):
 
     noun = measure = "objects"
 
-    def __init__(self, manifest: str, format: Format, commands: Commands) -> None:
-        self.manifest, self.format, self.commands = manifest, format, commands
+    def __init__(self, manifest: str, format: Format, commands: Commands, shard: Shard = Shard()) -> None:
+        self.manifest, self.format, self.commands, self.shard = manifest, format, commands, shard
 
     @contextmanager
     def open(self, unit: Unit) -> Iterator[Opened]:
@@ -56,8 +58,5 @@ class Objects(Simple):
             yield _OpenObject(self, unit.place, Path(room))
 
     def units(self) -> Iterator[Unit]:
-        try:
-            with open(self.manifest, encoding="utf-8", errors="surrogateescape") as file:
-                yield from (Unit(name, name, 1) for name in in_order(line.rstrip("\r\n") for line in file) if name)
-        except OSError as error:
-            raise Refused(f"--objects: {error.strerror}") from None
+        for name in in_order(filter(self.shard.has, names_in("--objects", self.manifest))):
+            yield Unit(name, name, 1)

@@ -4,17 +4,21 @@ from __future__ import annotations
 
 import argparse
 import os
+import re
 from typing import Any, Optional, Sequence
 
 import keywrap
 
+from . import kek_sources, keks
 from .csv_column import CsvColumn
 from .files import Files, Format
 from .json_member import JsonMember
-from .keys import Refused
+from .keys import Prefix, Prefixed, Refused
 from .lines import Lines, OneKey
 from .objects import Objects
+from .paths import Paths, Shard
 from .postgresql import Postgresql
+from .replication import Replication
 from .rows import Table
 from .sqlite import Sqlite
 from .stores import Store
@@ -32,6 +36,13 @@ def _positive(text: str) -> int:
     return int(text)
 
 
+def _shard(text: str) -> Shard:
+    number, slash, count = text.partition("/")
+    if not (slash and number.isdecimal() and count.isdecimal() and 1 <= int(number) <= int(count)):
+        raise argparse.ArgumentTypeError("not I/N, with I from 1 to N")
+    return Shard(int(number), int(count))
+
+
 def parse(words: Optional[Sequence[str]]) -> argparse.Namespace:
     parser = argparse.ArgumentParser(
         prog="python -m keywrap.rotate",
@@ -41,8 +52,7 @@ def parse(words: Optional[Sequence[str]]) -> argparse.Namespace:
         epilog=EPILOG,
     )
     parser.add_argument("--version", action="version", version=f"keywrap.rotate {keywrap.__version__}")
-    parser.add_argument("--kek", metavar="F", help="the file of the KEK, in hex (default: $KEYWRAP_KEK)")
-    parser.add_argument("--new-kek", metavar="F", help="the file of the new KEK, in hex (default: $KEYWRAP_NEW_KEK)")
+    _add_keks(parser)
     _add_stores(parser)
     _add_modes(parser)
     _add_engines(parser)
@@ -52,6 +62,22 @@ def parse(words: Optional[Sequence[str]]) -> argparse.Namespace:
     if wrong is not None:
         parser.error(wrong)
     return options
+
+
+def _add_keks(parser: argparse.ArgumentParser) -> None:
+    new = parser.add_mutually_exclusive_group()
+    old = parser.add_mutually_exclusive_group()
+    old.add_argument("--kek", metavar="F", action="append", help="the file of the KEK, in hex (default: $KEYWRAP_KEK). "
+                     "Given several times: a key may be under any of them")  # fmt: skip
+    new.add_argument("--new-kek", metavar="F", help="the file of the new KEK, in hex (default: $KEYWRAP_NEW_KEK)")
+    old.add_argument("--kek-command", metavar="COMMAND", help="a command that prints the KEK in hex; no shell runs it")
+    new.add_argument("--new-kek-command", metavar="COMMAND", help="a command that prints the new KEK in hex")
+    old.add_argument("--keks", metavar="F", help="a table of KEKs: each line is NAME=FILE")
+    new.add_argument("--new-keks", metavar="F", help="a table of new KEKs, with the same names")
+    parser.add_argument("--kek-name", metavar="C", help="the column or member with the name of a key's KEK")
+    parser.add_argument("--prefix-format", metavar="TEXT", help="the text before each key, with {version} in it, which "
+                        "is the name of its KEK: 'vault:v{version}:'")  # fmt: skip
+    parser.add_argument("--new-version", metavar="V", help="the version in the prefix of a new key")
 
 
 def _add_stores(parser: argparse.ArgumentParser) -> None:
@@ -76,8 +102,11 @@ def _add_stores(parser: argparse.ArgumentParser) -> None:
                         "SQLite, id in PostgreSQL)")  # fmt: skip
     parser.add_argument("--exclude", metavar="GLOB", action="append", default=[],
                         help="leave out files and directories of this name or path")  # fmt: skip
-    parser.add_argument("--quiesced", action="store_true",
-                        help="nobody writes the files: replace them even if the system cannot exchange names")  # fmt: skip
+    parser.add_argument("--files-from", metavar="F", help="take the files whose names are the lines of F")
+    parser.add_argument("--shard", metavar="I/N", type=_shard, default=Shard(),
+                        help="take part I of N parts of the store: N runs take all of it")  # fmt: skip
+    parser.add_argument("--quiesced", action="store_true", help="nobody writes the files: replace them even if the "
+                        "system cannot exchange names")  # fmt: skip
 
 
 def _add_modes(parser: argparse.ArgumentParser) -> None:
@@ -88,8 +117,12 @@ def _add_modes(parser: argparse.ArgumentParser) -> None:
     mode.add_argument("--verify-record", metavar="F", help="verify, and compare with the record of an earlier --verify")
     mode.add_argument("--all-or-nothing", action="store_true",
                       help="a file or table with a refused key stays as it is")  # fmt: skip
+    mode.add_argument("--merge", action="store_true", help="the FILEs are the reports of all shards: merge them")
     parser.add_argument("--record", metavar="F", help="with --verify: write a record of each file or table")
-    parser.add_argument("--report", metavar="F", help="append a line of JSON for each file or range of rows")
+    report = parser.add_mutually_exclusive_group()
+    report.add_argument("--report", metavar="F", help="append a line of JSON for each file or range of rows")
+    report.add_argument("--resume", metavar="REPORT", help="the report of an earlier run: skip each file whose size, "
+                        "time and digest are there, and append the others")  # fmt: skip
     parser.add_argument("--progress-file", metavar="F", help="write the progress as OpenMetrics text, once in a second")
 
 
@@ -98,6 +131,9 @@ def _add_engines(parser: argparse.ArgumentParser) -> None:
     engine.add_argument("--jobs", metavar="N", type=_positive, default=len(os.sched_getaffinity(0)),
                         help="processes (default: one for each processor)")  # fmt: skip
     engine.add_argument("--dask", metavar="ADDRESS", help="the scheduler whose workers rotate the files")
+    parser.add_argument("--rate", metavar="N", type=_positive, help="rewrap at most N keys a second")
+    parser.add_argument("--max-lag", metavar="MB", type=_positive, help="with --postgresql: wait while a replica has "
+                        "more megabytes of the log still to replay")  # fmt: skip
     parser.add_argument("--timeout", metavar="SECONDS", type=_positive, default=600,
                         help="give up a process that shows no progress for so long (default: 600)")  # fmt: skip
 
@@ -107,19 +143,41 @@ def _reason(options: argparse.Namespace) -> Optional[str]:
     is_table = options.table is not None or options.postgresql is not None
     is_file = not is_table and options.objects is None
     takes_files = is_file or options.table is not None
+    rotates = not (verifies(options) or options.dry_run or options.merge)
+    has_names = is_table or options.csv is not None or options.json is not None
     wrong = {
-        "the following arguments are required: FILE": takes_files and not options.files,
+        "the following arguments are required: FILE": takes_files and not (options.files or options.files_from),
         "a FILE goes with neither --postgresql nor --objects": options.files and not takes_files,
         "--column and --id go with --table and --postgresql only": (options.column or options.id) and not is_table,
         "--objects needs --get and --put": options.objects is not None and not (options.get and options.put),
         "--get and --put go with --objects only": (options.get or options.put) and options.objects is None,
         "--quiesced goes with files only": options.quiesced and not is_file,
         "--exclude goes with files and --table only": options.exclude and not takes_files,
+        "--files-from goes with files and --table only": options.files_from is not None and not takes_files,
         "--raw goes with neither --csv nor --json": options.notation == "raw" and (options.csv or options.json),
         "--dask goes with files only": options.dask is not None and not is_file,
+        "--dask goes with neither --rate nor a KEK that is read only once": options.dask is not None and (
+            options.rate or options.keks or options.new_keks or options.kek_command or options.new_kek_command),
         "--record goes with --verify only": options.record is not None and not options.verify,
         "--report does not go with --verify: use --record": options.report is not None and verifies(options),
-    }
+        "--resume goes with a rotation of files only": options.resume is not None and not (is_file and rotates),
+        "--rate goes with a rotation only": options.rate is not None and not rotates,
+        "--max-lag goes with a rotation of --postgresql only": options.max_lag is not None
+            and not (options.postgresql is not None and rotates),
+        "--shard does not go with --postgresql: several runs share the work": options.shard != Shard()
+            and options.postgresql is not None and rotates,
+        "--shard goes with neither --all-or-nothing nor --merge": options.shard != Shard()
+            and (options.merge or options.all_or_nothing and is_table),
+        "--kek-name goes with --csv, --json, --table and --postgresql only": options.kek_name and not has_names,
+        "--kek-name needs --keks or --new-keks": options.kek_name and not (options.keks or options.new_keks),
+        "--keks and --new-keks need --kek-name or --prefix-format": (options.keks or options.new_keks)
+            and not (options.kek_name or options.prefix_format) and not options.merge,
+        "--new-keks needs --keks": options.new_keks and not options.keks and rotates,
+        "--prefix-format and --new-version go together": bool(options.prefix_format) != bool(options.new_version),
+        "--prefix-format does not go with --raw": options.prefix_format and options.notation == "raw",
+        "--prefix-format: it needs {version}, and a text after it": options.prefix_format
+            and not re.fullmatch(r"[ -~]*\{version\}[!-~][ -~]*", options.prefix_format),
+    }  # fmt: skip
     return next((why for why, is_so in wrong.items() if is_so), None)
 
 
@@ -127,33 +185,62 @@ def verifies(options: argparse.Namespace) -> bool:
     return bool(options.verify or options.verify_record is not None)
 
 
+def take_keks(options: argparse.Namespace) -> None:
+    """Sets the variables of the KEKs, and reads those that are read only once."""
+    keks.held.clear()
+    if options.kek is not None or options.kek_command is not None:
+        for variable in keks.old_variables():
+            os.environ.pop(variable, None)
+    for at, name in enumerate(options.kek or [], 1):
+        os.environ[keks.OLD if at == 1 else f"{keks.OLD}_{at}"] = name
+    if options.new_kek is not None:
+        os.environ[keks.NEW] = options.new_kek
+    for variable, command in ((keks.OLD, options.kek_command), (keks.NEW, options.new_kek_command)):
+        if command is not None:
+            kek_sources.hold_output(variable, command, options.timeout)
+    kek_sources.hold_pipes(needs_old=not verifies(options))
+    kek_sources.hold_tables(options.keks, options.new_keks)
+
+
+def _notation(options: argparse.Namespace) -> str:
+    if options.prefix_format is None:
+        return str(options.notation)
+    before, after = options.prefix_format.split("{version}")
+    notation = Prefixed(options.notation)
+    notation.prefix = Prefix(before.encode(), after.encode(), options.new_version)
+    return notation
+
+
 def store_of(options: argparse.Namespace) -> Store:
-    whole = options.all_or_nothing or verifies(options)
-    column = options.column or "key"
+    notation, column, whole = _notation(options), options.column or "key", bool(options.all_or_nothing)
+    paths = Paths(options.files, options.exclude, options.files_from)
     if options.table is not None:
-        table = Table(options.table, column, options.id or "rowid")
-        return Sqlite(table, options.notation, whole, options.files, options.exclude)
+        table = Table(options.table, column, options.id or "rowid", options.kek_name, options.shard)
+        return Sqlite(table, notation, whole, paths)
     if options.postgresql is not None:
-        table = Table(options.postgresql, column, options.id or "id")
-        return Postgresql(table, options.notation, options.all_or_nothing, verifies(options) or options.dry_run)
+        table = Table(options.postgresql, column, options.id or "id", options.kek_name, options.shard)
+        only_reads = verifies(options) or options.dry_run
+        return Postgresql(table, notation, whole, only_reads, Replication(table, options.max_lag))
     if options.objects is not None:
-        return Objects(options.objects, OneKey(options.notation), Commands(options.get, options.put, options.timeout))
-    return Files(_format(options), options.files, options.exclude, options.quiesced)
+        # A command is given up before the process that waits for it would be.
+        commands = Commands(options.get, options.put, 0.75 * options.timeout)
+        return Objects(options.objects, OneKey(notation), commands, options.shard)
+    return Files(_format(options, notation), paths._replace(shard=options.shard), options.quiesced)
 
 
-def _format(options: argparse.Namespace) -> Format:
+def _format(options: argparse.Namespace, notation: str) -> Format:
     if options.csv is not None:
-        return CsvColumn(options.csv, options.notation)
+        return CsvColumn(options.csv, notation, options.kek_name)
     if options.json is not None:
-        return JsonMember(options.json, options.notation)
-    if options.one_key or options.notation == "raw":
-        return OneKey(options.notation)
-    return Lines(options.notation)
+        return JsonMember(options.json, notation, options.kek_name)
+    if options.one_key or notation == "raw":
+        return OneKey(notation)
+    return Lines(notation)
 
 
 def outside(options: argparse.Namespace) -> None:
     """Refuses an output file that is one of the files, or below them."""
-    for option in ("report", "record", "progress_file", "verify_record", "objects"):
+    for option in ("report", "resume", "record", "progress_file", "verify_record", "objects", "files_from"):
         name: Any = getattr(options, option)
         path = None if name is None else os.path.realpath(name)
         if path and any((path + os.sep).startswith(os.path.realpath(file) + os.sep) for file in options.files):

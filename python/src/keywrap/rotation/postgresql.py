@@ -7,13 +7,13 @@ from typing import Any, Callable, Iterable, Iterator, List, Sequence, Tuple
 
 from .databases import Statements, postgresql_database
 from .keks import Challenges
-from .keys import Changed
-from .postgresql_queue import Queue, types_of
+from .postgresql_queue import Queue, end_of_table, ranges_of, types_of
+from .replication import Replication
 from .rows import READ, OpenRows, Range, Ranges, Read, Table, Write
 from .stores import Opened, Unit
 
 _ROWS = f"""SELECT {READ} FROM {{table}}
-    WHERE (%s OR {{row}} >= %s) AND (%s OR {{row}} > %s) AND (%s OR {{row}} <= %s) ORDER BY 1"""
+    WHERE (%s OR {{row}} >= %s) AND (%s OR {{row}} > %s) AND (%s OR {{row}} <= %s) AND {{condition}} ORDER BY 1"""
 _PUT = """WITH new AS (SELECT * FROM unnest({types}) AS n (key, row, old)), mine AS (SELECT {row} AS row FROM {table}
     JOIN new ON {row} = new.row WHERE {key} = new.old ORDER BY 1 FOR UPDATE OF {name} SKIP LOCKED)
     UPDATE {table} SET {column} = new.key FROM mine JOIN new USING (row) WHERE {row} = mine.row
@@ -50,31 +50,30 @@ class _Rows:
 class Postgresql(Ranges):
     """One table."""
 
-    def __init__(self, table: Table, notation: str, whole: bool, only_reads: bool) -> None:
-        super().__init__(table, notation, whole or only_reads)
-        self.queue, self.lock = Queue(table), "ACCESS SHARE" if only_reads else "SHARE ROW EXCLUSIVE"
+    def __init__(self, table: Table, notation: str, whole: bool, only_reads: bool, replication: Replication) -> None:
+        super().__init__(table, notation, whole)
+        self.queue, self.only_reads, self.replication = Queue(table), only_reads, replication
 
     @contextmanager
     def open(self, unit: Unit) -> Iterator[Opened]:
         with postgresql_database(self.table) as database:
-            end: Callable[..., None] = _end_of_table
+            end: Callable[..., None] = end_of_table
             if self.whole:
-                database.run(f"LOCK TABLE {{table}} IN {self.lock} MODE")
-            else:
+                database.run("LOCK TABLE {table} IN SHARE ROW EXCLUSIVE MODE")
+            elif not self.only_reads:
                 end = self.queue.claim(database, unit.place)
-            yield OpenRows(_Rows(database, unit.place, end), self.notation, self.whole, not self.whole)
+            yield OpenRows(_Rows(database, unit.place, end), self.notation, self.whole, unit.place != Range())
             database.connection.rollback()
 
     def begin(self, challenges: Challenges) -> None:
+        self.replication.begin()
         self.queue.begin(challenges, not self.whole)
 
+    def is_behind(self) -> bool:
+        return self.replication.is_behind()
+
     def units(self) -> Iterable[Unit]:
-        return [Unit(self.table.name, Range(), 1)] if self.whole else self.queue.units()
+        return ranges_of(self.table, self.whole) if self.whole or self.only_reads else self.queue.units()
 
     def remaining(self) -> Iterable[Unit]:
         return [] if self.whole else self.queue.remaining()
-
-
-def _end_of_table(writes: Sequence[Sequence[Write]], done: Sequence[Any], refused: Sequence[Any]) -> None:
-    if len(done) < sum(map(len, writes)):
-        raise Changed

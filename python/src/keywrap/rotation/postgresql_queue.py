@@ -12,7 +12,8 @@ from typing import Any, Callable, Iterator, List, Sequence
 from . import keks
 from .databases import Statements, postgresql_database
 from .keks import Challenges
-from .keys import Elsewhere, Refused
+from .keys import Changed, Elsewhere, Refused
+from .paths import Shard
 from .rows import FINDS_EACH, NOT_EACH_ROW, ROWS, Range, Table, Write
 from .stores import Unit
 
@@ -36,12 +37,31 @@ def types_of(writes: Sequence[Write]) -> str:
 def _compare_keks(comment: Any) -> None:
     """Refuses a queue of other KEKs. The comment comes from the database, and may be anything."""
     try:
-        old, new = comment.split(" ")
-        wrong = keks.probe(old, new)
+        wrong = keks.probe(*comment.split("\n"))
     except (AttributeError, ValueError):
         raise Refused("the queue beside the table is not one of keywrap.rotate") from None
     if wrong is not None:
         raise Refused(f"the rotation of this table began with other KEKs: {wrong}")
+
+
+def end_of_table(writes: Sequence[Sequence[Write]], done: Sequence[Any], refused: Sequence[Any]) -> None:
+    if len(done) < sum(map(len, writes)):
+        raise Changed
+
+
+def ranges_of(table: Table, whole: bool) -> Iterator[Unit]:
+    """Lists ranges of rows in steps, each with a snapshot of its own. If there are none, the whole table is a unit."""
+    last = None
+    with postgresql_database(table) as database:
+        if not database.one("SELECT NOT EXISTS (SELECT FROM {table} WHERE {row} IS NULL)"):
+            raise Refused(NOT_EACH_ROW)
+        select = "SELECT {row} FROM {table} WHERE (%s OR {row} > %s) AND {condition} ORDER BY 1 LIMIT %s"
+        while not whole and (some := database.run(select, last is None, last, ROWS).fetchall()):
+            (first,), (last,) = some[0], some[-1]
+            database.connection.commit()
+            yield Unit(f"{table.name}: rows {first} to {last}", Range(first, last), len(some), table.name)
+    if last is None and table.shard == Shard():
+        yield Unit(table.name, Range(), 1, table.name)
 
 
 class Queue:
@@ -82,7 +102,7 @@ class Queue:
                     raise Refused(NOT_EACH_ROW)
                 database.run(_CREATE, text=ROWS)
                 database.run("CREATE INDEX ON {queue} (first, last)")
-                database.run("COMMENT ON TABLE {queue} IS {text}", text=" ".join(challenges))
+                database.run("COMMENT ON TABLE {queue} IS {text}", text="\n".join(challenges))
 
     def units(self, condition: str = "refused IS NULL", *words: str) -> List[Unit]:
         with postgresql_database(self.table) as database:

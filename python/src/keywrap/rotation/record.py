@@ -11,7 +11,7 @@ import socket
 from typing import Any, Dict, Iterable, Iterator, List, Optional, Tuple
 
 from .engine import Answer
-from .keks import WrongKeks, new_kek_of
+from .keks import Challenges, WrongKeks, new_keks_of
 from .keys import Refused
 from .report import Lines
 
@@ -28,6 +28,29 @@ def in_order(answers: Iterable[Tuple[int, Answer]]) -> Iterator[Answer]:
             yield heapq.heappop(waiting)[1]
             following += 1
     yield from (answer for _, answer in sorted(waiting))
+
+
+class Grouped:
+    """Makes one answer of all ranges of a table, with the digest of their digests."""
+
+    def __init__(self) -> None:
+        self.last: Optional[Answer] = None
+
+    def add(self, answer: Answer) -> Iterator[Answer]:
+        """Takes the next answer. Yields the one that is complete by now."""
+        group = answer.get("group")
+        if self.last is None or not group or group != self.last.get("group"):
+            yield from self.rest()
+            self.last = {**answer, "unit": group or answer["unit"]}
+            return
+        both = hashlib.sha256(f"{self.last.get('digest')} {answer.get('digest')}".encode()).hexdigest()
+        worst = answer["outcome"] if answer["outcome"] != "verified" else self.last["outcome"]
+        self.last.update(keys=self.last["keys"] + answer["keys"], digest=both, outcome=worst)
+
+    def rest(self) -> Iterator[Answer]:
+        if self.last is not None:
+            yield self.last
+        self.last = None
 
 
 def entry_of(answer: Answer) -> Entry:
@@ -55,16 +78,21 @@ def _user() -> str:
 class Writer:
     """Writes a new record."""
 
-    def __init__(self, name: str, challenge: str) -> None:
-        self.lines, self.chain = Lines("--record", name, os.O_EXCL), Chain()
-        self.lines.line(challenge=challenge, machine=socket.gethostname(), user=_user())
+    def __init__(self, name: str, pair: Challenges) -> None:
+        self.lines, self.chain, self.grouped = Lines("--record", name, os.O_EXCL), Chain(), Grouped()
+        self.lines.line(challenge="\n".join(pair), machine=socket.gethostname(), user=_user())
 
     def add(self, answer: Answer) -> None:
-        entry = entry_of(answer)
-        self.chain.add(entry)
-        self.lines.line(**entry, outcome=answer["outcome"])
+        self._add(self.grouped.add(answer))
+
+    def _add(self, answers: Iterable[Answer]) -> None:
+        for answer in answers:
+            entry = entry_of(answer)
+            self.chain.add(entry)
+            self.lines.line(**entry, outcome=answer["outcome"])
 
     def end(self, status: int) -> None:
+        self._add(self.grouped.rest())
         self.lines.line(chain=self.chain.value, status=status, machine=socket.gethostname(), user=_user())
         self.lines.sync()
 
@@ -73,7 +101,7 @@ class Reader:
     """Reads a record, and compares what is found now with it. Both are in the order of the names."""
 
     def __init__(self, name: str) -> None:
-        self.name = name
+        self.name, self.grouped = name, Grouped()
         try:
             lines = self._lines()
             self.head = next(lines)
@@ -93,7 +121,7 @@ class Reader:
         """Why the record is not whole."""
         chain, last = Chain(), None
         try:
-            new_kek_of(self.head["challenge"])
+            new_keks_of(tuple(self.head["challenge"].split("\n")))
         except WrongKeks as wrong:
             return str(wrong)
         for line in lines:
@@ -103,6 +131,11 @@ class Reader:
         return None if last == chain.value else "it was changed, or its run did not end"
 
     def differences(self, answer: Answer) -> Iterator[str]:
+        """Takes the next answer. Yields what is not as in the record, up to the last table or file that is complete."""
+        for whole in self.grouped.add(answer):
+            yield from self._differences(whole)
+
+    def _differences(self, answer: Answer) -> Iterator[str]:
         """Yields the units of the record that come before this one and are missing, and how this one differs."""
         while self.entry is not None and self.entry["unit"] < answer["unit"]:
             yield f"{self.entry['unit']}: missing: the record has it"
@@ -115,7 +148,9 @@ class Reader:
         self.entry = next(self.entries, None)
 
     def rest(self) -> Iterator[str]:
-        """Yields what the record has after the last unit."""
+        """Yields how the last unit differs, and what the record has after it."""
+        for whole in self.grouped.rest():
+            yield from self._differences(whole)
         while self.entry is not None:
             yield f"{self.entry['unit']}: missing: the record has it"
             self.entry = next(self.entries, None)

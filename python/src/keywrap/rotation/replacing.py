@@ -18,7 +18,7 @@ import re
 import secrets
 import stat
 import time
-from typing import Iterator, Optional, Tuple
+from typing import Any, Iterator, Optional, Tuple
 
 from .keys import Changed, Gone, Refused, Unsynced
 
@@ -275,6 +275,24 @@ def replace(path: str, new_bytes: bytes, *, old_bytes: bytes) -> None:
         raise Refused("somebody else wrote the file meanwhile: read it again") from None
     except Gone:
         raise Refused("No such file or directory") from None
+
+
+def state_of(status: os.stat_result, digest: "hashlib.blake2b") -> Tuple[int, int, str]:
+    """The size and the time of a file, and the digest of its content."""
+    return status.st_size, status.st_mtime_ns, short(digest)
+
+
+def is_as(path: bytes, state: Any) -> bool:
+    """Whether a file has this state. It is read only if its size and time are the same."""
+    with contextlib.suppress(OSError):
+        status = os.lstat(path)
+        if [status.st_size, status.st_mtime_ns, stat.S_ISREG(status.st_mode)] == [*state[:2], True]:
+            descriptor = os.open(path, os.O_RDONLY | os.O_NOFOLLOW | os.O_CLOEXEC)
+            try:
+                return bool(digest_of(descriptor) == state[2])
+            finally:
+                os.close(descriptor)
+    return False
 
 
 def is_temporary(name: bytes) -> bool:

@@ -65,6 +65,7 @@ class Tally:
     def __init__(self) -> None:
         self.outcomes: Counter[str] = Counter()
         self.keys: Counter[str] = Counter()
+        self.under: Counter[str] = Counter()
         self.causes: Counter[str] = Counter()
         self.lacks_keks = False
 
@@ -73,20 +74,37 @@ class Tally:
         if answer["outcome"] != "refused":
             for name in ("keys", "passed", "refused"):
                 self.keys[name] += answer[name]
+            self.under.update(answer.get("under", {}))
         if answer["outcome"] == "unanswered":
             self.causes[answer["why"]] += 1
             self.lacks_keks |= "keks" in answer
 
-    def counts(self) -> Dict[str, int]:
+    def skip(self, answer: Answer) -> None:
+        """Counts a unit that is as an earlier run left it."""
+        self.add({**answer, "passed": answer["keys"], "under": {}})
+
+    def counts(self) -> Dict[str, Any]:
         counts = {name: self.outcomes[name] for name in ("refused", "gone", "unanswered")}
         done = sum(self.outcomes.values()) - sum(counts.values())
         keys = {"keys": self.keys["keys"], "keys_new": self.keys["passed"], "keys_refused": self.keys["refused"]}
-        return {"done": done, **counts, **keys}
+        return {"done": done, **counts, **keys, **({"under": dict(self.under)} if self.under else {})}
 
     def status(self) -> int:
         if self.outcomes["unanswered"]:
             return KEKS if self.lacks_keks else UNFINISHED
         return REFUSED if self.outcomes["refused"] or self.keys["refused"] else DONE
+
+
+def head_of(option: str, line: str) -> str:
+    """Returns the shard of a report by its first line. Refuses a report of other KEKs."""
+    try:
+        head = json.loads(line)
+        wrong, shard = probe(*head["challenges"]), str(head["shard"])
+    except (ValueError, KeyError, TypeError, AttributeError):
+        raise Refused(f"{option}: it is not a report of keywrap.rotate") from None
+    if wrong is not None:
+        raise Refused(f"{option}: it belongs to a rotation with other KEKs: {wrong}")
+    return shard
 
 
 class Report:
@@ -95,19 +113,15 @@ class Report:
     def __init__(self, lines: Optional[Lines], clear: Callable[[], None]) -> None:
         self.lines, self.clear, self.tally, self.began = lines, clear, Tally(), time.monotonic()
 
-    def begin(self, pair: Challenges) -> None:
-        """Writes the challenges as the first line. An earlier run's report must have been made with the same KEKs."""
+    def begin(self, pair: Challenges, shard: str) -> None:
+        """Writes the challenges as the first line. An earlier run's report must be of the same KEKs and shard."""
         if self.lines is None:
             return
         first = self.lines.file.readline()
         if not first:
-            return self.line(challenges=pair)
-        try:
-            wrong = probe(*json.loads(first)["challenges"])
-        except (ValueError, KeyError, TypeError):
-            raise Refused("--report: it is not a report of keywrap.rotate") from None
-        if wrong is not None:
-            raise Refused(f"--report: it belongs to a rotation with other KEKs: {wrong}")
+            return self.line(challenges=pair, shard=shard)
+        if head_of(self.lines.option, first) != shard:
+            raise Refused(f"{self.lines.option}: it belongs to another shard than {shard}")
         if not self._ends_with_a_line():  # The last run was killed.
             self.lines.file.write("\n")
 
@@ -152,6 +166,8 @@ class Report:
         more = f", {not_begun} not begun" if not_begun else ""
         units = f"{counts['done']} done, {counts['refused']} refused, {counts['gone']} gone"
         old = counts["keys"] - counts["keys_new"] - counts["keys_refused"]
+        for label, number in sorted(tally.under.items()):
+            self.say(f"{number} keys were under {label}")
         self.say(f"{noun}: {units}, {counts['unanswered']} unanswered{more}; {words.format(old=old, **counts)}")
         if status is None:
             status = tally.status() or (UNFINISHED if not_begun else DONE)

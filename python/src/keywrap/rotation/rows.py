@@ -2,29 +2,38 @@
 
 from __future__ import annotations
 
-from typing import Any, Iterable, Iterator, List, NamedTuple, Protocol, Sequence, Tuple
+from typing import Any, Iterable, Iterator, List, NamedTuple, Optional, Protocol, Sequence, Tuple
 
 from .keys import BLANKS, LONGEST, Block, Changed, Fresh, Refused, Text
-from .stores import Simple
+from .paths import Shard
+from .stores import Simple, State
 
 #: How many rows a unit has at most, and how many bytes a block has about.
 ROWS, BLOCK_BYTES = 1000, 1 << 20
 #: The value of a key, its row, and the value that it replaces.
 Write = Tuple[Any, Any, Any]
-#: A row, its value, and whether that is NULL. A value that is longer than any key is not read, but `None`.
-Read = Tuple[Any, Any, bool]
+#: A row, its value, whether that is NULL, and the name of its KEK. A value longer than any key is not read.
+Read = Tuple[Any, Any, bool, Any]
 #: What each database reads of a row, and how it finds out whether the column of --id finds each row.
-READ = "{row}, CASE WHEN {octets}({key}) <= " + str(LONGEST) + " THEN {key} END, {key} IS NULL"
+READ = "{row}, CASE WHEN {octets}({key}) <= " + str(LONGEST) + " THEN {key} END, {key} IS NULL, {kek}"
 FINDS_EACH = "SELECT count(*) = count(DISTINCT {row}) FROM {table}"
 NOT_EACH_ROW = "the column of --id has a NULL, or the same value twice"
 
 
 class Table(NamedTuple):
-    """The names of a table, of the column of the keys, and of the column that orders and finds its rows."""
+    """The names of a table, of the column of the keys, of the column that orders and finds its rows, and of the one with
+    the names of KEKs; and which rows are meant."""
 
     name: str
     column: str
     row: str
+    kek: Optional[str] = None
+    shard: Shard = Shard()
+
+    def condition(self) -> str:
+        """The condition for the rows of the shard, each a thousand numbers: it is the same whatever rows there are."""
+        number, total = self.shard
+        return "TRUE" if total == 1 else f"({{row}} / {ROWS} % {total} + {total}) % {total} = {number - 1}"
 
 
 class Range(NamedTuple):
@@ -48,15 +57,17 @@ class Row(NamedTuple):
     value: Any
     is_raw: bool
     text: Text
+    kek: Optional[str]
 
 
-def _row(row: Any, value: Any, is_null: bool) -> Row:
+def _row(row: Any, value: Any, is_null: bool, kek: Any) -> Row:
+    name = None if kek is None else str(kek)
     if isinstance(value, bytes):
-        return Row(row, value, True, value)
+        return Row(row, value, True, value, name)
     if isinstance(value, str):
-        return Row(row, value, False, value.encode("utf-8", "surrogateescape").strip(BLANKS))
+        return Row(row, value, False, value.encode("utf-8", "surrogateescape").strip(BLANKS), name)
     why = "neither BLOB nor TEXT" if value is not None else "longer than any wrapped key"
-    return Row(row, None, False, None if is_null else why)
+    return Row(row, None, False, None if is_null else why, name)
 
 
 class Driver(Protocol):
@@ -124,11 +135,13 @@ class OpenRows:
             self.are_left |= done < len(writes)
         self.writes = []
 
-    def replace(self) -> None:
+    def replace(self) -> State:
         self._put()
         if not self.driver.commit(self.refused, self.are_left):
             raise Changed
+        return None
 
 
 def _block(rows: List[Row], notation: str) -> Block:
-    return Block(lambda: [row.text for row in rows], notation, lambda at: f"row {rows[at].row}", len(rows), parts=rows)
+    return Block(lambda: [row.text for row in rows], notation, lambda at: f"row {rows[at].row}", len(rows), parts=rows,
+                 names=[row.kek for row in rows])  # fmt: skip

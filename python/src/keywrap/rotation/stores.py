@@ -2,7 +2,7 @@
 
 from __future__ import annotations
 
-from typing import Any, ContextManager, Iterable, Iterator, NamedTuple, Protocol
+from typing import Any, ContextManager, Iterable, Iterator, NamedTuple, Optional, Protocol, Tuple
 
 from .keks import Challenges
 from .keys import Block, Fresh
@@ -15,6 +15,12 @@ class Unit(NamedTuple):
     place: Any
     #: How large it is: bytes, rows or objects.
     weight: int
+    #: The name that a record has for all units of a table.
+    group: str = ""
+
+
+#: The size, the time and the digest of a unit, or `None` if a store has none.
+State = Optional[Tuple[int, int, str]]
 
 
 class Opened(Protocol):
@@ -26,8 +32,8 @@ class Opened(Protocol):
     def write(self, block: Block, fresh: Fresh) -> None:
         """Takes what a block becomes."""
 
-    def replace(self) -> None:
-        """Replaces what was read, or raises `Changed`."""
+    def replace(self) -> State:
+        """Replaces what was read, or raises `Changed`. Returns how a later run can tell that nobody wrote it since."""
 
 
 class Store(Protocol):
@@ -52,6 +58,12 @@ class Store(Protocol):
     def open(self, unit: Unit) -> ContextManager[Opened]:
         """Opens a unit. Raises `Gone`, `Changed` or `Refused`."""
 
+    def is_behind(self) -> bool:
+        """Whether to wait before the next unit."""
+
+    def is_as(self, unit: Unit, state: State) -> bool:
+        """Whether nobody wrote a unit since it had this state."""
+
 
 class Simple:
     """The parts that most stores do not need."""
@@ -64,3 +76,9 @@ class Simple:
 
     def remaining(self) -> Iterable[Unit]:
         return ()
+
+    def is_behind(self) -> bool:
+        return False
+
+    def is_as(self, unit: Unit, state: State) -> bool:
+        return False
