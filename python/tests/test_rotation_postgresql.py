@@ -150,6 +150,117 @@ def test_dry_run_and_verify(server):
         assert (status, "keywrap.rotate: keys: changed since the record" in lines[0]) == (5, True)
 
 
+def test_verify_reads_ranges_and_names_rows(server):
+    """A part can be verified by itself, and again. A record has one line for the table."""
+    server.fill(NEW)
+    server.sql(set_row(170, OLD[170]) + set_row(400, b"\0"))
+    status, lines = rotated("--verify")
+    assert (status, sorted(lines[:-1])) == (5, ["keywrap.rotate: keys: rows 150 to 210: row 170: integrity check failed",
+                                                "keywrap.rotate: keys: rows 360 to 420: row 400: integrity check failed"])
+    counts, named = [], []
+    for number in (1, 2, 3):
+        status, lines = rotated("--verify", "--shard", f"{number}/3", rows=7)
+        counts.append(int(lines[-1].split("; ")[1].split(" ")[0]))
+        named += [line.split(": ")[3] for line in lines[:-1]]
+    assert (sum(counts), sorted(named)) == (60, ["row 170", "row 400"])
+    rotated("--verify", "--record", "record")
+    assert [line["unit"] for line in map(json.loads, open("record")) if "unit" in line] == ["keys"]
+
+
+def test_verify_holds_no_snapshot_for_long(server):
+    """Each range has its own: rows that were removed meanwhile can be vacuumed, and the run sees rows that change."""
+    server.fill(NEW)
+    program = """
+import os, subprocess, sys
+from keywrap.rotation import keys, postgresql_queue
+postgresql_queue.ROWS = 7
+check = keys.are_under
+def changes(kek, some):
+    if not os.path.exists("changed"):
+        open("changed", "w").close()
+        subprocess.run(["psql", "-qXc", os.environ["STATEMENT"]], check=True)
+    return check(kek, some)
+keys.are_under = changes
+from keywrap.rotate import main
+sys.exit(main())
+"""
+    run = [sys.executable, "-B", "-c", program, "--jobs", "1", "--verify", "--postgresql", "keys"]
+    done = subprocess.run(run, capture_output=True, env={**os.environ, "STATEMENT": set_row(600, OLD[600])}, check=False)
+    assert (done.returncode, b"row 600: integrity check failed" in done.stderr) == (5, True), done.stderr
+
+
+def test_a_null_in_the_column_of_the_ids_is_refused_by_verify(server):
+    server.sql("ALTER TABLE keys DROP CONSTRAINT keys_pkey; ALTER TABLE keys ALTER id DROP NOT NULL;"
+               "UPDATE keys SET id = NULL WHERE id = 30")
+    assert rotated("--verify") == (2, ["keywrap.rotate: the column of --id has a NULL, or the same value twice"])
+
+
+def test_names_of_keks_in_a_column(server):
+    other, new = bytes(range(40, 64)), bytes(range(60, 92))
+    for name, kek in (("other.hex", other), ("other-new.hex", new)):
+        with open(name, "w") as file:
+            file.write(kek.hex())
+    for name, files in (("table", ("kek.hex", "other.hex")), ("new-table", ("new-kek.hex", "other-new.hex"))):
+        with open(name, "w") as file:
+            file.write("".join(f"{owner}={path}\n" for owner, path in zip("ab", files)))
+    server.sql("ALTER TABLE keys ADD COLUMN owner text DEFAULT 'a'; UPDATE keys SET owner = 'b' WHERE id > 300")
+    of_b = rows(other, KEYS)
+    server.sql("".join(set_row(number, of_b[number]) for number in of_b if number > 300))
+    tables = ["--keks", "table", "--new-keks", "new-table", "--kek-name", "owner"]
+    with open("wrong", "w") as file:
+        file.write("a=other.hex\nb=kek.hex\n")
+    held = server.held()
+    status, lines = rotated("--keks", "wrong", *tables[2:])
+    assert (status, server.held(), has_queue(server)) == (2, held, False), lines
+    assert rotated(*tables)[0] == 0
+    new_of_b = rows(new, KEYS)
+    assert server.held() == {number: (new_of_b if number > 300 else NEW)[number] for number in NEW}
+    assert rotated("--verify", *tables[2:])[0] == 0
+
+
+def test_a_rate_and_text_with_prefixes(server):
+    server.fill(OLD, "text")
+    server.sql("UPDATE keys SET key = 'v3.' || rtrim(translate(encode(decode(key, 'hex'), 'base64'), E'\\n', ''))")
+    began = time.monotonic()
+    words = ["--base64", "--prefix-format", "v{version}.", "--new-version", "4", "--rate", "60"]
+    assert rotated(*words)[0] == 0
+    assert time.monotonic() - began > 0.9
+    assert server.held("CASE WHEN key LIKE 'v4.%' THEN encode(decode(substr(key, 4), 'base64'), 'hex') END") == NEW
+
+
+# Replicas.
+
+
+@pytest.fixture
+def replica(server):
+    started = Server(server)
+    yield started
+    started.end()
+
+
+def test_waits_while_a_replica_is_behind(server, replica, monkeypatch):
+    """The test stops the replay of the log in the replica, and makes a lag of 3 MB."""
+    replica.sql("SELECT pg_wal_replay_pause()")
+    server.sql("SELECT pg_logical_emit_message(false, '', repeat('x', 3000000))")
+    running = subprocess.Popen(command("--max-lag", "2", "--timeout", "2"), stderr=subprocess.PIPE)
+    time.sleep(4)
+    assert (running.poll(), server.held()) == (None, OLD)
+    replica.sql("SELECT pg_wal_replay_resume()")
+    lines = running.communicate(timeout=120)[1].decode().splitlines()
+    assert (running.returncode, server.held()) == (0, NEW), lines
+    replica.sql("SELECT pg_wal_replay_pause()")
+    server.fill(OLD)
+    assert rotated("--max-lag", "100")[0] == 0
+    replica.sql("SELECT pg_wal_replay_resume()")
+
+
+def test_a_lag_that_cannot_be_seen_is_refused(server):
+    status, lines = rotated("--max-lag", "2")
+    assert (status, lines) == (2, ["keywrap.rotate: --max-lag: the server has no replica, or does not show it to this role "
+                                   "(pg_monitor)"])
+    assert (server.held(), has_queue(server)) == (OLD, False)
+
+
 def test_refused_rows_are_named_and_the_others_rotated(server):
     foreign = wrapped_under(bytes(16), KEYS[3])
     server.sql(set_row(170, foreign) + set_row(400, b"\0") + "UPDATE keys SET key = NULL WHERE id = 410;")
