@@ -59,6 +59,16 @@ wrapped 32000 | awk '{ print 1000 + NR "\\t\\\\\\\\x" $0 }' | psql -qc '\\copy k
 mkdir bucket; for name in a 'c d'; do wrapped 32 > "bucket/$name"; done; ls bucket > manifest
 """,
     "Verify before the KEK dies": STORE % "new-kek.hex" + "rm kek.hex\n",
+    "Rotate in parts": "mkdir store; for n in {1..40}; do wrapped 3200 > store/$n; done\n",
+    "Rotate many KEKs": r"""
+mkdir keks
+for name in ada bob; do
+    for new in "" -new; do openssl rand -hex 32 > keks/$name$new.hex; echo $name=$name$new.hex >> keks/${new:-old}; done
+done
+mv keks/-new keks/new
+{ echo tenant,key; wrapped 1920 keks/ada.hex | sed 's/^/ada,/'; wrapped 1280 keks/bob.hex | sed 's/^/bob,/'; } > keys.csv
+wrapped 3200 | while read -r key; do echo "vault:v3:$(echo $key | xxd -r -p | base64 -w 0)"; done > versions
+""",
     "Rotate a store of your own": r"""
 wrapped 3200 | while read -r key; do echo $key | xxd -r -p | base64 -w 0; echo; done |
     jq -R . | jq -s 'to_entries | map({key: "k\(.key)", value}) | from_entries | {data: .}' > secret.json
@@ -112,6 +122,39 @@ def test_recipe(request, typed, answer, tmp_path, environment):
                           stderr=subprocess.STDOUT, stdin=subprocess.DEVNULL, check=False, text=True)
     assert [line.strip() for line in done.stdout.splitlines()] == [line.strip() for line in answer.splitlines()]
     assert done.returncode == 0
+
+
+# A test double of Slurm's sbatch: it runs the line for each task.
+SBATCH = r"""#!/bin/bash
+[ "$2" = --wrap ] && [[ $1 =~ ^--array=1-([0-9]+)$ ]] || exit
+for SLURM_ARRAY_TASK_ID in $(seq "${BASH_REMATCH[1]}"); do export SLURM_ARRAY_TASK_ID; sh -c "$3" || exit; done
+"""
+# What a scheduler sets for the ten tasks of an array.
+TASKS = {"GNU parallel": None, "Slurm": None, "AWS Batch": "AWS_BATCH_JOB_ARRAY_INDEX=%d",
+         "Kubernetes": "JOB_COMPLETION_INDEX=%d", "Airflow": "I=%d"}  # fmt: skip
+
+
+@pytest.mark.parametrize("scheduler", TASKS)
+def test_line_of_an_array_of_jobs(scheduler, tmp_path, environment):
+    """The ten parts of a store by the line of each scheduler, and their reports merged."""
+    (section,) = (section for section in SECTIONS if section.startswith("Rotate in parts\n"))
+    lines = dict(re.findall(r"^# ([\w ]+).*\n(.*)$", section.split("```sh\n")[1].split("```")[0], re.M))
+    assert lines.keys() == TASKS.keys()
+    if scheduler == "GNU parallel" and shutil.which("parallel") is None:
+        pytest.skip("no parallel (apt-get install parallel)")
+    (tmp_path / "bin/sbatch").write_text(SBATCH)
+    (tmp_path / "bin/sbatch").chmod(0o755)
+    line = lines[scheduler]
+    if TASKS[scheduler] is not None:
+        first = 1 if scheduler == "Airflow" else 0
+        of_task = "export " + TASKS[scheduler].replace("%d", "$task")
+        line = f"for task in $(seq {first} {first + 9}); do {of_task}; {line} || exit; done"
+    prepare = KEKS + STORES_OF_RECIPES["Rotate in parts"] + "export KEYWRAP_KEK=kek.hex KEYWRAP_NEW_KEK=new-kek.hex\n"
+    script = f"set -e\n{prepare}{line}\npython3 -m keywrap.rotate --merge report.*; python3 -m keywrap.rotate --verify store\n"
+    done = subprocess.run(["bash", "-c", script], cwd=tmp_path / "here", env=environment, stdin=subprocess.DEVNULL,
+                          capture_output=True, text=True, check=False)  # fmt: skip
+    assert done.returncode == 0, done.stderr
+    assert "units: 40 done, 0 refused" in done.stderr and "4000 under the new KEK, 0 not" in done.stderr
 
 
 def test_there_are_recipes():

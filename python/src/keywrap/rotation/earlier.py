@@ -1,4 +1,4 @@
-"""Reads the reports of earlier runs: to skip what is as they left it, and to merge those of shards."""
+"""Reads the reports of earlier runs: skips what is as they left it, and merges the reports of shards."""
 
 from __future__ import annotations
 

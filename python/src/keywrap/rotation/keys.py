@@ -61,7 +61,7 @@ NOTATIONS: Dict[str, Notation] = {
 
 
 class Prefix(NamedTuple):
-    """What stands before a key: the version of its KEK between two texts. New keys get the new version."""
+    """The text before a key: the version of its KEK between two other texts. New keys get the new version."""
 
     before: bytes
     after: bytes
@@ -286,7 +286,7 @@ def _all_rewrapped(keks: Keks, lines: HexLines) -> Optional[Fresh]:
     """Rewraps all lines at once, or returns `None` if a key is refused, or is under the new KEK already."""
     texts = bytearray(lines.keys)
     old = keks.old
-    if len(old) > 1:  # For most blocks the KEK of the first key is that of all.
+    if len(old) > 1:  # In most blocks all keys are under one KEK: the first key shows which.
         first = [bytes(texts[: lines.length])]
         old = tuple(kek for kek in old if are_under(kek[1], first) == [True]) or old
     try:

@@ -1,4 +1,4 @@
-"""The files that a run takes: names, those below directories, those of a list, and a shard of them."""
+"""The files that a run takes: named ones, all below a directory, a list of them, and a shard of these."""
 
 from __future__ import annotations
 
