@@ -62,6 +62,9 @@ class TestMeasured:
         text = ("takes {:g} times as long as OpenSSL 3.0's, and {:g} to {:g} times as long as libgcrypt 1.10's and "
                 "nettle 3.8's with AES instructions")
         assert text.format(*numbers) in words_of("README.md")
+        for library in ["keywrap", "software"], ["hardware", "AES inst."]:                # docs/DECISIONS.md: a fifth
+            call = [float(row[5]) for row in measured("wrap") if row[:4] == [*library, "32", "wrap"]]
+            assert 0.15 < (call[0] - min(call)) / call[0] < 0.25
         provider = [(row[1], int(row[4]) / int(row[3])) for row in measured("provider")[1:]]
         assert all(0.4 < ratio < 0.6 for call, ratio in provider if call == "wrap")
         assert all(ratio < 0.5 for call, ratio in provider if call == "unwrap")
