@@ -144,6 +144,12 @@ class TestSources:
         listed = re.findall(r"^- `(\w+)`: ", text_of("docs/ARCHITECTURE.md").partition("An arrow leads")[0], re.M)
         assert sorted(listed) == sorted(path.name for path in ROOT.glob("crates/*") if (path / "src").is_dir())
 
+    def test_ranges_of_a_table(self):
+        """docs/RECIPES.md has the rows of a range, in PostgreSQL and in SQLite."""
+        rows, = re.findall(r"^ROWS\b.* = (\d+)\b", text_of("python/src/keywrap/rotation/rows.py"), re.M)
+        of_sqlite, = re.findall(r"^ROWS = (\d+)", text_of("python/src/keywrap/rotation/databases.py"), re.M)
+        assert f"in ranges of {int(rows):,}, in SQLite of {int(of_sqlite):,}, each" in words_of("docs/RECIPES.md")
+
     def test_lengths_under_qemu(self):
         """SECURITY.md has the longest key with which tests/arm64.sh looks for branches on secrets."""
         length, = re.findall(r"tests/secrets\.sh\" (\d+) >", text_of("tests/arm64.sh"))
