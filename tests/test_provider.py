@@ -95,10 +95,12 @@ class TestCompared:
         else:
             run(compiled_programs / "direct", modules / "keywrap.so")
 
-    def test_published(self, compiled_programs, modules):
-        cases = published.nist_or_skip()
+    @pytest.mark.parametrize("cases", [published.foreign, published.nist_or_skip])
+    def test_published(self, compiled_programs, modules, cases):
+        """A call of EVP with no bytes does nothing."""
+        cases = [case for case in cases() if case.given]
         said = run(compiled_programs / "compared", modules, "vectors", input="".join(published.lines(cases)))
-        assert f"{len(cases)} cases" in said and len(cases) > 11000
+        assert f"{len(cases)} cases" in said and len(cases) > 600
 
     @pytest.mark.needs("sanitizers of cc")
     @pytest.mark.parametrize("args", ["", "sequences 2000", "parameters", "refusals"])
