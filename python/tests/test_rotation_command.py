@@ -31,7 +31,7 @@ from rotation_help import (  # noqa: E402
 )
 
 import keywrap  # noqa: E402
-from keywrap.rotation import command, jobs, report  # noqa: E402
+from keywrap.rotation import command, jobs, options, report  # noqa: E402
 
 FILES = 8
 KEYS = [make_keys(30, seed) for seed in range(FILES)]
@@ -630,13 +630,15 @@ def alive(pid):
 
 def test_a_killed_run_is_begun_again(store):
     running = slowly(store, "--report", "report")
-    wait_for(lambda: "new" in state(store))
+    # A line is written as soon as its file is answered.
+    wait_for(lambda: os.path.exists("report") and len(open("report").readlines()) > 1 or running.poll() is not None)
+    assert running.poll() is None
     workers = children(running)
     running.kill()
     running.communicate(timeout=240)
     wait_for(lambda: not any(map(alive, workers)))
     assert "neither" not in state(store)
-    # The report has each file that was answered, and a file that it has is new.
+    # A file that the report has is new.
     told = [json.loads(line)["unit"] for line in open("report").read().splitlines()[1:]]
     assert all(state(store)[names(store).index(name)] == "new" for name in told)
     status, lines = rotated("--report", "report", *names(store))
@@ -805,6 +807,11 @@ def test_as_many_processes_as_files_at_most(store):
         most = max(most, len(children(running)))
     running.communicate()
     assert most == 1
+
+
+def test_one_process_for_each_processor_by_default(monkeypatch):
+    monkeypatch.setattr(os, "sched_getaffinity", lambda process: {1, 2, 5})
+    assert options.parse(["file"]).jobs == 3
 
 
 def test_two_runs_at_once_are_harmless(store):

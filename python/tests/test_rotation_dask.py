@@ -7,6 +7,7 @@ import json
 import os
 import shutil
 import signal
+import socket
 import subprocess
 import sys
 import time
@@ -330,6 +331,7 @@ def test_keks_of_one_worker_that_are_wrong(cluster, store, keks, tmp_path_factor
         cluster.add_worker(**environment)
         status, stderr = ended(client(cluster, store))
         # Dask may add lines of its own.
+        line = f"{socket.gethostname()}: {line}"
         assert (status, any(said.endswith(line) for said in stderr.splitlines())) == (3, True), stderr
         assert state(store) == ["old"] * FILES
         cluster.workers[-1].terminate()

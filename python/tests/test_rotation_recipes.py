@@ -234,3 +234,9 @@ def test_a_refused_member_is_named(file):
     done = run(file)
     assert (done.returncode, b"Refused: key-6: integrity check failed" in done.stderr) == (1, True)
     assert file.read_bytes() == before
+
+
+def test_a_member_with_a_stray_character_is_refused(file):
+    file.write_bytes(in_secret(under(KEK)).replace(b'"key-6": "', b'"key-6": "!'))
+    before = file.read_bytes()
+    assert (run(file).returncode, file.read_bytes()) == (1, before)

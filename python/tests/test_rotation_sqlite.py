@@ -322,12 +322,13 @@ def test_a_whole_table_is_locked(database, pair, meanwhile):
 
 @pytest.mark.parametrize("lock", ["BEGIN IMMEDIATE", "BEGIN EXCLUSIVE"])
 def test_a_locked_database(database, pair, monkeypatch, lock):
+    seconds = databases.LOCK_SECONDS
     monkeypatch.setattr(databases, "LOCK_SECONDS", 0.2)
     other = sqlite3.connect(database, isolation_level=None, check_same_thread=False)
     other.execute(lock)
     assert rotated(database, pair)[0]["why"] == "another program has locked the database"
-    monkeypatch.setattr(databases, "LOCK_SECONDS", 60)
-    unlocking = threading.Timer(0.5, other.execute, ["COMMIT"])
+    monkeypatch.setattr(databases, "LOCK_SECONDS", seconds)
+    unlocking = threading.Timer(2, other.execute, ["COMMIT"])
     unlocking.start()
     rotated_all(database, pair)
     unlocking.join()
