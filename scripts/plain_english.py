@@ -17,6 +17,7 @@ KINDS = {
     "alone, for only": r"\balone\b",
     "stand, for be": r"\b(stand|stands|stood)\b",
     "is said, told, asked": r"\b(is|are|was) (said|told|asked)\b",
+    "folder, for directory": r"\bfolders?\b",
 }
 
 PROSE = {".md", ".1", ".in", ".html"}
