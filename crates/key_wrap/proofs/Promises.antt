@@ -1,25 +1,27 @@
 -- What is promised of the result of a call that takes memory, at each refusal.
 use Rattle.std.proofs.Common.{◌≡◌, ℕ, List, ◌++◌, length, take, drop, Result, Ok, Err, IfOk, IsErr, IsErrAnd, Vec, refl, ap}
 use Rattle.std.proofs.lemmas.List.{take_at}
+use Rattle.key_wrap_core.specs.declared.agreed_form.AgreedForm.{AgreedForm}
 use Rattle.key_wrap_core.specs.declared.faults.InPlaceFault.{InPlaceFault}
 use Rattle.key_wrap_core.specs.declared.faults.InPlaceFault.TheVariants as in_place
 use Rattle.key_wrap_core.specs.InPlace.{KeyAnswer}
 use Rattle.key_wrap_core.specs.NoKey.{NoKey}
+use Rattle.key_wrap_core.specs.Forms.{StandsAs, IsTextLengthAs}
 use Rattle.key_wrap.specs.declared.faults.UnwrapFault.{UnwrapFault}
 use Rattle.key_wrap.specs.declared.faults.UnwrapFault.TheVariants.{BadLength, Integrity, Memory}
-use Rattle.key_wrap.specs.Results.{UnwrapAnswer, Unwrapped, unwrap_fault}
+use Rattle.key_wrap.specs.Results.{Unwrapped, unwrap_fault}
 
 -- what a slice lent from a vector leaves there
 pub written_back : (n : ℕ) (new old : List ℕ) → length new ≡ n → take n (new ++ drop (length new) old) ≡ new
 written_back n new old size = take_at new (drop (length new) old) n size
 
-module _ {Z : Type 0} (IsTextLength : ℕ → Type 0) (Stands : List ℕ → List ℕ → Type 0) (NoOther : List ℕ → Type 0) (text : List ℕ) where
+module _ {Z : Type 0} (form : AgreedForm) (E : List ℕ → List ℕ) (text : List ℕ) where
   -- the text has no legal length, and so no key
-  pub unwrap_refused : ((key : List ℕ) → Stands key text → IsTextLength (length text)) → ¬ IsTextLength (length text)
-      → Unwrapped {Z = Z} IsTextLength Stands NoOther text (Err BadLength)
+  pub unwrap_refused : ((key : List ℕ) → StandsAs form E key text → IsTextLengthAs form (length text)) → ¬ IsTextLengthAs form (length text)
+      → Unwrapped {Z = Z} form E text (Err BadLength)
   unwrap_refused legal illegal = record {
     bad_length = (λ e. illegal, λ bad. refl);
-    unwraps = illegal;
+    answer = illegal;
     accepts = λ key h. absurd (illegal (legal key h));
     only_key = tt;
     restores = tt;
@@ -27,14 +29,14 @@ module _ {Z : Type 0} (IsTextLength : ℕ → Type 0) (Stands : List ℕ → Lis
   }
 
   -- the call in the buffer found no key
-  pub unwrap_none : (answer : Result (Vec ℕ Z) UnwrapFault) → IsTextLength (length text) → answer ≡ Err Integrity → NoKey Stands text
-      → Unwrapped IsTextLength Stands NoOther text answer
+  pub unwrap_none : (answer : Result (Vec ℕ Z) UnwrapFault) → IsTextLengthAs form (length text) → answer ≡ Err Integrity → NoKey (StandsAs form E) text
+      → Unwrapped form E text answer
   unwrap_none (Ok key) legal is none = cc
   unwrap_none (Err BadLength) legal is none = cc
   unwrap_none (Err Memory) legal is none = cc
   unwrap_none (Err Integrity) legal is none = record {
     bad_length = (λ e. cc, λ bad. absurd (bad legal));
-    unwraps = (legal, none);
+    answer = (legal, none);
     accepts = λ key h. absurd (none key h);
     only_key = tt;
     restores = tt;
@@ -49,9 +51,3 @@ pub refused : {Z : Type 0} (Stands : List ℕ → List ℕ → Type 0) (Legal : 
 refused Stands Legal key text fault (Ok k) legal a r = let no = r.0 in cc
 refused Stands Legal key text in_place.BadLength (Err e) legal a r = absurd (a legal)
 refused Stands Legal key text in_place.Integrity (Err e) legal a r = (ap Err r.1, a.1)
-
--- the key that a call returns belongs to the text
-pub answered : {Z : Type 0} (IsTextLength : ℕ → Type 0) (Stands : List ℕ → List ℕ → Type 0) (text : List ℕ) (answer : Result (Vec ℕ Z) UnwrapFault)
-    → UnwrapAnswer IsTextLength Stands text answer → IfOk answer (λ key. Stands key.items text)
-answered IsTextLength Stands text (Ok key) a = a.1
-answered IsTextLength Stands text (Err e) a = tt

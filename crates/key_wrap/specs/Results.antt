@@ -8,6 +8,7 @@ use Rattle.key_wrap_core.specs.declared.rewrapping.Rewrapped.{Rewrapped}
 use Rattle.key_wrap_core.specs.declared.rewrapping.RewrapFault.{RewrapFault}
 use Rattle.key_wrap_core.specs.declared.rewrapping.RewrapFault.TheVariants as rewraps
 use Rattle.key_wrap_core.specs.NoKey.{NoKey}
+use Rattle.key_wrap_core.specs.Forms.{StandsAs, IsKeyLengthAs, IsTextLengthAs, NoOtherForm}
 use Rattle.key_wrap_core.specs.Rewrap.{IsOldLength, RewrapResults}
 use Rattle.key_wrap.specs.declared.faults.UnwrapFault.{UnwrapFault}
 use Rattle.key_wrap.specs.declared.faults.UnwrapFault.TheVariants.{BadLength, Integrity, Memory}
@@ -19,32 +20,32 @@ abbrev pub unwrap_fault : InPlaceFault → UnwrapFault
 unwrap_fault in_place.BadLength = BadLength
 unwrap_fault in_place.Integrity = Integrity
 
--- The result of an unwrap, in the form with these lengths of wrapped keys and this relation of keys and wrapped keys.
--- BadLength if the length is not legal. Otherwise the key, or Integrity if there is none, or Memory.
-abbrev pub UnwrapAnswer : {Z : Type 0} → (ℕ → Type 0) → (List ℕ → List ℕ → Type 0) → List ℕ → Result (Vec ℕ Z) UnwrapFault → Type 0
-UnwrapAnswer IsTextLength Stands text (Ok key) = IsTextLength (length text) × Stands key.items text
-UnwrapAnswer IsTextLength Stands text (Err BadLength) = ¬ IsTextLength (length text)
-UnwrapAnswer IsTextLength Stands text (Err Integrity) = IsTextLength (length text) × NoKey Stands text
-UnwrapAnswer IsTextLength Stands text (Err Memory) = IsTextLength (length text)
+-- The result of an unwrap in a form, under E. BadLength if the length of the text is not legal. Otherwise the key, or
+-- Integrity if there is none, or Memory.
+abbrev pub UnwrapAnswer : {Z : Type 0} → AgreedForm → (List ℕ → List ℕ) → List ℕ → Result (Vec ℕ Z) UnwrapFault → Type 0
+UnwrapAnswer form E text (Ok key) = IsTextLengthAs form (length text) × StandsAs form E key.items text
+UnwrapAnswer form E text (Err BadLength) = ¬ IsTextLengthAs form (length text)
+UnwrapAnswer form E text (Err Integrity) = IsTextLengthAs form (length text) × NoKey (StandsAs form E) text
+UnwrapAnswer form E text (Err Memory) = IsTextLengthAs form (length text)
 
--- The promise about the result of each wrapping call that allocates memory: the result is a wrapping of the key, and
--- not a wrapping in the other form.
-pub record Wrapped {Z : Type 0} (Legal : Type 0) (Stands NoOther : List ℕ → Type 0) (answer : Result (Vec ℕ Z) WrapFault) : Type 0 where
-  pub bad_length : (answer ≡ Err wrap_faults.BadLength) ↔ ¬ Legal
-  pub memory : answer ≡ Err wrap_faults.Memory → Legal
-  pub wraps : IfOk answer (λ text. Stands text.items)
-  pub only_text : IfOk answer (λ text. (other : List ℕ) → Stands other → other ≡ text.items)
-  pub other_form : IfOk answer (λ text. NoOther text.items)
+-- The promise of each wrapping call that allocates memory: the result is the only wrapping of the key in this form under E,
+-- and not a wrapping in the other form.
+pub record Wrapped {Z : Type 0} (form : AgreedForm) (E : List ℕ → List ℕ) (key : List ℕ) (result : Result (Vec ℕ Z) WrapFault) : Type 0 where
+  pub bad_length : (result ≡ Err wrap_faults.BadLength) ↔ ¬ IsKeyLengthAs form (length key)
+  pub memory : result ≡ Err wrap_faults.Memory → IsKeyLengthAs form (length key)
+  pub answer : IfOk result (λ text. StandsAs form E key text.items)
+  pub only_text : IfOk result (λ text. (other : List ℕ) → StandsAs form E key other → other ≡ text.items)
+  pub other_form : IfOk result (λ text. NoOtherForm form E text.items)
 
--- The promise about the result of each unwrapping call that allocates memory.
-pub record Unwrapped {Z : Type 0} (IsTextLength : ℕ → Type 0) (Stands : List ℕ → List ℕ → Type 0) (NoOther : List ℕ → Type 0) (text : List ℕ)
-    (answer : Result (Vec ℕ Z) UnwrapFault) : Type 0 where
-  pub bad_length : (answer ≡ Err BadLength) ↔ ¬ IsTextLength (length text)
-  pub unwraps : UnwrapAnswer IsTextLength Stands text answer
-  pub accepts : (key : List ℕ) → Stands key text → IsOkUnless answer Memory
-  pub only_key : IfOk answer (λ key. (other : List ℕ) → Stands other text → other ≡ key.items)
-  pub restores : IfOk answer (λ key. (other : List ℕ) → Stands key.items other → other ≡ text)
-  pub other_form : OnOk answer (NoOther text)
+-- The promise of each unwrapping call that allocates memory. A wrapping is refused only if there is no memory. Wrapping the
+-- key again gives the text, and in the other form the text is not a wrapping.
+pub record Unwrapped {Z : Type 0} (form : AgreedForm) (E : List ℕ → List ℕ) (text : List ℕ) (result : Result (Vec ℕ Z) UnwrapFault) : Type 0 where
+  pub bad_length : (result ≡ Err BadLength) ↔ ¬ IsTextLengthAs form (length text)
+  pub answer : UnwrapAnswer form E text result
+  pub accepts : (key : List ℕ) → StandsAs form E key text → IsOkUnless result Memory
+  pub only_key : IfOk result (λ key. (other : List ℕ) → StandsAs form E other text → other ≡ key.items)
+  pub restores : IfOk result (λ key. (other : List ℕ) → StandsAs form E key.items other → other ≡ text)
+  pub other_form : OnOk result (NoOtherForm form E text)
 
 -- the fault of a rewrap that takes memory, if the call in its buffer refuses
 abbrev pub rewrap_fault : RewrapFault → UnwrapFault

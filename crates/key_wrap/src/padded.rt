@@ -1,17 +1,11 @@
 //! The padded form (RFC 5649).
 
-ghost use Rattle.std.specs.Prelude.{◌≡◌, ◌↔◌, ℕ, ◌+◌, ◌*◌, List, length, Ok, Err, IfOk, OnOk};
-ghost use Rattle.std.specs.Prelude.{IsOkUnless};
-ghost use Rattle.key_wrap_core.specs.Lengths.{IsPaddedKeyLength, IsPaddedTextLength};
-ghost use Rattle.key_wrap_core.specs.Plain.{Plain, default_iv};
-ghost use Rattle.key_wrap_core.specs.Padded.{Padded, word_count};
-ghost use Rattle.key_wrap_core.specs.NoKey.{NoPlainKey};
-ghost use Rattle.key_wrap.specs.Results.{UnwrapAnswer, Wrapped, Unwrapped};
+ghost use Rattle.key_wrap.specs.Results.{Wrapped, Unwrapped};
 
 use crate::faults::{UnwrapFault, WrapFault};
 use block_pair::{BlockPair, Meter};
 use key_wrap_core::{
-    padded_length_ok, padded_text_length_ok, unwrap_padded_into, wrap_padded_into,
+    AgreedForm, padded_length_ok, padded_text_length_ok, unwrap_padded_into, wrap_padded_into,
 };
 use std::alloc::{Allocator, Global};
 
@@ -20,15 +14,7 @@ use std::alloc::{Allocator, Global};
 ///
 /// `BadLength` if `padded_length_ok` is false, before any memory is taken; else only `Memory`.
 pub fn wrap_padded<B: BlockPair>(alloc: Global, pair: &B, key: &[u8]) -> Result<Vec<u8>, WrapFault>
-    ensures bad_length { (result ≡ Err WrapFault.BadLength) ↔ ¬ IsPaddedKeyLength (length key.now) }
-    ensures memory { result ≡ Err WrapFault.Memory → IsPaddedKeyLength (length key.now) }
-    ensures answer { IfOk result (λ text. Padded (B.encrypted pair.now) key.now text.items) }
-    ensures only_text { IfOk result (λ text.
-        (other : List ℕ) → Padded (B.encrypted pair.now) key.now other → other ≡ text.items) }
-    ensures size { IfOk result (λ text.
-        length text.items ≡ 8 + 8 * word_count (length key.now)) }
-    ensures other_form { IfOk result (λ text.
-        NoPlainKey (B.encrypted pair.now) text.items) }
+    ensures { Wrapped AgreedForm.Padded (B.encrypted pair.now) key.now result }
 {
     wrap_padded_on(alloc, pair, key)
 }
@@ -39,8 +25,7 @@ pub(crate) fn wrap_padded_on<A: Allocator, B: BlockPair>(
     pair: &B,
     key: &[u8],
 ) -> Result<Vec<u8, A>, WrapFault>
-    ensures { Wrapped (IsPaddedKeyLength (length key.now))
-        (Padded (B.encrypted pair.now) key.now) (NoPlainKey (B.encrypted pair.now)) result }
+    ensures { Wrapped AgreedForm.Padded (B.encrypted pair.now) key.now result }
 {
     if !padded_length_ok(key.len()) {
         return Err(WrapFault::BadLength);
@@ -60,25 +45,7 @@ pub fn unwrap_padded<B: BlockPair>(
     pair: &B,
     text: &[u8],
 ) -> Result<Vec<u8>, UnwrapFault>
-    ensures bad_length { (result ≡ Err UnwrapFault.BadLength)
-        ↔ ¬ IsPaddedTextLength (length text.now) }
-    ensures answer { UnwrapAnswer IsPaddedTextLength (Padded (B.encrypted pair.now))
-        text.now result }
-
-    // A wrapping is refused only if there is no memory.
-    ensures accepts { (key : List ℕ) → Padded (B.encrypted pair.now) key text.now
-        → IsOkUnless result UnwrapFault.Memory }
-    ensures only_key { IfOk result (λ key.
-        (other : List ℕ) → Padded (B.encrypted pair.now) other text.now → other ≡ key.items) }
-
-    // Wrapping the answer again gives the input.
-    ensures restores { IfOk result (λ key.
-        (other : List ℕ) → Padded (B.encrypted pair.now) key.items other → other ≡ text.now) }
-    ensures size { IfOk result (λ key.
-        length text.now ≡ 8 + 8 * word_count (length key.items)) }
-    ensures other_form { OnOk result (
-        (key : List ℕ) → ¬ Plain (B.encrypted pair.now) default_iv key text.now) }
-    ensures other_values { OnOk result (NoPlainKey (B.encrypted pair.now) text.now) }
+    ensures { Unwrapped AgreedForm.Padded (B.encrypted pair.now) text.now result }
 {
     unwrap_padded_on(alloc, pair, text)
 }
@@ -89,8 +56,7 @@ pub(crate) fn unwrap_padded_on<A: Allocator, B: BlockPair>(
     pair: &B,
     text: &[u8],
 ) -> Result<Vec<u8, A>, UnwrapFault>
-    ensures { Unwrapped IsPaddedTextLength (Padded (B.encrypted pair.now))
-        (NoPlainKey (B.encrypted pair.now)) text.now result }
+    ensures { Unwrapped AgreedForm.Padded (B.encrypted pair.now) text.now result }
 {
     if !padded_text_length_ok(text.len()) {
         return Err(UnwrapFault::BadLength);

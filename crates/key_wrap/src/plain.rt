@@ -1,17 +1,12 @@
 //! The plain form (RFC 3394, section 2.2).
 
-ghost use Rattle.std.specs.Prelude.{◌≡◌, ◌↔◌, ℕ, ◌+◌, List, length, Ok, Err, IfOk, OnOk};
-ghost use Rattle.std.specs.Prelude.{IsOkUnless};
-ghost use Rattle.key_wrap_core.specs.Lengths.{IsPlainKeyLength, IsPlainTextLength};
-ghost use Rattle.key_wrap_core.specs.Plain.{Plain, default_iv};
-ghost use Rattle.key_wrap_core.specs.Padded.{Padded};
-ghost use Rattle.key_wrap_core.specs.NoKey.{NoKey};
-ghost use Rattle.key_wrap.specs.Results.{UnwrapAnswer, Wrapped, Unwrapped};
+ghost use Rattle.key_wrap_core.specs.Plain.{default_iv};
+ghost use Rattle.key_wrap.specs.Results.{Wrapped, Unwrapped};
 
 use crate::faults::{UnwrapFault, WrapFault};
 use block_pair::{BlockPair, Meter};
 use key_wrap_core::{
-    InitialValue, key_length_ok, text_length_ok, unwrap_into_with, wrap_into_with,
+    AgreedForm, InitialValue, key_length_ok, text_length_ok, unwrap_into_with, wrap_into_with,
 };
 use std::alloc::{Allocator, Global};
 
@@ -19,15 +14,7 @@ use std::alloc::{Allocator, Global};
 ///
 /// `BadLength` if `key_length_ok` is false, before any memory is taken; else only `Memory`.
 pub fn wrap<B: BlockPair>(alloc: Global, pair: &B, key: &[u8]) -> Result<Vec<u8>, WrapFault>
-    ensures bad_length { (result ≡ Err WrapFault.BadLength) ↔ ¬ IsPlainKeyLength (length key.now) }
-    ensures memory { result ≡ Err WrapFault.Memory → IsPlainKeyLength (length key.now) }
-    ensures answer { IfOk result (λ text.
-        Plain (B.encrypted pair.now) default_iv key.now text.items) }
-    ensures only_text { IfOk result (λ text.
-        (other : List ℕ) → Plain (B.encrypted pair.now) default_iv key.now other
-        → other ≡ text.items) }
-    ensures size { IfOk result (λ text. length text.items ≡ length key.now + 8) }
-    ensures other_form { IfOk result (λ text. NoKey (Padded (B.encrypted pair.now)) text.items) }
+    ensures { Wrapped (AgreedForm.Plain default_iv) (B.encrypted pair.now) key.now result }
 {
     wrap_on(alloc, pair, &InitialValue::default(), key)
 }
@@ -42,14 +29,7 @@ pub fn wrap_with<B: BlockPair>(
     iv: &InitialValue,
     key: &[u8],
 ) -> Result<Vec<u8>, WrapFault>
-    ensures bad_length { (result ≡ Err WrapFault.BadLength) ↔ ¬ IsPlainKeyLength (length key.now) }
-    ensures memory { result ≡ Err WrapFault.Memory → IsPlainKeyLength (length key.now) }
-    ensures answer { IfOk result (λ text. Plain (B.encrypted pair.now) iv.now key.now text.items) }
-    ensures only_text { IfOk result (λ text.
-        (other : List ℕ) → Plain (B.encrypted pair.now) iv.now key.now other
-        → other ≡ text.items) }
-    ensures size { IfOk result (λ text. length text.items ≡ length key.now + 8) }
-    ensures other_form { IfOk result (λ text. NoKey (Padded (B.encrypted pair.now)) text.items) }
+    ensures { Wrapped (AgreedForm.Plain iv.now) (B.encrypted pair.now) key.now result }
 {
     wrap_on(alloc, pair, iv, key)
 }
@@ -61,9 +41,7 @@ pub(crate) fn wrap_on<A: Allocator, B: BlockPair>(
     iv: &InitialValue,
     key: &[u8],
 ) -> Result<Vec<u8, A>, WrapFault>
-    ensures { Wrapped (IsPlainKeyLength (length key.now))
-        (Plain (B.encrypted pair.now) iv.now key.now)
-        (NoKey (Padded (B.encrypted pair.now))) result }
+    ensures { Wrapped (AgreedForm.Plain iv.now) (B.encrypted pair.now) key.now result }
 {
     if !key_length_ok(key.len()) {
         return Err(WrapFault::BadLength);
@@ -80,25 +58,7 @@ pub(crate) fn wrap_on<A: Allocator, B: BlockPair>(
 /// `BadLength` if `text_length_ok` is false, before any memory is taken. Then `Memory`. `Integrity`
 /// if `text` is the plain wrapping of no key.
 pub fn unwrap<B: BlockPair>(alloc: Global, pair: &B, text: &[u8]) -> Result<Vec<u8>, UnwrapFault>
-    ensures bad_length { (result ≡ Err UnwrapFault.BadLength)
-        ↔ ¬ IsPlainTextLength (length text.now) }
-    ensures answer { UnwrapAnswer IsPlainTextLength (Plain (B.encrypted pair.now) default_iv)
-        text.now result }
-
-    // A wrapping is refused only if there is no memory.
-    ensures accepts { (key : List ℕ) → Plain (B.encrypted pair.now) default_iv key text.now
-        → IsOkUnless result UnwrapFault.Memory }
-    ensures only_key { IfOk result (λ key.
-        (other : List ℕ) → Plain (B.encrypted pair.now) default_iv other text.now
-        → other ≡ key.items) }
-
-    // Wrapping the answer again gives the input.
-    ensures restores { IfOk result (λ key.
-        (other : List ℕ) → Plain (B.encrypted pair.now) default_iv key.items other
-        → other ≡ text.now) }
-    ensures size { IfOk result (λ key. length text.now ≡ length key.items + 8) }
-    ensures other_form { OnOk result (
-        (key : List ℕ) → ¬ Padded (B.encrypted pair.now) key text.now) }
+    ensures { Unwrapped (AgreedForm.Plain default_iv) (B.encrypted pair.now) text.now result }
 {
     unwrap_on(alloc, pair, &InitialValue::default(), text)
 }
@@ -114,25 +74,7 @@ pub fn unwrap_with<B: BlockPair>(
     iv: &InitialValue,
     text: &[u8],
 ) -> Result<Vec<u8>, UnwrapFault>
-    ensures bad_length { (result ≡ Err UnwrapFault.BadLength)
-        ↔ ¬ IsPlainTextLength (length text.now) }
-    ensures answer { UnwrapAnswer IsPlainTextLength (Plain (B.encrypted pair.now) iv.now)
-        text.now result }
-
-    // A wrapping is refused only if there is no memory.
-    ensures accepts { (key : List ℕ) → Plain (B.encrypted pair.now) iv.now key text.now
-        → IsOkUnless result UnwrapFault.Memory }
-    ensures only_key { IfOk result (λ key.
-        (other : List ℕ) → Plain (B.encrypted pair.now) iv.now other text.now
-        → other ≡ key.items) }
-
-    // Wrapping the answer again gives the input.
-    ensures restores { IfOk result (λ key.
-        (other : List ℕ) → Plain (B.encrypted pair.now) iv.now key.items other
-        → other ≡ text.now) }
-    ensures size { IfOk result (λ key. length text.now ≡ length key.items + 8) }
-    ensures other_form { OnOk result (
-        (key : List ℕ) → ¬ Padded (B.encrypted pair.now) key text.now) }
+    ensures { Unwrapped (AgreedForm.Plain iv.now) (B.encrypted pair.now) text.now result }
 {
     unwrap_on(alloc, pair, iv, text)
 }
@@ -144,8 +86,7 @@ pub(crate) fn unwrap_on<A: Allocator, B: BlockPair>(
     iv: &InitialValue,
     text: &[u8],
 ) -> Result<Vec<u8, A>, UnwrapFault>
-    ensures { Unwrapped IsPlainTextLength (Plain (B.encrypted pair.now) iv.now)
-        (NoKey (Padded (B.encrypted pair.now))) text.now result }
+    ensures { Unwrapped (AgreedForm.Plain iv.now) (B.encrypted pair.now) text.now result }
 {
     if !text_length_ok(text.len()) {
         return Err(UnwrapFault::BadLength);

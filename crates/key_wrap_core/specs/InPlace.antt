@@ -1,5 +1,5 @@
--- The legal lengths and the results of the calls in the caller's buffers, which allocate no memory.
-use Rattle.std.specs.Prelude.{◌≡◌, ◌↔◌, ℕ, ◌+◌, ◌*◌, List, take, drop, Result, Ok, Err, IsOk, IfOk, OnOk}
+-- The legal lengths and the answers of the calls in the caller's buffers, which allocate no memory.
+use Rattle.std.specs.Prelude.{◌≡◌, ℕ, ◌+◌, ◌*◌, List, take, drop, Result, Ok, Err}
 use Rattle.key_wrap_core.specs.declared.faults.InPlaceFault.{InPlaceFault}
 use Rattle.key_wrap_core.specs.declared.faults.InPlaceFault.TheVariants.{BadLength, Integrity}
 use Rattle.key_wrap_core.specs.Lengths.{IsPlainKeyLength, IsPaddedKeyLength, IsPaddedTextLength}
@@ -29,14 +29,3 @@ abbrev pub KeyAnswer : {A : Type 0} → (Legal : Type 0) → (Stands : List ℕ 
 KeyAnswer Legal Stands text key (Ok m) = Legal × Stands (key m) text
 KeyAnswer Legal Stands text key (Err BadLength) = ¬ Legal
 KeyAnswer Legal Stands text key (Err Integrity) = Legal × NoKey Stands text
-
--- The promise about the result of each unwrapping call that allocates no memory; if there is a key, the input is not a
--- wrapping in the other form.
-pub record Unwrapping {A : Type 0} (Legal : Type 0) (Stands : List ℕ → List ℕ → Type 0) (NoOther : List ℕ → Type 0) (text : List ℕ) (key : A → List ℕ)
-    (answer : Result A InPlaceFault) : Type 0 where
-  pub bad_length : (answer ≡ Err BadLength) ↔ ¬ Legal
-  pub unwraps : KeyAnswer Legal Stands text key answer
-  pub accepts : (other : List ℕ) → Stands other text → IsOk answer
-  pub only_key : IfOk answer (λ m. (other : List ℕ) → Stands other text → other ≡ key m)
-  pub restores : IfOk answer (λ m. (other : List ℕ) → Stands (key m) other → other ≡ text)
-  pub other_form : OnOk answer (NoOther text)

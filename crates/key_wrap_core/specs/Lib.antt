@@ -15,3 +15,5 @@ pub mod Forms
 pub mod EitherForm
 pub mod Found
 pub mod Rewrap
+pub mod BufferCalls
+pub mod StepCalls

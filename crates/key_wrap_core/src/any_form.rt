@@ -1,16 +1,14 @@
 //! The unwrapping of a key in whichever form it is wrapped, in the caller's buffers. It takes no
 //! memory.
 
-ghost use Rattle.std.specs.Prelude.{◌≡◌, ◌↔◌, ℕ, ◌*◌, ◌++◌, List, length, take, replicate, All};
-ghost use Rattle.std.specs.Prelude.{Ok, Err, IfOk, IsOk, IsOkUnless};
-ghost use Rattle.block_pair.specs.Metered.{counted};
+ghost use Rattle.std.specs.Prelude.{ℕ, List, [], length, take, replicate, IfOk, IsOk};
 ghost use Rattle.key_wrap_core.specs.declared.forms.Form.{Form};
 ghost use Rattle.key_wrap_core.specs.Lengths.{IsPaddedTextLength};
-ghost use Rattle.key_wrap_core.specs.Padded.{padded};
 ghost use Rattle.key_wrap_core.specs.Calls.{block_calls};
-ghost use Rattle.key_wrap_core.specs.Forms.{NoOtherForm, Stands, with_value};
-ghost use Rattle.key_wrap_core.specs.EitherForm.{IsEither, IsOnlyWrapping, NoKeyIn};
+ghost use Rattle.key_wrap_core.specs.Forms.{Stands};
 ghost use Rattle.key_wrap_core.specs.InPlace.{ArePaddedLengths, key_in};
+ghost use Rattle.key_wrap_core.specs.BufferCalls.{UnwrappingEither, KeepsOrClears};
+ghost use Rattle.key_wrap_core.specs.BufferCalls.{IsKeyBuffer, CountsCalls};
 
 use crate::faults::InPlaceFault;
 use crate::forms::FoundKey;
@@ -32,32 +30,16 @@ pub fn unwrap_any_in_place<B: BlockPair>(
     iv: &InitialValue,
     buf: &mut [u8],
 ) -> Result<FoundKey, InPlaceFault>
-    ensures bad_length { (result ≡ Err InPlaceFault.BadLength)
-        ↔ ¬ IsPaddedTextLength (length buf.old) }
-    ensures integrity { (result ≡ Err InPlaceFault.Integrity)
-        ↔ (IsPaddedTextLength (length buf.old)
-        × NoKeyIn (IsEither iv.now) (B.encrypted meter.old.pair) buf.old) }
-    ensures buffer_kept { result ≡ Err InPlaceFault.BadLength → buf.new ≡ buf.old }
-    ensures meter_kept { result ≡ Err InPlaceFault.BadLength → meter.new ≡ meter.old }
-
-    // It is the wrapping of only this key, and only in this form.
-    ensures answer { IfOk result (λ found. IsOnlyWrapping (IsEither iv.now)
-        (B.encrypted meter.old.pair) (with_value found.form iv.now) (key_in found.len buf.new)
-        buf.old) }
+    ensures unwraps { UnwrappingEither (IsPaddedTextLength (length buf.old)) iv.now
+        (B.encrypted meter.old.pair) buf.old (λ found. key_in found.len buf.new) result }
 
     // A wrapping in either form is not refused.
     ensures accepts { (form : Form) → (key : List ℕ)
         → Stands form iv.now (B.encrypted meter.old.pair) key buf.old → IsOk result }
-
-    // No key belongs to it in the other form, whatever the initial value.
-    ensures other_form { IfOk result (λ found. NoOtherForm (with_value found.form iv.now)
-        (B.encrypted meter.old.pair) buf.old) }
-    ensures size { IfOk result (λ found. length (key_in found.len buf.new) ≡ found.len) }
-    ensures around { IfOk result (λ found.
-        buf.new ≡ replicate 8 0 ++ padded (key_in found.len buf.new)) }
-    ensures cleared { result ≡ Err InPlaceFault.Integrity → All (λ byte. byte ≡ 0) buf.new }
-    ensures calls { ¬ (result ≡ Err InPlaceFault.BadLength)
-        → meter.new ≡ counted (block_calls (length buf.old)) meter.old }
+    ensures key { IfOk result (λ found.
+        IsKeyBuffer (replicate 8 0) (key_in found.len buf.new) found.len buf.new) }
+    ensures refused { KeepsOrClears buf.old buf.new result }
+    ensures calls { CountsCalls (block_calls (length buf.old)) meter.old meter.new result }
 {
     if !padded_text_length_ok(buf.len()) {
         return Err(InPlaceFault::BadLength);
@@ -81,32 +63,12 @@ pub fn unwrap_any_into<B: BlockPair>(
     text: &[u8],
     key: &mut [u8],
 ) -> Result<FoundKey, InPlaceFault>
-    ensures bad_length { (result ≡ Err InPlaceFault.BadLength)
-        ↔ ¬ ArePaddedLengths (length key.old) (length text.now) }
-    ensures integrity { (result ≡ Err InPlaceFault.Integrity)
-        ↔ (ArePaddedLengths (length key.old) (length text.now)
-        × NoKeyIn (IsEither iv.now) (B.encrypted meter.old.pair) text.now) }
-    ensures key_kept { result ≡ Err InPlaceFault.BadLength → key.new ≡ key.old }
-    ensures meter_kept { result ≡ Err InPlaceFault.BadLength → meter.new ≡ meter.old }
-
-    // It is the wrapping of only this key, and only in this form.
-    ensures answer { IfOk result (λ found. IsOnlyWrapping (IsEither iv.now)
-        (B.encrypted meter.old.pair) (with_value found.form iv.now) (take found.len key.new)
-        text.now) }
-
-    // A wrapping in either form is refused only for its lengths.
-    ensures accepts { (form : Form) → (wrapped : List ℕ)
-        → Stands form iv.now (B.encrypted meter.old.pair) wrapped text.now
-        → IsOkUnless result InPlaceFault.BadLength }
-
-    // No key belongs to it in the other form, whatever the initial value.
-    ensures other_form { IfOk result (λ found. NoOtherForm (with_value found.form iv.now)
-        (B.encrypted meter.old.pair) text.now) }
-    ensures size { IfOk result (λ found. length (take found.len key.new) ≡ found.len) }
-    ensures behind { IfOk result (λ found. key.new ≡ padded (take found.len key.new)) }
-    ensures cleared { result ≡ Err InPlaceFault.Integrity → All (λ byte. byte ≡ 0) key.new }
-    ensures calls { ¬ (result ≡ Err InPlaceFault.BadLength)
-        → meter.new ≡ counted (block_calls (length text.now)) meter.old }
+    ensures unwraps { UnwrappingEither (ArePaddedLengths (length key.old) (length text.now)) iv.now
+        (B.encrypted meter.old.pair) text.now (λ found. take found.len key.new) result }
+    ensures key { IfOk result (λ found.
+        IsKeyBuffer [] (take found.len key.new) found.len key.new) }
+    ensures refused { KeepsOrClears key.old key.new result }
+    ensures calls { CountsCalls (block_calls (length text.now)) meter.old meter.new result }
 {
     if !padded_text_length_ok(text.len()) || key.len() != text.len() - WORD {
         return Err(InPlaceFault::BadLength);

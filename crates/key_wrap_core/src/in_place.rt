@@ -1,15 +1,17 @@
 //! The calls in the caller's buffer. They take no memory.
 
-ghost use Rattle.std.specs.Prelude.{◌≡◌, ◌↔◌, ◌+◌, ◌*◌, ◌++◌, ℕ, List, length, take, drop};
-ghost use Rattle.std.specs.Prelude.{replicate, All, Ok, Err, OnOk, IfOk, IsOk, IsOkUnless};
+ghost use Rattle.std.specs.Prelude.{◌≡◌, ℕ, List, length, take, drop, replicate, All, Err};
+ghost use Rattle.std.specs.Prelude.{OnOk, IfOk, IsOk};
 ghost use Rattle.block_pair.specs.Metered.{counted};
 ghost use Rattle.key_wrap_core.specs.Lengths.{IsPlainTextLength, IsPaddedTextLength};
 ghost use Rattle.key_wrap_core.specs.Plain.{Plain, IsReserved, default_iv};
-ghost use Rattle.key_wrap_core.specs.Padded.{Padded, padded, word_count};
-ghost use Rattle.key_wrap_core.specs.NoKey.{NoKey, NoPlainKey};
+ghost use Rattle.key_wrap_core.specs.Padded.{Padded};
 ghost use Rattle.key_wrap_core.specs.Calls.{block_calls};
-ghost use Rattle.key_wrap_core.specs.InPlace.{KeyAnswer, Unwrapping, IsPaddedRoom, key_in};
+ghost use Rattle.key_wrap_core.specs.InPlace.{IsPaddedRoom, key_in};
+ghost use Rattle.key_wrap_core.specs.BufferCalls.{Wrapping, Unwrapping, KeepsOrClears};
+ghost use Rattle.key_wrap_core.specs.BufferCalls.{IsKeyBuffer, CountsCalls};
 
+use crate::agreed_form::AgreedForm;
 use crate::checks::{DEFAULT_IV, initial_value};
 use crate::faults::InPlaceFault;
 use crate::lengths::{WORD, padded_length_ok, padded_text_length_ok, text_length_ok};
@@ -24,17 +26,9 @@ use byteorder::{BigEndian, ByteOrder};
 /// `BadLength`, with the buffer and the meter unchanged, if `text_length_ok` is false for the
 /// buffer's length.
 pub fn wrap_in_place<B: BlockPair>(meter: &mut Meter<B>, buf: &mut [u8]) -> Result<(), InPlaceFault>
-    ensures bad_length { (result ≡ Err InPlaceFault.BadLength)
-        ↔ ¬ IsPlainTextLength (length buf.old) }
-    ensures only_fault { IsOkUnless result InPlaceFault.BadLength }
-    ensures buffer_kept { result ≡ Err InPlaceFault.BadLength → buf.new ≡ buf.old }
-    ensures meter_kept { result ≡ Err InPlaceFault.BadLength → meter.new ≡ meter.old }
-    ensures answer { OnOk result (
-        Plain (B.encrypted meter.old.pair) default_iv (drop 8 buf.old) buf.new) }
-    ensures only_text { OnOk result (
-        (other : List ℕ) → Plain (B.encrypted meter.old.pair) default_iv (drop 8 buf.old) other
-        → other ≡ buf.new) }
-    ensures calls { OnOk result (meter.new ≡ counted (block_calls (length buf.old)) meter.old) }
+    ensures wraps { Wrapping (IsPlainTextLength (length buf.old)) (AgreedForm.Plain default_iv)
+        (B.encrypted meter.old.pair) (drop 8 buf.old) buf.old buf.new result }
+    ensures calls { CountsCalls (block_calls (length buf.old)) meter.old meter.new result }
 {
     if !text_length_ok(buf.len()) {
         return Err(InPlaceFault::BadLength);
@@ -64,30 +58,15 @@ pub fn unwrap_in_place<B: BlockPair>(
     meter: &mut Meter<B>,
     buf: &mut [u8],
 ) -> Result<(), InPlaceFault>
-    ensures bad_length { (result ≡ Err InPlaceFault.BadLength)
-        ↔ ¬ IsPlainTextLength (length buf.old) }
-    ensures buffer_kept { result ≡ Err InPlaceFault.BadLength → buf.new ≡ buf.old }
-    ensures meter_kept { result ≡ Err InPlaceFault.BadLength → meter.new ≡ meter.old }
-    ensures answer { KeyAnswer (IsPlainTextLength (length buf.old))
-        (Plain (B.encrypted meter.old.pair) default_iv)
-        buf.old (λ _. drop 8 buf.new) result }
+    ensures unwraps { Unwrapping (IsPlainTextLength (length buf.old)) (AgreedForm.Plain default_iv)
+        (B.encrypted meter.old.pair) buf.old (λ _. drop 8 buf.new) result }
 
     // A wrapping is not refused.
     ensures accepts { (key : List ℕ) → Plain (B.encrypted meter.old.pair) default_iv key buf.old
         → IsOk result }
-    ensures only_key { OnOk result (
-        (other : List ℕ) → Plain (B.encrypted meter.old.pair) default_iv other buf.old
-        → other ≡ drop 8 buf.new) }
-
-    // Wrapping the answer again gives the input.
-    ensures restores { OnOk result (
-        (other : List ℕ) → Plain (B.encrypted meter.old.pair) default_iv (drop 8 buf.new) other
-        → other ≡ buf.old) }
-    ensures other_form { OnOk result (NoKey (Padded (B.encrypted meter.old.pair)) buf.old) }
     ensures first_word { OnOk result (take 8 buf.new ≡ replicate 8 0) }
-    ensures cleared { result ≡ Err InPlaceFault.Integrity → All (λ byte. byte ≡ 0) buf.new }
-    ensures calls { ¬ (result ≡ Err InPlaceFault.BadLength)
-        → meter.new ≡ counted (block_calls (length buf.old)) meter.old }
+    ensures refused { KeepsOrClears buf.old buf.new result }
+    ensures calls { CountsCalls (block_calls (length buf.old)) meter.old meter.new result }
 {
     if !text_length_ok(buf.len()) {
         return Err(InPlaceFault::BadLength);
@@ -104,9 +83,8 @@ pub(crate) fn unwrap_buffer<B: BlockPair>(
 ) -> Result<(), InPlaceFault>
     requires length { IsPlainTextLength (length buf.old) }
     requires free { ¬ IsReserved iv }
-    ensures answer { Unwrapping (IsPlainTextLength (length buf.old))
-        (Plain (B.encrypted meter.old.pair) iv) (NoKey (Padded (B.encrypted meter.old.pair)))
-        buf.old (λ _. drop 8 buf.new) result }
+    ensures unwraps { Unwrapping (IsPlainTextLength (length buf.old)) (AgreedForm.Plain iv)
+        (B.encrypted meter.old.pair) buf.old (λ _. drop 8 buf.new) result }
     ensures first_word { OnOk result (take 8 buf.new ≡ replicate 8 0) }
     ensures cleared { result ≡ Err InPlaceFault.Integrity → All (λ byte. byte ≡ 0) buf.new }
     ensures calls { meter.new ≡ counted (block_calls (length buf.old)) meter.old }
@@ -126,15 +104,9 @@ pub fn wrap_padded_in_place<B: BlockPair>(
     buf: &mut [u8],
     m: usize,
 ) -> Result<(), InPlaceFault>
-    ensures bad_length { (result ≡ Err InPlaceFault.BadLength) ↔ ¬ IsPaddedRoom m (length buf.old) }
-    ensures only_fault { IsOkUnless result InPlaceFault.BadLength }
-    ensures buffer_kept { result ≡ Err InPlaceFault.BadLength → buf.new ≡ buf.old }
-    ensures meter_kept { result ≡ Err InPlaceFault.BadLength → meter.new ≡ meter.old }
-    ensures answer { OnOk result (Padded (B.encrypted meter.old.pair) (key_in m buf.old) buf.new) }
-    ensures only_text { OnOk result (
-        (other : List ℕ) → Padded (B.encrypted meter.old.pair) (key_in m buf.old) other
-        → other ≡ buf.new) }
-    ensures calls { OnOk result (meter.new ≡ counted (block_calls (length buf.old)) meter.old) }
+    ensures wraps { Wrapping (IsPaddedRoom m (length buf.old)) AgreedForm.Padded
+        (B.encrypted meter.old.pair) (key_in m buf.old) buf.old buf.new result }
+    ensures calls { CountsCalls (block_calls (length buf.old)) meter.old meter.new result }
 {
     if !padded_length_ok(m) || buf.len() != WORD + m.next_multiple_of(WORD) {
         return Err(InPlaceFault::BadLength);
@@ -155,34 +127,16 @@ pub fn unwrap_padded_in_place<B: BlockPair>(
     meter: &mut Meter<B>,
     buf: &mut [u8],
 ) -> Result<usize, InPlaceFault>
-    ensures bad_length { (result ≡ Err InPlaceFault.BadLength)
-        ↔ ¬ IsPaddedTextLength (length buf.old) }
-    ensures buffer_kept { result ≡ Err InPlaceFault.BadLength → buf.new ≡ buf.old }
-    ensures meter_kept { result ≡ Err InPlaceFault.BadLength → meter.new ≡ meter.old }
-    ensures answer { KeyAnswer (IsPaddedTextLength (length buf.old))
-        (Padded (B.encrypted meter.old.pair))
-        buf.old (λ m. key_in m buf.new) result }
+    ensures unwraps { Unwrapping (IsPaddedTextLength (length buf.old)) AgreedForm.Padded
+        (B.encrypted meter.old.pair) buf.old (λ m. key_in m buf.new) result }
 
     // A wrapping is not refused.
     ensures accepts { (key : List ℕ) → Padded (B.encrypted meter.old.pair) key buf.old
         → IsOk result }
-    ensures only_key { IfOk result (λ m.
-        (other : List ℕ) → Padded (B.encrypted meter.old.pair) other buf.old
-        → other ≡ key_in m buf.new) }
-
-    // Wrapping the answer again gives the input.
-    ensures restores { IfOk result (λ m.
-        (other : List ℕ) → Padded (B.encrypted meter.old.pair) (key_in m buf.new) other
-        → other ≡ buf.old) }
-    ensures other_form { OnOk result (
-        NoKey (Plain (B.encrypted meter.old.pair) default_iv) buf.old) }
-    ensures other_values { OnOk result (NoPlainKey (B.encrypted meter.old.pair) buf.old) }
-    ensures size { IfOk result (λ m. length (key_in m buf.new) ≡ m) }
-    ensures room { IfOk result (λ m. length buf.old ≡ 8 + 8 * word_count m) }
-    ensures around { IfOk result (λ m. buf.new ≡ replicate 8 0 ++ padded (key_in m buf.new)) }
-    ensures cleared { result ≡ Err InPlaceFault.Integrity → All (λ byte. byte ≡ 0) buf.new }
-    ensures calls { ¬ (result ≡ Err InPlaceFault.BadLength)
-        → meter.new ≡ counted (block_calls (length buf.old)) meter.old }
+    ensures key { IfOk result (λ m.
+        IsKeyBuffer (replicate 8 0) (key_in m buf.new) m buf.new) }
+    ensures refused { KeepsOrClears buf.old buf.new result }
+    ensures calls { CountsCalls (block_calls (length buf.old)) meter.old meter.new result }
 {
     if !padded_text_length_ok(buf.len()) {
         return Err(InPlaceFault::BadLength);

@@ -1,15 +1,13 @@
 //! The calls from one of the caller's buffers into another. They take no memory.
 
-ghost use Rattle.std.specs.Prelude.{◌≡◌, ◌↔◌, ℕ, ◌+◌, ◌*◌, List, length, take, All};
-ghost use Rattle.std.specs.Prelude.{Ok, Err, OnOk, IfOk, IsOkUnless};
-ghost use Rattle.block_pair.specs.Metered.{counted};
-ghost use Rattle.key_wrap_core.specs.Plain.{Plain, default_iv};
-ghost use Rattle.key_wrap_core.specs.Padded.{Padded, padded, word_count};
-ghost use Rattle.key_wrap_core.specs.NoKey.{NoKey, NoPlainKey};
+ghost use Rattle.std.specs.Prelude.{[], length, take, IfOk};
+ghost use Rattle.key_wrap_core.specs.Plain.{default_iv};
 ghost use Rattle.key_wrap_core.specs.Calls.{block_calls};
-ghost use Rattle.key_wrap_core.specs.InPlace.{KeyAnswer, IsPaddedRoom, ArePlainLengths};
-ghost use Rattle.key_wrap_core.specs.InPlace.{ArePaddedLengths};
+ghost use Rattle.key_wrap_core.specs.InPlace.{IsPaddedRoom, ArePlainLengths, ArePaddedLengths};
+ghost use Rattle.key_wrap_core.specs.BufferCalls.{Wrapping, Unwrapping, KeepsOrClears};
+ghost use Rattle.key_wrap_core.specs.BufferCalls.{IsKeyBuffer, CountsCalls};
 
+use crate::agreed_form::AgreedForm;
 use crate::faults::InPlaceFault;
 use crate::in_place::wrap_padded_in_place;
 use crate::initial_value::InitialValue;
@@ -28,17 +26,9 @@ pub fn wrap_into<B: BlockPair>(
     key: &[u8],
     text: &mut [u8],
 ) -> Result<(), InPlaceFault>
-    ensures bad_length { (result ≡ Err InPlaceFault.BadLength)
-        ↔ ¬ ArePlainLengths (length key.now) (length text.old) }
-    ensures only_fault { IsOkUnless result InPlaceFault.BadLength }
-    ensures text_kept { result ≡ Err InPlaceFault.BadLength → text.new ≡ text.old }
-    ensures meter_kept { result ≡ Err InPlaceFault.BadLength → meter.new ≡ meter.old }
-    ensures answer { OnOk result (Plain (B.encrypted meter.old.pair) default_iv key.now text.new) }
-    ensures only_text { OnOk result (
-        (other : List ℕ) → Plain (B.encrypted meter.old.pair) default_iv key.now other
-        → other ≡ text.new) }
-    ensures size { OnOk result (length text.new ≡ length key.now + 8) }
-    ensures calls { OnOk result (meter.new ≡ counted (block_calls (length text.old)) meter.old) }
+    ensures wraps { Wrapping (ArePlainLengths (length key.now) (length text.old))
+        (AgreedForm.Plain default_iv) (B.encrypted meter.old.pair) key.now text.old text.new result }
+    ensures calls { CountsCalls (block_calls (length text.old)) meter.old meter.new result }
 {
     wrap_into_with(meter, &InitialValue::default(), key, text)
 }
@@ -54,30 +44,10 @@ pub fn unwrap_into<B: BlockPair>(
     text: &[u8],
     key: &mut [u8],
 ) -> Result<(), InPlaceFault>
-    ensures bad_length { (result ≡ Err InPlaceFault.BadLength)
-        ↔ ¬ ArePlainLengths (length key.old) (length text.now) }
-    ensures key_kept { result ≡ Err InPlaceFault.BadLength → key.new ≡ key.old }
-    ensures meter_kept { result ≡ Err InPlaceFault.BadLength → meter.new ≡ meter.old }
-    ensures answer { KeyAnswer (ArePlainLengths (length key.old) (length text.now))
-        (Plain (B.encrypted meter.old.pair) default_iv) text.now (λ _. key.new) result }
-
-    // A wrapping is refused only for its lengths.
-    ensures accepts { (wrapped : List ℕ)
-        → Plain (B.encrypted meter.old.pair) default_iv wrapped text.now
-        → IsOkUnless result InPlaceFault.BadLength }
-    ensures only_key { OnOk result (
-        (other : List ℕ) → Plain (B.encrypted meter.old.pair) default_iv other text.now
-        → other ≡ key.new) }
-
-    // Wrapping the answer again gives the input.
-    ensures restores { OnOk result (
-        (other : List ℕ) → Plain (B.encrypted meter.old.pair) default_iv key.new other
-        → other ≡ text.now) }
-    ensures size { OnOk result (length text.now ≡ length key.new + 8) }
-    ensures other_form { OnOk result (NoKey (Padded (B.encrypted meter.old.pair)) text.now) }
-    ensures cleared { result ≡ Err InPlaceFault.Integrity → All (λ byte. byte ≡ 0) key.new }
-    ensures calls { ¬ (result ≡ Err InPlaceFault.BadLength)
-        → meter.new ≡ counted (block_calls (length text.now)) meter.old }
+    ensures unwraps { Unwrapping (ArePlainLengths (length key.old) (length text.now))
+        (AgreedForm.Plain default_iv) (B.encrypted meter.old.pair) text.now (λ _. key.new) result }
+    ensures refused { KeepsOrClears key.old key.new result }
+    ensures calls { CountsCalls (block_calls (length text.now)) meter.old meter.new result }
 {
     unwrap_into_with(meter, &InitialValue::default(), text, key)
 }
@@ -91,16 +61,9 @@ pub fn wrap_padded_into<B: BlockPair>(
     key: &[u8],
     text: &mut [u8],
 ) -> Result<(), InPlaceFault>
-    ensures bad_length { (result ≡ Err InPlaceFault.BadLength)
-        ↔ ¬ IsPaddedRoom (length key.now) (length text.old) }
-    ensures only_fault { IsOkUnless result InPlaceFault.BadLength }
-    ensures text_kept { result ≡ Err InPlaceFault.BadLength → text.new ≡ text.old }
-    ensures meter_kept { result ≡ Err InPlaceFault.BadLength → meter.new ≡ meter.old }
-    ensures answer { OnOk result (Padded (B.encrypted meter.old.pair) key.now text.new) }
-    ensures only_text { OnOk result (
-        (other : List ℕ) → Padded (B.encrypted meter.old.pair) key.now other → other ≡ text.new) }
-    ensures size { OnOk result (length text.new ≡ 8 + 8 * word_count (length key.now)) }
-    ensures calls { OnOk result (meter.new ≡ counted (block_calls (length text.old)) meter.old) }
+    ensures wraps { Wrapping (IsPaddedRoom (length key.now) (length text.old))
+        AgreedForm.Padded (B.encrypted meter.old.pair) key.now text.old text.new result }
+    ensures calls { CountsCalls (block_calls (length text.old)) meter.old meter.new result }
 {
     let m = key.len();
     if !padded_length_ok(m) || text.len() != WORD + m.next_multiple_of(WORD) {
@@ -122,33 +85,11 @@ pub fn unwrap_padded_into<B: BlockPair>(
     text: &[u8],
     key: &mut [u8],
 ) -> Result<usize, InPlaceFault>
-    ensures bad_length { (result ≡ Err InPlaceFault.BadLength)
-        ↔ ¬ ArePaddedLengths (length key.old) (length text.now) }
-    ensures key_kept { result ≡ Err InPlaceFault.BadLength → key.new ≡ key.old }
-    ensures meter_kept { result ≡ Err InPlaceFault.BadLength → meter.new ≡ meter.old }
-    ensures answer { KeyAnswer (ArePaddedLengths (length key.old) (length text.now))
-        (Padded (B.encrypted meter.old.pair)) text.now (λ m. take m key.new) result }
-
-    // A wrapping is refused only for its lengths.
-    ensures accepts { (wrapped : List ℕ) → Padded (B.encrypted meter.old.pair) wrapped text.now
-        → IsOkUnless result InPlaceFault.BadLength }
-    ensures only_key { IfOk result (λ m.
-        (other : List ℕ) → Padded (B.encrypted meter.old.pair) other text.now
-        → other ≡ take m key.new) }
-
-    // Wrapping the answer again gives the input.
-    ensures restores { IfOk result (λ m.
-        (other : List ℕ) → Padded (B.encrypted meter.old.pair) (take m key.new) other
-        → other ≡ text.now) }
-    ensures other_form { OnOk result (
-        NoKey (Plain (B.encrypted meter.old.pair) default_iv) text.now) }
-    ensures other_values { OnOk result (NoPlainKey (B.encrypted meter.old.pair) text.now) }
-    ensures size { IfOk result (λ m. length (take m key.new) ≡ m) }
-    ensures room { IfOk result (λ m. length text.now ≡ 8 + 8 * word_count m) }
-    ensures behind { IfOk result (λ m. key.new ≡ padded (take m key.new)) }
-    ensures cleared { result ≡ Err InPlaceFault.Integrity → All (λ byte. byte ≡ 0) key.new }
-    ensures calls { ¬ (result ≡ Err InPlaceFault.BadLength)
-        → meter.new ≡ counted (block_calls (length text.now)) meter.old }
+    ensures unwraps { Unwrapping (ArePaddedLengths (length key.old) (length text.now))
+        AgreedForm.Padded (B.encrypted meter.old.pair) text.now (λ m. take m key.new) result }
+    ensures key { IfOk result (λ m. IsKeyBuffer [] (take m key.new) m key.new) }
+    ensures refused { KeepsOrClears key.old key.new result }
+    ensures calls { CountsCalls (block_calls (length text.now)) meter.old meter.new result }
 {
     if !padded_text_length_ok(text.len()) || key.len() != text.len() - WORD {
         return Err(InPlaceFault::BadLength);

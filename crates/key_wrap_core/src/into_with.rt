@@ -1,15 +1,12 @@
 //! The plain calls from one of the caller's buffers into another, under an initial value that both
 //! ends agreed on. They take no memory.
 
-ghost use Rattle.std.specs.Prelude.{◌≡◌, ◌↔◌, ℕ, ◌+◌, List, length, All, Ok, Err, OnOk};
-ghost use Rattle.std.specs.Prelude.{IsOkUnless};
-ghost use Rattle.block_pair.specs.Metered.{counted};
-ghost use Rattle.key_wrap_core.specs.Plain.{Plain};
-ghost use Rattle.key_wrap_core.specs.Padded.{Padded};
-ghost use Rattle.key_wrap_core.specs.NoKey.{NoKey};
+ghost use Rattle.std.specs.Prelude.{length};
 ghost use Rattle.key_wrap_core.specs.Calls.{block_calls};
-ghost use Rattle.key_wrap_core.specs.InPlace.{KeyAnswer, ArePlainLengths};
+ghost use Rattle.key_wrap_core.specs.BufferCalls.{Wrapping, Unwrapping, KeepsOrClears, CountsCalls};
+ghost use Rattle.key_wrap_core.specs.InPlace.{ArePlainLengths};
 
+use crate::agreed_form::AgreedForm;
 use crate::faults::InPlaceFault;
 use crate::in_place::wrap_buffer;
 use crate::initial_value::InitialValue;
@@ -29,18 +26,9 @@ pub fn wrap_into_with<B: BlockPair>(
     key: &[u8],
     text: &mut [u8],
 ) -> Result<(), InPlaceFault>
-    ensures bad_length { (result ≡ Err InPlaceFault.BadLength)
-        ↔ ¬ ArePlainLengths (length key.now) (length text.old) }
-    ensures only_fault { IsOkUnless result InPlaceFault.BadLength }
-    ensures text_kept { result ≡ Err InPlaceFault.BadLength → text.new ≡ text.old }
-    ensures meter_kept { result ≡ Err InPlaceFault.BadLength → meter.new ≡ meter.old }
-    ensures answer { OnOk result (Plain (B.encrypted meter.old.pair) iv.now key.now text.new) }
-    ensures only_text { OnOk result (
-        (other : List ℕ) → Plain (B.encrypted meter.old.pair) iv.now key.now other
-        → other ≡ text.new) }
-    ensures size { OnOk result (length text.new ≡ length key.now + 8) }
-    ensures other_form { OnOk result (NoKey (Padded (B.encrypted meter.old.pair)) text.new) }
-    ensures calls { OnOk result (meter.new ≡ counted (block_calls (length text.old)) meter.old) }
+    ensures wraps { Wrapping (ArePlainLengths (length key.now) (length text.old))
+        (AgreedForm.Plain iv.now) (B.encrypted meter.old.pair) key.now text.old text.new result }
+    ensures calls { CountsCalls (block_calls (length text.old)) meter.old meter.new result }
 {
     if !key_length_ok(key.len()) || text.len() != key.len() + WORD {
         return Err(InPlaceFault::BadLength);
@@ -63,30 +51,10 @@ pub fn unwrap_into_with<B: BlockPair>(
     text: &[u8],
     key: &mut [u8],
 ) -> Result<(), InPlaceFault>
-    ensures bad_length { (result ≡ Err InPlaceFault.BadLength)
-        ↔ ¬ ArePlainLengths (length key.old) (length text.now) }
-    ensures key_kept { result ≡ Err InPlaceFault.BadLength → key.new ≡ key.old }
-    ensures meter_kept { result ≡ Err InPlaceFault.BadLength → meter.new ≡ meter.old }
-    ensures answer { KeyAnswer (ArePlainLengths (length key.old) (length text.now))
-        (Plain (B.encrypted meter.old.pair) iv.now) text.now (λ _. key.new) result }
-
-    // A wrapping is refused only for its lengths.
-    ensures accepts { (wrapped : List ℕ)
-        → Plain (B.encrypted meter.old.pair) iv.now wrapped text.now
-        → IsOkUnless result InPlaceFault.BadLength }
-    ensures only_key { OnOk result (
-        (other : List ℕ) → Plain (B.encrypted meter.old.pair) iv.now other text.now
-        → other ≡ key.new) }
-
-    // Wrapping the answer again gives the input.
-    ensures restores { OnOk result (
-        (other : List ℕ) → Plain (B.encrypted meter.old.pair) iv.now key.new other
-        → other ≡ text.now) }
-    ensures size { OnOk result (length text.now ≡ length key.new + 8) }
-    ensures other_form { OnOk result (NoKey (Padded (B.encrypted meter.old.pair)) text.now) }
-    ensures cleared { result ≡ Err InPlaceFault.Integrity → All (λ byte. byte ≡ 0) key.new }
-    ensures calls { ¬ (result ≡ Err InPlaceFault.BadLength)
-        → meter.new ≡ counted (block_calls (length text.now)) meter.old }
+    ensures unwraps { Unwrapping (ArePlainLengths (length key.old) (length text.now))
+        (AgreedForm.Plain iv.now) (B.encrypted meter.old.pair) text.now (λ _. key.new) result }
+    ensures refused { KeepsOrClears key.old key.new result }
+    ensures calls { CountsCalls (block_calls (length text.now)) meter.old meter.new result }
 {
     if !text_length_ok(text.len()) || key.len() != text.len() - WORD {
         return Err(InPlaceFault::BadLength);

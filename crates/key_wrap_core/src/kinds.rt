@@ -1,13 +1,9 @@
 //! Which form a wrapped key is wrapped in.
 
-ghost use Rattle.std.specs.Prelude.{◌≡◌, ◌↔◌, ◌⊎◌, ℕ, ◌+◌, List, length, All, IfOk, IsErr};
-ghost use Rattle.block_pair.specs.Metered.{counted};
-ghost use Rattle.key_wrap_core.specs.Lengths.{IsPaddedTextLength};
-ghost use Rattle.key_wrap_core.specs.Plain.{Plain, default_iv};
-ghost use Rattle.key_wrap_core.specs.Padded.{Padded};
-ghost use Rattle.key_wrap_core.specs.NoKey.{NoKey};
-ghost use Rattle.key_wrap_core.specs.Calls.{block_calls};
-ghost use Rattle.key_wrap_core.specs.Kind.{IsKindOf, IsKindWith, NoOtherKey, kind_as};
+ghost use Rattle.std.specs.Prelude.{◌≡◌, IfOk};
+ghost use Rattle.key_wrap_core.specs.Plain.{default_iv};
+ghost use Rattle.key_wrap_core.specs.Kind.{IsTheKind, kind_as};
+ghost use Rattle.key_wrap_core.specs.BufferCalls.{UsesScratch};
 
 use crate::any_form::unwrap_any_into;
 use crate::faults::{BadScratchLength, InPlaceFault};
@@ -28,27 +24,8 @@ pub fn kind_into<B: BlockPair>(
     text: &[u8],
     scratch: &mut [u8],
 ) -> Result<Kind, BadScratchLength>
-    ensures bad_length { IsErr result ↔ (IsPaddedTextLength (length text.now)
-        × ¬ (length text.now ≡ length scratch.old + 8)) }
-    ensures answer { IfOk result (IsKindOf (B.encrypted meter.old.pair) text.now) }
-    ensures plain { (key : List ℕ) → Plain (B.encrypted meter.old.pair) default_iv key text.now
-        → IfOk result (λ kind. kind ≡ Kind.Plain (length key)) }
-    ensures padded { (key : List ℕ) → Padded (B.encrypted meter.old.pair) key text.now
-        → IfOk result (λ kind. kind ≡ Kind.Padded (length key)) }
-    ensures neither { NoKey (Plain (B.encrypted meter.old.pair) default_iv) text.now
-        → NoKey (Padded (B.encrypted meter.old.pair)) text.now
-        → IfOk result (λ kind. kind ≡ Kind.Neither) }
-
-    // No key belongs to it in the other form, whatever the initial value.
-    ensures other_form { IfOk result (NoOtherKey (B.encrypted meter.old.pair) text.now) }
-    ensures scratch_kept { IsErr result ⊎ ¬ IsPaddedTextLength (length text.now)
-        → scratch.new ≡ scratch.old }
-    ensures meter_kept { IsErr result ⊎ ¬ IsPaddedTextLength (length text.now)
-        → meter.new ≡ meter.old }
-    ensures cleared { IfOk result (λ _. IsPaddedTextLength (length text.now)
-        → All (λ byte. byte ≡ 0) scratch.new) }
-    ensures calls { IfOk result (λ _. IsPaddedTextLength (length text.now)
-        → meter.new ≡ counted (block_calls (length text.now)) meter.old) }
+    ensures kind { IfOk result (IsTheKind default_iv (B.encrypted meter.old.pair) text.now) }
+    ensures scratch { UsesScratch text.now scratch.old scratch.new meter.old meter.new result }
 {
     kind_into_with(meter, &InitialValue::default(), text, scratch)
 }
@@ -61,27 +38,8 @@ pub fn kind_into_with<B: BlockPair>(
     text: &[u8],
     scratch: &mut [u8],
 ) -> Result<Kind, BadScratchLength>
-    ensures bad_length { IsErr result ↔ (IsPaddedTextLength (length text.now)
-        × ¬ (length text.now ≡ length scratch.old + 8)) }
-    ensures answer { IfOk result (IsKindWith iv.now (B.encrypted meter.old.pair) text.now) }
-    ensures plain { (key : List ℕ) → Plain (B.encrypted meter.old.pair) iv.now key text.now
-        → IfOk result (λ kind. kind ≡ Kind.Plain (length key)) }
-    ensures padded { (key : List ℕ) → Padded (B.encrypted meter.old.pair) key text.now
-        → IfOk result (λ kind. kind ≡ Kind.Padded (length key)) }
-    ensures neither { NoKey (Plain (B.encrypted meter.old.pair) iv.now) text.now
-        → NoKey (Padded (B.encrypted meter.old.pair)) text.now
-        → IfOk result (λ kind. kind ≡ Kind.Neither) }
-
-    // No key belongs to it in the other form, whatever the initial value.
-    ensures other_form { IfOk result (NoOtherKey (B.encrypted meter.old.pair) text.now) }
-    ensures scratch_kept { IsErr result ⊎ ¬ IsPaddedTextLength (length text.now)
-        → scratch.new ≡ scratch.old }
-    ensures meter_kept { IsErr result ⊎ ¬ IsPaddedTextLength (length text.now)
-        → meter.new ≡ meter.old }
-    ensures cleared { IfOk result (λ _. IsPaddedTextLength (length text.now)
-        → All (λ byte. byte ≡ 0) scratch.new) }
-    ensures calls { IfOk result (λ _. IsPaddedTextLength (length text.now)
-        → meter.new ≡ counted (block_calls (length text.now)) meter.old) }
+    ensures kind { IfOk result (IsTheKind iv.now (B.encrypted meter.old.pair) text.now) }
+    ensures scratch { UsesScratch text.now scratch.old scratch.new meter.old meter.new result }
 {
     if !padded_text_length_ok(text.len()) {
         return Ok(Kind::Neither);

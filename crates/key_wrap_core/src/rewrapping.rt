@@ -10,7 +10,8 @@ ghost use Rattle.key_wrap_core.specs.Calls.{block_calls};
 ghost use Rattle.key_wrap_core.specs.Forms.{IsKeyLengthAs};
 ghost use Rattle.key_wrap_core.specs.Found.{HoldsIn};
 ghost use Rattle.key_wrap_core.specs.NoKey.{NoKey};
-ghost use Rattle.key_wrap_core.specs.Rewrap.{IsFrom, IsOldLength, IsRewrapping, IsRewrapped, IsOld, RewrapResults};
+ghost use Rattle.key_wrap_core.specs.Rewrap.{IsFrom, IsOldLength, IsRewrapping, IsOld, RewrapResults};
+ghost use Rattle.key_wrap_core.specs.BufferCalls.{RewrapCalls};
 ghost use Rattle.key_wrap_core.specs.Rewrap.{IsFound, HasFault, RewrapsOld, to_form, to_itself, IsWrapping, IsNoWrapping};
 
 use crate::agreed_form::AgreedForm;
@@ -73,25 +74,8 @@ pub fn rewrap<O: BlockPair, N: BlockPair>(
         (N.encrypted new.old.pair) buf.old result buf.new }
     ensures results { RewrapResults pass_new forms.now (O.encrypted old.old.pair)
         (N.encrypted new.old.pair) buf.old result buf.new }
-    ensures unwrap_calls { result ≡ Ok Rewrapped.Fresh
-        → old.new ≡ counted (block_calls (length buf.old)) old.old }
-    ensures wrap_calls { result ≡ Ok Rewrapped.Fresh
-        → new.new ≡ counted (block_calls (length buf.old)) new.old }
-
-    // What was unwrapped under the old pair is wrapped again.
-    ensures old_calls { ¬ (result ≡ Ok Rewrapped.Fresh) → IsOldLength forms.now (length buf.old)
-        → old.new ≡ counted (2 * block_calls (length buf.old)) old.old }
-    ensures old_meter_kept { ¬ IsOldLength forms.now (length buf.old) → old.new ≡ old.old }
-    ensures new_calls { result ≡ Ok Rewrapped.AlreadyNew
-        → new.new ≡ counted (2 * block_calls (length buf.old)) new.old }
-    ensures new_refused_calls { IsErr result → pass_new ≡ true
-        → ¬ (result ≡ Err RewrapFault.KeyNotPlain)
-        → IsOldLength (to_itself forms.now) (length buf.old)
-        → new.new ≡ counted (2 * block_calls (length buf.old)) new.old }
-    ensures new_unasked { IsErr result → pass_new ≡ false → new.new ≡ new.old }
-    ensures new_untried { result ≡ Err RewrapFault.KeyNotPlain → new.new ≡ new.old }
-    ensures new_illegal { IsErr result
-        → ¬ IsOldLength (to_itself forms.now) (length buf.old) → new.new ≡ new.old }
+    ensures calls { RewrapCalls pass_new forms.now (length buf.old)
+        old.old old.new new.old new.new result }
 {
     let fault = match rewrap_old(old, new, forms, buf) {
         Ok(()) => return Ok(Rewrapped::Fresh),

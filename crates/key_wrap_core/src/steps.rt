@@ -7,7 +7,10 @@ ghost use Rattle.block_pair.specs.Words.{IsBlock};
 ghost use Rattle.key_wrap_core.specs.Words.{word_bytes};
 ghost use Rattle.key_wrap_core.specs.Lengths.{IsPaddedTextLength};
 ghost use Rattle.key_wrap_core.specs.Calls.{block_calls};
-ghost use Rattle.key_wrap_core.specs.Steps.{WrapSteps, WrapState, UnwrapSteps, UnwrapState};
+ghost use Rattle.key_wrap_core.specs.Steps.{WrapSteps, WrapState};
+ghost use Rattle.key_wrap_core.specs.StepCalls.{IsWrapStep};
+ghost use Rattle.key_wrap_core.specs.Steps.{UnwrapSteps, UnwrapState};
+ghost use Rattle.key_wrap_core.specs.StepCalls.{IsUnwrapStep};
 
 use crate::lengths::{MAX_KEY, WORD};
 use byteorder::{BigEndian, ByteOrder};
@@ -69,10 +72,7 @@ fn last_counter(len: usize) -> u64
 pub(crate) fn step_registers(registers: &mut [u8], done: u64, block: [u8; 16]) -> [u8; 16]
     requires legal { IsPaddedTextLength (8 + length registers.old) }
     requires left { done < block_calls (8 + length registers.old) }
-    ensures { (E : List ℕ → List ℕ) (iv : ℕ) (key before : List ℕ)
-        → WrapState E iv key done registers.old before
-        → block ≡ E before
-        → WrapState E iv key (done + 1) registers.new result }
+    ensures { IsWrapStep done (done + 1) registers.old registers.new block result }
 {
     if registers.len() > WORD {
         return step_words(registers, done as usize, block);
@@ -108,10 +108,7 @@ pub(crate) fn unstep_registers(registers: &mut [u8], left: u64, block: [u8; 16])
     requires legal { IsPaddedTextLength (8 + length registers.old) }
     requires left { left < block_calls (8 + length registers.old) }
     requires block { IsBlock block }
-    ensures { (E : List ℕ → List ℕ) (text before : List ℕ)
-        → UnwrapState E text (left + 1) registers.old before
-        → E block ≡ before
-        → UnwrapState E text left registers.new result }
+    ensures { IsUnwrapStep (left + 1) left registers.old registers.new block result }
 {
     if registers.len() > WORD {
         return unstep_words(registers, left as usize, block);

@@ -6,18 +6,15 @@
 //! left. A block that was not decrypted, or a number that the caller changed, cannot be noticed, and
 //! an unwrapping that is not ended leaves key material in the registers and the block.
 
-ghost use Rattle.std.specs.Prelude.{◌≡◌, ◌↔◌, ℕ, ◌+◌, ◌*◌, ◌≤◌, ◌++◌, List, length, take, All};
-ghost use Rattle.std.specs.Prelude.{Ok, Err, OnOk, IfOk, IsOkUnless};
-ghost use Rattle.block_pair.specs.Pair.{AreInverse};
+ghost use Rattle.std.specs.Prelude.{◌≡◌, ◌↔◌, ◌+◌, ◌≤◌, [], length, take, All};
+ghost use Rattle.std.specs.Prelude.{Err, OnOk, IfOk};
 ghost use Rattle.key_wrap_core.specs.Lengths.{IsPlainKeyLength, IsPlainTextLength, IsPaddedTextLength};
-ghost use Rattle.key_wrap_core.specs.Plain.{Plain};
-ghost use Rattle.key_wrap_core.specs.Padded.{Padded, padded, word_count};
-ghost use Rattle.key_wrap_core.specs.NoKey.{NoKey, NoPlainKey};
 ghost use Rattle.key_wrap_core.specs.Calls.{block_calls};
-ghost use Rattle.key_wrap_core.specs.InPlace.{Unwrapping};
-ghost use Rattle.key_wrap_core.specs.Steps.{UnwrapState};
+ghost use Rattle.key_wrap_core.specs.BufferCalls.{RefusesLength, KeepsOrClears, IsKeyBuffer};
+ghost use Rattle.key_wrap_core.specs.StepCalls.{UnwrapBegun, IsUnwrapStep, EndsUnwrapping};
 ghost use Rattle.key_wrap_core.specs.Words.{word_bytes};
 
+use crate::agreed_form::AgreedForm;
 use crate::faults::InPlaceFault;
 use crate::initial_value::InitialValue;
 use crate::lengths::key_length_ok;
@@ -36,14 +33,9 @@ pub fn begin_unwrap(
     left: &mut u64,
     block: &mut [u8; 16],
 ) -> Result<(), InPlaceFault>
-    ensures bad_length { (result ≡ Err InPlaceFault.BadLength)
-        ↔ ¬ IsPlainTextLength (8 + length registers.now) }
-    ensures only_fault { IsOkUnless result InPlaceFault.BadLength }
-    ensures left_kept { result ≡ Err InPlaceFault.BadLength → left.new ≡ left.old }
-    ensures block_kept { result ≡ Err InPlaceFault.BadLength → block.new ≡ block.old }
-    ensures all_left { OnOk result (left.new ≡ block_calls (8 + length registers.now)) }
-    ensures begins { OnOk result ((E : List ℕ → List ℕ)
-        → UnwrapState E (first.now ++ registers.now) left.new registers.now block.new) }
+    ensures refused { RefusesLength (IsPlainTextLength (8 + length registers.now))
+        ((left.new ≡ left.old) × (block.new ≡ block.old)) result }
+    ensures begins { OnOk result (UnwrapBegun first.now left.new registers.now block.new) }
 {
     if !key_length_ok(registers.len()) {
         return Err(InPlaceFault::BadLength);
@@ -61,14 +53,9 @@ pub fn begin_unwrap_padded(
     left: &mut u64,
     block: &mut [u8; 16],
 ) -> Result<(), InPlaceFault>
-    ensures bad_length { (result ≡ Err InPlaceFault.BadLength)
-        ↔ ¬ IsPaddedTextLength (8 + length registers.now) }
-    ensures only_fault { IsOkUnless result InPlaceFault.BadLength }
-    ensures left_kept { result ≡ Err InPlaceFault.BadLength → left.new ≡ left.old }
-    ensures block_kept { result ≡ Err InPlaceFault.BadLength → block.new ≡ block.old }
-    ensures all_left { OnOk result (left.new ≡ block_calls (8 + length registers.now)) }
-    ensures begins { OnOk result ((E : List ℕ → List ℕ)
-        → UnwrapState E (first.now ++ registers.now) left.new registers.now block.new) }
+    ensures refused { RefusesLength (IsPaddedTextLength (8 + length registers.now))
+        ((left.new ≡ left.old) × (block.new ≡ block.old)) result }
+    ensures begins { OnOk result (UnwrapBegun first.now left.new registers.now block.new) }
 {
     if !registers_ok(registers.len()) {
         return Err(InPlaceFault::BadLength);
@@ -80,9 +67,7 @@ pub fn begin_unwrap_padded(
 // The number of the steps, and the block of the last one.
 fn begin_last(first: &[u8; 8], registers: &[u8], left: &mut u64, block: &mut [u8; 16])
     requires { IsPaddedTextLength (8 + length registers.now) }
-    ensures all_left { left.new ≡ block_calls (8 + length registers.now) }
-    ensures begins { (E : List ℕ → List ℕ)
-        → UnwrapState E (first.now ++ registers.now) left.new registers.now block.new }
+    ensures { UnwrapBegun first.now left.new registers.now block.new }
 {
     *left = step_count(registers.len());
     *block = last_block(BigEndian::read_u64(first), registers);
@@ -98,20 +83,12 @@ pub fn step_unwrap(
     left: &mut u64,
     block: &mut [u8; 16],
 ) -> Result<(), InPlaceFault>
-    ensures bad_length { (result ≡ Err InPlaceFault.BadLength)
-        ↔ ¬ (IsPaddedTextLength (8 + length registers.old) × (1 ≤ left.old)
-        × (left.old ≤ block_calls (8 + length registers.old))) }
-    ensures only_fault { IsOkUnless result InPlaceFault.BadLength }
-    ensures registers_kept { result ≡ Err InPlaceFault.BadLength → registers.new ≡ registers.old }
-    ensures left_kept { result ≡ Err InPlaceFault.BadLength → left.new ≡ left.old }
-    ensures block_kept { result ≡ Err InPlaceFault.BadLength → block.new ≡ block.old }
+    ensures refused { RefusesLength (IsPaddedTextLength (8 + length registers.old)
+        × (1 ≤ left.old) × (left.old ≤ block_calls (8 + length registers.old)))
+        ((registers.new ≡ registers.old) × (left.new ≡ left.old) × (block.new ≡ block.old)) result }
     ensures counts { OnOk result (left.old ≡ left.new + 1) }
-
-    // For every E: if E takes the block to the last one, one step less is left of the unwrapping.
-    ensures steps { OnOk result ((E : List ℕ → List ℕ) (text before : List ℕ)
-        → UnwrapState E text left.old registers.old before
-        → E block.old ≡ before
-        → UnwrapState E text left.new registers.new block.new) }
+    ensures steps { OnOk result (IsUnwrapStep left.old left.new
+        registers.old registers.new block.old block.new) }
 {
     if !registers_ok(registers.len()) || *left == 0 || *left > step_count(registers.len()) {
         return Err(InPlaceFault::BadLength);
@@ -135,17 +112,11 @@ pub fn end_unwrap(
 ) -> Result<(), InPlaceFault>
     ensures bad_length { (result ≡ Err InPlaceFault.BadLength)
         ↔ ¬ (IsPlainKeyLength (length registers.old) × (left ≡ 0)) }
-    ensures registers_kept { result ≡ Err InPlaceFault.BadLength → registers.new ≡ registers.old }
+    ensures refused { KeepsOrClears registers.old registers.new result }
     ensures block_kept { result ≡ Err InPlaceFault.BadLength → block.new ≡ block.old }
-
-    // For every E that has an inverse: the refusals and the key of the call in place.
     ensures answer { ¬ (result ≡ Err InPlaceFault.BadLength)
-        → (E D : List ℕ → List ℕ) (text : List ℕ)
-        → AreInverse E D
-        → UnwrapState E text left registers.old block.old
-        → Unwrapping (IsPlainTextLength (length text)) (Plain E iv.now) (NoKey (Padded E)) text
+        → EndsUnwrapping (AgreedForm.Plain iv.now) left registers.old block.old
         (λ _. registers.new) result }
-    ensures cleared { result ≡ Err InPlaceFault.Integrity → All (λ byte. byte ≡ 0) registers.new }
     ensures block_cleared { ¬ (result ≡ Err InPlaceFault.BadLength)
         → All (λ byte. byte ≡ 0) block.new }
 {
@@ -169,20 +140,12 @@ pub fn end_unwrap_padded(
 ) -> Result<usize, InPlaceFault>
     ensures bad_length { (result ≡ Err InPlaceFault.BadLength)
         ↔ ¬ (IsPaddedTextLength (8 + length registers.old) × (left ≡ 0)) }
-    ensures registers_kept { result ≡ Err InPlaceFault.BadLength → registers.new ≡ registers.old }
+    ensures refused { KeepsOrClears registers.old registers.new result }
     ensures block_kept { result ≡ Err InPlaceFault.BadLength → block.new ≡ block.old }
-
-    // For every E that has an inverse: the refusals and the key of the call in place.
     ensures answer { ¬ (result ≡ Err InPlaceFault.BadLength)
-        → (E D : List ℕ → List ℕ) (text : List ℕ)
-        → AreInverse E D
-        → UnwrapState E text left registers.old block.old
-        → Unwrapping (IsPaddedTextLength (length text)) (Padded E) (NoPlainKey E) text
+        → EndsUnwrapping AgreedForm.Padded left registers.old block.old
         (λ m. take m registers.new) result }
-    ensures size { IfOk result (λ m. length (take m registers.new) ≡ m) }
-    ensures room { IfOk result (λ m. length registers.new ≡ 8 * word_count m) }
-    ensures padding { IfOk result (λ m. registers.new ≡ padded (take m registers.new)) }
-    ensures cleared { result ≡ Err InPlaceFault.Integrity → All (λ byte. byte ≡ 0) registers.new }
+    ensures key { IfOk result (λ m. IsKeyBuffer [] (take m registers.new) m registers.new) }
     ensures block_cleared { ¬ (result ≡ Err InPlaceFault.BadLength)
         → All (λ byte. byte ≡ 0) block.new }
 {

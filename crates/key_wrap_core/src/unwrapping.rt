@@ -1,24 +1,25 @@
 //! The checked unwrapping of the registers, wherever they lie: in a buffer after C0, or in one of
 //! their own.
 
-ghost use Rattle.std.specs.Prelude.{◌≡◌, ◌+◌, ◌*◌, ◌++◌, ℕ, List, length, take, All, Err};
+ghost use Rattle.std.specs.Prelude.{◌≡◌, ◌+◌, ◌++◌, [], ℕ, List, length, take, All, Err};
 ghost use Rattle.std.specs.Prelude.{IfOk, IsErr, IsOkUnless, ◌%◌, ◌^◌};
 ghost use Rattle.block_pair.specs.Pair.{AreInverse};
 ghost use Rattle.block_pair.specs.Metered.{counted};
 ghost use Rattle.key_wrap_core.specs.Words.{word_bytes};
 ghost use Rattle.key_wrap_core.specs.Lengths.{IsPlainTextLength, IsPaddedTextLength};
-ghost use Rattle.key_wrap_core.specs.Plain.{Plain, IsReserved};
-ghost use Rattle.key_wrap_core.specs.Padded.{Padded, padded, word_count};
+ghost use Rattle.key_wrap_core.specs.Plain.{IsReserved};
+ghost use Rattle.key_wrap_core.specs.Padded.{padded};
 ghost use Rattle.key_wrap_core.specs.Registers.{Registers};
 ghost use Rattle.key_wrap_core.specs.PaddedRegisters.{PaddedRegisters};
-ghost use Rattle.key_wrap_core.specs.NoKey.{NoKey, NoPlainKey};
+ghost use Rattle.key_wrap_core.specs.NoKey.{NoKey};
 ghost use Rattle.key_wrap_core.specs.Calls.{block_calls};
-ghost use Rattle.key_wrap_core.specs.InPlace.{Unwrapping};
+ghost use Rattle.key_wrap_core.specs.BufferCalls.{Unwrapping, IsKeyBuffer};
 ghost use Rattle.key_wrap_core.specs.declared.forms.Form.{Form};
 ghost use Rattle.key_wrap_core.specs.Forms.{NoOtherForm, with_value};
 ghost use Rattle.key_wrap_core.specs.Found.{HoldsIn};
 ghost use Rattle.key_wrap_core.specs.EitherForm.{IsEither, IsOnlyWrapping, NoKeyIn};
 
+use crate::agreed_form::AgreedForm;
 use crate::checks::{decide, given_length, padded_difference};
 use crate::faults::InPlaceFault;
 use crate::forms::{Form, FoundKey};
@@ -37,8 +38,8 @@ pub(crate) fn unwrap_registers<B: BlockPair>(
     requires length { IsPlainTextLength (8 + length registers.old) }
     requires free { ¬ IsReserved iv }
     ensures answer { let text = word_bytes c0 ++ registers.old in
-        Unwrapping (IsPlainTextLength (length text)) (Plain (B.encrypted meter.old.pair) iv)
-        (NoKey (Padded (B.encrypted meter.old.pair))) text (λ _. registers.new) result }
+        Unwrapping (IsPlainTextLength (length text)) (AgreedForm.Plain iv)
+        (B.encrypted meter.old.pair) text (λ _. registers.new) result }
     ensures cleared { result ≡ Err InPlaceFault.Integrity → All (λ byte. byte ≡ 0) registers.new }
     ensures calls { meter.new ≡ counted (block_calls (8 + length registers.old)) meter.old }
 {
@@ -53,7 +54,7 @@ pub(crate) fn end_plain(found: u64, iv: u64, registers: &mut [u8]) -> Result<(),
     requires free { ¬ IsReserved iv }
     ensures answer { (E D : List ℕ → List ℕ) (text : List ℕ) → AreInverse E D
         → Registers E (word_bytes found ++ registers.old) text
-        → Unwrapping (IsPlainTextLength (length text)) (Plain E iv) (NoKey (Padded E)) text
+        → Unwrapping (IsPlainTextLength (length text)) (AgreedForm.Plain iv) E text
         (λ _. registers.new) result }
     ensures cleared { result ≡ Err InPlaceFault.Integrity → All (λ byte. byte ≡ 0) registers.new }
     ensures only_fault { IsOkUnless result InPlaceFault.Integrity }
@@ -70,11 +71,9 @@ pub(crate) fn unwrap_padded_registers<B: BlockPair>(
 ) -> Result<usize, InPlaceFault>
     requires { IsPaddedTextLength (8 + length registers.old) }
     ensures answer { let text = word_bytes c0 ++ registers.old in
-        Unwrapping (IsPaddedTextLength (length text)) (Padded (B.encrypted meter.old.pair))
-        (NoPlainKey (B.encrypted meter.old.pair)) text (λ m. take m registers.new) result }
-    ensures size { IfOk result (λ m. length (take m registers.new) ≡ m) }
-    ensures room { IfOk result (λ m. length registers.new ≡ 8 * word_count m) }
-    ensures padding { IfOk result (λ m. registers.new ≡ padded (take m registers.new)) }
+        Unwrapping (IsPaddedTextLength (length text)) AgreedForm.Padded
+        (B.encrypted meter.old.pair) text (λ m. take m registers.new) result }
+    ensures key { IfOk result (λ m. IsKeyBuffer [] (take m registers.new) m registers.new) }
     ensures cleared { result ≡ Err InPlaceFault.Integrity → All (λ byte. byte ≡ 0) registers.new }
     ensures calls { meter.new ≡ counted (block_calls (8 + length registers.old)) meter.old }
 {
@@ -88,11 +87,9 @@ pub(crate) fn end_padded(found: u64, registers: &mut [u8]) -> Result<usize, InPl
     requires { IsPaddedTextLength (8 + length registers.old) }
     ensures answer { (E D : List ℕ → List ℕ) (text : List ℕ) → AreInverse E D
         → PaddedRegisters E (word_bytes found ++ registers.old) text
-        → Unwrapping (IsPaddedTextLength (length text)) (Padded E) (NoPlainKey E) text
+        → Unwrapping (IsPaddedTextLength (length text)) AgreedForm.Padded E text
         (λ m. take m registers.new) result }
-    ensures size { IfOk result (λ m. length (take m registers.new) ≡ m) }
-    ensures room { IfOk result (λ m. length registers.new ≡ 8 * word_count m) }
-    ensures padding { IfOk result (λ m. registers.new ≡ padded (take m registers.new)) }
+    ensures key { IfOk result (λ m. IsKeyBuffer [] (take m registers.new) m registers.new) }
     ensures cleared { result ≡ Err InPlaceFault.Integrity → All (λ byte. byte ≡ 0) registers.new }
     ensures only_fault { IsOkUnless result InPlaceFault.Integrity }
 {
@@ -119,9 +116,8 @@ pub(crate) fn unwrap_any_registers<B: BlockPair>(
     ensures other_form { IfOk result (λ found. NoOtherForm (with_value found.form iv)
         (B.encrypted meter.old.pair) (word_bytes c0 ++ registers.old)) }
     ensures only_fault { IsOkUnless result InPlaceFault.Integrity }
-    ensures size { IfOk result (λ found. length (take found.len registers.new) ≡ found.len) }
-    ensures padding { IfOk result (λ found.
-        registers.new ≡ padded (take found.len registers.new)) }
+    ensures key { IfOk result (λ found.
+        IsKeyBuffer [] (take found.len registers.new) found.len registers.new) }
     ensures cleared { IsErr result → All (λ byte. byte ≡ 0) registers.new }
     ensures calls { meter.new ≡ counted (block_calls (8 + length registers.old)) meter.old }
 {

@@ -6,14 +6,13 @@
 //! six for each 8 bytes of the key, or one for a padded key of up to 8 bytes. A block that was not
 //! encrypted, or a number that the caller changed, cannot be noticed.
 
-ghost use Rattle.std.specs.Prelude.{◌≡◌, ◌↔◌, ℕ, ◌+◌, ◌*◌, ◌<◌, ◌++◌, List, length, take};
-ghost use Rattle.std.specs.Prelude.{Ok, Err, OnOk, IsOkUnless};
-ghost use Rattle.key_wrap_core.specs.Lengths.{IsPlainKeyLength, IsPaddedKeyLength, IsPaddedTextLength};
-ghost use Rattle.key_wrap_core.specs.Plain.{Plain};
-ghost use Rattle.key_wrap_core.specs.Padded.{Padded, aiv, padded};
+ghost use Rattle.std.specs.Prelude.{◌≡◌, ◌+◌, ◌<◌, length, take, OnOk};
+ghost use Rattle.key_wrap_core.specs.Lengths.{IsPlainKeyLength, IsPaddedTextLength};
+ghost use Rattle.key_wrap_core.specs.Padded.{aiv, padded};
 ghost use Rattle.key_wrap_core.specs.InPlace.{IsPaddedRoom};
+ghost use Rattle.key_wrap_core.specs.BufferCalls.{RefusesLength};
 ghost use Rattle.key_wrap_core.specs.Calls.{block_calls};
-ghost use Rattle.key_wrap_core.specs.Steps.{WrapState};
+ghost use Rattle.key_wrap_core.specs.StepCalls.{WrapBegun, IsWrapStep, WrapEnded};
 
 use crate::checks::initial_value;
 use crate::faults::InPlaceFault;
@@ -31,14 +30,9 @@ pub fn begin_wrap(
     done: &mut u64,
     block: &mut [u8; 16],
 ) -> Result<(), InPlaceFault>
-    ensures bad_length { (result ≡ Err InPlaceFault.BadLength)
-        ↔ ¬ IsPlainKeyLength (length registers.now) }
-    ensures only_fault { IsOkUnless result InPlaceFault.BadLength }
-    ensures done_kept { result ≡ Err InPlaceFault.BadLength → done.new ≡ done.old }
-    ensures block_kept { result ≡ Err InPlaceFault.BadLength → block.new ≡ block.old }
-    ensures none_done { OnOk result (done.new ≡ 0) }
-    ensures begins { OnOk result ((E : List ℕ → List ℕ)
-        → WrapState E iv.now registers.now 0 registers.now block.new) }
+    ensures refused { RefusesLength (IsPlainKeyLength (length registers.now))
+        ((done.new ≡ done.old) × (block.new ≡ block.old)) result }
+    ensures begins { OnOk result (WrapBegun iv.now registers.now done.new registers.now block.new) }
 {
     if !key_length_ok(registers.len()) {
         return Err(InPlaceFault::BadLength);
@@ -59,16 +53,11 @@ pub fn begin_wrap_padded(
     done: &mut u64,
     block: &mut [u8; 16],
 ) -> Result<(), InPlaceFault>
-    ensures bad_length { (result ≡ Err InPlaceFault.BadLength)
-        ↔ ¬ IsPaddedRoom m (8 + length registers.old) }
-    ensures only_fault { IsOkUnless result InPlaceFault.BadLength }
-    ensures registers_kept { result ≡ Err InPlaceFault.BadLength → registers.new ≡ registers.old }
-    ensures done_kept { result ≡ Err InPlaceFault.BadLength → done.new ≡ done.old }
-    ensures block_kept { result ≡ Err InPlaceFault.BadLength → block.new ≡ block.old }
-    ensures none_done { OnOk result (done.new ≡ 0) }
+    ensures refused { RefusesLength (IsPaddedRoom m (8 + length registers.old))
+        ((registers.new ≡ registers.old) × (done.new ≡ done.old) × (block.new ≡ block.old)) result }
     ensures pads { OnOk result (registers.new ≡ padded (take m registers.old)) }
-    ensures begins { OnOk result ((E : List ℕ → List ℕ)
-        → WrapState E (aiv m) (padded (take m registers.old)) 0 registers.new block.new) }
+    ensures begins { OnOk result (WrapBegun (aiv m) (padded (take m registers.old))
+        done.new registers.new block.new) }
 {
     if !padded_length_ok(m) || registers.len() != m.next_multiple_of(WORD) {
         return Err(InPlaceFault::BadLength);
@@ -89,20 +78,12 @@ pub fn step_wrap(
     done: &mut u64,
     block: &mut [u8; 16],
 ) -> Result<(), InPlaceFault>
-    ensures bad_length { (result ≡ Err InPlaceFault.BadLength)
-        ↔ ¬ (IsPaddedTextLength (8 + length registers.old)
-        × (done.old < block_calls (8 + length registers.old))) }
-    ensures only_fault { IsOkUnless result InPlaceFault.BadLength }
-    ensures registers_kept { result ≡ Err InPlaceFault.BadLength → registers.new ≡ registers.old }
-    ensures done_kept { result ≡ Err InPlaceFault.BadLength → done.new ≡ done.old }
-    ensures block_kept { result ≡ Err InPlaceFault.BadLength → block.new ≡ block.old }
+    ensures refused { RefusesLength (IsPaddedTextLength (8 + length registers.old)
+        × (done.old < block_calls (8 + length registers.old)))
+        ((registers.new ≡ registers.old) × (done.new ≡ done.old) × (block.new ≡ block.old)) result }
     ensures counts { OnOk result (done.new ≡ done.old + 1) }
-
-    // For every E: if the block is E of the last one, one step more of the wrapping is done.
-    ensures steps { OnOk result ((E : List ℕ → List ℕ) (iv : ℕ) (key before : List ℕ)
-        → WrapState E iv key done.old registers.old before
-        → block.old ≡ E before
-        → WrapState E iv key done.new registers.new block.new) }
+    ensures steps { OnOk result (IsWrapStep done.old done.new
+        registers.old registers.new block.old block.new) }
 {
     if !registers_ok(registers.len()) || *done >= step_count(registers.len()) {
         return Err(InPlaceFault::BadLength);
@@ -123,19 +104,10 @@ pub fn end_wrap(
     done: u64,
     block: &[u8; 16],
 ) -> Result<(), InPlaceFault>
-    ensures bad_length { (result ≡ Err InPlaceFault.BadLength)
-        ↔ ¬ (IsPaddedTextLength (8 + length registers.now)
-        × (done ≡ block_calls (8 + length registers.now))) }
-    ensures only_fault { IsOkUnless result InPlaceFault.BadLength }
-    ensures kept { result ≡ Err InPlaceFault.BadLength → first.new ≡ first.old }
-    ensures plain { OnOk result ((E : List ℕ → List ℕ) (iv : ℕ) (key : List ℕ)
-        → IsPlainKeyLength (length key)
-        → WrapState E iv key done registers.now block.now
-        → Plain E iv key (first.new ++ registers.now)) }
-    ensures padded { OnOk result ((E : List ℕ → List ℕ) (key : List ℕ)
-        → IsPaddedKeyLength (length key)
-        → WrapState E (aiv (length key)) (padded key) done registers.now block.now
-        → Padded E key (first.new ++ registers.now)) }
+    ensures refused { RefusesLength (IsPaddedTextLength (8 + length registers.now)
+        × (done ≡ block_calls (8 + length registers.now)))
+        (first.new ≡ first.old) result }
+    ensures ends { OnOk result (WrapEnded done registers.now block.now first.new) }
 {
     if !registers_ok(registers.len()) || done != step_count(registers.len()) {
         return Err(InPlaceFault::BadLength);

@@ -8,16 +8,13 @@ use borrow.Rule.Slice.PartMut.{put_mid}
 use Rattle.block_pair.specs.Words.{IsByte}
 use Rattle.block_pair.specs.Each.{each_take, each_drop}
 use Rattle.byteorder.specs.Endian.{big_from}
-use Rattle.block_pair.specs.Pair.{AreInverse}
+use Rattle.key_wrap_core.specs.declared.agreed_form.AgreedForm.TheVariants.{Plain}
 use Rattle.key_wrap_core.specs.declared.faults.InPlaceFault.{InPlaceFault}
 use Rattle.key_wrap_core.specs.declared.faults.InPlaceFault.TheVariants.{BadLength, Integrity}
 use Rattle.key_wrap_core.specs.Lengths.{IsPlainTextLength}
-use Rattle.key_wrap_core.specs.Plain.{Plain}
-use Rattle.key_wrap_core.specs.Padded.{Padded}
-use Rattle.key_wrap_core.specs.NoKey.{NoKey}
-use Rattle.key_wrap_core.specs.InPlace.{Unwrapping}
 use Rattle.key_wrap_core.specs.Calls.{block_calls}
 use Rattle.key_wrap_core.specs.Steps.{WrapState, UnwrapState}
+use Rattle.key_wrap_core.specs.StepCalls.{EndsUnwrapping}
 use Rattle.key_wrap_core.proofs.Stepping.{after_turn, before_turn}
 use Rattle.key_wrap_core.proofs.WrapStepping.{stepped, more_stepped}
 use Rattle.key_wrap_core.proofs.UnwrapStepping.{unstepped, more_unstepped}
@@ -122,8 +119,7 @@ pub record EndedLane (iv : ℕ) (block text status text' status' : List ℕ) : T
 pub ended : {iv : ℕ} {registers block registers' status : List ℕ} (result : Result (Unit {0}) InPlaceFault) (byte : ℕ) → status ≡ byte ∷ []
     → ¬ (result ≡ Err BadLength) → OnOk result (byte ≡ 0) → (result ≡ Err Integrity → byte ≡ 5)
     → (result ≡ Err Integrity → All (λ b. b ≡ 0) registers')
-    → (¬ (result ≡ Err BadLength) → (E D : List ℕ → List ℕ) (text : List ℕ) → AreInverse E D → UnwrapState E text 0 registers block
-    → Unwrapping (IsPlainTextLength (length text)) (Plain E iv) (NoKey (Padded E)) text (λ (done : Unit {0}). registers') result)
+    → (¬ (result ≡ Err BadLength) → EndsUnwrapping (Plain iv) 0 registers block (λ (done : Unit {0}). registers') result)
     → IsEnded iv registers block registers' status
 ended (Ok done) byte is good zero five cleared answer = inl (is ∙ ap (λ (b : ℕ). b ∷ []) zero, answer good)
 ended (Err BadLength) byte is good zero five cleared answer = absurd (good refl)

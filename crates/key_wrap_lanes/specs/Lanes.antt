@@ -1,13 +1,9 @@
 -- Many wrapped keys of one length in one buffer, each behind the one before, and their blocks in another.
 use Rattle.std.specs.Prelude.{◌≡◌, ◌⊎◌, ℕ, ◌*◌, ◌/◌, ◌%◌, List, [], ◌∷◌, length, take, drop, All, Ok, Err}
-use Rattle.block_pair.specs.Pair.{AreInverse}
+use Rattle.key_wrap_core.specs.declared.agreed_form.AgreedForm.TheVariants.{Plain}
 use Rattle.key_wrap_core.specs.declared.faults.InPlaceFault.TheVariants.{Integrity}
 use Rattle.key_wrap_core.specs.Lengths.{IsPlainTextLength}
-use Rattle.key_wrap_core.specs.Plain.{Plain}
-use Rattle.key_wrap_core.specs.Padded.{Padded}
-use Rattle.key_wrap_core.specs.NoKey.{NoKey}
-use Rattle.key_wrap_core.specs.InPlace.{Unwrapping}
-use Rattle.key_wrap_core.specs.Steps.{UnwrapState}
+use Rattle.key_wrap_core.specs.StepCalls.{EndsUnwrapping}
 
 -- the part at a place, counted from 0, of parts of `n` bytes
 abbrev pub part_at : (n i : ℕ) → List ℕ → List ℕ
@@ -28,8 +24,5 @@ AreLanes n texts blocks = IsPlainTextLength n × (length blocks % 16 ≡ 0) × (
 -- zeros if it is the wrapping of no key.
 abbrev pub IsEnded : (iv : ℕ) (registers block registers' status : List ℕ) → Type 0
 IsEnded iv registers block registers' status =
-    ((status ≡ 0 ∷ []) × ((E D : List ℕ → List ℕ) (text : List ℕ) → AreInverse E D → UnwrapState E text 0 registers block
-    → Unwrapping (IsPlainTextLength (length text)) (Plain E iv) (NoKey (Padded E)) text (λ (done : Unit {0}). registers') (Ok tt)))
-    ⊎ ((status ≡ 5 ∷ []) × All (λ byte. byte ≡ 0) registers'
-    × ((E D : List ℕ → List ℕ) (text : List ℕ) → AreInverse E D → UnwrapState E text 0 registers block
-    → Unwrapping (IsPlainTextLength (length text)) (Plain E iv) (NoKey (Padded E)) text (λ (done : Unit {0}). registers') (Err Integrity)))
+    ((status ≡ 0 ∷ []) × EndsUnwrapping (Plain iv) 0 registers block (λ (done : Unit {0}). registers') (Ok tt))
+    ⊎ ((status ≡ 5 ∷ []) × All (λ byte. byte ≡ 0) registers' × EndsUnwrapping (Plain iv) 0 registers block (λ (done : Unit {0}). registers') (Err Integrity))

@@ -1,8 +1,7 @@
 -- The buffer has the length of the key and its padding, and what is returned is its first bytes.
 use Rattle.std.proofs.Common.{◌≡◌, ℕ, ◌-◌, List, length, take, arith, ap, ◌∙◌}
 use Rattle.key_wrap_core.specs.InPlace.{ArePaddedLengths}
-use Rattle.key_wrap_core.specs.Lengths.{IsPaddedTextLength}
-use Rattle.key_wrap_core.specs.NoKey.{NoPlainKey}
+use Rattle.key_wrap_core.specs.declared.agreed_form.AgreedForm.TheVariants.{Padded as InPadded}
 use Rattle.key_wrap_core.specs.Padded.{Padded}
 use Rattle.key_wrap_core.proofs.FormLengths.{padded_text_legal}
 use Rattle.key_wrap_core.proofs.Refusals.{ok_or_err, true_or_false}
@@ -12,7 +11,7 @@ use Rattle.key_wrap.proofs.padded.unwrap_padded_on.Goals as goal
 pub returns-then-not-padded_text_length_ok : goal.returns-then-not-padded_text_length_ok
 returns-then-not-padded_text_length_ok g c =
     let E = g.B.BlockPair.encrypted c.args.pair.now in
-    unwrap_refused IsPaddedTextLength (Padded E) (NoPlainKey E) c.args.text.now
+    unwrap_refused InPadded E c.args.text.now
     (λ key h. padded_text_legal (g.met.B.BlockPair.lawful c.args.pair.now) h)
     (λ legal. true_or_false c.if-not-padded_text_length_ok.true (c.padded_text_length_ok.ensures.1 legal))
 
@@ -26,8 +25,8 @@ returns-in_err-len g c =
     let lengths : ArePaddedLengths (length room) (length text) = (legal, omega arith) in
     let own = ap (λ m. m.pair) c.new.ensures in
     let w = refused (Padded (g.B.BlockPair.encrypted c.new.result.pair)) (ArePaddedLengths (length room) (length text)) (λ (m : ℕ). take m c.unwrap_padded_into.new.key) text
-    c.in_err-len.field-0.0 c.from_residual-in_err-len.result lengths c.in_err-len.ensures.answer c.from_residual-in_err-len.ensures in
-    unwrap_none IsPaddedTextLength (Padded E) (NoPlainKey E) text c.from_residual-in_err-len.result legal w.0 (rw own at w.1)
+    c.in_err-len.field-0.0 c.from_residual-in_err-len.result lengths c.in_err-len.ensures.unwraps.answer c.from_residual-in_err-len.ensures in
+    unwrap_none InPadded E text c.from_residual-in_err-len.result legal w.0 (rw own at w.1)
 
 pub returns : goal.returns
 returns g c =
@@ -36,12 +35,12 @@ returns g c =
     let back = written_back c.in_ok-key.key.len new c.in_ok-key.key.items (omega arith) in
     let key : c.truncate.new.self.items ≡ take c.in_ok-len.len new = c.truncate.ensures.items ∙ ap (take c.in_ok-len.len) back in
     let own = ap (λ m. m.pair) c.new.ensures in
-    let w = rw own at c.in_ok-len.ensures in
+    let w = rw own at c.in_ok-len.ensures.unwraps in
     record {
       bad_length = (λ e. ok_or_err e, λ bad. absurd (bad legal));
-      unwraps = (legal, rw key w.answer.1);
+      answer = (legal, rw key w.answer.1);
       accepts = λ key h. tt;
       only_key = rw key w.only_key;
       restores = rw key w.restores;
-      other_form = w.other_values;
+      other_form = w.other_form;
     }

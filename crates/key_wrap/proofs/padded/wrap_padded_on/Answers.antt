@@ -1,7 +1,5 @@
 -- The buffer has the length of the wrapped key, so what is written into it is returned.
 use Rattle.std.proofs.Common.{arith, ap}
-use Rattle.key_wrap_core.specs.Padded.{Padded}
-use Rattle.key_wrap_core.proofs.BothForms.{not_both_forms}
 use Rattle.key_wrap_core.proofs.Refusals.{ok_or_err}
 use Rattle.key_wrap.proofs.Promises.{written_back}
 use Rattle.key_wrap.proofs.padded.wrap_padded_on.Goals as goal
@@ -11,12 +9,11 @@ returns g c =
     let legal = c.padded_length_ok.ensures.0 c.if-not-padded_length_ok.false in
     let back = written_back c.in_ok-text.text.len c.wrap_padded_into.new.text c.in_ok-text.text.items (omega arith) in
     let own = ap (λ m. m.pair) c.new.ensures in
-    let w = rw (own, c.unwrap.ensures) at c.wrap_padded_into.ensures in
-    let stands : Padded (g.B.BlockPair.encrypted c.args.pair.now) c.args.key.now c.wrap_padded_into.new.text = w.answer in
+    let w = rw (own, c.unwrap.ensures) at c.wrap_padded_into.ensures.wraps in
     record {
       bad_length = (λ e. ok_or_err e, λ bad. absurd (bad legal));
       memory = λ e. legal;
-      wraps = rw back stands;
+      answer = rw back w.answer;
       only_text = rw back w.only_text;
-      other_form = rw back (λ iv word free other k. not_both_forms (g.met.B.BlockPair.lawful c.args.pair.now) free k stands);
+      other_form = rw back w.other_form;
     }

@@ -1,9 +1,7 @@
 -- The buffer has the length of the key, so what is written into it is returned.
 use Rattle.std.proofs.Common.{◌≡◌, ℕ, ◌-◌, List, length, arith, ap, ◌∙◌}
 use Rattle.key_wrap_core.specs.InPlace.{ArePlainLengths}
-use Rattle.key_wrap_core.specs.Lengths.{IsPlainTextLength}
-use Rattle.key_wrap_core.specs.NoKey.{NoKey}
-use Rattle.key_wrap_core.specs.Padded.{Padded}
+use Rattle.key_wrap_core.specs.declared.agreed_form.AgreedForm.TheVariants.{Plain as InPlain}
 use Rattle.key_wrap_core.specs.Plain.{Plain}
 use Rattle.key_wrap_core.proofs.FormLengths.{plain_text_legal}
 use Rattle.key_wrap_core.proofs.Refusals.{ok_or_err, true_or_false}
@@ -13,7 +11,7 @@ use Rattle.key_wrap.proofs.plain.unwrap_on.Goals as goal
 pub returns-then-not-text_length_ok : goal.returns-then-not-text_length_ok
 returns-then-not-text_length_ok g c =
     let E = g.B.BlockPair.encrypted c.args.pair.now in
-    unwrap_refused IsPlainTextLength (Plain E c.args.iv.now) (NoKey (Padded E)) c.args.text.now (λ key h. plain_text_legal h)
+    unwrap_refused (InPlain c.args.iv.now) E c.args.text.now (λ key h. plain_text_legal h)
     (λ legal. true_or_false c.if-not-text_length_ok.true (c.text_length_ok.ensures.1 legal))
 
 pub returns-in_err-unwrap_into_with : goal.returns-in_err-unwrap_into_with
@@ -26,19 +24,19 @@ returns-in_err-unwrap_into_with g c =
     let lengths : ArePlainLengths (length room) (length text) = ((omega arith, omega arith, omega arith), omega arith) in
     let own = ap (λ m. m.pair) c.new.ensures in
     let w = refused (Plain (g.B.BlockPair.encrypted c.new.result.pair) c.args.iv.now) (ArePlainLengths (length room) (length text)) (λ (_ : Unit {0}). c.unwrap_into_with.new.key) text
-    c.in_err-unwrap_into_with.field-0.0 c.from_residual-in_err-unwrap_into_with.result lengths c.in_err-unwrap_into_with.ensures.answer
+    c.in_err-unwrap_into_with.field-0.0 c.from_residual-in_err-unwrap_into_with.result lengths c.in_err-unwrap_into_with.ensures.unwraps.answer
     c.from_residual-in_err-unwrap_into_with.ensures in
-    unwrap_none IsPlainTextLength (Plain E c.args.iv.now) (NoKey (Padded E)) text c.from_residual-in_err-unwrap_into_with.result legal w.0 (rw own at w.1)
+    unwrap_none (InPlain c.args.iv.now) E text c.from_residual-in_err-unwrap_into_with.result legal w.0 (rw own at w.1)
 
 pub returns : goal.returns
 returns g c =
     let legal = c.text_length_ok.ensures.0 c.if-not-text_length_ok.false in
     let back = written_back c.in_ok-key.key.len c.unwrap_into_with.new.key c.in_ok-key.key.items (omega arith) in
     let own = ap (λ m. m.pair) c.new.ensures in
-    let w = rw own at c.in_ok-unwrap_into_with.ensures in
+    let w = rw own at c.in_ok-unwrap_into_with.ensures.unwraps in
     record {
       bad_length = (λ e. ok_or_err e, λ bad. absurd (bad legal));
-      unwraps = (legal, rw back w.answer.1);
+      answer = (legal, rw back w.answer.1);
       accepts = λ key h. tt;
       only_key = rw back w.only_key;
       restores = rw back w.restores;

@@ -9,11 +9,11 @@ returns g c =
     let legal = c.key_length_ok.ensures.0 c.if-not-key_length_ok.false in
     let back = written_back c.in_ok-text.text.len c.wrap_into_with.new.text c.in_ok-text.text.items (omega arith) in
     let own = ap (λ m. m.pair) c.new.ensures in
-    let w = rw (own, c.unwrap.ensures) at c.wrap_into_with.ensures in
+    let w = rw (own, c.unwrap.ensures) at c.wrap_into_with.ensures.wraps in
     record {
       bad_length = (λ e. ok_or_err e, λ bad. absurd (bad legal));
       memory = λ e. legal;
-      wraps = rw back w.answer;
+      answer = rw back w.answer;
       only_text = rw back w.only_text;
       other_form = rw back w.other_form;
     }

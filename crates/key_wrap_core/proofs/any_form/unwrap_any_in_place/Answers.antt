@@ -1,13 +1,13 @@
 -- The machine was given the text, and leaves the key after eight zeros, or only zeros.
-use Rattle.std.proofs.Common.{rules, ◌≡◌, ℕ, List, take, replicate, ◌++◌, arith, ap, ◌∙◌}
+use Rattle.std.proofs.Common.{rules, ◌≡◌, ℕ, List, take, replicate, arith, ap, ◌∙◌}
 use Rattle.std.proofs.lemmas.List.Elements.{All-append, All-replicate}
-use Rattle.std.proofs.lemmas.Result.{IfOk-weaker}
 use Rattle.block_pair.specs.Metered.{counted}
 use Rattle.key_wrap_core.specs.Words.{word_bytes}
 use Rattle.key_wrap_core.specs.Calls.{block_calls}
 use Rattle.key_wrap_core.proofs.Refusals.{true_or_false}
 use Rattle.key_wrap_core.proofs.Spelling.{read_word, each_byte}
 use Rattle.key_wrap_core.proofs.InPlaceForm.{first_cleared}
+use Rattle.key_wrap_core.proofs.Unwrappings.{ok_unless, behind_zeros}
 use Rattle.key_wrap_core.proofs.EitherForms.{any_answered, either_legal}
 use Rattle.key_wrap_core.proofs.any_form.unwrap_any_in_place.Goals as goal
 
@@ -28,16 +28,22 @@ returns g c =
     let w = rw (states.given, c.word.ensures.value) at c.unwrap_any_registers.ensures in
     let u = any_answered c.args.iv.now _ text _ r legal w.only_fault w.wraps w.none in
     record {
-      bad_length = u.bad_length;
-      integrity = u.integrity;
-      buffer_kept = λ e. absurd (u.bad_length.0 e legal);
-      meter_kept = λ e. absurd (u.bad_length.0 e legal);
-      answer = rw states.left w.wraps;
+      unwraps = record {
+        bad_length = u.bad_length;
+        integrity = u.integrity;
+        answer = rw states.left w.wraps;
+        accepts = λ form other h. ok_unless r (u.accepts form other h);
+        other_form = w.other_form;
+      };
       accepts = u.accepts;
-      other_form = w.other_form;
-      size = rw states.left w.size;
-      around = rw states.left (IfOk-weaker r _ _ (λ found e. ap (λ (bs : List ℕ). replicate 8 0 ++ bs) e) w.padding);
-      cleared = λ e. rw states.left
-          (All-append (λ (byte : ℕ). byte ≡ 0) (replicate 8 0) registers (All-replicate (λ (byte : ℕ). byte ≡ 0) 8 0 (search rules)) (w.cleared (u.failed e)));
-      calls = λ _. w.calls ∙ ap (λ (len : ℕ). counted (block_calls len) c.args.meter.now) states.long;
+      key = rw states.left (behind_zeros r (λ found. found.len) registers w.key);
+      refused = record {
+        kept = λ e. absurd (u.bad_length.0 e legal);
+        cleared = λ e. rw states.left
+            (All-append (λ (byte : ℕ). byte ≡ 0) (replicate 8 0) registers (All-replicate (λ (byte : ℕ). byte ≡ 0) 8 0 (search rules)) (w.cleared (u.failed e)));
+      };
+      calls = record {
+        kept = λ e. absurd (u.bad_length.0 e legal);
+        counts = λ _. w.calls ∙ ap (λ (len : ℕ). counted (block_calls len) c.args.meter.now) states.long;
+      };
     }

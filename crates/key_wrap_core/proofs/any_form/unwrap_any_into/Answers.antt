@@ -23,15 +23,17 @@ returns g c =
     let w = rw (whole, c.word.ensures.value) at c.unwrap_any_registers.ensures in
     let u = any_answered c.args.iv.now _ text _ c.unwrap_any_registers.result lengths w.only_fault w.wraps w.none in
     record {
-      bad_length = u.bad_length;
-      integrity = u.integrity;
-      key_kept = λ e. absurd (u.bad_length.0 e lengths);
-      meter_kept = λ e. absurd (u.bad_length.0 e lengths);
-      answer = w.wraps;
-      accepts = λ form other h. ok_unless c.unwrap_any_registers.result (u.accepts form other h);
-      other_form = w.other_form;
-      size = w.size;
-      behind = w.padding;
-      cleared = λ e. w.cleared (u.failed e);
-      calls = λ _. w.calls ∙ ap (λ (len : ℕ). counted (block_calls len) c.args.meter.now) size;
+      unwraps = record {
+        bad_length = u.bad_length;
+        integrity = u.integrity;
+        answer = w.wraps;
+        accepts = λ form other h. ok_unless c.unwrap_any_registers.result (u.accepts form other h);
+        other_form = w.other_form;
+      };
+      key = w.key;
+      refused = record { kept = λ e. absurd (u.bad_length.0 e lengths); cleared = λ e. w.cleared (u.failed e) };
+      calls = record {
+        kept = λ e. absurd (u.bad_length.0 e lengths);
+        counts = λ _. w.calls ∙ ap (λ (len : ℕ). counted (block_calls len) c.args.meter.now) size;
+      };
     }

@@ -17,7 +17,7 @@ returns g c =
     let key : List ℕ = c.unwrap_registers.new.registers in
     let states = first_cleared c.read_u64-c0.result text c.fill.new.self key (omega arith) front (c.fill.ensures.after (λ y e. e)) (search rules) in
     record {
-      answer = renamed IsPlainTextLength {key = λ (_ : Unit {0}). key} states.given
+      unwraps = renamed IsPlainTextLength {key = λ (_ : Unit {0}). key} states.given
           (ap (λ (bs : List ℕ). λ (_ : Unit {0}). drop 8 bs) (sym states.left)) c.unwrap_registers.ensures.answer;
       first_word = search rules;
       cleared = λ e. subst (λ (bs : List ℕ). All (λ byte. byte ≡ 0) bs) (sym states.left)

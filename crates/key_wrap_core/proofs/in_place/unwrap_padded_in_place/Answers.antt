@@ -1,18 +1,16 @@
 -- The machine was given the text, and leaves the padded key after eight zeros, or only zeros.
-use Rattle.std.proofs.Common.{rules, ◌≡◌, ℕ, List, length, ◌-◌, take, replicate, All, ◌++◌, arith, sym, ap, subst, ◌∙◌}
-use Rattle.std.proofs.lemmas.Result.{IfOk-weaker}
+use Rattle.std.proofs.Common.{rules, ◌≡◌, ℕ, List, take, replicate, All, arith, sym, ap, subst, ◌∙◌}
 use Rattle.std.proofs.lemmas.List.Elements.{All-append, All-replicate}
 use Rattle.block_pair.specs.Metered.{counted}
 use Rattle.key_wrap_core.specs.Calls.{block_calls}
 use Rattle.key_wrap_core.specs.Words.{word_bytes}
 use Rattle.key_wrap_core.specs.Lengths.{IsPaddedTextLength}
-use Rattle.key_wrap_core.specs.Padded.{padded}
 use Rattle.key_wrap_core.specs.InPlace.{key_in}
 use Rattle.key_wrap_core.proofs.Refusals.{true_or_false}
 use Rattle.key_wrap_core.proofs.Spelling.{read_word, each_byte}
 use Rattle.key_wrap_core.proofs.FormLengths.{padded_text_legal}
 use Rattle.key_wrap_core.proofs.InPlaceForm.{first_cleared}
-use Rattle.key_wrap_core.proofs.Unwrappings.{renamed, default_among}
+use Rattle.key_wrap_core.proofs.Unwrappings.{renamed, ok_legal, behind_zeros}
 use Rattle.key_wrap_core.proofs.in_place.unwrap_padded_in_place.Goals as goal
 
 pub returns-then-not-padded_text_length_ok-clause-accepts : goal.returns-then-not-padded_text_length_ok-clause-accepts
@@ -31,22 +29,17 @@ returns g c =
     let states = first_cleared c.read_u64-c0.result text c.fill.new.self registers (omega arith) front (c.fill.ensures.after (λ y e. e)) (search rules) in
     let u = renamed IsPaddedTextLength {key = λ (m : ℕ). take m registers} states.given
     (ap (λ (bs : List ℕ). λ (m : ℕ). key_in m bs) (sym states.left)) w.answer in
-    let size : length registers ≡ length text - 8 = search rules in
     record {
-      bad_length = u.bad_length;
-      buffer_kept = λ e. absurd (u.bad_length.0 e legal);
-      meter_kept = λ e. absurd (u.bad_length.0 e legal);
-      answer = u.unwraps;
-      accepts = u.accepts;
-      only_key = u.only_key;
-      restores = u.restores;
-      other_form = default_among (g.B.BlockPair.encrypted c.args.meter.now.pair) text c.unwrap_padded_registers.result u.other_form;
-      other_values = u.other_form;
-      size = rw states.left w.size;
-      room = IfOk-weaker c.unwrap_padded_registers.result _ _ (λ m e. omega (arith, e, size)) w.room;
-      around = IfOk-weaker _ (λ m. registers ≡ padded (take m registers)) _
-          (λ m e. rw states.left (ap (λ (bs : List ℕ). replicate 8 0 ++ bs) e)) w.padding;
-      cleared = λ e. subst (λ (bs : List ℕ). All (λ byte. byte ≡ 0) bs) (sym states.left)
-          (All-append (λ (byte : ℕ). byte ≡ 0) (replicate 8 0) registers (All-replicate (λ (byte : ℕ). byte ≡ 0) 8 0 (search rules)) (w.cleared e));
-      calls = λ _. w.calls ∙ ap (λ (len : ℕ). counted (block_calls len) c.args.meter.now) states.long;
+      unwraps = u;
+      accepts = λ other k. ok_legal c.unwrap_padded_registers.result legal u.bad_length (u.accepts other k);
+      key = rw states.left (behind_zeros c.unwrap_padded_registers.result (λ m. m) registers w.key);
+      refused = record {
+        kept = λ e. absurd (u.bad_length.0 e legal);
+        cleared = λ e. subst (λ (bs : List ℕ). All (λ byte. byte ≡ 0) bs) (sym states.left)
+            (All-append (λ (byte : ℕ). byte ≡ 0) (replicate 8 0) registers (All-replicate (λ (byte : ℕ). byte ≡ 0) 8 0 (search rules)) (w.cleared e));
+      };
+      calls = record {
+        kept = λ e. absurd (u.bad_length.0 e legal);
+        counts = λ _. w.calls ∙ ap (λ (len : ℕ). counted (block_calls len) c.args.meter.now) states.long;
+      };
     }

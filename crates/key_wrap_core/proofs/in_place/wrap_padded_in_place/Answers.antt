@@ -8,6 +8,7 @@ use Rattle.key_wrap_core.specs.Words.{word_bytes}
 use Rattle.key_wrap_core.specs.Padded.{aiv, padded}
 use Rattle.key_wrap_core.specs.InPlace.{IsPaddedRoom, key_in}
 use Rattle.key_wrap_core.proofs.Refusals.{ok_or_err}
+use Rattle.key_wrap_core.proofs.BothForms.{not_both_forms}
 use Rattle.key_wrap_core.proofs.PaddedForm.{padded_wrapped}
 use Rattle.key_wrap_core.proofs.InPlaceForm.{registers_now, padded_room}
 use Rattle.key_wrap_core.proofs.in_place.wrap_padded_in_place.Goals as goal
@@ -33,14 +34,19 @@ returns g c =
     let registers : List ℕ = c.wrap_slice-c0.new.registers in
     let text : c.write_u64.new.buf ≡ word_bytes c.wrap_slice-c0.result ++ registers =
     c.write_u64.ensures ∙ ap (λ (bs : List ℕ). word_bytes c.wrap_slice-c0.result ++ bs) (registers_now filled registers (omega arith) (search rules)) in
-    let w = padded_wrapped key _ _ c.write_u64.new.buf (rw count legal) holds c.wrap_slice-c0.ensures.wrapped text in
+    let made = padded_wrapped key _ _ c.write_u64.new.buf (rw count legal) holds c.wrap_slice-c0.ensures.wrapped text in
     record {
-      bad_length = (λ e. ok_or_err e, λ bad. absurd (bad room));
-      only_fault = tt;
-      buffer_kept = λ e. ok_or_err e;
-      meter_kept = λ e. ok_or_err e;
-      answer = w.0;
-      only_text = w.1;
-      calls = c.wrap_slice-c0.ensures.meter
-          ∙ ap (λ (len : ℕ). counted (block_calls len) c.args.meter.now) (omega (arith, ap length all, length-drop 8 filled));
+      wraps = record {
+        bad_length = (λ e. ok_or_err e, λ bad. absurd (bad room));
+        only_fault = tt;
+        kept = λ e. ok_or_err e;
+        answer = made.0;
+        only_text = made.1;
+        other_form = λ iv word free other k. not_both_forms (g.met.B.BlockPair.lawful c.args.meter.now.pair) free k made.0;
+      };
+      calls = record {
+        kept = λ e. ok_or_err e;
+        counts = λ _. c.wrap_slice-c0.ensures.meter
+            ∙ ap (λ (len : ℕ). counted (block_calls len) c.args.meter.now) (omega (arith, ap length all, length-drop 8 filled));
+      };
     }

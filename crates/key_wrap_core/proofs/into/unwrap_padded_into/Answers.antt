@@ -1,6 +1,5 @@
 -- The machine was given the text: its first word, and the rest copied into the buffer for the key.
 use Rattle.std.proofs.Common.{rules, ◌≡◌, ℕ, List, length, take, ◌+◌, arith, refl, ap, ◌∙◌, length-append}
-use Rattle.std.proofs.lemmas.Result.{IfOk-weaker}
 use Rattle.block_pair.specs.Metered.{counted}
 use Rattle.key_wrap_core.specs.Words.{word_bytes}
 use Rattle.key_wrap_core.specs.Lengths.{IsPaddedTextLength}
@@ -8,7 +7,7 @@ use Rattle.key_wrap_core.specs.Calls.{block_calls}
 use Rattle.key_wrap_core.specs.InPlace.{ArePaddedLengths}
 use Rattle.key_wrap_core.proofs.Spelling.{read_word, each_byte, length-word_bytes}
 use Rattle.key_wrap_core.proofs.InPlaceForm.{text_again}
-use Rattle.key_wrap_core.proofs.Unwrappings.{renamed, legally, ok_unless, default_among}
+use Rattle.key_wrap_core.proofs.Unwrappings.{renamed, legally}
 use Rattle.key_wrap_core.proofs.into.unwrap_padded_into.Goals as goal
 
 pub returns : goal.returns
@@ -23,20 +22,12 @@ returns g c =
     let size : 8 + length c.copy_from_slice.new.self ≡ length text =
     omega (arith, ap length whole, length-append (word_bytes A) c.copy_from_slice.new.self, length-word_bytes A) in
     let u = legally legal lengths (renamed IsPaddedTextLength whole refl w.answer) in
-    let kept : 8 + length c.unwrap_padded_registers.new.registers ≡ length text = search rules in
     record {
-      bad_length = u.bad_length;
-      key_kept = λ e. absurd (u.bad_length.0 e lengths);
-      meter_kept = λ e. absurd (u.bad_length.0 e lengths);
-      answer = u.unwraps;
-      accepts = λ other k. ok_unless c.unwrap_padded_registers.result (u.accepts other k);
-      only_key = u.only_key;
-      restores = u.restores;
-      other_form = default_among (g.B.BlockPair.encrypted c.args.meter.now.pair) text c.unwrap_padded_registers.result u.other_form;
-      other_values = u.other_form;
-      size = w.size;
-      room = IfOk-weaker c.unwrap_padded_registers.result _ _ (λ m e. omega (arith, e, kept)) w.room;
-      behind = w.padding;
-      cleared = w.cleared;
-      calls = λ _. w.calls ∙ ap (λ (len : ℕ). counted (block_calls len) c.args.meter.now) size;
+      unwraps = u;
+      key = w.key;
+      refused = record { kept = λ e. absurd (u.bad_length.0 e lengths); cleared = w.cleared };
+      calls = record {
+        kept = λ e. absurd (u.bad_length.0 e lengths);
+        counts = λ _. w.calls ∙ ap (λ (len : ℕ). counted (block_calls len) c.args.meter.now) size;
+      };
     }

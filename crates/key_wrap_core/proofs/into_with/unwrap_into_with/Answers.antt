@@ -7,7 +7,7 @@ use Rattle.key_wrap_core.specs.Calls.{block_calls}
 use Rattle.key_wrap_core.specs.InPlace.{ArePlainLengths}
 use Rattle.key_wrap_core.proofs.Spelling.{read_word, each_byte, length-word_bytes}
 use Rattle.key_wrap_core.proofs.InPlaceForm.{text_again}
-use Rattle.key_wrap_core.proofs.Unwrappings.{renamed, legally, ok_unless}
+use Rattle.key_wrap_core.proofs.Unwrappings.{renamed, legally}
 use Rattle.key_wrap_core.proofs.into_with.unwrap_into_with.Goals as goal
 
 pub returns : goal.returns
@@ -23,15 +23,10 @@ returns g c =
     omega (arith, ap length whole, length-append (word_bytes A) c.copy_from_slice.new.self, length-word_bytes A) in
     let u = legally legal lengths (renamed IsPlainTextLength whole refl w.answer) in
     record {
-      bad_length = u.bad_length;
-      key_kept = λ e. absurd (u.bad_length.0 e lengths);
-      meter_kept = λ e. absurd (u.bad_length.0 e lengths);
-      answer = u.unwraps;
-      accepts = λ other k. ok_unless c.unwrap_registers.result (u.accepts other k);
-      only_key = u.only_key;
-      restores = u.restores;
-      size = search rules;
-      other_form = u.other_form;
-      cleared = w.cleared;
-      calls = λ _. w.calls ∙ ap (λ (len : ℕ). counted (block_calls len) c.args.meter.now) size;
+      unwraps = u;
+      refused = record { kept = λ e. absurd (u.bad_length.0 e lengths); cleared = w.cleared };
+      calls = record {
+        kept = λ e. absurd (u.bad_length.0 e lengths);
+        counts = λ _. w.calls ∙ ap (λ (len : ℕ). counted (block_calls len) c.args.meter.now) size;
+      };
     }

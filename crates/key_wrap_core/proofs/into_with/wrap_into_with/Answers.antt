@@ -16,13 +16,13 @@ returns g c =
     registers_now text c.copy_from_slice.new.self (omega arith) (search rules) ∙ c.copy_from_slice.ensures.after in
     let stands : Plain E c.args.iv.now c.args.key.now c.wrap_buffer.new.buf = rw (held, c.word.ensures.value) at c.wrap_buffer.ensures.answer in
     record {
-      bad_length = (λ e. ok_or_err e, λ bad. absurd (bad (c.key_length_ok.ensures.0 c.if-not-key_length_ok.false, omega arith)));
-      only_fault = tt;
-      text_kept = λ e. ok_or_err e;
-      meter_kept = λ e. ok_or_err e;
-      answer = stands;
-      only_text = λ other k. plain_only_text stands k;
-      size = search rules;
-      other_form = λ other k. not_both_forms (g.met.B.BlockPair.lawful c.args.meter.now.pair) c.word.ensures.free stands k;
-      calls = search rules;
+      wraps = record {
+        bad_length = (λ e. ok_or_err e, λ bad. absurd (bad (c.key_length_ok.ensures.0 c.if-not-key_length_ok.false, omega arith)));
+        only_fault = tt;
+        kept = λ e. ok_or_err e;
+        answer = stands;
+        only_text = λ other k. plain_only_text stands k;
+        other_form = λ other k. not_both_forms (g.met.B.BlockPair.lawful c.args.meter.now.pair) c.word.ensures.free stands k;
+      };
+      calls = record { kept = λ e. ok_or_err e; counts = λ _. search rules };
     }

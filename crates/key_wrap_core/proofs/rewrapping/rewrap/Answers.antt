@@ -31,3 +31,17 @@ pub returns-clause-results : goal.returns-clause-results
 returns-clause-results g c =
     results_of (g.N.BlockPair.encrypted c.args.new.now.pair) c.args.pass_new c.args.forms.now c.args.buf.now _ _ (g.met.O.BlockPair.lawful c.args.old.now.pair)
     (returns-clause-rewraps g c)
+
+pub returns-then-is_wrapped-clause-calls : goal.returns-then-is_wrapped-clause-calls
+returns-then-is_wrapped-clause-calls g c = record {
+  unwrap_calls = λ e. cc;
+  wrap_calls = λ e. cc;
+  old_calls = λ _. c.in-Err.ensures.refused_calls refl;
+  old_meter_kept = c.in-Err.ensures.old_meter_kept;
+  new_calls = λ _. rw (c.in-Err.ensures.rewraps.1, c.in-Err.ensures.new_meter_kept refl) at
+      (c.is_wrapped.ensures.calls (c.is_wrapped.ensures.legal c.if-is_wrapped.true));
+  new_refused_calls = search rules;
+  new_unasked = search rules;
+  new_untried = λ e. cc;
+  new_illegal = search rules;
+}

@@ -11,11 +11,10 @@ returns c =
     let only = c.end_plain.ensures.only_fault in
     record {
       bad_length = (λ e. never_bad c.end_plain.result only e, λ bad. absurd (bad (legal, zero)));
-      registers_kept = λ e. never_bad c.end_plain.result only e;
+      refused = record { kept = λ e. never_bad c.end_plain.result only e; cleared = c.end_plain.ensures.cleared };
       block_kept = λ e. never_bad c.end_plain.result only e;
       answer = λ _ E D text inv state.
           let run = unended_plain c.take_value-found.result (omega arith) c.take_value-found.ensures.value (rw zero at state) in
           rw c.word.ensures.value at (c.end_plain.ensures.answer E D text inv run);
-      cleared = c.end_plain.ensures.cleared;
       block_cleared = λ _. c.take_value-found.ensures.cleared;
     }

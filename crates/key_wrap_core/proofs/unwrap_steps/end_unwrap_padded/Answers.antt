@@ -11,13 +11,10 @@ returns c =
     let w = c.end_padded.ensures in
     record {
       bad_length = (λ e. never_bad c.end_padded.result w.only_fault e, λ bad. absurd (bad (legal, zero)));
-      registers_kept = λ e. never_bad c.end_padded.result w.only_fault e;
+      refused = record { kept = λ e. never_bad c.end_padded.result w.only_fault e; cleared = w.cleared };
       block_kept = λ e. never_bad c.end_padded.result w.only_fault e;
       answer = λ _ E D text inv state. w.answer E D text inv
           (unended_padded c.take_value-found.result c.take_value-found.ensures.value (rw zero at state));
-      size = w.size;
-      room = w.room;
-      padding = w.padding;
-      cleared = w.cleared;
+      key = w.key;
       block_cleared = λ _. c.take_value-found.ensures.cleared;
     }

@@ -12,11 +12,7 @@ returns c =
     let some : 1 ≤ c.args.left.now = omega arith in
     let most : c.args.left.now ≤ block_calls (8 + length c.args.registers.now) = search rules in
     record {
-      bad_length = (λ e. ok_or_err e, λ bad. absurd (bad (legal, some, most)));
-      only_fault = tt;
-      registers_kept = λ e. ok_or_err e;
-      left_kept = λ e. ok_or_err e;
-      block_kept = λ e. ok_or_err e;
+      refused = record { bad_length = (λ e. ok_or_err e, λ bad. absurd (bad (legal, some, most))); only_fault = tt; kept = λ e. ok_or_err e };
       counts = sym again;
       steps = λ E text before state decrypted. c.unstep_registers.ensures E text before (rw again state) decrypted;
     }

@@ -1,9 +1,8 @@
 -- The key belongs to the text if the initial value found and the registers hold one.
-use Rattle.std.proofs.Common.{rules, ◌≡◌, ℕ, List, length, take, ◌+◌, ◌%◌, ◌^◌, arith, refl, ap, length-append}
+use Rattle.std.proofs.Common.{rules, ◌≡◌, ℕ, List, length, ◌+◌, ◌%◌, ◌^◌, arith, refl, length-append}
 use Rattle.key_wrap_core.specs.Words.{word_bytes}
 use Rattle.key_wrap_core.specs.Lengths.{IsPaddedTextLength}
 use Rattle.key_wrap_core.proofs.Spelling.{length-word_bytes}
-use Rattle.key_wrap_core.proofs.FormLengths.{length-padded}
 use Rattle.key_wrap_core.proofs.PaddedForm.{padded_registers_length}
 use Rattle.key_wrap_core.proofs.InPlaceForm.{held_rest, held_size}
 use Rattle.key_wrap_core.proofs.Unwrappings.{padded_found, padded_none, passed_on}
@@ -25,29 +24,15 @@ returns-clause-answer c = λ E D text inv run.
     rw (d.kept, c.given_length.ensures)
     (padded_found {len = found % 2 ^ 32} found c.args.registers.now text inv legal run held)
 
-pub returns-clause-size : goal.returns-clause-size
-returns-clause-size c =
+pub returns-clause-key : goal.returns-clause-key
+returns-clause-key c =
     let found : ℕ = c.args.found in
     let d = c.in_ok-decide.ensures in
     let held = c.padded_difference.ensures.passes (d.passes.0 refl) in
-    rw (d.kept, c.given_length.ensures) (held_size found (found % 2 ^ 32) c.args.registers.now held)
-
-pub returns-clause-room : goal.returns-clause-room
-returns-clause-room c =
-    let found : ℕ = c.args.found in
-    let d = c.in_ok-decide.ensures in
-    let held = c.padded_difference.ensures.passes (d.passes.0 refl) in
-    let registers : List ℕ = c.args.registers.now in
-    let len : ℕ = found % 2 ^ 32 in
-    rw (d.kept, c.given_length.ensures)
-    (omega (arith, ap length (held_rest found len registers (search rules) held), length-padded (take len registers), held_size found len registers held))
-
-pub returns-clause-padding : goal.returns-clause-padding
-returns-clause-padding c =
-    let found : ℕ = c.args.found in
-    let d = c.in_ok-decide.ensures in
-    let held = c.padded_difference.ensures.passes (d.passes.0 refl) in
-    rw (d.kept, c.given_length.ensures) (held_rest found (found % 2 ^ 32) c.args.registers.now (search rules) held)
+    rw (d.kept, c.given_length.ensures) (record {
+      size = held_size found (found % 2 ^ 32) c.args.registers.now held;
+      around = held_rest found (found % 2 ^ 32) c.args.registers.now (search rules) held;
+    })
 
 pub returns-in_err-decide-clause-answer : goal.returns-in_err-decide-clause-answer
 returns-in_err-decide-clause-answer c = λ E D text inv run.

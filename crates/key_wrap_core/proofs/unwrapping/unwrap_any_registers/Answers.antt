@@ -26,8 +26,7 @@ returns g c =
       other_form = IfOk-weaker c.end_any.result _ _ (λ key h.
           no_other_form iv key.form _ text inv free (found_stands (with_value key.form iv) _ before text h.0 run)) e.holds;
       only_fault = e.only_fault;
-      size = IfOk-weaker c.end_any.result _ _ (λ key h. h.1) e.holds;
-      padding = IfOk-weaker c.end_any.result _ _ (λ key h. h.2) e.holds;
+      key = IfOk-weaker c.end_any.result _ _ (λ key h. record { size = h.1; around = h.2 }) e.holds;
       cleared = e.cleared;
       calls = c.unwrap_slice-found.ensures.meter;
     }

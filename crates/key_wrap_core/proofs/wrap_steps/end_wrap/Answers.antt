@@ -10,9 +10,9 @@ returns c =
     let legal = c.registers_ok.ensures.0 c.if-not-registers_ok.false in
     let all : c.args.done ≡ block_calls (8 + length c.args.registers.now) = search rules in
     record {
-      bad_length = (λ e. ok_or_err e, λ bad. absurd (bad (legal, all)));
-      only_fault = tt;
-      kept = λ e. ok_or_err e;
-      plain = λ E iv key legal state. rw c.copy_from_slice.ensures.after (ended_plain all legal state);
-      padded = λ E key legal state. rw c.copy_from_slice.ensures.after (ended_padded all legal state);
+      refused = record { bad_length = (λ e. ok_or_err e, λ bad. absurd (bad (legal, all))); only_fault = tt; kept = λ e. ok_or_err e };
+      ends = record {
+        plain = λ E iv key legal state. rw c.copy_from_slice.ensures.after (ended_plain all legal state);
+        padded = λ E key legal state. rw c.copy_from_slice.ensures.after (ended_padded all legal state);
+      };
     }

@@ -8,11 +8,7 @@ returns c =
     let legal = c.registers_ok.ensures.0 c.if-not-registers_ok.false in
     let left : c.args.done.now < block_calls (8 + length c.args.registers.now) = search rules in
     record {
-      bad_length = (λ e. ok_or_err e, λ bad. absurd (bad (legal, left)));
-      only_fault = tt;
-      registers_kept = λ e. ok_or_err e;
-      done_kept = λ e. ok_or_err e;
-      block_kept = λ e. ok_or_err e;
+      refused = record { bad_length = (λ e. ok_or_err e, λ bad. absurd (bad (legal, left))); only_fault = tt; kept = λ e. ok_or_err e };
       counts = refl;
       steps = c.step_registers.ensures;
     }

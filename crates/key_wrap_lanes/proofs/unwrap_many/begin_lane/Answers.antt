@@ -11,7 +11,8 @@ returns c =
     let legal = c.requires in
     let rest : take (length text - 8) (drop 8 text) ≡ drop 8 text = take_all (length text - 8) (drop 8 text) (omega (arith, length-drop 8 text)) in
     let whole : 8 + length (drop 8 text) ≡ length text = omega (arith, length-drop 8 text) in
-    let good = λ (e : c.begin_unwrap.result ≡ _). w.bad_length.0 e (rw (rest, whole) legal) in
-    let left = rw (rest, whole) at (not_bad c.begin_unwrap.result w.only_fault good w.all_left) in
+    let good = λ (e : c.begin_unwrap.result ≡ _). w.refused.bad_length.0 e (rw (rest, whole) legal) in
+    let begun = not_bad c.begin_unwrap.result w.refused.only_fault good w.begins in
+    let left = rw (rest, whole) at begun.all_left in
     let text_again : c.copy_from_slice.new.self ++ drop 8 text ≡ text = rw c.copy_from_slice.ensures.after (take-append-drop 8 text) in
-    rw (left, rest, text_again) at (not_bad c.begin_unwrap.result w.only_fault good w.begins)
+    rw (left, rest, text_again) at begun.begins

@@ -16,4 +16,4 @@ returns-clause-ends c =
     let now = registers_now text c.end_unwrap-ended.new.registers (omega arith) (omega (arith, length-drop 8 text)) in
     let good = λ (e : c.end_unwrap-ended.result ≡ Err BadLength). w.bad_length.0 e ((rw (rest, size) (omega arith, omega arith, omega arith)), refl) in
     rw now (ended c.end_unwrap-ended.result c.lane_status.result c.copy_from_slice-2.ensures.after good c.lane_status.ensures.done
-    c.lane_status.ensures.refused w.cleared (rw (rest, c.copy_from_slice.ensures.after) at w.answer))
+    c.lane_status.ensures.refused w.refused.cleared (rw (rest, c.copy_from_slice.ensures.after) at w.answer))

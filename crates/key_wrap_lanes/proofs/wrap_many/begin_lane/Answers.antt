@@ -11,4 +11,5 @@ returns c =
     let legal = c.requires in
     let rest : take (length text - 8) (drop 8 text) ≡ drop 8 text = take_all (length text - 8) (drop 8 text) (omega (arith, length-drop 8 text)) in
     let size : length (drop 8 text) ≡ length text - 8 = length-drop 8 text in
-    rw rest at (not_bad c.begin_wrap.result w.only_fault (λ e. w.bad_length.0 e (rw (rest, size) (omega arith, omega arith, omega arith))) w.begins)
+    let good = λ (e : c.begin_wrap.result ≡ _). w.refused.bad_length.0 e (rw (rest, size) (omega arith, omega arith, omega arith)) in
+    rw rest at (not_bad c.begin_wrap.result w.refused.only_fault good w.begins).begins

@@ -16,8 +16,8 @@ returns-in-Ok-unwrap_any_into g c =
     let found = c.in-Ok-unwrap_any_into.found in
     let told = c.in-Ok-unwrap_any_into.ensures in
     subst (λ E. UnwrapsAny E c.args.kek.now c.args.text.now c.args.key.now c.unwrap_any_into.new.key c.flag_of.result found.len (pos 0)) under
-    (found_any _ _ _ _ _ c.default.result c.default.ensures (c.in-Ok.ensures.accepted.0 refl) found c.flag_of.result told.bad_length told.integrity
-    c.flag_of.ensures.is c.flag_of.ensures.bit told.answer told.other_form told.size told.behind)
+    (found_any _ _ _ _ _ c.default.result c.default.ensures (c.in-Ok.ensures.accepted.0 refl) found c.flag_of.result told.unwraps.bad_length told.unwraps.integrity
+    c.flag_of.ensures.is c.flag_of.ensures.bit told.unwraps.answer told.unwraps.other_form told.key.size told.key.around)
 
 pub returns : goal.returns
 returns g c =
@@ -28,5 +28,5 @@ returns g c =
     subst (λ status. UnwrapsAny (cipher c.args.kek.now) c.args.kek.now c.args.text.now c.args.key.now c.unwrap_any_into.new.key 0 0 status)
     (sym (passed_on fits c.fault_status.ensures))
     (subst (λ E. UnwrapsAny E c.args.kek.now c.args.text.now c.args.key.now c.unwrap_any_into.new.key 0 0 (fault_status c.in-Err.fault)) under
-    (refused_any _ _ _ _ _ c.default.result c.default.ensures (c.in-Ok.ensures.accepted.0 refl) c.in-Err.fault told.bad_length told.integrity
-    told.accepts told.key_kept told.cleared))
+    (refused_any _ _ _ _ _ c.default.result c.default.ensures (c.in-Ok.ensures.accepted.0 refl) c.in-Err.fault told.unwraps.bad_length told.unwraps.integrity
+    told.unwraps.accepts told.refused.kept told.refused.cleared))

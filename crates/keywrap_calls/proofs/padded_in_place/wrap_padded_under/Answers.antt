@@ -11,8 +11,8 @@ use Rattle.keywrap_calls.proofs.padded_in_place.wrap_padded_under.Goals as goal
 pub returns : goal.returns
 returns g c = λ kek legal_kek.
     let same : g.B.BlockPair.encrypted c.new.result.pair ≡ g.B.BlockPair.encrypted c.args.pair.now = ap (λ m. g.B.BlockPair.encrypted m.pair) c.new.ensures in
-    let told = c.wrap_padded_in_place.ensures in
+    let told = c.wrap_padded_in_place.ensures.wraps in
     let fits : SFits w32 c.status_of.result = search rules in
     subst (λ status. WrapsPaddedInPlace (g.B.BlockPair.encrypted c.args.pair.now) kek c.args.key_len c.args.buffer.now c.wrap_padded_in_place.new.buf status) (sym (passed_on fits c.status_of.ensures))
     (subst (λ E. WrapsPaddedInPlace E kek c.args.key_len c.args.buffer.now c.wrap_padded_in_place.new.buf (outcome_status c.wrap_padded_in_place.result)) same
-    (wraps _ _ kek _ _ _ _ legal_kek (room-not_refused _ _) told.bad_length told.only_fault told.buffer_kept told.answer told.only_text))
+    (wraps _ _ kek _ _ _ _ legal_kek (room-not_refused _ _) told.bad_length told.only_fault told.kept told.answer told.only_text))

@@ -13,8 +13,9 @@ returns g c =
     let under : g.A.BlockPair.encrypted c.new.result.pair ≡ cipher c.args.kek.now =
     ap (λ m. g.A.BlockPair.encrypted m.pair) c.new.ensures ∙ c.in-Ok.ensures.cipher in
     let legal_kek = c.in-Ok.ensures.accepted.0 refl in
-    let told = c.unwrap_into.ensures in
+    let told = c.unwrap_into.ensures.unwraps in
+    let left = c.unwrap_into.ensures.refused in
     let fits : SFits w32 c.status_of.result = search rules in
     subst (λ status. Unwraps (cipher c.args.kek.now) c.args.kek.now c.args.text.now c.args.key.now c.unwrap_into.new.key status) (sym (passed_on fits c.status_of.ensures))
     (subst (λ E. Unwraps E c.args.kek.now c.args.text.now c.args.key.now c.unwrap_into.new.key (outcome_status c.unwrap_into.result)) under
-    (unwraps _ _ _ _ _ _ _ _ _ (λ _. c.unwrap_into.new.key) legal_kek told.answer told.only_key told.restores told.other_form told.key_kept told.cleared (λ _ _. refl)))
+    (unwraps _ _ _ _ _ _ _ _ _ (λ _. c.unwrap_into.new.key) legal_kek told.answer told.only_key told.restores told.other_form left.kept left.cleared (λ _ _. refl)))

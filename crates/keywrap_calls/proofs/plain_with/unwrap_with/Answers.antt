@@ -17,12 +17,13 @@ returns g c =
     let under : g.A.BlockPair.encrypted c.new.result.pair ≡ cipher c.args.kek.now =
     ap (λ m. g.A.BlockPair.encrypted m.pair) c.new.ensures ∙ c.in-Ok.ensures.cipher in
     let legal_kek = c.in-Ok.ensures.accepted.0 refl in
-    let told = c.unwrap_into_with.ensures in
+    let told = c.unwrap_into_with.ensures.unwraps in
+    let left = c.unwrap_into_with.ensures.refused in
     let fits : SFits w32 c.status_of.result = search rules in
     let word : c.in-Some.value ≡ iv_word c.args.iv.now = c.in-Some.ensures.given.1 in
     let of_value =
     subst (λ E. IsUnwrapCall (ArePlainLengths (length c.args.key.now) (length c.args.text.now)) (Plain E c.in-Some.value) (Padded E) c.args.kek.now c.args.text.now c.unwrap_into_with.new.key c.args.key.now c.unwrap_into_with.new.key (outcome_status c.unwrap_into_with.result)) under
-    (unwraps _ _ _ _ _ _ _ _ _ (λ _. c.unwrap_into_with.new.key) legal_kek told.answer told.only_key told.restores told.other_form told.key_kept told.cleared (λ _ _. refl)) in
+    (unwraps _ _ _ _ _ _ _ _ _ (λ _. c.unwrap_into_with.new.key) legal_kek told.answer told.only_key told.restores told.other_form left.kept left.cleared (λ _ _. refl)) in
     let call =
     subst (λ v. IsUnwrapCall (ArePlainLengths (length c.args.key.now) (length c.args.text.now)) (Plain (cipher c.args.kek.now) v) (Padded (cipher c.args.kek.now)) c.args.kek.now c.args.text.now c.unwrap_into_with.new.key c.args.key.now c.unwrap_into_with.new.key (outcome_status c.unwrap_into_with.result)) word of_value in
     subst (λ status. UnwrapsWith (cipher c.args.kek.now) c.args.kek.now c.args.iv.now c.args.text.now c.args.key.now c.unwrap_into_with.new.key status)

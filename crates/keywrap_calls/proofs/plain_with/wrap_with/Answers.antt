@@ -17,12 +17,12 @@ returns g c =
     let under : g.A.BlockPair.encrypted c.new.result.pair ≡ cipher c.args.kek.now =
     ap (λ m. g.A.BlockPair.encrypted m.pair) c.new.ensures ∙ c.in-Ok.ensures.cipher in
     let legal_kek = c.in-Ok.ensures.accepted.0 refl in
-    let told = c.wrap_into_with.ensures in
+    let told = c.wrap_into_with.ensures.wraps in
     let fits : SFits w32 c.status_of.result = search rules in
     let word : c.in-Some.value ≡ iv_word c.args.iv.now = c.in-Some.ensures.given.1 in
     let of_value =
     subst (λ E. IsWrapCall (ArePlainLengths (length c.args.key.now) (length c.args.text.now)) (Plain E c.in-Some.value) c.args.kek.now c.args.key.now c.args.text.now c.wrap_into_with.new.text (outcome_status c.wrap_into_with.result)) under
-    (wraps _ _ _ _ _ _ _ legal_kek (plain_lengths-not_refused _ _) told.bad_length told.only_fault told.text_kept told.answer told.only_text) in
+    (wraps _ _ _ _ _ _ _ legal_kek (plain_lengths-not_refused _ _) told.bad_length told.only_fault told.kept told.answer told.only_text) in
     let call =
     subst (λ v. IsWrapCall (ArePlainLengths (length c.args.key.now) (length c.args.text.now)) (Plain (cipher c.args.kek.now) v) c.args.kek.now c.args.key.now c.args.text.now c.wrap_into_with.new.text (outcome_status c.wrap_into_with.result)) word of_value in
     subst (λ status. WrapsWith (cipher c.args.kek.now) c.args.kek.now c.args.iv.now c.args.key.now c.args.text.now c.wrap_into_with.new.text status)

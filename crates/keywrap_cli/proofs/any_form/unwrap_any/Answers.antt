@@ -9,7 +9,7 @@ use Rattle.keywrap_cli.proofs.any_form.unwrap_any.Goals as goal
 pub returns-in-Ok-clause-answer : goal.returns-in-Ok-clause-answer
 returns-in-Ok-clause-answer g c =
     let own = ap (λ m. m.pair) c.new.ensures in
-    let w = rw own at c.in-Ok.ensures in
+    let w = rw own at c.in-Ok.ensures.unwraps in
     let made : List ℕ = c.unwrap_any_into.new.key in
     let back = take_at made (drop (length made) c.resize.new.self.items) c.resize.new.self.len (omega arith) in
     let key : c.truncate.new.self.items ≡ take c.in-Ok.found.len made = c.truncate.ensures.items ∙ ap (take c.in-Ok.found.len) back in
@@ -18,7 +18,7 @@ returns-in-Ok-clause-answer g c =
 pub returns-in-Err-clause-answer : goal.returns-in-Err-clause-answer
 returns-in-Err-clause-answer g c =
     let own = ap (λ m. m.pair) c.new.ensures in
-    let w = rw own at c.in-Err.ensures in
+    let w = rw own at c.in-Err.ensures.unwraps in
     let text = c.args.input.now in
     let room = length c.deref_mut.result.now in
     let ok : IsPaddedTextLength (length text) = search rules in
