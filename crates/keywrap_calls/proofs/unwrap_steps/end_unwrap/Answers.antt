@@ -19,7 +19,7 @@ returns-in-Ok c =
       answer = λ _ E D text inv state.
         let u = c.in-Ok.ensures.answer (λ e. cc) E D text inv state in
         subst (λ (v : ℕ). IsUnwrapping (Plain E v) (Padded E) text c.end_unwrap.new.registers) word
-        (record { stands = u.unwraps.1; only_key = u.only_key; restores = u.restores; other_form = u.other_form });
+        (record { stands = u.answer.1; only_key = u.only_key; restores = u.restores; other_form = u.other_form });
       integrity = λ s. absurd (let wrong = s in cc);
       cleared = λ s. absurd (let wrong = s in cc);
       block_cleared = λ _. c.in-Ok.ensures.block_cleared (λ e. cc);
@@ -37,7 +37,7 @@ returns-in-Err-Integrity c =
       answer = λ s. absurd (let wrong = s in cc);
       integrity = λ _ E D text inv state.
         let u = told.answer (λ e. cc) E D text inv state in
-        subst (λ (v : ℕ). NoKey (Plain E v) text) word u.unwraps.1;
-      cleared = λ _. told.cleared cc;
+        subst (λ (v : ℕ). NoKey (Plain E v) text) word u.answer.1;
+      cleared = λ _. told.refused.cleared cc;
       block_cleared = λ _. told.block_cleared (λ e. cc);
     }

@@ -10,12 +10,12 @@ returns-in-Ok c = record {
       kept = grind (arith, common_steps);
       no_key = grind (arith, common_steps);
       answer = λ _ E D text inv state.
-        let u = c.in-Ok.ensures.answer (λ e. cc) E D text inv state in (u.unwraps.1, u.other_form);
+        let u = c.in-Ok.ensures.answer (λ e. cc) E D text inv state in (u.answer.1, u.other_form);
       only_key = λ _ E D text other inv state stands.
         let u = c.in-Ok.ensures.answer (λ e. cc) E D text inv state in u.only_key other stands;
       integrity = λ s. absurd (let wrong = s in cc);
-      size = λ _. c.in-Ok.ensures.size;
-      around = λ _. c.in-Ok.ensures.padding;
+      size = λ _. c.in-Ok.ensures.key.size;
+      around = λ _. c.in-Ok.ensures.key.around;
       cleared = λ s. absurd (let wrong = s in cc);
       block_cleared = λ _. c.in-Ok.ensures.block_cleared (λ e. cc);
     }
@@ -30,9 +30,9 @@ returns-in-Err-Integrity c =
       no_key = grind (arith, common_steps);
       answer = λ s. absurd (let wrong = s in cc);
       only_key = λ s. absurd (let wrong = s in cc);
-      integrity = λ _ E D text inv state. let u = told.answer (λ e. cc) E D text inv state in u.unwraps.1;
+      integrity = λ _ E D text inv state. let u = told.answer (λ e. cc) E D text inv state in u.answer.1;
       size = λ s. absurd (let wrong = s in cc);
       around = λ s. absurd (let wrong = s in cc);
-      cleared = λ _. told.cleared cc;
+      cleared = λ _. told.refused.cleared cc;
       block_cleared = λ _. told.block_cleared (λ e. cc);
     }

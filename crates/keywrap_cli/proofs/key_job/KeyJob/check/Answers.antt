@@ -13,7 +13,7 @@ returns-in-Plain g c =
     let line : c.extend_from_slice.new.self.items ≡ kind_line c.in-Ok.found =
     c.in_ok-extend_from_slice.ensures.items ∙ (rw c.clear.ensures.items (c.as_bytes.ensures.value ∙ c.in_ok-line.ensures)) in
     let mark : HasMark Check c.extend_from_slice.new.self.items Unmarked = search rules in
-    ((c.in-Ok.found, w.answer, line), mark, check_line _ _ _ c.args.self.now.task.input _ c.in-Ok.found w.answer line)
+    ((c.in-Ok.found, w.kind.is, line), mark, check_line _ _ _ c.args.self.now.task.input _ c.in-Ok.found w.kind.is line)
 
 pub returns : goal.returns
 returns g c =
@@ -21,4 +21,4 @@ returns g c =
     let w = rw own at c.in-Ok.ensures in
     let line : c.extend_from_slice.new.self.items ≡ kind_line c.in-Ok.found =
     c.in_ok-extend_from_slice.ensures.items ∙ (rw c.clear.ensures.items (c.as_bytes.ensures.value ∙ c.in_ok-line.ensures)) in
-    ((c.in-Ok.found, w.answer, line), (refl, line ∙ ap kind_line c.in-Neither.is), check_line _ _ _ c.args.self.now.task.input _ c.in-Ok.found w.answer line)
+    ((c.in-Ok.found, w.kind.is, line), (refl, line ∙ ap kind_line c.in-Neither.is), check_line _ _ _ c.args.self.now.task.input _ c.in-Ok.found w.kind.is line)
