@@ -5,11 +5,13 @@
 # KEYWRAP_ALL=1, which `make gate` sets.
 #
 # usage: scripts/tests.sh [NAME..]        tests/test_NAME.py or tests/NAME.sh; all of them, if none is named
+#        (KEYWRAP=PATH tries another program; KEYWRAP_BUILT=DIRECTORY takes the archives there, and builds missing ones)
 
 set -u
 cd "$(dirname "${BASH_SOURCE[0]}")/.." || exit
-logs=$(mktemp -d) && built=$(mktemp -d) || exit
-trap 'rm -rf "$logs" "$built"' EXIT
+logs=$(mktemp -d) && made=$(mktemp -d) || exit
+trap 'rm -rf "$logs" "$made"' EXIT
+built=${KEYWRAP_BUILT:-$made}
 [ $# -gt 0 ] || set -- tests/test_*.py tests/*.sh
 scripts=() files=()
 for name in "$@"; do
@@ -73,7 +75,7 @@ done
     echo 'most tests of the program need pytest, and are skipped: apt-get install python3-pytest, or make packages'
 
 # The tests share the program, so it is built before the first test. The longest tests of the C library begin first.
-./keywrap --version || exit
+[ -n "${KEYWRAP:-}" ] || ./keywrap --version || exit
 over_archives=() others=()
 over=' hardware library js arm64 secrets '
 for script in $over; do [[ " ${scripts[*]} " != *" $script "* ]] || over_archives+=("$script"); done

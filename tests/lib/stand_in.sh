@@ -28,7 +28,7 @@ crates block_pair: 'aes_block: block_pair byteorder' 'keywrap_c staticlib: block
 echo 1.2.3-dev >VERSION
 program=crates/keywrap/out/keywrap archive=crates/keywrap_c/out/libkeywrap_c.a
 export tree=$PWD helpers=$root/tests/lib/expect.sh PATH=$PWD/bin:$PATH TMPDIR=$PWD/tmp TERM=xterm processors=4
-unset MAKEFLAGS MAKELEVEL TESTS KEYWRAP_ARCHIVES KEYWRAP_ALL
+unset MAKEFLAGS MAKELEVEL TESTS KEYWRAP KEYWRAP_ARCHIVES KEYWRAP_BUILT KEYWRAP_JS KEYWRAP_ALL
 exec 9<&-
 
 # The fake rt and rattle: in the crates that the pattern $at names they run $event, with $launcher as the process above
