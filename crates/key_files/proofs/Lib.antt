@@ -1,7 +1,6 @@
 -- The lemmas: what digits spell, what a file denotes, what a call took, and the line that is read back.
 pub mod Denoting
 pub mod Lists
-mod Pairs
 pub mod ReadBack
 mod Whole
 pub mod Strict

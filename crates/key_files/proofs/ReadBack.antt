@@ -1,31 +1,16 @@
 -- What a file of digits and blanks denotes, and that hex output is one line and denotes the bytes that it was made of.
-use Rattle.std.proofs.Common.{◌≡◌, ◌<◌, ◌/◌, ◌%◌, ◌||◌, not, true, false, ℕ, List, [], ◌∷◌, ◌++◌, slice_index, suc}
-use Rattle.std.proofs.Common.{Bool, Option, Some, None, Ok, nat_lt, append-nil, arith, refl, sym, ap, subst, ◌∙◌}
-use Rattle.std.specs.Char.{digit_value}
+use Rattle.std.proofs.Common.{◌≡◌, ◌||◌, not, true, false, ℕ, List, [], ◌∷◌, ◌++◌}
+use Rattle.std.proofs.Common.{Bool, Option, Some, None, Ok, append-nil, refl, sym, ap, subst, ◌∙◌}
 use Rattle.std.specs.List.{filter, list_all, position_from}
 use Rattle.std.proofs.lemmas.List.Elements.{filter-append}
 use Rattle.std.proofs.lemmas.Iterator.Adapters.{position_from-zero}
-use Rattle.hex.specs.Hex.{IsBytes, encode_lower, encode_with, lower_digits}
-use Rattle.hex.proofs.HexLemmas.{IsDigits-lower_digits}
+use Rattle.hex.specs.Hex.{IsBytes, encode_lower}
 use Rattle.key_files.specs.HexText.{digits_of, first_bad, first_no_digit, hex_line, is_hex_digit, is_skipped}
 use Rattle.key_files.specs.Meaning.{digit_text_meaning, digits_meaning, hex_meaning}
 use Rattle.key_files.specs.Writing.{PrintsAs}
 use Rattle.key_files.proofs.Lists.{IsLine-of, all-both, all-filter, all-found, all-unfiltered, filter-all, of_blanks, position-none}
-use Rattle.key_files.proofs.Strict.{below_sixteen, digit_text_meaning-lower}
-use Rattle.key_files.proofs.Pairs.{hex_digit_value-ok}
-
--- the digits that are written are digits
-is_hex_digit-written : (v : ℕ) → v < 16 → is_hex_digit (slice_index lower_digits v) ≡ true
-is_hex_digit-written v h =
-    let value : v ≡ digit_value (slice_index lower_digits v) = hex_digit_value-ok (slice_index lower_digits v) v (IsDigits-lower_digits v h) in
-    ap (λ d. nat_lt d 16) (sym value) ∙ below_sixteen v h
-
-pub all-lower : (bytes : List ℕ) → IsBytes bytes → list_all is_hex_digit (encode_lower bytes) ≡ true
-unfolding encode_with
-all-lower [] h = refl
-all-lower (b ∷ rest) h =
-    let fits : b < 256 = h 0 in
-    rw (is_hex_digit-written (b / 16) (omega arith), is_hex_digit-written (b % 16) (omega arith)) (all-lower rest (λ k. h (suc k)))
+use Rattle.key_files.proofs.Strict.{digit_text_meaning-lower}
+pub use Rattle.key_files.proofs.Strict.{all-lower}
 
 -- a file whose bytes are the digits of a text and blanks
 module _ (file text bytes : List ℕ) (digits : filter is_hex_digit file ≡ filter is_hex_digit text)

@@ -1,71 +1,86 @@
--- A text that `hex` decodes has only digits, and denotes the decoded bytes.
-use Rattle.std.proofs.Common.{◌≡◌, ℕ, ◌+◌, ◌%◌, ◌<◌, not, Bool, true, false, cond, List, [], ◌∷◌, length, nat_lt, Option, Some, None, Result, Ok, Err, arith, refl, sym, ap, ◌∙◌, subst}
-use Rattle.std.specs.Prelude.{MatchResult, is_ok}
-use Rattle.std.specs.List.{position_from}
+-- A text of digits that is decoded byte by byte, and the digits that are printed.
+use Rattle.std.proofs.Common.{◌≡◌, ◌+◌, ◌*◌, ◌/◌, ◌%◌, ◌<◌, ◌≤◌, ◌==◌, ◌&&◌, true, ℕ, suc, List, [], ◌∷◌, ◌++◌, length, take, drop, slice_index, slice_set, Option, Some, None, Ok, arith, refl, sym, ap, ◌∙◌}
+use Rattle.std.specs.Char.{digit_value}
+use Rattle.std.specs.List.{list_all}
+use Rattle.std.proofs.lemmas.Bool.{agree_below_at, and_parts, eqb-true}
 use Rattle.std.proofs.lemmas.Bool.Decides.{nat_tests}
-use Rattle.std.proofs.lemmas.Iterator.Adapters.{position_from-zero}
-use Rattle.hex.specs.Hex.{IsBytes, encode_lower, decode_pairs, decode_sized, digit_or_error, hex_digit_value, pair_value, value_at}
-use Rattle.hex.specs.declared.error.FromHexError.{FromHexError}
-use Rattle.hex.specs.declared.error.FromHexError.TheVariants.{OddLength, InvalidStringLength}
-use Rattle.hex.proofs.HexLemmas.{decode_of-encode_lower, decode_of-even, decode_of-ok}
-use Rattle.key_files.specs.HexText.{first_no_digit, is_hex_digit}
-use Rattle.key_files.specs.Meaning.{digit_text_meaning}
+use Rattle.std.proofs.lemmas.List.{append_assoc, append-nil, drop_all, take_all, take_more_set}
+use Rattle.hex.specs.Hex.{IsBytes, encode_lower, encode_with, lower_digits}
+use Rattle.hex.proofs.Pairs.{drop-pair}
+use Rattle.key_files.specs.HexText.{first_no_digit, is_hex_digit, paired}
+use Rattle.key_files.specs.Meaning.{digit_text_meaning, digits_meaning}
 use Rattle.key_files.proofs.Denoting.{digit_text_meaning-even}
-use Rattle.key_files.proofs.Pairs.{bind_ok, decode_pairs-paired, hex_digit_value-ok}
+use Rattle.key_files.proofs.Lists.{position-none}
 
-hex_digit_value-below : (c value : ℕ) → hex_digit_value c ≡ Some value → value < 16
-hex_digit_value-below c value h = grind (arith, nat_tests)
+-- The text has only digits if it has only digits from byte 2 * i on, and what is before them is decoded.
+pub record DecodedTo (text bytes : List ℕ) (i : ℕ) : Type 0 where
+  pub digits : list_all is_hex_digit text ≡ list_all is_hex_digit (drop (2 * i) text)
+  pub spelled : paired text ≡ take i bytes ++ paired (drop (2 * i) text)
 
-pub below_sixteen : (v : ℕ) → v < 16 → nat_lt v 16 ≡ true
-below_sixteen v h = grind (arith, nat_tests)
+pub decoded_none : (text bytes : List ℕ) → DecodedTo text bytes 0
+decoded_none text bytes = record { digits = refl; spelled = refl }
 
-digit_read : (c i value : ℕ) (read : Option ℕ) → hex_digit_value c ≡ read → digit_or_error c i read ≡ Ok value → is_hex_digit c ≡ true
-digit_read c i value (Some v) h e = ap (λ d. nat_lt d 16) (sym (hex_digit_value-ok c v h)) ∙ below_sixteen v (hex_digit_value-below c v h)
-digit_read c i value None h e = cc e
+pub decoded_more : (text bytes : List ℕ) (i v : ℕ) → 2 * i + 1 < length text → i < length bytes
+    → is_hex_digit (slice_index text (2 * i)) ≡ true → is_hex_digit (slice_index text (2 * i + 1)) ≡ true
+    → v ≡ 16 * digit_value (slice_index text (2 * i)) + digit_value (slice_index text (2 * i + 1))
+    → DecodedTo text bytes i → DecodedTo text (slice_set bytes i v) (i + 1)
+unfolding paired
+decoded_more text bytes i v fits room high low is d =
+    let front : List ℕ = take i bytes in
+    let rest : List ℕ = drop (2 * (i + 1)) text in
+    let pair = drop-pair text i fits in
+    let two : list_all is_hex_digit (slice_index text (2 * i) ∷ slice_index text (2 * i + 1) ∷ rest) ≡ list_all is_hex_digit rest = rw (high, low) refl in
+    record {
+      digits = d.digits ∙ ap (list_all is_hex_digit) pair ∙ two;
+      spelled = d.spelled ∙ ap (λ l. front ++ paired l) pair ∙ ap (λ b. front ++ (b ∷ paired rest)) (sym is)
+          ∙ sym (append_assoc front (v ∷ []) (paired rest)) ∙ ap (λ l. l ++ paired rest) (sym (take_more_set bytes i v room));
+    }
 
-is_digit-read : (c i value : ℕ) → value_at c i ≡ Ok value → is_hex_digit c ≡ true
-is_digit-read c i value h = digit_read c i value (hex_digit_value c) refl h
+pub decoded_all : (text bytes : List ℕ) (i : ℕ) → length text ≡ 2 * length bytes → length bytes ≤ i → DecodedTo text bytes i
+    → digit_text_meaning text ≡ Ok bytes
+unfolding paired
+decoded_all text bytes i size end d =
+    let none = drop_all (2 * i) text (omega (arith, size, end)) in
+    let digits : list_all is_hex_digit text ≡ true = d.digits ∙ ap (list_all is_hex_digit) none in
+    let spelled : paired text ≡ bytes = d.spelled ∙ ap (λ l. take i bytes ++ paired l) none ∙ append-nil (take i bytes) ∙ take_all i bytes end in
+    digit_text_meaning-even text (position-none is_hex_digit text digits) (omega (arith, size)) ∙ ap Ok spelled
 
--- each byte is a digit, and there are two for each byte that is decoded
-digits_alone : (i j : ℕ) (text bytes : List ℕ) → decode_pairs i text ≡ Ok bytes
-    → (position_from (λ c. not (is_hex_digit c)) j text ≡ None) × (length text % 2 ≡ 0)
-unfolding decode_pairs
-digits_alone i j [] bytes h = (refl, refl)
-digits_alone i j (digit ∷ []) bytes h = cc h
-digits_alone i j (high ∷ low ∷ rest) bytes h =
-    let pair = bind_ok (pair_value high low i) _ bytes h in
-    let first = bind_ok (value_at high i) _ pair.0 pair.1 in
-    let second = bind_ok (value_at low (i + 1)) _ pair.0 first.2 in
-    let others = bind_ok (decode_pairs (i + 2) rest) _ bytes pair.2 in
-    let left = is_digit-read high i first.0 first.1 in
-    let right = is_digit-read low (i + 1) second.0 second.1 in
-    let more = digits_alone (i + 2) (j + 1 + 1) rest others.0 others.1 in (rw (left, right) more.0, omega (arith, more.1))
+-- bytes that a text means are those that its digits spell
+pub paired-meant : (text bytes : List ℕ) → digit_text_meaning text ≡ Ok bytes → bytes ≡ paired text
+unfolding digit_text_meaning
+paired-meant text bytes h = spelled (first_no_digit text) h
+  where
+    spelled : (bad : Option ℕ) → digits_meaning bad text ≡ Ok bytes → bytes ≡ paired text
+    spelled (Some at) means = cc means
+    spelled None means = grind (arith, nat_tests)
 
-decoded-meaning : (text bytes : List ℕ) → decode_pairs 0 text ≡ Ok bytes → digit_text_meaning text ≡ Ok bytes
-decoded-meaning text bytes h =
-    let alone = digits_alone 0 0 text bytes h in
-    let none : first_no_digit text ≡ None = position_from-zero _ text ∙ alone.0 in
-    digit_text_meaning-even text none (omega (arith, alone.1)) ∙ ap Ok (sym (decode_pairs-paired 0 text bytes h))
+-- the digit that is printed for a value
+printed : (v : ℕ) → v < 16 → (is_hex_digit (slice_index lower_digits v) ≡ true) × (digit_value (slice_index lower_digits v) ≡ v)
+printed v h =
+    let all = agree_below_at (λ v. is_hex_digit (slice_index lower_digits v) && (digit_value (slice_index lower_digits v) == v)) (λ _. true) 16 v refl h in
+    let two = and_parts _ _ all in (two.0, eqb-true _ _ two.1)
+
+pub all-lower : (bytes : List ℕ) → IsBytes bytes → list_all is_hex_digit (encode_lower bytes) ≡ true
+unfolding encode_with
+all-lower [] h = refl
+all-lower (b ∷ rest) h =
+    let fits : b < 256 = h 0 in
+    rw ((printed (b / 16) (omega arith)).0, (printed (b % 16) (omega arith)).0) (all-lower rest (λ k. h (suc k)))
+
+paired-lower : (bytes : List ℕ) → IsBytes bytes → (length (encode_lower bytes) % 2 ≡ 0) × (paired (encode_lower bytes) ≡ bytes)
+unfolding encode_with paired
+paired-lower [] h = (refl, refl)
+paired-lower (b ∷ rest) h =
+    let fits : b < 256 = h 0 in
+    let high = (printed (b / 16) (omega arith)).1 in
+    let low = (printed (b % 16) (omega arith)).1 in
+    let byte : 16 * digit_value (slice_index lower_digits (b / 16)) + digit_value (slice_index lower_digits (b % 16)) ≡ b = omega (arith, high, low) in
+    let more = paired-lower rest (λ k. h (suc k)) in
+    (omega (arith, more.0), rw (byte, more.1) refl)
 
 -- what is printed in lower case
 pub digit_text_meaning-lower : (bytes : List ℕ) → IsBytes bytes → digit_text_meaning (encode_lower bytes) ≡ Ok bytes
 digit_text_meaning-lower bytes fits =
-    let decoded = decode_of-encode_lower bytes fits in
-    decoded-meaning (encode_lower bytes) bytes (sym (decode_of-even (encode_lower bytes) (decode_of-ok (encode_lower bytes) bytes decoded).0) ∙ decoded)
-
-sized : (odd fits : Bool) (pairs : Result (List ℕ) FromHexError) (bytes : List ℕ)
-    → cond odd (Err OddLength) (cond fits pairs (Err InvalidStringLength)) ≡ Ok bytes → pairs ≡ Ok bytes
-sized true fits pairs bytes h = cc h
-sized false true pairs bytes h = h
-sized false false pairs bytes h = cc h
-
--- if it was decoded into room for its bytes
-pub sized-meaning : (text : List ℕ) (n : ℕ) (out : List ℕ) (answer : Result Unit FromHexError)
-    → MatchResult (decode_sized text n) (λ bytes. (answer ≡ Ok tt) × (out ≡ bytes)) (λ e. answer ≡ Err e)
-    → is_ok answer ≡ true → digit_text_meaning text ≡ Ok out
-sized-meaning text n out answer m ok = at (decode_sized text n) refl m
-  where
-    at : (d : Result (List ℕ) FromHexError) → decode_sized text n ≡ d
-        → MatchResult d (λ bytes. (answer ≡ Ok tt) × (out ≡ bytes)) (λ e. answer ≡ Err e) → digit_text_meaning text ≡ Ok out
-    at (Ok bytes) is found = decoded-meaning text bytes (sized _ _ (decode_pairs 0 text) bytes is) ∙ ap Ok (sym found.1)
-    at (Err e) is refused = cc (subst (λ (r : Result Unit FromHexError). is_ok r ≡ true) refused ok)
+    let text : List ℕ = encode_lower bytes in
+    let spelled = paired-lower bytes fits in
+    digit_text_meaning-even text (position-none is_hex_digit text (all-lower bytes fits)) (omega (arith, spelled.0)) ∙ ap Ok spelled.1

@@ -3,11 +3,11 @@
 ghost use Rattle.std.specs.Prelude.{◌≡◌, ◌≢◌, ◌<◌, ◌≤◌, ◌↔◌, length, IsOk, IfErr, IfOk, IfSome};
 ghost use Rattle.std.specs.Prelude.{Err, Ok, true};
 ghost use Rattle.key_files.specs.Decoding.{Decodes, DecodesHex, place_of};
-ghost use Rattle.key_files.specs.HexText.{digits_of, first_bad, first_no_digit, is_hex_digit};
-ghost use Rattle.key_files.specs.HexText.{is_skipped, paired};
+ghost use Rattle.key_files.specs.HexText.{digits_of, first_bad, first_no_digit, is_skipped, paired};
 ghost use Rattle.key_files.specs.Meaning.{digit_text_meaning, hex_meaning};
 ghost use Rattle.key_files.specs.declared.fault.FileFault.{FileFault};
 
+use crate::digit::{byte_of, is_hex_digit};
 use crate::fault::FileFault;
 use std::alloc::{AllocError, Allocator};
 
@@ -47,11 +47,22 @@ pub fn decode_digits_into(text: &[u8], bytes: &mut Vec<u8>) -> Result<(), FileFa
     }
 }
 
-// Whether the text has only digits, two for each of the bytes, which they then spell.
+// Whether the text has only digits, two for each of the bytes, which they then spell. It is read to
+// its end, so that no branch depends on a digit.
 fn decode_strict(text: &[u8], bytes: &mut [u8]) -> bool
     ensures { result ≡ true → digit_text_meaning text.now ≡ Ok bytes.new }
 {
-    hex::decode_to_slice(text, bytes).is_ok()
+    if text.len() % 2 != 0 || text.len() / 2 != bytes.len() {
+        return false;
+    }
+    let mut all_digits = true;
+    for i in 0..bytes.len() {
+        let high = text[2 * i];
+        let low = text[2 * i + 1];
+        all_digits &= is_hex_digit(high) & is_hex_digit(low);
+        bytes[i] = byte_of(high, low);
+    }
+    all_digits
 }
 
 // Space, tab, CR and LF are allowed between digits.
@@ -65,13 +76,7 @@ fn first_bad(text: &[u8]) -> Option<usize>
     ensures { result ≡ first_bad text.now }
 {
     text.iter()
-        .position(|c| !(c.is_ascii_hexdigit() || is_skipped(*c)))
-}
-
-fn is_hex_digit(c: u8) -> bool
-    ensures { result ≡ is_hex_digit c }
-{
-    c.is_ascii_hexdigit()
+        .position(|c| !(is_hex_digit(*c) || is_skipped(*c)))
 }
 
 fn first_no_digit(text: &[u8]) -> Option<usize>
@@ -84,14 +89,14 @@ fn first_no_digit(text: &[u8]) -> Option<usize>
 fn digit_count(text: &[u8]) -> usize
     ensures { result ≡ length (digits_of text.now) }
 {
-    text.iter().filter(|c| c.is_ascii_hexdigit()).count()
+    text.iter().filter(|c| is_hex_digit(**c)).count()
 }
 
 fn digits<A: Allocator>(alloc: A, text: &[u8]) -> Result<Vec<u8, A>, AllocError>
     ensures { IfOk result (λ v. v.items ≡ digits_of text.now) }
 {
     let mut digits = text.to_vec(alloc)?;
-    digits.retain(|c| c.is_ascii_hexdigit());
+    digits.retain(|c| is_hex_digit(*c));
     Ok(digits)
 }
 
@@ -99,5 +104,10 @@ fn digits<A: Allocator>(alloc: A, text: &[u8]) -> Result<Vec<u8, A>, AllocError>
 fn decode_digits<A: Allocator + Copy>(alloc: A, text: &[u8]) -> Result<Vec<u8, A>, AllocError>
     ensures { IfOk result (λ v. v.items ≡ paired (digits_of text.now)) }
 {
-    hex::decode(alloc, digits(alloc, text)?).or(Err(AllocError))
+    let digits = digits(alloc, text)?;
+    let mut bytes = vec![in alloc; 0u8; digits.len() / 2]?;
+    if !decode_strict(&digits, &mut bytes) {
+        return Err(AllocError);
+    }
+    Ok(bytes)
 }

@@ -4,6 +4,7 @@
 #![tactic(auto)]
 
 mod base64_text;
+mod digit;
 mod fault;
 mod hex_text;
 mod read;
