@@ -284,8 +284,10 @@ static int32_t rewrap_old(const uint8_t *old_kek, size_t old_kek_len, const uint
         return wrap_found(new_kek, new_kek_len, found, buffer, wrapped_len);
     if (flags & KEYWRAP_NEW_PADDED)
         return keywrap_wrap_padded_in_place(new_kek, new_kek_len, buffer, wrapped_len, key_len);
-    if (key_len % 8 == 0 && key_len >= 16)
-        return keywrap_wrap_in_place(new_kek, new_kek_len, buffer, wrapped_len);
+    /* The proved beginning decides whether a plain key has this length. */
+    if (keywrap_begin_wrap(DEFAULT_IV, 8, buffer + 8, key_len, &run.steps, run.block)
+        == KEYWRAP_OK)
+        return wrap(new_kek, new_kek_len, &run, buffer, buffer + 8, key_len);
     status = wrap_found(old_kek, old_kek_len, found, buffer, wrapped_len);
     return status == KEYWRAP_OK ? KEYWRAP_KEY_NOT_PLAIN : status;
 }

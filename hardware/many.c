@@ -94,12 +94,13 @@ static int32_t end_lane(struct turn *turn, size_t lane, uint32_t flags, uint32_t
     return status;
 }
 
-/* Begins the wrap of one lane. */
+/* Begins the wrap of one lane. The proved beginning refuses a key that is too short or too long for
+ * its form. */
 static int32_t begin_lane(struct turn *turn, size_t lane, uint32_t padded, size_t key_len) {
     uint8_t *registers = text_of(turn, lane) + 8, *block = turn->blocks + BLOCK * lane;
     const size_t len = turn->text_len - 8;
     return padded ? keywrap_begin_wrap_padded(key_len, registers, len, &turn->steps, block)
-                  : keywrap_begin_wrap(DEFAULT_IV, 8, registers, len, &turn->steps, block);
+                  : keywrap_begin_wrap(DEFAULT_IV, 8, registers, key_len, &turn->steps, block);
 }
 
 /* The end of an unwrap under the old KEK, and the beginning of the wrap under the new one. A form that
@@ -116,8 +117,9 @@ static int32_t turn_lane(struct turn *turn, size_t lane, uint32_t flags) {
         memcpy(block + 8, registers, 8);
         return KEYWRAP_OK;
     }
-    if (key_len % 8 != 0) return KEYWRAP_KEY_NOT_PLAIN;
-    return begin_lane(turn, lane, flags & KEYWRAP_NEW_PADDED, key_len);
+    return begin_lane(turn, lane, flags & KEYWRAP_NEW_PADDED, key_len) == KEYWRAP_OK
+               ? KEYWRAP_OK
+               : KEYWRAP_KEY_NOT_PLAIN;
 }
 
 /* The schedules of a rewrap; the last is made for KEYWRAP_PASS_NEW. */

@@ -109,6 +109,7 @@ on() {
     local part
     row "$1: the AES" writes "$3" "${@:4}" "$2/chosen"
     row "$1: the calls" writes ' passed, 0 failed' "${@:4}" "$2/checks" few
+    slow row "$1: many keys, all" writes ' passed, 0 failed' "${@:4}" "$2/checks" many
     row "$1: the published cases" writes "$(wc -l <cases) right" "${@:4}" "$2/published" <cases
     [ -e "${2%_without}/compared" ] || return
     row "$1: the provider, parameters" "${@:4}" "$2/compared" "$2" parameters
@@ -135,10 +136,10 @@ fi
 left() {
     awk -v most="$1" 'NR > 1 && ($4 > most || $5 > most || $6 > most) { print; bad = 1 } END { exit bad }' stacked
 }
+row 'the proved calls, renamed' objcopy --redefine-syms="$root/hardware/names" "$library/libkeywrap.a" proved.a
 if grep -qw aes /proc/cpuinfo; then
-    row 'the AES of each call: compiles' eval 'objcopy --redefine-syms="$root/hardware/names" "$library/libkeywrap.a" \
-        proved.a && cc "${options[@]}" "$root"/tests/hardware/{uses,wrong_aes}.c "$root"/hardware/{keywrap,many,aes}.c \
-        proved.a -o uses'
+    row 'the AES of each call: compiles' cc "${options[@]}" "$root"/tests/hardware/{uses,wrong_aes}.c \
+        "$root"/hardware/{keywrap,many,aes}.c proved.a -o uses
     row 'the AES of each call' diff <(./uses) <(printf 'software for a KEK of %s bytes:\n' 16 24 32)
 fi
 row 'the stack: compiles' cc -std=c99 -O1 -g "${options[@]:2}" "$root/tests/secrets/stack.c" \
@@ -147,6 +148,20 @@ row 'the stack: runs' ./stack && cp row.log stacked
 row 'the stack: every export' diff <(sed 's/[, ].*//; s/^/keywrap_/' stacked | sort -u) <(echo "$exports")
 row 'the stack: round keys are cleared' left 16
 row 'the calls, all' writes ' passed, 0 failed' here/checks
+if needs 'the calls, sanitized' 'sanitizers of cc'; then
+    row 'the calls, sanitized: compile' cc "${options[@]}" -g "${sanitize[@]}" "$root"/tests/library/*.c \
+        "$root/tests/reference/one_table.c" "$root"/hardware/*.c proved.a -o sanitized
+    row 'the calls, sanitized' writes ' passed, 0 failed' ./sanitized few
+fi
+threads=(cc "${options[@]}" -g -pthread "$root/tests/hardware/threads.c")
+for name in keywrap keywrap_hw; do
+    row "threads, $name: compiles" "${threads[@]}" "$library/lib$name.a" -o threads &&
+        row "threads, $name" writes ' passed, 0 failed' ./threads
+done
+if needs 'threads, sanitized' 'thread sanitizer of cc'; then
+    row 'threads, sanitized: compiles' "${threads[@]}" -fsanitize=thread "$root"/hardware/*.c proved.a -o threads
+    row 'threads, sanitized' writes ' passed, 0 failed' ./threads
+fi
 export KEYWRAP=$root/keywrap
 needs_python "the provider's other tests" pytest && slow row "the provider's other tests" env \
     KEYWRAP_ARCHIVES="$library/libkeywrap_hw.a" "$python" -m pytest "$root/tests/test_provider.py"

@@ -34,6 +34,7 @@ PROGRAMS = {
                "set -o pipefail; ./program | awk 'NR > 1 && ($4 > 16 || $5 > 16 || $6 > 16)'", ""),
     # -Os aligns no variable beyond its type.
     "sanitized": (CALLS + " -Os -g -fsanitize=undefined -fno-sanitize-recover=all", "./program few", NO_FAULT),
+    "addresses": (CALLS + " -g -fsanitize=address", "./program few", NO_FAULT),
 }
 
 

@@ -17,11 +17,11 @@ compiles() {
     echo "#include <$2>" | "$1" -x $language -fsyntax-only -
 }
 
-# sanitizes COMPILER: a program with its sanitizers runs here.
+# sanitizes COMPILER [SANITIZERS]: a program with these runs here.
 sanitizes() {
     local program status
     program=$(mktemp) || return
-    echo 'int main(void) { return 0; }' | "$1" -fsanitize=address,undefined -x c - -o "$program" && "$program"
+    echo 'int main(void) { return 0; }' | "$1" -fsanitize="${2:-address,undefined}" -x c - -o "$program" && "$program"
     status=$?
     rm "$program"
     return $status

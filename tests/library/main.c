@@ -3,8 +3,8 @@
  * from other initial values, initial values that are taken or refused, and texts that go from one
  * KEK and form to another. Its last line is 'N passed, M failed'.
  *
- * usage: checks [few]        few: keys of 1 MiB are wrapped and unwrapped once in each form, and no
- * more, since an emulator takes seconds for each. */
+ * usage: checks [few|many]   few: keys of 1 MiB are wrapped and unwrapped once in each form, and no
+ * more, since an emulator takes seconds for each. many: the calls for many keys only, all of it. */
 
 #include <stdio.h>
 #include <string.h>
@@ -568,12 +568,8 @@ static void status_texts(void) {
         status_text(unknown[i], "unknown status");
 }
 
-int main(int argc, char **argv) {
-    few = argc == 2 && !strcmp(argv[1], "few");
-    one_table_start();
-    scatter(kek, sizeof kek);
-    scatter(key, sizeof key);
-    scatter(scattered, sizeof scattered);
+/* All calls but those for many keys. */
+static void for_one_key(void) {
     vectors();
     macros_at_ends();
     macros_in_expressions();
@@ -596,6 +592,15 @@ int main(int argc, char **argv) {
     rewraps_of_lengths();
     rewraps_of_tampered_texts();
     rewraps_of_long_paddings();
+}
+
+int main(int argc, char **argv) {
+    few = argc == 2 && !strcmp(argv[1], "few");
+    one_table_start();
+    scatter(kek, sizeof kek);
+    scatter(key, sizeof key);
+    scatter(scattered, sizeof scattered);
+    if (argc < 2 || strcmp(argv[1], "many")) for_one_key();
     many_keys(kek, scattered, few);
     printf("%u passed, %u failed\n", passed, failed);
     return failed != 0;
