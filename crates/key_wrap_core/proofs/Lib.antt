@@ -1,6 +1,7 @@
 -- The lemmas, from words and tapes up to the two forms.
 pub mod Refusals
 pub mod Spelling
+pub mod Parts
 pub mod Tapes
 pub mod Counting
 pub mod Registering

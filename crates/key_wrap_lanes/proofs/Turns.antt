@@ -20,7 +20,7 @@ use Rattle.key_wrap_core.proofs.WrapStepping.{stepped, more_stepped}
 use Rattle.key_wrap_core.proofs.UnwrapStepping.{unstepped, more_unstepped}
 use Rattle.key_wrap_lanes.specs.Lanes.{AreLanes, IsEnded, part_at, block_at}
 use Rattle.key_wrap_lanes.specs.Turn.{Turned}
-use Rattle.key_wrap_lanes.proofs.Parts.{part_room, part_length}
+use Rattle.key_wrap_core.proofs.Parts.{part_room, part_length}
 
 -- a lane of a legal length, and the registers of its turn
 pub record Lane (n own next : ℕ) (text block : List ℕ) : Type 0 where

@@ -1,50 +1,17 @@
--- A slot is written, and the others stay as they are; and what a call for many keys promises of each status.
-use Rattle.std.proofs.Common.{◌≡◌, ℕ, ◌+◌, ◌*◌, ◌≤◌, ◌<◌, List, ◌++◌, length, take, drop, replicate, All, refl, sym, ap, subst, ◌∙◌, arith, inl, inr, rules, pos}
-use Rattle.std.proofs.Common.{length-drop, length-take}
+-- The slots of a buffer, while one slot after the other is written; and what a call for many keys promises of each status.
+use Rattle.std.proofs.Common.{◌≡◌, ℕ, ◌+◌, ◌*◌, ◌≤◌, ◌<◌, List, length, take, drop, replicate, All, refl, sym, subst, ◌∙◌, arith, inl, inr, rules, pos}
 use Rattle.std.proofs.lemmas.Bool.{cases_lt}
-use Rattle.std.proofs.lemmas.List.{drop_at, take_at, drop-take}
-use Rattle.std.proofs.lemmas.Slice.{take-put_mid_below, drop-put_mid}
-use Rattle.std.proofs.Math.Nat.{mul-le-mul_left}
 use borrow.Rule.Slice.PartMut.{put_mid}
 use lib.IntN.{ℤ}
 use mir.Syntax.{w32}
 use mir.Val.{SFits, of_z, to_z}
 use Rattle.fips197.specs.KeyExpansion.{IsKekLength}
 use Rattle.key_wrap_core.specs.Lengths.{IsPaddedTextLength}
+use Rattle.key_wrap_core.proofs.Parts.{Writes, part_written, part_kept}
 use Rattle.keywrap_calls.specs.Kinds.{FindsKind}
 use Rattle.keywrap_calls.specs.Status.{IsUnwrapStatus}
 use Rattle.keywrap_calls.proofs.Calls.{passed_on}
 use Rattle.keywrap_calls.specs.Many.{slot_at, IsManyCall}
-
--- the slot that is written is what is written
-slot_written : (n i k : ℕ) (xs ys : List ℕ) → length ys ≡ n → n * i + n ≤ length xs → slot_at n i (put_mid (n * i) k xs ys) ≡ ys
-slot_written n i k xs ys size room =
-    let a : ℕ = n * i in
-    ap (take n) (drop_at (take a xs) (ys ++ drop k (drop a xs)) a (omega (arith, length-take a xs))) ∙ take_at ys (drop k (drop a xs)) n size
-
--- and each other slot stays as it was
-slot_kept : (n i j k : ℕ) (xs ys : List ℕ) → k ≡ n → length ys ≡ n → n * i + n ≤ length xs → ¬ (j ≡ i)
-    → slot_at n j (put_mid (n * i) k xs ys) ≡ slot_at n j xs
-slot_kept n i j k xs ys whole size room other =
-    elim (cases_lt j i) [
-      | inl before ↦
-          let zs : List ℕ = put_mid (n * i) k xs ys in
-          let below : n * j + n ≤ n * i = omega (arith, mul-le-mul_left n before) in
-          sym (drop-take (n * j) n zs) ∙ ap (drop (n * j)) (take-put_mid_below (n * i) k xs ys (n * j + n) below (omega arith)) ∙ drop-take (n * j) n xs
-      | inr from ↦
-          let after : i + 1 ≤ j = omega arith in
-          let above : n * i + k ≤ n * j = omega (arith, mul-le-mul_left n after) in
-          ap (take n) (drop-put_mid (n * i) k xs ys (n * j) above (omega arith) (omega arith))
-    ]
-
--- there is room for each slot
-pub slot_room : (n i count len : ℕ) → i < count → len ≡ n * count → n * i + n ≤ len
-slot_room n i count len below all =
-    let next : i + 1 ≤ count = omega arith in
-    omega (arith, mul-le-mul_left n next)
-
-pub slot_length : (n i k : ℕ) (xs : List ℕ) → k ≡ n → n * i + n ≤ length xs → length (take k (drop (n * i) xs)) ≡ n
-slot_length n i k xs whole room = omega (arith, length-take k (drop (n * i) xs), length-drop (n * i) xs)
 
 -- The slots before one are done, each by S from what it was to what it is, and the others are as they were.
 pub record SlotsDone (S : ℕ → List ℕ → List ℕ → Type 0) (n i : ℕ) (texts texts' : List ℕ) : Type 0 where
@@ -62,8 +29,8 @@ pub slot_next : (S S' : ℕ → List ℕ → List ℕ → Type 0) {n i : ℕ} {t
 slot_next S S' {n = n} {i = i} {texts = texts} {texts' = texts'} k text whole size room h same last =
     let here : i ≤ i = omega arith in
     let own : S' i (slot_at n i texts) text = rw (whole, h.left i here) at last in
-    let other : (j : ℕ) → ¬ (j ≡ i) → slot_at n j (put_mid (n * i) k texts' text) ≡ slot_at n j texts' =
-    λ j apart. slot_kept n i j k texts' text whole size room apart in
+    let written : Writes n i (n * i) k texts' text = record { place = refl; whole = whole; size = size; room = room } in
+    let other : (j : ℕ) → ¬ (j ≡ i) → slot_at n j (put_mid (n * i) k texts' text) ≡ slot_at n j texts' = λ j apart. part_kept j written apart in
     record {
       done = λ j below. elim (cases_lt j i) [
         | inl less ↦
@@ -71,7 +38,7 @@ slot_next S S' {n = n} {i = i} {texts = texts} {texts' = texts'} k text whole si
             rw (other j apart) (same j less _ _ (h.done j less))
         | inr from ↦
             let is : j ≡ i = omega arith in
-            rw (is, slot_written n i k texts' text size room) own
+            rw (is, part_written written) own
       ];
       left = λ j from. other j (λ e. absurd (omega (arith, e, from))) ∙ h.left j (omega arith);
     }

@@ -3,7 +3,8 @@ use Rattle.std.proofs.Common.{rules, ◌≡◌, ◌+◌, ◌*◌, ◌/◌, ◌-�
 use Rattle.key_wrap_core.specs.Calls.{block_calls}
 use Rattle.key_wrap_core.specs.Steps.{UnwrapState}
 use Rattle.key_wrap_lanes.specs.Lanes.{part_at, registers_at}
-use Rattle.key_wrap_lanes.proofs.Parts.{Writes, block_writes, part_room, part_length, parts_next}
+use Rattle.key_wrap_core.proofs.Parts.{Writes, part_room, part_length}
+use Rattle.key_wrap_lanes.proofs.Parts.{block_writes, parts_next}
 use Rattle.key_wrap_lanes.proofs.unwrap_many.begin_lanes.Goals as goal
 
 pub loop-lane-preserved : goal.loop-lane-preserved

@@ -1,6 +1,7 @@
 -- The end of each lane, in its part of the buffers.
 use Rattle.std.proofs.Common.{rules, ◌≡◌, ◌+◌, ◌*◌, ◌/◌, ◌-◌, ◌≤◌, ◌<◌, ℕ, List, length, arith, ◌∙◌}
-use Rattle.key_wrap_lanes.proofs.Parts.{Writes, part_length, text_writes, part_next}
+use Rattle.key_wrap_core.proofs.Parts.{Writes, part_length}
+use Rattle.key_wrap_lanes.proofs.Parts.{text_writes, part_next}
 use Rattle.key_wrap_lanes.proofs.unwrap_many.end_lanes.Goals as goal
 
 pub loop-lane-preserved : goal.loop-lane-preserved

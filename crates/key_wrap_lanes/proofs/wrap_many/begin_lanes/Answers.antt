@@ -2,7 +2,8 @@
 use Rattle.std.proofs.Common.{rules, ◌≡◌, ◌+◌, ◌*◌, ◌/◌, ◌-◌, ◌≤◌, ◌<◌, ℕ, List, length, arith}
 use Rattle.key_wrap_core.specs.Steps.{WrapState}
 use Rattle.key_wrap_lanes.specs.Lanes.{registers_at}
-use Rattle.key_wrap_lanes.proofs.Parts.{Writes, block_writes, parts_next}
+use Rattle.key_wrap_core.proofs.Parts.{Writes}
+use Rattle.key_wrap_lanes.proofs.Parts.{block_writes, parts_next}
 use Rattle.key_wrap_lanes.proofs.wrap_many.begin_lanes.Goals as goal
 
 pub loop-lane-preserved : goal.loop-lane-preserved

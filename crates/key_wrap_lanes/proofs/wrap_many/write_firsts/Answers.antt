@@ -1,7 +1,8 @@
 -- The first bytes of each text.
 use Rattle.std.proofs.Common.{◌≡◌, ◌+◌, ◌*◌, ◌/◌, ◌-◌, ◌≤◌, ◌<◌, ◌++◌, ℕ, List, length, take, drop, arith, ◌∙◌}
 use Rattle.key_wrap_lanes.specs.Lanes.{part_at, block_at}
-use Rattle.key_wrap_lanes.proofs.Parts.{Writes, text_writes, parts_next, parts_left}
+use Rattle.key_wrap_core.proofs.Parts.{Writes}
+use Rattle.key_wrap_lanes.proofs.Parts.{text_writes, parts_next, parts_left}
 use Rattle.key_wrap_lanes.proofs.wrap_many.write_firsts.Goals as goal
 
 pub loop-lane-preserved : goal.loop-lane-preserved

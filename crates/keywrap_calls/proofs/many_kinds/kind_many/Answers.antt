@@ -1,8 +1,7 @@
 -- The pair is AES under the KEK (`under`), and a slot is 8 bytes longer than the scratch buffer.
-use Rattle.std.proofs.Common.{◌≡◌, ◌<◌, ◌+◌, ◌/◌, ℕ, length, refl, sym}
+use Rattle.std.proofs.Common.{◌≡◌, length, refl, sym}
 use Rattle.fips197.specs.Cipher.{cipher}
 use Rattle.fips197.specs.KeyExpansion.{IsKekLength}
-use Rattle.keywrap_calls.specs.Many.{AreKindSlots}
 use Rattle.keywrap_calls.proofs.Slots.{many_done}
 use Rattle.keywrap_calls.proofs.many_kinds.kind_many.Goals as goal
 

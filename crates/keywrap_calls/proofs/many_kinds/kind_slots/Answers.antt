@@ -2,10 +2,10 @@
 use Rattle.std.proofs.Common.{◌≡◌, ◌≢◌, ℕ, ◌+◌, ◌*◌, ◌-◌, ◌<◌, ◌≤◌, List, length, take, drop, arith, rules, ap, sym, refl, pos, ◌∙◌, get_or-set_other, get_or-set_same, below_more}
 use mir.Syntax.{w32}
 use mir.Val.{SFits}
-use Rattle.fips197.specs.KeyExpansion.{IsKekLength}
-use Rattle.keywrap_calls.specs.Many.{FindsSlot, slot_at}
+use Rattle.keywrap_calls.specs.Many.{slot_at}
 use Rattle.keywrap_calls.proofs.Calls.{passed_on}
-use Rattle.keywrap_calls.proofs.Slots.{slot_room, slot_length, some_kek, some_kek_legal, status_passed, scratch_cleared}
+use Rattle.key_wrap_core.proofs.Parts.{part_room, part_length}
+use Rattle.keywrap_calls.proofs.Slots.{some_kek, some_kek_legal, status_passed, scratch_cleared}
 use Rattle.keywrap_calls.proofs.many_kinds.kind_slots.Goals as goal
 
 pub status_byte-requires : goal.status_byte-requires
@@ -27,9 +27,9 @@ loop-slot-preserved g c =
     let in_forms : i < length c.loop-slot.forms = omega arith in
     let in_lens : i < length c.loop-slot.key_lens = omega arith in
     let in_statuses : i < length c.loop-slot.statuses = omega arith in
-    let room : len * i + len ≤ length texts = slot_room len i (length c.args.statuses.now) (length texts) below c.requires.slots in
+    let room : len * i + len ≤ length texts = part_room len i (length c.args.statuses.now) (length texts) below c.requires.slots in
     let whole : len * i + len - len * i ≡ len = omega arith in
-    let size : length (take (len * i + len - len * i) (drop (len * i) texts)) ≡ len = slot_length len i (len * i + len - len * i) texts whole room in
+    let size : length (take (len * i + len - len * i) (drop (len * i) texts)) ≡ len = part_length len (len * i) (len * i + len - len * i) texts whole room in
     let text : take (len * i + len - len * i) (drop (len * i) texts) ≡ slot_at len i texts = ap (λ (k : ℕ). take k (drop (len * i) texts)) whole in
     let fits : SFits w32 c.kind_under-status.result = search rules in
     let status : c.kind_under-status.result ≡ pos c.status_byte.result = sym (passed_on fits refl) ∙ c.status_byte.ensures in

@@ -1,5 +1,5 @@
 -- The pairs are AES under the KEKs (`from`, `to`).
-use Rattle.std.proofs.Common.{◌≡◌, ◌<◌, ℕ, length, refl, sym}
+use Rattle.std.proofs.Common.{◌≡◌, refl, sym}
 use Rattle.fips197.specs.Cipher.{cipher}
 use Rattle.keywrap_calls.specs.Rewraps.{AreKeks}
 use Rattle.keywrap_calls.proofs.Slots.{many_done}

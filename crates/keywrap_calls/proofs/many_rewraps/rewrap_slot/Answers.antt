@@ -1,6 +1,6 @@
 -- The meters' pairs are the given ones (`from`, `to`).
-use Rattle.std.proofs.Common.{◌≡◌, ap, subst, sym}
-use Rattle.keywrap_calls.specs.Rewraps.{Rewraps, already_of}
+use Rattle.std.proofs.Common.{◌≡◌, ap, sym}
+use Rattle.keywrap_calls.specs.Rewraps.{already_of}
 use Rattle.keywrap_calls.proofs.Rewraps.{rewraps}
 use Rattle.keywrap_calls.proofs.many_rewraps.rewrap_slot.Goals as goal
 

@@ -1,6 +1,7 @@
 -- One slot after the other.
 use Rattle.std.proofs.Common.{◌≡◌, ◌≢◌, ℕ, ◌+◌, ◌*◌, ◌-◌, ◌<◌, ◌≤◌, List, length, arith, rules, ◌∙◌, get_or-set_other, get_or-set_same}
-use Rattle.keywrap_calls.proofs.Slots.{no_slot, slot_next, slot_room, slot_length}
+use Rattle.key_wrap_core.proofs.Parts.{part_room, part_length}
+use Rattle.keywrap_calls.proofs.Slots.{no_slot, slot_next}
 use Rattle.keywrap_calls.proofs.many_wraps.unwrap_slots.Goals as goal
 
 pub loop-slot-init : goal.loop-slot-init
@@ -19,9 +20,9 @@ loop-slot-preserved g c =
     let lens : length c.args.key_lens.now ≡ length c.args.statuses.now = c.requires.lens in
     let here : i < length c.loop-slot.statuses = omega arith in
     let here' : i < length c.loop-slot.key_lens = omega arith in
-    let room : len * i + len ≤ length texts = slot_room len i (length c.args.statuses.now) (length texts) below (same ∙ c.requires.slots) in
+    let room : len * i + len ≤ length texts = part_room len i (length c.args.statuses.now) (length texts) below (same ∙ c.requires.slots) in
     let whole : len * i + len - len * i ≡ len = omega arith in
-    let size : length text ≡ len = c.unwrap_slot-status.auto.text ∙ slot_length len i (len * i + len - len * i) texts whole room in
+    let size : length text ≡ len = c.unwrap_slot-status.auto.text ∙ part_length len (len * i) (len * i + len - len * i) texts whole room in
     slot_next _ _ (len * i + len - len * i) text whole size room c.loop-slot.invariant
     (λ j less a b before kek legal. let apart : j ≢ i = omega arith in
     rw (get_or-set_other c.loop-slot.statuses i j c.unwrap_slot-status.result.0 0 apart, get_or-set_other c.loop-slot.key_lens i j c.unwrap_slot-status.result.1 0 apart)
