@@ -109,7 +109,7 @@ on() {
     local part
     row "$1: the AES" writes "$3" "${@:4}" "$2/chosen"
     row "$1: the calls" writes ' passed, 0 failed' "${@:4}" "$2/checks" few
-    slow row "$1: many keys, all" writes ' passed, 0 failed' "${@:4}" "$2/checks" many
+    slow row "$1: many keys, at each place" writes ' passed, 0 failed' "${@:4}" "$2/checks" many
     row "$1: the published cases" writes "$(wc -l <cases) right" "${@:4}" "$2/published" <cases
     [ -e "${2%_without}/compared" ] || return
     row "$1: the provider, parameters" "${@:4}" "$2/compared" "$2" parameters

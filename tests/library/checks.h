@@ -96,7 +96,8 @@ void rewraps(uint32_t flags, const struct wrapped *wrapped, const struct kek *ol
              const struct kek *new);
 
 /* The calls for many keys do in each slot what the call for one key does. `keks` has 34 bytes, and
- * `keys` as many as 1,000 slots need. */
-void many_keys(const uint8_t *keks, const uint8_t *keys, int few);
+ * `keys` as many as 1,000 slots need. `few` checks one length of text at each place if `places` is
+ * set, and otherwise all lengths at some places. */
+void many_keys(const uint8_t *keks, const uint8_t *keys, int few, int places);
 
 #endif

@@ -4,7 +4,8 @@
  * KEK and form to another. Its last line is 'N passed, M failed'.
  *
  * usage: checks [few|many]   few: keys of 1 MiB are wrapped and unwrapped once in each form, and no
- * more, since an emulator takes seconds for each. many: the calls for many keys only, all of it. */
+ * more, since an emulator takes seconds for each. many: only the calls for many keys, of one length,
+ * at each place. */
 
 #include <stdio.h>
 #include <string.h>
@@ -595,13 +596,14 @@ static void for_one_key(void) {
 }
 
 int main(int argc, char **argv) {
-    few = argc == 2 && !strcmp(argv[1], "few");
+    const int places = argc == 2 && !strcmp(argv[1], "many");
+    few = places || (argc == 2 && !strcmp(argv[1], "few"));
     one_table_start();
     scatter(kek, sizeof kek);
     scatter(key, sizeof key);
     scatter(scattered, sizeof scattered);
-    if (argc < 2 || strcmp(argv[1], "many")) for_one_key();
-    many_keys(kek, scattered, few);
+    if (!places) for_one_key();
+    many_keys(kek, scattered, few, places);
     printf("%u passed, %u failed\n", passed, failed);
     return failed != 0;
 }

@@ -315,7 +315,7 @@ static void many_slots(const size_t *text_lens, size_t lens) {
     wraps_many(PADDED, 13, SLOTS);
 }
 
-void many_keys(const uint8_t *keks, const uint8_t *some, int few) {
+void many_keys(const uint8_t *keks, const uint8_t *some, int few, int places) {
     static const size_t text_lens[] = {16, 24, 40, 264, 272};
     static const size_t slots[] = {1, 2, 23, 24, 25};
     static const size_t kek_lens[] = {16, 24, 32};
@@ -330,8 +330,8 @@ void many_keys(const uint8_t *keks, const uint8_t *some, int few) {
         for (size_t n = 0; n < 5; n++) all_wraps(slots[n], few);
         for (size_t t = 0; t < 5; t++)
             for (size_t n = 0; n < 5; n++)
-                if (!few || (i == 2 && (n == 4 || t == 2)))
-                    each_place(text_lens[t], slots[n], few ? 12 : i == 2 ? 1 : 12);
+                if (!few || (i == 2 && (t == 2 || (n == 4 && !places))))
+                    each_place(text_lens[t], slots[n], i == 2 && (!few || places) ? 1 : 12);
         if (i == 2) many_slots(text_lens + (few ? 2 : 0), few ? 1 : 4);
         free_kek(&old);
         free_kek(&new);
