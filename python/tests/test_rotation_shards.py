@@ -255,7 +255,7 @@ def test_resumes(rotated, store, monkeypatch):
 
 
 def test_a_file_of_the_same_size_and_time_is_not_skipped(rotated, store):
-    """Its checksum is another one."""
+    """Its digest is another one."""
     rotated("--report", "report", "store")
     path = store / "0/3.hex"
     before = path.stat()

@@ -56,7 +56,7 @@ class Earlier:
 
 
 class Resume:
-    """The units that a report has as new, with their sizes, times and checksums."""
+    """The units that a report has as new, with their sizes, times and digests."""
 
     def __init__(self, name: str, store: Store) -> None:
         self.store, self.answers = store, Earlier("--resume", name).answers()

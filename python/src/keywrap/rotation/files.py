@@ -4,7 +4,6 @@ from __future__ import annotations
 
 import contextlib
 import os
-import zlib
 from typing import Iterable, Iterator, List, Mapping, Optional, Protocol
 
 from .keys import Block, Changed, Fresh, Readable, Refused
@@ -38,15 +37,13 @@ class _OpenFile:
 
     def __init__(self, descriptor: int, successor: "_Lazy", files: "Files") -> None:
         self.descriptor, self.successor, self.files = descriptor, successor, files
-        self.digest, self.length, self.checksum = new_digest(), 0, 0
+        self.digest, self.length = new_digest(), 0
 
     def blocks(self) -> Iterator[Block]:
         for block in self.files.format.blocks(_Reader(self.descriptor)):
             yield block
             self.digest.update(block.content)
             self.length += len(block.content)
-            if self.successor.made is None:
-                self.checksum = zlib.crc32(block.content, self.checksum)
         if not self.length:
             raise Refused("no key")
 
@@ -74,9 +71,9 @@ class _OpenFile:
     def replace(self) -> State:
         new = self.successor.made
         if new is None:
-            return state_of(self.successor.before, self.checksum)
+            return state_of(self.successor.before, self.digest)
         new.replace(self.descriptor, short(self.digest), quiesced=self.files.quiesced)
-        return state_of(os.fstat(new.descriptor), new.checksum)
+        return state_of(os.fstat(new.descriptor), new.digest)
 
 
 class _Lazy:

@@ -122,7 +122,7 @@ def _add_modes(parser: argparse.ArgumentParser) -> None:
     report = parser.add_mutually_exclusive_group()
     report.add_argument("--report", metavar="F", help="append a line of JSON for each file or range of rows")
     report.add_argument("--resume", metavar="REPORT", help="the report of an earlier run: skip each file whose size, "
-                        "time and checksum are there, and append the others")  # fmt: skip
+                        "time and digest are there, and append the others")  # fmt: skip
     parser.add_argument("--progress-file", metavar="F", help="write the progress as OpenMetrics text, once in a second")
 
 

@@ -18,7 +18,6 @@ import re
 import secrets
 import stat
 import time
-import zlib
 from typing import Any, Iterator, Optional, Tuple
 
 from .keys import Changed, Gone, Refused, Unsynced
@@ -150,7 +149,7 @@ class Successor:
         self.path, self.before = path, before
         self.directory = os.path.dirname(path) or b"."
         self.name: Optional[bytes] = None
-        self.digest, self.checksum = new_digest(), 0
+        self.digest = new_digest()
         if len(self._temporary("0" * _DIGITS, "0" * _DIGITS)) > 255:
             raise Refused("its name is too long for a temporary name beside it")
         try:
@@ -169,7 +168,6 @@ class Successor:
 
     def write(self, content: bytes) -> None:
         self.digest.update(content)
-        self.checksum = zlib.crc32(content, self.checksum)
         view = memoryview(content)
         while view:
             view = view[os.write(self.descriptor, view) :]
@@ -279,9 +277,9 @@ def replace(path: str, new_bytes: bytes, *, old_bytes: bytes) -> None:
         raise Refused("No such file or directory") from None
 
 
-def state_of(status: os.stat_result, checksum: int) -> Tuple[int, int, int]:
-    """The size and the time of a file, and the checksum of its content."""
-    return status.st_size, status.st_mtime_ns, checksum
+def state_of(status: os.stat_result, digest: "hashlib._Hash") -> Tuple[int, int, str]:
+    """The size and the time of a file, and the digest of its content."""
+    return status.st_size, status.st_mtime_ns, short(digest)
 
 
 def is_as(path: bytes, state: Any) -> bool:
@@ -291,18 +289,10 @@ def is_as(path: bytes, state: Any) -> bool:
         if [status.st_size, status.st_mtime_ns, stat.S_ISREG(status.st_mode)] == [*state[:2], True]:
             descriptor = os.open(path, os.O_RDONLY | os.O_NOFOLLOW | os.O_CLOEXEC)
             try:
-                return bool(_checksum_of(descriptor) == state[2])
+                return bool(digest_of(descriptor) == state[2])
             finally:
                 os.close(descriptor)
     return False
-
-
-def _checksum_of(descriptor: int) -> int:
-    checksum, offset, room = 0, 0, bytearray(1 << 16)
-    while count := os.preadv(descriptor, [room], offset):
-        checksum = zlib.crc32(memoryview(room)[:count], checksum)
-        offset += count
-    return checksum
 
 
 def is_temporary(name: bytes) -> bool:

@@ -19,8 +19,8 @@ class Unit(NamedTuple):
     group: str = ""
 
 
-#: The size, the time and the checksum of a unit, or `None` if a store has none.
-State = Optional[Tuple[int, int, int]]
+#: The size, the time and the digest of a unit, or `None` if a store has none.
+State = Optional[Tuple[int, int, str]]
 
 
 class Opened(Protocol):
