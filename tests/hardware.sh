@@ -45,9 +45,13 @@ for std in c89 c99 c11; do row "the header in $std" cc -std=$std "${options[@]:1
 
 ### The steps
 
+# The numbers of steps as the header has them.
+sentence='There are ([0-9]+) steps for each 8 bytes of the registers, or ([0-9]+) if they are 8 bytes long'
+[[ $(<"$root/include/keywrap_steps.h") =~ $sentence ]]
+steps=("-DSTEPS_OF_WORD=${BASH_REMATCH[1]:-}" "-DSTEPS_OF_ONE_WORD=${BASH_REMATCH[2]:-}")
 if needs "the steps around OpenSSL's AES" '<openssl/evp.h>'; then
     for name in keywrap keywrap_hw; do
-        row "the steps around OpenSSL's AES, $name" cc "${options[@]}" "$root/tests/hardware/steps.c" \
+        row "the steps around OpenSSL's AES, $name" cc "${options[@]}" "${steps[@]}" "$root/tests/hardware/steps.c" \
             "$library/lib$name.a" -lcrypto -o steps &&
             row "the steps around OpenSSL's AES, $name: run" writes ' passed, 0 failed' ./steps
     done

@@ -42,7 +42,7 @@ def test_metadata(thing):
     links = re.findall(r"\]\(([^)]*)", text)
     assert links and all(link.startswith("https://") for link in links)
     classifiers = re.findall("^Classifier: (.*)", text, re.M)
-    assert len(classifiers) >= 5 and not any("licen" in line.lower() for line in classifiers)
+    assert len(classifiers) >= 5 and not re.search("^(Classifier: )?licen[cs]e", text.partition("\n\n")[0], re.M | re.I)
 
 
 def test_stripped_extension(thing):

@@ -1,6 +1,7 @@
 /* steps.c: the calls of keywrap_steps.h around OpenSSL's AES: every form and length against the
  * calls of keywrap.h, one by one and many at once, a tampered text, and each refusal, which changes
- * nothing. The last line is 'N passed, M failed'. */
+ * nothing. STEPS_OF_WORD and STEPS_OF_ONE_WORD are the header's numbers of steps. The last line is
+ * 'N passed, M failed'. */
 
 #include <keywrap.h>
 #include <keywrap_steps.h>
@@ -79,7 +80,7 @@ static void plain(size_t kek_len, size_t len) {
         return;
     }
     check(begun == KEYWRAP_OK && done == 0, "plain, begun", len);
-    check(wrapped_by(text, len, block) == 6 * (len / 8), "plain, 6 steps for each word", len);
+    check(wrapped_by(text, len, block) == STEPS_OF_WORD * (len / 8), "plain, the number of steps", len);
     check(!memcmp(text, expected, len + 8), "plain, wrapped", len);
 
     int opened = keywrap_begin_unwrap(text, text + 8, len, &left, block);
@@ -100,7 +101,8 @@ static void plain(size_t kek_len, size_t len) {
 static void padded(size_t kek_len, size_t len) {
     uint8_t key[LONGEST], text[LONGEST + 8], expected[LONGEST + 8], block[16];
     size_t room = (len + 7) / 8 * 8, found = 7;
-    uint64_t steps = room == 8 ? 1 : 6 * (room / 8), done = 7, left = 7;
+    uint64_t steps = room == 8 ? STEPS_OF_ONE_WORD : STEPS_OF_WORD * (room / 8);
+    uint64_t done = 7, left = 7;
     for (size_t i = 0; i < len; i++) key[i] = (uint8_t)(len + 17 * i);
     memset(text, 0xee, sizeof text);
     memcpy(text + 8, key, len);
