@@ -77,6 +77,15 @@ class TestMeasured:
         ways = "keywrap_hw, many", "keywrap_hw, one", "nettle, kept schedules"
         assert text.format(*map(times.get, ways)) in words_of("docs/C_LIBRARY.md")
 
+    def test_times_of_a_rotation(self):
+        """docs/RECIPES.md has the times of docs/pictures/stores.csv, with two digits, and the memory."""
+        page = text_of("docs/RECIPES.md")
+        table = re.search(r"^\| \| first run \| again \| memory \|\n.*\n((?:\|.*\n)+)", page, re.M)
+        due = [["lines" if store == "files" else store,
+                *(f"{float(f'{float(time):.2g}'):g} µs" for time in times), f"{memory} MB"]
+               for store, *times, memory in measured("stores")[1:]]
+        assert [[cell.strip() for cell in line.split("|")[1:-1]] for line in table[1].splitlines()] == due
+
     def test_times_in_python_and_java(self):
         """Of a wrap of 32 bytes, in docs/pictures/python.csv and java.csv."""
         times = {call: float(us) for key, call, us in measured("python")[1:] if key == "32"}

@@ -1,6 +1,6 @@
 /* threads.c: threads that make the calls for many keys at the same time, each over buffers of its
  * own. They begin together, so their first calls decide together which AES is used. Each key comes
- * back as it was, and each result is that of the calls for one key. The last line is
+ * back as it was, and each result is what the call for one key gives. The last line is
  * 'N passed, M failed'. */
 
 #define _POSIX_C_SOURCE 200809L
