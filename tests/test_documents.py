@@ -128,6 +128,10 @@ class TestRepeatedFacts:
         assert len(page.split()) <= 1200
         first = " ".join(page.split("\n\n")[1].split())
         assert re.search("^`keywrap` encrypts .* licence .* Nothing has been released.* the kit of Rattle ", first)
+        for answer in ("1.0.0 included", "not a validated FIPS 140 module", "aarch64, tested under qemu only",
+                       "we know no outside review", "does not wipe its memory",
+                       "is [measured](SECURITY.md), not proved"):
+            assert answer in " ".join(page.split())
 
     def test_times(self):
         """The time of the first build is the launcher's, and `make test` takes the same in both documents."""
