@@ -97,3 +97,20 @@ fn answers_the_standards_vectors(rt: HostRuntime) {
         assert_eq!(rt; lent.dec(ciphertext), plaintext, "lent, {bytes} bytes");
     }
 }
+
+// To the contract a refused key may leave anything in its room.
+#[test]
+fn a_refused_key_leaves_its_room(rt: HostRuntime) {
+    let mut room = Room::new();
+    for len in [0, 15, 17, 33] {
+        assert!(rt;
+            LentAes::new(&[1; 33][..len], &mut room).is_err(),
+            "{len} bytes"
+        );
+        assert!(rt; room.words.iter().all(|word| *word == 0), "{len} bytes");
+        for key in &room.keys {
+            assert!(rt; key.enc.to_array() == [0; 16], "{len} bytes");
+            assert!(rt; key.dec.to_array() == [0; 16], "{len} bytes");
+        }
+    }
+}
