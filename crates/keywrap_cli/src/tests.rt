@@ -10,6 +10,7 @@ mod hostile;
 mod initial_values;
 mod jobs;
 mod operations;
+mod published;
 mod rewraps;
 mod standards;
 mod vectors;
