@@ -1,14 +1,15 @@
 """The answers of each command: the vectors of RFC 3394 and RFC 5649, in each notation, form and direction."""
 
+import os
 import pathlib
 import random
 
 import pytest
 
 from checks import DONE, comes_to, fresh, keeps
-from commands import UNWRAP, table
-from program import Ended, answered, refused
-from vectors import BAD_LENGTH, drilled_zeros, raw, zeros
+from commands import CHECK, UNWRAP, WRAP, table
+from program import Ended, Program, answered, refused
+from vectors import BAD_LENGTH, INTEGRITY, KEY16, VECTOR_LINES, WRAPPED16, drilled_zeros, raw, zeros
 
 BOTH_WAYS = [(f"{job} {flags} --kek {kek}.hex", *values) for flags, kek, key, wrapped in table("answers", "both ways")
              for job, *values in (("wrap", key, wrapped), ("unwrap", wrapped, key))]
@@ -70,3 +71,18 @@ def test_drill(keywrap, flags, given, answer):
 @pytest.mark.parametrize("args, status, message", [(["drill", ""], 4, BAD_LENGTH), *table("answers", "refused drill")])
 def test_refused_drill(keywrap, args, status, message):
     assert keywrap(args) == refused(int(status), message)
+
+
+def test_damaged_decryption(keywrap):
+    """A program that encrypts right and decrypts wrong: `vectors` reports each vector, so it unwraps what it wraps.
+
+    Eight of the places of InvShiftRows stand in the program, and only its decryption uses them."""
+    program, places = pathlib.Path(keywrap.path).read_bytes(), raw("000d0a0704010e0b")
+    assert places in program
+    pathlib.Path("damaged").write_bytes(program.replace(places, places[::-1]))
+    os.chmod("damaged", 0o700)
+    damaged = Program(pathlib.Path("damaged").absolute())
+    assert damaged("vectors") == Ended(5, VECTOR_LINES.replace(" ok", " failed"))
+    assert damaged(WRAP, stdin=KEY16) == answered(WRAPPED16)
+    assert damaged(UNWRAP, stdin=WRAPPED16) == refused(5, INTEGRITY)
+    assert damaged(CHECK, stdin=WRAPPED16) == Ended(5, "none\n")

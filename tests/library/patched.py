@@ -1,7 +1,8 @@
 """The self test of a shared object passes, and fails if one byte of a vector or of the damaged wrapped key is changed.
 
 With `decryption` it also fails if only the decryption is damaged: then every wrap is right, so a self test that unwraps
-nothing, or not by the exports, passes. No clause can see the latter: to a proof two functions of one meaning are one.
+nothing passes. Nothing shows that it calls the exports, and not what they call: to a proof two functions of one meaning
+are one, and both compilers put a copy of the exports' code into the self test.
 Rattle's own compiler does not store the table in one piece, so there is nothing to damage in what it makes.
 
 usage: patched.py LIBRARY [decryption]"""
