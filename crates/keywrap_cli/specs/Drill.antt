@@ -2,6 +2,7 @@
 use Rattle.std.specs.Prelude.{◌≡◌, ℕ, List, length, Result, Ok, Err, Vec}
 use Rattle.std.specs.declared.alloc.Global.{Global}
 use Rattle.block_pair.specs.Halves.{swapped_halves}
+use Rattle.key_files.specs.HexText.{hex_line}
 use Rattle.key_files.specs.Meaning.{file_meaning, hex_meaning}
 use Rattle.key_files.specs.declared.fault.FileFault.{FileFault}
 use Rattle.key_files.specs.declared.fault.FileFault.TheVariants as files
@@ -49,3 +50,7 @@ DrillAnswer direction form text (Err Integrity) =
     (X : List ℕ) × (drill_meaning text ≡ Ok X) × IsInputLength direction form (length X)
     × HasNoAnswer direction form default_iv swapped_halves X
 DrillAnswer direction form text (Err Memory) = (X : List ℕ) × (drill_meaning text ≡ Ok X)
+
+-- the line of a drill: the hex digits of its result
+abbrev pub IsDrillLine : Direction → Form → (text line : List ℕ) → Type 0
+IsDrillLine direction form text line = (Y : Vec ℕ Global) × DrillAnswer direction form text (Ok Y) × (line ≡ hex_line Y.items)

@@ -1,7 +1,9 @@
 //! The commands without files: they write their answer, flush it, and return the exit status.
 
-ghost use Rattle.std.specs.Prelude.{◌≡◌, ◌⊎◌, IfOk, true, false};
+ghost use Rattle.std.specs.Prelude.{◌≡◌, ◌⊎◌, List, ℕ, IfOk, true, false};
+ghost use Rattle.std.specs.Io.KnownBytes.{Appends, Keeps};
 ghost use Rattle.test_vectors.specs.Published.{published_vectors};
+ghost use Rattle.keywrap_cli.specs.Drill.{IsDrillLine};
 ghost use Rattle.keywrap_cli.specs.Vectors.{IsVerdictOnAll};
 
 use crate::convert::Direction;
@@ -22,7 +24,12 @@ pub fn run_drill<W: Write>(
     direction: Direction,
     text: &str,
     out: &mut W,
-) -> Result<u8, ProgramFault> {
+) -> Result<u8, ProgramFault>
+    ensures done { IfOk result (λ status. status ≡ 0) }
+    ensures line { IfOk result (λ status. (line : List ℕ)
+        × IsDrillLine direction form text.now line
+        × Appends (W.contents out.old) (W.contents out.new) line) }
+{
     let bytes = match drill(alloc, form, direction, text) {
         Ok(bytes) => bytes,
         Err(fault) => return Err(ProgramFault::Drill(fault)),
@@ -45,14 +52,19 @@ pub fn run_vectors<C: VectorCalls, W: Write>(alloc: Global, out: &mut W) -> Resu
 }
 
 /// Writes the help or the version.
-pub fn write_help<W: Write>(text: &str, out: &mut W) -> Result<u8, ProgramFault> {
+pub fn write_help<W: Write>(text: &str, out: &mut W) -> Result<u8, ProgramFault>
+    ensures done { IfOk result (λ status. status ≡ 0) }
+    ensures text { IfOk result (λ status.
+        Appends (W.contents out.old) (W.contents out.new) text.now) }
+{
     write_raw(out, text.as_bytes())?;
     flush(out, statuses::DONE)
 }
 
 // Flushes the output, and returns the status of a call without a fault.
 fn flush<W: Write>(out: &mut W, status: u8) -> Result<u8, ProgramFault>
-    ensures { IfOk result (λ answer. answer ≡ status) }
+    ensures status { IfOk result (λ answer. answer ≡ status) }
+    ensures kept { Keeps (W.contents out.old) (W.contents out.new) }
 {
     match out.flush() {
         Ok(()) => Ok(status),

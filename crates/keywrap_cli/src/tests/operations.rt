@@ -78,9 +78,9 @@ fn passes_what_is_new_already(rt: HostRuntime) {
     }
 }
 
-// Drops the refusals.
+/// Drops the refusals.
 #[derive(Drop)]
-struct NoLog;
+pub struct NoLog;
 
 impl RefusalLog<Refusal> for NoLog {
     fn receive(&mut self, _refused: &RefusedLine<Refusal>) {}

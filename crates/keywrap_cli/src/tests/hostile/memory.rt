@@ -1,16 +1,22 @@
 //! Each allocation is refused in turn: a call returns Memory and has written nothing, or succeeds.
 //! `rt try --test --fail-alloc N` refuses the Nth allocation; the gate refuses none.
 
-use super::super::cases::{Case, run};
-use super::super::jobs::RAW_KEY;
+use super::super::cases::{Case, HEX, run};
+use super::super::doubles::Trickle;
+use super::super::jobs::{HEX_KEK, HEX_KEY, RAW_KEY};
+use super::super::operations::NoLog;
 use super::super::vectors::LINES;
 use super::swapped::{PADDED_KEY, PADDED_TEXT, TEXT};
 use crate::convert::Direction;
 use crate::drilling::{DrillFault, drill};
-use crate::job::JobFault;
+use crate::job::{Job, JobFault, Task};
+use crate::operation::Operation;
+use crate::refusal::Refusal;
 use crate::report::{VectorsFault, vectors};
 use crate::vector_check::Library;
-use key_wrap_core::Form;
+use key_files::FileFault;
+use key_lines::{LineFault, RunFault};
+use key_wrap_core::{Form, InitialValue};
 use std::alloc::Global;
 use std::process::Abort;
 
@@ -74,5 +80,66 @@ fn refuses_each_growth_of_the_vectors(rt: HostRuntime) {
     } else {
         assert!(rt; done == Ok(true));
         assert!(rt; room.get(..written) == Some(LINES.as_bytes()));
+    }
+}
+
+// The line of a wrapped key, and a shorter line that is refused. It needs no more memory than the
+// first one, so it is refused for its own fault, and never for lack of memory.
+static SECOND_LINES: [(&[u8], LineFault<Refusal>); 3] = [
+    (
+        b"1fa68b0a8112b447aef34bd8fb5a7b829d3e862371d2cfe5\n0g\n",
+        LineFault::Input(FileFault::BadDigit { at: 1 }),
+    ),
+    (
+        b"1fa68b0a8112b447aef34bd8fb5a7b829d3e862371d2cfe5\n001\n",
+        LineFault::Input(FileFault::OddDigits),
+    ),
+    (
+        b"1fa68b0a8112b447aef34bd8fb5a7b829d3e862371d2cfe5\n00\n",
+        LineFault::Refused(Refusal::BadLength),
+    ),
+];
+
+#[test]
+fn refuses_each_growth_of_a_run_over_lines(rt: HostRuntime) {
+    for (lines, fault) in SECOND_LINES {
+        let mut room = [0; 64];
+        let mut free = room.as_mut_slice();
+        let found = unwrap_lines(rt.alloc(), lines, &mut free);
+        let written = 64_usize.saturating_sub(free.len());
+        if found == Some((1, LineFault::Input(FileFault::Memory))) {
+            assert!(rt; written == 0);
+        } else {
+            assert!(rt; found == Some((2, fault)), "{fault:?}");
+            assert!(rt; room.get(..written) == Some(HEX_KEY), "{fault:?}");
+        }
+    }
+}
+
+// Unwraps each line. Returns the line that is refused, with its fault. If memory is lacking for the
+// KEK, this is the first line.
+fn unwrap_lines(
+    alloc: Global,
+    mut lines: &[u8],
+    out: &mut &mut [u8],
+) -> Option<(u64, LineFault<Refusal>)> {
+    let task = Task {
+        job: Job::Unwrap,
+        form: Form::Plain,
+        input: HEX,
+        kek: HEX,
+    };
+    let mut operation = Operation::Job {
+        iv: InitialValue::default(),
+        task,
+        kek: Trickle::in_pieces(HEX_KEK, 7),
+    };
+    match operation.run_lines(alloc, false, &mut NoLog, &mut lines, out) {
+        Ok(outcome) => match outcome.result {
+            Err(RunFault::AtLine { line, fault }) => Some((line, fault)),
+            _ => None,
+        },
+        Err(JobFault::Memory) => Some((1, LineFault::Input(FileFault::Memory))),
+        Err(_) => None,
     }
 }
