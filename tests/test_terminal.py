@@ -176,6 +176,8 @@ class TestProgress:
             assert lines / seconds - 1 <= pace <= lines / (at * pause)
             assert 100 * part - 1 <= done <= 100 * part + 1
             assert at * pause * (1 - part) / part - 1 <= left <= seconds * (1 - part) / part + 1
+            # 0 seconds are left only at the end.
+            assert left > 0 or done == 100
 
     def test_a_file_that_grows(self, terminal, compiled):
         """All of it is read. When more is read than it had at first, it is done as far as the program knows."""
