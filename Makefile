@@ -43,8 +43,6 @@ LIBRARY ?= out/library$(other)
 JS ?= out/js
 # What the C library is made of: the archive that rt builds of the exports.
 ARCHIVE ?= crates/keywrap_c/out/libkeywrap_c.a
-# The directory of the portable C library.
-PORTABLE ?= out/portable
 # The directory of the provider for OpenSSL; never committed.
 PROVIDER ?= out/provider
 # The directory of the example in C.
@@ -79,8 +77,8 @@ for_fish = $(share)/fish/vendor_completions.d
 
 .PHONY: help version build library library-anew test test-all packages proofs gate install uninstall \
     install-command uninstall-command install-library uninstall-library install-provider uninstall-provider \
-    provider examples needs needs-wheel wheel js portable sdist dist dist-each dist-command dist-library dist-wheel \
-    dist-js dist-portable dist-sdist packed bench pictures clean
+    provider examples needs needs-wheel wheel js dist-sources sdist dist dist-each dist-command dist-library \
+    dist-wheel dist-js dist-portable dist-sdist packed bench pictures clean
 # Goals run one at a time: the tools are checked before anything is built, and rt writes every archive to one path.
 .NOTPARALLEL:
 
@@ -93,8 +91,8 @@ help:
 	@echo 'make examples           builds the example in C, as $(EXAMPLES)/wrap'
 	@echo 'make wheel              builds the Python package, as $(wheel)'
 	@echo 'make js                 builds the package for browsers, Node and Deno, as $(JS)'
-	@echo 'make portable           builds the library as one file of C for other machines, as $(PORTABLE)'
-	@echo 'make sdist              packs the Python package with that file, in $(DIST), for pip to build elsewhere'
+	@echo 'make dist-sources       writes dist/, from which everyone builds without the kit: C, and the module of make js'
+	@echo 'make sdist              packs the Python package with that C, in $(DIST), for pip to build elsewhere'
 	@echo 'make test               runs the tests of the built command and the libraries; with KEYWRAP_ALL=1 all of them'
 	@echo 'make packages           installs the packages that the tests use: tests/packages.txt'
 	@echo 'make gate               runs rt ci, which proves all from nothing and tries each edit, and then all tests:'
@@ -162,8 +160,6 @@ examples: library
 # A missing tool is named before anything is built.
 needs: needs-wheel
 	$(needs_compiler)
-	$(if $(filter dist-js,$(packed)),@scripts/js.sh --needs)
-	$(if $(filter dist-portable,$(packed)),@$(PYTHON) scripts/portable.py --needs)
 
 needs-wheel:
 	$(needs_headers)
@@ -178,12 +174,14 @@ wheel: needs-wheel library
 js:
 	scripts/js.sh '$(version)' '$(JS)'
 
-portable: js
-	$(PYTHON) scripts/portable.py '$(JS)/keywrap.wasm' '$(version)' '$(PORTABLE)'
+dist-sources:
+	$(PYTHON) scripts/portable.py --needs
+	scripts/module.sh out/keywrap.wasm
+	$(PYTHON) scripts/portable.py out/keywrap.wasm dist
 
-sdist: portable
+sdist:
 	@scripts/wheel_needs.sh '$(PYTHON)'
-	scripts/sdist.sh '$(PYTHON)' '$(PORTABLE)' '$(of_python)' '$(DIST)'
+	scripts/sdist.sh '$(PYTHON)' '$(of_python)' '$(DIST)'
 
 # The scripts prove and build what is not built yet, and nothing else.
 test:
@@ -299,16 +297,16 @@ pack = rm -rf '$(DIST)/room' && install -d '$(DIST)/room/$(1)' && cp $(3) '$(DIS
 dist-js: js
 	@$(call pack,package,keywrap-$(version).tgz,'$(JS)'/*)
 
-portable_files = $(addprefix '$(PORTABLE)'/,README keywrap.c keywrap.h vectors.c Makefile CMakeLists.txt)
-dist-portable: portable
-	@$(call pack,keywrap-portable-$(version),keywrap-portable-$(version).tar.gz,$(portable_files))
+sources = $(addprefix dist/,README keywrap.c keywrap.h keywrap_steps.h keywrap.wasm Makefile CMakeLists.txt check)
+dist-portable:
+	@$(call pack,keywrap-portable-$(version),keywrap-portable-$(version).tar.gz,-R $(sources))
 
 dist-sdist: sdist
 
 # With BENCH=DIRECTORY it also writes DIRECTORY/*.csv; `make bench BENCH=docs/pictures` renews the data of the plots.
 export BENCH
-bench: build library library-hardware provider wheel portable
-	PORTABLE='$(PORTABLE)' bench/wrap '$(LIBRARY)/libkeywrap.a'
+bench: build library library-hardware provider wheel js
+	bench/wrap '$(LIBRARY)/libkeywrap.a'
 	bench/many '$(LIBRARY)/libkeywrap.a'
 	bench/provider '$(PROVIDER)/keywrap.so'
 	bench/java '$(LIBRARY)'

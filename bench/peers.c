@@ -30,36 +30,22 @@ static int unwrap_ours(const uint8_t *kek, size_t kek_len, const uint8_t *text, 
     return keywrap_unwrap(kek, kek_len, text, KEYWRAP_TEXT_LEN(len), key, len) == KEYWRAP_OK;
 }
 
+/* The calls of another build of the library, as bench/wrap renames them. */
+#define BUILD(name)                                                                                \
+    int32_t name##_wrap(const uint8_t *, size_t, const uint8_t *, size_t, uint8_t *, size_t);      \
+    int32_t name##_unwrap(const uint8_t *, size_t, const uint8_t *, size_t, uint8_t *, size_t);    \
+    static int wrap_by_##name(const uint8_t *kek, size_t kek_len, const uint8_t *key, size_t len,  \
+                              uint8_t *text) {                                                     \
+        return name##_wrap(kek, kek_len, key, len, text, KEYWRAP_TEXT_LEN(len)) == KEYWRAP_OK;     \
+    }                                                                                              \
+    static int unwrap_by_##name(const uint8_t *kek, size_t kek_len, const uint8_t *text,           \
+                                size_t len, uint8_t *key) {                                        \
+        return name##_unwrap(kek, kek_len, text, KEYWRAP_TEXT_LEN(len), key, len) == KEYWRAP_OK;   \
+    }
+BUILD(portable)
+BUILD(portable_hw)
 #ifdef HAVE_HARDWARE
-/* The calls of libkeywrap_hw, as bench/wrap renames them. */
-int32_t hw_wrap(const uint8_t *, size_t, const uint8_t *, size_t, uint8_t *, size_t);
-int32_t hw_unwrap(const uint8_t *, size_t, const uint8_t *, size_t, uint8_t *, size_t);
-
-static int wrap_hardware(const uint8_t *kek, size_t kek_len, const uint8_t *key, size_t len,
-                         uint8_t *text) {
-    return hw_wrap(kek, kek_len, key, len, text, KEYWRAP_TEXT_LEN(len)) == KEYWRAP_OK;
-}
-
-static int unwrap_hardware(const uint8_t *kek, size_t kek_len, const uint8_t *text, size_t len,
-                           uint8_t *key) {
-    return hw_unwrap(kek, kek_len, text, KEYWRAP_TEXT_LEN(len), key, len) == KEYWRAP_OK;
-}
-#endif
-
-#ifdef HAVE_PORTABLE
-/* The calls of the portable library, as bench/wrap renames them. */
-int32_t portable_wrap(const uint8_t *, size_t, const uint8_t *, size_t, uint8_t *, size_t);
-int32_t portable_unwrap(const uint8_t *, size_t, const uint8_t *, size_t, uint8_t *, size_t);
-
-static int wrap_portable(const uint8_t *kek, size_t kek_len, const uint8_t *key, size_t len,
-                         uint8_t *text) {
-    return portable_wrap(kek, kek_len, key, len, text, KEYWRAP_TEXT_LEN(len)) == KEYWRAP_OK;
-}
-
-static int unwrap_portable(const uint8_t *kek, size_t kek_len, const uint8_t *text, size_t len,
-                           uint8_t *key) {
-    return portable_unwrap(kek, kek_len, text, KEYWRAP_TEXT_LEN(len), key, len) == KEYWRAP_OK;
-}
+BUILD(hw)
 #endif
 
 #ifdef HAVE_OPENSSL
@@ -157,11 +143,10 @@ static int unwrap_one_table(const uint8_t *kek, size_t kek_len, const uint8_t *t
 const struct peer PEERS[] = {
     {"keywrap", SOFTWARE, wrap_ours, unwrap_ours},
 #ifdef HAVE_HARDWARE
-    {"hardware", INSTRUCTIONS, wrap_hardware, unwrap_hardware},
+    {"hardware", INSTRUCTIONS, wrap_by_hw, unwrap_by_hw},
 #endif
-#ifdef HAVE_PORTABLE
-    {"portable", SOFTWARE, wrap_portable, unwrap_portable},
-#endif
+    {"portable", SOFTWARE, wrap_by_portable, unwrap_by_portable},
+    {"portable_hw", INSTRUCTIONS, wrap_by_portable_hw, unwrap_by_portable_hw},
 #ifdef HAVE_OPENSSL
     {"openssl", SOFTWARE, wrap_openssl, unwrap_openssl},
 #endif

@@ -41,10 +41,8 @@
 #define KEYWRAP_VERSION \
     (KEYWRAP_VERSION_MAJOR << 16 | KEYWRAP_VERSION_MINOR << 8 | KEYWRAP_VERSION_PATCH)
 
-/* Define KEYWRAP_PORTABLE if you build the portable library (keywrap.c). It runs on any processor.
- * Each call copies its buffers. For a key of more than 4096 bytes it allocates memory for them with
- * malloc, and returns KEYWRAP_NO_MEMORY if it gets none: then no buffer is written, and the numbers
- * that the call returns are 0. */
+/* KEYWRAP_PORTABLE is defined in the header of the portable library (keywrap.c), which runs on any
+ * processor. It needs no memory: KEYWRAP_NO_MEMORY is a status that no call returns any more. */
 #ifdef KEYWRAP_PORTABLE
 #define KEYWRAP_NO_MEMORY 7
 #endif

@@ -27,7 +27,7 @@
 #ifndef KEYWRAP_STEPS_H
 #define KEYWRAP_STEPS_H
 
-#include <keywrap.h>
+#include "keywrap.h"
 
 #if defined(__GNUC__)
 #define KEYWRAP_CALL __attribute__((nonnull, nothrow, warn_unused_result))
@@ -102,8 +102,10 @@ KEYWRAP_CALL
 int32_t keywrap_end_unwrap_padded(uint8_t *registers, size_t len, uint64_t left, uint8_t *block,
                                   size_t *key_len);
 
+#ifndef KEYWRAP_PORTABLE
 /* The calls for many keys of one length make the same step of each, for an AES that works on many
- * blocks side by side. All have the same number of steps done or left.
+ * blocks side by side. The portable library does not have them. All have the same number of steps
+ * done or left.
  *   texts     wrapped keys of text_len bytes, one behind the other: 8 bytes, and the registers
  *   text_len  a multiple of 8 from 24 to KEYWRAP_MAX_TEXT
  *   blocks    16 bytes for each text
@@ -145,6 +147,7 @@ KEYWRAP_CALL
 int32_t keywrap_end_unwrap_many(const uint8_t *iv, size_t iv_len, uint8_t *texts, size_t texts_len,
                                 size_t text_len, uint64_t left, uint8_t *blocks, size_t blocks_len,
                                 uint8_t *statuses, size_t statuses_len);
+#endif
 
 #ifdef __cplusplus
 }

@@ -1,9 +1,11 @@
-"""Writes the portable C library into DIRECTORY: keywrap.c, which is the runtime, the module that wasm2c translates to
-C, and the calls; and what is beside it. Nothing of wasm2c's own template is kept: only the functions and constants of
-the module. `make portable` calls this script.
+"""Writes the sources in dist/, from which everyone builds the library without the kit: keywrap.c, which is the runtime,
+the module that wasm2c translates to C, the calls, and AES by the processor's instructions; and what is beside it. Of
+wasm2c's own template nothing is kept but the functions and constants of the module. `make dist-sources` calls this
+script.
 
-usage: portable.py KEYWRAP.WASM VERSION DIRECTORY        (WASM2C names another wasm2c)
-       portable.py --needs                               (fails if a tool is missing; builds nothing)"""
+usage: portable.py KEYWRAP.WASM DIRECTORY      (WASM2C names another wasm2c)
+       portable.py --needs                     (fails if a tool is missing; builds nothing)
+       portable.py --tools                     (prints the tools, as they are named in keywrap.c)"""
 
 import os
 import pathlib
@@ -16,11 +18,27 @@ import tempfile
 ROOT = pathlib.Path(__file__).resolve().parent.parent
 PARTS = ROOT / "portable"
 WASM2C = os.environ.get("WASM2C", "wasm2c")
-CONSTANTS = re.compile(r"static const u8 data_segment_data_w2c_d0\[\] = \{\n(.*?)\n\};", re.S)
+WASM_OPT = os.environ.get("WASM_OPT", "wasm-opt")
+FUNCTION = re.compile(r"^static \w+ (w2c_\w+)\((struct instance \*[^;{]*)\) \{\n(.*?)^}\n", re.M | re.S)
+PROTOTYPE = re.compile(r"^static \w+ (w2c_\w+)\(struct instance .*\);\n", re.M)
 FRAME = re.compile(r"w2c_j0 = instance->w2c_g0;\s+w2c_j1 = (\d+)ull;\s+w2c_j0 -= w2c_j1;")
 # A function without a frame, which only looks whether so many bytes are left.
 LOOK = re.compile(r"w2c_j0 = instance->w2c_g0;\s+(w2c_l\d+) = w2c_j0;\s+w2c_j1 = (\d+)ull;\s+"
                   r"w2c_i0 = \(u64\)\(\(s64\)w2c_j0 ([<>]) \(s64\)w2c_j1\);")
+STEPS = {f"w2c_keywrap_{call}" for call in (
+    "begin_wrap", "begin_wrap_padded", "step_wrap", "end_wrap", "begin_unwrap", "begin_unwrap_padded", "step_unwrap",
+    "end_unwrap", "end_unwrap_padded")}
+WHOLE_ONLY = "#ifndef KEYWRAP_STEPS_ONLY\n"
+# The processor's AES, in the order in which one file can have them.
+HARDWARE = ["aes.h", "run.h", "x86_64.c", "aarch64.c", "aes.c", "keywrap.c"]
+
+
+def the_one(what, pattern, text):
+    """What the pattern finds in the text of wasm2c or of a part, exactly once."""
+    found = re.findall(pattern, text, re.M)
+    if len(found) != 1:
+        sys.exit(f"portable.py: {what}: found {len(found)} times")
+    return found[0]
 
 
 def translated(wasm):
@@ -37,12 +55,6 @@ def translated(wasm):
     return text
 
 
-def the_number(pattern, text):
-    """The number in the text, which has the pattern exactly once."""
-    found, = re.findall(pattern, text)
-    return int(found)
-
-
 def frame_of(name, body):
     """The bytes by which the function moves the stack, and those that it wants left."""
     if frame := FRAME.search(body):
@@ -51,74 +63,176 @@ def frame_of(name, body):
     stores = body.count("instance->w2c_g0 = ")
     kept = stores and look and body.count(f"{look[1]} = ") == 2  # its declaration, and what was read
     restored = kept and len(re.findall(rf"w2c_j0 = {look[1]};\s+instance->w2c_g0 = w2c_j0;", body))
-    assert stores == (restored or 0), f"{name} moves the stack in another way"
+    if stores != (restored or 0):
+        sys.exit(f"portable.py: the stack of {name}: it is moved in another way")
     return 0, int(look[2]) + (look[3] == ">") if look else 0
 
 
-def stack_need(functions):
-    """The bytes of the module's stack that the deepest chain of calls takes. The module does not recurse."""
-    bodies = dict(re.findall(r"^static \w+ (\w+)\(struct instance \*.*?\{\n(.*?)^}$", functions, re.M | re.S))
+def calls_in(body):
+    return set(re.findall(r"\b(w2c_\w+)\(instance", body))
+
+
+def stack_needs(bodies):
+    """The bytes of the module's stack that each function takes with those it calls. The module does not recurse."""
     need = {}
     while len(need) < len(bodies):
         known = len(need)
         for name, body in bodies.items():
-            calls = set(re.findall(r"\b(w2c_\w+)\(instance", body))
-            if name not in need and calls <= need.keys():
+            if name not in need and calls_in(body) <= need.keys():
                 frame, left = frame_of(name, body)
-                need[name] = max(left, frame + max((need[call] for call in calls), default=0))
-        assert len(need) > known, "the module recurses"
-    return max(need.values())
+                need[name] = max(left, frame + max((need[call] for call in calls_in(body)), default=0))
+        if len(need) == known:
+            sys.exit("portable.py: the calls of the module: it recurses")
+    return need
+
+
+def reached_from(roots, bodies):
+    """The functions that these call, and they themselves."""
+    reached, left = set(), list(roots)
+    while left:
+        name = left.pop()
+        if name not in reached:
+            reached.add(name)
+            left += calls_in(bodies[name])
+    return reached
+
+
+def in_sixteens(size):
+    return -(-size // 16) * 16
+
+
+def with_constants(body, top, end):
+    """The function, whose loads of constants name them if the code adds an index to the address of a constant."""
+    def offset(load):
+        return f"constant_{load[1]}({load[2]})" if top <= int(load[3]) < end else load[0]
+
+    def added(load):
+        return f"{load[1]}constant_{load[6]}({load[7]})" if top <= int(load[3]) < end else load[0]
+
+    body = re.sub(r"\b(i(?:32|64)_load\w*)\(memory, (\(u64\)\(\w+\) \+ (\d+)u)\)", offset, body)
+    return re.sub(r"(w2c_(j\d) = (\d+)ull;\s+w2c_(j\d) \+= w2c_\2;\s+w2c_(i\d) = \(u32\)\(w2c_\4\);\s+w2c_\5 = )"
+                  r"(i(?:32|64)_load\w*)\(memory, (\(u64\)\(w2c_\5\))\)", added, body)
+
+
+def function_of(found, top, end):
+    """A function in C, whose memory is a value: it never grows, so no store can change it."""
+    name, parameters, body = found[1], found[2], found[3]
+    unused = "".join(f"\n  (void){one};" for one in re.findall(r"\bw2c_p\d+\b", parameters)
+                     if not re.search(rf"\b{one}\b", body))
+    if body.count("FUNC_PROLOGUE;") != 1 or body.count("FUNC_EPILOGUE;") != 1:
+        sys.exit(f"portable.py: {name}: no beginning or no end of wasm2c's template")
+    body = body.replace("  FUNC_EPILOGUE;\n", "").replace("&instance->w2c_memory", "memory")
+    local = "const struct memory memory = instance->w2c_memory;\n  (void)memory;"
+    body = body.replace("FUNC_PROLOGUE;", local + unused)
+    return found[0][:found.start(3) - found.start(0)] + with_constants(body, top, end) + "}\n"
 
 
 def module_of(text):
     """The numbers of the module, and its constants and functions in C."""
-    top = the_number(r"w2c_g0 = (\d+)ull;\n  instance->w2c_g1", text)
-    assert the_number(r"LOAD_DATA\(.*?, (\d+)u, data_segment_data_w2c_d0", text) == top
-    constants = CONSTANTS.search(text)[1]
-    prototypes = "\n".join(re.findall(r"^static \w+ w2c_\w+\(struct instance .*\);$", text, re.M))
-    begin = text.index("\nstatic u32 w2c_f0(struct instance *instance) {")
-    functions = text[begin:text.index("\n/* export: 'memory' */")]
-    numbers = {"STACK": stack_need(functions), "DATA": constants.count("0x"), "TOP": top}
-    functions = re.sub(r"^  FUNC_EPILOGUE;\n", "", functions, flags=re.M)
-    # A memory that never grows is a value: no store can change it, and the C compiler need not load it again.
-    local = "const struct memory memory = instance->w2c_memory;\n  (void)memory;"
-    functions = functions.replace("FUNC_PROLOGUE;", local)
-    functions = functions.replace("&instance->w2c_memory", "memory")
-    return numbers, f"static const u8 constants[DATA] = {{\n{constants}\n}};\n\n{prototypes}\n{functions}"
+    top = int(the_one("the stack pointer", r"w2c_g0 = (\d+)ull;\n  instance->w2c_g1", text))
+    at = the_one("the place of the constants", r"LOAD_DATA\(.*?, (\d+)u, data_segment_data_w2c_d0", text)
+    if int(at) != top:
+        sys.exit("portable.py: the place of the constants: not above the stack")
+    constants = the_one("the constants", r"static const u8 data_segment_data_w2c_d0\[\] = \{\n((?:.*\n)*?)\};", text)
+    between = r"^(static u32 w2c_f0\(struct instance \*instance\) \{(?:.*\n)*?)/\* export: 'memory' \*/"
+    functions = [*FUNCTION.finditer(the_one("the functions", between, text))]
+    prototypes = {found[1]: found[0] for found in PROTOTYPE.finditer(text)}
+    bodies = {found[1]: found[3] for found in functions}
+    if not bodies or prototypes.keys() != bodies.keys() or not STEPS <= bodies.keys():
+        sys.exit("portable.py: the functions: not those that are declared")
+    needs, steps = stack_needs(bodies), reached_from(STEPS, bodies)
+    size = constants.count("0x")
+    numbers = {"STACK": in_sixteens(max(needs.values())), "STEPS_STACK": in_sixteens(max(map(needs.get, STEPS))),
+               "DATA": size, "TOP": top}
+    written = {found[1]: function_of(found, top, top + size) for found in functions}
+    if any("constant_" in written[name] for name in steps):
+        sys.exit("portable.py: the steps: they read constants")
+    parts = [(name in steps, piece) for pieces in (prototypes, written) for name, piece in pieces.items()]
+    module = "".join(piece if always else f"{WHOLE_ONLY}{piece}#endif\n" for always, piece in parts)
+    module = module.replace(f"#endif\n{WHOLE_ONLY}", "")
+    return numbers, f"static const u8 constants[DATA] = {{\n{constants}}};", module
 
 
-def readme(numbers, version, lines):
+def hardware():
+    """The calls by the processor's AES as one part of the file, in which nothing but the calls has a name outside."""
+    parts = []
+    for name in HARDWARE + ["lanes.c", "many.c"]:
+        text = (PARTS if name == "lanes.c" else ROOT / "hardware").joinpath(name).read_text()
+        text = re.sub(r"^#include (?:\"(?:aes|run)\.h\"|<keywrap(?:_steps)?\.h>|<std\w+\.h>|<string\.h>)\n", "", text,
+                      flags=re.M)
+        if name.endswith(".h"):
+            # A compiler that sees the round keys of an inlined function would keep copies of them on the stack.
+            text = re.sub(r"^(?=(?:int|void|int32_t) \w+\()", "static APART ", text, flags=re.M)
+        parts.append(text)
+    return "\n".join(parts)
+
+
+def version_of(*command):
+    """The version that a tool prints."""
+    return the_one(f"the version of {command[0]}", r"\d+(?:\.\d+)*", subprocess.run(
+        command, capture_output=True, text=True, check=True).stdout.splitlines()[0])
+
+
+def tools():
+    """The tools that the file depends on, as it names them."""
+    kit = subprocess.run(["rt", "version"], capture_output=True, text=True, check=True).stdout.splitlines()[0]
+    return f"Rattle {kit}, binaryen {version_of(WASM_OPT, '--version')}, wabt {version_of(WASM2C, '--version')}"
+
+
+def head():
+    version = (ROOT / "VERSION").read_text().strip()
+    return (f" * Version {version}. `make dist-sources` of the repository writes this file; do not edit it.\n"
+            f" * By {tools()}.\n"
+            f" * docs/TRUST.md of the repository says what is proved, what is translated and what is trusted.")
+
+
+def readme(numbers, lines):
     """The README, with the bytes that a call takes."""
-    fixed = numbers["STACK"] + numbers["DATA"] + 16
-    rooms = {"STACK_ROOM": fixed + room(4096), "SMALL_ROOM": fixed + room(64)}
     text = (PARTS / "README.in").read_text()
-    for name, value in {"VERSION": version, "FIXED": fixed, "LINES": lines, **rooms}.items():
+    values = {"VERSION": (ROOT / "VERSION").read_text().strip(), "LINES": lines, **numbers}
+    for name, value in values.items():
         text = text.replace(f"@{name}@", str(value))
     return text
 
 
-def room(key_len):
-    """The bytes of the copies: two KEKs, an initial value, a key and a wrapped key."""
-    return 2 * 32 + 8 + key_len + key_len + 16
+def header():
+    """keywrap.h, which says itself that the library is the portable one."""
+    text = (ROOT / "include/keywrap.h").read_text()
+    the_one("the guard of keywrap.h", r"^#define KEYWRAP_H$", text)
+    guard = "#define KEYWRAP_H\n"
+    return text.replace(guard, guard + "#ifndef KEYWRAP_PORTABLE\n#define KEYWRAP_PORTABLE\n#endif\n")
 
 
-def main(wasm, version, directory):
+def main(wasm, directory):
     directory = pathlib.Path(directory)
-    directory.mkdir(parents=True, exist_ok=True)
-    numbers, module = module_of(translated(wasm))
-    macros = "".join(f"#define {name} {value}\n" for name, value in numbers.items())
-    runtime, calls = [(PARTS / name).read_text() for name in ("runtime.c", "calls.c")]
-    runtime = runtime.replace("@NUMBERS@\n", macros)
-    (directory / "keywrap.c").write_text(f"{runtime}\n/*** The module, by wasm2c ***/\n\n{module}\n{calls}")
-    lines = sum(part.count("\n") for part in (runtime, calls))
-    (directory / "README").write_text(readme(numbers, version, lines))
-    for path in (ROOT / "include/keywrap.h", *(PARTS / name for name in ("vectors.c", "Makefile", "CMakeLists.txt"))):
-        shutil.copyfile(path, directory / path.name)
+    (directory / "check").mkdir(parents=True, exist_ok=True)
+    numbers, constants, module = module_of(translated(wasm))
+    macros = "\n".join(f"#define {name} {value}" for name, value in numbers.items())
+    runtime, calls, steps = [(PARTS / name).read_text() for name in ("runtime.c", "calls.c", "steps.c")]
+    for name, value in {"HEAD": head(), "NUMBERS": macros, "CONSTANTS": constants}.items():
+        the_one(f"the place of {name}", rf"^@{name}@$", runtime)
+        runtime = runtime.replace(f"@{name}@", value)
+    by_hand = [calls, steps, hardware()]
+    (directory / "keywrap.c").write_text(
+        f"{runtime}\n/*** The module, by wasm2c ***/\n\n{module}\n{WHOLE_ONLY}{calls}#endif\n\n{steps}\n"
+        f"#ifdef WITH_AES\n/*** The calls by the processor's AES ***/\n\n{by_hand[2]}#endif\n")
+    lines = sum(part.count("\n") for part in [(PARTS / "runtime.c").read_text(), *by_hand])
+    (directory / "README").write_text(readme(numbers, lines))
+    (directory / "keywrap.h").write_text(header())
+    shutil.copyfile(ROOT / "include/keywrap_steps.h", directory / "keywrap_steps.h")
+    shutil.copyfile(PARTS / "vectors.c", directory / "check/vectors.c")
+    for name in "Makefile", "CMakeLists.txt":
+        shutil.copyfile(PARTS / name, directory / name)
+    if pathlib.Path(wasm).resolve() != (directory / "keywrap.wasm").resolve():
+        shutil.copyfile(wasm, directory / "keywrap.wasm")
     print(directory)
 
 
 if __name__ == "__main__":
-    if not shutil.which(WASM2C):
-        sys.exit("portable.py: no wasm2c: apt-get install wabt")
-    if sys.argv[1:] != ["--needs"]:
+    for tool, package in (WASM2C, "wabt"), (WASM_OPT, "binaryen"):
+        if not shutil.which(tool):
+            sys.exit(f"portable.py: no {tool}: apt-get install {package}")
+    if sys.argv[1:] == ["--tools"]:
+        print(tools())
+    elif sys.argv[1:] != ["--needs"]:
         main(*sys.argv[1:])

@@ -50,8 +50,7 @@ run_files() {
         return
     fi
     ! "$python" -c 'import xdist' 2>/dev/null || parallel=(-n "$(nproc)")
-    KEYWRAP_BUILT=$built KEYWRAP_JS=${KEYWRAP_JS:-$built/js} \
-        nice -n 5 "$python" -m pytest "${parallel[@]}" "${files[@]}"
+    KEYWRAP_BUILT=$built nice -n 5 "$python" -m pytest "${parallel[@]}" "${files[@]}"
 }
 
 # over_library NAME..: builds the archives of the C library, and then runs these tests over them. If the archives
@@ -59,11 +58,9 @@ run_files() {
 over_library() {
     local more=()
     [[ " $* " != *' arm64 '* ]] || more+=(arm64)
-    [[ " $* " != *' js '* ]] || more+=(js)
     tests/library/build.sh "$built" "${more[@]}" >"$built/log" 2>&1 &&
         export KEYWRAP_ARCHIVES="$built/rattle.a $built/llvm.a"
     [ ! -d "$built/arm64" ] || export KEYWRAP_ARM64=$built/arm64
-    [ ! -d "$built/js" ] || export KEYWRAP_JS=$built/js
     run_scripts "$@"
 }
 
@@ -77,7 +74,7 @@ done
 # The tests share the program, so it is built before the first test. The longest tests of the C library begin first.
 [ -n "${KEYWRAP:-}" ] || ./keywrap --version || exit
 over_archives=() others=()
-over=' hardware library js arm64 secrets '
+over=' hardware library arm64 secrets '
 for script in $over; do [[ " ${scripts[*]} " != *" $script "* ]] || over_archives+=("$script"); done
 for script in "${scripts[@]}"; do [[ $over = *" $script "* ]] || others+=("$script"); done
 [ ${#files[@]} = 0 ] || run pytest run_files &

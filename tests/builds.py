@@ -74,18 +74,9 @@ def library(once, built):
 
 
 @pytest.fixture(scope="session")
-def portable(once):
-    """The directory of `make portable`. KEYWRAP_JS=DIRECTORY takes the module from there if it is built there."""
-    need("wasm2c")
-
-    def build(directory):
-        if os.path.isdir(js := os.environ.get("KEYWRAP_JS", "")):
-            run(sys.executable, ROOT / "scripts/portable.py", f"{js}/keywrap.wasm", "1.0", directory)
-        else:
-            need("wasm-opt")
-            run("make", "-s", "-C", ROOT, "portable", f"JS={directory}/js", f"PORTABLE={directory}")
-
-    return once("portable", build)
+def portable():
+    """The sources that everyone builds without the kit."""
+    return ROOT / "dist"
 
 
 VERSION = (ROOT / "VERSION").read_text().strip()
@@ -131,12 +122,9 @@ def words(library, built):
 @pytest.fixture(scope="session")
 def dist(once, words, built, python, pytestconfig):
     """The directory of `make dist` for this machine."""
-    need("wasm-opt", "wasm2c")
-
     def build(directory):
-        made = [f"PROGRAM={pytestconfig.program}", f"JS={built('js')}", f"PORTABLE={directory.parent}/dist.portable"]
-        run("make", "-s", "-C", ROOT, "dist", *words, *made, f"DIST={directory}", f"PYTHON={python}", "-o", "build",
-            "-o", "js")
+        made = [f"PROGRAM={pytestconfig.program}", f"JS={directory.parent}/dist.js"]
+        run("make", "-s", "-C", ROOT, "dist", *words, *made, f"DIST={directory}", f"PYTHON={python}", "-o", "build")
 
     return once("dist", build)
 

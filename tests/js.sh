@@ -3,7 +3,7 @@
 # and WebKit: each call, published cases, the module's memory after each call, bundles. Also uses its page in Chromium,
 # as a person does. Deno is not in Debian, so it is not tested.
 #
-# usage: tests/js.sh        (KEYWRAP_JS=DIRECTORY: over the package that make built there before)
+# usage: tests/js.sh        (KEYWRAP_JS=DIRECTORY: over another package)
 
 set -u
 # shellcheck disable=SC2154
@@ -18,7 +18,6 @@ if [ -d "${KEYWRAP_JS:-}" ]; then
     mkdir node_modules
     row 'the package' cp -R "$KEYWRAP_JS" "$package"
 else
-    needs 'the package for browsers' wasm-opt || { finish; exit; }
     row 'make js' make -s -C "$root" js JS="$package" || { finish; exit; }
 fi
 row 'its files' test "$(cd "$package" && echo *)" = \

@@ -162,8 +162,6 @@ for tools in '' aarch64-linux-gnu-; do
 done
 install -m 755 /dev/stdin bin/python <<'END_OF_PYTHON'
 #!/bin/sh
-[ "${1##*/}" != portable.py ] || [ "$2" = --needs ] || { mkdir -p "$4" && cd "$4" &&
-    touch README keywrap.c keywrap.h vectors.c Makefile CMakeLists.txt; }
 [ "$1" = -m ] || exit 0
 [ -z "${no_wheel:-}" ] || { echo "no wheel here" && exit 1; }
 mkdir -p "$6"
@@ -174,7 +172,7 @@ END_OF_PYTHON
 printf '#!/bin/sh\nwhile [ "$1" != -o ]; do shift; done\necho wasm >"$2"\n' | install -m 755 /dev/stdin bin/wasm-opt
 cp bin/wasm-opt bin/wasm-dis
 export PYTHON=python CC=linker
-make='make -s LIBRARY=library DIST=dist DESTDIR=stage/ PREFIX=usr'
+make='make -s LIBRARY=library DIST=packed DESTDIR=stage/ PREFIX=usr'
 linked=('keywrap_c: lib' 'ends keywrap_c' linked)
 rm -r crates/*/out
 rebuilds "$make wheel && cmp library/python/libkeywrap.a $archive" "${linked[@]}" <<<true
@@ -182,7 +180,7 @@ rebuilds "$make install && cmp stage/usr/bin/keywrap $program && cmp stage/usr/l
     "${steps[@]}" "${linked[@]}" <<<'append crates/aes_block/src/lib.rt'
 same 'make install keeps to DESTDIR and PREFIX' $'bin\ninclude\nlib\nshare' "$(ls stage/usr)"
 verdict 'make uninstall leaves nothing' "$($make uninstall; find stage ! -type d)"
-rebuilds "$make dist-command dist-library wheel && cat dist/*.tar.gz | tar -xzif - &&
+rebuilds "$make dist-command dist-library wheel && cat packed/*.tar.gz | tar -xzif - &&
     cmp keywrap-1.2.3-dev-*/bin/keywrap $program && cmp keywrap-library-1.2.3-dev-*/lib/libkeywrap.so $archive &&
     cmp library/python/libkeywrap.a $archive" "${steps[@]:2}" "${linked[@]}" <<<'append crates/aes_block/src/lib.rt'
 rebuilds "$make library" "${linked[@]}" <<END_OF_CHANGES
@@ -243,34 +241,34 @@ row 'make wheel, without its Python' grep -q "scripts/sysroot.sh 'none' " \
 
 ### All that is handed out
 
-# of NAME..: these are in dist, SHA256SUMS has the sum of each, and nothing else is there.
+# of NAME..: these are in packed, SHA256SUMS has the sum of each, and nothing else is there.
 of() {
-    diff <(printf '%s\n' SHA256SUMS "$@" | sort) <(cd dist && printf '%s\n' * | sort) &&
-        diff <(printf '%s\n' "$@" | sort) <(sed 's/.* //' dist/SHA256SUMS | sort) &&
-        (cd dist && sha256sum -c --quiet SHA256SUMS)
+    diff <(printf '%s\n' SHA256SUMS "$@" | sort) <(cd packed && printf '%s\n' * | sort) &&
+        diff <(printf '%s\n' "$@" | sort) <(sed 's/.* //' packed/SHA256SUMS | sort) &&
+        (cd packed && sha256sum -c --quiet SHA256SUMS)
 }
 x86=TARGET=x86_64-unknown-linux-gnu wheel=keywrap-1.2.3.dev0-cp39-abi3-manylinux_2_17
 wasm=('keywrap_wasm: lib --target wasm64-unknown-unknown --backend llvm' 'ends keywrap_wasm')
 mkdir -p sysroot/usr/include/{,aarch64-linux-gnu/}python3.11
-all='make -s DIST=dist CC=linker SYSROOT=sysroot'
-rm -r dist; fresh
-does 'make dist' 0 dist/SHA256SUMS $all dist -- "${steps[@]}" "${linked[@]}" "${wasm[@]}" "${linked_for_arm[@]}"
+all='make -s DIST=packed CC=linker SYSROOT=sysroot'
+rm -r packed; fresh
+does 'make dist' 0 packed/SHA256SUMS $all dist -- "${steps[@]}" "${linked[@]}" "${linked_for_arm[@]}"
 row 'the files of make dist' of keywrap-1.2.3-dev{-x86_64-linux.tar.gz,.tgz,.cdx.json} \
     keywrap-portable-1.2.3-dev.tar.gz keywrap-1.2.3.dev0.tar.gz \
     keywrap-library-1.2.3-dev-{x86_64,aarch64}-linux.tar.gz ${wheel}_{x86_64,aarch64}.whl
-does 'make dist, again' 0 dist/SHA256SUMS $all dist -- "${wasm[@]}"
-rm -r dist
-does 'make dist for one machine' 0 dist/SHA256SUMS $all dist $arm --
+does 'make dist, again' 0 packed/SHA256SUMS $all dist --
+rm -r packed
+does 'make dist for one machine' 0 packed/SHA256SUMS $all dist $arm --
 row 'its files' of keywrap-library-1.2.3-dev-aarch64-linux.tar.gz ${wheel}_aarch64.whl keywrap-1.2.3-dev.cdx.json
 # keeps_sums COMMAND..: if this fails, the old checksums stay, whole, and nothing half written takes their place.
 keeps_sums() {
     local status
-    cp dist/SHA256SUMS old.sums
+    cp packed/SHA256SUMS old.sums
     printf '#!/bin/sh\n%s\nexit 1\n' "$1" | install -m 755 /dev/stdin "bin/$2"
     "${@:3}"
     status=$?
     rm "bin/$2"
-    [ $status = 2 ] && cmp old.sums dist/SHA256SUMS
+    [ $status = 2 ] && cmp old.sums packed/SHA256SUMS
 }
 row 'make dist, if sha256sum fails' keeps_sums 'echo half' sha256sum $all dist $arm
 row 'make dist, if a file is not packed' keeps_sums '' gzip $all dist $arm
@@ -284,31 +282,31 @@ done <<'END_OF_LACKS'
 CC=none:no none: apt-get install
 SYSROOT=none:scripts/sysroot.sh 'none'
 PYTHON=false:apt-get install python3
-WASM_OPT=none:no none: apt-get install binaryen
 END_OF_LACKS
-does 'make js, without wasm-opt' 2 '' $make js WASM_OPT=none --
-row 'make js, without wasm-opt: what to install' grep -q 'no none: apt-get install binaryen' err
+does 'make dist-sources, without wasm-opt' 2 '' $make dist-sources WASM_OPT=none --
+row 'make dist-sources, without wasm-opt: what to install' grep -q 'no none: apt-get install binaryen' err
+does 'make js' 0 "$PWD/out/js" $make js --
 mkdir -p "${archive%/*}" && echo kept | tee kept.a >$archive
-does 'make js' 0 "$PWD/out/js" $make js -- "${wasm[@]}"
-verdict 'make js leaves the archive of the C library' "$(cmp $archive kept.a 2>&1)"
+does 'make dist-sources' 0 '' $make dist-sources -- "${wasm[@]}"
+verdict 'make dist-sources leaves the archive of the C library' "$(cmp $archive kept.a 2>&1)"
 rm $archive kept.a
 
 ### What fails
 
-rm -r stage dist
+rm -r stage packed
 { ./keywrap --version; $make library; } >/dev/null 2>&1
 does 'no wheel' 2 '' $make wheel PYTHON=false --
 no_wheel=1 does 'a wheel that cannot be built' 2 '' $make wheel --
 verdict 'it is not named, and what the build wrote is shown' \
     "$(grep whl wrote; grep -qx 'no wheel here' err || cat err)"
 no_wheel=1 does 'nor is one packed' 2 '' $make dist $x86 --
-verdict 'no checksums of it' "$(ls dist/SHA256SUMS 2>/dev/null)"
-rm -r dist
+verdict 'no checksums of it' "$(ls packed/SHA256SUMS 2>/dev/null)"
+rm -r packed
 CC=false does 'no linker' 2 '' $make library LIBRARY=other -- 'keywrap_c: lib' 'ends keywrap_c'
 verdict 'no linker: what is recorded' "$(ls other/built_from 2>/dev/null)"
 does 'no program to pack' 2 '' $make -o build dist-command PROGRAM=missing --
 does 'no library to pack' 2 '' $make -o library -o wheel dist-library LIBRARY=missing --
-verdict 'nothing is packed' "$(find dist -type f 2>/dev/null)"
+verdict 'nothing is packed' "$(find packed -type f 2>/dev/null)"
 for target in build install install-command "dist $x86" dist-command bench; do
     append crates/aes_block/src/lib.rt
     at=aes_block event='exit 1' does "make $target, where a crate is not proved" 2 '' $make $target -- "${steps[2]}"
@@ -318,7 +316,7 @@ for target in library wheel install-library dist-library dist-wheel; do
     at=keywrap_c event='exit 1' does "make $target, where the exports are not proved" 2 '' $make $target -- \
         "${linked[0]}"
 done
-verdict 'nothing is installed or packed' "$(find dist stage -type f 2>/dev/null)"
+verdict 'nothing is installed or packed' "$(find packed stage -type f 2>/dev/null)"
 
 mkdir -p out/library && make -s clean
 verdict 'make clean' "$(ls -d out crates/*/out 2>/dev/null; for crate in crates/*/; do [ -f "$crate/src/lib.rt" ] ||

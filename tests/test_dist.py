@@ -60,8 +60,7 @@ class TestWhole:
         KEYWRAP_REBUILD=1 rt builds again, too, over the proofs that it keeps."""
         tree = copied_tree(pathlib.Path("another"), pytestconfig.program, built("llvm.a"))
         run("find", tree, "-exec", "touch", "-d", "2001-02-03", "{}", "+")
-        made = [f"PROGRAM={pytestconfig.program}", f"JS={built('js')}", f"ARCHIVE={built('llvm.a')}"]
-        words = [*made, "-o", "build", "-o", "js"]
+        words = [f"PROGRAM={pytestconfig.program}", f"ARCHIVE={built('llvm.a')}", "-o", "build"]
         run("sh", "-c", 'umask 077; exec make -s "$@"', "-", "-C", tree, "dist", f"PYTHON={python}", MACHINE,
             *([] if os.environ.get("KEYWRAP_REBUILD") else words))
         assert (tree / "out/SHA256SUMS").read_text() == (dist / "SHA256SUMS").read_text()
@@ -212,7 +211,7 @@ class TestPortable:
     def test_vectors(self):
         """The archive builds by its Makefile, and its vectors are right. `make check` fails if one is wrong."""
         run("make", "-C", "portable", "check")
-        vectors = pathlib.Path("portable/vectors.c")
+        vectors = pathlib.Path("portable/check/vectors.c")
         text = vectors.read_text()
         for digits in [WRAPPED24[:16], KEY16[:16]]:
             assert digits in text.lower()
@@ -220,12 +219,14 @@ class TestPortable:
             vectors.write_text(f"{text[:at]}e{text[at + 1:]}")
             assert subprocess.run(["make", "-C", "portable", "check"], capture_output=True).returncode != 0
 
-    def test_default_in_readme(self):
-        """The length of the longest key whose memory is on the stack."""
-        source = pathlib.Path("portable/keywrap.c").read_text()
-        default, = re.findall("^#define KEYWRAP_STACK_KEY ([0-9]+)$", source, re.M)
-        readme = " ".join(pathlib.Path("portable/README").read_text().split())
-        assert f"For keys of up to {default} bytes this memory is on the stack" in readme
+    @pytest.mark.parametrize("old, new", [
+        ("aes_encrypt(&aes, run->block);", ";"), ("status = call->run(&module, call);", "status = KEYWRAP_OK;"),
+        ("-(u32)(bits)", "bits"), ("KEYWRAP_INTEGRITY;", "KEYWRAP_OK;")])
+    def test_a_bug_fails_the_check(self, old, new):
+        source = pathlib.Path("portable/keywrap.c")
+        assert old in source.read_text()
+        source.write_text(source.read_text().replace(old, new))
+        assert subprocess.run(["make", "-C", "portable", "check"], capture_output=True).returncode != 0
 
     @pytest.mark.needs("cmake")
     def test_cmake_target(self):
@@ -245,11 +246,12 @@ class TestNpm:
         assert not re.search(r"\]\((\.\.|[a-z_]*/)", (thing("npm") / "README.md").read_text())
 
     @pytest.mark.needs("npm")
-    def test_packed_and_installed_by_npm(self, thing, dist, built):
+    def test_packed_and_installed_by_npm(self, thing, dist):
         """npm packs the same files, and installs the archive by the README's line."""
         env = {**os.environ, "npm_config_cache": f"{os.getcwd()}/npm", "npm_config_update_notifier": "false"}
         pathlib.Path("by_npm").mkdir()
-        run("npm", "pack", "--silent", "--offline", "--pack-destination", "by_npm", built("js"), env=env)
+        run("make", "-s", "-C", ROOT, "js", f"JS={os.getcwd()}/js")
+        run("npm", "pack", "--silent", "--offline", "--pack-destination", "by_npm", "./js", env=env)
         run("tar", "-C", "by_npm", "-xzf", f"by_npm/keywrap-{VERSION}.tgz")
         run("diff", "-r", thing("npm"), "by_npm/package")
         line, = re.findall("^    npm install (.*)", (thing("npm") / "README.md").read_text(), re.M)

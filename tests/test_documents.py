@@ -54,7 +54,8 @@ class TestEachDocument:
 @pytest.mark.needs("git")
 def test_width():
     """No line outside crates/ and python/ has more than 120 columns, but for data and what a script writes."""
-    data = [":!crates", ":!python", ":!completions", ":!crates.txt", ":!*.csv", ":!*.svg", ":!tests/launcher.txt"]
+    data = [":!crates", ":!python", ":!completions", ":!crates.txt", ":!*.csv", ":!*.svg", ":!tests/launcher.txt",
+            ":!dist/keywrap.c"]
     search = ["git", "-C", ROOT, "grep", "-I", "--count", "-E", ".{121}", "--", "."]
     assert "crates.txt:1\n" in subprocess.run(search, capture_output=True, text=True).stdout
     assert subprocess.run([*search, *data], capture_output=True, text=True).stdout == ""
@@ -143,13 +144,13 @@ class TestRepeatedFacts:
 
     @pytest.mark.needs("rt")
     def test_kit(self):
-        """README names the logic of the kit in use, and no other file names a kit."""
+        """README names the logic of the kit in use, and only dist/ names the kit that it is made by."""
         used = re.search(r"logic (\w+)", subprocess.run(["rt", "version"], capture_output=True, text=True).stdout)[1]
         named, = re.findall(r"`logic (\w+)`", text_of("README.md"))
         assert used == named, (f"this kit has logic {used}: with it all proofs are made again, and may fail. Run `make "
                                f"proofs`. If it passes, write {used} into README instead of {named}")
         search = ["git", "-C", ROOT, "grep", "-lE", f"rattle-kit-[0-9]|{named}"]
-        assert subprocess.run(search, capture_output=True, text=True).stdout == "README.md\n"
+        assert subprocess.run(search, capture_output=True, text=True).stdout == "README.md\ndist/keywrap.c\n"
 
     def test_calls_since_1_1(self):
         """The header, its page and the changes have the calls of include/keywrap.map's second version."""

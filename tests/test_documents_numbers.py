@@ -131,7 +131,7 @@ class TestSources:
 
     def test_memory_of_a_module(self):
         """js/README.md has the memory that the module is linked with."""
-        size, = re.findall(r"--memory (\d+)", text_of("scripts/js.sh"))
+        size, = re.findall(r"--memory (\d+)", text_of("scripts/module.sh"))
         assert f"An instance has {int(size) / (1 << 20):.1f} MiB of memory." in words_of("js/README.md")
 
     def test_lines_of_hardware(self):

@@ -12,8 +12,8 @@ from tools import need
 
 PAGE = (ROOT / "docs/C_LIBRARY.md").read_text()
 CALLS = re.findall(r"^int32_t (keywrap_[a-z_]*)\(", (ROOT / "include/keywrap.h").read_text(), re.M)
-# A small machine has less memory on the stack, no malloc and no abort.
-SMALL = ["-DKEYWRAP_STACK_KEY=64", "-DKEYWRAP_NO_MALLOC", "-DKEYWRAP_TRAP()=__builtin_trap()"]
+# Neither vector registers nor abort.
+SMALL = ["-DKEYWRAP_NO_AES_INSTRUCTIONS", "-DKEYWRAP_TRAP()=__builtin_trap()"]
 
 
 def sheet(machine):
@@ -75,7 +75,7 @@ def facts(once, request):
                            ["aarch64-linux-gnu-gcc", "-static"], ["qemu-aarch64"])
         need("arm-linux-gnueabihf-gcc", "qemu-arm")
         return Library(machine, once("facts-portable", portable_object) / "thumb.o", "arm-linux-gnueabihf-",
-                       ["arm-linux-gnueabihf-gcc", "-static", "-DKEYWRAP_PORTABLE"], ["qemu-arm"])
+                       ["arm-linux-gnueabihf-gcc", "-static"], ["qemu-arm"])
 
     return find
 

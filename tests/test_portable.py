@@ -1,6 +1,7 @@
-"""The portable C library: the checks of tests/library and published cases by each compiler and machine, the memory of a
-call, what the object needs, and planted bugs. KEYWRAP_JS=DIRECTORY takes the module from there if it is built there."""
+"""The C of dist/: what it is made of, the checks of tests/library and published cases by each compiler and machine,
+random calls beside the library, what the object needs, and planted bugs."""
 
+import functools
 import os
 import pathlib
 import re
@@ -17,19 +18,23 @@ from program import ALL, all_of, slow
 from tools import need
 
 ROOT = pathlib.Path(__file__).resolve().parent.parent
+DIST = ROOT / "dist"
 LIBRARY = [*sorted(map(str, (ROOT / "tests/library").glob("*.c"))), f"{ROOT}/tests/reference/one_table.c"]
 STRICT = ["-std=c99", "-Wall", "-Wextra", "-pedantic", "-Werror"]
 OWN = ROOT / "tests/portable"
 SANITIZED = ["-fsanitize=address,undefined", "-fno-sanitize-recover=all"]
-WATCHED = ["-Dmalloc=watched_malloc", "-Dfree=watched_free"]
+TABLES = "-DKEYWRAP_NO_AES_INSTRUCTIONS"
 
 # Each compiler: its command, and what runs its programs here.
 MACHINES = {
     "gcc": (["gcc"], []),
     "clang": (["clang"], []),
+    "gcc, tables": (["gcc", TABLES], []),
+    "an old x86-64": (["gcc", "-static"], ["qemu-x86_64", "-cpu", "Nehalem"]),
     "aarch64": (["aarch64-linux-gnu-gcc", "-static"], ["qemu-aarch64"]),
     "riscv64": (["riscv64-linux-gnu-gcc", "-static"], ["qemu-riscv64"]),
     "arm": (["arm-linux-gnueabihf-gcc", "-static"], ["qemu-arm"]),
+    "s390x": (["s390x-linux-gnu-gcc", "-static"], ["qemu-s390x"]),
 }
 NATIVE = ["gcc", "clang"]
 
@@ -37,23 +42,47 @@ NATIVE = ["gcc", "clang"]
 def compiled_program(directory, name, sources, *options, library=()):
     """Compiles a program over the keywrap.c in the directory, by the compiler of this name. Returns its command."""
     compiler, runner = MACHINES[name]
-    need(compiler[0], *runner)
-    command = [*compiler, *STRICT, f"-I{directory}", f"-I{ROOT}/tests/reference", f"-I{OWN}", *options]
+    need(compiler[0], *runner[:1])
+    command = [*compiler, *STRICT, f"-I{directory}", f"-I{ROOT}/tests/reference", *options]
     run(*command, *library, "-c", f"{directory}/keywrap.c", "-o", "keywrap.o")
-    run(*command, "-DKEYWRAP_PORTABLE", *sources, "keywrap.o", "-o", "program")
+    run(*command, *sources, "keywrap.o", "-o", "program")
     return [*runner, "./program"]
 
 
+@functools.cache
+def made_here():
+    """Skips if dist/ is by other tools than those here."""
+    need("wasm-opt", "wasm2c")
+    if not shutil.which("rt"):
+        pytest.skip("no rt on the PATH")
+    named = re.search(r"^ \* By (.*)\.$", (DIST / "keywrap.c").read_text(), re.M)[1]
+    here = run(sys.executable, ROOT / "scripts/portable.py", "--tools").strip()
+    if here != named:
+        pytest.skip(f"dist/ is by {named}; here are {here}")
+
+
+def test_is_what_the_tree_makes(built):
+    """Each file of dist/, byte by byte."""
+    made_here()
+    run(sys.executable, ROOT / "scripts/portable.py", built("keywrap.wasm"), "made")
+    tracked = run("git", "-C", ROOT, "ls-files", "dist").split()
+    assert sorted(tracked) == sorted(f"dist/{path.relative_to('made')}"
+                                     for path in pathlib.Path("made").rglob("*") if path.is_file())
+    for name in tracked:
+        assert (ROOT / name).read_bytes() == pathlib.Path("made", name.removeprefix("dist/")).read_bytes(), name
+
+
 @pytest.mark.parametrize("compiler", NATIVE)
+@pytest.mark.parametrize("only", ["", TABLES, "-DKEYWRAP_STEPS_ONLY", "-DKEYWRAP_TRAP()=__builtin_trap()"])
 @pytest.mark.parametrize("options", all_of(["-O0 -std=c99", "-O2 -std=c17", "-O3 -std=c99", "-Os -std=c99"], [
     "-O2 -std=c17"]))
-def test_compiles_without_a_warning(portable, compiler, options):
+def test_compiles_without_a_warning(portable, compiler, only, options):
     """The other tests compile it with -O2 as C99."""
     need(compiler)
-    run(compiler, *STRICT, *options.split(), "-c", portable / "keywrap.c", "-o", "keywrap.o")
+    run(compiler, *STRICT, *options.split(), *only.split(), "-c", portable / "keywrap.c", "-o", "keywrap.o")
 
 
-@pytest.mark.parametrize("name", all_of(MACHINES, NATIVE))
+@pytest.mark.parametrize("name", all_of(MACHINES, [*NATIVE, "gcc, tables"]))
 def test_calls(portable, name):
     """The checks of tests/library."""
     few = ["few"] if name not in NATIVE or not ALL else []
@@ -61,11 +90,29 @@ def test_calls(portable, name):
     assert re.fullmatch(r"\d{6,} passed, 0 failed", last)
 
 
-@pytest.mark.parametrize("name", MACHINES)
+@pytest.mark.parametrize("name", all_of(MACHINES, [*NATIVE, "gcc, tables", "arm", "s390x"]))
 def test_published(portable, name):
     program = compiled_program(portable, name, [ROOT / "tests/published.c"], "-O2")
     for cases in published.foreign(), published.nist_or_skip()[::1 if ALL or name == "gcc" else 6]:
         assert run(*program, input="".join(published.lines(cases))) == published.all_right(cases)
+
+
+@pytest.mark.parametrize("name", [*NATIVE, "gcc, tables", "an old x86-64"])
+def test_as_the_library(portable, library, name):
+    """Random calls, right ones and refusals, of all calls and steps: as the library, byte by byte."""
+    compiler, runner = MACHINES[name]
+    need(compiler[0], *runner[:1])
+    calls = sorted(set(re.findall(r"^\w+ (keywrap_\w+)\(", "".join(
+        (portable / header).read_text() for header in ("keywrap.h", "keywrap_steps.h")), re.M)))
+    pathlib.Path("renamed.h").write_text("".join(f"#define {call} dist_{call}\n" for call in calls))
+    renamed = ["-include", "./renamed.h", f"-I{portable}"]
+    command = [*compiler, *STRICT, "-O2", f"-I{OWN}"]
+    run(*command, *renamed, "-c", portable / "keywrap.c", "-o", "dist.o")
+    run(*command, *renamed, "-DCALL=dist_call", "-c", OWN / "fuzz_call.c", "-o", "dist_call.o")
+    run(*command, f"-I{ROOT}/include", "-DCALL=library_call", OWN / "fuzz_call.c", OWN / "fuzz.c", "dist.o",
+        "dist_call.o", library / "libkeywrap.a", "-o", "fuzz")
+    cases = 1000000 if ALL and name in NATIVE else 40000 if not runner else 10000
+    assert run(*runner, "./fuzz", str(cases), "1") == f"{cases} cases agree\n"
 
 
 @slow
@@ -83,95 +130,83 @@ def test_valgrind(portable):
     run("valgrind", "-q", "--error-exitcode=9", "--leak-check=full", *program, input=some)
 
 
-@pytest.mark.parametrize("name", all_of([*NATIVE, "arm"], ["gcc"]))
-def test_memory_is_cleared(portable, name):
-    """Every check of tests/library, each call in a block of its own: it is all zeros when it is freed."""
-    program = compiled_program(portable, name, [*LIBRARY, OWN / "watched.c"], "-O2",
-                    library=[*WATCHED, "-DKEYWRAP_STACK_KEY=-64"])
-    assert run(*program, "few").endswith(" 0 failed\n")
+@pytest.mark.parametrize("name", all_of(MACHINES, ["gcc", "gcc, tables"]))
+def test_lengths(portable, name):
+    assert run(*compiled_program(portable, name, [OWN / "lengths.c"], "-O2")) == "all are right\n"
 
 
-@pytest.mark.parametrize("name", all_of(MACHINES, ["gcc"]))
-def test_no_memory_and_longest_keys(portable, name):
-    program = compiled_program(portable, name, [OWN / "memory.c", OWN / "watched.c"], "-O2", "-DKEYWRAP_STACK_KEY=256",
-                    library=WATCHED)
-    fixed = int(re.search(r"memory of its own: (\d+) bytes", (portable / "README").read_text())[1])
-    # What `kind` copies: the KEK, the wrapped key and the scratch buffer.
-    assert int(run(*program)) == fixed + 32 + 2 * 1048576 + 8 + 7
-
-
-@pytest.mark.parametrize("name", NATIVE)
+@pytest.mark.parametrize("name", [*NATIVE, "gcc, tables"])
 @pytest.mark.parametrize("level", all_of(["-O1", "-O2", "-O3", "-Os"], ["-O2"]))
 def test_stack(portable, name, level):
-    """Below the stack pointer SECURITY.md's bytes depend on a KEK or a key: gcc 12 has 12 to 54, clang 14 40 to 50."""
+    """SECURITY.md's bytes below the stack pointer depend on a KEK or a key. The first call also tests the AES."""
     program = compiled_program(portable, name, [ROOT / "tests/secrets/stack.c"], level, "-Wl,-z,now", "-Wno-error")
-    counts = [list(map(int, line.split()[3:7])) for line in run(*program).splitlines()]
+    counts = [list(map(int, line.split()[3:7])) for line in run(*program).splitlines()[1:]]
     exports = re.findall(r"^int32_t keywrap_", (portable / "keywrap.h").read_text(), re.M)
     assert len(counts) >= 6 * len(exports)
     kek, new_kek, key, copies = map(max, zip(*counts))
-    most, = re.findall(r"at most (\d+) bytes\s+below the stack pointer", (ROOT / "SECURITY.md").read_text())
+    most = re.search(r"at most (\d+) bytes\s+below the stack pointer depend on a KEK or a key, and with AES "
+                     r"instructions at most (\d+)", (ROOT / "SECURITY.md").read_text())[1 if "tables" in name else 2]
     assert max(kek, new_kek, key) <= int(most) and copies == 0, (kek, new_kek, key, copies)
 
 
+@pytest.mark.parametrize("only", ["", "-DKEYWRAP_STEPS_ONLY"])
 @pytest.mark.parametrize("name", MACHINES)
-def test_object(portable, name):
-    """What the object needs, that it shows the calls of the header only, and that none of its data can be written."""
+def test_object(portable, name, only):
+    """What the object needs, that it shows the calls of the headers only, and what of its data can be written."""
     compiler, _ = MACHINES[name]
     need(compiler[0])
-    tools = compiler[0].removesuffix("gcc") if name not in NATIVE else ""
-    run(compiler[0], *STRICT, "-O2", "-fno-pic", "-c", portable / "keywrap.c", "-o", "keywrap.o")
-    needed, shown = ({line.split()[-1] for line in run(f"{tools}nm", *options, "keywrap.o").splitlines()}
-                     for options in (["-u"], ["-g", "--defined-only"]))
-    # The last three are of the compiler: division on 32-bit Arm.
-    assert needed <= {"memcpy", "memmove", "memset", "malloc", "free", "abort", "__aeabi_ldivmod", "__aeabi_uldivmod",
-                      "__aeabi_uidivmod"}
-    header = (portable / "keywrap.h").read_text()
-    assert header == (ROOT / "include/keywrap.h").read_text()
-    assert shown == set(re.findall(r"^\w+ (keywrap_\w+)\(", header, re.M))
+    tools = compiler[0].removesuffix("gcc") if compiler[0] not in NATIVE else ""
+    options = [option for option in [*compiler[1:], *only.split()] if option != "-static"]
+    run(compiler[0], *STRICT, "-O2", "-fno-pic", *options, "-c", portable / "keywrap.c", "-o", "keywrap.o")
+    needed, shown = ({line.split()[-1] for line in run(f"{tools}nm", *flags, "keywrap.o").splitlines()}
+                     for flags in (["-u"], ["-g", "--defined-only"]))
+    # Those with leading underscores are of the compiler: division on 32-bit Arm, and atomics on aarch64.
+    assert {symbol for symbol in needed if not symbol.startswith("__a")} <= {
+        "memcpy", "memmove", "memset", "memcmp", "abort", "getauxval"}
+    headers = [(portable / header).read_text() for header in ("keywrap.h", "keywrap_steps.h")]
+    calls = [re.findall(r"^\w+ (keywrap_\w+)\(", text.partition("#ifndef KEYWRAP_PORTABLE\n/*")[0], re.M)
+             for text in headers]
+    assert shown == set(calls[1] if only else calls[0] + calls[1])
     _, data, bss = run(f"{tools}size", "keywrap.o").splitlines()[1].split()[:3]
-    assert (data, bss) == ("0", "0")
+    # Whether the instructions work.
+    assert data == "0" and int(bss) <= (4 if name in [*NATIVE, "an old x86-64", "aarch64"] and not only else 0)
 
 
-@pytest.mark.parametrize("options, phrase", [([], "is on the stack"), (["-DKEYWRAP_STACK_KEY=64"], "use the stack")])
-def test_readme_has_the_stack_of_a_call(portable, options, phrase):
+def test_stack_in_readme(portable):
+    """The stack of the module, and of a call that gcc compiles."""
     need("gcc")
-    stack = int(re.search(rf"{phrase} \((\d+) bytes\)", (portable / "README").read_text())[1])
-    run("gcc", *STRICT, "-O1", "-fstack-usage", *options, "-c", portable / "keywrap.c", "-o", "keywrap.o")
+    stack = int(re.search(r"takes about (\d+) bytes", " ".join((portable / "README").read_text().split()))[1])
+    run("gcc", *STRICT, "-O1", "-fstack-usage", TABLES, "-c", portable / "keywrap.c", "-o", "keywrap.o")
     used = max(int(line.split("\t")[1]) for line in pathlib.Path("keywrap.su").read_text().splitlines())
-    assert stack <= used <= stack + 256
+    assert stack <= used <= stack + 768
 
 
-def test_self_test_sees_a_changed_byte(portable):
+@pytest.mark.parametrize("options", [[], [TABLES]])
+def test_self_test_sees_a_changed_byte(portable, options):
     need("gcc")
-    run("gcc", *STRICT, "-O2", "-shared", "-fPIC", portable / "keywrap.c", "-o", "keywrap.so")
+    run("gcc", *STRICT, "-O2", "-shared", "-fPIC", *options, portable / "keywrap.c", "-o", "keywrap.so")
     run(sys.executable, ROOT / "tests/library/patched.py", "keywrap.so", "decryption")
 
 
-def test_big_endian_is_refused(portable):
-    need("gcc")
-    ended = subprocess.run(["gcc", "-U__BYTE_ORDER__", "-D__BYTE_ORDER__=__ORDER_BIG_ENDIAN__", "-c",
-                            portable / "keywrap.c"], capture_output=True, text=True)
-    assert ended.returncode != 0 and "little-endian machines" in ended.stderr
-
-
 def test_numbers_in_documents(portable):
-    """docs/TRUST.md has README's number; docs/C_LIBRARY.md has the bytes of a call."""
-    lines, = re.findall(r"the (\d+) lines of keywrap.c", (portable / "README").read_text())
-    assert f"wasm2c, the C compiler, {lines} lines of C around the module" in (ROOT / "docs/TRUST.md").read_text()
-    fixed, = re.findall(r"memory of its own: (\d+) bytes", (portable / "README").read_text())
-    constants, = re.findall(r"#define DATA (\d+)", (portable / "keywrap.c").read_text())
-    page = (ROOT / "docs/C_LIBRARY.md").read_text()
-    assert f"memory of a call is {int(fixed):,} bytes, of which {int(constants):,} are the tables" in page
+    """docs/TRUST.md has README's number of lines."""
+    lines, = re.findall(r"the (\d+) lines of keywrap.c", " ".join((portable / "README").read_text().split()))
+    trust = (ROOT / "docs/TRUST.md").read_text()
+    assert f"wasm2c, the C compiler, {int(lines):,} lines of C around the module" in trust
 
 
 def test_makefile(portable):
     need("cc")
-    directory = shutil.copytree(portable, "copy", ignore=shutil.ignore_patterns("js"))
-    run("make", "-C", directory, "check", "CPPFLAGS=-DKEYWRAP_NO_MALLOC")
-    assert "malloc" not in run("nm", "-u", f"{directory}/keywrap.o")
+    directory = shutil.copytree(portable, "copy", ignore=shutil.ignore_patterns("*.o", "*.a", "vectors"))
+    before = sorted(directory_files(directory))
+    run("make", "-C", directory, "check")
+    assert "alloc" not in run("nm", "-u", f"{directory}/keywrap.o")
     run("make", "-C", directory, "clean")
-    assert {path.name for path in pathlib.Path(directory).iterdir()} == {
-        "CMakeLists.txt", "Makefile", "README", "keywrap.c", "keywrap.h", "vectors.c"}
+    assert sorted(directory_files(directory)) == before
+
+
+def directory_files(directory):
+    return [str(path.relative_to(directory)) for path in pathlib.Path(directory).rglob("*")]
 
 
 def test_cmake(portable):
@@ -186,7 +221,7 @@ def test_cmake(portable):
 def test_windows(portable):
     """Compiles with mingw; the vectors run under wine."""
     need("x86_64-w64-mingw32-gcc", "wine")
-    run("x86_64-w64-mingw32-gcc", *STRICT, "-O2", "-DKEYWRAP_PORTABLE", portable / "vectors.c", portable / "keywrap.c",
+    run("x86_64-w64-mingw32-gcc", *STRICT, "-O2", f"-I{portable}", portable / "check/vectors.c", portable / "keywrap.c",
         "-o", "vectors.exe")
     run("wine", "./vectors.exe", env={**os.environ, "WINEPREFIX": f"{os.getcwd()}/wine", "WINEDEBUG": "-all"})
 
@@ -194,15 +229,14 @@ def test_windows(portable):
 def test_freestanding(portable):
     """Links for a Cortex-M0 without a C library, with three functions of the caller's own."""
     need("arm-none-eabi-gcc")
-    small = ["-DKEYWRAP_STACK_KEY=64", "-DKEYWRAP_NO_MALLOC", "-DKEYWRAP_TRAP()=__builtin_trap()"]
-    run("arm-none-eabi-gcc", "-mcpu=cortex-m0", "-mthumb", "-ffreestanding", *STRICT, "-Os", *small, f"-I{portable}",
-        "-fno-tree-loop-distribute-patterns", OWN / "freestanding.c", portable / "keywrap.c", "-nostdlib",
-        "-o", "firmware.elf", "-lgcc")
+    run("arm-none-eabi-gcc", "-mcpu=cortex-m0", "-mthumb", "-ffreestanding", *STRICT, "-Os",
+        "-DKEYWRAP_TRAP()=__builtin_trap()", f"-I{portable}", "-fno-tree-loop-distribute-patterns",
+        OWN / "freestanding.c", portable / "keywrap.c", "-nostdlib", "-o", "firmware.elf", "-lgcc")
 
 
 @slow
 @pytest.mark.parametrize("compiler", NATIVE)
-def test_sdist(portable, compiler):
+def test_sdist(compiler):
     """pip builds the source distribution without the kit, and the package's tests pass on it. It is the same again."""
     need(compiler, *[f"import {module}" for module in ("build", "cffi", "ensurepip", "setuptools", "wheel")])
     kit = pathlib.Path(shutil.which("rt") or "/rt").parent
@@ -211,7 +245,7 @@ def test_sdist(portable, compiler):
            "SOURCE_DATE_EPOCH": "1767225600"}
     version = (ROOT / "VERSION").read_text().strip().replace("-dev", ".dev0")
     for directory in "one", "two":
-        run(ROOT / "scripts/sdist.sh", sys.executable, portable, version, directory, env=env)
+        run(ROOT / "scripts/sdist.sh", sys.executable, version, directory, env=env)
     packed = [pathlib.Path(directory, f"keywrap-{version}.tar.gz").resolve() for directory in ("one", "two")]
     assert packed[0].read_bytes() == packed[1].read_bytes()
     run(sys.executable, "-m", "venv", "--system-site-packages", "env")
@@ -223,23 +257,3 @@ def test_sdist(portable, compiler):
     assert re.search(r"^\d{3,} passed", said, re.M) and "skipped" not in said
 
 
-# What must find a planted bug: a program's sources and options, options for keywrap.c only, and arguments.
-FINDERS = [
-    ([*LIBRARY, OWN / "watched.c"], ["-O1"], [*WATCHED, "-DKEYWRAP_STACK_KEY=-64"], ["few"]),
-    ([OWN / "memory.c", OWN / "watched.c"], ["-O1", *SANITIZED, "-DKEYWRAP_STACK_KEY=256"], WATCHED, []),
-]
-
-
-@pytest.mark.parametrize("bug", all_of([path.stem for path in sorted(OWN.glob("bugs/*.edit"))], [
-    "no-wipe-after-a-refusal"]))
-def test_bug_is_caught(portable, tmp_path, bug):
-    need("sanitizers of gcc")
-    for name in "keywrap.c", "keywrap.h":
-        shutil.copy(portable / name, tmp_path)
-    plant(OWN / f"bugs/{bug}.edit", tmp_path)
-
-    def finds(sources, options, library, words):
-        program = compiled_program(tmp_path, "gcc", sources, *options, "-Wno-error", library=library)
-        return subprocess.run([*program, *words], capture_output=True).returncode != 0
-
-    assert any(finds(*finder) for finder in FINDERS)

@@ -8,8 +8,8 @@
 . "${BASH_SOURCE[0]%/*}/room.sh"
 
 mkdir -p 'a tree'/{bin,tmp,tests/library} && cd 'a tree' || exit
-cp -R "$root"/{.ci,keywrap,Makefile,man,completions,include,scripts,python,docs,examples,hardware,java,provider,js} .
-cp "$root"/{SECURITY,CHANGELOG}.md .
+cp -R "$root"/{.ci,keywrap,Makefile,man,completions,include,scripts,python,docs,examples,hardware,java,provider} .
+cp -R "$root"/{js,dist} "$root"/{SECURITY,CHANGELOG}.md .
 cp "$root/tests/library/build.sh" tests/library
 sed -i "1s|.*|#!${SH:-/bin/sh}|" keywrap
 # crates LINE..: writes crates.txt, and makes a directory for each crate that has none yet.

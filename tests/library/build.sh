@@ -1,9 +1,9 @@
 #!/usr/bin/env bash
 # Builds the C library by both of the toolchain's compilers, as the archives rattle.a and llvm.a of a directory. If
-# asked and possible, it also builds the library for aarch64 as its directory arm64, and the package for browsers as js.
+# asked and possible, it also builds the library for aarch64 as its directory arm64, and the module as keywrap.wasm.
 # An archive that exists is not built again. A second process waits for the first one.
 #
-# usage: tests/library/build.sh DIRECTORY [arm64] [js]
+# usage: tests/library/build.sh DIRECTORY [arm64] [keywrap.wasm]
 
 # of_arm DIRECTORY: tests/arm64.sh says why, if this fails.
 of_arm() {
@@ -11,8 +11,8 @@ of_arm() {
     make -s -C ../.. library TARGET=aarch64-unknown-linux-gnu LIBRARY="$1" || rm -rf "$1"
 }
 
-# of_js DIRECTORY: makes it complete or not at all.
-of_js() { make -s -C ../.. js JS="$1.new" && mv "$1.new" "$1"; }
+# module FILE: makes it complete or not at all.
+module() { ../../scripts/module.sh "$1.new" && mv "$1.new" "$1"; }
 
 exec 9>"$1/lock" && flock 9 || exit
 jobs=$(nproc) && [ "$jobs" -le 4 ] || jobs=4
@@ -23,4 +23,5 @@ if [ ! -e "$1/llvm.a" ]; then
         rt lib --jobs "$jobs" && cp out/libkeywrap_c.a "$1/llvm.a" || exit
 fi
 [[ " $* " != *' arm64 '* ]] || [ -d "$1/arm64" ] || of_arm "$1/arm64"
-[[ " $* " != *' js '* ]] || [ -d "$1/js" ] || of_js "$1/js" || rm -rf "$1/js.new"
+[[ " $* " != *' keywrap.wasm '* ]] || [ -e "$1/keywrap.wasm" ] || module "$1/keywrap.wasm" ||
+    rm -f "$1/keywrap.wasm.new"

@@ -38,7 +38,7 @@ with tempfile.TemporaryDirectory() as directory:
 
     assert self_test("original", original) == 0
     for part in map(bytes.fromhex, [*PARTS, DAMAGED]):
-        assert original.count(part) == 1, part.hex()
+        assert part in original, part.hex()
         assert self_test(part.hex(), original.replace(part, bytes([*part[:-1], part[-1] ^ 1]))) == 5, part.hex()
     tables = [table for table in map(bytes.fromhex, DECRYPTION) if original.count(table) == 1]
     assert bool(tables) == ("decryption" in sys.argv[2:]), "the tables of the decryption"

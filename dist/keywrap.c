@@ -1,0 +1,16684 @@
+/* keywrap.c: AES Key Wrap (RFC 3394, RFC 5649) as one file of C99. keywrap.h has the calls,
+ * keywrap_steps.h those without AES, and README how to build it and what is proved.
+ *
+ *     cc -O2 -c keywrap.c
+ *
+ * Version 1.1.0-dev. `make dist-sources` of the repository writes this file; do not edit it.
+ * By Rattle rattle-kit-13f logic dac8208d650f15bf, binaryen 108, wabt 1.0.32.
+ * docs/TRUST.md of the repository says what is proved, what is translated and what is trusted.
+ *
+ * It has four parts: the runtime; the module, which wasm2c translated from the WebAssembly that the
+ * proved source compiles to; the calls, which let the module work in the caller's buffers; and, for
+ * gcc and clang on x86-64 and on aarch64 with Linux, AES by the processor's instructions around the
+ * proved steps. All but the module is written by hand.
+ *
+ * Macros, all optional:
+ *   KEYWRAP_NO_AES_INSTRUCTIONS   always uses the module's AES, which looks up tables
+ *   KEYWRAP_STEPS_ONLY            only has the calls of keywrap_steps.h: no AES and no tables
+ *   KEYWRAP_TRAP()                runs if the module traps, which cannot happen (abort) */
+
+#include "keywrap.h"
+#include "keywrap_steps.h"
+
+#include <string.h>
+#ifndef KEYWRAP_TRAP
+#include <stdlib.h>
+#define KEYWRAP_TRAP() abort()
+#endif
+
+#if defined(__BYTE_ORDER__) ? __BYTE_ORDER__ == __ORDER_BIG_ENDIAN__ : defined(__BIG_ENDIAN__)
+#define MODULE_ORDER(value, len) reversed(value, len)
+#else
+#define MODULE_ORDER(value, len) (value)
+#endif
+#if defined(__GNUC__) && (defined(__x86_64__) || (defined(__aarch64__) && defined(__linux__)))     \
+    && !defined(KEYWRAP_NO_AES_INSTRUCTIONS) && !defined(KEYWRAP_STEPS_ONLY)
+#define WITH_AES
+#endif
+#ifdef __GNUC__
+#define INLINE static inline __attribute__((unused))
+#define ALWAYS_INLINE static inline __attribute__((always_inline))
+#define APART __attribute__((noinline, unused))
+#else
+#define INLINE static inline
+#define ALWAYS_INLINE static inline
+#define APART
+#endif
+
+/*** The runtime ***/
+
+typedef uint8_t u8;
+typedef uint16_t u16;
+typedef uint32_t u32;
+typedef uint64_t u64;
+typedef int64_t s64;
+
+/* The bytes of the module's stack that a call takes, and that a step takes; the bytes of its
+ * constants, and their address. */
+#define STACK 2160
+#define STEPS_STACK 16
+#define DATA 3400
+#define TOP 65536
+#ifndef KEYWRAP_STEPS_ONLY
+static const u8 constants[DATA] = {
+  0x00, 0x00, 0x00, 0x01, 0x00, 0x00, 0x00, 0x02, 0x00, 0x00, 0x00, 0x04, 
+  0x00, 0x00, 0x00, 0x08, 0x00, 0x00, 0x00, 0x10, 0x00, 0x00, 0x00, 0x20, 
+  0x00, 0x00, 0x00, 0x40, 0x00, 0x00, 0x00, 0x80, 0x00, 0x00, 0x00, 0x1b, 
+  0x00, 0x00, 0x00, 0x36, 0x63, 0x7c, 0x77, 0x7b, 0xf2, 0x6b, 0x6f, 0xc5, 
+  0x30, 0x01, 0x67, 0x2b, 0xfe, 0xd7, 0xab, 0x76, 0xca, 0x82, 0xc9, 0x7d, 
+  0xfa, 0x59, 0x47, 0xf0, 0xad, 0xd4, 0xa2, 0xaf, 0x9c, 0xa4, 0x72, 0xc0, 
+  0xb7, 0xfd, 0x93, 0x26, 0x36, 0x3f, 0xf7, 0xcc, 0x34, 0xa5, 0xe5, 0xf1, 
+  0x71, 0xd8, 0x31, 0x15, 0x04, 0xc7, 0x23, 0xc3, 0x18, 0x96, 0x05, 0x9a, 
+  0x07, 0x12, 0x80, 0xe2, 0xeb, 0x27, 0xb2, 0x75, 0x09, 0x83, 0x2c, 0x1a, 
+  0x1b, 0x6e, 0x5a, 0xa0, 0x52, 0x3b, 0xd6, 0xb3, 0x29, 0xe3, 0x2f, 0x84, 
+  0x53, 0xd1, 0x00, 0xed, 0x20, 0xfc, 0xb1, 0x5b, 0x6a, 0xcb, 0xbe, 0x39, 
+  0x4a, 0x4c, 0x58, 0xcf, 0xd0, 0xef, 0xaa, 0xfb, 0x43, 0x4d, 0x33, 0x85, 
+  0x45, 0xf9, 0x02, 0x7f, 0x50, 0x3c, 0x9f, 0xa8, 0x51, 0xa3, 0x40, 0x8f, 
+  0x92, 0x9d, 0x38, 0xf5, 0xbc, 0xb6, 0xda, 0x21, 0x10, 0xff, 0xf3, 0xd2, 
+  0xcd, 0x0c, 0x13, 0xec, 0x5f, 0x97, 0x44, 0x17, 0xc4, 0xa7, 0x7e, 0x3d, 
+  0x64, 0x5d, 0x19, 0x73, 0x60, 0x81, 0x4f, 0xdc, 0x22, 0x2a, 0x90, 0x88, 
+  0x46, 0xee, 0xb8, 0x14, 0xde, 0x5e, 0x0b, 0xdb, 0xe0, 0x32, 0x3a, 0x0a, 
+  0x49, 0x06, 0x24, 0x5c, 0xc2, 0xd3, 0xac, 0x62, 0x91, 0x95, 0xe4, 0x79, 
+  0xe7, 0xc8, 0x37, 0x6d, 0x8d, 0xd5, 0x4e, 0xa9, 0x6c, 0x56, 0xf4, 0xea, 
+  0x65, 0x7a, 0xae, 0x08, 0xba, 0x78, 0x25, 0x2e, 0x1c, 0xa6, 0xb4, 0xc6, 
+  0xe8, 0xdd, 0x74, 0x1f, 0x4b, 0xbd, 0x8b, 0x8a, 0x70, 0x3e, 0xb5, 0x66, 
+  0x48, 0x03, 0xf6, 0x0e, 0x61, 0x35, 0x57, 0xb9, 0x86, 0xc1, 0x1d, 0x9e, 
+  0xe1, 0xf8, 0x98, 0x11, 0x69, 0xd9, 0x8e, 0x94, 0x9b, 0x1e, 0x87, 0xe9, 
+  0xce, 0x55, 0x28, 0xdf, 0x8c, 0xa1, 0x89, 0x0d, 0xbf, 0xe6, 0x42, 0x68, 
+  0x41, 0x99, 0x2d, 0x0f, 0xb0, 0x54, 0xbb, 0x16, 0x52, 0x09, 0x6a, 0xd5, 
+  0x30, 0x36, 0xa5, 0x38, 0xbf, 0x40, 0xa3, 0x9e, 0x81, 0xf3, 0xd7, 0xfb, 
+  0x7c, 0xe3, 0x39, 0x82, 0x9b, 0x2f, 0xff, 0x87, 0x34, 0x8e, 0x43, 0x44, 
+  0xc4, 0xde, 0xe9, 0xcb, 0x54, 0x7b, 0x94, 0x32, 0xa6, 0xc2, 0x23, 0x3d, 
+  0xee, 0x4c, 0x95, 0x0b, 0x42, 0xfa, 0xc3, 0x4e, 0x08, 0x2e, 0xa1, 0x66, 
+  0x28, 0xd9, 0x24, 0xb2, 0x76, 0x5b, 0xa2, 0x49, 0x6d, 0x8b, 0xd1, 0x25, 
+  0x72, 0xf8, 0xf6, 0x64, 0x86, 0x68, 0x98, 0x16, 0xd4, 0xa4, 0x5c, 0xcc, 
+  0x5d, 0x65, 0xb6, 0x92, 0x6c, 0x70, 0x48, 0x50, 0xfd, 0xed, 0xb9, 0xda, 
+  0x5e, 0x15, 0x46, 0x57, 0xa7, 0x8d, 0x9d, 0x84, 0x90, 0xd8, 0xab, 0x00, 
+  0x8c, 0xbc, 0xd3, 0x0a, 0xf7, 0xe4, 0x58, 0x05, 0xb8, 0xb3, 0x45, 0x06, 
+  0xd0, 0x2c, 0x1e, 0x8f, 0xca, 0x3f, 0x0f, 0x02, 0xc1, 0xaf, 0xbd, 0x03, 
+  0x01, 0x13, 0x8a, 0x6b, 0x3a, 0x91, 0x11, 0x41, 0x4f, 0x67, 0xdc, 0xea, 
+  0x97, 0xf2, 0xcf, 0xce, 0xf0, 0xb4, 0xe6, 0x73, 0x96, 0xac, 0x74, 0x22, 
+  0xe7, 0xad, 0x35, 0x85, 0xe2, 0xf9, 0x37, 0xe8, 0x1c, 0x75, 0xdf, 0x6e, 
+  0x47, 0xf1, 0x1a, 0x71, 0x1d, 0x29, 0xc5, 0x89, 0x6f, 0xb7, 0x62, 0x0e, 
+  0xaa, 0x18, 0xbe, 0x1b, 0xfc, 0x56, 0x3e, 0x4b, 0xc6, 0xd2, 0x79, 0x20, 
+  0x9a, 0xdb, 0xc0, 0xfe, 0x78, 0xcd, 0x5a, 0xf4, 0x1f, 0xdd, 0xa8, 0x33, 
+  0x88, 0x07, 0xc7, 0x31, 0xb1, 0x12, 0x10, 0x59, 0x27, 0x80, 0xec, 0x5f, 
+  0x60, 0x51, 0x7f, 0xa9, 0x19, 0xb5, 0x4a, 0x0d, 0x2d, 0xe5, 0x7a, 0x9f, 
+  0x93, 0xc9, 0x9c, 0xef, 0xa0, 0xe0, 0x3b, 0x4d, 0xae, 0x2a, 0xf5, 0xb0, 
+  0xc8, 0xeb, 0xbb, 0x3c, 0x83, 0x53, 0x99, 0x61, 0x17, 0x2b, 0x04, 0x7e, 
+  0xba, 0x77, 0xd6, 0x26, 0xe1, 0x69, 0x14, 0x63, 0x55, 0x21, 0x0c, 0x7d, 
+  0x00, 0x00, 0x00, 0x00, 0x0b, 0x0d, 0x09, 0x0e, 0x16, 0x1a, 0x12, 0x1c, 
+  0x1d, 0x17, 0x1b, 0x12, 0x2c, 0x34, 0x24, 0x38, 0x27, 0x39, 0x2d, 0x36, 
+  0x3a, 0x2e, 0x36, 0x24, 0x31, 0x23, 0x3f, 0x2a, 0x58, 0x68, 0x48, 0x70, 
+  0x53, 0x65, 0x41, 0x7e, 0x4e, 0x72, 0x5a, 0x6c, 0x45, 0x7f, 0x53, 0x62, 
+  0x74, 0x5c, 0x6c, 0x48, 0x7f, 0x51, 0x65, 0x46, 0x62, 0x46, 0x7e, 0x54, 
+  0x69, 0x4b, 0x77, 0x5a, 0xb0, 0xd0, 0x90, 0xe0, 0xbb, 0xdd, 0x99, 0xee, 
+  0xa6, 0xca, 0x82, 0xfc, 0xad, 0xc7, 0x8b, 0xf2, 0x9c, 0xe4, 0xb4, 0xd8, 
+  0x97, 0xe9, 0xbd, 0xd6, 0x8a, 0xfe, 0xa6, 0xc4, 0x81, 0xf3, 0xaf, 0xca, 
+  0xe8, 0xb8, 0xd8, 0x90, 0xe3, 0xb5, 0xd1, 0x9e, 0xfe, 0xa2, 0xca, 0x8c, 
+  0xf5, 0xaf, 0xc3, 0x82, 0xc4, 0x8c, 0xfc, 0xa8, 0xcf, 0x81, 0xf5, 0xa6, 
+  0xd2, 0x96, 0xee, 0xb4, 0xd9, 0x9b, 0xe7, 0xba, 0x7b, 0xbb, 0x3b, 0xdb, 
+  0x70, 0xb6, 0x32, 0xd5, 0x6d, 0xa1, 0x29, 0xc7, 0x66, 0xac, 0x20, 0xc9, 
+  0x57, 0x8f, 0x1f, 0xe3, 0x5c, 0x82, 0x16, 0xed, 0x41, 0x95, 0x0d, 0xff, 
+  0x4a, 0x98, 0x04, 0xf1, 0x23, 0xd3, 0x73, 0xab, 0x28, 0xde, 0x7a, 0xa5, 
+  0x35, 0xc9, 0x61, 0xb7, 0x3e, 0xc4, 0x68, 0xb9, 0x0f, 0xe7, 0x57, 0x93, 
+  0x04, 0xea, 0x5e, 0x9d, 0x19, 0xfd, 0x45, 0x8f, 0x12, 0xf0, 0x4c, 0x81, 
+  0xcb, 0x6b, 0xab, 0x3b, 0xc0, 0x66, 0xa2, 0x35, 0xdd, 0x71, 0xb9, 0x27, 
+  0xd6, 0x7c, 0xb0, 0x29, 0xe7, 0x5f, 0x8f, 0x03, 0xec, 0x52, 0x86, 0x0d, 
+  0xf1, 0x45, 0x9d, 0x1f, 0xfa, 0x48, 0x94, 0x11, 0x93, 0x03, 0xe3, 0x4b, 
+  0x98, 0x0e, 0xea, 0x45, 0x85, 0x19, 0xf1, 0x57, 0x8e, 0x14, 0xf8, 0x59, 
+  0xbf, 0x37, 0xc7, 0x73, 0xb4, 0x3a, 0xce, 0x7d, 0xa9, 0x2d, 0xd5, 0x6f, 
+  0xa2, 0x20, 0xdc, 0x61, 0xf6, 0x6d, 0x76, 0xad, 0xfd, 0x60, 0x7f, 0xa3, 
+  0xe0, 0x77, 0x64, 0xb1, 0xeb, 0x7a, 0x6d, 0xbf, 0xda, 0x59, 0x52, 0x95, 
+  0xd1, 0x54, 0x5b, 0x9b, 0xcc, 0x43, 0x40, 0x89, 0xc7, 0x4e, 0x49, 0x87, 
+  0xae, 0x05, 0x3e, 0xdd, 0xa5, 0x08, 0x37, 0xd3, 0xb8, 0x1f, 0x2c, 0xc1, 
+  0xb3, 0x12, 0x25, 0xcf, 0x82, 0x31, 0x1a, 0xe5, 0x89, 0x3c, 0x13, 0xeb, 
+  0x94, 0x2b, 0x08, 0xf9, 0x9f, 0x26, 0x01, 0xf7, 0x46, 0xbd, 0xe6, 0x4d, 
+  0x4d, 0xb0, 0xef, 0x43, 0x50, 0xa7, 0xf4, 0x51, 0x5b, 0xaa, 0xfd, 0x5f, 
+  0x6a, 0x89, 0xc2, 0x75, 0x61, 0x84, 0xcb, 0x7b, 0x7c, 0x93, 0xd0, 0x69, 
+  0x77, 0x9e, 0xd9, 0x67, 0x1e, 0xd5, 0xae, 0x3d, 0x15, 0xd8, 0xa7, 0x33, 
+  0x08, 0xcf, 0xbc, 0x21, 0x03, 0xc2, 0xb5, 0x2f, 0x32, 0xe1, 0x8a, 0x05, 
+  0x39, 0xec, 0x83, 0x0b, 0x24, 0xfb, 0x98, 0x19, 0x2f, 0xf6, 0x91, 0x17, 
+  0x8d, 0xd6, 0x4d, 0x76, 0x86, 0xdb, 0x44, 0x78, 0x9b, 0xcc, 0x5f, 0x6a, 
+  0x90, 0xc1, 0x56, 0x64, 0xa1, 0xe2, 0x69, 0x4e, 0xaa, 0xef, 0x60, 0x40, 
+  0xb7, 0xf8, 0x7b, 0x52, 0xbc, 0xf5, 0x72, 0x5c, 0xd5, 0xbe, 0x05, 0x06, 
+  0xde, 0xb3, 0x0c, 0x08, 0xc3, 0xa4, 0x17, 0x1a, 0xc8, 0xa9, 0x1e, 0x14, 
+  0xf9, 0x8a, 0x21, 0x3e, 0xf2, 0x87, 0x28, 0x30, 0xef, 0x90, 0x33, 0x22, 
+  0xe4, 0x9d, 0x3a, 0x2c, 0x3d, 0x06, 0xdd, 0x96, 0x36, 0x0b, 0xd4, 0x98, 
+  0x2b, 0x1c, 0xcf, 0x8a, 0x20, 0x11, 0xc6, 0x84, 0x11, 0x32, 0xf9, 0xae, 
+  0x1a, 0x3f, 0xf0, 0xa0, 0x07, 0x28, 0xeb, 0xb2, 0x0c, 0x25, 0xe2, 0xbc, 
+  0x65, 0x6e, 0x95, 0xe6, 0x6e, 0x63, 0x9c, 0xe8, 0x73, 0x74, 0x87, 0xfa, 
+  0x78, 0x79, 0x8e, 0xf4, 0x49, 0x5a, 0xb1, 0xde, 0x42, 0x57, 0xb8, 0xd0, 
+  0x5f, 0x40, 0xa3, 0xc2, 0x54, 0x4d, 0xaa, 0xcc, 0xf7, 0xda, 0xec, 0x41, 
+  0xfc, 0xd7, 0xe5, 0x4f, 0xe1, 0xc0, 0xfe, 0x5d, 0xea, 0xcd, 0xf7, 0x53, 
+  0xdb, 0xee, 0xc8, 0x79, 0xd0, 0xe3, 0xc1, 0x77, 0xcd, 0xf4, 0xda, 0x65, 
+  0xc6, 0xf9, 0xd3, 0x6b, 0xaf, 0xb2, 0xa4, 0x31, 0xa4, 0xbf, 0xad, 0x3f, 
+  0xb9, 0xa8, 0xb6, 0x2d, 0xb2, 0xa5, 0xbf, 0x23, 0x83, 0x86, 0x80, 0x09, 
+  0x88, 0x8b, 0x89, 0x07, 0x95, 0x9c, 0x92, 0x15, 0x9e, 0x91, 0x9b, 0x1b, 
+  0x47, 0x0a, 0x7c, 0xa1, 0x4c, 0x07, 0x75, 0xaf, 0x51, 0x10, 0x6e, 0xbd, 
+  0x5a, 0x1d, 0x67, 0xb3, 0x6b, 0x3e, 0x58, 0x99, 0x60, 0x33, 0x51, 0x97, 
+  0x7d, 0x24, 0x4a, 0x85, 0x76, 0x29, 0x43, 0x8b, 0x1f, 0x62, 0x34, 0xd1, 
+  0x14, 0x6f, 0x3d, 0xdf, 0x09, 0x78, 0x26, 0xcd, 0x02, 0x75, 0x2f, 0xc3, 
+  0x33, 0x56, 0x10, 0xe9, 0x38, 0x5b, 0x19, 0xe7, 0x25, 0x4c, 0x02, 0xf5, 
+  0x2e, 0x41, 0x0b, 0xfb, 0x8c, 0x61, 0xd7, 0x9a, 0x87, 0x6c, 0xde, 0x94, 
+  0x9a, 0x7b, 0xc5, 0x86, 0x91, 0x76, 0xcc, 0x88, 0xa0, 0x55, 0xf3, 0xa2, 
+  0xab, 0x58, 0xfa, 0xac, 0xb6, 0x4f, 0xe1, 0xbe, 0xbd, 0x42, 0xe8, 0xb0, 
+  0xd4, 0x09, 0x9f, 0xea, 0xdf, 0x04, 0x96, 0xe4, 0xc2, 0x13, 0x8d, 0xf6, 
+  0xc9, 0x1e, 0x84, 0xf8, 0xf8, 0x3d, 0xbb, 0xd2, 0xf3, 0x30, 0xb2, 0xdc, 
+  0xee, 0x27, 0xa9, 0xce, 0xe5, 0x2a, 0xa0, 0xc0, 0x3c, 0xb1, 0x47, 0x7a, 
+  0x37, 0xbc, 0x4e, 0x74, 0x2a, 0xab, 0x55, 0x66, 0x21, 0xa6, 0x5c, 0x68, 
+  0x10, 0x85, 0x63, 0x42, 0x1b, 0x88, 0x6a, 0x4c, 0x06, 0x9f, 0x71, 0x5e, 
+  0x0d, 0x92, 0x78, 0x50, 0x64, 0xd9, 0x0f, 0x0a, 0x6f, 0xd4, 0x06, 0x04, 
+  0x72, 0xc3, 0x1d, 0x16, 0x79, 0xce, 0x14, 0x18, 0x48, 0xed, 0x2b, 0x32, 
+  0x43, 0xe0, 0x22, 0x3c, 0x5e, 0xf7, 0x39, 0x2e, 0x55, 0xfa, 0x30, 0x20, 
+  0x01, 0xb7, 0x9a, 0xec, 0x0a, 0xba, 0x93, 0xe2, 0x17, 0xad, 0x88, 0xf0, 
+  0x1c, 0xa0, 0x81, 0xfe, 0x2d, 0x83, 0xbe, 0xd4, 0x26, 0x8e, 0xb7, 0xda, 
+  0x3b, 0x99, 0xac, 0xc8, 0x30, 0x94, 0xa5, 0xc6, 0x59, 0xdf, 0xd2, 0x9c, 
+  0x52, 0xd2, 0xdb, 0x92, 0x4f, 0xc5, 0xc0, 0x80, 0x44, 0xc8, 0xc9, 0x8e, 
+  0x75, 0xeb, 0xf6, 0xa4, 0x7e, 0xe6, 0xff, 0xaa, 0x63, 0xf1, 0xe4, 0xb8, 
+  0x68, 0xfc, 0xed, 0xb6, 0xb1, 0x67, 0x0a, 0x0c, 0xba, 0x6a, 0x03, 0x02, 
+  0xa7, 0x7d, 0x18, 0x10, 0xac, 0x70, 0x11, 0x1e, 0x9d, 0x53, 0x2e, 0x34, 
+  0x96, 0x5e, 0x27, 0x3a, 0x8b, 0x49, 0x3c, 0x28, 0x80, 0x44, 0x35, 0x26, 
+  0xe9, 0x0f, 0x42, 0x7c, 0xe2, 0x02, 0x4b, 0x72, 0xff, 0x15, 0x50, 0x60, 
+  0xf4, 0x18, 0x59, 0x6e, 0xc5, 0x3b, 0x66, 0x44, 0xce, 0x36, 0x6f, 0x4a, 
+  0xd3, 0x21, 0x74, 0x58, 0xd8, 0x2c, 0x7d, 0x56, 0x7a, 0x0c, 0xa1, 0x37, 
+  0x71, 0x01, 0xa8, 0x39, 0x6c, 0x16, 0xb3, 0x2b, 0x67, 0x1b, 0xba, 0x25, 
+  0x56, 0x38, 0x85, 0x0f, 0x5d, 0x35, 0x8c, 0x01, 0x40, 0x22, 0x97, 0x13, 
+  0x4b, 0x2f, 0x9e, 0x1d, 0x22, 0x64, 0xe9, 0x47, 0x29, 0x69, 0xe0, 0x49, 
+  0x34, 0x7e, 0xfb, 0x5b, 0x3f, 0x73, 0xf2, 0x55, 0x0e, 0x50, 0xcd, 0x7f, 
+  0x05, 0x5d, 0xc4, 0x71, 0x18, 0x4a, 0xdf, 0x63, 0x13, 0x47, 0xd6, 0x6d, 
+  0xca, 0xdc, 0x31, 0xd7, 0xc1, 0xd1, 0x38, 0xd9, 0xdc, 0xc6, 0x23, 0xcb, 
+  0xd7, 0xcb, 0x2a, 0xc5, 0xe6, 0xe8, 0x15, 0xef, 0xed, 0xe5, 0x1c, 0xe1, 
+  0xf0, 0xf2, 0x07, 0xf3, 0xfb, 0xff, 0x0e, 0xfd, 0x92, 0xb4, 0x79, 0xa7, 
+  0x99, 0xb9, 0x70, 0xa9, 0x84, 0xae, 0x6b, 0xbb, 0x8f, 0xa3, 0x62, 0xb5, 
+  0xbe, 0x80, 0x5d, 0x9f, 0xb5, 0x8d, 0x54, 0x91, 0xa8, 0x9a, 0x4f, 0x83, 
+  0xa3, 0x97, 0x46, 0x8d, 0xa5, 0x63, 0x63, 0xc6, 0x84, 0x7c, 0x7c, 0xf8, 
+  0x99, 0x77, 0x77, 0xee, 0x8d, 0x7b, 0x7b, 0xf6, 0x0d, 0xf2, 0xf2, 0xff, 
+  0xbd, 0x6b, 0x6b, 0xd6, 0xb1, 0x6f, 0x6f, 0xde, 0x54, 0xc5, 0xc5, 0x91, 
+  0x50, 0x30, 0x30, 0x60, 0x03, 0x01, 0x01, 0x02, 0xa9, 0x67, 0x67, 0xce, 
+  0x7d, 0x2b, 0x2b, 0x56, 0x19, 0xfe, 0xfe, 0xe7, 0x62, 0xd7, 0xd7, 0xb5, 
+  0xe6, 0xab, 0xab, 0x4d, 0x9a, 0x76, 0x76, 0xec, 0x45, 0xca, 0xca, 0x8f, 
+  0x9d, 0x82, 0x82, 0x1f, 0x40, 0xc9, 0xc9, 0x89, 0x87, 0x7d, 0x7d, 0xfa, 
+  0x15, 0xfa, 0xfa, 0xef, 0xeb, 0x59, 0x59, 0xb2, 0xc9, 0x47, 0x47, 0x8e, 
+  0x0b, 0xf0, 0xf0, 0xfb, 0xec, 0xad, 0xad, 0x41, 0x67, 0xd4, 0xd4, 0xb3, 
+  0xfd, 0xa2, 0xa2, 0x5f, 0xea, 0xaf, 0xaf, 0x45, 0xbf, 0x9c, 0x9c, 0x23, 
+  0xf7, 0xa4, 0xa4, 0x53, 0x96, 0x72, 0x72, 0xe4, 0x5b, 0xc0, 0xc0, 0x9b, 
+  0xc2, 0xb7, 0xb7, 0x75, 0x1c, 0xfd, 0xfd, 0xe1, 0xae, 0x93, 0x93, 0x3d, 
+  0x6a, 0x26, 0x26, 0x4c, 0x5a, 0x36, 0x36, 0x6c, 0x41, 0x3f, 0x3f, 0x7e, 
+  0x02, 0xf7, 0xf7, 0xf5, 0x4f, 0xcc, 0xcc, 0x83, 0x5c, 0x34, 0x34, 0x68, 
+  0xf4, 0xa5, 0xa5, 0x51, 0x34, 0xe5, 0xe5, 0xd1, 0x08, 0xf1, 0xf1, 0xf9, 
+  0x93, 0x71, 0x71, 0xe2, 0x73, 0xd8, 0xd8, 0xab, 0x53, 0x31, 0x31, 0x62, 
+  0x3f, 0x15, 0x15, 0x2a, 0x0c, 0x04, 0x04, 0x08, 0x52, 0xc7, 0xc7, 0x95, 
+  0x65, 0x23, 0x23, 0x46, 0x5e, 0xc3, 0xc3, 0x9d, 0x28, 0x18, 0x18, 0x30, 
+  0xa1, 0x96, 0x96, 0x37, 0x0f, 0x05, 0x05, 0x0a, 0xb5, 0x9a, 0x9a, 0x2f, 
+  0x09, 0x07, 0x07, 0x0e, 0x36, 0x12, 0x12, 0x24, 0x9b, 0x80, 0x80, 0x1b, 
+  0x3d, 0xe2, 0xe2, 0xdf, 0x26, 0xeb, 0xeb, 0xcd, 0x69, 0x27, 0x27, 0x4e, 
+  0xcd, 0xb2, 0xb2, 0x7f, 0x9f, 0x75, 0x75, 0xea, 0x1b, 0x09, 0x09, 0x12, 
+  0x9e, 0x83, 0x83, 0x1d, 0x74, 0x2c, 0x2c, 0x58, 0x2e, 0x1a, 0x1a, 0x34, 
+  0x2d, 0x1b, 0x1b, 0x36, 0xb2, 0x6e, 0x6e, 0xdc, 0xee, 0x5a, 0x5a, 0xb4, 
+  0xfb, 0xa0, 0xa0, 0x5b, 0xf6, 0x52, 0x52, 0xa4, 0x4d, 0x3b, 0x3b, 0x76, 
+  0x61, 0xd6, 0xd6, 0xb7, 0xce, 0xb3, 0xb3, 0x7d, 0x7b, 0x29, 0x29, 0x52, 
+  0x3e, 0xe3, 0xe3, 0xdd, 0x71, 0x2f, 0x2f, 0x5e, 0x97, 0x84, 0x84, 0x13, 
+  0xf5, 0x53, 0x53, 0xa6, 0x68, 0xd1, 0xd1, 0xb9, 0x00, 0x00, 0x00, 0x00, 
+  0x2c, 0xed, 0xed, 0xc1, 0x60, 0x20, 0x20, 0x40, 0x1f, 0xfc, 0xfc, 0xe3, 
+  0xc8, 0xb1, 0xb1, 0x79, 0xed, 0x5b, 0x5b, 0xb6, 0xbe, 0x6a, 0x6a, 0xd4, 
+  0x46, 0xcb, 0xcb, 0x8d, 0xd9, 0xbe, 0xbe, 0x67, 0x4b, 0x39, 0x39, 0x72, 
+  0xde, 0x4a, 0x4a, 0x94, 0xd4, 0x4c, 0x4c, 0x98, 0xe8, 0x58, 0x58, 0xb0, 
+  0x4a, 0xcf, 0xcf, 0x85, 0x6b, 0xd0, 0xd0, 0xbb, 0x2a, 0xef, 0xef, 0xc5, 
+  0xe5, 0xaa, 0xaa, 0x4f, 0x16, 0xfb, 0xfb, 0xed, 0xc5, 0x43, 0x43, 0x86, 
+  0xd7, 0x4d, 0x4d, 0x9a, 0x55, 0x33, 0x33, 0x66, 0x94, 0x85, 0x85, 0x11, 
+  0xcf, 0x45, 0x45, 0x8a, 0x10, 0xf9, 0xf9, 0xe9, 0x06, 0x02, 0x02, 0x04, 
+  0x81, 0x7f, 0x7f, 0xfe, 0xf0, 0x50, 0x50, 0xa0, 0x44, 0x3c, 0x3c, 0x78, 
+  0xba, 0x9f, 0x9f, 0x25, 0xe3, 0xa8, 0xa8, 0x4b, 0xf3, 0x51, 0x51, 0xa2, 
+  0xfe, 0xa3, 0xa3, 0x5d, 0xc0, 0x40, 0x40, 0x80, 0x8a, 0x8f, 0x8f, 0x05, 
+  0xad, 0x92, 0x92, 0x3f, 0xbc, 0x9d, 0x9d, 0x21, 0x48, 0x38, 0x38, 0x70, 
+  0x04, 0xf5, 0xf5, 0xf1, 0xdf, 0xbc, 0xbc, 0x63, 0xc1, 0xb6, 0xb6, 0x77, 
+  0x75, 0xda, 0xda, 0xaf, 0x63, 0x21, 0x21, 0x42, 0x30, 0x10, 0x10, 0x20, 
+  0x1a, 0xff, 0xff, 0xe5, 0x0e, 0xf3, 0xf3, 0xfd, 0x6d, 0xd2, 0xd2, 0xbf, 
+  0x4c, 0xcd, 0xcd, 0x81, 0x14, 0x0c, 0x0c, 0x18, 0x35, 0x13, 0x13, 0x26, 
+  0x2f, 0xec, 0xec, 0xc3, 0xe1, 0x5f, 0x5f, 0xbe, 0xa2, 0x97, 0x97, 0x35, 
+  0xcc, 0x44, 0x44, 0x88, 0x39, 0x17, 0x17, 0x2e, 0x57, 0xc4, 0xc4, 0x93, 
+  0xf2, 0xa7, 0xa7, 0x55, 0x82, 0x7e, 0x7e, 0xfc, 0x47, 0x3d, 0x3d, 0x7a, 
+  0xac, 0x64, 0x64, 0xc8, 0xe7, 0x5d, 0x5d, 0xba, 0x2b, 0x19, 0x19, 0x32, 
+  0x95, 0x73, 0x73, 0xe6, 0xa0, 0x60, 0x60, 0xc0, 0x98, 0x81, 0x81, 0x19, 
+  0xd1, 0x4f, 0x4f, 0x9e, 0x7f, 0xdc, 0xdc, 0xa3, 0x66, 0x22, 0x22, 0x44, 
+  0x7e, 0x2a, 0x2a, 0x54, 0xab, 0x90, 0x90, 0x3b, 0x83, 0x88, 0x88, 0x0b, 
+  0xca, 0x46, 0x46, 0x8c, 0x29, 0xee, 0xee, 0xc7, 0xd3, 0xb8, 0xb8, 0x6b, 
+  0x3c, 0x14, 0x14, 0x28, 0x79, 0xde, 0xde, 0xa7, 0xe2, 0x5e, 0x5e, 0xbc, 
+  0x1d, 0x0b, 0x0b, 0x16, 0x76, 0xdb, 0xdb, 0xad, 0x3b, 0xe0, 0xe0, 0xdb, 
+  0x56, 0x32, 0x32, 0x64, 0x4e, 0x3a, 0x3a, 0x74, 0x1e, 0x0a, 0x0a, 0x14, 
+  0xdb, 0x49, 0x49, 0x92, 0x0a, 0x06, 0x06, 0x0c, 0x6c, 0x24, 0x24, 0x48, 
+  0xe4, 0x5c, 0x5c, 0xb8, 0x5d, 0xc2, 0xc2, 0x9f, 0x6e, 0xd3, 0xd3, 0xbd, 
+  0xef, 0xac, 0xac, 0x43, 0xa6, 0x62, 0x62, 0xc4, 0xa8, 0x91, 0x91, 0x39, 
+  0xa4, 0x95, 0x95, 0x31, 0x37, 0xe4, 0xe4, 0xd3, 0x8b, 0x79, 0x79, 0xf2, 
+  0x32, 0xe7, 0xe7, 0xd5, 0x43, 0xc8, 0xc8, 0x8b, 0x59, 0x37, 0x37, 0x6e, 
+  0xb7, 0x6d, 0x6d, 0xda, 0x8c, 0x8d, 0x8d, 0x01, 0x64, 0xd5, 0xd5, 0xb1, 
+  0xd2, 0x4e, 0x4e, 0x9c, 0xe0, 0xa9, 0xa9, 0x49, 0xb4, 0x6c, 0x6c, 0xd8, 
+  0xfa, 0x56, 0x56, 0xac, 0x07, 0xf4, 0xf4, 0xf3, 0x25, 0xea, 0xea, 0xcf, 
+  0xaf, 0x65, 0x65, 0xca, 0x8e, 0x7a, 0x7a, 0xf4, 0xe9, 0xae, 0xae, 0x47, 
+  0x18, 0x08, 0x08, 0x10, 0xd5, 0xba, 0xba, 0x6f, 0x88, 0x78, 0x78, 0xf0, 
+  0x6f, 0x25, 0x25, 0x4a, 0x72, 0x2e, 0x2e, 0x5c, 0x24, 0x1c, 0x1c, 0x38, 
+  0xf1, 0xa6, 0xa6, 0x57, 0xc7, 0xb4, 0xb4, 0x73, 0x51, 0xc6, 0xc6, 0x97, 
+  0x23, 0xe8, 0xe8, 0xcb, 0x7c, 0xdd, 0xdd, 0xa1, 0x9c, 0x74, 0x74, 0xe8, 
+  0x21, 0x1f, 0x1f, 0x3e, 0xdd, 0x4b, 0x4b, 0x96, 0xdc, 0xbd, 0xbd, 0x61, 
+  0x86, 0x8b, 0x8b, 0x0d, 0x85, 0x8a, 0x8a, 0x0f, 0x90, 0x70, 0x70, 0xe0, 
+  0x42, 0x3e, 0x3e, 0x7c, 0xc4, 0xb5, 0xb5, 0x71, 0xaa, 0x66, 0x66, 0xcc, 
+  0xd8, 0x48, 0x48, 0x90, 0x05, 0x03, 0x03, 0x06, 0x01, 0xf6, 0xf6, 0xf7, 
+  0x12, 0x0e, 0x0e, 0x1c, 0xa3, 0x61, 0x61, 0xc2, 0x5f, 0x35, 0x35, 0x6a, 
+  0xf9, 0x57, 0x57, 0xae, 0xd0, 0xb9, 0xb9, 0x69, 0x91, 0x86, 0x86, 0x17, 
+  0x58, 0xc1, 0xc1, 0x99, 0x27, 0x1d, 0x1d, 0x3a, 0xb9, 0x9e, 0x9e, 0x27, 
+  0x38, 0xe1, 0xe1, 0xd9, 0x13, 0xf8, 0xf8, 0xeb, 0xb3, 0x98, 0x98, 0x2b, 
+  0x33, 0x11, 0x11, 0x22, 0xbb, 0x69, 0x69, 0xd2, 0x70, 0xd9, 0xd9, 0xa9, 
+  0x89, 0x8e, 0x8e, 0x07, 0xa7, 0x94, 0x94, 0x33, 0xb6, 0x9b, 0x9b, 0x2d, 
+  0x22, 0x1e, 0x1e, 0x3c, 0x92, 0x87, 0x87, 0x15, 0x20, 0xe9, 0xe9, 0xc9, 
+  0x49, 0xce, 0xce, 0x87, 0xff, 0x55, 0x55, 0xaa, 0x78, 0x28, 0x28, 0x50, 
+  0x7a, 0xdf, 0xdf, 0xa5, 0x8f, 0x8c, 0x8c, 0x03, 0xf8, 0xa1, 0xa1, 0x59, 
+  0x80, 0x89, 0x89, 0x09, 0x17, 0x0d, 0x0d, 0x1a, 0xda, 0xbf, 0xbf, 0x65, 
+  0x31, 0xe6, 0xe6, 0xd7, 0xc6, 0x42, 0x42, 0x84, 0xb8, 0x68, 0x68, 0xd0, 
+  0xc3, 0x41, 0x41, 0x82, 0xb0, 0x99, 0x99, 0x29, 0x77, 0x2d, 0x2d, 0x5a, 
+  0x11, 0x0f, 0x0f, 0x1e, 0xcb, 0xb0, 0xb0, 0x7b, 0xfc, 0x54, 0x54, 0xa8, 
+  0xd6, 0xbb, 0xbb, 0x6d, 0x3a, 0x16, 0x16, 0x2c, 0x00, 0x01, 0x02, 0x03, 
+  0x04, 0x05, 0x06, 0x07, 0x08, 0x09, 0x0a, 0x0b, 0x0c, 0x0d, 0x0e, 0x0f, 
+  0x00, 0x11, 0x22, 0x33, 0x44, 0x55, 0x66, 0x77, 0x88, 0x99, 0xaa, 0xbb, 
+  0xcc, 0xdd, 0xee, 0xff, 0x1f, 0xa6, 0x8b, 0x0a, 0x81, 0x12, 0xb4, 0x47, 
+  0xae, 0xf3, 0x4b, 0xd8, 0xfb, 0x5a, 0x7b, 0x82, 0x9d, 0x3e, 0x86, 0x23, 
+  0x71, 0xd2, 0xcf, 0xe5, 0x00, 0x01, 0x02, 0x03, 0x04, 0x05, 0x06, 0x07, 
+  0x08, 0x09, 0x0a, 0x0b, 0x0c, 0x0d, 0x0e, 0x0f, 0x10, 0x11, 0x12, 0x13, 
+  0x14, 0x15, 0x16, 0x17, 0x96, 0x77, 0x8b, 0x25, 0xae, 0x6c, 0xa4, 0x35, 
+  0xf9, 0x2b, 0x5b, 0x97, 0xc0, 0x50, 0xae, 0xd2, 0x46, 0x8a, 0xb8, 0xa1, 
+  0x7a, 0xd8, 0x4e, 0x5d, 0x00, 0x01, 0x02, 0x03, 0x04, 0x05, 0x06, 0x07, 
+  0x08, 0x09, 0x0a, 0x0b, 0x0c, 0x0d, 0x0e, 0x0f, 0x10, 0x11, 0x12, 0x13, 
+  0x14, 0x15, 0x16, 0x17, 0x18, 0x19, 0x1a, 0x1b, 0x1c, 0x1d, 0x1e, 0x1f, 
+  0x64, 0xe8, 0xc3, 0xf9, 0xce, 0x0f, 0x5b, 0xa2, 0x63, 0xe9, 0x77, 0x79, 
+  0x05, 0x81, 0x8a, 0x2a, 0x93, 0xc8, 0x19, 0x1e, 0x7d, 0x6e, 0x8a, 0xe7, 
+  0x00, 0x11, 0x22, 0x33, 0x44, 0x55, 0x66, 0x77, 0x88, 0x99, 0xaa, 0xbb, 
+  0xcc, 0xdd, 0xee, 0xff, 0x00, 0x01, 0x02, 0x03, 0x04, 0x05, 0x06, 0x07, 
+  0x03, 0x1d, 0x33, 0x26, 0x4e, 0x15, 0xd3, 0x32, 0x68, 0xf2, 0x4e, 0xc2, 
+  0x60, 0x74, 0x3e, 0xdc, 0xe1, 0xc6, 0xc7, 0xdd, 0xee, 0x72, 0x5a, 0x93, 
+  0x6b, 0xa8, 0x14, 0x91, 0x5c, 0x67, 0x62, 0xd2, 0xa8, 0xf9, 0xbc, 0x16, 
+  0x12, 0xc6, 0x8b, 0x3f, 0xf6, 0xe6, 0xf4, 0xfb, 0xe3, 0x0e, 0x71, 0xe4, 
+  0x76, 0x9c, 0x8b, 0x80, 0xa3, 0x2c, 0xb8, 0x95, 0x8c, 0xd5, 0xd1, 0x7d, 
+  0x6b, 0x25, 0x4d, 0xa1, 0x00, 0x11, 0x22, 0x33, 0x44, 0x55, 0x66, 0x77, 
+  0x88, 0x99, 0xaa, 0xbb, 0xcc, 0xdd, 0xee, 0xff, 0x00, 0x01, 0x02, 0x03, 
+  0x04, 0x05, 0x06, 0x07, 0x08, 0x09, 0x0a, 0x0b, 0x0c, 0x0d, 0x0e, 0x0f, 
+  0x28, 0xc9, 0xf4, 0x04, 0xc4, 0xb8, 0x10, 0xf4, 0xcb, 0xcc, 0xb3, 0x5c, 
+  0xfb, 0x87, 0xf8, 0x26, 0x3f, 0x57, 0x86, 0xe2, 0xd8, 0x0e, 0xd3, 0x26, 
+  0xcb, 0xc7, 0xf0, 0xe7, 0x1a, 0x99, 0xf4, 0x3b, 0xfb, 0x98, 0x8b, 0x9b, 
+  0x7a, 0x02, 0xdd, 0x21, 0x58, 0x40, 0xdf, 0x6e, 0x29, 0xb0, 0x2a, 0xf1, 
+  0xab, 0x49, 0x3b, 0x70, 0x5b, 0xf1, 0x6e, 0xa1, 0xae, 0x83, 0x38, 0xf4, 
+  0xdc, 0xc1, 0x76, 0xa8, 0xc3, 0x7b, 0x7e, 0x64, 0x92, 0x58, 0x43, 0x40, 
+  0xbe, 0xd1, 0x22, 0x07, 0x80, 0x89, 0x41, 0x15, 0x50, 0x68, 0xf7, 0x38, 
+  0x13, 0x8b, 0xde, 0xaa, 0x9b, 0x8f, 0xa7, 0xfc, 0x61, 0xf9, 0x77, 0x42, 
+  0xe7, 0x22, 0x48, 0xee, 0x5a, 0xe6, 0xae, 0x53, 0x60, 0xd1, 0xae, 0x6a, 
+  0x5f, 0x54, 0xf3, 0x73, 0xfa, 0x54, 0x3b, 0x6a, 0x46, 0x6f, 0x72, 0x50, 
+  0x61, 0x73, 0x69, 0xaf, 0xbe, 0xb0, 0xf0, 0x7d, 0xfb, 0xf5, 0x41, 0x92, 
+  0x00, 0xf2, 0xcc, 0xb5, 0x0b, 0xb2, 0x4f, 0x1f, 0xa6, 0x8b, 0x0a, 0x81, 
+  0x12, 0xb4, 0x47, 0xae, 0xf3, 0x4b, 0xd8, 0xfb, 0x5a, 0x7b, 0x82, 0x9d, 
+  0x3e, 0x86, 0x23, 0x71, 0xd2, 0xcf, 0xe4, 0x64, 0x6f, 0x6e, 0x65, 0x69, 
+  0x6e, 0x69, 0x74, 0x69, 0x61, 0x6c, 0x20, 0x76, 0x61, 0x6c, 0x75, 0x65, 
+  0x20, 0x69, 0x73, 0x20, 0x6e, 0x6f, 0x74, 0x20, 0x38, 0x20, 0x62, 0x79, 
+  0x74, 0x65, 0x73, 0x2c, 0x20, 0x6f, 0x72, 0x20, 0x69, 0x73, 0x20, 0x72, 
+  0x65, 0x73, 0x65, 0x72, 0x76, 0x65, 0x64, 0x20, 0x66, 0x6f, 0x72, 0x20, 
+  0x74, 0x68, 0x65, 0x20, 0x70, 0x61, 0x64, 0x64, 0x65, 0x64, 0x20, 0x66, 
+  0x6f, 0x72, 0x6d, 0x6b, 0x65, 0x79, 0x20, 0x6c, 0x65, 0x6e, 0x67, 0x74, 
+  0x68, 0x20, 0x69, 0x73, 0x20, 0x6e, 0x6f, 0x74, 0x20, 0x31, 0x36, 0x2c, 
+  0x20, 0x32, 0x34, 0x20, 0x6f, 0x72, 0x20, 0x33, 0x32, 0x20, 0x62, 0x79, 
+  0x74, 0x65, 0x73, 0x62, 0x61, 0x64, 0x20, 0x6c, 0x65, 0x6e, 0x67, 0x74, 
+  0x68, 0x69, 0x6e, 0x74, 0x65, 0x67, 0x72, 0x69, 0x74, 0x79, 0x20, 0x63, 
+  0x68, 0x65, 0x63, 0x6b, 0x20, 0x66, 0x61, 0x69, 0x6c, 0x65, 0x64, 0x6f, 
+  0x75, 0x74, 0x20, 0x6f, 0x66, 0x20, 0x6d, 0x65, 0x6d, 0x6f, 0x72, 0x79, 
+  0x6e, 0x6f, 0x20, 0x70, 0x6c, 0x61, 0x69, 0x6e, 0x20, 0x6b, 0x65, 0x79, 
+  0x20, 0x68, 0x61, 0x73, 0x20, 0x74, 0x68, 0x65, 0x20, 0x6c, 0x65, 0x6e, 
+  0x67, 0x74, 0x68, 0x20, 0x6f, 0x66, 0x20, 0x74, 0x68, 0x65, 0x20, 0x6b, 
+  0x65, 0x79, 0x75, 0x6e, 0x6b, 0x6e, 0x6f, 0x77, 0x6e, 0x20, 0x73, 0x74, 
+  0x61, 0x74, 0x75, 0x73, 0x04, 0x00, 0x00, 0x00, 0x05, 0x00, 0x00, 0x00, 
+  0x08, 0x00, 0x00, 0x00, 0x04, 0x00, 0x00, 0x00, 0x00, 0x00, 0x00, 0x00, 
+  0x0e, 0x00, 0x00, 0x00, 0x00, 0x00, 0x00, 0x00, 0x40, 0x00, 0x00, 0x00, 
+  0x00, 0x00, 0x00, 0x00, 0x24, 0x00, 0x00, 0x00, 0x00, 0x00, 0x00, 0x00, 
+  0x0a, 0x00, 0x00, 0x00, 0x00, 0x00, 0x00, 0x00, 0x16, 0x00, 0x00, 0x00, 
+  0x00, 0x00, 0x00, 0x00, 0x0e, 0x00, 0x00, 0x00, 0x00, 0x00, 0x00, 0x00, 
+  0x0d, 0x00, 0x00, 0x00, 0x00, 0x00, 0x00, 0x00, 0x26, 0x00, 0x00, 0x00, 
+  0x00, 0x00, 0x00, 0x00, 0xe3, 0x0b, 0x01, 0x00, 0x00, 0x00, 0x00, 0x00, 
+  0x9e, 0x0c, 0x01, 0x00, 0x00, 0x00, 0x00, 0x00, 0xe7, 0x0b, 0x01, 0x00, 
+  0x00, 0x00, 0x00, 0x00, 0x27, 0x0c, 0x01, 0x00, 0x00, 0x00, 0x00, 0x00, 
+  0x4b, 0x0c, 0x01, 0x00, 0x00, 0x00, 0x00, 0x00, 0x55, 0x0c, 0x01, 0x00, 
+  0x00, 0x00, 0x00, 0x00, 0x9e, 0x0c, 0x01, 0x00, 0x00, 0x00, 0x00, 0x00, 
+  0x6b, 0x0c, 0x01, 0x00, 0x00, 0x00, 0x00, 0x00, 0x78, 0x0c, 0x01, 0x00, 
+  0x00, 0x00, 0x00, 0x00, 
+};
+#endif
+
+/* What a call has of its own: the stack, and above it a number that it returns or changes, a flag, and a
+ * block. The module's addresses of all of it, of which FIRST is the lowest. */
+enum {
+    BESIDE = 32,
+#ifdef KEYWRAP_STEPS_ONLY
+    OWN = STEPS_STACK + BESIDE
+#else
+    OWN = STACK + BESIDE
+#endif
+};
+#define FIRST ((u64)TOP - OWN)
+#define NUMBER ((u64)TOP - BESIDE)
+#define FLAG (NUMBER + 8)
+#define BLOCK_AT (NUMBER + 16)
+
+/* A buffer of the caller, which the module uses in place. One that is longer than `longest` is refused
+ * for its length, and the module sees none of it. */
+struct buffer {
+    const u8 *in;
+    u8 *out; /* NULL if the module only reads it */
+    size_t len, longest;
+    u64 address, size;
+};
+
+struct instance;
+struct call {
+    u64 (*run)(struct instance *module, const struct call *call);
+    struct buffer *buffers;
+    int count, most_used; /* how many buffers, and the number of one */
+    u64 number;           /* an argument that is no buffer */
+    u32 flags;            /* and one beside it */
+    size_t *key_len;      /* receives the number, if any */
+    uint32_t *flag;       /* receives the flag, if any */
+    uint64_t *steps;      /* is the number, if any */
+    u8 *block;            /* is the block, if any */
+    int begins;           /* whether these two may be undefined before the call */
+};
+
+/* The memory of the module: what a call has of its own, the constants, and the buffers. */
+struct memory {
+    u8 *own;
+    const struct call *call;
+};
+
+/* What the module's code works on: its two globals and its memory. */
+struct instance {
+    u64 w2c_g0;
+    u32 w2c_g1;
+    struct memory w2c_memory;
+};
+
+#define UNREACHABLE KEYWRAP_TRAP()
+
+INLINE int holds(u64 size, u64 place, u64 len) {
+    return len <= size && place <= size - len;
+}
+
+/* Returns the buffer that holds the bytes at an address. */
+INLINE const struct buffer *buffer_at(const struct call *call, u64 address, u64 len) {
+    const struct buffer *buffer = call->buffers + call->most_used;
+    if (call->count > 0 && holds(buffer->size, address - buffer->address, len)) return buffer;
+    for (int i = 0; i < call->count; i++) {
+        buffer = call->buffers + i;
+        if (holds(buffer->size, address - buffer->address, len)) return buffer;
+    }
+    KEYWRAP_TRAP();
+    return NULL;
+}
+
+APART static u8 *written_in(const struct call *call, u64 address, u64 len) {
+    const struct buffer *buffer = buffer_at(call, address, len);
+    if (!buffer->out) KEYWRAP_TRAP();
+    return buffer->out + (address - buffer->address);
+}
+
+APART static const u8 *read_in(const struct call *call, u64 address, u64 len) {
+    const struct buffer *buffer = buffer_at(call, address, len);
+    return buffer->in + (address - buffer->address);
+}
+
+/* Returns the place of the bytes that the module writes at an address. */
+INLINE u8 *written_at(struct memory memory, u64 address, u64 len) {
+    if (holds(OWN, address - FIRST, len)) return memory.own + (address - FIRST);
+    return written_in(memory.call, address, len);
+}
+
+/* Returns the place of the bytes that the module reads at an address. */
+INLINE const u8 *read_at(struct memory memory, u64 address, u64 len) {
+    if (holds(OWN, address - FIRST, len)) return memory.own + (address - FIRST);
+#ifndef KEYWRAP_STEPS_ONLY
+    if (holds(DATA, address - TOP, len)) return constants + (address - TOP);
+#endif
+    return read_in(memory.call, address, len);
+}
+
+#ifndef KEYWRAP_STEPS_ONLY
+/* Returns the place of bytes that can only be constants. */
+INLINE const u8 *constant_at(u64 address, u64 len) {
+    if (address - TOP > DATA - len) KEYWRAP_TRAP();
+    return constants + (address - TOP);
+}
+#endif
+
+/* The bytes of a number in the other order. */
+INLINE u64 reversed(u64 value, unsigned len) {
+    u64 result = 0;
+    for (unsigned i = 0; i < len; i++) result |= (value >> 8 * i & 255) << 8 * (len - 1 - i);
+    return result;
+}
+
+#define LOAD(name, type, result)                                                                   \
+    INLINE result name(struct memory memory, u64 address) {                                        \
+        type value;                                                                                \
+        memcpy(&value, read_at(memory, address, sizeof value), sizeof value);                      \
+        return (type)MODULE_ORDER(value, sizeof value);                                            \
+    }
+#define LOAD_CONSTANT(name, type, result)                                                          \
+    INLINE result constant_##name(u64 address) {                                                   \
+        type value;                                                                                \
+        memcpy(&value, constant_at(address, sizeof value), sizeof value);                          \
+        return (type)MODULE_ORDER(value, sizeof value);                                            \
+    }
+#define STORE(name, type, given)                                                                   \
+    INLINE void name(struct memory memory, u64 address, given wide) {                              \
+        type value = (type)MODULE_ORDER((type)wide, sizeof value);                                 \
+        memcpy(written_at(memory, address, sizeof value), &value, sizeof value);                   \
+    }
+LOAD(i32_load, u32, u32)
+LOAD(i64_load, u64, u64)
+LOAD(i32_load8_u, u8, u32)
+LOAD(i64_load8_u, u8, u64)
+LOAD(i32_load16_u, u16, u32)
+STORE(i32_store, u32, u32)
+STORE(i64_store, u64, u64)
+STORE(i32_store8, u8, u32)
+STORE(i32_store16, u16, u32)
+#ifndef KEYWRAP_STEPS_ONLY
+LOAD_CONSTANT(i32_load, u32, u32)
+LOAD_CONSTANT(i64_load, u64, u64)
+LOAD_CONSTANT(i32_load8_u, u8, u32)
+#endif
+
+INLINE void memory_fill(struct memory memory, u32 to, u32 byte, u32 len) {
+    if (len > 0) memset(written_at(memory, to, len), (int)byte, len);
+}
+
+INLINE void memory_copy(struct memory to_memory, struct memory from_memory, u32 to, u32 from,
+                        u32 len) {
+    if (len > 0) memmove(written_at(to_memory, to, len), read_at(from_memory, from, len), len);
+}
+
+INLINE u32 rotated_left(u32 word, u32 bits) {
+    return word << (bits & 31) | word >> (-bits & 31);
+}
+
+INLINE u64 divisor(u64 by) {
+    if (by == 0) KEYWRAP_TRAP();
+    return by;
+}
+
+#define I32_ROTL(word, bits) rotated_left(word, bits)
+#define I32_ROTR(word, bits) rotated_left(word, -(u32)(bits))
+#define DIV_U(number, by) ((number) / divisor(by))
+#define REM_U(number, by) ((number) % divisor(by))
+
+/* Clears words; the compiler may not leave this out. */
+ALWAYS_INLINE void clear(u64 *words, size_t size) {
+#ifdef __GNUC__
+    memset(words, 0, size);
+    __asm__ volatile("" : : "r"(words) : "memory");
+#else
+    volatile u64 *word = words;
+    for (size_t i = 0; i < size / 8; i++) word[i] = 0;
+#endif
+}
+
+/* Gives each buffer its address. Between two of them there are addresses of none. */
+ALWAYS_INLINE void lay_out(struct call *call) {
+    u64 address = (u64)TOP + DATA + 16;
+    for (int i = call->count - 1; i >= 0; i--) {
+        struct buffer *buffer = call->buffers + i;
+        buffer->address = address;
+        buffer->size = buffer->len > buffer->longest ? 0 : buffer->len;
+        if (buffer->out) call->most_used = i;
+        address += buffer->size + 16;
+    }
+}
+
+/* Runs the call with so many bytes of stack. */
+ALWAYS_INLINE u64 perform_in(struct call *call, size_t stack) {
+    u64 words[OWN / 8], *used = words + (OWN - BESIDE - stack) / 8, status;
+    u8 *block = (u8 *)words + OWN - BESIDE + 16;
+    struct instance module = {TOP - BESIDE, 0, {(u8 *)words, call}};
+    int changed;
+    memset(used, 0, stack + BESIDE);
+    lay_out(call);
+    if (call->steps && !call->begins) i64_store(module.w2c_memory, NUMBER, *call->steps);
+    if (call->block && !call->begins) memcpy(block, call->block, 16);
+    status = call->run(&module, call);
+    changed = status == KEYWRAP_OK || status == KEYWRAP_INTEGRITY;
+    if (call->steps && changed) *call->steps = i64_load(module.w2c_memory, NUMBER);
+    if (call->block && changed) memcpy(call->block, block, 16);
+    if (call->key_len) *call->key_len = (size_t)i64_load(module.w2c_memory, NUMBER);
+    if (call->flag) *call->flag = i32_load(module.w2c_memory, FLAG);
+    clear(used, stack + BESIDE);
+    return status;
+}
+
+#define READS(bytes, len, longest) {(bytes), NULL, (len), (longest), 0, 0}
+#define WRITES(bytes, len, longest) {(bytes), (bytes), (len), (longest), 0, 0}
+#define BUFFERS .buffers = buffers, .count = sizeof buffers / sizeof *buffers
+#define ADDRESS(n) call->buffers[n].address
+#define BUFFER(n) ADDRESS(n), call->buffers[n].len
+
+/*** The module, by wasm2c ***/
+
+static u32 w2c_f0(struct instance *);
+static void w2c_f1(struct instance *);
+static void w2c_f2(struct instance *);
+static void w2c_f3(struct instance *, u64, u64, u64, u64);
+#ifndef KEYWRAP_STEPS_ONLY
+static void w2c_f4(struct instance *, u64, u64, u64);
+static void w2c_f5(struct instance *, u64, u64, u64, u64, u64, u64, u64);
+static u64 w2c_f6(struct instance *, u64, u64, u64, u64);
+static void w2c_f7(struct instance *, u64, u64, u64, u64, u64, u64, u64, u64);
+static u32 w2c_f8(struct instance *, u64, u64, u64, u64, u64, u64, u32, u64);
+static void w2c_f9(struct instance *, u64, u64, u64, u32, u64, u64);
+static void w2c_f10(struct instance *, u64, u64, u64, u64, u64);
+static u32 w2c_f11(struct instance *, u64, u64, u64, u64, u64);
+static u64 w2c_f12(struct instance *, u64, u64, u64, u64);
+static void w2c_f13(struct instance *, u64, u64, u64);
+static void w2c_f14(struct instance *, u64, u64, u32, u64, u64, u64, u64);
+static u32 w2c_f15(struct instance *, u64, u64, u64, u64, u64, u64);
+static u32 w2c_f16(struct instance *, u64, u64, u64);
+static u32 w2c_f17(struct instance *, u64, u64, u64, u64, u64, u64);
+static u32 w2c_f18(struct instance *, u64, u64, u64, u64);
+static u32 w2c_f19(struct instance *, u64, u64, u64, u64, u64, u64);
+static u32 w2c_f20(struct instance *, u64, u64, u64, u64, u64, u64, u64);
+static void w2c_f21(struct instance *, u64, u32, u64, u64, u64, u64, u64);
+static void w2c_f22(struct instance *, u64, u32, u64, u64, u64, u64, u64);
+#endif
+static u32 w2c_keywrap_begin_unwrap(struct instance *, u64, u64, u64, u64, u64);
+static u32 w2c_f24(struct instance *, u64, u64, u64, u64, u64);
+static u32 w2c_keywrap_begin_unwrap_padded(struct instance *, u64, u64, u64, u64, u64);
+static u32 w2c_f26(struct instance *, u64, u64, u64, u64, u64);
+static u32 w2c_keywrap_begin_wrap(struct instance *, u64, u64, u64, u64, u64, u64);
+static u32 w2c_f28(struct instance *, u64, u64, u64, u64, u64, u64);
+static u32 w2c_keywrap_begin_wrap_padded(struct instance *, u64, u64, u64, u64, u64);
+static u32 w2c_f30(struct instance *, u64, u64, u64, u64, u64);
+static u32 w2c_keywrap_end_unwrap(struct instance *, u64, u64, u64, u64, u64, u64);
+static u32 w2c_f32(struct instance *, u64, u64, u64, u64, u64, u64);
+static u32 w2c_keywrap_end_unwrap_padded(struct instance *, u64, u64, u64, u64, u64);
+static u32 w2c_f34(struct instance *, u64, u64, u64, u64, u64);
+static u32 w2c_keywrap_end_wrap(struct instance *, u64, u64, u64, u64, u64);
+static u32 w2c_f36(struct instance *, u64, u64, u64, u64);
+#ifndef KEYWRAP_STEPS_ONLY
+static u32 w2c_keywrap_kind(struct instance *, u64, u64, u64, u64, u64, u64, u64, u64);
+static u32 w2c_f38(struct instance *, u64, u64, u64, u64, u64, u64, u64, u64);
+static u32 w2c_keywrap_kind_many(struct instance *, u64, u64, u64, u64, u64, u64, u64, u64, u64, u64, u64, u64);
+static u32 w2c_f40(struct instance *, u64, u64, u64, u64, u64, u64, u64, u64, u64, u64, u64, u64);
+static u32 w2c_keywrap_rewrap(struct instance *, u64, u64, u64, u64, u64, u64, u32, u64);
+static u32 w2c_f42(struct instance *, u64, u64, u64, u64, u64, u64, u32, u64);
+static u32 w2c_keywrap_rewrap_in_place(struct instance *, u64, u64, u64, u64, u64, u64, u32);
+static u32 w2c_f44(struct instance *, u64, u64, u64, u64, u64, u64, u32);
+static u32 w2c_keywrap_rewrap_many(struct instance *, u64, u64, u64, u64, u64, u64, u32, u64, u64);
+static u32 w2c_f46(struct instance *, u64, u64, u64, u64, u64, u64, u32, u64, u64);
+static u32 w2c_keywrap_self_test(struct instance *);
+static u32 w2c_f48(struct instance *);
+static u64 w2c_keywrap_status_text(struct instance *, u32, u64, u64);
+static u64 w2c_f50(struct instance *, u32, u64, u64);
+#endif
+static u32 w2c_keywrap_step_unwrap(struct instance *, u64, u64, u64, u64);
+static u32 w2c_f52(struct instance *, u64, u64, u64, u64);
+static u32 w2c_keywrap_step_wrap(struct instance *, u64, u64, u64, u64);
+static u32 w2c_f54(struct instance *, u64, u64, u64, u64);
+#ifndef KEYWRAP_STEPS_ONLY
+static u32 w2c_keywrap_unwrap(struct instance *, u64, u64, u64, u64, u64, u64);
+static u32 w2c_f56(struct instance *, u64, u64, u64, u64, u64, u64);
+static u32 w2c_keywrap_unwrap_any(struct instance *, u64, u64, u64, u64, u64, u64, u64, u64);
+static u32 w2c_f58(struct instance *, u64, u64, u64, u64, u64, u64, u64, u64);
+static u32 w2c_keywrap_unwrap_in_place(struct instance *, u64, u64, u64, u64);
+static u32 w2c_f60(struct instance *, u64, u64, u64, u64);
+static u32 w2c_keywrap_unwrap_many(struct instance *, u64, u64, u64, u64, u32, u64, u64, u64, u64);
+static u32 w2c_f62(struct instance *, u64, u64, u64, u64, u32, u64, u64, u64, u64);
+static u32 w2c_keywrap_unwrap_padded(struct instance *, u64, u64, u64, u64, u64, u64, u64);
+static u32 w2c_f64(struct instance *, u64, u64, u64, u64, u64, u64, u64);
+static u32 w2c_keywrap_unwrap_padded_in_place(struct instance *, u64, u64, u64, u64, u64);
+static u32 w2c_f66(struct instance *, u64, u64, u64, u64, u64);
+static u32 w2c_keywrap_unwrap_with(struct instance *, u64, u64, u64, u64, u64, u64, u64, u64);
+static u32 w2c_f68(struct instance *, u64, u64, u64, u64, u64, u64, u64, u64);
+static u32 w2c_keywrap_version(struct instance *);
+static void w2c_f70(struct instance *);
+static u32 w2c_keywrap_wrap(struct instance *, u64, u64, u64, u64, u64, u64);
+static u32 w2c_f72(struct instance *, u64, u64, u64, u64, u64, u64);
+static u32 w2c_keywrap_wrap_in_place(struct instance *, u64, u64, u64, u64);
+static u32 w2c_f74(struct instance *, u64, u64, u64, u64);
+static u32 w2c_keywrap_wrap_many(struct instance *, u64, u64, u64, u64, u64, u32, u64, u64);
+static u32 w2c_f76(struct instance *, u64, u64, u64, u64, u64, u32, u64, u64);
+static u32 w2c_keywrap_wrap_padded(struct instance *, u64, u64, u64, u64, u64, u64);
+static u32 w2c_f78(struct instance *, u64, u64, u64, u64, u64, u64);
+static u32 w2c_keywrap_wrap_padded_in_place(struct instance *, u64, u64, u64, u64, u64);
+static u32 w2c_f80(struct instance *, u64, u64, u64, u64, u64);
+static u32 w2c_keywrap_wrap_with(struct instance *, u64, u64, u64, u64, u64, u64, u64, u64);
+static u32 w2c_f82(struct instance *, u64, u64, u64, u64, u64, u64, u64, u64);
+#endif
+static u32 w2c_f0(struct instance *instance) {
+  u32 w2c_l0 = 0;
+  const struct memory memory = instance->w2c_memory;
+  (void)memory;
+  u32 w2c_i0, w2c_i1;
+  w2c_i0 = instance->w2c_g1;
+  w2c_l0 = w2c_i0;
+  w2c_i0 = 1u;
+  instance->w2c_g1 = w2c_i0;
+  w2c_i0 = w2c_l0;
+  w2c_i1 = 0u;
+  w2c_i0 = w2c_i0 != w2c_i1;
+  return w2c_i0;
+}
+static void w2c_f1(struct instance *instance) {
+  const struct memory memory = instance->w2c_memory;
+  (void)memory;
+  u32 w2c_i0;
+  w2c_i0 = 0u;
+  instance->w2c_g1 = w2c_i0;
+}
+static void w2c_f2(struct instance *instance) {
+  const struct memory memory = instance->w2c_memory;
+  (void)memory;
+  UNREACHABLE;
+}
+static void w2c_f3(struct instance *instance, u64 w2c_p0, u64 w2c_p1, u64 w2c_p2, u64 w2c_p3) {
+  u32 w2c_l4 = 0, w2c_l5 = 0;
+  const struct memory memory = instance->w2c_memory;
+  (void)memory;
+  u32 w2c_i0, w2c_i1, w2c_i2;
+  u64 w2c_j0, w2c_j1, w2c_j2;
+  w2c_j0 = instance->w2c_g0;
+  w2c_j1 = 16ull;
+  w2c_i0 = (u64)((s64)w2c_j0 < (s64)w2c_j1);
+  if (w2c_i0) {goto w2c_B0;}
+  w2c_j0 = w2c_p1;
+  w2c_i0 = !(w2c_j0);
+  w2c_i0 = !(w2c_i0);
+  if (w2c_i0) {goto w2c_B2;}
+  w2c_i0 = 0u;
+  w2c_l4 = w2c_i0;
+  goto w2c_B1;
+  w2c_B2:;
+  w2c_i0 = 1u;
+  w2c_l4 = w2c_i0;
+  w2c_j0 = w2c_p3;
+  w2c_i0 = !(w2c_j0);
+  if (w2c_i0) {goto w2c_B1;}
+  w2c_j0 = w2c_p3;
+  w2c_j1 = 18446744073709551615ull;
+  w2c_j0 += w2c_j1;
+  w2c_p3 = w2c_j0;
+  w2c_i0 = !(w2c_j0);
+  w2c_l5 = w2c_i0;
+  if (w2c_i0) {goto w2c_B3;}
+  w2c_i0 = w2c_l5;
+  if (w2c_i0) {goto w2c_B3;}
+  w2c_j0 = w2c_p2;
+  w2c_i0 = (u32)(w2c_j0);
+  w2c_i1 = 0u;
+  w2c_j2 = w2c_p3;
+  w2c_i2 = (u32)(w2c_j2);
+  memory_fill(memory, w2c_i0, w2c_i1, w2c_i2);
+  w2c_B3:;
+  w2c_j0 = w2c_p2;
+  w2c_j1 = w2c_p3;
+  w2c_j0 += w2c_j1;
+  w2c_i0 = (u32)(w2c_j0);
+  w2c_i1 = 0u;
+  i32_store8(memory, (u64)(w2c_i0), w2c_i1);
+  w2c_B1:;
+  w2c_j0 = w2c_p0;
+  w2c_i0 = (u32)(w2c_j0);
+  w2c_i1 = w2c_l4;
+  i32_store8(memory, (u64)(w2c_i0) + 1, w2c_i1);
+  w2c_j0 = w2c_p0;
+  w2c_i0 = (u32)(w2c_j0);
+  w2c_i1 = w2c_l4;
+  i32_store8(memory, (u64)(w2c_i0), w2c_i1);
+  goto w2c_Bfunc;
+  w2c_B0:;
+  UNREACHABLE;
+  w2c_Bfunc:;
+}
+#ifndef KEYWRAP_STEPS_ONLY
+static void w2c_f4(struct instance *instance, u64 w2c_p0, u64 w2c_p1, u64 w2c_p2) {
+  u32 w2c_l11 = 0, w2c_l12 = 0, w2c_l13 = 0;
+  u64 w2c_l3 = 0, w2c_l4 = 0, w2c_l5 = 0, w2c_l6 = 0, w2c_l7 = 0, w2c_l8 = 0, w2c_l9 = 0, w2c_l10 = 0;
+  const struct memory memory = instance->w2c_memory;
+  (void)memory;
+  u32 w2c_i0, w2c_i1, w2c_i2, w2c_i3;
+  u64 w2c_j0, w2c_j1, w2c_j2;
+  w2c_j0 = instance->w2c_g0;
+  w2c_j1 = 496ull;
+  w2c_j0 -= w2c_j1;
+  w2c_l3 = w2c_j0;
+  instance->w2c_g0 = w2c_j0;
+  w2c_j0 = w2c_l3;
+  w2c_l4 = w2c_j0;
+  w2c_j1 = 16ull;
+  w2c_i0 = (u64)((s64)w2c_j0 < (s64)w2c_j1);
+  if (w2c_i0) {goto w2c_B0;}
+  w2c_i0 = 0u;
+  w2c_l11 = w2c_i0;
+  w2c_j0 = w2c_l4;
+  w2c_j1 = 13ull;
+  w2c_j0 += w2c_j1;
+  w2c_i0 = (u32)(w2c_j0);
+  w2c_i1 = 0u;
+  w2c_j2 = 243ull;
+  w2c_i2 = (u32)(w2c_j2);
+  memory_fill(memory, w2c_i0, w2c_i1, w2c_i2);
+  w2c_j0 = w2c_p2;
+  w2c_j1 = 18446744073709551600ull;
+  w2c_j0 += w2c_j1;
+  w2c_l3 = w2c_j0;
+  w2c_j1 = 16ull;
+  w2c_i0 = w2c_j0 > w2c_j1;
+  if (w2c_i0) {goto w2c_B4;}
+  w2c_i0 = 10u;
+  w2c_l12 = w2c_i0;
+  w2c_j0 = w2c_l3;
+  w2c_i0 = (u32)(w2c_j0);
+  switch (w2c_i0) {
+    case 0: goto w2c_B2;
+    case 1: goto w2c_B4;
+    case 2: goto w2c_B4;
+    case 3: goto w2c_B4;
+    case 4: goto w2c_B4;
+    case 5: goto w2c_B4;
+    case 6: goto w2c_B4;
+    case 7: goto w2c_B4;
+    case 8: goto w2c_B3;
+    case 9: goto w2c_B4;
+    case 10: goto w2c_B4;
+    case 11: goto w2c_B4;
+    case 12: goto w2c_B4;
+    case 13: goto w2c_B4;
+    case 14: goto w2c_B4;
+    case 15: goto w2c_B4;
+    case 16: goto w2c_B5;
+    default: goto w2c_B2;
+  }
+  w2c_B5:;
+  w2c_i0 = 14u;
+  w2c_l12 = w2c_i0;
+  goto w2c_B2;
+  w2c_B4:;
+  w2c_j0 = w2c_l4;
+  w2c_j1 = 16ull;
+  w2c_j0 += w2c_j1;
+  w2c_i0 = (u32)(w2c_j0);
+  w2c_i1 = 0u;
+  w2c_j2 = 240ull;
+  w2c_i2 = (u32)(w2c_j2);
+  memory_fill(memory, w2c_i0, w2c_i1, w2c_i2);
+  w2c_j0 = w2c_l4;
+  w2c_i0 = (u32)(w2c_j0);
+  w2c_i1 = 0u;
+  i32_store8(memory, (u64)(w2c_i0) + 12, w2c_i1);
+  w2c_j0 = w2c_l4;
+  w2c_i0 = (u32)(w2c_j0);
+  w2c_i1 = 0u;
+  i32_store16(memory, (u64)(w2c_i0) + 10, w2c_i1);
+  w2c_i0 = 1u;
+  w2c_l13 = w2c_i0;
+  goto w2c_B1;
+  w2c_B3:;
+  w2c_i0 = 12u;
+  w2c_l12 = w2c_i0;
+  w2c_B2:;
+  w2c_j0 = w2c_l4;
+  w2c_j1 = 256ull;
+  w2c_j0 += w2c_j1;
+  w2c_i0 = (u32)(w2c_j0);
+  w2c_i1 = 0u;
+  w2c_j2 = 240ull;
+  w2c_i2 = (u32)(w2c_j2);
+  memory_fill(memory, w2c_i0, w2c_i1, w2c_i2);
+  w2c_j0 = w2c_p2;
+  w2c_j1 = 2ull;
+  w2c_j0 >>= (w2c_j1 & 63);
+  w2c_l5 = w2c_j0;
+  w2c_j1 = 3ull;
+  w2c_j0 &= w2c_j1;
+  w2c_l6 = w2c_j0;
+  w2c_j0 = 0ull;
+  w2c_l7 = w2c_j0;
+  w2c_j0 = w2c_l5;
+  w2c_j1 = 18446744073709551615ull;
+  w2c_j0 += w2c_j1;
+  w2c_j1 = 3ull;
+  w2c_i0 = w2c_j0 < w2c_j1;
+  if (w2c_i0) {goto w2c_B7;}
+  w2c_j0 = w2c_l5;
+  w2c_j1 = 4611686018427387900ull;
+  w2c_j0 &= w2c_j1;
+  w2c_l8 = w2c_j0;
+  w2c_j0 = 0ull;
+  w2c_l3 = w2c_j0;
+  w2c_j0 = 0ull;
+  w2c_l7 = w2c_j0;
+  w2c_L8: 
+    w2c_j0 = w2c_l4;
+    w2c_j1 = 256ull;
+    w2c_j0 += w2c_j1;
+    w2c_j1 = w2c_l3;
+    w2c_j0 += w2c_j1;
+    w2c_l9 = w2c_j0;
+    w2c_i0 = (u32)(w2c_j0);
+    w2c_j1 = w2c_p1;
+    w2c_j2 = w2c_l3;
+    w2c_j1 += w2c_j2;
+    w2c_l10 = w2c_j1;
+    w2c_i1 = (u32)(w2c_j1);
+    w2c_i1 = i32_load(memory, (u64)(w2c_i1));
+    w2c_l11 = w2c_i1;
+    w2c_i2 = 16711935u;
+    w2c_i1 &= w2c_i2;
+    w2c_i2 = 8u;
+    w2c_i1 = I32_ROTR(w2c_i1, w2c_i2);
+    w2c_i2 = w2c_l11;
+    w2c_i3 = 24u;
+    w2c_i2 = I32_ROTR(w2c_i2, w2c_i3);
+    w2c_i3 = 16711935u;
+    w2c_i2 &= w2c_i3;
+    w2c_i1 |= w2c_i2;
+    i32_store(memory, (u64)(w2c_i0), w2c_i1);
+    w2c_j0 = w2c_l9;
+    w2c_j1 = 4ull;
+    w2c_j0 += w2c_j1;
+    w2c_i0 = (u32)(w2c_j0);
+    w2c_j1 = w2c_l10;
+    w2c_j2 = 4ull;
+    w2c_j1 += w2c_j2;
+    w2c_i1 = (u32)(w2c_j1);
+    w2c_i1 = i32_load(memory, (u64)(w2c_i1));
+    w2c_l11 = w2c_i1;
+    w2c_i2 = 16711935u;
+    w2c_i1 &= w2c_i2;
+    w2c_i2 = 8u;
+    w2c_i1 = I32_ROTR(w2c_i1, w2c_i2);
+    w2c_i2 = w2c_l11;
+    w2c_i3 = 24u;
+    w2c_i2 = I32_ROTR(w2c_i2, w2c_i3);
+    w2c_i3 = 16711935u;
+    w2c_i2 &= w2c_i3;
+    w2c_i1 |= w2c_i2;
+    i32_store(memory, (u64)(w2c_i0), w2c_i1);
+    w2c_j0 = w2c_l9;
+    w2c_j1 = 8ull;
+    w2c_j0 += w2c_j1;
+    w2c_i0 = (u32)(w2c_j0);
+    w2c_j1 = w2c_l10;
+    w2c_j2 = 8ull;
+    w2c_j1 += w2c_j2;
+    w2c_i1 = (u32)(w2c_j1);
+    w2c_i1 = i32_load(memory, (u64)(w2c_i1));
+    w2c_l11 = w2c_i1;
+    w2c_i2 = 16711935u;
+    w2c_i1 &= w2c_i2;
+    w2c_i2 = 8u;
+    w2c_i1 = I32_ROTR(w2c_i1, w2c_i2);
+    w2c_i2 = w2c_l11;
+    w2c_i3 = 24u;
+    w2c_i2 = I32_ROTR(w2c_i2, w2c_i3);
+    w2c_i3 = 16711935u;
+    w2c_i2 &= w2c_i3;
+    w2c_i1 |= w2c_i2;
+    i32_store(memory, (u64)(w2c_i0), w2c_i1);
+    w2c_j0 = w2c_l9;
+    w2c_j1 = 12ull;
+    w2c_j0 += w2c_j1;
+    w2c_i0 = (u32)(w2c_j0);
+    w2c_j1 = w2c_l10;
+    w2c_j2 = 12ull;
+    w2c_j1 += w2c_j2;
+    w2c_i1 = (u32)(w2c_j1);
+    w2c_i1 = i32_load(memory, (u64)(w2c_i1));
+    w2c_l11 = w2c_i1;
+    w2c_i2 = 16711935u;
+    w2c_i1 &= w2c_i2;
+    w2c_i2 = 8u;
+    w2c_i1 = I32_ROTR(w2c_i1, w2c_i2);
+    w2c_i2 = w2c_l11;
+    w2c_i3 = 24u;
+    w2c_i2 = I32_ROTR(w2c_i2, w2c_i3);
+    w2c_i3 = 16711935u;
+    w2c_i2 &= w2c_i3;
+    w2c_i1 |= w2c_i2;
+    i32_store(memory, (u64)(w2c_i0), w2c_i1);
+    w2c_j0 = w2c_l3;
+    w2c_j1 = 16ull;
+    w2c_j0 += w2c_j1;
+    w2c_l3 = w2c_j0;
+    w2c_j0 = w2c_l8;
+    w2c_j1 = w2c_l7;
+    w2c_j2 = 4ull;
+    w2c_j1 += w2c_j2;
+    w2c_l7 = w2c_j1;
+    w2c_i0 = w2c_j0 != w2c_j1;
+    if (w2c_i0) {goto w2c_L8;}
+  w2c_j0 = w2c_l6;
+  w2c_i0 = !(w2c_j0);
+  if (w2c_i0) {goto w2c_B6;}
+  w2c_B7:;
+  w2c_j0 = w2c_p1;
+  w2c_j1 = w2c_l7;
+  w2c_j2 = 2ull;
+  w2c_j1 <<= (w2c_j2 & 63);
+  w2c_l9 = w2c_j1;
+  w2c_j0 += w2c_j1;
+  w2c_l3 = w2c_j0;
+  w2c_j0 = w2c_l4;
+  w2c_j1 = 256ull;
+  w2c_j0 += w2c_j1;
+  w2c_j1 = w2c_l9;
+  w2c_j0 += w2c_j1;
+  w2c_l9 = w2c_j0;
+  w2c_L9: 
+    w2c_j0 = w2c_l9;
+    w2c_i0 = (u32)(w2c_j0);
+    w2c_j1 = w2c_l3;
+    w2c_i1 = (u32)(w2c_j1);
+    w2c_i1 = i32_load(memory, (u64)(w2c_i1));
+    w2c_l11 = w2c_i1;
+    w2c_i2 = 16711935u;
+    w2c_i1 &= w2c_i2;
+    w2c_i2 = 8u;
+    w2c_i1 = I32_ROTR(w2c_i1, w2c_i2);
+    w2c_i2 = w2c_l11;
+    w2c_i3 = 24u;
+    w2c_i2 = I32_ROTR(w2c_i2, w2c_i3);
+    w2c_i3 = 16711935u;
+    w2c_i2 &= w2c_i3;
+    w2c_i1 |= w2c_i2;
+    i32_store(memory, (u64)(w2c_i0), w2c_i1);
+    w2c_j0 = w2c_l3;
+    w2c_j1 = 4ull;
+    w2c_j0 += w2c_j1;
+    w2c_l3 = w2c_j0;
+    w2c_j0 = w2c_l9;
+    w2c_j1 = 4ull;
+    w2c_j0 += w2c_j1;
+    w2c_l9 = w2c_j0;
+    w2c_j0 = w2c_l6;
+    w2c_j1 = 18446744073709551615ull;
+    w2c_j0 += w2c_j1;
+    w2c_l6 = w2c_j0;
+    w2c_j1 = 0ull;
+    w2c_i0 = w2c_j0 != w2c_j1;
+    if (w2c_i0) {goto w2c_L9;}
+  w2c_B6:;
+  w2c_j0 = w2c_l5;
+  w2c_j1 = 3ull;
+  w2c_j0 *= w2c_j1;
+  w2c_j1 = 28ull;
+  w2c_j0 += w2c_j1;
+  w2c_l10 = w2c_j0;
+  w2c_j0 = w2c_l4;
+  w2c_j1 = 256ull;
+  w2c_j0 += w2c_j1;
+  w2c_j1 = w2c_p2;
+  w2c_j2 = 18446744073709551612ull;
+  w2c_j1 &= w2c_j2;
+  w2c_l7 = w2c_j1;
+  w2c_j0 += w2c_j1;
+  w2c_j1 = 18446744073709551612ull;
+  w2c_j0 += w2c_j1;
+  w2c_i0 = (u32)(w2c_j0);
+  w2c_i0 = i32_load(memory, (u64)(w2c_i0));
+  w2c_l11 = w2c_i0;
+  w2c_j0 = w2c_l4;
+  w2c_j1 = 256ull;
+  w2c_j0 += w2c_j1;
+  w2c_l9 = w2c_j0;
+  w2c_j0 = w2c_l5;
+  w2c_l3 = w2c_j0;
+  w2c_L10: 
+    w2c_j0 = w2c_l3;
+    w2c_j1 = w2c_l3;
+    w2c_j2 = w2c_l5;
+    w2c_j1 = DIV_U(w2c_j1, w2c_j2);
+    w2c_l6 = w2c_j1;
+    w2c_j2 = w2c_l5;
+    w2c_j1 *= w2c_j2;
+    w2c_j0 -= w2c_j1;
+    w2c_j1 = 0ull;
+    w2c_i0 = w2c_j0 != w2c_j1;
+    if (w2c_i0) {goto w2c_B12;}
+    w2c_i0 = w2c_l11;
+    w2c_i1 = 8u;
+    w2c_i0 = I32_ROTL(w2c_i0, w2c_i1);
+    w2c_l11 = w2c_i0;
+    w2c_i1 = 16u;
+    w2c_i0 >>= (w2c_i1 & 31);
+    w2c_j0 = (u64)(w2c_i0);
+    w2c_j1 = 255ull;
+    w2c_j0 &= w2c_j1;
+    w2c_j1 = 65576ull;
+    w2c_j0 += w2c_j1;
+    w2c_i0 = (u32)(w2c_j0);
+    w2c_i0 = constant_i32_load8_u((u64)(w2c_i0));
+    w2c_i1 = 8u;
+    w2c_i0 <<= (w2c_i1 & 31);
+    w2c_i1 = w2c_l11;
+    w2c_j1 = (u64)(w2c_i1);
+    w2c_p1 = w2c_j1;
+    w2c_j2 = 24ull;
+    w2c_j1 >>= (w2c_j2 & 63);
+    w2c_i1 = (u32)(w2c_j1);
+    w2c_i1 = constant_i32_load8_u((u64)(w2c_i1) + 65576u);
+    w2c_i0 |= w2c_i1;
+    w2c_i1 = w2c_l11;
+    w2c_i2 = 8u;
+    w2c_i1 >>= (w2c_i2 & 31);
+    w2c_j1 = (u64)(w2c_i1);
+    w2c_j2 = 255ull;
+    w2c_j1 &= w2c_j2;
+    w2c_j2 = 65576ull;
+    w2c_j1 += w2c_j2;
+    w2c_i1 = (u32)(w2c_j1);
+    w2c_i1 = constant_i32_load8_u((u64)(w2c_i1));
+    w2c_i2 = 16u;
+    w2c_i1 <<= (w2c_i2 & 31);
+    w2c_i0 |= w2c_i1;
+    w2c_j1 = w2c_p1;
+    w2c_j2 = 255ull;
+    w2c_j1 &= w2c_j2;
+    w2c_i1 = (u32)(w2c_j1);
+    w2c_i1 = constant_i32_load8_u((u64)(w2c_i1) + 65576u);
+    w2c_i2 = 24u;
+    w2c_i1 <<= (w2c_i2 & 31);
+    w2c_i0 |= w2c_i1;
+    w2c_l11 = w2c_i0;
+    w2c_i1 = 16711935u;
+    w2c_i0 &= w2c_i1;
+    w2c_i1 = 8u;
+    w2c_i0 = I32_ROTR(w2c_i0, w2c_i1);
+    w2c_i1 = w2c_l11;
+    w2c_i2 = 24u;
+    w2c_i1 = I32_ROTR(w2c_i1, w2c_i2);
+    w2c_i2 = 16711935u;
+    w2c_i1 &= w2c_i2;
+    w2c_i0 |= w2c_i1;
+    w2c_j1 = w2c_l6;
+    w2c_j2 = 2ull;
+    w2c_j1 <<= (w2c_j2 & 63);
+    w2c_j2 = 65532ull;
+    w2c_j1 += w2c_j2;
+    w2c_i1 = (u32)(w2c_j1);
+    w2c_i1 = i32_load(memory, (u64)(w2c_i1));
+    w2c_i0 ^= w2c_i1;
+    w2c_l11 = w2c_i0;
+    goto w2c_B11;
+    w2c_B12:;
+    w2c_j0 = w2c_l5;
+    w2c_j1 = 8ull;
+    w2c_i0 = w2c_j0 != w2c_j1;
+    if (w2c_i0) {goto w2c_B11;}
+    w2c_j0 = w2c_l3;
+    w2c_j1 = 7ull;
+    w2c_j0 &= w2c_j1;
+    w2c_j1 = 4ull;
+    w2c_i0 = w2c_j0 != w2c_j1;
+    if (w2c_i0) {goto w2c_B11;}
+    w2c_i0 = w2c_l11;
+    w2c_i1 = 16u;
+    w2c_i0 >>= (w2c_i1 & 31);
+    w2c_j0 = (u64)(w2c_i0);
+    w2c_j1 = 255ull;
+    w2c_j0 &= w2c_j1;
+    w2c_j1 = 65576ull;
+    w2c_j0 += w2c_j1;
+    w2c_i0 = (u32)(w2c_j0);
+    w2c_i0 = constant_i32_load8_u((u64)(w2c_i0));
+    w2c_i1 = 8u;
+    w2c_i0 <<= (w2c_i1 & 31);
+    w2c_i1 = w2c_l11;
+    w2c_j1 = (u64)(w2c_i1);
+    w2c_l6 = w2c_j1;
+    w2c_j2 = 24ull;
+    w2c_j1 >>= (w2c_j2 & 63);
+    w2c_i1 = (u32)(w2c_j1);
+    w2c_i1 = constant_i32_load8_u((u64)(w2c_i1) + 65576u);
+    w2c_i0 |= w2c_i1;
+    w2c_i1 = w2c_l11;
+    w2c_i2 = 8u;
+    w2c_i1 >>= (w2c_i2 & 31);
+    w2c_j1 = (u64)(w2c_i1);
+    w2c_j2 = 255ull;
+    w2c_j1 &= w2c_j2;
+    w2c_j2 = 65576ull;
+    w2c_j1 += w2c_j2;
+    w2c_i1 = (u32)(w2c_j1);
+    w2c_i1 = constant_i32_load8_u((u64)(w2c_i1));
+    w2c_i2 = 16u;
+    w2c_i1 <<= (w2c_i2 & 31);
+    w2c_i0 |= w2c_i1;
+    w2c_j1 = w2c_l6;
+    w2c_j2 = 255ull;
+    w2c_j1 &= w2c_j2;
+    w2c_i1 = (u32)(w2c_j1);
+    w2c_i1 = constant_i32_load8_u((u64)(w2c_i1) + 65576u);
+    w2c_i2 = 24u;
+    w2c_i1 <<= (w2c_i2 & 31);
+    w2c_i0 |= w2c_i1;
+    w2c_l11 = w2c_i0;
+    w2c_i1 = 16711935u;
+    w2c_i0 &= w2c_i1;
+    w2c_i1 = 8u;
+    w2c_i0 = I32_ROTR(w2c_i0, w2c_i1);
+    w2c_i1 = w2c_l11;
+    w2c_i2 = 24u;
+    w2c_i1 = I32_ROTR(w2c_i1, w2c_i2);
+    w2c_i2 = 16711935u;
+    w2c_i1 &= w2c_i2;
+    w2c_i0 |= w2c_i1;
+    w2c_l11 = w2c_i0;
+    w2c_B11:;
+    w2c_j0 = w2c_l9;
+    w2c_j1 = w2c_l7;
+    w2c_j0 += w2c_j1;
+    w2c_i0 = (u32)(w2c_j0);
+    w2c_i1 = w2c_l11;
+    w2c_j2 = w2c_l9;
+    w2c_i2 = (u32)(w2c_j2);
+    w2c_i2 = i32_load(memory, (u64)(w2c_i2));
+    w2c_i1 ^= w2c_i2;
+    w2c_l11 = w2c_i1;
+    i32_store(memory, (u64)(w2c_i0), w2c_i1);
+    w2c_j0 = w2c_l9;
+    w2c_j1 = 4ull;
+    w2c_j0 += w2c_j1;
+    w2c_l9 = w2c_j0;
+    w2c_j0 = w2c_l3;
+    w2c_j1 = 1ull;
+    w2c_j0 += w2c_j1;
+    w2c_l3 = w2c_j0;
+    w2c_j0 = w2c_l10;
+    w2c_j1 = 18446744073709551615ull;
+    w2c_j0 += w2c_j1;
+    w2c_l10 = w2c_j0;
+    w2c_j1 = 0ull;
+    w2c_i0 = w2c_j0 != w2c_j1;
+    if (w2c_i0) {goto w2c_L10;}
+  w2c_j0 = w2c_l4;
+  w2c_j1 = 16ull;
+  w2c_j0 += w2c_j1;
+  w2c_i0 = (u32)(w2c_j0);
+  w2c_j1 = w2c_l4;
+  w2c_j2 = 256ull;
+  w2c_j1 += w2c_j2;
+  w2c_i1 = (u32)(w2c_j1);
+  w2c_j2 = 240ull;
+  w2c_i2 = (u32)(w2c_j2);
+  memory_copy(memory, memory, w2c_i0, w2c_i1, w2c_i2);
+  w2c_i0 = 0u;
+  w2c_l13 = w2c_i0;
+  w2c_j0 = w2c_l4;
+  w2c_i0 = (u32)(w2c_j0);
+  w2c_i1 = 0u;
+  i32_store8(memory, (u64)(w2c_i0) + 12, w2c_i1);
+  w2c_j0 = w2c_l4;
+  w2c_i0 = (u32)(w2c_j0);
+  w2c_i1 = 0u;
+  i32_store16(memory, (u64)(w2c_i0) + 10, w2c_i1);
+  w2c_i0 = w2c_l12;
+  w2c_l11 = w2c_i0;
+  w2c_B1:;
+  w2c_j0 = w2c_p0;
+  w2c_i0 = (u32)(w2c_j0);
+  w2c_i1 = w2c_l13;
+  i32_store8(memory, (u64)(w2c_i0), w2c_i1);
+  w2c_j0 = w2c_p0;
+  w2c_j1 = 4ull;
+  w2c_j0 += w2c_j1;
+  w2c_i0 = (u32)(w2c_j0);
+  w2c_j1 = w2c_l4;
+  w2c_j2 = 16ull;
+  w2c_j1 += w2c_j2;
+  w2c_i1 = (u32)(w2c_j1);
+  w2c_j2 = 240ull;
+  w2c_i2 = (u32)(w2c_j2);
+  memory_copy(memory, memory, w2c_i0, w2c_i1, w2c_i2);
+  w2c_j0 = w2c_p0;
+  w2c_j1 = 244ull;
+  w2c_j0 += w2c_j1;
+  w2c_i0 = (u32)(w2c_j0);
+  w2c_i1 = w2c_l11;
+  i32_store8(memory, (u64)(w2c_i0), w2c_i1);
+  w2c_j0 = w2c_p0;
+  w2c_j1 = 245ull;
+  w2c_j0 += w2c_j1;
+  w2c_i0 = (u32)(w2c_j0);
+  w2c_j1 = w2c_l4;
+  w2c_i1 = (u32)(w2c_j1);
+  w2c_i1 = i32_load16_u(memory, (u64)(w2c_i1) + 10u);
+  i32_store16(memory, (u64)(w2c_i0), w2c_i1);
+  w2c_j0 = w2c_p0;
+  w2c_j1 = 247ull;
+  w2c_j0 += w2c_j1;
+  w2c_i0 = (u32)(w2c_j0);
+  w2c_j1 = w2c_l4;
+  w2c_i1 = (u32)(w2c_j1);
+  w2c_i1 = i32_load8_u(memory, (u64)(w2c_i1) + 12u);
+  i32_store8(memory, (u64)(w2c_i0), w2c_i1);
+  w2c_j0 = w2c_l4;
+  w2c_j1 = 496ull;
+  w2c_j0 += w2c_j1;
+  instance->w2c_g0 = w2c_j0;
+  goto w2c_Bfunc;
+  w2c_B0:;
+  UNREACHABLE;
+  w2c_Bfunc:;
+}
+static void w2c_f5(struct instance *instance, u64 w2c_p0, u64 w2c_p1, u64 w2c_p2, u64 w2c_p3, u64 w2c_p4, u64 w2c_p5, u64 w2c_p6) {
+  u32 w2c_l12 = 0, w2c_l13 = 0, w2c_l14 = 0;
+  u64 w2c_l7 = 0, w2c_l8 = 0, w2c_l9 = 0, w2c_l10 = 0, w2c_l11 = 0;
+  const struct memory memory = instance->w2c_memory;
+  (void)memory;
+  u32 w2c_i0, w2c_i1, w2c_i2, w2c_i3, w2c_i4;
+  u64 w2c_j0, w2c_j1, w2c_j2, w2c_j3, w2c_j4, w2c_j5, w2c_j6, w2c_j7, 
+      w2c_j8;
+  w2c_j0 = instance->w2c_g0;
+  w2c_j1 = 32ull;
+  w2c_j0 -= w2c_j1;
+  w2c_l7 = w2c_j0;
+  instance->w2c_g0 = w2c_j0;
+  w2c_j0 = w2c_l7;
+  w2c_l8 = w2c_j0;
+  w2c_j1 = 16ull;
+  w2c_i0 = (u64)((s64)w2c_j0 < (s64)w2c_j1);
+  if (w2c_i0) {goto w2c_B1;}
+  w2c_j0 = w2c_p4;
+  w2c_j1 = 7ull;
+  w2c_j0 &= w2c_j1;
+  w2c_j1 = 0ull;
+  w2c_i0 = w2c_j0 != w2c_j1;
+  if (w2c_i0) {goto w2c_B3;}
+  w2c_j0 = w2c_p4;
+  w2c_j1 = 18446744073709551600ull;
+  w2c_j0 += w2c_j1;
+  w2c_j1 = 1048568ull;
+  w2c_i0 = w2c_j0 > w2c_j1;
+  if (w2c_i0) {goto w2c_B3;}
+  w2c_j0 = w2c_p6;
+  w2c_j1 = w2c_p4;
+  w2c_j2 = 18446744073709551608ull;
+  w2c_j1 += w2c_j2;
+  w2c_i0 = w2c_j0 == w2c_j1;
+  if (w2c_i0) {goto w2c_B2;}
+  w2c_B3:;
+  w2c_j0 = w2c_p0;
+  w2c_i0 = (u32)(w2c_j0);
+  w2c_i1 = 1u;
+  i32_store16(memory, (u64)(w2c_i0), w2c_i1);
+  w2c_j0 = w2c_p0;
+  w2c_j1 = 8ull;
+  w2c_j0 += w2c_j1;
+  w2c_i0 = (u32)(w2c_j0);
+  w2c_j1 = 0ull;
+  i64_store(memory, (u64)(w2c_i0), w2c_j1);
+  w2c_j0 = w2c_p0;
+  w2c_j1 = 16ull;
+  w2c_j0 += w2c_j1;
+  w2c_i0 = (u32)(w2c_j0);
+  w2c_j1 = 0ull;
+  i64_store(memory, (u64)(w2c_i0), w2c_j1);
+  goto w2c_B0;
+  w2c_B2:;
+  w2c_j0 = w2c_p5;
+  w2c_j1 = w2c_p3;
+  w2c_j2 = 8ull;
+  w2c_j1 += w2c_j2;
+  w2c_p4 = w2c_j1;
+  w2c_j0 -= w2c_j1;
+  w2c_j1 = w2c_p6;
+  w2c_i0 = w2c_j0 >= w2c_j1;
+  if (w2c_i0) {goto w2c_B5;}
+  w2c_j0 = w2c_p6;
+  w2c_j1 = 3ull;
+  w2c_j0 &= w2c_j1;
+  w2c_l9 = w2c_j0;
+  w2c_j0 = 0ull;
+  w2c_l7 = w2c_j0;
+  w2c_j0 = w2c_p6;
+  w2c_j1 = 4ull;
+  w2c_i0 = w2c_j0 < w2c_j1;
+  if (w2c_i0) {goto w2c_B6;}
+  w2c_j0 = w2c_p6;
+  w2c_j1 = 18446744073709551612ull;
+  w2c_j0 &= w2c_j1;
+  w2c_l10 = w2c_j0;
+  w2c_j0 = 0ull;
+  w2c_l7 = w2c_j0;
+  w2c_L7: 
+    w2c_j0 = w2c_p5;
+    w2c_j1 = w2c_l7;
+    w2c_j0 += w2c_j1;
+    w2c_p4 = w2c_j0;
+    w2c_i0 = (u32)(w2c_j0);
+    w2c_j1 = w2c_p3;
+    w2c_j2 = w2c_l7;
+    w2c_j1 += w2c_j2;
+    w2c_l11 = w2c_j1;
+    w2c_j2 = 8ull;
+    w2c_j1 += w2c_j2;
+    w2c_i1 = (u32)(w2c_j1);
+    w2c_i1 = i32_load8_u(memory, (u64)(w2c_i1));
+    i32_store8(memory, (u64)(w2c_i0), w2c_i1);
+    w2c_j0 = w2c_p4;
+    w2c_j1 = 1ull;
+    w2c_j0 += w2c_j1;
+    w2c_i0 = (u32)(w2c_j0);
+    w2c_j1 = w2c_l11;
+    w2c_j2 = 9ull;
+    w2c_j1 += w2c_j2;
+    w2c_i1 = (u32)(w2c_j1);
+    w2c_i1 = i32_load8_u(memory, (u64)(w2c_i1));
+    i32_store8(memory, (u64)(w2c_i0), w2c_i1);
+    w2c_j0 = w2c_p4;
+    w2c_j1 = 2ull;
+    w2c_j0 += w2c_j1;
+    w2c_i0 = (u32)(w2c_j0);
+    w2c_j1 = w2c_l11;
+    w2c_j2 = 10ull;
+    w2c_j1 += w2c_j2;
+    w2c_i1 = (u32)(w2c_j1);
+    w2c_i1 = i32_load8_u(memory, (u64)(w2c_i1));
+    i32_store8(memory, (u64)(w2c_i0), w2c_i1);
+    w2c_j0 = w2c_p4;
+    w2c_j1 = 3ull;
+    w2c_j0 += w2c_j1;
+    w2c_i0 = (u32)(w2c_j0);
+    w2c_j1 = w2c_l11;
+    w2c_j2 = 11ull;
+    w2c_j1 += w2c_j2;
+    w2c_i1 = (u32)(w2c_j1);
+    w2c_i1 = i32_load8_u(memory, (u64)(w2c_i1));
+    i32_store8(memory, (u64)(w2c_i0), w2c_i1);
+    w2c_j0 = w2c_l10;
+    w2c_j1 = w2c_l7;
+    w2c_j2 = 4ull;
+    w2c_j1 += w2c_j2;
+    w2c_l7 = w2c_j1;
+    w2c_i0 = w2c_j0 != w2c_j1;
+    if (w2c_i0) {goto w2c_L7;}
+  w2c_j0 = w2c_l9;
+  w2c_i0 = !(w2c_j0);
+  if (w2c_i0) {goto w2c_B4;}
+  w2c_B6:;
+  w2c_j0 = w2c_p5;
+  w2c_j1 = w2c_l7;
+  w2c_j0 += w2c_j1;
+  w2c_p4 = w2c_j0;
+  w2c_j0 = w2c_l7;
+  w2c_j1 = w2c_p3;
+  w2c_j0 += w2c_j1;
+  w2c_j1 = 8ull;
+  w2c_j0 += w2c_j1;
+  w2c_l7 = w2c_j0;
+  w2c_L8: 
+    w2c_j0 = w2c_p4;
+    w2c_i0 = (u32)(w2c_j0);
+    w2c_j1 = w2c_l7;
+    w2c_i1 = (u32)(w2c_j1);
+    w2c_i1 = i32_load8_u(memory, (u64)(w2c_i1));
+    i32_store8(memory, (u64)(w2c_i0), w2c_i1);
+    w2c_j0 = w2c_p4;
+    w2c_j1 = 1ull;
+    w2c_j0 += w2c_j1;
+    w2c_p4 = w2c_j0;
+    w2c_j0 = w2c_l7;
+    w2c_j1 = 1ull;
+    w2c_j0 += w2c_j1;
+    w2c_l7 = w2c_j0;
+    w2c_j0 = w2c_l9;
+    w2c_j1 = 18446744073709551615ull;
+    w2c_j0 += w2c_j1;
+    w2c_l9 = w2c_j0;
+    w2c_j1 = 0ull;
+    w2c_i0 = w2c_j0 != w2c_j1;
+    if (w2c_i0) {goto w2c_L8;}
+    goto w2c_B4;
+  UNREACHABLE;
+  w2c_B5:;
+  w2c_j0 = w2c_p6;
+  w2c_i0 = !(w2c_j0);
+  if (w2c_i0) {goto w2c_B4;}
+  w2c_j0 = w2c_p5;
+  w2c_i0 = (u32)(w2c_j0);
+  w2c_j1 = w2c_p4;
+  w2c_i1 = (u32)(w2c_j1);
+  w2c_j2 = w2c_p6;
+  w2c_i2 = (u32)(w2c_j2);
+  memory_copy(memory, memory, w2c_i0, w2c_i1, w2c_i2);
+  w2c_B4:;
+  w2c_j0 = 0ull;
+  w2c_l7 = w2c_j0;
+  w2c_j0 = w2c_l8;
+  w2c_j1 = 8ull;
+  w2c_j0 += w2c_j1;
+  w2c_j1 = w2c_p6;
+  w2c_j2 = 8ull;
+  w2c_i1 = w2c_j1 == w2c_j2;
+  w2c_j2 = w2c_p2;
+  w2c_i2 = (u32)(w2c_j2);
+  w2c_j2 = i64_load(memory, (u64)(w2c_i2));
+  w2c_j3 = w2c_p1;
+  w2c_j4 = w2c_p3;
+  w2c_i4 = (u32)(w2c_j4);
+  w2c_j4 = i64_load(memory, (u64)(w2c_i4));
+  w2c_p4 = w2c_j4;
+  w2c_j5 = 56ull;
+  w2c_j4 <<= (w2c_j5 & 63);
+  w2c_j5 = w2c_p4;
+  w2c_j6 = 65280ull;
+  w2c_j5 &= w2c_j6;
+  w2c_j6 = 40ull;
+  w2c_j5 <<= (w2c_j6 & 63);
+  w2c_j4 |= w2c_j5;
+  w2c_j5 = w2c_p4;
+  w2c_j6 = 16711680ull;
+  w2c_j5 &= w2c_j6;
+  w2c_j6 = 24ull;
+  w2c_j5 <<= (w2c_j6 & 63);
+  w2c_j6 = w2c_p4;
+  w2c_j7 = 4278190080ull;
+  w2c_j6 &= w2c_j7;
+  w2c_j7 = 8ull;
+  w2c_j6 <<= (w2c_j7 & 63);
+  w2c_j5 |= w2c_j6;
+  w2c_j4 |= w2c_j5;
+  w2c_j5 = w2c_p4;
+  w2c_j6 = 8ull;
+  w2c_j5 >>= (w2c_j6 & 63);
+  w2c_j6 = 4278190080ull;
+  w2c_j5 &= w2c_j6;
+  w2c_j6 = w2c_p4;
+  w2c_j7 = 24ull;
+  w2c_j6 >>= (w2c_j7 & 63);
+  w2c_j7 = 16711680ull;
+  w2c_j6 &= w2c_j7;
+  w2c_j5 |= w2c_j6;
+  w2c_j6 = w2c_p4;
+  w2c_j7 = 40ull;
+  w2c_j6 >>= (w2c_j7 & 63);
+  w2c_j7 = 65280ull;
+  w2c_j6 &= w2c_j7;
+  w2c_j7 = w2c_p4;
+  w2c_j8 = 56ull;
+  w2c_j7 >>= (w2c_j8 & 63);
+  w2c_j6 |= w2c_j7;
+  w2c_j5 |= w2c_j6;
+  w2c_j4 |= w2c_j5;
+  w2c_j5 = w2c_p5;
+  w2c_j6 = w2c_p6;
+  w2c_j3 = w2c_f6(instance, w2c_j3, w2c_j4, w2c_j5, w2c_j6);
+  w2c_p4 = w2c_j3;
+  w2c_i2 = w2c_j2 != w2c_j3;
+  w2c_i1 |= w2c_i2;
+  w2c_j2 = w2c_p6;
+  w2c_j3 = w2c_p4;
+  w2c_j4 = 4294967295ull;
+  w2c_j3 &= w2c_j4;
+  w2c_l9 = w2c_j3;
+  w2c_j2 -= w2c_j3;
+  w2c_l11 = w2c_j2;
+  w2c_j3 = 3ull;
+  w2c_j2 >>= (w2c_j3 & 63);
+  w2c_j3 = w2c_p4;
+  w2c_j4 = 32ull;
+  w2c_j3 >>= (w2c_j4 & 63);
+  w2c_j4 = 2790873510ull;
+  w2c_j3 ^= w2c_j4;
+  w2c_j2 |= w2c_j3;
+  w2c_j3 = w2c_p5;
+  w2c_j4 = w2c_p6;
+  w2c_j3 += w2c_j4;
+  w2c_j4 = 18446744073709551608ull;
+  w2c_j3 += w2c_j4;
+  w2c_i3 = (u32)(w2c_j3);
+  w2c_j3 = i64_load(memory, (u64)(w2c_i3));
+  w2c_p4 = w2c_j3;
+  w2c_j4 = 56ull;
+  w2c_j3 <<= (w2c_j4 & 63);
+  w2c_j4 = w2c_p4;
+  w2c_j5 = 65280ull;
+  w2c_j4 &= w2c_j5;
+  w2c_j5 = 40ull;
+  w2c_j4 <<= (w2c_j5 & 63);
+  w2c_j3 |= w2c_j4;
+  w2c_j4 = w2c_p4;
+  w2c_j5 = 16711680ull;
+  w2c_j4 &= w2c_j5;
+  w2c_j5 = 24ull;
+  w2c_j4 <<= (w2c_j5 & 63);
+  w2c_j5 = w2c_p4;
+  w2c_j6 = 4278190080ull;
+  w2c_j5 &= w2c_j6;
+  w2c_j6 = 8ull;
+  w2c_j5 <<= (w2c_j6 & 63);
+  w2c_j4 |= w2c_j5;
+  w2c_j3 |= w2c_j4;
+  w2c_j4 = w2c_p4;
+  w2c_j5 = 8ull;
+  w2c_j4 >>= (w2c_j5 & 63);
+  w2c_j5 = 4278190080ull;
+  w2c_j4 &= w2c_j5;
+  w2c_j5 = w2c_p4;
+  w2c_j6 = 24ull;
+  w2c_j5 >>= (w2c_j6 & 63);
+  w2c_j6 = 16711680ull;
+  w2c_j5 &= w2c_j6;
+  w2c_j4 |= w2c_j5;
+  w2c_j5 = w2c_p4;
+  w2c_j6 = 40ull;
+  w2c_j5 >>= (w2c_j6 & 63);
+  w2c_j6 = 65280ull;
+  w2c_j5 &= w2c_j6;
+  w2c_j6 = w2c_p4;
+  w2c_j7 = 56ull;
+  w2c_j6 >>= (w2c_j7 & 63);
+  w2c_j5 |= w2c_j6;
+  w2c_j4 |= w2c_j5;
+  w2c_j3 |= w2c_j4;
+  w2c_j4 = 18446744073709551615ull;
+  w2c_j5 = w2c_l11;
+  w2c_j6 = 3ull;
+  w2c_j5 <<= (w2c_j6 & 63);
+  w2c_j4 <<= (w2c_j5 & 63);
+  w2c_j5 = 18446744073709551615ull;
+  w2c_j4 ^= w2c_j5;
+  w2c_j3 &= w2c_j4;
+  w2c_j2 |= w2c_j3;
+  w2c_p4 = w2c_j2;
+  w2c_j3 = 0ull;
+  w2c_i2 = w2c_j2 != w2c_j3;
+  w2c_i1 &= w2c_i2;
+  w2c_j1 = (u64)(w2c_i1);
+  w2c_j2 = w2c_p5;
+  w2c_j3 = w2c_p6;
+  w2c_f3(instance, w2c_j0, w2c_j1, w2c_j2, w2c_j3);
+  w2c_j0 = w2c_l8;
+  w2c_i0 = (u32)(w2c_j0);
+  w2c_i0 = i32_load8_u(memory, (u64)(w2c_i0) + 8u);
+  if (w2c_i0) {goto w2c_B10;}
+  w2c_j0 = w2c_l8;
+  w2c_j1 = w2c_p4;
+  w2c_j2 = w2c_l8;
+  w2c_j3 = 31ull;
+  w2c_j2 += w2c_j3;
+  w2c_j3 = 0ull;
+  w2c_f3(instance, w2c_j0, w2c_j1, w2c_j2, w2c_j3);
+  w2c_i0 = 0u;
+  w2c_l12 = w2c_i0;
+  w2c_j0 = w2c_l8;
+  w2c_i0 = (u32)(w2c_j0);
+  w2c_i1 = 0u;
+  i32_store(memory, (u64)(w2c_i0) + 24, w2c_i1);
+  w2c_j0 = w2c_l8;
+  w2c_i0 = (u32)(w2c_j0);
+  w2c_i1 = 0u;
+  i32_store(memory, (u64)(w2c_i0) + 27, w2c_i1);
+  w2c_j0 = w2c_p6;
+  w2c_j1 = w2c_l9;
+  w2c_j2 = w2c_l8;
+  w2c_i2 = (u32)(w2c_j2);
+  w2c_i2 = i32_load8_u(memory, (u64)(w2c_i2));
+  w2c_l13 = w2c_i2;
+  w2c_j0 = w2c_i2 ? w2c_j0 : w2c_j1;
+  w2c_l7 = w2c_j0;
+  w2c_i0 = w2c_l13;
+  w2c_i0 = !(w2c_i0);
+  w2c_l13 = w2c_i0;
+  w2c_i0 = 0u;
+  w2c_l14 = w2c_i0;
+  goto w2c_B9;
+  w2c_B10:;
+  w2c_j0 = w2c_l8;
+  w2c_i0 = (u32)(w2c_j0);
+  w2c_i0 = i32_load8_u(memory, (u64)(w2c_i0) + 9u);
+  w2c_l14 = w2c_i0;
+  w2c_i0 = 0u;
+  w2c_l13 = w2c_i0;
+  w2c_j0 = w2c_l8;
+  w2c_i0 = (u32)(w2c_j0);
+  w2c_i1 = 0u;
+  i32_store(memory, (u64)(w2c_i0) + 27, w2c_i1);
+  w2c_j0 = w2c_l8;
+  w2c_i0 = (u32)(w2c_j0);
+  w2c_i1 = 0u;
+  i32_store(memory, (u64)(w2c_i0) + 24, w2c_i1);
+  w2c_i0 = 1u;
+  w2c_l12 = w2c_i0;
+  w2c_B9:;
+  w2c_j0 = w2c_l8;
+  w2c_i0 = (u32)(w2c_j0);
+  w2c_j1 = w2c_l8;
+  w2c_i1 = (u32)(w2c_j1);
+  w2c_i1 = i32_load(memory, (u64)(w2c_i1) + 27u);
+  i32_store(memory, (u64)(w2c_i0) + 19, w2c_i1);
+  w2c_j0 = w2c_l8;
+  w2c_i0 = (u32)(w2c_j0);
+  w2c_j1 = w2c_l8;
+  w2c_i1 = (u32)(w2c_j1);
+  w2c_i1 = i32_load(memory, (u64)(w2c_i1) + 24u);
+  i32_store(memory, (u64)(w2c_i0) + 16, w2c_i1);
+  w2c_j0 = w2c_p0;
+  w2c_j1 = 8ull;
+  w2c_j0 += w2c_j1;
+  w2c_i0 = (u32)(w2c_j0);
+  w2c_i1 = w2c_l13;
+  i32_store8(memory, (u64)(w2c_i0), w2c_i1);
+  w2c_j0 = w2c_p0;
+  w2c_j1 = 1ull;
+  w2c_j0 += w2c_j1;
+  w2c_i0 = (u32)(w2c_j0);
+  w2c_i1 = w2c_l14;
+  i32_store8(memory, (u64)(w2c_i0), w2c_i1);
+  w2c_j0 = w2c_p0;
+  w2c_i0 = (u32)(w2c_j0);
+  w2c_i1 = w2c_l12;
+  i32_store8(memory, (u64)(w2c_i0), w2c_i1);
+  w2c_j0 = w2c_p0;
+  w2c_j1 = 9ull;
+  w2c_j0 += w2c_j1;
+  w2c_i0 = (u32)(w2c_j0);
+  w2c_j1 = w2c_l8;
+  w2c_i1 = (u32)(w2c_j1);
+  w2c_i1 = i32_load(memory, (u64)(w2c_i1) + 16u);
+  i32_store(memory, (u64)(w2c_i0), w2c_i1);
+  w2c_j0 = w2c_p0;
+  w2c_j1 = 12ull;
+  w2c_j0 += w2c_j1;
+  w2c_i0 = (u32)(w2c_j0);
+  w2c_j1 = w2c_l8;
+  w2c_i1 = (u32)(w2c_j1);
+  w2c_i1 = i32_load(memory, (u64)(w2c_i1) + 19u);
+  i32_store(memory, (u64)(w2c_i0), w2c_i1);
+  w2c_j0 = w2c_p0;
+  w2c_j1 = 16ull;
+  w2c_j0 += w2c_j1;
+  w2c_i0 = (u32)(w2c_j0);
+  w2c_j1 = w2c_l7;
+  i64_store(memory, (u64)(w2c_i0), w2c_j1);
+  goto w2c_B0;
+  w2c_B1:;
+  UNREACHABLE;
+  w2c_B0:;
+  w2c_j0 = w2c_l8;
+  w2c_j1 = 32ull;
+  w2c_j0 += w2c_j1;
+  instance->w2c_g0 = w2c_j0;
+}
+static u64 w2c_f6(struct instance *instance, u64 w2c_p0, u64 w2c_p1, u64 w2c_p2, u64 w2c_p3) {
+  u32 w2c_l11 = 0, w2c_l12 = 0, w2c_l13 = 0, w2c_l14 = 0, w2c_l15 = 0, w2c_l16 = 0;
+  u64 w2c_l4 = 0, w2c_l5 = 0, w2c_l6 = 0, w2c_l7 = 0, w2c_l8 = 0, w2c_l9 = 0, w2c_l10 = 0;
+  const struct memory memory = instance->w2c_memory;
+  (void)memory;
+  u32 w2c_i0, w2c_i1, w2c_i2, w2c_i3, w2c_i4;
+  u64 w2c_j0, w2c_j1, w2c_j2, w2c_j3, w2c_j4, w2c_j5;
+  w2c_j0 = instance->w2c_g0;
+  w2c_j1 = 16ull;
+  w2c_i0 = (u64)((s64)w2c_j0 < (s64)w2c_j1);
+  if (w2c_i0) {goto w2c_B0;}
+  w2c_j0 = 0ull;
+  w2c_j1 = w2c_p3;
+  w2c_j2 = 3ull;
+  w2c_j1 >>= (w2c_j2 & 63);
+  w2c_l4 = w2c_j1;
+  w2c_j2 = 6ull;
+  w2c_j1 *= w2c_j2;
+  w2c_l5 = w2c_j1;
+  w2c_j2 = w2c_p3;
+  w2c_j3 = 8ull;
+  w2c_i2 = w2c_j2 == w2c_j3;
+  w2c_l11 = w2c_i2;
+  w2c_j0 = w2c_i2 ? w2c_j0 : w2c_j1;
+  w2c_j1 = w2c_p1;
+  w2c_j0 ^= w2c_j1;
+  w2c_p1 = w2c_j0;
+  w2c_j0 = 1ull;
+  w2c_j1 = w2c_l5;
+  w2c_i2 = w2c_l11;
+  w2c_j0 = w2c_i2 ? w2c_j0 : w2c_j1;
+  w2c_l6 = w2c_j0;
+  w2c_i0 = !(w2c_j0);
+  if (w2c_i0) {goto w2c_B1;}
+  w2c_j0 = w2c_p1;
+  w2c_j1 = 56ull;
+  w2c_j0 <<= (w2c_j1 & 63);
+  w2c_j1 = w2c_p1;
+  w2c_j2 = 65280ull;
+  w2c_j1 &= w2c_j2;
+  w2c_j2 = 40ull;
+  w2c_j1 <<= (w2c_j2 & 63);
+  w2c_j0 |= w2c_j1;
+  w2c_j1 = w2c_p1;
+  w2c_j2 = 16711680ull;
+  w2c_j1 &= w2c_j2;
+  w2c_j2 = 24ull;
+  w2c_j1 <<= (w2c_j2 & 63);
+  w2c_j2 = w2c_p1;
+  w2c_j3 = 4278190080ull;
+  w2c_j2 &= w2c_j3;
+  w2c_j3 = 8ull;
+  w2c_j2 <<= (w2c_j3 & 63);
+  w2c_j1 |= w2c_j2;
+  w2c_j0 |= w2c_j1;
+  w2c_j1 = w2c_p1;
+  w2c_j2 = 8ull;
+  w2c_j1 >>= (w2c_j2 & 63);
+  w2c_j2 = 4278190080ull;
+  w2c_j1 &= w2c_j2;
+  w2c_j2 = w2c_p1;
+  w2c_j3 = 24ull;
+  w2c_j2 >>= (w2c_j3 & 63);
+  w2c_j3 = 16711680ull;
+  w2c_j2 &= w2c_j3;
+  w2c_j1 |= w2c_j2;
+  w2c_j2 = w2c_p1;
+  w2c_j3 = 40ull;
+  w2c_j2 >>= (w2c_j3 & 63);
+  w2c_j3 = 65280ull;
+  w2c_j2 &= w2c_j3;
+  w2c_j3 = w2c_p1;
+  w2c_j4 = 56ull;
+  w2c_j3 >>= (w2c_j4 & 63);
+  w2c_j2 |= w2c_j3;
+  w2c_j1 |= w2c_j2;
+  w2c_j0 |= w2c_j1;
+  w2c_l7 = w2c_j0;
+  w2c_j0 = w2c_p2;
+  w2c_j1 = w2c_p3;
+  w2c_j0 += w2c_j1;
+  w2c_j1 = 18446744073709551608ull;
+  w2c_j0 += w2c_j1;
+  w2c_i0 = (u32)(w2c_j0);
+  w2c_j0 = i64_load(memory, (u64)(w2c_i0));
+  w2c_p1 = w2c_j0;
+  w2c_L2: 
+    w2c_j0 = w2c_p0;
+    w2c_j1 = 8ull;
+    w2c_j0 += w2c_j1;
+    w2c_l5 = w2c_j0;
+    w2c_i0 = (u32)(w2c_j0);
+    w2c_j1 = 18446744073709551615ull;
+    w2c_j2 = w2c_l5;
+    w2c_i2 = (u32)(w2c_j2);
+    w2c_j2 = i64_load(memory, (u64)(w2c_i2));
+    w2c_j3 = 1ull;
+    w2c_j2 += w2c_j3;
+    w2c_l5 = w2c_j2;
+    w2c_j3 = w2c_l5;
+    w2c_i3 = !(w2c_j3);
+    w2c_j1 = w2c_i3 ? w2c_j1 : w2c_j2;
+    i64_store(memory, (u64)(w2c_i0), w2c_j1);
+    w2c_j0 = w2c_p0;
+    w2c_i0 = (u32)(w2c_j0);
+    w2c_j0 = i64_load(memory, (u64)(w2c_i0));
+    w2c_l8 = w2c_j0;
+    w2c_j1 = w2c_l8;
+    w2c_j2 = 240ull;
+    w2c_j1 += w2c_j2;
+    w2c_i1 = (u32)(w2c_j1);
+    w2c_j1 = i64_load8_u(memory, (u64)(w2c_i1));
+    w2c_l5 = w2c_j1;
+    w2c_j2 = 4ull;
+    w2c_j1 <<= (w2c_j2 & 63);
+    w2c_j0 += w2c_j1;
+    w2c_l9 = w2c_j0;
+    w2c_i0 = (u32)(w2c_j0);
+    w2c_i0 = i32_load(memory, (u64)(w2c_i0) + 12u);
+    w2c_j1 = w2c_p1;
+    w2c_j2 = 32ull;
+    w2c_j1 >>= (w2c_j2 & 63);
+    w2c_i1 = (u32)(w2c_j1);
+    w2c_l11 = w2c_i1;
+    w2c_i2 = 16711935u;
+    w2c_i1 &= w2c_i2;
+    w2c_i2 = 8u;
+    w2c_i1 = I32_ROTR(w2c_i1, w2c_i2);
+    w2c_i2 = w2c_l11;
+    w2c_i3 = 24u;
+    w2c_i2 = I32_ROTR(w2c_i2, w2c_i3);
+    w2c_i3 = 16711935u;
+    w2c_i2 &= w2c_i3;
+    w2c_i1 |= w2c_i2;
+    w2c_i0 ^= w2c_i1;
+    w2c_l12 = w2c_i0;
+    w2c_j0 = w2c_l9;
+    w2c_i0 = (u32)(w2c_j0);
+    w2c_i0 = i32_load(memory, (u64)(w2c_i0) + 8u);
+    w2c_j1 = w2c_p1;
+    w2c_i1 = (u32)(w2c_j1);
+    w2c_l11 = w2c_i1;
+    w2c_i2 = 16711935u;
+    w2c_i1 &= w2c_i2;
+    w2c_i2 = 8u;
+    w2c_i1 = I32_ROTR(w2c_i1, w2c_i2);
+    w2c_i2 = w2c_l11;
+    w2c_i3 = 24u;
+    w2c_i2 = I32_ROTR(w2c_i2, w2c_i3);
+    w2c_i3 = 16711935u;
+    w2c_i2 &= w2c_i3;
+    w2c_i1 |= w2c_i2;
+    w2c_i0 ^= w2c_i1;
+    w2c_l13 = w2c_i0;
+    w2c_j0 = w2c_l9;
+    w2c_i0 = (u32)(w2c_j0);
+    w2c_i0 = i32_load(memory, (u64)(w2c_i0) + 4u);
+    w2c_j1 = w2c_l7;
+    w2c_j2 = 32ull;
+    w2c_j1 >>= (w2c_j2 & 63);
+    w2c_i1 = (u32)(w2c_j1);
+    w2c_l11 = w2c_i1;
+    w2c_i2 = 16711935u;
+    w2c_i1 &= w2c_i2;
+    w2c_i2 = 8u;
+    w2c_i1 = I32_ROTR(w2c_i1, w2c_i2);
+    w2c_i2 = w2c_l11;
+    w2c_i3 = 24u;
+    w2c_i2 = I32_ROTR(w2c_i2, w2c_i3);
+    w2c_i3 = 16711935u;
+    w2c_i2 &= w2c_i3;
+    w2c_i1 |= w2c_i2;
+    w2c_i0 ^= w2c_i1;
+    w2c_l11 = w2c_i0;
+    w2c_j0 = w2c_l9;
+    w2c_i0 = (u32)(w2c_j0);
+    w2c_i0 = i32_load(memory, (u64)(w2c_i0));
+    w2c_j1 = w2c_l7;
+    w2c_i1 = (u32)(w2c_j1);
+    w2c_l14 = w2c_i1;
+    w2c_i2 = 16711935u;
+    w2c_i1 &= w2c_i2;
+    w2c_i2 = 8u;
+    w2c_i1 = I32_ROTR(w2c_i1, w2c_i2);
+    w2c_i2 = w2c_l14;
+    w2c_i3 = 24u;
+    w2c_i2 = I32_ROTR(w2c_i2, w2c_i3);
+    w2c_i3 = 16711935u;
+    w2c_i2 &= w2c_i3;
+    w2c_i1 |= w2c_i2;
+    w2c_i0 ^= w2c_i1;
+    w2c_l14 = w2c_i0;
+    w2c_j0 = w2c_l5;
+    w2c_j1 = 2ull;
+    w2c_i0 = w2c_j0 < w2c_j1;
+    if (w2c_i0) {goto w2c_B3;}
+    w2c_j0 = w2c_l9;
+    w2c_j1 = 18446744073709551600ull;
+    w2c_j0 += w2c_j1;
+    w2c_p1 = w2c_j0;
+    w2c_L4: 
+      w2c_i0 = w2c_l13;
+      w2c_l15 = w2c_i0;
+      w2c_i1 = 16u;
+      w2c_i0 >>= (w2c_i1 & 31);
+      w2c_j0 = (u64)(w2c_i0);
+      w2c_j1 = 255ull;
+      w2c_j0 &= w2c_j1;
+      w2c_j1 = 65832ull;
+      w2c_j0 += w2c_j1;
+      w2c_i0 = (u32)(w2c_j0);
+      w2c_i0 = constant_i32_load8_u((u64)(w2c_i0));
+      w2c_j1 = w2c_p1;
+      w2c_j2 = 12ull;
+      w2c_j1 += w2c_j2;
+      w2c_i1 = (u32)(w2c_j1);
+      w2c_i1 = i32_load(memory, (u64)(w2c_i1));
+      w2c_l13 = w2c_i1;
+      w2c_i2 = 16u;
+      w2c_i1 >>= (w2c_i2 & 31);
+      w2c_i0 ^= w2c_i1;
+      w2c_j0 = (u64)(w2c_i0);
+      w2c_j1 = 255ull;
+      w2c_j0 &= w2c_j1;
+      w2c_j1 = 2ull;
+      w2c_j0 <<= (w2c_j1 & 63);
+      w2c_i0 = (u32)(w2c_j0);
+      w2c_i0 = constant_i32_load((u64)(w2c_i0) + 66088u);
+      w2c_i1 = 24u;
+      w2c_i0 = I32_ROTL(w2c_i0, w2c_i1);
+      w2c_i1 = w2c_l12;
+      w2c_l16 = w2c_i1;
+      w2c_j1 = (u64)(w2c_i1);
+      w2c_l9 = w2c_j1;
+      w2c_j2 = 24ull;
+      w2c_j1 >>= (w2c_j2 & 63);
+      w2c_i1 = (u32)(w2c_j1);
+      w2c_i1 = constant_i32_load8_u((u64)(w2c_i1) + 65832u);
+      w2c_i2 = w2c_l13;
+      w2c_i3 = 24u;
+      w2c_i2 >>= (w2c_i3 & 31);
+      w2c_i1 ^= w2c_i2;
+      w2c_j1 = (u64)(w2c_i1);
+      w2c_j2 = 255ull;
+      w2c_j1 &= w2c_j2;
+      w2c_j2 = 2ull;
+      w2c_j1 <<= (w2c_j2 & 63);
+      w2c_i1 = (u32)(w2c_j1);
+      w2c_i1 = constant_i32_load((u64)(w2c_i1) + 66088u);
+      w2c_i0 ^= w2c_i1;
+      w2c_i1 = w2c_l11;
+      w2c_i2 = 8u;
+      w2c_i1 >>= (w2c_i2 & 31);
+      w2c_j1 = (u64)(w2c_i1);
+      w2c_j2 = 255ull;
+      w2c_j1 &= w2c_j2;
+      w2c_j2 = 65832ull;
+      w2c_j1 += w2c_j2;
+      w2c_i1 = (u32)(w2c_j1);
+      w2c_i1 = constant_i32_load8_u((u64)(w2c_i1));
+      w2c_i2 = w2c_l13;
+      w2c_i3 = 8u;
+      w2c_i2 >>= (w2c_i3 & 31);
+      w2c_i1 ^= w2c_i2;
+      w2c_j1 = (u64)(w2c_i1);
+      w2c_j2 = 255ull;
+      w2c_j1 &= w2c_j2;
+      w2c_j2 = 2ull;
+      w2c_j1 <<= (w2c_j2 & 63);
+      w2c_i1 = (u32)(w2c_j1);
+      w2c_i1 = constant_i32_load((u64)(w2c_i1) + 66088u);
+      w2c_i2 = 16u;
+      w2c_i1 = I32_ROTL(w2c_i1, w2c_i2);
+      w2c_i0 ^= w2c_i1;
+      w2c_i1 = w2c_l14;
+      w2c_j1 = (u64)(w2c_i1);
+      w2c_l7 = w2c_j1;
+      w2c_j2 = 255ull;
+      w2c_j1 &= w2c_j2;
+      w2c_i1 = (u32)(w2c_j1);
+      w2c_i1 = constant_i32_load8_u((u64)(w2c_i1) + 65832u);
+      w2c_i2 = w2c_l13;
+      w2c_i1 ^= w2c_i2;
+      w2c_j1 = (u64)(w2c_i1);
+      w2c_j2 = 255ull;
+      w2c_j1 &= w2c_j2;
+      w2c_j2 = 2ull;
+      w2c_j1 <<= (w2c_j2 & 63);
+      w2c_i1 = (u32)(w2c_j1);
+      w2c_i1 = constant_i32_load((u64)(w2c_i1) + 66088u);
+      w2c_i2 = 8u;
+      w2c_i1 = I32_ROTL(w2c_i1, w2c_i2);
+      w2c_i0 ^= w2c_i1;
+      w2c_l12 = w2c_i0;
+      w2c_i0 = w2c_l11;
+      w2c_i1 = 16u;
+      w2c_i0 >>= (w2c_i1 & 31);
+      w2c_j0 = (u64)(w2c_i0);
+      w2c_j1 = 255ull;
+      w2c_j0 &= w2c_j1;
+      w2c_j1 = 65832ull;
+      w2c_j0 += w2c_j1;
+      w2c_i0 = (u32)(w2c_j0);
+      w2c_i0 = constant_i32_load8_u((u64)(w2c_i0));
+      w2c_j1 = w2c_p1;
+      w2c_j2 = 8ull;
+      w2c_j1 += w2c_j2;
+      w2c_i1 = (u32)(w2c_j1);
+      w2c_i1 = i32_load(memory, (u64)(w2c_i1));
+      w2c_l13 = w2c_i1;
+      w2c_i2 = 16u;
+      w2c_i1 >>= (w2c_i2 & 31);
+      w2c_i0 ^= w2c_i1;
+      w2c_j0 = (u64)(w2c_i0);
+      w2c_j1 = 255ull;
+      w2c_j0 &= w2c_j1;
+      w2c_j1 = 2ull;
+      w2c_j0 <<= (w2c_j1 & 63);
+      w2c_i0 = (u32)(w2c_j0);
+      w2c_i0 = constant_i32_load((u64)(w2c_i0) + 66088u);
+      w2c_i1 = 24u;
+      w2c_i0 = I32_ROTL(w2c_i0, w2c_i1);
+      w2c_i1 = w2c_l15;
+      w2c_j1 = (u64)(w2c_i1);
+      w2c_l10 = w2c_j1;
+      w2c_j2 = 24ull;
+      w2c_j1 >>= (w2c_j2 & 63);
+      w2c_i1 = (u32)(w2c_j1);
+      w2c_i1 = constant_i32_load8_u((u64)(w2c_i1) + 65832u);
+      w2c_i2 = w2c_l13;
+      w2c_i3 = 24u;
+      w2c_i2 >>= (w2c_i3 & 31);
+      w2c_i1 ^= w2c_i2;
+      w2c_j1 = (u64)(w2c_i1);
+      w2c_j2 = 255ull;
+      w2c_j1 &= w2c_j2;
+      w2c_j2 = 2ull;
+      w2c_j1 <<= (w2c_j2 & 63);
+      w2c_i1 = (u32)(w2c_j1);
+      w2c_i1 = constant_i32_load((u64)(w2c_i1) + 66088u);
+      w2c_i0 ^= w2c_i1;
+      w2c_i1 = w2c_l14;
+      w2c_i2 = 8u;
+      w2c_i1 >>= (w2c_i2 & 31);
+      w2c_j1 = (u64)(w2c_i1);
+      w2c_j2 = 255ull;
+      w2c_j1 &= w2c_j2;
+      w2c_j2 = 65832ull;
+      w2c_j1 += w2c_j2;
+      w2c_i1 = (u32)(w2c_j1);
+      w2c_i1 = constant_i32_load8_u((u64)(w2c_i1));
+      w2c_i2 = w2c_l13;
+      w2c_i3 = 8u;
+      w2c_i2 >>= (w2c_i3 & 31);
+      w2c_i1 ^= w2c_i2;
+      w2c_j1 = (u64)(w2c_i1);
+      w2c_j2 = 255ull;
+      w2c_j1 &= w2c_j2;
+      w2c_j2 = 2ull;
+      w2c_j1 <<= (w2c_j2 & 63);
+      w2c_i1 = (u32)(w2c_j1);
+      w2c_i1 = constant_i32_load((u64)(w2c_i1) + 66088u);
+      w2c_i2 = 16u;
+      w2c_i1 = I32_ROTL(w2c_i1, w2c_i2);
+      w2c_i0 ^= w2c_i1;
+      w2c_j1 = w2c_l9;
+      w2c_j2 = 255ull;
+      w2c_j1 &= w2c_j2;
+      w2c_i1 = (u32)(w2c_j1);
+      w2c_i1 = constant_i32_load8_u((u64)(w2c_i1) + 65832u);
+      w2c_i2 = w2c_l13;
+      w2c_i1 ^= w2c_i2;
+      w2c_j1 = (u64)(w2c_i1);
+      w2c_j2 = 255ull;
+      w2c_j1 &= w2c_j2;
+      w2c_j2 = 2ull;
+      w2c_j1 <<= (w2c_j2 & 63);
+      w2c_i1 = (u32)(w2c_j1);
+      w2c_i1 = constant_i32_load((u64)(w2c_i1) + 66088u);
+      w2c_i2 = 8u;
+      w2c_i1 = I32_ROTL(w2c_i1, w2c_i2);
+      w2c_i0 ^= w2c_i1;
+      w2c_l13 = w2c_i0;
+      w2c_i0 = w2c_l14;
+      w2c_i1 = 16u;
+      w2c_i0 >>= (w2c_i1 & 31);
+      w2c_j0 = (u64)(w2c_i0);
+      w2c_j1 = 255ull;
+      w2c_j0 &= w2c_j1;
+      w2c_j1 = 65832ull;
+      w2c_j0 += w2c_j1;
+      w2c_i0 = (u32)(w2c_j0);
+      w2c_i0 = constant_i32_load8_u((u64)(w2c_i0));
+      w2c_j1 = w2c_p1;
+      w2c_j2 = 4ull;
+      w2c_j1 += w2c_j2;
+      w2c_i1 = (u32)(w2c_j1);
+      w2c_i1 = i32_load(memory, (u64)(w2c_i1));
+      w2c_l14 = w2c_i1;
+      w2c_i2 = 16u;
+      w2c_i1 >>= (w2c_i2 & 31);
+      w2c_i0 ^= w2c_i1;
+      w2c_j0 = (u64)(w2c_i0);
+      w2c_j1 = 255ull;
+      w2c_j0 &= w2c_j1;
+      w2c_j1 = 2ull;
+      w2c_j0 <<= (w2c_j1 & 63);
+      w2c_i0 = (u32)(w2c_j0);
+      w2c_i0 = constant_i32_load((u64)(w2c_i0) + 66088u);
+      w2c_i1 = 24u;
+      w2c_i0 = I32_ROTL(w2c_i0, w2c_i1);
+      w2c_i1 = w2c_l11;
+      w2c_j1 = (u64)(w2c_i1);
+      w2c_l9 = w2c_j1;
+      w2c_j2 = 24ull;
+      w2c_j1 >>= (w2c_j2 & 63);
+      w2c_i1 = (u32)(w2c_j1);
+      w2c_i1 = constant_i32_load8_u((u64)(w2c_i1) + 65832u);
+      w2c_i2 = w2c_l14;
+      w2c_i3 = 24u;
+      w2c_i2 >>= (w2c_i3 & 31);
+      w2c_i1 ^= w2c_i2;
+      w2c_j1 = (u64)(w2c_i1);
+      w2c_j2 = 255ull;
+      w2c_j1 &= w2c_j2;
+      w2c_j2 = 2ull;
+      w2c_j1 <<= (w2c_j2 & 63);
+      w2c_i1 = (u32)(w2c_j1);
+      w2c_i1 = constant_i32_load((u64)(w2c_i1) + 66088u);
+      w2c_i0 ^= w2c_i1;
+      w2c_i1 = w2c_l16;
+      w2c_i2 = 8u;
+      w2c_i1 >>= (w2c_i2 & 31);
+      w2c_j1 = (u64)(w2c_i1);
+      w2c_j2 = 255ull;
+      w2c_j1 &= w2c_j2;
+      w2c_j2 = 65832ull;
+      w2c_j1 += w2c_j2;
+      w2c_i1 = (u32)(w2c_j1);
+      w2c_i1 = constant_i32_load8_u((u64)(w2c_i1));
+      w2c_i2 = w2c_l14;
+      w2c_i3 = 8u;
+      w2c_i2 >>= (w2c_i3 & 31);
+      w2c_i1 ^= w2c_i2;
+      w2c_j1 = (u64)(w2c_i1);
+      w2c_j2 = 255ull;
+      w2c_j1 &= w2c_j2;
+      w2c_j2 = 2ull;
+      w2c_j1 <<= (w2c_j2 & 63);
+      w2c_i1 = (u32)(w2c_j1);
+      w2c_i1 = constant_i32_load((u64)(w2c_i1) + 66088u);
+      w2c_i2 = 16u;
+      w2c_i1 = I32_ROTL(w2c_i1, w2c_i2);
+      w2c_i0 ^= w2c_i1;
+      w2c_j1 = w2c_l10;
+      w2c_j2 = 255ull;
+      w2c_j1 &= w2c_j2;
+      w2c_i1 = (u32)(w2c_j1);
+      w2c_i1 = constant_i32_load8_u((u64)(w2c_i1) + 65832u);
+      w2c_i2 = w2c_l14;
+      w2c_i1 ^= w2c_i2;
+      w2c_j1 = (u64)(w2c_i1);
+      w2c_j2 = 255ull;
+      w2c_j1 &= w2c_j2;
+      w2c_j2 = 2ull;
+      w2c_j1 <<= (w2c_j2 & 63);
+      w2c_i1 = (u32)(w2c_j1);
+      w2c_i1 = constant_i32_load((u64)(w2c_i1) + 66088u);
+      w2c_i2 = 8u;
+      w2c_i1 = I32_ROTL(w2c_i1, w2c_i2);
+      w2c_i0 ^= w2c_i1;
+      w2c_l11 = w2c_i0;
+      w2c_i0 = w2c_l16;
+      w2c_i1 = 16u;
+      w2c_i0 >>= (w2c_i1 & 31);
+      w2c_j0 = (u64)(w2c_i0);
+      w2c_j1 = 255ull;
+      w2c_j0 &= w2c_j1;
+      w2c_j1 = 65832ull;
+      w2c_j0 += w2c_j1;
+      w2c_i0 = (u32)(w2c_j0);
+      w2c_i0 = constant_i32_load8_u((u64)(w2c_i0));
+      w2c_j1 = w2c_p1;
+      w2c_i1 = (u32)(w2c_j1);
+      w2c_i1 = i32_load(memory, (u64)(w2c_i1));
+      w2c_l14 = w2c_i1;
+      w2c_i2 = 16u;
+      w2c_i1 >>= (w2c_i2 & 31);
+      w2c_i0 ^= w2c_i1;
+      w2c_j0 = (u64)(w2c_i0);
+      w2c_j1 = 255ull;
+      w2c_j0 &= w2c_j1;
+      w2c_j1 = 2ull;
+      w2c_j0 <<= (w2c_j1 & 63);
+      w2c_i0 = (u32)(w2c_j0);
+      w2c_i0 = constant_i32_load((u64)(w2c_i0) + 66088u);
+      w2c_i1 = 24u;
+      w2c_i0 = I32_ROTL(w2c_i0, w2c_i1);
+      w2c_j1 = w2c_l7;
+      w2c_j2 = 24ull;
+      w2c_j1 >>= (w2c_j2 & 63);
+      w2c_i1 = (u32)(w2c_j1);
+      w2c_i1 = constant_i32_load8_u((u64)(w2c_i1) + 65832u);
+      w2c_i2 = w2c_l14;
+      w2c_i3 = 24u;
+      w2c_i2 >>= (w2c_i3 & 31);
+      w2c_i1 ^= w2c_i2;
+      w2c_j1 = (u64)(w2c_i1);
+      w2c_j2 = 255ull;
+      w2c_j1 &= w2c_j2;
+      w2c_j2 = 2ull;
+      w2c_j1 <<= (w2c_j2 & 63);
+      w2c_i1 = (u32)(w2c_j1);
+      w2c_i1 = constant_i32_load((u64)(w2c_i1) + 66088u);
+      w2c_i0 ^= w2c_i1;
+      w2c_i1 = w2c_l15;
+      w2c_i2 = 8u;
+      w2c_i1 >>= (w2c_i2 & 31);
+      w2c_j1 = (u64)(w2c_i1);
+      w2c_j2 = 255ull;
+      w2c_j1 &= w2c_j2;
+      w2c_j2 = 65832ull;
+      w2c_j1 += w2c_j2;
+      w2c_i1 = (u32)(w2c_j1);
+      w2c_i1 = constant_i32_load8_u((u64)(w2c_i1));
+      w2c_i2 = w2c_l14;
+      w2c_i3 = 8u;
+      w2c_i2 >>= (w2c_i3 & 31);
+      w2c_i1 ^= w2c_i2;
+      w2c_j1 = (u64)(w2c_i1);
+      w2c_j2 = 255ull;
+      w2c_j1 &= w2c_j2;
+      w2c_j2 = 2ull;
+      w2c_j1 <<= (w2c_j2 & 63);
+      w2c_i1 = (u32)(w2c_j1);
+      w2c_i1 = constant_i32_load((u64)(w2c_i1) + 66088u);
+      w2c_i2 = 16u;
+      w2c_i1 = I32_ROTL(w2c_i1, w2c_i2);
+      w2c_i0 ^= w2c_i1;
+      w2c_j1 = w2c_l9;
+      w2c_j2 = 255ull;
+      w2c_j1 &= w2c_j2;
+      w2c_i1 = (u32)(w2c_j1);
+      w2c_i1 = constant_i32_load8_u((u64)(w2c_i1) + 65832u);
+      w2c_i2 = w2c_l14;
+      w2c_i1 ^= w2c_i2;
+      w2c_j1 = (u64)(w2c_i1);
+      w2c_j2 = 255ull;
+      w2c_j1 &= w2c_j2;
+      w2c_j2 = 2ull;
+      w2c_j1 <<= (w2c_j2 & 63);
+      w2c_i1 = (u32)(w2c_j1);
+      w2c_i1 = constant_i32_load((u64)(w2c_i1) + 66088u);
+      w2c_i2 = 8u;
+      w2c_i1 = I32_ROTL(w2c_i1, w2c_i2);
+      w2c_i0 ^= w2c_i1;
+      w2c_l14 = w2c_i0;
+      w2c_j0 = w2c_p1;
+      w2c_j1 = 18446744073709551600ull;
+      w2c_j0 += w2c_j1;
+      w2c_p1 = w2c_j0;
+      w2c_j0 = w2c_l5;
+      w2c_j1 = 18446744073709551615ull;
+      w2c_j0 += w2c_j1;
+      w2c_l5 = w2c_j0;
+      w2c_j1 = 1ull;
+      w2c_i0 = w2c_j0 > w2c_j1;
+      if (w2c_i0) {goto w2c_L4;}
+    w2c_B3:;
+    w2c_j0 = w2c_l6;
+    w2c_j1 = 18446744073709551615ull;
+    w2c_j0 += w2c_j1;
+    w2c_l6 = w2c_j0;
+    w2c_i0 = w2c_l13;
+    w2c_i1 = 16u;
+    w2c_i0 >>= (w2c_i1 & 31);
+    w2c_j0 = (u64)(w2c_i0);
+    w2c_j1 = 255ull;
+    w2c_j0 &= w2c_j1;
+    w2c_j1 = 65832ull;
+    w2c_j0 += w2c_j1;
+    w2c_i0 = (u32)(w2c_j0);
+    w2c_i0 = constant_i32_load8_u((u64)(w2c_i0));
+    w2c_i1 = 8u;
+    w2c_i0 <<= (w2c_i1 & 31);
+    w2c_i1 = w2c_l12;
+    w2c_j1 = (u64)(w2c_i1);
+    w2c_p1 = w2c_j1;
+    w2c_j2 = 24ull;
+    w2c_j1 >>= (w2c_j2 & 63);
+    w2c_i1 = (u32)(w2c_j1);
+    w2c_i1 = constant_i32_load8_u((u64)(w2c_i1) + 65832u);
+    w2c_i0 |= w2c_i1;
+    w2c_i1 = w2c_l11;
+    w2c_i2 = 8u;
+    w2c_i1 >>= (w2c_i2 & 31);
+    w2c_j1 = (u64)(w2c_i1);
+    w2c_j2 = 255ull;
+    w2c_j1 &= w2c_j2;
+    w2c_j2 = 65832ull;
+    w2c_j1 += w2c_j2;
+    w2c_i1 = (u32)(w2c_j1);
+    w2c_i1 = constant_i32_load8_u((u64)(w2c_i1));
+    w2c_i2 = 16u;
+    w2c_i1 <<= (w2c_i2 & 31);
+    w2c_i0 |= w2c_i1;
+    w2c_i1 = w2c_l14;
+    w2c_j1 = (u64)(w2c_i1);
+    w2c_l5 = w2c_j1;
+    w2c_j2 = 255ull;
+    w2c_j1 &= w2c_j2;
+    w2c_i1 = (u32)(w2c_j1);
+    w2c_i1 = constant_i32_load8_u((u64)(w2c_i1) + 65832u);
+    w2c_i2 = 24u;
+    w2c_i1 <<= (w2c_i2 & 31);
+    w2c_i0 |= w2c_i1;
+    w2c_j1 = w2c_l8;
+    w2c_i1 = (u32)(w2c_j1);
+    w2c_i1 = i32_load(memory, (u64)(w2c_i1) + 12u);
+    w2c_l15 = w2c_i1;
+    w2c_i2 = 16711935u;
+    w2c_i1 &= w2c_i2;
+    w2c_i2 = 8u;
+    w2c_i1 = I32_ROTR(w2c_i1, w2c_i2);
+    w2c_i2 = w2c_l15;
+    w2c_i3 = 24u;
+    w2c_i2 = I32_ROTR(w2c_i2, w2c_i3);
+    w2c_i3 = 16711935u;
+    w2c_i2 &= w2c_i3;
+    w2c_i1 |= w2c_i2;
+    w2c_i0 ^= w2c_i1;
+    w2c_j0 = (u64)(w2c_i0);
+    w2c_j1 = 32ull;
+    w2c_j0 <<= (w2c_j1 & 63);
+    w2c_i1 = w2c_l11;
+    w2c_i2 = 16u;
+    w2c_i1 >>= (w2c_i2 & 31);
+    w2c_j1 = (u64)(w2c_i1);
+    w2c_j2 = 255ull;
+    w2c_j1 &= w2c_j2;
+    w2c_j2 = 65832ull;
+    w2c_j1 += w2c_j2;
+    w2c_i1 = (u32)(w2c_j1);
+    w2c_i1 = constant_i32_load8_u((u64)(w2c_i1));
+    w2c_i2 = 8u;
+    w2c_i1 <<= (w2c_i2 & 31);
+    w2c_i2 = w2c_l13;
+    w2c_j2 = (u64)(w2c_i2);
+    w2c_l9 = w2c_j2;
+    w2c_j3 = 24ull;
+    w2c_j2 >>= (w2c_j3 & 63);
+    w2c_i2 = (u32)(w2c_j2);
+    w2c_i2 = constant_i32_load8_u((u64)(w2c_i2) + 65832u);
+    w2c_i1 |= w2c_i2;
+    w2c_i2 = w2c_l14;
+    w2c_i3 = 8u;
+    w2c_i2 >>= (w2c_i3 & 31);
+    w2c_j2 = (u64)(w2c_i2);
+    w2c_j3 = 255ull;
+    w2c_j2 &= w2c_j3;
+    w2c_j3 = 65832ull;
+    w2c_j2 += w2c_j3;
+    w2c_i2 = (u32)(w2c_j2);
+    w2c_i2 = constant_i32_load8_u((u64)(w2c_i2));
+    w2c_i3 = 16u;
+    w2c_i2 <<= (w2c_i3 & 31);
+    w2c_i1 |= w2c_i2;
+    w2c_j2 = w2c_p1;
+    w2c_j3 = 255ull;
+    w2c_j2 &= w2c_j3;
+    w2c_i2 = (u32)(w2c_j2);
+    w2c_i2 = constant_i32_load8_u((u64)(w2c_i2) + 65832u);
+    w2c_i3 = 24u;
+    w2c_i2 <<= (w2c_i3 & 31);
+    w2c_i1 |= w2c_i2;
+    w2c_j2 = w2c_l8;
+    w2c_i2 = (u32)(w2c_j2);
+    w2c_i2 = i32_load(memory, (u64)(w2c_i2) + 8u);
+    w2c_l15 = w2c_i2;
+    w2c_i3 = 16711935u;
+    w2c_i2 &= w2c_i3;
+    w2c_i3 = 8u;
+    w2c_i2 = I32_ROTR(w2c_i2, w2c_i3);
+    w2c_i3 = w2c_l15;
+    w2c_i4 = 24u;
+    w2c_i3 = I32_ROTR(w2c_i3, w2c_i4);
+    w2c_i4 = 16711935u;
+    w2c_i3 &= w2c_i4;
+    w2c_i2 |= w2c_i3;
+    w2c_i1 ^= w2c_i2;
+    w2c_j1 = (u64)(w2c_i1);
+    w2c_j0 |= w2c_j1;
+    w2c_p1 = w2c_j0;
+    w2c_i0 = w2c_l14;
+    w2c_i1 = 16u;
+    w2c_i0 >>= (w2c_i1 & 31);
+    w2c_j0 = (u64)(w2c_i0);
+    w2c_j1 = 255ull;
+    w2c_j0 &= w2c_j1;
+    w2c_j1 = 65832ull;
+    w2c_j0 += w2c_j1;
+    w2c_i0 = (u32)(w2c_j0);
+    w2c_i0 = constant_i32_load8_u((u64)(w2c_i0));
+    w2c_i1 = 8u;
+    w2c_i0 <<= (w2c_i1 & 31);
+    w2c_i1 = w2c_l11;
+    w2c_j1 = (u64)(w2c_i1);
+    w2c_l7 = w2c_j1;
+    w2c_j2 = 24ull;
+    w2c_j1 >>= (w2c_j2 & 63);
+    w2c_i1 = (u32)(w2c_j1);
+    w2c_i1 = constant_i32_load8_u((u64)(w2c_i1) + 65832u);
+    w2c_i0 |= w2c_i1;
+    w2c_i1 = w2c_l12;
+    w2c_i2 = 8u;
+    w2c_i1 >>= (w2c_i2 & 31);
+    w2c_j1 = (u64)(w2c_i1);
+    w2c_j2 = 255ull;
+    w2c_j1 &= w2c_j2;
+    w2c_j2 = 65832ull;
+    w2c_j1 += w2c_j2;
+    w2c_i1 = (u32)(w2c_j1);
+    w2c_i1 = constant_i32_load8_u((u64)(w2c_i1));
+    w2c_i2 = 16u;
+    w2c_i1 <<= (w2c_i2 & 31);
+    w2c_i0 |= w2c_i1;
+    w2c_j1 = w2c_l9;
+    w2c_j2 = 255ull;
+    w2c_j1 &= w2c_j2;
+    w2c_i1 = (u32)(w2c_j1);
+    w2c_i1 = constant_i32_load8_u((u64)(w2c_i1) + 65832u);
+    w2c_i2 = 24u;
+    w2c_i1 <<= (w2c_i2 & 31);
+    w2c_i0 |= w2c_i1;
+    w2c_j1 = w2c_l8;
+    w2c_i1 = (u32)(w2c_j1);
+    w2c_i1 = i32_load(memory, (u64)(w2c_i1) + 4u);
+    w2c_l11 = w2c_i1;
+    w2c_i2 = 16711935u;
+    w2c_i1 &= w2c_i2;
+    w2c_i2 = 8u;
+    w2c_i1 = I32_ROTR(w2c_i1, w2c_i2);
+    w2c_i2 = w2c_l11;
+    w2c_i3 = 24u;
+    w2c_i2 = I32_ROTR(w2c_i2, w2c_i3);
+    w2c_i3 = 16711935u;
+    w2c_i2 &= w2c_i3;
+    w2c_i1 |= w2c_i2;
+    w2c_i0 ^= w2c_i1;
+    w2c_l11 = w2c_i0;
+    w2c_i0 = w2c_l12;
+    w2c_i1 = 16u;
+    w2c_i0 >>= (w2c_i1 & 31);
+    w2c_j0 = (u64)(w2c_i0);
+    w2c_j1 = 255ull;
+    w2c_j0 &= w2c_j1;
+    w2c_j1 = 65832ull;
+    w2c_j0 += w2c_j1;
+    w2c_i0 = (u32)(w2c_j0);
+    w2c_i0 = constant_i32_load8_u((u64)(w2c_i0));
+    w2c_i1 = 8u;
+    w2c_i0 <<= (w2c_i1 & 31);
+    w2c_j1 = w2c_l5;
+    w2c_j2 = 24ull;
+    w2c_j1 >>= (w2c_j2 & 63);
+    w2c_i1 = (u32)(w2c_j1);
+    w2c_i1 = constant_i32_load8_u((u64)(w2c_i1) + 65832u);
+    w2c_i0 |= w2c_i1;
+    w2c_i1 = w2c_l13;
+    w2c_i2 = 8u;
+    w2c_i1 >>= (w2c_i2 & 31);
+    w2c_j1 = (u64)(w2c_i1);
+    w2c_j2 = 255ull;
+    w2c_j1 &= w2c_j2;
+    w2c_j2 = 65832ull;
+    w2c_j1 += w2c_j2;
+    w2c_i1 = (u32)(w2c_j1);
+    w2c_i1 = constant_i32_load8_u((u64)(w2c_i1));
+    w2c_i2 = 16u;
+    w2c_i1 <<= (w2c_i2 & 31);
+    w2c_i0 |= w2c_i1;
+    w2c_j1 = w2c_l7;
+    w2c_j2 = 255ull;
+    w2c_j1 &= w2c_j2;
+    w2c_i1 = (u32)(w2c_j1);
+    w2c_i1 = constant_i32_load8_u((u64)(w2c_i1) + 65832u);
+    w2c_i2 = 24u;
+    w2c_i1 <<= (w2c_i2 & 31);
+    w2c_i0 |= w2c_i1;
+    w2c_j1 = w2c_l8;
+    w2c_i1 = (u32)(w2c_j1);
+    w2c_i1 = i32_load(memory, (u64)(w2c_i1));
+    w2c_l14 = w2c_i1;
+    w2c_i2 = 16711935u;
+    w2c_i1 &= w2c_i2;
+    w2c_i2 = 8u;
+    w2c_i1 = I32_ROTR(w2c_i1, w2c_i2);
+    w2c_i2 = w2c_l14;
+    w2c_i3 = 24u;
+    w2c_i2 = I32_ROTR(w2c_i2, w2c_i3);
+    w2c_i3 = 16711935u;
+    w2c_i2 &= w2c_i3;
+    w2c_i1 |= w2c_i2;
+    w2c_i0 ^= w2c_i1;
+    w2c_l14 = w2c_i0;
+    w2c_j0 = w2c_p3;
+    w2c_j1 = 9ull;
+    w2c_i0 = w2c_j0 < w2c_j1;
+    if (w2c_i0) {goto w2c_B6;}
+    w2c_j0 = w2c_p2;
+    w2c_j1 = w2c_l6;
+    w2c_j2 = w2c_l4;
+    w2c_j1 = REM_U(w2c_j1, w2c_j2);
+    w2c_l5 = w2c_j1;
+    w2c_j2 = 3ull;
+    w2c_j1 <<= (w2c_j2 & 63);
+    w2c_j0 += w2c_j1;
+    w2c_i0 = (u32)(w2c_j0);
+    w2c_j1 = w2c_p1;
+    i64_store(memory, (u64)(w2c_i0), w2c_j1);
+    w2c_i0 = w2c_l11;
+    w2c_j0 = (u64)(w2c_i0);
+    w2c_j1 = 32ull;
+    w2c_j0 <<= (w2c_j1 & 63);
+    w2c_i1 = w2c_l14;
+    w2c_j1 = (u64)(w2c_i1);
+    w2c_j0 |= w2c_j1;
+    w2c_j1 = w2c_l6;
+    w2c_j2 = 56ull;
+    w2c_j1 <<= (w2c_j2 & 63);
+    w2c_j2 = w2c_l6;
+    w2c_j3 = 65280ull;
+    w2c_j2 &= w2c_j3;
+    w2c_j3 = 40ull;
+    w2c_j2 <<= (w2c_j3 & 63);
+    w2c_j1 |= w2c_j2;
+    w2c_j2 = w2c_l6;
+    w2c_j3 = 16711680ull;
+    w2c_j2 &= w2c_j3;
+    w2c_j3 = 24ull;
+    w2c_j2 <<= (w2c_j3 & 63);
+    w2c_j3 = w2c_l6;
+    w2c_j4 = 4278190080ull;
+    w2c_j3 &= w2c_j4;
+    w2c_j4 = 8ull;
+    w2c_j3 <<= (w2c_j4 & 63);
+    w2c_j2 |= w2c_j3;
+    w2c_j1 |= w2c_j2;
+    w2c_j2 = w2c_l6;
+    w2c_j3 = 8ull;
+    w2c_j2 >>= (w2c_j3 & 63);
+    w2c_j3 = 4278190080ull;
+    w2c_j2 &= w2c_j3;
+    w2c_j3 = w2c_l6;
+    w2c_j4 = 24ull;
+    w2c_j3 >>= (w2c_j4 & 63);
+    w2c_j4 = 16711680ull;
+    w2c_j3 &= w2c_j4;
+    w2c_j2 |= w2c_j3;
+    w2c_j3 = w2c_l6;
+    w2c_j4 = 40ull;
+    w2c_j3 >>= (w2c_j4 & 63);
+    w2c_j4 = 65280ull;
+    w2c_j3 &= w2c_j4;
+    w2c_j4 = w2c_l6;
+    w2c_j5 = 56ull;
+    w2c_j4 >>= (w2c_j5 & 63);
+    w2c_j3 |= w2c_j4;
+    w2c_j2 |= w2c_j3;
+    w2c_j1 |= w2c_j2;
+    w2c_j0 ^= w2c_j1;
+    w2c_l7 = w2c_j0;
+    w2c_j0 = w2c_p2;
+    w2c_j1 = w2c_l4;
+    w2c_j2 = w2c_l5;
+    w2c_j3 = w2c_l5;
+    w2c_i3 = !(w2c_j3);
+    w2c_j1 = w2c_i3 ? w2c_j1 : w2c_j2;
+    w2c_j2 = 3ull;
+    w2c_j1 <<= (w2c_j2 & 63);
+    w2c_j0 += w2c_j1;
+    w2c_j1 = 18446744073709551608ull;
+    w2c_j0 += w2c_j1;
+    w2c_i0 = (u32)(w2c_j0);
+    w2c_j0 = i64_load(memory, (u64)(w2c_i0));
+    w2c_p1 = w2c_j0;
+    goto w2c_B5;
+    w2c_B6:;
+    w2c_j0 = w2c_p2;
+    w2c_i0 = (u32)(w2c_j0);
+    w2c_j1 = w2c_p1;
+    i64_store(memory, (u64)(w2c_i0), w2c_j1);
+    w2c_i0 = w2c_l11;
+    w2c_j0 = (u64)(w2c_i0);
+    w2c_j1 = 32ull;
+    w2c_j0 <<= (w2c_j1 & 63);
+    w2c_i1 = w2c_l14;
+    w2c_j1 = (u64)(w2c_i1);
+    w2c_j0 |= w2c_j1;
+    w2c_l7 = w2c_j0;
+    w2c_B5:;
+    w2c_j0 = w2c_l6;
+    w2c_j1 = 0ull;
+    w2c_i0 = w2c_j0 != w2c_j1;
+    if (w2c_i0) {goto w2c_L2;}
+  w2c_j0 = w2c_l7;
+  w2c_j1 = 56ull;
+  w2c_j0 <<= (w2c_j1 & 63);
+  w2c_j1 = w2c_l7;
+  w2c_j2 = 65280ull;
+  w2c_j1 &= w2c_j2;
+  w2c_j2 = 40ull;
+  w2c_j1 <<= (w2c_j2 & 63);
+  w2c_j0 |= w2c_j1;
+  w2c_j1 = w2c_l7;
+  w2c_j2 = 16711680ull;
+  w2c_j1 &= w2c_j2;
+  w2c_j2 = 24ull;
+  w2c_j1 <<= (w2c_j2 & 63);
+  w2c_j2 = w2c_l7;
+  w2c_j3 = 4278190080ull;
+  w2c_j2 &= w2c_j3;
+  w2c_j3 = 8ull;
+  w2c_j2 <<= (w2c_j3 & 63);
+  w2c_j1 |= w2c_j2;
+  w2c_j0 |= w2c_j1;
+  w2c_j1 = w2c_l7;
+  w2c_j2 = 8ull;
+  w2c_j1 >>= (w2c_j2 & 63);
+  w2c_j2 = 4278190080ull;
+  w2c_j1 &= w2c_j2;
+  w2c_j2 = w2c_l7;
+  w2c_j3 = 24ull;
+  w2c_j2 >>= (w2c_j3 & 63);
+  w2c_j3 = 16711680ull;
+  w2c_j2 &= w2c_j3;
+  w2c_j1 |= w2c_j2;
+  w2c_j2 = w2c_l7;
+  w2c_j3 = 40ull;
+  w2c_j2 >>= (w2c_j3 & 63);
+  w2c_j3 = 65280ull;
+  w2c_j2 &= w2c_j3;
+  w2c_j3 = w2c_l7;
+  w2c_j4 = 56ull;
+  w2c_j3 >>= (w2c_j4 & 63);
+  w2c_j2 |= w2c_j3;
+  w2c_j1 |= w2c_j2;
+  w2c_j0 |= w2c_j1;
+  w2c_p1 = w2c_j0;
+  w2c_B1:;
+  w2c_j0 = w2c_p1;
+  goto w2c_Bfunc;
+  w2c_B0:;
+  UNREACHABLE;
+  w2c_Bfunc:;
+  return w2c_j0;
+}
+static void w2c_f7(struct instance *instance, u64 w2c_p0, u64 w2c_p1, u64 w2c_p2, u64 w2c_p3, u64 w2c_p4, u64 w2c_p5, u64 w2c_p6, u64 w2c_p7) {
+  u32 w2c_l13 = 0, w2c_l14 = 0, w2c_l15 = 0;
+  u64 w2c_l8 = 0, w2c_l9 = 0, w2c_l10 = 0, w2c_l11 = 0, w2c_l12 = 0;
+  const struct memory memory = instance->w2c_memory;
+  (void)memory;
+  u32 w2c_i0, w2c_i1, w2c_i2, w2c_i3;
+  u64 w2c_j0, w2c_j1, w2c_j2, w2c_j3, w2c_j4, w2c_j5, w2c_j6;
+  w2c_j0 = instance->w2c_g0;
+  w2c_j1 = 48ull;
+  w2c_j0 -= w2c_j1;
+  w2c_l8 = w2c_j0;
+  instance->w2c_g0 = w2c_j0;
+  w2c_j0 = w2c_l8;
+  w2c_l8 = w2c_j0;
+  w2c_j1 = 16ull;
+  w2c_i0 = (u64)((s64)w2c_j0 < (s64)w2c_j1);
+  if (w2c_i0) {goto w2c_B2;}
+  w2c_j0 = w2c_p7;
+  w2c_i0 = !(w2c_j0);
+  if (w2c_i0) {goto w2c_B0;}
+  w2c_j0 = 0ull;
+  w2c_l9 = w2c_j0;
+  w2c_j0 = w2c_p3;
+  w2c_j1 = 7ull;
+  w2c_j0 &= w2c_j1;
+  w2c_j1 = 0ull;
+  w2c_i0 = w2c_j0 != w2c_j1;
+  if (w2c_i0) {goto w2c_B1;}
+  w2c_j0 = w2c_p3;
+  w2c_j1 = 18446744073709551608ull;
+  w2c_j0 += w2c_j1;
+  w2c_j1 = 1048568ull;
+  w2c_i0 = w2c_j0 > w2c_j1;
+  if (w2c_i0) {goto w2c_B1;}
+  w2c_j0 = w2c_p3;
+  w2c_j1 = 8ull;
+  w2c_j0 += w2c_j1;
+  w2c_l10 = w2c_j0;
+  w2c_j0 = w2c_p2;
+  w2c_j1 = w2c_p3;
+  w2c_j2 = 18446744073709551615ull;
+  w2c_j1 += w2c_j2;
+  w2c_l11 = w2c_j1;
+  w2c_j0 += w2c_j1;
+  w2c_l12 = w2c_j0;
+  w2c_L3: 
+    w2c_j0 = 0ull;
+    w2c_l9 = w2c_j0;
+    w2c_j0 = w2c_l8;
+    w2c_i0 = (u32)(w2c_j0);
+    w2c_j1 = 0ull;
+    i64_store(memory, (u64)(w2c_i0) + 8, w2c_j1);
+    w2c_j0 = w2c_l8;
+    w2c_i0 = (u32)(w2c_j0);
+    w2c_j1 = w2c_p0;
+    i64_store(memory, (u64)(w2c_i0), w2c_j1);
+    w2c_j0 = w2c_l8;
+    w2c_i0 = (u32)(w2c_j0);
+    w2c_j1 = 12008468691120727718ull;
+    i64_store(memory, (u64)(w2c_i0) + 16, w2c_j1);
+    w2c_j0 = w2c_l8;
+    w2c_i0 = (u32)(w2c_j0);
+    w2c_j1 = 0ull;
+    i64_store(memory, (u64)(w2c_i0) + 40, w2c_j1);
+    w2c_j0 = w2c_l8;
+    w2c_i0 = (u32)(w2c_j0);
+    w2c_j1 = 0ull;
+    i64_store(memory, (u64)(w2c_i0) + 32, w2c_j1);
+    w2c_j0 = w2c_l8;
+    w2c_i0 = (u32)(w2c_j0);
+    w2c_j1 = 0ull;
+    i64_store(memory, (u64)(w2c_i0) + 24, w2c_j1);
+    w2c_j0 = w2c_l8;
+    w2c_j1 = 24ull;
+    w2c_j0 += w2c_j1;
+    w2c_j1 = w2c_l8;
+    w2c_j2 = w2c_l8;
+    w2c_j3 = 16ull;
+    w2c_j2 += w2c_j3;
+    w2c_j3 = w2c_p1;
+    w2c_j4 = w2c_l10;
+    w2c_j5 = w2c_p2;
+    w2c_j6 = w2c_p3;
+    w2c_f5(instance, w2c_j0, w2c_j1, w2c_j2, w2c_j3, w2c_j4, w2c_j5, w2c_j6);
+    w2c_j0 = w2c_l8;
+    w2c_i0 = (u32)(w2c_j0);
+    w2c_i0 = i32_load8_u(memory, (u64)(w2c_i0) + 24u);
+    w2c_i0 = !(w2c_i0);
+    if (w2c_i0) {goto w2c_B6;}
+    w2c_i0 = 2u;
+    w2c_l13 = w2c_i0;
+    w2c_j0 = w2c_l8;
+    w2c_i0 = (u32)(w2c_j0);
+    w2c_i0 = i32_load8_u(memory, (u64)(w2c_i0) + 25u);
+    w2c_i1 = 1u;
+    w2c_i0 = w2c_i0 == w2c_i1;
+    if (w2c_i0) {goto w2c_B5;}
+    w2c_i0 = 4u;
+    w2c_l14 = w2c_i0;
+    w2c_i0 = 0u;
+    w2c_l13 = w2c_i0;
+    w2c_j0 = 0ull;
+    w2c_l9 = w2c_j0;
+    goto w2c_B4;
+    w2c_B6:;
+    w2c_j0 = w2c_l8;
+    w2c_i0 = (u32)(w2c_j0);
+    w2c_j0 = i64_load(memory, (u64)(w2c_i0) + 40u);
+    w2c_l9 = w2c_j0;
+    w2c_j0 = w2c_l8;
+    w2c_i0 = (u32)(w2c_j0);
+    w2c_i0 = i32_load8_u(memory, (u64)(w2c_i0) + 32u);
+    w2c_l13 = w2c_i0;
+    w2c_j0 = w2c_l11;
+    w2c_i0 = !(w2c_j0);
+    if (w2c_i0) {goto w2c_B7;}
+    w2c_j0 = w2c_p2;
+    w2c_i0 = (u32)(w2c_j0);
+    w2c_i1 = 0u;
+    w2c_j2 = w2c_l11;
+    w2c_i2 = (u32)(w2c_j2);
+    memory_fill(memory, w2c_i0, w2c_i1, w2c_i2);
+    w2c_B7:;
+    w2c_j0 = w2c_l12;
+    w2c_i0 = (u32)(w2c_j0);
+    w2c_i1 = 0u;
+    i32_store8(memory, (u64)(w2c_i0), w2c_i1);
+    w2c_B5:;
+    w2c_i0 = 5u;
+    w2c_i1 = 0u;
+    w2c_i2 = w2c_l13;
+    w2c_i3 = 255u;
+    w2c_i2 &= w2c_i3;
+    w2c_i3 = 2u;
+    w2c_i2 = w2c_i2 == w2c_i3;
+    w2c_l15 = w2c_i2;
+    w2c_i0 = w2c_i2 ? w2c_i0 : w2c_i1;
+    w2c_l14 = w2c_i0;
+    w2c_i0 = 0u;
+    w2c_i1 = w2c_l13;
+    w2c_i2 = w2c_l15;
+    w2c_i0 = w2c_i2 ? w2c_i0 : w2c_i1;
+    w2c_l13 = w2c_i0;
+    w2c_j0 = 0ull;
+    w2c_j1 = w2c_l9;
+    w2c_i2 = w2c_l15;
+    w2c_j0 = w2c_i2 ? w2c_j0 : w2c_j1;
+    w2c_l9 = w2c_j0;
+    w2c_B4:;
+    w2c_j0 = w2c_p6;
+    w2c_i0 = (u32)(w2c_j0);
+    w2c_i1 = w2c_l14;
+    i32_store8(memory, (u64)(w2c_i0), w2c_i1);
+    w2c_j0 = w2c_p4;
+    w2c_i0 = (u32)(w2c_j0);
+    w2c_i1 = w2c_l13;
+    i32_store8(memory, (u64)(w2c_i0), w2c_i1);
+    w2c_j0 = w2c_p5;
+    w2c_i0 = (u32)(w2c_j0);
+    w2c_j1 = w2c_l9;
+    i64_store(memory, (u64)(w2c_i0), w2c_j1);
+    w2c_j0 = w2c_p1;
+    w2c_j1 = w2c_l10;
+    w2c_j0 += w2c_j1;
+    w2c_p1 = w2c_j0;
+    w2c_j0 = w2c_p6;
+    w2c_j1 = 1ull;
+    w2c_j0 += w2c_j1;
+    w2c_p6 = w2c_j0;
+    w2c_j0 = w2c_p4;
+    w2c_j1 = 1ull;
+    w2c_j0 += w2c_j1;
+    w2c_p4 = w2c_j0;
+    w2c_j0 = w2c_p5;
+    w2c_j1 = 8ull;
+    w2c_j0 += w2c_j1;
+    w2c_p5 = w2c_j0;
+    w2c_j0 = w2c_p7;
+    w2c_j1 = 18446744073709551615ull;
+    w2c_j0 += w2c_j1;
+    w2c_p7 = w2c_j0;
+    w2c_i0 = !(w2c_j0);
+    w2c_i0 = !(w2c_i0);
+    if (w2c_i0) {goto w2c_L3;}
+    goto w2c_B0;
+  UNREACHABLE;
+  w2c_B2:;
+  UNREACHABLE;
+  w2c_B1:;
+  w2c_j0 = w2c_p7;
+  w2c_j1 = 1ull;
+  w2c_i0 = w2c_j0 == w2c_j1;
+  if (w2c_i0) {goto w2c_B8;}
+  w2c_j0 = w2c_p7;
+  w2c_j1 = 1ull;
+  w2c_j0 &= w2c_j1;
+  w2c_p3 = w2c_j0;
+  w2c_j0 = w2c_p7;
+  w2c_j1 = 18446744073709551614ull;
+  w2c_j0 &= w2c_j1;
+  w2c_p2 = w2c_j0;
+  w2c_j0 = w2c_p5;
+  w2c_p1 = w2c_j0;
+  w2c_j0 = 0ull;
+  w2c_l9 = w2c_j0;
+  w2c_L9: 
+    w2c_j0 = w2c_p6;
+    w2c_j1 = w2c_l9;
+    w2c_j0 += w2c_j1;
+    w2c_p7 = w2c_j0;
+    w2c_i0 = (u32)(w2c_j0);
+    w2c_i1 = 5u;
+    i32_store8(memory, (u64)(w2c_i0), w2c_i1);
+    w2c_j0 = w2c_p4;
+    w2c_j1 = w2c_l9;
+    w2c_j0 += w2c_j1;
+    w2c_l10 = w2c_j0;
+    w2c_i0 = (u32)(w2c_j0);
+    w2c_i1 = 0u;
+    i32_store8(memory, (u64)(w2c_i0), w2c_i1);
+    w2c_j0 = w2c_p1;
+    w2c_i0 = (u32)(w2c_j0);
+    w2c_j1 = 0ull;
+    i64_store(memory, (u64)(w2c_i0), w2c_j1);
+    w2c_j0 = w2c_p7;
+    w2c_j1 = 1ull;
+    w2c_j0 += w2c_j1;
+    w2c_i0 = (u32)(w2c_j0);
+    w2c_i1 = 5u;
+    i32_store8(memory, (u64)(w2c_i0), w2c_i1);
+    w2c_j0 = w2c_l10;
+    w2c_j1 = 1ull;
+    w2c_j0 += w2c_j1;
+    w2c_i0 = (u32)(w2c_j0);
+    w2c_i1 = 0u;
+    i32_store8(memory, (u64)(w2c_i0), w2c_i1);
+    w2c_j0 = w2c_p1;
+    w2c_j1 = 8ull;
+    w2c_j0 += w2c_j1;
+    w2c_i0 = (u32)(w2c_j0);
+    w2c_j1 = 0ull;
+    i64_store(memory, (u64)(w2c_i0), w2c_j1);
+    w2c_j0 = w2c_p1;
+    w2c_j1 = 16ull;
+    w2c_j0 += w2c_j1;
+    w2c_p1 = w2c_j0;
+    w2c_j0 = w2c_p2;
+    w2c_j1 = w2c_l9;
+    w2c_j2 = 2ull;
+    w2c_j1 += w2c_j2;
+    w2c_l9 = w2c_j1;
+    w2c_i0 = w2c_j0 != w2c_j1;
+    if (w2c_i0) {goto w2c_L9;}
+  w2c_j0 = w2c_p3;
+  w2c_i0 = !(w2c_j0);
+  if (w2c_i0) {goto w2c_B0;}
+  w2c_B8:;
+  w2c_j0 = w2c_p6;
+  w2c_j1 = w2c_l9;
+  w2c_j0 += w2c_j1;
+  w2c_i0 = (u32)(w2c_j0);
+  w2c_i1 = 5u;
+  i32_store8(memory, (u64)(w2c_i0), w2c_i1);
+  w2c_j0 = w2c_p4;
+  w2c_j1 = w2c_l9;
+  w2c_j0 += w2c_j1;
+  w2c_i0 = (u32)(w2c_j0);
+  w2c_i1 = 0u;
+  i32_store8(memory, (u64)(w2c_i0), w2c_i1);
+  w2c_j0 = w2c_p5;
+  w2c_j1 = w2c_l9;
+  w2c_j2 = 3ull;
+  w2c_j1 <<= (w2c_j2 & 63);
+  w2c_j0 += w2c_j1;
+  w2c_i0 = (u32)(w2c_j0);
+  w2c_j1 = 0ull;
+  i64_store(memory, (u64)(w2c_i0), w2c_j1);
+  w2c_B0:;
+  w2c_j0 = w2c_l8;
+  w2c_j1 = 48ull;
+  w2c_j0 += w2c_j1;
+  instance->w2c_g0 = w2c_j0;
+}
+static u32 w2c_f8(struct instance *instance, u64 w2c_p0, u64 w2c_p1, u64 w2c_p2, u64 w2c_p3, u64 w2c_p4, u64 w2c_p5, u32 w2c_p6, u64 w2c_p7) {
+  u32 w2c_l9 = 0, w2c_l10 = 0;
+  u64 w2c_l8 = 0;
+  const struct memory memory = instance->w2c_memory;
+  (void)memory;
+  u32 w2c_i0, w2c_i1, w2c_i2, w2c_i3;
+  u64 w2c_j0, w2c_j1, w2c_j2, w2c_j3, w2c_j4, w2c_j5;
+  w2c_j0 = instance->w2c_g0;
+  w2c_j1 = 1024ull;
+  w2c_j0 -= w2c_j1;
+  w2c_l8 = w2c_j0;
+  instance->w2c_g0 = w2c_j0;
+  w2c_j0 = w2c_l8;
+  w2c_l8 = w2c_j0;
+  w2c_j1 = 16ull;
+  w2c_i0 = (u64)((s64)w2c_j0 < (s64)w2c_j1);
+  if (w2c_i0) {goto w2c_B0;}
+  w2c_j0 = w2c_l8;
+  w2c_j1 = 288ull;
+  w2c_j0 += w2c_j1;
+  w2c_i0 = (u32)(w2c_j0);
+  w2c_i1 = 0u;
+  w2c_j2 = 248ull;
+  w2c_i2 = (u32)(w2c_j2);
+  memory_fill(memory, w2c_i0, w2c_i1, w2c_i2);
+  w2c_j0 = w2c_l8;
+  w2c_j1 = 40ull;
+  w2c_j0 += w2c_j1;
+  w2c_i0 = (u32)(w2c_j0);
+  w2c_i1 = 0u;
+  w2c_j2 = 248ull;
+  w2c_i2 = (u32)(w2c_j2);
+  memory_fill(memory, w2c_i0, w2c_i1, w2c_i2);
+  w2c_j0 = w2c_p7;
+  w2c_i0 = (u32)(w2c_j0);
+  w2c_i1 = 0u;
+  i32_store(memory, (u64)(w2c_i0), w2c_i1);
+  w2c_j0 = w2c_l8;
+  w2c_j1 = 288ull;
+  w2c_j0 += w2c_j1;
+  w2c_j1 = w2c_p0;
+  w2c_j2 = w2c_p1;
+  w2c_f4(instance, w2c_j0, w2c_j1, w2c_j2);
+  w2c_i0 = 3u;
+  w2c_l9 = w2c_i0;
+  w2c_j0 = w2c_l8;
+  w2c_i0 = (u32)(w2c_j0);
+  w2c_i0 = i32_load8_u(memory, (u64)(w2c_i0) + 288u);
+  if (w2c_i0) {goto w2c_B1;}
+  w2c_j0 = w2c_l8;
+  w2c_j1 = 780ull;
+  w2c_j0 += w2c_j1;
+  w2c_i0 = (u32)(w2c_j0);
+  w2c_j1 = w2c_l8;
+  w2c_j2 = 288ull;
+  w2c_j1 += w2c_j2;
+  w2c_j2 = 4ull;
+  w2c_j1 += w2c_j2;
+  w2c_i1 = (u32)(w2c_j1);
+  w2c_j2 = 244ull;
+  w2c_i2 = (u32)(w2c_j2);
+  memory_copy(memory, memory, w2c_i0, w2c_i1, w2c_i2);
+  w2c_j0 = w2c_l8;
+  w2c_j1 = 40ull;
+  w2c_j0 += w2c_j1;
+  w2c_j1 = w2c_p2;
+  w2c_j2 = w2c_p3;
+  w2c_f4(instance, w2c_j0, w2c_j1, w2c_j2);
+  w2c_j0 = w2c_l8;
+  w2c_i0 = (u32)(w2c_j0);
+  w2c_i0 = i32_load8_u(memory, (u64)(w2c_i0) + 40u);
+  if (w2c_i0) {goto w2c_B1;}
+  w2c_j0 = w2c_l8;
+  w2c_j1 = 536ull;
+  w2c_j0 += w2c_j1;
+  w2c_i0 = (u32)(w2c_j0);
+  w2c_j1 = w2c_l8;
+  w2c_j2 = 40ull;
+  w2c_j1 += w2c_j2;
+  w2c_j2 = 4ull;
+  w2c_j1 += w2c_j2;
+  w2c_i1 = (u32)(w2c_j1);
+  w2c_j2 = 244ull;
+  w2c_i2 = (u32)(w2c_j2);
+  memory_copy(memory, memory, w2c_i0, w2c_i1, w2c_i2);
+  w2c_j0 = w2c_l8;
+  w2c_i0 = (u32)(w2c_j0);
+  w2c_j1 = 0ull;
+  i64_store(memory, (u64)(w2c_i0) + 32, w2c_j1);
+  w2c_j0 = w2c_l8;
+  w2c_i0 = (u32)(w2c_j0);
+  w2c_j1 = 0ull;
+  i64_store(memory, (u64)(w2c_i0) + 16, w2c_j1);
+  w2c_j0 = w2c_l8;
+  w2c_i0 = (u32)(w2c_j0);
+  w2c_j1 = w2c_l8;
+  w2c_j2 = 780ull;
+  w2c_j1 += w2c_j2;
+  i64_store(memory, (u64)(w2c_i0) + 24, w2c_j1);
+  w2c_j0 = w2c_l8;
+  w2c_i0 = (u32)(w2c_j0);
+  w2c_j1 = w2c_l8;
+  w2c_j2 = 536ull;
+  w2c_j1 += w2c_j2;
+  i64_store(memory, (u64)(w2c_i0) + 8, w2c_j1);
+  w2c_j0 = w2c_l8;
+  w2c_j1 = w2c_l8;
+  w2c_j2 = 24ull;
+  w2c_j1 += w2c_j2;
+  w2c_j2 = w2c_l8;
+  w2c_j3 = 8ull;
+  w2c_j2 += w2c_j3;
+  w2c_i3 = w2c_p6;
+  w2c_j4 = w2c_p4;
+  w2c_j5 = w2c_p5;
+  w2c_f9(instance, w2c_j0, w2c_j1, w2c_j2, w2c_i3, w2c_j4, w2c_j5);
+  w2c_j0 = w2c_p7;
+  w2c_i0 = (u32)(w2c_j0);
+  w2c_j1 = w2c_l8;
+  w2c_i1 = (u32)(w2c_j1);
+  w2c_i1 = i32_load8_u(memory, (u64)(w2c_i1));
+  w2c_p6 = w2c_i1;
+  w2c_i2 = 4294967295u;
+  w2c_i1 ^= w2c_i2;
+  w2c_j2 = w2c_l8;
+  w2c_i2 = (u32)(w2c_j2);
+  w2c_i2 = i32_load8_u(memory, (u64)(w2c_i2) + 1u);
+  w2c_l10 = w2c_i2;
+  w2c_i3 = 255u;
+  w2c_i2 &= w2c_i3;
+  w2c_i3 = 1u;
+  w2c_i2 = w2c_i2 == w2c_i3;
+  w2c_i1 &= w2c_i2;
+  i32_store(memory, (u64)(w2c_i0), w2c_i1);
+  w2c_i0 = 0u;
+  w2c_l9 = w2c_i0;
+  w2c_i0 = w2c_p6;
+  w2c_i1 = 1u;
+  w2c_i0 &= w2c_i1;
+  w2c_i0 = !(w2c_i0);
+  if (w2c_i0) {goto w2c_B1;}
+  w2c_i0 = w2c_l10;
+  w2c_j0 = (u64)(w2c_i0);
+  w2c_j1 = 255ull;
+  w2c_j0 &= w2c_j1;
+  w2c_j1 = 2ull;
+  w2c_j0 <<= (w2c_j1 & 63);
+  w2c_i0 = (u32)(w2c_j0);
+  w2c_i0 = constant_i32_load((u64)(w2c_i0) + 68780u);
+  w2c_l9 = w2c_i0;
+  w2c_B1:;
+  w2c_j0 = w2c_l8;
+  w2c_j1 = 1024ull;
+  w2c_j0 += w2c_j1;
+  instance->w2c_g0 = w2c_j0;
+  w2c_i0 = w2c_l9;
+  goto w2c_Bfunc;
+  w2c_B0:;
+  UNREACHABLE;
+  w2c_Bfunc:;
+  return w2c_i0;
+}
+static void w2c_f9(struct instance *instance, u64 w2c_p0, u64 w2c_p1, u64 w2c_p2, u32 w2c_p3, u64 w2c_p4, u64 w2c_p5) {
+  u32 w2c_l12 = 0, w2c_l13 = 0, w2c_l14 = 0, w2c_l15 = 0;
+  u64 w2c_l6 = 0, w2c_l7 = 0, w2c_l8 = 0, w2c_l9 = 0, w2c_l10 = 0, w2c_l11 = 0;
+  const struct memory memory = instance->w2c_memory;
+  (void)memory;
+  u32 w2c_i0, w2c_i1, w2c_i2, w2c_i3;
+  u64 w2c_j0, w2c_j1, w2c_j2, w2c_j3, w2c_j4, w2c_j5;
+  w2c_j0 = instance->w2c_g0;
+  w2c_j1 = 96ull;
+  w2c_j0 -= w2c_j1;
+  w2c_l6 = w2c_j0;
+  instance->w2c_g0 = w2c_j0;
+  w2c_j0 = w2c_l6;
+  w2c_l6 = w2c_j0;
+  w2c_j1 = 16ull;
+  w2c_i0 = (u64)((s64)w2c_j0 < (s64)w2c_j1);
+  if (w2c_i0) {goto w2c_B2;}
+  w2c_i0 = w2c_p3;
+  w2c_i1 = 15u;
+  w2c_i0 = w2c_i0 <= w2c_i1;
+  if (w2c_i0) {goto w2c_B3;}
+  w2c_i0 = 1u;
+  w2c_l12 = w2c_i0;
+  w2c_i0 = 0u;
+  w2c_l13 = w2c_i0;
+  goto w2c_B0;
+  w2c_B3:;
+  w2c_i0 = 0u;
+  w2c_l13 = w2c_i0;
+  w2c_i0 = 1u;
+  w2c_l12 = w2c_i0;
+  w2c_i0 = 1u;
+  w2c_l14 = w2c_i0;
+  w2c_j0 = 0ull;
+  w2c_l7 = w2c_j0;
+  w2c_j0 = 0ull;
+  w2c_l8 = w2c_j0;
+  w2c_j0 = 0ull;
+  w2c_l9 = w2c_j0;
+  w2c_i0 = 1u;
+  w2c_l15 = w2c_i0;
+  w2c_j0 = 0ull;
+  w2c_l10 = w2c_j0;
+  w2c_j0 = 0ull;
+  w2c_l11 = w2c_j0;
+  w2c_i0 = w2c_p3;
+  w2c_i1 = 7u;
+  w2c_i0 &= w2c_i1;
+  switch (w2c_i0) {
+    case 0: goto w2c_B9;
+    case 1: goto w2c_B8;
+    case 2: goto w2c_B7;
+    case 3: goto w2c_B6;
+    case 4: goto w2c_B4;
+    default: goto w2c_B0;
+  }
+  w2c_B9:;
+  w2c_j0 = 12008468691120727718ull;
+  w2c_l9 = w2c_j0;
+  w2c_j0 = 1ull;
+  w2c_l7 = w2c_j0;
+  w2c_i0 = 0u;
+  w2c_l14 = w2c_i0;
+  w2c_i0 = 0u;
+  w2c_l13 = w2c_i0;
+  w2c_j0 = 0ull;
+  w2c_l8 = w2c_j0;
+  w2c_i0 = 1u;
+  w2c_l15 = w2c_i0;
+  w2c_j0 = 0ull;
+  w2c_l10 = w2c_j0;
+  w2c_j0 = 12008468691120727718ull;
+  w2c_l11 = w2c_j0;
+  goto w2c_B4;
+  w2c_B8:;
+  w2c_j0 = 12008468691120727718ull;
+  w2c_l11 = w2c_j0;
+  w2c_i0 = 1u;
+  w2c_l13 = w2c_i0;
+  w2c_j0 = 1ull;
+  w2c_l7 = w2c_j0;
+  w2c_i0 = 0u;
+  w2c_l14 = w2c_i0;
+  w2c_i0 = 0u;
+  w2c_l12 = w2c_i0;
+  w2c_j0 = 1ull;
+  w2c_l8 = w2c_j0;
+  w2c_j0 = 0ull;
+  w2c_l9 = w2c_j0;
+  w2c_i0 = 1u;
+  w2c_l15 = w2c_i0;
+  w2c_j0 = 0ull;
+  w2c_l10 = w2c_j0;
+  goto w2c_B4;
+  w2c_B7:;
+  w2c_j0 = 12008468691120727718ull;
+  w2c_l9 = w2c_j0;
+  w2c_j0 = 1ull;
+  w2c_l7 = w2c_j0;
+  w2c_i0 = 0u;
+  w2c_l14 = w2c_i0;
+  w2c_i0 = 0u;
+  w2c_l13 = w2c_i0;
+  w2c_j0 = 0ull;
+  w2c_l8 = w2c_j0;
+  goto w2c_B5;
+  w2c_B6:;
+  w2c_j0 = 1ull;
+  w2c_l7 = w2c_j0;
+  w2c_i0 = 0u;
+  w2c_l13 = w2c_i0;
+  w2c_i0 = 0u;
+  w2c_l14 = w2c_i0;
+  w2c_i0 = 0u;
+  w2c_l12 = w2c_i0;
+  w2c_j0 = 1ull;
+  w2c_l8 = w2c_j0;
+  w2c_j0 = 0ull;
+  w2c_l9 = w2c_j0;
+  w2c_B5:;
+  w2c_i0 = 0u;
+  w2c_l15 = w2c_i0;
+  w2c_j0 = 1ull;
+  w2c_l10 = w2c_j0;
+  w2c_j0 = 0ull;
+  w2c_l11 = w2c_j0;
+  w2c_B4:;
+  w2c_j0 = w2c_l6;
+  w2c_i0 = (u32)(w2c_j0);
+  w2c_j1 = w2c_l11;
+  i64_store(memory, (u64)(w2c_i0) + 32, w2c_j1);
+  w2c_j0 = w2c_l6;
+  w2c_i0 = (u32)(w2c_j0);
+  w2c_j1 = w2c_l10;
+  i64_store(memory, (u64)(w2c_i0) + 24, w2c_j1);
+  w2c_j0 = w2c_l6;
+  w2c_i0 = (u32)(w2c_j0);
+  w2c_j1 = w2c_l9;
+  i64_store(memory, (u64)(w2c_i0) + 16, w2c_j1);
+  w2c_j0 = w2c_l6;
+  w2c_i0 = (u32)(w2c_j0);
+  w2c_j1 = w2c_l8;
+  i64_store(memory, (u64)(w2c_i0) + 8, w2c_j1);
+  w2c_j0 = w2c_l6;
+  w2c_i0 = (u32)(w2c_j0);
+  w2c_j1 = w2c_l7;
+  i64_store(memory, (u64)(w2c_i0), w2c_j1);
+  w2c_j0 = w2c_l6;
+  w2c_i0 = (u32)(w2c_j0);
+  w2c_j1 = 0ull;
+  i64_store(memory, (u64)(w2c_i0) + 48, w2c_j1);
+  w2c_j0 = w2c_l6;
+  w2c_i0 = (u32)(w2c_j0);
+  w2c_j1 = 0ull;
+  i64_store(memory, (u64)(w2c_i0) + 40, w2c_j1);
+  w2c_j0 = w2c_l6;
+  w2c_j1 = 40ull;
+  w2c_j0 += w2c_j1;
+  w2c_j1 = w2c_p1;
+  w2c_j2 = w2c_l6;
+  w2c_j3 = w2c_p4;
+  w2c_j4 = w2c_p5;
+  w2c_f10(instance, w2c_j0, w2c_j1, w2c_j2, w2c_j3, w2c_j4);
+  w2c_j0 = w2c_l6;
+  w2c_i0 = (u32)(w2c_j0);
+  w2c_i0 = i32_load8_u(memory, (u64)(w2c_i0) + 40u);
+  if (w2c_i0) {goto w2c_B13;}
+  w2c_j0 = w2c_l6;
+  w2c_i0 = (u32)(w2c_j0);
+  w2c_j0 = i64_load(memory, (u64)(w2c_i0) + 48u);
+  w2c_l7 = w2c_j0;
+  w2c_j0 = w2c_p5;
+  w2c_j1 = 18446744073709551608ull;
+  w2c_j0 += w2c_j1;
+  w2c_l10 = w2c_j0;
+  w2c_i0 = w2c_l14;
+  if (w2c_i0) {goto w2c_B12;}
+  w2c_j0 = 0ull;
+  w2c_l8 = w2c_j0;
+  w2c_i0 = w2c_l13;
+  w2c_i0 = !(w2c_i0);
+  if (w2c_i0) {goto w2c_B14;}
+  w2c_j0 = w2c_l7;
+  w2c_j1 = 4294967295ull;
+  w2c_j0 &= w2c_j1;
+  w2c_j1 = w2c_l10;
+  w2c_j0 ^= w2c_j1;
+  w2c_j1 = w2c_l10;
+  w2c_j2 = 8ull;
+  w2c_i1 = w2c_j1 == w2c_j2;
+  w2c_j1 = (u64)(w2c_i1);
+  w2c_j0 |= w2c_j1;
+  w2c_l8 = w2c_j0;
+  w2c_B14:;
+  w2c_j0 = w2c_p1;
+  w2c_j1 = w2c_l7;
+  w2c_j2 = w2c_l8;
+  w2c_j3 = w2c_p4;
+  w2c_j4 = w2c_p5;
+  w2c_i0 = w2c_f11(instance, w2c_j0, w2c_j1, w2c_j2, w2c_j3, w2c_j4);
+  w2c_i1 = 255u;
+  w2c_i0 &= w2c_i1;
+  if (w2c_i0) {goto w2c_B11;}
+  w2c_i0 = w2c_l12;
+  w2c_i0 = !(w2c_i0);
+  if (w2c_i0) {goto w2c_B15;}
+  w2c_j0 = w2c_l11;
+  w2c_j1 = w2c_p5;
+  w2c_j2 = 11986710452722728952ull;
+  w2c_j1 += w2c_j2;
+  w2c_i2 = w2c_l15;
+  w2c_j0 = w2c_i2 ? w2c_j0 : w2c_j1;
+  w2c_l7 = w2c_j0;
+  goto w2c_B1;
+  w2c_B15:;
+  w2c_j0 = w2c_l11;
+  w2c_j1 = w2c_l7;
+  w2c_i2 = w2c_l15;
+  w2c_j0 = w2c_i2 ? w2c_j0 : w2c_j1;
+  w2c_l7 = w2c_j0;
+  goto w2c_B1;
+  w2c_B13:;
+  w2c_j0 = w2c_l6;
+  w2c_i0 = (u32)(w2c_j0);
+  w2c_i0 = i32_load8_u(memory, (u64)(w2c_i0) + 41u);
+  w2c_l13 = w2c_i0;
+  w2c_i0 = 1u;
+  w2c_l12 = w2c_i0;
+  w2c_i0 = w2c_p3;
+  w2c_i1 = 7u;
+  w2c_i0 = w2c_i0 <= w2c_i1;
+  if (w2c_i0) {goto w2c_B0;}
+  w2c_i0 = w2c_l13;
+  w2c_i1 = 255u;
+  w2c_i0 &= w2c_i1;
+  w2c_i1 = 2u;
+  w2c_i0 = w2c_i0 != w2c_i1;
+  if (w2c_i0) {goto w2c_B10;}
+  w2c_i0 = 2u;
+  w2c_l13 = w2c_i0;
+  goto w2c_B0;
+  w2c_B12:;
+  w2c_j0 = w2c_p1;
+  w2c_j1 = w2c_l7;
+  w2c_j2 = 0ull;
+  w2c_j3 = w2c_p4;
+  w2c_j4 = w2c_p5;
+  w2c_i0 = w2c_f11(instance, w2c_j0, w2c_j1, w2c_j2, w2c_j3, w2c_j4);
+  w2c_i1 = 255u;
+  w2c_i0 &= w2c_i1;
+  w2c_i0 = !(w2c_i0);
+  if (w2c_i0) {goto w2c_B1;}
+  w2c_B11:;
+  w2c_i0 = 1u;
+  w2c_l12 = w2c_i0;
+  w2c_i0 = 2u;
+  w2c_l13 = w2c_i0;
+  goto w2c_B0;
+  w2c_B10:;
+  w2c_j0 = w2c_l6;
+  w2c_i0 = (u32)(w2c_j0);
+  w2c_j1 = w2c_l7;
+  i64_store(memory, (u64)(w2c_i0) + 40, w2c_j1);
+  w2c_j0 = w2c_l6;
+  w2c_i0 = (u32)(w2c_j0);
+  w2c_j1 = 0ull;
+  w2c_j2 = w2c_l11;
+  w2c_i3 = w2c_l14;
+  w2c_j1 = w2c_i3 ? w2c_j1 : w2c_j2;
+  w2c_p1 = w2c_j1;
+  i64_store(memory, (u64)(w2c_i0) + 72, w2c_j1);
+  w2c_j0 = w2c_l6;
+  w2c_i0 = (u32)(w2c_j0);
+  w2c_j1 = 0ull;
+  w2c_j2 = w2c_l10;
+  w2c_i3 = w2c_l14;
+  w2c_j1 = w2c_i3 ? w2c_j1 : w2c_j2;
+  w2c_l11 = w2c_j1;
+  i64_store(memory, (u64)(w2c_i0) + 64, w2c_j1);
+  w2c_j0 = w2c_l6;
+  w2c_i0 = (u32)(w2c_j0);
+  w2c_j1 = w2c_p1;
+  i64_store(memory, (u64)(w2c_i0) + 56, w2c_j1);
+  w2c_j0 = w2c_l6;
+  w2c_i0 = (u32)(w2c_j0);
+  w2c_j1 = w2c_l11;
+  i64_store(memory, (u64)(w2c_i0) + 48, w2c_j1);
+  w2c_j0 = w2c_l6;
+  w2c_i0 = (u32)(w2c_j0);
+  w2c_j1 = 0ull;
+  i64_store(memory, (u64)(w2c_i0) + 88, w2c_j1);
+  w2c_j0 = w2c_l6;
+  w2c_i0 = (u32)(w2c_j0);
+  w2c_j1 = 0ull;
+  i64_store(memory, (u64)(w2c_i0) + 80, w2c_j1);
+  w2c_j0 = w2c_l6;
+  w2c_j1 = 80ull;
+  w2c_j0 += w2c_j1;
+  w2c_j1 = w2c_p2;
+  w2c_j2 = w2c_l6;
+  w2c_j3 = 40ull;
+  w2c_j2 += w2c_j3;
+  w2c_j3 = w2c_p4;
+  w2c_j4 = w2c_p5;
+  w2c_f10(instance, w2c_j0, w2c_j1, w2c_j2, w2c_j3, w2c_j4);
+  w2c_j0 = w2c_l6;
+  w2c_i0 = (u32)(w2c_j0);
+  w2c_i0 = i32_load8_u(memory, (u64)(w2c_i0) + 80u);
+  if (w2c_i0) {goto w2c_B0;}
+  w2c_j0 = w2c_p4;
+  w2c_i0 = (u32)(w2c_j0);
+  w2c_j1 = w2c_p2;
+  w2c_j2 = w2c_l6;
+  w2c_i2 = (u32)(w2c_j2);
+  w2c_j2 = i64_load(memory, (u64)(w2c_i2) + 88u);
+  w2c_j3 = w2c_p4;
+  w2c_j4 = 8ull;
+  w2c_j3 += w2c_j4;
+  w2c_j4 = w2c_p5;
+  w2c_j5 = 18446744073709551608ull;
+  w2c_j4 += w2c_j5;
+  w2c_j1 = w2c_f12(instance, w2c_j1, w2c_j2, w2c_j3, w2c_j4);
+  w2c_p5 = w2c_j1;
+  w2c_j2 = 56ull;
+  w2c_j1 <<= (w2c_j2 & 63);
+  w2c_j2 = w2c_p5;
+  w2c_j3 = 65280ull;
+  w2c_j2 &= w2c_j3;
+  w2c_j3 = 40ull;
+  w2c_j2 <<= (w2c_j3 & 63);
+  w2c_j1 |= w2c_j2;
+  w2c_j2 = w2c_p5;
+  w2c_j3 = 16711680ull;
+  w2c_j2 &= w2c_j3;
+  w2c_j3 = 24ull;
+  w2c_j2 <<= (w2c_j3 & 63);
+  w2c_j3 = w2c_p5;
+  w2c_j4 = 4278190080ull;
+  w2c_j3 &= w2c_j4;
+  w2c_j4 = 8ull;
+  w2c_j3 <<= (w2c_j4 & 63);
+  w2c_j2 |= w2c_j3;
+  w2c_j1 |= w2c_j2;
+  w2c_j2 = w2c_p5;
+  w2c_j3 = 8ull;
+  w2c_j2 >>= (w2c_j3 & 63);
+  w2c_j3 = 4278190080ull;
+  w2c_j2 &= w2c_j3;
+  w2c_j3 = w2c_p5;
+  w2c_j4 = 24ull;
+  w2c_j3 >>= (w2c_j4 & 63);
+  w2c_j4 = 16711680ull;
+  w2c_j3 &= w2c_j4;
+  w2c_j2 |= w2c_j3;
+  w2c_j3 = w2c_p5;
+  w2c_j4 = 40ull;
+  w2c_j3 >>= (w2c_j4 & 63);
+  w2c_j4 = 65280ull;
+  w2c_j3 &= w2c_j4;
+  w2c_j4 = w2c_p5;
+  w2c_j5 = 56ull;
+  w2c_j4 >>= (w2c_j5 & 63);
+  w2c_j3 |= w2c_j4;
+  w2c_j2 |= w2c_j3;
+  w2c_j1 |= w2c_j2;
+  i64_store(memory, (u64)(w2c_i0), w2c_j1);
+  w2c_i0 = 0u;
+  w2c_l12 = w2c_i0;
+  w2c_i0 = 1u;
+  w2c_l13 = w2c_i0;
+  goto w2c_B0;
+  w2c_B2:;
+  UNREACHABLE;
+  w2c_B1:;
+  w2c_j0 = w2c_p4;
+  w2c_i0 = (u32)(w2c_j0);
+  w2c_j1 = w2c_p2;
+  w2c_j2 = w2c_l7;
+  w2c_j3 = w2c_p4;
+  w2c_j4 = 8ull;
+  w2c_j3 += w2c_j4;
+  w2c_j4 = w2c_l10;
+  w2c_j1 = w2c_f12(instance, w2c_j1, w2c_j2, w2c_j3, w2c_j4);
+  w2c_p5 = w2c_j1;
+  w2c_j2 = 56ull;
+  w2c_j1 <<= (w2c_j2 & 63);
+  w2c_j2 = w2c_p5;
+  w2c_j3 = 65280ull;
+  w2c_j2 &= w2c_j3;
+  w2c_j3 = 40ull;
+  w2c_j2 <<= (w2c_j3 & 63);
+  w2c_j1 |= w2c_j2;
+  w2c_j2 = w2c_p5;
+  w2c_j3 = 16711680ull;
+  w2c_j2 &= w2c_j3;
+  w2c_j3 = 24ull;
+  w2c_j2 <<= (w2c_j3 & 63);
+  w2c_j3 = w2c_p5;
+  w2c_j4 = 4278190080ull;
+  w2c_j3 &= w2c_j4;
+  w2c_j4 = 8ull;
+  w2c_j3 <<= (w2c_j4 & 63);
+  w2c_j2 |= w2c_j3;
+  w2c_j1 |= w2c_j2;
+  w2c_j2 = w2c_p5;
+  w2c_j3 = 8ull;
+  w2c_j2 >>= (w2c_j3 & 63);
+  w2c_j3 = 4278190080ull;
+  w2c_j2 &= w2c_j3;
+  w2c_j3 = w2c_p5;
+  w2c_j4 = 24ull;
+  w2c_j3 >>= (w2c_j4 & 63);
+  w2c_j4 = 16711680ull;
+  w2c_j3 &= w2c_j4;
+  w2c_j2 |= w2c_j3;
+  w2c_j3 = w2c_p5;
+  w2c_j4 = 40ull;
+  w2c_j3 >>= (w2c_j4 & 63);
+  w2c_j4 = 65280ull;
+  w2c_j3 &= w2c_j4;
+  w2c_j4 = w2c_p5;
+  w2c_j5 = 56ull;
+  w2c_j4 >>= (w2c_j5 & 63);
+  w2c_j3 |= w2c_j4;
+  w2c_j2 |= w2c_j3;
+  w2c_j1 |= w2c_j2;
+  i64_store(memory, (u64)(w2c_i0), w2c_j1);
+  w2c_i0 = 0u;
+  w2c_l13 = w2c_i0;
+  w2c_i0 = 0u;
+  w2c_l12 = w2c_i0;
+  w2c_B0:;
+  w2c_j0 = w2c_p0;
+  w2c_i0 = (u32)(w2c_j0);
+  w2c_i1 = w2c_l13;
+  i32_store8(memory, (u64)(w2c_i0) + 1, w2c_i1);
+  w2c_j0 = w2c_p0;
+  w2c_i0 = (u32)(w2c_j0);
+  w2c_i1 = w2c_l12;
+  i32_store8(memory, (u64)(w2c_i0), w2c_i1);
+  w2c_j0 = w2c_l6;
+  w2c_j1 = 96ull;
+  w2c_j0 += w2c_j1;
+  instance->w2c_g0 = w2c_j0;
+}
+static void w2c_f10(struct instance *instance, u64 w2c_p0, u64 w2c_p1, u64 w2c_p2, u64 w2c_p3, u64 w2c_p4) {
+  u64 w2c_l5 = 0, w2c_l6 = 0, w2c_l7 = 0;
+  const struct memory memory = instance->w2c_memory;
+  (void)memory;
+  u32 w2c_i0, w2c_i1, w2c_i2;
+  u64 w2c_j0, w2c_j1, w2c_j2, w2c_j3, w2c_j4, w2c_j5, w2c_j6;
+  w2c_j0 = instance->w2c_g0;
+  w2c_l5 = w2c_j0;
+  w2c_j1 = 16ull;
+  w2c_i0 = (u64)((s64)w2c_j0 < (s64)w2c_j1);
+  if (w2c_i0) {goto w2c_B1;}
+  w2c_j0 = w2c_p2;
+  w2c_i0 = (u32)(w2c_j0);
+  w2c_i0 = i32_load8_u(memory, (u64)(w2c_i0));
+  if (w2c_i0) {goto w2c_B3;}
+  w2c_j0 = w2c_p4;
+  w2c_j1 = 7ull;
+  w2c_j0 &= w2c_j1;
+  w2c_j1 = 0ull;
+  w2c_i0 = w2c_j0 != w2c_j1;
+  if (w2c_i0) {goto w2c_B2;}
+  w2c_j0 = w2c_p4;
+  w2c_j1 = 18446744073709551600ull;
+  w2c_j0 += w2c_j1;
+  w2c_j1 = 1048569ull;
+  w2c_i0 = w2c_j0 >= w2c_j1;
+  if (w2c_i0) {goto w2c_B2;}
+  goto w2c_B0;
+  w2c_B3:;
+  w2c_j0 = w2c_p4;
+  w2c_j1 = 7ull;
+  w2c_j0 &= w2c_j1;
+  w2c_j1 = 0ull;
+  w2c_i0 = w2c_j0 != w2c_j1;
+  if (w2c_i0) {goto w2c_B2;}
+  w2c_j0 = w2c_p4;
+  w2c_j1 = 18446744073709551600ull;
+  w2c_j0 += w2c_j1;
+  w2c_j1 = 1048569ull;
+  w2c_i0 = w2c_j0 < w2c_j1;
+  w2c_j1 = w2c_p4;
+  w2c_j2 = 18446744073709551592ull;
+  w2c_j1 += w2c_j2;
+  w2c_j2 = 1048561ull;
+  w2c_i1 = w2c_j1 < w2c_j2;
+  w2c_j2 = w2c_p2;
+  w2c_j3 = 8ull;
+  w2c_j2 += w2c_j3;
+  w2c_i2 = (u32)(w2c_j2);
+  w2c_i2 = i32_load8_u(memory, (u64)(w2c_i2));
+  w2c_i0 = w2c_i2 ? w2c_i0 : w2c_i1;
+  if (w2c_i0) {goto w2c_B0;}
+  w2c_B2:;
+  w2c_j0 = w2c_p0;
+  w2c_i0 = (u32)(w2c_j0);
+  w2c_i1 = 1u;
+  i32_store16(memory, (u64)(w2c_i0), w2c_i1);
+  w2c_j0 = w2c_p0;
+  w2c_j1 = 8ull;
+  w2c_j0 += w2c_j1;
+  w2c_i0 = (u32)(w2c_j0);
+  w2c_j1 = 0ull;
+  i64_store(memory, (u64)(w2c_i0), w2c_j1);
+  w2c_j0 = w2c_l5;
+  instance->w2c_g0 = w2c_j0;
+  goto w2c_Bfunc;
+  w2c_B1:;
+  UNREACHABLE;
+  w2c_B0:;
+  w2c_j0 = w2c_p1;
+  w2c_j1 = w2c_p3;
+  w2c_i1 = (u32)(w2c_j1);
+  w2c_j1 = i64_load(memory, (u64)(w2c_i1));
+  w2c_l6 = w2c_j1;
+  w2c_j2 = 56ull;
+  w2c_j1 <<= (w2c_j2 & 63);
+  w2c_j2 = w2c_l6;
+  w2c_j3 = 65280ull;
+  w2c_j2 &= w2c_j3;
+  w2c_j3 = 40ull;
+  w2c_j2 <<= (w2c_j3 & 63);
+  w2c_j1 |= w2c_j2;
+  w2c_j2 = w2c_l6;
+  w2c_j3 = 16711680ull;
+  w2c_j2 &= w2c_j3;
+  w2c_j3 = 24ull;
+  w2c_j2 <<= (w2c_j3 & 63);
+  w2c_j3 = w2c_l6;
+  w2c_j4 = 4278190080ull;
+  w2c_j3 &= w2c_j4;
+  w2c_j4 = 8ull;
+  w2c_j3 <<= (w2c_j4 & 63);
+  w2c_j2 |= w2c_j3;
+  w2c_j1 |= w2c_j2;
+  w2c_j2 = w2c_l6;
+  w2c_j3 = 8ull;
+  w2c_j2 >>= (w2c_j3 & 63);
+  w2c_j3 = 4278190080ull;
+  w2c_j2 &= w2c_j3;
+  w2c_j3 = w2c_l6;
+  w2c_j4 = 24ull;
+  w2c_j3 >>= (w2c_j4 & 63);
+  w2c_j4 = 16711680ull;
+  w2c_j3 &= w2c_j4;
+  w2c_j2 |= w2c_j3;
+  w2c_j3 = w2c_l6;
+  w2c_j4 = 40ull;
+  w2c_j3 >>= (w2c_j4 & 63);
+  w2c_j4 = 65280ull;
+  w2c_j3 &= w2c_j4;
+  w2c_j4 = w2c_l6;
+  w2c_j5 = 56ull;
+  w2c_j4 >>= (w2c_j5 & 63);
+  w2c_j3 |= w2c_j4;
+  w2c_j2 |= w2c_j3;
+  w2c_j1 |= w2c_j2;
+  w2c_j2 = w2c_p3;
+  w2c_j3 = 8ull;
+  w2c_j2 += w2c_j3;
+  w2c_j3 = w2c_p4;
+  w2c_j4 = 18446744073709551608ull;
+  w2c_j3 += w2c_j4;
+  w2c_l7 = w2c_j3;
+  w2c_j0 = w2c_f6(instance, w2c_j0, w2c_j1, w2c_j2, w2c_j3);
+  w2c_l6 = w2c_j0;
+  w2c_j0 = w2c_p2;
+  w2c_i0 = (u32)(w2c_j0);
+  w2c_i0 = i32_load8_u(memory, (u64)(w2c_i0));
+  if (w2c_i0) {goto w2c_B5;}
+  w2c_j0 = w2c_l7;
+  w2c_j1 = 8ull;
+  w2c_i0 = w2c_j0 == w2c_j1;
+  w2c_j1 = w2c_l6;
+  w2c_j2 = 12008468691120727718ull;
+  w2c_i1 = w2c_j1 != w2c_j2;
+  w2c_i0 |= w2c_i1;
+  w2c_j1 = w2c_l7;
+  w2c_j2 = w2c_l6;
+  w2c_j3 = 4294967295ull;
+  w2c_j2 &= w2c_j3;
+  w2c_j1 -= w2c_j2;
+  w2c_l7 = w2c_j1;
+  w2c_j2 = 3ull;
+  w2c_j1 >>= (w2c_j2 & 63);
+  w2c_j2 = w2c_l6;
+  w2c_j3 = 32ull;
+  w2c_j2 >>= (w2c_j3 & 63);
+  w2c_j3 = 2790873510ull;
+  w2c_j2 ^= w2c_j3;
+  w2c_j1 |= w2c_j2;
+  w2c_j2 = w2c_p3;
+  w2c_j3 = w2c_p4;
+  w2c_j2 += w2c_j3;
+  w2c_j3 = 18446744073709551608ull;
+  w2c_j2 += w2c_j3;
+  w2c_i2 = (u32)(w2c_j2);
+  w2c_j2 = i64_load(memory, (u64)(w2c_i2));
+  w2c_p2 = w2c_j2;
+  w2c_j3 = 56ull;
+  w2c_j2 <<= (w2c_j3 & 63);
+  w2c_j3 = w2c_p2;
+  w2c_j4 = 65280ull;
+  w2c_j3 &= w2c_j4;
+  w2c_j4 = 40ull;
+  w2c_j3 <<= (w2c_j4 & 63);
+  w2c_j2 |= w2c_j3;
+  w2c_j3 = w2c_p2;
+  w2c_j4 = 16711680ull;
+  w2c_j3 &= w2c_j4;
+  w2c_j4 = 24ull;
+  w2c_j3 <<= (w2c_j4 & 63);
+  w2c_j4 = w2c_p2;
+  w2c_j5 = 4278190080ull;
+  w2c_j4 &= w2c_j5;
+  w2c_j5 = 8ull;
+  w2c_j4 <<= (w2c_j5 & 63);
+  w2c_j3 |= w2c_j4;
+  w2c_j2 |= w2c_j3;
+  w2c_j3 = w2c_p2;
+  w2c_j4 = 8ull;
+  w2c_j3 >>= (w2c_j4 & 63);
+  w2c_j4 = 4278190080ull;
+  w2c_j3 &= w2c_j4;
+  w2c_j4 = w2c_p2;
+  w2c_j5 = 24ull;
+  w2c_j4 >>= (w2c_j5 & 63);
+  w2c_j5 = 16711680ull;
+  w2c_j4 &= w2c_j5;
+  w2c_j3 |= w2c_j4;
+  w2c_j4 = w2c_p2;
+  w2c_j5 = 40ull;
+  w2c_j4 >>= (w2c_j5 & 63);
+  w2c_j5 = 65280ull;
+  w2c_j4 &= w2c_j5;
+  w2c_j5 = w2c_p2;
+  w2c_j6 = 56ull;
+  w2c_j5 >>= (w2c_j6 & 63);
+  w2c_j4 |= w2c_j5;
+  w2c_j3 |= w2c_j4;
+  w2c_j2 |= w2c_j3;
+  w2c_j3 = 18446744073709551615ull;
+  w2c_j4 = w2c_l7;
+  w2c_j5 = 3ull;
+  w2c_j4 <<= (w2c_j5 & 63);
+  w2c_j3 <<= (w2c_j4 & 63);
+  w2c_j4 = 18446744073709551615ull;
+  w2c_j3 ^= w2c_j4;
+  w2c_j2 &= w2c_j3;
+  w2c_j1 |= w2c_j2;
+  w2c_j2 = 0ull;
+  w2c_i1 = w2c_j1 != w2c_j2;
+  w2c_i0 &= w2c_i1;
+  w2c_j0 = (u64)(w2c_i0);
+  w2c_p2 = w2c_j0;
+  goto w2c_B4;
+  w2c_B5:;
+  w2c_j0 = w2c_p2;
+  w2c_j1 = 8ull;
+  w2c_j0 += w2c_j1;
+  w2c_i0 = (u32)(w2c_j0);
+  w2c_i0 = i32_load8_u(memory, (u64)(w2c_i0));
+  if (w2c_i0) {goto w2c_B6;}
+  w2c_j0 = 1ull;
+  w2c_j1 = w2c_p2;
+  w2c_j2 = 16ull;
+  w2c_j1 += w2c_j2;
+  w2c_i1 = (u32)(w2c_j1);
+  w2c_j1 = i64_load(memory, (u64)(w2c_i1));
+  w2c_j2 = w2c_l6;
+  w2c_j1 ^= w2c_j2;
+  w2c_j2 = w2c_l7;
+  w2c_j3 = 8ull;
+  w2c_i2 = w2c_j2 == w2c_j3;
+  w2c_j0 = w2c_i2 ? w2c_j0 : w2c_j1;
+  w2c_p2 = w2c_j0;
+  goto w2c_B4;
+  w2c_B6:;
+  w2c_j0 = w2c_l7;
+  w2c_j1 = w2c_l6;
+  w2c_j2 = 4294967295ull;
+  w2c_j1 &= w2c_j2;
+  w2c_j0 -= w2c_j1;
+  w2c_l7 = w2c_j0;
+  w2c_j1 = 3ull;
+  w2c_j0 >>= (w2c_j1 & 63);
+  w2c_j1 = w2c_l6;
+  w2c_j2 = 32ull;
+  w2c_j1 >>= (w2c_j2 & 63);
+  w2c_j2 = 2790873510ull;
+  w2c_j1 ^= w2c_j2;
+  w2c_j0 |= w2c_j1;
+  w2c_j1 = w2c_p3;
+  w2c_j2 = w2c_p4;
+  w2c_j1 += w2c_j2;
+  w2c_j2 = 18446744073709551608ull;
+  w2c_j1 += w2c_j2;
+  w2c_i1 = (u32)(w2c_j1);
+  w2c_j1 = i64_load(memory, (u64)(w2c_i1));
+  w2c_p2 = w2c_j1;
+  w2c_j2 = 56ull;
+  w2c_j1 <<= (w2c_j2 & 63);
+  w2c_j2 = w2c_p2;
+  w2c_j3 = 65280ull;
+  w2c_j2 &= w2c_j3;
+  w2c_j3 = 40ull;
+  w2c_j2 <<= (w2c_j3 & 63);
+  w2c_j1 |= w2c_j2;
+  w2c_j2 = w2c_p2;
+  w2c_j3 = 16711680ull;
+  w2c_j2 &= w2c_j3;
+  w2c_j3 = 24ull;
+  w2c_j2 <<= (w2c_j3 & 63);
+  w2c_j3 = w2c_p2;
+  w2c_j4 = 4278190080ull;
+  w2c_j3 &= w2c_j4;
+  w2c_j4 = 8ull;
+  w2c_j3 <<= (w2c_j4 & 63);
+  w2c_j2 |= w2c_j3;
+  w2c_j1 |= w2c_j2;
+  w2c_j2 = w2c_p2;
+  w2c_j3 = 8ull;
+  w2c_j2 >>= (w2c_j3 & 63);
+  w2c_j3 = 4278190080ull;
+  w2c_j2 &= w2c_j3;
+  w2c_j3 = w2c_p2;
+  w2c_j4 = 24ull;
+  w2c_j3 >>= (w2c_j4 & 63);
+  w2c_j4 = 16711680ull;
+  w2c_j3 &= w2c_j4;
+  w2c_j2 |= w2c_j3;
+  w2c_j3 = w2c_p2;
+  w2c_j4 = 40ull;
+  w2c_j3 >>= (w2c_j4 & 63);
+  w2c_j4 = 65280ull;
+  w2c_j3 &= w2c_j4;
+  w2c_j4 = w2c_p2;
+  w2c_j5 = 56ull;
+  w2c_j4 >>= (w2c_j5 & 63);
+  w2c_j3 |= w2c_j4;
+  w2c_j2 |= w2c_j3;
+  w2c_j1 |= w2c_j2;
+  w2c_j2 = 18446744073709551615ull;
+  w2c_j3 = w2c_l7;
+  w2c_j4 = 3ull;
+  w2c_j3 <<= (w2c_j4 & 63);
+  w2c_j2 <<= (w2c_j3 & 63);
+  w2c_j3 = 18446744073709551615ull;
+  w2c_j2 ^= w2c_j3;
+  w2c_j1 &= w2c_j2;
+  w2c_j0 |= w2c_j1;
+  w2c_p2 = w2c_j0;
+  w2c_B4:;
+  w2c_j0 = w2c_p1;
+  w2c_j1 = w2c_l6;
+  w2c_j2 = w2c_p2;
+  w2c_j3 = w2c_p3;
+  w2c_j4 = w2c_p4;
+  w2c_i0 = w2c_f11(instance, w2c_j0, w2c_j1, w2c_j2, w2c_j3, w2c_j4);
+  w2c_i1 = 255u;
+  w2c_i0 &= w2c_i1;
+  w2c_i0 = !(w2c_i0);
+  if (w2c_i0) {goto w2c_B7;}
+  w2c_j0 = w2c_p0;
+  w2c_i0 = (u32)(w2c_j0);
+  w2c_i1 = 257u;
+  i32_store16(memory, (u64)(w2c_i0), w2c_i1);
+  w2c_j0 = w2c_p0;
+  w2c_j1 = 8ull;
+  w2c_j0 += w2c_j1;
+  w2c_i0 = (u32)(w2c_j0);
+  w2c_j1 = 0ull;
+  i64_store(memory, (u64)(w2c_i0), w2c_j1);
+  w2c_j0 = w2c_l5;
+  instance->w2c_g0 = w2c_j0;
+  goto w2c_Bfunc;
+  w2c_B7:;
+  w2c_j0 = w2c_p0;
+  w2c_i0 = (u32)(w2c_j0);
+  w2c_i1 = 0u;
+  i32_store16(memory, (u64)(w2c_i0), w2c_i1);
+  w2c_j0 = w2c_p0;
+  w2c_j1 = 8ull;
+  w2c_j0 += w2c_j1;
+  w2c_i0 = (u32)(w2c_j0);
+  w2c_j1 = w2c_l6;
+  i64_store(memory, (u64)(w2c_i0), w2c_j1);
+  w2c_j0 = w2c_l5;
+  instance->w2c_g0 = w2c_j0;
+  w2c_Bfunc:;
+}
+static u32 w2c_f11(struct instance *instance, u64 w2c_p0, u64 w2c_p1, u64 w2c_p2, u64 w2c_p3, u64 w2c_p4) {
+  u64 w2c_l5 = 0;
+  const struct memory memory = instance->w2c_memory;
+  (void)memory;
+  u32 w2c_i0;
+  u64 w2c_j0, w2c_j1, w2c_j2, w2c_j3, w2c_j4, w2c_j5;
+  w2c_j0 = instance->w2c_g0;
+  w2c_l5 = w2c_j0;
+  w2c_j1 = 16ull;
+  w2c_i0 = (u64)((s64)w2c_j0 < (s64)w2c_j1);
+  if (w2c_i0) {goto w2c_B0;}
+  w2c_j0 = w2c_p2;
+  w2c_i0 = !(w2c_j0);
+  w2c_i0 = !(w2c_i0);
+  if (w2c_i0) {goto w2c_B1;}
+  w2c_j0 = w2c_l5;
+  instance->w2c_g0 = w2c_j0;
+  w2c_i0 = 0u;
+  goto w2c_Bfunc;
+  w2c_B1:;
+  w2c_j0 = w2c_p3;
+  w2c_i0 = (u32)(w2c_j0);
+  w2c_j1 = w2c_p0;
+  w2c_j2 = w2c_p1;
+  w2c_j3 = w2c_p3;
+  w2c_j4 = 8ull;
+  w2c_j3 += w2c_j4;
+  w2c_j4 = w2c_p4;
+  w2c_j5 = 18446744073709551608ull;
+  w2c_j4 += w2c_j5;
+  w2c_j1 = w2c_f12(instance, w2c_j1, w2c_j2, w2c_j3, w2c_j4);
+  w2c_p2 = w2c_j1;
+  w2c_j2 = 56ull;
+  w2c_j1 <<= (w2c_j2 & 63);
+  w2c_j2 = w2c_p2;
+  w2c_j3 = 65280ull;
+  w2c_j2 &= w2c_j3;
+  w2c_j3 = 40ull;
+  w2c_j2 <<= (w2c_j3 & 63);
+  w2c_j1 |= w2c_j2;
+  w2c_j2 = w2c_p2;
+  w2c_j3 = 16711680ull;
+  w2c_j2 &= w2c_j3;
+  w2c_j3 = 24ull;
+  w2c_j2 <<= (w2c_j3 & 63);
+  w2c_j3 = w2c_p2;
+  w2c_j4 = 4278190080ull;
+  w2c_j3 &= w2c_j4;
+  w2c_j4 = 8ull;
+  w2c_j3 <<= (w2c_j4 & 63);
+  w2c_j2 |= w2c_j3;
+  w2c_j1 |= w2c_j2;
+  w2c_j2 = w2c_p2;
+  w2c_j3 = 8ull;
+  w2c_j2 >>= (w2c_j3 & 63);
+  w2c_j3 = 4278190080ull;
+  w2c_j2 &= w2c_j3;
+  w2c_j3 = w2c_p2;
+  w2c_j4 = 24ull;
+  w2c_j3 >>= (w2c_j4 & 63);
+  w2c_j4 = 16711680ull;
+  w2c_j3 &= w2c_j4;
+  w2c_j2 |= w2c_j3;
+  w2c_j3 = w2c_p2;
+  w2c_j4 = 40ull;
+  w2c_j3 >>= (w2c_j4 & 63);
+  w2c_j4 = 65280ull;
+  w2c_j3 &= w2c_j4;
+  w2c_j4 = w2c_p2;
+  w2c_j5 = 56ull;
+  w2c_j4 >>= (w2c_j5 & 63);
+  w2c_j3 |= w2c_j4;
+  w2c_j2 |= w2c_j3;
+  w2c_j1 |= w2c_j2;
+  i64_store(memory, (u64)(w2c_i0), w2c_j1);
+  w2c_j0 = w2c_l5;
+  instance->w2c_g0 = w2c_j0;
+  w2c_i0 = 1u;
+  goto w2c_Bfunc;
+  w2c_B0:;
+  UNREACHABLE;
+  w2c_Bfunc:;
+  return w2c_i0;
+}
+static u64 w2c_f12(struct instance *instance, u64 w2c_p0, u64 w2c_p1, u64 w2c_p2, u64 w2c_p3) {
+  u32 w2c_l10 = 0;
+  u64 w2c_l4 = 0, w2c_l5 = 0, w2c_l6 = 0, w2c_l7 = 0, w2c_l8 = 0, w2c_l9 = 0;
+  const struct memory memory = instance->w2c_memory;
+  (void)memory;
+  u32 w2c_i0, w2c_i1, w2c_i2, w2c_i3;
+  u64 w2c_j0, w2c_j1, w2c_j2, w2c_j3, w2c_j4, w2c_j5;
+  w2c_j0 = instance->w2c_g0;
+  w2c_j1 = 32ull;
+  w2c_j0 -= w2c_j1;
+  w2c_l4 = w2c_j0;
+  instance->w2c_g0 = w2c_j0;
+  w2c_j0 = w2c_l4;
+  w2c_l4 = w2c_j0;
+  w2c_j1 = 16ull;
+  w2c_i0 = (u64)((s64)w2c_j0 < (s64)w2c_j1);
+  if (w2c_i0) {goto w2c_B0;}
+  w2c_j0 = w2c_p3;
+  w2c_j1 = 8ull;
+  w2c_i0 = w2c_j0 <= w2c_j1;
+  if (w2c_i0) {goto w2c_B2;}
+  w2c_j0 = w2c_p1;
+  w2c_j1 = 56ull;
+  w2c_j0 <<= (w2c_j1 & 63);
+  w2c_j1 = w2c_p1;
+  w2c_j2 = 65280ull;
+  w2c_j1 &= w2c_j2;
+  w2c_j2 = 40ull;
+  w2c_j1 <<= (w2c_j2 & 63);
+  w2c_j0 |= w2c_j1;
+  w2c_j1 = w2c_p1;
+  w2c_j2 = 16711680ull;
+  w2c_j1 &= w2c_j2;
+  w2c_j2 = 24ull;
+  w2c_j1 <<= (w2c_j2 & 63);
+  w2c_j2 = w2c_p1;
+  w2c_j3 = 4278190080ull;
+  w2c_j2 &= w2c_j3;
+  w2c_j3 = 8ull;
+  w2c_j2 <<= (w2c_j3 & 63);
+  w2c_j1 |= w2c_j2;
+  w2c_j0 |= w2c_j1;
+  w2c_j1 = w2c_p1;
+  w2c_j2 = 8ull;
+  w2c_j1 >>= (w2c_j2 & 63);
+  w2c_j2 = 4278190080ull;
+  w2c_j1 &= w2c_j2;
+  w2c_j2 = w2c_p1;
+  w2c_j3 = 24ull;
+  w2c_j2 >>= (w2c_j3 & 63);
+  w2c_j3 = 16711680ull;
+  w2c_j2 &= w2c_j3;
+  w2c_j1 |= w2c_j2;
+  w2c_j2 = w2c_p1;
+  w2c_j3 = 40ull;
+  w2c_j2 >>= (w2c_j3 & 63);
+  w2c_j3 = 65280ull;
+  w2c_j2 &= w2c_j3;
+  w2c_j3 = w2c_p1;
+  w2c_j4 = 56ull;
+  w2c_j3 >>= (w2c_j4 & 63);
+  w2c_j2 |= w2c_j3;
+  w2c_j1 |= w2c_j2;
+  w2c_j0 |= w2c_j1;
+  w2c_l5 = w2c_j0;
+  w2c_j0 = w2c_p3;
+  w2c_j1 = 3ull;
+  w2c_j0 >>= (w2c_j1 & 63);
+  w2c_l6 = w2c_j0;
+  w2c_j1 = 6ull;
+  w2c_j0 *= w2c_j1;
+  w2c_l7 = w2c_j0;
+  w2c_j0 = 0ull;
+  w2c_p3 = w2c_j0;
+  w2c_j0 = 0ull;
+  w2c_p1 = w2c_j0;
+  w2c_j0 = w2c_p2;
+  w2c_l8 = w2c_j0;
+  w2c_L3: 
+    w2c_j0 = w2c_l8;
+    w2c_i0 = (u32)(w2c_j0);
+    w2c_j0 = i64_load(memory, (u64)(w2c_i0));
+    w2c_l8 = w2c_j0;
+    w2c_j0 = w2c_p0;
+    w2c_j1 = 8ull;
+    w2c_j0 += w2c_j1;
+    w2c_l9 = w2c_j0;
+    w2c_i0 = (u32)(w2c_j0);
+    w2c_j1 = 18446744073709551615ull;
+    w2c_j2 = w2c_l9;
+    w2c_i2 = (u32)(w2c_j2);
+    w2c_j2 = i64_load(memory, (u64)(w2c_i2));
+    w2c_j3 = 1ull;
+    w2c_j2 += w2c_j3;
+    w2c_l9 = w2c_j2;
+    w2c_j3 = w2c_l9;
+    w2c_i3 = !(w2c_j3);
+    w2c_j1 = w2c_i3 ? w2c_j1 : w2c_j2;
+    i64_store(memory, (u64)(w2c_i0), w2c_j1);
+    w2c_j0 = w2c_l4;
+    w2c_i0 = (u32)(w2c_j0);
+    w2c_j1 = 0ull;
+    i64_store(memory, (u64)(w2c_i0) + 16, w2c_j1);
+    w2c_j0 = w2c_l4;
+    w2c_i0 = (u32)(w2c_j0);
+    w2c_j1 = 0ull;
+    i64_store(memory, (u64)(w2c_i0) + 24, w2c_j1);
+    w2c_j0 = w2c_l4;
+    w2c_i0 = (u32)(w2c_j0);
+    w2c_j1 = w2c_l8;
+    i64_store(memory, (u64)(w2c_i0) + 8, w2c_j1);
+    w2c_j0 = w2c_l4;
+    w2c_i0 = (u32)(w2c_j0);
+    w2c_j1 = w2c_l5;
+    i64_store(memory, (u64)(w2c_i0), w2c_j1);
+    w2c_j0 = w2c_l4;
+    w2c_j1 = 16ull;
+    w2c_j0 += w2c_j1;
+    w2c_j1 = w2c_p0;
+    w2c_i1 = (u32)(w2c_j1);
+    w2c_j1 = i64_load(memory, (u64)(w2c_i1));
+    w2c_j2 = w2c_l4;
+    w2c_f13(instance, w2c_j0, w2c_j1, w2c_j2);
+    w2c_j0 = w2c_l4;
+    w2c_i0 = (u32)(w2c_j0);
+    w2c_j0 = i64_load(memory, (u64)(w2c_i0) + 16u);
+    w2c_l8 = w2c_j0;
+    w2c_j0 = w2c_p2;
+    w2c_j1 = w2c_p3;
+    w2c_j2 = 3ull;
+    w2c_j1 <<= (w2c_j2 & 63);
+    w2c_j0 += w2c_j1;
+    w2c_i0 = (u32)(w2c_j0);
+    w2c_j1 = w2c_l4;
+    w2c_i1 = (u32)(w2c_j1);
+    w2c_j1 = i64_load(memory, (u64)(w2c_i1) + 24u);
+    i64_store(memory, (u64)(w2c_i0), w2c_j1);
+    w2c_j0 = w2c_l8;
+    w2c_j1 = w2c_p1;
+    w2c_j2 = 1ull;
+    w2c_j1 += w2c_j2;
+    w2c_p1 = w2c_j1;
+    w2c_j2 = 56ull;
+    w2c_j1 <<= (w2c_j2 & 63);
+    w2c_j2 = w2c_p1;
+    w2c_j3 = 65280ull;
+    w2c_j2 &= w2c_j3;
+    w2c_j3 = 40ull;
+    w2c_j2 <<= (w2c_j3 & 63);
+    w2c_j1 |= w2c_j2;
+    w2c_j2 = w2c_p1;
+    w2c_j3 = 16711680ull;
+    w2c_j2 &= w2c_j3;
+    w2c_j3 = 24ull;
+    w2c_j2 <<= (w2c_j3 & 63);
+    w2c_j3 = w2c_p1;
+    w2c_j4 = 4278190080ull;
+    w2c_j3 &= w2c_j4;
+    w2c_j4 = 8ull;
+    w2c_j3 <<= (w2c_j4 & 63);
+    w2c_j2 |= w2c_j3;
+    w2c_j1 |= w2c_j2;
+    w2c_j2 = w2c_p1;
+    w2c_j3 = 8ull;
+    w2c_j2 >>= (w2c_j3 & 63);
+    w2c_j3 = 4278190080ull;
+    w2c_j2 &= w2c_j3;
+    w2c_j3 = w2c_p1;
+    w2c_j4 = 24ull;
+    w2c_j3 >>= (w2c_j4 & 63);
+    w2c_j4 = 16711680ull;
+    w2c_j3 &= w2c_j4;
+    w2c_j2 |= w2c_j3;
+    w2c_j3 = w2c_p1;
+    w2c_j4 = 40ull;
+    w2c_j3 >>= (w2c_j4 & 63);
+    w2c_j4 = 65280ull;
+    w2c_j3 &= w2c_j4;
+    w2c_j4 = w2c_p1;
+    w2c_j5 = 56ull;
+    w2c_j4 >>= (w2c_j5 & 63);
+    w2c_j3 |= w2c_j4;
+    w2c_j2 |= w2c_j3;
+    w2c_j1 |= w2c_j2;
+    w2c_j0 ^= w2c_j1;
+    w2c_l5 = w2c_j0;
+    w2c_j0 = 0ull;
+    w2c_j1 = w2c_p3;
+    w2c_j2 = 1ull;
+    w2c_j1 += w2c_j2;
+    w2c_l8 = w2c_j1;
+    w2c_j2 = w2c_l8;
+    w2c_j3 = w2c_l6;
+    w2c_i2 = w2c_j2 == w2c_j3;
+    w2c_l10 = w2c_i2;
+    w2c_j0 = w2c_i2 ? w2c_j0 : w2c_j1;
+    w2c_p3 = w2c_j0;
+    w2c_j0 = w2c_p2;
+    w2c_j1 = 0ull;
+    w2c_j2 = w2c_l8;
+    w2c_j3 = 3ull;
+    w2c_j2 <<= (w2c_j3 & 63);
+    w2c_i3 = w2c_l10;
+    w2c_j1 = w2c_i3 ? w2c_j1 : w2c_j2;
+    w2c_j0 += w2c_j1;
+    w2c_l8 = w2c_j0;
+    w2c_j0 = w2c_l7;
+    w2c_j1 = w2c_p1;
+    w2c_i0 = w2c_j0 != w2c_j1;
+    if (w2c_i0) {goto w2c_L3;}
+  w2c_j0 = w2c_l5;
+  w2c_j1 = 56ull;
+  w2c_j0 <<= (w2c_j1 & 63);
+  w2c_j1 = w2c_l5;
+  w2c_j2 = 65280ull;
+  w2c_j1 &= w2c_j2;
+  w2c_j2 = 40ull;
+  w2c_j1 <<= (w2c_j2 & 63);
+  w2c_j0 |= w2c_j1;
+  w2c_j1 = w2c_l5;
+  w2c_j2 = 16711680ull;
+  w2c_j1 &= w2c_j2;
+  w2c_j2 = 24ull;
+  w2c_j1 <<= (w2c_j2 & 63);
+  w2c_j2 = w2c_l5;
+  w2c_j3 = 4278190080ull;
+  w2c_j2 &= w2c_j3;
+  w2c_j3 = 8ull;
+  w2c_j2 <<= (w2c_j3 & 63);
+  w2c_j1 |= w2c_j2;
+  w2c_j0 |= w2c_j1;
+  w2c_j1 = w2c_l5;
+  w2c_j2 = 8ull;
+  w2c_j1 >>= (w2c_j2 & 63);
+  w2c_j2 = 4278190080ull;
+  w2c_j1 &= w2c_j2;
+  w2c_j2 = w2c_l5;
+  w2c_j3 = 24ull;
+  w2c_j2 >>= (w2c_j3 & 63);
+  w2c_j3 = 16711680ull;
+  w2c_j2 &= w2c_j3;
+  w2c_j1 |= w2c_j2;
+  w2c_j2 = w2c_l5;
+  w2c_j3 = 40ull;
+  w2c_j2 >>= (w2c_j3 & 63);
+  w2c_j3 = 65280ull;
+  w2c_j2 &= w2c_j3;
+  w2c_j3 = w2c_l5;
+  w2c_j4 = 56ull;
+  w2c_j3 >>= (w2c_j4 & 63);
+  w2c_j2 |= w2c_j3;
+  w2c_j1 |= w2c_j2;
+  w2c_j0 |= w2c_j1;
+  w2c_p1 = w2c_j0;
+  goto w2c_B1;
+  w2c_B2:;
+  w2c_j0 = w2c_p2;
+  w2c_i0 = (u32)(w2c_j0);
+  w2c_j0 = i64_load(memory, (u64)(w2c_i0));
+  w2c_p3 = w2c_j0;
+  w2c_j0 = w2c_p0;
+  w2c_j1 = 8ull;
+  w2c_j0 += w2c_j1;
+  w2c_l8 = w2c_j0;
+  w2c_i0 = (u32)(w2c_j0);
+  w2c_j1 = 18446744073709551615ull;
+  w2c_j2 = w2c_l8;
+  w2c_i2 = (u32)(w2c_j2);
+  w2c_j2 = i64_load(memory, (u64)(w2c_i2));
+  w2c_j3 = 1ull;
+  w2c_j2 += w2c_j3;
+  w2c_l8 = w2c_j2;
+  w2c_j3 = w2c_l8;
+  w2c_i3 = !(w2c_j3);
+  w2c_j1 = w2c_i3 ? w2c_j1 : w2c_j2;
+  i64_store(memory, (u64)(w2c_i0), w2c_j1);
+  w2c_j0 = w2c_l4;
+  w2c_i0 = (u32)(w2c_j0);
+  w2c_j1 = 0ull;
+  i64_store(memory, (u64)(w2c_i0) + 16, w2c_j1);
+  w2c_j0 = w2c_l4;
+  w2c_i0 = (u32)(w2c_j0);
+  w2c_j1 = 0ull;
+  i64_store(memory, (u64)(w2c_i0) + 24, w2c_j1);
+  w2c_j0 = w2c_l4;
+  w2c_i0 = (u32)(w2c_j0);
+  w2c_j1 = w2c_p3;
+  i64_store(memory, (u64)(w2c_i0) + 8, w2c_j1);
+  w2c_j0 = w2c_l4;
+  w2c_i0 = (u32)(w2c_j0);
+  w2c_j1 = w2c_p1;
+  w2c_j2 = 56ull;
+  w2c_j1 <<= (w2c_j2 & 63);
+  w2c_j2 = w2c_p1;
+  w2c_j3 = 65280ull;
+  w2c_j2 &= w2c_j3;
+  w2c_j3 = 40ull;
+  w2c_j2 <<= (w2c_j3 & 63);
+  w2c_j1 |= w2c_j2;
+  w2c_j2 = w2c_p1;
+  w2c_j3 = 16711680ull;
+  w2c_j2 &= w2c_j3;
+  w2c_j3 = 24ull;
+  w2c_j2 <<= (w2c_j3 & 63);
+  w2c_j3 = w2c_p1;
+  w2c_j4 = 4278190080ull;
+  w2c_j3 &= w2c_j4;
+  w2c_j4 = 8ull;
+  w2c_j3 <<= (w2c_j4 & 63);
+  w2c_j2 |= w2c_j3;
+  w2c_j1 |= w2c_j2;
+  w2c_j2 = w2c_p1;
+  w2c_j3 = 8ull;
+  w2c_j2 >>= (w2c_j3 & 63);
+  w2c_j3 = 4278190080ull;
+  w2c_j2 &= w2c_j3;
+  w2c_j3 = w2c_p1;
+  w2c_j4 = 24ull;
+  w2c_j3 >>= (w2c_j4 & 63);
+  w2c_j4 = 16711680ull;
+  w2c_j3 &= w2c_j4;
+  w2c_j2 |= w2c_j3;
+  w2c_j3 = w2c_p1;
+  w2c_j4 = 40ull;
+  w2c_j3 >>= (w2c_j4 & 63);
+  w2c_j4 = 65280ull;
+  w2c_j3 &= w2c_j4;
+  w2c_j4 = w2c_p1;
+  w2c_j5 = 56ull;
+  w2c_j4 >>= (w2c_j5 & 63);
+  w2c_j3 |= w2c_j4;
+  w2c_j2 |= w2c_j3;
+  w2c_j1 |= w2c_j2;
+  i64_store(memory, (u64)(w2c_i0), w2c_j1);
+  w2c_j0 = w2c_l4;
+  w2c_j1 = 16ull;
+  w2c_j0 += w2c_j1;
+  w2c_j1 = w2c_p0;
+  w2c_i1 = (u32)(w2c_j1);
+  w2c_j1 = i64_load(memory, (u64)(w2c_i1));
+  w2c_j2 = w2c_l4;
+  w2c_f13(instance, w2c_j0, w2c_j1, w2c_j2);
+  w2c_j0 = w2c_l4;
+  w2c_i0 = (u32)(w2c_j0);
+  w2c_j0 = i64_load(memory, (u64)(w2c_i0) + 16u);
+  w2c_p1 = w2c_j0;
+  w2c_j0 = w2c_p2;
+  w2c_i0 = (u32)(w2c_j0);
+  w2c_j1 = w2c_l4;
+  w2c_i1 = (u32)(w2c_j1);
+  w2c_j1 = i64_load(memory, (u64)(w2c_i1) + 24u);
+  i64_store(memory, (u64)(w2c_i0), w2c_j1);
+  w2c_j0 = w2c_p1;
+  w2c_j1 = 56ull;
+  w2c_j0 <<= (w2c_j1 & 63);
+  w2c_j1 = w2c_p1;
+  w2c_j2 = 65280ull;
+  w2c_j1 &= w2c_j2;
+  w2c_j2 = 40ull;
+  w2c_j1 <<= (w2c_j2 & 63);
+  w2c_j0 |= w2c_j1;
+  w2c_j1 = w2c_p1;
+  w2c_j2 = 16711680ull;
+  w2c_j1 &= w2c_j2;
+  w2c_j2 = 24ull;
+  w2c_j1 <<= (w2c_j2 & 63);
+  w2c_j2 = w2c_p1;
+  w2c_j3 = 4278190080ull;
+  w2c_j2 &= w2c_j3;
+  w2c_j3 = 8ull;
+  w2c_j2 <<= (w2c_j3 & 63);
+  w2c_j1 |= w2c_j2;
+  w2c_j0 |= w2c_j1;
+  w2c_j1 = w2c_p1;
+  w2c_j2 = 8ull;
+  w2c_j1 >>= (w2c_j2 & 63);
+  w2c_j2 = 4278190080ull;
+  w2c_j1 &= w2c_j2;
+  w2c_j2 = w2c_p1;
+  w2c_j3 = 24ull;
+  w2c_j2 >>= (w2c_j3 & 63);
+  w2c_j3 = 16711680ull;
+  w2c_j2 &= w2c_j3;
+  w2c_j1 |= w2c_j2;
+  w2c_j2 = w2c_p1;
+  w2c_j3 = 40ull;
+  w2c_j2 >>= (w2c_j3 & 63);
+  w2c_j3 = 65280ull;
+  w2c_j2 &= w2c_j3;
+  w2c_j3 = w2c_p1;
+  w2c_j4 = 56ull;
+  w2c_j3 >>= (w2c_j4 & 63);
+  w2c_j2 |= w2c_j3;
+  w2c_j1 |= w2c_j2;
+  w2c_j0 |= w2c_j1;
+  w2c_p1 = w2c_j0;
+  w2c_B1:;
+  w2c_j0 = w2c_l4;
+  w2c_j1 = 32ull;
+  w2c_j0 += w2c_j1;
+  instance->w2c_g0 = w2c_j0;
+  w2c_j0 = w2c_p1;
+  goto w2c_Bfunc;
+  w2c_B0:;
+  UNREACHABLE;
+  w2c_Bfunc:;
+  return w2c_j0;
+}
+static void w2c_f13(struct instance *instance, u64 w2c_p0, u64 w2c_p1, u64 w2c_p2) {
+  u32 w2c_l3 = 0, w2c_l4 = 0, w2c_l5 = 0, w2c_l6 = 0, w2c_l7 = 0, w2c_l8 = 0, w2c_l9 = 0, w2c_l10 = 0;
+  u64 w2c_l11 = 0, w2c_l12 = 0;
+  const struct memory memory = instance->w2c_memory;
+  (void)memory;
+  u32 w2c_i0, w2c_i1, w2c_i2, w2c_i3, w2c_i4;
+  u64 w2c_j0, w2c_j1, w2c_j2, w2c_j3;
+  w2c_j0 = instance->w2c_g0;
+  w2c_j1 = 16ull;
+  w2c_i0 = (u64)((s64)w2c_j0 < (s64)w2c_j1);
+  if (w2c_i0) {goto w2c_B0;}
+  w2c_j0 = w2c_p1;
+  w2c_i0 = (u32)(w2c_j0);
+  w2c_i0 = i32_load(memory, (u64)(w2c_i0) + 12u);
+  w2c_j1 = w2c_p2;
+  w2c_i1 = (u32)(w2c_j1);
+  w2c_i1 = i32_load(memory, (u64)(w2c_i1) + 12u);
+  w2c_l3 = w2c_i1;
+  w2c_i2 = 16711935u;
+  w2c_i1 &= w2c_i2;
+  w2c_i2 = 8u;
+  w2c_i1 = I32_ROTR(w2c_i1, w2c_i2);
+  w2c_i2 = w2c_l3;
+  w2c_i3 = 24u;
+  w2c_i2 = I32_ROTR(w2c_i2, w2c_i3);
+  w2c_i3 = 16711935u;
+  w2c_i2 &= w2c_i3;
+  w2c_i1 |= w2c_i2;
+  w2c_i0 ^= w2c_i1;
+  w2c_l4 = w2c_i0;
+  w2c_j0 = w2c_p1;
+  w2c_i0 = (u32)(w2c_j0);
+  w2c_i0 = i32_load(memory, (u64)(w2c_i0) + 8u);
+  w2c_j1 = w2c_p2;
+  w2c_i1 = (u32)(w2c_j1);
+  w2c_i1 = i32_load(memory, (u64)(w2c_i1) + 8u);
+  w2c_l3 = w2c_i1;
+  w2c_i2 = 16711935u;
+  w2c_i1 &= w2c_i2;
+  w2c_i2 = 8u;
+  w2c_i1 = I32_ROTR(w2c_i1, w2c_i2);
+  w2c_i2 = w2c_l3;
+  w2c_i3 = 24u;
+  w2c_i2 = I32_ROTR(w2c_i2, w2c_i3);
+  w2c_i3 = 16711935u;
+  w2c_i2 &= w2c_i3;
+  w2c_i1 |= w2c_i2;
+  w2c_i0 ^= w2c_i1;
+  w2c_l5 = w2c_i0;
+  w2c_j0 = w2c_p1;
+  w2c_i0 = (u32)(w2c_j0);
+  w2c_i0 = i32_load(memory, (u64)(w2c_i0) + 4u);
+  w2c_j1 = w2c_p2;
+  w2c_i1 = (u32)(w2c_j1);
+  w2c_i1 = i32_load(memory, (u64)(w2c_i1) + 4u);
+  w2c_l3 = w2c_i1;
+  w2c_i2 = 16711935u;
+  w2c_i1 &= w2c_i2;
+  w2c_i2 = 8u;
+  w2c_i1 = I32_ROTR(w2c_i1, w2c_i2);
+  w2c_i2 = w2c_l3;
+  w2c_i3 = 24u;
+  w2c_i2 = I32_ROTR(w2c_i2, w2c_i3);
+  w2c_i3 = 16711935u;
+  w2c_i2 &= w2c_i3;
+  w2c_i1 |= w2c_i2;
+  w2c_i0 ^= w2c_i1;
+  w2c_l6 = w2c_i0;
+  w2c_j0 = w2c_p1;
+  w2c_i0 = (u32)(w2c_j0);
+  w2c_i0 = i32_load(memory, (u64)(w2c_i0));
+  w2c_j1 = w2c_p2;
+  w2c_i1 = (u32)(w2c_j1);
+  w2c_i1 = i32_load(memory, (u64)(w2c_i1));
+  w2c_l3 = w2c_i1;
+  w2c_i2 = 16711935u;
+  w2c_i1 &= w2c_i2;
+  w2c_i2 = 8u;
+  w2c_i1 = I32_ROTR(w2c_i1, w2c_i2);
+  w2c_i2 = w2c_l3;
+  w2c_i3 = 24u;
+  w2c_i2 = I32_ROTR(w2c_i2, w2c_i3);
+  w2c_i3 = 16711935u;
+  w2c_i2 &= w2c_i3;
+  w2c_i1 |= w2c_i2;
+  w2c_i0 ^= w2c_i1;
+  w2c_l3 = w2c_i0;
+  w2c_j0 = w2c_p1;
+  w2c_j1 = 240ull;
+  w2c_j0 += w2c_j1;
+  w2c_i0 = (u32)(w2c_j0);
+  w2c_j0 = i64_load8_u(memory, (u64)(w2c_i0));
+  w2c_l11 = w2c_j0;
+  w2c_j1 = 2ull;
+  w2c_i0 = w2c_j0 < w2c_j1;
+  if (w2c_i0) {goto w2c_B1;}
+  w2c_j0 = w2c_p1;
+  w2c_j1 = 28ull;
+  w2c_j0 += w2c_j1;
+  w2c_p2 = w2c_j0;
+  w2c_j0 = w2c_l11;
+  w2c_j1 = 18446744073709551615ull;
+  w2c_j0 += w2c_j1;
+  w2c_l12 = w2c_j0;
+  w2c_L2: 
+    w2c_i0 = w2c_l4;
+    w2c_l7 = w2c_i0;
+    w2c_i1 = 22u;
+    w2c_i0 >>= (w2c_i1 & 31);
+    w2c_j0 = (u64)(w2c_i0);
+    w2c_j1 = 1020ull;
+    w2c_j0 &= w2c_j1;
+    w2c_j1 = 67112ull;
+    w2c_j0 += w2c_j1;
+    w2c_i0 = (u32)(w2c_j0);
+    w2c_i0 = constant_i32_load((u64)(w2c_i0));
+    w2c_j1 = w2c_p2;
+    w2c_i1 = (u32)(w2c_j1);
+    w2c_i1 = i32_load(memory, (u64)(w2c_i1));
+    w2c_i0 ^= w2c_i1;
+    w2c_i1 = w2c_l3;
+    w2c_i2 = 14u;
+    w2c_i1 >>= (w2c_i2 & 31);
+    w2c_j1 = (u64)(w2c_i1);
+    w2c_j2 = 1020ull;
+    w2c_j1 &= w2c_j2;
+    w2c_j2 = 67112ull;
+    w2c_j1 += w2c_j2;
+    w2c_i1 = (u32)(w2c_j1);
+    w2c_i1 = constant_i32_load((u64)(w2c_i1));
+    w2c_i2 = 24u;
+    w2c_i1 = I32_ROTL(w2c_i1, w2c_i2);
+    w2c_i0 ^= w2c_i1;
+    w2c_i1 = w2c_l6;
+    w2c_l8 = w2c_i1;
+    w2c_i2 = 6u;
+    w2c_i1 >>= (w2c_i2 & 31);
+    w2c_j1 = (u64)(w2c_i1);
+    w2c_j2 = 1020ull;
+    w2c_j1 &= w2c_j2;
+    w2c_j2 = 67112ull;
+    w2c_j1 += w2c_j2;
+    w2c_i1 = (u32)(w2c_j1);
+    w2c_i1 = constant_i32_load((u64)(w2c_i1));
+    w2c_i2 = 16u;
+    w2c_i1 = I32_ROTL(w2c_i1, w2c_i2);
+    w2c_i0 ^= w2c_i1;
+    w2c_i1 = w2c_l5;
+    w2c_l9 = w2c_i1;
+    w2c_i2 = 2u;
+    w2c_i1 <<= (w2c_i2 & 31);
+    w2c_j1 = (u64)(w2c_i1);
+    w2c_j2 = 1020ull;
+    w2c_j1 &= w2c_j2;
+    w2c_j2 = 67112ull;
+    w2c_j1 += w2c_j2;
+    w2c_i1 = (u32)(w2c_j1);
+    w2c_i1 = constant_i32_load((u64)(w2c_i1));
+    w2c_i2 = 8u;
+    w2c_i1 = I32_ROTL(w2c_i1, w2c_i2);
+    w2c_i0 ^= w2c_i1;
+    w2c_l4 = w2c_i0;
+    w2c_i0 = w2c_l9;
+    w2c_i1 = 22u;
+    w2c_i0 >>= (w2c_i1 & 31);
+    w2c_j0 = (u64)(w2c_i0);
+    w2c_j1 = 1020ull;
+    w2c_j0 &= w2c_j1;
+    w2c_j1 = 67112ull;
+    w2c_j0 += w2c_j1;
+    w2c_i0 = (u32)(w2c_j0);
+    w2c_i0 = constant_i32_load((u64)(w2c_i0));
+    w2c_j1 = w2c_p2;
+    w2c_j2 = 18446744073709551612ull;
+    w2c_j1 += w2c_j2;
+    w2c_i1 = (u32)(w2c_j1);
+    w2c_i1 = i32_load(memory, (u64)(w2c_i1));
+    w2c_i0 ^= w2c_i1;
+    w2c_i1 = w2c_l7;
+    w2c_i2 = 14u;
+    w2c_i1 >>= (w2c_i2 & 31);
+    w2c_j1 = (u64)(w2c_i1);
+    w2c_j2 = 1020ull;
+    w2c_j1 &= w2c_j2;
+    w2c_j2 = 67112ull;
+    w2c_j1 += w2c_j2;
+    w2c_i1 = (u32)(w2c_j1);
+    w2c_i1 = constant_i32_load((u64)(w2c_i1));
+    w2c_i2 = 24u;
+    w2c_i1 = I32_ROTL(w2c_i1, w2c_i2);
+    w2c_i0 ^= w2c_i1;
+    w2c_i1 = w2c_l3;
+    w2c_i2 = 6u;
+    w2c_i1 >>= (w2c_i2 & 31);
+    w2c_j1 = (u64)(w2c_i1);
+    w2c_j2 = 1020ull;
+    w2c_j1 &= w2c_j2;
+    w2c_j2 = 67112ull;
+    w2c_j1 += w2c_j2;
+    w2c_i1 = (u32)(w2c_j1);
+    w2c_i1 = constant_i32_load((u64)(w2c_i1));
+    w2c_i2 = 16u;
+    w2c_i1 = I32_ROTL(w2c_i1, w2c_i2);
+    w2c_i0 ^= w2c_i1;
+    w2c_i1 = w2c_l8;
+    w2c_i2 = 2u;
+    w2c_i1 <<= (w2c_i2 & 31);
+    w2c_j1 = (u64)(w2c_i1);
+    w2c_j2 = 1020ull;
+    w2c_j1 &= w2c_j2;
+    w2c_j2 = 67112ull;
+    w2c_j1 += w2c_j2;
+    w2c_i1 = (u32)(w2c_j1);
+    w2c_i1 = constant_i32_load((u64)(w2c_i1));
+    w2c_i2 = 8u;
+    w2c_i1 = I32_ROTL(w2c_i1, w2c_i2);
+    w2c_i0 ^= w2c_i1;
+    w2c_l5 = w2c_i0;
+    w2c_i0 = w2c_l8;
+    w2c_i1 = 22u;
+    w2c_i0 >>= (w2c_i1 & 31);
+    w2c_j0 = (u64)(w2c_i0);
+    w2c_j1 = 1020ull;
+    w2c_j0 &= w2c_j1;
+    w2c_j1 = 67112ull;
+    w2c_j0 += w2c_j1;
+    w2c_i0 = (u32)(w2c_j0);
+    w2c_i0 = constant_i32_load((u64)(w2c_i0));
+    w2c_j1 = w2c_p2;
+    w2c_j2 = 18446744073709551608ull;
+    w2c_j1 += w2c_j2;
+    w2c_i1 = (u32)(w2c_j1);
+    w2c_i1 = i32_load(memory, (u64)(w2c_i1));
+    w2c_i0 ^= w2c_i1;
+    w2c_i1 = w2c_l9;
+    w2c_i2 = 14u;
+    w2c_i1 >>= (w2c_i2 & 31);
+    w2c_j1 = (u64)(w2c_i1);
+    w2c_j2 = 1020ull;
+    w2c_j1 &= w2c_j2;
+    w2c_j2 = 67112ull;
+    w2c_j1 += w2c_j2;
+    w2c_i1 = (u32)(w2c_j1);
+    w2c_i1 = constant_i32_load((u64)(w2c_i1));
+    w2c_i2 = 24u;
+    w2c_i1 = I32_ROTL(w2c_i1, w2c_i2);
+    w2c_i0 ^= w2c_i1;
+    w2c_i1 = w2c_l7;
+    w2c_i2 = 6u;
+    w2c_i1 >>= (w2c_i2 & 31);
+    w2c_j1 = (u64)(w2c_i1);
+    w2c_j2 = 1020ull;
+    w2c_j1 &= w2c_j2;
+    w2c_j2 = 67112ull;
+    w2c_j1 += w2c_j2;
+    w2c_i1 = (u32)(w2c_j1);
+    w2c_i1 = constant_i32_load((u64)(w2c_i1));
+    w2c_i2 = 16u;
+    w2c_i1 = I32_ROTL(w2c_i1, w2c_i2);
+    w2c_i0 ^= w2c_i1;
+    w2c_i1 = w2c_l3;
+    w2c_i2 = 2u;
+    w2c_i1 <<= (w2c_i2 & 31);
+    w2c_j1 = (u64)(w2c_i1);
+    w2c_j2 = 1020ull;
+    w2c_j1 &= w2c_j2;
+    w2c_j2 = 67112ull;
+    w2c_j1 += w2c_j2;
+    w2c_i1 = (u32)(w2c_j1);
+    w2c_i1 = constant_i32_load((u64)(w2c_i1));
+    w2c_i2 = 8u;
+    w2c_i1 = I32_ROTL(w2c_i1, w2c_i2);
+    w2c_i0 ^= w2c_i1;
+    w2c_l6 = w2c_i0;
+    w2c_i0 = w2c_l3;
+    w2c_i1 = 22u;
+    w2c_i0 >>= (w2c_i1 & 31);
+    w2c_j0 = (u64)(w2c_i0);
+    w2c_j1 = 1020ull;
+    w2c_j0 &= w2c_j1;
+    w2c_j1 = 67112ull;
+    w2c_j0 += w2c_j1;
+    w2c_i0 = (u32)(w2c_j0);
+    w2c_i0 = constant_i32_load((u64)(w2c_i0));
+    w2c_j1 = w2c_p2;
+    w2c_j2 = 18446744073709551604ull;
+    w2c_j1 += w2c_j2;
+    w2c_i1 = (u32)(w2c_j1);
+    w2c_i1 = i32_load(memory, (u64)(w2c_i1));
+    w2c_i0 ^= w2c_i1;
+    w2c_i1 = w2c_l8;
+    w2c_i2 = 14u;
+    w2c_i1 >>= (w2c_i2 & 31);
+    w2c_j1 = (u64)(w2c_i1);
+    w2c_j2 = 1020ull;
+    w2c_j1 &= w2c_j2;
+    w2c_j2 = 67112ull;
+    w2c_j1 += w2c_j2;
+    w2c_i1 = (u32)(w2c_j1);
+    w2c_i1 = constant_i32_load((u64)(w2c_i1));
+    w2c_i2 = 24u;
+    w2c_i1 = I32_ROTL(w2c_i1, w2c_i2);
+    w2c_i0 ^= w2c_i1;
+    w2c_i1 = w2c_l9;
+    w2c_i2 = 6u;
+    w2c_i1 >>= (w2c_i2 & 31);
+    w2c_j1 = (u64)(w2c_i1);
+    w2c_j2 = 1020ull;
+    w2c_j1 &= w2c_j2;
+    w2c_j2 = 67112ull;
+    w2c_j1 += w2c_j2;
+    w2c_i1 = (u32)(w2c_j1);
+    w2c_i1 = constant_i32_load((u64)(w2c_i1));
+    w2c_i2 = 16u;
+    w2c_i1 = I32_ROTL(w2c_i1, w2c_i2);
+    w2c_i0 ^= w2c_i1;
+    w2c_i1 = w2c_l7;
+    w2c_i2 = 2u;
+    w2c_i1 <<= (w2c_i2 & 31);
+    w2c_j1 = (u64)(w2c_i1);
+    w2c_j2 = 1020ull;
+    w2c_j1 &= w2c_j2;
+    w2c_j2 = 67112ull;
+    w2c_j1 += w2c_j2;
+    w2c_i1 = (u32)(w2c_j1);
+    w2c_i1 = constant_i32_load((u64)(w2c_i1));
+    w2c_i2 = 8u;
+    w2c_i1 = I32_ROTL(w2c_i1, w2c_i2);
+    w2c_i0 ^= w2c_i1;
+    w2c_l3 = w2c_i0;
+    w2c_j0 = w2c_p2;
+    w2c_j1 = 16ull;
+    w2c_j0 += w2c_j1;
+    w2c_p2 = w2c_j0;
+    w2c_j0 = w2c_l12;
+    w2c_j1 = 18446744073709551615ull;
+    w2c_j0 += w2c_j1;
+    w2c_l12 = w2c_j0;
+    w2c_j1 = 0ull;
+    w2c_i0 = w2c_j0 != w2c_j1;
+    if (w2c_i0) {goto w2c_L2;}
+  w2c_B1:;
+  w2c_j0 = w2c_p1;
+  w2c_j1 = w2c_l11;
+  w2c_j2 = 4ull;
+  w2c_j1 <<= (w2c_j2 & 63);
+  w2c_j0 += w2c_j1;
+  w2c_p2 = w2c_j0;
+  w2c_i0 = (u32)(w2c_j0);
+  w2c_i0 = i32_load(memory, (u64)(w2c_i0));
+  w2c_l7 = w2c_i0;
+  w2c_j0 = w2c_p2;
+  w2c_i0 = (u32)(w2c_j0);
+  w2c_i0 = i32_load(memory, (u64)(w2c_i0) + 4u);
+  w2c_l8 = w2c_i0;
+  w2c_j0 = w2c_p2;
+  w2c_i0 = (u32)(w2c_j0);
+  w2c_i0 = i32_load(memory, (u64)(w2c_i0) + 8u);
+  w2c_l9 = w2c_i0;
+  w2c_j0 = w2c_p0;
+  w2c_i0 = (u32)(w2c_j0);
+  w2c_i1 = w2c_l3;
+  w2c_i2 = 16u;
+  w2c_i1 >>= (w2c_i2 & 31);
+  w2c_j1 = (u64)(w2c_i1);
+  w2c_j2 = 255ull;
+  w2c_j1 &= w2c_j2;
+  w2c_j2 = 65576ull;
+  w2c_j1 += w2c_j2;
+  w2c_i1 = (u32)(w2c_j1);
+  w2c_i1 = constant_i32_load8_u((u64)(w2c_i1));
+  w2c_i2 = 8u;
+  w2c_i1 <<= (w2c_i2 & 31);
+  w2c_i2 = w2c_l4;
+  w2c_j2 = (u64)(w2c_i2);
+  w2c_l12 = w2c_j2;
+  w2c_j3 = 24ull;
+  w2c_j2 >>= (w2c_j3 & 63);
+  w2c_i2 = (u32)(w2c_j2);
+  w2c_i2 = constant_i32_load8_u((u64)(w2c_i2) + 65576u);
+  w2c_i1 |= w2c_i2;
+  w2c_i2 = w2c_l6;
+  w2c_i3 = 8u;
+  w2c_i2 >>= (w2c_i3 & 31);
+  w2c_j2 = (u64)(w2c_i2);
+  w2c_j3 = 255ull;
+  w2c_j2 &= w2c_j3;
+  w2c_j3 = 65576ull;
+  w2c_j2 += w2c_j3;
+  w2c_i2 = (u32)(w2c_j2);
+  w2c_i2 = constant_i32_load8_u((u64)(w2c_i2));
+  w2c_i3 = 16u;
+  w2c_i2 <<= (w2c_i3 & 31);
+  w2c_i1 |= w2c_i2;
+  w2c_i2 = w2c_l5;
+  w2c_j2 = (u64)(w2c_i2);
+  w2c_p1 = w2c_j2;
+  w2c_j3 = 255ull;
+  w2c_j2 &= w2c_j3;
+  w2c_i2 = (u32)(w2c_j2);
+  w2c_i2 = constant_i32_load8_u((u64)(w2c_i2) + 65576u);
+  w2c_i3 = 24u;
+  w2c_i2 <<= (w2c_i3 & 31);
+  w2c_i1 |= w2c_i2;
+  w2c_j2 = w2c_p2;
+  w2c_i2 = (u32)(w2c_j2);
+  w2c_i2 = i32_load(memory, (u64)(w2c_i2) + 12u);
+  w2c_l10 = w2c_i2;
+  w2c_i3 = 16711935u;
+  w2c_i2 &= w2c_i3;
+  w2c_i3 = 8u;
+  w2c_i2 = I32_ROTR(w2c_i2, w2c_i3);
+  w2c_i3 = w2c_l10;
+  w2c_i4 = 24u;
+  w2c_i3 = I32_ROTR(w2c_i3, w2c_i4);
+  w2c_i4 = 16711935u;
+  w2c_i3 &= w2c_i4;
+  w2c_i2 |= w2c_i3;
+  w2c_i1 ^= w2c_i2;
+  i32_store(memory, (u64)(w2c_i0) + 12, w2c_i1);
+  w2c_j0 = w2c_p0;
+  w2c_i0 = (u32)(w2c_j0);
+  w2c_i1 = w2c_l4;
+  w2c_i2 = 16u;
+  w2c_i1 >>= (w2c_i2 & 31);
+  w2c_j1 = (u64)(w2c_i1);
+  w2c_j2 = 255ull;
+  w2c_j1 &= w2c_j2;
+  w2c_j2 = 65576ull;
+  w2c_j1 += w2c_j2;
+  w2c_i1 = (u32)(w2c_j1);
+  w2c_i1 = constant_i32_load8_u((u64)(w2c_i1));
+  w2c_i2 = 8u;
+  w2c_i1 <<= (w2c_i2 & 31);
+  w2c_j2 = w2c_p1;
+  w2c_j3 = 24ull;
+  w2c_j2 >>= (w2c_j3 & 63);
+  w2c_i2 = (u32)(w2c_j2);
+  w2c_i2 = constant_i32_load8_u((u64)(w2c_i2) + 65576u);
+  w2c_i1 |= w2c_i2;
+  w2c_i2 = w2c_l3;
+  w2c_i3 = 8u;
+  w2c_i2 >>= (w2c_i3 & 31);
+  w2c_j2 = (u64)(w2c_i2);
+  w2c_j3 = 255ull;
+  w2c_j2 &= w2c_j3;
+  w2c_j3 = 65576ull;
+  w2c_j2 += w2c_j3;
+  w2c_i2 = (u32)(w2c_j2);
+  w2c_i2 = constant_i32_load8_u((u64)(w2c_i2));
+  w2c_i3 = 16u;
+  w2c_i2 <<= (w2c_i3 & 31);
+  w2c_i1 |= w2c_i2;
+  w2c_i2 = w2c_l6;
+  w2c_j2 = (u64)(w2c_i2);
+  w2c_p2 = w2c_j2;
+  w2c_j3 = 255ull;
+  w2c_j2 &= w2c_j3;
+  w2c_i2 = (u32)(w2c_j2);
+  w2c_i2 = constant_i32_load8_u((u64)(w2c_i2) + 65576u);
+  w2c_i3 = 24u;
+  w2c_i2 <<= (w2c_i3 & 31);
+  w2c_i1 |= w2c_i2;
+  w2c_i2 = w2c_l9;
+  w2c_i3 = 16711935u;
+  w2c_i2 &= w2c_i3;
+  w2c_i3 = 8u;
+  w2c_i2 = I32_ROTR(w2c_i2, w2c_i3);
+  w2c_i3 = w2c_l9;
+  w2c_i4 = 24u;
+  w2c_i3 = I32_ROTR(w2c_i3, w2c_i4);
+  w2c_i4 = 16711935u;
+  w2c_i3 &= w2c_i4;
+  w2c_i2 |= w2c_i3;
+  w2c_i1 ^= w2c_i2;
+  i32_store(memory, (u64)(w2c_i0) + 8, w2c_i1);
+  w2c_j0 = w2c_p0;
+  w2c_i0 = (u32)(w2c_j0);
+  w2c_i1 = w2c_l5;
+  w2c_i2 = 16u;
+  w2c_i1 >>= (w2c_i2 & 31);
+  w2c_j1 = (u64)(w2c_i1);
+  w2c_j2 = 255ull;
+  w2c_j1 &= w2c_j2;
+  w2c_j2 = 65576ull;
+  w2c_j1 += w2c_j2;
+  w2c_i1 = (u32)(w2c_j1);
+  w2c_i1 = constant_i32_load8_u((u64)(w2c_i1));
+  w2c_i2 = 8u;
+  w2c_i1 <<= (w2c_i2 & 31);
+  w2c_j2 = w2c_p2;
+  w2c_j3 = 24ull;
+  w2c_j2 >>= (w2c_j3 & 63);
+  w2c_i2 = (u32)(w2c_j2);
+  w2c_i2 = constant_i32_load8_u((u64)(w2c_i2) + 65576u);
+  w2c_i1 |= w2c_i2;
+  w2c_i2 = w2c_l4;
+  w2c_i3 = 8u;
+  w2c_i2 >>= (w2c_i3 & 31);
+  w2c_j2 = (u64)(w2c_i2);
+  w2c_j3 = 255ull;
+  w2c_j2 &= w2c_j3;
+  w2c_j3 = 65576ull;
+  w2c_j2 += w2c_j3;
+  w2c_i2 = (u32)(w2c_j2);
+  w2c_i2 = constant_i32_load8_u((u64)(w2c_i2));
+  w2c_i3 = 16u;
+  w2c_i2 <<= (w2c_i3 & 31);
+  w2c_i1 |= w2c_i2;
+  w2c_i2 = w2c_l3;
+  w2c_j2 = (u64)(w2c_i2);
+  w2c_p2 = w2c_j2;
+  w2c_j3 = 255ull;
+  w2c_j2 &= w2c_j3;
+  w2c_i2 = (u32)(w2c_j2);
+  w2c_i2 = constant_i32_load8_u((u64)(w2c_i2) + 65576u);
+  w2c_i3 = 24u;
+  w2c_i2 <<= (w2c_i3 & 31);
+  w2c_i1 |= w2c_i2;
+  w2c_i2 = w2c_l8;
+  w2c_i3 = 16711935u;
+  w2c_i2 &= w2c_i3;
+  w2c_i3 = 8u;
+  w2c_i2 = I32_ROTR(w2c_i2, w2c_i3);
+  w2c_i3 = w2c_l8;
+  w2c_i4 = 24u;
+  w2c_i3 = I32_ROTR(w2c_i3, w2c_i4);
+  w2c_i4 = 16711935u;
+  w2c_i3 &= w2c_i4;
+  w2c_i2 |= w2c_i3;
+  w2c_i1 ^= w2c_i2;
+  i32_store(memory, (u64)(w2c_i0) + 4, w2c_i1);
+  w2c_j0 = w2c_p0;
+  w2c_i0 = (u32)(w2c_j0);
+  w2c_i1 = w2c_l6;
+  w2c_i2 = 16u;
+  w2c_i1 >>= (w2c_i2 & 31);
+  w2c_j1 = (u64)(w2c_i1);
+  w2c_j2 = 255ull;
+  w2c_j1 &= w2c_j2;
+  w2c_j2 = 65576ull;
+  w2c_j1 += w2c_j2;
+  w2c_i1 = (u32)(w2c_j1);
+  w2c_i1 = constant_i32_load8_u((u64)(w2c_i1));
+  w2c_i2 = 8u;
+  w2c_i1 <<= (w2c_i2 & 31);
+  w2c_j2 = w2c_p2;
+  w2c_j3 = 24ull;
+  w2c_j2 >>= (w2c_j3 & 63);
+  w2c_i2 = (u32)(w2c_j2);
+  w2c_i2 = constant_i32_load8_u((u64)(w2c_i2) + 65576u);
+  w2c_i1 |= w2c_i2;
+  w2c_i2 = w2c_l5;
+  w2c_i3 = 8u;
+  w2c_i2 >>= (w2c_i3 & 31);
+  w2c_j2 = (u64)(w2c_i2);
+  w2c_j3 = 255ull;
+  w2c_j2 &= w2c_j3;
+  w2c_j3 = 65576ull;
+  w2c_j2 += w2c_j3;
+  w2c_i2 = (u32)(w2c_j2);
+  w2c_i2 = constant_i32_load8_u((u64)(w2c_i2));
+  w2c_i3 = 16u;
+  w2c_i2 <<= (w2c_i3 & 31);
+  w2c_i1 |= w2c_i2;
+  w2c_j2 = w2c_l12;
+  w2c_j3 = 255ull;
+  w2c_j2 &= w2c_j3;
+  w2c_i2 = (u32)(w2c_j2);
+  w2c_i2 = constant_i32_load8_u((u64)(w2c_i2) + 65576u);
+  w2c_i3 = 24u;
+  w2c_i2 <<= (w2c_i3 & 31);
+  w2c_i1 |= w2c_i2;
+  w2c_i2 = w2c_l7;
+  w2c_i3 = 16711935u;
+  w2c_i2 &= w2c_i3;
+  w2c_i3 = 8u;
+  w2c_i2 = I32_ROTR(w2c_i2, w2c_i3);
+  w2c_i3 = w2c_l7;
+  w2c_i4 = 24u;
+  w2c_i3 = I32_ROTR(w2c_i3, w2c_i4);
+  w2c_i4 = 16711935u;
+  w2c_i3 &= w2c_i4;
+  w2c_i2 |= w2c_i3;
+  w2c_i1 ^= w2c_i2;
+  i32_store(memory, (u64)(w2c_i0), w2c_i1);
+  goto w2c_Bfunc;
+  w2c_B0:;
+  UNREACHABLE;
+  w2c_Bfunc:;
+}
+static void w2c_f14(struct instance *instance, u64 w2c_p0, u64 w2c_p1, u32 w2c_p2, u64 w2c_p3, u64 w2c_p4, u64 w2c_p5, u64 w2c_p6) {
+  u32 w2c_l8 = 0;
+  u64 w2c_l7 = 0;
+  const struct memory memory = instance->w2c_memory;
+  (void)memory;
+  u32 w2c_i0, w2c_i1, w2c_i2, w2c_i3;
+  u64 w2c_j0, w2c_j1, w2c_j2, w2c_j3, w2c_j4, w2c_j5;
+  w2c_j0 = instance->w2c_g0;
+  w2c_j1 = 48ull;
+  w2c_j0 -= w2c_j1;
+  w2c_l7 = w2c_j0;
+  instance->w2c_g0 = w2c_j0;
+  w2c_j0 = w2c_l7;
+  w2c_l7 = w2c_j0;
+  w2c_j1 = 16ull;
+  w2c_i0 = (u64)((s64)w2c_j0 < (s64)w2c_j1);
+  if (w2c_i0) {goto w2c_B0;}
+  w2c_j0 = w2c_p6;
+  w2c_i0 = !(w2c_j0);
+  if (w2c_i0) {goto w2c_B1;}
+  w2c_L2: 
+    w2c_j0 = w2c_l7;
+    w2c_i0 = (u32)(w2c_j0);
+    w2c_j1 = 0ull;
+    i64_store(memory, (u64)(w2c_i0) + 40, w2c_j1);
+    w2c_j0 = w2c_l7;
+    w2c_i0 = (u32)(w2c_j0);
+    w2c_j1 = w2c_p0;
+    i64_store(memory, (u64)(w2c_i0) + 32, w2c_j1);
+    w2c_j0 = w2c_l7;
+    w2c_i0 = (u32)(w2c_j0);
+    w2c_j1 = 0ull;
+    i64_store(memory, (u64)(w2c_i0) + 24, w2c_j1);
+    w2c_j0 = w2c_l7;
+    w2c_i0 = (u32)(w2c_j0);
+    w2c_j1 = w2c_p1;
+    i64_store(memory, (u64)(w2c_i0) + 16, w2c_j1);
+    w2c_j0 = w2c_l7;
+    w2c_j1 = 8ull;
+    w2c_j0 += w2c_j1;
+    w2c_j1 = w2c_l7;
+    w2c_j2 = 32ull;
+    w2c_j1 += w2c_j2;
+    w2c_j2 = w2c_l7;
+    w2c_j3 = 16ull;
+    w2c_j2 += w2c_j3;
+    w2c_i3 = w2c_p2;
+    w2c_j4 = w2c_p4;
+    w2c_j5 = w2c_p3;
+    w2c_f9(instance, w2c_j0, w2c_j1, w2c_j2, w2c_i3, w2c_j4, w2c_j5);
+    w2c_j0 = w2c_l7;
+    w2c_i0 = (u32)(w2c_j0);
+    w2c_i0 = i32_load8_u(memory, (u64)(w2c_i0) + 9u);
+    w2c_l8 = w2c_i0;
+    w2c_j0 = w2c_l7;
+    w2c_i0 = (u32)(w2c_j0);
+    w2c_i0 = i32_load8_u(memory, (u64)(w2c_i0) + 8u);
+    w2c_i1 = 1u;
+    w2c_i0 &= w2c_i1;
+    if (w2c_i0) {goto w2c_B4;}
+    w2c_i0 = w2c_l8;
+    w2c_i1 = 255u;
+    w2c_i0 &= w2c_i1;
+    w2c_i1 = 0u;
+    w2c_i0 = w2c_i0 != w2c_i1;
+    w2c_l8 = w2c_i0;
+    goto w2c_B3;
+    w2c_B4:;
+    w2c_i0 = 525572u;
+    w2c_i1 = w2c_l8;
+    w2c_i2 = 255u;
+    w2c_i1 &= w2c_i2;
+    w2c_i2 = 3u;
+    w2c_i1 <<= (w2c_i2 & 31);
+    w2c_i0 >>= (w2c_i1 & 31);
+    w2c_l8 = w2c_i0;
+    w2c_B3:;
+    w2c_j0 = w2c_p5;
+    w2c_i0 = (u32)(w2c_j0);
+    w2c_i1 = w2c_l8;
+    i32_store8(memory, (u64)(w2c_i0), w2c_i1);
+    w2c_j0 = w2c_p4;
+    w2c_j1 = w2c_p3;
+    w2c_j0 += w2c_j1;
+    w2c_p4 = w2c_j0;
+    w2c_j0 = w2c_p5;
+    w2c_j1 = 1ull;
+    w2c_j0 += w2c_j1;
+    w2c_p5 = w2c_j0;
+    w2c_j0 = w2c_p6;
+    w2c_j1 = 18446744073709551615ull;
+    w2c_j0 += w2c_j1;
+    w2c_p6 = w2c_j0;
+    w2c_j1 = 0ull;
+    w2c_i0 = w2c_j0 != w2c_j1;
+    if (w2c_i0) {goto w2c_L2;}
+  w2c_B1:;
+  w2c_j0 = w2c_l7;
+  w2c_j1 = 48ull;
+  w2c_j0 += w2c_j1;
+  instance->w2c_g0 = w2c_j0;
+  goto w2c_Bfunc;
+  w2c_B0:;
+  UNREACHABLE;
+  w2c_Bfunc:;
+}
+static u32 w2c_f15(struct instance *instance, u64 w2c_p0, u64 w2c_p1, u64 w2c_p2, u64 w2c_p3, u64 w2c_p4, u64 w2c_p5) {
+  u32 w2c_l9 = 0;
+  u64 w2c_l6 = 0, w2c_l7 = 0, w2c_l8 = 0;
+  const struct memory memory = instance->w2c_memory;
+  (void)memory;
+  u32 w2c_i0, w2c_i1, w2c_i2;
+  u64 w2c_j0, w2c_j1, w2c_j2, w2c_j3, w2c_j4, w2c_j5;
+  w2c_j0 = instance->w2c_g0;
+  w2c_j1 = 592ull;
+  w2c_j0 -= w2c_j1;
+  w2c_l6 = w2c_j0;
+  instance->w2c_g0 = w2c_j0;
+  w2c_j0 = w2c_l6;
+  w2c_l6 = w2c_j0;
+  w2c_j1 = 16ull;
+  w2c_i0 = (u64)((s64)w2c_j0 < (s64)w2c_j1);
+  if (w2c_i0) {goto w2c_B0;}
+  w2c_j0 = w2c_l6;
+  w2c_i0 = (u32)(w2c_j0);
+  w2c_j1 = 0ull;
+  i64_store(memory, (u64)(w2c_i0) + 32, w2c_j1);
+  w2c_j0 = w2c_l6;
+  w2c_i0 = (u32)(w2c_j0);
+  w2c_j1 = 0ull;
+  i64_store(memory, (u64)(w2c_i0) + 24, w2c_j1);
+  w2c_j0 = w2c_l6;
+  w2c_i0 = (u32)(w2c_j0);
+  w2c_j1 = 0ull;
+  i64_store(memory, (u64)(w2c_i0) + 16, w2c_j1);
+  w2c_j0 = w2c_l6;
+  w2c_i0 = (u32)(w2c_j0);
+  w2c_j1 = 0ull;
+  i64_store(memory, (u64)(w2c_i0) + 8, w2c_j1);
+  w2c_j0 = w2c_l6;
+  w2c_i0 = (u32)(w2c_j0);
+  w2c_j1 = 0ull;
+  i64_store(memory, (u64)(w2c_i0) + 40, w2c_j1);
+  w2c_j0 = w2c_l6;
+  w2c_i0 = (u32)(w2c_j0);
+  w2c_j1 = 0ull;
+  i64_store(memory, (u64)(w2c_i0) + 48, w2c_j1);
+  w2c_j0 = w2c_l6;
+  w2c_i0 = (u32)(w2c_j0);
+  w2c_j1 = 0ull;
+  i64_store(memory, (u64)(w2c_i0) + 56, w2c_j1);
+  w2c_j0 = w2c_l6;
+  w2c_i0 = (u32)(w2c_j0);
+  w2c_j1 = 0ull;
+  i64_store(memory, (u64)(w2c_i0) + 64, w2c_j1);
+  w2c_j0 = w2c_l6;
+  w2c_i0 = (u32)(w2c_j0);
+  w2c_j1 = 0ull;
+  i64_store(memory, (u64)(w2c_i0) + 72, w2c_j1);
+  w2c_i0 = 0u;
+  w2c_l9 = w2c_i0;
+  w2c_j0 = w2c_l6;
+  w2c_j1 = 100ull;
+  w2c_j0 += w2c_j1;
+  w2c_i0 = (u32)(w2c_j0);
+  w2c_i1 = 0u;
+  w2c_j2 = 248ull;
+  w2c_i2 = (u32)(w2c_j2);
+  memory_fill(memory, w2c_i0, w2c_i1, w2c_i2);
+  w2c_j0 = w2c_l6;
+  w2c_j1 = 100ull;
+  w2c_j0 += w2c_j1;
+  w2c_j1 = w2c_p0;
+  w2c_j2 = w2c_p1;
+  w2c_f4(instance, w2c_j0, w2c_j1, w2c_j2);
+  w2c_j0 = w2c_l6;
+  w2c_i0 = (u32)(w2c_j0);
+  w2c_i0 = i32_load8_u(memory, (u64)(w2c_i0) + 100u);
+  if (w2c_i0) {goto w2c_B1;}
+  w2c_j0 = w2c_l6;
+  w2c_j1 = 348ull;
+  w2c_j0 += w2c_j1;
+  w2c_i0 = (u32)(w2c_j0);
+  w2c_j1 = w2c_l6;
+  w2c_j2 = 104ull;
+  w2c_j1 += w2c_j2;
+  w2c_i1 = (u32)(w2c_j1);
+  w2c_j2 = 244ull;
+  w2c_i2 = (u32)(w2c_j2);
+  memory_copy(memory, memory, w2c_i0, w2c_i1, w2c_i2);
+  w2c_j0 = w2c_l6;
+  w2c_i0 = (u32)(w2c_j0);
+  w2c_j1 = 0ull;
+  i64_store(memory, (u64)(w2c_i0) + 88, w2c_j1);
+  w2c_j0 = w2c_l6;
+  w2c_i0 = (u32)(w2c_j0);
+  w2c_j1 = w2c_l6;
+  w2c_j2 = 348ull;
+  w2c_j1 += w2c_j2;
+  i64_store(memory, (u64)(w2c_i0) + 80, w2c_j1);
+  w2c_j0 = w2c_p3;
+  w2c_j1 = 7ull;
+  w2c_j0 &= w2c_j1;
+  w2c_j1 = 0ull;
+  w2c_i0 = w2c_j0 != w2c_j1;
+  if (w2c_i0) {goto w2c_B1;}
+  w2c_j0 = w2c_p3;
+  w2c_j1 = 8ull;
+  w2c_j0 += w2c_j1;
+  w2c_l7 = w2c_j0;
+  w2c_j0 = w2c_l6;
+  w2c_j1 = 40ull;
+  w2c_j0 += w2c_j1;
+  w2c_j1 = 8ull;
+  w2c_j0 += w2c_j1;
+  w2c_l8 = w2c_j0;
+  w2c_j0 = w2c_p3;
+  w2c_i0 = !(w2c_j0);
+  if (w2c_i0) {goto w2c_B2;}
+  w2c_j0 = w2c_l8;
+  w2c_i0 = (u32)(w2c_j0);
+  w2c_j1 = w2c_p2;
+  w2c_i1 = (u32)(w2c_j1);
+  w2c_j2 = w2c_p3;
+  w2c_i2 = (u32)(w2c_j2);
+  memory_copy(memory, memory, w2c_i0, w2c_i1, w2c_i2);
+  w2c_B2:;
+  w2c_j0 = w2c_l6;
+  w2c_i0 = (u32)(w2c_j0);
+  w2c_j1 = w2c_l6;
+  w2c_j2 = 80ull;
+  w2c_j1 += w2c_j2;
+  w2c_j2 = 12008468691120727718ull;
+  w2c_j3 = w2c_l8;
+  w2c_j4 = w2c_p3;
+  w2c_j1 = w2c_f12(instance, w2c_j1, w2c_j2, w2c_j3, w2c_j4);
+  w2c_l8 = w2c_j1;
+  w2c_j2 = 56ull;
+  w2c_j1 <<= (w2c_j2 & 63);
+  w2c_j2 = w2c_l8;
+  w2c_j3 = 65280ull;
+  w2c_j2 &= w2c_j3;
+  w2c_j3 = 40ull;
+  w2c_j2 <<= (w2c_j3 & 63);
+  w2c_j1 |= w2c_j2;
+  w2c_j2 = w2c_l8;
+  w2c_j3 = 16711680ull;
+  w2c_j2 &= w2c_j3;
+  w2c_j3 = 24ull;
+  w2c_j2 <<= (w2c_j3 & 63);
+  w2c_j3 = w2c_l8;
+  w2c_j4 = 4278190080ull;
+  w2c_j3 &= w2c_j4;
+  w2c_j4 = 8ull;
+  w2c_j3 <<= (w2c_j4 & 63);
+  w2c_j2 |= w2c_j3;
+  w2c_j1 |= w2c_j2;
+  w2c_j2 = w2c_l8;
+  w2c_j3 = 8ull;
+  w2c_j2 >>= (w2c_j3 & 63);
+  w2c_j3 = 4278190080ull;
+  w2c_j2 &= w2c_j3;
+  w2c_j3 = w2c_l8;
+  w2c_j4 = 24ull;
+  w2c_j3 >>= (w2c_j4 & 63);
+  w2c_j4 = 16711680ull;
+  w2c_j3 &= w2c_j4;
+  w2c_j2 |= w2c_j3;
+  w2c_j3 = w2c_l8;
+  w2c_j4 = 40ull;
+  w2c_j3 >>= (w2c_j4 & 63);
+  w2c_j4 = 65280ull;
+  w2c_j3 &= w2c_j4;
+  w2c_j4 = w2c_l8;
+  w2c_j5 = 56ull;
+  w2c_j4 >>= (w2c_j5 & 63);
+  w2c_j3 |= w2c_j4;
+  w2c_j2 |= w2c_j3;
+  w2c_j1 |= w2c_j2;
+  w2c_l8 = w2c_j1;
+  i64_store(memory, (u64)(w2c_i0) + 40, w2c_j1);
+  w2c_j0 = w2c_l7;
+  w2c_j1 = w2c_p5;
+  w2c_i0 = w2c_j0 != w2c_j1;
+  if (w2c_i0) {goto w2c_B1;}
+  w2c_j0 = w2c_p4;
+  w2c_i0 = (u32)(w2c_j0);
+  w2c_i0 = i32_load8_u(memory, (u64)(w2c_i0));
+  w2c_j1 = w2c_l8;
+  w2c_i1 = (u32)(w2c_j1);
+  w2c_i2 = 255u;
+  w2c_i1 &= w2c_i2;
+  w2c_i0 = w2c_i0 != w2c_i1;
+  if (w2c_i0) {goto w2c_B1;}
+  w2c_j0 = w2c_p4;
+  w2c_j1 = 1ull;
+  w2c_j0 += w2c_j1;
+  w2c_i0 = (u32)(w2c_j0);
+  w2c_i0 = i32_load8_u(memory, (u64)(w2c_i0));
+  w2c_i1 = 255u;
+  w2c_i0 &= w2c_i1;
+  w2c_j1 = w2c_l8;
+  w2c_j2 = 8ull;
+  w2c_j1 >>= (w2c_j2 & 63);
+  w2c_i1 = (u32)(w2c_j1);
+  w2c_i2 = 255u;
+  w2c_i1 &= w2c_i2;
+  w2c_i0 = w2c_i0 != w2c_i1;
+  if (w2c_i0) {goto w2c_B1;}
+  w2c_j0 = w2c_p4;
+  w2c_j1 = 2ull;
+  w2c_j0 += w2c_j1;
+  w2c_i0 = (u32)(w2c_j0);
+  w2c_i0 = i32_load8_u(memory, (u64)(w2c_i0));
+  w2c_i1 = 255u;
+  w2c_i0 &= w2c_i1;
+  w2c_j1 = w2c_l8;
+  w2c_j2 = 16ull;
+  w2c_j1 >>= (w2c_j2 & 63);
+  w2c_i1 = (u32)(w2c_j1);
+  w2c_i2 = 255u;
+  w2c_i1 &= w2c_i2;
+  w2c_i0 = w2c_i0 != w2c_i1;
+  if (w2c_i0) {goto w2c_B1;}
+  w2c_j0 = w2c_p4;
+  w2c_j1 = 3ull;
+  w2c_j0 += w2c_j1;
+  w2c_i0 = (u32)(w2c_j0);
+  w2c_i0 = i32_load8_u(memory, (u64)(w2c_i0));
+  w2c_i1 = 255u;
+  w2c_i0 &= w2c_i1;
+  w2c_j1 = w2c_l8;
+  w2c_j2 = 24ull;
+  w2c_j1 >>= (w2c_j2 & 63);
+  w2c_i1 = (u32)(w2c_j1);
+  w2c_i2 = 255u;
+  w2c_i1 &= w2c_i2;
+  w2c_i0 = w2c_i0 != w2c_i1;
+  if (w2c_i0) {goto w2c_B1;}
+  w2c_j0 = w2c_l6;
+  w2c_j1 = 40ull;
+  w2c_j0 += w2c_j1;
+  w2c_j1 = w2c_p5;
+  w2c_j2 = w2c_p4;
+  w2c_i0 = w2c_f16(instance, w2c_j0, w2c_j1, w2c_j2);
+  w2c_i0 = !(w2c_i0);
+  if (w2c_i0) {goto w2c_B1;}
+  w2c_j0 = w2c_l6;
+  w2c_i0 = (u32)(w2c_j0);
+  w2c_j1 = 0ull;
+  i64_store(memory, (u64)(w2c_i0) + 32, w2c_j1);
+  w2c_j0 = w2c_l6;
+  w2c_i0 = (u32)(w2c_j0);
+  w2c_j1 = 0ull;
+  i64_store(memory, (u64)(w2c_i0) + 24, w2c_j1);
+  w2c_j0 = w2c_l6;
+  w2c_i0 = (u32)(w2c_j0);
+  w2c_j1 = 0ull;
+  i64_store(memory, (u64)(w2c_i0) + 16, w2c_j1);
+  w2c_j0 = w2c_l6;
+  w2c_i0 = (u32)(w2c_j0);
+  w2c_j1 = 0ull;
+  i64_store(memory, (u64)(w2c_i0) + 8, w2c_j1);
+  w2c_j0 = w2c_p0;
+  w2c_j1 = w2c_p1;
+  w2c_j2 = w2c_p4;
+  w2c_j3 = w2c_p5;
+  w2c_j4 = w2c_l6;
+  w2c_j5 = 8ull;
+  w2c_j4 += w2c_j5;
+  w2c_j5 = w2c_p3;
+  w2c_i0 = w2c_f17(instance, w2c_j0, w2c_j1, w2c_j2, w2c_j3, w2c_j4, w2c_j5);
+  if (w2c_i0) {goto w2c_B1;}
+  w2c_j0 = w2c_l6;
+  w2c_i0 = (u32)(w2c_j0);
+  w2c_i0 = i32_load8_u(memory, (u64)(w2c_i0) + 8u);
+  w2c_j1 = w2c_p2;
+  w2c_i1 = (u32)(w2c_j1);
+  w2c_i1 = i32_load8_u(memory, (u64)(w2c_i1));
+  w2c_i0 = w2c_i0 != w2c_i1;
+  if (w2c_i0) {goto w2c_B1;}
+  w2c_j0 = w2c_l6;
+  w2c_i0 = (u32)(w2c_j0);
+  w2c_i0 = i32_load8_u(memory, (u64)(w2c_i0) + 9u);
+  w2c_i1 = 255u;
+  w2c_i0 &= w2c_i1;
+  w2c_j1 = w2c_p2;
+  w2c_j2 = 1ull;
+  w2c_j1 += w2c_j2;
+  w2c_i1 = (u32)(w2c_j1);
+  w2c_i1 = i32_load8_u(memory, (u64)(w2c_i1));
+  w2c_i2 = 255u;
+  w2c_i1 &= w2c_i2;
+  w2c_i0 = w2c_i0 != w2c_i1;
+  if (w2c_i0) {goto w2c_B1;}
+  w2c_j0 = w2c_l6;
+  w2c_i0 = (u32)(w2c_j0);
+  w2c_i0 = i32_load8_u(memory, (u64)(w2c_i0) + 10u);
+  w2c_i1 = 255u;
+  w2c_i0 &= w2c_i1;
+  w2c_j1 = w2c_p2;
+  w2c_j2 = 2ull;
+  w2c_j1 += w2c_j2;
+  w2c_i1 = (u32)(w2c_j1);
+  w2c_i1 = i32_load8_u(memory, (u64)(w2c_i1));
+  w2c_i2 = 255u;
+  w2c_i1 &= w2c_i2;
+  w2c_i0 = w2c_i0 != w2c_i1;
+  if (w2c_i0) {goto w2c_B1;}
+  w2c_j0 = w2c_l6;
+  w2c_i0 = (u32)(w2c_j0);
+  w2c_i0 = i32_load8_u(memory, (u64)(w2c_i0) + 11u);
+  w2c_i1 = 255u;
+  w2c_i0 &= w2c_i1;
+  w2c_j1 = w2c_p2;
+  w2c_j2 = 3ull;
+  w2c_j1 += w2c_j2;
+  w2c_i1 = (u32)(w2c_j1);
+  w2c_i1 = i32_load8_u(memory, (u64)(w2c_i1));
+  w2c_i2 = 255u;
+  w2c_i1 &= w2c_i2;
+  w2c_i0 = w2c_i0 != w2c_i1;
+  if (w2c_i0) {goto w2c_B1;}
+  w2c_j0 = w2c_l6;
+  w2c_j1 = 8ull;
+  w2c_j0 += w2c_j1;
+  w2c_j1 = w2c_p3;
+  w2c_j2 = w2c_p2;
+  w2c_i0 = w2c_f16(instance, w2c_j0, w2c_j1, w2c_j2);
+  w2c_l9 = w2c_i0;
+  w2c_B1:;
+  w2c_j0 = w2c_l6;
+  w2c_j1 = 592ull;
+  w2c_j0 += w2c_j1;
+  instance->w2c_g0 = w2c_j0;
+  w2c_i0 = w2c_l9;
+  goto w2c_Bfunc;
+  w2c_B0:;
+  UNREACHABLE;
+  w2c_Bfunc:;
+  return w2c_i0;
+}
+static u32 w2c_f16(struct instance *instance, u64 w2c_p0, u64 w2c_p1, u64 w2c_p2) {
+  u32 w2c_l10 = 0;
+  u64 w2c_l3 = 0, w2c_l4 = 0, w2c_l5 = 0, w2c_l6 = 0, w2c_l7 = 0, w2c_l8 = 0, w2c_l9 = 0;
+  const struct memory memory = instance->w2c_memory;
+  (void)memory;
+  u32 w2c_i0, w2c_i1, w2c_i2, w2c_i3, w2c_i4, w2c_i5, w2c_i6;
+  u64 w2c_j0, w2c_j1, w2c_j2, w2c_j3, w2c_j4, w2c_j5, w2c_j6, w2c_j7;
+  w2c_j0 = instance->w2c_g0;
+  w2c_j1 = 16ull;
+  w2c_i0 = (u64)((s64)w2c_j0 < (s64)w2c_j1);
+  if (w2c_i0) {goto w2c_B2;}
+  w2c_j0 = w2c_p1;
+  w2c_j1 = 8ull;
+  w2c_i0 = w2c_j0 > w2c_j1;
+  if (w2c_i0) {goto w2c_B3;}
+  w2c_j0 = w2c_p0;
+  w2c_i0 = (u32)(w2c_j0);
+  w2c_i0 = i32_load8_u(memory, (u64)(w2c_i0));
+  w2c_j1 = w2c_p2;
+  w2c_i1 = (u32)(w2c_j1);
+  w2c_i1 = i32_load8_u(memory, (u64)(w2c_i1));
+  w2c_i0 = w2c_i0 != w2c_i1;
+  w2c_j1 = w2c_p0;
+  w2c_j2 = 1ull;
+  w2c_j1 += w2c_j2;
+  w2c_i1 = (u32)(w2c_j1);
+  w2c_i1 = i32_load8_u(memory, (u64)(w2c_i1));
+  w2c_j2 = w2c_p2;
+  w2c_j3 = 1ull;
+  w2c_j2 += w2c_j3;
+  w2c_i2 = (u32)(w2c_j2);
+  w2c_i2 = i32_load8_u(memory, (u64)(w2c_i2));
+  w2c_i1 = w2c_i1 != w2c_i2;
+  w2c_i0 |= w2c_i1;
+  w2c_j1 = w2c_p0;
+  w2c_j2 = 2ull;
+  w2c_j1 += w2c_j2;
+  w2c_i1 = (u32)(w2c_j1);
+  w2c_i1 = i32_load8_u(memory, (u64)(w2c_i1));
+  w2c_j2 = w2c_p2;
+  w2c_j3 = 2ull;
+  w2c_j2 += w2c_j3;
+  w2c_i2 = (u32)(w2c_j2);
+  w2c_i2 = i32_load8_u(memory, (u64)(w2c_i2));
+  w2c_i1 = w2c_i1 != w2c_i2;
+  w2c_i0 |= w2c_i1;
+  w2c_j1 = w2c_p0;
+  w2c_j2 = 3ull;
+  w2c_j1 += w2c_j2;
+  w2c_i1 = (u32)(w2c_j1);
+  w2c_i1 = i32_load8_u(memory, (u64)(w2c_i1));
+  w2c_j2 = w2c_p2;
+  w2c_j3 = 3ull;
+  w2c_j2 += w2c_j3;
+  w2c_i2 = (u32)(w2c_j2);
+  w2c_i2 = i32_load8_u(memory, (u64)(w2c_i2));
+  w2c_i1 = w2c_i1 != w2c_i2;
+  w2c_i0 |= w2c_i1;
+  w2c_j1 = w2c_p0;
+  w2c_j2 = w2c_p1;
+  w2c_j3 = 18446744073709551612ull;
+  w2c_j2 += w2c_j3;
+  w2c_l3 = w2c_j2;
+  w2c_j1 += w2c_j2;
+  w2c_i1 = (u32)(w2c_j1);
+  w2c_i1 = i32_load8_u(memory, (u64)(w2c_i1));
+  w2c_j2 = w2c_p2;
+  w2c_j3 = w2c_l3;
+  w2c_j2 += w2c_j3;
+  w2c_i2 = (u32)(w2c_j2);
+  w2c_i2 = i32_load8_u(memory, (u64)(w2c_i2));
+  w2c_i1 = w2c_i1 != w2c_i2;
+  w2c_j2 = w2c_p0;
+  w2c_j3 = w2c_p1;
+  w2c_j4 = 18446744073709551613ull;
+  w2c_j3 += w2c_j4;
+  w2c_l3 = w2c_j3;
+  w2c_j2 += w2c_j3;
+  w2c_i2 = (u32)(w2c_j2);
+  w2c_i2 = i32_load8_u(memory, (u64)(w2c_i2));
+  w2c_j3 = w2c_p2;
+  w2c_j4 = w2c_l3;
+  w2c_j3 += w2c_j4;
+  w2c_i3 = (u32)(w2c_j3);
+  w2c_i3 = i32_load8_u(memory, (u64)(w2c_i3));
+  w2c_i2 = w2c_i2 != w2c_i3;
+  w2c_i1 |= w2c_i2;
+  w2c_j2 = w2c_p0;
+  w2c_j3 = w2c_p1;
+  w2c_j4 = 18446744073709551614ull;
+  w2c_j3 += w2c_j4;
+  w2c_l3 = w2c_j3;
+  w2c_j2 += w2c_j3;
+  w2c_i2 = (u32)(w2c_j2);
+  w2c_i2 = i32_load8_u(memory, (u64)(w2c_i2));
+  w2c_j3 = w2c_p2;
+  w2c_j4 = w2c_l3;
+  w2c_j3 += w2c_j4;
+  w2c_i3 = (u32)(w2c_j3);
+  w2c_i3 = i32_load8_u(memory, (u64)(w2c_i3));
+  w2c_i2 = w2c_i2 != w2c_i3;
+  w2c_i1 |= w2c_i2;
+  w2c_j2 = w2c_p0;
+  w2c_j3 = w2c_p1;
+  w2c_j4 = 18446744073709551615ull;
+  w2c_j3 += w2c_j4;
+  w2c_l3 = w2c_j3;
+  w2c_j2 += w2c_j3;
+  w2c_i2 = (u32)(w2c_j2);
+  w2c_i2 = i32_load8_u(memory, (u64)(w2c_i2));
+  w2c_j3 = w2c_p2;
+  w2c_j4 = w2c_l3;
+  w2c_j3 += w2c_j4;
+  w2c_i3 = (u32)(w2c_j3);
+  w2c_i3 = i32_load8_u(memory, (u64)(w2c_i3));
+  w2c_i2 = w2c_i2 != w2c_i3;
+  w2c_i1 |= w2c_i2;
+  w2c_i0 |= w2c_i1;
+  w2c_l10 = w2c_i0;
+  goto w2c_B0;
+  w2c_B3:;
+  w2c_j0 = w2c_p1;
+  w2c_j1 = 32ull;
+  w2c_i0 = w2c_j0 > w2c_j1;
+  if (w2c_i0) {goto w2c_B4;}
+  w2c_j0 = w2c_p0;
+  w2c_j1 = w2c_p1;
+  w2c_j2 = 18446744073709551608ull;
+  w2c_j1 += w2c_j2;
+  w2c_p1 = w2c_j1;
+  w2c_j2 = 8ull;
+  w2c_j3 = w2c_p1;
+  w2c_j4 = 8ull;
+  w2c_i3 = w2c_j3 < w2c_j4;
+  w2c_j1 = w2c_i3 ? w2c_j1 : w2c_j2;
+  w2c_l4 = w2c_j1;
+  w2c_j0 += w2c_j1;
+  w2c_l3 = w2c_j0;
+  w2c_i0 = (u32)(w2c_j0);
+  w2c_i0 = i32_load8_u(memory, (u64)(w2c_i0));
+  w2c_j1 = w2c_p2;
+  w2c_j2 = w2c_l4;
+  w2c_j1 += w2c_j2;
+  w2c_l4 = w2c_j1;
+  w2c_i1 = (u32)(w2c_j1);
+  w2c_i1 = i32_load8_u(memory, (u64)(w2c_i1));
+  w2c_i0 = w2c_i0 != w2c_i1;
+  w2c_j1 = w2c_p0;
+  w2c_j2 = w2c_p1;
+  w2c_j3 = 16ull;
+  w2c_j4 = w2c_p1;
+  w2c_j5 = 16ull;
+  w2c_i4 = w2c_j4 < w2c_j5;
+  w2c_j2 = w2c_i4 ? w2c_j2 : w2c_j3;
+  w2c_l5 = w2c_j2;
+  w2c_j1 += w2c_j2;
+  w2c_l6 = w2c_j1;
+  w2c_i1 = (u32)(w2c_j1);
+  w2c_i1 = i32_load8_u(memory, (u64)(w2c_i1));
+  w2c_j2 = w2c_p2;
+  w2c_j3 = w2c_l5;
+  w2c_j2 += w2c_j3;
+  w2c_l5 = w2c_j2;
+  w2c_i2 = (u32)(w2c_j2);
+  w2c_i2 = i32_load8_u(memory, (u64)(w2c_i2));
+  w2c_i1 = w2c_i1 != w2c_i2;
+  w2c_i0 |= w2c_i1;
+  w2c_j1 = w2c_p0;
+  w2c_j2 = w2c_p1;
+  w2c_j1 += w2c_j2;
+  w2c_l7 = w2c_j1;
+  w2c_i1 = (u32)(w2c_j1);
+  w2c_i1 = i32_load8_u(memory, (u64)(w2c_i1));
+  w2c_j2 = w2c_p2;
+  w2c_j3 = w2c_p1;
+  w2c_j2 += w2c_j3;
+  w2c_p1 = w2c_j2;
+  w2c_i2 = (u32)(w2c_j2);
+  w2c_i2 = i32_load8_u(memory, (u64)(w2c_i2));
+  w2c_i1 = w2c_i1 != w2c_i2;
+  w2c_i0 |= w2c_i1;
+  w2c_j1 = w2c_l3;
+  w2c_i1 = (u32)(w2c_j1);
+  w2c_i1 = i32_load8_u(memory, (u64)(w2c_i1) + 1u);
+  w2c_j2 = w2c_l4;
+  w2c_i2 = (u32)(w2c_j2);
+  w2c_i2 = i32_load8_u(memory, (u64)(w2c_i2) + 1u);
+  w2c_i1 = w2c_i1 != w2c_i2;
+  w2c_j2 = w2c_l6;
+  w2c_i2 = (u32)(w2c_j2);
+  w2c_i2 = i32_load8_u(memory, (u64)(w2c_i2) + 1u);
+  w2c_j3 = w2c_l5;
+  w2c_i3 = (u32)(w2c_j3);
+  w2c_i3 = i32_load8_u(memory, (u64)(w2c_i3) + 1u);
+  w2c_i2 = w2c_i2 != w2c_i3;
+  w2c_i1 |= w2c_i2;
+  w2c_j2 = w2c_l7;
+  w2c_i2 = (u32)(w2c_j2);
+  w2c_i2 = i32_load8_u(memory, (u64)(w2c_i2) + 1u);
+  w2c_j3 = w2c_p1;
+  w2c_i3 = (u32)(w2c_j3);
+  w2c_i3 = i32_load8_u(memory, (u64)(w2c_i3) + 1u);
+  w2c_i2 = w2c_i2 != w2c_i3;
+  w2c_i1 |= w2c_i2;
+  w2c_i2 = 1u;
+  w2c_i1 <<= (w2c_i2 & 31);
+  w2c_i0 |= w2c_i1;
+  w2c_j1 = w2c_l3;
+  w2c_i1 = (u32)(w2c_j1);
+  w2c_i1 = i32_load8_u(memory, (u64)(w2c_i1) + 3u);
+  w2c_j2 = w2c_l4;
+  w2c_i2 = (u32)(w2c_j2);
+  w2c_i2 = i32_load8_u(memory, (u64)(w2c_i2) + 3u);
+  w2c_i1 = w2c_i1 != w2c_i2;
+  w2c_j2 = w2c_l6;
+  w2c_i2 = (u32)(w2c_j2);
+  w2c_i2 = i32_load8_u(memory, (u64)(w2c_i2) + 3u);
+  w2c_j3 = w2c_l5;
+  w2c_i3 = (u32)(w2c_j3);
+  w2c_i3 = i32_load8_u(memory, (u64)(w2c_i3) + 3u);
+  w2c_i2 = w2c_i2 != w2c_i3;
+  w2c_i1 |= w2c_i2;
+  w2c_j2 = w2c_l7;
+  w2c_i2 = (u32)(w2c_j2);
+  w2c_i2 = i32_load8_u(memory, (u64)(w2c_i2) + 3u);
+  w2c_j3 = w2c_p1;
+  w2c_i3 = (u32)(w2c_j3);
+  w2c_i3 = i32_load8_u(memory, (u64)(w2c_i3) + 3u);
+  w2c_i2 = w2c_i2 != w2c_i3;
+  w2c_i1 |= w2c_i2;
+  w2c_i2 = 3u;
+  w2c_i1 <<= (w2c_i2 & 31);
+  w2c_j2 = w2c_l3;
+  w2c_i2 = (u32)(w2c_j2);
+  w2c_i2 = i32_load8_u(memory, (u64)(w2c_i2) + 2u);
+  w2c_j3 = w2c_l4;
+  w2c_i3 = (u32)(w2c_j3);
+  w2c_i3 = i32_load8_u(memory, (u64)(w2c_i3) + 2u);
+  w2c_i2 = w2c_i2 != w2c_i3;
+  w2c_j3 = w2c_l6;
+  w2c_i3 = (u32)(w2c_j3);
+  w2c_i3 = i32_load8_u(memory, (u64)(w2c_i3) + 2u);
+  w2c_j4 = w2c_l5;
+  w2c_i4 = (u32)(w2c_j4);
+  w2c_i4 = i32_load8_u(memory, (u64)(w2c_i4) + 2u);
+  w2c_i3 = w2c_i3 != w2c_i4;
+  w2c_i2 |= w2c_i3;
+  w2c_j3 = w2c_l7;
+  w2c_i3 = (u32)(w2c_j3);
+  w2c_i3 = i32_load8_u(memory, (u64)(w2c_i3) + 2u);
+  w2c_j4 = w2c_p1;
+  w2c_i4 = (u32)(w2c_j4);
+  w2c_i4 = i32_load8_u(memory, (u64)(w2c_i4) + 2u);
+  w2c_i3 = w2c_i3 != w2c_i4;
+  w2c_i2 |= w2c_i3;
+  w2c_i3 = 2u;
+  w2c_i2 <<= (w2c_i3 & 31);
+  w2c_i1 |= w2c_i2;
+  w2c_i0 |= w2c_i1;
+  w2c_j1 = w2c_l3;
+  w2c_i1 = (u32)(w2c_j1);
+  w2c_i1 = i32_load8_u(memory, (u64)(w2c_i1) + 4u);
+  w2c_j2 = w2c_l4;
+  w2c_i2 = (u32)(w2c_j2);
+  w2c_i2 = i32_load8_u(memory, (u64)(w2c_i2) + 4u);
+  w2c_i1 = w2c_i1 != w2c_i2;
+  w2c_j2 = w2c_l6;
+  w2c_i2 = (u32)(w2c_j2);
+  w2c_i2 = i32_load8_u(memory, (u64)(w2c_i2) + 4u);
+  w2c_j3 = w2c_l5;
+  w2c_i3 = (u32)(w2c_j3);
+  w2c_i3 = i32_load8_u(memory, (u64)(w2c_i3) + 4u);
+  w2c_i2 = w2c_i2 != w2c_i3;
+  w2c_i1 |= w2c_i2;
+  w2c_j2 = w2c_l7;
+  w2c_i2 = (u32)(w2c_j2);
+  w2c_i2 = i32_load8_u(memory, (u64)(w2c_i2) + 4u);
+  w2c_j3 = w2c_p1;
+  w2c_i3 = (u32)(w2c_j3);
+  w2c_i3 = i32_load8_u(memory, (u64)(w2c_i3) + 4u);
+  w2c_i2 = w2c_i2 != w2c_i3;
+  w2c_i1 |= w2c_i2;
+  w2c_j2 = w2c_l3;
+  w2c_i2 = (u32)(w2c_j2);
+  w2c_i2 = i32_load8_u(memory, (u64)(w2c_i2) + 5u);
+  w2c_j3 = w2c_l4;
+  w2c_i3 = (u32)(w2c_j3);
+  w2c_i3 = i32_load8_u(memory, (u64)(w2c_i3) + 5u);
+  w2c_i2 = w2c_i2 != w2c_i3;
+  w2c_j3 = w2c_l6;
+  w2c_i3 = (u32)(w2c_j3);
+  w2c_i3 = i32_load8_u(memory, (u64)(w2c_i3) + 5u);
+  w2c_j4 = w2c_l5;
+  w2c_i4 = (u32)(w2c_j4);
+  w2c_i4 = i32_load8_u(memory, (u64)(w2c_i4) + 5u);
+  w2c_i3 = w2c_i3 != w2c_i4;
+  w2c_i2 |= w2c_i3;
+  w2c_j3 = w2c_l7;
+  w2c_i3 = (u32)(w2c_j3);
+  w2c_i3 = i32_load8_u(memory, (u64)(w2c_i3) + 5u);
+  w2c_j4 = w2c_p1;
+  w2c_i4 = (u32)(w2c_j4);
+  w2c_i4 = i32_load8_u(memory, (u64)(w2c_i4) + 5u);
+  w2c_i3 = w2c_i3 != w2c_i4;
+  w2c_i2 |= w2c_i3;
+  w2c_i3 = 1u;
+  w2c_i2 <<= (w2c_i3 & 31);
+  w2c_i1 |= w2c_i2;
+  w2c_j2 = w2c_l3;
+  w2c_i2 = (u32)(w2c_j2);
+  w2c_i2 = i32_load8_u(memory, (u64)(w2c_i2) + 7u);
+  w2c_j3 = w2c_l4;
+  w2c_i3 = (u32)(w2c_j3);
+  w2c_i3 = i32_load8_u(memory, (u64)(w2c_i3) + 7u);
+  w2c_i2 = w2c_i2 != w2c_i3;
+  w2c_j3 = w2c_l6;
+  w2c_i3 = (u32)(w2c_j3);
+  w2c_i3 = i32_load8_u(memory, (u64)(w2c_i3) + 7u);
+  w2c_j4 = w2c_l5;
+  w2c_i4 = (u32)(w2c_j4);
+  w2c_i4 = i32_load8_u(memory, (u64)(w2c_i4) + 7u);
+  w2c_i3 = w2c_i3 != w2c_i4;
+  w2c_i2 |= w2c_i3;
+  w2c_j3 = w2c_l7;
+  w2c_i3 = (u32)(w2c_j3);
+  w2c_i3 = i32_load8_u(memory, (u64)(w2c_i3) + 7u);
+  w2c_j4 = w2c_p1;
+  w2c_i4 = (u32)(w2c_j4);
+  w2c_i4 = i32_load8_u(memory, (u64)(w2c_i4) + 7u);
+  w2c_i3 = w2c_i3 != w2c_i4;
+  w2c_i2 |= w2c_i3;
+  w2c_i3 = 3u;
+  w2c_i2 <<= (w2c_i3 & 31);
+  w2c_j3 = w2c_l3;
+  w2c_i3 = (u32)(w2c_j3);
+  w2c_i3 = i32_load8_u(memory, (u64)(w2c_i3) + 6u);
+  w2c_j4 = w2c_l4;
+  w2c_i4 = (u32)(w2c_j4);
+  w2c_i4 = i32_load8_u(memory, (u64)(w2c_i4) + 6u);
+  w2c_i3 = w2c_i3 != w2c_i4;
+  w2c_j4 = w2c_l6;
+  w2c_i4 = (u32)(w2c_j4);
+  w2c_i4 = i32_load8_u(memory, (u64)(w2c_i4) + 6u);
+  w2c_j5 = w2c_l5;
+  w2c_i5 = (u32)(w2c_j5);
+  w2c_i5 = i32_load8_u(memory, (u64)(w2c_i5) + 6u);
+  w2c_i4 = w2c_i4 != w2c_i5;
+  w2c_i3 |= w2c_i4;
+  w2c_j4 = w2c_l7;
+  w2c_i4 = (u32)(w2c_j4);
+  w2c_i4 = i32_load8_u(memory, (u64)(w2c_i4) + 6u);
+  w2c_j5 = w2c_p1;
+  w2c_i5 = (u32)(w2c_j5);
+  w2c_i5 = i32_load8_u(memory, (u64)(w2c_i5) + 6u);
+  w2c_i4 = w2c_i4 != w2c_i5;
+  w2c_i3 |= w2c_i4;
+  w2c_i4 = 2u;
+  w2c_i3 <<= (w2c_i4 & 31);
+  w2c_i2 |= w2c_i3;
+  w2c_i1 |= w2c_i2;
+  w2c_i2 = 4u;
+  w2c_i1 <<= (w2c_i2 & 31);
+  w2c_i0 |= w2c_i1;
+  w2c_i1 = 255u;
+  w2c_i0 &= w2c_i1;
+  w2c_i1 = 0u;
+  w2c_i0 = w2c_i0 != w2c_i1;
+  w2c_j1 = w2c_p0;
+  w2c_i1 = (u32)(w2c_j1);
+  w2c_i1 = i32_load8_u(memory, (u64)(w2c_i1));
+  w2c_j2 = w2c_p2;
+  w2c_i2 = (u32)(w2c_j2);
+  w2c_i2 = i32_load8_u(memory, (u64)(w2c_i2));
+  w2c_i1 = w2c_i1 != w2c_i2;
+  w2c_i0 |= w2c_i1;
+  w2c_j1 = w2c_p0;
+  w2c_j2 = 1ull;
+  w2c_j1 += w2c_j2;
+  w2c_i1 = (u32)(w2c_j1);
+  w2c_i1 = i32_load8_u(memory, (u64)(w2c_i1));
+  w2c_j2 = w2c_p2;
+  w2c_j3 = 1ull;
+  w2c_j2 += w2c_j3;
+  w2c_i2 = (u32)(w2c_j2);
+  w2c_i2 = i32_load8_u(memory, (u64)(w2c_i2));
+  w2c_i1 = w2c_i1 != w2c_i2;
+  w2c_j2 = w2c_p0;
+  w2c_j3 = 2ull;
+  w2c_j2 += w2c_j3;
+  w2c_i2 = (u32)(w2c_j2);
+  w2c_i2 = i32_load8_u(memory, (u64)(w2c_i2));
+  w2c_j3 = w2c_p2;
+  w2c_j4 = 2ull;
+  w2c_j3 += w2c_j4;
+  w2c_i3 = (u32)(w2c_j3);
+  w2c_i3 = i32_load8_u(memory, (u64)(w2c_i3));
+  w2c_i2 = w2c_i2 != w2c_i3;
+  w2c_i1 |= w2c_i2;
+  w2c_i0 |= w2c_i1;
+  w2c_j1 = w2c_p0;
+  w2c_j2 = 3ull;
+  w2c_j1 += w2c_j2;
+  w2c_i1 = (u32)(w2c_j1);
+  w2c_i1 = i32_load8_u(memory, (u64)(w2c_i1));
+  w2c_j2 = w2c_p2;
+  w2c_j3 = 3ull;
+  w2c_j2 += w2c_j3;
+  w2c_i2 = (u32)(w2c_j2);
+  w2c_i2 = i32_load8_u(memory, (u64)(w2c_i2));
+  w2c_i1 = w2c_i1 != w2c_i2;
+  w2c_j2 = w2c_p0;
+  w2c_j3 = 4ull;
+  w2c_j2 += w2c_j3;
+  w2c_i2 = (u32)(w2c_j2);
+  w2c_i2 = i32_load8_u(memory, (u64)(w2c_i2));
+  w2c_j3 = w2c_p2;
+  w2c_j4 = 4ull;
+  w2c_j3 += w2c_j4;
+  w2c_i3 = (u32)(w2c_j3);
+  w2c_i3 = i32_load8_u(memory, (u64)(w2c_i3));
+  w2c_i2 = w2c_i2 != w2c_i3;
+  w2c_i1 |= w2c_i2;
+  w2c_j2 = w2c_p0;
+  w2c_j3 = 5ull;
+  w2c_j2 += w2c_j3;
+  w2c_i2 = (u32)(w2c_j2);
+  w2c_i2 = i32_load8_u(memory, (u64)(w2c_i2));
+  w2c_j3 = w2c_p2;
+  w2c_j4 = 5ull;
+  w2c_j3 += w2c_j4;
+  w2c_i3 = (u32)(w2c_j3);
+  w2c_i3 = i32_load8_u(memory, (u64)(w2c_i3));
+  w2c_i2 = w2c_i2 != w2c_i3;
+  w2c_j3 = w2c_p0;
+  w2c_j4 = 6ull;
+  w2c_j3 += w2c_j4;
+  w2c_i3 = (u32)(w2c_j3);
+  w2c_i3 = i32_load8_u(memory, (u64)(w2c_i3));
+  w2c_j4 = w2c_p2;
+  w2c_j5 = 6ull;
+  w2c_j4 += w2c_j5;
+  w2c_i4 = (u32)(w2c_j4);
+  w2c_i4 = i32_load8_u(memory, (u64)(w2c_i4));
+  w2c_i3 = w2c_i3 != w2c_i4;
+  w2c_i2 |= w2c_i3;
+  w2c_i1 |= w2c_i2;
+  w2c_i0 |= w2c_i1;
+  w2c_j1 = w2c_p0;
+  w2c_j2 = 7ull;
+  w2c_j1 += w2c_j2;
+  w2c_i1 = (u32)(w2c_j1);
+  w2c_i1 = i32_load8_u(memory, (u64)(w2c_i1));
+  w2c_j2 = w2c_p2;
+  w2c_j3 = 7ull;
+  w2c_j2 += w2c_j3;
+  w2c_i2 = (u32)(w2c_j2);
+  w2c_i2 = i32_load8_u(memory, (u64)(w2c_i2));
+  w2c_i1 = w2c_i1 != w2c_i2;
+  w2c_i0 |= w2c_i1;
+  w2c_l10 = w2c_i0;
+  goto w2c_B0;
+  w2c_B4:;
+  w2c_j0 = w2c_p1;
+  w2c_j1 = 65ull;
+  w2c_i0 = w2c_j0 < w2c_j1;
+  if (w2c_i0) {goto w2c_B1;}
+  w2c_j0 = w2c_p1;
+  w2c_j1 = 18446744073709551552ull;
+  w2c_j0 &= w2c_j1;
+  w2c_l8 = w2c_j0;
+  w2c_j0 = 0ull;
+  w2c_l9 = w2c_j0;
+  w2c_j0 = w2c_p0;
+  w2c_l5 = w2c_j0;
+  w2c_j0 = w2c_p2;
+  w2c_l7 = w2c_j0;
+  w2c_L6: 
+    w2c_i0 = 0u;
+    w2c_l10 = w2c_i0;
+    w2c_j0 = 0ull;
+    w2c_l3 = w2c_j0;
+    w2c_L7: 
+      w2c_i0 = w2c_l10;
+      w2c_j1 = w2c_l5;
+      w2c_j2 = w2c_l3;
+      w2c_j1 += w2c_j2;
+      w2c_l4 = w2c_j1;
+      w2c_i1 = (u32)(w2c_j1);
+      w2c_i1 = i32_load8_u(memory, (u64)(w2c_i1));
+      w2c_j2 = w2c_l7;
+      w2c_j3 = w2c_l3;
+      w2c_j2 += w2c_j3;
+      w2c_l6 = w2c_j2;
+      w2c_i2 = (u32)(w2c_j2);
+      w2c_i2 = i32_load8_u(memory, (u64)(w2c_i2));
+      w2c_i1 = w2c_i1 != w2c_i2;
+      w2c_i0 |= w2c_i1;
+      w2c_j1 = w2c_l4;
+      w2c_j2 = 1ull;
+      w2c_j1 += w2c_j2;
+      w2c_i1 = (u32)(w2c_j1);
+      w2c_i1 = i32_load8_u(memory, (u64)(w2c_i1));
+      w2c_j2 = w2c_l6;
+      w2c_j3 = 1ull;
+      w2c_j2 += w2c_j3;
+      w2c_i2 = (u32)(w2c_j2);
+      w2c_i2 = i32_load8_u(memory, (u64)(w2c_i2));
+      w2c_i1 = w2c_i1 != w2c_i2;
+      w2c_i0 |= w2c_i1;
+      w2c_l10 = w2c_i0;
+      w2c_j0 = w2c_l3;
+      w2c_j1 = 2ull;
+      w2c_j0 += w2c_j1;
+      w2c_l3 = w2c_j0;
+      w2c_j1 = 64ull;
+      w2c_i0 = w2c_j0 != w2c_j1;
+      if (w2c_i0) {goto w2c_L7;}
+    w2c_i0 = w2c_l10;
+    w2c_i1 = 1u;
+    w2c_i0 &= w2c_i1;
+    if (w2c_i0) {goto w2c_B5;}
+    w2c_j0 = w2c_l5;
+    w2c_j1 = 64ull;
+    w2c_j0 += w2c_j1;
+    w2c_l5 = w2c_j0;
+    w2c_j0 = w2c_l7;
+    w2c_j1 = 64ull;
+    w2c_j0 += w2c_j1;
+    w2c_l7 = w2c_j0;
+    w2c_j0 = w2c_p1;
+    w2c_j1 = w2c_l9;
+    w2c_j2 = 64ull;
+    w2c_j1 += w2c_j2;
+    w2c_l9 = w2c_j1;
+    w2c_j0 -= w2c_j1;
+    w2c_j1 = 63ull;
+    w2c_i0 = w2c_j0 > w2c_j1;
+    if (w2c_i0) {goto w2c_L6;}
+  w2c_j0 = w2c_l8;
+  w2c_l9 = w2c_j0;
+  w2c_B5:;
+  w2c_j0 = w2c_p1;
+  w2c_j1 = w2c_l9;
+  w2c_j0 -= w2c_j1;
+  w2c_l6 = w2c_j0;
+  w2c_j1 = 32ull;
+  w2c_i0 = w2c_j0 < w2c_j1;
+  if (w2c_i0) {goto w2c_B8;}
+  w2c_j0 = w2c_p2;
+  w2c_j1 = w2c_l9;
+  w2c_j0 += w2c_j1;
+  w2c_l3 = w2c_j0;
+  w2c_j0 = w2c_p0;
+  w2c_j1 = w2c_l9;
+  w2c_j0 += w2c_j1;
+  w2c_l4 = w2c_j0;
+  w2c_L10: 
+    w2c_i0 = 1u;
+    w2c_l10 = w2c_i0;
+    w2c_j0 = w2c_l4;
+    w2c_i0 = (u32)(w2c_j0);
+    w2c_i0 = i32_load8_u(memory, (u64)(w2c_i0));
+    w2c_j1 = w2c_l3;
+    w2c_i1 = (u32)(w2c_j1);
+    w2c_i1 = i32_load8_u(memory, (u64)(w2c_i1));
+    w2c_i0 = w2c_i0 != w2c_i1;
+    w2c_j1 = w2c_l4;
+    w2c_i1 = (u32)(w2c_j1);
+    w2c_i1 = i32_load8_u(memory, (u64)(w2c_i1) + 1u);
+    w2c_j2 = w2c_l3;
+    w2c_i2 = (u32)(w2c_j2);
+    w2c_i2 = i32_load8_u(memory, (u64)(w2c_i2) + 1u);
+    w2c_i1 = w2c_i1 != w2c_i2;
+    w2c_i2 = 1u;
+    w2c_i1 <<= (w2c_i2 & 31);
+    w2c_i0 |= w2c_i1;
+    w2c_j1 = w2c_l4;
+    w2c_i1 = (u32)(w2c_j1);
+    w2c_i1 = i32_load8_u(memory, (u64)(w2c_i1) + 3u);
+    w2c_j2 = w2c_l3;
+    w2c_i2 = (u32)(w2c_j2);
+    w2c_i2 = i32_load8_u(memory, (u64)(w2c_i2) + 3u);
+    w2c_i1 = w2c_i1 != w2c_i2;
+    w2c_i2 = 3u;
+    w2c_i1 <<= (w2c_i2 & 31);
+    w2c_j2 = w2c_l4;
+    w2c_i2 = (u32)(w2c_j2);
+    w2c_i2 = i32_load8_u(memory, (u64)(w2c_i2) + 2u);
+    w2c_j3 = w2c_l3;
+    w2c_i3 = (u32)(w2c_j3);
+    w2c_i3 = i32_load8_u(memory, (u64)(w2c_i3) + 2u);
+    w2c_i2 = w2c_i2 != w2c_i3;
+    w2c_i3 = 2u;
+    w2c_i2 <<= (w2c_i3 & 31);
+    w2c_i1 |= w2c_i2;
+    w2c_i0 |= w2c_i1;
+    w2c_j1 = w2c_l4;
+    w2c_i1 = (u32)(w2c_j1);
+    w2c_i1 = i32_load8_u(memory, (u64)(w2c_i1) + 4u);
+    w2c_j2 = w2c_l3;
+    w2c_i2 = (u32)(w2c_j2);
+    w2c_i2 = i32_load8_u(memory, (u64)(w2c_i2) + 4u);
+    w2c_i1 = w2c_i1 != w2c_i2;
+    w2c_j2 = w2c_l4;
+    w2c_i2 = (u32)(w2c_j2);
+    w2c_i2 = i32_load8_u(memory, (u64)(w2c_i2) + 5u);
+    w2c_j3 = w2c_l3;
+    w2c_i3 = (u32)(w2c_j3);
+    w2c_i3 = i32_load8_u(memory, (u64)(w2c_i3) + 5u);
+    w2c_i2 = w2c_i2 != w2c_i3;
+    w2c_i3 = 1u;
+    w2c_i2 <<= (w2c_i3 & 31);
+    w2c_i1 |= w2c_i2;
+    w2c_j2 = w2c_l4;
+    w2c_i2 = (u32)(w2c_j2);
+    w2c_i2 = i32_load8_u(memory, (u64)(w2c_i2) + 7u);
+    w2c_j3 = w2c_l3;
+    w2c_i3 = (u32)(w2c_j3);
+    w2c_i3 = i32_load8_u(memory, (u64)(w2c_i3) + 7u);
+    w2c_i2 = w2c_i2 != w2c_i3;
+    w2c_i3 = 3u;
+    w2c_i2 <<= (w2c_i3 & 31);
+    w2c_j3 = w2c_l4;
+    w2c_i3 = (u32)(w2c_j3);
+    w2c_i3 = i32_load8_u(memory, (u64)(w2c_i3) + 6u);
+    w2c_j4 = w2c_l3;
+    w2c_i4 = (u32)(w2c_j4);
+    w2c_i4 = i32_load8_u(memory, (u64)(w2c_i4) + 6u);
+    w2c_i3 = w2c_i3 != w2c_i4;
+    w2c_i4 = 2u;
+    w2c_i3 <<= (w2c_i4 & 31);
+    w2c_i2 |= w2c_i3;
+    w2c_i1 |= w2c_i2;
+    w2c_i2 = 4u;
+    w2c_i1 <<= (w2c_i2 & 31);
+    w2c_i0 |= w2c_i1;
+    w2c_j1 = w2c_l4;
+    w2c_i1 = (u32)(w2c_j1);
+    w2c_i1 = i32_load8_u(memory, (u64)(w2c_i1) + 12u);
+    w2c_j2 = w2c_l3;
+    w2c_i2 = (u32)(w2c_j2);
+    w2c_i2 = i32_load8_u(memory, (u64)(w2c_i2) + 12u);
+    w2c_i1 = w2c_i1 != w2c_i2;
+    w2c_j2 = w2c_l4;
+    w2c_i2 = (u32)(w2c_j2);
+    w2c_i2 = i32_load8_u(memory, (u64)(w2c_i2) + 13u);
+    w2c_j3 = w2c_l3;
+    w2c_i3 = (u32)(w2c_j3);
+    w2c_i3 = i32_load8_u(memory, (u64)(w2c_i3) + 13u);
+    w2c_i2 = w2c_i2 != w2c_i3;
+    w2c_i3 = 1u;
+    w2c_i2 <<= (w2c_i3 & 31);
+    w2c_i1 |= w2c_i2;
+    w2c_j2 = w2c_l4;
+    w2c_i2 = (u32)(w2c_j2);
+    w2c_i2 = i32_load8_u(memory, (u64)(w2c_i2) + 15u);
+    w2c_j3 = w2c_l3;
+    w2c_i3 = (u32)(w2c_j3);
+    w2c_i3 = i32_load8_u(memory, (u64)(w2c_i3) + 15u);
+    w2c_i2 = w2c_i2 != w2c_i3;
+    w2c_i3 = 3u;
+    w2c_i2 <<= (w2c_i3 & 31);
+    w2c_j3 = w2c_l4;
+    w2c_i3 = (u32)(w2c_j3);
+    w2c_i3 = i32_load8_u(memory, (u64)(w2c_i3) + 14u);
+    w2c_j4 = w2c_l3;
+    w2c_i4 = (u32)(w2c_j4);
+    w2c_i4 = i32_load8_u(memory, (u64)(w2c_i4) + 14u);
+    w2c_i3 = w2c_i3 != w2c_i4;
+    w2c_i4 = 2u;
+    w2c_i3 <<= (w2c_i4 & 31);
+    w2c_i2 |= w2c_i3;
+    w2c_i1 |= w2c_i2;
+    w2c_i2 = 12u;
+    w2c_i1 <<= (w2c_i2 & 31);
+    w2c_j2 = w2c_l4;
+    w2c_i2 = (u32)(w2c_j2);
+    w2c_i2 = i32_load8_u(memory, (u64)(w2c_i2) + 8u);
+    w2c_j3 = w2c_l3;
+    w2c_i3 = (u32)(w2c_j3);
+    w2c_i3 = i32_load8_u(memory, (u64)(w2c_i3) + 8u);
+    w2c_i2 = w2c_i2 != w2c_i3;
+    w2c_j3 = w2c_l4;
+    w2c_i3 = (u32)(w2c_j3);
+    w2c_i3 = i32_load8_u(memory, (u64)(w2c_i3) + 9u);
+    w2c_j4 = w2c_l3;
+    w2c_i4 = (u32)(w2c_j4);
+    w2c_i4 = i32_load8_u(memory, (u64)(w2c_i4) + 9u);
+    w2c_i3 = w2c_i3 != w2c_i4;
+    w2c_i4 = 1u;
+    w2c_i3 <<= (w2c_i4 & 31);
+    w2c_i2 |= w2c_i3;
+    w2c_j3 = w2c_l4;
+    w2c_i3 = (u32)(w2c_j3);
+    w2c_i3 = i32_load8_u(memory, (u64)(w2c_i3) + 11u);
+    w2c_j4 = w2c_l3;
+    w2c_i4 = (u32)(w2c_j4);
+    w2c_i4 = i32_load8_u(memory, (u64)(w2c_i4) + 11u);
+    w2c_i3 = w2c_i3 != w2c_i4;
+    w2c_i4 = 3u;
+    w2c_i3 <<= (w2c_i4 & 31);
+    w2c_j4 = w2c_l4;
+    w2c_i4 = (u32)(w2c_j4);
+    w2c_i4 = i32_load8_u(memory, (u64)(w2c_i4) + 10u);
+    w2c_j5 = w2c_l3;
+    w2c_i5 = (u32)(w2c_j5);
+    w2c_i5 = i32_load8_u(memory, (u64)(w2c_i5) + 10u);
+    w2c_i4 = w2c_i4 != w2c_i5;
+    w2c_i5 = 2u;
+    w2c_i4 <<= (w2c_i5 & 31);
+    w2c_i3 |= w2c_i4;
+    w2c_i2 |= w2c_i3;
+    w2c_i3 = 8u;
+    w2c_i2 <<= (w2c_i3 & 31);
+    w2c_i1 |= w2c_i2;
+    w2c_i0 |= w2c_i1;
+    w2c_j1 = w2c_l4;
+    w2c_i1 = (u32)(w2c_j1);
+    w2c_i1 = i32_load8_u(memory, (u64)(w2c_i1) + 16u);
+    w2c_j2 = w2c_l3;
+    w2c_i2 = (u32)(w2c_j2);
+    w2c_i2 = i32_load8_u(memory, (u64)(w2c_i2) + 16u);
+    w2c_i1 = w2c_i1 != w2c_i2;
+    w2c_j2 = w2c_l4;
+    w2c_i2 = (u32)(w2c_j2);
+    w2c_i2 = i32_load8_u(memory, (u64)(w2c_i2) + 17u);
+    w2c_j3 = w2c_l3;
+    w2c_i3 = (u32)(w2c_j3);
+    w2c_i3 = i32_load8_u(memory, (u64)(w2c_i3) + 17u);
+    w2c_i2 = w2c_i2 != w2c_i3;
+    w2c_i3 = 1u;
+    w2c_i2 <<= (w2c_i3 & 31);
+    w2c_i1 |= w2c_i2;
+    w2c_j2 = w2c_l4;
+    w2c_i2 = (u32)(w2c_j2);
+    w2c_i2 = i32_load8_u(memory, (u64)(w2c_i2) + 19u);
+    w2c_j3 = w2c_l3;
+    w2c_i3 = (u32)(w2c_j3);
+    w2c_i3 = i32_load8_u(memory, (u64)(w2c_i3) + 19u);
+    w2c_i2 = w2c_i2 != w2c_i3;
+    w2c_i3 = 3u;
+    w2c_i2 <<= (w2c_i3 & 31);
+    w2c_j3 = w2c_l4;
+    w2c_i3 = (u32)(w2c_j3);
+    w2c_i3 = i32_load8_u(memory, (u64)(w2c_i3) + 18u);
+    w2c_j4 = w2c_l3;
+    w2c_i4 = (u32)(w2c_j4);
+    w2c_i4 = i32_load8_u(memory, (u64)(w2c_i4) + 18u);
+    w2c_i3 = w2c_i3 != w2c_i4;
+    w2c_i4 = 2u;
+    w2c_i3 <<= (w2c_i4 & 31);
+    w2c_i2 |= w2c_i3;
+    w2c_i1 |= w2c_i2;
+    w2c_j2 = w2c_l4;
+    w2c_i2 = (u32)(w2c_j2);
+    w2c_i2 = i32_load8_u(memory, (u64)(w2c_i2) + 20u);
+    w2c_j3 = w2c_l3;
+    w2c_i3 = (u32)(w2c_j3);
+    w2c_i3 = i32_load8_u(memory, (u64)(w2c_i3) + 20u);
+    w2c_i2 = w2c_i2 != w2c_i3;
+    w2c_j3 = w2c_l4;
+    w2c_i3 = (u32)(w2c_j3);
+    w2c_i3 = i32_load8_u(memory, (u64)(w2c_i3) + 21u);
+    w2c_j4 = w2c_l3;
+    w2c_i4 = (u32)(w2c_j4);
+    w2c_i4 = i32_load8_u(memory, (u64)(w2c_i4) + 21u);
+    w2c_i3 = w2c_i3 != w2c_i4;
+    w2c_i4 = 1u;
+    w2c_i3 <<= (w2c_i4 & 31);
+    w2c_i2 |= w2c_i3;
+    w2c_j3 = w2c_l4;
+    w2c_i3 = (u32)(w2c_j3);
+    w2c_i3 = i32_load8_u(memory, (u64)(w2c_i3) + 23u);
+    w2c_j4 = w2c_l3;
+    w2c_i4 = (u32)(w2c_j4);
+    w2c_i4 = i32_load8_u(memory, (u64)(w2c_i4) + 23u);
+    w2c_i3 = w2c_i3 != w2c_i4;
+    w2c_i4 = 3u;
+    w2c_i3 <<= (w2c_i4 & 31);
+    w2c_j4 = w2c_l4;
+    w2c_i4 = (u32)(w2c_j4);
+    w2c_i4 = i32_load8_u(memory, (u64)(w2c_i4) + 22u);
+    w2c_j5 = w2c_l3;
+    w2c_i5 = (u32)(w2c_j5);
+    w2c_i5 = i32_load8_u(memory, (u64)(w2c_i5) + 22u);
+    w2c_i4 = w2c_i4 != w2c_i5;
+    w2c_i5 = 2u;
+    w2c_i4 <<= (w2c_i5 & 31);
+    w2c_i3 |= w2c_i4;
+    w2c_i2 |= w2c_i3;
+    w2c_i3 = 4u;
+    w2c_i2 <<= (w2c_i3 & 31);
+    w2c_i1 |= w2c_i2;
+    w2c_j2 = w2c_l4;
+    w2c_i2 = (u32)(w2c_j2);
+    w2c_i2 = i32_load8_u(memory, (u64)(w2c_i2) + 28u);
+    w2c_j3 = w2c_l3;
+    w2c_i3 = (u32)(w2c_j3);
+    w2c_i3 = i32_load8_u(memory, (u64)(w2c_i3) + 28u);
+    w2c_i2 = w2c_i2 != w2c_i3;
+    w2c_j3 = w2c_l4;
+    w2c_i3 = (u32)(w2c_j3);
+    w2c_i3 = i32_load8_u(memory, (u64)(w2c_i3) + 29u);
+    w2c_j4 = w2c_l3;
+    w2c_i4 = (u32)(w2c_j4);
+    w2c_i4 = i32_load8_u(memory, (u64)(w2c_i4) + 29u);
+    w2c_i3 = w2c_i3 != w2c_i4;
+    w2c_i4 = 1u;
+    w2c_i3 <<= (w2c_i4 & 31);
+    w2c_i2 |= w2c_i3;
+    w2c_j3 = w2c_l4;
+    w2c_i3 = (u32)(w2c_j3);
+    w2c_i3 = i32_load8_u(memory, (u64)(w2c_i3) + 31u);
+    w2c_j4 = w2c_l3;
+    w2c_i4 = (u32)(w2c_j4);
+    w2c_i4 = i32_load8_u(memory, (u64)(w2c_i4) + 31u);
+    w2c_i3 = w2c_i3 != w2c_i4;
+    w2c_i4 = 3u;
+    w2c_i3 <<= (w2c_i4 & 31);
+    w2c_j4 = w2c_l4;
+    w2c_i4 = (u32)(w2c_j4);
+    w2c_i4 = i32_load8_u(memory, (u64)(w2c_i4) + 30u);
+    w2c_j5 = w2c_l3;
+    w2c_i5 = (u32)(w2c_j5);
+    w2c_i5 = i32_load8_u(memory, (u64)(w2c_i5) + 30u);
+    w2c_i4 = w2c_i4 != w2c_i5;
+    w2c_i5 = 2u;
+    w2c_i4 <<= (w2c_i5 & 31);
+    w2c_i3 |= w2c_i4;
+    w2c_i2 |= w2c_i3;
+    w2c_i3 = 12u;
+    w2c_i2 <<= (w2c_i3 & 31);
+    w2c_j3 = w2c_l4;
+    w2c_i3 = (u32)(w2c_j3);
+    w2c_i3 = i32_load8_u(memory, (u64)(w2c_i3) + 24u);
+    w2c_j4 = w2c_l3;
+    w2c_i4 = (u32)(w2c_j4);
+    w2c_i4 = i32_load8_u(memory, (u64)(w2c_i4) + 24u);
+    w2c_i3 = w2c_i3 != w2c_i4;
+    w2c_j4 = w2c_l4;
+    w2c_i4 = (u32)(w2c_j4);
+    w2c_i4 = i32_load8_u(memory, (u64)(w2c_i4) + 25u);
+    w2c_j5 = w2c_l3;
+    w2c_i5 = (u32)(w2c_j5);
+    w2c_i5 = i32_load8_u(memory, (u64)(w2c_i5) + 25u);
+    w2c_i4 = w2c_i4 != w2c_i5;
+    w2c_i5 = 1u;
+    w2c_i4 <<= (w2c_i5 & 31);
+    w2c_i3 |= w2c_i4;
+    w2c_j4 = w2c_l4;
+    w2c_i4 = (u32)(w2c_j4);
+    w2c_i4 = i32_load8_u(memory, (u64)(w2c_i4) + 27u);
+    w2c_j5 = w2c_l3;
+    w2c_i5 = (u32)(w2c_j5);
+    w2c_i5 = i32_load8_u(memory, (u64)(w2c_i5) + 27u);
+    w2c_i4 = w2c_i4 != w2c_i5;
+    w2c_i5 = 3u;
+    w2c_i4 <<= (w2c_i5 & 31);
+    w2c_j5 = w2c_l4;
+    w2c_i5 = (u32)(w2c_j5);
+    w2c_i5 = i32_load8_u(memory, (u64)(w2c_i5) + 26u);
+    w2c_j6 = w2c_l3;
+    w2c_i6 = (u32)(w2c_j6);
+    w2c_i6 = i32_load8_u(memory, (u64)(w2c_i6) + 26u);
+    w2c_i5 = w2c_i5 != w2c_i6;
+    w2c_i6 = 2u;
+    w2c_i5 <<= (w2c_i6 & 31);
+    w2c_i4 |= w2c_i5;
+    w2c_i3 |= w2c_i4;
+    w2c_i4 = 8u;
+    w2c_i3 <<= (w2c_i4 & 31);
+    w2c_i2 |= w2c_i3;
+    w2c_i1 |= w2c_i2;
+    w2c_i0 |= w2c_i1;
+    w2c_i1 = 65535u;
+    w2c_i0 &= w2c_i1;
+    if (w2c_i0) {goto w2c_B9;}
+    w2c_j0 = w2c_l3;
+    w2c_j1 = 32ull;
+    w2c_j0 += w2c_j1;
+    w2c_l3 = w2c_j0;
+    w2c_j0 = w2c_l4;
+    w2c_j1 = 32ull;
+    w2c_j0 += w2c_j1;
+    w2c_l4 = w2c_j0;
+    w2c_j0 = w2c_l6;
+    w2c_j1 = 18446744073709551584ull;
+    w2c_j0 += w2c_j1;
+    w2c_l6 = w2c_j0;
+    w2c_j1 = 32ull;
+    w2c_i0 = w2c_j0 >= w2c_j1;
+    if (w2c_i0) {goto w2c_L10;}
+    goto w2c_B8;
+  UNREACHABLE;
+  w2c_B9:;
+  w2c_j0 = w2c_l6;
+  w2c_j1 = 31ull;
+  w2c_i0 = w2c_j0 > w2c_j1;
+  if (w2c_i0) {goto w2c_B0;}
+  w2c_B8:;
+  w2c_j0 = w2c_p0;
+  w2c_j1 = w2c_p1;
+  w2c_j2 = 18446744073709551584ull;
+  w2c_j1 += w2c_j2;
+  w2c_l4 = w2c_j1;
+  w2c_j0 += w2c_j1;
+  w2c_l3 = w2c_j0;
+  w2c_i0 = (u32)(w2c_j0);
+  w2c_i0 = i32_load8_u(memory, (u64)(w2c_i0));
+  w2c_j1 = w2c_p2;
+  w2c_j2 = w2c_l4;
+  w2c_j1 += w2c_j2;
+  w2c_l4 = w2c_j1;
+  w2c_i1 = (u32)(w2c_j1);
+  w2c_i1 = i32_load8_u(memory, (u64)(w2c_i1));
+  w2c_i0 = w2c_i0 != w2c_i1;
+  w2c_j1 = w2c_l3;
+  w2c_i1 = (u32)(w2c_j1);
+  w2c_i1 = i32_load8_u(memory, (u64)(w2c_i1) + 1u);
+  w2c_j2 = w2c_l4;
+  w2c_i2 = (u32)(w2c_j2);
+  w2c_i2 = i32_load8_u(memory, (u64)(w2c_i2) + 1u);
+  w2c_i1 = w2c_i1 != w2c_i2;
+  w2c_i2 = 1u;
+  w2c_i1 <<= (w2c_i2 & 31);
+  w2c_i0 |= w2c_i1;
+  w2c_j1 = w2c_l3;
+  w2c_i1 = (u32)(w2c_j1);
+  w2c_i1 = i32_load8_u(memory, (u64)(w2c_i1) + 3u);
+  w2c_j2 = w2c_l4;
+  w2c_i2 = (u32)(w2c_j2);
+  w2c_i2 = i32_load8_u(memory, (u64)(w2c_i2) + 3u);
+  w2c_i1 = w2c_i1 != w2c_i2;
+  w2c_i2 = 3u;
+  w2c_i1 <<= (w2c_i2 & 31);
+  w2c_j2 = w2c_l3;
+  w2c_i2 = (u32)(w2c_j2);
+  w2c_i2 = i32_load8_u(memory, (u64)(w2c_i2) + 2u);
+  w2c_j3 = w2c_l4;
+  w2c_i3 = (u32)(w2c_j3);
+  w2c_i3 = i32_load8_u(memory, (u64)(w2c_i3) + 2u);
+  w2c_i2 = w2c_i2 != w2c_i3;
+  w2c_i3 = 2u;
+  w2c_i2 <<= (w2c_i3 & 31);
+  w2c_i1 |= w2c_i2;
+  w2c_i0 |= w2c_i1;
+  w2c_j1 = w2c_l3;
+  w2c_i1 = (u32)(w2c_j1);
+  w2c_i1 = i32_load8_u(memory, (u64)(w2c_i1) + 4u);
+  w2c_j2 = w2c_l4;
+  w2c_i2 = (u32)(w2c_j2);
+  w2c_i2 = i32_load8_u(memory, (u64)(w2c_i2) + 4u);
+  w2c_i1 = w2c_i1 != w2c_i2;
+  w2c_j2 = w2c_l3;
+  w2c_i2 = (u32)(w2c_j2);
+  w2c_i2 = i32_load8_u(memory, (u64)(w2c_i2) + 5u);
+  w2c_j3 = w2c_l4;
+  w2c_i3 = (u32)(w2c_j3);
+  w2c_i3 = i32_load8_u(memory, (u64)(w2c_i3) + 5u);
+  w2c_i2 = w2c_i2 != w2c_i3;
+  w2c_i3 = 1u;
+  w2c_i2 <<= (w2c_i3 & 31);
+  w2c_i1 |= w2c_i2;
+  w2c_j2 = w2c_l3;
+  w2c_i2 = (u32)(w2c_j2);
+  w2c_i2 = i32_load8_u(memory, (u64)(w2c_i2) + 7u);
+  w2c_j3 = w2c_l4;
+  w2c_i3 = (u32)(w2c_j3);
+  w2c_i3 = i32_load8_u(memory, (u64)(w2c_i3) + 7u);
+  w2c_i2 = w2c_i2 != w2c_i3;
+  w2c_i3 = 3u;
+  w2c_i2 <<= (w2c_i3 & 31);
+  w2c_j3 = w2c_l3;
+  w2c_i3 = (u32)(w2c_j3);
+  w2c_i3 = i32_load8_u(memory, (u64)(w2c_i3) + 6u);
+  w2c_j4 = w2c_l4;
+  w2c_i4 = (u32)(w2c_j4);
+  w2c_i4 = i32_load8_u(memory, (u64)(w2c_i4) + 6u);
+  w2c_i3 = w2c_i3 != w2c_i4;
+  w2c_i4 = 2u;
+  w2c_i3 <<= (w2c_i4 & 31);
+  w2c_i2 |= w2c_i3;
+  w2c_i1 |= w2c_i2;
+  w2c_i2 = 4u;
+  w2c_i1 <<= (w2c_i2 & 31);
+  w2c_i0 |= w2c_i1;
+  w2c_j1 = w2c_l3;
+  w2c_i1 = (u32)(w2c_j1);
+  w2c_i1 = i32_load8_u(memory, (u64)(w2c_i1) + 12u);
+  w2c_j2 = w2c_l4;
+  w2c_i2 = (u32)(w2c_j2);
+  w2c_i2 = i32_load8_u(memory, (u64)(w2c_i2) + 12u);
+  w2c_i1 = w2c_i1 != w2c_i2;
+  w2c_j2 = w2c_l3;
+  w2c_i2 = (u32)(w2c_j2);
+  w2c_i2 = i32_load8_u(memory, (u64)(w2c_i2) + 13u);
+  w2c_j3 = w2c_l4;
+  w2c_i3 = (u32)(w2c_j3);
+  w2c_i3 = i32_load8_u(memory, (u64)(w2c_i3) + 13u);
+  w2c_i2 = w2c_i2 != w2c_i3;
+  w2c_i3 = 1u;
+  w2c_i2 <<= (w2c_i3 & 31);
+  w2c_i1 |= w2c_i2;
+  w2c_j2 = w2c_l3;
+  w2c_i2 = (u32)(w2c_j2);
+  w2c_i2 = i32_load8_u(memory, (u64)(w2c_i2) + 15u);
+  w2c_j3 = w2c_l4;
+  w2c_i3 = (u32)(w2c_j3);
+  w2c_i3 = i32_load8_u(memory, (u64)(w2c_i3) + 15u);
+  w2c_i2 = w2c_i2 != w2c_i3;
+  w2c_i3 = 3u;
+  w2c_i2 <<= (w2c_i3 & 31);
+  w2c_j3 = w2c_l3;
+  w2c_i3 = (u32)(w2c_j3);
+  w2c_i3 = i32_load8_u(memory, (u64)(w2c_i3) + 14u);
+  w2c_j4 = w2c_l4;
+  w2c_i4 = (u32)(w2c_j4);
+  w2c_i4 = i32_load8_u(memory, (u64)(w2c_i4) + 14u);
+  w2c_i3 = w2c_i3 != w2c_i4;
+  w2c_i4 = 2u;
+  w2c_i3 <<= (w2c_i4 & 31);
+  w2c_i2 |= w2c_i3;
+  w2c_i1 |= w2c_i2;
+  w2c_i2 = 12u;
+  w2c_i1 <<= (w2c_i2 & 31);
+  w2c_j2 = w2c_l3;
+  w2c_i2 = (u32)(w2c_j2);
+  w2c_i2 = i32_load8_u(memory, (u64)(w2c_i2) + 8u);
+  w2c_j3 = w2c_l4;
+  w2c_i3 = (u32)(w2c_j3);
+  w2c_i3 = i32_load8_u(memory, (u64)(w2c_i3) + 8u);
+  w2c_i2 = w2c_i2 != w2c_i3;
+  w2c_j3 = w2c_l3;
+  w2c_i3 = (u32)(w2c_j3);
+  w2c_i3 = i32_load8_u(memory, (u64)(w2c_i3) + 9u);
+  w2c_j4 = w2c_l4;
+  w2c_i4 = (u32)(w2c_j4);
+  w2c_i4 = i32_load8_u(memory, (u64)(w2c_i4) + 9u);
+  w2c_i3 = w2c_i3 != w2c_i4;
+  w2c_i4 = 1u;
+  w2c_i3 <<= (w2c_i4 & 31);
+  w2c_i2 |= w2c_i3;
+  w2c_j3 = w2c_l3;
+  w2c_i3 = (u32)(w2c_j3);
+  w2c_i3 = i32_load8_u(memory, (u64)(w2c_i3) + 11u);
+  w2c_j4 = w2c_l4;
+  w2c_i4 = (u32)(w2c_j4);
+  w2c_i4 = i32_load8_u(memory, (u64)(w2c_i4) + 11u);
+  w2c_i3 = w2c_i3 != w2c_i4;
+  w2c_i4 = 3u;
+  w2c_i3 <<= (w2c_i4 & 31);
+  w2c_j4 = w2c_l3;
+  w2c_i4 = (u32)(w2c_j4);
+  w2c_i4 = i32_load8_u(memory, (u64)(w2c_i4) + 10u);
+  w2c_j5 = w2c_l4;
+  w2c_i5 = (u32)(w2c_j5);
+  w2c_i5 = i32_load8_u(memory, (u64)(w2c_i5) + 10u);
+  w2c_i4 = w2c_i4 != w2c_i5;
+  w2c_i5 = 2u;
+  w2c_i4 <<= (w2c_i5 & 31);
+  w2c_i3 |= w2c_i4;
+  w2c_i2 |= w2c_i3;
+  w2c_i3 = 8u;
+  w2c_i2 <<= (w2c_i3 & 31);
+  w2c_i1 |= w2c_i2;
+  w2c_i0 |= w2c_i1;
+  w2c_j1 = w2c_l3;
+  w2c_i1 = (u32)(w2c_j1);
+  w2c_i1 = i32_load8_u(memory, (u64)(w2c_i1) + 16u);
+  w2c_j2 = w2c_l4;
+  w2c_i2 = (u32)(w2c_j2);
+  w2c_i2 = i32_load8_u(memory, (u64)(w2c_i2) + 16u);
+  w2c_i1 = w2c_i1 != w2c_i2;
+  w2c_j2 = w2c_l3;
+  w2c_i2 = (u32)(w2c_j2);
+  w2c_i2 = i32_load8_u(memory, (u64)(w2c_i2) + 17u);
+  w2c_j3 = w2c_l4;
+  w2c_i3 = (u32)(w2c_j3);
+  w2c_i3 = i32_load8_u(memory, (u64)(w2c_i3) + 17u);
+  w2c_i2 = w2c_i2 != w2c_i3;
+  w2c_i3 = 1u;
+  w2c_i2 <<= (w2c_i3 & 31);
+  w2c_i1 |= w2c_i2;
+  w2c_j2 = w2c_l3;
+  w2c_i2 = (u32)(w2c_j2);
+  w2c_i2 = i32_load8_u(memory, (u64)(w2c_i2) + 19u);
+  w2c_j3 = w2c_l4;
+  w2c_i3 = (u32)(w2c_j3);
+  w2c_i3 = i32_load8_u(memory, (u64)(w2c_i3) + 19u);
+  w2c_i2 = w2c_i2 != w2c_i3;
+  w2c_i3 = 3u;
+  w2c_i2 <<= (w2c_i3 & 31);
+  w2c_j3 = w2c_l3;
+  w2c_i3 = (u32)(w2c_j3);
+  w2c_i3 = i32_load8_u(memory, (u64)(w2c_i3) + 18u);
+  w2c_j4 = w2c_l4;
+  w2c_i4 = (u32)(w2c_j4);
+  w2c_i4 = i32_load8_u(memory, (u64)(w2c_i4) + 18u);
+  w2c_i3 = w2c_i3 != w2c_i4;
+  w2c_i4 = 2u;
+  w2c_i3 <<= (w2c_i4 & 31);
+  w2c_i2 |= w2c_i3;
+  w2c_i1 |= w2c_i2;
+  w2c_j2 = w2c_l3;
+  w2c_i2 = (u32)(w2c_j2);
+  w2c_i2 = i32_load8_u(memory, (u64)(w2c_i2) + 20u);
+  w2c_j3 = w2c_l4;
+  w2c_i3 = (u32)(w2c_j3);
+  w2c_i3 = i32_load8_u(memory, (u64)(w2c_i3) + 20u);
+  w2c_i2 = w2c_i2 != w2c_i3;
+  w2c_j3 = w2c_l3;
+  w2c_i3 = (u32)(w2c_j3);
+  w2c_i3 = i32_load8_u(memory, (u64)(w2c_i3) + 21u);
+  w2c_j4 = w2c_l4;
+  w2c_i4 = (u32)(w2c_j4);
+  w2c_i4 = i32_load8_u(memory, (u64)(w2c_i4) + 21u);
+  w2c_i3 = w2c_i3 != w2c_i4;
+  w2c_i4 = 1u;
+  w2c_i3 <<= (w2c_i4 & 31);
+  w2c_i2 |= w2c_i3;
+  w2c_j3 = w2c_l3;
+  w2c_i3 = (u32)(w2c_j3);
+  w2c_i3 = i32_load8_u(memory, (u64)(w2c_i3) + 23u);
+  w2c_j4 = w2c_l4;
+  w2c_i4 = (u32)(w2c_j4);
+  w2c_i4 = i32_load8_u(memory, (u64)(w2c_i4) + 23u);
+  w2c_i3 = w2c_i3 != w2c_i4;
+  w2c_i4 = 3u;
+  w2c_i3 <<= (w2c_i4 & 31);
+  w2c_j4 = w2c_l3;
+  w2c_i4 = (u32)(w2c_j4);
+  w2c_i4 = i32_load8_u(memory, (u64)(w2c_i4) + 22u);
+  w2c_j5 = w2c_l4;
+  w2c_i5 = (u32)(w2c_j5);
+  w2c_i5 = i32_load8_u(memory, (u64)(w2c_i5) + 22u);
+  w2c_i4 = w2c_i4 != w2c_i5;
+  w2c_i5 = 2u;
+  w2c_i4 <<= (w2c_i5 & 31);
+  w2c_i3 |= w2c_i4;
+  w2c_i2 |= w2c_i3;
+  w2c_i3 = 4u;
+  w2c_i2 <<= (w2c_i3 & 31);
+  w2c_i1 |= w2c_i2;
+  w2c_j2 = w2c_l3;
+  w2c_i2 = (u32)(w2c_j2);
+  w2c_i2 = i32_load8_u(memory, (u64)(w2c_i2) + 28u);
+  w2c_j3 = w2c_l4;
+  w2c_i3 = (u32)(w2c_j3);
+  w2c_i3 = i32_load8_u(memory, (u64)(w2c_i3) + 28u);
+  w2c_i2 = w2c_i2 != w2c_i3;
+  w2c_j3 = w2c_l3;
+  w2c_i3 = (u32)(w2c_j3);
+  w2c_i3 = i32_load8_u(memory, (u64)(w2c_i3) + 29u);
+  w2c_j4 = w2c_l4;
+  w2c_i4 = (u32)(w2c_j4);
+  w2c_i4 = i32_load8_u(memory, (u64)(w2c_i4) + 29u);
+  w2c_i3 = w2c_i3 != w2c_i4;
+  w2c_i4 = 1u;
+  w2c_i3 <<= (w2c_i4 & 31);
+  w2c_i2 |= w2c_i3;
+  w2c_j3 = w2c_l3;
+  w2c_i3 = (u32)(w2c_j3);
+  w2c_i3 = i32_load8_u(memory, (u64)(w2c_i3) + 31u);
+  w2c_j4 = w2c_l4;
+  w2c_i4 = (u32)(w2c_j4);
+  w2c_i4 = i32_load8_u(memory, (u64)(w2c_i4) + 31u);
+  w2c_i3 = w2c_i3 != w2c_i4;
+  w2c_i4 = 3u;
+  w2c_i3 <<= (w2c_i4 & 31);
+  w2c_j4 = w2c_l3;
+  w2c_i4 = (u32)(w2c_j4);
+  w2c_i4 = i32_load8_u(memory, (u64)(w2c_i4) + 30u);
+  w2c_j5 = w2c_l4;
+  w2c_i5 = (u32)(w2c_j5);
+  w2c_i5 = i32_load8_u(memory, (u64)(w2c_i5) + 30u);
+  w2c_i4 = w2c_i4 != w2c_i5;
+  w2c_i5 = 2u;
+  w2c_i4 <<= (w2c_i5 & 31);
+  w2c_i3 |= w2c_i4;
+  w2c_i2 |= w2c_i3;
+  w2c_i3 = 12u;
+  w2c_i2 <<= (w2c_i3 & 31);
+  w2c_j3 = w2c_l3;
+  w2c_i3 = (u32)(w2c_j3);
+  w2c_i3 = i32_load8_u(memory, (u64)(w2c_i3) + 24u);
+  w2c_j4 = w2c_l4;
+  w2c_i4 = (u32)(w2c_j4);
+  w2c_i4 = i32_load8_u(memory, (u64)(w2c_i4) + 24u);
+  w2c_i3 = w2c_i3 != w2c_i4;
+  w2c_j4 = w2c_l3;
+  w2c_i4 = (u32)(w2c_j4);
+  w2c_i4 = i32_load8_u(memory, (u64)(w2c_i4) + 25u);
+  w2c_j5 = w2c_l4;
+  w2c_i5 = (u32)(w2c_j5);
+  w2c_i5 = i32_load8_u(memory, (u64)(w2c_i5) + 25u);
+  w2c_i4 = w2c_i4 != w2c_i5;
+  w2c_i5 = 1u;
+  w2c_i4 <<= (w2c_i5 & 31);
+  w2c_i3 |= w2c_i4;
+  w2c_j4 = w2c_l3;
+  w2c_i4 = (u32)(w2c_j4);
+  w2c_i4 = i32_load8_u(memory, (u64)(w2c_i4) + 27u);
+  w2c_j5 = w2c_l4;
+  w2c_i5 = (u32)(w2c_j5);
+  w2c_i5 = i32_load8_u(memory, (u64)(w2c_i5) + 27u);
+  w2c_i4 = w2c_i4 != w2c_i5;
+  w2c_i5 = 3u;
+  w2c_i4 <<= (w2c_i5 & 31);
+  w2c_j5 = w2c_l3;
+  w2c_i5 = (u32)(w2c_j5);
+  w2c_i5 = i32_load8_u(memory, (u64)(w2c_i5) + 26u);
+  w2c_j6 = w2c_l4;
+  w2c_i6 = (u32)(w2c_j6);
+  w2c_i6 = i32_load8_u(memory, (u64)(w2c_i6) + 26u);
+  w2c_i5 = w2c_i5 != w2c_i6;
+  w2c_i6 = 2u;
+  w2c_i5 <<= (w2c_i6 & 31);
+  w2c_i4 |= w2c_i5;
+  w2c_i3 |= w2c_i4;
+  w2c_i4 = 8u;
+  w2c_i3 <<= (w2c_i4 & 31);
+  w2c_i2 |= w2c_i3;
+  w2c_i1 |= w2c_i2;
+  w2c_i0 |= w2c_i1;
+  w2c_i1 = 65535u;
+  w2c_i0 &= w2c_i1;
+  w2c_i1 = 0u;
+  w2c_i0 = w2c_i0 != w2c_i1;
+  w2c_l10 = w2c_i0;
+  goto w2c_B0;
+  w2c_B2:;
+  UNREACHABLE;
+  w2c_B1:;
+  w2c_j0 = w2c_p0;
+  w2c_j1 = w2c_p1;
+  w2c_j2 = 18446744073709551584ull;
+  w2c_j1 += w2c_j2;
+  w2c_l4 = w2c_j1;
+  w2c_j0 += w2c_j1;
+  w2c_l3 = w2c_j0;
+  w2c_i0 = (u32)(w2c_j0);
+  w2c_i0 = i32_load8_u(memory, (u64)(w2c_i0));
+  w2c_j1 = w2c_p2;
+  w2c_j2 = w2c_l4;
+  w2c_j1 += w2c_j2;
+  w2c_l4 = w2c_j1;
+  w2c_i1 = (u32)(w2c_j1);
+  w2c_i1 = i32_load8_u(memory, (u64)(w2c_i1));
+  w2c_i0 = w2c_i0 != w2c_i1;
+  w2c_j1 = w2c_l3;
+  w2c_i1 = (u32)(w2c_j1);
+  w2c_i1 = i32_load8_u(memory, (u64)(w2c_i1) + 1u);
+  w2c_j2 = w2c_l4;
+  w2c_i2 = (u32)(w2c_j2);
+  w2c_i2 = i32_load8_u(memory, (u64)(w2c_i2) + 1u);
+  w2c_i1 = w2c_i1 != w2c_i2;
+  w2c_i2 = 1u;
+  w2c_i1 <<= (w2c_i2 & 31);
+  w2c_i0 |= w2c_i1;
+  w2c_j1 = w2c_l3;
+  w2c_i1 = (u32)(w2c_j1);
+  w2c_i1 = i32_load8_u(memory, (u64)(w2c_i1) + 3u);
+  w2c_j2 = w2c_l4;
+  w2c_i2 = (u32)(w2c_j2);
+  w2c_i2 = i32_load8_u(memory, (u64)(w2c_i2) + 3u);
+  w2c_i1 = w2c_i1 != w2c_i2;
+  w2c_i2 = 3u;
+  w2c_i1 <<= (w2c_i2 & 31);
+  w2c_j2 = w2c_l3;
+  w2c_i2 = (u32)(w2c_j2);
+  w2c_i2 = i32_load8_u(memory, (u64)(w2c_i2) + 2u);
+  w2c_j3 = w2c_l4;
+  w2c_i3 = (u32)(w2c_j3);
+  w2c_i3 = i32_load8_u(memory, (u64)(w2c_i3) + 2u);
+  w2c_i2 = w2c_i2 != w2c_i3;
+  w2c_i3 = 2u;
+  w2c_i2 <<= (w2c_i3 & 31);
+  w2c_i1 |= w2c_i2;
+  w2c_i0 |= w2c_i1;
+  w2c_j1 = w2c_l3;
+  w2c_i1 = (u32)(w2c_j1);
+  w2c_i1 = i32_load8_u(memory, (u64)(w2c_i1) + 4u);
+  w2c_j2 = w2c_l4;
+  w2c_i2 = (u32)(w2c_j2);
+  w2c_i2 = i32_load8_u(memory, (u64)(w2c_i2) + 4u);
+  w2c_i1 = w2c_i1 != w2c_i2;
+  w2c_j2 = w2c_l3;
+  w2c_i2 = (u32)(w2c_j2);
+  w2c_i2 = i32_load8_u(memory, (u64)(w2c_i2) + 5u);
+  w2c_j3 = w2c_l4;
+  w2c_i3 = (u32)(w2c_j3);
+  w2c_i3 = i32_load8_u(memory, (u64)(w2c_i3) + 5u);
+  w2c_i2 = w2c_i2 != w2c_i3;
+  w2c_i3 = 1u;
+  w2c_i2 <<= (w2c_i3 & 31);
+  w2c_i1 |= w2c_i2;
+  w2c_j2 = w2c_l3;
+  w2c_i2 = (u32)(w2c_j2);
+  w2c_i2 = i32_load8_u(memory, (u64)(w2c_i2) + 7u);
+  w2c_j3 = w2c_l4;
+  w2c_i3 = (u32)(w2c_j3);
+  w2c_i3 = i32_load8_u(memory, (u64)(w2c_i3) + 7u);
+  w2c_i2 = w2c_i2 != w2c_i3;
+  w2c_i3 = 3u;
+  w2c_i2 <<= (w2c_i3 & 31);
+  w2c_j3 = w2c_l3;
+  w2c_i3 = (u32)(w2c_j3);
+  w2c_i3 = i32_load8_u(memory, (u64)(w2c_i3) + 6u);
+  w2c_j4 = w2c_l4;
+  w2c_i4 = (u32)(w2c_j4);
+  w2c_i4 = i32_load8_u(memory, (u64)(w2c_i4) + 6u);
+  w2c_i3 = w2c_i3 != w2c_i4;
+  w2c_i4 = 2u;
+  w2c_i3 <<= (w2c_i4 & 31);
+  w2c_i2 |= w2c_i3;
+  w2c_i1 |= w2c_i2;
+  w2c_i2 = 4u;
+  w2c_i1 <<= (w2c_i2 & 31);
+  w2c_i0 |= w2c_i1;
+  w2c_j1 = w2c_l3;
+  w2c_i1 = (u32)(w2c_j1);
+  w2c_i1 = i32_load8_u(memory, (u64)(w2c_i1) + 12u);
+  w2c_j2 = w2c_l4;
+  w2c_i2 = (u32)(w2c_j2);
+  w2c_i2 = i32_load8_u(memory, (u64)(w2c_i2) + 12u);
+  w2c_i1 = w2c_i1 != w2c_i2;
+  w2c_j2 = w2c_l3;
+  w2c_i2 = (u32)(w2c_j2);
+  w2c_i2 = i32_load8_u(memory, (u64)(w2c_i2) + 13u);
+  w2c_j3 = w2c_l4;
+  w2c_i3 = (u32)(w2c_j3);
+  w2c_i3 = i32_load8_u(memory, (u64)(w2c_i3) + 13u);
+  w2c_i2 = w2c_i2 != w2c_i3;
+  w2c_i3 = 1u;
+  w2c_i2 <<= (w2c_i3 & 31);
+  w2c_i1 |= w2c_i2;
+  w2c_j2 = w2c_l3;
+  w2c_i2 = (u32)(w2c_j2);
+  w2c_i2 = i32_load8_u(memory, (u64)(w2c_i2) + 15u);
+  w2c_j3 = w2c_l4;
+  w2c_i3 = (u32)(w2c_j3);
+  w2c_i3 = i32_load8_u(memory, (u64)(w2c_i3) + 15u);
+  w2c_i2 = w2c_i2 != w2c_i3;
+  w2c_i3 = 3u;
+  w2c_i2 <<= (w2c_i3 & 31);
+  w2c_j3 = w2c_l3;
+  w2c_i3 = (u32)(w2c_j3);
+  w2c_i3 = i32_load8_u(memory, (u64)(w2c_i3) + 14u);
+  w2c_j4 = w2c_l4;
+  w2c_i4 = (u32)(w2c_j4);
+  w2c_i4 = i32_load8_u(memory, (u64)(w2c_i4) + 14u);
+  w2c_i3 = w2c_i3 != w2c_i4;
+  w2c_i4 = 2u;
+  w2c_i3 <<= (w2c_i4 & 31);
+  w2c_i2 |= w2c_i3;
+  w2c_i1 |= w2c_i2;
+  w2c_i2 = 12u;
+  w2c_i1 <<= (w2c_i2 & 31);
+  w2c_j2 = w2c_l3;
+  w2c_i2 = (u32)(w2c_j2);
+  w2c_i2 = i32_load8_u(memory, (u64)(w2c_i2) + 8u);
+  w2c_j3 = w2c_l4;
+  w2c_i3 = (u32)(w2c_j3);
+  w2c_i3 = i32_load8_u(memory, (u64)(w2c_i3) + 8u);
+  w2c_i2 = w2c_i2 != w2c_i3;
+  w2c_j3 = w2c_l3;
+  w2c_i3 = (u32)(w2c_j3);
+  w2c_i3 = i32_load8_u(memory, (u64)(w2c_i3) + 9u);
+  w2c_j4 = w2c_l4;
+  w2c_i4 = (u32)(w2c_j4);
+  w2c_i4 = i32_load8_u(memory, (u64)(w2c_i4) + 9u);
+  w2c_i3 = w2c_i3 != w2c_i4;
+  w2c_i4 = 1u;
+  w2c_i3 <<= (w2c_i4 & 31);
+  w2c_i2 |= w2c_i3;
+  w2c_j3 = w2c_l3;
+  w2c_i3 = (u32)(w2c_j3);
+  w2c_i3 = i32_load8_u(memory, (u64)(w2c_i3) + 11u);
+  w2c_j4 = w2c_l4;
+  w2c_i4 = (u32)(w2c_j4);
+  w2c_i4 = i32_load8_u(memory, (u64)(w2c_i4) + 11u);
+  w2c_i3 = w2c_i3 != w2c_i4;
+  w2c_i4 = 3u;
+  w2c_i3 <<= (w2c_i4 & 31);
+  w2c_j4 = w2c_l3;
+  w2c_i4 = (u32)(w2c_j4);
+  w2c_i4 = i32_load8_u(memory, (u64)(w2c_i4) + 10u);
+  w2c_j5 = w2c_l4;
+  w2c_i5 = (u32)(w2c_j5);
+  w2c_i5 = i32_load8_u(memory, (u64)(w2c_i5) + 10u);
+  w2c_i4 = w2c_i4 != w2c_i5;
+  w2c_i5 = 2u;
+  w2c_i4 <<= (w2c_i5 & 31);
+  w2c_i3 |= w2c_i4;
+  w2c_i2 |= w2c_i3;
+  w2c_i3 = 8u;
+  w2c_i2 <<= (w2c_i3 & 31);
+  w2c_i1 |= w2c_i2;
+  w2c_i0 |= w2c_i1;
+  w2c_j1 = w2c_l3;
+  w2c_i1 = (u32)(w2c_j1);
+  w2c_i1 = i32_load8_u(memory, (u64)(w2c_i1) + 16u);
+  w2c_j2 = w2c_l4;
+  w2c_i2 = (u32)(w2c_j2);
+  w2c_i2 = i32_load8_u(memory, (u64)(w2c_i2) + 16u);
+  w2c_i1 = w2c_i1 != w2c_i2;
+  w2c_j2 = w2c_l3;
+  w2c_i2 = (u32)(w2c_j2);
+  w2c_i2 = i32_load8_u(memory, (u64)(w2c_i2) + 17u);
+  w2c_j3 = w2c_l4;
+  w2c_i3 = (u32)(w2c_j3);
+  w2c_i3 = i32_load8_u(memory, (u64)(w2c_i3) + 17u);
+  w2c_i2 = w2c_i2 != w2c_i3;
+  w2c_i3 = 1u;
+  w2c_i2 <<= (w2c_i3 & 31);
+  w2c_i1 |= w2c_i2;
+  w2c_j2 = w2c_l3;
+  w2c_i2 = (u32)(w2c_j2);
+  w2c_i2 = i32_load8_u(memory, (u64)(w2c_i2) + 19u);
+  w2c_j3 = w2c_l4;
+  w2c_i3 = (u32)(w2c_j3);
+  w2c_i3 = i32_load8_u(memory, (u64)(w2c_i3) + 19u);
+  w2c_i2 = w2c_i2 != w2c_i3;
+  w2c_i3 = 3u;
+  w2c_i2 <<= (w2c_i3 & 31);
+  w2c_j3 = w2c_l3;
+  w2c_i3 = (u32)(w2c_j3);
+  w2c_i3 = i32_load8_u(memory, (u64)(w2c_i3) + 18u);
+  w2c_j4 = w2c_l4;
+  w2c_i4 = (u32)(w2c_j4);
+  w2c_i4 = i32_load8_u(memory, (u64)(w2c_i4) + 18u);
+  w2c_i3 = w2c_i3 != w2c_i4;
+  w2c_i4 = 2u;
+  w2c_i3 <<= (w2c_i4 & 31);
+  w2c_i2 |= w2c_i3;
+  w2c_i1 |= w2c_i2;
+  w2c_j2 = w2c_l3;
+  w2c_i2 = (u32)(w2c_j2);
+  w2c_i2 = i32_load8_u(memory, (u64)(w2c_i2) + 20u);
+  w2c_j3 = w2c_l4;
+  w2c_i3 = (u32)(w2c_j3);
+  w2c_i3 = i32_load8_u(memory, (u64)(w2c_i3) + 20u);
+  w2c_i2 = w2c_i2 != w2c_i3;
+  w2c_j3 = w2c_l3;
+  w2c_i3 = (u32)(w2c_j3);
+  w2c_i3 = i32_load8_u(memory, (u64)(w2c_i3) + 21u);
+  w2c_j4 = w2c_l4;
+  w2c_i4 = (u32)(w2c_j4);
+  w2c_i4 = i32_load8_u(memory, (u64)(w2c_i4) + 21u);
+  w2c_i3 = w2c_i3 != w2c_i4;
+  w2c_i4 = 1u;
+  w2c_i3 <<= (w2c_i4 & 31);
+  w2c_i2 |= w2c_i3;
+  w2c_j3 = w2c_l3;
+  w2c_i3 = (u32)(w2c_j3);
+  w2c_i3 = i32_load8_u(memory, (u64)(w2c_i3) + 23u);
+  w2c_j4 = w2c_l4;
+  w2c_i4 = (u32)(w2c_j4);
+  w2c_i4 = i32_load8_u(memory, (u64)(w2c_i4) + 23u);
+  w2c_i3 = w2c_i3 != w2c_i4;
+  w2c_i4 = 3u;
+  w2c_i3 <<= (w2c_i4 & 31);
+  w2c_j4 = w2c_l3;
+  w2c_i4 = (u32)(w2c_j4);
+  w2c_i4 = i32_load8_u(memory, (u64)(w2c_i4) + 22u);
+  w2c_j5 = w2c_l4;
+  w2c_i5 = (u32)(w2c_j5);
+  w2c_i5 = i32_load8_u(memory, (u64)(w2c_i5) + 22u);
+  w2c_i4 = w2c_i4 != w2c_i5;
+  w2c_i5 = 2u;
+  w2c_i4 <<= (w2c_i5 & 31);
+  w2c_i3 |= w2c_i4;
+  w2c_i2 |= w2c_i3;
+  w2c_i3 = 4u;
+  w2c_i2 <<= (w2c_i3 & 31);
+  w2c_i1 |= w2c_i2;
+  w2c_j2 = w2c_l3;
+  w2c_i2 = (u32)(w2c_j2);
+  w2c_i2 = i32_load8_u(memory, (u64)(w2c_i2) + 28u);
+  w2c_j3 = w2c_l4;
+  w2c_i3 = (u32)(w2c_j3);
+  w2c_i3 = i32_load8_u(memory, (u64)(w2c_i3) + 28u);
+  w2c_i2 = w2c_i2 != w2c_i3;
+  w2c_j3 = w2c_l3;
+  w2c_i3 = (u32)(w2c_j3);
+  w2c_i3 = i32_load8_u(memory, (u64)(w2c_i3) + 29u);
+  w2c_j4 = w2c_l4;
+  w2c_i4 = (u32)(w2c_j4);
+  w2c_i4 = i32_load8_u(memory, (u64)(w2c_i4) + 29u);
+  w2c_i3 = w2c_i3 != w2c_i4;
+  w2c_i4 = 1u;
+  w2c_i3 <<= (w2c_i4 & 31);
+  w2c_i2 |= w2c_i3;
+  w2c_j3 = w2c_l3;
+  w2c_i3 = (u32)(w2c_j3);
+  w2c_i3 = i32_load8_u(memory, (u64)(w2c_i3) + 31u);
+  w2c_j4 = w2c_l4;
+  w2c_i4 = (u32)(w2c_j4);
+  w2c_i4 = i32_load8_u(memory, (u64)(w2c_i4) + 31u);
+  w2c_i3 = w2c_i3 != w2c_i4;
+  w2c_i4 = 3u;
+  w2c_i3 <<= (w2c_i4 & 31);
+  w2c_j4 = w2c_l3;
+  w2c_i4 = (u32)(w2c_j4);
+  w2c_i4 = i32_load8_u(memory, (u64)(w2c_i4) + 30u);
+  w2c_j5 = w2c_l4;
+  w2c_i5 = (u32)(w2c_j5);
+  w2c_i5 = i32_load8_u(memory, (u64)(w2c_i5) + 30u);
+  w2c_i4 = w2c_i4 != w2c_i5;
+  w2c_i5 = 2u;
+  w2c_i4 <<= (w2c_i5 & 31);
+  w2c_i3 |= w2c_i4;
+  w2c_i2 |= w2c_i3;
+  w2c_i3 = 12u;
+  w2c_i2 <<= (w2c_i3 & 31);
+  w2c_j3 = w2c_l3;
+  w2c_i3 = (u32)(w2c_j3);
+  w2c_i3 = i32_load8_u(memory, (u64)(w2c_i3) + 24u);
+  w2c_j4 = w2c_l4;
+  w2c_i4 = (u32)(w2c_j4);
+  w2c_i4 = i32_load8_u(memory, (u64)(w2c_i4) + 24u);
+  w2c_i3 = w2c_i3 != w2c_i4;
+  w2c_j4 = w2c_l3;
+  w2c_i4 = (u32)(w2c_j4);
+  w2c_i4 = i32_load8_u(memory, (u64)(w2c_i4) + 25u);
+  w2c_j5 = w2c_l4;
+  w2c_i5 = (u32)(w2c_j5);
+  w2c_i5 = i32_load8_u(memory, (u64)(w2c_i5) + 25u);
+  w2c_i4 = w2c_i4 != w2c_i5;
+  w2c_i5 = 1u;
+  w2c_i4 <<= (w2c_i5 & 31);
+  w2c_i3 |= w2c_i4;
+  w2c_j4 = w2c_l3;
+  w2c_i4 = (u32)(w2c_j4);
+  w2c_i4 = i32_load8_u(memory, (u64)(w2c_i4) + 27u);
+  w2c_j5 = w2c_l4;
+  w2c_i5 = (u32)(w2c_j5);
+  w2c_i5 = i32_load8_u(memory, (u64)(w2c_i5) + 27u);
+  w2c_i4 = w2c_i4 != w2c_i5;
+  w2c_i5 = 3u;
+  w2c_i4 <<= (w2c_i5 & 31);
+  w2c_j5 = w2c_l3;
+  w2c_i5 = (u32)(w2c_j5);
+  w2c_i5 = i32_load8_u(memory, (u64)(w2c_i5) + 26u);
+  w2c_j6 = w2c_l4;
+  w2c_i6 = (u32)(w2c_j6);
+  w2c_i6 = i32_load8_u(memory, (u64)(w2c_i6) + 26u);
+  w2c_i5 = w2c_i5 != w2c_i6;
+  w2c_i6 = 2u;
+  w2c_i5 <<= (w2c_i6 & 31);
+  w2c_i4 |= w2c_i5;
+  w2c_i3 |= w2c_i4;
+  w2c_i4 = 8u;
+  w2c_i3 <<= (w2c_i4 & 31);
+  w2c_i2 |= w2c_i3;
+  w2c_i1 |= w2c_i2;
+  w2c_i0 |= w2c_i1;
+  w2c_i1 = 65535u;
+  w2c_i0 &= w2c_i1;
+  w2c_i1 = 0u;
+  w2c_i0 = w2c_i0 != w2c_i1;
+  w2c_j1 = w2c_p0;
+  w2c_i1 = (u32)(w2c_j1);
+  w2c_i1 = i32_load8_u(memory, (u64)(w2c_i1));
+  w2c_j2 = w2c_p2;
+  w2c_i2 = (u32)(w2c_j2);
+  w2c_i2 = i32_load8_u(memory, (u64)(w2c_i2));
+  w2c_i1 = w2c_i1 != w2c_i2;
+  w2c_i0 |= w2c_i1;
+  w2c_j1 = w2c_p0;
+  w2c_j2 = 1ull;
+  w2c_j1 += w2c_j2;
+  w2c_i1 = (u32)(w2c_j1);
+  w2c_i1 = i32_load8_u(memory, (u64)(w2c_i1));
+  w2c_j2 = w2c_p2;
+  w2c_j3 = 1ull;
+  w2c_j2 += w2c_j3;
+  w2c_i2 = (u32)(w2c_j2);
+  w2c_i2 = i32_load8_u(memory, (u64)(w2c_i2));
+  w2c_i1 = w2c_i1 != w2c_i2;
+  w2c_j2 = w2c_p0;
+  w2c_j3 = 2ull;
+  w2c_j2 += w2c_j3;
+  w2c_i2 = (u32)(w2c_j2);
+  w2c_i2 = i32_load8_u(memory, (u64)(w2c_i2));
+  w2c_j3 = w2c_p2;
+  w2c_j4 = 2ull;
+  w2c_j3 += w2c_j4;
+  w2c_i3 = (u32)(w2c_j3);
+  w2c_i3 = i32_load8_u(memory, (u64)(w2c_i3));
+  w2c_i2 = w2c_i2 != w2c_i3;
+  w2c_i1 |= w2c_i2;
+  w2c_i0 |= w2c_i1;
+  w2c_j1 = w2c_p0;
+  w2c_j2 = 3ull;
+  w2c_j1 += w2c_j2;
+  w2c_i1 = (u32)(w2c_j1);
+  w2c_i1 = i32_load8_u(memory, (u64)(w2c_i1));
+  w2c_j2 = w2c_p2;
+  w2c_j3 = 3ull;
+  w2c_j2 += w2c_j3;
+  w2c_i2 = (u32)(w2c_j2);
+  w2c_i2 = i32_load8_u(memory, (u64)(w2c_i2));
+  w2c_i1 = w2c_i1 != w2c_i2;
+  w2c_j2 = w2c_p0;
+  w2c_j3 = 4ull;
+  w2c_j2 += w2c_j3;
+  w2c_i2 = (u32)(w2c_j2);
+  w2c_i2 = i32_load8_u(memory, (u64)(w2c_i2));
+  w2c_j3 = w2c_p2;
+  w2c_j4 = 4ull;
+  w2c_j3 += w2c_j4;
+  w2c_i3 = (u32)(w2c_j3);
+  w2c_i3 = i32_load8_u(memory, (u64)(w2c_i3));
+  w2c_i2 = w2c_i2 != w2c_i3;
+  w2c_i1 |= w2c_i2;
+  w2c_j2 = w2c_p0;
+  w2c_j3 = 5ull;
+  w2c_j2 += w2c_j3;
+  w2c_i2 = (u32)(w2c_j2);
+  w2c_i2 = i32_load8_u(memory, (u64)(w2c_i2));
+  w2c_j3 = w2c_p2;
+  w2c_j4 = 5ull;
+  w2c_j3 += w2c_j4;
+  w2c_i3 = (u32)(w2c_j3);
+  w2c_i3 = i32_load8_u(memory, (u64)(w2c_i3));
+  w2c_i2 = w2c_i2 != w2c_i3;
+  w2c_j3 = w2c_p0;
+  w2c_j4 = 6ull;
+  w2c_j3 += w2c_j4;
+  w2c_i3 = (u32)(w2c_j3);
+  w2c_i3 = i32_load8_u(memory, (u64)(w2c_i3));
+  w2c_j4 = w2c_p2;
+  w2c_j5 = 6ull;
+  w2c_j4 += w2c_j5;
+  w2c_i4 = (u32)(w2c_j4);
+  w2c_i4 = i32_load8_u(memory, (u64)(w2c_i4));
+  w2c_i3 = w2c_i3 != w2c_i4;
+  w2c_i2 |= w2c_i3;
+  w2c_i1 |= w2c_i2;
+  w2c_i0 |= w2c_i1;
+  w2c_j1 = w2c_p0;
+  w2c_j2 = 7ull;
+  w2c_j1 += w2c_j2;
+  w2c_i1 = (u32)(w2c_j1);
+  w2c_i1 = i32_load8_u(memory, (u64)(w2c_i1));
+  w2c_j2 = w2c_p2;
+  w2c_j3 = 7ull;
+  w2c_j2 += w2c_j3;
+  w2c_i2 = (u32)(w2c_j2);
+  w2c_i2 = i32_load8_u(memory, (u64)(w2c_i2));
+  w2c_i1 = w2c_i1 != w2c_i2;
+  w2c_j2 = w2c_p0;
+  w2c_j3 = 8ull;
+  w2c_j2 += w2c_j3;
+  w2c_i2 = (u32)(w2c_j2);
+  w2c_i2 = i32_load8_u(memory, (u64)(w2c_i2));
+  w2c_j3 = w2c_p2;
+  w2c_j4 = 8ull;
+  w2c_j3 += w2c_j4;
+  w2c_i3 = (u32)(w2c_j3);
+  w2c_i3 = i32_load8_u(memory, (u64)(w2c_i3));
+  w2c_i2 = w2c_i2 != w2c_i3;
+  w2c_i1 |= w2c_i2;
+  w2c_j2 = w2c_p0;
+  w2c_j3 = 9ull;
+  w2c_j2 += w2c_j3;
+  w2c_i2 = (u32)(w2c_j2);
+  w2c_i2 = i32_load8_u(memory, (u64)(w2c_i2));
+  w2c_j3 = w2c_p2;
+  w2c_j4 = 9ull;
+  w2c_j3 += w2c_j4;
+  w2c_i3 = (u32)(w2c_j3);
+  w2c_i3 = i32_load8_u(memory, (u64)(w2c_i3));
+  w2c_i2 = w2c_i2 != w2c_i3;
+  w2c_j3 = w2c_p0;
+  w2c_j4 = 10ull;
+  w2c_j3 += w2c_j4;
+  w2c_i3 = (u32)(w2c_j3);
+  w2c_i3 = i32_load8_u(memory, (u64)(w2c_i3));
+  w2c_j4 = w2c_p2;
+  w2c_j5 = 10ull;
+  w2c_j4 += w2c_j5;
+  w2c_i4 = (u32)(w2c_j4);
+  w2c_i4 = i32_load8_u(memory, (u64)(w2c_i4));
+  w2c_i3 = w2c_i3 != w2c_i4;
+  w2c_i2 |= w2c_i3;
+  w2c_i1 |= w2c_i2;
+  w2c_j2 = w2c_p0;
+  w2c_j3 = 11ull;
+  w2c_j2 += w2c_j3;
+  w2c_i2 = (u32)(w2c_j2);
+  w2c_i2 = i32_load8_u(memory, (u64)(w2c_i2));
+  w2c_j3 = w2c_p2;
+  w2c_j4 = 11ull;
+  w2c_j3 += w2c_j4;
+  w2c_i3 = (u32)(w2c_j3);
+  w2c_i3 = i32_load8_u(memory, (u64)(w2c_i3));
+  w2c_i2 = w2c_i2 != w2c_i3;
+  w2c_j3 = w2c_p0;
+  w2c_j4 = 12ull;
+  w2c_j3 += w2c_j4;
+  w2c_i3 = (u32)(w2c_j3);
+  w2c_i3 = i32_load8_u(memory, (u64)(w2c_i3));
+  w2c_j4 = w2c_p2;
+  w2c_j5 = 12ull;
+  w2c_j4 += w2c_j5;
+  w2c_i4 = (u32)(w2c_j4);
+  w2c_i4 = i32_load8_u(memory, (u64)(w2c_i4));
+  w2c_i3 = w2c_i3 != w2c_i4;
+  w2c_i2 |= w2c_i3;
+  w2c_j3 = w2c_p0;
+  w2c_j4 = 13ull;
+  w2c_j3 += w2c_j4;
+  w2c_i3 = (u32)(w2c_j3);
+  w2c_i3 = i32_load8_u(memory, (u64)(w2c_i3));
+  w2c_j4 = w2c_p2;
+  w2c_j5 = 13ull;
+  w2c_j4 += w2c_j5;
+  w2c_i4 = (u32)(w2c_j4);
+  w2c_i4 = i32_load8_u(memory, (u64)(w2c_i4));
+  w2c_i3 = w2c_i3 != w2c_i4;
+  w2c_j4 = w2c_p0;
+  w2c_j5 = 14ull;
+  w2c_j4 += w2c_j5;
+  w2c_i4 = (u32)(w2c_j4);
+  w2c_i4 = i32_load8_u(memory, (u64)(w2c_i4));
+  w2c_j5 = w2c_p2;
+  w2c_j6 = 14ull;
+  w2c_j5 += w2c_j6;
+  w2c_i5 = (u32)(w2c_j5);
+  w2c_i5 = i32_load8_u(memory, (u64)(w2c_i5));
+  w2c_i4 = w2c_i4 != w2c_i5;
+  w2c_i3 |= w2c_i4;
+  w2c_i2 |= w2c_i3;
+  w2c_i1 |= w2c_i2;
+  w2c_i0 |= w2c_i1;
+  w2c_j1 = w2c_p0;
+  w2c_j2 = 15ull;
+  w2c_j1 += w2c_j2;
+  w2c_i1 = (u32)(w2c_j1);
+  w2c_i1 = i32_load8_u(memory, (u64)(w2c_i1));
+  w2c_j2 = w2c_p2;
+  w2c_j3 = 15ull;
+  w2c_j2 += w2c_j3;
+  w2c_i2 = (u32)(w2c_j2);
+  w2c_i2 = i32_load8_u(memory, (u64)(w2c_i2));
+  w2c_i1 = w2c_i1 != w2c_i2;
+  w2c_j2 = w2c_p0;
+  w2c_j3 = 16ull;
+  w2c_j2 += w2c_j3;
+  w2c_i2 = (u32)(w2c_j2);
+  w2c_i2 = i32_load8_u(memory, (u64)(w2c_i2));
+  w2c_j3 = w2c_p2;
+  w2c_j4 = 16ull;
+  w2c_j3 += w2c_j4;
+  w2c_i3 = (u32)(w2c_j3);
+  w2c_i3 = i32_load8_u(memory, (u64)(w2c_i3));
+  w2c_i2 = w2c_i2 != w2c_i3;
+  w2c_i1 |= w2c_i2;
+  w2c_j2 = w2c_p0;
+  w2c_j3 = 17ull;
+  w2c_j2 += w2c_j3;
+  w2c_i2 = (u32)(w2c_j2);
+  w2c_i2 = i32_load8_u(memory, (u64)(w2c_i2));
+  w2c_j3 = w2c_p2;
+  w2c_j4 = 17ull;
+  w2c_j3 += w2c_j4;
+  w2c_i3 = (u32)(w2c_j3);
+  w2c_i3 = i32_load8_u(memory, (u64)(w2c_i3));
+  w2c_i2 = w2c_i2 != w2c_i3;
+  w2c_j3 = w2c_p0;
+  w2c_j4 = 18ull;
+  w2c_j3 += w2c_j4;
+  w2c_i3 = (u32)(w2c_j3);
+  w2c_i3 = i32_load8_u(memory, (u64)(w2c_i3));
+  w2c_j4 = w2c_p2;
+  w2c_j5 = 18ull;
+  w2c_j4 += w2c_j5;
+  w2c_i4 = (u32)(w2c_j4);
+  w2c_i4 = i32_load8_u(memory, (u64)(w2c_i4));
+  w2c_i3 = w2c_i3 != w2c_i4;
+  w2c_i2 |= w2c_i3;
+  w2c_i1 |= w2c_i2;
+  w2c_j2 = w2c_p0;
+  w2c_j3 = 19ull;
+  w2c_j2 += w2c_j3;
+  w2c_i2 = (u32)(w2c_j2);
+  w2c_i2 = i32_load8_u(memory, (u64)(w2c_i2));
+  w2c_j3 = w2c_p2;
+  w2c_j4 = 19ull;
+  w2c_j3 += w2c_j4;
+  w2c_i3 = (u32)(w2c_j3);
+  w2c_i3 = i32_load8_u(memory, (u64)(w2c_i3));
+  w2c_i2 = w2c_i2 != w2c_i3;
+  w2c_j3 = w2c_p0;
+  w2c_j4 = 20ull;
+  w2c_j3 += w2c_j4;
+  w2c_i3 = (u32)(w2c_j3);
+  w2c_i3 = i32_load8_u(memory, (u64)(w2c_i3));
+  w2c_j4 = w2c_p2;
+  w2c_j5 = 20ull;
+  w2c_j4 += w2c_j5;
+  w2c_i4 = (u32)(w2c_j4);
+  w2c_i4 = i32_load8_u(memory, (u64)(w2c_i4));
+  w2c_i3 = w2c_i3 != w2c_i4;
+  w2c_i2 |= w2c_i3;
+  w2c_j3 = w2c_p0;
+  w2c_j4 = 21ull;
+  w2c_j3 += w2c_j4;
+  w2c_i3 = (u32)(w2c_j3);
+  w2c_i3 = i32_load8_u(memory, (u64)(w2c_i3));
+  w2c_j4 = w2c_p2;
+  w2c_j5 = 21ull;
+  w2c_j4 += w2c_j5;
+  w2c_i4 = (u32)(w2c_j4);
+  w2c_i4 = i32_load8_u(memory, (u64)(w2c_i4));
+  w2c_i3 = w2c_i3 != w2c_i4;
+  w2c_j4 = w2c_p0;
+  w2c_j5 = 22ull;
+  w2c_j4 += w2c_j5;
+  w2c_i4 = (u32)(w2c_j4);
+  w2c_i4 = i32_load8_u(memory, (u64)(w2c_i4));
+  w2c_j5 = w2c_p2;
+  w2c_j6 = 22ull;
+  w2c_j5 += w2c_j6;
+  w2c_i5 = (u32)(w2c_j5);
+  w2c_i5 = i32_load8_u(memory, (u64)(w2c_i5));
+  w2c_i4 = w2c_i4 != w2c_i5;
+  w2c_i3 |= w2c_i4;
+  w2c_i2 |= w2c_i3;
+  w2c_i1 |= w2c_i2;
+  w2c_j2 = w2c_p0;
+  w2c_j3 = 23ull;
+  w2c_j2 += w2c_j3;
+  w2c_i2 = (u32)(w2c_j2);
+  w2c_i2 = i32_load8_u(memory, (u64)(w2c_i2));
+  w2c_j3 = w2c_p2;
+  w2c_j4 = 23ull;
+  w2c_j3 += w2c_j4;
+  w2c_i3 = (u32)(w2c_j3);
+  w2c_i3 = i32_load8_u(memory, (u64)(w2c_i3));
+  w2c_i2 = w2c_i2 != w2c_i3;
+  w2c_j3 = w2c_p0;
+  w2c_j4 = 24ull;
+  w2c_j3 += w2c_j4;
+  w2c_i3 = (u32)(w2c_j3);
+  w2c_i3 = i32_load8_u(memory, (u64)(w2c_i3));
+  w2c_j4 = w2c_p2;
+  w2c_j5 = 24ull;
+  w2c_j4 += w2c_j5;
+  w2c_i4 = (u32)(w2c_j4);
+  w2c_i4 = i32_load8_u(memory, (u64)(w2c_i4));
+  w2c_i3 = w2c_i3 != w2c_i4;
+  w2c_i2 |= w2c_i3;
+  w2c_j3 = w2c_p0;
+  w2c_j4 = 25ull;
+  w2c_j3 += w2c_j4;
+  w2c_i3 = (u32)(w2c_j3);
+  w2c_i3 = i32_load8_u(memory, (u64)(w2c_i3));
+  w2c_j4 = w2c_p2;
+  w2c_j5 = 25ull;
+  w2c_j4 += w2c_j5;
+  w2c_i4 = (u32)(w2c_j4);
+  w2c_i4 = i32_load8_u(memory, (u64)(w2c_i4));
+  w2c_i3 = w2c_i3 != w2c_i4;
+  w2c_j4 = w2c_p0;
+  w2c_j5 = 26ull;
+  w2c_j4 += w2c_j5;
+  w2c_i4 = (u32)(w2c_j4);
+  w2c_i4 = i32_load8_u(memory, (u64)(w2c_i4));
+  w2c_j5 = w2c_p2;
+  w2c_j6 = 26ull;
+  w2c_j5 += w2c_j6;
+  w2c_i5 = (u32)(w2c_j5);
+  w2c_i5 = i32_load8_u(memory, (u64)(w2c_i5));
+  w2c_i4 = w2c_i4 != w2c_i5;
+  w2c_i3 |= w2c_i4;
+  w2c_i2 |= w2c_i3;
+  w2c_j3 = w2c_p0;
+  w2c_j4 = 27ull;
+  w2c_j3 += w2c_j4;
+  w2c_i3 = (u32)(w2c_j3);
+  w2c_i3 = i32_load8_u(memory, (u64)(w2c_i3));
+  w2c_j4 = w2c_p2;
+  w2c_j5 = 27ull;
+  w2c_j4 += w2c_j5;
+  w2c_i4 = (u32)(w2c_j4);
+  w2c_i4 = i32_load8_u(memory, (u64)(w2c_i4));
+  w2c_i3 = w2c_i3 != w2c_i4;
+  w2c_j4 = w2c_p0;
+  w2c_j5 = 28ull;
+  w2c_j4 += w2c_j5;
+  w2c_i4 = (u32)(w2c_j4);
+  w2c_i4 = i32_load8_u(memory, (u64)(w2c_i4));
+  w2c_j5 = w2c_p2;
+  w2c_j6 = 28ull;
+  w2c_j5 += w2c_j6;
+  w2c_i5 = (u32)(w2c_j5);
+  w2c_i5 = i32_load8_u(memory, (u64)(w2c_i5));
+  w2c_i4 = w2c_i4 != w2c_i5;
+  w2c_i3 |= w2c_i4;
+  w2c_j4 = w2c_p0;
+  w2c_j5 = 29ull;
+  w2c_j4 += w2c_j5;
+  w2c_i4 = (u32)(w2c_j4);
+  w2c_i4 = i32_load8_u(memory, (u64)(w2c_i4));
+  w2c_j5 = w2c_p2;
+  w2c_j6 = 29ull;
+  w2c_j5 += w2c_j6;
+  w2c_i5 = (u32)(w2c_j5);
+  w2c_i5 = i32_load8_u(memory, (u64)(w2c_i5));
+  w2c_i4 = w2c_i4 != w2c_i5;
+  w2c_j5 = w2c_p0;
+  w2c_j6 = 30ull;
+  w2c_j5 += w2c_j6;
+  w2c_i5 = (u32)(w2c_j5);
+  w2c_i5 = i32_load8_u(memory, (u64)(w2c_i5));
+  w2c_j6 = w2c_p2;
+  w2c_j7 = 30ull;
+  w2c_j6 += w2c_j7;
+  w2c_i6 = (u32)(w2c_j6);
+  w2c_i6 = i32_load8_u(memory, (u64)(w2c_i6));
+  w2c_i5 = w2c_i5 != w2c_i6;
+  w2c_i4 |= w2c_i5;
+  w2c_i3 |= w2c_i4;
+  w2c_i2 |= w2c_i3;
+  w2c_i1 |= w2c_i2;
+  w2c_i0 |= w2c_i1;
+  w2c_j1 = w2c_p0;
+  w2c_j2 = 31ull;
+  w2c_j1 += w2c_j2;
+  w2c_i1 = (u32)(w2c_j1);
+  w2c_i1 = i32_load8_u(memory, (u64)(w2c_i1));
+  w2c_j2 = w2c_p2;
+  w2c_j3 = 31ull;
+  w2c_j2 += w2c_j3;
+  w2c_i2 = (u32)(w2c_j2);
+  w2c_i2 = i32_load8_u(memory, (u64)(w2c_i2));
+  w2c_i1 = w2c_i1 != w2c_i2;
+  w2c_i0 |= w2c_i1;
+  w2c_l10 = w2c_i0;
+  w2c_B0:;
+  w2c_i0 = w2c_l10;
+  w2c_i1 = 4294967295u;
+  w2c_i0 ^= w2c_i1;
+  w2c_i1 = 1u;
+  w2c_i0 &= w2c_i1;
+  return w2c_i0;
+}
+static u32 w2c_f17(struct instance *instance, u64 w2c_p0, u64 w2c_p1, u64 w2c_p2, u64 w2c_p3, u64 w2c_p4, u64 w2c_p5) {
+  u32 w2c_l9 = 0;
+  u64 w2c_l6 = 0, w2c_l7 = 0, w2c_l8 = 0;
+  const struct memory memory = instance->w2c_memory;
+  (void)memory;
+  u32 w2c_i0, w2c_i1, w2c_i2, w2c_i3;
+  u64 w2c_j0, w2c_j1, w2c_j2, w2c_j3, w2c_j4, w2c_j5, w2c_j6;
+  w2c_j0 = instance->w2c_g0;
+  w2c_j1 = 528ull;
+  w2c_j0 -= w2c_j1;
+  w2c_l6 = w2c_j0;
+  instance->w2c_g0 = w2c_j0;
+  w2c_j0 = w2c_l6;
+  w2c_l6 = w2c_j0;
+  w2c_j1 = 16ull;
+  w2c_i0 = (u64)((s64)w2c_j0 < (s64)w2c_j1);
+  if (w2c_i0) {goto w2c_B0;}
+  w2c_j0 = w2c_l6;
+  w2c_j1 = 36ull;
+  w2c_j0 += w2c_j1;
+  w2c_i0 = (u32)(w2c_j0);
+  w2c_i1 = 0u;
+  w2c_j2 = 248ull;
+  w2c_i2 = (u32)(w2c_j2);
+  memory_fill(memory, w2c_i0, w2c_i1, w2c_i2);
+  w2c_j0 = w2c_l6;
+  w2c_j1 = 36ull;
+  w2c_j0 += w2c_j1;
+  w2c_j1 = w2c_p0;
+  w2c_j2 = w2c_p1;
+  w2c_f4(instance, w2c_j0, w2c_j1, w2c_j2);
+  w2c_i0 = 3u;
+  w2c_l9 = w2c_i0;
+  w2c_j0 = w2c_l6;
+  w2c_i0 = (u32)(w2c_j0);
+  w2c_i0 = i32_load8_u(memory, (u64)(w2c_i0) + 36u);
+  if (w2c_i0) {goto w2c_B1;}
+  w2c_j0 = w2c_l6;
+  w2c_j1 = 284ull;
+  w2c_j0 += w2c_j1;
+  w2c_i0 = (u32)(w2c_j0);
+  w2c_j1 = w2c_l6;
+  w2c_j2 = 40ull;
+  w2c_j1 += w2c_j2;
+  w2c_i1 = (u32)(w2c_j1);
+  w2c_j2 = 244ull;
+  w2c_i2 = (u32)(w2c_j2);
+  memory_copy(memory, memory, w2c_i0, w2c_i1, w2c_i2);
+  w2c_j0 = w2c_l6;
+  w2c_i0 = (u32)(w2c_j0);
+  w2c_j1 = 0ull;
+  i64_store(memory, (u64)(w2c_i0) + 24, w2c_j1);
+  w2c_j0 = w2c_l6;
+  w2c_i0 = (u32)(w2c_j0);
+  w2c_j1 = w2c_l6;
+  w2c_j2 = 284ull;
+  w2c_j1 += w2c_j2;
+  i64_store(memory, (u64)(w2c_i0) + 16, w2c_j1);
+  w2c_i0 = 4u;
+  w2c_l9 = w2c_i0;
+  w2c_j0 = w2c_p3;
+  w2c_j1 = 7ull;
+  w2c_j0 &= w2c_j1;
+  w2c_j1 = 0ull;
+  w2c_i0 = w2c_j0 != w2c_j1;
+  if (w2c_i0) {goto w2c_B1;}
+  w2c_j0 = w2c_p3;
+  w2c_j1 = 18446744073709551592ull;
+  w2c_j0 += w2c_j1;
+  w2c_j1 = 1048560ull;
+  w2c_i0 = w2c_j0 > w2c_j1;
+  if (w2c_i0) {goto w2c_B1;}
+  w2c_j0 = w2c_p5;
+  w2c_j1 = w2c_p3;
+  w2c_j2 = 18446744073709551608ull;
+  w2c_j1 += w2c_j2;
+  w2c_i0 = w2c_j0 != w2c_j1;
+  if (w2c_i0) {goto w2c_B1;}
+  w2c_j0 = w2c_p4;
+  w2c_j1 = w2c_p2;
+  w2c_j2 = 8ull;
+  w2c_j1 += w2c_j2;
+  w2c_p1 = w2c_j1;
+  w2c_j0 -= w2c_j1;
+  w2c_j1 = w2c_p5;
+  w2c_i0 = w2c_j0 >= w2c_j1;
+  if (w2c_i0) {goto w2c_B3;}
+  w2c_j0 = w2c_p5;
+  w2c_j1 = 3ull;
+  w2c_j0 &= w2c_j1;
+  w2c_l7 = w2c_j0;
+  w2c_j0 = 0ull;
+  w2c_p0 = w2c_j0;
+  w2c_j0 = w2c_p5;
+  w2c_j1 = 4ull;
+  w2c_i0 = w2c_j0 < w2c_j1;
+  if (w2c_i0) {goto w2c_B4;}
+  w2c_j0 = w2c_p5;
+  w2c_j1 = 18446744073709551612ull;
+  w2c_j0 &= w2c_j1;
+  w2c_l8 = w2c_j0;
+  w2c_j0 = 0ull;
+  w2c_p0 = w2c_j0;
+  w2c_L5: 
+    w2c_j0 = w2c_p4;
+    w2c_j1 = w2c_p0;
+    w2c_j0 += w2c_j1;
+    w2c_p1 = w2c_j0;
+    w2c_i0 = (u32)(w2c_j0);
+    w2c_j1 = w2c_p2;
+    w2c_j2 = w2c_p0;
+    w2c_j1 += w2c_j2;
+    w2c_p3 = w2c_j1;
+    w2c_j2 = 8ull;
+    w2c_j1 += w2c_j2;
+    w2c_i1 = (u32)(w2c_j1);
+    w2c_i1 = i32_load8_u(memory, (u64)(w2c_i1));
+    i32_store8(memory, (u64)(w2c_i0), w2c_i1);
+    w2c_j0 = w2c_p1;
+    w2c_j1 = 1ull;
+    w2c_j0 += w2c_j1;
+    w2c_i0 = (u32)(w2c_j0);
+    w2c_j1 = w2c_p3;
+    w2c_j2 = 9ull;
+    w2c_j1 += w2c_j2;
+    w2c_i1 = (u32)(w2c_j1);
+    w2c_i1 = i32_load8_u(memory, (u64)(w2c_i1));
+    i32_store8(memory, (u64)(w2c_i0), w2c_i1);
+    w2c_j0 = w2c_p1;
+    w2c_j1 = 2ull;
+    w2c_j0 += w2c_j1;
+    w2c_i0 = (u32)(w2c_j0);
+    w2c_j1 = w2c_p3;
+    w2c_j2 = 10ull;
+    w2c_j1 += w2c_j2;
+    w2c_i1 = (u32)(w2c_j1);
+    w2c_i1 = i32_load8_u(memory, (u64)(w2c_i1));
+    i32_store8(memory, (u64)(w2c_i0), w2c_i1);
+    w2c_j0 = w2c_p1;
+    w2c_j1 = 3ull;
+    w2c_j0 += w2c_j1;
+    w2c_i0 = (u32)(w2c_j0);
+    w2c_j1 = w2c_p3;
+    w2c_j2 = 11ull;
+    w2c_j1 += w2c_j2;
+    w2c_i1 = (u32)(w2c_j1);
+    w2c_i1 = i32_load8_u(memory, (u64)(w2c_i1));
+    i32_store8(memory, (u64)(w2c_i0), w2c_i1);
+    w2c_j0 = w2c_l8;
+    w2c_j1 = w2c_p0;
+    w2c_j2 = 4ull;
+    w2c_j1 += w2c_j2;
+    w2c_p0 = w2c_j1;
+    w2c_i0 = w2c_j0 != w2c_j1;
+    if (w2c_i0) {goto w2c_L5;}
+  w2c_j0 = w2c_l7;
+  w2c_i0 = !(w2c_j0);
+  if (w2c_i0) {goto w2c_B2;}
+  w2c_B4:;
+  w2c_j0 = w2c_p4;
+  w2c_j1 = w2c_p0;
+  w2c_j0 += w2c_j1;
+  w2c_p1 = w2c_j0;
+  w2c_j0 = w2c_p0;
+  w2c_j1 = w2c_p2;
+  w2c_j0 += w2c_j1;
+  w2c_j1 = 8ull;
+  w2c_j0 += w2c_j1;
+  w2c_p0 = w2c_j0;
+  w2c_L6: 
+    w2c_j0 = w2c_p1;
+    w2c_i0 = (u32)(w2c_j0);
+    w2c_j1 = w2c_p0;
+    w2c_i1 = (u32)(w2c_j1);
+    w2c_i1 = i32_load8_u(memory, (u64)(w2c_i1));
+    i32_store8(memory, (u64)(w2c_i0), w2c_i1);
+    w2c_j0 = w2c_p1;
+    w2c_j1 = 1ull;
+    w2c_j0 += w2c_j1;
+    w2c_p1 = w2c_j0;
+    w2c_j0 = w2c_p0;
+    w2c_j1 = 1ull;
+    w2c_j0 += w2c_j1;
+    w2c_p0 = w2c_j0;
+    w2c_j0 = w2c_l7;
+    w2c_j1 = 18446744073709551615ull;
+    w2c_j0 += w2c_j1;
+    w2c_l7 = w2c_j0;
+    w2c_j1 = 0ull;
+    w2c_i0 = w2c_j0 != w2c_j1;
+    if (w2c_i0) {goto w2c_L6;}
+    goto w2c_B2;
+  UNREACHABLE;
+  w2c_B3:;
+  w2c_j0 = w2c_p5;
+  w2c_i0 = !(w2c_j0);
+  if (w2c_i0) {goto w2c_B2;}
+  w2c_j0 = w2c_p4;
+  w2c_i0 = (u32)(w2c_j0);
+  w2c_j1 = w2c_p1;
+  w2c_i1 = (u32)(w2c_j1);
+  w2c_j2 = w2c_p5;
+  w2c_i2 = (u32)(w2c_j2);
+  memory_copy(memory, memory, w2c_i0, w2c_i1, w2c_i2);
+  w2c_B2:;
+  w2c_j0 = w2c_l6;
+  w2c_j1 = 8ull;
+  w2c_j0 += w2c_j1;
+  w2c_j1 = w2c_l6;
+  w2c_j2 = 16ull;
+  w2c_j1 += w2c_j2;
+  w2c_j2 = w2c_p2;
+  w2c_i2 = (u32)(w2c_j2);
+  w2c_j2 = i64_load(memory, (u64)(w2c_i2));
+  w2c_p1 = w2c_j2;
+  w2c_j3 = 56ull;
+  w2c_j2 <<= (w2c_j3 & 63);
+  w2c_j3 = w2c_p1;
+  w2c_j4 = 65280ull;
+  w2c_j3 &= w2c_j4;
+  w2c_j4 = 40ull;
+  w2c_j3 <<= (w2c_j4 & 63);
+  w2c_j2 |= w2c_j3;
+  w2c_j3 = w2c_p1;
+  w2c_j4 = 16711680ull;
+  w2c_j3 &= w2c_j4;
+  w2c_j4 = 24ull;
+  w2c_j3 <<= (w2c_j4 & 63);
+  w2c_j4 = w2c_p1;
+  w2c_j5 = 4278190080ull;
+  w2c_j4 &= w2c_j5;
+  w2c_j5 = 8ull;
+  w2c_j4 <<= (w2c_j5 & 63);
+  w2c_j3 |= w2c_j4;
+  w2c_j2 |= w2c_j3;
+  w2c_j3 = w2c_p1;
+  w2c_j4 = 8ull;
+  w2c_j3 >>= (w2c_j4 & 63);
+  w2c_j4 = 4278190080ull;
+  w2c_j3 &= w2c_j4;
+  w2c_j4 = w2c_p1;
+  w2c_j5 = 24ull;
+  w2c_j4 >>= (w2c_j5 & 63);
+  w2c_j5 = 16711680ull;
+  w2c_j4 &= w2c_j5;
+  w2c_j3 |= w2c_j4;
+  w2c_j4 = w2c_p1;
+  w2c_j5 = 40ull;
+  w2c_j4 >>= (w2c_j5 & 63);
+  w2c_j5 = 65280ull;
+  w2c_j4 &= w2c_j5;
+  w2c_j5 = w2c_p1;
+  w2c_j6 = 56ull;
+  w2c_j5 >>= (w2c_j6 & 63);
+  w2c_j4 |= w2c_j5;
+  w2c_j3 |= w2c_j4;
+  w2c_j2 |= w2c_j3;
+  w2c_j3 = w2c_p4;
+  w2c_j4 = w2c_p5;
+  w2c_j1 = w2c_f6(instance, w2c_j1, w2c_j2, w2c_j3, w2c_j4);
+  w2c_j2 = 12008468691120727718ull;
+  w2c_j1 ^= w2c_j2;
+  w2c_j2 = w2c_p4;
+  w2c_j3 = w2c_p5;
+  w2c_f3(instance, w2c_j0, w2c_j1, w2c_j2, w2c_j3);
+  w2c_i0 = 5u;
+  w2c_i1 = 4u;
+  w2c_j2 = w2c_l6;
+  w2c_i2 = (u32)(w2c_j2);
+  w2c_i2 = i32_load8_u(memory, (u64)(w2c_i2) + 9u);
+  w2c_i3 = 255u;
+  w2c_i2 &= w2c_i3;
+  w2c_i0 = w2c_i2 ? w2c_i0 : w2c_i1;
+  w2c_i1 = 0u;
+  w2c_j2 = w2c_l6;
+  w2c_i2 = (u32)(w2c_j2);
+  w2c_i2 = i32_load8_u(memory, (u64)(w2c_i2) + 8u);
+  w2c_i3 = 1u;
+  w2c_i2 &= w2c_i3;
+  w2c_i0 = w2c_i2 ? w2c_i0 : w2c_i1;
+  w2c_l9 = w2c_i0;
+  w2c_B1:;
+  w2c_j0 = w2c_l6;
+  w2c_j1 = 528ull;
+  w2c_j0 += w2c_j1;
+  instance->w2c_g0 = w2c_j0;
+  w2c_i0 = w2c_l9;
+  goto w2c_Bfunc;
+  w2c_B0:;
+  UNREACHABLE;
+  w2c_Bfunc:;
+  return w2c_i0;
+}
+static u32 w2c_f18(struct instance *instance, u64 w2c_p0, u64 w2c_p1, u64 w2c_p2, u64 w2c_p3) {
+  u32 w2c_l7 = 0, w2c_l8 = 0;
+  u64 w2c_l4 = 0, w2c_l5 = 0, w2c_l6 = 0;
+  const struct memory memory = instance->w2c_memory;
+  (void)memory;
+  u32 w2c_i0, w2c_i1, w2c_i2;
+  u64 w2c_j0, w2c_j1, w2c_j2, w2c_j3, w2c_j4, w2c_j5, w2c_j6;
+  w2c_j0 = instance->w2c_g0;
+  w2c_j1 = 80ull;
+  w2c_j0 -= w2c_j1;
+  w2c_l4 = w2c_j0;
+  instance->w2c_g0 = w2c_j0;
+  w2c_j0 = w2c_l4;
+  w2c_l4 = w2c_j0;
+  w2c_j1 = 16ull;
+  w2c_i0 = (u64)((s64)w2c_j0 < (s64)w2c_j1);
+  if (w2c_i0) {goto w2c_B0;}
+  w2c_j0 = w2c_l4;
+  w2c_i0 = (u32)(w2c_j0);
+  w2c_j1 = 0ull;
+  i64_store(memory, (u64)(w2c_i0) + 72, w2c_j1);
+  w2c_j0 = w2c_l4;
+  w2c_i0 = (u32)(w2c_j0);
+  w2c_j1 = 0ull;
+  i64_store(memory, (u64)(w2c_i0) + 64, w2c_j1);
+  w2c_j0 = w2c_l4;
+  w2c_i0 = (u32)(w2c_j0);
+  w2c_j1 = 0ull;
+  i64_store(memory, (u64)(w2c_i0) + 56, w2c_j1);
+  w2c_j0 = w2c_l4;
+  w2c_i0 = (u32)(w2c_j0);
+  w2c_j1 = 0ull;
+  i64_store(memory, (u64)(w2c_i0) + 48, w2c_j1);
+  w2c_j0 = w2c_l4;
+  w2c_i0 = (u32)(w2c_j0);
+  w2c_j1 = 0ull;
+  i64_store(memory, (u64)(w2c_i0) + 40, w2c_j1);
+  w2c_i0 = 0u;
+  w2c_l7 = w2c_i0;
+  w2c_j0 = 68456ull;
+  w2c_j1 = 24ull;
+  w2c_j2 = w2c_p0;
+  w2c_j3 = w2c_p1;
+  w2c_j4 = w2c_l4;
+  w2c_j5 = 40ull;
+  w2c_j4 += w2c_j5;
+  w2c_j5 = w2c_p1;
+  w2c_j6 = 7ull;
+  w2c_j5 += w2c_j6;
+  w2c_j6 = 56ull;
+  w2c_j5 &= w2c_j6;
+  w2c_l5 = w2c_j5;
+  w2c_j6 = 8ull;
+  w2c_j5 += w2c_j6;
+  w2c_l6 = w2c_j5;
+  w2c_i0 = w2c_f19(instance, w2c_j0, w2c_j1, w2c_j2, w2c_j3, w2c_j4, w2c_j5);
+  w2c_l8 = w2c_i0;
+  w2c_j0 = w2c_l6;
+  w2c_j1 = w2c_p3;
+  w2c_i0 = w2c_j0 != w2c_j1;
+  if (w2c_i0) {goto w2c_B1;}
+  w2c_i0 = w2c_l8;
+  if (w2c_i0) {goto w2c_B1;}
+  w2c_j0 = w2c_l4;
+  w2c_i0 = (u32)(w2c_j0);
+  w2c_i0 = i32_load8_u(memory, (u64)(w2c_i0) + 40u);
+  w2c_j1 = w2c_p2;
+  w2c_i1 = (u32)(w2c_j1);
+  w2c_i1 = i32_load8_u(memory, (u64)(w2c_i1));
+  w2c_i0 = w2c_i0 != w2c_i1;
+  if (w2c_i0) {goto w2c_B1;}
+  w2c_j0 = w2c_l4;
+  w2c_i0 = (u32)(w2c_j0);
+  w2c_i0 = i32_load8_u(memory, (u64)(w2c_i0) + 41u);
+  w2c_i1 = 255u;
+  w2c_i0 &= w2c_i1;
+  w2c_j1 = w2c_p2;
+  w2c_j2 = 1ull;
+  w2c_j1 += w2c_j2;
+  w2c_i1 = (u32)(w2c_j1);
+  w2c_i1 = i32_load8_u(memory, (u64)(w2c_i1));
+  w2c_i2 = 255u;
+  w2c_i1 &= w2c_i2;
+  w2c_i0 = w2c_i0 != w2c_i1;
+  if (w2c_i0) {goto w2c_B1;}
+  w2c_j0 = w2c_l4;
+  w2c_i0 = (u32)(w2c_j0);
+  w2c_i0 = i32_load8_u(memory, (u64)(w2c_i0) + 42u);
+  w2c_i1 = 255u;
+  w2c_i0 &= w2c_i1;
+  w2c_j1 = w2c_p2;
+  w2c_j2 = 2ull;
+  w2c_j1 += w2c_j2;
+  w2c_i1 = (u32)(w2c_j1);
+  w2c_i1 = i32_load8_u(memory, (u64)(w2c_i1));
+  w2c_i2 = 255u;
+  w2c_i1 &= w2c_i2;
+  w2c_i0 = w2c_i0 != w2c_i1;
+  if (w2c_i0) {goto w2c_B1;}
+  w2c_j0 = w2c_l4;
+  w2c_i0 = (u32)(w2c_j0);
+  w2c_i0 = i32_load8_u(memory, (u64)(w2c_i0) + 43u);
+  w2c_i1 = 255u;
+  w2c_i0 &= w2c_i1;
+  w2c_j1 = w2c_p2;
+  w2c_j2 = 3ull;
+  w2c_j1 += w2c_j2;
+  w2c_i1 = (u32)(w2c_j1);
+  w2c_i1 = i32_load8_u(memory, (u64)(w2c_i1));
+  w2c_i2 = 255u;
+  w2c_i1 &= w2c_i2;
+  w2c_i0 = w2c_i0 != w2c_i1;
+  if (w2c_i0) {goto w2c_B1;}
+  w2c_j0 = w2c_l4;
+  w2c_j1 = 40ull;
+  w2c_j0 += w2c_j1;
+  w2c_j1 = w2c_p3;
+  w2c_j2 = w2c_p2;
+  w2c_i0 = w2c_f16(instance, w2c_j0, w2c_j1, w2c_j2);
+  w2c_i0 = !(w2c_i0);
+  if (w2c_i0) {goto w2c_B1;}
+  w2c_j0 = w2c_l4;
+  w2c_i0 = (u32)(w2c_j0);
+  w2c_j1 = 0ull;
+  i64_store(memory, (u64)(w2c_i0) + 32, w2c_j1);
+  w2c_j0 = w2c_l4;
+  w2c_i0 = (u32)(w2c_j0);
+  w2c_j1 = 0ull;
+  i64_store(memory, (u64)(w2c_i0) + 24, w2c_j1);
+  w2c_j0 = w2c_l4;
+  w2c_i0 = (u32)(w2c_j0);
+  w2c_j1 = 0ull;
+  i64_store(memory, (u64)(w2c_i0) + 16, w2c_j1);
+  w2c_j0 = w2c_l4;
+  w2c_i0 = (u32)(w2c_j0);
+  w2c_j1 = 0ull;
+  i64_store(memory, (u64)(w2c_i0) + 8, w2c_j1);
+  w2c_j0 = w2c_l4;
+  w2c_i0 = (u32)(w2c_j0);
+  w2c_j1 = 0ull;
+  i64_store(memory, (u64)(w2c_i0), w2c_j1);
+  w2c_j0 = 68456ull;
+  w2c_j1 = 24ull;
+  w2c_j2 = w2c_p2;
+  w2c_j3 = w2c_p3;
+  w2c_j4 = w2c_l4;
+  w2c_j5 = 8ull;
+  w2c_j4 += w2c_j5;
+  w2c_j5 = w2c_l5;
+  w2c_j6 = w2c_l4;
+  w2c_i0 = w2c_f20(instance, w2c_j0, w2c_j1, w2c_j2, w2c_j3, w2c_j4, w2c_j5, w2c_j6);
+  if (w2c_i0) {goto w2c_B1;}
+  w2c_j0 = w2c_l4;
+  w2c_i0 = (u32)(w2c_j0);
+  w2c_j0 = i64_load(memory, (u64)(w2c_i0));
+  w2c_j1 = w2c_p1;
+  w2c_i0 = w2c_j0 != w2c_j1;
+  if (w2c_i0) {goto w2c_B1;}
+  w2c_j0 = w2c_l4;
+  w2c_i0 = (u32)(w2c_j0);
+  w2c_i0 = i32_load8_u(memory, (u64)(w2c_i0) + 8u);
+  w2c_j1 = w2c_p0;
+  w2c_i1 = (u32)(w2c_j1);
+  w2c_i1 = i32_load8_u(memory, (u64)(w2c_i1));
+  w2c_i0 = w2c_i0 != w2c_i1;
+  if (w2c_i0) {goto w2c_B1;}
+  w2c_j0 = w2c_l4;
+  w2c_i0 = (u32)(w2c_j0);
+  w2c_i0 = i32_load8_u(memory, (u64)(w2c_i0) + 9u);
+  w2c_i1 = 255u;
+  w2c_i0 &= w2c_i1;
+  w2c_j1 = w2c_p0;
+  w2c_j2 = 1ull;
+  w2c_j1 += w2c_j2;
+  w2c_i1 = (u32)(w2c_j1);
+  w2c_i1 = i32_load8_u(memory, (u64)(w2c_i1));
+  w2c_i2 = 255u;
+  w2c_i1 &= w2c_i2;
+  w2c_i0 = w2c_i0 != w2c_i1;
+  if (w2c_i0) {goto w2c_B1;}
+  w2c_j0 = w2c_l4;
+  w2c_i0 = (u32)(w2c_j0);
+  w2c_i0 = i32_load8_u(memory, (u64)(w2c_i0) + 10u);
+  w2c_i1 = 255u;
+  w2c_i0 &= w2c_i1;
+  w2c_j1 = w2c_p0;
+  w2c_j2 = 2ull;
+  w2c_j1 += w2c_j2;
+  w2c_i1 = (u32)(w2c_j1);
+  w2c_i1 = i32_load8_u(memory, (u64)(w2c_i1));
+  w2c_i2 = 255u;
+  w2c_i1 &= w2c_i2;
+  w2c_i0 = w2c_i0 != w2c_i1;
+  if (w2c_i0) {goto w2c_B1;}
+  w2c_j0 = w2c_l4;
+  w2c_i0 = (u32)(w2c_j0);
+  w2c_i0 = i32_load8_u(memory, (u64)(w2c_i0) + 11u);
+  w2c_i1 = 255u;
+  w2c_i0 &= w2c_i1;
+  w2c_j1 = w2c_p0;
+  w2c_j2 = 3ull;
+  w2c_j1 += w2c_j2;
+  w2c_i1 = (u32)(w2c_j1);
+  w2c_i1 = i32_load8_u(memory, (u64)(w2c_i1));
+  w2c_i2 = 255u;
+  w2c_i1 &= w2c_i2;
+  w2c_i0 = w2c_i0 != w2c_i1;
+  if (w2c_i0) {goto w2c_B1;}
+  w2c_j0 = w2c_l4;
+  w2c_j1 = 8ull;
+  w2c_j0 += w2c_j1;
+  w2c_j1 = w2c_p1;
+  w2c_j2 = w2c_p0;
+  w2c_i0 = w2c_f16(instance, w2c_j0, w2c_j1, w2c_j2);
+  w2c_l7 = w2c_i0;
+  w2c_B1:;
+  w2c_j0 = w2c_l4;
+  w2c_j1 = 80ull;
+  w2c_j0 += w2c_j1;
+  instance->w2c_g0 = w2c_j0;
+  w2c_i0 = w2c_l7;
+  goto w2c_Bfunc;
+  w2c_B0:;
+  UNREACHABLE;
+  w2c_Bfunc:;
+  return w2c_i0;
+}
+static u32 w2c_f19(struct instance *instance, u64 w2c_p0, u64 w2c_p1, u64 w2c_p2, u64 w2c_p3, u64 w2c_p4, u64 w2c_p5) {
+  u32 w2c_l11 = 0;
+  u64 w2c_l6 = 0, w2c_l7 = 0, w2c_l8 = 0, w2c_l9 = 0, w2c_l10 = 0;
+  const struct memory memory = instance->w2c_memory;
+  (void)memory;
+  u32 w2c_i0, w2c_i1, w2c_i2;
+  u64 w2c_j0, w2c_j1, w2c_j2, w2c_j3, w2c_j4, w2c_j5;
+  w2c_j0 = instance->w2c_g0;
+  w2c_j1 = 512ull;
+  w2c_j0 -= w2c_j1;
+  w2c_l6 = w2c_j0;
+  instance->w2c_g0 = w2c_j0;
+  w2c_j0 = w2c_l6;
+  w2c_l6 = w2c_j0;
+  w2c_j1 = 16ull;
+  w2c_i0 = (u64)((s64)w2c_j0 < (s64)w2c_j1);
+  if (w2c_i0) {goto w2c_B0;}
+  w2c_j0 = w2c_l6;
+  w2c_j1 = 20ull;
+  w2c_j0 += w2c_j1;
+  w2c_i0 = (u32)(w2c_j0);
+  w2c_i1 = 0u;
+  w2c_j2 = 248ull;
+  w2c_i2 = (u32)(w2c_j2);
+  memory_fill(memory, w2c_i0, w2c_i1, w2c_i2);
+  w2c_j0 = w2c_l6;
+  w2c_j1 = 20ull;
+  w2c_j0 += w2c_j1;
+  w2c_j1 = w2c_p0;
+  w2c_j2 = w2c_p1;
+  w2c_f4(instance, w2c_j0, w2c_j1, w2c_j2);
+  w2c_i0 = 3u;
+  w2c_l11 = w2c_i0;
+  w2c_j0 = w2c_l6;
+  w2c_i0 = (u32)(w2c_j0);
+  w2c_i0 = i32_load8_u(memory, (u64)(w2c_i0) + 20u);
+  if (w2c_i0) {goto w2c_B1;}
+  w2c_j0 = w2c_l6;
+  w2c_j1 = 268ull;
+  w2c_j0 += w2c_j1;
+  w2c_i0 = (u32)(w2c_j0);
+  w2c_j1 = w2c_l6;
+  w2c_j2 = 24ull;
+  w2c_j1 += w2c_j2;
+  w2c_i1 = (u32)(w2c_j1);
+  w2c_j2 = 244ull;
+  w2c_i2 = (u32)(w2c_j2);
+  memory_copy(memory, memory, w2c_i0, w2c_i1, w2c_i2);
+  w2c_j0 = w2c_l6;
+  w2c_i0 = (u32)(w2c_j0);
+  w2c_j1 = 0ull;
+  i64_store(memory, (u64)(w2c_i0) + 8, w2c_j1);
+  w2c_j0 = w2c_l6;
+  w2c_i0 = (u32)(w2c_j0);
+  w2c_j1 = w2c_l6;
+  w2c_j2 = 268ull;
+  w2c_j1 += w2c_j2;
+  i64_store(memory, (u64)(w2c_i0), w2c_j1);
+  w2c_i0 = 4u;
+  w2c_l11 = w2c_i0;
+  w2c_j0 = w2c_p3;
+  w2c_j1 = 18446744073709551615ull;
+  w2c_j0 += w2c_j1;
+  w2c_j1 = 1048575ull;
+  w2c_i0 = w2c_j0 > w2c_j1;
+  if (w2c_i0) {goto w2c_B1;}
+  w2c_j0 = w2c_p5;
+  w2c_j1 = w2c_p3;
+  w2c_j2 = 7ull;
+  w2c_j1 += w2c_j2;
+  w2c_j2 = 4194296ull;
+  w2c_j1 &= w2c_j2;
+  w2c_j2 = 8ull;
+  w2c_j1 += w2c_j2;
+  w2c_i0 = w2c_j0 != w2c_j1;
+  if (w2c_i0) {goto w2c_B1;}
+  w2c_j0 = w2c_p4;
+  w2c_j1 = 8ull;
+  w2c_j0 += w2c_j1;
+  w2c_l7 = w2c_j0;
+  w2c_j1 = w2c_p2;
+  w2c_j0 -= w2c_j1;
+  w2c_j1 = w2c_p3;
+  w2c_i0 = w2c_j0 >= w2c_j1;
+  if (w2c_i0) {goto w2c_B3;}
+  w2c_j0 = w2c_p3;
+  w2c_j1 = 3ull;
+  w2c_j0 &= w2c_j1;
+  w2c_l8 = w2c_j0;
+  w2c_j0 = 0ull;
+  w2c_p0 = w2c_j0;
+  w2c_j0 = w2c_p3;
+  w2c_j1 = 4ull;
+  w2c_i0 = w2c_j0 < w2c_j1;
+  if (w2c_i0) {goto w2c_B4;}
+  w2c_j0 = w2c_p3;
+  w2c_j1 = 2097148ull;
+  w2c_j0 &= w2c_j1;
+  w2c_l9 = w2c_j0;
+  w2c_j0 = 0ull;
+  w2c_p0 = w2c_j0;
+  w2c_L5: 
+    w2c_j0 = w2c_p4;
+    w2c_j1 = w2c_p0;
+    w2c_j0 += w2c_j1;
+    w2c_p1 = w2c_j0;
+    w2c_j1 = 8ull;
+    w2c_j0 += w2c_j1;
+    w2c_i0 = (u32)(w2c_j0);
+    w2c_j1 = w2c_p2;
+    w2c_j2 = w2c_p0;
+    w2c_j1 += w2c_j2;
+    w2c_l10 = w2c_j1;
+    w2c_i1 = (u32)(w2c_j1);
+    w2c_i1 = i32_load8_u(memory, (u64)(w2c_i1));
+    i32_store8(memory, (u64)(w2c_i0), w2c_i1);
+    w2c_j0 = w2c_p1;
+    w2c_j1 = 9ull;
+    w2c_j0 += w2c_j1;
+    w2c_i0 = (u32)(w2c_j0);
+    w2c_j1 = w2c_l10;
+    w2c_j2 = 1ull;
+    w2c_j1 += w2c_j2;
+    w2c_i1 = (u32)(w2c_j1);
+    w2c_i1 = i32_load8_u(memory, (u64)(w2c_i1));
+    i32_store8(memory, (u64)(w2c_i0), w2c_i1);
+    w2c_j0 = w2c_p1;
+    w2c_j1 = 10ull;
+    w2c_j0 += w2c_j1;
+    w2c_i0 = (u32)(w2c_j0);
+    w2c_j1 = w2c_l10;
+    w2c_j2 = 2ull;
+    w2c_j1 += w2c_j2;
+    w2c_i1 = (u32)(w2c_j1);
+    w2c_i1 = i32_load8_u(memory, (u64)(w2c_i1));
+    i32_store8(memory, (u64)(w2c_i0), w2c_i1);
+    w2c_j0 = w2c_p1;
+    w2c_j1 = 11ull;
+    w2c_j0 += w2c_j1;
+    w2c_i0 = (u32)(w2c_j0);
+    w2c_j1 = w2c_l10;
+    w2c_j2 = 3ull;
+    w2c_j1 += w2c_j2;
+    w2c_i1 = (u32)(w2c_j1);
+    w2c_i1 = i32_load8_u(memory, (u64)(w2c_i1));
+    i32_store8(memory, (u64)(w2c_i0), w2c_i1);
+    w2c_j0 = w2c_l9;
+    w2c_j1 = w2c_p0;
+    w2c_j2 = 4ull;
+    w2c_j1 += w2c_j2;
+    w2c_p0 = w2c_j1;
+    w2c_i0 = w2c_j0 != w2c_j1;
+    if (w2c_i0) {goto w2c_L5;}
+  w2c_j0 = w2c_l8;
+  w2c_i0 = !(w2c_j0);
+  if (w2c_i0) {goto w2c_B2;}
+  w2c_B4:;
+  w2c_j0 = w2c_p2;
+  w2c_j1 = w2c_p0;
+  w2c_j0 += w2c_j1;
+  w2c_p1 = w2c_j0;
+  w2c_j0 = w2c_p0;
+  w2c_j1 = w2c_p4;
+  w2c_j0 += w2c_j1;
+  w2c_j1 = 8ull;
+  w2c_j0 += w2c_j1;
+  w2c_p0 = w2c_j0;
+  w2c_L6: 
+    w2c_j0 = w2c_p0;
+    w2c_i0 = (u32)(w2c_j0);
+    w2c_j1 = w2c_p1;
+    w2c_i1 = (u32)(w2c_j1);
+    w2c_i1 = i32_load8_u(memory, (u64)(w2c_i1));
+    i32_store8(memory, (u64)(w2c_i0), w2c_i1);
+    w2c_j0 = w2c_p0;
+    w2c_j1 = 1ull;
+    w2c_j0 += w2c_j1;
+    w2c_p0 = w2c_j0;
+    w2c_j0 = w2c_p1;
+    w2c_j1 = 1ull;
+    w2c_j0 += w2c_j1;
+    w2c_p1 = w2c_j0;
+    w2c_j0 = w2c_l8;
+    w2c_j1 = 18446744073709551615ull;
+    w2c_j0 += w2c_j1;
+    w2c_l8 = w2c_j0;
+    w2c_j1 = 0ull;
+    w2c_i0 = w2c_j0 != w2c_j1;
+    if (w2c_i0) {goto w2c_L6;}
+    goto w2c_B2;
+  UNREACHABLE;
+  w2c_B3:;
+  w2c_j0 = w2c_p3;
+  w2c_i0 = !(w2c_j0);
+  if (w2c_i0) {goto w2c_B2;}
+  w2c_j0 = w2c_l7;
+  w2c_i0 = (u32)(w2c_j0);
+  w2c_j1 = w2c_p2;
+  w2c_i1 = (u32)(w2c_j1);
+  w2c_j2 = w2c_p3;
+  w2c_i2 = (u32)(w2c_j2);
+  memory_copy(memory, memory, w2c_i0, w2c_i1, w2c_i2);
+  w2c_B2:;
+  w2c_j0 = w2c_p5;
+  w2c_j1 = w2c_p3;
+  w2c_j2 = 8ull;
+  w2c_j1 += w2c_j2;
+  w2c_p1 = w2c_j1;
+  w2c_i0 = w2c_j0 == w2c_j1;
+  if (w2c_i0) {goto w2c_B7;}
+  w2c_j0 = w2c_p4;
+  w2c_j1 = w2c_p1;
+  w2c_j0 += w2c_j1;
+  w2c_p1 = w2c_j0;
+  w2c_j0 = w2c_p5;
+  w2c_j1 = w2c_p3;
+  w2c_j0 -= w2c_j1;
+  w2c_j1 = 18446744073709551607ull;
+  w2c_j0 += w2c_j1;
+  w2c_p0 = w2c_j0;
+  w2c_i0 = !(w2c_j0);
+  w2c_l11 = w2c_i0;
+  if (w2c_i0) {goto w2c_B8;}
+  w2c_i0 = w2c_l11;
+  if (w2c_i0) {goto w2c_B8;}
+  w2c_j0 = w2c_p1;
+  w2c_i0 = (u32)(w2c_j0);
+  w2c_i1 = 0u;
+  w2c_j2 = w2c_p0;
+  w2c_i2 = (u32)(w2c_j2);
+  memory_fill(memory, w2c_i0, w2c_i1, w2c_i2);
+  w2c_B8:;
+  w2c_j0 = w2c_p1;
+  w2c_j1 = w2c_p0;
+  w2c_j0 += w2c_j1;
+  w2c_i0 = (u32)(w2c_j0);
+  w2c_i1 = 0u;
+  i32_store8(memory, (u64)(w2c_i0), w2c_i1);
+  w2c_B7:;
+  w2c_j0 = w2c_p4;
+  w2c_i0 = (u32)(w2c_j0);
+  w2c_j1 = w2c_l6;
+  w2c_j2 = w2c_p3;
+  w2c_j3 = 11986710452722728960ull;
+  w2c_j2 |= w2c_j3;
+  w2c_j3 = w2c_l7;
+  w2c_j4 = w2c_p5;
+  w2c_j5 = 18446744073709551608ull;
+  w2c_j4 += w2c_j5;
+  w2c_j1 = w2c_f12(instance, w2c_j1, w2c_j2, w2c_j3, w2c_j4);
+  w2c_p1 = w2c_j1;
+  w2c_j2 = 56ull;
+  w2c_j1 <<= (w2c_j2 & 63);
+  w2c_j2 = w2c_p1;
+  w2c_j3 = 65280ull;
+  w2c_j2 &= w2c_j3;
+  w2c_j3 = 40ull;
+  w2c_j2 <<= (w2c_j3 & 63);
+  w2c_j1 |= w2c_j2;
+  w2c_j2 = w2c_p1;
+  w2c_j3 = 16711680ull;
+  w2c_j2 &= w2c_j3;
+  w2c_j3 = 24ull;
+  w2c_j2 <<= (w2c_j3 & 63);
+  w2c_j3 = w2c_p1;
+  w2c_j4 = 4278190080ull;
+  w2c_j3 &= w2c_j4;
+  w2c_j4 = 8ull;
+  w2c_j3 <<= (w2c_j4 & 63);
+  w2c_j2 |= w2c_j3;
+  w2c_j1 |= w2c_j2;
+  w2c_j2 = w2c_p1;
+  w2c_j3 = 8ull;
+  w2c_j2 >>= (w2c_j3 & 63);
+  w2c_j3 = 4278190080ull;
+  w2c_j2 &= w2c_j3;
+  w2c_j3 = w2c_p1;
+  w2c_j4 = 24ull;
+  w2c_j3 >>= (w2c_j4 & 63);
+  w2c_j4 = 16711680ull;
+  w2c_j3 &= w2c_j4;
+  w2c_j2 |= w2c_j3;
+  w2c_j3 = w2c_p1;
+  w2c_j4 = 40ull;
+  w2c_j3 >>= (w2c_j4 & 63);
+  w2c_j4 = 65280ull;
+  w2c_j3 &= w2c_j4;
+  w2c_j4 = w2c_p1;
+  w2c_j5 = 56ull;
+  w2c_j4 >>= (w2c_j5 & 63);
+  w2c_j3 |= w2c_j4;
+  w2c_j2 |= w2c_j3;
+  w2c_j1 |= w2c_j2;
+  i64_store(memory, (u64)(w2c_i0), w2c_j1);
+  w2c_i0 = 0u;
+  w2c_l11 = w2c_i0;
+  w2c_B1:;
+  w2c_j0 = w2c_l6;
+  w2c_j1 = 512ull;
+  w2c_j0 += w2c_j1;
+  instance->w2c_g0 = w2c_j0;
+  w2c_i0 = w2c_l11;
+  goto w2c_Bfunc;
+  w2c_B0:;
+  UNREACHABLE;
+  w2c_Bfunc:;
+  return w2c_i0;
+}
+static u32 w2c_f20(struct instance *instance, u64 w2c_p0, u64 w2c_p1, u64 w2c_p2, u64 w2c_p3, u64 w2c_p4, u64 w2c_p5, u64 w2c_p6) {
+  u32 w2c_l10 = 0;
+  u64 w2c_l7 = 0, w2c_l8 = 0, w2c_l9 = 0;
+  const struct memory memory = instance->w2c_memory;
+  (void)memory;
+  u32 w2c_i0, w2c_i1, w2c_i2, w2c_i3;
+  u64 w2c_j0, w2c_j1, w2c_j2, w2c_j3, w2c_j4, w2c_j5, w2c_j6, w2c_j7;
+  w2c_j0 = instance->w2c_g0;
+  w2c_j1 = 528ull;
+  w2c_j0 -= w2c_j1;
+  w2c_l7 = w2c_j0;
+  instance->w2c_g0 = w2c_j0;
+  w2c_j0 = w2c_l7;
+  w2c_l7 = w2c_j0;
+  w2c_j1 = 16ull;
+  w2c_i0 = (u64)((s64)w2c_j0 < (s64)w2c_j1);
+  if (w2c_i0) {goto w2c_B0;}
+  w2c_j0 = w2c_l7;
+  w2c_j1 = 36ull;
+  w2c_j0 += w2c_j1;
+  w2c_i0 = (u32)(w2c_j0);
+  w2c_i1 = 0u;
+  w2c_j2 = 248ull;
+  w2c_i2 = (u32)(w2c_j2);
+  memory_fill(memory, w2c_i0, w2c_i1, w2c_i2);
+  w2c_j0 = w2c_p6;
+  w2c_i0 = (u32)(w2c_j0);
+  w2c_j1 = 0ull;
+  i64_store(memory, (u64)(w2c_i0), w2c_j1);
+  w2c_j0 = w2c_l7;
+  w2c_j1 = 36ull;
+  w2c_j0 += w2c_j1;
+  w2c_j1 = w2c_p0;
+  w2c_j2 = w2c_p1;
+  w2c_f4(instance, w2c_j0, w2c_j1, w2c_j2);
+  w2c_j0 = w2c_l7;
+  w2c_i0 = (u32)(w2c_j0);
+  w2c_i0 = i32_load8_u(memory, (u64)(w2c_i0) + 36u);
+  w2c_i0 = !(w2c_i0);
+  if (w2c_i0) {goto w2c_B2;}
+  w2c_i0 = 3u;
+  w2c_l10 = w2c_i0;
+  goto w2c_B1;
+  w2c_B2:;
+  w2c_j0 = w2c_l7;
+  w2c_j1 = 284ull;
+  w2c_j0 += w2c_j1;
+  w2c_i0 = (u32)(w2c_j0);
+  w2c_j1 = w2c_l7;
+  w2c_j2 = 40ull;
+  w2c_j1 += w2c_j2;
+  w2c_i1 = (u32)(w2c_j1);
+  w2c_j2 = 244ull;
+  w2c_i2 = (u32)(w2c_j2);
+  memory_copy(memory, memory, w2c_i0, w2c_i1, w2c_i2);
+  w2c_j0 = w2c_l7;
+  w2c_i0 = (u32)(w2c_j0);
+  w2c_j1 = 0ull;
+  i64_store(memory, (u64)(w2c_i0) + 24, w2c_j1);
+  w2c_j0 = w2c_l7;
+  w2c_i0 = (u32)(w2c_j0);
+  w2c_j1 = w2c_l7;
+  w2c_j2 = 284ull;
+  w2c_j1 += w2c_j2;
+  i64_store(memory, (u64)(w2c_i0) + 16, w2c_j1);
+  w2c_j0 = w2c_p3;
+  w2c_j1 = 7ull;
+  w2c_j0 &= w2c_j1;
+  w2c_j1 = 0ull;
+  w2c_i0 = w2c_j0 != w2c_j1;
+  if (w2c_i0) {goto w2c_B3;}
+  w2c_j0 = w2c_p3;
+  w2c_j1 = 18446744073709551600ull;
+  w2c_j0 += w2c_j1;
+  w2c_j1 = 1048568ull;
+  w2c_i0 = w2c_j0 > w2c_j1;
+  if (w2c_i0) {goto w2c_B3;}
+  w2c_j0 = w2c_p5;
+  w2c_j1 = w2c_p3;
+  w2c_j2 = 18446744073709551608ull;
+  w2c_j1 += w2c_j2;
+  w2c_i0 = w2c_j0 != w2c_j1;
+  if (w2c_i0) {goto w2c_B3;}
+  w2c_j0 = w2c_p4;
+  w2c_j1 = w2c_p2;
+  w2c_j2 = 8ull;
+  w2c_j1 += w2c_j2;
+  w2c_p1 = w2c_j1;
+  w2c_j0 -= w2c_j1;
+  w2c_j1 = w2c_p5;
+  w2c_i0 = w2c_j0 >= w2c_j1;
+  if (w2c_i0) {goto w2c_B5;}
+  w2c_j0 = w2c_p5;
+  w2c_j1 = 3ull;
+  w2c_j0 &= w2c_j1;
+  w2c_l8 = w2c_j0;
+  w2c_j0 = 0ull;
+  w2c_p0 = w2c_j0;
+  w2c_j0 = w2c_p5;
+  w2c_j1 = 4ull;
+  w2c_i0 = w2c_j0 < w2c_j1;
+  if (w2c_i0) {goto w2c_B6;}
+  w2c_j0 = w2c_p5;
+  w2c_j1 = 18446744073709551612ull;
+  w2c_j0 &= w2c_j1;
+  w2c_l9 = w2c_j0;
+  w2c_j0 = 0ull;
+  w2c_p0 = w2c_j0;
+  w2c_L7: 
+    w2c_j0 = w2c_p4;
+    w2c_j1 = w2c_p0;
+    w2c_j0 += w2c_j1;
+    w2c_p1 = w2c_j0;
+    w2c_i0 = (u32)(w2c_j0);
+    w2c_j1 = w2c_p2;
+    w2c_j2 = w2c_p0;
+    w2c_j1 += w2c_j2;
+    w2c_p3 = w2c_j1;
+    w2c_j2 = 8ull;
+    w2c_j1 += w2c_j2;
+    w2c_i1 = (u32)(w2c_j1);
+    w2c_i1 = i32_load8_u(memory, (u64)(w2c_i1));
+    i32_store8(memory, (u64)(w2c_i0), w2c_i1);
+    w2c_j0 = w2c_p1;
+    w2c_j1 = 1ull;
+    w2c_j0 += w2c_j1;
+    w2c_i0 = (u32)(w2c_j0);
+    w2c_j1 = w2c_p3;
+    w2c_j2 = 9ull;
+    w2c_j1 += w2c_j2;
+    w2c_i1 = (u32)(w2c_j1);
+    w2c_i1 = i32_load8_u(memory, (u64)(w2c_i1));
+    i32_store8(memory, (u64)(w2c_i0), w2c_i1);
+    w2c_j0 = w2c_p1;
+    w2c_j1 = 2ull;
+    w2c_j0 += w2c_j1;
+    w2c_i0 = (u32)(w2c_j0);
+    w2c_j1 = w2c_p3;
+    w2c_j2 = 10ull;
+    w2c_j1 += w2c_j2;
+    w2c_i1 = (u32)(w2c_j1);
+    w2c_i1 = i32_load8_u(memory, (u64)(w2c_i1));
+    i32_store8(memory, (u64)(w2c_i0), w2c_i1);
+    w2c_j0 = w2c_p1;
+    w2c_j1 = 3ull;
+    w2c_j0 += w2c_j1;
+    w2c_i0 = (u32)(w2c_j0);
+    w2c_j1 = w2c_p3;
+    w2c_j2 = 11ull;
+    w2c_j1 += w2c_j2;
+    w2c_i1 = (u32)(w2c_j1);
+    w2c_i1 = i32_load8_u(memory, (u64)(w2c_i1));
+    i32_store8(memory, (u64)(w2c_i0), w2c_i1);
+    w2c_j0 = w2c_l9;
+    w2c_j1 = w2c_p0;
+    w2c_j2 = 4ull;
+    w2c_j1 += w2c_j2;
+    w2c_p0 = w2c_j1;
+    w2c_i0 = w2c_j0 != w2c_j1;
+    if (w2c_i0) {goto w2c_L7;}
+  w2c_j0 = w2c_l8;
+  w2c_i0 = !(w2c_j0);
+  if (w2c_i0) {goto w2c_B4;}
+  w2c_B6:;
+  w2c_j0 = w2c_p4;
+  w2c_j1 = w2c_p0;
+  w2c_j0 += w2c_j1;
+  w2c_p1 = w2c_j0;
+  w2c_j0 = w2c_p0;
+  w2c_j1 = w2c_p2;
+  w2c_j0 += w2c_j1;
+  w2c_j1 = 8ull;
+  w2c_j0 += w2c_j1;
+  w2c_p0 = w2c_j0;
+  w2c_L8: 
+    w2c_j0 = w2c_p1;
+    w2c_i0 = (u32)(w2c_j0);
+    w2c_j1 = w2c_p0;
+    w2c_i1 = (u32)(w2c_j1);
+    w2c_i1 = i32_load8_u(memory, (u64)(w2c_i1));
+    i32_store8(memory, (u64)(w2c_i0), w2c_i1);
+    w2c_j0 = w2c_p1;
+    w2c_j1 = 1ull;
+    w2c_j0 += w2c_j1;
+    w2c_p1 = w2c_j0;
+    w2c_j0 = w2c_p0;
+    w2c_j1 = 1ull;
+    w2c_j0 += w2c_j1;
+    w2c_p0 = w2c_j0;
+    w2c_j0 = w2c_l8;
+    w2c_j1 = 18446744073709551615ull;
+    w2c_j0 += w2c_j1;
+    w2c_l8 = w2c_j0;
+    w2c_j1 = 0ull;
+    w2c_i0 = w2c_j0 != w2c_j1;
+    if (w2c_i0) {goto w2c_L8;}
+    goto w2c_B4;
+  UNREACHABLE;
+  w2c_B5:;
+  w2c_j0 = w2c_p5;
+  w2c_i0 = !(w2c_j0);
+  if (w2c_i0) {goto w2c_B4;}
+  w2c_j0 = w2c_p4;
+  w2c_i0 = (u32)(w2c_j0);
+  w2c_j1 = w2c_p1;
+  w2c_i1 = (u32)(w2c_j1);
+  w2c_j2 = w2c_p5;
+  w2c_i2 = (u32)(w2c_j2);
+  memory_copy(memory, memory, w2c_i0, w2c_i1, w2c_i2);
+  w2c_B4:;
+  w2c_j0 = w2c_l7;
+  w2c_j1 = 8ull;
+  w2c_j0 += w2c_j1;
+  w2c_j1 = w2c_p5;
+  w2c_j2 = w2c_l7;
+  w2c_j3 = 16ull;
+  w2c_j2 += w2c_j3;
+  w2c_j3 = w2c_p2;
+  w2c_i3 = (u32)(w2c_j3);
+  w2c_j3 = i64_load(memory, (u64)(w2c_i3));
+  w2c_p1 = w2c_j3;
+  w2c_j4 = 56ull;
+  w2c_j3 <<= (w2c_j4 & 63);
+  w2c_j4 = w2c_p1;
+  w2c_j5 = 65280ull;
+  w2c_j4 &= w2c_j5;
+  w2c_j5 = 40ull;
+  w2c_j4 <<= (w2c_j5 & 63);
+  w2c_j3 |= w2c_j4;
+  w2c_j4 = w2c_p1;
+  w2c_j5 = 16711680ull;
+  w2c_j4 &= w2c_j5;
+  w2c_j5 = 24ull;
+  w2c_j4 <<= (w2c_j5 & 63);
+  w2c_j5 = w2c_p1;
+  w2c_j6 = 4278190080ull;
+  w2c_j5 &= w2c_j6;
+  w2c_j6 = 8ull;
+  w2c_j5 <<= (w2c_j6 & 63);
+  w2c_j4 |= w2c_j5;
+  w2c_j3 |= w2c_j4;
+  w2c_j4 = w2c_p1;
+  w2c_j5 = 8ull;
+  w2c_j4 >>= (w2c_j5 & 63);
+  w2c_j5 = 4278190080ull;
+  w2c_j4 &= w2c_j5;
+  w2c_j5 = w2c_p1;
+  w2c_j6 = 24ull;
+  w2c_j5 >>= (w2c_j6 & 63);
+  w2c_j6 = 16711680ull;
+  w2c_j5 &= w2c_j6;
+  w2c_j4 |= w2c_j5;
+  w2c_j5 = w2c_p1;
+  w2c_j6 = 40ull;
+  w2c_j5 >>= (w2c_j6 & 63);
+  w2c_j6 = 65280ull;
+  w2c_j5 &= w2c_j6;
+  w2c_j6 = w2c_p1;
+  w2c_j7 = 56ull;
+  w2c_j6 >>= (w2c_j7 & 63);
+  w2c_j5 |= w2c_j6;
+  w2c_j4 |= w2c_j5;
+  w2c_j3 |= w2c_j4;
+  w2c_j4 = w2c_p4;
+  w2c_j5 = w2c_p5;
+  w2c_j2 = w2c_f6(instance, w2c_j2, w2c_j3, w2c_j4, w2c_j5);
+  w2c_p1 = w2c_j2;
+  w2c_j3 = 4294967295ull;
+  w2c_j2 &= w2c_j3;
+  w2c_p3 = w2c_j2;
+  w2c_j1 -= w2c_j2;
+  w2c_p0 = w2c_j1;
+  w2c_j2 = 3ull;
+  w2c_j1 >>= (w2c_j2 & 63);
+  w2c_j2 = w2c_p1;
+  w2c_j3 = 32ull;
+  w2c_j2 >>= (w2c_j3 & 63);
+  w2c_j3 = 2790873510ull;
+  w2c_j2 ^= w2c_j3;
+  w2c_j1 |= w2c_j2;
+  w2c_j2 = w2c_p4;
+  w2c_j3 = w2c_p5;
+  w2c_j2 += w2c_j3;
+  w2c_j3 = 18446744073709551608ull;
+  w2c_j2 += w2c_j3;
+  w2c_i2 = (u32)(w2c_j2);
+  w2c_j2 = i64_load(memory, (u64)(w2c_i2));
+  w2c_p1 = w2c_j2;
+  w2c_j3 = 56ull;
+  w2c_j2 <<= (w2c_j3 & 63);
+  w2c_j3 = w2c_p1;
+  w2c_j4 = 65280ull;
+  w2c_j3 &= w2c_j4;
+  w2c_j4 = 40ull;
+  w2c_j3 <<= (w2c_j4 & 63);
+  w2c_j2 |= w2c_j3;
+  w2c_j3 = w2c_p1;
+  w2c_j4 = 16711680ull;
+  w2c_j3 &= w2c_j4;
+  w2c_j4 = 24ull;
+  w2c_j3 <<= (w2c_j4 & 63);
+  w2c_j4 = w2c_p1;
+  w2c_j5 = 4278190080ull;
+  w2c_j4 &= w2c_j5;
+  w2c_j5 = 8ull;
+  w2c_j4 <<= (w2c_j5 & 63);
+  w2c_j3 |= w2c_j4;
+  w2c_j2 |= w2c_j3;
+  w2c_j3 = w2c_p1;
+  w2c_j4 = 8ull;
+  w2c_j3 >>= (w2c_j4 & 63);
+  w2c_j4 = 4278190080ull;
+  w2c_j3 &= w2c_j4;
+  w2c_j4 = w2c_p1;
+  w2c_j5 = 24ull;
+  w2c_j4 >>= (w2c_j5 & 63);
+  w2c_j5 = 16711680ull;
+  w2c_j4 &= w2c_j5;
+  w2c_j3 |= w2c_j4;
+  w2c_j4 = w2c_p1;
+  w2c_j5 = 40ull;
+  w2c_j4 >>= (w2c_j5 & 63);
+  w2c_j5 = 65280ull;
+  w2c_j4 &= w2c_j5;
+  w2c_j5 = w2c_p1;
+  w2c_j6 = 56ull;
+  w2c_j5 >>= (w2c_j6 & 63);
+  w2c_j4 |= w2c_j5;
+  w2c_j3 |= w2c_j4;
+  w2c_j2 |= w2c_j3;
+  w2c_j3 = 18446744073709551615ull;
+  w2c_j4 = w2c_p0;
+  w2c_j5 = 3ull;
+  w2c_j4 <<= (w2c_j5 & 63);
+  w2c_j3 <<= (w2c_j4 & 63);
+  w2c_j4 = 18446744073709551615ull;
+  w2c_j3 ^= w2c_j4;
+  w2c_j2 &= w2c_j3;
+  w2c_j1 |= w2c_j2;
+  w2c_j2 = w2c_p4;
+  w2c_j3 = w2c_p5;
+  w2c_f3(instance, w2c_j0, w2c_j1, w2c_j2, w2c_j3);
+  w2c_j0 = w2c_l7;
+  w2c_i0 = (u32)(w2c_j0);
+  w2c_i0 = i32_load8_u(memory, (u64)(w2c_i0) + 8u);
+  w2c_i1 = 255u;
+  w2c_i0 &= w2c_i1;
+  if (w2c_i0) {goto w2c_B9;}
+  w2c_j0 = w2c_p6;
+  w2c_i0 = (u32)(w2c_j0);
+  w2c_j1 = w2c_p3;
+  i64_store(memory, (u64)(w2c_i0), w2c_j1);
+  w2c_i0 = 0u;
+  w2c_l10 = w2c_i0;
+  goto w2c_B1;
+  w2c_B9:;
+  w2c_j0 = w2c_l7;
+  w2c_i0 = (u32)(w2c_j0);
+  w2c_i0 = i32_load8_u(memory, (u64)(w2c_i0) + 9u);
+  w2c_i1 = 255u;
+  w2c_i0 &= w2c_i1;
+  w2c_i0 = !(w2c_i0);
+  if (w2c_i0) {goto w2c_B3;}
+  w2c_i0 = 5u;
+  w2c_l10 = w2c_i0;
+  goto w2c_B1;
+  w2c_B3:;
+  w2c_i0 = 4u;
+  w2c_l10 = w2c_i0;
+  w2c_B1:;
+  w2c_j0 = w2c_l7;
+  w2c_j1 = 528ull;
+  w2c_j0 += w2c_j1;
+  instance->w2c_g0 = w2c_j0;
+  w2c_i0 = w2c_l10;
+  goto w2c_Bfunc;
+  w2c_B0:;
+  UNREACHABLE;
+  w2c_Bfunc:;
+  return w2c_i0;
+}
+static void w2c_f21(struct instance *instance, u64 w2c_p0, u32 w2c_p1, u64 w2c_p2, u64 w2c_p3, u64 w2c_p4, u64 w2c_p5, u64 w2c_p6) {
+  u64 w2c_l7 = 0, w2c_l8 = 0, w2c_l9 = 0, w2c_l10 = 0, w2c_l11 = 0, w2c_l12 = 0, w2c_l13 = 0;
+  const struct memory memory = instance->w2c_memory;
+  (void)memory;
+  u32 w2c_i0, w2c_i1, w2c_i2, w2c_i3;
+  u64 w2c_j0, w2c_j1, w2c_j2, w2c_j3, w2c_j4, w2c_j5, w2c_j6, w2c_j7;
+  w2c_j0 = instance->w2c_g0;
+  w2c_j1 = 32ull;
+  w2c_j0 -= w2c_j1;
+  w2c_l7 = w2c_j0;
+  instance->w2c_g0 = w2c_j0;
+  w2c_j0 = w2c_l7;
+  w2c_l7 = w2c_j0;
+  w2c_j1 = 16ull;
+  w2c_i0 = (u64)((s64)w2c_j0 < (s64)w2c_j1);
+  if (w2c_i0) {goto w2c_B0;}
+  w2c_j0 = w2c_p6;
+  w2c_i0 = !(w2c_j0);
+  if (w2c_i0) {goto w2c_B1;}
+  w2c_j0 = w2c_p2;
+  w2c_j1 = 18446744073709551608ull;
+  w2c_j0 += w2c_j1;
+  w2c_l8 = w2c_j0;
+  w2c_j0 = w2c_p2;
+  w2c_j1 = 7ull;
+  w2c_j0 &= w2c_j1;
+  w2c_l9 = w2c_j0;
+  w2c_i0 = w2c_p1;
+  w2c_i1 = 255u;
+  w2c_i0 &= w2c_i1;
+  if (w2c_i0) {goto w2c_B2;}
+  w2c_j0 = 0ull;
+  w2c_l10 = w2c_j0;
+  w2c_j0 = w2c_l9;
+  w2c_j1 = 0ull;
+  w2c_i0 = w2c_j0 != w2c_j1;
+  if (w2c_i0) {goto w2c_B4;}
+  w2c_j0 = w2c_p2;
+  w2c_j1 = 18446744073709551592ull;
+  w2c_j0 += w2c_j1;
+  w2c_j1 = 1048560ull;
+  w2c_i0 = w2c_j0 <= w2c_j1;
+  if (w2c_i0) {goto w2c_B3;}
+  w2c_B4:;
+  w2c_j0 = w2c_p6;
+  w2c_j1 = 3ull;
+  w2c_j0 &= w2c_j1;
+  w2c_l8 = w2c_j0;
+  w2c_j0 = w2c_p6;
+  w2c_j1 = 4ull;
+  w2c_i0 = w2c_j0 < w2c_j1;
+  if (w2c_i0) {goto w2c_B5;}
+  w2c_j0 = w2c_p6;
+  w2c_j1 = 18446744073709551612ull;
+  w2c_j0 &= w2c_j1;
+  w2c_p6 = w2c_j0;
+  w2c_j0 = w2c_p4;
+  w2c_p3 = w2c_j0;
+  w2c_j0 = 0ull;
+  w2c_l10 = w2c_j0;
+  w2c_L6: 
+    w2c_j0 = w2c_p5;
+    w2c_j1 = w2c_l10;
+    w2c_j0 += w2c_j1;
+    w2c_l9 = w2c_j0;
+    w2c_i0 = (u32)(w2c_j0);
+    w2c_i1 = 4u;
+    i32_store8(memory, (u64)(w2c_i0), w2c_i1);
+    w2c_j0 = w2c_p3;
+    w2c_i0 = (u32)(w2c_j0);
+    w2c_j1 = 0ull;
+    i64_store(memory, (u64)(w2c_i0), w2c_j1);
+    w2c_j0 = w2c_l9;
+    w2c_j1 = 1ull;
+    w2c_j0 += w2c_j1;
+    w2c_i0 = (u32)(w2c_j0);
+    w2c_i1 = 4u;
+    i32_store8(memory, (u64)(w2c_i0), w2c_i1);
+    w2c_j0 = w2c_p3;
+    w2c_j1 = 8ull;
+    w2c_j0 += w2c_j1;
+    w2c_i0 = (u32)(w2c_j0);
+    w2c_j1 = 0ull;
+    i64_store(memory, (u64)(w2c_i0), w2c_j1);
+    w2c_j0 = w2c_l9;
+    w2c_j1 = 2ull;
+    w2c_j0 += w2c_j1;
+    w2c_i0 = (u32)(w2c_j0);
+    w2c_i1 = 4u;
+    i32_store8(memory, (u64)(w2c_i0), w2c_i1);
+    w2c_j0 = w2c_p3;
+    w2c_j1 = 16ull;
+    w2c_j0 += w2c_j1;
+    w2c_i0 = (u32)(w2c_j0);
+    w2c_j1 = 0ull;
+    i64_store(memory, (u64)(w2c_i0), w2c_j1);
+    w2c_j0 = w2c_l9;
+    w2c_j1 = 3ull;
+    w2c_j0 += w2c_j1;
+    w2c_i0 = (u32)(w2c_j0);
+    w2c_i1 = 4u;
+    i32_store8(memory, (u64)(w2c_i0), w2c_i1);
+    w2c_j0 = w2c_p3;
+    w2c_j1 = 24ull;
+    w2c_j0 += w2c_j1;
+    w2c_i0 = (u32)(w2c_j0);
+    w2c_j1 = 0ull;
+    i64_store(memory, (u64)(w2c_i0), w2c_j1);
+    w2c_j0 = w2c_p3;
+    w2c_j1 = 32ull;
+    w2c_j0 += w2c_j1;
+    w2c_p3 = w2c_j0;
+    w2c_j0 = w2c_p6;
+    w2c_j1 = w2c_l10;
+    w2c_j2 = 4ull;
+    w2c_j1 += w2c_j2;
+    w2c_l10 = w2c_j1;
+    w2c_i0 = w2c_j0 != w2c_j1;
+    if (w2c_i0) {goto w2c_L6;}
+  w2c_j0 = w2c_l8;
+  w2c_i0 = !(w2c_j0);
+  if (w2c_i0) {goto w2c_B1;}
+  w2c_B5:;
+  w2c_j0 = w2c_p5;
+  w2c_j1 = w2c_l10;
+  w2c_j0 += w2c_j1;
+  w2c_p3 = w2c_j0;
+  w2c_j0 = w2c_p4;
+  w2c_j1 = w2c_l10;
+  w2c_j2 = 3ull;
+  w2c_j1 <<= (w2c_j2 & 63);
+  w2c_j0 += w2c_j1;
+  w2c_l9 = w2c_j0;
+  w2c_L7: 
+    w2c_j0 = w2c_p3;
+    w2c_i0 = (u32)(w2c_j0);
+    w2c_i1 = 4u;
+    i32_store8(memory, (u64)(w2c_i0), w2c_i1);
+    w2c_j0 = w2c_l9;
+    w2c_i0 = (u32)(w2c_j0);
+    w2c_j1 = 0ull;
+    i64_store(memory, (u64)(w2c_i0), w2c_j1);
+    w2c_j0 = w2c_p3;
+    w2c_j1 = 1ull;
+    w2c_j0 += w2c_j1;
+    w2c_p3 = w2c_j0;
+    w2c_j0 = w2c_l9;
+    w2c_j1 = 8ull;
+    w2c_j0 += w2c_j1;
+    w2c_l9 = w2c_j0;
+    w2c_j0 = w2c_l8;
+    w2c_j1 = 18446744073709551615ull;
+    w2c_j0 += w2c_j1;
+    w2c_l8 = w2c_j0;
+    w2c_i0 = !(w2c_j0);
+    w2c_i0 = !(w2c_i0);
+    if (w2c_i0) {goto w2c_L7;}
+    goto w2c_B1;
+  UNREACHABLE;
+  w2c_B3:;
+  w2c_L8: 
+    w2c_j0 = w2c_p3;
+    w2c_i0 = (u32)(w2c_j0);
+    w2c_j0 = i64_load(memory, (u64)(w2c_i0));
+    w2c_l9 = w2c_j0;
+    w2c_j0 = w2c_p3;
+    w2c_i0 = (u32)(w2c_j0);
+    w2c_j1 = 0ull;
+    i64_store(memory, (u64)(w2c_i0), w2c_j1);
+    w2c_j0 = w2c_l7;
+    w2c_i0 = (u32)(w2c_j0);
+    w2c_j1 = 0ull;
+    i64_store(memory, (u64)(w2c_i0) + 24, w2c_j1);
+    w2c_j0 = w2c_l7;
+    w2c_i0 = (u32)(w2c_j0);
+    w2c_j1 = w2c_p0;
+    i64_store(memory, (u64)(w2c_i0) + 16, w2c_j1);
+    w2c_j0 = w2c_l7;
+    w2c_j1 = w2c_l7;
+    w2c_j2 = 16ull;
+    w2c_j1 += w2c_j2;
+    w2c_j2 = w2c_l9;
+    w2c_j3 = 56ull;
+    w2c_j2 <<= (w2c_j3 & 63);
+    w2c_j3 = w2c_l9;
+    w2c_j4 = 65280ull;
+    w2c_j3 &= w2c_j4;
+    w2c_j4 = 40ull;
+    w2c_j3 <<= (w2c_j4 & 63);
+    w2c_j2 |= w2c_j3;
+    w2c_j3 = w2c_l9;
+    w2c_j4 = 16711680ull;
+    w2c_j3 &= w2c_j4;
+    w2c_j4 = 24ull;
+    w2c_j3 <<= (w2c_j4 & 63);
+    w2c_j4 = w2c_l9;
+    w2c_j5 = 4278190080ull;
+    w2c_j4 &= w2c_j5;
+    w2c_j5 = 8ull;
+    w2c_j4 <<= (w2c_j5 & 63);
+    w2c_j3 |= w2c_j4;
+    w2c_j2 |= w2c_j3;
+    w2c_j3 = w2c_l9;
+    w2c_j4 = 8ull;
+    w2c_j3 >>= (w2c_j4 & 63);
+    w2c_j4 = 4278190080ull;
+    w2c_j3 &= w2c_j4;
+    w2c_j4 = w2c_l9;
+    w2c_j5 = 24ull;
+    w2c_j4 >>= (w2c_j5 & 63);
+    w2c_j5 = 16711680ull;
+    w2c_j4 &= w2c_j5;
+    w2c_j3 |= w2c_j4;
+    w2c_j4 = w2c_l9;
+    w2c_j5 = 40ull;
+    w2c_j4 >>= (w2c_j5 & 63);
+    w2c_j5 = 65280ull;
+    w2c_j4 &= w2c_j5;
+    w2c_j5 = w2c_l9;
+    w2c_j6 = 56ull;
+    w2c_j5 >>= (w2c_j6 & 63);
+    w2c_j4 |= w2c_j5;
+    w2c_j3 |= w2c_j4;
+    w2c_j2 |= w2c_j3;
+    w2c_j3 = w2c_p3;
+    w2c_j4 = 8ull;
+    w2c_j3 += w2c_j4;
+    w2c_l9 = w2c_j3;
+    w2c_j4 = w2c_l8;
+    w2c_j1 = w2c_f6(instance, w2c_j1, w2c_j2, w2c_j3, w2c_j4);
+    w2c_j2 = 12008468691120727718ull;
+    w2c_j1 ^= w2c_j2;
+    w2c_j2 = w2c_l9;
+    w2c_j3 = w2c_l8;
+    w2c_f3(instance, w2c_j0, w2c_j1, w2c_j2, w2c_j3);
+    w2c_j0 = w2c_l7;
+    w2c_i0 = (u32)(w2c_j0);
+    w2c_i0 = i32_load8_u(memory, (u64)(w2c_i0));
+    w2c_p1 = w2c_i0;
+    w2c_j0 = w2c_l7;
+    w2c_i0 = (u32)(w2c_j0);
+    w2c_i0 = i32_load8_u(memory, (u64)(w2c_i0) + 1u);
+    w2c_i1 = 255u;
+    w2c_i0 &= w2c_i1;
+    w2c_i0 = !(w2c_i0);
+    if (w2c_i0) {goto w2c_B12;}
+    w2c_i0 = w2c_p1;
+    w2c_i1 = 1u;
+    w2c_i0 &= w2c_i1;
+    w2c_i0 = !(w2c_i0);
+    if (w2c_i0) {goto w2c_B11;}
+    w2c_j0 = 0ull;
+    w2c_l9 = w2c_j0;
+    w2c_i0 = 5u;
+    w2c_p1 = w2c_i0;
+    goto w2c_B9;
+    w2c_B12:;
+    w2c_i0 = w2c_p1;
+    w2c_i1 = 1u;
+    w2c_i0 &= w2c_i1;
+    if (w2c_i0) {goto w2c_B10;}
+    w2c_B11:;
+    w2c_i0 = 0u;
+    w2c_p1 = w2c_i0;
+    w2c_j0 = w2c_l8;
+    w2c_l9 = w2c_j0;
+    goto w2c_B9;
+    w2c_B10:;
+    w2c_j0 = 0ull;
+    w2c_l9 = w2c_j0;
+    w2c_i0 = 4u;
+    w2c_p1 = w2c_i0;
+    w2c_B9:;
+    w2c_j0 = w2c_p5;
+    w2c_i0 = (u32)(w2c_j0);
+    w2c_i1 = w2c_p1;
+    i32_store8(memory, (u64)(w2c_i0), w2c_i1);
+    w2c_j0 = w2c_p4;
+    w2c_i0 = (u32)(w2c_j0);
+    w2c_j1 = w2c_l9;
+    i64_store(memory, (u64)(w2c_i0), w2c_j1);
+    w2c_j0 = w2c_p3;
+    w2c_j1 = w2c_p2;
+    w2c_j0 += w2c_j1;
+    w2c_p3 = w2c_j0;
+    w2c_j0 = w2c_p5;
+    w2c_j1 = 1ull;
+    w2c_j0 += w2c_j1;
+    w2c_p5 = w2c_j0;
+    w2c_j0 = w2c_p4;
+    w2c_j1 = 8ull;
+    w2c_j0 += w2c_j1;
+    w2c_p4 = w2c_j0;
+    w2c_j0 = w2c_p6;
+    w2c_j1 = 18446744073709551615ull;
+    w2c_j0 += w2c_j1;
+    w2c_p6 = w2c_j0;
+    w2c_i0 = !(w2c_j0);
+    w2c_i0 = !(w2c_i0);
+    if (w2c_i0) {goto w2c_L8;}
+    goto w2c_B1;
+  UNREACHABLE;
+  w2c_B2:;
+  w2c_j0 = 0ull;
+  w2c_l10 = w2c_j0;
+  w2c_j0 = w2c_l9;
+  w2c_j1 = 0ull;
+  w2c_i0 = w2c_j0 != w2c_j1;
+  if (w2c_i0) {goto w2c_B14;}
+  w2c_j0 = w2c_p2;
+  w2c_j1 = 18446744073709551600ull;
+  w2c_j0 += w2c_j1;
+  w2c_j1 = 1048568ull;
+  w2c_i0 = w2c_j0 <= w2c_j1;
+  if (w2c_i0) {goto w2c_B13;}
+  w2c_B14:;
+  w2c_j0 = w2c_p6;
+  w2c_j1 = 3ull;
+  w2c_j0 &= w2c_j1;
+  w2c_l8 = w2c_j0;
+  w2c_j0 = w2c_p6;
+  w2c_j1 = 4ull;
+  w2c_i0 = w2c_j0 < w2c_j1;
+  if (w2c_i0) {goto w2c_B15;}
+  w2c_j0 = w2c_p6;
+  w2c_j1 = 18446744073709551612ull;
+  w2c_j0 &= w2c_j1;
+  w2c_p6 = w2c_j0;
+  w2c_j0 = w2c_p4;
+  w2c_p3 = w2c_j0;
+  w2c_j0 = 0ull;
+  w2c_l10 = w2c_j0;
+  w2c_L16: 
+    w2c_j0 = w2c_p5;
+    w2c_j1 = w2c_l10;
+    w2c_j0 += w2c_j1;
+    w2c_l9 = w2c_j0;
+    w2c_i0 = (u32)(w2c_j0);
+    w2c_i1 = 4u;
+    i32_store8(memory, (u64)(w2c_i0), w2c_i1);
+    w2c_j0 = w2c_p3;
+    w2c_i0 = (u32)(w2c_j0);
+    w2c_j1 = 0ull;
+    i64_store(memory, (u64)(w2c_i0), w2c_j1);
+    w2c_j0 = w2c_l9;
+    w2c_j1 = 1ull;
+    w2c_j0 += w2c_j1;
+    w2c_i0 = (u32)(w2c_j0);
+    w2c_i1 = 4u;
+    i32_store8(memory, (u64)(w2c_i0), w2c_i1);
+    w2c_j0 = w2c_p3;
+    w2c_j1 = 8ull;
+    w2c_j0 += w2c_j1;
+    w2c_i0 = (u32)(w2c_j0);
+    w2c_j1 = 0ull;
+    i64_store(memory, (u64)(w2c_i0), w2c_j1);
+    w2c_j0 = w2c_l9;
+    w2c_j1 = 2ull;
+    w2c_j0 += w2c_j1;
+    w2c_i0 = (u32)(w2c_j0);
+    w2c_i1 = 4u;
+    i32_store8(memory, (u64)(w2c_i0), w2c_i1);
+    w2c_j0 = w2c_p3;
+    w2c_j1 = 16ull;
+    w2c_j0 += w2c_j1;
+    w2c_i0 = (u32)(w2c_j0);
+    w2c_j1 = 0ull;
+    i64_store(memory, (u64)(w2c_i0), w2c_j1);
+    w2c_j0 = w2c_l9;
+    w2c_j1 = 3ull;
+    w2c_j0 += w2c_j1;
+    w2c_i0 = (u32)(w2c_j0);
+    w2c_i1 = 4u;
+    i32_store8(memory, (u64)(w2c_i0), w2c_i1);
+    w2c_j0 = w2c_p3;
+    w2c_j1 = 24ull;
+    w2c_j0 += w2c_j1;
+    w2c_i0 = (u32)(w2c_j0);
+    w2c_j1 = 0ull;
+    i64_store(memory, (u64)(w2c_i0), w2c_j1);
+    w2c_j0 = w2c_p3;
+    w2c_j1 = 32ull;
+    w2c_j0 += w2c_j1;
+    w2c_p3 = w2c_j0;
+    w2c_j0 = w2c_p6;
+    w2c_j1 = w2c_l10;
+    w2c_j2 = 4ull;
+    w2c_j1 += w2c_j2;
+    w2c_l10 = w2c_j1;
+    w2c_i0 = w2c_j0 != w2c_j1;
+    if (w2c_i0) {goto w2c_L16;}
+  w2c_j0 = w2c_l8;
+  w2c_i0 = !(w2c_j0);
+  if (w2c_i0) {goto w2c_B1;}
+  w2c_B15:;
+  w2c_j0 = w2c_p5;
+  w2c_j1 = w2c_l10;
+  w2c_j0 += w2c_j1;
+  w2c_p3 = w2c_j0;
+  w2c_j0 = w2c_p4;
+  w2c_j1 = w2c_l10;
+  w2c_j2 = 3ull;
+  w2c_j1 <<= (w2c_j2 & 63);
+  w2c_j0 += w2c_j1;
+  w2c_l9 = w2c_j0;
+  w2c_L17: 
+    w2c_j0 = w2c_p3;
+    w2c_i0 = (u32)(w2c_j0);
+    w2c_i1 = 4u;
+    i32_store8(memory, (u64)(w2c_i0), w2c_i1);
+    w2c_j0 = w2c_l9;
+    w2c_i0 = (u32)(w2c_j0);
+    w2c_j1 = 0ull;
+    i64_store(memory, (u64)(w2c_i0), w2c_j1);
+    w2c_j0 = w2c_p3;
+    w2c_j1 = 1ull;
+    w2c_j0 += w2c_j1;
+    w2c_p3 = w2c_j0;
+    w2c_j0 = w2c_l9;
+    w2c_j1 = 8ull;
+    w2c_j0 += w2c_j1;
+    w2c_l9 = w2c_j0;
+    w2c_j0 = w2c_l8;
+    w2c_j1 = 18446744073709551615ull;
+    w2c_j0 += w2c_j1;
+    w2c_l8 = w2c_j0;
+    w2c_j1 = 0ull;
+    w2c_i0 = w2c_j0 != w2c_j1;
+    if (w2c_i0) {goto w2c_L17;}
+    goto w2c_B1;
+  UNREACHABLE;
+  w2c_B13:;
+  w2c_L18: 
+    w2c_j0 = w2c_p3;
+    w2c_i0 = (u32)(w2c_j0);
+    w2c_j0 = i64_load(memory, (u64)(w2c_i0));
+    w2c_l9 = w2c_j0;
+    w2c_j0 = 0ull;
+    w2c_l10 = w2c_j0;
+    w2c_j0 = w2c_p3;
+    w2c_i0 = (u32)(w2c_j0);
+    w2c_j1 = 0ull;
+    i64_store(memory, (u64)(w2c_i0), w2c_j1);
+    w2c_j0 = w2c_l7;
+    w2c_i0 = (u32)(w2c_j0);
+    w2c_j1 = 0ull;
+    i64_store(memory, (u64)(w2c_i0) + 24, w2c_j1);
+    w2c_j0 = w2c_l7;
+    w2c_i0 = (u32)(w2c_j0);
+    w2c_j1 = w2c_p0;
+    i64_store(memory, (u64)(w2c_i0) + 16, w2c_j1);
+    w2c_j0 = w2c_l7;
+    w2c_j1 = 8ull;
+    w2c_j0 += w2c_j1;
+    w2c_j1 = w2c_l8;
+    w2c_j2 = w2c_l7;
+    w2c_j3 = 16ull;
+    w2c_j2 += w2c_j3;
+    w2c_j3 = w2c_l9;
+    w2c_j4 = 56ull;
+    w2c_j3 <<= (w2c_j4 & 63);
+    w2c_j4 = w2c_l9;
+    w2c_j5 = 65280ull;
+    w2c_j4 &= w2c_j5;
+    w2c_j5 = 40ull;
+    w2c_j4 <<= (w2c_j5 & 63);
+    w2c_j3 |= w2c_j4;
+    w2c_j4 = w2c_l9;
+    w2c_j5 = 16711680ull;
+    w2c_j4 &= w2c_j5;
+    w2c_j5 = 24ull;
+    w2c_j4 <<= (w2c_j5 & 63);
+    w2c_j5 = w2c_l9;
+    w2c_j6 = 4278190080ull;
+    w2c_j5 &= w2c_j6;
+    w2c_j6 = 8ull;
+    w2c_j5 <<= (w2c_j6 & 63);
+    w2c_j4 |= w2c_j5;
+    w2c_j3 |= w2c_j4;
+    w2c_j4 = w2c_l9;
+    w2c_j5 = 8ull;
+    w2c_j4 >>= (w2c_j5 & 63);
+    w2c_j5 = 4278190080ull;
+    w2c_j4 &= w2c_j5;
+    w2c_j5 = w2c_l9;
+    w2c_j6 = 24ull;
+    w2c_j5 >>= (w2c_j6 & 63);
+    w2c_j6 = 16711680ull;
+    w2c_j5 &= w2c_j6;
+    w2c_j4 |= w2c_j5;
+    w2c_j5 = w2c_l9;
+    w2c_j6 = 40ull;
+    w2c_j5 >>= (w2c_j6 & 63);
+    w2c_j6 = 65280ull;
+    w2c_j5 &= w2c_j6;
+    w2c_j6 = w2c_l9;
+    w2c_j7 = 56ull;
+    w2c_j6 >>= (w2c_j7 & 63);
+    w2c_j5 |= w2c_j6;
+    w2c_j4 |= w2c_j5;
+    w2c_j3 |= w2c_j4;
+    w2c_j4 = w2c_p3;
+    w2c_j5 = 8ull;
+    w2c_j4 += w2c_j5;
+    w2c_l11 = w2c_j4;
+    w2c_j5 = w2c_l8;
+    w2c_j2 = w2c_f6(instance, w2c_j2, w2c_j3, w2c_j4, w2c_j5);
+    w2c_l9 = w2c_j2;
+    w2c_j3 = 4294967295ull;
+    w2c_j2 &= w2c_j3;
+    w2c_l12 = w2c_j2;
+    w2c_j1 -= w2c_j2;
+    w2c_l13 = w2c_j1;
+    w2c_j2 = 3ull;
+    w2c_j1 >>= (w2c_j2 & 63);
+    w2c_j2 = w2c_l9;
+    w2c_j3 = 32ull;
+    w2c_j2 >>= (w2c_j3 & 63);
+    w2c_j3 = 2790873510ull;
+    w2c_j2 ^= w2c_j3;
+    w2c_j1 |= w2c_j2;
+    w2c_j2 = w2c_p3;
+    w2c_j3 = w2c_l8;
+    w2c_j2 += w2c_j3;
+    w2c_i2 = (u32)(w2c_j2);
+    w2c_j2 = i64_load(memory, (u64)(w2c_i2));
+    w2c_l9 = w2c_j2;
+    w2c_j3 = 56ull;
+    w2c_j2 <<= (w2c_j3 & 63);
+    w2c_j3 = w2c_l9;
+    w2c_j4 = 65280ull;
+    w2c_j3 &= w2c_j4;
+    w2c_j4 = 40ull;
+    w2c_j3 <<= (w2c_j4 & 63);
+    w2c_j2 |= w2c_j3;
+    w2c_j3 = w2c_l9;
+    w2c_j4 = 16711680ull;
+    w2c_j3 &= w2c_j4;
+    w2c_j4 = 24ull;
+    w2c_j3 <<= (w2c_j4 & 63);
+    w2c_j4 = w2c_l9;
+    w2c_j5 = 4278190080ull;
+    w2c_j4 &= w2c_j5;
+    w2c_j5 = 8ull;
+    w2c_j4 <<= (w2c_j5 & 63);
+    w2c_j3 |= w2c_j4;
+    w2c_j2 |= w2c_j3;
+    w2c_j3 = w2c_l9;
+    w2c_j4 = 8ull;
+    w2c_j3 >>= (w2c_j4 & 63);
+    w2c_j4 = 4278190080ull;
+    w2c_j3 &= w2c_j4;
+    w2c_j4 = w2c_l9;
+    w2c_j5 = 24ull;
+    w2c_j4 >>= (w2c_j5 & 63);
+    w2c_j5 = 16711680ull;
+    w2c_j4 &= w2c_j5;
+    w2c_j3 |= w2c_j4;
+    w2c_j4 = w2c_l9;
+    w2c_j5 = 40ull;
+    w2c_j4 >>= (w2c_j5 & 63);
+    w2c_j5 = 65280ull;
+    w2c_j4 &= w2c_j5;
+    w2c_j5 = w2c_l9;
+    w2c_j6 = 56ull;
+    w2c_j5 >>= (w2c_j6 & 63);
+    w2c_j4 |= w2c_j5;
+    w2c_j3 |= w2c_j4;
+    w2c_j2 |= w2c_j3;
+    w2c_j3 = 18446744073709551615ull;
+    w2c_j4 = w2c_l13;
+    w2c_j5 = 3ull;
+    w2c_j4 <<= (w2c_j5 & 63);
+    w2c_j3 <<= (w2c_j4 & 63);
+    w2c_j4 = 18446744073709551615ull;
+    w2c_j3 ^= w2c_j4;
+    w2c_j2 &= w2c_j3;
+    w2c_j1 |= w2c_j2;
+    w2c_j2 = w2c_l11;
+    w2c_j3 = w2c_l8;
+    w2c_f3(instance, w2c_j0, w2c_j1, w2c_j2, w2c_j3);
+    w2c_j0 = w2c_l7;
+    w2c_i0 = (u32)(w2c_j0);
+    w2c_i0 = i32_load8_u(memory, (u64)(w2c_i0) + 8u);
+    w2c_i1 = 255u;
+    w2c_i0 &= w2c_i1;
+    w2c_i0 = !(w2c_i0);
+    if (w2c_i0) {goto w2c_B20;}
+    w2c_i0 = 5u;
+    w2c_i1 = 4u;
+    w2c_j2 = w2c_l7;
+    w2c_i2 = (u32)(w2c_j2);
+    w2c_i2 = i32_load8_u(memory, (u64)(w2c_i2) + 9u);
+    w2c_i3 = 255u;
+    w2c_i2 &= w2c_i3;
+    w2c_i0 = w2c_i2 ? w2c_i0 : w2c_i1;
+    w2c_p1 = w2c_i0;
+    goto w2c_B19;
+    w2c_B20:;
+    w2c_i0 = 0u;
+    w2c_p1 = w2c_i0;
+    w2c_j0 = w2c_l12;
+    w2c_l10 = w2c_j0;
+    w2c_B19:;
+    w2c_j0 = w2c_p5;
+    w2c_i0 = (u32)(w2c_j0);
+    w2c_i1 = w2c_p1;
+    i32_store8(memory, (u64)(w2c_i0), w2c_i1);
+    w2c_j0 = w2c_p4;
+    w2c_i0 = (u32)(w2c_j0);
+    w2c_j1 = w2c_l10;
+    i64_store(memory, (u64)(w2c_i0), w2c_j1);
+    w2c_j0 = w2c_p3;
+    w2c_j1 = w2c_p2;
+    w2c_j0 += w2c_j1;
+    w2c_p3 = w2c_j0;
+    w2c_j0 = w2c_p5;
+    w2c_j1 = 1ull;
+    w2c_j0 += w2c_j1;
+    w2c_p5 = w2c_j0;
+    w2c_j0 = w2c_p4;
+    w2c_j1 = 8ull;
+    w2c_j0 += w2c_j1;
+    w2c_p4 = w2c_j0;
+    w2c_j0 = w2c_p6;
+    w2c_j1 = 18446744073709551615ull;
+    w2c_j0 += w2c_j1;
+    w2c_p6 = w2c_j0;
+    w2c_i0 = !(w2c_j0);
+    w2c_i0 = !(w2c_i0);
+    if (w2c_i0) {goto w2c_L18;}
+  w2c_B1:;
+  w2c_j0 = w2c_l7;
+  w2c_j1 = 32ull;
+  w2c_j0 += w2c_j1;
+  instance->w2c_g0 = w2c_j0;
+  goto w2c_Bfunc;
+  w2c_B0:;
+  UNREACHABLE;
+  w2c_Bfunc:;
+}
+static void w2c_f22(struct instance *instance, u64 w2c_p0, u32 w2c_p1, u64 w2c_p2, u64 w2c_p3, u64 w2c_p4, u64 w2c_p5, u64 w2c_p6) {
+  u32 w2c_l13 = 0;
+  u64 w2c_l7 = 0, w2c_l8 = 0, w2c_l9 = 0, w2c_l10 = 0, w2c_l11 = 0, w2c_l12 = 0;
+  const struct memory memory = instance->w2c_memory;
+  (void)memory;
+  u32 w2c_i0, w2c_i1, w2c_i2;
+  u64 w2c_j0, w2c_j1, w2c_j2, w2c_j3, w2c_j4, w2c_j5;
+  w2c_j0 = instance->w2c_g0;
+  w2c_j1 = 16ull;
+  w2c_j0 -= w2c_j1;
+  w2c_l7 = w2c_j0;
+  instance->w2c_g0 = w2c_j0;
+  w2c_j0 = w2c_l7;
+  w2c_l8 = w2c_j0;
+  w2c_j1 = 16ull;
+  w2c_i0 = (u64)((s64)w2c_j0 < (s64)w2c_j1);
+  if (w2c_i0) {goto w2c_B0;}
+  w2c_j0 = w2c_p6;
+  w2c_i0 = !(w2c_j0);
+  w2c_l13 = w2c_i0;
+  if (w2c_i0) {goto w2c_B1;}
+  w2c_j0 = w2c_p3;
+  w2c_j1 = 18446744073709551608ull;
+  w2c_j0 += w2c_j1;
+  w2c_l9 = w2c_j0;
+  w2c_i0 = w2c_p1;
+  w2c_i1 = 255u;
+  w2c_i0 &= w2c_i1;
+  if (w2c_i0) {goto w2c_B2;}
+  w2c_j0 = w2c_p3;
+  w2c_j1 = 7ull;
+  w2c_j0 &= w2c_j1;
+  w2c_j1 = 0ull;
+  w2c_i0 = w2c_j0 != w2c_j1;
+  if (w2c_i0) {goto w2c_B4;}
+  w2c_j0 = w2c_p3;
+  w2c_j1 = 18446744073709551592ull;
+  w2c_j0 += w2c_j1;
+  w2c_j1 = 1048560ull;
+  w2c_i0 = w2c_j0 <= w2c_j1;
+  if (w2c_i0) {goto w2c_B3;}
+  w2c_B4:;
+  w2c_i0 = w2c_l13;
+  if (w2c_i0) {goto w2c_B1;}
+  w2c_j0 = w2c_p5;
+  w2c_i0 = (u32)(w2c_j0);
+  w2c_i1 = 4u;
+  w2c_j2 = w2c_p6;
+  w2c_i2 = (u32)(w2c_j2);
+  memory_fill(memory, w2c_i0, w2c_i1, w2c_i2);
+  goto w2c_B1;
+  w2c_B3:;
+  w2c_L5: 
+    w2c_j0 = w2c_l8;
+    w2c_i0 = (u32)(w2c_j0);
+    w2c_j1 = 0ull;
+    i64_store(memory, (u64)(w2c_i0) + 8, w2c_j1);
+    w2c_j0 = w2c_l8;
+    w2c_i0 = (u32)(w2c_j0);
+    w2c_j1 = w2c_p0;
+    i64_store(memory, (u64)(w2c_i0), w2c_j1);
+    w2c_j0 = w2c_p4;
+    w2c_i0 = (u32)(w2c_j0);
+    w2c_j1 = w2c_l8;
+    w2c_j2 = 12008468691120727718ull;
+    w2c_j3 = w2c_p4;
+    w2c_j4 = 8ull;
+    w2c_j3 += w2c_j4;
+    w2c_j4 = w2c_l9;
+    w2c_j1 = w2c_f12(instance, w2c_j1, w2c_j2, w2c_j3, w2c_j4);
+    w2c_l7 = w2c_j1;
+    w2c_j2 = 56ull;
+    w2c_j1 <<= (w2c_j2 & 63);
+    w2c_j2 = w2c_l7;
+    w2c_j3 = 65280ull;
+    w2c_j2 &= w2c_j3;
+    w2c_j3 = 40ull;
+    w2c_j2 <<= (w2c_j3 & 63);
+    w2c_j1 |= w2c_j2;
+    w2c_j2 = w2c_l7;
+    w2c_j3 = 16711680ull;
+    w2c_j2 &= w2c_j3;
+    w2c_j3 = 24ull;
+    w2c_j2 <<= (w2c_j3 & 63);
+    w2c_j3 = w2c_l7;
+    w2c_j4 = 4278190080ull;
+    w2c_j3 &= w2c_j4;
+    w2c_j4 = 8ull;
+    w2c_j3 <<= (w2c_j4 & 63);
+    w2c_j2 |= w2c_j3;
+    w2c_j1 |= w2c_j2;
+    w2c_j2 = w2c_l7;
+    w2c_j3 = 8ull;
+    w2c_j2 >>= (w2c_j3 & 63);
+    w2c_j3 = 4278190080ull;
+    w2c_j2 &= w2c_j3;
+    w2c_j3 = w2c_l7;
+    w2c_j4 = 24ull;
+    w2c_j3 >>= (w2c_j4 & 63);
+    w2c_j4 = 16711680ull;
+    w2c_j3 &= w2c_j4;
+    w2c_j2 |= w2c_j3;
+    w2c_j3 = w2c_l7;
+    w2c_j4 = 40ull;
+    w2c_j3 >>= (w2c_j4 & 63);
+    w2c_j4 = 65280ull;
+    w2c_j3 &= w2c_j4;
+    w2c_j4 = w2c_l7;
+    w2c_j5 = 56ull;
+    w2c_j4 >>= (w2c_j5 & 63);
+    w2c_j3 |= w2c_j4;
+    w2c_j2 |= w2c_j3;
+    w2c_j1 |= w2c_j2;
+    i64_store(memory, (u64)(w2c_i0), w2c_j1);
+    w2c_j0 = w2c_p5;
+    w2c_i0 = (u32)(w2c_j0);
+    w2c_i1 = 0u;
+    i32_store8(memory, (u64)(w2c_i0), w2c_i1);
+    w2c_j0 = w2c_p4;
+    w2c_j1 = w2c_p3;
+    w2c_j0 += w2c_j1;
+    w2c_p4 = w2c_j0;
+    w2c_j0 = w2c_p5;
+    w2c_j1 = 1ull;
+    w2c_j0 += w2c_j1;
+    w2c_p5 = w2c_j0;
+    w2c_j0 = w2c_p6;
+    w2c_j1 = 18446744073709551615ull;
+    w2c_j0 += w2c_j1;
+    w2c_p6 = w2c_j0;
+    w2c_i0 = !(w2c_j0);
+    w2c_i0 = !(w2c_i0);
+    if (w2c_i0) {goto w2c_L5;}
+    goto w2c_B1;
+  UNREACHABLE;
+  w2c_B2:;
+  w2c_j0 = w2c_p2;
+  w2c_j1 = 18446744073709551615ull;
+  w2c_j0 += w2c_j1;
+  w2c_j1 = 1048576ull;
+  w2c_i0 = w2c_j0 < w2c_j1;
+  if (w2c_i0) {goto w2c_B6;}
+  w2c_i0 = w2c_l13;
+  if (w2c_i0) {goto w2c_B1;}
+  w2c_j0 = w2c_p5;
+  w2c_i0 = (u32)(w2c_j0);
+  w2c_i1 = 4u;
+  w2c_j2 = w2c_p6;
+  w2c_i2 = (u32)(w2c_j2);
+  memory_fill(memory, w2c_i0, w2c_i1, w2c_i2);
+  goto w2c_B1;
+  w2c_B6:;
+  w2c_j0 = w2c_p3;
+  w2c_j1 = w2c_p2;
+  w2c_j2 = 7ull;
+  w2c_j1 += w2c_j2;
+  w2c_j2 = 4194296ull;
+  w2c_j1 &= w2c_j2;
+  w2c_j2 = 8ull;
+  w2c_j1 += w2c_j2;
+  w2c_i0 = w2c_j0 != w2c_j1;
+  if (w2c_i0) {goto w2c_B7;}
+  w2c_j0 = w2c_p2;
+  w2c_j1 = 11986710452722728960ull;
+  w2c_j0 |= w2c_j1;
+  w2c_l10 = w2c_j0;
+  w2c_j0 = w2c_p2;
+  w2c_j1 = 8ull;
+  w2c_j0 += w2c_j1;
+  w2c_l11 = w2c_j0;
+  w2c_j0 = w2c_p3;
+  w2c_j1 = w2c_p2;
+  w2c_j0 -= w2c_j1;
+  w2c_j1 = 18446744073709551607ull;
+  w2c_j0 += w2c_j1;
+  w2c_p2 = w2c_j0;
+  w2c_j0 = w2c_p3;
+  w2c_j1 = 18446744073709551615ull;
+  w2c_j0 += w2c_j1;
+  w2c_l12 = w2c_j0;
+  w2c_L8: 
+    w2c_j0 = w2c_l8;
+    w2c_i0 = (u32)(w2c_j0);
+    w2c_j1 = 0ull;
+    i64_store(memory, (u64)(w2c_i0) + 8, w2c_j1);
+    w2c_j0 = w2c_l8;
+    w2c_i0 = (u32)(w2c_j0);
+    w2c_j1 = w2c_p0;
+    i64_store(memory, (u64)(w2c_i0), w2c_j1);
+    w2c_j0 = w2c_p3;
+    w2c_j1 = w2c_l11;
+    w2c_i0 = w2c_j0 == w2c_j1;
+    if (w2c_i0) {goto w2c_B9;}
+    w2c_j0 = w2c_p2;
+    w2c_i0 = !(w2c_j0);
+    w2c_p1 = w2c_i0;
+    if (w2c_i0) {goto w2c_B10;}
+    w2c_i0 = w2c_p1;
+    if (w2c_i0) {goto w2c_B10;}
+    w2c_j0 = w2c_p4;
+    w2c_j1 = w2c_l11;
+    w2c_j0 += w2c_j1;
+    w2c_i0 = (u32)(w2c_j0);
+    w2c_i1 = 0u;
+    w2c_j2 = w2c_p2;
+    w2c_i2 = (u32)(w2c_j2);
+    memory_fill(memory, w2c_i0, w2c_i1, w2c_i2);
+    w2c_B10:;
+    w2c_j0 = w2c_p4;
+    w2c_j1 = w2c_l12;
+    w2c_j0 += w2c_j1;
+    w2c_i0 = (u32)(w2c_j0);
+    w2c_i1 = 0u;
+    i32_store8(memory, (u64)(w2c_i0), w2c_i1);
+    w2c_B9:;
+    w2c_j0 = w2c_p4;
+    w2c_i0 = (u32)(w2c_j0);
+    w2c_j1 = w2c_l8;
+    w2c_j2 = w2c_l10;
+    w2c_j3 = w2c_p4;
+    w2c_j4 = 8ull;
+    w2c_j3 += w2c_j4;
+    w2c_j4 = w2c_l9;
+    w2c_j1 = w2c_f12(instance, w2c_j1, w2c_j2, w2c_j3, w2c_j4);
+    w2c_l7 = w2c_j1;
+    w2c_j2 = 56ull;
+    w2c_j1 <<= (w2c_j2 & 63);
+    w2c_j2 = w2c_l7;
+    w2c_j3 = 65280ull;
+    w2c_j2 &= w2c_j3;
+    w2c_j3 = 40ull;
+    w2c_j2 <<= (w2c_j3 & 63);
+    w2c_j1 |= w2c_j2;
+    w2c_j2 = w2c_l7;
+    w2c_j3 = 16711680ull;
+    w2c_j2 &= w2c_j3;
+    w2c_j3 = 24ull;
+    w2c_j2 <<= (w2c_j3 & 63);
+    w2c_j3 = w2c_l7;
+    w2c_j4 = 4278190080ull;
+    w2c_j3 &= w2c_j4;
+    w2c_j4 = 8ull;
+    w2c_j3 <<= (w2c_j4 & 63);
+    w2c_j2 |= w2c_j3;
+    w2c_j1 |= w2c_j2;
+    w2c_j2 = w2c_l7;
+    w2c_j3 = 8ull;
+    w2c_j2 >>= (w2c_j3 & 63);
+    w2c_j3 = 4278190080ull;
+    w2c_j2 &= w2c_j3;
+    w2c_j3 = w2c_l7;
+    w2c_j4 = 24ull;
+    w2c_j3 >>= (w2c_j4 & 63);
+    w2c_j4 = 16711680ull;
+    w2c_j3 &= w2c_j4;
+    w2c_j2 |= w2c_j3;
+    w2c_j3 = w2c_l7;
+    w2c_j4 = 40ull;
+    w2c_j3 >>= (w2c_j4 & 63);
+    w2c_j4 = 65280ull;
+    w2c_j3 &= w2c_j4;
+    w2c_j4 = w2c_l7;
+    w2c_j5 = 56ull;
+    w2c_j4 >>= (w2c_j5 & 63);
+    w2c_j3 |= w2c_j4;
+    w2c_j2 |= w2c_j3;
+    w2c_j1 |= w2c_j2;
+    i64_store(memory, (u64)(w2c_i0), w2c_j1);
+    w2c_j0 = w2c_p5;
+    w2c_i0 = (u32)(w2c_j0);
+    w2c_i1 = 0u;
+    i32_store8(memory, (u64)(w2c_i0), w2c_i1);
+    w2c_j0 = w2c_p4;
+    w2c_j1 = w2c_p3;
+    w2c_j0 += w2c_j1;
+    w2c_p4 = w2c_j0;
+    w2c_j0 = w2c_p5;
+    w2c_j1 = 1ull;
+    w2c_j0 += w2c_j1;
+    w2c_p5 = w2c_j0;
+    w2c_j0 = w2c_p6;
+    w2c_j1 = 18446744073709551615ull;
+    w2c_j0 += w2c_j1;
+    w2c_p6 = w2c_j0;
+    w2c_j1 = 0ull;
+    w2c_i0 = w2c_j0 != w2c_j1;
+    if (w2c_i0) {goto w2c_L8;}
+    goto w2c_B1;
+  UNREACHABLE;
+  w2c_B7:;
+  w2c_i0 = w2c_l13;
+  if (w2c_i0) {goto w2c_B1;}
+  w2c_j0 = w2c_p5;
+  w2c_i0 = (u32)(w2c_j0);
+  w2c_i1 = 4u;
+  w2c_j2 = w2c_p6;
+  w2c_i2 = (u32)(w2c_j2);
+  memory_fill(memory, w2c_i0, w2c_i1, w2c_i2);
+  w2c_B1:;
+  w2c_j0 = w2c_l8;
+  w2c_j1 = 16ull;
+  w2c_j0 += w2c_j1;
+  instance->w2c_g0 = w2c_j0;
+  goto w2c_Bfunc;
+  w2c_B0:;
+  UNREACHABLE;
+  w2c_Bfunc:;
+}
+#endif
+static u32 w2c_keywrap_begin_unwrap(struct instance *instance, u64 w2c_p0, u64 w2c_p1, u64 w2c_p2, u64 w2c_p3, u64 w2c_p4) {
+  u32 w2c_l5 = 0;
+  const struct memory memory = instance->w2c_memory;
+  (void)memory;
+  u32 w2c_i0;
+  u64 w2c_j0, w2c_j1, w2c_j2, w2c_j3, w2c_j4;
+  w2c_i0 = w2c_f0(instance);
+  w2c_i0 = !(w2c_i0);
+  if (w2c_i0) {goto w2c_B0;}
+  w2c_f2(instance);
+  UNREACHABLE;
+  w2c_B0:;
+  w2c_j0 = w2c_p0;
+  w2c_j1 = w2c_p1;
+  w2c_j2 = w2c_p2;
+  w2c_j3 = w2c_p3;
+  w2c_j4 = w2c_p4;
+  w2c_i0 = w2c_f24(instance, w2c_j0, w2c_j1, w2c_j2, w2c_j3, w2c_j4);
+  w2c_l5 = w2c_i0;
+  w2c_f1(instance);
+  w2c_i0 = w2c_l5;
+  return w2c_i0;
+}
+static u32 w2c_f24(struct instance *instance, u64 w2c_p0, u64 w2c_p1, u64 w2c_p2, u64 w2c_p3, u64 w2c_p4) {
+  u32 w2c_l5 = 0;
+  u64 w2c_l6 = 0;
+  const struct memory memory = instance->w2c_memory;
+  (void)memory;
+  u32 w2c_i0, w2c_i1, w2c_i4;
+  u64 w2c_j0, w2c_j1, w2c_j2, w2c_j3, w2c_j4, w2c_j5, w2c_j6;
+  w2c_j0 = instance->w2c_g0;
+  w2c_j1 = 16ull;
+  w2c_i0 = (u64)((s64)w2c_j0 < (s64)w2c_j1);
+  if (w2c_i0) {goto w2c_B0;}
+  w2c_i0 = 4u;
+  w2c_l5 = w2c_i0;
+  w2c_j0 = w2c_p2;
+  w2c_j1 = 7ull;
+  w2c_j0 &= w2c_j1;
+  w2c_j1 = 0ull;
+  w2c_i0 = w2c_j0 != w2c_j1;
+  if (w2c_i0) {goto w2c_B1;}
+  w2c_j0 = w2c_p2;
+  w2c_j1 = 18446744073709551600ull;
+  w2c_j0 += w2c_j1;
+  w2c_j1 = 1048560ull;
+  w2c_i0 = w2c_j0 > w2c_j1;
+  if (w2c_i0) {goto w2c_B1;}
+  w2c_j0 = w2c_p3;
+  w2c_i0 = (u32)(w2c_j0);
+  w2c_j1 = w2c_p2;
+  w2c_j2 = 3ull;
+  w2c_j1 >>= (w2c_j2 & 63);
+  w2c_j2 = 6ull;
+  w2c_j1 *= w2c_j2;
+  w2c_l6 = w2c_j1;
+  i64_store(memory, (u64)(w2c_i0), w2c_j1);
+  w2c_j0 = w2c_p0;
+  w2c_i0 = (u32)(w2c_j0);
+  w2c_j0 = i64_load(memory, (u64)(w2c_i0));
+  w2c_p3 = w2c_j0;
+  w2c_j0 = w2c_p4;
+  w2c_i0 = (u32)(w2c_j0);
+  w2c_j1 = w2c_p1;
+  w2c_j2 = 4096ull;
+  w2c_j3 = 0ull;
+  w2c_j4 = w2c_p1;
+  w2c_i4 = !(w2c_j4);
+  w2c_j2 = w2c_i4 ? w2c_j2 : w2c_j3;
+  w2c_j1 += w2c_j2;
+  w2c_j2 = w2c_p2;
+  w2c_j1 += w2c_j2;
+  w2c_j2 = 18446744073709551608ull;
+  w2c_j1 += w2c_j2;
+  w2c_i1 = (u32)(w2c_j1);
+  w2c_j1 = i64_load(memory, (u64)(w2c_i1));
+  i64_store(memory, (u64)(w2c_i0) + 8, w2c_j1);
+  w2c_j0 = w2c_p4;
+  w2c_i0 = (u32)(w2c_j0);
+  w2c_j1 = w2c_p3;
+  w2c_j2 = w2c_l6;
+  w2c_j3 = 56ull;
+  w2c_j2 <<= (w2c_j3 & 63);
+  w2c_j3 = w2c_l6;
+  w2c_j4 = 65280ull;
+  w2c_j3 &= w2c_j4;
+  w2c_j4 = 40ull;
+  w2c_j3 <<= (w2c_j4 & 63);
+  w2c_j2 |= w2c_j3;
+  w2c_j3 = w2c_l6;
+  w2c_j4 = 16711680ull;
+  w2c_j3 &= w2c_j4;
+  w2c_j4 = 24ull;
+  w2c_j3 <<= (w2c_j4 & 63);
+  w2c_j4 = w2c_l6;
+  w2c_j5 = 4278190080ull;
+  w2c_j4 &= w2c_j5;
+  w2c_j5 = 8ull;
+  w2c_j4 <<= (w2c_j5 & 63);
+  w2c_j3 |= w2c_j4;
+  w2c_j2 |= w2c_j3;
+  w2c_j3 = w2c_l6;
+  w2c_j4 = 8ull;
+  w2c_j3 >>= (w2c_j4 & 63);
+  w2c_j4 = 4278190080ull;
+  w2c_j3 &= w2c_j4;
+  w2c_j4 = w2c_l6;
+  w2c_j5 = 24ull;
+  w2c_j4 >>= (w2c_j5 & 63);
+  w2c_j5 = 16711680ull;
+  w2c_j4 &= w2c_j5;
+  w2c_j3 |= w2c_j4;
+  w2c_j4 = w2c_l6;
+  w2c_j5 = 40ull;
+  w2c_j4 >>= (w2c_j5 & 63);
+  w2c_j5 = 65280ull;
+  w2c_j4 &= w2c_j5;
+  w2c_j5 = w2c_l6;
+  w2c_j6 = 56ull;
+  w2c_j5 >>= (w2c_j6 & 63);
+  w2c_j4 |= w2c_j5;
+  w2c_j3 |= w2c_j4;
+  w2c_j2 |= w2c_j3;
+  w2c_j1 ^= w2c_j2;
+  i64_store(memory, (u64)(w2c_i0), w2c_j1);
+  w2c_i0 = 0u;
+  w2c_l5 = w2c_i0;
+  w2c_B1:;
+  w2c_i0 = w2c_l5;
+  goto w2c_Bfunc;
+  w2c_B0:;
+  UNREACHABLE;
+  w2c_Bfunc:;
+  return w2c_i0;
+}
+static u32 w2c_keywrap_begin_unwrap_padded(struct instance *instance, u64 w2c_p0, u64 w2c_p1, u64 w2c_p2, u64 w2c_p3, u64 w2c_p4) {
+  u32 w2c_l5 = 0;
+  const struct memory memory = instance->w2c_memory;
+  (void)memory;
+  u32 w2c_i0;
+  u64 w2c_j0, w2c_j1, w2c_j2, w2c_j3, w2c_j4;
+  w2c_i0 = w2c_f0(instance);
+  w2c_i0 = !(w2c_i0);
+  if (w2c_i0) {goto w2c_B0;}
+  w2c_f2(instance);
+  UNREACHABLE;
+  w2c_B0:;
+  w2c_j0 = w2c_p0;
+  w2c_j1 = w2c_p1;
+  w2c_j2 = w2c_p2;
+  w2c_j3 = w2c_p3;
+  w2c_j4 = w2c_p4;
+  w2c_i0 = w2c_f26(instance, w2c_j0, w2c_j1, w2c_j2, w2c_j3, w2c_j4);
+  w2c_l5 = w2c_i0;
+  w2c_f1(instance);
+  w2c_i0 = w2c_l5;
+  return w2c_i0;
+}
+static u32 w2c_f26(struct instance *instance, u64 w2c_p0, u64 w2c_p1, u64 w2c_p2, u64 w2c_p3, u64 w2c_p4) {
+  u32 w2c_l5 = 0;
+  u64 w2c_l6 = 0;
+  const struct memory memory = instance->w2c_memory;
+  (void)memory;
+  u32 w2c_i0, w2c_i1, w2c_i3, w2c_i4;
+  u64 w2c_j0, w2c_j1, w2c_j2, w2c_j3, w2c_j4, w2c_j5, w2c_j6, w2c_j7;
+  w2c_j0 = instance->w2c_g0;
+  w2c_j1 = 16ull;
+  w2c_i0 = (u64)((s64)w2c_j0 < (s64)w2c_j1);
+  if (w2c_i0) {goto w2c_B0;}
+  w2c_i0 = 4u;
+  w2c_l5 = w2c_i0;
+  w2c_j0 = w2c_p2;
+  w2c_j1 = 7ull;
+  w2c_j0 &= w2c_j1;
+  w2c_j1 = 0ull;
+  w2c_i0 = w2c_j0 != w2c_j1;
+  if (w2c_i0) {goto w2c_B1;}
+  w2c_j0 = w2c_p2;
+  w2c_j1 = 18446744073709551608ull;
+  w2c_j0 += w2c_j1;
+  w2c_j1 = 1048568ull;
+  w2c_i0 = w2c_j0 > w2c_j1;
+  if (w2c_i0) {goto w2c_B1;}
+  w2c_j0 = w2c_p3;
+  w2c_i0 = (u32)(w2c_j0);
+  w2c_j1 = 1ull;
+  w2c_j2 = w2c_p2;
+  w2c_j3 = 3ull;
+  w2c_j2 >>= (w2c_j3 & 63);
+  w2c_j3 = 6ull;
+  w2c_j2 *= w2c_j3;
+  w2c_l6 = w2c_j2;
+  w2c_j3 = w2c_p2;
+  w2c_j4 = 8ull;
+  w2c_i3 = w2c_j3 == w2c_j4;
+  w2c_l5 = w2c_i3;
+  w2c_j1 = w2c_i3 ? w2c_j1 : w2c_j2;
+  i64_store(memory, (u64)(w2c_i0), w2c_j1);
+  w2c_j0 = w2c_p0;
+  w2c_i0 = (u32)(w2c_j0);
+  w2c_j0 = i64_load(memory, (u64)(w2c_i0));
+  w2c_p3 = w2c_j0;
+  w2c_j0 = w2c_p4;
+  w2c_i0 = (u32)(w2c_j0);
+  w2c_j1 = w2c_p1;
+  w2c_j2 = 4096ull;
+  w2c_j3 = 0ull;
+  w2c_j4 = w2c_p1;
+  w2c_i4 = !(w2c_j4);
+  w2c_j2 = w2c_i4 ? w2c_j2 : w2c_j3;
+  w2c_j1 += w2c_j2;
+  w2c_j2 = w2c_p2;
+  w2c_j1 += w2c_j2;
+  w2c_j2 = 18446744073709551608ull;
+  w2c_j1 += w2c_j2;
+  w2c_i1 = (u32)(w2c_j1);
+  w2c_j1 = i64_load(memory, (u64)(w2c_i1));
+  i64_store(memory, (u64)(w2c_i0) + 8, w2c_j1);
+  w2c_j0 = w2c_p4;
+  w2c_i0 = (u32)(w2c_j0);
+  w2c_j1 = w2c_p3;
+  w2c_j2 = 0ull;
+  w2c_j3 = w2c_l6;
+  w2c_j4 = 56ull;
+  w2c_j3 <<= (w2c_j4 & 63);
+  w2c_j4 = w2c_l6;
+  w2c_j5 = 65280ull;
+  w2c_j4 &= w2c_j5;
+  w2c_j5 = 40ull;
+  w2c_j4 <<= (w2c_j5 & 63);
+  w2c_j3 |= w2c_j4;
+  w2c_j4 = w2c_l6;
+  w2c_j5 = 16711680ull;
+  w2c_j4 &= w2c_j5;
+  w2c_j5 = 24ull;
+  w2c_j4 <<= (w2c_j5 & 63);
+  w2c_j5 = w2c_l6;
+  w2c_j6 = 4278190080ull;
+  w2c_j5 &= w2c_j6;
+  w2c_j6 = 8ull;
+  w2c_j5 <<= (w2c_j6 & 63);
+  w2c_j4 |= w2c_j5;
+  w2c_j3 |= w2c_j4;
+  w2c_j4 = w2c_l6;
+  w2c_j5 = 8ull;
+  w2c_j4 >>= (w2c_j5 & 63);
+  w2c_j5 = 4278190080ull;
+  w2c_j4 &= w2c_j5;
+  w2c_j5 = w2c_l6;
+  w2c_j6 = 24ull;
+  w2c_j5 >>= (w2c_j6 & 63);
+  w2c_j6 = 16711680ull;
+  w2c_j5 &= w2c_j6;
+  w2c_j4 |= w2c_j5;
+  w2c_j5 = w2c_l6;
+  w2c_j6 = 40ull;
+  w2c_j5 >>= (w2c_j6 & 63);
+  w2c_j6 = 65280ull;
+  w2c_j5 &= w2c_j6;
+  w2c_j6 = w2c_l6;
+  w2c_j7 = 56ull;
+  w2c_j6 >>= (w2c_j7 & 63);
+  w2c_j5 |= w2c_j6;
+  w2c_j4 |= w2c_j5;
+  w2c_j3 |= w2c_j4;
+  w2c_i4 = w2c_l5;
+  w2c_j2 = w2c_i4 ? w2c_j2 : w2c_j3;
+  w2c_j1 ^= w2c_j2;
+  i64_store(memory, (u64)(w2c_i0), w2c_j1);
+  w2c_i0 = 0u;
+  w2c_l5 = w2c_i0;
+  w2c_B1:;
+  w2c_i0 = w2c_l5;
+  goto w2c_Bfunc;
+  w2c_B0:;
+  UNREACHABLE;
+  w2c_Bfunc:;
+  return w2c_i0;
+}
+static u32 w2c_keywrap_begin_wrap(struct instance *instance, u64 w2c_p0, u64 w2c_p1, u64 w2c_p2, u64 w2c_p3, u64 w2c_p4, u64 w2c_p5) {
+  u32 w2c_l6 = 0;
+  const struct memory memory = instance->w2c_memory;
+  (void)memory;
+  u32 w2c_i0;
+  u64 w2c_j0, w2c_j1, w2c_j2, w2c_j3, w2c_j4, w2c_j5;
+  w2c_i0 = w2c_f0(instance);
+  w2c_i0 = !(w2c_i0);
+  if (w2c_i0) {goto w2c_B0;}
+  w2c_f2(instance);
+  UNREACHABLE;
+  w2c_B0:;
+  w2c_j0 = w2c_p0;
+  w2c_j1 = w2c_p1;
+  w2c_j2 = w2c_p2;
+  w2c_j3 = w2c_p3;
+  w2c_j4 = w2c_p4;
+  w2c_j5 = w2c_p5;
+  w2c_i0 = w2c_f28(instance, w2c_j0, w2c_j1, w2c_j2, w2c_j3, w2c_j4, w2c_j5);
+  w2c_l6 = w2c_i0;
+  w2c_f1(instance);
+  w2c_i0 = w2c_l6;
+  return w2c_i0;
+}
+static u32 w2c_f28(struct instance *instance, u64 w2c_p0, u64 w2c_p1, u64 w2c_p2, u64 w2c_p3, u64 w2c_p4, u64 w2c_p5) {
+  u32 w2c_l6 = 0;
+  const struct memory memory = instance->w2c_memory;
+  (void)memory;
+  u32 w2c_i0, w2c_i1, w2c_i3, w2c_i4;
+  u64 w2c_j0, w2c_j1, w2c_j2, w2c_j3, w2c_j4;
+  w2c_j0 = instance->w2c_g0;
+  w2c_j1 = 16ull;
+  w2c_i0 = (u64)((s64)w2c_j0 < (s64)w2c_j1);
+  if (w2c_i0) {goto w2c_B0;}
+  w2c_i0 = 2u;
+  w2c_l6 = w2c_i0;
+  w2c_j0 = w2c_p1;
+  w2c_j1 = 8ull;
+  w2c_i0 = w2c_j0 != w2c_j1;
+  if (w2c_i0) {goto w2c_B1;}
+  w2c_j0 = w2c_p0;
+  w2c_j1 = 4096ull;
+  w2c_j2 = 0ull;
+  w2c_j3 = w2c_p0;
+  w2c_i3 = !(w2c_j3);
+  w2c_j1 = w2c_i3 ? w2c_j1 : w2c_j2;
+  w2c_j0 += w2c_j1;
+  w2c_i0 = (u32)(w2c_j0);
+  w2c_j0 = i64_load(memory, (u64)(w2c_i0));
+  w2c_p0 = w2c_j0;
+  w2c_i0 = (u32)(w2c_j0);
+  w2c_i1 = 2790873510u;
+  w2c_i0 = w2c_i0 == w2c_i1;
+  if (w2c_i0) {goto w2c_B1;}
+  w2c_i0 = 4u;
+  w2c_l6 = w2c_i0;
+  w2c_j0 = w2c_p3;
+  w2c_j1 = 7ull;
+  w2c_j0 &= w2c_j1;
+  w2c_j1 = 0ull;
+  w2c_i0 = w2c_j0 != w2c_j1;
+  if (w2c_i0) {goto w2c_B1;}
+  w2c_j0 = w2c_p3;
+  w2c_j1 = 18446744073709551600ull;
+  w2c_j0 += w2c_j1;
+  w2c_j1 = 1048560ull;
+  w2c_i0 = w2c_j0 > w2c_j1;
+  if (w2c_i0) {goto w2c_B1;}
+  w2c_j0 = w2c_p4;
+  w2c_i0 = (u32)(w2c_j0);
+  w2c_j1 = 0ull;
+  i64_store(memory, (u64)(w2c_i0), w2c_j1);
+  w2c_j0 = w2c_p5;
+  w2c_i0 = (u32)(w2c_j0);
+  w2c_j1 = w2c_p2;
+  w2c_j2 = 4096ull;
+  w2c_j3 = 0ull;
+  w2c_j4 = w2c_p2;
+  w2c_i4 = !(w2c_j4);
+  w2c_j2 = w2c_i4 ? w2c_j2 : w2c_j3;
+  w2c_j1 += w2c_j2;
+  w2c_i1 = (u32)(w2c_j1);
+  w2c_j1 = i64_load(memory, (u64)(w2c_i1));
+  i64_store(memory, (u64)(w2c_i0) + 8, w2c_j1);
+  w2c_j0 = w2c_p5;
+  w2c_i0 = (u32)(w2c_j0);
+  w2c_j1 = w2c_p0;
+  i64_store(memory, (u64)(w2c_i0), w2c_j1);
+  w2c_i0 = 0u;
+  w2c_l6 = w2c_i0;
+  w2c_B1:;
+  w2c_i0 = w2c_l6;
+  goto w2c_Bfunc;
+  w2c_B0:;
+  UNREACHABLE;
+  w2c_Bfunc:;
+  return w2c_i0;
+}
+static u32 w2c_keywrap_begin_wrap_padded(struct instance *instance, u64 w2c_p0, u64 w2c_p1, u64 w2c_p2, u64 w2c_p3, u64 w2c_p4) {
+  u32 w2c_l5 = 0;
+  const struct memory memory = instance->w2c_memory;
+  (void)memory;
+  u32 w2c_i0;
+  u64 w2c_j0, w2c_j1, w2c_j2, w2c_j3, w2c_j4;
+  w2c_i0 = w2c_f0(instance);
+  w2c_i0 = !(w2c_i0);
+  if (w2c_i0) {goto w2c_B0;}
+  w2c_f2(instance);
+  UNREACHABLE;
+  w2c_B0:;
+  w2c_j0 = w2c_p0;
+  w2c_j1 = w2c_p1;
+  w2c_j2 = w2c_p2;
+  w2c_j3 = w2c_p3;
+  w2c_j4 = w2c_p4;
+  w2c_i0 = w2c_f30(instance, w2c_j0, w2c_j1, w2c_j2, w2c_j3, w2c_j4);
+  w2c_l5 = w2c_i0;
+  w2c_f1(instance);
+  w2c_i0 = w2c_l5;
+  return w2c_i0;
+}
+static u32 w2c_f30(struct instance *instance, u64 w2c_p0, u64 w2c_p1, u64 w2c_p2, u64 w2c_p3, u64 w2c_p4) {
+  u32 w2c_l5 = 0;
+  const struct memory memory = instance->w2c_memory;
+  (void)memory;
+  u32 w2c_i0, w2c_i1, w2c_i2, w2c_i3;
+  u64 w2c_j0, w2c_j1, w2c_j2, w2c_j3, w2c_j4, w2c_j5;
+  w2c_j0 = instance->w2c_g0;
+  w2c_j1 = 16ull;
+  w2c_i0 = (u64)((s64)w2c_j0 < (s64)w2c_j1);
+  if (w2c_i0) {goto w2c_B0;}
+  w2c_i0 = 4u;
+  w2c_l5 = w2c_i0;
+  w2c_j0 = w2c_p0;
+  w2c_j1 = 18446744073709551615ull;
+  w2c_j0 += w2c_j1;
+  w2c_j1 = 1048575ull;
+  w2c_i0 = w2c_j0 > w2c_j1;
+  if (w2c_i0) {goto w2c_B1;}
+  w2c_j0 = w2c_p2;
+  w2c_j1 = w2c_p0;
+  w2c_j2 = 7ull;
+  w2c_j1 += w2c_j2;
+  w2c_j2 = 4194296ull;
+  w2c_j1 &= w2c_j2;
+  w2c_i0 = w2c_j0 != w2c_j1;
+  if (w2c_i0) {goto w2c_B1;}
+  w2c_j0 = w2c_p1;
+  w2c_j1 = 4096ull;
+  w2c_j2 = 0ull;
+  w2c_j3 = w2c_p1;
+  w2c_i3 = !(w2c_j3);
+  w2c_j1 = w2c_i3 ? w2c_j1 : w2c_j2;
+  w2c_j0 += w2c_j1;
+  w2c_p1 = w2c_j0;
+  w2c_j0 = w2c_p3;
+  w2c_i0 = (u32)(w2c_j0);
+  w2c_j1 = 0ull;
+  i64_store(memory, (u64)(w2c_i0), w2c_j1);
+  w2c_j0 = w2c_p2;
+  w2c_j1 = w2c_p0;
+  w2c_i0 = w2c_j0 == w2c_j1;
+  if (w2c_i0) {goto w2c_B2;}
+  w2c_j0 = w2c_p1;
+  w2c_j1 = w2c_p0;
+  w2c_j0 += w2c_j1;
+  w2c_p3 = w2c_j0;
+  w2c_j0 = w2c_p2;
+  w2c_j1 = w2c_p0;
+  w2c_j2 = 18446744073709551615ull;
+  w2c_j1 ^= w2c_j2;
+  w2c_j0 += w2c_j1;
+  w2c_p2 = w2c_j0;
+  w2c_i0 = !(w2c_j0);
+  w2c_l5 = w2c_i0;
+  if (w2c_i0) {goto w2c_B3;}
+  w2c_i0 = w2c_l5;
+  if (w2c_i0) {goto w2c_B3;}
+  w2c_j0 = w2c_p3;
+  w2c_i0 = (u32)(w2c_j0);
+  w2c_i1 = 0u;
+  w2c_j2 = w2c_p2;
+  w2c_i2 = (u32)(w2c_j2);
+  memory_fill(memory, w2c_i0, w2c_i1, w2c_i2);
+  w2c_B3:;
+  w2c_j0 = w2c_p3;
+  w2c_j1 = w2c_p2;
+  w2c_j0 += w2c_j1;
+  w2c_i0 = (u32)(w2c_j0);
+  w2c_i1 = 0u;
+  i32_store8(memory, (u64)(w2c_i0), w2c_i1);
+  w2c_B2:;
+  w2c_j0 = w2c_p4;
+  w2c_i0 = (u32)(w2c_j0);
+  w2c_j1 = w2c_p1;
+  w2c_i1 = (u32)(w2c_j1);
+  w2c_j1 = i64_load(memory, (u64)(w2c_i1));
+  i64_store(memory, (u64)(w2c_i0) + 8, w2c_j1);
+  w2c_j0 = w2c_p4;
+  w2c_i0 = (u32)(w2c_j0);
+  w2c_j1 = w2c_p0;
+  w2c_j2 = 56ull;
+  w2c_j1 <<= (w2c_j2 & 63);
+  w2c_j2 = w2c_p0;
+  w2c_j3 = 65280ull;
+  w2c_j2 &= w2c_j3;
+  w2c_j3 = 40ull;
+  w2c_j2 <<= (w2c_j3 & 63);
+  w2c_j1 |= w2c_j2;
+  w2c_j2 = w2c_p0;
+  w2c_j3 = 11986710452722728960ull;
+  w2c_j2 |= w2c_j3;
+  w2c_p0 = w2c_j2;
+  w2c_j3 = 16711680ull;
+  w2c_j2 &= w2c_j3;
+  w2c_j3 = 24ull;
+  w2c_j2 <<= (w2c_j3 & 63);
+  w2c_j3 = w2c_p0;
+  w2c_j4 = 4278190080ull;
+  w2c_j3 &= w2c_j4;
+  w2c_j4 = 8ull;
+  w2c_j3 <<= (w2c_j4 & 63);
+  w2c_j2 |= w2c_j3;
+  w2c_j1 |= w2c_j2;
+  w2c_j2 = w2c_p0;
+  w2c_j3 = 8ull;
+  w2c_j2 >>= (w2c_j3 & 63);
+  w2c_j3 = 4278190080ull;
+  w2c_j2 &= w2c_j3;
+  w2c_j3 = w2c_p0;
+  w2c_j4 = 24ull;
+  w2c_j3 >>= (w2c_j4 & 63);
+  w2c_j4 = 16711680ull;
+  w2c_j3 &= w2c_j4;
+  w2c_j2 |= w2c_j3;
+  w2c_j3 = w2c_p0;
+  w2c_j4 = 40ull;
+  w2c_j3 >>= (w2c_j4 & 63);
+  w2c_j4 = 65280ull;
+  w2c_j3 &= w2c_j4;
+  w2c_j4 = w2c_p0;
+  w2c_j5 = 56ull;
+  w2c_j4 >>= (w2c_j5 & 63);
+  w2c_j3 |= w2c_j4;
+  w2c_j2 |= w2c_j3;
+  w2c_j1 |= w2c_j2;
+  i64_store(memory, (u64)(w2c_i0), w2c_j1);
+  w2c_i0 = 0u;
+  w2c_l5 = w2c_i0;
+  w2c_B1:;
+  w2c_i0 = w2c_l5;
+  goto w2c_Bfunc;
+  w2c_B0:;
+  UNREACHABLE;
+  w2c_Bfunc:;
+  return w2c_i0;
+}
+static u32 w2c_keywrap_end_unwrap(struct instance *instance, u64 w2c_p0, u64 w2c_p1, u64 w2c_p2, u64 w2c_p3, u64 w2c_p4, u64 w2c_p5) {
+  u32 w2c_l6 = 0;
+  const struct memory memory = instance->w2c_memory;
+  (void)memory;
+  u32 w2c_i0;
+  u64 w2c_j0, w2c_j1, w2c_j2, w2c_j3, w2c_j4, w2c_j5;
+  w2c_i0 = w2c_f0(instance);
+  w2c_i0 = !(w2c_i0);
+  if (w2c_i0) {goto w2c_B0;}
+  w2c_f2(instance);
+  UNREACHABLE;
+  w2c_B0:;
+  w2c_j0 = w2c_p0;
+  w2c_j1 = w2c_p1;
+  w2c_j2 = w2c_p2;
+  w2c_j3 = w2c_p3;
+  w2c_j4 = w2c_p4;
+  w2c_j5 = w2c_p5;
+  w2c_i0 = w2c_f32(instance, w2c_j0, w2c_j1, w2c_j2, w2c_j3, w2c_j4, w2c_j5);
+  w2c_l6 = w2c_i0;
+  w2c_f1(instance);
+  w2c_i0 = w2c_l6;
+  return w2c_i0;
+}
+static u32 w2c_f32(struct instance *instance, u64 w2c_p0, u64 w2c_p1, u64 w2c_p2, u64 w2c_p3, u64 w2c_p4, u64 w2c_p5) {
+  u32 w2c_l8 = 0;
+  u64 w2c_l6 = 0, w2c_l7 = 0;
+  const struct memory memory = instance->w2c_memory;
+  (void)memory;
+  u32 w2c_i0, w2c_i1, w2c_i2, w2c_i3, w2c_i5;
+  u64 w2c_j0, w2c_j1, w2c_j2, w2c_j3, w2c_j4, w2c_j5;
+  w2c_j0 = instance->w2c_g0;
+  w2c_j1 = 16ull;
+  w2c_j0 -= w2c_j1;
+  w2c_l6 = w2c_j0;
+  instance->w2c_g0 = w2c_j0;
+  w2c_j0 = w2c_l6;
+  w2c_l7 = w2c_j0;
+  w2c_j1 = 16ull;
+  w2c_i0 = (u64)((s64)w2c_j0 < (s64)w2c_j1);
+  if (w2c_i0) {goto w2c_B0;}
+  w2c_i0 = 2u;
+  w2c_l8 = w2c_i0;
+  w2c_j0 = w2c_p1;
+  w2c_j1 = 8ull;
+  w2c_i0 = w2c_j0 != w2c_j1;
+  if (w2c_i0) {goto w2c_B1;}
+  w2c_j0 = w2c_p0;
+  w2c_j1 = 4096ull;
+  w2c_j2 = 0ull;
+  w2c_j3 = w2c_p0;
+  w2c_i3 = !(w2c_j3);
+  w2c_j1 = w2c_i3 ? w2c_j1 : w2c_j2;
+  w2c_j0 += w2c_j1;
+  w2c_i0 = (u32)(w2c_j0);
+  w2c_j0 = i64_load(memory, (u64)(w2c_i0));
+  w2c_l6 = w2c_j0;
+  w2c_j1 = 56ull;
+  w2c_j0 <<= (w2c_j1 & 63);
+  w2c_j1 = w2c_l6;
+  w2c_j2 = 65280ull;
+  w2c_j1 &= w2c_j2;
+  w2c_j2 = 40ull;
+  w2c_j1 <<= (w2c_j2 & 63);
+  w2c_j0 |= w2c_j1;
+  w2c_j1 = w2c_l6;
+  w2c_j2 = 16711680ull;
+  w2c_j1 &= w2c_j2;
+  w2c_j2 = 24ull;
+  w2c_j1 <<= (w2c_j2 & 63);
+  w2c_j2 = w2c_l6;
+  w2c_j3 = 4278190080ull;
+  w2c_j2 &= w2c_j3;
+  w2c_j3 = 8ull;
+  w2c_j2 <<= (w2c_j3 & 63);
+  w2c_j1 |= w2c_j2;
+  w2c_j0 |= w2c_j1;
+  w2c_j1 = w2c_l6;
+  w2c_j2 = 8ull;
+  w2c_j1 >>= (w2c_j2 & 63);
+  w2c_j2 = 4278190080ull;
+  w2c_j1 &= w2c_j2;
+  w2c_j2 = w2c_l6;
+  w2c_j3 = 24ull;
+  w2c_j2 >>= (w2c_j3 & 63);
+  w2c_j3 = 16711680ull;
+  w2c_j2 &= w2c_j3;
+  w2c_j1 |= w2c_j2;
+  w2c_j2 = w2c_l6;
+  w2c_j3 = 40ull;
+  w2c_j2 >>= (w2c_j3 & 63);
+  w2c_j3 = 65280ull;
+  w2c_j2 &= w2c_j3;
+  w2c_j3 = w2c_l6;
+  w2c_j4 = 56ull;
+  w2c_j3 >>= (w2c_j4 & 63);
+  w2c_j2 |= w2c_j3;
+  w2c_j1 |= w2c_j2;
+  w2c_j0 |= w2c_j1;
+  w2c_p0 = w2c_j0;
+  w2c_j1 = 18446744069414584320ull;
+  w2c_j0 &= w2c_j1;
+  w2c_j1 = 11986710452722728960ull;
+  w2c_i0 = w2c_j0 == w2c_j1;
+  if (w2c_i0) {goto w2c_B1;}
+  w2c_i0 = 4u;
+  w2c_l8 = w2c_i0;
+  w2c_j0 = w2c_p3;
+  w2c_j1 = 18446744073709551600ull;
+  w2c_j0 += w2c_j1;
+  w2c_j1 = 1048560ull;
+  w2c_i0 = w2c_j0 > w2c_j1;
+  if (w2c_i0) {goto w2c_B1;}
+  w2c_j0 = w2c_p4;
+  w2c_j1 = w2c_p3;
+  w2c_j2 = 7ull;
+  w2c_j1 &= w2c_j2;
+  w2c_j0 |= w2c_j1;
+  w2c_j1 = 0ull;
+  w2c_i0 = w2c_j0 != w2c_j1;
+  if (w2c_i0) {goto w2c_B1;}
+  w2c_j0 = w2c_p5;
+  w2c_i0 = (u32)(w2c_j0);
+  w2c_j1 = 0ull;
+  i64_store(memory, (u64)(w2c_i0) + 8, w2c_j1);
+  w2c_j0 = w2c_p5;
+  w2c_i0 = (u32)(w2c_j0);
+  w2c_j0 = i64_load(memory, (u64)(w2c_i0));
+  w2c_l6 = w2c_j0;
+  w2c_j0 = w2c_p5;
+  w2c_i0 = (u32)(w2c_j0);
+  w2c_j1 = 0ull;
+  i64_store(memory, (u64)(w2c_i0), w2c_j1);
+  w2c_j0 = w2c_l7;
+  w2c_j1 = 8ull;
+  w2c_j0 += w2c_j1;
+  w2c_j1 = w2c_l6;
+  w2c_j2 = 56ull;
+  w2c_j1 <<= (w2c_j2 & 63);
+  w2c_j2 = w2c_l6;
+  w2c_j3 = 65280ull;
+  w2c_j2 &= w2c_j3;
+  w2c_j3 = 40ull;
+  w2c_j2 <<= (w2c_j3 & 63);
+  w2c_j1 |= w2c_j2;
+  w2c_j2 = w2c_l6;
+  w2c_j3 = 16711680ull;
+  w2c_j2 &= w2c_j3;
+  w2c_j3 = 24ull;
+  w2c_j2 <<= (w2c_j3 & 63);
+  w2c_j3 = w2c_l6;
+  w2c_j4 = 4278190080ull;
+  w2c_j3 &= w2c_j4;
+  w2c_j4 = 8ull;
+  w2c_j3 <<= (w2c_j4 & 63);
+  w2c_j2 |= w2c_j3;
+  w2c_j1 |= w2c_j2;
+  w2c_j2 = w2c_l6;
+  w2c_j3 = 8ull;
+  w2c_j2 >>= (w2c_j3 & 63);
+  w2c_j3 = 4278190080ull;
+  w2c_j2 &= w2c_j3;
+  w2c_j3 = w2c_l6;
+  w2c_j4 = 24ull;
+  w2c_j3 >>= (w2c_j4 & 63);
+  w2c_j4 = 16711680ull;
+  w2c_j3 &= w2c_j4;
+  w2c_j2 |= w2c_j3;
+  w2c_j3 = w2c_l6;
+  w2c_j4 = 40ull;
+  w2c_j3 >>= (w2c_j4 & 63);
+  w2c_j4 = 65280ull;
+  w2c_j3 &= w2c_j4;
+  w2c_j4 = w2c_l6;
+  w2c_j5 = 56ull;
+  w2c_j4 >>= (w2c_j5 & 63);
+  w2c_j3 |= w2c_j4;
+  w2c_j2 |= w2c_j3;
+  w2c_j1 |= w2c_j2;
+  w2c_j2 = w2c_p0;
+  w2c_j1 ^= w2c_j2;
+  w2c_j2 = w2c_p2;
+  w2c_j3 = 4096ull;
+  w2c_j4 = 0ull;
+  w2c_j5 = w2c_p2;
+  w2c_i5 = !(w2c_j5);
+  w2c_j3 = w2c_i5 ? w2c_j3 : w2c_j4;
+  w2c_j2 += w2c_j3;
+  w2c_j3 = w2c_p3;
+  w2c_f3(instance, w2c_j0, w2c_j1, w2c_j2, w2c_j3);
+  w2c_i0 = 5u;
+  w2c_i1 = 4u;
+  w2c_j2 = w2c_l7;
+  w2c_i2 = (u32)(w2c_j2);
+  w2c_i2 = i32_load8_u(memory, (u64)(w2c_i2) + 9u);
+  w2c_i3 = 255u;
+  w2c_i2 &= w2c_i3;
+  w2c_i0 = w2c_i2 ? w2c_i0 : w2c_i1;
+  w2c_i1 = 0u;
+  w2c_j2 = w2c_l7;
+  w2c_i2 = (u32)(w2c_j2);
+  w2c_i2 = i32_load8_u(memory, (u64)(w2c_i2) + 8u);
+  w2c_i3 = 255u;
+  w2c_i2 &= w2c_i3;
+  w2c_i0 = w2c_i2 ? w2c_i0 : w2c_i1;
+  w2c_l8 = w2c_i0;
+  w2c_B1:;
+  w2c_j0 = w2c_l7;
+  w2c_j1 = 16ull;
+  w2c_j0 += w2c_j1;
+  instance->w2c_g0 = w2c_j0;
+  w2c_i0 = w2c_l8;
+  goto w2c_Bfunc;
+  w2c_B0:;
+  UNREACHABLE;
+  w2c_Bfunc:;
+  return w2c_i0;
+}
+static u32 w2c_keywrap_end_unwrap_padded(struct instance *instance, u64 w2c_p0, u64 w2c_p1, u64 w2c_p2, u64 w2c_p3, u64 w2c_p4) {
+  u32 w2c_l5 = 0;
+  const struct memory memory = instance->w2c_memory;
+  (void)memory;
+  u32 w2c_i0;
+  u64 w2c_j0, w2c_j1, w2c_j2, w2c_j3, w2c_j4;
+  w2c_i0 = w2c_f0(instance);
+  w2c_i0 = !(w2c_i0);
+  if (w2c_i0) {goto w2c_B0;}
+  w2c_f2(instance);
+  UNREACHABLE;
+  w2c_B0:;
+  w2c_j0 = w2c_p0;
+  w2c_j1 = w2c_p1;
+  w2c_j2 = w2c_p2;
+  w2c_j3 = w2c_p3;
+  w2c_j4 = w2c_p4;
+  w2c_i0 = w2c_f34(instance, w2c_j0, w2c_j1, w2c_j2, w2c_j3, w2c_j4);
+  w2c_l5 = w2c_i0;
+  w2c_f1(instance);
+  w2c_i0 = w2c_l5;
+  return w2c_i0;
+}
+static u32 w2c_f34(struct instance *instance, u64 w2c_p0, u64 w2c_p1, u64 w2c_p2, u64 w2c_p3, u64 w2c_p4) {
+  u32 w2c_l7 = 0;
+  u64 w2c_l5 = 0, w2c_l6 = 0;
+  const struct memory memory = instance->w2c_memory;
+  (void)memory;
+  u32 w2c_i0, w2c_i1, w2c_i2, w2c_i5;
+  u64 w2c_j0, w2c_j1, w2c_j2, w2c_j3, w2c_j4, w2c_j5, w2c_j6;
+  w2c_j0 = instance->w2c_g0;
+  w2c_j1 = 16ull;
+  w2c_j0 -= w2c_j1;
+  w2c_l5 = w2c_j0;
+  instance->w2c_g0 = w2c_j0;
+  w2c_j0 = w2c_l5;
+  w2c_l6 = w2c_j0;
+  w2c_j1 = 16ull;
+  w2c_i0 = (u64)((s64)w2c_j0 < (s64)w2c_j1);
+  if (w2c_i0) {goto w2c_B0;}
+  w2c_j0 = w2c_p4;
+  w2c_i0 = (u32)(w2c_j0);
+  w2c_j1 = 0ull;
+  i64_store(memory, (u64)(w2c_i0), w2c_j1);
+  w2c_j0 = w2c_p1;
+  w2c_j1 = 18446744073709551608ull;
+  w2c_j0 += w2c_j1;
+  w2c_j1 = 1048568ull;
+  w2c_i0 = w2c_j0 > w2c_j1;
+  if (w2c_i0) {goto w2c_B2;}
+  w2c_j0 = w2c_p2;
+  w2c_j1 = w2c_p1;
+  w2c_j2 = 7ull;
+  w2c_j1 &= w2c_j2;
+  w2c_j0 |= w2c_j1;
+  w2c_j1 = 0ull;
+  w2c_i0 = w2c_j0 != w2c_j1;
+  if (w2c_i0) {goto w2c_B2;}
+  w2c_j0 = w2c_p3;
+  w2c_i0 = (u32)(w2c_j0);
+  w2c_j1 = 0ull;
+  i64_store(memory, (u64)(w2c_i0) + 8, w2c_j1);
+  w2c_j0 = w2c_p3;
+  w2c_i0 = (u32)(w2c_j0);
+  w2c_j0 = i64_load(memory, (u64)(w2c_i0));
+  w2c_l5 = w2c_j0;
+  w2c_j0 = w2c_p3;
+  w2c_i0 = (u32)(w2c_j0);
+  w2c_j1 = 0ull;
+  i64_store(memory, (u64)(w2c_i0), w2c_j1);
+  w2c_j0 = w2c_l6;
+  w2c_j1 = 8ull;
+  w2c_j0 += w2c_j1;
+  w2c_j1 = w2c_p1;
+  w2c_j2 = w2c_l5;
+  w2c_j3 = 8ull;
+  w2c_j2 >>= (w2c_j3 & 63);
+  w2c_j3 = 4278190080ull;
+  w2c_j2 &= w2c_j3;
+  w2c_j3 = w2c_l5;
+  w2c_j4 = 24ull;
+  w2c_j3 >>= (w2c_j4 & 63);
+  w2c_j4 = 16711680ull;
+  w2c_j3 &= w2c_j4;
+  w2c_j2 |= w2c_j3;
+  w2c_j3 = w2c_l5;
+  w2c_j4 = 40ull;
+  w2c_j3 >>= (w2c_j4 & 63);
+  w2c_j4 = 65280ull;
+  w2c_j3 &= w2c_j4;
+  w2c_j4 = w2c_l5;
+  w2c_j5 = 56ull;
+  w2c_j4 >>= (w2c_j5 & 63);
+  w2c_j3 |= w2c_j4;
+  w2c_j2 |= w2c_j3;
+  w2c_p2 = w2c_j2;
+  w2c_j1 -= w2c_j2;
+  w2c_p3 = w2c_j1;
+  w2c_j2 = 3ull;
+  w2c_j1 >>= (w2c_j2 & 63);
+  w2c_j2 = w2c_l5;
+  w2c_j3 = 56ull;
+  w2c_j2 <<= (w2c_j3 & 63);
+  w2c_j3 = w2c_l5;
+  w2c_j4 = 65280ull;
+  w2c_j3 &= w2c_j4;
+  w2c_j4 = 40ull;
+  w2c_j3 <<= (w2c_j4 & 63);
+  w2c_j2 |= w2c_j3;
+  w2c_j3 = w2c_l5;
+  w2c_j4 = 16711680ull;
+  w2c_j3 &= w2c_j4;
+  w2c_j4 = 24ull;
+  w2c_j3 <<= (w2c_j4 & 63);
+  w2c_j4 = w2c_l5;
+  w2c_j5 = 4278190080ull;
+  w2c_j4 &= w2c_j5;
+  w2c_j5 = 8ull;
+  w2c_j4 <<= (w2c_j5 & 63);
+  w2c_j3 |= w2c_j4;
+  w2c_j2 |= w2c_j3;
+  w2c_j3 = 32ull;
+  w2c_j2 >>= (w2c_j3 & 63);
+  w2c_j3 = 2790873510ull;
+  w2c_j2 ^= w2c_j3;
+  w2c_j1 |= w2c_j2;
+  w2c_j2 = w2c_p0;
+  w2c_j3 = 4096ull;
+  w2c_j4 = 0ull;
+  w2c_j5 = w2c_p0;
+  w2c_i5 = !(w2c_j5);
+  w2c_j3 = w2c_i5 ? w2c_j3 : w2c_j4;
+  w2c_j2 += w2c_j3;
+  w2c_p0 = w2c_j2;
+  w2c_j3 = w2c_p1;
+  w2c_j2 += w2c_j3;
+  w2c_j3 = 18446744073709551608ull;
+  w2c_j2 += w2c_j3;
+  w2c_i2 = (u32)(w2c_j2);
+  w2c_j2 = i64_load(memory, (u64)(w2c_i2));
+  w2c_l5 = w2c_j2;
+  w2c_j3 = 56ull;
+  w2c_j2 <<= (w2c_j3 & 63);
+  w2c_j3 = w2c_l5;
+  w2c_j4 = 65280ull;
+  w2c_j3 &= w2c_j4;
+  w2c_j4 = 40ull;
+  w2c_j3 <<= (w2c_j4 & 63);
+  w2c_j2 |= w2c_j3;
+  w2c_j3 = w2c_l5;
+  w2c_j4 = 16711680ull;
+  w2c_j3 &= w2c_j4;
+  w2c_j4 = 24ull;
+  w2c_j3 <<= (w2c_j4 & 63);
+  w2c_j4 = w2c_l5;
+  w2c_j5 = 4278190080ull;
+  w2c_j4 &= w2c_j5;
+  w2c_j5 = 8ull;
+  w2c_j4 <<= (w2c_j5 & 63);
+  w2c_j3 |= w2c_j4;
+  w2c_j2 |= w2c_j3;
+  w2c_j3 = w2c_l5;
+  w2c_j4 = 8ull;
+  w2c_j3 >>= (w2c_j4 & 63);
+  w2c_j4 = 4278190080ull;
+  w2c_j3 &= w2c_j4;
+  w2c_j4 = w2c_l5;
+  w2c_j5 = 24ull;
+  w2c_j4 >>= (w2c_j5 & 63);
+  w2c_j5 = 16711680ull;
+  w2c_j4 &= w2c_j5;
+  w2c_j3 |= w2c_j4;
+  w2c_j4 = w2c_l5;
+  w2c_j5 = 40ull;
+  w2c_j4 >>= (w2c_j5 & 63);
+  w2c_j5 = 65280ull;
+  w2c_j4 &= w2c_j5;
+  w2c_j5 = w2c_l5;
+  w2c_j6 = 56ull;
+  w2c_j5 >>= (w2c_j6 & 63);
+  w2c_j4 |= w2c_j5;
+  w2c_j3 |= w2c_j4;
+  w2c_j2 |= w2c_j3;
+  w2c_j3 = 18446744073709551615ull;
+  w2c_j4 = w2c_p3;
+  w2c_j5 = 3ull;
+  w2c_j4 <<= (w2c_j5 & 63);
+  w2c_j3 <<= (w2c_j4 & 63);
+  w2c_j4 = 18446744073709551615ull;
+  w2c_j3 ^= w2c_j4;
+  w2c_j2 &= w2c_j3;
+  w2c_j1 |= w2c_j2;
+  w2c_j2 = w2c_p0;
+  w2c_j3 = w2c_p1;
+  w2c_f3(instance, w2c_j0, w2c_j1, w2c_j2, w2c_j3);
+  w2c_j0 = w2c_l6;
+  w2c_i0 = (u32)(w2c_j0);
+  w2c_i0 = i32_load8_u(memory, (u64)(w2c_i0) + 8u);
+  w2c_i1 = 255u;
+  w2c_i0 &= w2c_i1;
+  if (w2c_i0) {goto w2c_B3;}
+  w2c_j0 = w2c_p4;
+  w2c_i0 = (u32)(w2c_j0);
+  w2c_j1 = w2c_p2;
+  i64_store(memory, (u64)(w2c_i0), w2c_j1);
+  w2c_i0 = 0u;
+  w2c_l7 = w2c_i0;
+  goto w2c_B1;
+  w2c_B3:;
+  w2c_i0 = 5u;
+  w2c_l7 = w2c_i0;
+  w2c_j0 = w2c_l6;
+  w2c_i0 = (u32)(w2c_j0);
+  w2c_i0 = i32_load8_u(memory, (u64)(w2c_i0) + 9u);
+  w2c_i1 = 255u;
+  w2c_i0 &= w2c_i1;
+  if (w2c_i0) {goto w2c_B1;}
+  w2c_B2:;
+  w2c_i0 = 4u;
+  w2c_l7 = w2c_i0;
+  w2c_B1:;
+  w2c_j0 = w2c_l6;
+  w2c_j1 = 16ull;
+  w2c_j0 += w2c_j1;
+  instance->w2c_g0 = w2c_j0;
+  w2c_i0 = w2c_l7;
+  goto w2c_Bfunc;
+  w2c_B0:;
+  UNREACHABLE;
+  w2c_Bfunc:;
+  return w2c_i0;
+}
+static u32 w2c_keywrap_end_wrap(struct instance *instance, u64 w2c_p0, u64 w2c_p1, u64 w2c_p2, u64 w2c_p3, u64 w2c_p4) {
+  u32 w2c_l5 = 0;
+  const struct memory memory = instance->w2c_memory;
+  (void)memory;
+  (void)w2c_p1;
+  u32 w2c_i0;
+  u64 w2c_j0, w2c_j1, w2c_j2, w2c_j3;
+  w2c_i0 = w2c_f0(instance);
+  w2c_i0 = !(w2c_i0);
+  if (w2c_i0) {goto w2c_B0;}
+  w2c_f2(instance);
+  UNREACHABLE;
+  w2c_B0:;
+  w2c_j0 = w2c_p0;
+  w2c_j1 = w2c_p2;
+  w2c_j2 = w2c_p3;
+  w2c_j3 = w2c_p4;
+  w2c_i0 = w2c_f36(instance, w2c_j0, w2c_j1, w2c_j2, w2c_j3);
+  w2c_l5 = w2c_i0;
+  w2c_f1(instance);
+  w2c_i0 = w2c_l5;
+  return w2c_i0;
+}
+static u32 w2c_f36(struct instance *instance, u64 w2c_p0, u64 w2c_p1, u64 w2c_p2, u64 w2c_p3) {
+  u32 w2c_l4 = 0;
+  const struct memory memory = instance->w2c_memory;
+  (void)memory;
+  u32 w2c_i0, w2c_i1, w2c_i3;
+  u64 w2c_j0, w2c_j1, w2c_j2, w2c_j3, w2c_j4;
+  w2c_j0 = instance->w2c_g0;
+  w2c_j1 = 16ull;
+  w2c_i0 = (u64)((s64)w2c_j0 < (s64)w2c_j1);
+  if (w2c_i0) {goto w2c_B3;}
+  w2c_i0 = 4u;
+  w2c_l4 = w2c_i0;
+  w2c_j0 = w2c_p1;
+  w2c_j1 = 7ull;
+  w2c_j0 &= w2c_j1;
+  w2c_j1 = 0ull;
+  w2c_i0 = w2c_j0 != w2c_j1;
+  if (w2c_i0) {goto w2c_B0;}
+  w2c_j0 = w2c_p1;
+  w2c_j1 = 18446744073709551608ull;
+  w2c_j0 += w2c_j1;
+  w2c_j1 = 1048568ull;
+  w2c_i0 = w2c_j0 > w2c_j1;
+  if (w2c_i0) {goto w2c_B0;}
+  w2c_j0 = w2c_p2;
+  w2c_j1 = 1ull;
+  w2c_j2 = w2c_p1;
+  w2c_j3 = 3ull;
+  w2c_j2 >>= (w2c_j3 & 63);
+  w2c_j3 = 6ull;
+  w2c_j2 *= w2c_j3;
+  w2c_j3 = w2c_p1;
+  w2c_j4 = 8ull;
+  w2c_i3 = w2c_j3 == w2c_j4;
+  w2c_j1 = w2c_i3 ? w2c_j1 : w2c_j2;
+  w2c_i0 = w2c_j0 != w2c_j1;
+  if (w2c_i0) {goto w2c_B0;}
+  w2c_j0 = w2c_p0;
+  w2c_j1 = w2c_p3;
+  w2c_j0 -= w2c_j1;
+  w2c_j1 = 7ull;
+  w2c_i0 = w2c_j0 > w2c_j1;
+  if (w2c_i0) {goto w2c_B2;}
+  w2c_j0 = w2c_p0;
+  w2c_i0 = (u32)(w2c_j0);
+  w2c_j1 = w2c_p3;
+  w2c_i1 = (u32)(w2c_j1);
+  w2c_i1 = i32_load8_u(memory, (u64)(w2c_i1));
+  i32_store8(memory, (u64)(w2c_i0), w2c_i1);
+  w2c_j0 = w2c_p0;
+  w2c_i0 = (u32)(w2c_j0);
+  w2c_j1 = w2c_p3;
+  w2c_i1 = (u32)(w2c_j1);
+  w2c_i1 = i32_load8_u(memory, (u64)(w2c_i1) + 1u);
+  i32_store8(memory, (u64)(w2c_i0) + 1, w2c_i1);
+  w2c_j0 = w2c_p0;
+  w2c_i0 = (u32)(w2c_j0);
+  w2c_j1 = w2c_p3;
+  w2c_i1 = (u32)(w2c_j1);
+  w2c_i1 = i32_load8_u(memory, (u64)(w2c_i1) + 2u);
+  i32_store8(memory, (u64)(w2c_i0) + 2, w2c_i1);
+  w2c_j0 = w2c_p0;
+  w2c_i0 = (u32)(w2c_j0);
+  w2c_j1 = w2c_p3;
+  w2c_i1 = (u32)(w2c_j1);
+  w2c_i1 = i32_load8_u(memory, (u64)(w2c_i1) + 3u);
+  i32_store8(memory, (u64)(w2c_i0) + 3, w2c_i1);
+  w2c_j0 = w2c_p0;
+  w2c_i0 = (u32)(w2c_j0);
+  w2c_j1 = w2c_p3;
+  w2c_i1 = (u32)(w2c_j1);
+  w2c_i1 = i32_load8_u(memory, (u64)(w2c_i1) + 4u);
+  i32_store8(memory, (u64)(w2c_i0) + 4, w2c_i1);
+  w2c_j0 = w2c_p0;
+  w2c_i0 = (u32)(w2c_j0);
+  w2c_j1 = w2c_p3;
+  w2c_i1 = (u32)(w2c_j1);
+  w2c_i1 = i32_load8_u(memory, (u64)(w2c_i1) + 5u);
+  i32_store8(memory, (u64)(w2c_i0) + 5, w2c_i1);
+  w2c_j0 = w2c_p0;
+  w2c_i0 = (u32)(w2c_j0);
+  w2c_j1 = w2c_p3;
+  w2c_i1 = (u32)(w2c_j1);
+  w2c_i1 = i32_load8_u(memory, (u64)(w2c_i1) + 6u);
+  i32_store8(memory, (u64)(w2c_i0) + 6, w2c_i1);
+  w2c_j0 = w2c_p0;
+  w2c_i0 = (u32)(w2c_j0);
+  w2c_j1 = w2c_p3;
+  w2c_i1 = (u32)(w2c_j1);
+  w2c_i1 = i32_load8_u(memory, (u64)(w2c_i1) + 7u);
+  i32_store8(memory, (u64)(w2c_i0) + 7, w2c_i1);
+  goto w2c_B1;
+  w2c_B3:;
+  UNREACHABLE;
+  w2c_B2:;
+  w2c_j0 = w2c_p0;
+  w2c_i0 = (u32)(w2c_j0);
+  w2c_j1 = w2c_p3;
+  w2c_i1 = (u32)(w2c_j1);
+  w2c_j1 = i64_load(memory, (u64)(w2c_i1));
+  i64_store(memory, (u64)(w2c_i0), w2c_j1);
+  w2c_B1:;
+  w2c_i0 = 0u;
+  w2c_l4 = w2c_i0;
+  w2c_B0:;
+  w2c_i0 = w2c_l4;
+  return w2c_i0;
+}
+#ifndef KEYWRAP_STEPS_ONLY
+static u32 w2c_keywrap_kind(struct instance *instance, u64 w2c_p0, u64 w2c_p1, u64 w2c_p2, u64 w2c_p3, u64 w2c_p4, u64 w2c_p5, u64 w2c_p6, u64 w2c_p7) {
+  u32 w2c_l8 = 0;
+  const struct memory memory = instance->w2c_memory;
+  (void)memory;
+  u32 w2c_i0;
+  u64 w2c_j0, w2c_j1, w2c_j2, w2c_j3, w2c_j4, w2c_j5, w2c_j6, w2c_j7;
+  w2c_i0 = w2c_f0(instance);
+  w2c_i0 = !(w2c_i0);
+  if (w2c_i0) {goto w2c_B0;}
+  w2c_f2(instance);
+  UNREACHABLE;
+  w2c_B0:;
+  w2c_j0 = w2c_p0;
+  w2c_j1 = w2c_p1;
+  w2c_j2 = w2c_p2;
+  w2c_j3 = w2c_p3;
+  w2c_j4 = w2c_p4;
+  w2c_j5 = w2c_p5;
+  w2c_j6 = w2c_p6;
+  w2c_j7 = w2c_p7;
+  w2c_i0 = w2c_f38(instance, w2c_j0, w2c_j1, w2c_j2, w2c_j3, w2c_j4, w2c_j5, w2c_j6, w2c_j7);
+  w2c_l8 = w2c_i0;
+  w2c_f1(instance);
+  w2c_i0 = w2c_l8;
+  return w2c_i0;
+}
+static u32 w2c_f38(struct instance *instance, u64 w2c_p0, u64 w2c_p1, u64 w2c_p2, u64 w2c_p3, u64 w2c_p4, u64 w2c_p5, u64 w2c_p6, u64 w2c_p7) {
+  u32 w2c_l9 = 0, w2c_l10 = 0;
+  u64 w2c_l8 = 0;
+  const struct memory memory = instance->w2c_memory;
+  (void)memory;
+  u32 w2c_i0, w2c_i1, w2c_i2, w2c_i3, w2c_i4, w2c_i6, w2c_i8;
+  u64 w2c_j0, w2c_j1, w2c_j2, w2c_j3, w2c_j4, w2c_j5, w2c_j6, w2c_j7, 
+      w2c_j8;
+  w2c_j0 = instance->w2c_g0;
+  w2c_j1 = 544ull;
+  w2c_j0 -= w2c_j1;
+  w2c_l8 = w2c_j0;
+  instance->w2c_g0 = w2c_j0;
+  w2c_j0 = w2c_l8;
+  w2c_l8 = w2c_j0;
+  w2c_j1 = 16ull;
+  w2c_i0 = (u64)((s64)w2c_j0 < (s64)w2c_j1);
+  if (w2c_i0) {goto w2c_B1;}
+  w2c_j0 = w2c_l8;
+  w2c_j1 = 4ull;
+  w2c_j0 += w2c_j1;
+  w2c_i0 = (u32)(w2c_j0);
+  w2c_i1 = 0u;
+  w2c_j2 = 248ull;
+  w2c_i2 = (u32)(w2c_j2);
+  memory_fill(memory, w2c_i0, w2c_i1, w2c_i2);
+  w2c_j0 = w2c_p6;
+  w2c_i0 = (u32)(w2c_j0);
+  w2c_i1 = 0u;
+  i32_store(memory, (u64)(w2c_i0), w2c_i1);
+  w2c_j0 = w2c_p7;
+  w2c_i0 = (u32)(w2c_j0);
+  w2c_j1 = 0ull;
+  i64_store(memory, (u64)(w2c_i0), w2c_j1);
+  w2c_j0 = w2c_l8;
+  w2c_j1 = 4ull;
+  w2c_j0 += w2c_j1;
+  w2c_j1 = w2c_p0;
+  w2c_j2 = 4096ull;
+  w2c_j3 = 0ull;
+  w2c_j4 = w2c_p0;
+  w2c_i4 = !(w2c_j4);
+  w2c_j2 = w2c_i4 ? w2c_j2 : w2c_j3;
+  w2c_j1 += w2c_j2;
+  w2c_j2 = w2c_p1;
+  w2c_f4(instance, w2c_j0, w2c_j1, w2c_j2);
+  w2c_i0 = 3u;
+  w2c_l9 = w2c_i0;
+  w2c_j0 = w2c_l8;
+  w2c_i0 = (u32)(w2c_j0);
+  w2c_i0 = i32_load8_u(memory, (u64)(w2c_i0) + 4u);
+  if (w2c_i0) {goto w2c_B0;}
+  w2c_j0 = w2c_l8;
+  w2c_j1 = 252ull;
+  w2c_j0 += w2c_j1;
+  w2c_i0 = (u32)(w2c_j0);
+  w2c_j1 = w2c_l8;
+  w2c_j2 = 8ull;
+  w2c_j1 += w2c_j2;
+  w2c_i1 = (u32)(w2c_j1);
+  w2c_j2 = 244ull;
+  w2c_i2 = (u32)(w2c_j2);
+  memory_copy(memory, memory, w2c_i0, w2c_i1, w2c_i2);
+  w2c_j0 = w2c_p6;
+  w2c_i0 = (u32)(w2c_j0);
+  w2c_i1 = 0u;
+  i32_store(memory, (u64)(w2c_i0), w2c_i1);
+  w2c_j0 = w2c_p7;
+  w2c_i0 = (u32)(w2c_j0);
+  w2c_j1 = 0ull;
+  i64_store(memory, (u64)(w2c_i0), w2c_j1);
+  w2c_j0 = w2c_l8;
+  w2c_i0 = (u32)(w2c_j0);
+  w2c_j1 = 0ull;
+  i64_store(memory, (u64)(w2c_i0) + 504, w2c_j1);
+  w2c_j0 = w2c_l8;
+  w2c_i0 = (u32)(w2c_j0);
+  w2c_j1 = w2c_l8;
+  w2c_j2 = 252ull;
+  w2c_j1 += w2c_j2;
+  i64_store(memory, (u64)(w2c_i0) + 496, w2c_j1);
+  w2c_j0 = w2c_l8;
+  w2c_i0 = (u32)(w2c_j0);
+  w2c_j1 = 12008468691120727718ull;
+  i64_store(memory, (u64)(w2c_i0) + 512, w2c_j1);
+  w2c_j0 = w2c_l8;
+  w2c_i0 = (u32)(w2c_j0);
+  w2c_j1 = 0ull;
+  i64_store(memory, (u64)(w2c_i0) + 536, w2c_j1);
+  w2c_j0 = w2c_l8;
+  w2c_i0 = (u32)(w2c_j0);
+  w2c_j1 = 0ull;
+  i64_store(memory, (u64)(w2c_i0) + 528, w2c_j1);
+  w2c_j0 = w2c_l8;
+  w2c_i0 = (u32)(w2c_j0);
+  w2c_j1 = 0ull;
+  i64_store(memory, (u64)(w2c_i0) + 520, w2c_j1);
+  w2c_j0 = w2c_p3;
+  w2c_j1 = 7ull;
+  w2c_j0 &= w2c_j1;
+  w2c_j1 = 0ull;
+  w2c_i0 = w2c_j0 != w2c_j1;
+  if (w2c_i0) {goto w2c_B3;}
+  w2c_j0 = w2c_p3;
+  w2c_j1 = 18446744073709551600ull;
+  w2c_j0 += w2c_j1;
+  w2c_j1 = 1048569ull;
+  w2c_i0 = w2c_j0 < w2c_j1;
+  if (w2c_i0) {goto w2c_B2;}
+  w2c_B3:;
+  w2c_i0 = 5u;
+  w2c_l9 = w2c_i0;
+  goto w2c_B0;
+  w2c_B2:;
+  w2c_j0 = w2c_l8;
+  w2c_j1 = 520ull;
+  w2c_j0 += w2c_j1;
+  w2c_j1 = w2c_l8;
+  w2c_j2 = 496ull;
+  w2c_j1 += w2c_j2;
+  w2c_j2 = w2c_l8;
+  w2c_j3 = 512ull;
+  w2c_j2 += w2c_j3;
+  w2c_j3 = w2c_p2;
+  w2c_j4 = 4096ull;
+  w2c_j5 = 0ull;
+  w2c_j6 = w2c_p2;
+  w2c_i6 = !(w2c_j6);
+  w2c_j4 = w2c_i6 ? w2c_j4 : w2c_j5;
+  w2c_j3 += w2c_j4;
+  w2c_j4 = w2c_p3;
+  w2c_j5 = w2c_p4;
+  w2c_j6 = 4096ull;
+  w2c_j7 = 0ull;
+  w2c_j8 = w2c_p4;
+  w2c_i8 = !(w2c_j8);
+  w2c_j6 = w2c_i8 ? w2c_j6 : w2c_j7;
+  w2c_j5 += w2c_j6;
+  w2c_p0 = w2c_j5;
+  w2c_j6 = w2c_p5;
+  w2c_f5(instance, w2c_j0, w2c_j1, w2c_j2, w2c_j3, w2c_j4, w2c_j5, w2c_j6);
+  w2c_j0 = w2c_l8;
+  w2c_i0 = (u32)(w2c_j0);
+  w2c_i0 = i32_load8_u(memory, (u64)(w2c_i0) + 520u);
+  if (w2c_i0) {goto w2c_B4;}
+  w2c_j0 = w2c_l8;
+  w2c_i0 = (u32)(w2c_j0);
+  w2c_j0 = i64_load(memory, (u64)(w2c_i0) + 536u);
+  w2c_p1 = w2c_j0;
+  w2c_j0 = w2c_l8;
+  w2c_i0 = (u32)(w2c_j0);
+  w2c_i0 = i32_load8_u(memory, (u64)(w2c_i0) + 528u);
+  w2c_l10 = w2c_i0;
+  w2c_j0 = w2c_p5;
+  w2c_i0 = !(w2c_j0);
+  if (w2c_i0) {goto w2c_B5;}
+  w2c_j0 = w2c_p5;
+  w2c_j1 = 18446744073709551615ull;
+  w2c_j0 += w2c_j1;
+  w2c_p3 = w2c_j0;
+  w2c_i0 = !(w2c_j0);
+  w2c_l9 = w2c_i0;
+  if (w2c_i0) {goto w2c_B6;}
+  w2c_i0 = w2c_l9;
+  if (w2c_i0) {goto w2c_B6;}
+  w2c_j0 = w2c_p0;
+  w2c_i0 = (u32)(w2c_j0);
+  w2c_i1 = 0u;
+  w2c_j2 = w2c_p3;
+  w2c_i2 = (u32)(w2c_j2);
+  memory_fill(memory, w2c_i0, w2c_i1, w2c_i2);
+  w2c_B6:;
+  w2c_j0 = w2c_p0;
+  w2c_j1 = w2c_p3;
+  w2c_j0 += w2c_j1;
+  w2c_i0 = (u32)(w2c_j0);
+  w2c_i1 = 0u;
+  i32_store8(memory, (u64)(w2c_i0), w2c_i1);
+  w2c_B5:;
+  w2c_i0 = 5u;
+  w2c_l9 = w2c_i0;
+  w2c_i0 = w2c_l10;
+  switch (w2c_i0) {
+    case 0: goto w2c_B9;
+    case 1: goto w2c_B8;
+    case 2: goto w2c_B0;
+    default: goto w2c_B9;
+  }
+  w2c_B9:;
+  w2c_j0 = w2c_p7;
+  w2c_i0 = (u32)(w2c_j0);
+  w2c_j1 = w2c_p1;
+  i64_store(memory, (u64)(w2c_i0), w2c_j1);
+  goto w2c_B7;
+  w2c_B8:;
+  w2c_j0 = w2c_p7;
+  w2c_i0 = (u32)(w2c_j0);
+  w2c_j1 = w2c_p1;
+  i64_store(memory, (u64)(w2c_i0), w2c_j1);
+  w2c_j0 = w2c_p6;
+  w2c_i0 = (u32)(w2c_j0);
+  w2c_i1 = 1u;
+  i32_store(memory, (u64)(w2c_i0), w2c_i1);
+  w2c_B7:;
+  w2c_i0 = 0u;
+  w2c_l9 = w2c_i0;
+  goto w2c_B0;
+  w2c_B4:;
+  w2c_i0 = 5u;
+  w2c_i1 = 4u;
+  w2c_j2 = w2c_l8;
+  w2c_i2 = (u32)(w2c_j2);
+  w2c_i2 = i32_load8_u(memory, (u64)(w2c_i2) + 521u);
+  w2c_i3 = 1u;
+  w2c_i2 = w2c_i2 == w2c_i3;
+  w2c_i0 = w2c_i2 ? w2c_i0 : w2c_i1;
+  w2c_l9 = w2c_i0;
+  goto w2c_B0;
+  w2c_B1:;
+  UNREACHABLE;
+  w2c_B0:;
+  w2c_j0 = w2c_l8;
+  w2c_j1 = 544ull;
+  w2c_j0 += w2c_j1;
+  instance->w2c_g0 = w2c_j0;
+  w2c_i0 = w2c_l9;
+  return w2c_i0;
+}
+static u32 w2c_keywrap_kind_many(struct instance *instance, u64 w2c_p0, u64 w2c_p1, u64 w2c_p2, u64 w2c_p3, u64 w2c_p4, u64 w2c_p5, u64 w2c_p6, u64 w2c_p7, 
+    u64 w2c_p8, u64 w2c_p9, u64 w2c_p10, u64 w2c_p11) {
+  u32 w2c_l12 = 0;
+  const struct memory memory = instance->w2c_memory;
+  (void)memory;
+  u32 w2c_i0;
+  u64 w2c_j0, w2c_j1, w2c_j2, w2c_j3, w2c_j4, w2c_j5, w2c_j6, w2c_j7, 
+      w2c_j8, w2c_j9, w2c_j10, w2c_j11;
+  w2c_i0 = w2c_f0(instance);
+  w2c_i0 = !(w2c_i0);
+  if (w2c_i0) {goto w2c_B0;}
+  w2c_f2(instance);
+  UNREACHABLE;
+  w2c_B0:;
+  w2c_j0 = w2c_p0;
+  w2c_j1 = w2c_p1;
+  w2c_j2 = w2c_p2;
+  w2c_j3 = w2c_p3;
+  w2c_j4 = w2c_p4;
+  w2c_j5 = w2c_p5;
+  w2c_j6 = w2c_p6;
+  w2c_j7 = w2c_p7;
+  w2c_j8 = w2c_p8;
+  w2c_j9 = w2c_p9;
+  w2c_j10 = w2c_p10;
+  w2c_j11 = w2c_p11;
+  w2c_i0 = w2c_f40(instance, w2c_j0, w2c_j1, w2c_j2, w2c_j3, w2c_j4, w2c_j5, w2c_j6, w2c_j7, w2c_j8, w2c_j9, w2c_j10, w2c_j11);
+  w2c_l12 = w2c_i0;
+  w2c_f1(instance);
+  w2c_i0 = w2c_l12;
+  return w2c_i0;
+}
+static u32 w2c_f40(struct instance *instance, u64 w2c_p0, u64 w2c_p1, u64 w2c_p2, u64 w2c_p3, u64 w2c_p4, u64 w2c_p5, u64 w2c_p6, u64 w2c_p7, 
+    u64 w2c_p8, u64 w2c_p9, u64 w2c_p10, u64 w2c_p11) {
+  u32 w2c_l13 = 0;
+  u64 w2c_l12 = 0;
+  const struct memory memory = instance->w2c_memory;
+  (void)memory;
+  u32 w2c_i0, w2c_i1, w2c_i2, w2c_i4, w2c_i5, w2c_i7, w2c_i8, w2c_i9;
+  u64 w2c_j0, w2c_j1, w2c_j2, w2c_j3, w2c_j4, w2c_j5, w2c_j6, w2c_j7, 
+      w2c_j8, w2c_j9;
+  w2c_j0 = instance->w2c_g0;
+  w2c_j1 = 496ull;
+  w2c_j0 -= w2c_j1;
+  w2c_l12 = w2c_j0;
+  instance->w2c_g0 = w2c_j0;
+  w2c_j0 = w2c_l12;
+  w2c_l12 = w2c_j0;
+  w2c_j1 = 16ull;
+  w2c_i0 = (u64)((s64)w2c_j0 < (s64)w2c_j1);
+  if (w2c_i0) {goto w2c_B0;}
+  w2c_j0 = w2c_l12;
+  w2c_j1 = 4ull;
+  w2c_j0 += w2c_j1;
+  w2c_i0 = (u32)(w2c_j0);
+  w2c_i1 = 0u;
+  w2c_j2 = 248ull;
+  w2c_i2 = (u32)(w2c_j2);
+  memory_fill(memory, w2c_i0, w2c_i1, w2c_i2);
+  w2c_j0 = w2c_l12;
+  w2c_j1 = 4ull;
+  w2c_j0 += w2c_j1;
+  w2c_j1 = w2c_p0;
+  w2c_j2 = 4096ull;
+  w2c_j3 = 0ull;
+  w2c_j4 = w2c_p0;
+  w2c_i4 = !(w2c_j4);
+  w2c_j2 = w2c_i4 ? w2c_j2 : w2c_j3;
+  w2c_j1 += w2c_j2;
+  w2c_j2 = w2c_p1;
+  w2c_f4(instance, w2c_j0, w2c_j1, w2c_j2);
+  w2c_i0 = 3u;
+  w2c_l13 = w2c_i0;
+  w2c_j0 = w2c_l12;
+  w2c_i0 = (u32)(w2c_j0);
+  w2c_i0 = i32_load8_u(memory, (u64)(w2c_i0) + 4u);
+  if (w2c_i0) {goto w2c_B1;}
+  w2c_j0 = w2c_l12;
+  w2c_j1 = 252ull;
+  w2c_j0 += w2c_j1;
+  w2c_i0 = (u32)(w2c_j0);
+  w2c_j1 = w2c_l12;
+  w2c_j2 = 8ull;
+  w2c_j1 += w2c_j2;
+  w2c_i1 = (u32)(w2c_j1);
+  w2c_j2 = 244ull;
+  w2c_i2 = (u32)(w2c_j2);
+  memory_copy(memory, memory, w2c_i0, w2c_i1, w2c_i2);
+  w2c_i0 = 4u;
+  w2c_l13 = w2c_i0;
+  w2c_j0 = w2c_p11;
+  w2c_i0 = !(w2c_j0);
+  if (w2c_i0) {goto w2c_B1;}
+  w2c_j0 = w2c_p3;
+  w2c_j1 = w2c_p3;
+  w2c_j2 = w2c_p11;
+  w2c_j1 = DIV_U(w2c_j1, w2c_j2);
+  w2c_p0 = w2c_j1;
+  w2c_j2 = w2c_p11;
+  w2c_j1 *= w2c_j2;
+  w2c_j0 -= w2c_j1;
+  w2c_j1 = 0ull;
+  w2c_i0 = w2c_j0 != w2c_j1;
+  if (w2c_i0) {goto w2c_B1;}
+  w2c_j0 = w2c_p9;
+  w2c_j1 = w2c_p11;
+  w2c_i0 = w2c_j0 != w2c_j1;
+  if (w2c_i0) {goto w2c_B1;}
+  w2c_j0 = w2c_p7;
+  w2c_j1 = w2c_p11;
+  w2c_i0 = w2c_j0 != w2c_j1;
+  if (w2c_i0) {goto w2c_B1;}
+  w2c_j0 = w2c_p0;
+  w2c_j1 = 7ull;
+  w2c_j0 &= w2c_j1;
+  w2c_j1 = 0ull;
+  w2c_i0 = w2c_j0 != w2c_j1;
+  if (w2c_i0) {goto w2c_B1;}
+  w2c_j0 = w2c_p0;
+  w2c_j1 = 18446744073709551600ull;
+  w2c_j0 += w2c_j1;
+  w2c_j1 = 1048568ull;
+  w2c_i0 = w2c_j0 > w2c_j1;
+  if (w2c_i0) {goto w2c_B1;}
+  w2c_j0 = w2c_p0;
+  w2c_j1 = 18446744073709551608ull;
+  w2c_j0 += w2c_j1;
+  w2c_j1 = w2c_p5;
+  w2c_i0 = w2c_j0 != w2c_j1;
+  if (w2c_i0) {goto w2c_B1;}
+  w2c_j0 = w2c_l12;
+  w2c_j1 = 252ull;
+  w2c_j0 += w2c_j1;
+  w2c_j1 = w2c_p2;
+  w2c_j2 = 4096ull;
+  w2c_j3 = 0ull;
+  w2c_j4 = w2c_p2;
+  w2c_i4 = !(w2c_j4);
+  w2c_j2 = w2c_i4 ? w2c_j2 : w2c_j3;
+  w2c_j1 += w2c_j2;
+  w2c_j2 = w2c_p4;
+  w2c_j3 = 4096ull;
+  w2c_j4 = 0ull;
+  w2c_j5 = w2c_p4;
+  w2c_i5 = !(w2c_j5);
+  w2c_j3 = w2c_i5 ? w2c_j3 : w2c_j4;
+  w2c_j2 += w2c_j3;
+  w2c_j3 = w2c_p5;
+  w2c_j4 = w2c_p6;
+  w2c_j5 = 4096ull;
+  w2c_j6 = 0ull;
+  w2c_j7 = w2c_p6;
+  w2c_i7 = !(w2c_j7);
+  w2c_j5 = w2c_i7 ? w2c_j5 : w2c_j6;
+  w2c_j4 += w2c_j5;
+  w2c_j5 = w2c_p8;
+  w2c_j6 = 4096ull;
+  w2c_j7 = 0ull;
+  w2c_j8 = w2c_p8;
+  w2c_i8 = !(w2c_j8);
+  w2c_j6 = w2c_i8 ? w2c_j6 : w2c_j7;
+  w2c_j5 += w2c_j6;
+  w2c_j6 = w2c_p10;
+  w2c_j7 = 4096ull;
+  w2c_j8 = 0ull;
+  w2c_j9 = w2c_p10;
+  w2c_i9 = !(w2c_j9);
+  w2c_j7 = w2c_i9 ? w2c_j7 : w2c_j8;
+  w2c_j6 += w2c_j7;
+  w2c_j7 = w2c_p11;
+  w2c_f7(instance, w2c_j0, w2c_j1, w2c_j2, w2c_j3, w2c_j4, w2c_j5, w2c_j6, w2c_j7);
+  w2c_i0 = 0u;
+  w2c_l13 = w2c_i0;
+  w2c_B1:;
+  w2c_j0 = w2c_l12;
+  w2c_j1 = 496ull;
+  w2c_j0 += w2c_j1;
+  instance->w2c_g0 = w2c_j0;
+  w2c_i0 = w2c_l13;
+  goto w2c_Bfunc;
+  w2c_B0:;
+  UNREACHABLE;
+  w2c_Bfunc:;
+  return w2c_i0;
+}
+static u32 w2c_keywrap_rewrap(struct instance *instance, u64 w2c_p0, u64 w2c_p1, u64 w2c_p2, u64 w2c_p3, u64 w2c_p4, u64 w2c_p5, u32 w2c_p6, u64 w2c_p7) {
+  const struct memory memory = instance->w2c_memory;
+  (void)memory;
+  u32 w2c_i0, w2c_i6;
+  u64 w2c_j0, w2c_j1, w2c_j2, w2c_j3, w2c_j4, w2c_j5, w2c_j7;
+  w2c_i0 = w2c_f0(instance);
+  w2c_i0 = !(w2c_i0);
+  if (w2c_i0) {goto w2c_B0;}
+  w2c_f2(instance);
+  UNREACHABLE;
+  w2c_B0:;
+  w2c_j0 = w2c_p0;
+  w2c_j1 = w2c_p1;
+  w2c_j2 = w2c_p2;
+  w2c_j3 = w2c_p3;
+  w2c_j4 = w2c_p4;
+  w2c_j5 = w2c_p5;
+  w2c_i6 = w2c_p6;
+  w2c_j7 = w2c_p7;
+  w2c_i0 = w2c_f42(instance, w2c_j0, w2c_j1, w2c_j2, w2c_j3, w2c_j4, w2c_j5, w2c_i6, w2c_j7);
+  w2c_p6 = w2c_i0;
+  w2c_f1(instance);
+  w2c_i0 = w2c_p6;
+  return w2c_i0;
+}
+static u32 w2c_f42(struct instance *instance, u64 w2c_p0, u64 w2c_p1, u64 w2c_p2, u64 w2c_p3, u64 w2c_p4, u64 w2c_p5, u32 w2c_p6, u64 w2c_p7) {
+  u64 w2c_l8 = 0;
+  const struct memory memory = instance->w2c_memory;
+  (void)memory;
+  u32 w2c_i0, w2c_i3, w2c_i5, w2c_i6, w2c_i7;
+  u64 w2c_j0, w2c_j1, w2c_j2, w2c_j3, w2c_j4, w2c_j5, w2c_j6, w2c_j7;
+  w2c_j0 = instance->w2c_g0;
+  w2c_l8 = w2c_j0;
+  w2c_j1 = 15ull;
+  w2c_i0 = (u64)((s64)w2c_j0 > (s64)w2c_j1);
+  if (w2c_i0) {goto w2c_B0;}
+  UNREACHABLE;
+  w2c_B0:;
+  w2c_j0 = w2c_p0;
+  w2c_j1 = 4096ull;
+  w2c_j2 = 0ull;
+  w2c_j3 = w2c_p0;
+  w2c_i3 = !(w2c_j3);
+  w2c_j1 = w2c_i3 ? w2c_j1 : w2c_j2;
+  w2c_j0 += w2c_j1;
+  w2c_j1 = w2c_p1;
+  w2c_j2 = w2c_p2;
+  w2c_j3 = 4096ull;
+  w2c_j4 = 0ull;
+  w2c_j5 = w2c_p2;
+  w2c_i5 = !(w2c_j5);
+  w2c_j3 = w2c_i5 ? w2c_j3 : w2c_j4;
+  w2c_j2 += w2c_j3;
+  w2c_j3 = w2c_p3;
+  w2c_j4 = w2c_p4;
+  w2c_j5 = 4096ull;
+  w2c_j6 = 0ull;
+  w2c_j7 = w2c_p4;
+  w2c_i7 = !(w2c_j7);
+  w2c_j5 = w2c_i7 ? w2c_j5 : w2c_j6;
+  w2c_j4 += w2c_j5;
+  w2c_j5 = w2c_p5;
+  w2c_i6 = w2c_p6;
+  w2c_j7 = w2c_p7;
+  w2c_i0 = w2c_f8(instance, w2c_j0, w2c_j1, w2c_j2, w2c_j3, w2c_j4, w2c_j5, w2c_i6, w2c_j7);
+  w2c_p6 = w2c_i0;
+  w2c_j0 = w2c_l8;
+  instance->w2c_g0 = w2c_j0;
+  w2c_i0 = w2c_p6;
+  return w2c_i0;
+}
+static u32 w2c_keywrap_rewrap_in_place(struct instance *instance, u64 w2c_p0, u64 w2c_p1, u64 w2c_p2, u64 w2c_p3, u64 w2c_p4, u64 w2c_p5, u32 w2c_p6) {
+  const struct memory memory = instance->w2c_memory;
+  (void)memory;
+  u32 w2c_i0, w2c_i6;
+  u64 w2c_j0, w2c_j1, w2c_j2, w2c_j3, w2c_j4, w2c_j5;
+  w2c_i0 = w2c_f0(instance);
+  w2c_i0 = !(w2c_i0);
+  if (w2c_i0) {goto w2c_B0;}
+  w2c_f2(instance);
+  UNREACHABLE;
+  w2c_B0:;
+  w2c_j0 = w2c_p0;
+  w2c_j1 = w2c_p1;
+  w2c_j2 = w2c_p2;
+  w2c_j3 = w2c_p3;
+  w2c_j4 = w2c_p4;
+  w2c_j5 = w2c_p5;
+  w2c_i6 = w2c_p6;
+  w2c_i0 = w2c_f44(instance, w2c_j0, w2c_j1, w2c_j2, w2c_j3, w2c_j4, w2c_j5, w2c_i6);
+  w2c_p6 = w2c_i0;
+  w2c_f1(instance);
+  w2c_i0 = w2c_p6;
+  return w2c_i0;
+}
+static u32 w2c_f44(struct instance *instance, u64 w2c_p0, u64 w2c_p1, u64 w2c_p2, u64 w2c_p3, u64 w2c_p4, u64 w2c_p5, u32 w2c_p6) {
+  u32 w2c_l8 = 0;
+  u64 w2c_l7 = 0;
+  const struct memory memory = instance->w2c_memory;
+  (void)memory;
+  u32 w2c_i0, w2c_i1, w2c_i2, w2c_i3, w2c_i5, w2c_i6, w2c_i7, w2c_i8, 
+      w2c_i9;
+  u64 w2c_j0, w2c_j1, w2c_j2, w2c_j3, w2c_j4, w2c_j5, w2c_j6, w2c_j7, 
+      w2c_j8;
+  w2c_j0 = instance->w2c_g0;
+  w2c_j1 = 16ull;
+  w2c_j0 -= w2c_j1;
+  w2c_l7 = w2c_j0;
+  instance->w2c_g0 = w2c_j0;
+  w2c_j0 = w2c_l7;
+  w2c_l7 = w2c_j0;
+  w2c_j1 = 16ull;
+  w2c_i0 = (u64)((s64)w2c_j0 < (s64)w2c_j1);
+  if (w2c_i0) {goto w2c_B0;}
+  w2c_j0 = w2c_p0;
+  w2c_j1 = 4096ull;
+  w2c_j2 = 0ull;
+  w2c_j3 = w2c_p0;
+  w2c_i3 = !(w2c_j3);
+  w2c_j1 = w2c_i3 ? w2c_j1 : w2c_j2;
+  w2c_j0 += w2c_j1;
+  w2c_j1 = w2c_p1;
+  w2c_j2 = w2c_p2;
+  w2c_j3 = 4096ull;
+  w2c_j4 = 0ull;
+  w2c_j5 = w2c_p2;
+  w2c_i5 = !(w2c_j5);
+  w2c_j3 = w2c_i5 ? w2c_j3 : w2c_j4;
+  w2c_j2 += w2c_j3;
+  w2c_j3 = w2c_p3;
+  w2c_j4 = w2c_p4;
+  w2c_j5 = 4096ull;
+  w2c_j6 = 0ull;
+  w2c_j7 = w2c_p4;
+  w2c_i7 = !(w2c_j7);
+  w2c_j5 = w2c_i7 ? w2c_j5 : w2c_j6;
+  w2c_j4 += w2c_j5;
+  w2c_p4 = w2c_j4;
+  w2c_j5 = w2c_p5;
+  w2c_i6 = w2c_p6;
+  w2c_i7 = 16u;
+  w2c_i8 = w2c_p6;
+  w2c_i9 = 4u;
+  w2c_i8 = w2c_i8 < w2c_i9;
+  w2c_i6 = w2c_i8 ? w2c_i6 : w2c_i7;
+  w2c_j7 = w2c_l7;
+  w2c_j8 = 12ull;
+  w2c_j7 += w2c_j8;
+  w2c_i0 = w2c_f8(instance, w2c_j0, w2c_j1, w2c_j2, w2c_j3, w2c_j4, w2c_j5, w2c_i6, w2c_j7);
+  w2c_p6 = w2c_i0;
+  w2c_i1 = 4294967291u;
+  w2c_i0 += w2c_i1;
+  switch (w2c_i0) {
+    case 0: goto w2c_B3;
+    case 1: goto w2c_B2;
+    case 2: goto w2c_B2;
+    case 3: goto w2c_B3;
+    default: goto w2c_B2;
+  }
+  w2c_B3:;
+  w2c_j0 = w2c_p5;
+  w2c_i0 = !(w2c_j0);
+  if (w2c_i0) {goto w2c_B4;}
+  w2c_j0 = w2c_p5;
+  w2c_j1 = 18446744073709551615ull;
+  w2c_j0 += w2c_j1;
+  w2c_p5 = w2c_j0;
+  w2c_i0 = !(w2c_j0);
+  w2c_l8 = w2c_i0;
+  if (w2c_i0) {goto w2c_B5;}
+  w2c_i0 = w2c_l8;
+  if (w2c_i0) {goto w2c_B5;}
+  w2c_j0 = w2c_p4;
+  w2c_i0 = (u32)(w2c_j0);
+  w2c_i1 = 0u;
+  w2c_j2 = w2c_p5;
+  w2c_i2 = (u32)(w2c_j2);
+  memory_fill(memory, w2c_i0, w2c_i1, w2c_i2);
+  w2c_B5:;
+  w2c_j0 = w2c_p4;
+  w2c_j1 = w2c_p5;
+  w2c_j0 += w2c_j1;
+  w2c_i0 = (u32)(w2c_j0);
+  w2c_i1 = 0u;
+  i32_store8(memory, (u64)(w2c_i0), w2c_i1);
+  w2c_B4:;
+  w2c_i0 = 4u;
+  w2c_l8 = w2c_i0;
+  w2c_i0 = w2c_p6;
+  w2c_i1 = 8u;
+  w2c_i0 = w2c_i0 == w2c_i1;
+  if (w2c_i0) {goto w2c_B1;}
+  w2c_B2:;
+  w2c_i0 = w2c_p6;
+  w2c_l8 = w2c_i0;
+  w2c_B1:;
+  w2c_j0 = w2c_l7;
+  w2c_j1 = 16ull;
+  w2c_j0 += w2c_j1;
+  instance->w2c_g0 = w2c_j0;
+  w2c_i0 = w2c_l8;
+  goto w2c_Bfunc;
+  w2c_B0:;
+  UNREACHABLE;
+  w2c_Bfunc:;
+  return w2c_i0;
+}
+static u32 w2c_keywrap_rewrap_many(struct instance *instance, u64 w2c_p0, u64 w2c_p1, u64 w2c_p2, u64 w2c_p3, u64 w2c_p4, u64 w2c_p5, u32 w2c_p6, u64 w2c_p7, 
+    u64 w2c_p8) {
+  const struct memory memory = instance->w2c_memory;
+  (void)memory;
+  u32 w2c_i0, w2c_i6;
+  u64 w2c_j0, w2c_j1, w2c_j2, w2c_j3, w2c_j4, w2c_j5, w2c_j7, w2c_j8;
+  w2c_i0 = w2c_f0(instance);
+  w2c_i0 = !(w2c_i0);
+  if (w2c_i0) {goto w2c_B0;}
+  w2c_f2(instance);
+  UNREACHABLE;
+  w2c_B0:;
+  w2c_j0 = w2c_p0;
+  w2c_j1 = w2c_p1;
+  w2c_j2 = w2c_p2;
+  w2c_j3 = w2c_p3;
+  w2c_j4 = w2c_p4;
+  w2c_j5 = w2c_p5;
+  w2c_i6 = w2c_p6;
+  w2c_j7 = w2c_p7;
+  w2c_j8 = w2c_p8;
+  w2c_i0 = w2c_f46(instance, w2c_j0, w2c_j1, w2c_j2, w2c_j3, w2c_j4, w2c_j5, w2c_i6, w2c_j7, w2c_j8);
+  w2c_p6 = w2c_i0;
+  w2c_f1(instance);
+  w2c_i0 = w2c_p6;
+  return w2c_i0;
+}
+static u32 w2c_f46(struct instance *instance, u64 w2c_p0, u64 w2c_p1, u64 w2c_p2, u64 w2c_p3, u64 w2c_p4, u64 w2c_p5, u32 w2c_p6, u64 w2c_p7, 
+    u64 w2c_p8) {
+  u32 w2c_l10 = 0, w2c_l11 = 0;
+  u64 w2c_l9 = 0;
+  const struct memory memory = instance->w2c_memory;
+  (void)memory;
+  u32 w2c_i0, w2c_i1, w2c_i2, w2c_i4, w2c_i7, w2c_i8;
+  u64 w2c_j0, w2c_j1, w2c_j2, w2c_j3, w2c_j4, w2c_j5, w2c_j6, w2c_j7, 
+      w2c_j8;
+  w2c_j0 = instance->w2c_g0;
+  w2c_j1 = 992ull;
+  w2c_j0 -= w2c_j1;
+  w2c_l9 = w2c_j0;
+  instance->w2c_g0 = w2c_j0;
+  w2c_j0 = w2c_l9;
+  w2c_l9 = w2c_j0;
+  w2c_j1 = 16ull;
+  w2c_i0 = (u64)((s64)w2c_j0 < (s64)w2c_j1);
+  if (w2c_i0) {goto w2c_B0;}
+  w2c_j0 = w2c_l9;
+  w2c_j1 = 256ull;
+  w2c_j0 += w2c_j1;
+  w2c_i0 = (u32)(w2c_j0);
+  w2c_i1 = 0u;
+  w2c_j2 = 248ull;
+  w2c_i2 = (u32)(w2c_j2);
+  memory_fill(memory, w2c_i0, w2c_i1, w2c_i2);
+  w2c_j0 = w2c_l9;
+  w2c_j1 = 8ull;
+  w2c_j0 += w2c_j1;
+  w2c_i0 = (u32)(w2c_j0);
+  w2c_i1 = 0u;
+  w2c_j2 = 248ull;
+  w2c_i2 = (u32)(w2c_j2);
+  memory_fill(memory, w2c_i0, w2c_i1, w2c_i2);
+  w2c_j0 = w2c_l9;
+  w2c_j1 = 256ull;
+  w2c_j0 += w2c_j1;
+  w2c_j1 = w2c_p0;
+  w2c_j2 = 4096ull;
+  w2c_j3 = 0ull;
+  w2c_j4 = w2c_p0;
+  w2c_i4 = !(w2c_j4);
+  w2c_j2 = w2c_i4 ? w2c_j2 : w2c_j3;
+  w2c_j1 += w2c_j2;
+  w2c_j2 = w2c_p1;
+  w2c_f4(instance, w2c_j0, w2c_j1, w2c_j2);
+  w2c_i0 = 3u;
+  w2c_l10 = w2c_i0;
+  w2c_j0 = w2c_l9;
+  w2c_i0 = (u32)(w2c_j0);
+  w2c_i0 = i32_load8_u(memory, (u64)(w2c_i0) + 256u);
+  if (w2c_i0) {goto w2c_B1;}
+  w2c_j0 = w2c_l9;
+  w2c_j1 = 748ull;
+  w2c_j0 += w2c_j1;
+  w2c_i0 = (u32)(w2c_j0);
+  w2c_j1 = w2c_l9;
+  w2c_j2 = 256ull;
+  w2c_j1 += w2c_j2;
+  w2c_j2 = 4ull;
+  w2c_j1 += w2c_j2;
+  w2c_i1 = (u32)(w2c_j1);
+  w2c_j2 = 244ull;
+  w2c_i2 = (u32)(w2c_j2);
+  memory_copy(memory, memory, w2c_i0, w2c_i1, w2c_i2);
+  w2c_j0 = w2c_l9;
+  w2c_j1 = 8ull;
+  w2c_j0 += w2c_j1;
+  w2c_j1 = w2c_p2;
+  w2c_j2 = 4096ull;
+  w2c_j3 = 0ull;
+  w2c_j4 = w2c_p2;
+  w2c_i4 = !(w2c_j4);
+  w2c_j2 = w2c_i4 ? w2c_j2 : w2c_j3;
+  w2c_j1 += w2c_j2;
+  w2c_j2 = w2c_p3;
+  w2c_f4(instance, w2c_j0, w2c_j1, w2c_j2);
+  w2c_j0 = w2c_l9;
+  w2c_i0 = (u32)(w2c_j0);
+  w2c_i0 = i32_load8_u(memory, (u64)(w2c_i0) + 8u);
+  if (w2c_i0) {goto w2c_B1;}
+  w2c_j0 = w2c_l9;
+  w2c_j1 = 504ull;
+  w2c_j0 += w2c_j1;
+  w2c_i0 = (u32)(w2c_j0);
+  w2c_j1 = w2c_l9;
+  w2c_j2 = 8ull;
+  w2c_j1 += w2c_j2;
+  w2c_j2 = 4ull;
+  w2c_j1 += w2c_j2;
+  w2c_i1 = (u32)(w2c_j1);
+  w2c_j2 = 244ull;
+  w2c_i2 = (u32)(w2c_j2);
+  memory_copy(memory, memory, w2c_i0, w2c_i1, w2c_i2);
+  w2c_i0 = 4u;
+  w2c_l10 = w2c_i0;
+  w2c_j0 = w2c_p8;
+  w2c_i0 = !(w2c_j0);
+  if (w2c_i0) {goto w2c_B1;}
+  w2c_j0 = w2c_p5;
+  w2c_j1 = w2c_p5;
+  w2c_j2 = w2c_p8;
+  w2c_j1 = DIV_U(w2c_j1, w2c_j2);
+  w2c_p0 = w2c_j1;
+  w2c_j2 = w2c_p8;
+  w2c_j1 *= w2c_j2;
+  w2c_j0 -= w2c_j1;
+  w2c_j1 = 0ull;
+  w2c_i0 = w2c_j0 != w2c_j1;
+  if (w2c_i0) {goto w2c_B1;}
+  w2c_i0 = w2c_p6;
+  w2c_i1 = 15u;
+  w2c_i0 = w2c_i0 > w2c_i1;
+  if (w2c_i0) {goto w2c_B1;}
+  w2c_i0 = w2c_p6;
+  w2c_i1 = 7u;
+  w2c_i0 &= w2c_i1;
+  switch (w2c_i0) {
+    case 0: goto w2c_B4;
+    case 1: goto w2c_B5;
+    case 2: goto w2c_B4;
+    case 3: goto w2c_B5;
+    case 4: goto w2c_B6;
+    default: goto w2c_B1;
+  }
+  w2c_B6:;
+  w2c_j0 = w2c_p0;
+  w2c_j1 = 7ull;
+  w2c_j0 &= w2c_j1;
+  w2c_j1 = 0ull;
+  w2c_i0 = w2c_j0 != w2c_j1;
+  if (w2c_i0) {goto w2c_B1;}
+  w2c_j0 = w2c_p0;
+  w2c_j1 = 18446744073709551600ull;
+  w2c_j0 += w2c_j1;
+  w2c_j1 = 1048569ull;
+  w2c_i0 = w2c_j0 < w2c_j1;
+  if (w2c_i0) {goto w2c_B2;}
+  goto w2c_B1;
+  w2c_B5:;
+  w2c_j0 = w2c_p0;
+  w2c_j1 = 18446744073709551600ull;
+  w2c_j0 += w2c_j1;
+  w2c_j1 = 1048569ull;
+  w2c_i0 = w2c_j0 < w2c_j1;
+  w2c_l11 = w2c_i0;
+  goto w2c_B3;
+  w2c_B4:;
+  w2c_j0 = w2c_p0;
+  w2c_j1 = 18446744073709551592ull;
+  w2c_j0 += w2c_j1;
+  w2c_j1 = 1048561ull;
+  w2c_i0 = w2c_j0 < w2c_j1;
+  w2c_l11 = w2c_i0;
+  w2c_B3:;
+  w2c_j0 = w2c_p0;
+  w2c_j1 = 7ull;
+  w2c_j0 &= w2c_j1;
+  w2c_j1 = 0ull;
+  w2c_i0 = w2c_j0 != w2c_j1;
+  if (w2c_i0) {goto w2c_B1;}
+  w2c_i0 = w2c_l11;
+  w2c_i0 = !(w2c_i0);
+  if (w2c_i0) {goto w2c_B1;}
+  w2c_B2:;
+  w2c_j0 = w2c_l9;
+  w2c_j1 = 748ull;
+  w2c_j0 += w2c_j1;
+  w2c_j1 = w2c_l9;
+  w2c_j2 = 504ull;
+  w2c_j1 += w2c_j2;
+  w2c_i2 = w2c_p6;
+  w2c_j3 = w2c_p0;
+  w2c_j4 = w2c_p4;
+  w2c_j5 = 4096ull;
+  w2c_j6 = 0ull;
+  w2c_j7 = w2c_p4;
+  w2c_i7 = !(w2c_j7);
+  w2c_j5 = w2c_i7 ? w2c_j5 : w2c_j6;
+  w2c_j4 += w2c_j5;
+  w2c_j5 = w2c_p7;
+  w2c_j6 = 4096ull;
+  w2c_j7 = 0ull;
+  w2c_j8 = w2c_p7;
+  w2c_i8 = !(w2c_j8);
+  w2c_j6 = w2c_i8 ? w2c_j6 : w2c_j7;
+  w2c_j5 += w2c_j6;
+  w2c_j6 = w2c_p8;
+  w2c_f14(instance, w2c_j0, w2c_j1, w2c_i2, w2c_j3, w2c_j4, w2c_j5, w2c_j6);
+  w2c_i0 = 0u;
+  w2c_l10 = w2c_i0;
+  w2c_B1:;
+  w2c_j0 = w2c_l9;
+  w2c_j1 = 992ull;
+  w2c_j0 += w2c_j1;
+  instance->w2c_g0 = w2c_j0;
+  w2c_i0 = w2c_l10;
+  goto w2c_Bfunc;
+  w2c_B0:;
+  UNREACHABLE;
+  w2c_Bfunc:;
+  return w2c_i0;
+}
+static u32 w2c_keywrap_self_test(struct instance *instance) {
+  u32 w2c_l0 = 0;
+  const struct memory memory = instance->w2c_memory;
+  (void)memory;
+  u32 w2c_i0;
+  w2c_i0 = w2c_f0(instance);
+  w2c_i0 = !(w2c_i0);
+  if (w2c_i0) {goto w2c_B0;}
+  w2c_f2(instance);
+  UNREACHABLE;
+  w2c_B0:;
+  w2c_i0 = w2c_f48(instance);
+  w2c_l0 = w2c_i0;
+  w2c_f1(instance);
+  w2c_i0 = w2c_l0;
+  return w2c_i0;
+}
+static u32 w2c_f48(struct instance *instance) {
+  u32 w2c_l1 = 0, w2c_l2 = 0, w2c_l3 = 0, w2c_l4 = 0, w2c_l5 = 0, w2c_l6 = 0, w2c_l7 = 0, w2c_l8 = 0, 
+      w2c_l9 = 0;
+  u64 w2c_l0 = 0;
+  const struct memory memory = instance->w2c_memory;
+  (void)memory;
+  u32 w2c_i0, w2c_i1, w2c_i2;
+  u64 w2c_j0, w2c_j1, w2c_j2, w2c_j3, w2c_j4, w2c_j5;
+  w2c_j0 = instance->w2c_g0;
+  w2c_j1 = 544ull;
+  w2c_j0 -= w2c_j1;
+  w2c_l0 = w2c_j0;
+  instance->w2c_g0 = w2c_j0;
+  w2c_j0 = w2c_l0;
+  w2c_l0 = w2c_j0;
+  w2c_j1 = 16ull;
+  w2c_i0 = (u64)((s64)w2c_j0 < (s64)w2c_j1);
+  if (w2c_i0) {goto w2c_B0;}
+  w2c_j0 = 68136ull;
+  w2c_j1 = 16ull;
+  w2c_j2 = 68152ull;
+  w2c_j3 = 16ull;
+  w2c_j4 = 68168ull;
+  w2c_j5 = 24ull;
+  w2c_i0 = w2c_f15(instance, w2c_j0, w2c_j1, w2c_j2, w2c_j3, w2c_j4, w2c_j5);
+  w2c_l1 = w2c_i0;
+  w2c_j0 = 68192ull;
+  w2c_j1 = 24ull;
+  w2c_j2 = 68152ull;
+  w2c_j3 = 16ull;
+  w2c_j4 = 68216ull;
+  w2c_j5 = 24ull;
+  w2c_i0 = w2c_f15(instance, w2c_j0, w2c_j1, w2c_j2, w2c_j3, w2c_j4, w2c_j5);
+  w2c_l2 = w2c_i0;
+  w2c_j0 = 68240ull;
+  w2c_j1 = 32ull;
+  w2c_j2 = 68152ull;
+  w2c_j3 = 16ull;
+  w2c_j4 = 68272ull;
+  w2c_j5 = 24ull;
+  w2c_i0 = w2c_f15(instance, w2c_j0, w2c_j1, w2c_j2, w2c_j3, w2c_j4, w2c_j5);
+  w2c_l3 = w2c_i0;
+  w2c_j0 = 68192ull;
+  w2c_j1 = 24ull;
+  w2c_j2 = 68296ull;
+  w2c_j3 = 24ull;
+  w2c_j4 = 68320ull;
+  w2c_j5 = 32ull;
+  w2c_i0 = w2c_f15(instance, w2c_j0, w2c_j1, w2c_j2, w2c_j3, w2c_j4, w2c_j5);
+  w2c_l4 = w2c_i0;
+  w2c_j0 = 68240ull;
+  w2c_j1 = 32ull;
+  w2c_j2 = 68296ull;
+  w2c_j3 = 24ull;
+  w2c_j4 = 68352ull;
+  w2c_j5 = 32ull;
+  w2c_i0 = w2c_f15(instance, w2c_j0, w2c_j1, w2c_j2, w2c_j3, w2c_j4, w2c_j5);
+  w2c_l5 = w2c_i0;
+  w2c_j0 = 68240ull;
+  w2c_j1 = 32ull;
+  w2c_j2 = 68384ull;
+  w2c_j3 = 32ull;
+  w2c_j4 = 68416ull;
+  w2c_j5 = 40ull;
+  w2c_i0 = w2c_f15(instance, w2c_j0, w2c_j1, w2c_j2, w2c_j3, w2c_j4, w2c_j5);
+  w2c_l6 = w2c_i0;
+  w2c_j0 = 68480ull;
+  w2c_j1 = 20ull;
+  w2c_j2 = 68500ull;
+  w2c_j3 = 32ull;
+  w2c_i0 = w2c_f18(instance, w2c_j0, w2c_j1, w2c_j2, w2c_j3);
+  w2c_l7 = w2c_i0;
+  w2c_j0 = 68532ull;
+  w2c_j1 = 7ull;
+  w2c_j2 = 68539ull;
+  w2c_j3 = 16ull;
+  w2c_i0 = w2c_f18(instance, w2c_j0, w2c_j1, w2c_j2, w2c_j3);
+  w2c_l8 = w2c_i0;
+  w2c_j0 = w2c_l0;
+  w2c_j1 = 52ull;
+  w2c_j0 += w2c_j1;
+  w2c_i0 = (u32)(w2c_j0);
+  w2c_i1 = 0u;
+  w2c_j2 = 248ull;
+  w2c_i2 = (u32)(w2c_j2);
+  memory_fill(memory, w2c_i0, w2c_i1, w2c_i2);
+  w2c_j0 = w2c_l0;
+  w2c_j1 = 52ull;
+  w2c_j0 += w2c_j1;
+  w2c_j1 = 68136ull;
+  w2c_j2 = 16ull;
+  w2c_f4(instance, w2c_j0, w2c_j1, w2c_j2);
+  w2c_i0 = 0u;
+  w2c_l9 = w2c_i0;
+  w2c_j0 = w2c_l0;
+  w2c_i0 = (u32)(w2c_j0);
+  w2c_i0 = i32_load8_u(memory, (u64)(w2c_i0) + 52u);
+  if (w2c_i0) {goto w2c_B1;}
+  w2c_j0 = w2c_l0;
+  w2c_j1 = 300ull;
+  w2c_j0 += w2c_j1;
+  w2c_i0 = (u32)(w2c_j0);
+  w2c_j1 = w2c_l0;
+  w2c_j2 = 56ull;
+  w2c_j1 += w2c_j2;
+  w2c_i1 = (u32)(w2c_j1);
+  w2c_j2 = 244ull;
+  w2c_i2 = (u32)(w2c_j2);
+  memory_copy(memory, memory, w2c_i0, w2c_i1, w2c_i2);
+  w2c_j0 = w2c_l0;
+  w2c_i0 = (u32)(w2c_j0);
+  w2c_j1 = 0ull;
+  i64_store(memory, (u64)(w2c_i0) + 40, w2c_j1);
+  w2c_j0 = w2c_l0;
+  w2c_i0 = (u32)(w2c_j0);
+  w2c_j1 = 0ull;
+  w2c_i1 = (u32)(w2c_j1);
+  w2c_j1 = constant_i64_load((u64)(w2c_i1) + 68563u);
+  i64_store(memory, (u64)(w2c_i0) + 16, w2c_j1);
+  w2c_j0 = w2c_l0;
+  w2c_i0 = (u32)(w2c_j0);
+  w2c_j1 = 0ull;
+  w2c_i1 = (u32)(w2c_j1);
+  w2c_j1 = constant_i64_load((u64)(w2c_i1) + 68571u);
+  i64_store(memory, (u64)(w2c_i0) + 24, w2c_j1);
+  w2c_j0 = w2c_l0;
+  w2c_i0 = (u32)(w2c_j0);
+  w2c_j1 = w2c_l0;
+  w2c_j2 = 300ull;
+  w2c_j1 += w2c_j2;
+  i64_store(memory, (u64)(w2c_i0) + 32, w2c_j1);
+  w2c_j0 = w2c_l0;
+  w2c_j1 = 8ull;
+  w2c_j0 += w2c_j1;
+  w2c_j1 = w2c_l0;
+  w2c_j2 = 32ull;
+  w2c_j1 += w2c_j2;
+  w2c_j2 = 2280663138541155399ull;
+  w2c_j3 = w2c_l0;
+  w2c_j4 = 16ull;
+  w2c_j3 += w2c_j4;
+  w2c_j4 = 16ull;
+  w2c_j1 = w2c_f6(instance, w2c_j1, w2c_j2, w2c_j3, w2c_j4);
+  w2c_j2 = 12008468691120727718ull;
+  w2c_j1 ^= w2c_j2;
+  w2c_j2 = w2c_l0;
+  w2c_j3 = 16ull;
+  w2c_j2 += w2c_j3;
+  w2c_j3 = 16ull;
+  w2c_f3(instance, w2c_j0, w2c_j1, w2c_j2, w2c_j3);
+  w2c_j0 = w2c_l0;
+  w2c_i0 = (u32)(w2c_j0);
+  w2c_i0 = i32_load8_u(memory, (u64)(w2c_i0) + 9u);
+  w2c_i1 = 255u;
+  w2c_i0 &= w2c_i1;
+  w2c_i1 = 0u;
+  w2c_i0 = w2c_i0 != w2c_i1;
+  w2c_j1 = w2c_l0;
+  w2c_i1 = (u32)(w2c_j1);
+  w2c_i1 = i32_load8_u(memory, (u64)(w2c_i1) + 8u);
+  w2c_i0 &= w2c_i1;
+  w2c_l9 = w2c_i0;
+  w2c_B1:;
+  w2c_j0 = w2c_l0;
+  w2c_j1 = 544ull;
+  w2c_j0 += w2c_j1;
+  instance->w2c_g0 = w2c_j0;
+  w2c_i0 = 0u;
+  w2c_i1 = 5u;
+  w2c_i2 = w2c_l9;
+  w2c_i0 = w2c_i2 ? w2c_i0 : w2c_i1;
+  w2c_i1 = 5u;
+  w2c_i2 = w2c_l8;
+  w2c_i0 = w2c_i2 ? w2c_i0 : w2c_i1;
+  w2c_i1 = 5u;
+  w2c_i2 = w2c_l7;
+  w2c_i0 = w2c_i2 ? w2c_i0 : w2c_i1;
+  w2c_i1 = 5u;
+  w2c_i2 = w2c_l6;
+  w2c_i0 = w2c_i2 ? w2c_i0 : w2c_i1;
+  w2c_i1 = 5u;
+  w2c_i2 = w2c_l5;
+  w2c_i0 = w2c_i2 ? w2c_i0 : w2c_i1;
+  w2c_i1 = 5u;
+  w2c_i2 = w2c_l4;
+  w2c_i0 = w2c_i2 ? w2c_i0 : w2c_i1;
+  w2c_i1 = 5u;
+  w2c_i2 = w2c_l3;
+  w2c_i0 = w2c_i2 ? w2c_i0 : w2c_i1;
+  w2c_i1 = 5u;
+  w2c_i2 = w2c_l2;
+  w2c_i0 = w2c_i2 ? w2c_i0 : w2c_i1;
+  w2c_i1 = 5u;
+  w2c_i2 = w2c_l1;
+  w2c_i0 = w2c_i2 ? w2c_i0 : w2c_i1;
+  goto w2c_Bfunc;
+  w2c_B0:;
+  UNREACHABLE;
+  w2c_Bfunc:;
+  return w2c_i0;
+}
+static u64 w2c_keywrap_status_text(struct instance *instance, u32 w2c_p0, u64 w2c_p1, u64 w2c_p2) {
+  const struct memory memory = instance->w2c_memory;
+  (void)memory;
+  u32 w2c_i0;
+  u64 w2c_j0, w2c_j1, w2c_j2;
+  w2c_i0 = w2c_f0(instance);
+  w2c_i0 = !(w2c_i0);
+  if (w2c_i0) {goto w2c_B0;}
+  w2c_f2(instance);
+  UNREACHABLE;
+  w2c_B0:;
+  w2c_i0 = w2c_p0;
+  w2c_j1 = w2c_p1;
+  w2c_j2 = w2c_p2;
+  w2c_j0 = w2c_f50(instance, w2c_i0, w2c_j1, w2c_j2);
+  w2c_p2 = w2c_j0;
+  w2c_f1(instance);
+  w2c_j0 = w2c_p2;
+  return w2c_j0;
+}
+static u64 w2c_f50(struct instance *instance, u32 w2c_p0, u64 w2c_p1, u64 w2c_p2) {
+  u64 w2c_l3 = 0, w2c_l4 = 0, w2c_l5 = 0, w2c_l6 = 0, w2c_l7 = 0, w2c_l8 = 0, w2c_l9 = 0, w2c_l10 = 0, 
+      w2c_l11 = 0;
+  const struct memory memory = instance->w2c_memory;
+  (void)memory;
+  u32 w2c_i0, w2c_i1, w2c_i2, w2c_i3;
+  u64 w2c_j0, w2c_j1, w2c_j2, w2c_j3, w2c_j4;
+  w2c_j0 = instance->w2c_g0;
+  w2c_j1 = 16ull;
+  w2c_i0 = (u64)((s64)w2c_j0 < (s64)w2c_j1);
+  if (w2c_i0) {goto w2c_B0;}
+  w2c_i0 = w2c_p0;
+  w2c_i1 = 8u;
+  w2c_i0 = w2c_i0 <= w2c_i1;
+  if (w2c_i0) {goto w2c_B2;}
+  w2c_j0 = 68766ull;
+  w2c_l3 = w2c_j0;
+  w2c_j0 = 14ull;
+  w2c_l4 = w2c_j0;
+  goto w2c_B1;
+  w2c_B2:;
+  w2c_i0 = w2c_p0;
+  w2c_j0 = (u64)(w2c_i0);
+  w2c_j1 = 3ull;
+  w2c_j0 <<= (w2c_j1 & 63);
+  w2c_l5 = w2c_j0;
+  w2c_i0 = (u32)(w2c_j0);
+  w2c_j0 = constant_i64_load((u64)(w2c_i0) + 68864u);
+  w2c_l3 = w2c_j0;
+  w2c_j0 = w2c_l5;
+  w2c_i0 = (u32)(w2c_j0);
+  w2c_j0 = constant_i64_load((u64)(w2c_i0) + 68792u);
+  w2c_l4 = w2c_j0;
+  w2c_B1:;
+  w2c_j0 = w2c_p2;
+  w2c_i0 = !(w2c_j0);
+  if (w2c_i0) {goto w2c_B3;}
+  w2c_j0 = w2c_p1;
+  w2c_j1 = 4096ull;
+  w2c_j2 = 0ull;
+  w2c_j3 = w2c_p1;
+  w2c_i3 = !(w2c_j3);
+  w2c_j1 = w2c_i3 ? w2c_j1 : w2c_j2;
+  w2c_l6 = w2c_j1;
+  w2c_j0 += w2c_j1;
+  w2c_l7 = w2c_j0;
+  w2c_j1 = w2c_l3;
+  w2c_j0 -= w2c_j1;
+  w2c_j1 = w2c_l4;
+  w2c_j2 = w2c_p2;
+  w2c_j3 = 18446744073709551615ull;
+  w2c_j2 += w2c_j3;
+  w2c_p2 = w2c_j2;
+  w2c_j3 = w2c_l4;
+  w2c_j4 = w2c_p2;
+  w2c_i3 = w2c_j3 < w2c_j4;
+  w2c_j1 = w2c_i3 ? w2c_j1 : w2c_j2;
+  w2c_l8 = w2c_j1;
+  w2c_i0 = w2c_j0 >= w2c_j1;
+  if (w2c_i0) {goto w2c_B5;}
+  w2c_j0 = w2c_l8;
+  w2c_j1 = 3ull;
+  w2c_j0 &= w2c_j1;
+  w2c_l9 = w2c_j0;
+  w2c_j0 = 0ull;
+  w2c_l5 = w2c_j0;
+  w2c_j0 = w2c_l8;
+  w2c_j1 = 4ull;
+  w2c_i0 = w2c_j0 < w2c_j1;
+  if (w2c_i0) {goto w2c_B6;}
+  w2c_j0 = w2c_l8;
+  w2c_j1 = 18446744073709551612ull;
+  w2c_j0 &= w2c_j1;
+  w2c_l10 = w2c_j0;
+  w2c_j0 = 0ull;
+  w2c_l5 = w2c_j0;
+  w2c_L7: 
+    w2c_j0 = w2c_l7;
+    w2c_j1 = w2c_l5;
+    w2c_j0 += w2c_j1;
+    w2c_p2 = w2c_j0;
+    w2c_i0 = (u32)(w2c_j0);
+    w2c_j1 = w2c_l3;
+    w2c_j2 = w2c_l5;
+    w2c_j1 += w2c_j2;
+    w2c_l11 = w2c_j1;
+    w2c_i1 = (u32)(w2c_j1);
+    w2c_i1 = i32_load8_u(memory, (u64)(w2c_i1));
+    i32_store8(memory, (u64)(w2c_i0), w2c_i1);
+    w2c_j0 = w2c_p2;
+    w2c_j1 = 1ull;
+    w2c_j0 += w2c_j1;
+    w2c_i0 = (u32)(w2c_j0);
+    w2c_j1 = w2c_l11;
+    w2c_j2 = 1ull;
+    w2c_j1 += w2c_j2;
+    w2c_i1 = (u32)(w2c_j1);
+    w2c_i1 = i32_load8_u(memory, (u64)(w2c_i1));
+    i32_store8(memory, (u64)(w2c_i0), w2c_i1);
+    w2c_j0 = w2c_p2;
+    w2c_j1 = 2ull;
+    w2c_j0 += w2c_j1;
+    w2c_i0 = (u32)(w2c_j0);
+    w2c_j1 = w2c_l11;
+    w2c_j2 = 2ull;
+    w2c_j1 += w2c_j2;
+    w2c_i1 = (u32)(w2c_j1);
+    w2c_i1 = i32_load8_u(memory, (u64)(w2c_i1));
+    i32_store8(memory, (u64)(w2c_i0), w2c_i1);
+    w2c_j0 = w2c_p2;
+    w2c_j1 = 3ull;
+    w2c_j0 += w2c_j1;
+    w2c_i0 = (u32)(w2c_j0);
+    w2c_j1 = w2c_l11;
+    w2c_j2 = 3ull;
+    w2c_j1 += w2c_j2;
+    w2c_i1 = (u32)(w2c_j1);
+    w2c_i1 = i32_load8_u(memory, (u64)(w2c_i1));
+    i32_store8(memory, (u64)(w2c_i0), w2c_i1);
+    w2c_j0 = w2c_l10;
+    w2c_j1 = w2c_l5;
+    w2c_j2 = 4ull;
+    w2c_j1 += w2c_j2;
+    w2c_l5 = w2c_j1;
+    w2c_i0 = w2c_j0 != w2c_j1;
+    if (w2c_i0) {goto w2c_L7;}
+  w2c_j0 = w2c_l9;
+  w2c_i0 = !(w2c_j0);
+  if (w2c_i0) {goto w2c_B4;}
+  w2c_B6:;
+  w2c_j0 = w2c_l3;
+  w2c_j1 = w2c_l5;
+  w2c_j0 += w2c_j1;
+  w2c_p2 = w2c_j0;
+  w2c_j0 = w2c_p1;
+  w2c_j1 = w2c_l6;
+  w2c_j2 = w2c_l5;
+  w2c_j1 += w2c_j2;
+  w2c_j0 += w2c_j1;
+  w2c_l5 = w2c_j0;
+  w2c_L8: 
+    w2c_j0 = w2c_l5;
+    w2c_i0 = (u32)(w2c_j0);
+    w2c_j1 = w2c_p2;
+    w2c_i1 = (u32)(w2c_j1);
+    w2c_i1 = i32_load8_u(memory, (u64)(w2c_i1));
+    i32_store8(memory, (u64)(w2c_i0), w2c_i1);
+    w2c_j0 = w2c_l5;
+    w2c_j1 = 1ull;
+    w2c_j0 += w2c_j1;
+    w2c_l5 = w2c_j0;
+    w2c_j0 = w2c_p2;
+    w2c_j1 = 1ull;
+    w2c_j0 += w2c_j1;
+    w2c_p2 = w2c_j0;
+    w2c_j0 = w2c_l9;
+    w2c_j1 = 18446744073709551615ull;
+    w2c_j0 += w2c_j1;
+    w2c_l9 = w2c_j0;
+    w2c_j1 = 0ull;
+    w2c_i0 = w2c_j0 != w2c_j1;
+    if (w2c_i0) {goto w2c_L8;}
+    goto w2c_B4;
+  UNREACHABLE;
+  w2c_B5:;
+  w2c_j0 = w2c_l8;
+  w2c_i0 = !(w2c_j0);
+  if (w2c_i0) {goto w2c_B4;}
+  w2c_j0 = w2c_l7;
+  w2c_i0 = (u32)(w2c_j0);
+  w2c_j1 = w2c_l3;
+  w2c_i1 = (u32)(w2c_j1);
+  w2c_j2 = w2c_l8;
+  w2c_i2 = (u32)(w2c_j2);
+  memory_copy(memory, memory, w2c_i0, w2c_i1, w2c_i2);
+  w2c_B4:;
+  w2c_j0 = w2c_l7;
+  w2c_j1 = w2c_l8;
+  w2c_j0 += w2c_j1;
+  w2c_i0 = (u32)(w2c_j0);
+  w2c_i1 = 0u;
+  i32_store8(memory, (u64)(w2c_i0), w2c_i1);
+  w2c_B3:;
+  w2c_j0 = w2c_l4;
+  goto w2c_Bfunc;
+  w2c_B0:;
+  UNREACHABLE;
+  w2c_Bfunc:;
+  return w2c_j0;
+}
+#endif
+static u32 w2c_keywrap_step_unwrap(struct instance *instance, u64 w2c_p0, u64 w2c_p1, u64 w2c_p2, u64 w2c_p3) {
+  u32 w2c_l4 = 0;
+  const struct memory memory = instance->w2c_memory;
+  (void)memory;
+  u32 w2c_i0;
+  u64 w2c_j0, w2c_j1, w2c_j2, w2c_j3;
+  w2c_i0 = w2c_f0(instance);
+  w2c_i0 = !(w2c_i0);
+  if (w2c_i0) {goto w2c_B0;}
+  w2c_f2(instance);
+  UNREACHABLE;
+  w2c_B0:;
+  w2c_j0 = w2c_p0;
+  w2c_j1 = w2c_p1;
+  w2c_j2 = w2c_p2;
+  w2c_j3 = w2c_p3;
+  w2c_i0 = w2c_f52(instance, w2c_j0, w2c_j1, w2c_j2, w2c_j3);
+  w2c_l4 = w2c_i0;
+  w2c_f1(instance);
+  w2c_i0 = w2c_l4;
+  return w2c_i0;
+}
+static u32 w2c_f52(struct instance *instance, u64 w2c_p0, u64 w2c_p1, u64 w2c_p2, u64 w2c_p3) {
+  u32 w2c_l4 = 0;
+  u64 w2c_l5 = 0, w2c_l6 = 0, w2c_l7 = 0;
+  const struct memory memory = instance->w2c_memory;
+  (void)memory;
+  u32 w2c_i0, w2c_i1, w2c_i2, w2c_i3;
+  u64 w2c_j0, w2c_j1, w2c_j2, w2c_j3, w2c_j4, w2c_j5;
+  w2c_j0 = instance->w2c_g0;
+  w2c_j1 = 16ull;
+  w2c_i0 = (u64)((s64)w2c_j0 < (s64)w2c_j1);
+  if (w2c_i0) {goto w2c_B0;}
+  w2c_i0 = 4u;
+  w2c_l4 = w2c_i0;
+  w2c_j0 = w2c_p1;
+  w2c_j1 = 7ull;
+  w2c_j0 &= w2c_j1;
+  w2c_j1 = 0ull;
+  w2c_i0 = w2c_j0 != w2c_j1;
+  if (w2c_i0) {goto w2c_B1;}
+  w2c_j0 = w2c_p1;
+  w2c_j1 = 18446744073709551608ull;
+  w2c_j0 += w2c_j1;
+  w2c_j1 = 1048568ull;
+  w2c_i0 = w2c_j0 > w2c_j1;
+  if (w2c_i0) {goto w2c_B1;}
+  w2c_j0 = w2c_p2;
+  w2c_i0 = (u32)(w2c_j0);
+  w2c_j0 = i64_load(memory, (u64)(w2c_i0));
+  w2c_l5 = w2c_j0;
+  w2c_i0 = !(w2c_j0);
+  if (w2c_i0) {goto w2c_B1;}
+  w2c_j0 = 1ull;
+  w2c_j1 = w2c_p1;
+  w2c_j2 = 3ull;
+  w2c_j1 >>= (w2c_j2 & 63);
+  w2c_l6 = w2c_j1;
+  w2c_j2 = 6ull;
+  w2c_j1 *= w2c_j2;
+  w2c_j2 = w2c_p1;
+  w2c_j3 = 8ull;
+  w2c_i2 = w2c_j2 == w2c_j3;
+  w2c_j0 = w2c_i2 ? w2c_j0 : w2c_j1;
+  w2c_j1 = w2c_l5;
+  w2c_i0 = w2c_j0 < w2c_j1;
+  if (w2c_i0) {goto w2c_B1;}
+  w2c_j0 = w2c_p0;
+  w2c_j1 = 4096ull;
+  w2c_j2 = 0ull;
+  w2c_j3 = w2c_p0;
+  w2c_i3 = !(w2c_j3);
+  w2c_j1 = w2c_i3 ? w2c_j1 : w2c_j2;
+  w2c_j0 += w2c_j1;
+  w2c_l7 = w2c_j0;
+  w2c_j0 = w2c_p2;
+  w2c_i0 = (u32)(w2c_j0);
+  w2c_j1 = w2c_l5;
+  w2c_j2 = 18446744073709551615ull;
+  w2c_j1 += w2c_j2;
+  w2c_p0 = w2c_j1;
+  i64_store(memory, (u64)(w2c_i0), w2c_j1);
+  w2c_j0 = w2c_p3;
+  w2c_i0 = (u32)(w2c_j0);
+  w2c_j0 = i64_load(memory, (u64)(w2c_i0) + 8u);
+  w2c_p2 = w2c_j0;
+  w2c_j0 = w2c_p3;
+  w2c_i0 = (u32)(w2c_j0);
+  w2c_j0 = i64_load(memory, (u64)(w2c_i0));
+  w2c_l5 = w2c_j0;
+  w2c_j0 = w2c_p1;
+  w2c_j1 = 9ull;
+  w2c_i0 = w2c_j0 < w2c_j1;
+  if (w2c_i0) {goto w2c_B3;}
+  w2c_j0 = w2c_l7;
+  w2c_j1 = w2c_p0;
+  w2c_i1 = (u32)(w2c_j1);
+  w2c_j2 = w2c_l6;
+  w2c_i2 = (u32)(w2c_j2);
+  w2c_i1 = REM_U(w2c_i1, w2c_i2);
+  w2c_l4 = w2c_i1;
+  w2c_i2 = 3u;
+  w2c_i1 <<= (w2c_i2 & 31);
+  w2c_j1 = (u64)(w2c_i1);
+  w2c_l6 = w2c_j1;
+  w2c_j0 += w2c_j1;
+  w2c_i0 = (u32)(w2c_j0);
+  w2c_j1 = w2c_p2;
+  i64_store(memory, (u64)(w2c_i0), w2c_j1);
+  w2c_j0 = w2c_l5;
+  w2c_j1 = w2c_p0;
+  w2c_j2 = 56ull;
+  w2c_j1 <<= (w2c_j2 & 63);
+  w2c_j2 = w2c_p0;
+  w2c_j3 = 65280ull;
+  w2c_j2 &= w2c_j3;
+  w2c_j3 = 40ull;
+  w2c_j2 <<= (w2c_j3 & 63);
+  w2c_j1 |= w2c_j2;
+  w2c_j2 = w2c_p0;
+  w2c_j3 = 16711680ull;
+  w2c_j2 &= w2c_j3;
+  w2c_j3 = 24ull;
+  w2c_j2 <<= (w2c_j3 & 63);
+  w2c_j3 = w2c_p0;
+  w2c_j4 = 4278190080ull;
+  w2c_j3 &= w2c_j4;
+  w2c_j4 = 8ull;
+  w2c_j3 <<= (w2c_j4 & 63);
+  w2c_j2 |= w2c_j3;
+  w2c_j1 |= w2c_j2;
+  w2c_j2 = w2c_p0;
+  w2c_j3 = 8ull;
+  w2c_j2 >>= (w2c_j3 & 63);
+  w2c_j3 = 4278190080ull;
+  w2c_j2 &= w2c_j3;
+  w2c_j3 = w2c_p0;
+  w2c_j4 = 24ull;
+  w2c_j3 >>= (w2c_j4 & 63);
+  w2c_j4 = 16711680ull;
+  w2c_j3 &= w2c_j4;
+  w2c_j2 |= w2c_j3;
+  w2c_j3 = w2c_p0;
+  w2c_j4 = 40ull;
+  w2c_j3 >>= (w2c_j4 & 63);
+  w2c_j4 = 65280ull;
+  w2c_j3 &= w2c_j4;
+  w2c_j4 = w2c_p0;
+  w2c_j5 = 56ull;
+  w2c_j4 >>= (w2c_j5 & 63);
+  w2c_j3 |= w2c_j4;
+  w2c_j2 |= w2c_j3;
+  w2c_j1 |= w2c_j2;
+  w2c_j0 ^= w2c_j1;
+  w2c_l5 = w2c_j0;
+  w2c_j0 = w2c_l7;
+  w2c_j1 = w2c_l6;
+  w2c_j2 = w2c_p1;
+  w2c_i3 = w2c_l4;
+  w2c_j1 = w2c_i3 ? w2c_j1 : w2c_j2;
+  w2c_j0 += w2c_j1;
+  w2c_j1 = 18446744073709551608ull;
+  w2c_j0 += w2c_j1;
+  w2c_i0 = (u32)(w2c_j0);
+  w2c_j0 = i64_load(memory, (u64)(w2c_i0));
+  w2c_p2 = w2c_j0;
+  goto w2c_B2;
+  w2c_B3:;
+  w2c_j0 = w2c_l7;
+  w2c_i0 = (u32)(w2c_j0);
+  w2c_j1 = w2c_p2;
+  i64_store(memory, (u64)(w2c_i0), w2c_j1);
+  w2c_B2:;
+  w2c_j0 = w2c_p3;
+  w2c_i0 = (u32)(w2c_j0);
+  w2c_j1 = w2c_p2;
+  i64_store(memory, (u64)(w2c_i0) + 8, w2c_j1);
+  w2c_j0 = w2c_p3;
+  w2c_i0 = (u32)(w2c_j0);
+  w2c_j1 = w2c_l5;
+  i64_store(memory, (u64)(w2c_i0), w2c_j1);
+  w2c_i0 = 0u;
+  w2c_l4 = w2c_i0;
+  w2c_B1:;
+  w2c_i0 = w2c_l4;
+  goto w2c_Bfunc;
+  w2c_B0:;
+  UNREACHABLE;
+  w2c_Bfunc:;
+  return w2c_i0;
+}
+static u32 w2c_keywrap_step_wrap(struct instance *instance, u64 w2c_p0, u64 w2c_p1, u64 w2c_p2, u64 w2c_p3) {
+  u32 w2c_l4 = 0;
+  const struct memory memory = instance->w2c_memory;
+  (void)memory;
+  u32 w2c_i0;
+  u64 w2c_j0, w2c_j1, w2c_j2, w2c_j3;
+  w2c_i0 = w2c_f0(instance);
+  w2c_i0 = !(w2c_i0);
+  if (w2c_i0) {goto w2c_B0;}
+  w2c_f2(instance);
+  UNREACHABLE;
+  w2c_B0:;
+  w2c_j0 = w2c_p0;
+  w2c_j1 = w2c_p1;
+  w2c_j2 = w2c_p2;
+  w2c_j3 = w2c_p3;
+  w2c_i0 = w2c_f54(instance, w2c_j0, w2c_j1, w2c_j2, w2c_j3);
+  w2c_l4 = w2c_i0;
+  w2c_f1(instance);
+  w2c_i0 = w2c_l4;
+  return w2c_i0;
+}
+static u32 w2c_f54(struct instance *instance, u64 w2c_p0, u64 w2c_p1, u64 w2c_p2, u64 w2c_p3) {
+  u32 w2c_l4 = 0;
+  u64 w2c_l5 = 0, w2c_l6 = 0, w2c_l7 = 0, w2c_l8 = 0, w2c_l9 = 0;
+  const struct memory memory = instance->w2c_memory;
+  (void)memory;
+  u32 w2c_i0, w2c_i1, w2c_i2, w2c_i3;
+  u64 w2c_j0, w2c_j1, w2c_j2, w2c_j3, w2c_j4, w2c_j5;
+  w2c_j0 = instance->w2c_g0;
+  w2c_j1 = 16ull;
+  w2c_i0 = (u64)((s64)w2c_j0 < (s64)w2c_j1);
+  if (w2c_i0) {goto w2c_B0;}
+  w2c_i0 = 4u;
+  w2c_l4 = w2c_i0;
+  w2c_j0 = w2c_p1;
+  w2c_j1 = 7ull;
+  w2c_j0 &= w2c_j1;
+  w2c_j1 = 0ull;
+  w2c_i0 = w2c_j0 != w2c_j1;
+  if (w2c_i0) {goto w2c_B1;}
+  w2c_j0 = w2c_p1;
+  w2c_j1 = 18446744073709551608ull;
+  w2c_j0 += w2c_j1;
+  w2c_j1 = 1048568ull;
+  w2c_i0 = w2c_j0 > w2c_j1;
+  if (w2c_i0) {goto w2c_B1;}
+  w2c_j0 = 1ull;
+  w2c_j1 = w2c_p1;
+  w2c_j2 = 3ull;
+  w2c_j1 >>= (w2c_j2 & 63);
+  w2c_l5 = w2c_j1;
+  w2c_j2 = 6ull;
+  w2c_j1 *= w2c_j2;
+  w2c_j2 = w2c_p1;
+  w2c_j3 = 8ull;
+  w2c_i2 = w2c_j2 == w2c_j3;
+  w2c_j0 = w2c_i2 ? w2c_j0 : w2c_j1;
+  w2c_j1 = w2c_p2;
+  w2c_i1 = (u32)(w2c_j1);
+  w2c_j1 = i64_load(memory, (u64)(w2c_i1));
+  w2c_l6 = w2c_j1;
+  w2c_i0 = w2c_j0 <= w2c_j1;
+  if (w2c_i0) {goto w2c_B1;}
+  w2c_j0 = w2c_p0;
+  w2c_j1 = 4096ull;
+  w2c_j2 = 0ull;
+  w2c_j3 = w2c_p0;
+  w2c_i3 = !(w2c_j3);
+  w2c_j1 = w2c_i3 ? w2c_j1 : w2c_j2;
+  w2c_j0 += w2c_j1;
+  w2c_l7 = w2c_j0;
+  w2c_j0 = w2c_p3;
+  w2c_i0 = (u32)(w2c_j0);
+  w2c_j0 = i64_load(memory, (u64)(w2c_i0) + 8u);
+  w2c_p0 = w2c_j0;
+  w2c_j0 = w2c_p3;
+  w2c_i0 = (u32)(w2c_j0);
+  w2c_j0 = i64_load(memory, (u64)(w2c_i0));
+  w2c_l8 = w2c_j0;
+  w2c_j0 = w2c_p1;
+  w2c_j1 = 9ull;
+  w2c_i0 = w2c_j0 < w2c_j1;
+  if (w2c_i0) {goto w2c_B3;}
+  w2c_j0 = w2c_l7;
+  w2c_j1 = w2c_l6;
+  w2c_i1 = (u32)(w2c_j1);
+  w2c_j2 = w2c_l5;
+  w2c_i2 = (u32)(w2c_j2);
+  w2c_i1 = REM_U(w2c_i1, w2c_i2);
+  w2c_j1 = (u64)(w2c_i1);
+  w2c_l9 = w2c_j1;
+  w2c_j2 = 3ull;
+  w2c_j1 <<= (w2c_j2 & 63);
+  w2c_j0 += w2c_j1;
+  w2c_i0 = (u32)(w2c_j0);
+  w2c_j1 = w2c_p0;
+  i64_store(memory, (u64)(w2c_i0), w2c_j1);
+  w2c_j0 = w2c_l8;
+  w2c_j1 = w2c_l6;
+  w2c_j2 = 1ull;
+  w2c_j1 += w2c_j2;
+  w2c_p1 = w2c_j1;
+  w2c_j2 = 56ull;
+  w2c_j1 <<= (w2c_j2 & 63);
+  w2c_j2 = w2c_p1;
+  w2c_j3 = 65280ull;
+  w2c_j2 &= w2c_j3;
+  w2c_j3 = 40ull;
+  w2c_j2 <<= (w2c_j3 & 63);
+  w2c_j1 |= w2c_j2;
+  w2c_j2 = w2c_p1;
+  w2c_j3 = 16711680ull;
+  w2c_j2 &= w2c_j3;
+  w2c_j3 = 24ull;
+  w2c_j2 <<= (w2c_j3 & 63);
+  w2c_j3 = w2c_p1;
+  w2c_j4 = 4278190080ull;
+  w2c_j3 &= w2c_j4;
+  w2c_j4 = 8ull;
+  w2c_j3 <<= (w2c_j4 & 63);
+  w2c_j2 |= w2c_j3;
+  w2c_j1 |= w2c_j2;
+  w2c_j2 = w2c_p1;
+  w2c_j3 = 8ull;
+  w2c_j2 >>= (w2c_j3 & 63);
+  w2c_j3 = 4278190080ull;
+  w2c_j2 &= w2c_j3;
+  w2c_j3 = w2c_p1;
+  w2c_j4 = 24ull;
+  w2c_j3 >>= (w2c_j4 & 63);
+  w2c_j4 = 16711680ull;
+  w2c_j3 &= w2c_j4;
+  w2c_j2 |= w2c_j3;
+  w2c_j3 = w2c_p1;
+  w2c_j4 = 40ull;
+  w2c_j3 >>= (w2c_j4 & 63);
+  w2c_j4 = 65280ull;
+  w2c_j3 &= w2c_j4;
+  w2c_j4 = w2c_p1;
+  w2c_j5 = 56ull;
+  w2c_j4 >>= (w2c_j5 & 63);
+  w2c_j3 |= w2c_j4;
+  w2c_j2 |= w2c_j3;
+  w2c_j1 |= w2c_j2;
+  w2c_j0 ^= w2c_j1;
+  w2c_l8 = w2c_j0;
+  w2c_j0 = w2c_l7;
+  w2c_j1 = 0ull;
+  w2c_j2 = w2c_l9;
+  w2c_j3 = 1ull;
+  w2c_j2 += w2c_j3;
+  w2c_p1 = w2c_j2;
+  w2c_j3 = 3ull;
+  w2c_j2 <<= (w2c_j3 & 63);
+  w2c_j3 = w2c_p1;
+  w2c_j4 = w2c_l5;
+  w2c_i3 = w2c_j3 == w2c_j4;
+  w2c_j1 = w2c_i3 ? w2c_j1 : w2c_j2;
+  w2c_j0 += w2c_j1;
+  w2c_i0 = (u32)(w2c_j0);
+  w2c_j0 = i64_load(memory, (u64)(w2c_i0));
+  w2c_p0 = w2c_j0;
+  goto w2c_B2;
+  w2c_B3:;
+  w2c_j0 = w2c_l7;
+  w2c_i0 = (u32)(w2c_j0);
+  w2c_j1 = w2c_p0;
+  i64_store(memory, (u64)(w2c_i0), w2c_j1);
+  w2c_B2:;
+  w2c_j0 = w2c_p3;
+  w2c_i0 = (u32)(w2c_j0);
+  w2c_j1 = w2c_p0;
+  i64_store(memory, (u64)(w2c_i0) + 8, w2c_j1);
+  w2c_j0 = w2c_p3;
+  w2c_i0 = (u32)(w2c_j0);
+  w2c_j1 = w2c_l8;
+  i64_store(memory, (u64)(w2c_i0), w2c_j1);
+  w2c_j0 = w2c_p2;
+  w2c_i0 = (u32)(w2c_j0);
+  w2c_j1 = w2c_p2;
+  w2c_i1 = (u32)(w2c_j1);
+  w2c_j1 = i64_load(memory, (u64)(w2c_i1));
+  w2c_j2 = 1ull;
+  w2c_j1 += w2c_j2;
+  i64_store(memory, (u64)(w2c_i0), w2c_j1);
+  w2c_i0 = 0u;
+  w2c_l4 = w2c_i0;
+  w2c_B1:;
+  w2c_i0 = w2c_l4;
+  goto w2c_Bfunc;
+  w2c_B0:;
+  UNREACHABLE;
+  w2c_Bfunc:;
+  return w2c_i0;
+}
+#ifndef KEYWRAP_STEPS_ONLY
+static u32 w2c_keywrap_unwrap(struct instance *instance, u64 w2c_p0, u64 w2c_p1, u64 w2c_p2, u64 w2c_p3, u64 w2c_p4, u64 w2c_p5) {
+  u32 w2c_l6 = 0;
+  const struct memory memory = instance->w2c_memory;
+  (void)memory;
+  u32 w2c_i0;
+  u64 w2c_j0, w2c_j1, w2c_j2, w2c_j3, w2c_j4, w2c_j5;
+  w2c_i0 = w2c_f0(instance);
+  w2c_i0 = !(w2c_i0);
+  if (w2c_i0) {goto w2c_B0;}
+  w2c_f2(instance);
+  UNREACHABLE;
+  w2c_B0:;
+  w2c_j0 = w2c_p0;
+  w2c_j1 = w2c_p1;
+  w2c_j2 = w2c_p2;
+  w2c_j3 = w2c_p3;
+  w2c_j4 = w2c_p4;
+  w2c_j5 = w2c_p5;
+  w2c_i0 = w2c_f56(instance, w2c_j0, w2c_j1, w2c_j2, w2c_j3, w2c_j4, w2c_j5);
+  w2c_l6 = w2c_i0;
+  w2c_f1(instance);
+  w2c_i0 = w2c_l6;
+  return w2c_i0;
+}
+static u32 w2c_f56(struct instance *instance, u64 w2c_p0, u64 w2c_p1, u64 w2c_p2, u64 w2c_p3, u64 w2c_p4, u64 w2c_p5) {
+  const struct memory memory = instance->w2c_memory;
+  (void)memory;
+  u32 w2c_i0, w2c_i3, w2c_i5, w2c_i7;
+  u64 w2c_j0, w2c_j1, w2c_j2, w2c_j3, w2c_j4, w2c_j5, w2c_j6, w2c_j7;
+  w2c_j0 = w2c_p0;
+  w2c_j1 = 4096ull;
+  w2c_j2 = 0ull;
+  w2c_j3 = w2c_p0;
+  w2c_i3 = !(w2c_j3);
+  w2c_j1 = w2c_i3 ? w2c_j1 : w2c_j2;
+  w2c_j0 += w2c_j1;
+  w2c_j1 = w2c_p1;
+  w2c_j2 = w2c_p2;
+  w2c_j3 = 4096ull;
+  w2c_j4 = 0ull;
+  w2c_j5 = w2c_p2;
+  w2c_i5 = !(w2c_j5);
+  w2c_j3 = w2c_i5 ? w2c_j3 : w2c_j4;
+  w2c_j2 += w2c_j3;
+  w2c_j3 = w2c_p3;
+  w2c_j4 = w2c_p4;
+  w2c_j5 = 4096ull;
+  w2c_j6 = 0ull;
+  w2c_j7 = w2c_p4;
+  w2c_i7 = !(w2c_j7);
+  w2c_j5 = w2c_i7 ? w2c_j5 : w2c_j6;
+  w2c_j4 += w2c_j5;
+  w2c_j5 = w2c_p5;
+  w2c_i0 = w2c_f17(instance, w2c_j0, w2c_j1, w2c_j2, w2c_j3, w2c_j4, w2c_j5);
+  return w2c_i0;
+}
+static u32 w2c_keywrap_unwrap_any(struct instance *instance, u64 w2c_p0, u64 w2c_p1, u64 w2c_p2, u64 w2c_p3, u64 w2c_p4, u64 w2c_p5, u64 w2c_p6, u64 w2c_p7) {
+  u32 w2c_l8 = 0;
+  const struct memory memory = instance->w2c_memory;
+  (void)memory;
+  u32 w2c_i0;
+  u64 w2c_j0, w2c_j1, w2c_j2, w2c_j3, w2c_j4, w2c_j5, w2c_j6, w2c_j7;
+  w2c_i0 = w2c_f0(instance);
+  w2c_i0 = !(w2c_i0);
+  if (w2c_i0) {goto w2c_B0;}
+  w2c_f2(instance);
+  UNREACHABLE;
+  w2c_B0:;
+  w2c_j0 = w2c_p0;
+  w2c_j1 = w2c_p1;
+  w2c_j2 = w2c_p2;
+  w2c_j3 = w2c_p3;
+  w2c_j4 = w2c_p4;
+  w2c_j5 = w2c_p5;
+  w2c_j6 = w2c_p6;
+  w2c_j7 = w2c_p7;
+  w2c_i0 = w2c_f58(instance, w2c_j0, w2c_j1, w2c_j2, w2c_j3, w2c_j4, w2c_j5, w2c_j6, w2c_j7);
+  w2c_l8 = w2c_i0;
+  w2c_f1(instance);
+  w2c_i0 = w2c_l8;
+  return w2c_i0;
+}
+static u32 w2c_f58(struct instance *instance, u64 w2c_p0, u64 w2c_p1, u64 w2c_p2, u64 w2c_p3, u64 w2c_p4, u64 w2c_p5, u64 w2c_p6, u64 w2c_p7) {
+  u32 w2c_l9 = 0;
+  u64 w2c_l8 = 0;
+  const struct memory memory = instance->w2c_memory;
+  (void)memory;
+  u32 w2c_i0, w2c_i1, w2c_i2, w2c_i4, w2c_i6, w2c_i8;
+  u64 w2c_j0, w2c_j1, w2c_j2, w2c_j3, w2c_j4, w2c_j5, w2c_j6, w2c_j7, 
+      w2c_j8;
+  w2c_j0 = instance->w2c_g0;
+  w2c_j1 = 544ull;
+  w2c_j0 -= w2c_j1;
+  w2c_l8 = w2c_j0;
+  instance->w2c_g0 = w2c_j0;
+  w2c_j0 = w2c_l8;
+  w2c_l8 = w2c_j0;
+  w2c_j1 = 16ull;
+  w2c_i0 = (u64)((s64)w2c_j0 < (s64)w2c_j1);
+  if (w2c_i0) {goto w2c_B2;}
+  w2c_j0 = w2c_l8;
+  w2c_j1 = 52ull;
+  w2c_j0 += w2c_j1;
+  w2c_i0 = (u32)(w2c_j0);
+  w2c_i1 = 0u;
+  w2c_j2 = 248ull;
+  w2c_i2 = (u32)(w2c_j2);
+  memory_fill(memory, w2c_i0, w2c_i1, w2c_i2);
+  w2c_j0 = w2c_p6;
+  w2c_i0 = (u32)(w2c_j0);
+  w2c_i1 = 0u;
+  i32_store(memory, (u64)(w2c_i0), w2c_i1);
+  w2c_j0 = w2c_p7;
+  w2c_i0 = (u32)(w2c_j0);
+  w2c_j1 = 0ull;
+  i64_store(memory, (u64)(w2c_i0), w2c_j1);
+  w2c_j0 = w2c_l8;
+  w2c_i0 = (u32)(w2c_j0);
+  w2c_j1 = 0ull;
+  i64_store(memory, (u64)(w2c_i0) + 40, w2c_j1);
+  w2c_j0 = w2c_l8;
+  w2c_i0 = (u32)(w2c_j0);
+  w2c_j1 = 0ull;
+  i64_store(memory, (u64)(w2c_i0) + 32, w2c_j1);
+  w2c_j0 = w2c_l8;
+  w2c_i0 = (u32)(w2c_j0);
+  w2c_j1 = 0ull;
+  i64_store(memory, (u64)(w2c_i0) + 24, w2c_j1);
+  w2c_j0 = w2c_l8;
+  w2c_j1 = 52ull;
+  w2c_j0 += w2c_j1;
+  w2c_j1 = w2c_p0;
+  w2c_j2 = 4096ull;
+  w2c_j3 = 0ull;
+  w2c_j4 = w2c_p0;
+  w2c_i4 = !(w2c_j4);
+  w2c_j2 = w2c_i4 ? w2c_j2 : w2c_j3;
+  w2c_j1 += w2c_j2;
+  w2c_j2 = w2c_p1;
+  w2c_f4(instance, w2c_j0, w2c_j1, w2c_j2);
+  w2c_i0 = 3u;
+  w2c_l9 = w2c_i0;
+  w2c_j0 = w2c_l8;
+  w2c_i0 = (u32)(w2c_j0);
+  w2c_i0 = i32_load8_u(memory, (u64)(w2c_i0) + 52u);
+  if (w2c_i0) {goto w2c_B0;}
+  w2c_j0 = w2c_l8;
+  w2c_j1 = 300ull;
+  w2c_j0 += w2c_j1;
+  w2c_i0 = (u32)(w2c_j0);
+  w2c_j1 = w2c_l8;
+  w2c_j2 = 56ull;
+  w2c_j1 += w2c_j2;
+  w2c_i1 = (u32)(w2c_j1);
+  w2c_j2 = 244ull;
+  w2c_i2 = (u32)(w2c_j2);
+  memory_copy(memory, memory, w2c_i0, w2c_i1, w2c_i2);
+  w2c_j0 = w2c_l8;
+  w2c_i0 = (u32)(w2c_j0);
+  w2c_j1 = 0ull;
+  i64_store(memory, (u64)(w2c_i0) + 16, w2c_j1);
+  w2c_j0 = w2c_l8;
+  w2c_i0 = (u32)(w2c_j0);
+  w2c_j1 = 12008468691120727718ull;
+  i64_store(memory, (u64)(w2c_i0), w2c_j1);
+  w2c_j0 = w2c_l8;
+  w2c_i0 = (u32)(w2c_j0);
+  w2c_j1 = w2c_l8;
+  w2c_j2 = 300ull;
+  w2c_j1 += w2c_j2;
+  i64_store(memory, (u64)(w2c_i0) + 8, w2c_j1);
+  w2c_j0 = w2c_l8;
+  w2c_j1 = 24ull;
+  w2c_j0 += w2c_j1;
+  w2c_j1 = w2c_l8;
+  w2c_j2 = 8ull;
+  w2c_j1 += w2c_j2;
+  w2c_j2 = w2c_l8;
+  w2c_j3 = w2c_p2;
+  w2c_j4 = 4096ull;
+  w2c_j5 = 0ull;
+  w2c_j6 = w2c_p2;
+  w2c_i6 = !(w2c_j6);
+  w2c_j4 = w2c_i6 ? w2c_j4 : w2c_j5;
+  w2c_j3 += w2c_j4;
+  w2c_j4 = w2c_p3;
+  w2c_j5 = w2c_p4;
+  w2c_j6 = 4096ull;
+  w2c_j7 = 0ull;
+  w2c_j8 = w2c_p4;
+  w2c_i8 = !(w2c_j8);
+  w2c_j6 = w2c_i8 ? w2c_j6 : w2c_j7;
+  w2c_j5 += w2c_j6;
+  w2c_j6 = w2c_p5;
+  w2c_f5(instance, w2c_j0, w2c_j1, w2c_j2, w2c_j3, w2c_j4, w2c_j5, w2c_j6);
+  w2c_j0 = w2c_l8;
+  w2c_i0 = (u32)(w2c_j0);
+  w2c_i0 = i32_load8_u(memory, (u64)(w2c_i0) + 24u);
+  if (w2c_i0) {goto w2c_B1;}
+  w2c_j0 = w2c_p7;
+  w2c_i0 = (u32)(w2c_j0);
+  w2c_j1 = w2c_l8;
+  w2c_i1 = (u32)(w2c_j1);
+  w2c_j1 = i64_load(memory, (u64)(w2c_i1) + 40u);
+  i64_store(memory, (u64)(w2c_i0), w2c_j1);
+  w2c_i0 = 0u;
+  w2c_l9 = w2c_i0;
+  w2c_j0 = w2c_p6;
+  w2c_i0 = (u32)(w2c_j0);
+  w2c_j1 = w2c_l8;
+  w2c_i1 = (u32)(w2c_j1);
+  w2c_i1 = i32_load8_u(memory, (u64)(w2c_i1) + 32u);
+  w2c_i2 = 0u;
+  w2c_i1 = w2c_i1 != w2c_i2;
+  i32_store(memory, (u64)(w2c_i0), w2c_i1);
+  goto w2c_B0;
+  w2c_B2:;
+  UNREACHABLE;
+  w2c_B1:;
+  w2c_i0 = 5u;
+  w2c_i1 = 4u;
+  w2c_j2 = w2c_l8;
+  w2c_i2 = (u32)(w2c_j2);
+  w2c_i2 = i32_load8_u(memory, (u64)(w2c_i2) + 25u);
+  w2c_i0 = w2c_i2 ? w2c_i0 : w2c_i1;
+  w2c_l9 = w2c_i0;
+  w2c_B0:;
+  w2c_j0 = w2c_l8;
+  w2c_j1 = 544ull;
+  w2c_j0 += w2c_j1;
+  instance->w2c_g0 = w2c_j0;
+  w2c_i0 = w2c_l9;
+  return w2c_i0;
+}
+static u32 w2c_keywrap_unwrap_in_place(struct instance *instance, u64 w2c_p0, u64 w2c_p1, u64 w2c_p2, u64 w2c_p3) {
+  u32 w2c_l4 = 0;
+  const struct memory memory = instance->w2c_memory;
+  (void)memory;
+  u32 w2c_i0;
+  u64 w2c_j0, w2c_j1, w2c_j2, w2c_j3;
+  w2c_i0 = w2c_f0(instance);
+  w2c_i0 = !(w2c_i0);
+  if (w2c_i0) {goto w2c_B0;}
+  w2c_f2(instance);
+  UNREACHABLE;
+  w2c_B0:;
+  w2c_j0 = w2c_p0;
+  w2c_j1 = w2c_p1;
+  w2c_j2 = w2c_p2;
+  w2c_j3 = w2c_p3;
+  w2c_i0 = w2c_f60(instance, w2c_j0, w2c_j1, w2c_j2, w2c_j3);
+  w2c_l4 = w2c_i0;
+  w2c_f1(instance);
+  w2c_i0 = w2c_l4;
+  return w2c_i0;
+}
+static u32 w2c_f60(struct instance *instance, u64 w2c_p0, u64 w2c_p1, u64 w2c_p2, u64 w2c_p3) {
+  u32 w2c_l5 = 0;
+  u64 w2c_l4 = 0;
+  const struct memory memory = instance->w2c_memory;
+  (void)memory;
+  u32 w2c_i0, w2c_i1, w2c_i2, w2c_i3, w2c_i4;
+  u64 w2c_j0, w2c_j1, w2c_j2, w2c_j3, w2c_j4, w2c_j5, w2c_j6;
+  w2c_j0 = instance->w2c_g0;
+  w2c_j1 = 512ull;
+  w2c_j0 -= w2c_j1;
+  w2c_l4 = w2c_j0;
+  instance->w2c_g0 = w2c_j0;
+  w2c_j0 = w2c_l4;
+  w2c_l4 = w2c_j0;
+  w2c_j1 = 16ull;
+  w2c_i0 = (u64)((s64)w2c_j0 < (s64)w2c_j1);
+  if (w2c_i0) {goto w2c_B0;}
+  w2c_j0 = w2c_l4;
+  w2c_j1 = 4ull;
+  w2c_j0 += w2c_j1;
+  w2c_i0 = (u32)(w2c_j0);
+  w2c_i1 = 0u;
+  w2c_j2 = 248ull;
+  w2c_i2 = (u32)(w2c_j2);
+  memory_fill(memory, w2c_i0, w2c_i1, w2c_i2);
+  w2c_j0 = w2c_l4;
+  w2c_j1 = 4ull;
+  w2c_j0 += w2c_j1;
+  w2c_j1 = w2c_p0;
+  w2c_j2 = 4096ull;
+  w2c_j3 = 0ull;
+  w2c_j4 = w2c_p0;
+  w2c_i4 = !(w2c_j4);
+  w2c_j2 = w2c_i4 ? w2c_j2 : w2c_j3;
+  w2c_j1 += w2c_j2;
+  w2c_j2 = w2c_p1;
+  w2c_f4(instance, w2c_j0, w2c_j1, w2c_j2);
+  w2c_i0 = 3u;
+  w2c_l5 = w2c_i0;
+  w2c_j0 = w2c_l4;
+  w2c_i0 = (u32)(w2c_j0);
+  w2c_i0 = i32_load8_u(memory, (u64)(w2c_i0) + 4u);
+  if (w2c_i0) {goto w2c_B1;}
+  w2c_j0 = w2c_l4;
+  w2c_j1 = 252ull;
+  w2c_j0 += w2c_j1;
+  w2c_i0 = (u32)(w2c_j0);
+  w2c_j1 = w2c_l4;
+  w2c_j2 = 8ull;
+  w2c_j1 += w2c_j2;
+  w2c_i1 = (u32)(w2c_j1);
+  w2c_j2 = 244ull;
+  w2c_i2 = (u32)(w2c_j2);
+  memory_copy(memory, memory, w2c_i0, w2c_i1, w2c_i2);
+  w2c_j0 = w2c_l4;
+  w2c_i0 = (u32)(w2c_j0);
+  w2c_j1 = 0ull;
+  i64_store(memory, (u64)(w2c_i0) + 504, w2c_j1);
+  w2c_j0 = w2c_l4;
+  w2c_i0 = (u32)(w2c_j0);
+  w2c_j1 = w2c_l4;
+  w2c_j2 = 252ull;
+  w2c_j1 += w2c_j2;
+  i64_store(memory, (u64)(w2c_i0) + 496, w2c_j1);
+  w2c_i0 = 4u;
+  w2c_l5 = w2c_i0;
+  w2c_j0 = w2c_p3;
+  w2c_j1 = 7ull;
+  w2c_j0 &= w2c_j1;
+  w2c_j1 = 0ull;
+  w2c_i0 = w2c_j0 != w2c_j1;
+  if (w2c_i0) {goto w2c_B1;}
+  w2c_j0 = w2c_p3;
+  w2c_j1 = 18446744073709551592ull;
+  w2c_j0 += w2c_j1;
+  w2c_j1 = 1048560ull;
+  w2c_i0 = w2c_j0 > w2c_j1;
+  if (w2c_i0) {goto w2c_B1;}
+  w2c_j0 = w2c_p2;
+  w2c_j1 = 4096ull;
+  w2c_j2 = 0ull;
+  w2c_j3 = w2c_p2;
+  w2c_i3 = !(w2c_j3);
+  w2c_j1 = w2c_i3 ? w2c_j1 : w2c_j2;
+  w2c_j0 += w2c_j1;
+  w2c_p1 = w2c_j0;
+  w2c_i0 = (u32)(w2c_j0);
+  w2c_j0 = i64_load(memory, (u64)(w2c_i0));
+  w2c_p0 = w2c_j0;
+  w2c_j0 = w2c_p1;
+  w2c_i0 = (u32)(w2c_j0);
+  w2c_j1 = 0ull;
+  i64_store(memory, (u64)(w2c_i0), w2c_j1);
+  w2c_j0 = w2c_l4;
+  w2c_j1 = w2c_l4;
+  w2c_j2 = 496ull;
+  w2c_j1 += w2c_j2;
+  w2c_j2 = w2c_p0;
+  w2c_j3 = 56ull;
+  w2c_j2 <<= (w2c_j3 & 63);
+  w2c_j3 = w2c_p0;
+  w2c_j4 = 65280ull;
+  w2c_j3 &= w2c_j4;
+  w2c_j4 = 40ull;
+  w2c_j3 <<= (w2c_j4 & 63);
+  w2c_j2 |= w2c_j3;
+  w2c_j3 = w2c_p0;
+  w2c_j4 = 16711680ull;
+  w2c_j3 &= w2c_j4;
+  w2c_j4 = 24ull;
+  w2c_j3 <<= (w2c_j4 & 63);
+  w2c_j4 = w2c_p0;
+  w2c_j5 = 4278190080ull;
+  w2c_j4 &= w2c_j5;
+  w2c_j5 = 8ull;
+  w2c_j4 <<= (w2c_j5 & 63);
+  w2c_j3 |= w2c_j4;
+  w2c_j2 |= w2c_j3;
+  w2c_j3 = w2c_p0;
+  w2c_j4 = 8ull;
+  w2c_j3 >>= (w2c_j4 & 63);
+  w2c_j4 = 4278190080ull;
+  w2c_j3 &= w2c_j4;
+  w2c_j4 = w2c_p0;
+  w2c_j5 = 24ull;
+  w2c_j4 >>= (w2c_j5 & 63);
+  w2c_j5 = 16711680ull;
+  w2c_j4 &= w2c_j5;
+  w2c_j3 |= w2c_j4;
+  w2c_j4 = w2c_p0;
+  w2c_j5 = 40ull;
+  w2c_j4 >>= (w2c_j5 & 63);
+  w2c_j5 = 65280ull;
+  w2c_j4 &= w2c_j5;
+  w2c_j5 = w2c_p0;
+  w2c_j6 = 56ull;
+  w2c_j5 >>= (w2c_j6 & 63);
+  w2c_j4 |= w2c_j5;
+  w2c_j3 |= w2c_j4;
+  w2c_j2 |= w2c_j3;
+  w2c_j3 = w2c_p1;
+  w2c_j4 = 8ull;
+  w2c_j3 += w2c_j4;
+  w2c_p0 = w2c_j3;
+  w2c_j4 = w2c_p3;
+  w2c_j5 = 18446744073709551608ull;
+  w2c_j4 += w2c_j5;
+  w2c_p1 = w2c_j4;
+  w2c_j1 = w2c_f6(instance, w2c_j1, w2c_j2, w2c_j3, w2c_j4);
+  w2c_j2 = 12008468691120727718ull;
+  w2c_j1 ^= w2c_j2;
+  w2c_j2 = w2c_p0;
+  w2c_j3 = w2c_p1;
+  w2c_f3(instance, w2c_j0, w2c_j1, w2c_j2, w2c_j3);
+  w2c_i0 = 5u;
+  w2c_i1 = 4u;
+  w2c_j2 = w2c_l4;
+  w2c_i2 = (u32)(w2c_j2);
+  w2c_i2 = i32_load8_u(memory, (u64)(w2c_i2) + 1u);
+  w2c_i3 = 255u;
+  w2c_i2 &= w2c_i3;
+  w2c_i0 = w2c_i2 ? w2c_i0 : w2c_i1;
+  w2c_i1 = 0u;
+  w2c_j2 = w2c_l4;
+  w2c_i2 = (u32)(w2c_j2);
+  w2c_i2 = i32_load8_u(memory, (u64)(w2c_i2));
+  w2c_i3 = 1u;
+  w2c_i2 &= w2c_i3;
+  w2c_i0 = w2c_i2 ? w2c_i0 : w2c_i1;
+  w2c_l5 = w2c_i0;
+  w2c_B1:;
+  w2c_j0 = w2c_l4;
+  w2c_j1 = 512ull;
+  w2c_j0 += w2c_j1;
+  instance->w2c_g0 = w2c_j0;
+  w2c_i0 = w2c_l5;
+  goto w2c_Bfunc;
+  w2c_B0:;
+  UNREACHABLE;
+  w2c_Bfunc:;
+  return w2c_i0;
+}
+static u32 w2c_keywrap_unwrap_many(struct instance *instance, u64 w2c_p0, u64 w2c_p1, u64 w2c_p2, u64 w2c_p3, u32 w2c_p4, u64 w2c_p5, u64 w2c_p6, u64 w2c_p7, 
+    u64 w2c_p8) {
+  const struct memory memory = instance->w2c_memory;
+  (void)memory;
+  u32 w2c_i0, w2c_i4;
+  u64 w2c_j0, w2c_j1, w2c_j2, w2c_j3, w2c_j5, w2c_j6, w2c_j7, w2c_j8;
+  w2c_i0 = w2c_f0(instance);
+  w2c_i0 = !(w2c_i0);
+  if (w2c_i0) {goto w2c_B0;}
+  w2c_f2(instance);
+  UNREACHABLE;
+  w2c_B0:;
+  w2c_j0 = w2c_p0;
+  w2c_j1 = w2c_p1;
+  w2c_j2 = w2c_p2;
+  w2c_j3 = w2c_p3;
+  w2c_i4 = w2c_p4;
+  w2c_j5 = w2c_p5;
+  w2c_j6 = w2c_p6;
+  w2c_j7 = w2c_p7;
+  w2c_j8 = w2c_p8;
+  w2c_i0 = w2c_f62(instance, w2c_j0, w2c_j1, w2c_j2, w2c_j3, w2c_i4, w2c_j5, w2c_j6, w2c_j7, w2c_j8);
+  w2c_p4 = w2c_i0;
+  w2c_f1(instance);
+  w2c_i0 = w2c_p4;
+  return w2c_i0;
+}
+static u32 w2c_f62(struct instance *instance, u64 w2c_p0, u64 w2c_p1, u64 w2c_p2, u64 w2c_p3, u32 w2c_p4, u64 w2c_p5, u64 w2c_p6, u64 w2c_p7, 
+    u64 w2c_p8) {
+  u32 w2c_l10 = 0, w2c_l11 = 0;
+  u64 w2c_l9 = 0;
+  const struct memory memory = instance->w2c_memory;
+  (void)memory;
+  u32 w2c_i0, w2c_i1, w2c_i2, w2c_i4, w2c_i6, w2c_i7, w2c_i8;
+  u64 w2c_j0, w2c_j1, w2c_j2, w2c_j3, w2c_j4, w2c_j5, w2c_j6, w2c_j7, 
+      w2c_j8;
+  w2c_j0 = instance->w2c_g0;
+  w2c_j1 = 496ull;
+  w2c_j0 -= w2c_j1;
+  w2c_l9 = w2c_j0;
+  instance->w2c_g0 = w2c_j0;
+  w2c_j0 = w2c_l9;
+  w2c_l9 = w2c_j0;
+  w2c_j1 = 16ull;
+  w2c_i0 = (u64)((s64)w2c_j0 < (s64)w2c_j1);
+  if (w2c_i0) {goto w2c_B0;}
+  w2c_j0 = w2c_l9;
+  w2c_j1 = 4ull;
+  w2c_j0 += w2c_j1;
+  w2c_i0 = (u32)(w2c_j0);
+  w2c_i1 = 0u;
+  w2c_j2 = 248ull;
+  w2c_i2 = (u32)(w2c_j2);
+  memory_fill(memory, w2c_i0, w2c_i1, w2c_i2);
+  w2c_j0 = w2c_l9;
+  w2c_j1 = 4ull;
+  w2c_j0 += w2c_j1;
+  w2c_j1 = w2c_p0;
+  w2c_j2 = 4096ull;
+  w2c_j3 = 0ull;
+  w2c_j4 = w2c_p0;
+  w2c_i4 = !(w2c_j4);
+  w2c_j2 = w2c_i4 ? w2c_j2 : w2c_j3;
+  w2c_j1 += w2c_j2;
+  w2c_j2 = w2c_p1;
+  w2c_f4(instance, w2c_j0, w2c_j1, w2c_j2);
+  w2c_i0 = 3u;
+  w2c_l10 = w2c_i0;
+  w2c_j0 = w2c_l9;
+  w2c_i0 = (u32)(w2c_j0);
+  w2c_i0 = i32_load8_u(memory, (u64)(w2c_i0) + 4u);
+  if (w2c_i0) {goto w2c_B1;}
+  w2c_j0 = w2c_l9;
+  w2c_j1 = 252ull;
+  w2c_j0 += w2c_j1;
+  w2c_i0 = (u32)(w2c_j0);
+  w2c_j1 = w2c_l9;
+  w2c_j2 = 8ull;
+  w2c_j1 += w2c_j2;
+  w2c_i1 = (u32)(w2c_j1);
+  w2c_j2 = 244ull;
+  w2c_i2 = (u32)(w2c_j2);
+  memory_copy(memory, memory, w2c_i0, w2c_i1, w2c_i2);
+  w2c_i0 = 4u;
+  w2c_l10 = w2c_i0;
+  w2c_j0 = w2c_p8;
+  w2c_i0 = !(w2c_j0);
+  if (w2c_i0) {goto w2c_B1;}
+  w2c_j0 = w2c_p3;
+  w2c_j1 = w2c_p3;
+  w2c_j2 = w2c_p8;
+  w2c_j1 = DIV_U(w2c_j1, w2c_j2);
+  w2c_p0 = w2c_j1;
+  w2c_j2 = w2c_p8;
+  w2c_j1 *= w2c_j2;
+  w2c_j0 -= w2c_j1;
+  w2c_j1 = 0ull;
+  w2c_i0 = w2c_j0 != w2c_j1;
+  if (w2c_i0) {goto w2c_B1;}
+  w2c_i0 = 0u;
+  w2c_l11 = w2c_i0;
+  w2c_i0 = w2c_p4;
+  switch (w2c_i0) {
+    case 0: goto w2c_B2;
+    case 1: goto w2c_B3;
+    default: goto w2c_B1;
+  }
+  w2c_B3:;
+  w2c_i0 = 1u;
+  w2c_l11 = w2c_i0;
+  w2c_B2:;
+  w2c_j0 = w2c_p6;
+  w2c_j1 = w2c_p8;
+  w2c_i0 = w2c_j0 != w2c_j1;
+  if (w2c_i0) {goto w2c_B1;}
+  w2c_j0 = w2c_p0;
+  w2c_j1 = 7ull;
+  w2c_j0 &= w2c_j1;
+  w2c_j1 = 0ull;
+  w2c_i0 = w2c_j0 != w2c_j1;
+  if (w2c_i0) {goto w2c_B1;}
+  w2c_j0 = w2c_p0;
+  w2c_j1 = 18446744073709551600ull;
+  w2c_j0 += w2c_j1;
+  w2c_j1 = 1048569ull;
+  w2c_i0 = w2c_j0 < w2c_j1;
+  w2c_j1 = w2c_p0;
+  w2c_j2 = 18446744073709551592ull;
+  w2c_j1 += w2c_j2;
+  w2c_j2 = 1048561ull;
+  w2c_i1 = w2c_j1 < w2c_j2;
+  w2c_i2 = w2c_l11;
+  w2c_i0 = w2c_i2 ? w2c_i0 : w2c_i1;
+  w2c_i0 = !(w2c_i0);
+  if (w2c_i0) {goto w2c_B1;}
+  w2c_j0 = w2c_l9;
+  w2c_j1 = 252ull;
+  w2c_j0 += w2c_j1;
+  w2c_i1 = w2c_l11;
+  w2c_j2 = w2c_p0;
+  w2c_j3 = w2c_p2;
+  w2c_j4 = 4096ull;
+  w2c_j5 = 0ull;
+  w2c_j6 = w2c_p2;
+  w2c_i6 = !(w2c_j6);
+  w2c_j4 = w2c_i6 ? w2c_j4 : w2c_j5;
+  w2c_j3 += w2c_j4;
+  w2c_j4 = w2c_p5;
+  w2c_j5 = 4096ull;
+  w2c_j6 = 0ull;
+  w2c_j7 = w2c_p5;
+  w2c_i7 = !(w2c_j7);
+  w2c_j5 = w2c_i7 ? w2c_j5 : w2c_j6;
+  w2c_j4 += w2c_j5;
+  w2c_j5 = w2c_p7;
+  w2c_j6 = 4096ull;
+  w2c_j7 = 0ull;
+  w2c_j8 = w2c_p7;
+  w2c_i8 = !(w2c_j8);
+  w2c_j6 = w2c_i8 ? w2c_j6 : w2c_j7;
+  w2c_j5 += w2c_j6;
+  w2c_j6 = w2c_p8;
+  w2c_f21(instance, w2c_j0, w2c_i1, w2c_j2, w2c_j3, w2c_j4, w2c_j5, w2c_j6);
+  w2c_i0 = 0u;
+  w2c_l10 = w2c_i0;
+  w2c_B1:;
+  w2c_j0 = w2c_l9;
+  w2c_j1 = 496ull;
+  w2c_j0 += w2c_j1;
+  instance->w2c_g0 = w2c_j0;
+  w2c_i0 = w2c_l10;
+  goto w2c_Bfunc;
+  w2c_B0:;
+  UNREACHABLE;
+  w2c_Bfunc:;
+  return w2c_i0;
+}
+static u32 w2c_keywrap_unwrap_padded(struct instance *instance, u64 w2c_p0, u64 w2c_p1, u64 w2c_p2, u64 w2c_p3, u64 w2c_p4, u64 w2c_p5, u64 w2c_p6) {
+  u32 w2c_l7 = 0;
+  const struct memory memory = instance->w2c_memory;
+  (void)memory;
+  u32 w2c_i0;
+  u64 w2c_j0, w2c_j1, w2c_j2, w2c_j3, w2c_j4, w2c_j5, w2c_j6;
+  w2c_i0 = w2c_f0(instance);
+  w2c_i0 = !(w2c_i0);
+  if (w2c_i0) {goto w2c_B0;}
+  w2c_f2(instance);
+  UNREACHABLE;
+  w2c_B0:;
+  w2c_j0 = w2c_p0;
+  w2c_j1 = w2c_p1;
+  w2c_j2 = w2c_p2;
+  w2c_j3 = w2c_p3;
+  w2c_j4 = w2c_p4;
+  w2c_j5 = w2c_p5;
+  w2c_j6 = w2c_p6;
+  w2c_i0 = w2c_f64(instance, w2c_j0, w2c_j1, w2c_j2, w2c_j3, w2c_j4, w2c_j5, w2c_j6);
+  w2c_l7 = w2c_i0;
+  w2c_f1(instance);
+  w2c_i0 = w2c_l7;
+  return w2c_i0;
+}
+static u32 w2c_f64(struct instance *instance, u64 w2c_p0, u64 w2c_p1, u64 w2c_p2, u64 w2c_p3, u64 w2c_p4, u64 w2c_p5, u64 w2c_p6) {
+  const struct memory memory = instance->w2c_memory;
+  (void)memory;
+  u32 w2c_i0, w2c_i3, w2c_i5, w2c_i7;
+  u64 w2c_j0, w2c_j1, w2c_j2, w2c_j3, w2c_j4, w2c_j5, w2c_j6, w2c_j7;
+  w2c_j0 = w2c_p0;
+  w2c_j1 = 4096ull;
+  w2c_j2 = 0ull;
+  w2c_j3 = w2c_p0;
+  w2c_i3 = !(w2c_j3);
+  w2c_j1 = w2c_i3 ? w2c_j1 : w2c_j2;
+  w2c_j0 += w2c_j1;
+  w2c_j1 = w2c_p1;
+  w2c_j2 = w2c_p2;
+  w2c_j3 = 4096ull;
+  w2c_j4 = 0ull;
+  w2c_j5 = w2c_p2;
+  w2c_i5 = !(w2c_j5);
+  w2c_j3 = w2c_i5 ? w2c_j3 : w2c_j4;
+  w2c_j2 += w2c_j3;
+  w2c_j3 = w2c_p3;
+  w2c_j4 = w2c_p4;
+  w2c_j5 = 4096ull;
+  w2c_j6 = 0ull;
+  w2c_j7 = w2c_p4;
+  w2c_i7 = !(w2c_j7);
+  w2c_j5 = w2c_i7 ? w2c_j5 : w2c_j6;
+  w2c_j4 += w2c_j5;
+  w2c_j5 = w2c_p5;
+  w2c_j6 = w2c_p6;
+  w2c_i0 = w2c_f20(instance, w2c_j0, w2c_j1, w2c_j2, w2c_j3, w2c_j4, w2c_j5, w2c_j6);
+  return w2c_i0;
+}
+static u32 w2c_keywrap_unwrap_padded_in_place(struct instance *instance, u64 w2c_p0, u64 w2c_p1, u64 w2c_p2, u64 w2c_p3, u64 w2c_p4) {
+  u32 w2c_l5 = 0;
+  const struct memory memory = instance->w2c_memory;
+  (void)memory;
+  u32 w2c_i0;
+  u64 w2c_j0, w2c_j1, w2c_j2, w2c_j3, w2c_j4;
+  w2c_i0 = w2c_f0(instance);
+  w2c_i0 = !(w2c_i0);
+  if (w2c_i0) {goto w2c_B0;}
+  w2c_f2(instance);
+  UNREACHABLE;
+  w2c_B0:;
+  w2c_j0 = w2c_p0;
+  w2c_j1 = w2c_p1;
+  w2c_j2 = w2c_p2;
+  w2c_j3 = w2c_p3;
+  w2c_j4 = w2c_p4;
+  w2c_i0 = w2c_f66(instance, w2c_j0, w2c_j1, w2c_j2, w2c_j3, w2c_j4);
+  w2c_l5 = w2c_i0;
+  w2c_f1(instance);
+  w2c_i0 = w2c_l5;
+  return w2c_i0;
+}
+static u32 w2c_f66(struct instance *instance, u64 w2c_p0, u64 w2c_p1, u64 w2c_p2, u64 w2c_p3, u64 w2c_p4) {
+  u32 w2c_l8 = 0;
+  u64 w2c_l5 = 0, w2c_l6 = 0, w2c_l7 = 0;
+  const struct memory memory = instance->w2c_memory;
+  (void)memory;
+  u32 w2c_i0, w2c_i1, w2c_i2, w2c_i3, w2c_i4;
+  u64 w2c_j0, w2c_j1, w2c_j2, w2c_j3, w2c_j4, w2c_j5, w2c_j6, w2c_j7;
+  w2c_j0 = instance->w2c_g0;
+  w2c_j1 = 512ull;
+  w2c_j0 -= w2c_j1;
+  w2c_l5 = w2c_j0;
+  instance->w2c_g0 = w2c_j0;
+  w2c_j0 = w2c_l5;
+  w2c_l5 = w2c_j0;
+  w2c_j1 = 16ull;
+  w2c_i0 = (u64)((s64)w2c_j0 < (s64)w2c_j1);
+  if (w2c_i0) {goto w2c_B0;}
+  w2c_j0 = w2c_l5;
+  w2c_j1 = 4ull;
+  w2c_j0 += w2c_j1;
+  w2c_i0 = (u32)(w2c_j0);
+  w2c_i1 = 0u;
+  w2c_j2 = 248ull;
+  w2c_i2 = (u32)(w2c_j2);
+  memory_fill(memory, w2c_i0, w2c_i1, w2c_i2);
+  w2c_j0 = w2c_p4;
+  w2c_i0 = (u32)(w2c_j0);
+  w2c_j1 = 0ull;
+  i64_store(memory, (u64)(w2c_i0), w2c_j1);
+  w2c_j0 = w2c_l5;
+  w2c_j1 = 4ull;
+  w2c_j0 += w2c_j1;
+  w2c_j1 = w2c_p0;
+  w2c_j2 = 4096ull;
+  w2c_j3 = 0ull;
+  w2c_j4 = w2c_p0;
+  w2c_i4 = !(w2c_j4);
+  w2c_j2 = w2c_i4 ? w2c_j2 : w2c_j3;
+  w2c_j1 += w2c_j2;
+  w2c_j2 = w2c_p1;
+  w2c_f4(instance, w2c_j0, w2c_j1, w2c_j2);
+  w2c_i0 = 3u;
+  w2c_l8 = w2c_i0;
+  w2c_j0 = w2c_l5;
+  w2c_i0 = (u32)(w2c_j0);
+  w2c_i0 = i32_load8_u(memory, (u64)(w2c_i0) + 4u);
+  if (w2c_i0) {goto w2c_B1;}
+  w2c_j0 = w2c_l5;
+  w2c_j1 = 252ull;
+  w2c_j0 += w2c_j1;
+  w2c_i0 = (u32)(w2c_j0);
+  w2c_j1 = w2c_l5;
+  w2c_j2 = 8ull;
+  w2c_j1 += w2c_j2;
+  w2c_i1 = (u32)(w2c_j1);
+  w2c_j2 = 244ull;
+  w2c_i2 = (u32)(w2c_j2);
+  memory_copy(memory, memory, w2c_i0, w2c_i1, w2c_i2);
+  w2c_j0 = w2c_p4;
+  w2c_i0 = (u32)(w2c_j0);
+  w2c_j1 = 0ull;
+  i64_store(memory, (u64)(w2c_i0), w2c_j1);
+  w2c_j0 = w2c_l5;
+  w2c_i0 = (u32)(w2c_j0);
+  w2c_j1 = 0ull;
+  i64_store(memory, (u64)(w2c_i0) + 504, w2c_j1);
+  w2c_j0 = w2c_l5;
+  w2c_i0 = (u32)(w2c_j0);
+  w2c_j1 = w2c_l5;
+  w2c_j2 = 252ull;
+  w2c_j1 += w2c_j2;
+  i64_store(memory, (u64)(w2c_i0) + 496, w2c_j1);
+  w2c_j0 = w2c_p3;
+  w2c_j1 = 7ull;
+  w2c_j0 &= w2c_j1;
+  w2c_j1 = 0ull;
+  w2c_i0 = w2c_j0 != w2c_j1;
+  if (w2c_i0) {goto w2c_B2;}
+  w2c_j0 = w2c_p3;
+  w2c_j1 = 18446744073709551600ull;
+  w2c_j0 += w2c_j1;
+  w2c_j1 = 1048568ull;
+  w2c_i0 = w2c_j0 > w2c_j1;
+  if (w2c_i0) {goto w2c_B2;}
+  w2c_j0 = w2c_p2;
+  w2c_j1 = 4096ull;
+  w2c_j2 = 0ull;
+  w2c_j3 = w2c_p2;
+  w2c_i3 = !(w2c_j3);
+  w2c_j1 = w2c_i3 ? w2c_j1 : w2c_j2;
+  w2c_j0 += w2c_j1;
+  w2c_p2 = w2c_j0;
+  w2c_i0 = (u32)(w2c_j0);
+  w2c_j0 = i64_load(memory, (u64)(w2c_i0));
+  w2c_p0 = w2c_j0;
+  w2c_j0 = w2c_p2;
+  w2c_i0 = (u32)(w2c_j0);
+  w2c_j1 = 0ull;
+  i64_store(memory, (u64)(w2c_i0), w2c_j1);
+  w2c_j0 = w2c_p3;
+  w2c_j1 = 18446744073709551608ull;
+  w2c_j0 += w2c_j1;
+  w2c_p1 = w2c_j0;
+  w2c_j0 = w2c_l5;
+  w2c_j1 = w2c_p1;
+  w2c_j2 = w2c_l5;
+  w2c_j3 = 496ull;
+  w2c_j2 += w2c_j3;
+  w2c_j3 = w2c_p0;
+  w2c_j4 = 56ull;
+  w2c_j3 <<= (w2c_j4 & 63);
+  w2c_j4 = w2c_p0;
+  w2c_j5 = 65280ull;
+  w2c_j4 &= w2c_j5;
+  w2c_j5 = 40ull;
+  w2c_j4 <<= (w2c_j5 & 63);
+  w2c_j3 |= w2c_j4;
+  w2c_j4 = w2c_p0;
+  w2c_j5 = 16711680ull;
+  w2c_j4 &= w2c_j5;
+  w2c_j5 = 24ull;
+  w2c_j4 <<= (w2c_j5 & 63);
+  w2c_j5 = w2c_p0;
+  w2c_j6 = 4278190080ull;
+  w2c_j5 &= w2c_j6;
+  w2c_j6 = 8ull;
+  w2c_j5 <<= (w2c_j6 & 63);
+  w2c_j4 |= w2c_j5;
+  w2c_j3 |= w2c_j4;
+  w2c_j4 = w2c_p0;
+  w2c_j5 = 8ull;
+  w2c_j4 >>= (w2c_j5 & 63);
+  w2c_j5 = 4278190080ull;
+  w2c_j4 &= w2c_j5;
+  w2c_j5 = w2c_p0;
+  w2c_j6 = 24ull;
+  w2c_j5 >>= (w2c_j6 & 63);
+  w2c_j6 = 16711680ull;
+  w2c_j5 &= w2c_j6;
+  w2c_j4 |= w2c_j5;
+  w2c_j5 = w2c_p0;
+  w2c_j6 = 40ull;
+  w2c_j5 >>= (w2c_j6 & 63);
+  w2c_j6 = 65280ull;
+  w2c_j5 &= w2c_j6;
+  w2c_j6 = w2c_p0;
+  w2c_j7 = 56ull;
+  w2c_j6 >>= (w2c_j7 & 63);
+  w2c_j5 |= w2c_j6;
+  w2c_j4 |= w2c_j5;
+  w2c_j3 |= w2c_j4;
+  w2c_j4 = w2c_p2;
+  w2c_j5 = 8ull;
+  w2c_j4 += w2c_j5;
+  w2c_p3 = w2c_j4;
+  w2c_j5 = w2c_p1;
+  w2c_j2 = w2c_f6(instance, w2c_j2, w2c_j3, w2c_j4, w2c_j5);
+  w2c_p0 = w2c_j2;
+  w2c_j3 = 4294967295ull;
+  w2c_j2 &= w2c_j3;
+  w2c_l6 = w2c_j2;
+  w2c_j1 -= w2c_j2;
+  w2c_l7 = w2c_j1;
+  w2c_j2 = 3ull;
+  w2c_j1 >>= (w2c_j2 & 63);
+  w2c_j2 = w2c_p0;
+  w2c_j3 = 32ull;
+  w2c_j2 >>= (w2c_j3 & 63);
+  w2c_j3 = 2790873510ull;
+  w2c_j2 ^= w2c_j3;
+  w2c_j1 |= w2c_j2;
+  w2c_j2 = w2c_p1;
+  w2c_j3 = w2c_p2;
+  w2c_j2 += w2c_j3;
+  w2c_i2 = (u32)(w2c_j2);
+  w2c_j2 = i64_load(memory, (u64)(w2c_i2));
+  w2c_p0 = w2c_j2;
+  w2c_j3 = 56ull;
+  w2c_j2 <<= (w2c_j3 & 63);
+  w2c_j3 = w2c_p0;
+  w2c_j4 = 65280ull;
+  w2c_j3 &= w2c_j4;
+  w2c_j4 = 40ull;
+  w2c_j3 <<= (w2c_j4 & 63);
+  w2c_j2 |= w2c_j3;
+  w2c_j3 = w2c_p0;
+  w2c_j4 = 16711680ull;
+  w2c_j3 &= w2c_j4;
+  w2c_j4 = 24ull;
+  w2c_j3 <<= (w2c_j4 & 63);
+  w2c_j4 = w2c_p0;
+  w2c_j5 = 4278190080ull;
+  w2c_j4 &= w2c_j5;
+  w2c_j5 = 8ull;
+  w2c_j4 <<= (w2c_j5 & 63);
+  w2c_j3 |= w2c_j4;
+  w2c_j2 |= w2c_j3;
+  w2c_j3 = w2c_p0;
+  w2c_j4 = 8ull;
+  w2c_j3 >>= (w2c_j4 & 63);
+  w2c_j4 = 4278190080ull;
+  w2c_j3 &= w2c_j4;
+  w2c_j4 = w2c_p0;
+  w2c_j5 = 24ull;
+  w2c_j4 >>= (w2c_j5 & 63);
+  w2c_j5 = 16711680ull;
+  w2c_j4 &= w2c_j5;
+  w2c_j3 |= w2c_j4;
+  w2c_j4 = w2c_p0;
+  w2c_j5 = 40ull;
+  w2c_j4 >>= (w2c_j5 & 63);
+  w2c_j5 = 65280ull;
+  w2c_j4 &= w2c_j5;
+  w2c_j5 = w2c_p0;
+  w2c_j6 = 56ull;
+  w2c_j5 >>= (w2c_j6 & 63);
+  w2c_j4 |= w2c_j5;
+  w2c_j3 |= w2c_j4;
+  w2c_j2 |= w2c_j3;
+  w2c_j3 = 18446744073709551615ull;
+  w2c_j4 = w2c_l7;
+  w2c_j5 = 3ull;
+  w2c_j4 <<= (w2c_j5 & 63);
+  w2c_j3 <<= (w2c_j4 & 63);
+  w2c_j4 = 18446744073709551615ull;
+  w2c_j3 ^= w2c_j4;
+  w2c_j2 &= w2c_j3;
+  w2c_j1 |= w2c_j2;
+  w2c_j2 = w2c_p3;
+  w2c_j3 = w2c_p1;
+  w2c_f3(instance, w2c_j0, w2c_j1, w2c_j2, w2c_j3);
+  w2c_j0 = w2c_l5;
+  w2c_i0 = (u32)(w2c_j0);
+  w2c_i0 = i32_load8_u(memory, (u64)(w2c_i0));
+  w2c_i1 = 255u;
+  w2c_i0 &= w2c_i1;
+  if (w2c_i0) {goto w2c_B3;}
+  w2c_j0 = w2c_p4;
+  w2c_i0 = (u32)(w2c_j0);
+  w2c_j1 = w2c_l6;
+  i64_store(memory, (u64)(w2c_i0), w2c_j1);
+  w2c_i0 = 0u;
+  w2c_l8 = w2c_i0;
+  goto w2c_B1;
+  w2c_B3:;
+  w2c_i0 = 5u;
+  w2c_l8 = w2c_i0;
+  w2c_j0 = w2c_l5;
+  w2c_i0 = (u32)(w2c_j0);
+  w2c_i0 = i32_load8_u(memory, (u64)(w2c_i0) + 1u);
+  w2c_i1 = 255u;
+  w2c_i0 &= w2c_i1;
+  if (w2c_i0) {goto w2c_B1;}
+  w2c_B2:;
+  w2c_i0 = 4u;
+  w2c_l8 = w2c_i0;
+  w2c_B1:;
+  w2c_j0 = w2c_l5;
+  w2c_j1 = 512ull;
+  w2c_j0 += w2c_j1;
+  instance->w2c_g0 = w2c_j0;
+  w2c_i0 = w2c_l8;
+  goto w2c_Bfunc;
+  w2c_B0:;
+  UNREACHABLE;
+  w2c_Bfunc:;
+  return w2c_i0;
+}
+static u32 w2c_keywrap_unwrap_with(struct instance *instance, u64 w2c_p0, u64 w2c_p1, u64 w2c_p2, u64 w2c_p3, u64 w2c_p4, u64 w2c_p5, u64 w2c_p6, u64 w2c_p7) {
+  u32 w2c_l8 = 0;
+  const struct memory memory = instance->w2c_memory;
+  (void)memory;
+  u32 w2c_i0;
+  u64 w2c_j0, w2c_j1, w2c_j2, w2c_j3, w2c_j4, w2c_j5, w2c_j6, w2c_j7;
+  w2c_i0 = w2c_f0(instance);
+  w2c_i0 = !(w2c_i0);
+  if (w2c_i0) {goto w2c_B0;}
+  w2c_f2(instance);
+  UNREACHABLE;
+  w2c_B0:;
+  w2c_j0 = w2c_p0;
+  w2c_j1 = w2c_p1;
+  w2c_j2 = w2c_p2;
+  w2c_j3 = w2c_p3;
+  w2c_j4 = w2c_p4;
+  w2c_j5 = w2c_p5;
+  w2c_j6 = w2c_p6;
+  w2c_j7 = w2c_p7;
+  w2c_i0 = w2c_f68(instance, w2c_j0, w2c_j1, w2c_j2, w2c_j3, w2c_j4, w2c_j5, w2c_j6, w2c_j7);
+  w2c_l8 = w2c_i0;
+  w2c_f1(instance);
+  w2c_i0 = w2c_l8;
+  return w2c_i0;
+}
+static u32 w2c_f68(struct instance *instance, u64 w2c_p0, u64 w2c_p1, u64 w2c_p2, u64 w2c_p3, u64 w2c_p4, u64 w2c_p5, u64 w2c_p6, u64 w2c_p7) {
+  u32 w2c_l14 = 0;
+  u64 w2c_l8 = 0, w2c_l9 = 0, w2c_l10 = 0, w2c_l11 = 0, w2c_l12 = 0, w2c_l13 = 0;
+  const struct memory memory = instance->w2c_memory;
+  (void)memory;
+  u32 w2c_i0, w2c_i1, w2c_i2, w2c_i3, w2c_i4;
+  u64 w2c_j0, w2c_j1, w2c_j2, w2c_j3, w2c_j4, w2c_j5, w2c_j6;
+  w2c_j0 = instance->w2c_g0;
+  w2c_j1 = 528ull;
+  w2c_j0 -= w2c_j1;
+  w2c_l8 = w2c_j0;
+  instance->w2c_g0 = w2c_j0;
+  w2c_j0 = w2c_l8;
+  w2c_l8 = w2c_j0;
+  w2c_j1 = 16ull;
+  w2c_i0 = (u64)((s64)w2c_j0 < (s64)w2c_j1);
+  if (w2c_i0) {goto w2c_B0;}
+  w2c_j0 = w2c_l8;
+  w2c_j1 = 36ull;
+  w2c_j0 += w2c_j1;
+  w2c_i0 = (u32)(w2c_j0);
+  w2c_i1 = 0u;
+  w2c_j2 = 248ull;
+  w2c_i2 = (u32)(w2c_j2);
+  memory_fill(memory, w2c_i0, w2c_i1, w2c_i2);
+  w2c_i0 = 2u;
+  w2c_l14 = w2c_i0;
+  w2c_j0 = w2c_p3;
+  w2c_j1 = 8ull;
+  w2c_i0 = w2c_j0 != w2c_j1;
+  if (w2c_i0) {goto w2c_B1;}
+  w2c_j0 = w2c_p2;
+  w2c_j1 = 4096ull;
+  w2c_j2 = 0ull;
+  w2c_j3 = w2c_p2;
+  w2c_i3 = !(w2c_j3);
+  w2c_j1 = w2c_i3 ? w2c_j1 : w2c_j2;
+  w2c_j0 += w2c_j1;
+  w2c_i0 = (u32)(w2c_j0);
+  w2c_j0 = i64_load(memory, (u64)(w2c_i0));
+  w2c_p2 = w2c_j0;
+  w2c_j1 = 56ull;
+  w2c_j0 <<= (w2c_j1 & 63);
+  w2c_j1 = w2c_p2;
+  w2c_j2 = 65280ull;
+  w2c_j1 &= w2c_j2;
+  w2c_j2 = 40ull;
+  w2c_j1 <<= (w2c_j2 & 63);
+  w2c_j0 |= w2c_j1;
+  w2c_j1 = w2c_p2;
+  w2c_j2 = 16711680ull;
+  w2c_j1 &= w2c_j2;
+  w2c_j2 = 24ull;
+  w2c_j1 <<= (w2c_j2 & 63);
+  w2c_j2 = w2c_p2;
+  w2c_j3 = 4278190080ull;
+  w2c_j2 &= w2c_j3;
+  w2c_j3 = 8ull;
+  w2c_j2 <<= (w2c_j3 & 63);
+  w2c_j1 |= w2c_j2;
+  w2c_j0 |= w2c_j1;
+  w2c_j1 = w2c_p2;
+  w2c_j2 = 8ull;
+  w2c_j1 >>= (w2c_j2 & 63);
+  w2c_j2 = 4278190080ull;
+  w2c_j1 &= w2c_j2;
+  w2c_j2 = w2c_p2;
+  w2c_j3 = 24ull;
+  w2c_j2 >>= (w2c_j3 & 63);
+  w2c_j3 = 16711680ull;
+  w2c_j2 &= w2c_j3;
+  w2c_j1 |= w2c_j2;
+  w2c_j2 = w2c_p2;
+  w2c_j3 = 40ull;
+  w2c_j2 >>= (w2c_j3 & 63);
+  w2c_j3 = 65280ull;
+  w2c_j2 &= w2c_j3;
+  w2c_j3 = w2c_p2;
+  w2c_j4 = 56ull;
+  w2c_j3 >>= (w2c_j4 & 63);
+  w2c_j2 |= w2c_j3;
+  w2c_j1 |= w2c_j2;
+  w2c_j0 |= w2c_j1;
+  w2c_l9 = w2c_j0;
+  w2c_j1 = 18446744069414584320ull;
+  w2c_j0 &= w2c_j1;
+  w2c_j1 = 11986710452722728960ull;
+  w2c_i0 = w2c_j0 == w2c_j1;
+  if (w2c_i0) {goto w2c_B1;}
+  w2c_j0 = w2c_l8;
+  w2c_j1 = 36ull;
+  w2c_j0 += w2c_j1;
+  w2c_j1 = w2c_p0;
+  w2c_j2 = 4096ull;
+  w2c_j3 = 0ull;
+  w2c_j4 = w2c_p0;
+  w2c_i4 = !(w2c_j4);
+  w2c_j2 = w2c_i4 ? w2c_j2 : w2c_j3;
+  w2c_j1 += w2c_j2;
+  w2c_j2 = w2c_p1;
+  w2c_f4(instance, w2c_j0, w2c_j1, w2c_j2);
+  w2c_i0 = 3u;
+  w2c_l14 = w2c_i0;
+  w2c_j0 = w2c_l8;
+  w2c_i0 = (u32)(w2c_j0);
+  w2c_i0 = i32_load8_u(memory, (u64)(w2c_i0) + 36u);
+  if (w2c_i0) {goto w2c_B1;}
+  w2c_j0 = w2c_l8;
+  w2c_j1 = 284ull;
+  w2c_j0 += w2c_j1;
+  w2c_i0 = (u32)(w2c_j0);
+  w2c_j1 = w2c_l8;
+  w2c_j2 = 40ull;
+  w2c_j1 += w2c_j2;
+  w2c_i1 = (u32)(w2c_j1);
+  w2c_j2 = 244ull;
+  w2c_i2 = (u32)(w2c_j2);
+  memory_copy(memory, memory, w2c_i0, w2c_i1, w2c_i2);
+  w2c_j0 = w2c_l8;
+  w2c_i0 = (u32)(w2c_j0);
+  w2c_j1 = 0ull;
+  i64_store(memory, (u64)(w2c_i0) + 24, w2c_j1);
+  w2c_j0 = w2c_l8;
+  w2c_i0 = (u32)(w2c_j0);
+  w2c_j1 = w2c_l8;
+  w2c_j2 = 284ull;
+  w2c_j1 += w2c_j2;
+  i64_store(memory, (u64)(w2c_i0) + 16, w2c_j1);
+  w2c_i0 = 4u;
+  w2c_l14 = w2c_i0;
+  w2c_j0 = w2c_p5;
+  w2c_j1 = 7ull;
+  w2c_j0 &= w2c_j1;
+  w2c_j1 = 0ull;
+  w2c_i0 = w2c_j0 != w2c_j1;
+  if (w2c_i0) {goto w2c_B1;}
+  w2c_j0 = w2c_p5;
+  w2c_j1 = 18446744073709551592ull;
+  w2c_j0 += w2c_j1;
+  w2c_j1 = 1048560ull;
+  w2c_i0 = w2c_j0 > w2c_j1;
+  if (w2c_i0) {goto w2c_B1;}
+  w2c_j0 = w2c_p7;
+  w2c_j1 = w2c_p5;
+  w2c_j2 = 18446744073709551608ull;
+  w2c_j1 += w2c_j2;
+  w2c_i0 = w2c_j0 != w2c_j1;
+  if (w2c_i0) {goto w2c_B1;}
+  w2c_j0 = w2c_p6;
+  w2c_j1 = 4096ull;
+  w2c_j2 = 0ull;
+  w2c_j3 = w2c_p6;
+  w2c_i3 = !(w2c_j3);
+  w2c_j1 = w2c_i3 ? w2c_j1 : w2c_j2;
+  w2c_l10 = w2c_j1;
+  w2c_j0 += w2c_j1;
+  w2c_p5 = w2c_j0;
+  w2c_j1 = w2c_p4;
+  w2c_j2 = 4096ull;
+  w2c_j3 = 0ull;
+  w2c_j4 = w2c_p4;
+  w2c_i4 = !(w2c_j4);
+  w2c_j2 = w2c_i4 ? w2c_j2 : w2c_j3;
+  w2c_l11 = w2c_j2;
+  w2c_j1 += w2c_j2;
+  w2c_l12 = w2c_j1;
+  w2c_j2 = 8ull;
+  w2c_j1 += w2c_j2;
+  w2c_p2 = w2c_j1;
+  w2c_j0 -= w2c_j1;
+  w2c_j1 = w2c_p7;
+  w2c_i0 = w2c_j0 >= w2c_j1;
+  if (w2c_i0) {goto w2c_B3;}
+  w2c_j0 = w2c_p7;
+  w2c_j1 = 3ull;
+  w2c_j0 &= w2c_j1;
+  w2c_p1 = w2c_j0;
+  w2c_j0 = 0ull;
+  w2c_p3 = w2c_j0;
+  w2c_j0 = w2c_p7;
+  w2c_j1 = 4ull;
+  w2c_i0 = w2c_j0 < w2c_j1;
+  if (w2c_i0) {goto w2c_B4;}
+  w2c_j0 = w2c_p7;
+  w2c_j1 = 18446744073709551612ull;
+  w2c_j0 &= w2c_j1;
+  w2c_l13 = w2c_j0;
+  w2c_j0 = 0ull;
+  w2c_p3 = w2c_j0;
+  w2c_L5: 
+    w2c_j0 = w2c_p5;
+    w2c_j1 = w2c_p3;
+    w2c_j0 += w2c_j1;
+    w2c_p2 = w2c_j0;
+    w2c_i0 = (u32)(w2c_j0);
+    w2c_j1 = w2c_l12;
+    w2c_j2 = w2c_p3;
+    w2c_j1 += w2c_j2;
+    w2c_p0 = w2c_j1;
+    w2c_j2 = 8ull;
+    w2c_j1 += w2c_j2;
+    w2c_i1 = (u32)(w2c_j1);
+    w2c_i1 = i32_load8_u(memory, (u64)(w2c_i1));
+    i32_store8(memory, (u64)(w2c_i0), w2c_i1);
+    w2c_j0 = w2c_p2;
+    w2c_j1 = 1ull;
+    w2c_j0 += w2c_j1;
+    w2c_i0 = (u32)(w2c_j0);
+    w2c_j1 = w2c_p0;
+    w2c_j2 = 9ull;
+    w2c_j1 += w2c_j2;
+    w2c_i1 = (u32)(w2c_j1);
+    w2c_i1 = i32_load8_u(memory, (u64)(w2c_i1));
+    i32_store8(memory, (u64)(w2c_i0), w2c_i1);
+    w2c_j0 = w2c_p2;
+    w2c_j1 = 2ull;
+    w2c_j0 += w2c_j1;
+    w2c_i0 = (u32)(w2c_j0);
+    w2c_j1 = w2c_p0;
+    w2c_j2 = 10ull;
+    w2c_j1 += w2c_j2;
+    w2c_i1 = (u32)(w2c_j1);
+    w2c_i1 = i32_load8_u(memory, (u64)(w2c_i1));
+    i32_store8(memory, (u64)(w2c_i0), w2c_i1);
+    w2c_j0 = w2c_p2;
+    w2c_j1 = 3ull;
+    w2c_j0 += w2c_j1;
+    w2c_i0 = (u32)(w2c_j0);
+    w2c_j1 = w2c_p0;
+    w2c_j2 = 11ull;
+    w2c_j1 += w2c_j2;
+    w2c_i1 = (u32)(w2c_j1);
+    w2c_i1 = i32_load8_u(memory, (u64)(w2c_i1));
+    i32_store8(memory, (u64)(w2c_i0), w2c_i1);
+    w2c_j0 = w2c_l13;
+    w2c_j1 = w2c_p3;
+    w2c_j2 = 4ull;
+    w2c_j1 += w2c_j2;
+    w2c_p3 = w2c_j1;
+    w2c_i0 = w2c_j0 != w2c_j1;
+    if (w2c_i0) {goto w2c_L5;}
+  w2c_j0 = w2c_p1;
+  w2c_i0 = !(w2c_j0);
+  if (w2c_i0) {goto w2c_B2;}
+  w2c_B4:;
+  w2c_j0 = w2c_p6;
+  w2c_j1 = w2c_l10;
+  w2c_j2 = w2c_p3;
+  w2c_j1 += w2c_j2;
+  w2c_j0 += w2c_j1;
+  w2c_p2 = w2c_j0;
+  w2c_j0 = w2c_l11;
+  w2c_j1 = w2c_p3;
+  w2c_j0 += w2c_j1;
+  w2c_j1 = w2c_p4;
+  w2c_j0 += w2c_j1;
+  w2c_j1 = 8ull;
+  w2c_j0 += w2c_j1;
+  w2c_p3 = w2c_j0;
+  w2c_L6: 
+    w2c_j0 = w2c_p2;
+    w2c_i0 = (u32)(w2c_j0);
+    w2c_j1 = w2c_p3;
+    w2c_i1 = (u32)(w2c_j1);
+    w2c_i1 = i32_load8_u(memory, (u64)(w2c_i1));
+    i32_store8(memory, (u64)(w2c_i0), w2c_i1);
+    w2c_j0 = w2c_p2;
+    w2c_j1 = 1ull;
+    w2c_j0 += w2c_j1;
+    w2c_p2 = w2c_j0;
+    w2c_j0 = w2c_p3;
+    w2c_j1 = 1ull;
+    w2c_j0 += w2c_j1;
+    w2c_p3 = w2c_j0;
+    w2c_j0 = w2c_p1;
+    w2c_j1 = 18446744073709551615ull;
+    w2c_j0 += w2c_j1;
+    w2c_p1 = w2c_j0;
+    w2c_j1 = 0ull;
+    w2c_i0 = w2c_j0 != w2c_j1;
+    if (w2c_i0) {goto w2c_L6;}
+    goto w2c_B2;
+  UNREACHABLE;
+  w2c_B3:;
+  w2c_j0 = w2c_p7;
+  w2c_i0 = !(w2c_j0);
+  if (w2c_i0) {goto w2c_B2;}
+  w2c_j0 = w2c_p5;
+  w2c_i0 = (u32)(w2c_j0);
+  w2c_j1 = w2c_p2;
+  w2c_i1 = (u32)(w2c_j1);
+  w2c_j2 = w2c_p7;
+  w2c_i2 = (u32)(w2c_j2);
+  memory_copy(memory, memory, w2c_i0, w2c_i1, w2c_i2);
+  w2c_B2:;
+  w2c_j0 = w2c_l8;
+  w2c_j1 = 8ull;
+  w2c_j0 += w2c_j1;
+  w2c_j1 = w2c_l8;
+  w2c_j2 = 16ull;
+  w2c_j1 += w2c_j2;
+  w2c_j2 = w2c_l12;
+  w2c_i2 = (u32)(w2c_j2);
+  w2c_j2 = i64_load(memory, (u64)(w2c_i2));
+  w2c_p2 = w2c_j2;
+  w2c_j3 = 56ull;
+  w2c_j2 <<= (w2c_j3 & 63);
+  w2c_j3 = w2c_p2;
+  w2c_j4 = 65280ull;
+  w2c_j3 &= w2c_j4;
+  w2c_j4 = 40ull;
+  w2c_j3 <<= (w2c_j4 & 63);
+  w2c_j2 |= w2c_j3;
+  w2c_j3 = w2c_p2;
+  w2c_j4 = 16711680ull;
+  w2c_j3 &= w2c_j4;
+  w2c_j4 = 24ull;
+  w2c_j3 <<= (w2c_j4 & 63);
+  w2c_j4 = w2c_p2;
+  w2c_j5 = 4278190080ull;
+  w2c_j4 &= w2c_j5;
+  w2c_j5 = 8ull;
+  w2c_j4 <<= (w2c_j5 & 63);
+  w2c_j3 |= w2c_j4;
+  w2c_j2 |= w2c_j3;
+  w2c_j3 = w2c_p2;
+  w2c_j4 = 8ull;
+  w2c_j3 >>= (w2c_j4 & 63);
+  w2c_j4 = 4278190080ull;
+  w2c_j3 &= w2c_j4;
+  w2c_j4 = w2c_p2;
+  w2c_j5 = 24ull;
+  w2c_j4 >>= (w2c_j5 & 63);
+  w2c_j5 = 16711680ull;
+  w2c_j4 &= w2c_j5;
+  w2c_j3 |= w2c_j4;
+  w2c_j4 = w2c_p2;
+  w2c_j5 = 40ull;
+  w2c_j4 >>= (w2c_j5 & 63);
+  w2c_j5 = 65280ull;
+  w2c_j4 &= w2c_j5;
+  w2c_j5 = w2c_p2;
+  w2c_j6 = 56ull;
+  w2c_j5 >>= (w2c_j6 & 63);
+  w2c_j4 |= w2c_j5;
+  w2c_j3 |= w2c_j4;
+  w2c_j2 |= w2c_j3;
+  w2c_j3 = w2c_p5;
+  w2c_j4 = w2c_p7;
+  w2c_j1 = w2c_f6(instance, w2c_j1, w2c_j2, w2c_j3, w2c_j4);
+  w2c_j2 = w2c_l9;
+  w2c_j1 ^= w2c_j2;
+  w2c_j2 = w2c_p5;
+  w2c_j3 = w2c_p7;
+  w2c_f3(instance, w2c_j0, w2c_j1, w2c_j2, w2c_j3);
+  w2c_i0 = 5u;
+  w2c_i1 = 4u;
+  w2c_j2 = w2c_l8;
+  w2c_i2 = (u32)(w2c_j2);
+  w2c_i2 = i32_load8_u(memory, (u64)(w2c_i2) + 9u);
+  w2c_i3 = 255u;
+  w2c_i2 &= w2c_i3;
+  w2c_i0 = w2c_i2 ? w2c_i0 : w2c_i1;
+  w2c_i1 = 0u;
+  w2c_j2 = w2c_l8;
+  w2c_i2 = (u32)(w2c_j2);
+  w2c_i2 = i32_load8_u(memory, (u64)(w2c_i2) + 8u);
+  w2c_i3 = 1u;
+  w2c_i2 &= w2c_i3;
+  w2c_i0 = w2c_i2 ? w2c_i0 : w2c_i1;
+  w2c_l14 = w2c_i0;
+  w2c_B1:;
+  w2c_j0 = w2c_l8;
+  w2c_j1 = 528ull;
+  w2c_j0 += w2c_j1;
+  instance->w2c_g0 = w2c_j0;
+  w2c_i0 = w2c_l14;
+  goto w2c_Bfunc;
+  w2c_B0:;
+  UNREACHABLE;
+  w2c_Bfunc:;
+  return w2c_i0;
+}
+static u32 w2c_keywrap_version(struct instance *instance) {
+  const struct memory memory = instance->w2c_memory;
+  (void)memory;
+  u32 w2c_i0;
+  w2c_i0 = w2c_f0(instance);
+  w2c_i0 = !(w2c_i0);
+  if (w2c_i0) {goto w2c_B0;}
+  w2c_f2(instance);
+  UNREACHABLE;
+  w2c_B0:;
+  w2c_f70(instance);
+  w2c_f1(instance);
+  w2c_i0 = 65792u;
+  return w2c_i0;
+}
+static void w2c_f70(struct instance *instance) {
+  const struct memory memory = instance->w2c_memory;
+  (void)memory;
+  u32 w2c_i0;
+  u64 w2c_j0, w2c_j1;
+  w2c_j0 = instance->w2c_g0;
+  w2c_j1 = 15ull;
+  w2c_i0 = (u64)((s64)w2c_j0 > (s64)w2c_j1);
+  if (w2c_i0) {goto w2c_B0;}
+  UNREACHABLE;
+  w2c_B0:;
+}
+static u32 w2c_keywrap_wrap(struct instance *instance, u64 w2c_p0, u64 w2c_p1, u64 w2c_p2, u64 w2c_p3, u64 w2c_p4, u64 w2c_p5) {
+  u32 w2c_l6 = 0;
+  const struct memory memory = instance->w2c_memory;
+  (void)memory;
+  u32 w2c_i0;
+  u64 w2c_j0, w2c_j1, w2c_j2, w2c_j3, w2c_j4, w2c_j5;
+  w2c_i0 = w2c_f0(instance);
+  w2c_i0 = !(w2c_i0);
+  if (w2c_i0) {goto w2c_B0;}
+  w2c_f2(instance);
+  UNREACHABLE;
+  w2c_B0:;
+  w2c_j0 = w2c_p0;
+  w2c_j1 = w2c_p1;
+  w2c_j2 = w2c_p2;
+  w2c_j3 = w2c_p3;
+  w2c_j4 = w2c_p4;
+  w2c_j5 = w2c_p5;
+  w2c_i0 = w2c_f72(instance, w2c_j0, w2c_j1, w2c_j2, w2c_j3, w2c_j4, w2c_j5);
+  w2c_l6 = w2c_i0;
+  w2c_f1(instance);
+  w2c_i0 = w2c_l6;
+  return w2c_i0;
+}
+static u32 w2c_f72(struct instance *instance, u64 w2c_p0, u64 w2c_p1, u64 w2c_p2, u64 w2c_p3, u64 w2c_p4, u64 w2c_p5) {
+  u32 w2c_l9 = 0;
+  u64 w2c_l6 = 0, w2c_l7 = 0, w2c_l8 = 0;
+  const struct memory memory = instance->w2c_memory;
+  (void)memory;
+  u32 w2c_i0, w2c_i1, w2c_i2, w2c_i3, w2c_i4;
+  u64 w2c_j0, w2c_j1, w2c_j2, w2c_j3, w2c_j4, w2c_j5;
+  w2c_j0 = instance->w2c_g0;
+  w2c_j1 = 512ull;
+  w2c_j0 -= w2c_j1;
+  w2c_l6 = w2c_j0;
+  instance->w2c_g0 = w2c_j0;
+  w2c_j0 = w2c_l6;
+  w2c_l7 = w2c_j0;
+  w2c_j1 = 16ull;
+  w2c_i0 = (u64)((s64)w2c_j0 < (s64)w2c_j1);
+  if (w2c_i0) {goto w2c_B0;}
+  w2c_j0 = w2c_l7;
+  w2c_j1 = 20ull;
+  w2c_j0 += w2c_j1;
+  w2c_i0 = (u32)(w2c_j0);
+  w2c_i1 = 0u;
+  w2c_j2 = 248ull;
+  w2c_i2 = (u32)(w2c_j2);
+  memory_fill(memory, w2c_i0, w2c_i1, w2c_i2);
+  w2c_j0 = w2c_l7;
+  w2c_j1 = 20ull;
+  w2c_j0 += w2c_j1;
+  w2c_j1 = w2c_p0;
+  w2c_j2 = 4096ull;
+  w2c_j3 = 0ull;
+  w2c_j4 = w2c_p0;
+  w2c_i4 = !(w2c_j4);
+  w2c_j2 = w2c_i4 ? w2c_j2 : w2c_j3;
+  w2c_j1 += w2c_j2;
+  w2c_j2 = w2c_p1;
+  w2c_f4(instance, w2c_j0, w2c_j1, w2c_j2);
+  w2c_i0 = 3u;
+  w2c_l9 = w2c_i0;
+  w2c_j0 = w2c_l7;
+  w2c_i0 = (u32)(w2c_j0);
+  w2c_i0 = i32_load8_u(memory, (u64)(w2c_i0) + 20u);
+  if (w2c_i0) {goto w2c_B1;}
+  w2c_j0 = w2c_l7;
+  w2c_j1 = 268ull;
+  w2c_j0 += w2c_j1;
+  w2c_i0 = (u32)(w2c_j0);
+  w2c_j1 = w2c_l7;
+  w2c_j2 = 24ull;
+  w2c_j1 += w2c_j2;
+  w2c_i1 = (u32)(w2c_j1);
+  w2c_j2 = 244ull;
+  w2c_i2 = (u32)(w2c_j2);
+  memory_copy(memory, memory, w2c_i0, w2c_i1, w2c_i2);
+  w2c_j0 = w2c_l7;
+  w2c_i0 = (u32)(w2c_j0);
+  w2c_j1 = 0ull;
+  i64_store(memory, (u64)(w2c_i0) + 8, w2c_j1);
+  w2c_j0 = w2c_l7;
+  w2c_i0 = (u32)(w2c_j0);
+  w2c_j1 = w2c_l7;
+  w2c_j2 = 268ull;
+  w2c_j1 += w2c_j2;
+  i64_store(memory, (u64)(w2c_i0), w2c_j1);
+  w2c_i0 = 4u;
+  w2c_l9 = w2c_i0;
+  w2c_j0 = w2c_p3;
+  w2c_j1 = 7ull;
+  w2c_j0 &= w2c_j1;
+  w2c_j1 = 0ull;
+  w2c_i0 = w2c_j0 != w2c_j1;
+  if (w2c_i0) {goto w2c_B1;}
+  w2c_j0 = w2c_p3;
+  w2c_j1 = 18446744073709551600ull;
+  w2c_j0 += w2c_j1;
+  w2c_j1 = 1048560ull;
+  w2c_i0 = w2c_j0 > w2c_j1;
+  if (w2c_i0) {goto w2c_B1;}
+  w2c_j0 = w2c_p5;
+  w2c_j1 = w2c_p3;
+  w2c_j2 = 8ull;
+  w2c_j1 += w2c_j2;
+  w2c_i0 = w2c_j0 != w2c_j1;
+  if (w2c_i0) {goto w2c_B1;}
+  w2c_j0 = w2c_p4;
+  w2c_j1 = 4096ull;
+  w2c_j2 = 0ull;
+  w2c_j3 = w2c_p4;
+  w2c_i3 = !(w2c_j3);
+  w2c_j1 = w2c_i3 ? w2c_j1 : w2c_j2;
+  w2c_j0 += w2c_j1;
+  w2c_p4 = w2c_j0;
+  w2c_j1 = 8ull;
+  w2c_j0 += w2c_j1;
+  w2c_l8 = w2c_j0;
+  w2c_j1 = w2c_p2;
+  w2c_j2 = 4096ull;
+  w2c_j3 = 0ull;
+  w2c_j4 = w2c_p2;
+  w2c_i4 = !(w2c_j4);
+  w2c_j2 = w2c_i4 ? w2c_j2 : w2c_j3;
+  w2c_j1 += w2c_j2;
+  w2c_p2 = w2c_j1;
+  w2c_j0 -= w2c_j1;
+  w2c_j1 = w2c_p3;
+  w2c_i0 = w2c_j0 >= w2c_j1;
+  if (w2c_i0) {goto w2c_B3;}
+  w2c_j0 = 0ull;
+  w2c_p0 = w2c_j0;
+  w2c_L4: 
+    w2c_j0 = w2c_p4;
+    w2c_j1 = w2c_p0;
+    w2c_j0 += w2c_j1;
+    w2c_l6 = w2c_j0;
+    w2c_j1 = 8ull;
+    w2c_j0 += w2c_j1;
+    w2c_i0 = (u32)(w2c_j0);
+    w2c_j1 = w2c_p2;
+    w2c_j2 = w2c_p0;
+    w2c_j1 += w2c_j2;
+    w2c_p1 = w2c_j1;
+    w2c_i1 = (u32)(w2c_j1);
+    w2c_i1 = i32_load8_u(memory, (u64)(w2c_i1));
+    i32_store8(memory, (u64)(w2c_i0), w2c_i1);
+    w2c_j0 = w2c_l6;
+    w2c_j1 = 9ull;
+    w2c_j0 += w2c_j1;
+    w2c_i0 = (u32)(w2c_j0);
+    w2c_j1 = w2c_p1;
+    w2c_j2 = 1ull;
+    w2c_j1 += w2c_j2;
+    w2c_i1 = (u32)(w2c_j1);
+    w2c_i1 = i32_load8_u(memory, (u64)(w2c_i1));
+    i32_store8(memory, (u64)(w2c_i0), w2c_i1);
+    w2c_j0 = w2c_l6;
+    w2c_j1 = 10ull;
+    w2c_j0 += w2c_j1;
+    w2c_i0 = (u32)(w2c_j0);
+    w2c_j1 = w2c_p1;
+    w2c_j2 = 2ull;
+    w2c_j1 += w2c_j2;
+    w2c_i1 = (u32)(w2c_j1);
+    w2c_i1 = i32_load8_u(memory, (u64)(w2c_i1));
+    i32_store8(memory, (u64)(w2c_i0), w2c_i1);
+    w2c_j0 = w2c_l6;
+    w2c_j1 = 11ull;
+    w2c_j0 += w2c_j1;
+    w2c_i0 = (u32)(w2c_j0);
+    w2c_j1 = w2c_p1;
+    w2c_j2 = 3ull;
+    w2c_j1 += w2c_j2;
+    w2c_i1 = (u32)(w2c_j1);
+    w2c_i1 = i32_load8_u(memory, (u64)(w2c_i1));
+    i32_store8(memory, (u64)(w2c_i0), w2c_i1);
+    w2c_j0 = w2c_p3;
+    w2c_j1 = w2c_p0;
+    w2c_j2 = 4ull;
+    w2c_j1 += w2c_j2;
+    w2c_p0 = w2c_j1;
+    w2c_i0 = w2c_j0 != w2c_j1;
+    if (w2c_i0) {goto w2c_L4;}
+    goto w2c_B2;
+  UNREACHABLE;
+  w2c_B3:;
+  w2c_j0 = w2c_p3;
+  w2c_i0 = !(w2c_j0);
+  if (w2c_i0) {goto w2c_B2;}
+  w2c_j0 = w2c_l8;
+  w2c_i0 = (u32)(w2c_j0);
+  w2c_j1 = w2c_p2;
+  w2c_i1 = (u32)(w2c_j1);
+  w2c_j2 = w2c_p3;
+  w2c_i2 = (u32)(w2c_j2);
+  memory_copy(memory, memory, w2c_i0, w2c_i1, w2c_i2);
+  w2c_B2:;
+  w2c_j0 = w2c_p4;
+  w2c_i0 = (u32)(w2c_j0);
+  w2c_j1 = w2c_l7;
+  w2c_j2 = 12008468691120727718ull;
+  w2c_j3 = w2c_l8;
+  w2c_j4 = w2c_p5;
+  w2c_j5 = 18446744073709551608ull;
+  w2c_j4 += w2c_j5;
+  w2c_j1 = w2c_f12(instance, w2c_j1, w2c_j2, w2c_j3, w2c_j4);
+  w2c_p0 = w2c_j1;
+  w2c_j2 = 56ull;
+  w2c_j1 <<= (w2c_j2 & 63);
+  w2c_j2 = w2c_p0;
+  w2c_j3 = 65280ull;
+  w2c_j2 &= w2c_j3;
+  w2c_j3 = 40ull;
+  w2c_j2 <<= (w2c_j3 & 63);
+  w2c_j1 |= w2c_j2;
+  w2c_j2 = w2c_p0;
+  w2c_j3 = 16711680ull;
+  w2c_j2 &= w2c_j3;
+  w2c_j3 = 24ull;
+  w2c_j2 <<= (w2c_j3 & 63);
+  w2c_j3 = w2c_p0;
+  w2c_j4 = 4278190080ull;
+  w2c_j3 &= w2c_j4;
+  w2c_j4 = 8ull;
+  w2c_j3 <<= (w2c_j4 & 63);
+  w2c_j2 |= w2c_j3;
+  w2c_j1 |= w2c_j2;
+  w2c_j2 = w2c_p0;
+  w2c_j3 = 8ull;
+  w2c_j2 >>= (w2c_j3 & 63);
+  w2c_j3 = 4278190080ull;
+  w2c_j2 &= w2c_j3;
+  w2c_j3 = w2c_p0;
+  w2c_j4 = 24ull;
+  w2c_j3 >>= (w2c_j4 & 63);
+  w2c_j4 = 16711680ull;
+  w2c_j3 &= w2c_j4;
+  w2c_j2 |= w2c_j3;
+  w2c_j3 = w2c_p0;
+  w2c_j4 = 40ull;
+  w2c_j3 >>= (w2c_j4 & 63);
+  w2c_j4 = 65280ull;
+  w2c_j3 &= w2c_j4;
+  w2c_j4 = w2c_p0;
+  w2c_j5 = 56ull;
+  w2c_j4 >>= (w2c_j5 & 63);
+  w2c_j3 |= w2c_j4;
+  w2c_j2 |= w2c_j3;
+  w2c_j1 |= w2c_j2;
+  i64_store(memory, (u64)(w2c_i0), w2c_j1);
+  w2c_i0 = 0u;
+  w2c_l9 = w2c_i0;
+  w2c_B1:;
+  w2c_j0 = w2c_l7;
+  w2c_j1 = 512ull;
+  w2c_j0 += w2c_j1;
+  instance->w2c_g0 = w2c_j0;
+  w2c_i0 = w2c_l9;
+  goto w2c_Bfunc;
+  w2c_B0:;
+  UNREACHABLE;
+  w2c_Bfunc:;
+  return w2c_i0;
+}
+static u32 w2c_keywrap_wrap_in_place(struct instance *instance, u64 w2c_p0, u64 w2c_p1, u64 w2c_p2, u64 w2c_p3) {
+  u32 w2c_l4 = 0;
+  const struct memory memory = instance->w2c_memory;
+  (void)memory;
+  u32 w2c_i0;
+  u64 w2c_j0, w2c_j1, w2c_j2, w2c_j3;
+  w2c_i0 = w2c_f0(instance);
+  w2c_i0 = !(w2c_i0);
+  if (w2c_i0) {goto w2c_B0;}
+  w2c_f2(instance);
+  UNREACHABLE;
+  w2c_B0:;
+  w2c_j0 = w2c_p0;
+  w2c_j1 = w2c_p1;
+  w2c_j2 = w2c_p2;
+  w2c_j3 = w2c_p3;
+  w2c_i0 = w2c_f74(instance, w2c_j0, w2c_j1, w2c_j2, w2c_j3);
+  w2c_l4 = w2c_i0;
+  w2c_f1(instance);
+  w2c_i0 = w2c_l4;
+  return w2c_i0;
+}
+static u32 w2c_f74(struct instance *instance, u64 w2c_p0, u64 w2c_p1, u64 w2c_p2, u64 w2c_p3) {
+  u32 w2c_l5 = 0;
+  u64 w2c_l4 = 0;
+  const struct memory memory = instance->w2c_memory;
+  (void)memory;
+  u32 w2c_i0, w2c_i1, w2c_i2, w2c_i3, w2c_i4;
+  u64 w2c_j0, w2c_j1, w2c_j2, w2c_j3, w2c_j4, w2c_j5;
+  w2c_j0 = instance->w2c_g0;
+  w2c_j1 = 512ull;
+  w2c_j0 -= w2c_j1;
+  w2c_l4 = w2c_j0;
+  instance->w2c_g0 = w2c_j0;
+  w2c_j0 = w2c_l4;
+  w2c_l4 = w2c_j0;
+  w2c_j1 = 16ull;
+  w2c_i0 = (u64)((s64)w2c_j0 < (s64)w2c_j1);
+  if (w2c_i0) {goto w2c_B0;}
+  w2c_j0 = w2c_l4;
+  w2c_j1 = 4ull;
+  w2c_j0 += w2c_j1;
+  w2c_i0 = (u32)(w2c_j0);
+  w2c_i1 = 0u;
+  w2c_j2 = 248ull;
+  w2c_i2 = (u32)(w2c_j2);
+  memory_fill(memory, w2c_i0, w2c_i1, w2c_i2);
+  w2c_j0 = w2c_l4;
+  w2c_j1 = 4ull;
+  w2c_j0 += w2c_j1;
+  w2c_j1 = w2c_p0;
+  w2c_j2 = 4096ull;
+  w2c_j3 = 0ull;
+  w2c_j4 = w2c_p0;
+  w2c_i4 = !(w2c_j4);
+  w2c_j2 = w2c_i4 ? w2c_j2 : w2c_j3;
+  w2c_j1 += w2c_j2;
+  w2c_j2 = w2c_p1;
+  w2c_f4(instance, w2c_j0, w2c_j1, w2c_j2);
+  w2c_i0 = 3u;
+  w2c_l5 = w2c_i0;
+  w2c_j0 = w2c_l4;
+  w2c_i0 = (u32)(w2c_j0);
+  w2c_i0 = i32_load8_u(memory, (u64)(w2c_i0) + 4u);
+  if (w2c_i0) {goto w2c_B1;}
+  w2c_j0 = w2c_l4;
+  w2c_j1 = 252ull;
+  w2c_j0 += w2c_j1;
+  w2c_i0 = (u32)(w2c_j0);
+  w2c_j1 = w2c_l4;
+  w2c_j2 = 8ull;
+  w2c_j1 += w2c_j2;
+  w2c_i1 = (u32)(w2c_j1);
+  w2c_j2 = 244ull;
+  w2c_i2 = (u32)(w2c_j2);
+  memory_copy(memory, memory, w2c_i0, w2c_i1, w2c_i2);
+  w2c_j0 = w2c_l4;
+  w2c_i0 = (u32)(w2c_j0);
+  w2c_j1 = 0ull;
+  i64_store(memory, (u64)(w2c_i0) + 504, w2c_j1);
+  w2c_j0 = w2c_l4;
+  w2c_i0 = (u32)(w2c_j0);
+  w2c_j1 = w2c_l4;
+  w2c_j2 = 252ull;
+  w2c_j1 += w2c_j2;
+  i64_store(memory, (u64)(w2c_i0) + 496, w2c_j1);
+  w2c_i0 = 4u;
+  w2c_l5 = w2c_i0;
+  w2c_j0 = w2c_p3;
+  w2c_j1 = 7ull;
+  w2c_j0 &= w2c_j1;
+  w2c_j1 = 0ull;
+  w2c_i0 = w2c_j0 != w2c_j1;
+  if (w2c_i0) {goto w2c_B1;}
+  w2c_j0 = w2c_p3;
+  w2c_j1 = 18446744073709551592ull;
+  w2c_j0 += w2c_j1;
+  w2c_j1 = 1048560ull;
+  w2c_i0 = w2c_j0 > w2c_j1;
+  if (w2c_i0) {goto w2c_B1;}
+  w2c_j0 = w2c_p2;
+  w2c_j1 = 4096ull;
+  w2c_j2 = 0ull;
+  w2c_j3 = w2c_p2;
+  w2c_i3 = !(w2c_j3);
+  w2c_j1 = w2c_i3 ? w2c_j1 : w2c_j2;
+  w2c_j0 += w2c_j1;
+  w2c_p1 = w2c_j0;
+  w2c_j0 = w2c_p1;
+  w2c_i0 = (u32)(w2c_j0);
+  w2c_j1 = w2c_l4;
+  w2c_j2 = 496ull;
+  w2c_j1 += w2c_j2;
+  w2c_j2 = 12008468691120727718ull;
+  w2c_j3 = w2c_p1;
+  w2c_j4 = 8ull;
+  w2c_j3 += w2c_j4;
+  w2c_j4 = w2c_p3;
+  w2c_j5 = 18446744073709551608ull;
+  w2c_j4 += w2c_j5;
+  w2c_j1 = w2c_f12(instance, w2c_j1, w2c_j2, w2c_j3, w2c_j4);
+  w2c_p0 = w2c_j1;
+  w2c_j2 = 56ull;
+  w2c_j1 <<= (w2c_j2 & 63);
+  w2c_j2 = w2c_p0;
+  w2c_j3 = 65280ull;
+  w2c_j2 &= w2c_j3;
+  w2c_j3 = 40ull;
+  w2c_j2 <<= (w2c_j3 & 63);
+  w2c_j1 |= w2c_j2;
+  w2c_j2 = w2c_p0;
+  w2c_j3 = 16711680ull;
+  w2c_j2 &= w2c_j3;
+  w2c_j3 = 24ull;
+  w2c_j2 <<= (w2c_j3 & 63);
+  w2c_j3 = w2c_p0;
+  w2c_j4 = 4278190080ull;
+  w2c_j3 &= w2c_j4;
+  w2c_j4 = 8ull;
+  w2c_j3 <<= (w2c_j4 & 63);
+  w2c_j2 |= w2c_j3;
+  w2c_j1 |= w2c_j2;
+  w2c_j2 = w2c_p0;
+  w2c_j3 = 8ull;
+  w2c_j2 >>= (w2c_j3 & 63);
+  w2c_j3 = 4278190080ull;
+  w2c_j2 &= w2c_j3;
+  w2c_j3 = w2c_p0;
+  w2c_j4 = 24ull;
+  w2c_j3 >>= (w2c_j4 & 63);
+  w2c_j4 = 16711680ull;
+  w2c_j3 &= w2c_j4;
+  w2c_j2 |= w2c_j3;
+  w2c_j3 = w2c_p0;
+  w2c_j4 = 40ull;
+  w2c_j3 >>= (w2c_j4 & 63);
+  w2c_j4 = 65280ull;
+  w2c_j3 &= w2c_j4;
+  w2c_j4 = w2c_p0;
+  w2c_j5 = 56ull;
+  w2c_j4 >>= (w2c_j5 & 63);
+  w2c_j3 |= w2c_j4;
+  w2c_j2 |= w2c_j3;
+  w2c_j1 |= w2c_j2;
+  i64_store(memory, (u64)(w2c_i0), w2c_j1);
+  w2c_i0 = 0u;
+  w2c_l5 = w2c_i0;
+  w2c_B1:;
+  w2c_j0 = w2c_l4;
+  w2c_j1 = 512ull;
+  w2c_j0 += w2c_j1;
+  instance->w2c_g0 = w2c_j0;
+  w2c_i0 = w2c_l5;
+  goto w2c_Bfunc;
+  w2c_B0:;
+  UNREACHABLE;
+  w2c_Bfunc:;
+  return w2c_i0;
+}
+static u32 w2c_keywrap_wrap_many(struct instance *instance, u64 w2c_p0, u64 w2c_p1, u64 w2c_p2, u64 w2c_p3, u64 w2c_p4, u32 w2c_p5, u64 w2c_p6, u64 w2c_p7) {
+  const struct memory memory = instance->w2c_memory;
+  (void)memory;
+  u32 w2c_i0, w2c_i5;
+  u64 w2c_j0, w2c_j1, w2c_j2, w2c_j3, w2c_j4, w2c_j6, w2c_j7;
+  w2c_i0 = w2c_f0(instance);
+  w2c_i0 = !(w2c_i0);
+  if (w2c_i0) {goto w2c_B0;}
+  w2c_f2(instance);
+  UNREACHABLE;
+  w2c_B0:;
+  w2c_j0 = w2c_p0;
+  w2c_j1 = w2c_p1;
+  w2c_j2 = w2c_p2;
+  w2c_j3 = w2c_p3;
+  w2c_j4 = w2c_p4;
+  w2c_i5 = w2c_p5;
+  w2c_j6 = w2c_p6;
+  w2c_j7 = w2c_p7;
+  w2c_i0 = w2c_f76(instance, w2c_j0, w2c_j1, w2c_j2, w2c_j3, w2c_j4, w2c_i5, w2c_j6, w2c_j7);
+  w2c_p5 = w2c_i0;
+  w2c_f1(instance);
+  w2c_i0 = w2c_p5;
+  return w2c_i0;
+}
+static u32 w2c_f76(struct instance *instance, u64 w2c_p0, u64 w2c_p1, u64 w2c_p2, u64 w2c_p3, u64 w2c_p4, u32 w2c_p5, u64 w2c_p6, u64 w2c_p7) {
+  u32 w2c_l9 = 0;
+  u64 w2c_l8 = 0;
+  const struct memory memory = instance->w2c_memory;
+  (void)memory;
+  u32 w2c_i0, w2c_i1, w2c_i2, w2c_i4, w2c_i7, w2c_i8;
+  u64 w2c_j0, w2c_j1, w2c_j2, w2c_j3, w2c_j4, w2c_j5, w2c_j6, w2c_j7, 
+      w2c_j8;
+  w2c_j0 = instance->w2c_g0;
+  w2c_j1 = 496ull;
+  w2c_j0 -= w2c_j1;
+  w2c_l8 = w2c_j0;
+  instance->w2c_g0 = w2c_j0;
+  w2c_j0 = w2c_l8;
+  w2c_l8 = w2c_j0;
+  w2c_j1 = 16ull;
+  w2c_i0 = (u64)((s64)w2c_j0 < (s64)w2c_j1);
+  if (w2c_i0) {goto w2c_B0;}
+  w2c_j0 = w2c_l8;
+  w2c_j1 = 4ull;
+  w2c_j0 += w2c_j1;
+  w2c_i0 = (u32)(w2c_j0);
+  w2c_i1 = 0u;
+  w2c_j2 = 248ull;
+  w2c_i2 = (u32)(w2c_j2);
+  memory_fill(memory, w2c_i0, w2c_i1, w2c_i2);
+  w2c_j0 = w2c_l8;
+  w2c_j1 = 4ull;
+  w2c_j0 += w2c_j1;
+  w2c_j1 = w2c_p0;
+  w2c_j2 = 4096ull;
+  w2c_j3 = 0ull;
+  w2c_j4 = w2c_p0;
+  w2c_i4 = !(w2c_j4);
+  w2c_j2 = w2c_i4 ? w2c_j2 : w2c_j3;
+  w2c_j1 += w2c_j2;
+  w2c_j2 = w2c_p1;
+  w2c_f4(instance, w2c_j0, w2c_j1, w2c_j2);
+  w2c_i0 = 3u;
+  w2c_l9 = w2c_i0;
+  w2c_j0 = w2c_l8;
+  w2c_i0 = (u32)(w2c_j0);
+  w2c_i0 = i32_load8_u(memory, (u64)(w2c_i0) + 4u);
+  if (w2c_i0) {goto w2c_B1;}
+  w2c_j0 = w2c_l8;
+  w2c_j1 = 252ull;
+  w2c_j0 += w2c_j1;
+  w2c_i0 = (u32)(w2c_j0);
+  w2c_j1 = w2c_l8;
+  w2c_j2 = 8ull;
+  w2c_j1 += w2c_j2;
+  w2c_i1 = (u32)(w2c_j1);
+  w2c_j2 = 244ull;
+  w2c_i2 = (u32)(w2c_j2);
+  memory_copy(memory, memory, w2c_i0, w2c_i1, w2c_i2);
+  w2c_i0 = 4u;
+  w2c_l9 = w2c_i0;
+  w2c_j0 = w2c_p7;
+  w2c_i0 = !(w2c_j0);
+  if (w2c_i0) {goto w2c_B1;}
+  w2c_j0 = w2c_p3;
+  w2c_j1 = w2c_p3;
+  w2c_j2 = w2c_p7;
+  w2c_j1 = DIV_U(w2c_j1, w2c_j2);
+  w2c_p0 = w2c_j1;
+  w2c_j2 = w2c_p7;
+  w2c_j1 *= w2c_j2;
+  w2c_j0 -= w2c_j1;
+  w2c_j1 = 0ull;
+  w2c_i0 = w2c_j0 != w2c_j1;
+  if (w2c_i0) {goto w2c_B1;}
+  w2c_i0 = w2c_p5;
+  switch (w2c_i0) {
+    case 0: goto w2c_B3;
+    case 1: goto w2c_B1;
+    case 2: goto w2c_B4;
+    default: goto w2c_B1;
+  }
+  w2c_B4:;
+  w2c_j0 = w2c_p4;
+  w2c_j1 = 18446744073709551615ull;
+  w2c_j0 += w2c_j1;
+  w2c_j1 = 1048576ull;
+  w2c_i0 = w2c_j0 >= w2c_j1;
+  if (w2c_i0) {goto w2c_B1;}
+  w2c_j0 = w2c_p0;
+  w2c_j1 = w2c_p4;
+  w2c_j2 = 7ull;
+  w2c_j1 += w2c_j2;
+  w2c_j2 = 4194296ull;
+  w2c_j1 &= w2c_j2;
+  w2c_j2 = 8ull;
+  w2c_j1 += w2c_j2;
+  w2c_i0 = w2c_j0 != w2c_j1;
+  if (w2c_i0) {goto w2c_B1;}
+  w2c_i0 = 1u;
+  w2c_l9 = w2c_i0;
+  goto w2c_B2;
+  w2c_B3:;
+  w2c_j0 = w2c_p4;
+  w2c_j1 = 7ull;
+  w2c_j0 &= w2c_j1;
+  w2c_j1 = 0ull;
+  w2c_i0 = w2c_j0 != w2c_j1;
+  if (w2c_i0) {goto w2c_B1;}
+  w2c_j0 = w2c_p4;
+  w2c_j1 = 18446744073709551600ull;
+  w2c_j0 += w2c_j1;
+  w2c_j1 = 1048560ull;
+  w2c_i0 = w2c_j0 > w2c_j1;
+  if (w2c_i0) {goto w2c_B1;}
+  w2c_j0 = w2c_p0;
+  w2c_j1 = w2c_p4;
+  w2c_j2 = 8ull;
+  w2c_j1 += w2c_j2;
+  w2c_i0 = w2c_j0 != w2c_j1;
+  if (w2c_i0) {goto w2c_B1;}
+  w2c_i0 = 0u;
+  w2c_l9 = w2c_i0;
+  w2c_B2:;
+  w2c_j0 = w2c_l8;
+  w2c_j1 = 252ull;
+  w2c_j0 += w2c_j1;
+  w2c_i1 = w2c_l9;
+  w2c_j2 = w2c_p4;
+  w2c_j3 = w2c_p0;
+  w2c_j4 = w2c_p2;
+  w2c_j5 = 4096ull;
+  w2c_j6 = 0ull;
+  w2c_j7 = w2c_p2;
+  w2c_i7 = !(w2c_j7);
+  w2c_j5 = w2c_i7 ? w2c_j5 : w2c_j6;
+  w2c_j4 += w2c_j5;
+  w2c_j5 = w2c_p6;
+  w2c_j6 = 4096ull;
+  w2c_j7 = 0ull;
+  w2c_j8 = w2c_p6;
+  w2c_i8 = !(w2c_j8);
+  w2c_j6 = w2c_i8 ? w2c_j6 : w2c_j7;
+  w2c_j5 += w2c_j6;
+  w2c_j6 = w2c_p7;
+  w2c_f22(instance, w2c_j0, w2c_i1, w2c_j2, w2c_j3, w2c_j4, w2c_j5, w2c_j6);
+  w2c_i0 = 0u;
+  w2c_l9 = w2c_i0;
+  w2c_B1:;
+  w2c_j0 = w2c_l8;
+  w2c_j1 = 496ull;
+  w2c_j0 += w2c_j1;
+  instance->w2c_g0 = w2c_j0;
+  w2c_i0 = w2c_l9;
+  goto w2c_Bfunc;
+  w2c_B0:;
+  UNREACHABLE;
+  w2c_Bfunc:;
+  return w2c_i0;
+}
+static u32 w2c_keywrap_wrap_padded(struct instance *instance, u64 w2c_p0, u64 w2c_p1, u64 w2c_p2, u64 w2c_p3, u64 w2c_p4, u64 w2c_p5) {
+  u32 w2c_l6 = 0;
+  const struct memory memory = instance->w2c_memory;
+  (void)memory;
+  u32 w2c_i0;
+  u64 w2c_j0, w2c_j1, w2c_j2, w2c_j3, w2c_j4, w2c_j5;
+  w2c_i0 = w2c_f0(instance);
+  w2c_i0 = !(w2c_i0);
+  if (w2c_i0) {goto w2c_B0;}
+  w2c_f2(instance);
+  UNREACHABLE;
+  w2c_B0:;
+  w2c_j0 = w2c_p0;
+  w2c_j1 = w2c_p1;
+  w2c_j2 = w2c_p2;
+  w2c_j3 = w2c_p3;
+  w2c_j4 = w2c_p4;
+  w2c_j5 = w2c_p5;
+  w2c_i0 = w2c_f78(instance, w2c_j0, w2c_j1, w2c_j2, w2c_j3, w2c_j4, w2c_j5);
+  w2c_l6 = w2c_i0;
+  w2c_f1(instance);
+  w2c_i0 = w2c_l6;
+  return w2c_i0;
+}
+static u32 w2c_f78(struct instance *instance, u64 w2c_p0, u64 w2c_p1, u64 w2c_p2, u64 w2c_p3, u64 w2c_p4, u64 w2c_p5) {
+  const struct memory memory = instance->w2c_memory;
+  (void)memory;
+  u32 w2c_i0, w2c_i3, w2c_i5, w2c_i7;
+  u64 w2c_j0, w2c_j1, w2c_j2, w2c_j3, w2c_j4, w2c_j5, w2c_j6, w2c_j7;
+  w2c_j0 = w2c_p0;
+  w2c_j1 = 4096ull;
+  w2c_j2 = 0ull;
+  w2c_j3 = w2c_p0;
+  w2c_i3 = !(w2c_j3);
+  w2c_j1 = w2c_i3 ? w2c_j1 : w2c_j2;
+  w2c_j0 += w2c_j1;
+  w2c_j1 = w2c_p1;
+  w2c_j2 = w2c_p2;
+  w2c_j3 = 4096ull;
+  w2c_j4 = 0ull;
+  w2c_j5 = w2c_p2;
+  w2c_i5 = !(w2c_j5);
+  w2c_j3 = w2c_i5 ? w2c_j3 : w2c_j4;
+  w2c_j2 += w2c_j3;
+  w2c_j3 = w2c_p3;
+  w2c_j4 = w2c_p4;
+  w2c_j5 = 4096ull;
+  w2c_j6 = 0ull;
+  w2c_j7 = w2c_p4;
+  w2c_i7 = !(w2c_j7);
+  w2c_j5 = w2c_i7 ? w2c_j5 : w2c_j6;
+  w2c_j4 += w2c_j5;
+  w2c_j5 = w2c_p5;
+  w2c_i0 = w2c_f19(instance, w2c_j0, w2c_j1, w2c_j2, w2c_j3, w2c_j4, w2c_j5);
+  return w2c_i0;
+}
+static u32 w2c_keywrap_wrap_padded_in_place(struct instance *instance, u64 w2c_p0, u64 w2c_p1, u64 w2c_p2, u64 w2c_p3, u64 w2c_p4) {
+  u32 w2c_l5 = 0;
+  const struct memory memory = instance->w2c_memory;
+  (void)memory;
+  u32 w2c_i0;
+  u64 w2c_j0, w2c_j1, w2c_j2, w2c_j3, w2c_j4;
+  w2c_i0 = w2c_f0(instance);
+  w2c_i0 = !(w2c_i0);
+  if (w2c_i0) {goto w2c_B0;}
+  w2c_f2(instance);
+  UNREACHABLE;
+  w2c_B0:;
+  w2c_j0 = w2c_p0;
+  w2c_j1 = w2c_p1;
+  w2c_j2 = w2c_p2;
+  w2c_j3 = w2c_p3;
+  w2c_j4 = w2c_p4;
+  w2c_i0 = w2c_f80(instance, w2c_j0, w2c_j1, w2c_j2, w2c_j3, w2c_j4);
+  w2c_l5 = w2c_i0;
+  w2c_f1(instance);
+  w2c_i0 = w2c_l5;
+  return w2c_i0;
+}
+static u32 w2c_f80(struct instance *instance, u64 w2c_p0, u64 w2c_p1, u64 w2c_p2, u64 w2c_p3, u64 w2c_p4) {
+  u32 w2c_l6 = 0;
+  u64 w2c_l5 = 0;
+  const struct memory memory = instance->w2c_memory;
+  (void)memory;
+  u32 w2c_i0, w2c_i1, w2c_i2, w2c_i3, w2c_i4;
+  u64 w2c_j0, w2c_j1, w2c_j2, w2c_j3, w2c_j4, w2c_j5;
+  w2c_j0 = instance->w2c_g0;
+  w2c_j1 = 512ull;
+  w2c_j0 -= w2c_j1;
+  w2c_l5 = w2c_j0;
+  instance->w2c_g0 = w2c_j0;
+  w2c_j0 = w2c_l5;
+  w2c_l5 = w2c_j0;
+  w2c_j1 = 16ull;
+  w2c_i0 = (u64)((s64)w2c_j0 < (s64)w2c_j1);
+  if (w2c_i0) {goto w2c_B0;}
+  w2c_j0 = w2c_l5;
+  w2c_j1 = 4ull;
+  w2c_j0 += w2c_j1;
+  w2c_i0 = (u32)(w2c_j0);
+  w2c_i1 = 0u;
+  w2c_j2 = 248ull;
+  w2c_i2 = (u32)(w2c_j2);
+  memory_fill(memory, w2c_i0, w2c_i1, w2c_i2);
+  w2c_j0 = w2c_l5;
+  w2c_j1 = 4ull;
+  w2c_j0 += w2c_j1;
+  w2c_j1 = w2c_p0;
+  w2c_j2 = 4096ull;
+  w2c_j3 = 0ull;
+  w2c_j4 = w2c_p0;
+  w2c_i4 = !(w2c_j4);
+  w2c_j2 = w2c_i4 ? w2c_j2 : w2c_j3;
+  w2c_j1 += w2c_j2;
+  w2c_j2 = w2c_p1;
+  w2c_f4(instance, w2c_j0, w2c_j1, w2c_j2);
+  w2c_i0 = 3u;
+  w2c_l6 = w2c_i0;
+  w2c_j0 = w2c_l5;
+  w2c_i0 = (u32)(w2c_j0);
+  w2c_i0 = i32_load8_u(memory, (u64)(w2c_i0) + 4u);
+  if (w2c_i0) {goto w2c_B1;}
+  w2c_j0 = w2c_l5;
+  w2c_j1 = 252ull;
+  w2c_j0 += w2c_j1;
+  w2c_i0 = (u32)(w2c_j0);
+  w2c_j1 = w2c_l5;
+  w2c_j2 = 8ull;
+  w2c_j1 += w2c_j2;
+  w2c_i1 = (u32)(w2c_j1);
+  w2c_j2 = 244ull;
+  w2c_i2 = (u32)(w2c_j2);
+  memory_copy(memory, memory, w2c_i0, w2c_i1, w2c_i2);
+  w2c_j0 = w2c_l5;
+  w2c_i0 = (u32)(w2c_j0);
+  w2c_j1 = 0ull;
+  i64_store(memory, (u64)(w2c_i0) + 504, w2c_j1);
+  w2c_j0 = w2c_l5;
+  w2c_i0 = (u32)(w2c_j0);
+  w2c_j1 = w2c_l5;
+  w2c_j2 = 252ull;
+  w2c_j1 += w2c_j2;
+  i64_store(memory, (u64)(w2c_i0) + 496, w2c_j1);
+  w2c_i0 = 4u;
+  w2c_l6 = w2c_i0;
+  w2c_j0 = w2c_p4;
+  w2c_j1 = 18446744073709551615ull;
+  w2c_j0 += w2c_j1;
+  w2c_j1 = 1048575ull;
+  w2c_i0 = w2c_j0 > w2c_j1;
+  if (w2c_i0) {goto w2c_B1;}
+  w2c_j0 = w2c_p3;
+  w2c_j1 = w2c_p4;
+  w2c_j2 = 7ull;
+  w2c_j1 += w2c_j2;
+  w2c_j2 = 4194296ull;
+  w2c_j1 &= w2c_j2;
+  w2c_j2 = 8ull;
+  w2c_j1 += w2c_j2;
+  w2c_i0 = w2c_j0 != w2c_j1;
+  if (w2c_i0) {goto w2c_B1;}
+  w2c_j0 = w2c_p2;
+  w2c_j1 = 4096ull;
+  w2c_j2 = 0ull;
+  w2c_j3 = w2c_p2;
+  w2c_i3 = !(w2c_j3);
+  w2c_j1 = w2c_i3 ? w2c_j1 : w2c_j2;
+  w2c_j0 += w2c_j1;
+  w2c_p1 = w2c_j0;
+  w2c_j0 = w2c_p3;
+  w2c_j1 = w2c_p4;
+  w2c_j2 = 8ull;
+  w2c_j1 += w2c_j2;
+  w2c_p0 = w2c_j1;
+  w2c_i0 = w2c_j0 == w2c_j1;
+  if (w2c_i0) {goto w2c_B2;}
+  w2c_j0 = w2c_p1;
+  w2c_j1 = w2c_p0;
+  w2c_j0 += w2c_j1;
+  w2c_p0 = w2c_j0;
+  w2c_j0 = w2c_p3;
+  w2c_j1 = w2c_p4;
+  w2c_j0 -= w2c_j1;
+  w2c_j1 = 18446744073709551607ull;
+  w2c_j0 += w2c_j1;
+  w2c_p2 = w2c_j0;
+  w2c_i0 = !(w2c_j0);
+  w2c_l6 = w2c_i0;
+  if (w2c_i0) {goto w2c_B3;}
+  w2c_i0 = w2c_l6;
+  if (w2c_i0) {goto w2c_B3;}
+  w2c_j0 = w2c_p0;
+  w2c_i0 = (u32)(w2c_j0);
+  w2c_i1 = 0u;
+  w2c_j2 = w2c_p2;
+  w2c_i2 = (u32)(w2c_j2);
+  memory_fill(memory, w2c_i0, w2c_i1, w2c_i2);
+  w2c_B3:;
+  w2c_j0 = w2c_p0;
+  w2c_j1 = w2c_p2;
+  w2c_j0 += w2c_j1;
+  w2c_i0 = (u32)(w2c_j0);
+  w2c_i1 = 0u;
+  i32_store8(memory, (u64)(w2c_i0), w2c_i1);
+  w2c_B2:;
+  w2c_j0 = w2c_p1;
+  w2c_i0 = (u32)(w2c_j0);
+  w2c_j1 = w2c_l5;
+  w2c_j2 = 496ull;
+  w2c_j1 += w2c_j2;
+  w2c_j2 = w2c_p4;
+  w2c_j3 = 11986710452722728960ull;
+  w2c_j2 |= w2c_j3;
+  w2c_j3 = w2c_p1;
+  w2c_j4 = 8ull;
+  w2c_j3 += w2c_j4;
+  w2c_j4 = w2c_p3;
+  w2c_j5 = 18446744073709551608ull;
+  w2c_j4 += w2c_j5;
+  w2c_j1 = w2c_f12(instance, w2c_j1, w2c_j2, w2c_j3, w2c_j4);
+  w2c_p0 = w2c_j1;
+  w2c_j2 = 56ull;
+  w2c_j1 <<= (w2c_j2 & 63);
+  w2c_j2 = w2c_p0;
+  w2c_j3 = 65280ull;
+  w2c_j2 &= w2c_j3;
+  w2c_j3 = 40ull;
+  w2c_j2 <<= (w2c_j3 & 63);
+  w2c_j1 |= w2c_j2;
+  w2c_j2 = w2c_p0;
+  w2c_j3 = 16711680ull;
+  w2c_j2 &= w2c_j3;
+  w2c_j3 = 24ull;
+  w2c_j2 <<= (w2c_j3 & 63);
+  w2c_j3 = w2c_p0;
+  w2c_j4 = 4278190080ull;
+  w2c_j3 &= w2c_j4;
+  w2c_j4 = 8ull;
+  w2c_j3 <<= (w2c_j4 & 63);
+  w2c_j2 |= w2c_j3;
+  w2c_j1 |= w2c_j2;
+  w2c_j2 = w2c_p0;
+  w2c_j3 = 8ull;
+  w2c_j2 >>= (w2c_j3 & 63);
+  w2c_j3 = 4278190080ull;
+  w2c_j2 &= w2c_j3;
+  w2c_j3 = w2c_p0;
+  w2c_j4 = 24ull;
+  w2c_j3 >>= (w2c_j4 & 63);
+  w2c_j4 = 16711680ull;
+  w2c_j3 &= w2c_j4;
+  w2c_j2 |= w2c_j3;
+  w2c_j3 = w2c_p0;
+  w2c_j4 = 40ull;
+  w2c_j3 >>= (w2c_j4 & 63);
+  w2c_j4 = 65280ull;
+  w2c_j3 &= w2c_j4;
+  w2c_j4 = w2c_p0;
+  w2c_j5 = 56ull;
+  w2c_j4 >>= (w2c_j5 & 63);
+  w2c_j3 |= w2c_j4;
+  w2c_j2 |= w2c_j3;
+  w2c_j1 |= w2c_j2;
+  i64_store(memory, (u64)(w2c_i0), w2c_j1);
+  w2c_i0 = 0u;
+  w2c_l6 = w2c_i0;
+  w2c_B1:;
+  w2c_j0 = w2c_l5;
+  w2c_j1 = 512ull;
+  w2c_j0 += w2c_j1;
+  instance->w2c_g0 = w2c_j0;
+  w2c_i0 = w2c_l6;
+  goto w2c_Bfunc;
+  w2c_B0:;
+  UNREACHABLE;
+  w2c_Bfunc:;
+  return w2c_i0;
+}
+static u32 w2c_keywrap_wrap_with(struct instance *instance, u64 w2c_p0, u64 w2c_p1, u64 w2c_p2, u64 w2c_p3, u64 w2c_p4, u64 w2c_p5, u64 w2c_p6, u64 w2c_p7) {
+  u32 w2c_l8 = 0;
+  const struct memory memory = instance->w2c_memory;
+  (void)memory;
+  u32 w2c_i0;
+  u64 w2c_j0, w2c_j1, w2c_j2, w2c_j3, w2c_j4, w2c_j5, w2c_j6, w2c_j7;
+  w2c_i0 = w2c_f0(instance);
+  w2c_i0 = !(w2c_i0);
+  if (w2c_i0) {goto w2c_B0;}
+  w2c_f2(instance);
+  UNREACHABLE;
+  w2c_B0:;
+  w2c_j0 = w2c_p0;
+  w2c_j1 = w2c_p1;
+  w2c_j2 = w2c_p2;
+  w2c_j3 = w2c_p3;
+  w2c_j4 = w2c_p4;
+  w2c_j5 = w2c_p5;
+  w2c_j6 = w2c_p6;
+  w2c_j7 = w2c_p7;
+  w2c_i0 = w2c_f82(instance, w2c_j0, w2c_j1, w2c_j2, w2c_j3, w2c_j4, w2c_j5, w2c_j6, w2c_j7);
+  w2c_l8 = w2c_i0;
+  w2c_f1(instance);
+  w2c_i0 = w2c_l8;
+  return w2c_i0;
+}
+static u32 w2c_f82(struct instance *instance, u64 w2c_p0, u64 w2c_p1, u64 w2c_p2, u64 w2c_p3, u64 w2c_p4, u64 w2c_p5, u64 w2c_p6, u64 w2c_p7) {
+  u32 w2c_l11 = 0;
+  u64 w2c_l8 = 0, w2c_l9 = 0, w2c_l10 = 0;
+  const struct memory memory = instance->w2c_memory;
+  (void)memory;
+  u32 w2c_i0, w2c_i1, w2c_i2, w2c_i3, w2c_i4;
+  u64 w2c_j0, w2c_j1, w2c_j2, w2c_j3, w2c_j4, w2c_j5;
+  w2c_j0 = instance->w2c_g0;
+  w2c_j1 = 512ull;
+  w2c_j0 -= w2c_j1;
+  w2c_l8 = w2c_j0;
+  instance->w2c_g0 = w2c_j0;
+  w2c_j0 = w2c_l8;
+  w2c_l8 = w2c_j0;
+  w2c_j1 = 16ull;
+  w2c_i0 = (u64)((s64)w2c_j0 < (s64)w2c_j1);
+  if (w2c_i0) {goto w2c_B0;}
+  w2c_j0 = w2c_l8;
+  w2c_j1 = 20ull;
+  w2c_j0 += w2c_j1;
+  w2c_i0 = (u32)(w2c_j0);
+  w2c_i1 = 0u;
+  w2c_j2 = 248ull;
+  w2c_i2 = (u32)(w2c_j2);
+  memory_fill(memory, w2c_i0, w2c_i1, w2c_i2);
+  w2c_i0 = 2u;
+  w2c_l11 = w2c_i0;
+  w2c_j0 = w2c_p3;
+  w2c_j1 = 8ull;
+  w2c_i0 = w2c_j0 != w2c_j1;
+  if (w2c_i0) {goto w2c_B1;}
+  w2c_j0 = w2c_p2;
+  w2c_j1 = 4096ull;
+  w2c_j2 = 0ull;
+  w2c_j3 = w2c_p2;
+  w2c_i3 = !(w2c_j3);
+  w2c_j1 = w2c_i3 ? w2c_j1 : w2c_j2;
+  w2c_j0 += w2c_j1;
+  w2c_i0 = (u32)(w2c_j0);
+  w2c_j0 = i64_load(memory, (u64)(w2c_i0));
+  w2c_p2 = w2c_j0;
+  w2c_j1 = 56ull;
+  w2c_j0 <<= (w2c_j1 & 63);
+  w2c_j1 = w2c_p2;
+  w2c_j2 = 65280ull;
+  w2c_j1 &= w2c_j2;
+  w2c_j2 = 40ull;
+  w2c_j1 <<= (w2c_j2 & 63);
+  w2c_j0 |= w2c_j1;
+  w2c_j1 = w2c_p2;
+  w2c_j2 = 16711680ull;
+  w2c_j1 &= w2c_j2;
+  w2c_j2 = 24ull;
+  w2c_j1 <<= (w2c_j2 & 63);
+  w2c_j2 = w2c_p2;
+  w2c_j3 = 4278190080ull;
+  w2c_j2 &= w2c_j3;
+  w2c_j3 = 8ull;
+  w2c_j2 <<= (w2c_j3 & 63);
+  w2c_j1 |= w2c_j2;
+  w2c_j0 |= w2c_j1;
+  w2c_j1 = w2c_p2;
+  w2c_j2 = 8ull;
+  w2c_j1 >>= (w2c_j2 & 63);
+  w2c_j2 = 4278190080ull;
+  w2c_j1 &= w2c_j2;
+  w2c_j2 = w2c_p2;
+  w2c_j3 = 24ull;
+  w2c_j2 >>= (w2c_j3 & 63);
+  w2c_j3 = 16711680ull;
+  w2c_j2 &= w2c_j3;
+  w2c_j1 |= w2c_j2;
+  w2c_j2 = w2c_p2;
+  w2c_j3 = 40ull;
+  w2c_j2 >>= (w2c_j3 & 63);
+  w2c_j3 = 65280ull;
+  w2c_j2 &= w2c_j3;
+  w2c_j3 = w2c_p2;
+  w2c_j4 = 56ull;
+  w2c_j3 >>= (w2c_j4 & 63);
+  w2c_j2 |= w2c_j3;
+  w2c_j1 |= w2c_j2;
+  w2c_j0 |= w2c_j1;
+  w2c_l9 = w2c_j0;
+  w2c_j1 = 18446744069414584320ull;
+  w2c_j0 &= w2c_j1;
+  w2c_j1 = 11986710452722728960ull;
+  w2c_i0 = w2c_j0 == w2c_j1;
+  if (w2c_i0) {goto w2c_B1;}
+  w2c_j0 = w2c_l8;
+  w2c_j1 = 20ull;
+  w2c_j0 += w2c_j1;
+  w2c_j1 = w2c_p0;
+  w2c_j2 = 4096ull;
+  w2c_j3 = 0ull;
+  w2c_j4 = w2c_p0;
+  w2c_i4 = !(w2c_j4);
+  w2c_j2 = w2c_i4 ? w2c_j2 : w2c_j3;
+  w2c_j1 += w2c_j2;
+  w2c_j2 = w2c_p1;
+  w2c_f4(instance, w2c_j0, w2c_j1, w2c_j2);
+  w2c_i0 = 3u;
+  w2c_l11 = w2c_i0;
+  w2c_j0 = w2c_l8;
+  w2c_i0 = (u32)(w2c_j0);
+  w2c_i0 = i32_load8_u(memory, (u64)(w2c_i0) + 20u);
+  if (w2c_i0) {goto w2c_B1;}
+  w2c_j0 = w2c_l8;
+  w2c_j1 = 268ull;
+  w2c_j0 += w2c_j1;
+  w2c_i0 = (u32)(w2c_j0);
+  w2c_j1 = w2c_l8;
+  w2c_j2 = 24ull;
+  w2c_j1 += w2c_j2;
+  w2c_i1 = (u32)(w2c_j1);
+  w2c_j2 = 244ull;
+  w2c_i2 = (u32)(w2c_j2);
+  memory_copy(memory, memory, w2c_i0, w2c_i1, w2c_i2);
+  w2c_j0 = w2c_l8;
+  w2c_i0 = (u32)(w2c_j0);
+  w2c_j1 = 0ull;
+  i64_store(memory, (u64)(w2c_i0) + 8, w2c_j1);
+  w2c_j0 = w2c_l8;
+  w2c_i0 = (u32)(w2c_j0);
+  w2c_j1 = w2c_l8;
+  w2c_j2 = 268ull;
+  w2c_j1 += w2c_j2;
+  i64_store(memory, (u64)(w2c_i0), w2c_j1);
+  w2c_i0 = 4u;
+  w2c_l11 = w2c_i0;
+  w2c_j0 = w2c_p5;
+  w2c_j1 = 7ull;
+  w2c_j0 &= w2c_j1;
+  w2c_j1 = 0ull;
+  w2c_i0 = w2c_j0 != w2c_j1;
+  if (w2c_i0) {goto w2c_B1;}
+  w2c_j0 = w2c_p5;
+  w2c_j1 = 18446744073709551600ull;
+  w2c_j0 += w2c_j1;
+  w2c_j1 = 1048560ull;
+  w2c_i0 = w2c_j0 > w2c_j1;
+  if (w2c_i0) {goto w2c_B1;}
+  w2c_j0 = w2c_p7;
+  w2c_j1 = w2c_p5;
+  w2c_j2 = 8ull;
+  w2c_j1 += w2c_j2;
+  w2c_i0 = w2c_j0 != w2c_j1;
+  if (w2c_i0) {goto w2c_B1;}
+  w2c_j0 = w2c_p6;
+  w2c_j1 = 4096ull;
+  w2c_j2 = 0ull;
+  w2c_j3 = w2c_p6;
+  w2c_i3 = !(w2c_j3);
+  w2c_j1 = w2c_i3 ? w2c_j1 : w2c_j2;
+  w2c_j0 += w2c_j1;
+  w2c_p1 = w2c_j0;
+  w2c_j1 = 8ull;
+  w2c_j0 += w2c_j1;
+  w2c_l10 = w2c_j0;
+  w2c_j1 = w2c_p4;
+  w2c_j2 = 4096ull;
+  w2c_j3 = 0ull;
+  w2c_j4 = w2c_p4;
+  w2c_i4 = !(w2c_j4);
+  w2c_j2 = w2c_i4 ? w2c_j2 : w2c_j3;
+  w2c_j1 += w2c_j2;
+  w2c_p6 = w2c_j1;
+  w2c_j0 -= w2c_j1;
+  w2c_j1 = w2c_p5;
+  w2c_i0 = w2c_j0 >= w2c_j1;
+  if (w2c_i0) {goto w2c_B3;}
+  w2c_j0 = 0ull;
+  w2c_p2 = w2c_j0;
+  w2c_L4: 
+    w2c_j0 = w2c_p1;
+    w2c_j1 = w2c_p2;
+    w2c_j0 += w2c_j1;
+    w2c_p3 = w2c_j0;
+    w2c_j1 = 8ull;
+    w2c_j0 += w2c_j1;
+    w2c_i0 = (u32)(w2c_j0);
+    w2c_j1 = w2c_p6;
+    w2c_j2 = w2c_p2;
+    w2c_j1 += w2c_j2;
+    w2c_p0 = w2c_j1;
+    w2c_i1 = (u32)(w2c_j1);
+    w2c_i1 = i32_load8_u(memory, (u64)(w2c_i1));
+    i32_store8(memory, (u64)(w2c_i0), w2c_i1);
+    w2c_j0 = w2c_p3;
+    w2c_j1 = 9ull;
+    w2c_j0 += w2c_j1;
+    w2c_i0 = (u32)(w2c_j0);
+    w2c_j1 = w2c_p0;
+    w2c_j2 = 1ull;
+    w2c_j1 += w2c_j2;
+    w2c_i1 = (u32)(w2c_j1);
+    w2c_i1 = i32_load8_u(memory, (u64)(w2c_i1));
+    i32_store8(memory, (u64)(w2c_i0), w2c_i1);
+    w2c_j0 = w2c_p3;
+    w2c_j1 = 10ull;
+    w2c_j0 += w2c_j1;
+    w2c_i0 = (u32)(w2c_j0);
+    w2c_j1 = w2c_p0;
+    w2c_j2 = 2ull;
+    w2c_j1 += w2c_j2;
+    w2c_i1 = (u32)(w2c_j1);
+    w2c_i1 = i32_load8_u(memory, (u64)(w2c_i1));
+    i32_store8(memory, (u64)(w2c_i0), w2c_i1);
+    w2c_j0 = w2c_p3;
+    w2c_j1 = 11ull;
+    w2c_j0 += w2c_j1;
+    w2c_i0 = (u32)(w2c_j0);
+    w2c_j1 = w2c_p0;
+    w2c_j2 = 3ull;
+    w2c_j1 += w2c_j2;
+    w2c_i1 = (u32)(w2c_j1);
+    w2c_i1 = i32_load8_u(memory, (u64)(w2c_i1));
+    i32_store8(memory, (u64)(w2c_i0), w2c_i1);
+    w2c_j0 = w2c_p5;
+    w2c_j1 = w2c_p2;
+    w2c_j2 = 4ull;
+    w2c_j1 += w2c_j2;
+    w2c_p2 = w2c_j1;
+    w2c_i0 = w2c_j0 != w2c_j1;
+    if (w2c_i0) {goto w2c_L4;}
+    goto w2c_B2;
+  UNREACHABLE;
+  w2c_B3:;
+  w2c_j0 = w2c_p5;
+  w2c_i0 = !(w2c_j0);
+  if (w2c_i0) {goto w2c_B2;}
+  w2c_j0 = w2c_l10;
+  w2c_i0 = (u32)(w2c_j0);
+  w2c_j1 = w2c_p6;
+  w2c_i1 = (u32)(w2c_j1);
+  w2c_j2 = w2c_p5;
+  w2c_i2 = (u32)(w2c_j2);
+  memory_copy(memory, memory, w2c_i0, w2c_i1, w2c_i2);
+  w2c_B2:;
+  w2c_j0 = w2c_p1;
+  w2c_i0 = (u32)(w2c_j0);
+  w2c_j1 = w2c_l8;
+  w2c_j2 = w2c_l9;
+  w2c_j3 = w2c_l10;
+  w2c_j4 = w2c_p7;
+  w2c_j5 = 18446744073709551608ull;
+  w2c_j4 += w2c_j5;
+  w2c_j1 = w2c_f12(instance, w2c_j1, w2c_j2, w2c_j3, w2c_j4);
+  w2c_p2 = w2c_j1;
+  w2c_j2 = 56ull;
+  w2c_j1 <<= (w2c_j2 & 63);
+  w2c_j2 = w2c_p2;
+  w2c_j3 = 65280ull;
+  w2c_j2 &= w2c_j3;
+  w2c_j3 = 40ull;
+  w2c_j2 <<= (w2c_j3 & 63);
+  w2c_j1 |= w2c_j2;
+  w2c_j2 = w2c_p2;
+  w2c_j3 = 16711680ull;
+  w2c_j2 &= w2c_j3;
+  w2c_j3 = 24ull;
+  w2c_j2 <<= (w2c_j3 & 63);
+  w2c_j3 = w2c_p2;
+  w2c_j4 = 4278190080ull;
+  w2c_j3 &= w2c_j4;
+  w2c_j4 = 8ull;
+  w2c_j3 <<= (w2c_j4 & 63);
+  w2c_j2 |= w2c_j3;
+  w2c_j1 |= w2c_j2;
+  w2c_j2 = w2c_p2;
+  w2c_j3 = 8ull;
+  w2c_j2 >>= (w2c_j3 & 63);
+  w2c_j3 = 4278190080ull;
+  w2c_j2 &= w2c_j3;
+  w2c_j3 = w2c_p2;
+  w2c_j4 = 24ull;
+  w2c_j3 >>= (w2c_j4 & 63);
+  w2c_j4 = 16711680ull;
+  w2c_j3 &= w2c_j4;
+  w2c_j2 |= w2c_j3;
+  w2c_j3 = w2c_p2;
+  w2c_j4 = 40ull;
+  w2c_j3 >>= (w2c_j4 & 63);
+  w2c_j4 = 65280ull;
+  w2c_j3 &= w2c_j4;
+  w2c_j4 = w2c_p2;
+  w2c_j5 = 56ull;
+  w2c_j4 >>= (w2c_j5 & 63);
+  w2c_j3 |= w2c_j4;
+  w2c_j2 |= w2c_j3;
+  w2c_j1 |= w2c_j2;
+  i64_store(memory, (u64)(w2c_i0), w2c_j1);
+  w2c_i0 = 0u;
+  w2c_l11 = w2c_i0;
+  w2c_B1:;
+  w2c_j0 = w2c_l8;
+  w2c_j1 = 512ull;
+  w2c_j0 += w2c_j1;
+  instance->w2c_g0 = w2c_j0;
+  w2c_i0 = w2c_l11;
+  goto w2c_Bfunc;
+  w2c_B0:;
+  UNREACHABLE;
+  w2c_Bfunc:;
+  return w2c_i0;
+}
+#endif
+
+#ifndef KEYWRAP_STEPS_ONLY
+/*** The calls of keywrap.h: the proved ones, which those by the processor's instructions call, too ***/
+
+#ifdef WITH_AES
+#define PROVED(type, name) static type proved_##name
+#else
+#define PROVED(type, name) type name
+#endif
+
+#define KEK(bytes, len) READS(bytes, len, 32)
+#define MANY(bytes, len) WRITES(bytes, len, SIZE_MAX)
+
+static u64 perform(struct call *call) {
+    return perform_in(call, STACK);
+}
+
+static u64 run_version(struct instance *module, const struct call *call) {
+    (void)call;
+    return w2c_keywrap_version(module);
+}
+
+uint32_t keywrap_version(void) {
+    struct call call = {.run = run_version};
+    return (uint32_t)perform(&call);
+}
+
+static u64 run_self_test(struct instance *module, const struct call *call) {
+    (void)call;
+    return w2c_keywrap_self_test(module);
+}
+
+PROVED(int32_t, keywrap_self_test)(void) {
+    struct call call = {.run = run_self_test};
+    return (int32_t)perform(&call);
+}
+
+static u64 run_status_text(struct instance *module, const struct call *call) {
+    return w2c_keywrap_status_text(module, (u32)call->number, BUFFER(0));
+}
+
+size_t keywrap_status_text(int32_t status, char *text, size_t capacity) {
+    enum { LONGEST = 80 };
+    u8 *bytes = (u8 *)text;
+    struct buffer buffers[] = {WRITES(bytes, capacity < LONGEST ? capacity : LONGEST, LONGEST)};
+    struct call call = {.run = run_status_text, BUFFERS, .number = (u32)status};
+    return (size_t)perform(&call);
+}
+
+static u64 run_wrap(struct instance *module, const struct call *call) {
+    return w2c_keywrap_wrap(module, BUFFER(0), BUFFER(1), BUFFER(2));
+}
+
+PROVED(int32_t, keywrap_wrap)
+(const uint8_t *kek, size_t kek_len, const uint8_t *key, size_t key_len, uint8_t *wrapped,
+ size_t wrapped_len) {
+    struct buffer buffers[] = {KEK(kek, kek_len), READS(key, key_len, KEYWRAP_MAX_KEY),
+                               WRITES(wrapped, wrapped_len, KEYWRAP_MAX_TEXT)};
+    struct call call = {.run = run_wrap, BUFFERS};
+    return (int32_t)perform(&call);
+}
+
+static u64 run_unwrap(struct instance *module, const struct call *call) {
+    return w2c_keywrap_unwrap(module, BUFFER(0), BUFFER(1), BUFFER(2));
+}
+
+PROVED(int32_t, keywrap_unwrap)
+(const uint8_t *kek, size_t kek_len, const uint8_t *wrapped, size_t wrapped_len, uint8_t *key,
+ size_t key_len) {
+    struct buffer buffers[] = {KEK(kek, kek_len), READS(wrapped, wrapped_len, KEYWRAP_MAX_TEXT),
+                               WRITES(key, key_len, KEYWRAP_MAX_KEY)};
+    struct call call = {.run = run_unwrap, BUFFERS};
+    return (int32_t)perform(&call);
+}
+
+static u64 run_wrap_with(struct instance *module, const struct call *call) {
+    return w2c_keywrap_wrap_with(module, BUFFER(0), BUFFER(1), BUFFER(2), BUFFER(3));
+}
+
+PROVED(int32_t, keywrap_wrap_with)
+(const uint8_t *kek, size_t kek_len, const uint8_t *iv, size_t iv_len, const uint8_t *key,
+ size_t key_len, uint8_t *wrapped, size_t wrapped_len) {
+    struct buffer buffers[] = {KEK(kek, kek_len), READS(iv, iv_len, 8),
+                               READS(key, key_len, KEYWRAP_MAX_KEY),
+                               WRITES(wrapped, wrapped_len, KEYWRAP_MAX_TEXT)};
+    struct call call = {.run = run_wrap_with, BUFFERS};
+    return (int32_t)perform(&call);
+}
+
+static u64 run_unwrap_with(struct instance *module, const struct call *call) {
+    return w2c_keywrap_unwrap_with(module, BUFFER(0), BUFFER(1), BUFFER(2), BUFFER(3));
+}
+
+PROVED(int32_t, keywrap_unwrap_with)
+(const uint8_t *kek, size_t kek_len, const uint8_t *iv, size_t iv_len, const uint8_t *wrapped,
+ size_t wrapped_len, uint8_t *key, size_t key_len) {
+    struct buffer buffers[] = {KEK(kek, kek_len), READS(iv, iv_len, 8),
+                               READS(wrapped, wrapped_len, KEYWRAP_MAX_TEXT),
+                               WRITES(key, key_len, KEYWRAP_MAX_KEY)};
+    struct call call = {.run = run_unwrap_with, BUFFERS};
+    return (int32_t)perform(&call);
+}
+
+static u64 run_wrap_padded(struct instance *module, const struct call *call) {
+    return w2c_keywrap_wrap_padded(module, BUFFER(0), BUFFER(1), BUFFER(2));
+}
+
+PROVED(int32_t, keywrap_wrap_padded)
+(const uint8_t *kek, size_t kek_len, const uint8_t *key, size_t key_len, uint8_t *wrapped,
+ size_t wrapped_len) {
+    struct buffer buffers[] = {KEK(kek, kek_len), READS(key, key_len, KEYWRAP_MAX_KEY),
+                               WRITES(wrapped, wrapped_len, KEYWRAP_MAX_TEXT)};
+    struct call call = {.run = run_wrap_padded, BUFFERS};
+    return (int32_t)perform(&call);
+}
+
+static u64 run_unwrap_padded(struct instance *module, const struct call *call) {
+    return w2c_keywrap_unwrap_padded(module, BUFFER(0), BUFFER(1), BUFFER(2), NUMBER);
+}
+
+PROVED(int32_t, keywrap_unwrap_padded)
+(const uint8_t *kek, size_t kek_len, const uint8_t *wrapped, size_t wrapped_len, uint8_t *key,
+ size_t room, size_t *key_len) {
+    struct buffer buffers[] = {KEK(kek, kek_len), READS(wrapped, wrapped_len, KEYWRAP_MAX_TEXT),
+                               WRITES(key, room, KEYWRAP_MAX_KEY)};
+    struct call call = {
+        .run = run_unwrap_padded,
+        BUFFERS,
+        .key_len = key_len,
+    };
+    return (int32_t)perform(&call);
+}
+
+static u64 run_wrap_in_place(struct instance *module, const struct call *call) {
+    return w2c_keywrap_wrap_in_place(module, BUFFER(0), BUFFER(1));
+}
+
+PROVED(int32_t, keywrap_wrap_in_place)
+(const uint8_t *kek, size_t kek_len, uint8_t *buffer, size_t wrapped_len) {
+    struct buffer buffers[] = {KEK(kek, kek_len), WRITES(buffer, wrapped_len, KEYWRAP_MAX_TEXT)};
+    struct call call = {.run = run_wrap_in_place, BUFFERS};
+    return (int32_t)perform(&call);
+}
+
+static u64 run_unwrap_in_place(struct instance *module, const struct call *call) {
+    return w2c_keywrap_unwrap_in_place(module, BUFFER(0), BUFFER(1));
+}
+
+PROVED(int32_t, keywrap_unwrap_in_place)
+(const uint8_t *kek, size_t kek_len, uint8_t *buffer, size_t wrapped_len) {
+    struct buffer buffers[] = {KEK(kek, kek_len), WRITES(buffer, wrapped_len, KEYWRAP_MAX_TEXT)};
+    struct call call = {.run = run_unwrap_in_place, BUFFERS};
+    return (int32_t)perform(&call);
+}
+
+static u64 run_wrap_padded_in_place(struct instance *module, const struct call *call) {
+    return w2c_keywrap_wrap_padded_in_place(module, BUFFER(0), BUFFER(1), call->number);
+}
+
+PROVED(int32_t, keywrap_wrap_padded_in_place)
+(const uint8_t *kek, size_t kek_len, uint8_t *buffer, size_t wrapped_len, size_t key_len) {
+    struct buffer buffers[] = {KEK(kek, kek_len), WRITES(buffer, wrapped_len, KEYWRAP_MAX_TEXT)};
+    struct call call = {
+        .run = run_wrap_padded_in_place,
+        BUFFERS,
+        .number = key_len,
+    };
+    return (int32_t)perform(&call);
+}
+
+static u64 run_unwrap_padded_in_place(struct instance *module, const struct call *call) {
+    return w2c_keywrap_unwrap_padded_in_place(module, BUFFER(0), BUFFER(1), NUMBER);
+}
+
+PROVED(int32_t, keywrap_unwrap_padded_in_place)
+(const uint8_t *kek, size_t kek_len, uint8_t *buffer, size_t wrapped_len, size_t *key_len) {
+    struct buffer buffers[] = {KEK(kek, kek_len), WRITES(buffer, wrapped_len, KEYWRAP_MAX_TEXT)};
+    struct call call = {
+        .run = run_unwrap_padded_in_place,
+        BUFFERS,
+        .key_len = key_len,
+    };
+    return (int32_t)perform(&call);
+}
+
+static u64 run_kind(struct instance *module, const struct call *call) {
+    return w2c_keywrap_kind(module, BUFFER(0), BUFFER(1), BUFFER(2), FLAG, NUMBER);
+}
+
+PROVED(int32_t, keywrap_kind)
+(const uint8_t *kek, size_t kek_len, const uint8_t *wrapped, size_t wrapped_len, uint8_t *scratch,
+ size_t room, uint32_t *padded, size_t *key_len) {
+    struct buffer buffers[] = {KEK(kek, kek_len), READS(wrapped, wrapped_len, KEYWRAP_MAX_TEXT),
+                               WRITES(scratch, room, KEYWRAP_MAX_KEY)};
+    struct call call = {
+        .run = run_kind,
+        BUFFERS,
+        .key_len = key_len,
+        .flag = padded,
+    };
+    return (int32_t)perform(&call);
+}
+
+static u64 run_unwrap_any(struct instance *module, const struct call *call) {
+    return w2c_keywrap_unwrap_any(module, BUFFER(0), BUFFER(1), BUFFER(2), FLAG, NUMBER);
+}
+
+PROVED(int32_t, keywrap_unwrap_any)
+(const uint8_t *kek, size_t kek_len, const uint8_t *wrapped, size_t wrapped_len, uint8_t *key,
+ size_t room, uint32_t *padded, size_t *key_len) {
+    struct buffer buffers[] = {KEK(kek, kek_len), READS(wrapped, wrapped_len, KEYWRAP_MAX_TEXT),
+                               WRITES(key, room, KEYWRAP_MAX_KEY)};
+    struct call call = {
+        .run = run_unwrap_any,
+        BUFFERS,
+        .key_len = key_len,
+        .flag = padded,
+    };
+    return (int32_t)perform(&call);
+}
+
+static u64 run_rewrap(struct instance *module, const struct call *call) {
+    return w2c_keywrap_rewrap(module, BUFFER(0), BUFFER(1), BUFFER(2), (u32)call->number, FLAG);
+}
+
+PROVED(int32_t, keywrap_rewrap)
+(const uint8_t *old_kek, size_t old_kek_len, const uint8_t *new_kek, size_t new_kek_len,
+ uint8_t *buffer, size_t wrapped_len, uint32_t flags, uint32_t *already) {
+    struct buffer buffers[] = {KEK(old_kek, old_kek_len), KEK(new_kek, new_kek_len),
+                               WRITES(buffer, wrapped_len, KEYWRAP_MAX_TEXT)};
+    struct call call = {
+        .run = run_rewrap,
+        BUFFERS,
+        .number = flags,
+        .flag = already,
+    };
+    return (int32_t)perform(&call);
+}
+
+static u64 run_rewrap_in_place(struct instance *module, const struct call *call) {
+    return w2c_keywrap_rewrap_in_place(module, BUFFER(0), BUFFER(1), BUFFER(2), (u32)call->number);
+}
+
+PROVED(int32_t, keywrap_rewrap_in_place)
+(const uint8_t *old_kek, size_t old_kek_len, const uint8_t *new_kek, size_t new_kek_len,
+ uint8_t *buffer, size_t wrapped_len, uint32_t forms) {
+    struct buffer buffers[] = {KEK(old_kek, old_kek_len), KEK(new_kek, new_kek_len),
+                               WRITES(buffer, wrapped_len, KEYWRAP_MAX_TEXT)};
+    struct call call = {
+        .run = run_rewrap_in_place,
+        BUFFERS,
+        .number = forms,
+    };
+    return (int32_t)perform(&call);
+}
+
+/* The number of slots, or 0, which the call refuses: a slot is shorter or longer than any wrapped
+ * key, sizes are odd, or the other results are not as many. */
+static size_t slots_of(size_t texts_len, size_t count, size_t lens) {
+    if (count == 0 || texts_len % count != 0 || lens != count) return 0;
+    return texts_len / count < 16 || texts_len / count > KEYWRAP_MAX_TEXT ? 0 : count;
+}
+
+/* The lengths of keys that one run of the module returns. */
+enum { MOST_LENS = 32 };
+
+/* How many of the slots that are left one run takes: the module has addresses of 32 bits. */
+static size_t slots_now(size_t left, size_t text_len, size_t most) {
+    const size_t fit = text_len == 0 ? 0 : ((size_t)1 << 30) / text_len;
+    const size_t now = fit < most ? fit : most;
+    return left < now ? left : now;
+}
+
+/* The numbers that the module returned in these bytes. */
+static void put_lens(size_t *key_lens, const u8 *bytes, size_t count) {
+    for (size_t i = 0; i < count; i++) {
+        u64 len = 0;
+        for (int k = 7; k >= 0; k--) len = len << 8 | bytes[8 * i + k];
+        key_lens[i] = (size_t)len;
+    }
+}
+
+static u64 run_rewrap_many(struct instance *module, const struct call *call) {
+    return w2c_keywrap_rewrap_many(module, BUFFER(0), BUFFER(1), BUFFER(2), (u32)call->number,
+                                   BUFFER(3));
+}
+
+PROVED(int32_t, keywrap_rewrap_many)
+(const uint8_t *old_kek, size_t old_kek_len, const uint8_t *new_kek, size_t new_kek_len,
+ uint8_t *texts, size_t texts_len, uint32_t flags, uint8_t *statuses, size_t count) {
+    const size_t slots = slots_of(texts_len, count, count), len = slots ? texts_len / slots : 0;
+    int32_t status;
+    size_t done = 0;
+    do {
+        const size_t now = slots_now(slots - done, len, SIZE_MAX);
+        struct buffer buffers[] = {KEK(old_kek, old_kek_len), KEK(new_kek, new_kek_len),
+                                   MANY(texts + len * done, len * now), MANY(statuses + done, now)};
+        struct call call = {
+            .run = run_rewrap_many,
+            BUFFERS,
+            .number = flags,
+        };
+        status = (int32_t)perform(&call);
+        done += now;
+    } while (status == KEYWRAP_OK && done < slots);
+    return status;
+}
+
+static u64 run_wrap_many(struct instance *module, const struct call *call) {
+    return w2c_keywrap_wrap_many(module, BUFFER(0), BUFFER(1), call->number, call->flags,
+                                 BUFFER(2));
+}
+
+PROVED(int32_t, keywrap_wrap_many)
+(const uint8_t *kek, size_t kek_len, uint8_t *texts, size_t texts_len, size_t key_len,
+ uint32_t flags, uint8_t *statuses, size_t count) {
+    const size_t slots = slots_of(texts_len, count, count), len = slots ? texts_len / slots : 0;
+    int32_t status;
+    size_t done = 0;
+    do {
+        const size_t now = slots_now(slots - done, len, SIZE_MAX);
+        struct buffer buffers[] = {KEK(kek, kek_len), MANY(texts + len * done, len * now),
+                                   MANY(statuses + done, now)};
+        struct call call = {
+            .run = run_wrap_many,
+            BUFFERS,
+            .number = key_len,
+            .flags = flags,
+        };
+        status = (int32_t)perform(&call);
+        done += now;
+    } while (status == KEYWRAP_OK && done < slots);
+    return status;
+}
+
+static u64 run_unwrap_many(struct instance *module, const struct call *call) {
+    return w2c_keywrap_unwrap_many(module, BUFFER(0), BUFFER(1), (u32)call->number, ADDRESS(2),
+                                   call->buffers[3].len, BUFFER(3));
+}
+
+PROVED(int32_t, keywrap_unwrap_many)
+(const uint8_t *kek, size_t kek_len, uint8_t *texts, size_t texts_len, uint32_t flags,
+ size_t *key_lens, size_t key_lens_count, uint8_t *statuses, size_t count) {
+    const size_t slots = slots_of(texts_len, count, key_lens_count);
+    const size_t len = slots ? texts_len / slots : 0;
+    u8 lens[8 * MOST_LENS];
+    int32_t status;
+    size_t done = 0;
+    do {
+        const size_t now = slots_now(slots - done, len, MOST_LENS);
+        struct buffer buffers[] = {KEK(kek, kek_len), MANY(texts + len * done, len * now),
+                                   MANY(lens, 8 * now), MANY(statuses + done, now)};
+        struct call call = {
+            .run = run_unwrap_many,
+            BUFFERS,
+            .number = flags,
+        };
+        status = (int32_t)perform(&call);
+        if (status == KEYWRAP_OK) put_lens(key_lens + done, lens, now);
+        done += now;
+    } while (status == KEYWRAP_OK && done < slots);
+    return status;
+}
+
+static u64 run_kind_many(struct instance *module, const struct call *call) {
+    return w2c_keywrap_kind_many(module, BUFFER(0), BUFFER(1), BUFFER(2), BUFFER(3), ADDRESS(4),
+                                 call->buffers[5].len, BUFFER(5));
+}
+
+PROVED(int32_t, keywrap_kind_many)
+(const uint8_t *kek, size_t kek_len, const uint8_t *texts, size_t texts_len, uint8_t *scratch,
+ size_t room, uint8_t *forms, size_t forms_count, size_t *key_lens, size_t key_lens_count,
+ uint8_t *statuses, size_t count) {
+    const size_t slots = forms_count == count ? slots_of(texts_len, count, key_lens_count) : 0;
+    const size_t len = slots ? texts_len / slots : 0;
+    u8 lens[8 * MOST_LENS];
+    int32_t status;
+    size_t done = 0;
+    do {
+        const size_t now = slots_now(slots - done, len, MOST_LENS);
+        struct buffer buffers[] = {KEK(kek, kek_len),
+                                   READS(texts + len * done, len * now, SIZE_MAX),
+                                   WRITES(scratch, room, KEYWRAP_MAX_KEY),
+                                   MANY(forms + done, now),
+                                   MANY(lens, 8 * now),
+                                   MANY(statuses + done, now)};
+        struct call call = {.run = run_kind_many, BUFFERS};
+        status = (int32_t)perform(&call);
+        if (status == KEYWRAP_OK) put_lens(key_lens + done, lens, now);
+        done += now;
+    } while (status == KEYWRAP_OK && done < slots);
+    return status;
+}
+#endif
+
+/*** The calls of keywrap_steps.h ***/
+
+ALWAYS_INLINE u64 perform_steps(struct call *call) {
+    return perform_in(call, STEPS_STACK);
+}
+
+static u64 run_begin_wrap(struct instance *module, const struct call *call) {
+    return w2c_keywrap_begin_wrap(module, BUFFER(0), BUFFER(1), NUMBER, BLOCK_AT);
+}
+
+int32_t keywrap_begin_wrap(const uint8_t *iv, size_t iv_len, const uint8_t *registers, size_t len,
+                           uint64_t *done, uint8_t *block) {
+    struct buffer buffers[] = {READS(iv, iv_len, 8), READS(registers, len, KEYWRAP_MAX_KEY)};
+    struct call call = {
+        .run = run_begin_wrap,
+        BUFFERS,
+        .steps = done,
+        .block = block,
+        .begins = 1,
+    };
+    return (int32_t)perform_steps(&call);
+}
+
+static u64 run_begin_wrap_padded(struct instance *module, const struct call *call) {
+    return w2c_keywrap_begin_wrap_padded(module, call->number, BUFFER(0), NUMBER, BLOCK_AT);
+}
+
+int32_t keywrap_begin_wrap_padded(size_t key_len, uint8_t *registers, size_t len, uint64_t *done,
+                                  uint8_t *block) {
+    struct buffer buffers[] = {WRITES(registers, len, KEYWRAP_MAX_KEY)};
+    struct call call = {
+        .run = run_begin_wrap_padded,
+        BUFFERS,
+        .number = key_len,
+        .steps = done,
+        .block = block,
+        .begins = 1,
+    };
+    return (int32_t)perform_steps(&call);
+}
+
+static u64 run_step_wrap(struct instance *module, const struct call *call) {
+    return w2c_keywrap_step_wrap(module, BUFFER(0), NUMBER, BLOCK_AT);
+}
+
+int32_t keywrap_step_wrap(uint8_t *registers, size_t len, uint64_t *done, uint8_t *block) {
+    struct buffer buffers[] = {WRITES(registers, len, KEYWRAP_MAX_KEY)};
+    struct call call = {
+        .run = run_step_wrap,
+        BUFFERS,
+        .steps = done,
+        .block = block,
+    };
+    return (int32_t)perform_steps(&call);
+}
+
+static u64 run_end_wrap(struct instance *module, const struct call *call) {
+    return w2c_keywrap_end_wrap(module, ADDRESS(0), BUFFER(1), call->number, ADDRESS(2));
+}
+
+int32_t keywrap_end_wrap(uint8_t *first, const uint8_t *registers, size_t len, uint64_t done,
+                         const uint8_t *block) {
+    struct buffer buffers[] = {WRITES(first, 8, 8), READS(registers, len, KEYWRAP_MAX_KEY),
+                               READS(block, 16, 16)};
+    struct call call = {
+        .run = run_end_wrap,
+        BUFFERS,
+        .number = done,
+    };
+    return (int32_t)perform_steps(&call);
+}
+
+static u64 run_begin_unwrap(struct instance *module, const struct call *call) {
+    return w2c_keywrap_begin_unwrap(module, ADDRESS(0), BUFFER(1), NUMBER, BLOCK_AT);
+}
+
+int32_t keywrap_begin_unwrap(const uint8_t *first, const uint8_t *registers, size_t len,
+                             uint64_t *left, uint8_t *block) {
+    struct buffer buffers[] = {READS(first, 8, 8), READS(registers, len, KEYWRAP_MAX_KEY)};
+    struct call call = {
+        .run = run_begin_unwrap,
+        BUFFERS,
+        .steps = left,
+        .block = block,
+        .begins = 1,
+    };
+    return (int32_t)perform_steps(&call);
+}
+
+static u64 run_begin_unwrap_padded(struct instance *module, const struct call *call) {
+    return w2c_keywrap_begin_unwrap_padded(module, ADDRESS(0), BUFFER(1), NUMBER, BLOCK_AT);
+}
+
+int32_t keywrap_begin_unwrap_padded(const uint8_t *first, const uint8_t *registers, size_t len,
+                                    uint64_t *left, uint8_t *block) {
+    struct buffer buffers[] = {READS(first, 8, 8), READS(registers, len, KEYWRAP_MAX_KEY)};
+    struct call call = {
+        .run = run_begin_unwrap_padded,
+        BUFFERS,
+        .steps = left,
+        .block = block,
+        .begins = 1,
+    };
+    return (int32_t)perform_steps(&call);
+}
+
+static u64 run_step_unwrap(struct instance *module, const struct call *call) {
+    return w2c_keywrap_step_unwrap(module, BUFFER(0), NUMBER, BLOCK_AT);
+}
+
+int32_t keywrap_step_unwrap(uint8_t *registers, size_t len, uint64_t *left, uint8_t *block) {
+    struct buffer buffers[] = {WRITES(registers, len, KEYWRAP_MAX_KEY)};
+    struct call call = {
+        .run = run_step_unwrap,
+        BUFFERS,
+        .steps = left,
+        .block = block,
+    };
+    return (int32_t)perform_steps(&call);
+}
+
+static u64 run_end_unwrap(struct instance *module, const struct call *call) {
+    return w2c_keywrap_end_unwrap(module, BUFFER(0), BUFFER(1), call->number, BLOCK_AT);
+}
+
+int32_t keywrap_end_unwrap(const uint8_t *iv, size_t iv_len, uint8_t *registers, size_t len,
+                           uint64_t left, uint8_t *block) {
+    struct buffer buffers[] = {READS(iv, iv_len, 8), WRITES(registers, len, KEYWRAP_MAX_KEY)};
+    struct call call = {
+        .run = run_end_unwrap,
+        BUFFERS,
+        .number = left,
+        .block = block,
+    };
+    return (int32_t)perform_steps(&call);
+}
+
+static u64 run_end_unwrap_padded(struct instance *module, const struct call *call) {
+    return w2c_keywrap_end_unwrap_padded(module, BUFFER(0), call->number, BLOCK_AT, NUMBER);
+}
+
+int32_t keywrap_end_unwrap_padded(uint8_t *registers, size_t len, uint64_t left, uint8_t *block,
+                                  size_t *key_len) {
+    struct buffer buffers[] = {WRITES(registers, len, KEYWRAP_MAX_KEY)};
+    struct call call = {
+        .run = run_end_unwrap_padded,
+        BUFFERS,
+        .number = left,
+        .key_len = key_len,
+        .block = block,
+    };
+    return (int32_t)perform_steps(&call);
+}
+
+#ifdef WITH_AES
+/*** The calls by the processor's AES ***/
+
+/* aes.h: AES by the processor's instructions, chosen at run time (FIPS 197). */
+
+#ifndef HARDWARE_AES_H
+#define HARDWARE_AES_H
+
+
+enum { BLOCK = 16, ROUNDS_AT_MOST = 14, SCHEDULE = BLOCK * (ROUNDS_AT_MOST + 1) };
+
+/* The round keys in the order of the cipher, or of the inverse cipher. */
+struct aes {
+    uint8_t keys[SCHEDULE];
+    unsigned rounds;
+};
+
+/* aes_works returns whether the processor has the instructions and they passed a known-answer test.
+ * The first call decides. Threads may make it at once. */
+static APART int aes_works(void);
+
+/* aes_known_answers makes that test, for which the processor needs the instructions. */
+static APART int aes_known_answers(void);
+
+/* aes_set_encrypt and aes_set_decrypt expand a KEK of 16, 24 or 32 bytes. Any other length is
+ * refused: they return 0. */
+static APART int aes_set_encrypt(struct aes *aes, const uint8_t *kek, size_t kek_len);
+static APART int aes_set_decrypt(struct aes *aes, const uint8_t *kek, size_t kek_len);
+
+static APART void aes_encrypt(const struct aes *aes, uint8_t block[BLOCK]);
+static APART void aes_decrypt(const struct aes *aes, uint8_t block[BLOCK]);
+
+/* Work on the blocks side by side, 8 at once: count is a multiple of 8. */
+static APART void aes_encrypt_many(const struct aes *aes, uint8_t *blocks, size_t count);
+static APART void aes_decrypt_many(const struct aes *aes, uint8_t *blocks, size_t count);
+
+/* wipe clears memory even if nothing reads it afterwards. */
+static APART void wipe(void *memory, size_t len);
+
+/* What each processor provides, in x86_64.c and aarch64.c. expand writes the round keys of a KEK, and
+ * invert turns them into the round keys of the inverse cipher. The number of rounds is set before. */
+static APART int has_instructions(void);
+static APART void expand(struct aes *aes, const uint8_t *kek, size_t kek_len);
+static APART void invert(struct aes *aes);
+static APART void encrypt_block(const struct aes *aes, uint8_t block[BLOCK]);
+static APART void decrypt_block(const struct aes *aes, uint8_t block[BLOCK]);
+static APART void encrypt_8_blocks(const struct aes *aes, uint8_t blocks[8 * BLOCK]);
+static APART void decrypt_8_blocks(const struct aes *aes, uint8_t blocks[8 * BLOCK]);
+
+#endif
+
+/* run.h: what the calls for one key and those for many share. */
+
+#ifndef HARDWARE_RUN_H
+#define HARDWARE_RUN_H
+
+
+static const uint8_t DEFAULT_IV[8] = {0xa6, 0xa6, 0xa6, 0xa6, 0xa6, 0xa6, 0xa6, 0xa6};
+
+/* A wrapping or an unwrapping that has begun. */
+struct run {
+    uint64_t steps;
+    uint8_t block[BLOCK];
+};
+
+static inline int is_kek(size_t len) {
+    return aes_works() && (len == 16 || len == 24 || len == 32);
+}
+
+/* end_unwrap_any ends an unwrap in the form that the registers have. A refusal leaves any numbers. */
+static APART int32_t end_unwrap_any(struct run *run, uint8_t *registers, size_t len, uint32_t *padded,
+                       size_t *key_len);
+
+#endif
+
+/* x86_64.c: AES by AES-NI. The block is loaded as two words of 8 bytes: a load of 16 bytes would
+ * wait for the two stores of the step before. */
+
+#ifdef __x86_64__
+
+#include <cpuid.h>
+#include <wmmintrin.h>
+
+
+#define BY_AES __attribute__((target("aes,sse2")))
+
+int has_instructions(void) {
+    unsigned a, b, c, d;
+    return __get_cpuid(1, &a, &b, &c, &d) && (c & bit_AES);
+}
+
+BY_AES static __m128i round_key(const struct aes *aes, unsigned i) {
+    return _mm_loadu_si128((const __m128i *)(aes->keys + BLOCK * i));
+}
+
+BY_AES static void set_round_key(struct aes *aes, unsigned i, __m128i key) {
+    _mm_storeu_si128((__m128i *)(aes->keys + BLOCK * i), key);
+}
+
+/* Each word is the sum of the words up to it. */
+BY_AES static __m128i sums(__m128i words) {
+    words = _mm_xor_si128(words, _mm_slli_si128(words, 4));
+    return _mm_xor_si128(words, _mm_slli_si128(words, 8));
+}
+
+/* SubWord and an addition, in four equal words: ShiftRows changes nothing in equal columns. This is
+ * several times as fast as AESKEYGENASSIST. */
+BY_AES static __m128i sub_words(__m128i words, __m128i constant) {
+    return _mm_aesenclast_si128(words, constant);
+}
+
+/* RotWord, in four equal words. */
+BY_AES static __m128i rotated(__m128i words) {
+    return _mm_or_si128(_mm_srli_epi32(words, 8), _mm_slli_epi32(words, 24));
+}
+
+BY_AES static void expand_16(struct aes *aes, __m128i a) {
+    __m128i constant = _mm_set1_epi32(1);
+    set_round_key(aes, 0, a);
+    for (unsigned i = 1; i <= 10; i++) {
+        __m128i last = rotated(_mm_shuffle_epi32(a, 0xff));
+        if (i == 9) constant = _mm_set1_epi32(0x1b);
+        a = _mm_xor_si128(sums(a), sub_words(last, constant));
+        set_round_key(aes, i, a);
+        constant = _mm_slli_epi32(constant, 1);
+    }
+}
+
+/* Turns: six words each, in a and the lower half of b. */
+BY_AES static void expand_24(struct aes *aes, __m128i a, __m128i b) {
+    __m128i constant = _mm_set1_epi32(1);
+    uint8_t *at = aes->keys;
+    for (unsigned turn = 0;; turn++, at += 24) {
+        _mm_storeu_si128((__m128i *)at, a);
+        if (turn == 8) break;
+        _mm_storel_epi64((__m128i *)(at + 16), b);
+        __m128i last = rotated(_mm_shuffle_epi32(b, 0x55));
+        a = _mm_xor_si128(sums(a), sub_words(last, constant));
+        b = _mm_xor_si128(sums(b), _mm_shuffle_epi32(a, 0xff));
+        constant = _mm_slli_epi32(constant, 1);
+    }
+}
+
+BY_AES static void expand_32(struct aes *aes, __m128i a, __m128i b) {
+    __m128i constant = _mm_set1_epi32(1);
+    set_round_key(aes, 0, a);
+    set_round_key(aes, 1, b);
+    for (unsigned i = 2;; i += 2) {
+        a = _mm_xor_si128(sums(a), sub_words(rotated(_mm_shuffle_epi32(b, 0xff)), constant));
+        set_round_key(aes, i, a);
+        if (i == 14) break;
+        b = _mm_xor_si128(sums(b), sub_words(_mm_shuffle_epi32(a, 0xff), _mm_setzero_si128()));
+        set_round_key(aes, i + 1, b);
+        constant = _mm_slli_epi32(constant, 1);
+    }
+}
+
+BY_AES void expand(struct aes *aes, const uint8_t *kek, size_t kek_len) {
+    __m128i a = _mm_loadu_si128((const __m128i *)kek);
+    if (kek_len == 16)
+        expand_16(aes, a);
+    else if (kek_len == 24)
+        expand_24(aes, a, _mm_loadl_epi64((const __m128i *)(kek + 16)));
+    else
+        expand_32(aes, a, _mm_loadu_si128((const __m128i *)(kek + 16)));
+}
+
+/* In the other order, with all but the outer two mixed. */
+BY_AES void invert(struct aes *aes) {
+    unsigned low = 1, high = aes->rounds - 1;
+    __m128i first = round_key(aes, 0);
+    set_round_key(aes, 0, round_key(aes, aes->rounds));
+    set_round_key(aes, aes->rounds, first);
+    for (; low <= high; low++, high--) {
+        __m128i key = _mm_aesimc_si128(round_key(aes, low));
+        set_round_key(aes, low, _mm_aesimc_si128(round_key(aes, high)));
+        set_round_key(aes, high, key);
+    }
+}
+
+BY_AES static __m128i load(const uint8_t block[BLOCK]) {
+    __m128i low = _mm_loadl_epi64((const __m128i *)block);
+    __m128i high = _mm_loadl_epi64((const __m128i *)(block + 8));
+    return _mm_unpacklo_epi64(low, high);
+}
+
+BY_AES void encrypt_block(const struct aes *aes, uint8_t block[BLOCK]) {
+    __m128i state = _mm_xor_si128(load(block), round_key(aes, 0));
+    for (unsigned i = 1; i < aes->rounds; i++) state = _mm_aesenc_si128(state, round_key(aes, i));
+    state = _mm_aesenclast_si128(state, round_key(aes, aes->rounds));
+    _mm_storeu_si128((__m128i *)block, state);
+}
+
+BY_AES void decrypt_block(const struct aes *aes, uint8_t block[BLOCK]) {
+    __m128i state = _mm_xor_si128(load(block), round_key(aes, 0));
+    for (unsigned i = 1; i < aes->rounds; i++) state = _mm_aesdec_si128(state, round_key(aes, i));
+    state = _mm_aesdeclast_si128(state, round_key(aes, aes->rounds));
+    _mm_storeu_si128((__m128i *)block, state);
+}
+
+/* The processor begins a round of each block before the round of the first one ends. */
+#define EACH(X) X(0) X(1) X(2) X(3) X(4) X(5) X(6) X(7)
+#define BEGIN(i) __m128i b##i = _mm_xor_si128(load(blocks + BLOCK * i), key);
+#define END(i) _mm_storeu_si128((__m128i *)(blocks + BLOCK * i), b##i);
+#define ENCRYPT(i) b##i = _mm_aesenc_si128(b##i, key);
+#define ENCRYPT_LAST(i) b##i = _mm_aesenclast_si128(b##i, key);
+#define DECRYPT(i) b##i = _mm_aesdec_si128(b##i, key);
+#define DECRYPT_LAST(i) b##i = _mm_aesdeclast_si128(b##i, key);
+
+BY_AES void encrypt_8_blocks(const struct aes *aes, uint8_t blocks[8 * BLOCK]) {
+    __m128i key = round_key(aes, 0);
+    EACH(BEGIN)
+    for (unsigned i = 1; i < aes->rounds; i++) {
+        key = round_key(aes, i);
+        EACH(ENCRYPT)
+    }
+    key = round_key(aes, aes->rounds);
+    EACH(ENCRYPT_LAST)
+    EACH(END)
+}
+
+BY_AES void decrypt_8_blocks(const struct aes *aes, uint8_t blocks[8 * BLOCK]) {
+    __m128i key = round_key(aes, 0);
+    EACH(BEGIN)
+    for (unsigned i = 1; i < aes->rounds; i++) {
+        key = round_key(aes, i);
+        EACH(DECRYPT)
+    }
+    key = round_key(aes, aes->rounds);
+    EACH(DECRYPT_LAST)
+    EACH(END)
+}
+
+#else
+typedef int of_another_processor;
+#endif
+
+/* aarch64.c: AES by the Arm cryptographic extension. AESE and AESD add the round key first, so the
+ * last round key needs an addition of its own. */
+
+#ifdef __aarch64__
+
+#include <arm_neon.h>
+#include <sys/auxv.h>
+
+
+#ifdef __clang__
+#define BY_AES __attribute__((target("aes")))
+#else
+#define BY_AES __attribute__((target("+crypto")))
+#endif
+
+/* HWCAP_AES of Linux, asm/hwcap.h. */
+enum { HAS_AES = 1 << 3 };
+
+int has_instructions(void) {
+    return (getauxval(AT_HWCAP) & HAS_AES) != 0;
+}
+
+/* ShiftRows changes nothing in a block of four equal columns. */
+BY_AES static uint32_t sub_word(uint32_t word) {
+    uint8x16_t columns = vreinterpretq_u8_u32(vdupq_n_u32(word));
+    return vgetq_lane_u32(vreinterpretq_u32_u8(vaeseq_u8(columns, vdupq_n_u8(0))), 0);
+}
+
+static uint32_t word_at(const struct aes *aes, unsigned i) {
+    uint32_t word;
+    memcpy(&word, aes->keys + 4 * i, 4);
+    return word;
+}
+
+/* Words are in the order of their bytes in memory. */
+void expand(struct aes *aes, const uint8_t *kek, size_t kek_len) {
+    unsigned n = (unsigned)kek_len / 4;
+    uint32_t constant = 1;
+    memcpy(aes->keys, kek, kek_len);
+    for (unsigned i = n; i < 4 * (aes->rounds + 1); i++) {
+        uint32_t word = word_at(aes, i - 1);
+        if (i % n == 0) {
+            word = sub_word(word >> 8 | word << 24) ^ constant;
+            constant = constant << 1 ^ (constant >> 7) * 0x11b;
+        } else if (n == 8 && i % n == 4) {
+            word = sub_word(word);
+        }
+        word ^= word_at(aes, i - n);
+        memcpy(aes->keys + 4 * i, &word, 4);
+    }
+}
+
+static uint8x16_t round_key(const struct aes *aes, unsigned i) {
+    return vld1q_u8(aes->keys + BLOCK * i);
+}
+
+static void set_round_key(struct aes *aes, unsigned i, uint8x16_t key) {
+    vst1q_u8(aes->keys + BLOCK * i, key);
+}
+
+/* In the other order, with all but the outer two mixed. */
+BY_AES void invert(struct aes *aes) {
+    unsigned low = 1, high = aes->rounds - 1;
+    uint8x16_t first = round_key(aes, 0);
+    set_round_key(aes, 0, round_key(aes, aes->rounds));
+    set_round_key(aes, aes->rounds, first);
+    for (; low <= high; low++, high--) {
+        uint8x16_t key = vaesimcq_u8(round_key(aes, low));
+        set_round_key(aes, low, vaesimcq_u8(round_key(aes, high)));
+        set_round_key(aes, high, key);
+    }
+}
+
+static uint8x16_t load(const uint8_t block[BLOCK]) {
+    return vcombine_u8(vld1_u8(block), vld1_u8(block + 8));
+}
+
+BY_AES void encrypt_block(const struct aes *aes, uint8_t block[BLOCK]) {
+    uint8x16_t state = load(block);
+    unsigned last = aes->rounds - 1;
+    for (unsigned i = 0; i < last; i++) state = vaesmcq_u8(vaeseq_u8(state, round_key(aes, i)));
+    state = vaeseq_u8(state, round_key(aes, last));
+    vst1q_u8(block, veorq_u8(state, round_key(aes, aes->rounds)));
+}
+
+BY_AES void decrypt_block(const struct aes *aes, uint8_t block[BLOCK]) {
+    uint8x16_t state = load(block);
+    unsigned last = aes->rounds - 1;
+    for (unsigned i = 0; i < last; i++) state = vaesimcq_u8(vaesdq_u8(state, round_key(aes, i)));
+    state = vaesdq_u8(state, round_key(aes, last));
+    vst1q_u8(block, veorq_u8(state, round_key(aes, aes->rounds)));
+}
+
+#define EACH(X) X(0) X(1) X(2) X(3) X(4) X(5) X(6) X(7)
+#define BEGIN(i) uint8x16_t b##i = load(blocks + BLOCK * i);
+#define END(i) vst1q_u8(blocks + BLOCK * i, veorq_u8(b##i, key));
+#define ENCRYPT(i) b##i = vaesmcq_u8(vaeseq_u8(b##i, key));
+#define ENCRYPT_LAST(i) b##i = vaeseq_u8(b##i, key);
+#define DECRYPT(i) b##i = vaesimcq_u8(vaesdq_u8(b##i, key));
+#define DECRYPT_LAST(i) b##i = vaesdq_u8(b##i, key);
+
+BY_AES void encrypt_8_blocks(const struct aes *aes, uint8_t blocks[8 * BLOCK]) {
+    uint8x16_t key = round_key(aes, 0);
+    EACH(BEGIN)
+    for (unsigned i = 1; i < aes->rounds; i++) {
+        EACH(ENCRYPT)
+        key = round_key(aes, i);
+    }
+    EACH(ENCRYPT_LAST)
+    key = round_key(aes, aes->rounds);
+    EACH(END)
+}
+
+BY_AES void decrypt_8_blocks(const struct aes *aes, uint8_t blocks[8 * BLOCK]) {
+    uint8x16_t key = round_key(aes, 0);
+    EACH(BEGIN)
+    for (unsigned i = 1; i < aes->rounds; i++) {
+        EACH(DECRYPT)
+        key = round_key(aes, i);
+    }
+    EACH(DECRYPT_LAST)
+    key = round_key(aes, aes->rounds);
+    EACH(END)
+}
+
+#else
+typedef int of_another_processor;
+#endif
+
+/* aes.c: the lengths of a KEK, and the known-answer test. */
+
+
+
+void wipe(void *memory, size_t len) {
+    memset(memory, 0, len);
+    __asm__ volatile("" : : "r"(memory) : "memory");
+}
+
+/* Key expansion (FIPS 197, section 5.2). */
+int aes_set_encrypt(struct aes *aes, const uint8_t *kek, size_t kek_len) {
+    if (kek_len != 16 && kek_len != 24 && kek_len != 32) return 0;
+    aes->rounds = (unsigned)kek_len / 4 + 6;
+    expand(aes, kek, kek_len);
+    return 1;
+}
+
+/* The schedule of the equivalent inverse cipher (section 5.3.5). */
+int aes_set_decrypt(struct aes *aes, const uint8_t *kek, size_t kek_len) {
+    if (!aes_set_encrypt(aes, kek, kek_len)) return 0;
+    invert(aes);
+    return 1;
+}
+
+void aes_encrypt(const struct aes *aes, uint8_t block[BLOCK]) {
+    encrypt_block(aes, block);
+}
+
+void aes_decrypt(const struct aes *aes, uint8_t block[BLOCK]) {
+    decrypt_block(aes, block);
+}
+
+void aes_encrypt_many(const struct aes *aes, uint8_t *blocks, size_t count) {
+    for (size_t i = 0; i < count; i += 8) encrypt_8_blocks(aes, blocks + BLOCK * i);
+}
+
+void aes_decrypt_many(const struct aes *aes, uint8_t *blocks, size_t count) {
+    for (size_t i = 0; i < count; i += 8) decrypt_8_blocks(aes, blocks + BLOCK * i);
+}
+
+/* The ciphertexts of 00112233445566778899aabbccddeeff under 00 01 02 .. (FIPS 197, appendix C). */
+static const uint8_t CIPHERTEXTS[3][BLOCK] = {
+    {0x69, 0xc4, 0xe0, 0xd8, 0x6a, 0x7b, 0x04, 0x30, 0xd8, 0xcd, 0xb7, 0x80, 0x70, 0xb4, 0xc5,
+     0x5a},
+    {0xdd, 0xa9, 0x7c, 0xa4, 0x86, 0x4c, 0xdf, 0xe0, 0x6e, 0xaf, 0x70, 0xa0, 0xec, 0x0d, 0x71,
+     0x91},
+    {0x8e, 0xa2, 0xb7, 0xca, 0x51, 0x67, 0x45, 0xbf, 0xea, 0xfc, 0x49, 0x90, 0x4b, 0x49, 0x60,
+     0x89},
+};
+
+/* Whether each of 8 blocks is this one. */
+static int are_all(const uint8_t blocks[8 * BLOCK], const uint8_t block[BLOCK]) {
+    int same = 1;
+    for (unsigned i = 0; i < 8; i++) same &= memcmp(blocks + BLOCK * i, block, BLOCK) == 0;
+    return same;
+}
+
+int aes_known_answers(void) {
+    uint8_t kek[32], plaintext[BLOCK], block[BLOCK], blocks[8 * BLOCK];
+    for (unsigned i = 0; i < sizeof kek; i++) kek[i] = (uint8_t)i;
+    for (unsigned i = 0; i < BLOCK; i++) block[i] = plaintext[i] = (uint8_t)(0x11 * i);
+    for (unsigned i = 0; i < 8; i++) memcpy(blocks + BLOCK * i, plaintext, BLOCK);
+    for (unsigned i = 0; i < 3; i++) {
+        struct aes aes;
+        if (!aes_set_encrypt(&aes, kek, 16 + 8 * i)) return 0;
+        encrypt_block(&aes, block);
+        encrypt_8_blocks(&aes, blocks);
+        if (memcmp(block, CIPHERTEXTS[i], BLOCK) != 0 || !are_all(blocks, block)) return 0;
+        if (!aes_set_decrypt(&aes, kek, 16 + 8 * i)) return 0;
+        decrypt_block(&aes, block);
+        decrypt_8_blocks(&aes, blocks);
+        if (memcmp(block, plaintext, BLOCK) != 0 || !are_all(blocks, block)) return 0;
+    }
+    return 1;
+}
+
+int aes_works(void) {
+    enum { UNKNOWN, WORKS, MISSING };
+    static int state = UNKNOWN;
+    int known = __atomic_load_n(&state, __ATOMIC_ACQUIRE);
+    if (known == UNKNOWN) {
+        known = has_instructions() && aes_known_answers() ? WORKS : MISSING;
+        __atomic_store_n(&state, known, __ATOMIC_RELEASE);
+    }
+    return known == WORKS;
+}
+
+/* keywrap.c: the calls of keywrap.h by the processor's AES, over the proved steps. Whatever a call
+ * refuses, and every call on a processor without the instructions, goes to the proved call, whose
+ * names begin with proved_ here: so the refusals are the same, and they are made in one place. */
+
+
+
+/* The calls of the library that is proved as a whole, renamed by hardware/names. */
+int32_t proved_keywrap_wrap(const uint8_t *, size_t, const uint8_t *, size_t, uint8_t *, size_t);
+int32_t proved_keywrap_unwrap(const uint8_t *, size_t, const uint8_t *, size_t, uint8_t *, size_t);
+int32_t proved_keywrap_wrap_with(const uint8_t *, size_t, const uint8_t *, size_t, const uint8_t *,
+                                 size_t, uint8_t *, size_t);
+int32_t proved_keywrap_unwrap_with(const uint8_t *, size_t, const uint8_t *, size_t,
+                                   const uint8_t *, size_t, uint8_t *, size_t);
+int32_t proved_keywrap_wrap_padded(const uint8_t *, size_t, const uint8_t *, size_t, uint8_t *,
+                                   size_t);
+int32_t proved_keywrap_unwrap_padded(const uint8_t *, size_t, const uint8_t *, size_t, uint8_t *,
+                                     size_t, size_t *);
+int32_t proved_keywrap_wrap_in_place(const uint8_t *, size_t, uint8_t *, size_t);
+int32_t proved_keywrap_unwrap_in_place(const uint8_t *, size_t, uint8_t *, size_t);
+int32_t proved_keywrap_wrap_padded_in_place(const uint8_t *, size_t, uint8_t *, size_t, size_t);
+int32_t proved_keywrap_unwrap_padded_in_place(const uint8_t *, size_t, uint8_t *, size_t, size_t *);
+int32_t proved_keywrap_kind(const uint8_t *, size_t, const uint8_t *, size_t, uint8_t *, size_t,
+                            uint32_t *, size_t *);
+int32_t proved_keywrap_unwrap_any(const uint8_t *, size_t, const uint8_t *, size_t, uint8_t *,
+                                  size_t, uint32_t *, size_t *);
+int32_t proved_keywrap_rewrap(const uint8_t *, size_t, const uint8_t *, size_t, uint8_t *, size_t,
+                              uint32_t, uint32_t *);
+int32_t proved_keywrap_rewrap_in_place(const uint8_t *, size_t, const uint8_t *, size_t, uint8_t *,
+                                       size_t, uint32_t);
+int32_t proved_keywrap_self_test(void);
+
+/* Makes all steps, and writes the first 8 bytes of the wrapped key. */
+static int32_t wrap(const uint8_t *kek, size_t kek_len, struct run *run, uint8_t *first,
+                    uint8_t *registers, size_t len) {
+    const uint64_t steps = len == 8 ? 1 : 6 * (uint64_t)(len / 8);
+    int32_t status = KEYWRAP_OK;
+    struct aes aes;
+    aes_set_encrypt(&aes, kek, kek_len);
+    while (status == KEYWRAP_OK && run->steps < steps) {
+        aes_encrypt(&aes, run->block);
+        status = keywrap_step_wrap(registers, len, &run->steps, run->block);
+    }
+    wipe(&aes, sizeof aes);
+    return keywrap_end_wrap(first, registers, len, run->steps, run->block);
+}
+
+/* Undoes all steps. */
+static void unwrap(const uint8_t *kek, size_t kek_len, struct run *run, uint8_t *registers,
+                   size_t len) {
+    int32_t status = KEYWRAP_OK;
+    struct aes aes;
+    aes_set_decrypt(&aes, kek, kek_len);
+    while (status == KEYWRAP_OK && run->steps > 0) {
+        aes_decrypt(&aes, run->block);
+        status = keywrap_step_unwrap(registers, len, &run->steps, run->block);
+    }
+    wipe(&aes, sizeof aes);
+}
+
+int32_t keywrap_wrap_with(const uint8_t *kek, size_t kek_len, const uint8_t *iv, size_t iv_len,
+                          const uint8_t *key, size_t key_len, uint8_t *wrapped,
+                          size_t wrapped_len) {
+    struct run run;
+    if (!is_kek(kek_len) || wrapped_len - key_len != 8
+        || keywrap_begin_wrap(iv, iv_len, key, key_len, &run.steps, run.block) != KEYWRAP_OK)
+        return proved_keywrap_wrap_with(kek, kek_len, iv, iv_len, key, key_len, wrapped,
+                                        wrapped_len);
+    memcpy(wrapped + 8, key, key_len);
+    return wrap(kek, kek_len, &run, wrapped, wrapped + 8, key_len);
+}
+
+int32_t keywrap_unwrap_with(const uint8_t *kek, size_t kek_len, const uint8_t *iv, size_t iv_len,
+                            const uint8_t *wrapped, size_t wrapped_len, uint8_t *key,
+                            size_t key_len) {
+    struct run run;
+    uint64_t none;
+    uint8_t unused[BLOCK];
+    if (!is_kek(kek_len) || wrapped_len - key_len != 8
+        || keywrap_begin_wrap(iv, iv_len, wrapped + 8, key_len, &none, unused) != KEYWRAP_OK
+        || keywrap_begin_unwrap(wrapped, wrapped + 8, key_len, &run.steps, run.block) != KEYWRAP_OK)
+        return proved_keywrap_unwrap_with(kek, kek_len, iv, iv_len, wrapped, wrapped_len, key,
+                                          key_len);
+    memcpy(key, wrapped + 8, key_len);
+    unwrap(kek, kek_len, &run, key, key_len);
+    return keywrap_end_unwrap(iv, iv_len, key, key_len, run.steps, run.block);
+}
+
+int32_t keywrap_wrap(const uint8_t *kek, size_t kek_len, const uint8_t *key, size_t key_len,
+                     uint8_t *wrapped, size_t wrapped_len) {
+    if (!is_kek(kek_len))
+        return proved_keywrap_wrap(kek, kek_len, key, key_len, wrapped, wrapped_len);
+    return keywrap_wrap_with(kek, kek_len, DEFAULT_IV, 8, key, key_len, wrapped, wrapped_len);
+}
+
+int32_t keywrap_unwrap(const uint8_t *kek, size_t kek_len, const uint8_t *wrapped,
+                       size_t wrapped_len, uint8_t *key, size_t key_len) {
+    if (!is_kek(kek_len))
+        return proved_keywrap_unwrap(kek, kek_len, wrapped, wrapped_len, key, key_len);
+    return keywrap_unwrap_with(kek, kek_len, DEFAULT_IV, 8, wrapped, wrapped_len, key, key_len);
+}
+
+int32_t keywrap_wrap_in_place(const uint8_t *kek, size_t kek_len, uint8_t *buffer,
+                              size_t wrapped_len) {
+    struct run run;
+    if (!is_kek(kek_len) || wrapped_len < 8
+        || keywrap_begin_wrap(DEFAULT_IV, 8, buffer + 8, wrapped_len - 8, &run.steps, run.block)
+               != KEYWRAP_OK)
+        return proved_keywrap_wrap_in_place(kek, kek_len, buffer, wrapped_len);
+    return wrap(kek, kek_len, &run, buffer, buffer + 8, wrapped_len - 8);
+}
+
+int32_t keywrap_unwrap_in_place(const uint8_t *kek, size_t kek_len, uint8_t *buffer,
+                                size_t wrapped_len) {
+    struct run run;
+    if (!is_kek(kek_len) || wrapped_len < 8
+        || keywrap_begin_unwrap(buffer, buffer + 8, wrapped_len - 8, &run.steps, run.block)
+               != KEYWRAP_OK)
+        return proved_keywrap_unwrap_in_place(kek, kek_len, buffer, wrapped_len);
+    unwrap(kek, kek_len, &run, buffer + 8, wrapped_len - 8);
+    memset(buffer, 0, 8);
+    return keywrap_end_unwrap(DEFAULT_IV, 8, buffer + 8, wrapped_len - 8, run.steps, run.block);
+}
+
+int32_t keywrap_wrap_padded_in_place(const uint8_t *kek, size_t kek_len, uint8_t *buffer,
+                                     size_t wrapped_len, size_t key_len) {
+    struct run run;
+    if (!is_kek(kek_len) || wrapped_len < 8
+        || keywrap_begin_wrap_padded(key_len, buffer + 8, wrapped_len - 8, &run.steps, run.block)
+               != KEYWRAP_OK)
+        return proved_keywrap_wrap_padded_in_place(kek, kek_len, buffer, wrapped_len, key_len);
+    return wrap(kek, kek_len, &run, buffer, buffer + 8, wrapped_len - 8);
+}
+
+int32_t keywrap_unwrap_padded_in_place(const uint8_t *kek, size_t kek_len, uint8_t *buffer,
+                                       size_t wrapped_len, size_t *key_len) {
+    struct run run;
+    if (!is_kek(kek_len) || wrapped_len < 8
+        || keywrap_begin_unwrap_padded(buffer, buffer + 8, wrapped_len - 8, &run.steps, run.block)
+               != KEYWRAP_OK)
+        return proved_keywrap_unwrap_padded_in_place(kek, kek_len, buffer, wrapped_len, key_len);
+    unwrap(kek, kek_len, &run, buffer + 8, wrapped_len - 8);
+    memset(buffer, 0, 8);
+    return keywrap_end_unwrap_padded(buffer + 8, wrapped_len - 8, run.steps, run.block, key_len);
+}
+
+int32_t keywrap_wrap_padded(const uint8_t *kek, size_t kek_len, const uint8_t *key, size_t key_len,
+                            uint8_t *wrapped, size_t wrapped_len) {
+    if (!is_kek(kek_len) || key_len < 1 || key_len > KEYWRAP_MAX_KEY
+        || wrapped_len != KEYWRAP_PADDED_TEXT_LEN(key_len))
+        return proved_keywrap_wrap_padded(kek, kek_len, key, key_len, wrapped, wrapped_len);
+    memcpy(wrapped + 8, key, key_len);
+    return keywrap_wrap_padded_in_place(kek, kek_len, wrapped, wrapped_len, key_len);
+}
+
+int32_t keywrap_unwrap_padded(const uint8_t *kek, size_t kek_len, const uint8_t *wrapped,
+                              size_t wrapped_len, uint8_t *key, size_t room, size_t *key_len) {
+    struct run run;
+    if (!is_kek(kek_len) || wrapped_len - room != 8
+        || keywrap_begin_unwrap_padded(wrapped, wrapped + 8, room, &run.steps, run.block)
+               != KEYWRAP_OK)
+        return proved_keywrap_unwrap_padded(kek, kek_len, wrapped, wrapped_len, key, room, key_len);
+    memcpy(key, wrapped + 8, room);
+    unwrap(kek, kek_len, &run, key, room);
+    return keywrap_end_unwrap_padded(key, room, run.steps, run.block, key_len);
+}
+
+/* Whether the registers hold a plain key with the default initial value. The proved end of an
+ * unwrap decides it over other registers, since it clears those that it refuses. */
+static int holds_plain(const struct run *run, size_t len) {
+    uint8_t registers[16] = {0}, block[BLOCK];
+    if (len < 16) return 0;
+    memcpy(block, run->block, BLOCK);
+    return keywrap_end_unwrap(DEFAULT_IV, 8, registers, 16, run->steps, block) == KEYWRAP_OK;
+}
+
+/* Whether the registers hold a padded key. Only the last register can have padding, so the proved
+ * end decides it over that register, with the part of the key's length that belongs to it. A length
+ * that ends in another register becomes 0 or more than 8. */
+static int holds_padded(const struct run *run, const uint8_t *registers, size_t len) {
+    uint8_t last[8], block[BLOCK];
+    uint32_t part = 0;
+    size_t found;
+    memcpy(last, registers + len - 8, 8);
+    memcpy(block, run->block, BLOCK);
+    for (int i = 4; i < 8; i++) part = part << 8 | block[i];
+    part -= (uint32_t)(len - 8);
+    for (int i = 7; i >= 4; i--, part >>= 8) block[i] = (uint8_t)part;
+    const int32_t status = keywrap_end_unwrap_padded(last, 8, run->steps, block, &found);
+    wipe(last, sizeof last);
+    return status == KEYWRAP_OK;
+}
+
+/* A wrong choice of the form would be refused: the proved end of that form decides. */
+int32_t end_unwrap_any(struct run *run, uint8_t *registers, size_t len, uint32_t *padded,
+                       size_t *key_len) {
+    *padded = len == 8 || holds_padded(run, registers, len);
+    if (*padded) return keywrap_end_unwrap_padded(registers, len, run->steps, run->block, key_len);
+    *key_len = len;
+    return keywrap_end_unwrap(DEFAULT_IV, 8, registers, len, run->steps, run->block);
+}
+
+int32_t keywrap_unwrap_any(const uint8_t *kek, size_t kek_len, const uint8_t *wrapped,
+                           size_t wrapped_len, uint8_t *key, size_t room, uint32_t *padded,
+                           size_t *key_len) {
+    struct run run;
+    if (!is_kek(kek_len) || wrapped_len - room != 8
+        || keywrap_begin_unwrap_padded(wrapped, wrapped + 8, room, &run.steps, run.block)
+               != KEYWRAP_OK)
+        return proved_keywrap_unwrap_any(kek, kek_len, wrapped, wrapped_len, key, room, padded,
+                                         key_len);
+    memcpy(key, wrapped + 8, room);
+    unwrap(kek, kek_len, &run, key, room);
+    const int32_t status = end_unwrap_any(&run, key, room, padded, key_len);
+    if (status != KEYWRAP_OK) {
+        *padded = 0;
+        *key_len = 0;
+    }
+    return status;
+}
+
+/* The unwrap of a text in either form, in the scratch buffer. */
+int32_t keywrap_kind(const uint8_t *kek, size_t kek_len, const uint8_t *wrapped, size_t wrapped_len,
+                     uint8_t *scratch, size_t room, uint32_t *padded, size_t *key_len) {
+    if (!is_kek(kek_len) || wrapped_len - room != 8)
+        return proved_keywrap_kind(kek, kek_len, wrapped, wrapped_len, scratch, room, padded,
+                                   key_len);
+    const int32_t status =
+        keywrap_unwrap_any(kek, kek_len, wrapped, wrapped_len, scratch, room, padded, key_len);
+    if (status == KEYWRAP_BAD_LENGTH)
+        return proved_keywrap_kind(kek, kek_len, wrapped, wrapped_len, scratch, room, padded,
+                                   key_len);
+    wipe(scratch, room);
+    return status;
+}
+
+/* Wraps the registers in the buffer from the initial value that was found with them. */
+static int32_t wrap_found(const uint8_t *kek, size_t kek_len, const uint8_t *found, uint8_t *buffer,
+                          size_t wrapped_len) {
+    struct run run = {0, {0}};
+    memcpy(run.block, found, 8);
+    memcpy(run.block + 8, buffer + 8, 8);
+    const int32_t status = wrap(kek, kek_len, &run, buffer, buffer + 8, wrapped_len - 8);
+    wipe(&run, sizeof run);
+    return status;
+}
+
+/* Unwraps what is wrapped in the old form of the flags, or restores the buffer. */
+static int32_t find(const uint8_t *kek, size_t kek_len, uint8_t *buffer, size_t wrapped_len,
+                    uint32_t flags, struct run *run, uint32_t *padded) {
+    const size_t len = wrapped_len - 8;
+    unwrap(kek, kek_len, run, buffer + 8, len);
+    *padded = flags & (KEYWRAP_OLD_PADDED | KEYWRAP_KEEP_FORM)
+              && holds_padded(run, buffer + 8, len);
+    if (*padded || (!(flags & KEYWRAP_OLD_PADDED) && holds_plain(run, len))) return KEYWRAP_OK;
+    const int32_t status = wrap_found(kek, kek_len, run->block, buffer, wrapped_len);
+    wipe(run->block, BLOCK);
+    return status == KEYWRAP_OK ? KEYWRAP_INTEGRITY : status;
+}
+
+/* A rewrap without KEYWRAP_PASS_NEW, of a text of a legal length. */
+static int32_t rewrap_old(const uint8_t *old_kek, size_t old_kek_len, const uint8_t *new_kek,
+                          size_t new_kek_len, uint8_t *buffer, size_t wrapped_len, uint32_t flags) {
+    struct run run;
+    uint8_t found[8];
+    uint32_t padded;
+    size_t key_len = wrapped_len - 8;
+    int32_t status = keywrap_begin_unwrap_padded(buffer, buffer + 8, wrapped_len - 8, &run.steps,
+                                                 run.block);
+    if (status == KEYWRAP_OK)
+        status = find(old_kek, old_kek_len, buffer, wrapped_len, flags, &run, &padded);
+    if (status != KEYWRAP_OK) return status;
+    memcpy(found, run.block, 8);
+    status = padded ? keywrap_end_unwrap_padded(buffer + 8, wrapped_len - 8, run.steps, run.block,
+                                                &key_len)
+                    : keywrap_end_unwrap(DEFAULT_IV, 8, buffer + 8, wrapped_len - 8, run.steps,
+                                         run.block);
+    if (status != KEYWRAP_OK) return status;
+    if (flags & KEYWRAP_KEEP_FORM || (padded && flags & KEYWRAP_NEW_PADDED))
+        return wrap_found(new_kek, new_kek_len, found, buffer, wrapped_len);
+    if (flags & KEYWRAP_NEW_PADDED)
+        return keywrap_wrap_padded_in_place(new_kek, new_kek_len, buffer, wrapped_len, key_len);
+    if (key_len % 8 == 0 && key_len >= 16)
+        return keywrap_wrap_in_place(new_kek, new_kek_len, buffer, wrapped_len);
+    status = wrap_found(old_kek, old_kek_len, found, buffer, wrapped_len);
+    return status == KEYWRAP_OK ? KEYWRAP_KEY_NOT_PLAIN : status;
+}
+
+/* With KEYWRAP_PASS_NEW what is not a wrapped key under the old KEK is rewrapped from the new KEK
+ * to itself, which leaves it as it is. A length that is not legal in the old form goes to the
+ * proved call. */
+int32_t keywrap_rewrap(const uint8_t *old_kek, size_t old_kek_len, const uint8_t *new_kek,
+                       size_t new_kek_len, uint8_t *buffer, size_t wrapped_len, uint32_t flags,
+                       uint32_t *already) {
+    const uint32_t forms = flags & ~KEYWRAP_PASS_NEW;
+    const size_t least = forms & (KEYWRAP_OLD_PADDED | KEYWRAP_KEEP_FORM) ? 16 : 24;
+    uint32_t to_itself = forms & KEYWRAP_NEW_PADDED ? KEYWRAP_OLD_PADDED | KEYWRAP_NEW_PADDED : 0;
+    int32_t status;
+    if (!is_kek(old_kek_len) || !is_kek(new_kek_len) || forms > KEYWRAP_KEEP_FORM
+        || wrapped_len % 8 != 0 || wrapped_len < least || wrapped_len > KEYWRAP_MAX_TEXT)
+        return proved_keywrap_rewrap(old_kek, old_kek_len, new_kek, new_kek_len, buffer,
+                                     wrapped_len, flags, already);
+    *already = 0;
+    status = rewrap_old(old_kek, old_kek_len, new_kek, new_kek_len, buffer, wrapped_len, forms);
+    if (status != KEYWRAP_INTEGRITY || !(flags & KEYWRAP_PASS_NEW)) return status;
+    if (forms == KEYWRAP_KEEP_FORM) to_itself = forms;
+    *already = rewrap_old(new_kek, new_kek_len, new_kek, new_kek_len, buffer, wrapped_len,
+                          to_itself)
+               == KEYWRAP_OK;
+    return *already ? KEYWRAP_OK : status;
+}
+
+int32_t keywrap_rewrap_in_place(const uint8_t *old_kek, size_t old_kek_len, const uint8_t *new_kek,
+                                size_t new_kek_len, uint8_t *buffer, size_t wrapped_len,
+                                uint32_t forms) {
+    uint32_t already;
+    if (!is_kek(old_kek_len) || forms > (KEYWRAP_OLD_PADDED | KEYWRAP_NEW_PADDED))
+        return proved_keywrap_rewrap_in_place(old_kek, old_kek_len, new_kek, new_kek_len, buffer,
+                                              wrapped_len, forms);
+    const int32_t status = keywrap_rewrap(old_kek, old_kek_len, new_kek, new_kek_len, buffer,
+                                          wrapped_len, forms, &already);
+    if (status != KEYWRAP_INTEGRITY && status != KEYWRAP_KEY_NOT_PLAIN) return status;
+    wipe(buffer, wrapped_len);
+    return status == KEYWRAP_INTEGRITY ? status : KEYWRAP_BAD_LENGTH;
+}
+
+int32_t keywrap_self_test(void) {
+    if (aes_works() && !aes_known_answers()) return KEYWRAP_INTEGRITY;
+    return proved_keywrap_self_test();
+}
+
+/* lanes.c: the steps of many wrapped keys, one after another, for the calls of many.c. It encrypts or
+ * decrypts their blocks side by side. */
+
+static int32_t keywrap_step_wrap_many(uint8_t *texts, size_t texts_len, size_t text_len,
+                                      uint64_t *done, uint8_t *blocks, size_t blocks_len) {
+    const uint64_t before = *done;
+    int32_t status = KEYWRAP_OK;
+    (void)texts_len;
+    for (size_t i = 0; i < blocks_len / 16 && status == KEYWRAP_OK; i++) {
+        *done = before;
+        status = keywrap_step_wrap(texts + text_len * i + 8, text_len - 8, done, blocks + 16 * i);
+    }
+    return status;
+}
+
+static int32_t keywrap_end_wrap_many(uint8_t *texts, size_t texts_len, size_t text_len,
+                                     uint64_t done, const uint8_t *blocks, size_t blocks_len) {
+    int32_t status = KEYWRAP_OK;
+    (void)texts_len;
+    for (size_t i = 0; i < blocks_len / 16 && status == KEYWRAP_OK; i++) {
+        uint8_t *text = texts + text_len * i;
+        status = keywrap_end_wrap(text, text + 8, text_len - 8, done, blocks + 16 * i);
+    }
+    return status;
+}
+
+static int32_t keywrap_begin_unwrap_many(const uint8_t *texts, size_t texts_len, size_t text_len,
+                                         uint64_t *left, uint8_t *blocks, size_t blocks_len) {
+    int32_t status = KEYWRAP_OK;
+    (void)texts_len;
+    for (size_t i = 0; i < blocks_len / 16 && status == KEYWRAP_OK; i++) {
+        const uint8_t *text = texts + text_len * i;
+        status = keywrap_begin_unwrap(text, text + 8, text_len - 8, left, blocks + 16 * i);
+    }
+    return status;
+}
+
+static int32_t keywrap_step_unwrap_many(uint8_t *texts, size_t texts_len, size_t text_len,
+                                        uint64_t *left, uint8_t *blocks, size_t blocks_len) {
+    const uint64_t before = *left;
+    int32_t status = KEYWRAP_OK;
+    (void)texts_len;
+    for (size_t i = 0; i < blocks_len / 16 && status == KEYWRAP_OK; i++) {
+        *left = before;
+        status = keywrap_step_unwrap(texts + text_len * i + 8, text_len - 8, left, blocks + 16 * i);
+    }
+    return status;
+}
+
+/* many.c: the calls of keywrap.h for many keys, with the steps of 24 of them side by side. The proved
+ * steps, beginnings and ends are the same as for one key. What a call refuses goes to the
+ * proved call, and slots that the steps of many do not take to the call for one key. */
+
+
+
+/* The calls of the library that is proved as a whole, renamed by hardware/names. */
+int32_t proved_keywrap_rewrap_many(const uint8_t *, size_t, const uint8_t *, size_t, uint8_t *,
+                                   size_t, uint32_t, uint8_t *, size_t);
+int32_t proved_keywrap_wrap_many(const uint8_t *, size_t, uint8_t *, size_t, size_t, uint32_t,
+                                 uint8_t *, size_t);
+int32_t proved_keywrap_unwrap_many(const uint8_t *, size_t, uint8_t *, size_t, uint32_t, size_t *,
+                                   size_t, uint8_t *, size_t);
+int32_t proved_keywrap_kind_many(const uint8_t *, size_t, const uint8_t *, size_t, uint8_t *,
+                                 size_t, uint8_t *, size_t, size_t *, size_t, uint8_t *, size_t);
+
+/* Three groups of 8 blocks; and the longest text of which a turn makes copies. */
+enum { LANES = 24, COPIED = 264 };
+
+/* Slots that are worked on together, at most LANES, and their blocks. */
+struct turn {
+    uint8_t *texts;
+    size_t text_len, count;
+    uint64_t steps;
+    uint8_t blocks[BLOCK * LANES];
+};
+
+static uint8_t *text_of(const struct turn *turn, size_t lane) {
+    return turn->texts + turn->text_len * lane;
+}
+
+static struct turn next_turn(uint8_t *texts, size_t text_len, size_t count) {
+    const struct turn turn = {texts, text_len, count < LANES ? count : LANES, 0, {0}};
+    return turn;
+}
+
+/* The blocks of whole groups. */
+static size_t grouped(const struct turn *turn) {
+    return (turn->count + 7) / 8 * 8;
+}
+
+/* Makes all steps of wrappings that have begun, and writes the first 8 bytes of each text. */
+static int32_t wrap_turn(const struct aes *aes, struct turn *turn) {
+    const size_t texts_len = turn->text_len * turn->count, blocks_len = BLOCK * turn->count;
+    const uint64_t all = 6 * (uint64_t)(turn->text_len / 8 - 1);
+    int32_t status = KEYWRAP_OK;
+    while (status == KEYWRAP_OK && turn->steps < all) {
+        aes_encrypt_many(aes, turn->blocks, grouped(turn));
+        status = keywrap_step_wrap_many(turn->texts, texts_len, turn->text_len, &turn->steps,
+                                        turn->blocks, blocks_len);
+    }
+    if (status != KEYWRAP_OK) return status;
+    return keywrap_end_wrap_many(turn->texts, texts_len, turn->text_len, turn->steps, turn->blocks,
+                                 blocks_len);
+}
+
+/* Begins to unwrap, and undoes all steps. */
+static int32_t unwrap_turn(const struct aes *aes, struct turn *turn) {
+    const size_t texts_len = turn->text_len * turn->count, blocks_len = BLOCK * turn->count;
+    int32_t status = keywrap_begin_unwrap_many(turn->texts, texts_len, turn->text_len, &turn->steps,
+                                               turn->blocks, blocks_len);
+    while (status == KEYWRAP_OK && turn->steps > 0) {
+        aes_decrypt_many(aes, turn->blocks, grouped(turn));
+        status = keywrap_step_unwrap_many(turn->texts, texts_len, turn->text_len, &turn->steps,
+                                          turn->blocks, blocks_len);
+    }
+    return status;
+}
+
+/* Ends the unwrap of one lane, in the old form of the flags. */
+static int32_t end_lane(struct turn *turn, size_t lane, uint32_t flags, uint32_t *padded,
+                        size_t *key_len) {
+    uint8_t *registers = text_of(turn, lane) + 8, *block = turn->blocks + BLOCK * lane;
+    const size_t len = turn->text_len - 8;
+    int32_t status;
+    *padded = flags & KEYWRAP_OLD_PADDED;
+    *key_len = len;
+    if (flags & KEYWRAP_KEEP_FORM) {
+        struct run run = {turn->steps, {0}};
+        memcpy(run.block, block, BLOCK);
+        status = end_unwrap_any(&run, registers, len, padded, key_len);
+        wipe(&run, sizeof run);
+    } else if (*padded) {
+        status = keywrap_end_unwrap_padded(registers, len, turn->steps, block, key_len);
+    } else {
+        status = keywrap_end_unwrap(DEFAULT_IV, 8, registers, len, turn->steps, block);
+    }
+    if (status != KEYWRAP_OK) *padded = 0, *key_len = 0;
+    return status;
+}
+
+/* Begins the wrap of one lane. */
+static int32_t begin_lane(struct turn *turn, size_t lane, uint32_t padded, size_t key_len) {
+    uint8_t *registers = text_of(turn, lane) + 8, *block = turn->blocks + BLOCK * lane;
+    const size_t len = turn->text_len - 8;
+    return padded ? keywrap_begin_wrap_padded(key_len, registers, len, &turn->steps, block)
+                  : keywrap_begin_wrap(DEFAULT_IV, 8, registers, len, &turn->steps, block);
+}
+
+/* The end of an unwrap under the old KEK, and the beginning of the wrap under the new one. A form that
+ * is kept keeps the initial value that was found. A key is longer than 8 bytes here. */
+static int32_t turn_lane(struct turn *turn, size_t lane, uint32_t flags) {
+    uint8_t *registers = text_of(turn, lane) + 8, *block = turn->blocks + BLOCK * lane, found[8];
+    uint32_t padded;
+    size_t key_len;
+    memcpy(found, block, 8);
+    const int32_t status = end_lane(turn, lane, flags, &padded, &key_len);
+    if (status != KEYWRAP_OK) return status;
+    if (flags & KEYWRAP_KEEP_FORM || (padded && flags & KEYWRAP_NEW_PADDED)) {
+        memcpy(block, found, 8);
+        memcpy(block + 8, registers, 8);
+        return KEYWRAP_OK;
+    }
+    if (key_len % 8 != 0) return KEYWRAP_KEY_NOT_PLAIN;
+    return begin_lane(turn, lane, flags & KEYWRAP_NEW_PADDED, key_len);
+}
+
+/* The schedules of a rewrap; the last is made for KEYWRAP_PASS_NEW. */
+struct schedules {
+    struct aes old, new, new_old;
+};
+
+/* Finds the texts that are refused, but are under the new KEK already. */
+static void find_new(const struct schedules *aes, const uint8_t *before, const struct turn *turn,
+                     uint32_t flags, uint8_t *statuses) {
+    uint8_t tried[COPIED * LANES];
+    struct turn again = next_turn(tried, turn->text_len, turn->count);
+    const uint32_t keep = flags & KEYWRAP_KEEP_FORM;
+    const uint32_t form = flags & KEYWRAP_NEW_PADDED ? KEYWRAP_OLD_PADDED : 0;
+    uint32_t padded;
+    size_t key_len;
+    memcpy(tried, before, turn->text_len * turn->count);
+    if (unwrap_turn(&aes->new_old, &again) == KEYWRAP_OK)
+        for (size_t i = 0; i < turn->count; i++)
+            if (statuses[i] == KEYWRAP_INTEGRITY
+                && end_lane(&again, i, keep | form, &padded, &key_len) == KEYWRAP_OK)
+                statuses[i] = KEYWRAP_ALREADY_NEW;
+    wipe(tried, turn->text_len * turn->count);
+    wipe(&again, sizeof again);
+}
+
+/* Rewraps the slots of a turn. A slot that is not rewrapped is restored. */
+static void rewrap_turn(const struct schedules *aes, struct turn *turn, uint32_t flags,
+                        uint8_t *statuses) {
+    uint8_t before[COPIED * LANES];
+    int refused = 0;
+    memcpy(before, turn->texts, turn->text_len * turn->count);
+    int32_t status = unwrap_turn(&aes->old, turn);
+    for (size_t i = 0; i < turn->count; i++) {
+        statuses[i] = (uint8_t)(status == KEYWRAP_OK ? turn_lane(turn, i, flags) : status);
+        refused |= statuses[i] == KEYWRAP_INTEGRITY;
+    }
+    turn->steps = 0;
+    status = wrap_turn(&aes->new, turn);
+    if (refused && flags & KEYWRAP_PASS_NEW) find_new(aes, before, turn, flags, statuses);
+    for (size_t i = 0; i < turn->count; i++) {
+        if (status != KEYWRAP_OK) statuses[i] = (uint8_t)status;
+        if (statuses[i] != KEYWRAP_OK)
+            memcpy(text_of(turn, i), before + turn->text_len * i, turn->text_len);
+    }
+    wipe(before, turn->text_len * turn->count);
+    wipe(turn->blocks, sizeof turn->blocks);
+}
+
+/* Whether there are slots of a length that a wrapped key has, `least` or more. */
+static int are_slots(size_t texts_len, size_t count, size_t least) {
+    if (count == 0 || texts_len % count != 0) return 0;
+    const size_t text_len = texts_len / count;
+    return text_len % 8 == 0 && text_len >= least && text_len <= KEYWRAP_MAX_TEXT;
+}
+
+int32_t keywrap_rewrap_many(const uint8_t *old_kek, size_t old_kek_len, const uint8_t *new_kek,
+                            size_t new_kek_len, uint8_t *texts, size_t texts_len, uint32_t flags,
+                            uint8_t *statuses, size_t count) {
+    const uint32_t forms = flags & ~KEYWRAP_PASS_NEW;
+    const size_t least = forms & (KEYWRAP_OLD_PADDED | KEYWRAP_KEEP_FORM) ? 16 : 24;
+    if (!is_kek(old_kek_len) || !is_kek(new_kek_len) || forms > KEYWRAP_KEEP_FORM
+        || !are_slots(texts_len, count, least))
+        return proved_keywrap_rewrap_many(old_kek, old_kek_len, new_kek, new_kek_len, texts,
+                                          texts_len, flags, statuses, count);
+    const size_t text_len = texts_len / count;
+    if (text_len == 16 || text_len > COPIED) {
+        for (size_t i = 0; i < count; i++) {
+            uint32_t already;
+            const int32_t status = keywrap_rewrap(old_kek, old_kek_len, new_kek, new_kek_len,
+                                                  texts + text_len * i, text_len, flags, &already);
+            statuses[i] = (uint8_t)(already ? KEYWRAP_ALREADY_NEW : status);
+        }
+        return KEYWRAP_OK;
+    }
+    struct schedules aes;
+    aes_set_decrypt(&aes.old, old_kek, old_kek_len);
+    aes_set_encrypt(&aes.new, new_kek, new_kek_len);
+    if (flags & KEYWRAP_PASS_NEW) aes_set_decrypt(&aes.new_old, new_kek, new_kek_len);
+    for (size_t i = 0; i < count; i += LANES) {
+        struct turn turn = next_turn(texts + text_len * i, text_len, count - i);
+        rewrap_turn(&aes, &turn, flags, statuses + i);
+    }
+    wipe(&aes, sizeof aes);
+    return KEYWRAP_OK;
+}
+
+int32_t keywrap_wrap_many(const uint8_t *kek, size_t kek_len, uint8_t *texts, size_t texts_len,
+                          size_t key_len, uint32_t flags, uint8_t *statuses, size_t count) {
+    const uint32_t padded = flags & KEYWRAP_NEW_PADDED;
+    const size_t least = padded ? 1 : 16, len = padded ? (key_len + 7) / 8 * 8 : key_len;
+    if (!is_kek(kek_len) || flags != padded || !are_slots(texts_len, count, 16)
+        || key_len < least || key_len > KEYWRAP_MAX_KEY || texts_len / count != len + 8)
+        return proved_keywrap_wrap_many(kek, kek_len, texts, texts_len, key_len, flags, statuses,
+                                        count);
+    const size_t text_len = len + 8;
+    if (text_len == 16) {
+        for (size_t i = 0; i < count; i++)
+            statuses[i] = (uint8_t)keywrap_wrap_padded_in_place(kek, kek_len, texts + text_len * i,
+                                                                text_len, key_len);
+        return KEYWRAP_OK;
+    }
+    struct aes aes;
+    aes_set_encrypt(&aes, kek, kek_len);
+    for (size_t i = 0; i < count; i += LANES) {
+        struct turn turn = next_turn(texts + text_len * i, text_len, count - i);
+        int32_t status = KEYWRAP_OK;
+        for (size_t lane = 0; lane < turn.count && status == KEYWRAP_OK; lane++)
+            status = begin_lane(&turn, lane, padded, key_len);
+        if (status == KEYWRAP_OK) status = wrap_turn(&aes, &turn);
+        memset(statuses + i, (uint8_t)status, turn.count);
+        wipe(turn.blocks, sizeof turn.blocks);
+    }
+    wipe(&aes, sizeof aes);
+    return KEYWRAP_OK;
+}
+
+int32_t keywrap_unwrap_many(const uint8_t *kek, size_t kek_len, uint8_t *texts, size_t texts_len,
+                            uint32_t flags, size_t *key_lens, size_t key_lens_count,
+                            uint8_t *statuses, size_t count) {
+    uint32_t padded;
+    if (!is_kek(kek_len) || flags > KEYWRAP_OLD_PADDED || key_lens_count != count
+        || !are_slots(texts_len, count, flags ? 16 : 24))
+        return proved_keywrap_unwrap_many(kek, kek_len, texts, texts_len, flags, key_lens,
+                                          key_lens_count, statuses, count);
+    const size_t text_len = texts_len / count;
+    if (text_len == 16) {
+        for (size_t i = 0; i < count; i++)
+            statuses[i] = (uint8_t)keywrap_unwrap_padded_in_place(
+                kek, kek_len, texts + text_len * i, text_len, key_lens + i);
+        return KEYWRAP_OK;
+    }
+    struct aes aes;
+    aes_set_decrypt(&aes, kek, kek_len);
+    for (size_t i = 0; i < count; i += LANES) {
+        struct turn turn = next_turn(texts + text_len * i, text_len, count - i);
+        const int32_t status = unwrap_turn(&aes, &turn);
+        for (size_t lane = 0; lane < turn.count; lane++) {
+            memset(text_of(&turn, lane), 0, 8);
+            statuses[i + lane] =
+                (uint8_t)(status == KEYWRAP_OK
+                              ? end_lane(&turn, lane, flags, &padded, key_lens + i + lane)
+                              : status);
+        }
+        wipe(turn.blocks, sizeof turn.blocks);
+    }
+    wipe(&aes, sizeof aes);
+    return KEYWRAP_OK;
+}
+
+/* Finds the forms of the texts of a turn, by way of a copy. */
+static void kind_turn(const struct aes *aes, const uint8_t *texts, struct turn *turn,
+                      uint8_t *forms, size_t *key_lens, uint8_t *statuses) {
+    memcpy(turn->texts, texts, turn->text_len * turn->count);
+    const int32_t status = unwrap_turn(aes, turn);
+    for (size_t i = 0; i < turn->count; i++) {
+        uint32_t padded = 0;
+        statuses[i] = (uint8_t)(status == KEYWRAP_OK ? end_lane(turn, i, KEYWRAP_KEEP_FORM, &padded,
+                                                                key_lens + i)
+                                                     : status);
+        forms[i] = (uint8_t)padded;
+    }
+    wipe(turn->texts, turn->text_len * turn->count);
+    wipe(turn->blocks, sizeof turn->blocks);
+}
+
+int32_t keywrap_kind_many(const uint8_t *kek, size_t kek_len, const uint8_t *texts,
+                          size_t texts_len, uint8_t *scratch, size_t room, uint8_t *forms,
+                          size_t forms_count, size_t *key_lens, size_t key_lens_count,
+                          uint8_t *statuses, size_t count) {
+    if (!is_kek(kek_len) || !are_slots(texts_len, count, 16) || texts_len / count - 8 != room
+        || forms_count != count || key_lens_count != count)
+        return proved_keywrap_kind_many(kek, kek_len, texts, texts_len, scratch, room, forms,
+                                        forms_count, key_lens, key_lens_count, statuses, count);
+    const size_t text_len = texts_len / count;
+    if (text_len == 16 || text_len > COPIED) {
+        for (size_t i = 0; i < count; i++) {
+            uint32_t padded;
+            statuses[i] = (uint8_t)keywrap_kind(kek, kek_len, texts + text_len * i, text_len,
+                                                scratch, room, &padded, key_lens + i);
+            forms[i] = (uint8_t)padded;
+        }
+        return KEYWRAP_OK;
+    }
+    uint8_t copy[COPIED * LANES];
+    struct aes aes;
+    aes_set_decrypt(&aes, kek, kek_len);
+    for (size_t i = 0; i < count; i += LANES) {
+        struct turn turn = next_turn(copy, text_len, count - i);
+        kind_turn(&aes, texts + text_len * i, &turn, forms + i, key_lens + i, statuses + i);
+    }
+    wipe(&aes, sizeof aes);
+    memset(scratch, 0, room);
+    return KEYWRAP_OK;
+}
+#endif
