@@ -46,13 +46,15 @@ def given_as(items):
 @pytest.mark.parametrize("kek", [OLD, OTHER, NEW], ids=len)
 @pytest.mark.parametrize("count", COUNTS)
 def test_wraps_unwraps_and_checks(kek, count, padded):
+    """A KEK that is not bytes is copied first; all other arguments stay."""
     for length in [1, 7, 8, 9, 15, 16, 17, 24, 32, 64] if padded else [16, 24, 32, 64]:
         keys = keys_of(length, count)
         wrapped = [WRAPS[padded](kek, key) for key in keys]
-        for items, each in given_as(keys):
-            assert keywrap.wrap_many(kek, items, each, padded=padded) == wrapped
-        for items, each in given_as(wrapped):
-            assert keywrap.unwrap_many(kek, items, each, padded=padded) == keys
+        for given in (kek, bytearray(kek)):
+            for items, each in given_as(keys):
+                assert keywrap.wrap_many(given, items, each, padded=padded) == wrapped
+            for items, each in given_as(wrapped):
+                assert keywrap.unwrap_many(given, items, each, padded=padded) == keys
         for items, each in given_as(wrapped):
             assert keywrap.check_many(bytearray(kek), items, each) == [Kind.PADDED if padded else Kind.PLAIN] * count
 
@@ -99,7 +101,7 @@ def test_new_ones_at_every_place_are_passed():
             given = [new[at] if at in places else text for at, text in enumerate(old)]
             assert keywrap.rewrap_many(OLD, NEW, given, keep_form=True, pass_new=True) == new
             damaged_too = [*given, damaged(old[0], 7)]
-            found = keywrap.rewrap_many(OLD, NEW, damaged_too, keep_form=True, pass_new=True)
+            found = keywrap.rewrap_many(OLD, bytearray(NEW), damaged_too, keep_form=True, pass_new=True)
             assert outcomes(found) == [*new, keywrap.IntegrityFailed]
             refused = outcomes(keywrap.rewrap_many(OLD, NEW, given, keep_form=True))
             assert refused == [keywrap.IntegrityFailed if at in places else text for at, text in enumerate(new)]
