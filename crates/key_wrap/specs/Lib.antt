@@ -14,4 +14,5 @@ pub use Rattle.key_wrap_core.specs.Rewrap
 pub use Rattle.key_wrap_core.specs.StepCalls
 pub use Rattle.key_wrap_core.specs.Steps
 pub use Rattle.key_wrap_core.specs.Tape
+pub use Rattle.key_wrap_core.specs.Unwrapping
 pub use Rattle.key_wrap_core.specs.Words

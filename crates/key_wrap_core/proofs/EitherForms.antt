@@ -20,6 +20,7 @@ use Rattle.key_wrap_core.specs.NoKey.{NoKey}
 use Rattle.key_wrap_core.specs.Forms.{Stands, NoOtherForm, with_value}
 use Rattle.key_wrap_core.specs.Found.{HoldsIn}
 use Rattle.key_wrap_core.specs.EitherForm.{IsEither, IsOnlyWrapping, NoKeyIn}
+use Rattle.key_wrap_core.specs.BufferCalls.{UnwrappingEither}
 use Rattle.key_wrap_core.proofs.Spelling.{word_front, length-word_bytes}
 use Rattle.key_wrap_core.proofs.FormLengths.{plain_text_legal, padded_text_legal}
 use Rattle.key_wrap_core.proofs.PlainForm.{padded_whole}
@@ -118,4 +119,23 @@ any_answered iv E text key (Err Integrity) legal only wraps none = record {
   integrity = (λ e. (legal, none refl), λ no. refl);
   accepts = λ form other h. absurd (none refl (with_value form iv) (form, refl) other h);
   failed = λ e. refl;
+}
+
+-- the same lengths, said in another way
+pub either_legally : {Legal Legal' : Type 0} {iv : ℕ} {E : List ℕ → List ℕ} {text : List ℕ} {key : FoundKey → List ℕ} (answer : Result FoundKey InPlaceFault)
+    → Legal → Legal' → UnwrappingEither Legal iv E text key answer → UnwrappingEither Legal' iv E text key answer
+either_legally (Ok found) legal legal' u = record {
+  bad_length = (λ e. cc, λ bad. absurd (bad legal'));
+  integrity = (λ e. cc, λ no. absurd (let wrong = u.integrity.1 (legal, no.1) in cc));
+  answer = u.answer;
+  accepts = u.accepts;
+  other_form = u.other_form;
+}
+either_legally (Err BadLength) legal legal' u = absurd (u.bad_length.0 refl legal)
+either_legally (Err Integrity) legal legal' u = record {
+  bad_length = (λ e. cc, λ bad. absurd (bad legal'));
+  integrity = (λ e. (legal', (u.integrity.0 refl).1), λ no. refl);
+  answer = tt;
+  accepts = u.accepts;
+  other_form = tt;
 }

@@ -19,7 +19,8 @@ use Rattle.key_wrap_core.specs.PaddedRegisters.{PaddedRegisters, Holds, HoldsLen
 use Rattle.key_wrap_core.specs.NoKey.{NoKey, NoPlainKey}
 use Rattle.key_wrap_core.specs.Forms.{StandsAs}
 use Rattle.key_wrap_core.specs.InPlace.{key_in}
-use Rattle.key_wrap_core.specs.BufferCalls.{Unwrapping, IsKeyBuffer}
+use Rattle.key_wrap_core.specs.Unwrapping.{Unwrapping}
+use Rattle.key_wrap_core.specs.BufferCalls.{IsKeyBuffer}
 use Rattle.key_wrap_core.proofs.Spelling.{length-word_bytes, word_front}
 use Rattle.key_wrap_core.proofs.Tapes.{wraps_iv, registers_length, registers_backward}
 use Rattle.key_wrap_core.proofs.PlainForm.{default_free, plain_registers, registers_plain, plain_only_key, plain_only_text}

@@ -18,7 +18,6 @@ use Rattle.key_wrap_core.specs.Padded.{padded}
 use Rattle.key_wrap_core.specs.Calls.{block_calls}
 use Rattle.key_wrap_core.specs.Forms.{Stands, StandsAs, NoOtherForm, with_value}
 use Rattle.key_wrap_core.specs.EitherForm.{IsEither, IsOnlyWrapping, NoKeyIn}
-use Rattle.key_wrap_core.specs.InPlace.{KeyAnswer}
 use Rattle.key_wrap_core.specs.Rewrap.{IsOldLength, to_itself}
 
 -- A call that refuses exactly the lengths that are not legal, for no other cause, and leaves everything as it was.
@@ -36,17 +35,6 @@ pub record Wrapping (Legal : Type 0) (form : AgreedForm) (E : List ℕ → List 
   pub answer : OnOk result (StandsAs form E key new)
   pub only_text : OnOk result ((other : List ℕ) → StandsAs form E key other → other ≡ new)
   pub other_form : OnOk result (NoOtherForm form E new)
-
--- The promise of a call that unwraps this text in this form under E. A wrapping is refused only for its lengths. Wrapping
--- the key again gives the text, and in the other form the text is not a wrapping.
-pub record Unwrapping {A : Type 0} (Legal : Type 0) (form : AgreedForm) (E : List ℕ → List ℕ) (text : List ℕ) (key : A → List ℕ)
-    (result : Result A InPlaceFault) : Type 0 where
-  pub bad_length : (result ≡ Err BadLength) ↔ ¬ Legal
-  pub answer : KeyAnswer Legal (StandsAs form E) text key result
-  pub accepts : (other : List ℕ) → StandsAs form E other text → IsOkUnless result BadLength
-  pub only_key : IfOk result (λ m. (other : List ℕ) → StandsAs form E other text → other ≡ key m)
-  pub restores : IfOk result (λ m. (other : List ℕ) → StandsAs form E (key m) other → other ≡ text)
-  pub other_form : OnOk result (NoOtherForm form E text)
 
 -- The promise of a call that unwraps this text in either form under E. It is the wrapping of only this key, and only in the
 -- form that was found, whatever the initial value of the other. A wrapping in either form is refused only for its lengths.

@@ -15,5 +15,6 @@ pub mod Forms
 pub mod EitherForm
 pub mod Found
 pub mod Rewrap
+pub mod Unwrapping
 pub mod BufferCalls
 pub mod StepCalls

@@ -9,7 +9,7 @@ use Rattle.key_wrap_core.specs.Padded.{Padded, aiv, padded}
 use Rattle.key_wrap_core.specs.Calls.{block_calls}
 use Rattle.key_wrap_core.specs.Forms.{IsTextLengthAs}
 use Rattle.key_wrap_core.specs.Steps.{WrapState, UnwrapState}
-use Rattle.key_wrap_core.specs.BufferCalls.{Unwrapping}
+use Rattle.key_wrap_core.specs.Unwrapping.{Unwrapping}
 
 -- A wrapping is begun: no step is done, for every E.
 pub record WrapBegun (iv : ℕ) (key : List ℕ) (done : ℕ) (registers block : List ℕ) : Type 0 where

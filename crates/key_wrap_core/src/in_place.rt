@@ -8,7 +8,8 @@ ghost use Rattle.key_wrap_core.specs.Plain.{Plain, IsReserved, default_iv};
 ghost use Rattle.key_wrap_core.specs.Padded.{Padded};
 ghost use Rattle.key_wrap_core.specs.Calls.{block_calls};
 ghost use Rattle.key_wrap_core.specs.InPlace.{IsPaddedRoom, key_in};
-ghost use Rattle.key_wrap_core.specs.BufferCalls.{Wrapping, Unwrapping, KeepsOrClears};
+ghost use Rattle.key_wrap_core.specs.Unwrapping.{Unwrapping};
+ghost use Rattle.key_wrap_core.specs.BufferCalls.{Wrapping, KeepsOrClears};
 ghost use Rattle.key_wrap_core.specs.BufferCalls.{IsKeyBuffer, CountsCalls};
 
 use crate::agreed_form::AgreedForm;

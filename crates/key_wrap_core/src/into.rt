@@ -4,7 +4,8 @@ ghost use Rattle.std.specs.Prelude.{[], length, take, IfOk};
 ghost use Rattle.key_wrap_core.specs.Plain.{default_iv};
 ghost use Rattle.key_wrap_core.specs.Calls.{block_calls};
 ghost use Rattle.key_wrap_core.specs.InPlace.{IsPaddedRoom, ArePlainLengths, ArePaddedLengths};
-ghost use Rattle.key_wrap_core.specs.BufferCalls.{Wrapping, Unwrapping, KeepsOrClears};
+ghost use Rattle.key_wrap_core.specs.Unwrapping.{Unwrapping};
+ghost use Rattle.key_wrap_core.specs.BufferCalls.{Wrapping, KeepsOrClears};
 ghost use Rattle.key_wrap_core.specs.BufferCalls.{IsKeyBuffer, CountsCalls};
 
 use crate::agreed_form::AgreedForm;

@@ -3,7 +3,8 @@
 
 ghost use Rattle.std.specs.Prelude.{length};
 ghost use Rattle.key_wrap_core.specs.Calls.{block_calls};
-ghost use Rattle.key_wrap_core.specs.BufferCalls.{Wrapping, Unwrapping, KeepsOrClears, CountsCalls};
+ghost use Rattle.key_wrap_core.specs.Unwrapping.{Unwrapping};
+ghost use Rattle.key_wrap_core.specs.BufferCalls.{Wrapping, KeepsOrClears, CountsCalls};
 ghost use Rattle.key_wrap_core.specs.InPlace.{ArePlainLengths};
 
 use crate::agreed_form::AgreedForm;

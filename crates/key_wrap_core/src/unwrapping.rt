@@ -13,11 +13,11 @@ ghost use Rattle.key_wrap_core.specs.Registers.{Registers};
 ghost use Rattle.key_wrap_core.specs.PaddedRegisters.{PaddedRegisters};
 ghost use Rattle.key_wrap_core.specs.NoKey.{NoKey};
 ghost use Rattle.key_wrap_core.specs.Calls.{block_calls};
-ghost use Rattle.key_wrap_core.specs.BufferCalls.{Unwrapping, IsKeyBuffer};
+ghost use Rattle.key_wrap_core.specs.Unwrapping.{Unwrapping};
+ghost use Rattle.key_wrap_core.specs.BufferCalls.{UnwrappingEither, IsKeyBuffer};
 ghost use Rattle.key_wrap_core.specs.declared.forms.Form.{Form};
-ghost use Rattle.key_wrap_core.specs.Forms.{NoOtherForm, with_value};
+ghost use Rattle.key_wrap_core.specs.Forms.{with_value};
 ghost use Rattle.key_wrap_core.specs.Found.{HoldsIn};
-ghost use Rattle.key_wrap_core.specs.EitherForm.{IsEither, IsOnlyWrapping, NoKeyIn};
 
 use crate::agreed_form::AgreedForm;
 use crate::checks::{decide, given_length, padded_difference};
@@ -108,17 +108,12 @@ pub(crate) fn unwrap_any_registers<B: BlockPair>(
 ) -> Result<FoundKey, InPlaceFault>
     requires length { IsPaddedTextLength (8 + length registers.old) }
     requires free { ¬ IsReserved iv }
-    ensures wraps { IfOk result (λ found. IsOnlyWrapping (IsEither iv)
-        (B.encrypted meter.old.pair) (with_value found.form iv) (take found.len registers.new)
-        (word_bytes c0 ++ registers.old)) }
-    ensures none { IsErr result
-        → NoKeyIn (IsEither iv) (B.encrypted meter.old.pair) (word_bytes c0 ++ registers.old) }
-    ensures other_form { IfOk result (λ found. NoOtherForm (with_value found.form iv)
-        (B.encrypted meter.old.pair) (word_bytes c0 ++ registers.old)) }
-    ensures only_fault { IsOkUnless result InPlaceFault.Integrity }
+    ensures unwraps { let text = word_bytes c0 ++ registers.old in
+        UnwrappingEither (IsPaddedTextLength (length text)) iv
+        (B.encrypted meter.old.pair) text (λ found. take found.len registers.new) result }
     ensures key { IfOk result (λ found.
         IsKeyBuffer [] (take found.len registers.new) found.len registers.new) }
-    ensures cleared { IsErr result → All (λ byte. byte ≡ 0) registers.new }
+    ensures cleared { result ≡ Err InPlaceFault.Integrity → All (λ byte. byte ≡ 0) registers.new }
     ensures calls { meter.new ≡ counted (block_calls (8 + length registers.old)) meter.old }
 {
     let found = unwrap_slice(meter, c0, registers);

@@ -7,8 +7,8 @@ use Rattle.key_wrap_core.specs.Calls.{block_calls}
 use Rattle.key_wrap_core.proofs.Refusals.{true_or_false}
 use Rattle.key_wrap_core.proofs.Spelling.{read_word, each_byte}
 use Rattle.key_wrap_core.proofs.InPlaceForm.{first_cleared}
-use Rattle.key_wrap_core.proofs.Unwrappings.{ok_unless, behind_zeros}
-use Rattle.key_wrap_core.proofs.EitherForms.{any_answered, either_legal}
+use Rattle.key_wrap_core.proofs.Unwrappings.{ok_legal, behind_zeros}
+use Rattle.key_wrap_core.proofs.EitherForms.{either_legal}
 use Rattle.key_wrap_core.proofs.any_form.unwrap_any_in_place.Goals as goal
 
 pub returns-then-not-padded_text_length_ok-clause-accepts : goal.returns-then-not-padded_text_length_ok-clause-accepts
@@ -26,21 +26,15 @@ returns g c =
     let states = first_cleared c0 text c.fill.new.self registers (omega arith) front (c.fill.ensures.after (λ y e. e)) (search rules) in
     let r = c.unwrap_any_registers.result in
     let w = rw (states.given, c.word.ensures.value) at c.unwrap_any_registers.ensures in
-    let u = any_answered c.args.iv.now _ text _ r legal w.only_fault w.wraps w.none in
+    let u = w.unwraps in
     record {
-      unwraps = record {
-        bad_length = u.bad_length;
-        integrity = u.integrity;
-        answer = rw states.left w.wraps;
-        accepts = λ form other h. ok_unless r (u.accepts form other h);
-        other_form = w.other_form;
-      };
-      accepts = u.accepts;
+      unwraps = rw states.left u;
+      accepts = λ form other h. ok_legal r legal u.bad_length (u.accepts form other h);
       key = rw states.left (behind_zeros r (λ found. found.len) registers w.key);
       refused = record {
         kept = λ e. absurd (u.bad_length.0 e legal);
         cleared = λ e. rw states.left
-            (All-append (λ (byte : ℕ). byte ≡ 0) (replicate 8 0) registers (All-replicate (λ (byte : ℕ). byte ≡ 0) 8 0 (search rules)) (w.cleared (u.failed e)));
+            (All-append (λ (byte : ℕ). byte ≡ 0) (replicate 8 0) registers (All-replicate (λ (byte : ℕ). byte ≡ 0) 8 0 (search rules)) (w.cleared e));
       };
       calls = record {
         kept = λ e. absurd (u.bad_length.0 e legal);

@@ -6,8 +6,7 @@ use Rattle.key_wrap_core.specs.Calls.{block_calls}
 use Rattle.key_wrap_core.specs.InPlace.{ArePaddedLengths}
 use Rattle.key_wrap_core.proofs.Spelling.{read_word, each_byte, length-word_bytes}
 use Rattle.key_wrap_core.proofs.InPlaceForm.{text_again}
-use Rattle.key_wrap_core.proofs.Unwrappings.{ok_unless}
-use Rattle.key_wrap_core.proofs.EitherForms.{any_answered}
+use Rattle.key_wrap_core.proofs.EitherForms.{either_legally}
 use Rattle.key_wrap_core.proofs.any_form.unwrap_any_into.Goals as goal
 
 pub returns : goal.returns
@@ -21,17 +20,11 @@ returns g c =
     let size : 8 + length c.copy_from_slice.new.self ≡ length text =
     omega (arith, ap length whole, length-append (word_bytes A) c.copy_from_slice.new.self, length-word_bytes A) in
     let w = rw (whole, c.word.ensures.value) at c.unwrap_any_registers.ensures in
-    let u = any_answered c.args.iv.now _ text _ c.unwrap_any_registers.result lengths w.only_fault w.wraps w.none in
+    let u = either_legally c.unwrap_any_registers.result legal lengths w.unwraps in
     record {
-      unwraps = record {
-        bad_length = u.bad_length;
-        integrity = u.integrity;
-        answer = w.wraps;
-        accepts = λ form other h. ok_unless c.unwrap_any_registers.result (u.accepts form other h);
-        other_form = w.other_form;
-      };
+      unwraps = u;
       key = w.key;
-      refused = record { kept = λ e. absurd (u.bad_length.0 e lengths); cleared = λ e. w.cleared (u.failed e) };
+      refused = record { kept = λ e. absurd (u.bad_length.0 e lengths); cleared = w.cleared };
       calls = record {
         kept = λ e. absurd (u.bad_length.0 e lengths);
         counts = λ _. w.calls ∙ ap (λ (len : ℕ). counted (block_calls len) c.args.meter.now) size;
