@@ -76,7 +76,7 @@ def test_refused_drill(keywrap, args, status, message):
 def test_damaged_decryption(keywrap):
     """A program that encrypts right and decrypts wrong: `vectors` reports each vector, so it unwraps what it wraps.
 
-    Eight of the places of InvShiftRows stand in the program, and only its decryption uses them."""
+    Eight of the places of InvShiftRows are in the program, and only its decryption uses them."""
     program, places = pathlib.Path(keywrap.path).read_bytes(), raw("000d0a0704010e0b")
     assert places in program
     pathlib.Path("damaged").write_bytes(program.replace(places, places[::-1]))

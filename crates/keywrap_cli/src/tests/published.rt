@@ -1,4 +1,4 @@
-//! The published vectors by the definitions alone: no code runs.
+//! The published vectors by the definitions only: no code runs.
 
 ghost use Rattle.std.specs.List.{AllByRecursion};
 ghost use Rattle.keywrap_cli.specs.Vectors.{IsRight};
