@@ -182,6 +182,14 @@ def test_a_refused_line_is_named_and_stays_to_the_byte(file, pair, monkeypatch, 
     assert refusal(file, pair, whole=True) == "nothing of it was changed"
 
 
+def test_lines_of_an_odd_number_of_digits(file, pair):
+    """All of them: together their digits could be read as keys."""
+    content = b"".join(b"0" + line for line in lines_under(KEK, EQUAL[:2]).splitlines(keepends=True))
+    file.write_bytes(content)
+    assert refused(file, pair) == [f"line {number}: not in the notation of the store" for number in (1, 2)]
+    assert file.read_bytes() == content
+
+
 def rotated_line(line):
     """The line that takes the place of this one, whether it is refused, and whether it was new: only by pyca."""
     digits = line.strip(b" \t\r\n")

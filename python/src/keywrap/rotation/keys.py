@@ -124,7 +124,8 @@ class HexLines(NamedTuple):
         """Returns the keys if each line is hex digits and LF, and all are equally long."""
         size = content.find(b"\n") + 1
         count, rest = divmod(len(content), size or 1)
-        if size < 3 or rest or content[size - 1 :: size] != b"\n" * count:
+        # An odd number of digits in each line would be even in all lines together.
+        if size < 3 or size % 2 == 0 or rest or content[size - 1 :: size] != b"\n" * count:
             return None
         try:
             keys = binascii.unhexlify(content.replace(b"\n", b""))
