@@ -17,6 +17,7 @@ pytest.importorskip("cryptography", reason="no cryptography (apt-get install pyt
 
 from postgresql_server import Server, server_programs  # noqa: E402
 from rotation_help import KEK, NEW_KEK, left_over, make_keys, set_keks, wrapped_under  # noqa: E402
+from slurm_server import DAEMONS, Slurm  # noqa: E402
 
 ROOT = pathlib.Path(__file__).resolve().parent.parent.parent
 SCRIPTS = ROOT / "docs/rotation"
@@ -134,27 +135,52 @@ TASKS = {"GNU parallel": None, "Slurm": None, "AWS Batch": "AWS_BATCH_JOB_ARRAY_
          "Kubernetes": "JOB_COMPLETION_INDEX=%d", "Airflow": "I=%d"}  # fmt: skip
 
 
-@pytest.mark.parametrize("scheduler", TASKS)
-def test_line_of_an_array_of_jobs(scheduler, tmp_path, environment):
-    """The ten parts of a store by the line of each scheduler, and their reports merged."""
+def line_of(scheduler):
+    """Its line in the recipe."""
     (section,) = (section for section in SECTIONS if section.startswith("Rotate in parts\n"))
     lines = dict(re.findall(r"^# ([\w ]+).*\n(.*)$", section.split("```sh\n")[1].split("```")[0], re.M))
     assert lines.keys() == TASKS.keys()
+    return lines[scheduler]
+
+
+def rotated_by(line, environment, directory):
+    """Runs a line that rotates all parts. Then merges their reports, and verifies the store."""
+    prepare = KEKS + STORES_OF_RECIPES["Rotate in parts"] + "export KEYWRAP_KEK=kek.hex KEYWRAP_NEW_KEK=new-kek.hex\n"
+    merge = "python3 -m keywrap.rotate --merge report.*\npython3 -m keywrap.rotate --verify store\n"
+    done = subprocess.run(["bash", "-c", f"set -e\n{prepare}{line}\n{merge}"], cwd=directory, env=environment,
+                          stdin=subprocess.DEVNULL, capture_output=True, text=True, check=False)  # fmt: skip
+    assert done.returncode == 0, done.stderr
+    assert "units: 40 done, 0 refused" in done.stderr and "4000 under the new KEK, 0 not" in done.stderr
+
+
+@pytest.mark.parametrize("scheduler", TASKS)
+def test_line_of_an_array_of_jobs(scheduler, tmp_path, environment):
     if scheduler == "GNU parallel" and shutil.which("parallel") is None:
         pytest.skip("no parallel (apt-get install parallel)")
     (tmp_path / "bin/sbatch").write_text(SBATCH)
     (tmp_path / "bin/sbatch").chmod(0o755)
-    line = lines[scheduler]
+    line = line_of(scheduler)
     if TASKS[scheduler] is not None:
         first = 1 if scheduler == "Airflow" else 0
         of_task = "export " + TASKS[scheduler].replace("%d", "$task")
         line = f"for task in $(seq {first} {first + 9}); do {of_task}; {line} || exit; done"
-    prepare = KEKS + STORES_OF_RECIPES["Rotate in parts"] + "export KEYWRAP_KEK=kek.hex KEYWRAP_NEW_KEK=new-kek.hex\n"
-    script = f"set -e\n{prepare}{line}\npython3 -m keywrap.rotate --merge report.*; python3 -m keywrap.rotate --verify store\n"
-    done = subprocess.run(["bash", "-c", script], cwd=tmp_path / "here", env=environment, stdin=subprocess.DEVNULL,
-                          capture_output=True, text=True, check=False)  # fmt: skip
-    assert done.returncode == 0, done.stderr
-    assert "units: 40 done, 0 refused" in done.stderr and "4000 under the new KEK, 0 not" in done.stderr
+    rotated_by(line, environment, tmp_path / "here")
+
+
+@pytest.mark.skipif(os.geteuid() != 0, reason="not root")
+def test_line_over_slurm(tmp_path, environment):
+    """Slurm itself, on this machine."""
+    if not all(map(shutil.which, (*DAEMONS, "sbatch"))):
+        pytest.skip("no slurmctld and slurmd (apt-get install slurmctld slurmd slurm-client)")
+    try:
+        slurm = Slurm()
+    except RuntimeError as error:
+        pytest.skip(str(error))
+    try:
+        line = line_of("Slurm").replace("sbatch ", "sbatch --wait ")
+        rotated_by(line, {**environment, **slurm.environment}, tmp_path / "here")
+    finally:
+        slurm.end()
 
 
 def test_there_are_recipes():
