@@ -207,6 +207,19 @@ def test_a_name_does_not_try_other_keks(rotated):
     assert read("store") == [new[0], new[1], moved, *new[3:]]
 
 
+def test_a_report_belongs_to_the_names_of_a_table(rotated):
+    words = [*NAMED["csv"][0], *tables(), "--report", "report", "store"]
+    write("store", in_csv(OF_TABLE))
+    assert rotated(*words)[0] == 0
+    for table in ("table", "new-table"):
+        write(f"keks/{table}", read(f"keks/{table}")[::-1])
+    assert rotated(*words)[0] == 0
+    for table in ("table", "new-table"):
+        write(f"keks/{table}", [line.replace("a=", "z=") for line in read(f"keks/{table}")])
+    status, lines = rotated(*words)
+    assert (status, "it belongs to a rotation with other KEKs" in lines[-1]) == (2, True), lines
+
+
 WRONG = [
     ("keks/table", ["a=table0.hex", "b c"], "--keks: line 2 is not NAME=FILE"),
     ("keks/table", ["=table0.hex"], "--keks: line 1 is not NAME=FILE"),

@@ -1,5 +1,5 @@
 """Random kills and stops of a rotation, over each kind of store, with live writers, a KEK that is replaced for a moment,
-and several rotations at once, also with different KEKs.
+and several rotations at once, also of halves of the store, resumed ones, and with different KEKs.
 
 `cryptography` (OpenSSL) checks every key: none is lost, none is under a foreign KEK, and what a report says is true.
 With KEYWRAP_KILLS=N each kind of store gets N rounds of both tests, else one.
@@ -278,8 +278,9 @@ def filled(request, tmp_path, monkeypatch):
     return fill
 
 
-def start(store, report, *words):
-    run = [sys.executable, "-B", "-c", SLOWLY, "--jobs", "2", "--report", report, *words, *store.words]
+def start(store, report, *words, resumes=False):
+    option = "--resume" if resumes and type(store) in (Files, Csv, Json, OneKey) else "--report"
+    run = [sys.executable, "-B", "-c", SLOWLY, "--jobs", "2", option, report, *words, *store.words]
     return subprocess.Popen(run, start_new_session=True, stderr=subprocess.DEVNULL)
 
 
@@ -305,20 +306,28 @@ def held_by(store):
     return {place: key for place, (key, _) in found.items()}, collections.Counter(kek for _, kek in found.values())
 
 
+def started(store, source):
+    """One run or two over the whole store, or two over its halves. Some skip what their report has."""
+    count, resumes = source.choice([1, 2]), source.randrange(2) == 0
+    halves = count == 2 and type(store) is not Postgresql and source.randrange(2) == 0
+    return {report: start(store, report, *words, resumes=resumes) for report, words in (
+        (f"half{at}", ["--shard", f"{at}/2"]) if halves else (f"report{at - 1}", []) for at in range(1, count + 1))}
+
+
 @pytest.mark.parametrize("number", range(ROUNDS))
 @pytest.mark.parametrize("kind", KINDS)
 def test_random_kills(filled, tmp_path, kind, number):
     store, keys, source = filled(kind, number)
     with writing(store, source) as acknowledged:
         for _ in range(3):
-            runs = {f"report{at}": start(store, f"report{at}") for at in range(source.choice([1, 2]))}
+            runs = started(store, source)
             if source.randrange(3) == 0:
                 replace_kek(source, runs)
             for running in runs.values():
                 disturb(source, running)
             for running in runs.values():
                 running.wait(timeout=240)
-    assert start(store, "report0").wait(timeout=240) == 0
+    assert start(store, "report0", resumes=True).wait(timeout=240) == 0
     assert held_by(store) == ({**keys, **acknowledged}, {NEW_KEK: len(keys)})
     assert left_over(tmp_path) == []
     counts = counts_of("report0")

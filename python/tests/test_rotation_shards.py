@@ -223,6 +223,13 @@ def test_merging_names_what_is_missing(rotated):
         assert rotated("--merge", *words) == (2, [f"keywrap.rotate: --merge: {why}"])
     rotated("--shard", "1/2", "--report", "report5", "store")
     assert "different numbers of shards" in rotated("--merge", "report1", "report5")[1][-1]
+    status, said = rotated("--merge", "report5")
+    assert (status, said[0]) == (6, "keywrap.rotate: there is no report of shard 2/2")
+    rotated("--shard", "2/2", "--report", "report6", "store")
+    assert rotated("--merge", "report5", "report6")[0] == 0
+    with open("report5", "a") as file:  # A later run was killed.
+        file.write(lines[1])
+    assert rotated("--merge", "report5", "report6")[1][0].endswith("report5: its last run did not end: run shard 1/2 again")
     with open("new-kek.hex", "w") as file:
         file.write("77" * 16)
     status, said = rotated("--merge", "report1", "report3")

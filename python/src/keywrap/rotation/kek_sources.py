@@ -80,4 +80,4 @@ def _table(option: str, path: Optional[str]) -> Dict[str, str]:
         found[name] = os.path.join(os.path.dirname(path), file)
     if not found:
         raise Refused(f"{option}: it has no line")
-    return found
+    return dict(sorted(found.items()))
