@@ -146,7 +146,8 @@ def named(at):
 
 
 def in_csv(keks, keys=KEYS):
-    return ["owner,wrapped", *(f"{named(at)},{wrapped_under(keks[named(at)], key).hex()}" for at, key in enumerate(keys))]
+    lines = (f"{at},{named(at)},{wrapped_under(keks[named(at)], key).hex()}" for at, key in enumerate(keys))
+    return ["id,owner,wrapped", *lines]
 
 
 def in_json(keks):

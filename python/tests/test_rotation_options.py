@@ -15,7 +15,7 @@ pytest.importorskip("cryptography", reason="no cryptography (apt-get install pyt
 
 from rotation_help import KEK, NEW_KEK, lines_under, make_keys, set_keks, wrapped_under  # noqa: E402
 
-from keywrap.rotation import command, jobs, replacing  # noqa: E402
+from keywrap.rotation import command, jobs, replacing, sqlite  # noqa: E402
 
 KEYS = make_keys(6)
 ENCODINGS = {"--base64": lambda key: base64.b64encode(key).decode(),
@@ -122,6 +122,24 @@ def test_progress_file(rotated, kind):
                       "objects": ("objects", 6)}[kind]  # fmt: skip
     text = open("progress").read()
     assert f"keywrap_rotation_{measure}_done {total}\n" in text and f"keywrap_rotation_{measure}_all {total}\n" in text
+
+
+def test_a_record_of_a_table_in_ranges(rotated, monkeypatch):
+    """It has one line, and a change in each range is noticed."""
+    monkeypatch.setattr(sqlite, "ROWS", 2)
+    words = make("table", kek=NEW_KEK)
+    for name in ("record", "again"):
+        assert rotated("--jobs", "2", "--verify", "--record", name, *words)[0] == 0
+    first, again = ([json.loads(line) for line in open(name)] for name in ("record", "again"))
+    assert [(line["unit"], line["keys"]) for line in first[1:-1]] == [(os.path.abspath("store/keys.db"), 6)]
+    assert first[-1]["chain"] == again[-1]["chain"]
+    for row in range(1, 7):
+        (was,) = run_sql("store/keys.db", "SELECT key FROM keys WHERE rowid = ?", row)
+        run_sql("store/keys.db", "UPDATE keys SET key = ? WHERE rowid = ?", wrapped_under(NEW_KEK, b"x" * 16).hex(), row)
+        status, lines = rotated("--verify-record", "record", *words)
+        assert (status, "keys.db: changed since the record: 6 keys; it had 6" in lines[0]) == (5, True)
+        run_sql("store/keys.db", "UPDATE keys SET key = ? WHERE rowid = ?", *was, row)
+    assert rotated("--verify-record", "record", *words)[0] == 0
 
 
 def test_exclude_and_a_list_of_databases(rotated):
