@@ -216,7 +216,7 @@ def test_a_report_belongs_to_the_names_of_a_table(rotated):
         write(f"keks/{table}", read(f"keks/{table}")[::-1])
     assert rotated(*words)[0] == 0
     for table in ("table", "new-table"):
-        write(f"keks/{table}", [line.replace("a=", "z=") for line in read(f"keks/{table}")])
+        write(f"keks/{table}", [line.replace("a=", "aa=") for line in read(f"keks/{table}")])
     status, lines = rotated(*words)
     assert (status, "it belongs to a rotation with other KEKs" in lines[-1]) == (2, True), lines
 

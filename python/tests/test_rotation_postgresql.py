@@ -189,6 +189,15 @@ sys.exit(main())
     assert (done.returncode, b"row 600: integrity check failed" in done.stderr) == (5, True), done.stderr
 
 
+@pytest.mark.parametrize("words", [["--verify"], ["--dry-run"], ["--all-or-nothing"]])
+def test_an_empty_table_is_refused(server, words):
+    server.sql("DELETE FROM keys")
+    status, lines = rotated(*words)
+    assert (status, lines[0]) == (5, "keywrap.rotate: keys: no rows")
+    if words == ["--verify"]:
+        assert "ranges: 0 done" in rotated("--verify", "--shard", "2/3")[1][-1]
+
+
 def test_a_null_in_the_column_of_the_ids_is_refused_by_verify(server):
     server.sql("ALTER TABLE keys DROP CONSTRAINT keys_pkey; ALTER TABLE keys ALTER id DROP NOT NULL;"
                "UPDATE keys SET id = NULL WHERE id = 30")

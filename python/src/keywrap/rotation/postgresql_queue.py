@@ -58,7 +58,6 @@ def ranges_of(table: Table, whole: bool) -> Iterator[Unit]:
         select = "SELECT {row} FROM {table} WHERE (%s OR {row} > %s) AND {condition} ORDER BY 1 LIMIT %s"
         while not whole and (some := database.run(select, last is None, last, ROWS).fetchall()):
             (first,), (last,) = some[0], some[-1]
-            database.connection.commit()
             yield Unit(f"{table.name}: rows {first} to {last}", Range(first, last), len(some), table.name)
     if last is None and table.shard == Shard():
         yield Unit(table.name, Range(), 1, table.name)
