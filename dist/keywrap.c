@@ -16273,8 +16273,10 @@ static int32_t rewrap_old(const uint8_t *old_kek, size_t old_kek_len, const uint
         return wrap_found(new_kek, new_kek_len, found, buffer, wrapped_len);
     if (flags & KEYWRAP_NEW_PADDED)
         return keywrap_wrap_padded_in_place(new_kek, new_kek_len, buffer, wrapped_len, key_len);
-    if (key_len % 8 == 0 && key_len >= 16)
-        return keywrap_wrap_in_place(new_kek, new_kek_len, buffer, wrapped_len);
+    /* The proved beginning decides whether a plain key has this length. */
+    if (keywrap_begin_wrap(DEFAULT_IV, 8, buffer + 8, key_len, &run.steps, run.block)
+        == KEYWRAP_OK)
+        return wrap(new_kek, new_kek_len, &run, buffer, buffer + 8, key_len);
     status = wrap_found(old_kek, old_kek_len, found, buffer, wrapped_len);
     return status == KEYWRAP_OK ? KEYWRAP_KEY_NOT_PLAIN : status;
 }
@@ -16462,12 +16464,13 @@ static int32_t end_lane(struct turn *turn, size_t lane, uint32_t flags, uint32_t
     return status;
 }
 
-/* Begins the wrap of one lane. */
+/* Begins the wrap of one lane. The proved beginning refuses a key that is too short or too long for
+ * its form. */
 static int32_t begin_lane(struct turn *turn, size_t lane, uint32_t padded, size_t key_len) {
     uint8_t *registers = text_of(turn, lane) + 8, *block = turn->blocks + BLOCK * lane;
     const size_t len = turn->text_len - 8;
     return padded ? keywrap_begin_wrap_padded(key_len, registers, len, &turn->steps, block)
-                  : keywrap_begin_wrap(DEFAULT_IV, 8, registers, len, &turn->steps, block);
+                  : keywrap_begin_wrap(DEFAULT_IV, 8, registers, key_len, &turn->steps, block);
 }
 
 /* The end of an unwrap under the old KEK, and the beginning of the wrap under the new one. A form that
@@ -16484,8 +16487,9 @@ static int32_t turn_lane(struct turn *turn, size_t lane, uint32_t flags) {
         memcpy(block + 8, registers, 8);
         return KEYWRAP_OK;
     }
-    if (key_len % 8 != 0) return KEYWRAP_KEY_NOT_PLAIN;
-    return begin_lane(turn, lane, flags & KEYWRAP_NEW_PADDED, key_len);
+    return begin_lane(turn, lane, flags & KEYWRAP_NEW_PADDED, key_len) == KEYWRAP_OK
+               ? KEYWRAP_OK
+               : KEYWRAP_KEY_NOT_PLAIN;
 }
 
 /* The schedules of a rewrap; the last is made for KEYWRAP_PASS_NEW. */
