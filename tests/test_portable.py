@@ -30,6 +30,7 @@ MACHINES = {
     "gcc": (["gcc"], []),
     "clang": (["clang"], []),
     "gcc, tables": (["gcc", TABLES], []),
+    "clang, tables": (["clang", TABLES], []),
     "an old x86-64": (["gcc", "-static"], ["qemu-x86_64", "-cpu", "Nehalem"]),
     "aarch64": (["aarch64-linux-gnu-gcc", "-static"], ["qemu-aarch64"]),
     "riscv64": (["riscv64-linux-gnu-gcc", "-static"], ["qemu-riscv64"]),
@@ -97,22 +98,27 @@ def test_published(portable, name):
         assert run(*program, input="".join(published.lines(cases))) == published.all_right(cases)
 
 
-@pytest.mark.parametrize("name", [*NATIVE, "gcc, tables", "an old x86-64"])
-def test_as_the_library(portable, library, name):
-    """Random calls, right ones and refusals, of all calls and steps: as the library, byte by byte."""
+def random_calls(directory, library, name, *options):
+    """Compiles fuzz.c over the keywrap.c in the directory and over the library. Returns its command."""
     compiler, runner = MACHINES[name]
     need(compiler[0], *runner[:1])
     calls = sorted(set(re.findall(r"^\w+ (keywrap_\w+)\(", "".join(
-        (portable / header).read_text() for header in ("keywrap.h", "keywrap_steps.h")), re.M)))
+        (DIST / header).read_text() for header in ("keywrap.h", "keywrap_steps.h")), re.M)))
     pathlib.Path("renamed.h").write_text("".join(f"#define {call} dist_{call}\n" for call in calls))
-    renamed = ["-include", "./renamed.h", f"-I{portable}"]
-    command = [*compiler, *STRICT, "-O2", f"-I{OWN}"]
-    run(*command, *renamed, "-c", portable / "keywrap.c", "-o", "dist.o")
+    renamed = ["-include", "./renamed.h", f"-I{directory}"]
+    command = [*compiler, *STRICT, "-O2", f"-I{OWN}", *options]
+    run(*command, *renamed, "-c", f"{directory}/keywrap.c", "-o", "dist.o")
     run(*command, *renamed, "-DCALL=dist_call", "-c", OWN / "fuzz_call.c", "-o", "dist_call.o")
     run(*command, f"-I{ROOT}/include", "-DCALL=library_call", OWN / "fuzz_call.c", OWN / "fuzz.c", "dist.o",
         "dist_call.o", library / "libkeywrap.a", "-o", "fuzz")
-    cases = 1000000 if ALL and name in NATIVE else 40000 if not runner else 10000
-    assert run(*runner, "./fuzz", str(cases), "1") == f"{cases} cases agree\n"
+    return [*runner, "./fuzz"]
+
+
+@pytest.mark.parametrize("name", [*NATIVE, "gcc, tables", "an old x86-64"])
+def test_as_the_library(portable, library, name):
+    """Random calls, right ones and refusals, of all calls and steps: as the library, byte by byte."""
+    cases = 1000000 if ALL and name in NATIVE else 10000 if "old" in name else 40000
+    assert run(*random_calls(portable, library, name), str(cases), "1") == f"{cases} cases agree\n"
 
 
 @slow
@@ -135,18 +141,30 @@ def test_lengths(portable, name):
     assert run(*compiled_program(portable, name, [OWN / "lengths.c"], "-O2")) == "all are right\n"
 
 
-@pytest.mark.parametrize("name", [*NATIVE, "gcc, tables"])
+def secrets_left(directory, name, *options):
+    """The most bytes below the stack pointer that depend on a KEK or a key, copies of these, and how many calls there
+    are. The first call is left out: it also tests the AES."""
+    program = compiled_program(directory, name, [ROOT / "tests/secrets/stack.c"], "-Wl,-z,now", "-Wno-error", *options)
+    counts = [list(map(int, line.split()[3:7])) for line in run(*program).splitlines()[1:]]
+    kek, new_kek, key, copies = map(max, zip(*counts))
+    return max(kek, new_kek, key), copies, len(counts)
+
+
+def documented_secrets(name):
+    """The most bytes that SECURITY.md has."""
+    found = re.search(r"at most (\d+) bytes\s+below the stack pointer depend on a KEK or a key, and with AES "
+                      r"instructions at most (\d+)", (ROOT / "SECURITY.md").read_text())
+    return int(found[1 if "tables" in name else 2])
+
+
+@pytest.mark.parametrize("name", [*NATIVE, "gcc, tables", "clang, tables"])
 @pytest.mark.parametrize("level", all_of(["-O1", "-O2", "-O3", "-Os"], ["-O2"]))
 def test_stack(portable, name, level):
-    """SECURITY.md's bytes below the stack pointer depend on a KEK or a key. The first call also tests the AES."""
-    program = compiled_program(portable, name, [ROOT / "tests/secrets/stack.c"], level, "-Wl,-z,now", "-Wno-error")
-    counts = [list(map(int, line.split()[3:7])) for line in run(*program).splitlines()[1:]]
+    """SECURITY.md's bytes below the stack pointer depend on a KEK or a key."""
+    most, copies, calls = secrets_left(portable, name, level)
     exports = re.findall(r"^int32_t keywrap_", (portable / "keywrap.h").read_text(), re.M)
-    assert len(counts) >= 6 * len(exports)
-    kek, new_kek, key, copies = map(max, zip(*counts))
-    most = re.search(r"at most (\d+) bytes\s+below the stack pointer depend on a KEK or a key, and with AES "
-                     r"instructions at most (\d+)", (ROOT / "SECURITY.md").read_text())[1 if "tables" in name else 2]
-    assert max(kek, new_kek, key) <= int(most) and copies == 0, (kek, new_kek, key, copies)
+    assert calls >= 6 * len(exports) - 1
+    assert most <= documented_secrets(name) and copies == 0
 
 
 @pytest.mark.parametrize("only", ["", "-DKEYWRAP_STEPS_ONLY"])
@@ -257,3 +275,22 @@ def test_sdist(compiler):
     assert re.search(r"^\d{3,} passed", said, re.M) and "skipped" not in said
 
 
+@pytest.mark.parametrize("bug", all_of([path.stem for path in sorted(OWN.glob("bugs/*.edit"))], [
+    "no-wipe-after-a-refusal", "scratch-kept-with-instructions"]))
+def test_bug_is_caught(portable, library, tmp_path, bug):
+    """By random calls, with AES instructions or without, by the longest lengths, or by what is left on the stack."""
+    need("sanitizers of gcc")
+    for name in "keywrap.c", "keywrap.h", "keywrap_steps.h":
+        shutil.copy(portable / name, tmp_path)
+    plant(OWN / f"bugs/{bug}.edit", tmp_path)
+
+    def fails(program, *words):
+        return subprocess.run([*program, *words], capture_output=True).returncode != 0
+
+    def leaves_secrets():
+        return secrets_left(tmp_path, "gcc, tables", "-O2")[0] > documented_secrets("gcc, tables")
+
+    lengths = [OWN / "lengths.c"], "-O1", *SANITIZED, "-Wno-error"
+    assert (fails(random_calls(tmp_path, library, "gcc, tables", "-Wno-error"), "20000", "1")
+            or fails(random_calls(tmp_path, library, "gcc", "-Wno-error"), "20000", "1")
+            or fails(compiled_program(tmp_path, "gcc, tables", *lengths)) or leaves_secrets())
