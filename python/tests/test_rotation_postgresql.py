@@ -251,8 +251,8 @@ def test_waits_while_a_replica_is_behind(server, replica, monkeypatch):
     """The test stops the replay of the log in the replica, and makes a lag of 3 MB."""
     replica.sql("SELECT pg_wal_replay_pause()")
     server.sql("SELECT pg_logical_emit_message(false, '', repeat('x', 3000000))")
-    running = subprocess.Popen(command("--max-lag", "2", "--timeout", "2"), stderr=subprocess.PIPE)
-    time.sleep(4)
+    running = subprocess.Popen(command("--max-lag", "2", "--timeout", "5"), stderr=subprocess.PIPE)
+    time.sleep(7)
     assert (running.poll(), server.held()) == (None, OLD)
     replica.sql("SELECT pg_wal_replay_resume()")
     lines = running.communicate(timeout=120)[1].decode().splitlines()

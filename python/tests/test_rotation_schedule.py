@@ -140,7 +140,7 @@ def test_rate(tmp_path):
     (tmp_path / "store").mkdir()
     for number in range(4):
         (tmp_path / f"store/{number}").write_bytes(lines_under(KEK, make_keys(50, number)))
-    command = [sys.executable, "-B", "-m", "keywrap.rotate", "--jobs", "2", "--timeout", "1", "store"]
+    command = [sys.executable, "-B", "-m", "keywrap.rotate", "--jobs", "2", "--timeout", "2", "store"]
     began = time.monotonic()
     done = subprocess.run([*command, "--rate", "50", "--report", "report"], check=True, stderr=subprocess.DEVNULL)
     assert (done.returncode, time.monotonic() - began >= 3.9) == (0, True)

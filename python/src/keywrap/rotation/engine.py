@@ -141,7 +141,7 @@ def _wait(seconds: float, beat: Beat) -> None:
     until = time.monotonic() + seconds
     while (left := until - time.monotonic()) > 0:
         beat(0)
-        time.sleep(min(left, 1.0))
+        time.sleep(min(left, 0.25))
 
 
 def verify_unit(store: Store, unit: Unit, pair: Challenges, beat: Beat = no_beat) -> Answer:
