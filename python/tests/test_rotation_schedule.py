@@ -142,7 +142,7 @@ def test_rate(tmp_path):
         (tmp_path / f"store/{number}").write_bytes(lines_under(KEK, make_keys(50, number)))
     command = [sys.executable, "-B", "-m", "keywrap.rotate", "--jobs", "2", "--timeout", "2", "store"]
     began = time.monotonic()
-    done = subprocess.run([*command, "--rate", "50", "--report", "report"], check=True, stderr=subprocess.DEVNULL)
-    assert (done.returncode, time.monotonic() - began >= 3.9) == (0, True)
+    done = subprocess.run([*command, "--rate", "25", "--report", "report"], check=True, stderr=subprocess.DEVNULL)
+    assert (done.returncode, time.monotonic() - began >= 7.9) == (0, True)
     assert json.loads(open("report").read().splitlines()[-1])["keys"] == 200
     assert (tmp_path / "store/3").read_bytes() == lines_under(NEW_KEK, make_keys(50, 3))
