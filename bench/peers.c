@@ -161,6 +161,9 @@ const struct peer PEERS[] = {
 
 const int PEER_COUNT = sizeof PEERS / sizeof *PEERS;
 
+/* The arrays of wrap.c have a place for each peer. */
+typedef char each_has_a_place[sizeof PEERS / sizeof *PEERS <= PEERS_AT_MOST ? 1 : -1];
+
 void start_peers(void) {
     one_table_start();
 #ifdef HAVE_GCRYPT

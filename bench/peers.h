@@ -19,7 +19,7 @@ struct peer {
                   uint8_t *key);
 };
 
-enum { PEERS_AT_MOST = 7 };
+enum { PEERS_AT_MOST = 8 };
 
 /* This library first. */
 extern const struct peer PEERS[];
