@@ -121,22 +121,24 @@ cp scripts/sysroot.sh tmp/kept
 printf '#!/bin/sh\necho "sysroot: $*" >>"$tree/notes"\n' >scripts/sysroot.sh
 unpacks='sysroot: '
 as_it_is=("${in_gate[@]:0:2}" "${archives[@]}" 'command: ' "library: $over")
+# The archives are built once.
+all_rows=("${in_gate[@]:2 + ${#archives[@]}}")
 at='a tree' event='exit 1' does 'CI, where a proof fails' 2 '' .ci/run -- 'a tree: ci'
 script command '2 passed, 1 failed, 0 skipped' 1
 at='a tree' event=$ci does 'CI, where a test fails as the machine is' 2 '42 passed, 1 failed, 0 skipped' .ci/run -- \
     "${as_it_is[@]}"
 scripts
 at='a tree' event=$ci does 'CI' 0 '42 passed, 0 failed, 1 skipped' .ci/run -- "${as_it_is[@]}" 'apt-get: update' \
-    "$installs one two" "$unpacks" "${in_gate[@]:2}"
+    "$installs one two" "$unpacks" "${all_rows[@]}"
 at='a tree' event=$ci takes=5 does 'CI, where a package is missing' 0 '42 passed, 0 failed, 1 skipped' .ci/run -- \
-    "${as_it_is[@]}" 'apt-get: update' "$installs one two" "$installs one" "$installs two" "$unpacks" "${in_gate[@]:2}"
+    "${as_it_is[@]}" 'apt-get: update' "$installs one two" "$installs one" "$installs two" "$unpacks" "${all_rows[@]}"
 at='a tree' event=$ci uid=1 does 'CI without the right to install' 0 '42 passed, 0 failed, 1 skipped' .ci/run -- \
-    "${as_it_is[@]}" "${in_gate[@]:2}"
+    "${as_it_is[@]}" "${all_rows[@]}"
 # Only the second run of the tests fails.
 script command '2 passed, 1 failed, 1 skipped' 1
 sed -i '1a [ -n "${KEYWRAP_ALL:-}" ] || { echo "2 passed, 0 failed, 1 skipped"; exit; }' tests/command.sh
 at='a tree' event=$ci does 'CI, where a test fails with packages' 2 '42 passed, 1 failed, 1 skipped' .ci/run -- \
-    "${as_it_is[@]}" 'apt-get: update' "$installs one two" "$unpacks" "${in_gate[@]:2}"
+    "${as_it_is[@]}" 'apt-get: update' "$installs one two" "$unpacks" "${all_rows[@]}"
 rm bin/id bin/apt-get
 cp tmp/kept scripts/sysroot.sh
 
