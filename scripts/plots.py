@@ -8,10 +8,10 @@ import math
 
 NAMES = {"keywrap": "keywrap", "hardware": "keywrap_hw", "openssl": "OpenSSL", "nettle": "nettle",
          "gcrypt": "libgcrypt", "C": "C, tables", "portable": "portable C",
-         "portable_hw": "portable C, AES inst."}
+         "portable_hw": "portable C"}
 DASHES = {"OpenSSL": "8 3", "C, tables": "2 3", "nettle": "8 3 2 3", "nettle, AES inst.": "1 3", "libgcrypt": "5 5",
           "keywrap_hw": "14 3", "portable C": "2 6", "portable C, AES inst.": "10 2 2 2"}
-LEFT, PLOT = 44, 286
+LEFT, PLOT = 44, 280
 
 
 def read(text):
