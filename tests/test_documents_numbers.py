@@ -43,7 +43,7 @@ class TestMeasured:
         """docs/C_LIBRARY.md has the times of docs/pictures/wrap.csv. README and docs/OPENSSL.md compare them."""
         times = {tuple(row[:5]): float(row[5]) for row in measured("wrap")[1:] if row[2] == "32"}
         by_name = {"keywrap": "keywrap,software", "portable C": "portable,software", "OpenSSL 3.0": "openssl,software",
-                   "one table in C": "C,software", "libgcrypt 1.10": "gcrypt,AES inst.",
+                   "one table": "C,software", "libgcrypt 1.10": "gcrypt,AES inst.",
                    "nettle 3.8": "nettle,AES inst.", "portable C (AES)": "portable_hw,AES inst.",
                    "libkeywrap_hw": "hardware,AES inst."}
         names, _, *rows = [[cell.strip() for cell in line.split("|")[1:-1]]
