@@ -362,9 +362,9 @@ fi
 as_installed() {
     NETTLE_FAT_VERBOSE=1 "$root/bench/wrap" "$library/libkeywrap.a" 0 >bench.log 2>&1 &&
         grep -q '^libnettle: cpu features: .*aesni' bench.log &&
-        [ "$(awk '/^KEK/ { print $4, $5, $6, $7, $8 } /^AES by/ { print $3, $4, $5, $7, $9 }' bench.log | sort -u)" = \
-            'keywrap openssl nettle gcrypt C
-software software AES AES software' ]
+        [ "$(awk '/^KEK/ { print $4, $5, $6, $7, $8, $9, $10 } /^AES by/ { print $3, $4, $5, $7, $8, $10, $12 }' \
+            bench.log | sort -u)" = 'keywrap portable portable_hw openssl nettle gcrypt C
+software software AES software AES AES software' ]
 }
 if needs 'the bench' "the processor's AES" '<nettle/aes.h>' '<gcrypt.h>' '<openssl/evp.h>'; then
     row 'the bench times each library as it is installed' as_installed
