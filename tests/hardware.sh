@@ -91,6 +91,9 @@ if needs 'what depends on secrets in the steps' valgrind '<valgrind/memcheck.h>'
     slow row 'secrets of libkeywrap_hw: whether a length is plain' diff <(sed '/: 0 reports/d; s/:.*//' written) \
         <(printf '%s\n' 'keywrap_rewrap_in_place, to plain' 'keywrap_rewrap, to plain' \
             'keywrap_rewrap, to plain, not plain' 'keywrap_rewrap_many, to plain' tables)
+    # That is one branch for each key, and the calls for many keys have two.
+    slow row 'secrets of libkeywrap_hw: one branch for each length' awk -F ': ' '/, to plain/ {
+        split($2, n, " "); found++; if (n[1] > 2 * n[4]) { print; bad = 1 } } END { exit bad || found != 4 }' written
 fi
 
 ### libkeywrap_hw, on each processor
