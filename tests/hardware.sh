@@ -93,7 +93,7 @@ if needs 'what depends on secrets in the steps' valgrind '<valgrind/memcheck.h>'
             'keywrap_rewrap, to plain, not plain' 'keywrap_rewrap_many, to plain' tables)
     # That is one branch for each key, and the calls for many keys have two.
     slow row 'secrets of libkeywrap_hw: one branch for each length' awk -F ': ' '/, to plain/ {
-        split($2, n, " "); found++; if (n[1] > 2 * n[4]) { print; bad = 1 } } END { exit bad || found != 4 }' written
+        split($2, n, " "); found++; if (n[1] > 2 * n[4]) { print; bad = 1 } } END { exit bad || found != 8 }' written
 fi
 
 ### libkeywrap_hw, on each processor
