@@ -220,8 +220,7 @@ class TestPortable:
             assert subprocess.run(["make", "-C", "portable", "check"], capture_output=True).returncode != 0
 
     @pytest.mark.parametrize("old, new", [
-        ("aes_encrypt(&aes, run->block);", ";"), ("status = call->run(&module, call);", "status = KEYWRAP_OK;"),
-        ("-(u32)(bits)", "bits"), ("KEYWRAP_INTEGRITY;", "KEYWRAP_OK;")])
+        ("-(u32)(bits)", "bits"), ("if (call->key_len) *call->key_len", "if (call->flag) *call->key_len")])
     def test_a_bug_fails_the_check(self, old, new):
         source = pathlib.Path("portable/keywrap.c")
         assert old in source.read_text()
