@@ -128,7 +128,7 @@ class TestRepeatedFacts:
         page = text_of("README.md")
         assert len(page.split()) <= 1200
         first = " ".join(page.split("\n\n")[1].split())
-        assert re.search("^`keywrap` encrypts .* licence .* Nothing has been released.* the kit of Rattle ", first)
+        assert re.search("^`keywrap` encrypts .* licence .* No version has been released.* the kit of Rattle ", first)
         for answer in ("1.0.0 included", "not a validated FIPS 140 module", "aarch64, tested under qemu only",
                        "we know no outside review", "does not wipe its memory",
                        "is [measured](SECURITY.md), not proved"):

@@ -59,7 +59,7 @@ class TestMeasured:
         assert 2.5 < ours / timed["libgcrypt 1.10"]["wrap"] < ours / timed["nettle 3.8"]["wrap"] < 4    # three times
         short = {name: times["keywrap", "software", "32", "wrap", "32"] / times[(*key.split(","), "32", "wrap", "32")]
                  for name, key in by_name.items()}
-        numbers = [round(short[name], 1) for name in ("OpenSSL 3.0", "libgcrypt 1.10", "nettle 3.8")]
+        numbers = [float(f"{short[name]:.2g}") for name in ("OpenSSL 3.0", "libgcrypt 1.10", "nettle 3.8")]
         text = ("takes {:g} times as long as OpenSSL 3.0's, and {:g} to {:g} times as long as libgcrypt 1.10's and "
                 "nettle 3.8's with AES instructions")
         assert text.format(*numbers) in words_of("README.md")

@@ -113,6 +113,11 @@ class Readable(Protocol):
 Text = Union[bytes, str, None]
 
 
+def _are_done(statuses: bytearray) -> bool:
+    # `any` would make a number of each byte.
+    return statuses.count(0) == len(statuses)
+
+
 class HexLines(NamedTuple):
     """The keys of lines that all have one length, behind each other. They are decoded and encoded at once."""
 
@@ -141,7 +146,7 @@ class HexLines(NamedTuple):
     def are_under(self, kek: bytes) -> bool:
         """Whether all keys are under the KEK. For most blocks the first one decides."""
         some = (self.keys[: self.length], self.keys)
-        return not any(any(_many.check_slots(kek, keys, self.length)[0]) for keys in some)
+        return all(_are_done(_many.check_slots(kek, keys, self.length)[0]) for keys in some)
 
     def content(self) -> bytes:
         return binascii.hexlify(self.keys, b"\n", self.length) + b"\n"
@@ -294,7 +299,7 @@ def _all_rewrapped(keks: Keks, lines: HexLines) -> Optional[Fresh]:
         statuses = _many.rewrap_slots(old[0][1], keks.new, texts, lines.length, _FLAGS)
     except keywrap.BadLength:
         return None
-    if any(statuses):
+    if not _are_done(statuses):
         return None
     content = HexLines(texts, lines.length).content()
     written = HexLines.of(content)
