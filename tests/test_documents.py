@@ -129,7 +129,7 @@ class TestRepeatedFacts:
         assert len(page.split()) <= 1200
         first = " ".join(page.split("\n\n")[1].split())
         assert re.search("^`keywrap` encrypts .* licence .* No version has been released.* the kit of Rattle ", first)
-        for answer in ("1.0.0 included", "not a validated FIPS 140 module", "aarch64, tested under qemu only",
+        for answer in ("not even 1.0.0", "not a validated FIPS 140 module", "aarch64, tested under qemu only",
                        "we know no outside review", "does not wipe its memory",
                        "is [measured](SECURITY.md), not proved"):
             assert answer in " ".join(page.split())
