@@ -17,9 +17,9 @@ returns-in-Ok c =
       bad_length = grind (arith, common_steps, c.in-Some.ensures.given, c.in-Ok.ensures.bad_length);
       kept = grind (arith, common_steps);
       answer = λ _ E D text inv state.
-        let u = c.in-Ok.ensures.answer (λ e. cc) E D text inv state in
-        subst (λ (v : ℕ). IsUnwrapping (Plain E v) (Padded E) text c.end_unwrap.new.registers) word
-        (record { stands = u.answer.1; only_key = u.only_key; restores = u.restores; other_form = u.other_form });
+          let u = c.in-Ok.ensures.answer (λ e. cc) E D text inv state in
+          subst (λ (v : ℕ). IsUnwrapping (Plain E v) (Padded E) text c.end_unwrap.new.registers) word
+          (record { stands = u.answer.1; only_key = u.only_key; restores = u.restores; other_form = u.other_form });
       integrity = λ s. absurd (let wrong = s in cc);
       cleared = λ s. absurd (let wrong = s in cc);
       block_cleared = λ _. c.in-Ok.ensures.block_cleared (λ e. cc);
@@ -36,8 +36,8 @@ returns-in-Err-Integrity c =
       kept = grind (arith, common_steps);
       answer = λ s. absurd (let wrong = s in cc);
       integrity = λ _ E D text inv state.
-        let u = told.answer (λ e. cc) E D text inv state in
-        subst (λ (v : ℕ). NoKey (Plain E v) text) word u.answer.1;
+          let u = told.answer (λ e. cc) E D text inv state in
+          subst (λ (v : ℕ). NoKey (Plain E v) text) word u.answer.1;
       cleared = λ _. told.refused.cleared cc;
       block_cleared = λ _. told.block_cleared (λ e. cc);
     }
