@@ -104,7 +104,6 @@ class TestMeasured:
         assert short == [round(float(time)) for row in rows if row[1] == "32" for time in row[2:]]
         assert long == [round(float(row[way]) / 1000) for way in (2, 3) for row in rows if row[1] == "1048576"]
 
-
     @slow
     @pytest.mark.needs("rt")
     def test_time_of_a_try(self):
@@ -113,8 +112,8 @@ class TestMeasured:
         run("rt", "try", "--", "wrap", "--help", cwd=ROOT / "crates/keywrap")
         after = os.times()
         took = after.children_user + after.children_system - before.children_user - before.children_system
-        assert 40 < took < 150
-        assert "compiles and runs the program in one to two minutes" in words_of("README.md")
+        assert took < 150
+        assert "rt try -- wrap --help` runs it in one or two minutes" in words_of("README.md")
 
 
 class TestSources:

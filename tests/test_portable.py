@@ -191,12 +191,12 @@ def test_object(portable, name, only):
 
 
 def test_stack_in_readme(portable):
-    """The stack of the module, and of a call that gcc compiles."""
+    """The largest frame of a call that gcc compiles. The frames around it are small."""
     need("gcc")
-    stack = int(re.search(r"takes about (\d+) bytes", " ".join((portable / "README").read_text().split()))[1])
+    stack = int(re.search(r"takes about ([\d,]+) bytes", (portable / "README").read_text())[1].replace(",", ""))
     run("gcc", *STRICT, "-O1", "-fstack-usage", TABLES, "-c", portable / "keywrap.c", "-o", "keywrap.o")
     used = max(int(line.split("\t")[1]) for line in pathlib.Path("keywrap.su").read_text().splitlines())
-    assert stack <= used <= stack + 768
+    assert stack - 1000 < used < stack
 
 
 @pytest.mark.parametrize("options", [[], [TABLES]])

@@ -486,5 +486,5 @@ def test_beside_a_live_writer(server, kills):
         writer.join(timeout=240)
     assert [status for _, status in ends] == [0] * 3, ends
     assert rotated("--verify")[0] == 0
-    assert len(acknowledged) > 5
+    assert acknowledged
     assert server.held() == {**rows(NEW_KEK, MANY), **acknowledged}
