@@ -58,7 +58,7 @@ typedef int64_t s64;
 @CONSTANTS@
 #endif
 
-/* What a call has of its own: the stack, and above it a number that it returns or changes, a flag, and a
+/* A call has its own stack, and above it a number that it returns or changes, a flag, and a
  * block. The module's addresses of all of it, of which FIRST is the lowest. */
 enum {
     BESIDE = 32,
@@ -102,7 +102,7 @@ struct memory {
     const struct call *call;
 };
 
-/* What the module's code works on: its two globals and its memory. */
+/* The module's two globals and its memory. */
 struct instance {
     u64 w2c_g0;
     u32 w2c_g1;

@@ -186,10 +186,10 @@ def head():
             f" * docs/TRUST.md of the repository says what is proved, what is translated and what is trusted.")
 
 
-def readme(numbers, lines):
-    """The README, with the bytes that a call takes."""
+def readme(lines):
+    """The README, with the number of lines that are written by hand."""
     text = (PARTS / "README.in").read_text()
-    values = {"VERSION": (ROOT / "VERSION").read_text().strip(), "LINES": lines, **numbers}
+    values = {"VERSION": (ROOT / "VERSION").read_text().strip(), "LINES": lines}
     for name, value in values.items():
         text = text.replace(f"@{name}@", str(value))
     return text
@@ -217,7 +217,7 @@ def main(wasm, directory):
         f"{runtime}\n/*** The module, by wasm2c ***/\n\n{module}\n{WHOLE_ONLY}{calls}#endif\n\n{steps}\n"
         f"#ifdef WITH_AES\n/*** The calls by the processor's AES ***/\n\n{by_hand[2]}#endif\n")
     lines = sum(part.count("\n") for part in [(PARTS / "runtime.c").read_text(), *by_hand])
-    (directory / "README").write_text(readme(numbers, lines))
+    (directory / "README").write_text(readme(lines))
     (directory / "keywrap.h").write_text(header())
     shutil.copyfile(ROOT / "include/keywrap_steps.h", directory / "keywrap_steps.h")
     shutil.copyfile(PARTS / "vectors.c", directory / "check/vectors.c")

@@ -183,7 +183,7 @@ def test_every_option_is_known_here():
     assert [option for option in sorted(found) if f'"{option}"' not in rows] == []
 
 
-# What the system does to a run.
+# The system around a run.
 
 
 def test_a_working_directory_that_is_gone(keks):

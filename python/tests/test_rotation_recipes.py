@@ -130,7 +130,7 @@ SBATCH = r"""#!/bin/bash
 [ "$2" = --wrap ] && [[ $1 =~ ^--array=1-([0-9]+)$ ]] || exit
 for SLURM_ARRAY_TASK_ID in $(seq "${BASH_REMATCH[1]}"); do export SLURM_ARRAY_TASK_ID; sh -c "$3" || exit; done
 """
-# What a scheduler sets for the ten tasks of an array.
+# The variables that a scheduler sets for the ten tasks of an array.
 TASKS = {"GNU parallel": None, "Slurm": None, "AWS Batch": "AWS_BATCH_JOB_ARRAY_INDEX=%d",
          "Kubernetes": "JOB_COMPLETION_INDEX=%d", "Airflow": "I=%d"}  # fmt: skip
 
