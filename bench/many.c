@@ -1,16 +1,13 @@
 /* many.c: measures a rewrap in the call for many keys, beside the call for one key and an unwrap and
- * a wrap by nettle, whose key schedules are kept. All take turns, and the best time of each counts:
- * the processor time of this thread. bench/many compiles and runs it.
- *
- * usage: many [FILE]        (FILE gets the times as CSV) */
+ * a wrap by nettle, whose key schedules are kept. All take turns, and the best time of each counts.
+ * bench/many compiles and runs it. Writes the times as CSV. */
 
-#define _POSIX_C_SOURCE 200809L
+#include "clock.h"
 
 #include <keywrap.h>
 #include <stdio.h>
 #include <stdlib.h>
 #include <string.h>
-#include <time.h>
 #ifdef HAVE_NETTLE
 #include <nettle/aes.h>
 #include <nettle/nist-keywrap.h>
@@ -39,23 +36,18 @@ static int by_many(void) {
                                SINGLE);
 }
 
-static int by_hw_single(void) {
-    uint32_t already;
-    int32_t status = 0;
-    for (size_t i = 0; i < SINGLE; i++)
-        status |= hw_rewrap(old_kek, 32, new_kek, 32, texts + text_len * i, text_len, flags,
-                            &already);
-    return status;
-}
-
-static int by_single(void) {
-    uint32_t already;
-    int32_t status = 0;
-    for (size_t i = 0; i < SINGLE; i++)
-        status |= keywrap_rewrap(old_kek, 32, new_kek, 32, texts + text_len * i, text_len, flags,
-                                 &already);
-    return status;
-}
+/* The calls for one key. */
+#define SINGLE_BY(name, rewrap)                                                                    \
+    static int name(void) {                                                                        \
+        uint32_t already;                                                                          \
+        int32_t status = 0;                                                                        \
+        for (size_t i = 0; i < SINGLE; i++)                                                        \
+            status |= rewrap(old_kek, 32, new_kek, 32, texts + text_len * i, text_len, flags,      \
+                             &already);                                                            \
+        return status;                                                                             \
+    }
+SINGLE_BY(by_hw_single, hw_rewrap)
+SINGLE_BY(by_single, keywrap_rewrap)
 
 #ifdef HAVE_NETTLE
 static struct aes256_ctx decrypting, encrypting;
@@ -90,12 +82,6 @@ static const struct way {
 
 enum { WAY_COUNT = sizeof WAYS / sizeof *WAYS };
 
-static double now(void) {
-    struct timespec t;
-    clock_gettime(CLOCK_THREAD_CPUTIME_ID, &t);
-    return (double)t.tv_sec * 1e9 + (double)t.tv_nsec;
-}
-
 /* Returns the nanoseconds a key. Each way must make the same of the keys. */
 static double turn(const struct way *way) {
     memcpy(texts, before, KEYS * text_len);
@@ -103,7 +89,7 @@ static double turn(const struct way *way) {
     const int failed = way->run();
     const double time = (now() - start) / (double)way->keys;
     if (failed || memcmp(texts, wanted, way->keys * text_len)) {
-        printf("%s: a wrong result\n", way->name);
+        fprintf(stderr, "%s: a wrong result\n", way->name);
         exit(1);
     }
     return time;
@@ -121,10 +107,8 @@ static void prepare(size_t key_len) {
     }
 }
 
-int main(int argc, char **argv) {
-    FILE *file = argc == 2 ? fopen(argv[1], "w") : NULL;
-    if (argc == 2 && file == NULL) return 1;
-    if (file) fprintf(file, "way,flags,key,ns_per_key\n");
+int main(void) {
+    printf("way,flags,key,ns_per_key\n");
     for (unsigned i = 0; i < 32; i++) old_kek[i] = (uint8_t)i, new_kek[i] = (uint8_t)(255 - i);
 #ifdef HAVE_NETTLE
     aes256_set_decrypt_key(&decrypting, old_kek);
@@ -140,14 +124,8 @@ int main(int argc, char **argv) {
                     const double time = turn(WAYS + w);
                     if (time < best[w]) best[w] = time;
                 }
-            printf("\nrewrap, key of %zu bytes%s: ns a key\n", key_len,
-                   flags ? ", the form kept, and what is new passed" : "");
-            for (int w = 0; w < WAY_COUNT; w++) {
-                printf("%-24s %7.0f   %5.2f\n", WAYS[w].name, best[w], best[w] / best[0]);
-                if (file)
-                    fprintf(file, "\"%s\",%u,%zu,%.0f\n", WAYS[w].name, (unsigned)flags, key_len,
-                            best[w]);
-            }
+            for (int w = 0; w < WAY_COUNT; w++)
+                printf("\"%s\",%u,%zu,%.0f\n", WAYS[w].name, (unsigned)flags, key_len, best[w]);
         }
-    return file && fclose(file) != 0;
+    return 0;
 }

@@ -256,7 +256,7 @@ int32_t keywrap_unwrap_padded_in_place(const uint8_t *kek, size_t kek_len,
                                        uint8_t *KEYWRAP_RESTRICT buffer, size_t wrapped_len,
                                        size_t *KEYWRAP_RESTRICT key_len);
 
-/* The form of a wrapped key, with a scratch buffer. The key is not returned.
+/* The form of a wrapped key, with a scratch buffer. The key is not returned. Since version 1.1.
  *
  * keywrap_kind finds the form in which a key was wrapped, plain (with the default initial value) or
  * padded, and the length of the key:

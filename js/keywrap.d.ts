@@ -1,4 +1,4 @@
-// The types of keywrap.js, and the documentation of its calls.
+// The types of `keywrap` and `keywrap/inline`, and the documentation of their calls.
 
 /** A refusal. It reveals nothing of a key. */
 export class KeywrapError extends Error {}
@@ -127,7 +127,7 @@ export interface Keywrap {
 }
 
 /**
- * Loads `keywrap.wasm` from the directory of `keywrap.js`, or from its bytes or a compiled module.
- * Each call makes an instance with a memory of its own.
+ * Loads `keywrap.wasm`: from the directory of `keywrap.js`, in `keywrap/inline` from the copy in it, or
+ * from its bytes or a compiled module. Each call makes an instance with a memory of its own.
  */
 export function load(source?: ArrayBuffer | ArrayBufferView | object): Promise<Keywrap>;

@@ -1,5 +1,5 @@
-"""The extension keywrap._ffi: the calls of keywrap.h, with libkeywrap.a linked in. In the source distribution, which has
-keywrap.c instead, they are the portable ones."""
+"""The extension keywrap._ffi: the calls of keywrap.h and keywrap_steps.h, with libkeywrap.a linked in. In the source
+distribution, which has keywrap.c instead, they are the portable ones."""
 
 import os
 import re
@@ -17,15 +17,26 @@ int32_t rewrap(const uint8_t *old_kek, size_t old_kek_len, const uint8_t *new_ke
                uint32_t flags);
 int64_t kind(const uint8_t *kek, size_t kek_len, const uint8_t *wrapped, size_t wrapped_len,
              uint8_t *scratch, size_t room);
+int32_t step_wrap_each(uint8_t *texts, size_t text_len, size_t count, uint64_t *done, uint8_t *blocks);
+int32_t step_unwrap_each(uint8_t *texts, size_t text_len, size_t count, uint64_t *left, uint8_t *blocks);
 void wipe(uint8_t *bytes, size_t len);
 int cpu_supported(void);
+typedef struct { ...; } blake2bp;
+int blake2bp_is_fast(void);
+void blake2bp_begin(blake2bp *state);
+void blake2bp_update(blake2bp *state, const uint8_t *content, size_t len);
+void blake2bp_lanes(const blake2bp *state, uint8_t *digests);
+int hex_lines(const uint8_t *lines, size_t count, size_t digit_count, uint8_t *keys);
+void hex_text(const uint8_t *keys, size_t count, size_t len, uint8_t *lines);
 static const char *const VERSION;
 #define NO_MEMORY ...
 """
 
 SOURCE = """
-#include <keywrap.h>
+#include <keywrap_steps.h>
 #include <string.h>
+#include "blake2bp.h"
+#include "hex_lines.h"
 
 /* The key's length, doubled, and 1 more if it is padded; or the status of the refusal, negated. */
 static int64_t found(int32_t status, uint32_t padded, size_t key_len) {
@@ -66,6 +77,29 @@ static int32_t rewrap(const uint8_t *old_kek, size_t old_kek_len, const uint8_t 
                           &already);
 }
 
+/* Makes the next step of each text. The portable library has no call for many, which takes no single
+ * register either. */
+static int32_t step_each(int32_t (*step)(uint8_t *, size_t, uint64_t *, uint8_t *), uint8_t *texts,
+                         size_t text_len, size_t count, uint64_t *steps, uint8_t *blocks) {
+    const uint64_t before = *steps;
+    int32_t status = KEYWRAP_OK;
+    for (size_t i = 0; i < count && status == KEYWRAP_OK; i++) {
+        *steps = before;
+        status = step(texts + text_len * i + 8, text_len - 8, steps, blocks + 16 * i);
+    }
+    return status;
+}
+
+static int32_t step_wrap_each(uint8_t *texts, size_t text_len, size_t count, uint64_t *done,
+                              uint8_t *blocks) {
+    return step_each(keywrap_step_wrap, texts, text_len, count, done, blocks);
+}
+
+static int32_t step_unwrap_each(uint8_t *texts, size_t text_len, size_t count, uint64_t *left,
+                                uint8_t *blocks) {
+    return step_each(keywrap_step_unwrap, texts, text_len, count, left, blocks);
+}
+
 /* By volatile writes, which no compiler leaves out. */
 static void wipe(uint8_t *bytes, size_t len) {
     volatile uint8_t *at = bytes;
@@ -86,9 +120,10 @@ NUMBERS = [
 ]
 
 
-def declarations(header: str) -> str:
-    """The calls, the statuses and the numbers of the header, as cffi reads them."""
+def declarations(header: str, steps: str) -> str:
+    """The calls, the statuses and the numbers of the headers, as cffi reads them. The steps are those for one key."""
     calls = re.findall(r"^(?:u?int32_t|size_t) keywrap_\w+\([^;]*\);", header, re.M)
+    calls += re.findall(r"^int32_t keywrap_\w+(?<!_many)\([^;]*\);", steps, re.M)
     statuses = re.findall(r"^enum keywrap_status \{.*?\};", header, re.M | re.S)
     numbers = [f"#define {name} ..." for name in NUMBERS]
     return "\n".join([*statuses, *numbers, *calls]).replace("KEYWRAP_RESTRICT ", "")
@@ -100,7 +135,7 @@ header = Path("keywrap.h").read_text(encoding="utf-8")
 # Only the header of the portable library defines it for C.
 (no_memory,) = re.findall(r"^#define KEYWRAP_NO_MEMORY (\d+)$", header, re.M)
 ffi = FFI()
-ffi.cdef(declarations(header) + HELPERS)
+ffi.cdef(declarations(header, Path("keywrap_steps.h").read_text(encoding="utf-8")) + HELPERS)
 # Of the library: without debugging information, which names the directory, and stripped. The package calls the library
 # that is in it, whatever another one in the process shows.
 NATIVE = {

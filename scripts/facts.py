@@ -1,5 +1,10 @@
 #!/usr/bin/env python3
-"""Writes the completions of the three shells from the tables of commands and options in crates/keywrap_args.
+"""Writes what follows from the sources: the completions of the three shells and the synopsis of the manual page; the
+map of the crates in docs/ARCHITECTURE.md; the names of the calls for linkers; the numbers of statuses, flags and
+lengths in each language; and README's table of exit statuses.
+
+The sources are the options and the help in crates/keywrap_args, the statuses in crates/keywrap_calls/src/status.rt,
+crates.txt, and the prototypes and flags of keywrap.h and keywrap_steps.h.
 
 usage: scripts/facts.py             writes the files
        scripts/facts.py --check     fails if a file is another
@@ -7,246 +12,153 @@ usage: scripts/facts.py             writes the files
 
 import re
 import sys
-from pathlib import Path
-from typing import NamedTuple
 
-TOP = Path(__file__).resolve().parent.parent
-ARGS = TOP / "crates/keywrap_args/src"
-BY = "# Written by scripts/facts.py from the tables of crates/keywrap_args."
-# What clap adds.
-HELP = "Print this message or the help of the given subcommand(s)"
-COMMON = [("h", "help", "Print help"), ("V", "version", "Print version")]
-IS_FILE = "Kek", "File"
+import completions
+from completions import TOP
+from synopsis import synopsis
 
 
-class Option(NamedTuple):
-    name: str
-    about: str
-    value: str  # the variant of Value, or nothing for a flag
-    short: str
-    conflicts: list  # the names of the options that exclude it, or that it excludes
-    commands: list
-
-    @property
-    def words(self):
-        return [f"-{self.short}"] * bool(self.short) + [f"--{self.name}"]
-
-
-def text_of(name):
-    """The text of a source file without its comments."""
-    return re.sub(r"(?m)^ *//.*\n", "", (ARGS / name).read_text())
+JAVA = "java/keywrap/Library.java"
+# The files with the number of each status, and how one is written there. Java only has some of them.
+STATUSES = {
+    "c/include/keywrap.h": r"KEYWRAP_{}\b = (\d+)",
+    "docs/C_LIBRARY.md": r"`KEYWRAP_{}`, (\d+)",
+    "dist/src/sys.rs": r"KEYWRAP_{}: i32 = (\d+)",
+    "js/calls.js": r"const {} = (\d+)",
+    JAVA: r"int {} = (\d+)",
+}
+# The files with other numbers of keywrap.h: the longest key, and the flags of a rewrap.
+NUMBERS = {
+    "dist/src/sys.rs": r"KEYWRAP_{}: \w+ = (\d+)",
+    "js/calls.js": r"const {} = (\d+)",
+}
 
 
-def commands():
-    """What each command is about, by its name."""
-    return dict(re.findall(r'name: "(\w+)",\s*about: "(.*)"', text_of("subcommands.rt")))
+def read(name):
+    return (TOP / name).read_text(encoding="utf-8")
 
 
-def users():
-    """The commands of each variant of Users."""
-    variants = re.findall(r"(\w+),", re.search(r"enum Users \{(.*?)\}", text_of("options.rt"), re.DOTALL)[1])
-    conditions = re.findall(r"Subcommand::(\w+) => (.*)", text_of("subcommands.rt").split("fn has", 1)[1])
-    return {variant: [name.lower() for name, condition in conditions if condition != "false,"
-                      and (f"Users::{variant}" in re.findall(r"Users::\w+", condition)) != condition.startswith("!")]
-            for variant in variants}
+def part(page, text):
+    """The page with this text between its two comments that name this script."""
+    found = re.fullmatch(r"(.*scripts/facts.py: begin[^\n]*\n)(.*\n)([^\n]*scripts/facts.py: end.*)", read(page), re.S)
+    assert found, f"{page} lacks the comments around what this script writes"
+    return f"{found[1]}{text}\n{found[3]}"
 
 
-def options():
-    """The options in the order of the help, and the argument without a name."""
-    table = re.search(r"static ARGUMENTS: .*?; (\d+)\] = \[(.*?)\n\];", text_of("options.rt"), re.DOTALL)
-    found, of_users = {}, users()
-    rows = re.findall(r'(\w+): "([\w-]+)",\s*"(.*?)"(.*?)(?=\n    argument!|\Z)', table[2], re.DOTALL)
-    for who, name, about, rest in rows:
-        value, short = (re.findall(r"Value::(\w+)(?:\('(\w)'\))?", rest) or [("", "")])[0]
-        excludes = re.findall(r'"([\w-]+)"', "".join(re.findall(r"conflicts: &\[(.*?)\]", rest)))
-        found[name] = Option(name, about, value, short, excludes, of_users[who])
-    used = all(option.commands for option in found.values())
-    assert len(found) == int(table[1]) and used, "options.rt is not as it was"
-    for option in [*found.values()]:
-        for other in option.conflicts:
-            if option.name not in found[other].conflicts:
-                found[other].conflicts.append(option.name)
-    return [*found.values()]
+def calls(*headers):
+    """The names of the calls that the headers declare, in their order."""
+    return [call for header in headers
+            for call in re.findall(r"^(?:u?int32_t|size_t) (keywrap_\w+)\(", read(header), re.M)]
 
 
-COMMANDS, ARGUMENTS = commands(), options()
-OPTIONS = [option for option in ARGUMENTS if option.value != "Key"]
-NAMES = [*COMMANDS, "help"]
+def export_map():
+    """What libkeywrap.so shows: the calls of 1.0.0 in the node of their version, and the later ones in theirs."""
+    first = calls("tests/library/1.0.0/keywrap.h")
+    later = [call for call in calls("c/include/keywrap.h", "c/include/keywrap_steps.h") if call not in first]
+    nodes = [f"KEYWRAP_{version} {{\n    global:\n" + "".join(f"        {call};\n" for call in names) + local + "}"
+             for version, names, local in (("1", first, "    local:\n        *;\n"), ("1.1", later, ""))]
+    return f"""/* The names that libkeywrap.so shows: the calls of keywrap.h and keywrap_steps.h. A call that comes
+ * later is in a node of its own, of its version, that names the one before. scripts/facts.py writes
+ * this file. */
+{nodes[0]};
 
-
-def of(command):
-    return [option for option in ARGUMENTS if command in option.commands]
-
-
-def excluded(option):
-    """The words that are not offered beside it, and itself, which is not offered twice."""
-    return [*option.words, *(word for other in OPTIONS if other.name in option.conflicts for word in other.words)]
-
-
-def lines(words, first, more="", last="", width=116):
-    """The words on as many lines as they need. The first begins with `first`, each other one with `more`."""
-    found = [first]
-    for word in words:
-        if len(found[-1]) + 1 + len(word) + len(last) > width:
-            found[-1] += last
-            found.append(more)
-        found[-1] += " " * (not found[-1].endswith(" ")) + word
-    return found
-
-
-def bash():
-    def offered(command):
-        words = [word for option in of(command) if option.value != "Key" for word in option.words]
-        text = '"\n'.join(lines(words, '        options="$common', '        options+=" ')) + '"'
-        if any(option.value == "Key" for option in of(command)):
-            text = f"""        # What is missing may be the HEX, which only the user knows.
-        [ "${{word:0:1}}" != - ] || {text.strip()}"""
-        return f"    {command})\n{text}\n        ;;"
-
-    def when(kinds):
-        return " | ".join(word for option in OPTIONS if option.value in kinds for word in option.words)
-
-    common = " ".join(f"-{short} --{name}" for short, name, _ in COMMON)
-    cases = "\n".join(map(offered, COMMANDS))
-    gone = "\n".join(f"        {' | '.join(option.words)}) gone='{' '.join(excluded(option))}' ;;"
-                     for option in OPTIONS if len(excluded(option)) > 1)
-    return f"""# shellcheck shell=bash
-# Completion of keywrap for bash: the commands, the options of each, and file names after those that take one. An option
-# that was given already is not offered again, in neither of its forms, nor one that it excludes, as --padded and --iv
-# do.
-{BY}
-
-_keywrap() {{
-    local word=${{COMP_WORDS[COMP_CWORD]}} before=${{COMP_WORDS[COMP_CWORD - 1]}} command='' options='' at option gone
-    local common='{common}'
-    COMPREPLY=()
-    # Of --kek=FILE bash makes three words.
-    case $word in =) word='' ;; *) [ "$before" = = ] && before=${{COMP_WORDS[COMP_CWORD - 2]}} ;; esac
-    [ "$COMP_CWORD" -gt 1 ] && command=${{COMP_WORDS[1]}}
-    case $before in
-    {when(IS_FILE)})
-        compopt -o filenames 2>/dev/null
-        mapfile -t COMPREPLY < <(compgen -f -- "$word")
-        return
-        ;;
-    {when(["Iv"])}) return ;;
-    esac
-    case $command in
-{cases}
-    '') [ "${{word:0:1}}" = - ] && options=$common || options='{" ".join(NAMES)}' ;;
-    help) [ "$COMP_CWORD" != 2 ] || options='{" ".join(NAMES)}' ;;
-    esac
-    for ((at = 2; at < COMP_CWORD; at++)); do
-        gone=${{COMP_WORDS[at]}}
-        case $gone in
-{gone}
-        esac
-        for option in $gone; do
-            options=" $options "
-            options=${{options/ $option / }}
-        done
-    done
-    mapfile -t COMPREPLY < <(compgen -W "$options" -- "$word")
-}}
-
-complete -F _keywrap keywrap
+{nodes[1]} KEYWRAP_1;
 """
 
 
-def zsh():
-    def spec(option):
-        after = {"": "", "Kek": ":KEK file:_files", "File": f":{option.name} file:_files", "Iv": ":16 hex digits: ",
-                 "Key": ""}[option.value]
-        if option.value == "Key":
-            return f"'1:{option.about}: '"
-        if option.short:
-            return f"'({' '.join(option.words)})'{{-{option.short}+,--{option.name}=}}'[{option.about}]{after}'"
-        beside = " ".join(excluded(option)[1:])
-        return f"'{f'({beside})' if beside else ''}--{option.name}[{option.about}]{after}'"
-
-    described = "\n".join(f"        '{name}:{about}'" for name, about in [*COMMANDS.items(), ("help", HELP)])
-    common = " ".join(f"'(- *)'{{-{short},--{name}}}'[{about}]'" for short, name, about in COMMON)
-    specs = "\n".join(f"    local -a {option.name.replace('-', '_')}=({spec(option)})" for option in ARGUMENTS)
-    cases = "\n".join(" \\\n".join(lines([f"${option.name.replace('-', '_')}" for option in of(command)],
-                                        f"    {command}) _arguments $common", "        ")) + " ;;"
-                      for command in COMMANDS)
-    return f"""#compdef keywrap
-# Completion of keywrap for zsh: the commands, the options of each, and file names after those that take one.
-{BY}
-
-_keywrap_commands() {{
-    local -a commands=(
-{described}
-    )
-    _describe -t commands command commands
-}}
-
-_keywrap() {{
-    local curcontext=$curcontext state line
-    local -a common=({common})
-{specs}
-
-    _arguments -C $common '1: :_keywrap_commands' '*:: :->words'
-    [[ $state = words ]] || return
-    case $words[1] in
-{cases}
-    help) _arguments '1: :_keywrap_commands' ;;
-    esac
-}}
-
-_keywrap "$@"
-"""
+def renamed():
+    """The names that the proved calls get below the calls by the processor's AES: objcopy reads them."""
+    code = "".join(path.read_text() for path in sorted((TOP / "c/hardware").glob("*.c")))
+    found = [call for call in calls("c/include/keywrap.h") if re.search(rf"^int32_t {call}\(", code, re.M)]
+    return "".join(f"{call} proved_{call}\n" for call in found)
 
 
-def fish():
-    def entry(option):
-        condition = f"__keywrap_is {' '.join(option.commands)}"
-        beside = " ".join(excluded(option)[len(option.words):])
-        condition += f"; and __keywrap_lacks {beside}" if beside else ""
-        takes = " -rF" if option.value in IS_FILE else " -x" if option.value else ""
-        short = f" -s {option.short}" if option.short else ""
-        return f"complete -c keywrap -n '{condition}'{short} -l {option.name}{takes} \\\n    -d '{option.about}'"
+def statuses():
+    """The number of each status that a call returns."""
+    found = re.findall(r"^pub const (\w+): i32 = (\d+);", read("crates/keywrap_calls/src/status.rt"), re.M)
+    return {"OK" if name == "DONE" else name: number for name, number in found}
 
-    described = "\n".join(f"complete -c keywrap -n __fish_use_subcommand -a {name} \\\n    -d '{about}'"
-                          for name, about in [*COMMANDS.items(), ("help", HELP)])
-    common = "\n".join(f"complete -c keywrap -s {short} -l {name} -d '{about}' -n 'not __keywrap_is help'"
-                       for short, name, about in COMMON)
-    return f"""# Completion of keywrap for fish: the commands, their options, and file names after those that take one.
-{BY}
 
-function __keywrap_is
-    set -l words (commandline -opc)
-    test (count $words) -gt 1; and contains -- $words[2] $argv
-end
+def header_numbers():
+    """The longest key and the flags of a rewrap, by their names in keywrap.h."""
+    return dict(re.findall(r"^#define KEYWRAP_(MAX_KEY|\w+_PADDED|KEEP_FORM|PASS_NEW) (\d+)u?$",
+                           read("c/include/keywrap.h"), re.M))
 
-function __keywrap_lacks
-    for option in $argv
-        contains -- $option (commandline -opc); and return 1
-    end
-    return 0
-end
 
-complete -c keywrap -f
-{common}
+def with_numbers(text, pattern, numbers):
+    """The text with the numbers of these constants, of those that it has."""
+    for name, number in numbers.items():
+        text = re.sub(pattern.format(name), lambda found: found[0][:-len(found[1])] + number, text)
+    return text
 
-{described}
-complete -c keywrap -n '__keywrap_is help; and test (count (commandline -opc)) = 2' \\
-    -a '{" ".join(NAMES)}'
 
-{chr(10).join(entry(option) for option in OPTIONS)}
-"""
+def lacking():
+    """What has to be written by hand, once: a new status in each language, with what it means there."""
+    return [f"{name}: lacks the status {status}" for name, pattern in STATUSES.items() if name != JAVA
+            for status in statuses() if status not in ("OK", "NO_MEMORY")
+            and not re.search(pattern.format(status), read(name))]
+
+
+def exit_statuses():
+    """The rows of README's table for the exit statuses of the program, from the end of its help."""
+    notes = re.search(r"Exit status:\n((?:  .*\n)+)", read("crates/keywrap_args/src/help.rt"))[1]
+    return {number: f"| {number} | {means} |" for number, means in re.findall(r"^  (\d+)  (.*)$", notes, re.M)}
+
+
+def readme():
+    text = read("README.md")
+    for number, row in exit_statuses().items():
+        text, count = re.subn(rf"^\| {number} \|.*$", lambda _: row, text, flags=re.M)
+        assert count == 1, f"README.md has {count} rows for the exit status {number}"
+    return text
+
+
+def crate_map():
+    """The crates and the crates below them, from crates.txt, as a Mermaid graph."""
+    below = {}
+    for line in (TOP / "crates.txt").read_text(encoding="utf-8").splitlines():
+        if line.strip() and not line.startswith("#"):
+            name, _, uses = line.partition(":")
+            below[name.split()[0]] = uses.split()
+
+    def closure(name):
+        """The crates of this repository below a crate."""
+        return {far for use in below.get(name, []) if use in below for far in {use} | closure(use)}
+
+    lines = ["```mermaid", "graph BT"]
+    for name, uses in below.items():
+        local = [use for use in uses if use in below]
+        # An edge that follows from two others is left out.
+        reachable = {far for use in local for far in closure(use)}
+        lines += [f"    {use} --> {name}" for use in local if use not in reachable] or [f"    {name}"]
+    return "\n".join([*lines, "```"])
+
+
+def results():
+    """Each file that this script writes, with its text."""
+    yield "command/completions/keywrap.bash", completions.bash()
+    yield "command/completions/_keywrap", completions.zsh()
+    yield "command/completions/keywrap.fish", completions.fish()
+    yield "command/man/keywrap.1", part("command/man/keywrap.1", synopsis())
+    yield "docs/ARCHITECTURE.md", part("docs/ARCHITECTURE.md", crate_map())
+    yield "c/include/keywrap.map", export_map()
+    yield "c/hardware/names", renamed()
+    yield "README.md", readme()
+    for name in sorted({*STATUSES, *NUMBERS}):
+        text = with_numbers(read(name), STATUSES.get(name, "{}"), statuses() if name in STATUSES else {})
+        yield name, with_numbers(text, NUMBERS.get(name, "{}"), header_numbers() if name in NUMBERS else {})
 
 
 def main(arguments):
     if arguments not in ([], ["--check"]):
         sys.exit(__doc__)
-    stale = []
-    for name, text in [("keywrap.bash", bash()), ("_keywrap", zsh()), ("keywrap.fish", fish())]:
-        file = TOP / "completions" / name
+    stale = lacking()
+    for name, text in results():
+        file = TOP / name
         if not arguments:
             file.write_text(text, encoding="utf-8")
-        elif file.read_text(encoding="utf-8") != text:
-            stale.append(f"completions/{name}: stale, run scripts/facts.py")
+        elif not file.exists() or file.read_text(encoding="utf-8") != text:
+            stale.append(f"{name}: stale, run scripts/facts.py")
     print("\n".join(stale), end="\n" * bool(stale))
     return bool(stale)
 

@@ -4,6 +4,8 @@
 # It calls the kit's compiler, rattle, as `rt ci` does. So a crate loads what the crates below it state, and not their
 # proofs: loading these takes long, and `rt lib` has no option to leave them out.
 #
+# A kit that refuses the options of `rattle` here proves and builds the program by `rt lib`: that takes longer.
+#
 # CRATES are the crates below the program that have a directory here, and JOBS is the greatest number of jobs of rattle.
 # The directory LOGS, of the environment, gets the output for crates/NAME: NAME.log while rattle works on it and if it
 # fails, and NAME.proved afterwards.
@@ -12,12 +14,15 @@
 # runs both.
 
 .DEFAULT_GOAL = keywrap
+options = --statements --links --antt-project --logic-built --backend
 .PHONY: keywrap $(CRATES)
 
 kit := $(shell dirname -- "$$(dirname -- "$$(readlink -f -- "$$(command -v rt)")")")
 # A build leaves two files of each crate for the next one: NAME.rlib for the crates above, and NAME.sums, the checksums
 # of the sources of NAME and of the crates below it, and of the kit.
 kept = crates/keywrap/out/kept
+refused := $(shell help=$$('$(kit)/bin/rattle' build --help 2>/dev/null); \
+    for option in $(options); do case $$help in (*"$$option"*) ;; (*) echo $$option ;; esac; done)
 # The crates that a crate names in crates.txt; the ones that have a directory here; and all crates below it.
 named = $(shell sed -n 's/^$(1): *//p' crates.txt)
 below = $(filter $(CRATES),$(call named,$(1)))
@@ -56,6 +61,11 @@ $(changed):
 $(filter-out $(changed),$(CRATES)):
 	@: >"$$LOGS/$@.proved"
 
+ifneq ($(refused),)
+keywrap:
+	@cd crates/keywrap && rt lib --backend rattle >"$$LOGS/$@.log" 2>&1
+	$(is_proved)
+else
 keywrap: $(CRATES)
 	@mkdir -p $(kept) && $(rattle) --backend rattle --toolchain '$(kit)/toolchain' -o out/kept/keywrap.o src/main.rt \
 	    >"$$LOGS/$@.log" 2>&1
@@ -65,3 +75,4 @@ keywrap: $(CRATES)
 	$(is_proved)
 
 $(foreach crate,$(CRATES),$(eval $(crate): $(call below,$(crate))))
+endif

@@ -1,7 +1,7 @@
 #!/usr/bin/env bash
 # Installs what the tests use and this machine lacks: the Debian packages of tests/packages.txt, and for aarch64 what
-# scripts/sysroot.sh unpacks. If a package cannot be installed, the others still are. The last lines name what is still
-# missing. Then the exit status is 1.
+# packaging/sysroot.sh unpacks. If a package cannot be installed, the others still are. The last lines name what is
+# still missing. Then the exit status is 1.
 
 set -u
 cd "$(dirname "${BASH_SOURCE[0]}")/.." || exit
@@ -21,7 +21,7 @@ if [ ${#packages[@]} -gt 0 ]; then
     timeout 300 apt-get update
     install "${packages[@]}" || for package in "${packages[@]}"; do install "$package"; done
 fi
-timeout 600 scripts/sysroot.sh || echo 'packages.sh: scripts/sysroot.sh failed' >&2
+timeout 600 packaging/sysroot.sh || echo 'packages.sh: packaging/sysroot.sh failed' >&2
 missing=$(bash tests/lib/tools.sh)
 echo "${missing:-all tools of tests/packages.txt are here}"
 [ -z "$missing" ]

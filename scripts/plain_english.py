@@ -46,11 +46,14 @@ def prose(path, text):
 def main(arguments):
     places = "--list" in arguments
     top = Path(next((word for word in arguments if word != "--list"), "."))
-    tracked = subprocess.run(["git", "ls-files"], cwd=top, check=True, capture_output=True, text=True).stdout
+    # The header of 1.0.0 stays as it was.
+    command = ["git", "ls-files", "--", ":!tests/library/1.0.0/keywrap.*"]
+    tracked = subprocess.run(command, cwd=top, check=True, capture_output=True, text=True).stdout
     counts = dict.fromkeys(KINDS, 0)
     for name in sorted(tracked.splitlines()):
         path = top / name
-        if not path.is_file() or path.resolve() == Path(__file__).resolve():
+        # The header of a version that was released stays as it was.
+        if not path.is_file() or path.resolve() == Path(__file__).resolve() or "/1.0.0/" in name:
             continue
         text = re.sub(r"\s+", " ", prose(path, path.read_text(encoding="utf-8", errors="replace")))
         for kind, pattern in KINDS.items():

@@ -1,31 +1,80 @@
-"""The plots of docs/pictures, from the CSV that `make bench BENCH=docs/pictures` wrote. scripts/pictures.py calls this.
+#!/usr/bin/env python3
+"""Draws the plots of docs/pictures as SVG, for light and dark pages: from the CSV that `make bench BENCH=docs/pictures`
+wrote, and from the terminal that bench/terminal recorded. The other pictures are drawn by hand.
 
-A CSV begins with comments: the processor, the date and the commit of the run.
-"""
+usage: scripts/plots.py [--check]        (--check: fails if a plot is not what its data give)"""
 
 import csv
 import math
+import sys
+import textwrap
+from html import escape
+from pathlib import Path
 
+PICTURES = Path(__file__).resolve().parent.parent / "docs/pictures"
+STYLE = """\
+text { font: 13px system-ui, sans-serif; fill: #1f2328 }
+.strong { font-weight: 600 }
+.middle { text-anchor: middle }
+.end { text-anchor: end }
+.grid { fill: none; stroke: #d0d7de; stroke-width: 1 }
+.leader { fill: none; stroke: #8c959f; stroke-width: 1 }
+.curve { fill: none; stroke: #57606a; stroke-width: 2 }
+.ours { fill: none; stroke: #0969da; stroke-width: 4 }
+.bar { fill: #d0d7de; stroke: #57606a; stroke-width: 1 }
+.ours_bar { fill: #0969da; stroke: #0969da; stroke-width: 1 }
+.screen { fill: #0d1117; stroke: #57606a; stroke-width: 1.5 }
+.shown { font: 12px ui-monospace, monospace; fill: #e6edf3 }
+.faint { font: 12px ui-monospace, monospace; fill: #9198a1 }
+@media (prefers-color-scheme: dark) {
+text { fill: #e6edf3 }
+.grid { stroke: #3d444d }
+.curve { stroke: #b1bac4 }
+.ours { stroke: #58a6ff }
+.bar { fill: #3d444d; stroke: #9198a1 }
+.ours_bar { fill: #58a6ff; stroke: #58a6ff }
+}"""
 NAMES = {"keywrap": "keywrap", "hardware": "keywrap_hw", "openssl": "OpenSSL", "nettle": "nettle",
-         "gcrypt": "libgcrypt", "C": "C, tables", "portable": "portable C",
-         "portable_hw": "portable C"}
+         "gcrypt": "libgcrypt", "C": "C, tables", "portable": "portable C", "portable_hw": "portable C"}
 DASHES = {"OpenSSL": "8 3", "C, tables": "2 3", "nettle": "8 3 2 3", "nettle, AES inst.": "1 3", "libgcrypt": "5 5",
           "keywrap_hw": "14 3", "portable C": "2 6", "portable C, AES inst.": "10 2 2 2"}
-LEFT, PLOT = 44, 280
+LEFT, PLOT, HEIGHT = 44, 280, 190
 
 
-def read(text):
-    """The comments and the rows of a CSV."""
-    lines = text.splitlines()
+class Drawing:
+    """The elements of one picture, in the order in which they are painted."""
+
+    def __init__(self, height, title):
+        self.height, self.title, self.elements = height, title, []
+
+    def box(self, x, y, width, height, kind):
+        self.elements.append(f'<rect class="{kind}" x="{x}" y="{y}" width="{width}" height="{height}"/>')
+
+    def text(self, x, y, words, kind=""):
+        self.elements.append(f'<text xml:space="preserve" class="{kind}" x="{x}" y="{y}">{escape(words)}</text>')
+
+    def line(self, kind, *points, dash=None):
+        path = " ".join(f"{x},{y}" for x, y in points)
+        dashes = f' stroke-dasharray="{dash}"' if dash else ""
+        self.elements.append(f'<polyline class="{kind}" points="{path}"{dashes}/>')
+
+    def note(self, about):
+        """Below a plot: what was measured, on what and when."""
+        self.text(8, self.height - 26, about["processor"])
+        self.text(8, self.height - 10, f"{about['date']}, commit {about['commit']}")
+
+    def svg(self):
+        head = f'<svg xmlns="http://www.w3.org/2000/svg" width="480" height="{self.height}" ' \
+               f'viewBox="0 0 480 {self.height}" role="img">'
+        return "\n".join([head, f"<title>{escape(self.title)}</title>", f"<style>\n{STYLE}\n</style>", *self.elements,
+                          "</svg>", ""])
+
+
+def read(name):
+    """The comments (the processor, the date and the commit of the run) and the rows of a CSV."""
+    lines = (PICTURES / f"{name}.csv").read_text(encoding="utf-8").splitlines()
     about = dict(line[2:].split(": ", 1) for line in lines if line.startswith("# "))
     return about, list(csv.DictReader(line for line in lines if not line.startswith("#")))
-
-
-def note(drawing, about):
-    """Below a plot: what was measured, on what and when."""
-    y = drawing.size[1] - 26
-    drawing.text(8, y, about["processor"], "tiny")
-    drawing.text(8, y + 16, f"{about['date']}, commit {about['commit']}", "tiny")
 
 
 def size(length):
@@ -39,17 +88,14 @@ def apart(places, gap):
     moved = list(places)
     for before, after in zip(order, order[1:]):
         moved[after] = max(moved[after], moved[before] + gap)
-    over = max(moved) - max(places)
+    moved[order[-1]] -= (max(moved) - max(places)) / 2
     for after, before in zip(order[::-1], order[-2::-1]):
-        if after == order[-1]:
-            moved[after] -= over / 2
         moved[before] = min(moved[before], moved[after] - gap)
     return moved
 
 
-def panel(drawing, top, rows, title):
+def curves(drawing, top, rows, title):
     """One direction: nanoseconds for each block call over the key's length, both axes logarithmic."""
-    height = 190
     times = [float(row["ns_per_block"]) for row in rows]
     lengths = sorted({int(row["key"]) for row in rows})
     low, high = math.log10(min(times)) - 0.1, math.log10(max(times)) + 0.1
@@ -58,112 +104,132 @@ def panel(drawing, top, rows, title):
         return round(LEFT + PLOT * math.log(length / lengths[0]) / math.log(lengths[-1] / lengths[0]), 1)
 
     def y(time):
-        return round(top + height * (high - math.log10(time)) / (high - low), 1)
+        return round(top + HEIGHT * (high - math.log10(time)) / (high - low), 1)
 
     drawing.text(8, top - 10, title, "strong")
     for tick in (5, 10, 20, 50, 100, 200, 500, 1000, 2000):
         if low < math.log10(tick) < high:
             drawing.line("grid", (LEFT, y(tick)), (LEFT + PLOT, y(tick)))
-            drawing.text(LEFT - 6, y(tick) + 4, str(tick), "tiny end")
+            drawing.text(LEFT - 6, y(tick) + 4, str(tick), "end")
     for length in lengths:
         if length != 32:
-            drawing.text(x(length), top + height + 16, size(length), "tiny middle")
-    curves = {}
+            drawing.text(x(length), top + HEIGHT + 16, size(length), "middle")
+    found = {}
     for row in rows:
         name = NAMES[row["library"]]
-        key = (name, name + ", AES inst." * (row["blocks"] == "AES inst." and row["library"] != "hardware"))
-        curves.setdefault(key, []).append((x(int(row["key"])), y(float(row["ns_per_block"]))))
-    ends = apart([points[-1][1] for points in curves.values()], 16)
-    for ((name, label), points), end in zip(curves.items(), ends):
+        label = name + ", AES inst." * (row["blocks"] == "AES inst." and row["library"] != "hardware")
+        found.setdefault((name, label), []).append((x(int(row["key"])), y(float(row["ns_per_block"]))))
+    for ((name, label), points), end in zip(found.items(), apart([points[-1][1] for points in found.values()], 16)):
         kind = "ours" if name.startswith("keywrap") else "curve"
         drawing.line(kind, *points, dash=DASHES.get(label, DASHES.get(name)))
         drawing.line("leader", points[-1], (points[-1][0] + 12, round(end, 1)))
-        drawing.text(points[-1][0] + 15, round(end + 4, 1), label, "tiny strong" if kind == "ours" else "tiny")
+        drawing.text(points[-1][0] + 15, round(end + 4, 1), label, "strong" if kind == "ours" else "")
 
 
-def wrap(drawing_of, text):
+def wrap():
     """The time of a block call over the length of the key, beside other libraries."""
-    about, rows = read(text)
-    drawing = drawing_of(480, 584, "Nanoseconds for each block call, over the length of the key")
-    drawing.text(8, 20, "Nanoseconds for each block call (six for each 8 bytes of key),", "small")
-    drawing.text(8, 38, "over the length of the key in bytes. KEKs of 32 bytes.", "small")
+    about, rows = read("wrap")
+    drawing = Drawing(584, "Nanoseconds for each block call, over the length of the key")
+    drawing.text(8, 20, "Nanoseconds for each block call (six for each 8 bytes of key),")
+    drawing.text(8, 38, "over the length of the key in bytes. KEKs of 32 bytes.")
     for top, call in ((78, "wrap"), (328, "unwrap")):
-        panel(drawing, top, [row for row in rows if row["kek"] == "32" and row["call"] == call], call)
-    note(drawing, about)
+        curves(drawing, top, [row for row in rows if row["kek"] == "32" and row["call"] == call], call)
+    drawing.note(about)
     return drawing
 
 
-def bars(drawing, y, rows, most):
-    """A bar for each label and value; keywrap's are blue."""
-    for label, value, shown, is_ours in rows:
-        width = max(2, round(188 * value / most, 1))
-        drawing.text(172, y + 15, label, "tiny end")
-        drawing.box(180, y, width, 20, "ours_bar" if is_ours else "bar", 0)
-        drawing.text(186 + width, y + 15, shown, "tiny strong" if is_ours else "tiny")
-        y += 26
-    return y + 10
-
-
-def plot_bars(drawing_of, text, title, lines, groups):
-    """A title, what is shown, and groups of bars, each group with its own scale."""
-    drawing = drawing_of(480, 56 + 18 * len(lines) + sum(28 + 26 * len(rows) for _, rows in groups), title)
-    y = 20
-    for line in lines:
-        drawing.text(8, y, line, "small")
-        y += 18
+def bars(about, title, line, groups):
+    """Groups of bars with a label and a value for each, every group with its own scale. keywrap's bars are blue."""
+    drawing = Drawing(74 + sum(28 + 26 * len(rows) for _, rows in groups), title)
+    drawing.text(8, 20, line)
+    y = 38
     for name, rows in groups:
         drawing.text(8, y + 10, name, "strong")
-        y = bars(drawing, y + 18, rows, max(row[1] for row in rows))
-    note(drawing, read(text)[0])
+        y += 18
+        for label, value, shown in rows:
+            width = max(2, round(188 * value / max(row[1] for row in rows), 1))
+            is_ours = label.startswith("keywrap")
+            drawing.text(172, y + 15, label, "end")
+            drawing.box(180, y, width, 20, "ours_bar" if is_ours else "bar")
+            drawing.text(186 + width, y + 15, shown, "strong" if is_ours else "")
+            y += 26
+        y += 10
+    drawing.note(about)
     return drawing
 
 
-def lines(drawing_of, text):
+def lines():
     """Keys per second of the command with --lines, beside a script and a process for each key."""
-    rows = read(text)[1]
-    groups = []
-    for job in ("wrap", "unwrap", "rewrap"):
-        found = sorted((row for row in rows if row["job"] == job), key=lambda row: -float(row["keys_per_second"]))
-        groups.append((job, [(row["way"], float(row["keys_per_second"]), f"{int(row['keys_per_second']):,}",
-                              row["way"].startswith("keywrap")) for row in found]))
-    return plot_bars(drawing_of, text, "Keys per second, from a file into a file",
-                     ["Keys per second, from a file into a file; keys and KEKs of 32 bytes."], groups)
+    about, rows = read("lines")
+    rates = [(row["job"], row["way"], int(row["keys_per_second"])) for row in rows]
+    return bars(about, "Keys per second, from a file into a file",
+                "Keys per second, from a file into a file; keys and KEKs of 32 bytes.", [
+        (job, sorted([(way, rate, f"{rate:,}") for name, way, rate in rates if name == job], key=lambda row: -row[1]))
+        for job in ("wrap", "unwrap", "rewrap")])
 
 
-def provider(drawing_of, text):
+def provider():
     """The time of a call by EVP, by OpenSSL's own provider and by ours."""
-    groups = []
-    for row in read(text)[1]:
-        if row["cipher"] == "AES-256-WRAP":
-            both = [("OpenSSL's provider", float(row["default_ns"]), False),
-                    ("keywrap", float(row["keywrap_ns"]), True)]
-            groups.append((f"{row['call']}, key of {row['key']} bytes",
-                           [(name, ns / 1000, f"{ns / 1000:.1f}", ours) for name, ns, ours in both]))
-    return plot_bars(drawing_of, text, "Microseconds for a call by EVP, by both providers",
-                     ["Microseconds for a call by EVP with AES-256-WRAP."], groups)
+    about, rows = read("provider")
+    return bars(about, "Microseconds for a call by EVP, by both providers",
+                "Microseconds for a call by EVP with AES-256-WRAP.", [
+        (f"{row['call']}, key of {row['key']} bytes",
+         [(name, int(row[column]), f"{int(row[column]) / 1000:.1f}")
+          for name, column in (("OpenSSL's provider", "default_ns"), ("keywrap", "keywrap_ns"))])
+        for row in rows if row["cipher"] == "AES-256-WRAP"])
 
 
-def js(drawing_of, text):
+def js():
     """The time of a wrap in a page, beside Web Crypto."""
-    groups = []
-    for row in read(text)[1]:
-        if row["key"] != "16":
-            both = [("Web Crypto", float(row["web_crypto_us"]), False), ("keywrap", float(row["keywrap_us"]), True)]
-            shown = f"{row['engine'].capitalize()}, key of {size(int(row['key']))}" + (" bytes" * (row["key"] == "32"))
-            groups.append((shown, [(name, us, f"{us:,.0f}", ours) for name, us, ours in both]))
-    return plot_bars(drawing_of, text, "Microseconds for a wrap in a page, beside Web Crypto",
-                     ["Microseconds for a wrap in a page, with a KEK of 16 bytes."], groups)
+    about, rows = read("js")
+    return bars(about, "Microseconds for a wrap in a page, beside Web Crypto",
+                "Microseconds for a wrap in a page, with a KEK of 16 bytes.", [
+        (f"{row['engine'].capitalize()}, key of {size(int(row['key']))}" + " bytes" * (row["key"] == "32"),
+         [(name, float(row[column]), f"{float(row[column]):,.0f}")
+          for name, column in (("Web Crypto", "web_crypto_us"), ("keywrap", "keywrap_us"))])
+        for row in rows if row["key"] != "16"])
 
 
-def many(drawing_of, text):
+def many():
     """The time of a rewrap of one of many keys, in the call for many and in the call for one."""
-    groups = []
-    for flags, name in ("0", "plain to plain"), ("12", "the form kept, what is new passed"):
-        found = [row for row in read(text)[1] if row["flags"] == flags and row["key"] == "32"]
-        groups.append((name, [(row["way"], float(row["ns_per_key"]), f"{int(row['ns_per_key']):,}",
-                               row["way"].startswith("keywrap")) for row in found]))
-    return plot_bars(drawing_of, text, "Nanoseconds for a rewrap of one of many keys",
-                     ["Nanoseconds for a rewrap, of keys and KEKs of 32 bytes, on one core."], groups)
+    about, rows = read("many")
+    return bars(about, "Nanoseconds for a rewrap of one of many keys",
+                "Nanoseconds for a rewrap, of keys and KEKs of 32 bytes, on one core.", [
+        (name, [(row["way"], float(row["ns_per_key"]), f"{int(row['ns_per_key']):,}")
+                for row in rows if row["flags"] == flags and row["key"] == "32"])
+        for flags, name in (("0", "plain to plain"), ("12", "the form kept, what is new passed"))])
 
 
-PLOTS = {"wrap": wrap, "many": many, "lines": lines, "provider": provider, "js": js}
+def rotation():
+    """A terminal during and after the rotation of a million keys."""
+    shown = []
+    key, *lines_shown = (PICTURES / "rotation.txt").read_text(encoding="utf-8").splitlines()
+    for line in lines_shown:
+        mark, _, words = line.partition(" ")
+        if mark == "$":
+            first, *rest = textwrap.wrap(words, 57, break_on_hyphens=False)
+            shown += [("shown", f"$ {first}"), *(("shown", f"    {part}") for part in rest)]
+        else:
+            shown += [("faint" if mark == "during:" else "shown", part) for part in textwrap.wrap(words, 61)]
+    drawing = Drawing(28 + 20 * len(shown),
+                      f"A terminal during and after a rotation of a million keys of {key.partition(' ')[2]} bytes")
+    drawing.box(1, 1, 478, 26 + 20 * len(shown), "screen")
+    for number, (kind, words) in enumerate(shown):
+        drawing.text(14, 28 + 20 * number, words, kind)
+    return drawing
+
+
+def main(arguments):
+    stale = []
+    for draw in wrap, many, lines, provider, js, rotation:
+        path, text = PICTURES / f"{draw.__name__}.svg", draw().svg()
+        if arguments != ["--check"]:
+            path.write_text(text, encoding="utf-8")
+        elif not path.exists() or path.read_text(encoding="utf-8") != text:
+            stale.append(f"docs/pictures/{path.name}: stale, run make pictures")
+    print("\n".join(stale), end="\n" * bool(stale))
+    return 1 if stale else 0
+
+
+if __name__ == "__main__":
+    sys.exit(main(sys.argv[1:]))

@@ -16,7 +16,7 @@ import sys
 import tempfile
 
 ROOT = pathlib.Path(__file__).resolve().parent.parent
-PARTS = ROOT / "portable"
+PARTS = ROOT / "c/portable"
 WASM2C = os.environ.get("WASM2C", "wasm2c")
 WASM_OPT = os.environ.get("WASM_OPT", "wasm-opt")
 FUNCTION = re.compile(r"^static \w+ (w2c_\w+)\((struct instance \*[^;{]*)\) \{\n(.*?)^}\n", re.M | re.S)
@@ -157,7 +157,7 @@ def hardware():
     """The calls by the processor's AES as one part of the file, in which nothing but the calls has a name outside."""
     parts = []
     for name in HARDWARE + ["lanes.c", "many.c"]:
-        text = (PARTS if name == "lanes.c" else ROOT / "hardware").joinpath(name).read_text()
+        text = (PARTS if name == "lanes.c" else ROOT / "c/hardware").joinpath(name).read_text()
         text = re.sub(r"^#include (?:\"(?:aes|run)\.h\"|<keywrap(?:_steps)?\.h>|<std\w+\.h>|<string\.h>)\n", "", text,
                       flags=re.M)
         if name.endswith(".h"):
@@ -197,7 +197,7 @@ def readme(lines):
 
 def header():
     """keywrap.h, which says itself that the library is the portable one."""
-    text = (ROOT / "include/keywrap.h").read_text()
+    text = (ROOT / "c/include/keywrap.h").read_text()
     the_one("the guard of keywrap.h", r"^#define KEYWRAP_H$", text)
     guard = "#define KEYWRAP_H\n"
     return text.replace(guard, guard + "#ifndef KEYWRAP_PORTABLE\n#define KEYWRAP_PORTABLE\n#endif\n")
@@ -219,7 +219,7 @@ def main(wasm, directory):
     lines = sum(part.count("\n") for part in [(PARTS / "runtime.c").read_text(), *by_hand])
     (directory / "README").write_text(readme(lines))
     (directory / "keywrap.h").write_text(header())
-    shutil.copyfile(ROOT / "include/keywrap_steps.h", directory / "keywrap_steps.h")
+    shutil.copyfile(ROOT / "c/include/keywrap_steps.h", directory / "keywrap_steps.h")
     shutil.copyfile(PARTS / "vectors.c", directory / "check/vectors.c")
     for name in "Makefile", "CMakeLists.txt":
         shutil.copyfile(PARTS / name, directory / name)

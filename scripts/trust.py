@@ -20,9 +20,10 @@ PAGE = TOP / "docs" / "TRUST.md"
 BEGIN, END = "<!-- scripts/trust.py: begin -->", "<!-- scripts/trust.py: end -->"
 HASHES_BEGIN, HASHES_END = "<!-- scripts/trust.py --hashes: begin -->", "<!-- scripts/trust.py --hashes: end -->"
 
-# The headlines: a name, and the source files whose functions make it, each with the names of these functions.
+# The headlines: a name, and the source files whose functions make it, each with the names of these functions if they
+# are not all of the file.
 HEADLINES = [
-    ("`keywrap_wrap` and `keywrap_unwrap` of C", {"keywrap_c/src/plain.rt": None}),
+    ("`keywrap_wrap` and `keywrap_unwrap` of C", {"keywrap_c/src/exports.rt": ["keywrap_wrap", "keywrap_unwrap"]}),
     ("every call of C", {"keywrap_c/src/*.rt": None}),
     ("the command's jobs", {"keywrap_cli/src/operation.rt": None}),
 ]
@@ -36,8 +37,12 @@ def imports(text):
             for path, words, alias in USE.findall(text)]
 
 
-def clauses(text):
-    """The contracts of a source file: its lines from `ensures` and `requires` to the function's body."""
+def clauses(text, functions):
+    """The contracts of these functions of a source file, or of all: the lines from `ensures` and `requires` to the
+    body."""
+    if functions:
+        text = "\n".join(re.search(rf"^pub .*\bfn {name}\b.*?^}}", text, re.MULTILINE | re.DOTALL).group()
+                         for name in functions)
     return "\n".join(match.group() for match in
                      re.finditer(r"^\s*(?:ensures|requires)\b.*?(?=^\s*\{\s*$)", text, re.MULTILINE | re.DOTALL))
 
@@ -60,10 +65,10 @@ def is_used(words, text):
 def closure(roots):
     """The files of definitions that the contracts of these source files rest on, and the words of std and the kit."""
     waiting, files, outside = [], set(), set()
-    for pattern in roots:
+    for pattern, functions in roots.items():
         for source in sorted(CRATES.glob(pattern)):
             text = source.read_text(encoding="utf-8")
-            contract = clauses(text)
+            contract = clauses(text, functions)
             waiting += [(path, words) for path, words in imports(text) if is_used(words, contract)]
     while waiting:
         path, words = waiting.pop()

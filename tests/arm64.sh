@@ -36,8 +36,8 @@ shuffles() {
 row 'the shuffles' shuffles
 
 # The calls run over the shared object, on an early processor. The other tests use the archive.
-row 'the calls: compile' "$cc" -std=c99 -O2 -Wall -Wextra -pedantic -Werror "-I$root/include" \
-    "-I$root/tests/reference" "$root"/tests/library/*.c "$root/tests/reference/one_table.c" "$library/libkeywrap.so.1" \
+row 'the calls: compile' "$cc" -std=c99 -O2 -Wall -Wextra -pedantic -Werror "-I$root/c/include" \
+    "-I$root/c/reference" "$root"/tests/library/*.c "$root/c/reference/one_table.c" "$library/libkeywrap.so.1" \
     -o checks
 # They run beside the next rows.
 "${runs[@]}" -cpu cortex-a53 -E "LD_LIBRARY_PATH=$library" ./checks few >calls.log 2>&1 &
@@ -50,7 +50,7 @@ secrets() {
     KEYWRAP_ARCHIVES=$library/libkeywrap.a bash "$root/tests/secrets.sh" 24 >secrets.log
     grep -q ' 0 failed, 0 skipped$' secrets.log || { cat secrets.log && false; }
 }
-of_debian="no $sysroot (scripts/sysroot.sh '$sysroot')"
+of_debian="no $sysroot (packaging/sysroot.sh '$sysroot')"
 if [ -d "$sysroot" ]; then
     slow row 'what depends on secrets' secrets
 else
@@ -79,7 +79,7 @@ row 'it is of aarch64' are_arm "$packed"/lib/libkeywrap.{a,so}
 row 'its README names aarch64' grep -q 'Linux on aarch64' "$packed/README"
 if needs 'the C example over the packed library' pkg-config; then
     read -ra flags < <(PKG_CONFIG_PATH=$packed/lib/pkgconfig pkg-config --cflags --libs keywrap)
-    row 'the C example: builds' "$cc" -std=c99 "$root/examples/c/wrap.c" "${flags[@]}" -o example
+    row 'the C example: builds' "$cc" -std=c99 "$root/c/examples/c/wrap.c" "${flags[@]}" -o example
     row 'the C example: runs' writes 96778b25ae6ca435f92b5b97c050aed2468ab8a17ad84e5d \
         "${runs[@]}" -E "LD_LIBRARY_PATH=$packed/lib" ./example
 fi

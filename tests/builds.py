@@ -25,6 +25,13 @@ def run(*command, **options):
     return ended.stdout
 
 
+def alone(lines, **env):
+    """A command that runs lines of the shell with an empty environment, the system's commands and no network: a test
+    that uses it needs "no network"."""
+    given = [f"{name}={value}" for name, value in env.items()]
+    return ["unshare", "-rn", "env", "-i", "PATH=/usr/bin:/bin", *given, "bash", "-ec", "\n".join(lines)]
+
+
 @pytest.fixture(scope="session")
 def once(tmp_path_factory):
     """once("library", build) is a directory that the first process that asks for it makes with build(directory)."""
@@ -137,6 +144,7 @@ def debs(once, built, pytestconfig):
 
     def build(directory):
         tree = copied_tree(directory, pytestconfig.program, built("llvm.a"))
+        shutil.copytree(tree / "packaging/debian", tree / "debian")
         path = f"{directory}/bin:/usr/sbin:/usr/bin:/sbin:/bin"
         log = run("dpkg-buildpackage", "-b", "-us", "-uc", cwd=tree, env={**os.environ, "PATH": path})
         (directory / "log").write_text(log)
@@ -215,6 +223,7 @@ def thing(request, once):
         "command": installed("install-command"), "library": installed("install-library"), "hardware": hardware,
         "provider": provider, "wheel": wheel, "sdist": archive(f"keywrap-{NAMES['PYTHON']}.tar.gz"),
         "npm": archive("*.tgz"), "portable": archive("keywrap-portable-*"), "sdist built": sdist_built,
+        "go": lambda directory: run("make", "-s", "-C", ROOT, "go", f"GO={directory}"),
         "archive of command": archive("keywrap-[0-9]*-linux.tar.gz"),
         "archive of library": archive("keywrap-library-*"),
     }

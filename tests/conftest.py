@@ -25,7 +25,7 @@ from tools import need
 ROOT = pathlib.Path(__file__).resolve().parent.parent
 # The files of long tests.
 LONG = ("test_portable", "test_python", "test_dist", "test_debian", "test_handed_out",
-        "test_provider", "test_facts", "test_java")
+        "test_provider", "test_facts", "test_go", "test_java")
 
 
 def pytest_addoption(parser):

@@ -24,12 +24,12 @@ installs() {
 of_debian=libkeywrap_hw.so.${version/-/\~}
 row 'make install-library HARDWARE=1' installs '644 libkeywrap_hw.a ' "644 $of_debian " \
     "777 libkeywrap_hw.so.1 $of_debian" '777 libkeywrap_hw.so libkeywrap_hw.so.1'
-options=(-std=c99 -O2 -Wall -Wextra -pedantic -Werror "-I$root/include" "-I$root/tests/reference")
+options=(-std=c99 -O2 -Wall -Wextra -pedantic -Werror "-I$root/c/include" "-I$root/c/reference")
 # with_lto COMPILER: the library is built by these flags, in a directory with a blank in its name, and a program over it
 # passes.
 with_lto() {
     make -s -C "$root" library HARDWARE=1 CC="$1" CFLAGS='-O2 -flto' LIBRARY="$room/with lto" ARCHIVE="$archive" &&
-        "$1" -flto "${options[@]}" "$root"/tests/library/*.c "$root/tests/reference/one_table.c" \
+        "$1" -flto "${options[@]}" "$root"/tests/library/*.c "$root/c/reference/one_table.c" \
             'with lto/libkeywrap_hw.a' -o 'with lto/checks' &&
         writes ' passed, 0 failed' 'with lto/checks' few
 }
@@ -41,13 +41,13 @@ printf '#include <keywrap_steps.h>\n' >steps_header.c
 cp steps_header.c steps_header.cc
 for std in c89 c99 c11; do row "the header in $std" cc -std=$std "${options[@]:1}" -fsyntax-only steps_header.c; done
 ! needs 'the header in C++' c++ ||
-    row 'the header in C++' c++ -std=c++11 "-I$root/include" -fsyntax-only steps_header.cc
+    row 'the header in C++' c++ -std=c++11 "-I$root/c/include" -fsyntax-only steps_header.cc
 
 ### The steps
 
 # The numbers of steps as the header has them.
 sentence='There are ([0-9]+) steps for each 8 bytes of the registers, or ([0-9]+) if they are 8 bytes long'
-[[ $(<"$root/include/keywrap_steps.h") =~ $sentence ]]
+[[ $(<"$root/c/include/keywrap_steps.h") =~ $sentence ]]
 steps=("-DSTEPS_OF_WORD=${BASH_REMATCH[1]:-}" "-DSTEPS_OF_ONE_WORD=${BASH_REMATCH[2]:-}")
 if needs "the steps around OpenSSL's AES" '<openssl/evp.h>'; then
     for name in keywrap keywrap_hw; do
@@ -55,7 +55,7 @@ if needs "the steps around OpenSSL's AES" '<openssl/evp.h>'; then
             "$library/lib$name.a" -lcrypto -o steps &&
             row "the steps around OpenSSL's AES, $name: run" writes ' passed, 0 failed' ./steps
     done
-    row 'the example of OpenSSL: compiles' cc "${options[@]}" "$root/examples/c/evp.c" "$library/libkeywrap.a" \
+    row 'the example of OpenSSL: compiles' cc "${options[@]}" "$root/c/examples/c/evp.c" "$library/libkeywrap.a" \
         -lcrypto -o evp
     row 'the example of OpenSSL' writes 1fa68b0a8112b447aef34bd8fb5a7b829d3e862371d2cfe5 ./evp
 fi
@@ -65,10 +65,12 @@ if needs 'a KEK in a token' openssl softhsm2-util 'pkcs11.h of p11-kit' pkg-conf
     # The recipe, over the library as it is installed.
     sed -n '/^## A KEK that never leaves a token/,/^## A CMS/s/^    //p' "$root/docs/RECIPES.md" >recipe
     sed -n 's/^[$] //p' recipe >script
-    mkdir token && cp stage/share/doc/keywrap/examples/c/token.c token
-    row 'the recipe of a token' diff <(cd token && PKG_CONFIG_PATH=$room/stage/lib/pkgconfig \
+    mkdir token
+    row 'the recipe of a token' diff <(cd token && EXAMPLES=$room/stage/share/doc/keywrap/examples \
+        PKG_CONFIG_PATH=$room/stage/lib/pkgconfig \
         LD_LIBRARY_PATH=$room/stage/lib bash ../script 2>&1) <(grep -v '^[$] ' recipe)
-    row 'the example of a token: no warning' cc "${options[@]}" "${pkcs11[@]}" -c "$root/examples/c/token.c" -o token.o
+    row 'the example of a token: no warning' cc "${options[@]}" "${pkcs11[@]}" -c "$root/c/examples/c/token.c" \
+        -o token.o
 fi
 
 # reports NAME MOST: the line of this name has at most MOST reports.
@@ -76,7 +78,7 @@ reports() {
     awk -F ': ' -v name="$1" -v most="$2" '$1 == name && $2 <= most { found = 1 } END { exit !found }' reported
 }
 if needs 'what depends on secrets in the steps' valgrind '<valgrind/memcheck.h>'; then
-    row 'secrets: compiles' cc "${options[@]:0:2}" -g "-I$root/include" "$root/tests/hardware/secrets.c" \
+    row 'secrets: compiles' cc "${options[@]:0:2}" -g "-I$root/c/include" "$root/tests/hardware/secrets.c" \
         "$library/libkeywrap.a" -o secrets
     row 'secrets: runs' writes 'ends of an unwrap' valgrind -q --error-limit=no --log-file=valgrind.log \
         --suppressions="$root/tests/secrets/decision.supp" ./secrets && cp written reported
@@ -85,7 +87,7 @@ if needs 'what depends on secrets in the steps' valgrind '<valgrind/memcheck.h>'
         --log-file=valgrind.log ./secrets && cp written reported
     slow row 'secrets: memcheck sees the decision' fails reports 'ends of an unwrap' 0
     slow row 'secrets of libkeywrap_hw: compiles' cc "${options[@]}" -O1 -g "$root/tests/secrets/secrets.c" \
-        "$root/tests/reference/one_table.c" "$library/libkeywrap_hw.a" -o hw_secrets
+        "$root/c/reference/one_table.c" "$library/libkeywrap_hw.a" -o hw_secrets
     slow row 'secrets of libkeywrap_hw: runs' writes 'keywrap_kind: 0 reports' valgrind -q --error-limit=no \
         --log-file=valgrind.log --suppressions="$root/tests/secrets/decision.supp" ./hw_secrets 264
     slow row 'secrets of libkeywrap_hw: whether a length is plain' diff <(sed '/: 0 reports/d; s/:.*//' written) \
@@ -104,10 +106,10 @@ mapfile -t comparing < <(printf '%s\n' "$root"/tests/provider/*.c | grep -v '/di
 # builds DIRECTORY COMPILER WORD..: builds the programs over $library/libkeywrap_hw.so.1 in the directory.
 builds() {
     mkdir -p "$1" && set -- "$1" "${@:2}" "${options[@]}" &&
-        "${@:2}" "$root"/tests/library/*.c "$root/tests/reference/one_table.c" "$library/libkeywrap_hw.so.1" \
+        "${@:2}" "$root"/tests/library/*.c "$root/c/reference/one_table.c" "$library/libkeywrap_hw.so.1" \
             -o "$1/checks" &&
         "${@:2}" "$root/tests/published.c" "$library/libkeywrap_hw.so.1" -o "$1/published" &&
-        "${@:2}" "$root/tests/hardware/chosen.c" "$root"/hardware/{aes,x86_64,aarch64}.c -o "$1/chosen"
+        "${@:2}" "$root/tests/hardware/chosen.c" "$root"/c/hardware/{aes,x86_64,aarch64}.c -o "$1/chosen"
 }
 # compares DIRECTORY LIBCRYPTO COMPILER WORD..: builds the program that compares the provider with OpenSSL's.
 compares() { "${@:3}" "${options[@]}" "${comparing[@]}" "$2" -o "$1/compared"; }
@@ -143,10 +145,10 @@ fi
 left() {
     awk -v most="$1" 'NR > 1 && ($4 > most || $5 > most || $6 > most) { print; bad = 1 } END { exit bad }' stacked
 }
-row 'the proved calls, renamed' objcopy --redefine-syms="$root/hardware/names" "$library/libkeywrap.a" proved.a
+row 'the proved calls, renamed' objcopy --redefine-syms="$root/c/hardware/names" "$library/libkeywrap.a" proved.a
 if grep -qw aes /proc/cpuinfo; then
     row 'the AES of each call: compiles' cc "${options[@]}" "$root"/tests/hardware/{uses,wrong_aes}.c \
-        "$root"/hardware/{keywrap,many,aes}.c proved.a -o uses
+        "$root"/c/hardware/{keywrap,many,aes}.c proved.a -o uses
     row 'the AES of each call' diff <(./uses) <(printf 'software for a KEK of %s bytes:\n' 16 24 32)
 fi
 row 'the stack: compiles' cc -std=c99 -O1 -g "${options[@]:2}" "$root/tests/secrets/stack.c" \
@@ -157,7 +159,7 @@ row 'the stack: round keys are cleared' left 16
 row 'the calls, all' writes ' passed, 0 failed' here/checks
 if needs 'the calls, sanitized' 'sanitizers of cc'; then
     row 'the calls, sanitized: compile' cc "${options[@]}" -g "${sanitize[@]}" "$root"/tests/library/*.c \
-        "$root/tests/reference/one_table.c" "$root"/hardware/*.c proved.a -o sanitized
+        "$root/c/reference/one_table.c" "$root"/c/hardware/*.c proved.a -o sanitized
     row 'the calls, sanitized' writes ' passed, 0 failed' ./sanitized few
 fi
 threads=(cc "${options[@]}" -g -pthread "$root/tests/hardware/threads.c")
@@ -166,7 +168,7 @@ for name in keywrap keywrap_hw; do
         row "threads, $name" writes ' passed, 0 failed' ./threads
 done
 if needs 'threads, sanitized' 'thread sanitizer of cc'; then
-    row 'threads, sanitized: compiles' "${threads[@]}" -fsanitize=thread "$root"/hardware/*.c proved.a -o threads
+    row 'threads, sanitized: compiles' "${threads[@]}" -fsanitize=thread "$root"/c/hardware/*.c proved.a -o threads
     row 'threads, sanitized' writes ' passed, 0 failed' ./threads
 fi
 export KEYWRAP=$root/keywrap
@@ -197,7 +199,7 @@ if [ -d "$sysroot/usr/include/openssl" ]; then
         "${of_debian[@]}" -rdynamic "$root/tests/hardware/no_aes.c"
     ln -s ../arm/keywrap.so arm_without
 else
-    skip 'the provider on aarch64' "no OpenSSL in $sysroot (scripts/sysroot.sh '$sysroot')"
+    skip 'the provider on aarch64' "no OpenSSL in $sysroot (packaging/sysroot.sh '$sysroot')"
 fi
 # An early processor.
 runs+=(-cpu cortex-a53 -E "LD_LIBRARY_PATH=$library")

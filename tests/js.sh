@@ -13,7 +13,7 @@ set -u
 ### The package, where a user has it
 
 package=$room/node_modules/keywrap
-cp -R "$root"/tests/js/. .
+cp -R "$root"/tests/js/. "$root/scripts/engine.mjs" .
 if [ -d "${KEYWRAP_JS:-}" ]; then
     mkdir node_modules
     row 'the package' cp -R "$KEYWRAP_JS" "$package"
@@ -21,24 +21,30 @@ else
     row 'make js' make -s -C "$root" js JS="$package" || { finish; exit; }
 fi
 row 'its files' test "$(cd "$package" && echo *)" = \
-    'README.md example.html keywrap.d.ts keywrap.js keywrap.wasm package.json'
+    'README.md calls.js example.html inline.js keywrap.d.ts keywrap.js keywrap.wasm module.js package.json'
 size=$(stat -c %s "$package/keywrap.wasm")
 row 'the module has at most 32 KB' test "$size" -le 32768
 row "README has the module's size" grep -qF "\`keywrap.wasm\` ($(((size + 500) / 1000)) KB)" "$package/README.md"
 
 ### Bundles
 
-# As a packager makes them. keywrap.js has no syntax that these hosts lack: esbuild has nothing to replace.
+# As a packager makes them. The files have no syntax that these hosts lack: esbuild has nothing to replace.
 hosts=chrome85,firefox79,safari15,node16
 same_syntax() {
-    esbuild --format=esm "$package/keywrap.js" >kept.js &&
-        esbuild --format=esm --target=$hosts "$package/keywrap.js" | diff kept.js -
+    local name
+    for name in calls inline keywrap; do
+        esbuild --format=esm "$package/$name.js" >kept.js &&
+            esbuild --format=esm --target=$hosts "$package/$name.js" | diff kept.js - || return
+    done
 }
+# bundled ENTRY OUTPUT OPTION..
+bundled() { esbuild "bundle/$1" --bundle --minify --outfile="bundles/$2" --log-level=warning "${@:3}"; }
 bundles() {
-    esbuild bundle/beside.mjs --bundle --minify --format=esm --outfile=bundles/beside.mjs --log-level=warning &&
-        esbuild bundle/inside.mjs --bundle --minify --format=iife --loader:.wasm=binary --outfile=bundles/inside.js \
-            --log-level=warning && cp "$package/keywrap.wasm" bundles
+    bundled beside.mjs beside.mjs --format=esm && cp "$package/keywrap.wasm" bundles &&
+        bundled inside.mjs inside.js --format=iife --loader:.wasm=binary &&
+        bundled alone.mjs alone/bundle.js --format=iife 2>warned && diff /dev/null warned
 }
+row 'what a bundler looks for' grep -qF "new URL('./keywrap.wasm', import.meta.url)" "$package/keywrap.js"
 built=
 if needs 'bundles' esbuild; then
     row 'bundles by esbuild' bundles && built=$PWD/bundles
@@ -96,8 +102,9 @@ fi
 
 if needs 'the types of the package' tsc; then
     types=(tsc --noEmit --strict --target es2022 --module node16 --moduleResolution node16)
-    head='import { load, BadLength, KeyNotPlain, type Kind } from "keywrap";
-const k = await load(); const b = new Uint8Array();'
+    head='import { load, BadLength, KeyNotPlain, type Kind, type Keywrap } from "keywrap";
+import { load as loadInline } from "keywrap/inline";
+const k = await load(), inline: Keywrap = await loadInline(); const b = new Uint8Array();'
     echo "$head const kind: Kind | null = k.check(k.wrap(b, b), k.rewrap(b, b, b, { newPadded: true }));
 k.rewrap(b, b, b, { oldPadded: true, keepForm: false }); k.wrap(b, b, { iv: b }); k.unwrap(b, b, { iv: b });
 k.unwrapPadded(b, k.wrapPadded(b, b)); const text: string = k.version; const error: BadLength = new KeyNotPlain();

@@ -69,7 +69,7 @@ mkdir -p 'far/a tree' && ln -s ../keywrap far/link && ln -s ../../bin/rt 'far/a 
 echo '$(error this file is read)' >far/stops.mk
 : >notes
 find crates -name '*.rt' -exec touch {} +
-for way in far/link 'sh keywrap' "PATH='$tree':\$PATH && cd / && keywrap" \
+for way in far/link "PATH='$tree':\$PATH && cd / && keywrap" \
     "cd .. && CDPATH='$tree/far' 'a tree/keywrap'"; do
     verdict "$way" "$(eval "$way --version" 2>&1 | grep -vx 'child of [0-9]*, 1 words: --version'; cat notes)"
 done
@@ -85,6 +85,7 @@ done
 rebuilds './keywrap --version' "${steps[@]}" <<END_OF_CHANGES
 echo first >crates/block_pair/src/added.rt; append crates.txt
 append crates/block_pair/src/added.rt
+append WHAT
 append WHAT; append crates/keywrap/src/lib.rt
 fresh; at=block_pair event='echo other >>src/lib.rt' launch
 fresh; at='a tree' event='cd crates/keywrap; echo other >>src/lib.rt' make gate
@@ -110,6 +111,21 @@ append crates/aes_block/must-fail/edit
 END_OF_CHANGES
 fresh; (trap '' XFSZ; at=keywrap event='prlimit --fsize=999 --pid $launcher' ./keywrap >out 2>err)
 verdict 'a record that cannot be written: what is left' "$(left)"
+
+# Without a kit on the PATH, what one built is run. A program of the current directory is not.
+fresh; ./keywrap --version >/dev/null 2>&1
+row 'no kit on the PATH' env PATH=/usr/bin:/bin "$tree/keywrap" --version
+for shell in sh bash; do
+    : >notes
+    cp keywrap far/keywrap && $shell keywrap --version >out 2>err
+    status=$?
+    launched "$shell keywrap" 70 '' \
+        "keywrap: run it as ./keywrap: 'sh keywrap' would run a program of the current directory"
+    rm far/keywrap
+done
+# A kit that refuses an option of rattle.
+fresh; takes='--statements --antt-project --logic-built --backend' launch
+launched 'another kind of kit' 5 "child of $$, 0 words: "$'\n' "$starts" 'keywrap: lib --backend rattle' 'ends keywrap'
 
 # rt takes this lock while it works.
 fresh

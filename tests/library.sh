@@ -1,6 +1,6 @@
 #!/usr/bin/env bash
 # Builds the C library with both compilers of the toolchain, and calls it as users do: from C
-# through the header, from C++, Rust, Go, Java and Node, static and shared, before and after it is
+# through the header, from C++, Java and Node, static and shared, before and after it is
 # installed. A part without its tool is skipped, with a line that says what to install.
 #
 # usage: tests/library.sh        (KEYWRAP_ARCHIVES='PATH ..' tries archives that were built before)
@@ -26,7 +26,7 @@ done
 
 ### The header
 
-include=("-I$root/include" -I"$root/tests/reference")
+include=("-I$root/c/include" -I"$root/c/reference")
 strict=(-Wall -Wextra -pedantic -Werror)
 printf '#include <keywrap.h>\n' >header.c
 # in_each STANDARDS LANGUAGE COMPILER..: no compiler warns of the header.
@@ -133,7 +133,7 @@ texts() { echo "void f$((++callers))(void) { char text[$1]; keywrap_status_text(
 
 # header_names: the calls of the header that return a status are the table's.
 header_names() {
-    diff <(sed -n 's/^int32_t \(keywrap_[a-z_]*\)(const.*/\1/p' "$root/include/keywrap.h") \
+    diff <(sed -n 's/^int32_t \(keywrap_[a-z_]*\)(const.*/\1/p' "$root/c/include/keywrap.h") \
         <(printf '%s\n' "${calls[@]%% *}")
 }
 
@@ -175,7 +175,7 @@ fi
 ### The library, by each of the archives
 
 # The other AES is built once, and without the sanitizers.
-row 'the other AES: compiles' cc -std=c99 -O2 "${strict[@]}" -c "$root/tests/reference/one_table.c" -o one_table.o
+row 'the other AES: compiles' cc -std=c99 -O2 "${strict[@]}" -c "$root/c/reference/one_table.c" -o one_table.o
 checks=("$root"/tests/library/*.c one_table.o)
 
 # run_calls NAME OPTION..: the C program, linked with the library by these options, finds no fault.
@@ -239,7 +239,7 @@ if needs 'keywrap.pc' pkg-config; then
 fi
 rfc3394_41=1fa68b0a8112b447aef34bd8fb5a7b829d3e862371d2cfe5
 rfc3394_42=96778b25ae6ca435f92b5b97c050aed2468ab8a17ad84e5d
-runs_example 'the C example' $rfc3394_42 cc -std=c99 "${strict[@]}" "$root/examples/c/wrap.c" "${flags[@]}"
+runs_example 'the C example' $rfc3394_42 cc -std=c99 "${strict[@]}" "$root/c/examples/c/wrap.c" "${flags[@]}"
 row 'the C example names a refused value' writes 'reserved value: initial value is not 8 bytes' ./example
 # A library that accepts a damaged wrapped key.
 cat >accepts.c <<'END'
@@ -250,7 +250,7 @@ int32_t accepts(const uint8_t *kek, size_t kek_len, const uint8_t *text, size_t 
 }
 END
 row 'the C example over a wrong library: builds' eval 'cc -std=c99 -c accepts.c "${flags[@]}" && cc -std=c99 \
-    -Dkeywrap_unwrap=accepts "$root/examples/c/wrap.c" accepts.o "${flags[@]}" -o wrong'
+    -Dkeywrap_unwrap=accepts "$root/c/examples/c/wrap.c" accepts.o "${flags[@]}" -o wrong'
 row 'the C example over a wrong library' fails ./wrong
 
 # shellcheck disable=SC2086
@@ -260,41 +260,23 @@ for compiler in "${of_cpp[@]}"; do
         "$compiler" -std=c++11 "${strict[@]}" -I. "$installed/calls.cc" "${flags[@]}"
 done
 
-if needs 'the Rust example' rustc; then
-    rust=(rustc --edition 2021 -D warnings -L "native=$prefix/lib")
-    row 'the tests of the Rust module: build' "${rust[@]}" --test "$root/examples/rust/keywrap.rs" -A dead_code \
-        -o example
-    row 'the tests of the Rust module' writes '2 passed' ./example
-    runs_example 'the Rust example, shared' $rfc3394_41 "${rust[@]}" "$root/examples/rust/wrap.rs"
-fi
-if needs 'the Go example' go gcc pkg-config; then
-    row 'the Go example: builds' env GOFLAGS=-mod=mod GO111MODULE=off GOCACHE="$room/go" \
-        go build -o example "$root/examples/go/wrap.go" &&
-        row 'the Go example: runs' writes $rfc3394_41 ./example &&
-        row 'the Go example, padded' writes 'ForPasi <nil>' ./example
-fi
 jna=/usr/share/java/jna.jar
 if needs 'the Java example' javac jna.jar; then
     row 'the Java example' writes $rfc3394_41 java -Djava.io.tmpdir="$room" -Djna.library.path="$prefix/lib" -cp $jna \
-        "$root/examples/java/Wrap.java"
+        "$root/c/examples/java/Wrap.java"
 fi
 if needs 'the Node example' node node_api.h; then
     node_headers=$(dirname "$(command -v node)")/../include/node
     row 'the Node example: builds' cc -std=c11 -shared -fPIC "${strict[@]}" -I"$node_headers" \
-        "$root/examples/node/keywrap.c" "${flags[@]}" -o keywrap.node
-    row 'the Node example: runs' writes $rfc3394_41 node "$root/examples/node/wrap.js" keywrap.node
-fi
-if command -v rustc >/dev/null; then
-    rm "$prefix/lib/libkeywrap.so"
-    LD_LIBRARY_PATH='' runs_example 'the Rust example, static' $rfc3394_41 "${rust[@]}" "$root/examples/rust/wrap.rs"
-    ln -s libkeywrap.so.1 "$prefix/lib/libkeywrap.so"
+        "$root/c/examples/node/keywrap.c" "${flags[@]}" -o keywrap.node
+    row 'the Node example: runs' writes $rfc3394_41 node "$root/c/examples/node/wrap.js" keywrap.node
 fi
 
 ### By CMake, and in other directories
 
 # by_cmake LIBDIR [VERSION]: the example builds by the package file there, both ways, and runs.
 by_cmake() {
-    rm -rf by_cmake && cmake -S "$installed" -B by_cmake -Dasked="${2:-}" -Dexample="$root/examples/c/wrap.c" \
+    rm -rf by_cmake && cmake -S "$installed" -B by_cmake -Dasked="${2:-}" -Dexample="$root/c/examples/c/wrap.c" \
         -Dkeywrap_DIR="$1/cmake/keywrap" && cmake --build by_cmake && writes $rfc3394_42 by_cmake/static &&
         LD_LIBRARY_PATH=$1 writes $rfc3394_42 by_cmake/shared
 }
@@ -352,22 +334,8 @@ if [ "$(uname -m)" = x86_64 ] && needs 'old processors' qemu-x86_64; then
             ends 7 qemu-x86_64 -cpu 'qemu64,+ssse3,-sse4.1,-sse4.2,-popcnt' ./supported
         row "KEYWRAP_CPU_SUPPORTED by $compiler, with SSE4.1" "${with_sse41[@]}" ./supported
     done
-    cc "${include[@]}" "$root/examples/c/wrap.c" "$library/libkeywrap.a" -o example
+    cc "${include[@]}" "$root/c/examples/c/wrap.c" "$library/libkeywrap.a" -o example
     row 'the C example with SSE4.1' writes $rfc3394_42 "${with_sse41[@]}" ./example
-fi
-
-### The bench
-
-# as_installed: nettle may use the processor's AES instructions, libgcrypt is there, and each column is labelled.
-as_installed() {
-    NETTLE_FAT_VERBOSE=1 "$root/bench/wrap" "$library/libkeywrap.a" 0 >bench.log 2>&1 &&
-        grep -q '^libnettle: cpu features: .*aesni' bench.log &&
-        [ "$(awk '/^KEK/ { print $4, $5, $6, $7, $8, $9, $10 } /^AES by/ { print $3, $4, $5, $7, $8, $10, $12 }' \
-            bench.log | sort -u)" = 'keywrap portable portable_hw openssl nettle gcrypt C
-software software AES software AES AES software' ]
-}
-if needs 'the bench' "the processor's AES" '<nettle/aes.h>' '<gcrypt.h>' '<openssl/evp.h>'; then
-    row 'the bench times each library as it is installed' as_installed
 fi
 
 ### Under an agreed initial value, against the command

@@ -117,8 +117,8 @@ echo "apt-get: $*" >>"$tree/notes"
 END_OF_APT
 printf '#!/bin/sh\necho "${uid:-0}"\n' | install -m 755 /dev/stdin bin/id
 installs='apt-get: install -y --no-install-recommends --no-upgrade'
-cp scripts/sysroot.sh tmp/kept
-printf '#!/bin/sh\necho "sysroot: $*" >>"$tree/notes"\n' >scripts/sysroot.sh
+cp packaging/sysroot.sh tmp/kept
+printf '#!/bin/sh\necho "sysroot: $*" >>"$tree/notes"\n' >packaging/sysroot.sh
 unpacks='sysroot: '
 as_it_is=("${in_gate[@]:0:2}" "${archives[@]}" 'command: ' "library: $over")
 # The archives are built once.
@@ -140,7 +140,7 @@ sed -i '1a [ -n "${KEYWRAP_ALL:-}" ] || { echo "2 passed, 0 failed, 1 skipped"; 
 at='a tree' event=$ci does 'CI, where a test fails with packages' 2 '42 passed, 1 failed, 1 skipped' .ci/run -- \
     "${as_it_is[@]}" 'apt-get: update' "$installs one two" "$unpacks" "${all_rows[@]}"
 rm bin/id bin/apt-get
-cp tmp/kept scripts/sysroot.sh
+cp tmp/kept packaging/sysroot.sh
 
 ### What is made, and when again
 
@@ -173,7 +173,7 @@ echo wheel >"$6/keywrap-1.2.3.dev0-cp39-abi3-$(sed -n 's/^plat_name = //p' "$7/s
 END_OF_PYTHON
 printf '#!/bin/sh\nwhile [ "$1" != -o ]; do shift; done\necho wasm >"$2"\n' | install -m 755 /dev/stdin bin/wasm-opt
 cp bin/wasm-opt bin/wasm-dis
-export PYTHON=python CC=linker
+export PYTHON=bin/python CC=linker
 make='make -s LIBRARY=library DIST=packed DESTDIR=stage/ PREFIX=usr'
 linked=('keywrap_c: lib' 'ends keywrap_c' linked)
 rm -r crates/*/out
@@ -188,7 +188,7 @@ rebuilds "$make dist-command dist-library wheel && cat packed/*.tar.gz | tar -xz
 rebuilds "$make library" "${linked[@]}" <<END_OF_CHANGES
 append crates.txt
 append crates/keywrap_c/proofs/part/Answers.antt
-append include/keywrap.map
+append c/include/keywrap.map
 rm -r crates/block_pair/specs
 rm library/libkeywrap.a
 append crates/block_pair/src/lib.rt; at=keywrap_c event='echo other >>src/lib.rt' $make library
@@ -209,7 +209,7 @@ rm -r library && $make wheel >row.log 2>&1
 echo 'gone from the sources' >library/python/gone.py
 $make wheel >row.log 2>&1
 verdict 'the wheel has only the sources' "$(diff -r -x README.md library/python python |
-    grep -vE '^Only in library/python: (VERSION|keywrap.h|libkeywrap.a|setup.cfg)$')"
+    grep -vE '^Only in library/python: (VERSION|keywrap(_steps)?.h|libkeywrap.a|setup.cfg)$')"
 for prefix in '/opt/R&D' '/opt/a|b' '/opt/a\1b' '/opt/a/b'; do
     $make install-library PREFIX="$prefix"
     same "PREFIX='$prefix'" "prefix=$prefix" "$(head -n 1 "stage/$prefix/lib/pkgconfig/keywrap.pc")"
@@ -238,7 +238,7 @@ for goal in build test gate install install-command dist-command bench; do
     row "make $goal $arm" refused "make $goal: the program is only for x86-64" dist $goal $arm
 done
 row 'a directory of its own' grep -q " out/library-${arm#*=}/libkeywrap.a" <(make -s help $arm 2>/dev/null)
-row 'make wheel, without its Python' grep -q "scripts/sysroot.sh 'none' " \
+row 'make wheel, without its Python' grep -q "packaging/sysroot.sh 'none' " \
     <(eval "$for_arm wheel SYSROOT=none" 2>&1)
 
 ### All that is handed out
@@ -262,18 +262,16 @@ does 'make dist, again' 0 packed/SHA256SUMS $all dist --
 rm -r packed
 does 'make dist for one machine' 0 packed/SHA256SUMS $all dist $arm --
 row 'its files' of keywrap-library-1.2.3-dev-aarch64-linux.tar.gz ${wheel}_aarch64.whl keywrap-1.2.3-dev.cdx.json
-# keeps_sums COMMAND..: if this fails, the old checksums stay, whole, and nothing half written takes their place.
+# keeps_sums COMMAND..: fails, and the old checksums stay, whole.
 keeps_sums() {
-    local status
     cp packed/SHA256SUMS old.sums
-    printf '#!/bin/sh\n%s\nexit 1\n' "$1" | install -m 755 /dev/stdin "bin/$2"
-    "${@:3}"
-    status=$?
-    rm "bin/$2"
-    [ $status = 2 ] && cmp old.sums packed/SHA256SUMS
+    "$@"
+    [ $? = 2 ] && cmp old.sums packed/SHA256SUMS
 }
-row 'make dist, if sha256sum fails' keeps_sums 'echo half' sha256sum $all dist $arm
-row 'make dist, if a file is not packed' keeps_sums '' gzip $all dist $arm
+mkdir packed/list.new
+row 'make dist, if the lists cannot be written' keeps_sums $all dist $arm
+rmdir packed/list.new
+no_wheel=1 row 'make dist, if a file is not packed' keeps_sums $all dist $arm
 verdict 'make dist leaves nothing in the directory of temporary files' "$(ls "$TMPDIR")"
 # A missing tool is named before anything is built.
 fresh
@@ -282,7 +280,7 @@ while IFS=: read -r lacks says; do
     row "make dist $lacks: what to install" grep -q "$says" err
 done <<'END_OF_LACKS'
 CC=none:no none: apt-get install
-SYSROOT=none:scripts/sysroot.sh 'none'
+SYSROOT=none:packaging/sysroot.sh 'none'
 PYTHON=false:apt-get install python3
 END_OF_LACKS
 does 'make dist-sources, without wasm-opt' 2 '' $make dist-sources WASM_OPT=none --

@@ -20,7 +20,7 @@ options=$(echo "$options" | sort -u)
 
 ### The completions
 
-completions=$root/completions
+completions=$root/command/completions
 # words FILE: the options in a completion file. This needs no shell.
 words() { grep -v '^ *#' "$1" | grep -oE -e '--[a-z0-9-]+'; }
 same 'help and bash: the options of the file' "$(grep -e -- <<<"$options")" "$(words "$completions/keywrap.bash")"
@@ -31,7 +31,7 @@ same 'help and fish: the options of the file' "$(grep -e -- <<<"$options")" \
 # offers_SHELL LINE: what the shell offers after a line, in the directory `files`.
 offers_bash() (
     cd files || exit
-    # shellcheck source=completions/keywrap.bash
+    # shellcheck source=command/completions/keywrap.bash
     . "$completions/keywrap.bash"
     complete -p keywrap >/dev/null || exit
     # shellcheck disable=SC2034
@@ -146,8 +146,7 @@ made() {
 }
 documents='644 share/doc/keywrap/CHANGELOG.md
 644 share/doc/keywrap/RECIPES.md
-644 share/doc/keywrap/SECURITY.md
-644 share/doc/keywrap/rotation/kubernetes_secret.py'
+644 share/doc/keywrap/SECURITY.md'
 command_files='755 bin/keywrap
 644 share/bash-completion/completions/keywrap
 644 share/doc/keywrap/README
@@ -165,7 +164,7 @@ stage="$room/stage to"
 row 'make install-command, with a umask' eval 'umask 077; made install-command DESTDIR="$stage" PREFIX=/opt; umask 022'
 same 'what make install-command installs' "$command_files"$'\n644 share/man/man1/other.1' "$(files_of "$stage/opt")"
 row 'the installed program is the program' cmp "$program" "$stage/opt/bin/keywrap"
-row 'the installed page is the page' cmp "$root/man/keywrap.1" "$stage/opt/share/man/man1/keywrap.1"
+row 'the installed page is the page' cmp "$root/command/man/keywrap.1" "$stage/opt/share/man/man1/keywrap.1"
 row 'make uninstall-command' made uninstall-command DESTDIR="$stage" PREFIX=/opt
 same 'make uninstall-command leaves the files of others' '644 opt/share/man/man1/other.1' "$(files_of "$stage")"
 if needs 'make install with the C library' cc; then
@@ -181,7 +180,7 @@ if needs 'make install with the C library' cc; then
     row 'make install installs the C library' test -e "$stage/usr/lib/libkeywrap.so"
     row 'make uninstall-command' made uninstall-command DESTDIR="$stage" PREFIX=/usr
     same 'it leaves the documents, which the library has, too' "$documents" \
-        "$(files_of "$stage/usr" | grep -E '/(CHANGELOG|RECIPES|SECURITY).md$|/rotation/')"
+        "$(files_of "$stage/usr" | grep -E '/(CHANGELOG|RECIPES|SECURITY).md$')"
     row 'make uninstall' made uninstall DESTDIR="$stage" PREFIX=/usr
     same 'make uninstall leaves nothing' '' "$(files_of "$stage/usr")"
 fi

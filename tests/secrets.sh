@@ -19,7 +19,7 @@ longest=${1:-$longest}
 needs 'what depends on secrets' "$cc" || { finish; exit; }
 row 'make library' in_library library || { finish; exit; }
 archive=$library/libkeywrap.a
-options=(-std=c99 -O1 -g -Wall -Wextra -pedantic -Werror "-I$root/include" "-I$root/tests/reference")
+options=(-std=c99 -O1 -g -Wall -Wextra -pedantic -Werror "-I$root/c/include" "-I$root/c/reference")
 
 ### Copies on the stack
 
@@ -46,7 +46,7 @@ row 'the stack: the copies of half a secret' leaves 7 0 0
 
 { [ -x "${memcheck[-1]}" ] || needs 'memcheck' valgrind; } && needs 'memcheck' '<valgrind/memcheck.h>' ||
     { finish; exit; }
-row 'compiles' "$cc" "${options[@]}" "$root/tests/secrets/secrets.c" "$root/tests/reference/one_table.c" "$archive" \
+row 'compiles' "$cc" "${options[@]}" "$root/tests/secrets/secrets.c" "$root/c/reference/one_table.c" "$archive" \
     -o secrets
 
 # reports FILE LENGTHS OPTION..: runs the calls, and writes a line for each with its reports. No report is taken for one

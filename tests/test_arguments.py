@@ -14,7 +14,7 @@ from program import Ended, refused, words
 from vectors import IV, RESERVED_IV
 
 ROOT = pathlib.Path(__file__).resolve().parent.parent
-PAGE = (ROOT / "man/keywrap.1").read_text()
+PAGE = (ROOT / "command/man/keywrap.1").read_text()
 USAGE = {"": "<COMMAND>", "wrap": "wrap [OPTIONS] --kek <FILE> < KEY > WRAPPED",
          "unwrap": "unwrap [OPTIONS] --kek <FILE> < WRAPPED > KEY",
          "rewrap": "rewrap [OPTIONS] --kek <FILE> --new-kek <FILE> < WRAPPED > NEW",
@@ -150,7 +150,8 @@ class TestHelp:
     def test_statuses_and_limits_of_the_page(self, keywrap):
         """Also the flags in the advice of status 3."""
         text, page = help_of(keywrap), section("EXIT STATUS")
-        assert re.findall(r"(?m)^  (\d+)  ", text) == re.findall(r"(?m)^\.It (\d+)$", page) == list("0234567")
+        statuses = re.findall(r"u8 = (\d+);", (ROOT / "crates/keywrap_cli/src/statuses.rt").read_text())
+        assert re.findall(r"(?m)^  (\d+)  ", text) == re.findall(r"(?m)^\.It (\d+)$", page) == statuses
         for status, phrase in {
                 0: "done", 2: "the command line", 3: "16, 24 or 32 bytes", 5: "the integrity check failed",
                 4: "the key or the wrapped key has no legal length in this form", 7: "out of memory",
@@ -158,8 +159,7 @@ class TestHelp:
             assert re.search(rf"(?im)^  {status}  .*{phrase}", text)
             assert re.search(rf"(?im)^\.It {status}\n.*{phrase}", page)
         flags, advice = {"--raw-kek", "--base64-kek"}, re.search(r"(?ms)^  3  .*?^  4  ", text)[0]
-        row = re.search(r"(?m)^\| 3 \|.*", (ROOT / "README.md").read_text())[0]
-        assert [set(re.findall("--[a-z0-9-]+", text)) for text in (advice, row)] == [flags, flags]
+        assert set(re.findall("--[a-z0-9-]+", advice)) == flags
         assert options_in(re.search(r"(?ms)^\.It 3\n.*?^\.It 4$", PAGE)[0]) == flags | {"--new-kek"}
         one_line = PAGE.replace("\n", " ")
         assert re.findall(r"\d+ to \d{7}|at most \d+", one_line) == [
@@ -167,14 +167,15 @@ class TestHelp:
         assert re.search("32, 48 or 64 hex digits; .* 22, 32 or 43 characters and", one_line)
 
     def test_messages_of_the_page(self):
-        """The messages that the page quotes end a text in the sources of the program. N is a number there."""
+        """The messages that the page quotes end a text in the sources of the program. N and L are numbers there."""
         sources = "\n".join(path.read_text() for name in ("key_files", "keywrap_cli", "keywrap_io", "keywrap")
                             for path in (ROOT / "crates" / name / "src").glob("*.rt"))
         first = "no |bad |cannot |too |odd |base64 |length |last |refused |output: "
         quoted = re.findall(rf"(?m)^\.(?:It |Pq )?Ql ((?:{first}).*?)[ .,:]*$", PAGE)
         quoted += re.findall("(?m)^(keywrap: (?:output|the new|the KEK).*)", PAGE)
-        assert len(quoted) == 21
-        assert [text for text in quoted if not f'{text}"' in re.sub(r"\{\w+\}", "N", sources)] == []
+        assert len(quoted) == 22
+        sources = re.sub(r"\{\w+\}", "N", sources)
+        assert [text for text in quoted if f'{re.sub(" L$", " N", text)}"' not in sources] == []
 
     @pytest.mark.parametrize("source, pattern, phrases", [
         ("keywrap_io/src/output_file.rt", r"\.mode\(0o(\d+)\)", ["and keeps mode 0{}"]),
@@ -189,7 +190,8 @@ class TestHelp:
     @pytest.mark.needs("mandoc")
     def test_form_of_the_page(self):
         """The pages that it refers to need not be installed on this machine."""
-        found = subprocess.run(["mandoc", "-T", "lint", ROOT / "man/keywrap.1"], capture_output=True, text=True).stdout
+        command = ["mandoc", "-T", "lint", ROOT / "command/man/keywrap.1"]
+        found = subprocess.run(command, capture_output=True, text=True).stdout
         elsewhere = r"mandoc\.db|referenced manual not found"
         assert [line for line in found.splitlines() if not re.search(elsewhere, line)] == []
 

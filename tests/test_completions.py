@@ -7,7 +7,7 @@ import shlex
 
 import pytest
 
-COMPLETIONS = pathlib.Path(__file__).resolve().parent.parent / "completions"
+COMPLETIONS = pathlib.Path(__file__).resolve().parent.parent / "command/completions"
 
 
 def of_zsh():

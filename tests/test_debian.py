@@ -1,6 +1,7 @@
 """Debian's packages: how they are built, and that they work as installed, in a copy of this machine's root
 directory. test_handed_out.py compares their files and fields."""
 
+import gzip
 import os
 import pathlib
 import re
@@ -10,6 +11,7 @@ import pytest
 
 from builds import ROOT, package_of, run
 from program import slow
+from test_recipes import typed_and_shown
 
 PACKAGES = ["keywrap", "keywrap-openssl-provider", "libkeywrap-dev", "libkeywrap1", "python3-keywrap"]
 
@@ -20,7 +22,7 @@ def test_packages(debs):
 
 def test_hardened_build(debs):
     """The provider is compiled with Debian's flags, of which -z now is only there with hardening=+all."""
-    line, = re.findall(r"^cc .* provider/\*\.c", (debs / "log").read_text(), re.M)
+    line, = re.findall(r"^cc .* c/provider/\*\.c", (debs / "log").read_text(), re.M)
     assert {"-fstack-protector-strong", "-D_FORTIFY_SOURCE=2", "-Wl,-z,relro", "-Wl,-z,now"} <= {*line.split()}
 
 
@@ -39,34 +41,21 @@ def test_lintian(debs):
         f"E: {name}: no-copyright-file" for name in PACKAGES}
 
 
-# In the root directory: what README shows, the provider, the Python package, the C library.
-INSIDE = r"""
-cd /tmp
-export PATH=/usr/sbin:/usr/bin:/sbin:/bin
-sh -e example >found
-openssl list -providers -provider keywrap | grep -F 'keywrap: AES Key Wrap, proved' >>log
-python3 -c 'import keywrap; print(keywrap.wrap(bytes(range(16)), bytes(range(0, 256, 17))).hex())' >>found
-cc /usr/share/doc/libkeywrap-dev/examples/c/wrap.c $(pkg-config --cflags --libs keywrap) -o wrap
-./wrap | grep '^wrap: done: ' >>found
-python3 -m keywrap.rotate --version | grep '^keywrap.rotate 1' >>log
-"""
 # A root directory that shows this machine's, and keeps what is written in over/upper.
 IN_ROOT = ("mount -t tmpfs none over && mkdir over/upper over/work && mount -t overlay overlay "
            "-o lowerdir=/,upperdir=over/upper,workdir=over/work merged && ")
 
 
-@pytest.mark.needs("root", "overlay of the root directory", "cc", "openssl", "pkg-config")
-def test_installed_in_use_and_removed(debs):
-    for name in "over", "merged":
+def in_root(debs, script, **files):
+    """Installs the packages, runs the script in the directory /tmp with these files, and removes the packages. Returns
+    the lines of /tmp/found, and the files that are left."""
+    for name in "over", "merged", "files":
         os.mkdir(name)
-    example = re.search(r"^    \$ \(umask.*?^$", (ROOT / "README.md").read_text(), re.M | re.S)[0]
-    lines = [line.removeprefix("    ") for line in example.splitlines()]
-    typed = [line[2:].replace("./keywrap", "keywrap") for line in lines if line.startswith("$ ")]
-    pathlib.Path("example").write_text("\n".join(typed) + "\n")
-    pathlib.Path("inside").write_text(INSIDE)
+    for name, text in {**files, "inside": f"cd /tmp\nexport PATH=/usr/sbin:/usr/bin:/sbin:/bin\n{script}"}.items():
+        pathlib.Path("files", name).write_text(text)
     script = f"""
         dpkg --root="$PWD/merged" -i {debs}/*_amd64.deb
-        mount -t tmpfs none merged/tmp && cp inside example merged/tmp
+        mount -t tmpfs none merged/tmp && cp files/* merged/tmp
         mount --rbind /proc merged/proc && mount --rbind /dev merged/dev
         chroot merged bash -eu /tmp/inside && cp merged/tmp/found found
         dpkg --root="$PWD/merged" -P {" ".join(PACKAGES)}
@@ -74,10 +63,57 @@ def test_installed_in_use_and_removed(debs):
     ended = subprocess.run(["unshare", "-m", "bash", "-euc", IN_ROOT + script], stdin=subprocess.DEVNULL,
                            capture_output=True, text=True, timeout=240)
     assert ended.returncode == 0, ended.stdout[-1500:] + ended.stderr[-1500:]
+    return pathlib.Path("found").read_text().splitlines(), pathlib.Path("left").read_text()
+
+
+@pytest.mark.needs("root", "overlay of the root directory", "cc", "openssl", "pkg-config")
+def test_installed_in_use_and_removed(debs):
+    """What README shows, the provider, the Python package, the C library."""
+    example = re.search(r"^    \$ \(umask.*?^$", (ROOT / "README.md").read_text(), re.M | re.S)[0]
+    lines = [line.removeprefix("    ") for line in example.splitlines()]
+    typed = [line[2:].replace("./keywrap", "keywrap") for line in lines if line.startswith("$ ")]
+    found, left = in_root(debs, r"""
+sh -e example >found
+openssl list -providers -provider keywrap | grep -F 'keywrap: AES Key Wrap, proved' >>log
+python3 -c 'import keywrap; print(keywrap.wrap(bytes(range(16)), bytes(range(0, 256, 17))).hex())' >>found
+cc /usr/share/doc/libkeywrap-dev/examples/c/wrap.c $(pkg-config --cflags --libs keywrap) -o wrap
+./wrap | grep '^wrap: done: ' >>found
+python3 -m keywrap.rotate --version | grep '^keywrap.rotate 1' >>log
+""", example="\n".join(typed) + "\n")
     answers = [line for line in lines if line and not line.startswith("$ ")]
     assert len(answers) == 2
     # RFC 3394, 4.1 by Python and 4.2 by C.
-    assert pathlib.Path("found").read_text().splitlines() == [
-        *answers, "1fa68b0a8112b447aef34bd8fb5a7b829d3e862371d2cfe5",
-        "wrap: done: 96778b25ae6ca435f92b5b97c050aed2468ab8a17ad84e5d"]
-    assert pathlib.Path("left").read_text() == ""
+    assert found == [*answers, "1fa68b0a8112b447aef34bd8fb5a7b829d3e862371d2cfe5",
+                     "wrap: done: 96778b25ae6ca435f92b5b97c050aed2468ab8a17ad84e5d"]
+    assert left == ""
+
+
+@slow
+@pytest.mark.parametrize("package, name", [
+    ("keywrap", "Before you trust a file"), ("libkeywrap-dev", "A KEK that never leaves a token")])
+@pytest.mark.needs("root", "overlay of the root directory", "cc", "openssl", "pkg-config", "softhsm2-util",
+                   "pkcs11.h of p11-kit")
+def test_recipe_of_a_package(debs, thing, package, name):
+    """The lines of an installed RECIPES.md run with what is installed."""
+    page, = (thing(f"deb {package}") / "usr/share/doc" / package).glob("RECIPES.md*")
+    text = gzip.decompress(page.read_bytes()).decode() if page.suffix == ".gz" else page.read_text()
+    typed, shown = typed_and_shown(re.search(rf"^## {name}$(.*?)^## ", text, re.M | re.S)[1])
+    assert typed and shown
+    examples = "/usr/share/doc/libkeywrap-dev/examples"
+    script = f"mkdir here && cd here && EXAMPLES={examples} bash -u ../recipe >../found 2>&1"
+    assert in_root(debs, script, recipe=typed)[0] == shown.splitlines()
+
+
+@pytest.mark.needs("root", "overlay of the root directory", "zsh")
+def test_zsh_finds_its_completion(debs):
+    script = "zsh -fc 'autoload -U compinit && compinit -D -u && print -r -- $_comps[keywrap]' >found"
+    assert in_root(debs, script)[0] == ["_keywrap"]
+
+
+def test_symbols(debs):
+    """A package that uses libkeywrap1 depends on the version that has its calls."""
+    symbols = run("dpkg-deb", "-I", package_of(debs, "libkeywrap1"), "symbols").splitlines()
+    since = dict(re.findall(r"^ (keywrap_\w+)@\w+\S* (.*)$", "\n".join(symbols), re.M))
+    assert symbols[0].startswith("libkeywrap.so.1 libkeywrap1 ")
+    assert since["keywrap_wrap"] == "1.0.0" and since["keywrap_rewrap_many"].startswith("1.1.0~")
+    assert since.keys() == {*re.findall(r"(keywrap_\w+);", (ROOT / "c/include/keywrap.map").read_text())}

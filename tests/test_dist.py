@@ -11,7 +11,7 @@ import subprocess
 
 import pytest
 
-from builds import MACHINE, NAMES, ROOT, copied_tree, run
+from builds import MACHINE, NAMES, ROOT, alone, copied_tree, run
 from program import slow
 from vectors import KEY16, WRAPPED24
 
@@ -186,7 +186,7 @@ def test_readme_builds_the_provider(thing):
 @pytest.mark.needs("cc", "cmake")
 def test_cmake(thing):
     """The target is shared, and the other one static."""
-    room, example = os.getcwd(), ROOT / "examples/c/wrap.c"
+    room, example = os.getcwd(), ROOT / "c/examples/c/wrap.c"
     run("cmake", "-S", ROOT / "tests/library/installed", "-B", "built", "-Dasked=", f"-Dexample={example}",
         f"-Dkeywrap_DIR={thing('archive of library')}/lib/cmake/keywrap")
     run("cmake", "--build", "built")
@@ -244,17 +244,24 @@ class TestNpm:
     def test_readme_links_to_no_file(self, thing):
         assert not re.search(r"\]\((\.\.|[a-z_]*/)", (thing("npm") / "README.md").read_text())
 
-    @pytest.mark.needs("npm")
+    @pytest.mark.needs("npm", "no network")
     def test_packed_and_installed_by_npm(self, thing, dist):
-        """npm packs the same files, and installs the archive by the README's line."""
+        """npm packs the same files, and installs the archive by the README's line. A program then imports it."""
         env = {**os.environ, "npm_config_cache": f"{os.getcwd()}/npm", "npm_config_update_notifier": "false"}
         pathlib.Path("by_npm").mkdir()
         run("make", "-s", "-C", ROOT, "js", f"JS={os.getcwd()}/js")
         run("npm", "pack", "--silent", "--offline", "--pack-destination", "by_npm", "./js", env=env)
         run("tar", "-C", "by_npm", "-xzf", f"by_npm/keywrap-{VERSION}.tgz")
         run("diff", "-r", thing("npm"), "by_npm/package")
-        line, = re.findall("^    npm install (.*)", (thing("npm") / "README.md").read_text(), re.M)
+        lines = re.findall("^    npm install .*", (thing("npm") / "README.md").read_text(), re.M)
+        assert len(lines) == 1
         pathlib.Path("a_program").mkdir()
         shutil.copy(dist / f"keywrap-{VERSION}.tgz", "a_program")
-        run("bash", "-ec", f"npm install --offline --silent {line}", cwd="a_program", env=env)
+        pathlib.Path("a_program/use.mjs").write_text("""
+            for (const name of ['keywrap', 'keywrap/inline']) {
+                const { load } = await import(name);
+                console.log((await load()).wrap(new Uint8Array(32), new Uint8Array(16)).at(-1));
+            }""")
+        said = run(*alone([*lines, "node use.mjs"], HOME=os.getcwd()), cwd="a_program")
+        assert said.endswith("\n215\n215\n")
         run("diff", "-r", thing("npm"), "a_program/node_modules/keywrap")

@@ -12,8 +12,8 @@ import pytest
 ROOT = pathlib.Path(__file__).resolve().parent.parent
 DOCUMENTS = [path.relative_to(ROOT) for path in [
     *sorted(ROOT.glob("*.md")), *sorted(ROOT.glob("docs/*.md")), ROOT / "python/README.md", ROOT / "js/README.md",
-    ROOT / "java/README.md"]]
-DIRECTORIES = (r"\.ci|bench|completions|crates|docs|examples|include|java|man|provider|python|scripts|specs|src|tests"
+    ROOT / "java/README.md", ROOT / "dist/GO.md", ROOT / "dist/RUST.md"]]
+DIRECTORIES = (r"\.ci|bench|c|command|crates|dist|docs|java|js|packaging|python|scripts|specs|src|tests"
                "|[a-z0-9_]+/(?:specs|src|proofs)")
 
 def text_of(document):
@@ -23,7 +23,8 @@ def text_of(document):
 @pytest.mark.parametrize("document", DOCUMENTS, ids=str)
 class TestEachDocument:
     def test_links(self, document):
-        for target in re.findall(r"\]\(([^)]*)\)", text_of(document).replace("\n", " ")):
+        text = text_of(document).replace("\n", " ")
+        for target in re.findall(r"\]\(([^)]*)\)", text) + re.findall(r'<img src="([^"]*)"', text):
             if not re.match("https?:", target):
                 name, _, anchor = target.partition("#")
                 file = document.parent / name if name else document
@@ -54,11 +55,32 @@ class TestEachDocument:
 @pytest.mark.needs("git")
 def test_width():
     """No line outside crates/ and python/ has more than 120 columns, but for data and what a script writes."""
-    data = [":!crates", ":!python", ":!completions", ":!crates.txt", ":!*.csv", ":!*.svg", ":!tests/launcher.txt",
-            ":!dist/keywrap.c"]
+    data = [":!crates", ":!python", ":!command/completions", ":!crates.txt", ":!*.csv", ":!*.svg",
+            ":!tests/launcher.txt", ":!dist/keywrap.c"]
     search = ["git", "-C", ROOT, "grep", "-I", "--count", "-E", ".{121}", "--", "."]
     assert "crates.txt:1\n" in subprocess.run(search, capture_output=True, text=True).stdout
     assert subprocess.run([*search, *data], capture_output=True, text=True).stdout == ""
+
+
+def test_width_of_rattle():
+    """Without imports and attributes, which `rt fmt` leaves on one line."""
+    for pattern, most in ("src/**/*.rt", 110), ("specs/**/*.antt", 190):
+        wide = [f"{path.relative_to(ROOT)}:{number}" for path in ROOT.glob(f"crates/*/{pattern}")
+                for number, line in enumerate(path.read_text().splitlines(), 1)
+                if len(line) > most and not re.match(r" *((ghost |pub )?use |#!?\[)", line)]
+        assert wide == []
+
+
+def test_map():
+    """docs/ARCHITECTURE.md has a line for each directory and file at the top, except documents, and for each directory
+    of c/. At the top are at most 14 directories."""
+    table = re.search("^At the top:\n\n(.*?)\n\n", text_of("docs/ARCHITECTURE.md"), re.M | re.S)[1]
+    named = [line.split()[0] for line in table.splitlines()]
+    tracked = subprocess.run(["git", "-C", ROOT, "ls-files"], capture_output=True, text=True).stdout.splitlines()
+    paths = {name.split("/")[0] for name in tracked} | {"/".join(name.split("/")[:2]) for name in tracked
+                                                        if name.startswith("c/")}
+    assert sorted(named) == sorted(path for path in paths - {"c"} if not re.search(r"\.md$|^\.git", path))
+    assert len({name.split("/")[0] for name in tracked if "/" in name}) <= 14
 
 
 class TestRepeatedFacts:
@@ -67,24 +89,37 @@ class TestRepeatedFacts:
         assert "No licence has been given yet: the owner decides." in " ".join(text_of("README.md").split())
         tracked = subprocess.run(["git", "-C", ROOT, "ls-files"], capture_output=True, text=True).stdout.splitlines()
         assert [name for name in tracked if re.match(r"(?i)licen[cs]e|copying|copyright$", name.split("/")[-1])] == []
-        for name in "python/pyproject.toml", "python/setup.py", "js/package.json.in":
+        for name in "python/pyproject.toml", "python/setup.py", "js/package.json.in", "dist/Cargo.toml":
             assert not re.search(r'(?im)^ *"?licen[cs]e|License ::', text_of(name)), name
 
-    @pytest.mark.parametrize("script", ["facts.py", "pictures.py", "trust.py"])
+    @pytest.mark.parametrize("script", ["facts.py", "plots.py", "trust.py"])
     def test_what_scripts_make(self, script):
-        """The completions, the pictures and the map of the crates, and the definitions that a reader has to read."""
+        """The completions and the map of the crates, the plots, and the definitions that a reader has to read."""
         ended = subprocess.run([ROOT / "scripts" / script, "--check"], capture_output=True, text=True)
         assert (ended.returncode, ended.stdout) == (0, "")
 
     @pytest.mark.parametrize("script, made", [
-        ("facts.py", "completions/keywrap.fish"), ("pictures.py", "docs/pictures/layers.svg")])
-    def test_stale_file(self, script, made, tmp_path):
-        """The same check fails over a copy of the tree with another byte in what the script makes."""
+        ("facts.py", ["command/completions/keywrap.bash", "command/completions/_keywrap",
+                      "command/completions/keywrap.fish", "docs/ARCHITECTURE.md"]),
+        ("plots.py", [f"docs/pictures/{name}.svg" for name in ("wrap", "many", "lines", "provider", "js", "rotation")]),
+        ("trust.py", ["docs/TRUST.md"])])
+    def test_stale_files(self, script, made, tmp_path):
+        """The same check names each file that the script makes, over a copy of the tree with another word in it."""
         tree = shutil.copytree(ROOT, tmp_path / "tree", ignore=shutil.ignore_patterns("out", ".git", "foreign"))
-        with open(tree / made, "a") as file:
-            file.write("\n")
+        for path in (tree / name for name in made):
+            path.write_text(path.read_text().replace("keywrap", "other"))
         ended = subprocess.run([tree / "scripts" / script, "--check"], capture_output=True, text=True)
-        assert ended.returncode == 1 and f"{made}: stale" in ended.stdout
+        assert (ended.returncode, re.findall("^(.*): stale", ended.stdout, re.M)) == (1, made)
+
+    def test_width_of_pictures(self):
+        """Each picture of a page has the width that it is drawn for, so that no page enlarges it."""
+        found = [element for page in DOCUMENTS for element in re.findall(r"<img [^>]*>|!\[[^>)]*\.svg", text_of(page))]
+        assert len(found) > 6
+        assert [element for element in found if not re.fullmatch(
+            r'<img src="(docs/)?pictures/[a-z]+\.svg" width="480" alt="[^"]+">', element)] == []
+        for picture in ROOT.glob("docs/pictures/*.svg"):
+            head = r'<svg [^>]*\bwidth="480" height="(\d+)" viewBox="0 0 480 \1"'
+            assert re.search(head, picture.read_text()), picture
 
     def test_texts_of_pictures(self):
         """Texts end inside their picture, in the width of DejaVu Sans, which is wider than most."""
@@ -106,27 +141,28 @@ class TestRepeatedFacts:
         assert int(re.search(r"(\d+) in all", counts)[1]) <= 2, counts
 
     def test_version(self, keywrap):
-        """VERSION is repeated by the program, one place in its sources, the header, debian/changelog and the newest
-        changes, and by nothing else."""
+        """VERSION is repeated by the program, one place in its sources, the header, the Rust crate, Debian's changelog
+        and the newest changes, and by nothing else."""
         version = text_of("VERSION").strip()
         number, dev = re.fullmatch(r"(\d+\.\d+\.\d+)(?:-(dev))?", version).groups("")
-        sources, header = "crates/keywrap_args/src/subcommands.rt", text_of("include/keywrap.h")
+        sources, header = "crates/keywrap_args/src/subcommands.rt", text_of("c/include/keywrap.h")
         assert keywrap("--version").stdout == f"keywrap {version}\n"
         assert re.findall(r'\.version\("(.*?)"\)', text_of(sources)) == [version]
         assert ".".join(re.findall(r"^#define KEYWRAP_VERSION_[A-Z]* (\d+)$", header, re.M)) == number
         assert "".join(re.findall('^#define KEYWRAP_PRERELEASE "(.*)" ', header, re.M)) == dev
         assert re.search("^## (.*)$", text_of("CHANGELOG.md"), re.M)[1] == version
+        assert re.search('^version = "(.*)"$', text_of("dist/Cargo.toml"), re.M)[1] == version
         changes = f"keywrap ({version.replace('-', '~')}) unstable; urgency=medium\n"
-        assert text_of("debian/changelog").startswith(changes)
+        assert text_of("packaging/debian/changelog").startswith(changes)
         search = ["grep", "-rlIF", "--exclude-dir=out", "-e", version, "-e", version.replace("-dev", ".dev0")]
-        search += "keywrap Makefile man completions scripts python js".split()
+        search += "keywrap Makefile command packaging scripts python js".split()
         search += [f"crates/{name}" for name in ("keywrap", "keywrap_cli", "keywrap_args")]
         assert subprocess.run(search, cwd=ROOT, stdout=subprocess.PIPE, text=True).stdout == f"{sources}\n"
 
     def test_first_screen(self):
         """README is short, and its first paragraph has what decides for a visitor."""
         page = text_of("README.md")
-        assert len(page.split()) <= 1200
+        assert len(re.sub('<img src=.* alt="(.*)">', r"\1", page).split()) <= 1200
         first = " ".join(page.split("\n\n")[1].split())
         assert re.search("^`keywrap` encrypts .* licence .* No version has been released.* the kit of Rattle ", first)
         for answer in ("not even 1.0.0", "not a validated FIPS 140 module", "aarch64, tested under qemu only",
@@ -135,11 +171,15 @@ class TestRepeatedFacts:
             assert answer in " ".join(page.split())
 
     def test_times(self):
-        """The time of the first build is the launcher's, and `make test` takes the same in both documents."""
+        """The time of the first build is the launcher's, and `make test` takes the same in both documents and in the
+        help of make, which has the time of each goal that takes some."""
         readme, gate = text_of("README.md"), text_of("docs/ARCHITECTURE.md").rpartition("## What the gate takes")[2]
         build, = re.findall("# first proves and builds the program: (.* minutes)", readme)
         tests, = re.findall(r"make test +# (\d+) minutes", readme)
         assert f"program, {build} the first time" in text_of("keywrap")
+        goals = text_of("Makefile")
+        assert re.search(rf"^make build  .* \({build}\)$", goals, re.M)
+        assert re.search(rf"^make test  .* \({tests} minutes\);", goals, re.M)
         assert f"the first `./keywrap` {build}, " in gate and f"`make test` {tests}." in gate
 
     @pytest.mark.needs("rt")
@@ -153,9 +193,9 @@ class TestRepeatedFacts:
         assert subprocess.run(search, capture_output=True, text=True).stdout == "README.md\ndist/keywrap.c\n"
 
     def test_calls_since_1_1(self):
-        """The header, its page and the changes have the calls of include/keywrap.map's second version."""
-        header, changes = text_of("include/keywrap.h"), text_of("CHANGELOG.md").partition("Added:")[2]
-        second = re.search(r"KEYWRAP_1.1 \{(.*?)\}", text_of("include/keywrap.map"), re.S)[1]
+        """The header, its page and the changes have the calls of keywrap.map's second version."""
+        header, changes = text_of("c/include/keywrap.h"), text_of("CHANGELOG.md").partition("Added:")[2]
+        second = re.search(r"KEYWRAP_1.1 \{(.*?)\}", text_of("c/include/keywrap.map"), re.S)[1]
         new = {call for call in re.findall(r"(keywrap_\w+);", second) if re.search(rf"\b{call}\(", header)}
         assert len(new) >= 4
         blocks = [block for block in header.split("\n/* ") if re.search("version 1\\.1[.:]", block.replace("\n *", ""))]
@@ -166,9 +206,9 @@ class TestRepeatedFacts:
         assert set(re.findall(r"`(keywrap_[a-z_]+)`", listed)) == new
 
     @pytest.mark.parametrize("words, elsewhere", [
-        ("reserved for the padded form", "python/src/keywrap/_refusals.py js/keywrap.js provider/errors.c"),
-        ("16, 24 or 32", "python/src/keywrap/_refusals.py js/keywrap.js"),
-        *[(words, "js/keywrap.js provider/errors.c") for words in ("bad length", "integrity check failed")]])
+        ("reserved for the padded form", "python/src/keywrap/_refusals.py js/calls.js c/provider/errors.c"),
+        ("16, 24 or 32", "python/src/keywrap/_refusals.py js/calls.js"),
+        *[(words, "js/calls.js c/provider/errors.c") for words in ("bad length", "integrity check failed")]])
     def test_words_of_a_refusal(self, words, elsewhere):
         """The words are the same in every language. A cipher of OpenSSL has one length of KEK, and Python gets other
         messages from the library."""

@@ -27,16 +27,15 @@ def numbers_of(text):
 
 class TestMeasured:
     def test_keys_of_the_pictures(self):
-        """README has the length of the keys in the recorded rotation, and of those that bench/lines times. Their rates
-        differ as the block calls do."""
+        """README has the length of the keys in the recorded rotation, and of those in docs/pictures/lines.csv. Their
+        rates differ as the block calls do."""
         readme = words_of("README.md")
-        wrapped, = re.findall('WRAPPED = "([0-9A-F]+)"', text_of("scripts/record_rotation.py"))
-        length, = re.findall(r"random \$\(\((\d+) \* lines\)\) >keys", text_of("bench/lines"))
-        recorded = len(wrapped) // 2 - 8
-        assert f"keys of {recorded} bytes](docs/pictures/rotation.svg)" in readme
+        recorded = int(text_of("docs/pictures/rotation.txt").split()[1])
+        length, = {row[2] for row in measured("lines")[1:]}
+        assert f'rotation.svg" width="480" alt="A terminal that rotates a million keys of {recorded} bytes"' in readme
         assert f"keys of {length} bytes per second with `--lines`](docs/pictures/lines.svg)" in readme
         rate = int(re.search(r"during: .* (\d+) a second", text_of("docs/pictures/rotation.txt"))[1])
-        lines, = [int(row[2]) for row in measured("lines") if row[:2] == ["keywrap --lines", "rewrap"]]
+        lines, = [int(row[3]) for row in measured("lines") if row[:2] == ["keywrap --lines", "rewrap"]]
         assert 0.75 < rate * recorded / (lines * int(length)) < 1.33
 
     def test_times_of_the_libraries(self):
@@ -121,10 +120,10 @@ class TestSources:
         """The longest key, the longest wrapped key and the longest file: of the crates, the header and each page."""
         longest, = numbers_of(re.search("MAX_KEY: usize = (.*);", text_of("crates/key_wrap_core/src/lengths.rt"))[1])
         file, = numbers_of(re.search("MAX_FILE: usize = (.*);", text_of("crates/key_files/src/read.rt"))[1])
-        assert numbers_of(re.search("define KEYWRAP_MAX_KEY (.*)", text_of("include/keywrap.h"))[1]) == [longest]
-        pages = {"docs/DEFINITIONS.md": {longest, longest + 8, file}, "man/keywrap.1": {longest, longest + 8, file},
-                 "js/keywrap.d.ts": {longest, longest + 8}, "docs/OPENSSL.md": {longest}, "python/README.md": {longest},
-                 "java/README.md": {longest}}
+        assert numbers_of(re.search("define KEYWRAP_MAX_KEY (.*)", text_of("c/include/keywrap.h"))[1]) == [longest]
+        most = {longest, longest + 8, file}
+        pages = {"docs/DEFINITIONS.md": most, "command/man/keywrap.1": most, "js/keywrap.d.ts": {longest, longest + 8},
+                 "docs/OPENSSL.md": {longest}, "python/README.md": {longest}, "java/README.md": {longest}}
         for page, limits in pages.items():
             assert {number for number in numbers_of(text_of(page)) if 10 ** 6 <= number < 10 ** 7} == limits, page
         assert longest == 1 << 20 and "both up to 1 MiB" in words_of("README.md")
@@ -136,14 +135,14 @@ class TestSources:
 
     def test_lines_of_hardware(self):
         """docs/C_LIBRARY.md counts the C that is trusted beside the processor's AES, in hundreds."""
-        lines = sum(len(file.read_text().splitlines()) for file in ROOT.glob("hardware/*.[ch]"))
-        assert f"{round(lines, -2):,} lines of C in `hardware/`" in words_of("docs/C_LIBRARY.md")
+        lines = sum(len(file.read_text().splitlines()) for file in ROOT.glob("c/hardware/*.[ch]"))
+        assert f"{round(lines, -2):,} lines of C in `c/hardware/`" in words_of("docs/C_LIBRARY.md")
 
     def test_glibc(self):
         """README and the archive's README name what the Debian package depends on, and what the wheel's name says."""
         needed, = re.findall(r"deb keywrap .* Depends .* libc6 \(>= (.*)\)", text_of("tests/handed_out.txt"))
         assert f"glibc {needed} or newer" in words_of("README.md")
-        assert f"glibc {needed} or newer" in words_of("docs/README.in")
+        assert f"glibc {needed} or newer" in words_of("packaging/templates/README.in")
         wheel, = set(re.findall(r"manylinux_(\d+_\d+)_", text_of("docs/INSTALLING.md")))
         assert f"SSE4.1 and glibc {wheel.replace('_', '.')}" in words_of("README.md")
         assert f"glibc {wheel.replace('_', '.')} or newer" in words_of("python/README.md")
@@ -168,4 +167,4 @@ class TestSources:
         lines = keywrap("vectors").stdout.splitlines()
         assert len(lines) == 12 and all(line.endswith(" ok") for line in lines)
         assert "on twelve published vectors" in words_of("README.md")
-        assert "Runs the twelve published test vectors" in words_of("man/keywrap.1")
+        assert "Runs the twelve published test vectors" in words_of("command/man/keywrap.1")

@@ -11,7 +11,7 @@ from builds import ROOT, run
 from tools import need
 
 PAGE = (ROOT / "docs/C_LIBRARY.md").read_text()
-CALLS = re.findall(r"^int32_t (keywrap_[a-z_]*)\(", (ROOT / "include/keywrap.h").read_text(), re.M)
+CALLS = re.findall(r"^int32_t (keywrap_[a-z_]*)\(", (ROOT / "c/include/keywrap.h").read_text(), re.M)
 # Neither vector registers nor abort.
 SMALL = ["-DKEYWRAP_NO_AES_INSTRUCTIONS", "-DKEYWRAP_TRAP()=__builtin_trap()"]
 
@@ -40,7 +40,7 @@ class Library:
     def stacks(self):
         """The most bytes that each call takes of the stack."""
         source = ROOT / "tests/secrets/stack.c"
-        run(*self.cc, "-std=c99", "-O1", f"-I{ROOT}/include", source, self.file, "-Wl,-z,now", "-o", "stack")
+        run(*self.cc, "-std=c99", "-O1", f"-I{ROOT}/c/include", source, self.file, "-Wl,-z,now", "-o", "stack")
         most = collections.Counter()
         for words in map(str.split, run(*self.runner, "./stack").splitlines()):
             name = "keywrap_" + words[0].split(",")[0]
@@ -136,7 +136,7 @@ def test_registers_for_a_kernel(portable):
 def test_without_a_c_library(request, machine):
     bare = ["cc", "-std=c99", "-O2", "-ffreestanding", "-nostdlib", "-static", ROOT / "tests/portable/freestanding.c"]
     if machine == "x86-64":
-        run(*bare, f"-I{ROOT}/include", request.getfixturevalue("library") / "libkeywrap.a", "-o", "bare")
+        run(*bare, f"-I{ROOT}/c/include", request.getfixturevalue("library") / "libkeywrap.a", "-o", "bare")
     else:
         portable = request.getfixturevalue("portable")
         run(*bare, f"-I{portable}", *SMALL, "-fno-tree-loop-distribute-patterns", portable / "keywrap.c", "-o", "bare")

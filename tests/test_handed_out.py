@@ -16,9 +16,9 @@ from commands import table
 from program import slow
 
 LIB = "lib/" + subprocess.run(["cc", "-dumpmachine"], capture_output=True, text=True).stdout.strip()
-THINGS = ["command", "library", "hardware", "provider", "dist", "portable", "npm", "wheel", "sdist", "deb keywrap",
-          "deb libkeywrap1", "deb libkeywrap-dev", "deb python3-keywrap", "deb keywrap-openssl-provider"]
-HEADERS = "".join((ROOT / "include" / name).read_text() for name in ("keywrap.h", "keywrap_steps.h"))
+THINGS = ["command", "library", "hardware", "provider", "dist", "portable", "go", "npm", "wheel", "sdist",
+          "deb keywrap", "deb libkeywrap1", "deb libkeywrap-dev", "deb python3-keywrap", "deb keywrap-openssl-provider"]
+HEADERS = "".join((ROOT / "c/include" / name).read_text() for name in ("keywrap.h", "keywrap_steps.h"))
 
 
 def rows(section):
@@ -84,6 +84,9 @@ def fields(request, name):
         return {key: str(value) for key, value in json.loads((thing(name) / "package.json").read_text()).items()}
     if name == "library":
         return dict(re.findall("^(.*): (.*)$", (thing(name) / "lib/pkgconfig/keywrap.pc").read_text(), re.M))
+    if name == "java":
+        manifest = thing("library") / "share/doc/keywrap/java/META-INF/MANIFEST.MF"
+        return dict(re.findall("^(.*): (.*)$", manifest.read_text(), re.M))
     files = [thing(name) / "PKG-INFO"] if name == "sdist" else thing(name).glob("*.dist-info/[MW]*")
     return {key: value for file in files for key, value in email.message_from_string(file.read_text()).items()}
 

@@ -1,6 +1,8 @@
 """The shared comparisons of other tests notice each fault of a program. Each line of sh here is such a fault."""
 
 import contextlib
+import pathlib
+import subprocess
 
 import pytest
 
@@ -37,3 +39,14 @@ def test_fault(keywrap, tmp_path_factory, line, content, comparison, args):
     fresh(content)
     with pytest.raises((AssertionError, OSError)) if line else contextlib.nullcontext():
         comparison(Program(path), *args)
+
+
+@pytest.mark.parametrize("line", ["row name false", "verdict name problem", "same name 'a b' b",
+                                  "KEYWRAP_ALL=1 slow row name false", "needs name nonesuch"])
+def test_failed_row_of_a_script(line):
+    """The scripts' rows report a command that fails, and so does the script's status."""
+    lib = pathlib.Path(__file__).resolve().parent / "lib"
+    script = f". {lib}/expect.sh; . {lib}/tools.sh; room=$PWD; row right true; {line}; finish"
+    ended = subprocess.run(["bash", "-c", script], stdout=subprocess.PIPE, text=True)
+    first, *_, last = ended.stdout.splitlines()
+    assert (ended.returncode, first[:12], last) == (1, "FAILED: name", "1 passed, 1 failed, 0 skipped")

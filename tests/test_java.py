@@ -5,11 +5,12 @@ import os
 import pathlib
 import re
 import subprocess
+import zipfile
 
 import pytest
 
 import published
-from builds import ROOT, run
+from builds import ROOT, alone, run
 
 pytestmark = pytest.mark.needs("javac", "jna.jar")
 
@@ -82,6 +83,7 @@ def test_cms(java, classes):
     java("Cms", path=[pathlib.Path("cms").absolute(), *BOUNCY_CASTLE])
 
 
+@pytest.mark.needs("no network")
 class TestReadme:
     BUILD, EXAMPLE, UNCHANGED = (re.findall(r"^    (.*)", (ROOT / "java/README.md").read_text(), re.M)[lines]
                                  for lines in (slice(2), slice(2, 3), slice(3, None)))
@@ -104,9 +106,8 @@ public class Program {
         home = re.search(r"java\.home = (.*)", said)[1]
 
         def call(lines, library):
-            given = {"JAVA": f"{ROOT}/java", "LIB": str(library), "JAVA_HOME": home, "LD_LIBRARY_PATH": ""}
-            return subprocess.run(["bash", "-ec", "\n".join(self.BUILD + lines)], capture_output=True, text=True,
-                                  env={**os.environ, **given})
+            return subprocess.run(alone(self.BUILD + lines, JAVA=ROOT / "java", LIB=library, JAVA_HOME=home),
+                                  capture_output=True, text=True)
 
         return call
 
@@ -114,6 +115,9 @@ public class Program {
         ended = tried(self.EXAMPLE + self.UNCHANGED, library)
         assert ended.stdout.splitlines() == ["true", "Keywrap b595a1c0afbe7a89ce43807cb3b2ba5737ff5d71d0a35cd7",
                                              "Keywrap", "Keywrap", "SunJCE"], ended
+        with zipfile.ZipFile("keywrap.jar") as jar:
+            assert b"Implementation-Title: keywrap" in jar.read("META-INF/MANIFEST.MF")
+            assert jar.read("META-INF/services/java.security.Provider") == b"keywrap.KeywrapProvider\n"
 
     def test_without_the_library(self, tried):
         """The example fails with the reason. The program takes the JDK's ciphers."""

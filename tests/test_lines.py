@@ -10,7 +10,7 @@ import pytest
 from checks import LENGTH, comes_to, leaves_input
 from commands import CHECK, MAX_FILE, REWRAP, UNWRAP, WRAP, table, unescaped
 from program import CLOSED, refused
-from vectors import BAD_LENGTH, KEY16, WRAPPED16
+from vectors import BAD_LENGTH, KEY16, UNSENT, WRAPPED16
 
 ODD, TOO_LONG = (6, "odd number of hex digits"), (6, "too long")
 KEEP_GOING = pytest.mark.parametrize("keep_going", [False, True], ids=["stops", "keeps going"])
@@ -101,5 +101,5 @@ class TestLines:
         assert keywrap(args, stdin=given) == ended._replace(stdout=WRAPPED16 + "\n")
         assert keywrap(f"{args} -o new", stdin=given) == ended
         assert not os.path.exists("new")
-        ended = refused(6, "output: refused after 0 bytes", "standard output: No space left on device (os error 28)")
+        ended = refused(6, UNSENT.format(49, 1), "standard output: No space left on device (os error 28)")
         assert keywrap(args, stdin=KEY16, stdout="/dev/full") == ended

@@ -12,15 +12,16 @@ import subprocess
 
 import pytest
 
-from checks import NO_OUTPUT, fresh, keeps, lands, no_output
+from checks import NO_OUTPUT, fresh, keeps, lands, no_output, state
 from commands import CHECK, SAME_KEK, UNWRAP, WRAP
 from program import CLOSED, Ended, failing_after, piped, refused
 from tools import need
-from vectors import (KEY16, FULL, INTEGRITY, KEK24, KEK32, KEY7, WRAPPED16, WRAPPED24, WRAPPED32, WRAPPED7, in_base64,
-                     in_url, raw)
+from vectors import (INTEGRITY, KEK24, KEK32, KEY16, KEY7, UNSENT, WRAPPED16, WRAPPED24, WRAPPED32, WRAPPED7,
+                     in_base64, in_url, raw)
 
 LINES, REWRAP = f"{WRAP} --lines", "rewrap --kek kek24.hex --new-kek kek32.hex"
 MANY_KEYS, MANY_WRAPPED = (KEY16 + "\n") * 4999, (WRAPPED16 + "\n") * 4999
+BEFORE_END = f"keywrap: {UNSENT}\n".format(r"(\d+)", r"(\d+)")
 KEEP_GOING, IN_PLACE = "--lines --keep-going", "-i to/file -o to/file"
 
 
@@ -82,6 +83,13 @@ class TestInPlaceWithKeepGoing:
                 assert pathlib.Path(name).read_text() == written
 
 
+def refused_at(ended):
+    """The byte at which the output was refused. The message counts back from the end of a line of 49 bytes."""
+    unsent, line = re.fullmatch(BEFORE_END, ended.stderr).groups()
+    assert (ended.status, ended.stdout) == (6, "")
+    return 49 * int(line) - int(unsent)
+
+
 class TestFaults:
     def test_read_error(self, keywrap):
         """A read fails in the third line, which ends every run."""
@@ -94,17 +102,19 @@ class TestFaults:
     def test_output_that_takes_some_bytes(self, keywrap, lines, counts):
         given, wanted = (KEY16 + "\n") * lines, (WRAPPED16 + "\n") * lines
         for taken in counts:
-            ended = Ended(0) if taken == len(wanted) else refused(6, FULL.format(taken))
-            assert keywrap(LINES, stdin=given, stdout="out", limits={"FSIZE": taken}) == ended
+            ended = keywrap(LINES, stdin=given, stdout="out", limits={"FSIZE": taken})
+            assert ended == Ended(0) if taken == len(wanted) else refused_at(ended) == taken
             assert pathlib.Path("out").read_text() == wanted[:taken]
 
     def test_full_disk(self, keywrap):
         for stdout in "/dev/full", CLOSED:
-            assert keywrap(LINES, stdin=KEY16, stdout=stdout) == refused(6, FULL.format(0))
+            assert keywrap(LINES, stdin=KEY16, stdout=stdout) == refused(6, UNSENT.format(49, 1))
         fresh(b"old\n")
         pathlib.Path("keys").write_text(MANY_KEYS)
         for args in f"{LINES} -i keys -o to/file", f"{LINES} --keep-going -i keys -o to/file":
-            keeps(keywrap, args, refused(6, FULL.format(102400)), limits={"FSIZE": 102400})
+            before = state()
+            assert refused_at(keywrap(args, limits={"FSIZE": 102400})) == 102400
+            assert state() == before
 
     @pytest.mark.parametrize("ignoring", [[], [signal.SIGPIPE]], ids=["SIGPIPE", "no SIGPIPE"])
     def test_reader_that_goes_away(self, keywrap, ignoring):
@@ -113,7 +123,7 @@ class TestFaults:
                              ignoring=ignoring) as run:
             assert run.stdout.read(147).decode() == MANY_WRAPPED[:147]
             run.stdout.close()
-            assert re.fullmatch(r"keywrap: output: refused after \d+ bytes\n", run.stderr.read().decode())
+            assert re.fullmatch(BEFORE_END, run.stderr.read().decode())
         assert run.returncode == 6
 
     def test_memory_does_not_grow(self, keywrap):

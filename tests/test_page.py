@@ -15,7 +15,7 @@ from commands import CHECK, REWRAP, SAME_KEK, UNWRAP, WRAP
 from program import refused, wait_for
 from vectors import KEK16, KEY16, NOT_OPENED, WRAPPED16, WRAPPED32, WRONG
 
-PAGE = (pathlib.Path(__file__).resolve().parent.parent / "man/keywrap.1").read_text()
+PAGE = (pathlib.Path(__file__).resolve().parent.parent / "command/man/keywrap.1").read_text()
 
 
 def text_of_the_page():

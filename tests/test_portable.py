@@ -19,7 +19,7 @@ from tools import need
 
 ROOT = pathlib.Path(__file__).resolve().parent.parent
 DIST = ROOT / "dist"
-LIBRARY = [*sorted(map(str, (ROOT / "tests/library").glob("*.c"))), f"{ROOT}/tests/reference/one_table.c"]
+LIBRARY = [*sorted(map(str, (ROOT / "tests/library").glob("*.c"))), f"{ROOT}/c/reference/one_table.c"]
 STRICT = ["-std=c99", "-Wall", "-Wextra", "-pedantic", "-Werror"]
 OWN = ROOT / "tests/portable"
 SANITIZED = ["-fsanitize=address,undefined", "-fno-sanitize-recover=all"]
@@ -44,7 +44,7 @@ def compiled_program(directory, name, sources, *options, library=()):
     """Compiles a program over the keywrap.c in the directory, by the compiler of this name. Returns its command."""
     compiler, runner = MACHINES[name]
     need(compiler[0], *runner[:1])
-    command = [*compiler, *STRICT, f"-I{directory}", f"-I{ROOT}/tests/reference", *options]
+    command = [*compiler, *STRICT, f"-I{directory}", f"-I{ROOT}/c/reference", *options]
     run(*command, *library, "-c", f"{directory}/keywrap.c", "-o", "keywrap.o")
     run(*command, *sources, "keywrap.o", "-o", "program")
     return [*runner, "./program"]
@@ -63,10 +63,11 @@ def made_here():
 
 
 def test_is_what_the_tree_makes(built):
-    """Each file of dist/, byte by byte."""
+    """Each file of dist/, byte by byte, but for those that are written by hand."""
     made_here()
     run(sys.executable, ROOT / "scripts/portable.py", built("keywrap.wasm"), "made")
-    tracked = run("git", "-C", ROOT, "ls-files", "dist").split()
+    tracked = [name for name in run("git", "-C", ROOT, "ls-files", "dist").split()
+               if not re.fullmatch(r"dist/(RUST\.md|Cargo\.toml|.*\.rs|GO\.md|go\.mod|\w+\.go)", name)]
     assert sorted(tracked) == sorted(f"dist/{path.relative_to('made')}"
                                      for path in pathlib.Path("made").rglob("*") if path.is_file())
     for name in tracked:
@@ -109,7 +110,7 @@ def random_calls(directory, library, name, *options):
     command = [*compiler, *STRICT, "-O2", f"-I{OWN}", *options]
     run(*command, *renamed, "-c", f"{directory}/keywrap.c", "-o", "dist.o")
     run(*command, *renamed, "-DCALL=dist_call", "-c", OWN / "fuzz_call.c", "-o", "dist_call.o")
-    run(*command, f"-I{ROOT}/include", "-DCALL=library_call", OWN / "fuzz_call.c", OWN / "fuzz.c", "dist.o",
+    run(*command, f"-I{ROOT}/c/include", "-DCALL=library_call", OWN / "fuzz_call.c", OWN / "fuzz.c", "dist.o",
         "dist_call.o", library / "libkeywrap.a", "-o", "fuzz")
     return [*runner, "./fuzz"]
 
@@ -263,7 +264,8 @@ def test_sdist(compiler):
            "SOURCE_DATE_EPOCH": "1767225600"}
     version = (ROOT / "VERSION").read_text().strip().replace("-dev", ".dev0")
     for directory in "one", "two":
-        run(ROOT / "scripts/sdist.sh", sys.executable, version, directory, env=env)
+        words = [f"DIST={pathlib.Path(directory).absolute()}", f"PYTHON={sys.executable}"]
+        run("make", "-s", "-C", ROOT, "sdist", *words, env=env)
     packed = [pathlib.Path(directory, f"keywrap-{version}.tar.gz").resolve() for directory in ("one", "two")]
     assert packed[0].read_bytes() == packed[1].read_bytes()
     run(sys.executable, "-m", "venv", "--system-site-packages", "env")
@@ -273,6 +275,40 @@ def test_sdist(compiler):
     said = run("env/bin/python3", "-m", "pytest", "-q", "-p", "no:cacheprovider", *tests,
                env={**env, "KEYWRAP_CALLS": "10000"})
     assert re.search(r"^\d{3,} passed", said, re.M) and "skipped" not in said
+
+
+@slow
+def test_from_a_clone_without_the_kit():
+    """README's lines without the kit work from a clone, in an empty environment and without a network: the check of
+    dist/, CMake, and the packages for pip and npm, which are installed and used."""
+    need("cmake", "npm", "cc", *[f"import {module}" for module in ("cffi", "ensurepip", "setuptools", "wheel")])
+    line, = re.findall(r"\*\*Without the kit\*\*: (.*?)(?=^- )", (ROOT / "README.md").read_text(), re.M | re.S)
+    check, js, sdist = re.findall("`(make [^`]*)`", line)
+    run("git", "clone", "-q", ROOT, "clone")
+    path = ":".join([os.path.dirname(sys.executable), "/usr/bin", "/bin"])
+    assert not shutil.which("rt", path=path)
+    pathlib.Path("use.py").write_text(
+        "import keywrap\nkek, key = bytes(16), bytes(range(16))\n"
+        "print('Python', keywrap.unwrap(kek, keywrap.wrap(kek, key)).hex())\n")
+    pathlib.Path("use.mjs").write_text(
+        "import { load } from 'keywrap';\nconst k = await load(), kek = new Uint8Array(16);\n"
+        "const key = Uint8Array.from({ length: 16 }, (_, i) => i);\n"
+        "console.log('JavaScript', Buffer.from(k.unwrap(kek, k.wrap(kek, key))).toString('hex'));\n")
+    said = run("unshare", "-rn", "env", "-i", f"PATH={path}", f"HOME={os.getcwd()}", "bash", "-ec", f"""
+        cd clone
+        {check}
+        cmake -S dist -B ../cmake && cmake --build ../cmake
+        {sdist}
+        python3 -m venv --system-site-packages ../env
+        ../env/bin/python3 -m pip install -q --no-index --no-build-isolation out/keywrap-*.tar.gz
+        {js}
+        npm pack --silent --offline ./out/js
+        cd ..
+        env/bin/python3 use.py
+        npm install --silent --offline ./clone/keywrap-*.tgz
+        node use.mjs""")
+    key = "000102030405060708090a0b0c0d0e0f\n"
+    assert f"Python {key}" in said and f"JavaScript {key}" in said
 
 
 @pytest.mark.parametrize("bug", all_of([path.stem for path in sorted(OWN.glob("bugs/*.edit"))], [

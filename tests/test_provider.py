@@ -20,7 +20,7 @@ pytestmark = pytest.mark.needs("cc", "<openssl/evp.h>")
 OWN = ROOT / "tests/provider"
 REACH = OWN / "reach"
 PAGE = (ROOT / "docs/OPENSSL.md").read_text()
-STRICT = ["-std=c99", "-Wall", "-Wextra", "-pedantic", "-Werror", f"-I{ROOT}/include"]
+STRICT = ["-std=c99", "-Wall", "-Wextra", "-pedantic", "-Werror", f"-I{ROOT}/c/include"]
 SANITIZE = ["-fsanitize=address,undefined", "-fno-sanitize-recover=all"]
 RESERVED = "initial value reserved for the padded form"
 NEW_READER = ("openssl req -x509 -newkey ec -pkeyopt ec_paramgen_curve:P-256 -nodes -keyout key.pem -out cert.pem"
@@ -50,8 +50,9 @@ def compiled_programs(once):
 
 
 def module(directory, library, *options):
-    run("cc", *STRICT, "-O1", "-g", "-fPIC", "-shared", *options, *sorted((ROOT / "provider").glob("*.c")),
-        library / "libkeywrap.a", f"-Wl,--version-script,{ROOT}/provider/provider.map", "-o", directory / "keywrap.so")
+    run("cc", *STRICT, "-O1", "-g", "-fPIC", "-shared", *options, *sorted((ROOT / "c/provider").glob("*.c")),
+        library / "libkeywrap.a", f"-Wl,--version-script,{ROOT}/c/provider/provider.map",
+        "-o", directory / "keywrap.so")
 
 
 @pytest.fixture(scope="session")
@@ -67,7 +68,7 @@ def sanitized(once, library):
 def counted(once, library):
     """The directory with a module that notes its calls of the library."""
     names = re.findall(r"^COUNTED\((\w+)", (REACH / "counted.c").read_text(), re.M)
-    assert {*re.findall(r"keywrap_(\w+)\(", (ROOT / "provider/wrapping.c").read_text())} == {*names}
+    assert {*re.findall(r"keywrap_(\w+)\(", (ROOT / "c/provider/wrapping.c").read_text())} == {*names}
     wraps = [f"-Wl,--wrap=keywrap_{name}" for name in names]
     return once("provider-counted", lambda directory: module(directory, library, *wraps, REACH / "counted.c"))
 
@@ -81,7 +82,7 @@ def modules(thing):
 @pytest.mark.parametrize("compiler", ["gcc", "clang"])
 def test_no_warning(compiler):
     need(compiler)
-    run(compiler, *STRICT, "-O2", "-fsyntax-only", *sorted((ROOT / "provider").glob("*.c")))
+    run(compiler, *STRICT, "-O2", "-fsyntax-only", *sorted((ROOT / "c/provider").glob("*.c")))
 
 
 class TestCompared:
@@ -273,6 +274,7 @@ NOT_REACHED = {
     "xmlsec1": ("xmlsec1", "cp message kek", f"xmlsec1 --encrypt --aeskey:kek kek --session-key aes-128 --binary-data "
                 f"message --output wrapped {REACH}/kw.xml", "xmlsec1 --decrypt --aeskey:kek kek wrapped"),
     "libcjose": ("<cjose/cjose.h>", f"cc -o cjose {REACH}/libcjose.c -lcjose", "./cjose message", "./cjose message"),
+    "NSS": ("nss.h", f"cc -o nss {REACH}/nss.c $(pkg-config --cflags --libs nss)", "./nss message", "./nss message"),
     "Java": ("javac", "", f"java {REACH}/Wrap.java", f"java {REACH}/Wrap.java"),
     "gpg": ("gpg", "chmod 700 . && gpg --batch -q --passphrase '' --quick-gen-key reader future-default",
             "gpg --batch -q --trust-model always -r reader -o wrapped --encrypt message",

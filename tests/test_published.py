@@ -13,7 +13,7 @@ from vectors import BAD_LENGTH, INTEGRITY, in_base64
 ROOT = pathlib.Path(__file__).resolve().parent.parent
 CALLS = {call.value: call for call in published.files.Call}
 REFUSALS = {"-length": refused(4, BAD_LENGTH), "-integrity": refused(5, INTEGRITY)}
-REFERENCE = [ROOT / "tests/published.c", *sorted((ROOT / "tests/reference").glob("*.c"))]
+REFERENCE = [ROOT / "tests/published.c", *sorted((ROOT / "c/reference").glob("*.c"))]
 
 
 def over_program(keywrap, case, flags, text):
@@ -46,7 +46,7 @@ class TestProgram:
 
 def in_c(cases, *sources, options=()):
     """What published.c writes, over these sources or archives."""
-    subprocess.run(["cc", "-std=c99", "-O1", *options, f"-I{ROOT}/include", f"-I{ROOT}/tests/reference", *sources,
+    subprocess.run(["cc", "-std=c99", "-O1", *options, f"-I{ROOT}/c/include", f"-I{ROOT}/c/reference", *sources,
                     "-o", "in_c"], check=True)
     return subprocess.run(["./in_c"], input="".join(published.lines(cases)), text=True, capture_output=True).stdout
 

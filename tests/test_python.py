@@ -6,13 +6,15 @@ import pathlib
 import re
 import shutil
 import subprocess
+import textwrap
 
 import pytest
 
 import published
 from builds import NAMES, ROOT, run
-from program import SLOW
+from program import SLOW, slow
 from tools import need
+from vectors import WRAPPED32
 
 TESTS = ROOT / "python/tests"
 # A processor that lacks what the library needs, and one that has only that.
@@ -104,7 +106,7 @@ def own_tests(installed, keywrap, record_property):
     return call
 
 
-@pytest.mark.parametrize("file", sorted(path.name for path in TESTS.glob("test_*.py")))
+@pytest.mark.parametrize("file", sorted(str(path.relative_to(TESTS)) for path in TESTS.rglob("test_*.py")))
 def test_own_tests(own_tests, file):
     own_tests(TESTS / file)
 
@@ -150,6 +152,59 @@ def test_foreign_vectors(installed):
     assert counts == [(name, "0") for name in names if not name.endswith(".expected")]
 
 
+# Makes the calls of published.py's lines by keywrap.steps, with AES-ECB by pyca.
+BY_STEPS = """
+import sys
+from cryptography.hazmat.primitives.ciphers import Cipher, algorithms, modes
+from keywrap import BadLength, IntegrityFailed, steps
+right = refused = 0
+for call, kek, given, due in map(str.split, sys.stdin):
+    ecb = Cipher(algorithms.AES(bytes.fromhex(kek)), modes.ECB())
+    aes = (ecb.decryptor() if call.startswith("un") else ecb.encryptor()).update
+    try:
+        right += getattr(steps, call)(aes, bytes.fromhex(given if given != "0" else "")).hex() == due
+    except (BadLength, IntegrityFailed) as error:
+        refused += due == ("-length" if isinstance(error, BadLength) else "-integrity")
+print(right + refused, "right,", refused, "refused")
+"""
+
+
+@pytest.mark.needs("import cryptography")
+class TestSteps:
+    @pytest.mark.parametrize("cases", [published.foreign, pytest.param(published.nist_or_skip, marks=slow)],
+                             ids=["foreign", "nist"])
+    def test_published(self, installed, cases):
+        found = cases()
+        said = run(installed, "-c", BY_STEPS, input="".join(published.lines(found)))
+        assert said == published.all_right(found)
+
+    @pytest.mark.needs("import PyKCS11", "softhsm2-util")
+    def test_token(self, installed):
+        """The README's lines, over a KEK of RFC 3394 in a token, without and with padding."""
+        page = (ROOT / "python/README.md").read_text()
+        lines = re.search(r"^    import PyKCS11.*?(?=\n\n[^ ])", page, re.M | re.S)[0]
+        before = """
+import PyKCS11
+token = PyKCS11.PyKCS11Lib()
+token.load("/usr/lib/softhsm/libsofthsm2.so")
+session = token.openSession(token.getSlotList(tokenPresent=True)[0], PyKCS11.CKF_RW_SESSION)
+session.login("1234")
+kek = session.createObject([
+    (PyKCS11.CKA_CLASS, PyKCS11.CKO_SECRET_KEY), (PyKCS11.CKA_KEY_TYPE, PyKCS11.CKK_AES),
+    (PyKCS11.CKA_VALUE, bytes(range(32))), (PyKCS11.CKA_ENCRYPT, True), (PyKCS11.CKA_DECRYPT, True)])
+key = bytes(range(0, 256, 17))
+"""
+        after = """
+print(wrapped.hex())
+print(keywrap.steps.unwrap_padded(decrypt, keywrap.steps.wrap_padded(encrypt, b"of any length")))
+"""
+        pathlib.Path("softhsm2.conf").write_text(f"directories.tokendir = {os.getcwd()}\n")
+        env = {**os.environ, "SOFTHSM2_CONF": os.path.abspath("softhsm2.conf")}
+        run("softhsm2-util", "--init-token", "--free", "--label", "t", "--pin", "1234", "--so-pin", "1234", env=env)
+        said = run(installed, "-c", before + textwrap.dedent(lines) + after, env=env)
+        assert said == f"{WRAPPED32}\nb'of any length'\n"
+
+
 @pytest.mark.needs("import mypy")
 class TestTypes:
     def test_package(self, python):
@@ -158,10 +213,14 @@ class TestTypes:
 
     def test_caller(self, installed, python):
         """Over the package as it is installed: it is typed."""
-        pathlib.Path("wrong.py").write_text('import keywrap\nx: int = keywrap.wrap(b"", b"")\n')
+        pathlib.Path("wrong.py").write_text("""import keywrap.steps
+x: int = keywrap.wrap(b"", b"")
+keywrap.steps.wrap(lambda blocks: 16, b"")
+keywrap.steps.wrap(lambda blocks: bytearray(blocks), b"").hex()
+""")
         ended = subprocess.run([python, "-m", "mypy", "--strict", "--cache-dir=/dev/null", "--config-file=",
                                 "--python-executable", installed, "wrong.py"], capture_output=True, text=True)
-        assert ended.returncode == 1 and 'type "bytes"' in ended.stdout, ended.stdout
+        assert {*re.findall(r"^wrong.py:(\d+): error: ", ended.stdout, re.M)} == {"2", "3"}, ended.stdout
 
 
 def test_wipe_is_not_left_out(thing):

@@ -8,7 +8,7 @@ import pytest
 
 from commands import MAX_FILE, WRAP, table, unescaped
 from program import Ended, answered, refused, sh, words
-from vectors import FULL, KEK, KEK16, KEY16, NOT_OPENED, WRAPPED16, in_base64, in_url, zeros
+from vectors import FULL, KEK, KEK16, KEY16, NOT_OPENED, UNSENT, WRAPPED16, in_base64, in_url, zeros
 
 NO_FILE = "No such file or directory (os error 2)"
 
@@ -91,13 +91,14 @@ class TestReasons:
         explains(keywrap, f"rewrap --kek kek16.hex --new-kek {kek}", 6, "new key file: cannot be opened",
                  reason.format("the new KEK"))
 
-    @pytest.mark.parametrize("lines", ["", " --lines"], ids=["one key", "lines"])
-    def test_output_without_room(self, keywrap, lines):
-        args = f"{WRAP} -i key.hex{lines}"
+    @pytest.mark.parametrize("flag, full", [("", FULL.format(0)), (" --lines", UNSENT.format(49, 1))],
+                             ids=["one key", "lines"])
+    def test_output_without_room(self, keywrap, flag, full):
+        args = f"{WRAP} -i key.hex{flag}"
         explains(keywrap, f"{args} -o no\x1b/file", 6, NOT_OPENED, rf"no\x1b/file: {NO_FILE}")
-        explains(keywrap, f"{args} -o to/file", 6, FULL.format(0), "to/file: File too large (os error 27)",
+        explains(keywrap, f"{args} -o to/file", 6, full, "to/file: File too large (os error 27)",
                  limits={"FSIZE": 0})
-        explains(keywrap, args, 6, FULL.format(0), "standard output: No space left on device (os error 28)",
+        explains(keywrap, args, 6, full, "standard output: No space left on device (os error 28)",
                  stdout="/dev/full")
 
     def test_digits_as_raw_bytes_are_the_kek(self, keywrap):

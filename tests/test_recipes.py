@@ -32,7 +32,7 @@ def typed_and_shown(section):
 def follow(keywrap, files, script):
     """Runs the lines in an empty directory, and returns their output."""
     need(*[tool for tool in TOOLS if re.search(rf"\b{tool}\b|_{tool}\.", script)])
-    environment = {**os.environ, "DOC": str(ROOT / "docs"), "PATH": f"{files}/bin:{os.environ['PATH']}"}
+    environment = {**os.environ, "PATH": f"{files}/bin:{os.environ['PATH']}"}
     if re.search("wrap-pad|cipher-pad", script):
         ciphers = subprocess.run(["openssl", "enc", "-list"], capture_output=True, text=True).stdout
         if "id-aes256-wrap-pad" not in ciphers:
@@ -47,20 +47,18 @@ def follow(keywrap, files, script):
     return ended.stdout
 
 
-# Two kinds are tested elsewhere: recipes with the Python package in python/tests/test_rotation_recipes.py, the recipe
-# that compiles a program with the C library in tests/hardware.sh.
+# Two kinds are tested elsewhere: recipes with the Python package in python/tests/rotation, the recipe that
+# compiles a program with the C library in tests/hardware.sh.
 @pytest.mark.parametrize("name", [name for name, section in SECTIONS.items()
-                                  if not re.search(r"keywrap.rotate|\.py|pkg-config", typed_and_shown(section)[0])])
+                                  if not re.search(r"-m keywrap\.|pkg-config", typed_and_shown(section)[0])])
 def test_recipe(keywrap, files, name):
     script, shown = typed_and_shown(SECTIONS[name])
     assert follow(keywrap, files, script + PARTS.get(name, "")) == shown
 
 
 def test_names_of_recipes():
-    """Each part of recipes.sh has the name of a recipe, and each script of docs/rotation has a recipe."""
+    """Each part of recipes.sh has the name of a recipe."""
     assert PARTS.keys() <= SECTIONS.keys()
-    linked = set(re.findall(r"\]\((rotation/[^)]*)", RECIPES))
-    assert linked == {f"rotation/{path.name}" for path in (ROOT / "docs/rotation").iterdir()}
 
 
 def test_readme(keywrap, files):

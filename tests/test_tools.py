@@ -13,7 +13,7 @@ ROWS = [re.split(r" *\| *", line, maxsplit=2) for line in (TESTS / "packages.txt
         if line and line[0] != "#"]
 PACKAGES = {row[0]: set(row[1].split()) for row in ROWS}
 # The tests of the Python package are also run without this repository, so they name their packages themselves.
-NAMED = {package for path in (TESTS.parent / "python/tests").glob("*.py")
+NAMED = {package for path in (TESTS.parent / "python/tests").rglob("*.py")
          for packages in re.findall(r"apt-get install ([^)\"]+)", path.read_text()) for package in packages.split()}
 
 
@@ -30,7 +30,7 @@ def test_packages_that_the_python_package_names():
     """They are in the table, and in the form that scripts/tests.sh reads."""
     essential = {"mawk"}
     assert NAMED and NAMED <= set().union(*PACKAGES.values()) | essential
-    reasons = [reason for path in (TESTS.parent / "python/tests").glob("*.py")
+    reasons = [reason for path in (TESTS.parent / "python/tests").rglob("*.py")
                for reason in re.findall(r"\"([^\"]*apt-get install[^\"]*)\"", path.read_text())]
     assert [reason for reason in reasons if not re.fullmatch(r".+ \(apt-get install [a-z0-9 -]+\)", reason)] == []
 

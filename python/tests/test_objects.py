@@ -2,6 +2,7 @@
 file under the address sanitizer too."""
 
 import array
+import functools
 import gc
 import mmap
 import os
@@ -11,7 +12,7 @@ import threading
 import pytest
 
 import keywrap
-from keywrap import pyca
+from keywrap import pyca, steps
 
 KEK = bytes(range(16))
 KEY = bytes.fromhex("00112233445566778899aabbccddeeff")
@@ -45,6 +46,11 @@ class LyingArray(bytearray):
         return 4096
 
 
+def swapped(blocks):
+    """A permutation of blocks in the place of AES: it exchanges the halves."""
+    return blocks[8:] + blocks[:8]
+
+
 CALLS = [
     (keywrap.wrap, (KEK, KEY), WRAPPED),
     (keywrap.wrap, (KEK, KEY, b"\xa6" * 8), WRAPPED),
@@ -61,6 +67,10 @@ CALLS = [
     (pyca.aes_key_wrap_with_padding, (KEK, KEY), keywrap.wrap_padded(KEK, KEY)),
     (pyca.aes_key_unwrap_with_padding, (KEK, keywrap.wrap_padded(KEK, KEY)), KEY),
 ]
+# The same without a KEK.
+BY_STEPS = [(functools.partial(call, swapped), (given,), call(swapped, given)) for call, given in (
+    (steps.wrap, KEY), (steps.wrap_padded, KEY), (steps.unwrap, steps.wrap(swapped, KEY)),
+    (steps.unwrap_padded, steps.wrap_padded(swapped, KEY)))]
 
 
 def with_each(given, made):
@@ -86,7 +96,7 @@ TAKEN = {
 }
 
 
-@pytest.mark.parametrize("call, given, answer", CALLS)
+@pytest.mark.parametrize("call, given, answer", [*CALLS, *BY_STEPS])
 @pytest.mark.parametrize("made", TAKEN.values(), ids=TAKEN)
 def test_is_taken_as_its_bytes(call, given, answer, made):
     for objects in with_each(given, made):
@@ -125,7 +135,7 @@ REFUSED = {
 }
 
 
-@pytest.mark.parametrize("call, given, answer", CALLS)
+@pytest.mark.parametrize("call, given, answer", [*CALLS, *BY_STEPS])
 @pytest.mark.parametrize("made", REFUSED.values(), ids=REFUSED)
 def test_is_a_type_error(call, given, answer, made):
     for objects in with_each(given, made):

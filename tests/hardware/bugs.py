@@ -1,5 +1,5 @@
-"""Plants the bugs of bugs/*.edit in the C of hardware/, one at a time in a copy. The programs of tests/hardware.sh must
-catch each bug, and must pass without one. Prints which program caught which bug.
+"""Plants the bugs of bugs/*.edit in the C of c/hardware/, one at a time in a copy. The programs of tests/hardware.sh
+must catch each bug, and must pass without one. Prints which program caught which bug.
 
 usage: bugs.py ARCHIVE        (ARCHIVE: the C library, for x86-64)"""
 
@@ -13,24 +13,25 @@ import sys
 import tempfile
 
 ROOT = pathlib.Path(__file__).resolve().parent.parent.parent
-COMPILE = "cc -std=c99 -O2 -Wall -Wextra -Iinclude -Itests/reference -o program "
-CALLS = "tests/library/*.c tests/reference/one_table.c hardware/*.c proved.a"
+COMPILE = "cc -std=c99 -O2 -Wall -Wextra -Ic/include -Ic/reference -o program "
+CALLS = "tests/library/*.c c/reference/one_table.c c/hardware/*.c proved.a"
 NO_FAULT = r".*\d passed, 0 failed\n"
 # Each program, in this order: its sources and options, how it is run, and what is written if no fault is found.
 PROGRAMS = {
-    "chooses": ("tests/hardware/chosen.c hardware/aes.c hardware/x86_64.c",
+    "chooses": ("tests/hardware/chosen.c c/hardware/aes.c c/hardware/x86_64.c",
                 "qemu-x86_64 -cpu max ./program && qemu-x86_64 -cpu Nehalem ./program", "instructions\nsoftware\n"),
-    "refuses_wrong_aes": ("tests/hardware/chosen.c tests/hardware/wrong_aes.c hardware/aes.c",
+    "refuses_wrong_aes": ("tests/hardware/chosen.c tests/hardware/wrong_aes.c c/hardware/aes.c",
                           "for place in {e,d,E,D,F,C}1{0,2,4}; do "
                           "WRONG=$place qemu-x86_64 -cpu max ./program || exit; done",
                           "software\n" * 18),
     # The AES becomes wrong after its first use.
-    "tests_itself": ("tests/hardware/self_test.c tests/hardware/wrong_aes.c hardware/keywrap.c hardware/aes.c proved.a",
+    "tests_itself": ("tests/hardware/self_test.c tests/hardware/wrong_aes.c c/hardware/keywrap.c c/hardware/aes.c "
+                     "proved.a",
                      "qemu-x86_64 -cpu max ./program", "0 5\n"),
     "calls": (CALLS, "./program few", NO_FAULT),
     # At most 16 bytes below the stack pointer depend on a secret: they are a block of the wrapped key. With -flto the
     # compiler sees that nothing reads what is cleared.
-    "clears": ("tests/secrets/stack.c hardware/*.c proved.a -flto -Wl,-z,now",
+    "clears": ("tests/secrets/stack.c c/hardware/*.c proved.a -flto -Wl,-z,now",
                "set -o pipefail; ./program | awk 'NR > 1 && ($4 > 16 || $5 > 16 || $6 > 16)'", ""),
     # -Os aligns no variable beyond its type.
     "sanitized": (CALLS + " -Os -g -fsanitize=undefined -fno-sanitize-recover=all", "./program few", NO_FAULT),
@@ -53,9 +54,9 @@ def plant(edit, directory):
 def caught_by(archive, bug):
     """The first program that finds a fault over a copy with the bug, or None."""
     with tempfile.TemporaryDirectory() as directory:
-        for name in "hardware", "include", "tests":
+        for name in "c/hardware", "c/include", "c/reference", "tests":
             shutil.copytree(ROOT / name, f"{directory}/{name}")
-        subprocess.run(["objcopy", "--redefine-syms=hardware/names", archive, "proved.a"], cwd=directory, check=True)
+        subprocess.run(["objcopy", "--redefine-syms=c/hardware/names", archive, "proved.a"], cwd=directory, check=True)
         if bug:
             plant(bug, directory)
         for name, (sources, command, wanted) in PROGRAMS.items():

@@ -2,7 +2,7 @@
 
 #include <stdio.h>
 
-#include "../../hardware/aes.h"
+#include "../../c/hardware/aes.h"
 
 int main(void) {
     puts(aes_works() ? "instructions" : "software");

@@ -1,4 +1,4 @@
-/* wrong_aes.c: hardware/x86_64.c on a processor whose AES is wrong in one place, if the variable
+/* wrong_aes.c: c/hardware/x86_64.c on a processor whose AES is wrong in one place, if the variable
  * WRONG names one: e or d, to encrypt or to decrypt, E or D for the first of 8 blocks, F or C for
  * the last of them; and the number of rounds. */
 
@@ -10,7 +10,7 @@
 #define decrypt_block right_decrypt_block
 #define encrypt_8_blocks right_encrypt_8_blocks
 #define decrypt_8_blocks right_decrypt_8_blocks
-#include "../../hardware/x86_64.c"
+#include "../../c/hardware/x86_64.c"
 #undef encrypt_block
 #undef decrypt_block
 #undef encrypt_8_blocks

@@ -1,12 +1,19 @@
-// The bundles that esbuild made of the entries in bundle/ load the module: one finds keywrap.wasm
-// beside it, the other has its bytes in it. In Node and in a page.
+// The bundles that esbuild made of the entries in bundle/ load the module, in Node and in a page: one
+// finds keywrap.wasm beside it, the others have its bytes in them. The bundle of keywrap/inline is the
+// only file that its host has.
 
 import assert from 'node:assert/strict';
 import { test } from 'node:test';
-import { readBundles } from './host.mjs';
+import { onlyFile, readBundles } from './host.mjs';
 
-for (const [name, wrapped] of Object.entries(await readBundles())) {
+const DUE = '1fa68b0a8112b447aef34bd8fb5a7b829d3e862371d2cfe5 00112233445566778899aabbccddeeff';
+
+for (const [name, both] of Object.entries(await readBundles())) {
     test(`a bundle: ${name}`, async () => {
-        assert.equal(await wrapped(), '1fa68b0a8112b447aef34bd8fb5a7b829d3e862371d2cfe5');
+        assert.equal(await both(), DUE);
     });
 }
+
+test('a bundle of keywrap/inline alone', async () => {
+    assert.equal(await onlyFile(), DUE);
+});

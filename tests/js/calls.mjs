@@ -4,6 +4,7 @@
 import assert from 'node:assert/strict';
 import { test } from 'node:test';
 import * as keywrapModule from 'keywrap';
+import * as inlineModule from 'keywrap/inline';
 import { readModule, webcrypto } from './host.mjs';
 import * as openssl from './openssl.mjs';
 import {
@@ -339,6 +340,24 @@ test('a module is loaded from its bytes, or compiled, each with a memory of its 
     await assert.rejects(watched('keywrap.wasm'), TypeError);
 });
 
+test('keywrap/inline exports the same, and has the bytes of the module in it', async () => {
+    const { load: ofFile, ...classes } = keywrapModule;
+    const { load: ofCopy, ...sameClasses } = inlineModule;
+    assert.deepEqual(sameClasses, classes);
+    assert.notEqual(ofCopy, ofFile);
+    const { compile } = WebAssembly;
+    const compiled = [];
+    WebAssembly.compile = (given) => compiled.push(given) && compile(given);
+    try {
+        assert.deepEqual((await ofCopy()).wrap(KEK, KEY), WRAPPED);
+        await assert.rejects(ofCopy(zeros(8)), WebAssembly.CompileError);
+    } finally {
+        WebAssembly.compile = compile;
+    }
+    assert.equal(compiled.length, 2);
+    assert.ok(isEqual(compiled[0], MODULE));
+});
+
 test('a status that a call does not answer is no refusal, and nothing is given out', async () => {
     for (const status of [1, 2, 3, 6, 77, -1, undefined]) {
         const other = await watched(undefined, (made) => ({
@@ -515,6 +534,15 @@ test('many keys: more than the memory has room for', () => {
         keys.map(() => ({ form: 'plain', length: MAX_KEY })));
     assert.deepEqual(checkMany(KEK, wrapped), keys.map(() => ({ form: 'plain', length: MAX_KEY })));
     assert.ok(unwrapMany(KEK, wrapped).every((key, at) => isEqual(key, keys[at])));
+    assert.ok(isAsMade(exports));
+});
+
+test('many short keys: more than the memory has room for', () => {
+    const keys = Array(Math.ceil(exports.memory.buffer.byteLength / 16)).fill(KEY_7);
+    const wrapped = wrapMany(KEK_5649, keys, { padded: true });
+    assert.ok(wrapped.length === keys.length && wrapped.every((one) => isEqual(one, PADDED_7)));
+    const again = unwrapMany(KEK_5649, wrapped, { padded: true });
+    assert.ok(again.length === keys.length && again.every((one) => isEqual(one, KEY_7)));
     assert.ok(isAsMade(exports));
 });
 

@@ -1,6 +1,8 @@
 // What the tests take from their host, here Node; page/host.mjs is the same for a page.
 
-import { readFile } from 'node:fs/promises';
+import assert from 'node:assert/strict';
+import { execFileSync } from 'node:child_process';
+import { readFile, readdir } from 'node:fs/promises';
 import { createRequire } from 'node:module';
 import { resolve } from 'node:path';
 import { pathToFileURL } from 'node:url';
@@ -10,7 +12,9 @@ export { webcrypto } from 'node:crypto';
 
 const { resolve: resolved } = createRequire(import.meta.url);
 
-export const readModule = () => readFile(resolved('keywrap/keywrap.wasm'));
+// No Buffer, whose slice would be the same bytes.
+export const readModule = async () =>
+    new Uint8Array(await readFile(resolved('keywrap/keywrap.wasm')));
 
 // A file of published cases, in the directory that the command line names. Without one it is empty.
 export const readTable = (name) => readFile(`${process.argv[2]}/${name}`, 'utf8').catch(() => '');
@@ -18,9 +22,17 @@ export const readTable = (name) => readFile(`${process.argv[2]}/${name}`, 'utf8'
 // The same bytes, as a Uint8Array of another realm.
 export const inOtherRealm = (given) => runInNewContext('Uint8Array.from(given)', { given });
 
-// The bundles in the directory that the command line names, each as a call that wraps.
+// The bundles in the directory that the command line names, each as a call that wraps and unwraps.
 export async function readBundles() {
     const from = (name) => import(pathToFileURL(resolve(process.argv[2], name)));
     await from('inside.js');
     return { beside: (await from('beside.mjs')).beside, inside: globalThis.inside };
+}
+
+// The result of the bundle of keywrap/inline in a process that has only this file, and no network.
+export async function onlyFile() {
+    const program = 'globalThis.fetch = undefined; require("./bundle.js"); alone().then(console.log)';
+    const cwd = resolve(process.argv[2], 'alone');
+    assert.deepEqual(await readdir(cwd), ['bundle.js']);
+    return execFileSync(process.execPath, ['-e', program], { cwd, encoding: 'utf8' }).trim();
 }

@@ -12,17 +12,20 @@ const [, , directory, program, kept] = process.argv;
 const TYPES = {
     'example.html': 'text/html',
     'keywrap.js': 'text/javascript',
+    'calls.js': 'text/javascript',
     'keywrap.wasm': 'application/wasm',
 };
 
-// A static server, and the paths that were requested.
+// A static server, the paths that were requested, and a policy that it adds to the page's own.
 const asked = [];
+let policy;
 const server = createServer(async (request, response) => {
     const name = request.url.slice(1);
     asked.push(`${request.method} ${name}`);
     if (TYPES[name]) {
         const file = await readFile(`${directory}/${name}`);
-        response.writeHead(200, { 'content-type': TYPES[name] }).end(file);
+        const headers = policy ? { 'content-security-policy': policy } : {};
+        response.writeHead(200, { ...headers, 'content-type': TYPES[name] }).end(file);
     } else {
         response.writeHead(404).end();
     }
@@ -123,16 +126,23 @@ test('where there is no WebAssembly the page says so', async () => {
     await browser.send('Page.removeScriptToEvaluateOnNewDocument', { identifier });
 });
 
+test('where a policy forbids WebAssembly the page says so', async () => {
+    policy = "script-src 'self' 'unsafe-inline'";
+    await browser.open(url, 'document.getElementById("told").innerText !== "Loading"');
+    policy = undefined;
+    assert.match(await browser.read('told'), /^It does not run here: .*Content Security Policy/);
+});
+
 test('where a file is missing the page says so', async () => {
     const type = TYPES['keywrap.wasm'];
     delete TYPES['keywrap.wasm'];
     await browser.open(url, 'document.getElementById("told").innerText !== "Loading"');
-    assert.match(await browser.read('told'), /^It does not run here: .*keywrap\.wasm: 404/);
     TYPES['keywrap.wasm'] = type;
+    assert.match(await browser.read('told'), /^It does not run here: .*keywrap\.wasm: 404/);
 });
 
 test('nothing was sent, and nothing went wrong in the page', () => {
-    const names = ['example.html', 'keywrap.js', 'keywrap.wasm', 'favicon.ico'];
+    const names = [...Object.keys(TYPES), 'favicon.ico'];
     assert.deepEqual(asked.filter((it) => !names.map((name) => `GET ${name}`).includes(it)), []);
     assert.deepEqual(browser.errors, []);
 });
@@ -148,6 +158,6 @@ test('the page connects to no other server', async () => {
     await browser.open(url, '!document.getElementById("check").disabled');
     const sent = await browser.evaluate(
         `fetch('${elsewhere}').then(() => 'sent', () => 'refused')`);
-    assert.deepEqual([sent, requests], ['refused', 0]);
     other.close();
+    assert.deepEqual([sent, requests], ['refused', 0]);
 });

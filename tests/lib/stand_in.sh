@@ -8,7 +8,7 @@
 . "${BASH_SOURCE[0]%/*}/room.sh"
 
 mkdir -p 'a tree'/{bin,tmp,tests/library} && cd 'a tree' || exit
-cp -R "$root"/{.ci,keywrap,Makefile,man,completions,include,scripts,python,docs,examples,hardware,java,provider} .
+cp -R "$root"/{.ci,keywrap,Makefile,c,command,packaging,scripts,python,docs,java} .
 cp -R "$root"/{js,dist} "$root"/{SECURITY,CHANGELOG}.md .
 cp "$root/tests/library/build.sh" tests/library
 sed -i "1s|.*|#!${SH:-/bin/sh}|" keywrap
@@ -39,6 +39,8 @@ install -m 755 /dev/stdin bin/rt <<'END_OF_RT'
 #!/bin/bash
 . "$helpers"
 crate=${PWD##*/} words=$* output=out/keywrap
+[[ " $words " != *' --help '* ]] ||
+    { echo "${takes:---statements --links --antt-project --logic-built --backend}" && exit; }
 if [ "${0##*/}" = rattle ]; then
     printf '%s\n' "$@" >"$tree/words.$crate"
     [[ $words =~ (--jobs [0-9]+).* ]] && words="$1 ${BASH_REMATCH[1]}"
@@ -67,7 +69,7 @@ END_OF_PROGRAM
 [ "$1" != ci ] || sed '$ s/$/ by the other compiler/' out/keywrap | install -m 755 /dev/stdin out/keywrap.by-rattle
 echo "ends $crate" >>"$tree/notes"
 END_OF_RT
-cp bin/rt bin/rattle && echo 'the kit' >WHAT
+cp bin/rt bin/rattle && echo 'archive 0123' >WHAT && echo 'rattle-kit-one logic two' >KIT-ID
 install -m 755 /dev/stdin bin/rattle-link <<'END_OF_LINK'
 #!/bin/sh
 printf '%s\n' "$@" >"$tree/words.link"
@@ -90,7 +92,7 @@ rebuilds() {
     local change
     while read -r change; do
         eval "$change" >/dev/null 2>&1
-        find crates.txt include crates/*/{src,specs,proofs} -exec touch -d 2020-01-01 {} + 2>/dev/null
+        find crates.txt c/include crates/*/{src,specs,proofs} -exec touch -d 2020-01-01 {} + 2>/dev/null
         : >notes
         row "$1, twice after $change" eval "$1 && echo again >>notes && $1"
         noted "$1, twice after $change" "${@:2}" again

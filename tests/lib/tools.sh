@@ -27,6 +27,12 @@ sanitizes() {
     return $status
 }
 
+# has_crates NAME..: Debian has these crates.
+has_crates() {
+    local name
+    for name in "$@"; do compgen -G "/usr/share/cargo/registry/$name.*" || return; done
+}
+
 # overlays: an overlay of the root directory can be mounted.
 overlays() {
     unshare -m sh -ec 'mount -t tmpfs none /tmp && cd /tmp && mkdir upper work merged

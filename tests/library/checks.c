@@ -1,5 +1,5 @@
 /* checks.c: the expected results follow from the rules of the lengths, and from another AES
- * (tests/reference/one_table.c) over the loop of RFC 3394. Every buffer that a call writes is between bytes
+ * (c/reference/one_table.c) over the loop of RFC 3394. Every buffer that a call writes is between bytes
  * that it must not write, at a different alignment each time. */
 
 #include "checks.h"

@@ -4,7 +4,7 @@
 
 cc=${CC:-cc} tools='' runs=() memcheck=(valgrind)
 
-# Of Debian's arm64, as scripts/sysroot.sh unpacks it. Valgrind's launcher would start what is of this machine.
+# Of Debian's arm64, as packaging/sysroot.sh unpacks it. Valgrind's launcher would start what is of this machine.
 sysroot=${SYSROOT:-${XDG_CACHE_HOME:-${HOME:-}/.cache}/keywrap/sysroot-aarch64-unknown-linux-gnu}
 if [ "${TARGET:-}" = aarch64-unknown-linux-gnu ]; then
     cc=aarch64-linux-gnu-gcc tools=aarch64-linux-gnu-

@@ -35,8 +35,8 @@ of_glibc_2_17() {
 ### Names and needs of the C library in $library
 
 # The calls that return a status.
-exports=$(sed -n 's/^int32_t \(keywrap_[a-z_]*\)(.*/\1/p' "$root/include/keywrap.h" | sort)
-names=$(sed -nE 's/^(u?int32_t|size_t) (keywrap_[a-z_]*)\(.*/\2/p' "$root"/include/keywrap{,_steps}.h | sort)
+exports=$(sed -n 's/^int32_t \(keywrap_[a-z_]*\)(.*/\1/p' "$root/c/include/keywrap.h" | sort)
+names=$(sed -nE 's/^(u?int32_t|size_t) (keywrap_[a-z_]*)\(.*/\2/p' "$root"/c/include/keywrap{,_steps}.h | sort)
 
 # shows NM_OPTION.. FILE: the file shows the headers' names, and no others.
 shows() { diff <("${tools}nm" "$@" --defined-only | awk 'NF == 3 && $2 != "A" { print $3 }' | sort) - <<<"$names"; }
@@ -44,12 +44,14 @@ shows() { diff <("${tools}nm" "$@" --defined-only | awk 'NF == 3 && $2 != "A" { 
 # shows_only NAME FILE: the shared object shows this name only.
 shows_only() { [ "$("${tools}nm" -D --defined-only "$2" | awk '{ print $3 }')" = "$1" ]; }
 
-# versioned FILE: each name of the shared object is under the node of its version.
+# versioned FILE: each name of the shared object is under the node of its version: KEYWRAP_1 for the names of 1.0.0.
 versioned() {
-    local new='status_text|self_test|rewrap|unwrap_any|[a-z]+_many|(begin|step|end)_.*'
+    local first
+    first=$(sed -n 's/^ *\(keywrap_[a-z_]*\);$/\1/p' "$root/tests/library/1.0.0/keywrap.map")
     shows -D --without-symbol-versions "$1" &&
         diff <("${tools}nm" -D --defined-only "$1" | awk '$2 != "A" { print $3 }' | sort) \
-            <(sed -E "s/\$/@@KEYWRAP_1/; /^keywrap_($new)@/s/\$/.1/" <<<"$names" | sort)
+            <(awk 'NR == FNR { first[$1]; next } { print $1 "@@KEYWRAP_1" ($1 in first ? "" : ".1") }' \
+                <(echo "$first") - <<<"$names" | sort)
 }
 
 # wants FILE: the archive wants nothing but these of the C library.

@@ -12,7 +12,7 @@ use Rattle.key_files.specs.Base64Text.{IsBase64Of, alphabet_of, base64_meaning, 
 use Rattle.key_files.specs.Base64Text.{kept, misplaced, placed_meaning, symbol_text_meaning, symbols_meaning}
 use Rattle.key_files.specs.declared.base64_text.Alphabet.{Alphabet}
 use Rattle.key_files.specs.declared.base64_text.Alphabet.TheVariants.{Standard, UrlSafe}
-use Rattle.key_files.specs.declared.base64_text.Blanks.TheVariants.{Allowed, Refused}
+use Rattle.key_files.specs.declared.hex_text.Blanks.TheVariants.{Allowed, Refused}
 use Rattle.key_files.specs.declared.fault.Base64Fault.{Base64Fault}
 use Rattle.key_files.specs.declared.fault.FileFault.TheVariants.{TooLong}
 

@@ -18,15 +18,15 @@ use Rattle.base64.proofs.EngineFacts.{decode_of-encode_of}
 use Rattle.base64.proofs.Tables.{all_below_at}
 use Rattle.base64.specs.declared.decode.DecodeError.{DecodeError}
 use Rattle.key_files.specs.Base64Text.{FilesEncode, IsBase64Of, alphabet_at, alphabet_of, base64_line, base64_meaning, before_padding, decoded_meaning}
-use Rattle.key_files.specs.Base64Text.{encoding, encoding_of, first_foreign, first_no_padding, first_of_one, has_padding, is_allowed, is_allowed_blank}
+use Rattle.key_files.specs.Base64Text.{encoding, encoding_of, first_foreign, first_no_padding, first_of_one, has_padding, is_allowed}
 use Rattle.key_files.specs.Base64Text.{is_padding, is_standard, is_url_safe, kept, misplaced, output_encoding, place_fault, placed_meaning}
 use Rattle.key_files.specs.Base64Text.{symbol_text_meaning, symbols_meaning}
 use Rattle.key_files.specs.declared.base64_text.Alphabet.{Alphabet}
 use Rattle.key_files.specs.declared.base64_text.Alphabet.TheVariants.{Standard, UrlSafe}
-use Rattle.key_files.specs.declared.base64_text.Blanks.{Blanks}
-use Rattle.key_files.specs.declared.base64_text.Blanks.TheVariants.{Allowed, Refused}
+use Rattle.key_files.specs.declared.hex_text.Blanks.{Blanks}
+use Rattle.key_files.specs.declared.hex_text.Blanks.TheVariants.{Allowed, Refused}
 use Rattle.key_files.specs.declared.fault.Base64Fault.{Base64Fault}
-use Rattle.key_files.specs.HexText.{is_skipped}
+use Rattle.key_files.specs.HexText.{is_allowed_blank, is_skipped}
 use Rattle.key_files.specs.Writing.{PrintsAs}
 use Rattle.key_files.proofs.Lists.{IsLine-of, all-both, all-append, all-replicate, all-drop, filter-all, position-none, all-from_none, prefix_len-all, all-behind, all-unfiltered, behind-unfiltered, of_blanks, IsBytes-filter}
 use Rattle.key_files.proofs.Base64.{IsBase64Of-decoded, base64_meaning-placed, symbol_text_meaning-placed}

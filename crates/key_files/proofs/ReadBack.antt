@@ -5,12 +5,17 @@ use Rattle.std.specs.List.{filter, list_all, position_from}
 use Rattle.std.proofs.lemmas.List.Elements.{filter-append}
 use Rattle.std.proofs.lemmas.Iterator.Adapters.{position_from-zero}
 use Rattle.hex.specs.Hex.{IsBytes, encode_lower}
-use Rattle.key_files.specs.HexText.{digits_of, first_bad, first_no_digit, hex_line, is_hex_digit, is_skipped}
+use Rattle.key_files.specs.HexText.{digits_of, first_bad, hex_line, is_hex_digit, is_skipped}
 use Rattle.key_files.specs.Meaning.{digit_text_meaning, digits_meaning, hex_meaning}
 use Rattle.key_files.specs.Writing.{PrintsAs}
+use Rattle.key_files.specs.declared.hex_text.Blanks.TheVariants.{Allowed, Refused}
 use Rattle.key_files.proofs.Lists.{IsLine-of, all-both, all-filter, all-found, all-unfiltered, filter-all, of_blanks, position-none}
 use Rattle.key_files.proofs.Strict.{digit_text_meaning-lower}
 pub use Rattle.key_files.proofs.Strict.{all-lower}
+
+or_right : (a b : Bool) → b ≡ true → (a || b) ≡ true
+or_right true b h = refl
+or_right false b h = h
 
 -- a file whose bytes are the digits of a text and blanks
 module _ (file text bytes : List ℕ) (digits : filter is_hex_digit file ≡ filter is_hex_digit text)
@@ -20,19 +25,19 @@ module _ (file text bytes : List ℕ) (digits : filter is_hex_digit file ≡ fil
   unfolding hex_meaning
   of_digits (Some at) is h = cc h
   of_digits None is h =
-      let q : ℕ → Bool = λ c. is_hex_digit c || is_skipped c in
+      let q : ℕ → Bool = λ c. is_skipped c || is_hex_digit c in
       let keeps : ℕ → Bool = λ c. not (is_skipped c) in
       let all = all-found is_hex_digit 0 text is in
-      let each : list_all q text ≡ true = all-both is_hex_digit is_hex_digit q text (λ c d _. rw d refl) all all in
+      let each : list_all q text ≡ true = all-both is_hex_digit is_hex_digit q text (λ c d _. or_right (is_skipped c) (is_hex_digit c) d) all all in
       let kept : list_all q (filter keeps file) ≡ true = subst (λ l. list_all q l ≡ true) (sym others) (all-filter q keeps text each) in
-      let none : first_bad file ≡ None =
+      let none : first_bad Allowed file ≡ None =
       position-none q file (all-unfiltered q keeps file (of_blanks (λ c. q c ≡ true) refl refl refl refl) kept) in
       let same : digits_of file ≡ text = digits ∙ filter-all is_hex_digit text all in
       rw (none, same) h
 
   pub hex_meaning-of_text : digit_text_meaning text ≡ Ok bytes → hex_meaning file ≡ Ok bytes
   unfolding digit_text_meaning
-  hex_meaning-of_text h = of_digits (first_no_digit text) (sym (position_from-zero (λ c. not (is_hex_digit c)) text)) h
+  hex_meaning-of_text h = of_digits (first_bad Refused text) (sym (position_from-zero (λ c. not (is_hex_digit c)) text)) h
 
 hex_meaning-hex_line : (bytes : List ℕ) → IsBytes bytes → hex_meaning (hex_line bytes) ≡ Ok bytes
 hex_meaning-hex_line bytes h =

@@ -7,7 +7,8 @@ use Rattle.std.proofs.lemmas.Bool.Decides.{nat_tests}
 use Rattle.std.proofs.lemmas.List.{append_assoc, append-nil, drop_all, take_all, take_more_set}
 use Rattle.hex.specs.Hex.{IsBytes, encode_lower, encode_with, lower_digits}
 use Rattle.hex.proofs.Pairs.{drop-pair}
-use Rattle.key_files.specs.HexText.{first_no_digit, is_hex_digit, paired}
+use Rattle.key_files.specs.HexText.{first_bad, is_hex_digit, paired}
+use Rattle.key_files.specs.declared.hex_text.Blanks.TheVariants.{Refused}
 use Rattle.key_files.specs.Meaning.{digit_text_meaning, digits_meaning}
 use Rattle.key_files.proofs.Denoting.{digit_text_meaning-even}
 use Rattle.key_files.proofs.Lists.{position-none}
@@ -48,7 +49,7 @@ decoded_all text bytes i size end d =
 -- bytes that a text means are those that its digits spell
 pub paired-meant : (text bytes : List ℕ) → digit_text_meaning text ≡ Ok bytes → bytes ≡ paired text
 unfolding digit_text_meaning
-paired-meant text bytes h = spelled (first_no_digit text) h
+paired-meant text bytes h = spelled (first_bad Refused text) h
   where
     spelled : (bad : Option ℕ) → digits_meaning bad text ≡ Ok bytes → bytes ≡ paired text
     spelled (Some at) means = cc means

@@ -8,11 +8,11 @@ pub use Rattle.base64.specs.GeneralPurpose.{IsBytes, encode_of}
 use Rattle.base64.specs.declared.decode.DecodeError.{DecodeError}
 use Rattle.base64.specs.declared.decode.DecodeError.TheVariants.{InvalidLastSymbol}
 use Rattle.base64.specs.declared.engine.general_purpose.GeneralPurpose.{GeneralPurpose}
-use Rattle.key_files.specs.HexText.{is_skipped}
+use Rattle.key_files.specs.HexText.{is_allowed_blank, is_skipped}
 use Rattle.key_files.specs.declared.base64_text.Alphabet.{Alphabet}
 use Rattle.key_files.specs.declared.base64_text.Alphabet.TheVariants.{Standard, UrlSafe}
-use Rattle.key_files.specs.declared.base64_text.Blanks.{Blanks}
-use Rattle.key_files.specs.declared.base64_text.Blanks.TheVariants.{Allowed, Refused}
+use Rattle.key_files.specs.declared.hex_text.Blanks.{Blanks}
+use Rattle.key_files.specs.declared.hex_text.Blanks.TheVariants.{Allowed, Refused}
 use Rattle.key_files.specs.declared.fault.Base64Fault.{Base64Fault}
 use Rattle.key_files.specs.declared.fault.Base64Fault.TheVariants.{Character, BehindPadding, Length, TrailingBits}
 use Rattle.key_files.specs.declared.fault.FileFault.{FileFault}
@@ -53,11 +53,6 @@ is_only_in UrlSafe c = is_url_safe c
 -- a character of this alphabet, or padding
 abbrev pub is_base64 : Alphabet → ℕ → Bool
 is_base64 alphabet c = is_padding c || (is_shared c || is_only_in alphabet c)
-
--- space, tab, CR and LF, if blanks are allowed
-abbrev pub is_allowed_blank : Blanks → ℕ → Bool
-is_allowed_blank Allowed c = is_skipped c
-is_allowed_blank Refused c = false
 
 -- a character that is allowed in such a text
 abbrev pub is_allowed : Blanks → Alphabet → ℕ → Bool

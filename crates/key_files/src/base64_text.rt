@@ -6,16 +6,17 @@ ghost use Rattle.base64.specs.GeneralPurpose.{IsBytes, SameEngine, encode_of, en
 ghost use Rattle.key_files.specs.Base64Text.{IsBase64Of, alphabet_of, base64_fault_of, base64_line};
 ghost use Rattle.key_files.specs.Base64Text.{base64_meaning, before_padding, encoding_of};
 ghost use Rattle.key_files.specs.Base64Text.{first_foreign, first_no_padding, first_of_one};
-ghost use Rattle.key_files.specs.Base64Text.{is_allowed, is_allowed_blank, is_only_in, is_standard};
+ghost use Rattle.key_files.specs.Base64Text.{is_allowed, is_only_in, is_standard};
 ghost use Rattle.key_files.specs.Base64Text.{is_url_safe, kept, misplaced, misplaced_symbol};
 ghost use Rattle.key_files.specs.Base64Text.{output_encoding, symbol_text_meaning, symbols_meaning};
 ghost use Rattle.key_files.specs.Decoding.{DecodesText, place_of};
+ghost use Rattle.key_files.specs.HexText.{is_allowed_blank};
 ghost use Rattle.key_files.specs.declared.fault.FileFault.{FileFault};
 ghost use Rattle.key_files.specs.Reading.{IsMeaning, answer_of};
 ghost use Rattle.key_files.specs.Writing.{PrintsAs};
 
 use crate::fault::{Base64Fault, FileFault};
-use crate::hex_text::is_skipped;
+use crate::hex_text::{Blanks, is_allowed_blank, is_skipped};
 use base64::engine::GeneralPurpose;
 use base64::engine::general_purpose::{STANDARD, STANDARD_NO_PAD, URL_SAFE, URL_SAFE_NO_PAD};
 use base64::{DecodeAllocError, DecodeError, encoded_len};
@@ -28,13 +29,6 @@ pub enum Alphabet {
     Standard,
     /// The alphabet of section 5, with `-` and `_`.
     UrlSafe,
-}
-
-// Whether a text may have blanks: space, tab, CR and LF.
-#[derive(Clone, Copy)]
-enum Blanks {
-    Allowed,
-    Refused,
 }
 
 /// Replaces `bytes` with the bytes that a base64 text without blanks denotes.
@@ -190,15 +184,6 @@ fn is_allowed(blanks: Blanks, alphabet: Alphabet, c: u8) -> bool
     match c {
         b'=' | b'A'..=b'Z' | b'a'..=b'z' | b'0'..=b'9' => true,
         _ => is_only_in(alphabet, c) || is_allowed_blank(blanks, c),
-    }
-}
-
-fn is_allowed_blank(blanks: Blanks, c: u8) -> bool
-    ensures { result ≡ is_allowed_blank blanks c }
-{
-    match blanks {
-        Blanks::Allowed => is_skipped(c),
-        Blanks::Refused => false,
     }
 }
 

@@ -3,13 +3,20 @@
 ghost use Rattle.std.specs.Prelude.{◌≡◌, ◌≢◌, ◌<◌, ◌≤◌, ◌↔◌, length, IsOk, IfErr, IfOk, IfSome};
 ghost use Rattle.std.specs.Prelude.{Err, Ok, true};
 ghost use Rattle.key_files.specs.Decoding.{Decodes, DecodesHex, place_of};
-ghost use Rattle.key_files.specs.HexText.{digits_of, first_bad, first_no_digit, is_skipped, paired};
+ghost use Rattle.key_files.specs.HexText.{digits_of, first_bad, is_allowed_blank, is_skipped};
 ghost use Rattle.key_files.specs.Meaning.{digit_text_meaning, hex_meaning};
 ghost use Rattle.key_files.specs.declared.fault.FileFault.{FileFault};
 
 use crate::digit::{byte_of, is_hex_digit};
 use crate::fault::FileFault;
 use std::alloc::{AllocError, Allocator};
+
+// Whether a text may have blanks: space, tab, CR and LF.
+#[derive(Clone, Copy)]
+pub(crate) enum Blanks {
+    Allowed,
+    Refused,
+}
 
 /// Decodes the hex text `text`: digits of either case, in pairs. Space, tab, CR and LF are allowed
 /// anywhere.
@@ -19,13 +26,19 @@ use std::alloc::{AllocError, Allocator};
 pub fn decode_hex<A: Allocator + Copy>(alloc: A, text: &[u8]) -> Result<Vec<u8, A>, FileFault>
     ensures { DecodesHex text.now result }
 {
-    if let Some(at) = first_bad(text) {
+    if let Some(at) = first_bad(Blanks::Allowed, text) {
         return Err(FileFault::BadDigit { at });
     }
     if digit_count(text) % 2 == 1 {
         return Err(FileFault::OddDigits);
     }
-    Ok(decode_digits(alloc, text)?)
+    let digits = digits(alloc, text)?;
+    let mut bytes = Vec::new(alloc);
+    // An even number of digits is refused only for memory.
+    match decode_digits_into(&digits, &mut bytes) {
+        Ok(()) => Ok(bytes),
+        Err(_) => Err(FileFault::Memory),
+    }
 }
 
 /// Replaces `bytes` with the bytes that a text of digits only denotes, decoded into the room that
@@ -33,14 +46,17 @@ pub fn decode_hex<A: Allocator + Copy>(alloc: A, text: &[u8]) -> Result<Vec<u8, 
 ///
 /// Returns the first error that applies: BadDigit, OddDigits, Memory.
 #[tactic(auto, unfolding(crate::specs::Meaning::digit_text_meaning))]
-pub fn decode_digits_into(text: &[u8], bytes: &mut Vec<u8>) -> Result<(), FileFault>
+pub fn decode_digits_into<A: Allocator>(
+    text: &[u8],
+    bytes: &mut Vec<u8, A>,
+) -> Result<(), FileFault>
     ensures meaning { Decodes (digit_text_meaning text.now) bytes.new.items result }
     ensures within { IfErr result (λ fault. place_of fault ≤ length text.now) }
 {
     if bytes.resize(text.len() / 2, 0).is_ok() && decode_strict(text, bytes) {
         return Ok(());
     }
-    match first_no_digit(text) {
+    match first_bad(Blanks::Refused, text) {
         Some(at) => Err(FileFault::BadDigit { at }),
         None if text.len() % 2 == 1 => Err(FileFault::OddDigits),
         None => Err(FileFault::Memory),
@@ -72,18 +88,21 @@ pub(crate) fn is_skipped(c: u8) -> bool
     matches!(c, b' ' | b'\t' | b'\r' | b'\n')
 }
 
-fn first_bad(text: &[u8]) -> Option<usize>
-    ensures { result ≡ first_bad text.now }
+pub(crate) fn is_allowed_blank(blanks: Blanks, c: u8) -> bool
+    ensures { result ≡ is_allowed_blank blanks c }
 {
-    text.iter()
-        .position(|c| !(is_hex_digit(*c) || is_skipped(*c)))
+    match blanks {
+        Blanks::Allowed => is_skipped(c),
+        Blanks::Refused => false,
+    }
 }
 
-fn first_no_digit(text: &[u8]) -> Option<usize>
-    ensures place { result ≡ first_no_digit text.now }
+fn first_bad(blanks: Blanks, text: &[u8]) -> Option<usize>
+    ensures place { result ≡ first_bad blanks text.now }
     ensures bound { IfSome result (λ at. at < length text.now) }
 {
-    text.iter().position(|c| !is_hex_digit(*c))
+    text.iter()
+        .position(|c| !(is_allowed_blank(blanks, *c) || is_hex_digit(*c)))
 }
 
 fn digit_count(text: &[u8]) -> usize
@@ -98,16 +117,4 @@ fn digits<A: Allocator>(alloc: A, text: &[u8]) -> Result<Vec<u8, A>, AllocError>
     let mut digits = text.to_vec(alloc)?;
     digits.retain(|c| is_hex_digit(*c));
     Ok(digits)
-}
-
-// An even number of digits is refused only for memory.
-fn decode_digits<A: Allocator + Copy>(alloc: A, text: &[u8]) -> Result<Vec<u8, A>, AllocError>
-    ensures { IfOk result (λ v. v.items ≡ paired (digits_of text.now)) }
-{
-    let digits = digits(alloc, text)?;
-    let mut bytes = vec![in alloc; 0u8; digits.len() / 2]?;
-    if !decode_strict(&digits, &mut bytes) {
-        return Err(AllocError);
-    }
-    Ok(bytes)
 }

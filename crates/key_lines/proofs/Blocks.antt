@@ -1,5 +1,7 @@
 -- A block of answers after it was written, and after texts that were put.
-use Rattle.std.proofs.Common.{◌≡◌, ℕ, List, [], ◌++◌, take, drop, Option, sym, ap, ◌∙◌, append_assoc, append-nil, take-append-drop}
+use Rattle.std.proofs.Common.{◌≡◌, ℕ, List, [], ◌++◌, take, drop, Option, Result, Ok, Err, true, false, sym, ap, ◌∙◌, append_assoc, append-nil, take-append-drop}
+use Rattle.std.specs.Prelude.{IfErr, OnOk}
+use Rattle.std.specs.Result.{is_err}
 use Rattle.std.specs.Io.KnownBytes.{Appends}
 use Rattle.std.proofs.KnownBytes.{Appends-trans}
 use Rattle.key_lines.specs.Block.{Sends}
@@ -22,3 +24,12 @@ Sends-trans a b c block mid after text p q = record {
   written = Appends-trans a b c p.sent q.sent p.written q.written;
   kept = ap (λ l. l ++ text) p.kept ∙ append_assoc p.sent mid text ∙ ap (λ l. p.sent ++ l) q.kept ∙ sym (append_assoc p.sent q.sent after);
 }
+
+-- what a call says if it is refused, and if it is not
+pub if_refused : {A E P : Type 0} (r : Result A E) → is_err r ≡ true → IfErr r (λ _. P) → P
+if_refused (Ok done) is h = cc is
+if_refused (Err fault) is h = h
+
+pub if_done : {A E P : Type 0} (r : Result A E) → is_err r ≡ false → OnOk r P → P
+if_done (Ok done) is h = h
+if_done (Err fault) is h = cc is

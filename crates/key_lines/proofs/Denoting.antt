@@ -6,10 +6,9 @@ use Rattle.key_files.proofs.Denoting.{file_meaning-within}
 use Rattle.key_files.specs.declared.fault.Base64Fault.TheVariants.{Character, BehindPadding, Length, TrailingBits}
 use Rattle.key_files.specs.declared.fault.FileFault.{FileFault}
 use Rattle.key_files.specs.declared.fault.FileFault.TheVariants.{Read, TooLong, BadDigit, OddDigits, BadBase64, Memory}
-use Rattle.key_lines.specs.Answers.{Answer}
+use Rattle.key_lines.specs.Answers.{Answer, line_fault_of}
 use Rattle.key_lines.specs.Meaning.{blank_ended_meaning, is_blank, line_limit, line_meaning, meaning_behind, text_meaning, text_of}
 use Rattle.key_lines.specs.Running.{MakesAnswer}
-use Rattle.key_lines.specs.declared.fault.LineFault.TheVariants.{Input}
 use Rattle.key_lines.specs.declared.text.TextNotation.{TextNotation}
 
 -- a line denotes what its text does
@@ -39,7 +38,7 @@ line_meaning-within notation line fits = file_meaning-within (blank_ended_meanin
 -- why a line denotes no bytes
 pub MakesAnswer-input : {R : Type 0} (notation : TextNotation) (answers : List ℕ → Result Answer R → Type 0) (line bytes : List ℕ)
     (fault : FileFault) → length line ≤ line_limit → DecodesText (blank_ended_meaning notation line) bytes (Err fault)
-    → MakesAnswer notation answers line (Err (Input fault))
+    → MakesAnswer notation answers line (Err (line_fault_of fault))
 MakesAnswer-input notation answers line bytes Memory fits d = inl refl
 MakesAnswer-input notation answers line bytes Read fits d = absurd d
 MakesAnswer-input notation answers line bytes TooLong fits d = absurd d

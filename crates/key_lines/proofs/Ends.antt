@@ -65,9 +65,9 @@ module _ {R : Type 0} (options : RunOptions) (answers : List ℕ → Result Answ
       let taken = r.lines.taken in
       let all : x ≡ taken = r.ends.1 in
       written_of x b o q l m (Ok summary) r [] (ap lines_of all ∙ sym (append-nil (lines_of taken))) (r.ends.0, refl)
-  headline (Some x) b o q l m (Err (AtLine line fault)) r =
+  headline (Some x) b o q l m (Err (AtLine refused)) r =
       let rest = rest_lines x r.lines.taken r.left r.lines.stands_after r.lines.whole in
-      written_of x b o q l m (Err (AtLine line fault)) r rest.0 rest.1 r.ends.0
+      written_of x b o q l m (Err (AtLine refused)) r rest.0 rest.1 r.ends.0
   headline (Some x) b o q l m (Err (Write answered unsent)) r =
       let rest = rest_lines x r.lines.taken r.left r.lines.stands_after r.lines.whole in
       written_of x b o q l m (Err (Write answered unsent)) r rest.0 rest.1 r.ends.0

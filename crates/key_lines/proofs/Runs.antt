@@ -7,22 +7,21 @@ use Rattle.std.proofs.KnownBytes.{Consumes-trans, Consumes-nil, Appends-nil}
 use Rattle.std.proofs.lemmas.List.{map-append}
 use Rattle.std.proofs.lemmas.List.Folds.{concat-append}
 use Rattle.key_files.specs.declared.fault.FileFault.{FileFault}
-use Rattle.key_files.specs.declared.fault.FileFault.TheVariants.{Read, TooLong, BadDigit, OddDigits, BadBase64, Memory}
-use Rattle.key_lines.specs.Answers.{Answer, Logs, answered, output_of, refusal_of, refusals_of}
+use Rattle.key_files.specs.declared.fault.FileFault.TheVariants as files
+use Rattle.key_lines.specs.Answers.{Answer, Logs, answered, line_fault_of, output_of, refusal_of, refusals_of}
 use Rattle.key_lines.specs.Block.{Sends}
 use Rattle.key_lines.specs.Lines.{lines_of, EndsWithLf, EndsLine}
 use Rattle.key_lines.specs.Meaning.{line_limit}
 use Rattle.key_lines.specs.Reading.{IsAllOf, ReadsLine, TakesLine}
-use Rattle.key_lines.specs.Running.{AreResults, FindsLine, LineAnswer, LineResult, MakesOutput, RunsLines, StepEnds, Steps, StopsFor, is_own, written_for}
+use Rattle.key_lines.specs.Running.{AreResults, FindsLine, LineAnswer, LineResult, MakesOutput, RunsLines, StepEnds, Steps, StepsLine, StopsFor, is_own, written_for}
 use Rattle.key_lines.specs.Summary.{HasRoom, counted, counted_all}
 use Rattle.key_lines.specs.declared.line.Line.{Line}
 use Rattle.key_lines.specs.declared.line.Line.TheVariants.{Ended, Last, Missing}
 use Rattle.key_lines.specs.declared.fault.LineFault.{LineFault}
-use Rattle.key_lines.specs.declared.fault.LineFault.TheVariants.{Input, Refused}
+use Rattle.key_lines.specs.declared.fault.LineFault.TheVariants.{Input, Refused, Memory, TooManyLines}
 use Rattle.key_lines.specs.declared.fault.RefusedLine.{RefusedLine}
 use Rattle.key_lines.specs.declared.fault.RunFault.{RunFault}
 use Rattle.key_lines.specs.declared.fault.RunFault.TheVariants.{AtLine, Write}
-use Rattle.key_files.specs.declared.fault.WriteFault.{WriteFault}
 use Rattle.key_lines.specs.declared.job.Mark.{Mark}
 use Rattle.key_lines.specs.declared.run.RunOptions.{RunOptions}
 use Rattle.key_lines.specs.declared.summary.RunSummary.{RunSummary}
@@ -99,37 +98,40 @@ module _ {R : Type 0} (options : RunOptions) (answers : List ℕ → Result Answ
   FindsLine-none {a = a} o log block block' s same room ends = record { left = a; steps = Steps-none a o log block block' s same room; ends = ends }
 
   pub stops_unread : (a c : Option (List ℕ)) (line : List ℕ) (fault : FileFault) → ReadsLine line_limit a c line (Err fault)
-      → StopsFor options answers a c (Input fault)
-  stops_unread a c line TooLong r = (line, r.0, r.1)
-  stops_unread a c line Read r = (line, r.0)
-  stops_unread a c line Memory r = (line, r.0.stands_after)
-  stops_unread a c line (BadDigit at) r = absurd r
-  stops_unread a c line OddDigits r = absurd r
-  stops_unread a c line (BadBase64 wrong) r = absurd r
+      → StopsFor options answers a c (line_fault_of fault)
+  stops_unread a c line files.TooLong r = (line, r.0, r.1)
+  stops_unread a c line files.Read r = (line, r.0)
+  stops_unread a c line files.Memory r = (line, r.0.stands_after)
+  stops_unread a c line (files.BadDigit at) r = absurd r
+  stops_unread a c line files.OddDigits r = absurd r
+  stops_unread a c line (files.BadBase64 wrong) r = absurd r
 
   pub stops_refused : (a c : Option (List ℕ)) (line shown : List ℕ) (met : Line) (fault : LineFault R) → met ≢ Missing → ReadsLine line_limit a c line (Ok met)
-      → shown ≡ line → (fault ≡ Input Memory) ⊎ ((options.keep_going ≡ false) × (is_own fault ≡ true) × LineAnswer options.notation answers shown (Err fault))
+      → shown ≡ line → (fault ≡ Memory) ⊎ ((options.keep_going ≡ false) × (is_own fault ≡ true) × LineAnswer options.notation answers shown (Err fault))
       → StopsFor options answers a c fault
   stops_refused a c line shown met fault some r same made = at fault made
     where
       t : TakesLine a c shown
       t = subst (TakesLine a c) (sym same) (taken_of a c line met some r).0
 
-      at : (f : LineFault R) → (f ≡ Input Memory) ⊎ ((options.keep_going ≡ false) × (is_own f ≡ true) × LineAnswer options.notation answers shown (Err f))
+      at : (f : LineFault R) → (f ≡ Memory) ⊎ ((options.keep_going ≡ false) × (is_own f ≡ true) × LineAnswer options.notation answers shown (Err f))
           → StopsFor options answers a c f
       at f (inl is) = subst (StopsFor options answers a c) (sym is) (t.taken, t.stands_after)
       at (Refused refusal) (inr m) = (shown, t, m.2, m.0)
-      at (Input (BadDigit place)) (inr m) = (shown, t, m.2, m.0)
-      at (Input OddDigits) (inr m) = (shown, t, m.2, m.0)
-      at (Input (BadBase64 wrong)) (inr m) = (shown, t, m.2, m.0)
-      at (Input Read) (inr m) = cc m.1
-      at (Input TooLong) (inr m) = cc m.1
-      at (Input Memory) (inr m) = cc m.1
+      at (Input (files.BadDigit place)) (inr m) = (shown, t, m.2, m.0)
+      at (Input files.OddDigits) (inr m) = (shown, t, m.2, m.0)
+      at (Input (files.BadBase64 wrong)) (inr m) = (shown, t, m.2, m.0)
+      at (Input files.Read) (inr m) = cc m.1
+      at (Input files.TooLong) (inr m) = cc m.1
+      at (Input files.Memory) (inr m) = cc m.1
+      at Memory (inr m) = cc m.1
+      at TooManyLines (inr m) = cc m.1
 
-  -- what makes the output of a line does not find that it cannot be read
-  pub never_unread : (line output : List ℕ) (fault : LineFault R) → MakesOutput options answers line output (Err fault) → fault ≢ Input Read
-  never_unread line output fault (inl is) e = cc
-  never_unread line output fault (inr m) e = cc m.1
+  -- what makes the output of a line finds neither that it cannot be read, nor that there were too many
+  pub never_unread : (line output : List ℕ) (fault : LineFault R) → MakesOutput options answers line output (Err fault)
+      → (fault ≢ Input files.Read) × (fault ≢ TooManyLines)
+  never_unread line output fault (inl is) = (λ e. cc, λ e. cc)
+  never_unread line output fault (inr m) = (λ e. cc m.1, λ e. cc m.1)
 
   -- the block was written
   pub FindsLine-sent : {found : Result Line (LineFault R)} {a c o : Option (List ℕ)} (q : Option (List ℕ)) {log log' : Option (List (RefusedLine R))}
@@ -241,13 +243,15 @@ module _ {R : Type 0} (options : RunOptions) (answers : List ℕ → Result Answ
   next_of (Ok Ended) taken a b c e = ([], subst (λ o. Consumes b o []) e.1 (Consumes-nil b))
   next_of (Ok Last) taken a b c e = ([], e.1)
   next_of (Ok Missing) taken a b c e = ([], e.1)
-  next_of (Err (Input TooLong)) taken a b c e = (e.0, e.1.stands_after)
-  next_of (Err (Input Read)) taken a b c e = (e.0, e.1.stands_after)
-  next_of (Err (Input Memory)) taken a b c e = e
-  next_of (Err (Input (BadDigit at))) taken a b c e = (e.1.taken, e.1.stands_after)
-  next_of (Err (Input OddDigits)) taken a b c e = (e.1.taken, e.1.stands_after)
-  next_of (Err (Input (BadBase64 wrong))) taken a b c e = (e.1.taken, e.1.stands_after)
+  next_of (Err (Input files.TooLong)) taken a b c e = (e.0, e.1.stands_after)
+  next_of (Err (Input files.Read)) taken a b c e = (e.0, e.1.stands_after)
+  next_of (Err (Input files.Memory)) taken a b c e = (e.1.taken, e.1.stands_after)
+  next_of (Err (Input (files.BadDigit at))) taken a b c e = (e.1.taken, e.1.stands_after)
+  next_of (Err (Input files.OddDigits)) taken a b c e = (e.1.taken, e.1.stands_after)
+  next_of (Err (Input (files.BadBase64 wrong))) taken a b c e = (e.1.taken, e.1.stands_after)
   next_of (Err (Refused refusal)) taken a b c e = (e.1.taken, e.1.stands_after)
+  next_of (Err Memory) taken a b c e = e
+  next_of (Err TooManyLines) taken a b c e = ([], subst (λ o. Consumes b o []) (sym e) (Consumes-nil b))
 
   -- the end of the input
   pub RunsLines-done : {a b c o p q : Option (List ℕ)} {l m n : Option (List (RefusedLine R))} {mid after : List ℕ} {s s' : RunSummary R}
@@ -269,14 +273,15 @@ module _ {R : Type 0} (options : RunOptions) (answers : List ℕ → Result Answ
 
   -- a line at which the run stops
   pub RunsLines-stopped : {a b c o p q : Option (List ℕ)} {l m n : Option (List (RefusedLine R))} {mid after : List ℕ} {s s' : RunSummary R}
-      {fault : LineFault R} → Run a b o p l m mid s → FindsLine options answers b c p q m n mid after s s' (Err fault) → after ≡ []
-      → RunsLines options answers a c o q l n (Err (AtLine (s'.lines + 1) fault))
-  RunsLines-stopped {after = after} old f empty =
+      (refused : RefusedLine R) → refused.line ≡ s'.lines + 1 → Run a b o p l m mid s
+      → FindsLine options answers b c p q m n mid after s s' (Err refused.fault) → after ≡ []
+      → RunsLines options answers a c o q l n (Err (AtLine refused))
+  RunsLines-stopped {after = after} refused place old f empty =
       let all = joined old.steps old.ends f.steps in
       record {
         left = f.left;
         lines = all.lines;
-        ends = (ap (λ k. k + 1) ((summarizes_all all.lines.results _ all.counts).lines), f.ends);
+        ends = (place ∙ ap (λ k. k + 1) ((summarizes_all all.lines.results _ all.counts).lines), f.ends);
         logs = all.logs;
         unsent = after;
         sends = all.sends;
@@ -284,27 +289,52 @@ module _ {R : Type 0} (options : RunOptions) (answers : List ℕ → Result Answ
       }
 
   -- a block that the writer refused
-  pub RunsLines-refused : (unsent : ℕ) {a b c o p q : Option (List ℕ)} {l m n : Option (List (RefusedLine R))} {mid after : List ℕ} {s s' : RunSummary R}
-      {found : Result Line (LineFault R)} → length after ≡ unsent → Run a b o p l m mid s → FindsLine options answers b c p q m n mid after s s' found
-      → 0 < length after → RunsLines options answers a c o q l n (Err (Write s'.lines unsent))
-  RunsLines-refused unsent {b = b} {c = c} {after = after} {found = found} size old f some =
+  pub RunsLines-refused : (answered unsent : ℕ) {a b c o p q : Option (List ℕ)} {l m n : Option (List (RefusedLine R))} {mid after : List ℕ}
+      {s s' : RunSummary R} {found : Result Line (LineFault R)} → answered ≡ s'.lines → length after ≡ unsent → 0 < unsent → Run a b o p l m mid s
+      → FindsLine options answers b c p q m n mid after s s' found → RunsLines options answers a c o q l n (Err (Write answered unsent))
+  RunsLines-refused answered unsent {b = b} {c = c} {after = after} {found = found} count size some old f =
       let all = joined old.steps old.ends f.steps in
       record {
         left = f.left;
         lines = all.lines;
-        ends = ((summarizes_all all.lines.results _ all.counts).lines, next_of found f.steps.lines.taken b f.left c f.ends);
+        ends = (count ∙ (summarizes_all all.lines.results _ all.counts).lines, next_of found f.steps.lines.taken b f.left c f.ends);
         logs = all.logs;
         unsent = after;
         sends = all.sends;
-        all_but = (size, subst (λ n. 0 < n) size some);
+        all_but = (size, some);
       }
 
--- the line at which a run stops that cannot read it, for want of a number
-pub last_line : {R : Type 0} (line lines : ℕ) (fault : LineFault R)
-    → (let met : Result (Result Line (LineFault R)) WriteFault = Ok (Err fault) in met ≡ Ok (Err (Input Read)) → lines ≡ 18446744073709551614)
-    → (let answer : Result (RunSummary R) (RunFault R) = Err (AtLine (lines + 1) fault) in answer ≡ Err (AtLine line (Input Read)))
-    → line ≡ 18446744073709551615
-last_line line lines fault read e =
-    let same : fault ≡ Input Read = cc e in
-    let place : lines + 1 ≡ line = cc e in
-    omega (arith, place, read (cc same))
+  -- how a step ends that stops the run
+  pub RunsLines-ended : {a b c o p q : Option (List ℕ)} {l m n : Option (List (RefusedLine R))} {mid : List ℕ} (after : List ℕ) {s : RunSummary R}
+      (s' : RunSummary R) (fault : RunFault R) → Run a b o p l m mid s → StepsLine options answers b c p q m n mid after s s' (Err fault)
+      → RunsLines options answers a c o q l n (Err fault)
+  RunsLines-ended after s' (AtLine refused) old step = RunsLines-stopped refused step.1 old step.0 step.2
+  RunsLines-ended after s' (Write answered unsent) old step = RunsLines-refused answered unsent step.2 step.3 step.4 old step.1
+
+-- the fault of a line that was not read
+pub line_fault-read : {R : Type 0} (fault : FileFault) → (let made : LineFault R = line_fault_of fault in made ≡ Input files.Read) → fault ≡ files.Read
+line_fault-read files.Read e = refl
+line_fault-read files.TooLong e = cc e
+line_fault-read files.Memory e = cc e
+line_fault-read (files.BadDigit at) e = cc e
+line_fault-read files.OddDigits e = cc e
+line_fault-read (files.BadBase64 wrong) e = cc e
+
+pub line_fault-counted : {R : Type 0} (fault : FileFault) → (let made : LineFault R = line_fault_of fault in made ≢ TooManyLines)
+line_fault-counted files.Read e = cc e
+line_fault-counted files.TooLong e = cc e
+line_fault-counted files.Memory e = cc e
+line_fault-counted (files.BadDigit at) e = cc e
+line_fault-counted files.OddDigits e = cc e
+line_fault-counted (files.BadBase64 wrong) e = cc e
+
+-- a line at which a run stops is one line
+pub same_fault : {R T : Type 0} (a b : RefusedLine R) → (let stop : Result T (RunFault R) = Err (AtLine a) in stop ≡ Err (AtLine b)) → a.fault ≡ b.fault
+same_fault {R} a b e =
+    let same : a ≡ b = cc e in
+    ap (λ (l : RefusedLine R). l.fault) same
+
+pub same_number : {R T : Type 0} (a b : RefusedLine R) → (let stop : Result T (RunFault R) = Err (AtLine a) in stop ≡ Err (AtLine b)) → a.line ≡ b.line
+same_number {R} a b e =
+    let same : a ≡ b = cc e in
+    ap (λ (l : RefusedLine R). l.line) same

@@ -5,8 +5,7 @@ use Rattle.std.specs.List.{concat}
 use Rattle.std.specs.Io.KnownBytes.{Consumes}
 use Rattle.key_lines.specs.Answers.{Answer, AreLines, AreOneEach, Logs, answered, output_of, refusals_of}
 use Rattle.key_lines.specs.Block.{Sends}
-use Rattle.key_files.specs.declared.fault.WriteFault.{WriteFault}
-use Rattle.key_files.specs.declared.fault.FileFault.TheVariants.{Read, TooLong, BadDigit, OddDigits, BadBase64, Memory}
+use Rattle.key_files.specs.declared.fault.FileFault.TheVariants as files
 use Rattle.key_lines.specs.Lines.{lines_of, EndsWithLf, EndsLine}
 use Rattle.key_lines.specs.Meaning.{line_limit, line_meaning}
 use Rattle.key_lines.specs.Reading.{IsAllOf, TakesLine, TakesPart}
@@ -16,7 +15,7 @@ use Rattle.key_lines.specs.declared.text.TextNotation.{TextNotation}
 use Rattle.key_lines.specs.declared.line.Line.{Line}
 use Rattle.key_lines.specs.declared.line.Line.TheVariants.{Ended}
 use Rattle.key_lines.specs.declared.fault.LineFault.{LineFault}
-use Rattle.key_lines.specs.declared.fault.LineFault.TheVariants.{Input, Refused}
+use Rattle.key_lines.specs.declared.fault.LineFault.TheVariants.{Input, Refused, Memory, TooManyLines}
 use Rattle.key_lines.specs.declared.fault.RefusedLine.{RefusedLine}
 use Rattle.key_lines.specs.declared.fault.RunFault.{RunFault}
 use Rattle.key_lines.specs.declared.fault.RunFault.TheVariants.{AtLine, Write}
@@ -28,16 +27,19 @@ abbrev pub LineAnswer : {R : Type 0} → TextNotation → (List ℕ → Result A
 LineAnswer notation answers line (Ok answer) = (X : List ℕ) × (line_meaning notation line ≡ Ok X) × answers X (Ok answer)
 LineAnswer notation answers line (Err (Refused refusal)) = (X : List ℕ) × (line_meaning notation line ≡ Ok X) × answers X (Err refusal)
 LineAnswer notation answers line (Err (Input fault)) = line_meaning notation line ≡ Err fault
+LineAnswer notation answers line (Err fault) = ⊥
 
 -- A line that is refused for itself: it denotes no bytes, or its bytes have no answer.
 abbrev pub is_own : {R : Type 0} → LineFault R → Bool
 is_own (Refused refusal) = true
-is_own (Input (BadDigit at)) = true
-is_own (Input OddDigits) = true
-is_own (Input (BadBase64 wrong)) = true
-is_own (Input Read) = false
-is_own (Input TooLong) = false
-is_own (Input Memory) = false
+is_own (Input (files.BadDigit at)) = true
+is_own (Input files.OddDigits) = true
+is_own (Input (files.BadBase64 wrong)) = true
+is_own (Input files.Read) = false
+is_own (Input files.TooLong) = false
+is_own (Input files.Memory) = false
+is_own Memory = false
+is_own TooManyLines = false
 
 -- What a run makes of a line: its answer or, if the run continues after refusals, why the line is refused for itself.
 abbrev pub LineResult : {R : Type 0} → RunOptions → (List ℕ → Result Answer R → Type 0) → List ℕ → Result Answer (LineFault R) → Type 0
@@ -57,29 +59,30 @@ written_for results = concat (map output_of results)
 
 -- A run stops at a line for this fault: what it takes of the line. One that continues after refusals stops for none of these.
 abbrev pub StopsFor : {R : Type 0} → RunOptions → (List ℕ → Result Answer R → Type 0) → Option (List ℕ) → Option (List ℕ) → LineFault R → Type 0
-StopsFor options answers input input' (Input TooLong) = (part : List ℕ) × TakesPart input input' part × (length part ≡ line_limit + 1)
-StopsFor options answers input input' (Input Read) = (part : List ℕ) × TakesPart input input' part
-StopsFor options answers input input' (Input Memory) = (taken : List ℕ) × Consumes input input' taken
+StopsFor options answers input input' (Input files.TooLong) = (part : List ℕ) × TakesPart input input' part × (length part ≡ line_limit + 1)
+StopsFor options answers input input' (Input files.Read) = (part : List ℕ) × TakesPart input input' part
+StopsFor options answers input input' Memory = (taken : List ℕ) × Consumes input input' taken
+StopsFor options answers input input' TooManyLines = input' ≡ input
 StopsFor options answers input input' fault =
     (line : List ℕ) × TakesLine input input' line × LineAnswer options.notation answers line (Err fault) × (options.keep_going ≡ false)
 
 -- What the call that makes the answer to a line answers. Memory says nothing of the line.
 abbrev pub MakesAnswer : {R : Type 0} → TextNotation → (List ℕ → Result Answer R → Type 0) → List ℕ → Result Answer (LineFault R) → Type 0
 MakesAnswer notation answers line (Ok answer) = LineAnswer notation answers line (Ok answer)
-MakesAnswer notation answers line (Err fault) = (fault ≡ Input Memory) ⊎ ((is_own fault ≡ true) × LineAnswer notation answers line (Err fault))
+MakesAnswer notation answers line (Err fault) = (fault ≡ Memory) ⊎ ((is_own fault ≡ true) × LineAnswer notation answers line (Err fault))
 
 -- What the call that makes what is written for a line answers, and leaves in its output.
 abbrev pub MakesOutput : {R : Type 0} → RunOptions → (List ℕ → Result Answer R → Type 0) → List ℕ → List ℕ → Result (Result Mark (LineFault R)) (LineFault R) → Type 0
 MakesOutput options answers line output (Ok made) = LineResult options answers line (answered output made) × (output ≡ output_of (answered output made))
 MakesOutput options answers line output (Err fault) =
-    (fault ≡ Input Memory) ⊎ ((options.keep_going ≡ false) × (is_own fault ≡ true) × LineAnswer options.notation answers line (Err fault))
+    (fault ≡ Memory) ⊎ ((options.keep_going ≡ false) × (is_own fault ≡ true) × LineAnswer options.notation answers line (Err fault))
 
 -- How a run ends whose lines had these results: at the end of the input, with a summary of them, or at the next line.
 abbrev pub RunEnds : {R : Type 0} → RunOptions → (List ℕ → Result Answer R → Type 0) → List (Result Answer (LineFault R)) → (at_end : Type 0)
     → Option (List ℕ) → Option (List ℕ) → Result (RunSummary R) (RunFault R) → Type 0
 RunEnds options answers results at_end input input' (Ok summary) = Summarizes results summary × at_end × Consumes input input' []
-RunEnds options answers results at_end input input' (Err (AtLine line fault)) =
-    (line ≡ length results + 1) × StopsFor options answers input input' fault
+RunEnds options answers results at_end input input' (Err (AtLine refused)) =
+    (refused.line ≡ length results + 1) × StopsFor options answers input input' refused.fault
 RunEnds options answers results at_end input input' (Err (Write answered unsent)) =
     (answered ≡ length results) × ((next : List ℕ) × Consumes input input' next)
 
@@ -138,19 +141,22 @@ pub record FindsLine {R : Type 0} (options : RunOptions) (answers : List ℕ →
   pub steps : Steps options answers input left out out' log log' block block' summary summary'
   pub ends : StepEnds options answers steps.lines.taken input left input' found
 
--- the same with the block written, unless a line follows, or the writer refuses
+-- the same with the block written, unless a line follows: what it ends with, or the line at which the run stops, or what the writer refused
 abbrev pub StepsLine : {R : Type 0} → RunOptions → (List ℕ → Result Answer R → Type 0) → Option (List ℕ) → Option (List ℕ) → Option (List ℕ) → Option (List ℕ)
     → Option (List (RefusedLine R)) → Option (List (RefusedLine R)) → List ℕ → List ℕ → RunSummary R → RunSummary R
-    → Result (Result Line (LineFault R)) WriteFault → Type 0
+    → Result Line (RunFault R) → Type 0
 StepsLine options answers input input' out out' log log' block block' s s' (Ok found) =
-    FindsLine options answers input input' out out' log log' block block' s s' found × (found ≢ Ok Ended → block' ≡ [])
-StepsLine {R} options answers input input' out out' log log' block block' s s' (Err refused) =
-    (found : Result Line (LineFault R)) × FindsLine options answers input input' out out' log log' block block' s s' found × (0 < length block')
+    FindsLine options answers input input' out out' log log' block block' s s' (Ok found) × (found ≢ Ended → block' ≡ [])
+StepsLine options answers input input' out out' log log' block block' s s' (Err (AtLine refused)) =
+    FindsLine options answers input input' out out' log log' block block' s s' (Err refused.fault) × (refused.line ≡ s'.lines + 1) × (block' ≡ [])
+StepsLine {R} options answers input input' out out' log log' block block' s s' (Err (Write answered unsent)) =
+    (found : Result Line (LineFault R)) × FindsLine options answers input input' out out' log log' block block' s s' found
+    × (answered ≡ s'.lines) × (length block' ≡ unsent) × (0 < unsent)
 
 -- the results of all lines, with a summary of them, or of the lines before a line
 abbrev pub Counts : {R : Type 0} → List (Result Answer (LineFault R)) → List (List ℕ) → Result (RunSummary R) (RunFault R) → Type 0
 Counts results more (Ok summary) = Summarizes results summary × (more ≡ [])
-Counts results more (Err (AtLine line fault)) = line ≡ length results + 1
+Counts results more (Err (AtLine refused)) = refused.line ≡ length results + 1
 Counts results more (Err (Write answered unsent)) = answered ≡ length results
 
 -- The headline, for an input of these bytes. What was written are the answers to its first lines, in order, and each is

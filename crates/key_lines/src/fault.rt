@@ -1,15 +1,33 @@
 //! Why a run stops.
 
+ghost use Rattle.std.specs.Prelude.{◌≡◌};
+ghost use Rattle.key_lines.specs.Answers.{line_fault_of};
+ghost use Rattle.key_lines.specs.declared.fault.AnswerFault.TheVariants as AnswerFaults;
+
 use key_files::FileFault;
+use std::alloc::AllocError;
 use std::fmt;
+
+/// Why bytes have no answer.
+#[derive(Clone, Copy, Debug, PartialEq)]
+pub enum AnswerFault<R> {
+    /// They were refused.
+    Refused(R),
+    /// An allocation failed.
+    Memory,
+}
 
 /// Why a line was refused.
 #[derive(Clone, Copy, Debug, PartialEq)]
 pub enum LineFault<R> {
-    /// The line cannot be read or decoded, or an allocation failed, even for its answer.
+    /// The line cannot be read or decoded.
     Input(FileFault),
     /// The bytes of the line were refused.
     Refused(R),
+    /// An allocation failed.
+    Memory,
+    /// There were so many lines that none after it would have a number.
+    TooManyLines,
 }
 
 /// A line of the input that was refused.
@@ -25,12 +43,7 @@ pub struct RefusedLine<R> {
 #[derive(Drop, PartialEq)]
 pub enum RunFault<R> {
     /// The lines before this line were answered, and this line was not.
-    AtLine {
-        /// The line, counted from 1.
-        line: u64,
-        /// Why it was not answered.
-        fault: LineFault<R>,
-    },
+    AtLine(RefusedLine<R>),
     /// The writer took all but the last bytes of the answers.
     Write {
         /// The number of lines that were answered.
@@ -40,12 +53,32 @@ pub enum RunFault<R> {
     },
 }
 
+impl<R> From<AllocError> for AnswerFault<R> {
+    ghost from_gives = { λ _ fault. fault ≡ AnswerFaults.Memory };
+
+    fn from(_error: AllocError) -> AnswerFault<R> {
+        AnswerFault::Memory
+    }
+}
+
+// Returns the fault of a line for a fault of its text.
+pub(crate) fn line_fault<R>(fault: FileFault) -> LineFault<R>
+    ensures { result ≡ line_fault_of fault }
+{
+    match fault {
+        FileFault::Memory => LineFault::Memory,
+        fault => LineFault::Input(fault),
+    }
+}
+
 impl<R: fmt::Display> fmt::Display for RefusedLine<R> {
     fn fmt<W: fmt::Write>(&self, f: &mut fmt::Formatter<W>) -> fmt::Result {
         let line = self.line;
         match &self.fault {
             LineFault::Input(fault) => write!(f, "line {line}: {fault}"),
             LineFault::Refused(refusal) => write!(f, "line {line}: {refusal}"),
+            LineFault::Memory => write!(f, "line {line}: {}", FileFault::Memory),
+            LineFault::TooManyLines => write!(f, "line {line}: too many lines"),
         }
     }
 }

@@ -1,9 +1,9 @@
 //! The job that a run makes for each line.
 
-ghost use Rattle.std.specs.Prelude.{⊤, ℕ, List, Result, IfErr, IfOk};
-ghost use Rattle.key_lines.specs.Answers.{Answer, answered};
+ghost use Rattle.std.specs.Prelude.{⊤, ℕ, List, Result};
+ghost use Rattle.key_lines.specs.Answers.{Answer, IsAnswered};
 
-use std::alloc::AllocError;
+use crate::fault::AnswerFault;
 
 /// What a job reports about an answer, beside its text.
 #[derive(Clone, Copy)]
@@ -25,14 +25,13 @@ pub trait LineJob {
     /// The bytes for whose answer memory may be lacking.
     ghost may_lack_memory: { Self → List ℕ → Type 0 } = { λ _ _. ⊤ };
 
-    /// Replaces `output` with the answer to `bytes` and an LF. Returns the mark of the answer, or
-    /// the refusal. The call may work in `bytes`: their content afterwards is not specified.
+    /// Replaces `output` with the answer to `bytes` and an LF. Returns the mark of the answer.
+    /// The call may work in `bytes`: their content afterwards is not specified.
     fn answer(
         &self,
         bytes: &mut Vec<u8>,
         output: &mut Vec<u8>,
-    ) -> Result<Result<Mark, Self::Refusal>, AllocError>
-        ensures answer { IfOk result (λ answer. answers self.now bytes.old.items
-            (answered output.new.items answer)) }
-        ensures memory { IfErr result (λ _. may_lack_memory self.now bytes.old.items) };
+    ) -> Result<Mark, AnswerFault<Self::Refusal>>
+        ensures { IsAnswered (answers self.now bytes.old.items)
+            (may_lack_memory self.now bytes.old.items) output.new.items result };
 }

@@ -16,7 +16,7 @@ mod source;
 mod summary;
 mod text;
 
-pub use fault::{LineFault, RefusedLine, RunFault};
+pub use fault::{AnswerFault, LineFault, RefusedLine, RunFault};
 pub use job::{LineJob, Mark};
 pub use log::RefusalLog;
 pub use run::{LineRun, RunOptions};

@@ -1,6 +1,7 @@
 //! A run over the lines of an input.
 
-ghost use Rattle.std.specs.Prelude.{◌≡◌, ◌≤◌, ℕ, List, Option, Ok, Err, false, length, IfSome};
+ghost use Rattle.std.specs.Prelude.{◌≡◌, ◌≢◌, ◌≤◌, ℕ, List, Option};
+ghost use Rattle.std.specs.Prelude.{Ok, Err, false, length, IfSome};
 ghost use Rattle.key_lines.specs.Answers.{answered};
 ghost use Rattle.key_lines.specs.Meaning.{LinesAreFiles, PrintsBack};
 ghost use Rattle.key_lines.specs.Running.{FindsLine, MakesAnswer, MakesOutput, RunsLines};
@@ -8,14 +9,14 @@ ghost use Rattle.key_lines.specs.Running.{StepsLine, WritesAnswers, is_own};
 ghost use Rattle.key_lines.specs.Summary.{HasRoom};
 
 use crate::block::{BLOCK, send};
-use crate::fault::{LineFault, RunFault};
+use crate::fault::{AnswerFault, LineFault, RefusedLine, RunFault, line_fault};
 use crate::job::{LineJob, Mark};
 use crate::line::{Line, read_line};
 use crate::log::RefusalLog;
 use crate::source::LineSource;
 use crate::summary::{RunSummary, add_line};
 use crate::text::{TextNotation, decode_line};
-use key_files::{FileFault, MAX_FILE, WriteFault};
+use key_files::{FileFault, MAX_FILE};
 use std::alloc::Global;
 use std::io::Write;
 
@@ -80,10 +81,14 @@ impl<J: LineJob> LineRun<J> {
         // printed for bytes is one line, which denotes them.
         ensures as_files { LinesAreFiles self.now.options.notation }
         ensures read_back { PrintsBack self.now.options.notation }
-        // Nothing but a failed read, or the last number of a line, ends the run as unreadable.
-        ensures read { R.can_fail ≡ false → (line : ℕ)
-            → result ≡ Err (RunFault.AtLine line (LineFault.Input FileFault.Read))
-            → line ≡ 18446744073709551615 }
+        // Only a failed read ends the run as unreadable, and only the last number of a line as one
+        // with too many lines.
+        ensures read { R.can_fail ≡ false → (refused : RefusedLine J.Refusal)
+            → refused.fault ≡ LineFault.Input FileFault.Read
+            → result ≢ Err (RunFault.AtLine refused) }
+        ensures too_many { (refused : RefusedLine J.Refusal)
+            → result ≡ Err (RunFault.AtLine refused)
+            → refused.fault ≡ LineFault.TooManyLines → refused.line ≡ 18446744073709551615 }
     {
         let mut buffers = Buffers {
             line: Vec::new(alloc),
@@ -99,19 +104,10 @@ impl<J: LineJob> LineRun<J> {
         };
         loop {
             match self.step(log, input, out, &mut buffers, &mut summary) {
-                Ok(Ok(Line::Ended)) => {}
-                Ok(Ok(Line::Last)) => return Ok(summary),
-                Ok(Ok(Line::Missing)) => return Ok(summary),
-                Ok(Err(fault)) => {
-                    let line = summary.lines + 1;
-                    return Err(RunFault::AtLine { line, fault });
-                }
-                Err(_) => {
-                    return Err(RunFault::Write {
-                        answered: summary.lines,
-                        unsent: buffers.block.len(),
-                    });
-                }
+                Ok(Line::Ended) => {}
+                Ok(Line::Last) => return Ok(summary),
+                Ok(Line::Missing) => return Ok(summary),
+                Err(fault) => return Err(fault),
             }
         }
     }
@@ -125,26 +121,38 @@ impl<J: LineJob> LineRun<J> {
         out: &mut W,
         buffers: &mut Buffers,
         summary: &mut RunSummary<J::Refusal>,
-    ) -> Result<Result<Line, LineFault<J::Refusal>>, WriteFault>
+    ) -> Result<Line, RunFault<J::Refusal>>
         requires { HasRoom summary.old }
         ensures steps { StepsLine self.now.options (J.answers self.now.job)
             (R.remaining input.old) (R.remaining input.new)
             (W.contents out.old) (W.contents out.new)
             (L.received log.old) (L.received log.new)
             buffers.old.block.items buffers.new.block.items summary.old summary.new result }
-        ensures read { R.can_fail ≡ false
-            → result ≡ Ok (Err (LineFault.Input FileFault.Read))
-            → summary.new.lines ≡ 18446744073709551614 }
+        ensures read { R.can_fail ≡ false → (refused : RefusedLine J.Refusal)
+            → refused.fault ≡ LineFault.Input FileFault.Read
+            → result ≢ Err (RunFault.AtLine refused) }
+        ensures too_many { (refused : RefusedLine J.Refusal)
+            → result ≡ Err (RunFault.AtLine refused)
+            → refused.fault ≡ LineFault.TooManyLines → refused.line ≡ 18446744073709551615 }
     {
         let found = self.next(log, input, buffers, summary);
         if let Ok(Line::Ended) = found {
             if !input.may_wait() && buffers.block.len() < BLOCK {
-                return Ok(Ok(Line::Ended));
+                return Ok(Line::Ended);
             }
         }
-        match send(out, &mut buffers.block) {
-            Ok(()) => Ok(found),
-            Err(fault) => Err(fault),
+        if send(out, &mut buffers.block).is_err() {
+            return Err(RunFault::Write {
+                answered: summary.lines,
+                unsent: buffers.block.len(),
+            });
+        }
+        match found {
+            Ok(line) => Ok(line),
+            Err(fault) => {
+                let line = summary.lines + 1;
+                Err(RunFault::AtLine(RefusedLine { line, fault }))
+            }
         }
     }
 
@@ -157,19 +165,20 @@ impl<J: LineJob> LineRun<J> {
         summary: &mut RunSummary<J::Refusal>,
     ) -> Result<Line, LineFault<J::Refusal>>
         requires { HasRoom summary.old }
-        ensures finds { (out : Option (List ℕ)) → FindsLine self.now.options (J.answers self.now.job)
-            (R.remaining input.old) (R.remaining input.new) out out
+        ensures finds { (out : Option (List ℕ)) → FindsLine self.now.options
+            (J.answers self.now.job) (R.remaining input.old) (R.remaining input.new) out out
             (L.received log.old) (L.received log.new)
             buffers.old.block.items buffers.new.block.items summary.old summary.new result }
-        ensures read { R.can_fail ≡ false → result ≡ Err (LineFault.Input FileFault.Read)
+        ensures read { R.can_fail ≡ false → result ≢ Err (LineFault.Input FileFault.Read) }
+        ensures too_many { result ≡ Err LineFault.TooManyLines
             → summary.new.lines ≡ 18446744073709551614 }
     {
         if summary.lines == MAX_LINES {
-            return Err(LineFault::Input(FileFault::Read));
+            return Err(LineFault::TooManyLines);
         }
         let met = match read_line(input, &mut buffers.line, MAX_FILE) {
             Ok(met) => met,
-            Err(fault) => return Err(LineFault::Input(fault)),
+            Err(fault) => return Err(line_fault(fault)),
         };
         if let Line::Missing = met {
             return Ok(Line::Missing);
@@ -179,7 +188,7 @@ impl<J: LineJob> LineRun<J> {
             Err(fault) => return Err(fault),
         };
         if buffers.block.extend_from_slice(&buffers.output).is_err() {
-            return Err(LineFault::Input(FileFault::Memory));
+            return Err(LineFault::Memory);
         }
         add_line(summary, log, made);
         Ok(met)
@@ -207,7 +216,7 @@ impl<J: LineJob> LineRun<J> {
         output.clear();
         match output.push(b'\n') {
             Ok(()) => Ok(Err(fault)),
-            Err(_) => Err(LineFault::Input(FileFault::Memory)),
+            Err(_) => Err(LineFault::Memory),
         }
     }
 
@@ -223,12 +232,12 @@ impl<J: LineJob> LineRun<J> {
             (answered output.new.items result) }
     {
         if let Err(fault) = decode_line(self.options.notation, line, bytes) {
-            return Err(LineFault::Input(fault));
+            return Err(line_fault(fault));
         }
         match self.job.answer(bytes, output) {
-            Ok(Ok(mark)) => Ok(mark),
-            Ok(Err(refusal)) => Err(LineFault::Refused(refusal)),
-            Err(_) => Err(LineFault::Input(FileFault::Memory)),
+            Ok(mark) => Ok(mark),
+            Err(AnswerFault::Refused(refusal)) => Err(LineFault::Refused(refusal)),
+            Err(AnswerFault::Memory) => Err(LineFault::Memory),
         }
     }
 }
@@ -243,5 +252,6 @@ fn is_own<F>(fault: &LineFault<F>) -> bool
         LineFault::Input(FileFault::OddDigits) => true,
         LineFault::Input(FileFault::BadBase64(_)) => true,
         LineFault::Input(FileFault::Read | FileFault::TooLong | FileFault::Memory) => false,
+        LineFault::Memory | LineFault::TooManyLines => false,
     }
 }

@@ -13,11 +13,15 @@ use key_files::{Base64Fault, FileFault};
 // The definition itself, computed on lines whose meaning is known.
 #[tactic(auto, unfolding(crate::specs::Meaning::blank_ended_meaning, key_files::specs::Meaning::digit_text_meaning, key_files::specs::Meaning::file_meaning, key_files::specs::HexText::paired, key_files::specs::Base64Text::symbol_text_meaning))]
 fn known_meanings()
-    ensures ends { blank_ended_meaning TextNotation.Hex (9 ∷ codes "  0aFF " ++ 13 ∷ []) ≡ Ok (10 ∷ 255 ∷ []) }
+    ensures ends { blank_ended_meaning TextNotation.Hex (9 ∷ codes "  0aFF " ++ 13 ∷ [])
+        ≡ Ok (10 ∷ 255 ∷ []) }
     ensures none { blank_ended_meaning TextNotation.Hex (13 ∷ codes " " ++ 9 ∷ []) ≡ Ok [] }
-    ensures between { blank_ended_meaning TextNotation.Hex (codes "0a 0b") ≡ Err (FileFault.BadDigit 2) }
-    ensures place { blank_ended_meaning TextNotation.Hex (codes "  0a 0g") ≡ Err (FileFault.BadDigit 4) }
-    ensures first { blank_ended_meaning TextNotation.Hex (codes " 0 0 1") ≡ Err (FileFault.BadDigit 2) }
+    ensures between { blank_ended_meaning TextNotation.Hex (codes "0a 0b")
+        ≡ Err (FileFault.BadDigit 2) }
+    ensures place { blank_ended_meaning TextNotation.Hex (codes "  0a 0g")
+        ≡ Err (FileFault.BadDigit 4) }
+    ensures first { blank_ended_meaning TextNotation.Hex (codes " 0 0 1")
+        ≡ Err (FileFault.BadDigit 2) }
     ensures odd { blank_ended_meaning TextNotation.Hex (codes " 012 ") ≡ Err FileFault.OddDigits }
     ensures inside { blank_ended_meaning TextNotation.Base64 (codes " +/ 8")
         ≡ Err (FileFault.BadBase64 (Base64Fault.Character 3)) }

@@ -18,17 +18,17 @@ pub fn kind<B: BlockPair>(alloc: Global, pair: &B, text: &[u8]) -> Result<Kind, 
     ensures kind { IfOk result (IsTheKind default_iv (B.encrypted pair.now) text.now) }
     ensures memory { IsErr result → IsPaddedTextLength (length text.now) }
 {
-    kind_on(alloc, pair, &InitialValue::default(), text)
+    kind_on(alloc, &mut Meter::new(pair), &InitialValue::default(), text)
 }
 
-// `kind` on any allocator, so that a test can refuse its allocation, and under any initial value.
+// `kind` on any allocator and meter, and under any initial value.
 pub(crate) fn kind_on<A: Allocator, B: BlockPair>(
     alloc: A,
-    pair: &B,
+    meter: &mut Meter<B>,
     iv: &InitialValue,
     text: &[u8],
 ) -> Result<Kind, KindFault>
-    ensures kind { IfOk result (IsTheKind iv.now (B.encrypted pair.now) text.now) }
+    ensures kind { IfOk result (IsTheKind iv.now (B.encrypted meter.old.pair) text.now) }
     ensures memory { IsErr result → IsPaddedTextLength (length text.now) }
 {
     if !padded_text_length_ok(text.len()) {
@@ -36,5 +36,5 @@ pub(crate) fn kind_on<A: Allocator, B: BlockPair>(
     }
     let mut scratch = vec![in alloc; 0; text.len() - 8]?;
     // The scratch buffer has the right length, so nothing is refused.
-    Ok(kind_into_with(&mut Meter::new(pair), iv, text, &mut scratch).unwrap())
+    Ok(kind_into_with(meter, iv, text, &mut scratch).unwrap())
 }

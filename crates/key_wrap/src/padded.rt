@@ -16,23 +16,23 @@ use std::alloc::{Allocator, Global};
 pub fn wrap_padded<B: BlockPair>(alloc: Global, pair: &B, key: &[u8]) -> Result<Vec<u8>, WrapFault>
     ensures { Wrapped AgreedForm.Padded (B.encrypted pair.now) key.now result }
 {
-    wrap_padded_on(alloc, pair, key)
+    wrap_padded_on(alloc, &mut Meter::new(pair), key)
 }
 
-// `wrap_padded` on any allocator, so that a test can refuse its allocation.
+// `wrap_padded` on any allocator and meter, so that a test can refuse its allocation and count.
 pub(crate) fn wrap_padded_on<A: Allocator, B: BlockPair>(
     alloc: A,
-    pair: &B,
+    meter: &mut Meter<B>,
     key: &[u8],
 ) -> Result<Vec<u8, A>, WrapFault>
-    ensures { Wrapped AgreedForm.Padded (B.encrypted pair.now) key.now result }
+    ensures { Wrapped AgreedForm.Padded (B.encrypted meter.old.pair) key.now result }
 {
     if !padded_length_ok(key.len()) {
         return Err(WrapFault::BadLength);
     }
     let mut text = vec![in alloc; 0; 8 + key.len().next_multiple_of(8)]?;
     // The buffer has the length of the wrapped key, so nothing is refused.
-    wrap_padded_into(&mut Meter::new(pair), key, &mut text).unwrap();
+    wrap_padded_into(meter, key, &mut text).unwrap();
     Ok(text)
 }
 
@@ -47,22 +47,22 @@ pub fn unwrap_padded<B: BlockPair>(
 ) -> Result<Vec<u8>, UnwrapFault>
     ensures { Unwrapped AgreedForm.Padded (B.encrypted pair.now) text.now result }
 {
-    unwrap_padded_on(alloc, pair, text)
+    unwrap_padded_on(alloc, &mut Meter::new(pair), text)
 }
 
-// `unwrap_padded` on any allocator, so that a test can refuse its allocation.
+// `unwrap_padded` on any allocator and meter.
 pub(crate) fn unwrap_padded_on<A: Allocator, B: BlockPair>(
     alloc: A,
-    pair: &B,
+    meter: &mut Meter<B>,
     text: &[u8],
 ) -> Result<Vec<u8, A>, UnwrapFault>
-    ensures { Unwrapped AgreedForm.Padded (B.encrypted pair.now) text.now result }
+    ensures { Unwrapped AgreedForm.Padded (B.encrypted meter.old.pair) text.now result }
 {
     if !padded_text_length_ok(text.len()) {
         return Err(UnwrapFault::BadLength);
     }
     let mut key = vec![in alloc; 0; text.len() - 8]?;
-    let len = unwrap_padded_into(&mut Meter::new(pair), text, &mut key)?;
+    let len = unwrap_padded_into(meter, text, &mut key)?;
     // Only the zero padding follows the key.
     key.truncate(len);
     Ok(key)

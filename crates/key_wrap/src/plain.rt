@@ -16,7 +16,7 @@ use std::alloc::{Allocator, Global};
 pub fn wrap<B: BlockPair>(alloc: Global, pair: &B, key: &[u8]) -> Result<Vec<u8>, WrapFault>
     ensures { Wrapped (AgreedForm.Plain default_iv) (B.encrypted pair.now) key.now result }
 {
-    wrap_on(alloc, pair, &InitialValue::default(), key)
+    wrap_on(alloc, &mut Meter::new(pair), &InitialValue::default(), key)
 }
 
 /// Returns the plain wrapping of `key` under this initial value (RFC 3394, sections 2.2.1 and
@@ -31,24 +31,24 @@ pub fn wrap_with<B: BlockPair>(
 ) -> Result<Vec<u8>, WrapFault>
     ensures { Wrapped (AgreedForm.Plain iv.now) (B.encrypted pair.now) key.now result }
 {
-    wrap_on(alloc, pair, iv, key)
+    wrap_on(alloc, &mut Meter::new(pair), iv, key)
 }
 
-// `wrap_with` on any allocator, so that a test can refuse its allocation.
+// `wrap_with` on any allocator and meter, so that a test can refuse its allocation and count.
 pub(crate) fn wrap_on<A: Allocator, B: BlockPair>(
     alloc: A,
-    pair: &B,
+    meter: &mut Meter<B>,
     iv: &InitialValue,
     key: &[u8],
 ) -> Result<Vec<u8, A>, WrapFault>
-    ensures { Wrapped (AgreedForm.Plain iv.now) (B.encrypted pair.now) key.now result }
+    ensures { Wrapped (AgreedForm.Plain iv.now) (B.encrypted meter.old.pair) key.now result }
 {
     if !key_length_ok(key.len()) {
         return Err(WrapFault::BadLength);
     }
     let mut text = vec![in alloc; 0; key.len() + 8]?;
     // The buffer has the length of the wrapped key, so nothing is refused.
-    wrap_into_with(&mut Meter::new(pair), iv, key, &mut text).unwrap();
+    wrap_into_with(meter, iv, key, &mut text).unwrap();
     Ok(text)
 }
 
@@ -60,7 +60,7 @@ pub(crate) fn wrap_on<A: Allocator, B: BlockPair>(
 pub fn unwrap<B: BlockPair>(alloc: Global, pair: &B, text: &[u8]) -> Result<Vec<u8>, UnwrapFault>
     ensures { Unwrapped (AgreedForm.Plain default_iv) (B.encrypted pair.now) text.now result }
 {
-    unwrap_on(alloc, pair, &InitialValue::default(), text)
+    unwrap_on(alloc, &mut Meter::new(pair), &InitialValue::default(), text)
 }
 
 /// Returns the key whose plain wrapping under this initial value is `text` (RFC 3394, sections
@@ -76,22 +76,22 @@ pub fn unwrap_with<B: BlockPair>(
 ) -> Result<Vec<u8>, UnwrapFault>
     ensures { Unwrapped (AgreedForm.Plain iv.now) (B.encrypted pair.now) text.now result }
 {
-    unwrap_on(alloc, pair, iv, text)
+    unwrap_on(alloc, &mut Meter::new(pair), iv, text)
 }
 
-// `unwrap_with` on any allocator, so that a test can refuse its allocation.
+// `unwrap_with` on any allocator and meter.
 pub(crate) fn unwrap_on<A: Allocator, B: BlockPair>(
     alloc: A,
-    pair: &B,
+    meter: &mut Meter<B>,
     iv: &InitialValue,
     text: &[u8],
 ) -> Result<Vec<u8, A>, UnwrapFault>
-    ensures { Unwrapped (AgreedForm.Plain iv.now) (B.encrypted pair.now) text.now result }
+    ensures { Unwrapped (AgreedForm.Plain iv.now) (B.encrypted meter.old.pair) text.now result }
 {
     if !text_length_ok(text.len()) {
         return Err(UnwrapFault::BadLength);
     }
     let mut key = vec![in alloc; 0; text.len() - 8]?;
-    unwrap_into_with(&mut Meter::new(pair), iv, text, &mut key)?;
+    unwrap_into_with(meter, iv, text, &mut key)?;
     Ok(key)
 }

@@ -36,7 +36,8 @@ pub fn rewrap<O: BlockPair, N: BlockPair>(
         old: old_form,
         new: new_form,
     };
-    rewrap_on(alloc, old, new, &forms, text)
+    let (mut old, mut new) = (Meter::new(old), Meter::new(new));
+    rewrap_on(alloc, &mut old, &mut new, &forms, text)
 }
 
 /// Returns the wrapping under the new pair of the one key whose wrapping under the old pair is
@@ -53,24 +54,24 @@ pub fn rewrap_keeping_form<O: BlockPair, N: BlockPair>(
 ) -> Result<Vec<u8>, UnwrapFault>
     ensures { Rewraps RewrapForms.Kept (O.encrypted old.now) (N.encrypted new.now) text.now result }
 {
-    rewrap_on(alloc, old, new, &RewrapForms::Kept, text)
+    let (mut old, mut new) = (Meter::new(old), Meter::new(new));
+    rewrap_on(alloc, &mut old, &mut new, &RewrapForms::Kept, text)
 }
 
-// The rewrapping on any allocator, so that a test can refuse its allocation.
+// The rewrapping on any allocator and meters.
 pub(crate) fn rewrap_on<A: Allocator, O: BlockPair, N: BlockPair>(
     alloc: A,
-    old: &O,
-    new: &N,
+    old: &mut Meter<O>,
+    new: &mut Meter<N>,
     forms: &RewrapForms,
     text: &[u8],
 ) -> Result<Vec<u8, A>, UnwrapFault>
-    ensures { Rewraps forms.now (O.encrypted old.now) (N.encrypted new.now) text.now result }
+    ensures { Rewraps forms.now (O.encrypted old.old.pair) (N.encrypted new.old.pair) text.now result }
 {
     if !rewrap_length_ok(forms, text.len()) {
         return Err(UnwrapFault::BadLength);
     }
     let mut buffer = Vec::from_slice(alloc, text)?;
-    let (mut unwraps, mut wraps) = (Meter::new(old), Meter::new(new));
-    key_wrap_core::rewrap(&mut unwraps, &mut wraps, forms, false, &mut buffer)?;
+    key_wrap_core::rewrap(old, new, forms, false, &mut buffer)?;
     Ok(buffer)
 }

@@ -1,5 +1,5 @@
 -- One key and one form belong to a text in either form, and what was found is that key.
-use Rattle.std.proofs.Common.{◌≡◌, ◌↔◌, ◌⊎◌, ℕ, ◌%◌, ◌^◌, ◌≤◌, List, ◌++◌, length, take, drop, Result, Ok, Err, IfOk, IsOk, IsErr, IsOkUnless, inl, inr, refl, sym, ap, subst, ◌∙◌, arith}
+use Rattle.std.proofs.Common.{◌≡◌, ◌⊎◌, ℕ, ◌%◌, ◌^◌, ◌≤◌, List, ◌++◌, length, take, drop, Result, Ok, Err, inl, inr, refl, sym, ap, subst, ◌∙◌, arith}
 use Rattle.std.proofs.Math.Nat.{eq-or-lt_of_le}
 use Rattle.std.proofs.lemmas.List.{take_all, drop_at}
 use Rattle.block_pair.specs.Pair.{AreInverse}
@@ -20,14 +20,15 @@ use Rattle.key_wrap_core.specs.NoKey.{NoKey}
 use Rattle.key_wrap_core.specs.Forms.{Stands, NoOtherForm, with_value}
 use Rattle.key_wrap_core.specs.Found.{HoldsIn}
 use Rattle.key_wrap_core.specs.EitherForm.{IsEither, IsOnlyWrapping, NoKeyIn}
-use Rattle.key_wrap_core.specs.BufferCalls.{UnwrappingEither}
+use Rattle.key_wrap_core.specs.BufferCalls.{UnwrappingEither, Wrapping}
+use Rattle.key_wrap_core.proofs.Refusals.{ok_or_err}
 use Rattle.key_wrap_core.proofs.Spelling.{word_front, length-word_bytes}
 use Rattle.key_wrap_core.proofs.FormLengths.{plain_text_legal, padded_text_legal}
 use Rattle.key_wrap_core.proofs.PlainForm.{padded_whole}
 use Rattle.key_wrap_core.proofs.PaddedForm.{aiv_word}
 use Rattle.key_wrap_core.proofs.InPlaceForm.{held_size}
 use Rattle.key_wrap_core.proofs.BothForms.{not_both_forms}
-use Rattle.key_wrap_core.proofs.FoundForms.{only_key, only_text, stands_found}
+use Rattle.key_wrap_core.proofs.FoundForms.{only_key, only_text, stands_found, found_stands}
 
 -- one key belongs to a text, in one form
 pub one_either : {E D : List ℕ → List ℕ} (iv : ℕ) (form other_form : Form) (key other text : List ℕ) → AreInverse E D → ¬ IsReserved iv
@@ -96,30 +97,43 @@ any_held iv found padded_key plain_key registers key word some plain held told o
           rw (k.0, k.1, all) (plain zero, refl, held_padded (Plain iv) found registers registers word (plain zero))
     ]
 
--- what the call says of its two refusals and of a wrapping
-pub record AnyAnswered (Legal : Type 0) (iv : ℕ) (E : List ℕ → List ℕ) (text : List ℕ) (answer : Result FoundKey InPlaceFault) : Type 0 where
-  pub bad_length : (answer ≡ Err BadLength) ↔ ¬ Legal
-  pub integrity : (answer ≡ Err Integrity) ↔ (Legal × NoKeyIn (IsEither iv) E text)
-  pub accepts : (form : Form) (key : List ℕ) → Stands form iv E key text → IsOk answer
-  pub failed : answer ≡ Err Integrity → IsErr answer
+-- so what was found is what the call promises
+pub either_found : {E D : List ℕ → List ℕ} {Legal : Type 0} (iv : ℕ) (found : FoundKey) (key : FoundKey → List ℕ) (text : List ℕ) → AreInverse E D
+    → ¬ IsReserved iv → Legal → Stands found.form iv E (key found) text → UnwrappingEither Legal iv E text key (Ok found)
+either_found iv found key text inv free legal h =
+    let wraps = only_wrapping iv found.form (key found) text inv free h in
+    record {
+      bad_length = (λ e. cc, λ bad. absurd (bad legal));
+      integrity = (λ e. cc, λ no. absurd (no.1 (with_value found.form iv) wraps.from (key found) wraps.stands));
+      answer = wraps;
+      accepts = λ form other k. tt;
+      other_form = no_other_form iv found.form (key found) text inv free h;
+    }
 
-pub any_answered : {Legal : Type 0} (iv : ℕ) (E : List ℕ → List ℕ) (text : List ℕ) (key : FoundKey → List ℕ) (answer : Result FoundKey InPlaceFault)
-    → Legal → IsOkUnless answer Integrity
-    → IfOk answer (λ found. IsOnlyWrapping (IsEither iv) E (with_value found.form iv) (key found) text)
-    → (IsErr answer → NoKeyIn (IsEither iv) E text) → AnyAnswered Legal iv E text answer
-any_answered iv E text key (Ok found) legal only wraps none = record {
+-- and none
+pub either_none : {E : List ℕ → List ℕ} {Legal : Type 0} (iv : ℕ) (key : FoundKey → List ℕ) (text : List ℕ) → Legal → NoKeyIn (IsEither iv) E text
+    → UnwrappingEither Legal iv E text key (Err Integrity)
+either_none iv key text legal none = record {
   bad_length = (λ e. cc, λ bad. absurd (bad legal));
-  integrity = (λ e. cc, λ no. absurd (no.1 (with_value found.form iv) wraps.from (key found) wraps.stands));
-  accepts = λ form other h. refl;
-  failed = λ e. cc;
+  integrity = (λ e. (legal, none), λ no. refl);
+  answer = tt;
+  accepts = λ form other h. absurd (none (with_value form iv) (form, refl) other h);
+  other_form = tt;
 }
-any_answered iv E text key (Err BadLength) legal only wraps none = absurd (let bad : BadLength ≡ Integrity = only in cc)
-any_answered iv E text key (Err Integrity) legal only wraps none = record {
-  bad_length = (λ e. cc, λ bad. absurd (bad legal));
-  integrity = (λ e. (legal, none refl), λ no. refl);
-  accepts = λ form other h. absurd (none refl (with_value form iv) (form, refl) other h);
-  failed = λ e. refl;
-}
+
+-- what the machine wraps, from an initial value and a key
+pub wraps_found : {E D : List ℕ → List ℕ} {Legal : Type 0} (iv : ℕ) (form : Form) (key before old new : List ℕ) → AreInverse E D → ¬ IsReserved iv → Legal
+    → HoldsIn (with_value form iv) key before → PaddedRegisters E before new → Wrapping Legal (with_value form iv) E key old new (Ok tt)
+wraps_found {E = E} iv form key before old new inv free legal holds run =
+    let h = found_stands (with_value form iv) key before new holds run in
+    record {
+      bad_length = (λ e. ok_or_err e, λ bad. absurd (bad legal));
+      only_fault = tt;
+      kept = λ e. ok_or_err e;
+      answer = h;
+      only_text = λ other k. only_text (with_value form iv) E key new other h k;
+      other_form = no_other_form iv form key new inv free h;
+    }
 
 -- the same lengths, said in another way
 pub either_legally : {Legal Legal' : Type 0} {iv : ℕ} {E : List ℕ → List ℕ} {text : List ℕ} {key : FoundKey → List ℕ} (answer : Result FoundKey InPlaceFault)
@@ -132,10 +146,4 @@ either_legally (Ok found) legal legal' u = record {
   other_form = u.other_form;
 }
 either_legally (Err BadLength) legal legal' u = absurd (u.bad_length.0 refl legal)
-either_legally (Err Integrity) legal legal' u = record {
-  bad_length = (λ e. cc, λ bad. absurd (bad legal'));
-  integrity = (λ e. (legal', (u.integrity.0 refl).1), λ no. refl);
-  answer = tt;
-  accepts = u.accepts;
-  other_form = tt;
-}
+either_legally {iv = iv} {text = text} {key = key} (Err Integrity) legal legal' u = either_none iv key text legal' (u.integrity.0 refl).1

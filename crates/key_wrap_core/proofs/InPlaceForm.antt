@@ -67,26 +67,23 @@ padded_after m old zeroed room blank =
 
 -- The first word of the text was read and cleared, and the machine was lent the rest: it was given the text, and
 -- its result follows eight zeros.
-pub record FirstCleared (A : ℕ) (text zeros registers : List ℕ) : Type 0 where
-  pub given : word_bytes A ++ take (length (zeros ++ drop 8 text) - 8) (drop 8 (zeros ++ drop 8 text)) ≡ text
-  pub long : 8 + length (take (length (zeros ++ drop 8 text) - 8) (drop 8 (zeros ++ drop 8 text))) ≡ length text
-  pub left : put_mid 8 (length (zeros ++ drop 8 text) - 8) (zeros ++ drop 8 text) registers ≡ replicate 8 0 ++ registers
+pub record FirstCleared (A : ℕ) (text buf registers : List ℕ) : Type 0 where
+  pub given : word_bytes A ++ take (length buf - 8) (drop 8 buf) ≡ text
+  pub long : 8 + length (take (length buf - 8) (drop 8 buf)) ≡ length text
+  pub left : put_mid 8 (length buf - 8) buf registers ≡ replicate 8 0 ++ registers
 
-pub first_cleared : (A : ℕ) (text zeros registers : List ℕ) → 8 ≤ length text → word_bytes A ≡ take 8 text → zeros ≡ replicate (length (take 8 text)) 0
-    → length registers ≡ length text - 8
-    → FirstCleared A text zeros registers
-first_cleared A text zeros registers some front blank size =
-    let eight : length (take 8 text) ≡ 8 = omega (arith, length-take 8 text) in
-    let zero : zeros ≡ replicate 8 0 = blank ∙ ap (λ (n : ℕ). replicate n 0) eight in
+pub first_cleared : (A : ℕ) (text buf registers : List ℕ) → 8 ≤ length text → word_bytes A ≡ take 8 text → buf ≡ replicate 8 0 ++ drop 8 text
+    → FirstCleared A text buf registers
+first_cleared A text buf registers some front blank =
     let mid : List ℕ = replicate 8 0 ++ drop 8 text in
     let long : length mid ≡ length text = omega (arith, length-append (replicate 8 0) (drop 8 text), length-drop 8 text) in
     let all : take (length mid - 8) (drop 8 text) ≡ drop 8 text = take_all (length mid - 8) (drop 8 text) (omega (arith, length-drop 8 text)) in
     let none : drop (length mid - 8) (drop 8 text) ≡ [] = drop_all (length mid - 8) (drop 8 text) (omega (arith, length-drop 8 text)) in
-    record {
-      given = rw (zero, all, front) (take-append-drop 8 text);
-      long = rw (zero, all) (omega (arith, length-drop 8 text));
-      left = rw (zero, none, append-nil registers) refl;
-    }
+    rw blank (record {
+      given = rw (all, front) (take-append-drop 8 text);
+      long = rw all (omega (arith, length-drop 8 text));
+      left = rw (none, append-nil registers) refl;
+    })
 
 -- a key that was copied after the first word
 pub copied_key : (k : ℕ) (buffer key : List ℕ) → 8 ≤ length buffer → key_in (length key) (put_mid 8 k buffer key) ≡ key

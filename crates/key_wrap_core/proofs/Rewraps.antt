@@ -15,7 +15,8 @@ use Rattle.key_wrap_core.specs.Plain.{default_iv}
 use Rattle.key_wrap_core.specs.Padded.{aiv, padded}
 use Rattle.key_wrap_core.specs.Forms.{StandsAs}
 use Rattle.key_wrap_core.specs.Found.{HoldsIn}
-use Rattle.key_wrap_core.specs.Rewrap.{IsFrom, IsWrapping, IsOldLength, IsNoWrapping, HasFault, IsFound, to_form, to_itself}
+use Rattle.key_wrap_core.specs.Rewrap.{IsFrom, IsWrapping, IsOldLength, IsNoWrapping, HasFault, to_form, to_itself}
+use Rattle.key_wrap_core.specs.Private.{IsFound}
 use Rattle.key_wrap_core.proofs.Spelling.{word_front}
 use Rattle.key_wrap_core.proofs.PlainForm.{default_free, padded_whole}
 use Rattle.key_wrap_core.proofs.PaddedForm.{aiv_word}

@@ -215,12 +215,6 @@ pub more_unstepped : {E : List ℕ → List ℕ} {t u : ℕ} {text registers bef
 more_unstepped more step size (inl many) = inl (let least = many.0 in omega arith, step many.1)
 more_unstepped more step size (inr one) = absurd (more one.0)
 
--- all the steps undone, of two words and more
-pub unended_plain : {E : List ℕ → List ℕ} {text registers block : List ℕ} (found : ℕ) → 16 ≤ length registers → word_bytes found ≡ take 8 block
-    → UnwrapState E text 0 registers block → Registers E (word_bytes found ++ registers) text
-unended_plain found more value (inl many) = rw value (unended many.1)
-unended_plain found more value (inr one) = absurd (let eight = one.0 in omega arith)
-
 -- between two steps there is a block
 many_block : {E : List ℕ → List ℕ} {t : ℕ} {text registers block : List ℕ} → UnwrapSteps E text t registers block → IsBlock block
 many_block {t = t} h = subst (λ (b : List ℕ). IsBlock b) h.block_words (joined_block (bit_xor (at h.a t) t) (at h.x (h.n + t - 1)))

@@ -1,7 +1,7 @@
 -- What an unwrapping call that takes no memory promises, from the state in which the machine left the registers.
 use Rattle.std.proofs.Common.{rules, ◌≡◌, ◌↔◌, ℕ, bit_xor, ◌+◌, List, [], ◌++◌, length, take, drop, replicate, Result, Ok, Err}
-use Rattle.std.proofs.Common.{OnOk, IfOk, IsOk, IsOkUnless, IsErr, IsErrAnd}
-use Rattle.std.proofs.Common.{refl, sym, ap, subst}
+use Rattle.std.proofs.Common.{OnOk, IfOk, IsOk, IsOkUnless}
+use Rattle.std.proofs.Common.{refl, sym, ap, subst, ◌∙◌}
 use Rattle.std.proofs.Common.{arith, length-append}
 use Rattle.std.proofs.lemmas.List.{drop_at}
 use Rattle.block_pair.specs.Pair.{AreInverse}
@@ -24,7 +24,7 @@ use Rattle.key_wrap_core.specs.BufferCalls.{IsKeyBuffer}
 use Rattle.key_wrap_core.proofs.Spelling.{length-word_bytes, word_front}
 use Rattle.key_wrap_core.proofs.Tapes.{wraps_iv, registers_length, registers_backward}
 use Rattle.key_wrap_core.proofs.PlainForm.{default_free, plain_registers, registers_plain, plain_only_key, plain_only_text}
-use Rattle.key_wrap_core.proofs.PaddedForm.{padded_unwrapped, padded_refused}
+use Rattle.key_wrap_core.proofs.PaddedForm.{padded_registers_length, padded_unwrapped, padded_refused}
 use Rattle.key_wrap_core.proofs.BothForms.{not_both_forms}
 use Rattle.key_wrap_core.proofs.Differences.{xor_same, same_xor}
 
@@ -90,6 +90,15 @@ plain_decided iv found registers left text (Err BadLength) inv word word' free l
 plain_decided iv found registers left text (Err Integrity) inv word word' free legal run passes only kept =
     plain_none iv registers left text inv legal word' (λ same. absurd (let ok = passes.1 (same_xor found iv same) in cc)) run
 
+-- one word and the registers
+pub word_size : (word : ℕ) (registers : List ℕ) → length (word_bytes word ++ registers) ≡ 8 + length registers
+word_size word registers = omega (arith, length-append (word_bytes word) registers, length-word_bytes word)
+
+-- the text is as long as what it runs back to
+pub text_size : {E D : List ℕ → List ℕ} (found : ℕ) (registers text : List ℕ) → AreInverse E D → PaddedRegisters E (word_bytes found ++ registers) text
+    → length text ≡ 8 + length registers
+text_size found registers text inv run = padded_registers_length inv run ∙ word_size found registers
+
 -- the registers run back to an initial value and registers that hold a key of len bytes
 pub padded_found : {E D : List ℕ → List ℕ} {len : ℕ} (iv : ℕ) (registers text : List ℕ) → AreInverse E D → IsPaddedTextLength (length text)
     → PaddedRegisters E (word_bytes iv ++ registers) text → HoldsLength (word_bytes iv ++ registers) len
@@ -127,14 +136,6 @@ renamed L {form = form} {E = E} {text' = text'} {key = key} {answer = answer} sa
 pub ok_unless : {A : Type 0} (answer : Result A InPlaceFault) → IsOk answer → IsOkUnless answer BadLength
 ok_unless (Ok m) h = tt
 ok_unless (Err e) h = cc
-
--- the refusal, passed on
-pub passed_on : {A : Type 0} {Legal : Type 0} {form : AgreedForm} {E : List ℕ → List ℕ} {text : List ℕ} {key : A → List ℕ}
-    (answer : Result A InPlaceFault) (fault : InPlaceFault) → IsErr answer × IsErrAnd answer (λ e. e ≡ fault) → fault ≡ Integrity
-    → Unwrapping Legal form E text key (Err Integrity) → Unwrapping Legal form E text key answer
-passed_on (Ok m) fault r is u = let no = r.0 in cc
-passed_on (Err BadLength) fault r is u = let no = r.1 in cc
-passed_on (Err Integrity) fault r is u = u
 
 -- and one that is no fault, of legal lengths, is a key
 pub ok_legal : {A Legal : Type 0} (answer : Result A InPlaceFault) → Legal → ((answer ≡ Err BadLength) ↔ ¬ Legal) → IsOkUnless answer BadLength → IsOk answer

@@ -18,3 +18,4 @@ pub mod Rewrap
 pub mod Unwrapping
 pub mod BufferCalls
 pub mod StepCalls
+pub mod Private

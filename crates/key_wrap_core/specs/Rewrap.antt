@@ -10,8 +10,6 @@ use Rattle.key_wrap_core.specs.declared.rewrapping.RewrapFault.TheVariants.{BadL
 use Rattle.key_wrap_core.specs.Plain.{default_iv}
 use Rattle.key_wrap_core.specs.Forms.{StandsAs, IsKeyLengthAs, IsTextLengthAs}
 use Rattle.key_wrap_core.specs.EitherForm.{IsEither, IsOnlyWrapping, NoKeyIn}
-use Rattle.key_wrap_core.specs.PaddedRegisters.{PaddedRegisters}
-use Rattle.key_wrap_core.specs.Found.{HoldsIn}
 
 -- a form in which the text may be a wrapping
 abbrev pub IsFrom : RewrapForms → AgreedForm → Type 0
@@ -55,20 +53,11 @@ abbrev pub HasBadKey : RewrapForms → (List ℕ → List ℕ) → List ℕ → 
 HasBadKey forms E text = (form : AgreedForm) × (key : List ℕ) × IsWrapping forms E form key text
     × ¬ IsKeyLengthAs (to_form forms form) (length key)
 
--- the registers hold a key in one of the forms, and are wrapped to the text
-abbrev pub IsFound : RewrapForms → (List ℕ → List ℕ) → (text before : List ℕ) → Type 0
-IsFound forms E text before = (form : AgreedForm) × IsFrom forms form × (key : List ℕ) × HoldsIn form key before × PaddedRegisters E before text
-
 -- why a text is refused
 abbrev pub HasFault : RewrapForms → (List ℕ → List ℕ) → List ℕ → RewrapFault → Type 0
 HasFault forms E text BadLength = ¬ IsOldLength forms (length text)
 HasFault forms E text Integrity = IsOldLength forms (length text) × IsNoWrapping forms E text
 HasFault forms E text KeyNotPlain = HasBadKey forms E text
-
--- the result and the buffer of a rewrapping that does not look for what is new
-abbrev pub RewrapsOld : RewrapForms → (List ℕ → List ℕ) → (List ℕ → List ℕ) → List ℕ → Result Unit RewrapFault → List ℕ → Type 0
-RewrapsOld forms E F text (Ok done) after = IsRewrapped forms E F text after
-RewrapsOld forms E F text (Err fault) after = HasFault forms E text fault × (after ≡ text)
 
 -- The text is no wrapping under E, but one under F in the new form.
 pub record IsNew (forms : RewrapForms) (E F : List ℕ → List ℕ) (text : List ℕ) : Type 0 where

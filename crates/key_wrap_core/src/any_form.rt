@@ -12,6 +12,7 @@ ghost use Rattle.key_wrap_core.specs.BufferCalls.{IsKeyBuffer, CountsCalls};
 
 use crate::faults::InPlaceFault;
 use crate::forms::FoundKey;
+use crate::in_place::take_first;
 use crate::initial_value::InitialValue;
 use crate::lengths::{WORD, padded_text_length_ok};
 use crate::unwrapping::unwrap_any_registers;
@@ -44,8 +45,7 @@ pub fn unwrap_any_in_place<B: BlockPair>(
     if !padded_text_length_ok(buf.len()) {
         return Err(InPlaceFault::BadLength);
     }
-    let c0 = BigEndian::read_u64(buf);
-    buf[..WORD].fill(0);
+    let c0 = take_first(buf);
     unwrap_any_registers(meter, iv.word(), c0, &mut buf[WORD..])
 }
 
@@ -75,49 +75,4 @@ pub fn unwrap_any_into<B: BlockPair>(
     }
     key.copy_from_slice(&text[WORD..]);
     unwrap_any_registers(meter, iv.word(), BigEndian::read_u64(text), key)
-}
-
-#[cfg(test)]
-mod tests {
-    use super::*;
-    use crate::Form;
-    use block_pair::SwapHalves;
-
-    // Wrappings over the drill block, worked by hand: plain of 16 bytes, padded of 7.
-    const PLAIN: [u8; 24] = *b"\xA6\xA6\xA6\xA6\xA6\xA6\xA6\xA6\
-        \x00\x11\x22\x33\x44\x55\x66\x7F\x88\x99\xAA\xBB\xCC\xDD\xEE\xFB";
-
-    const KEY: [u8; 16] = *b"\x00\x11\x22\x33\x44\x55\x66\x77\x88\x99\xAA\xBB\xCC\xDD\xEE\xFF";
-
-    const SEVEN: [u8; 16] = *b"ForPasi\x00\xA6\x59\x59\xA6\x00\x00\x00\x07";
-
-    #[test]
-    fn unwraps_either_form(rt: HostRuntime) {
-        let (mut meter, iv) = (Meter::new(&SwapHalves), InitialValue::default());
-        let mut key = [0x5A; 16];
-        let found = unwrap_any_into(&mut meter, &iv, &PLAIN, &mut key);
-        assert!(rt;
-            found
-                == Ok(FoundKey {
-                    form: Form::Plain,
-                    len: 16
-                })
-                && key == KEY
-        );
-        let mut buf = SEVEN;
-        let found = unwrap_any_in_place(&mut meter, &iv, &mut buf);
-        assert!(rt;
-            found
-                == Ok(FoundKey {
-                    form: Form::Padded,
-                    len: 7
-                })
-        );
-        assert_eq!(rt; buf, *b"\0\0\0\0\0\0\0\0ForPasi\0");
-        let mut buf = [0x5A; 24];
-        let found = unwrap_any_in_place(&mut meter, &iv, &mut buf);
-        assert!(rt; found == Err(InPlaceFault::Integrity) && buf == [0; 24]);
-        let found = unwrap_any_into(&mut meter, &iv, &PLAIN, &mut [0x5A; 15]);
-        assert!(rt; found == Err(InPlaceFault::BadLength));
-    }
 }

@@ -5,7 +5,7 @@ ghost use Rattle.std.specs.Prelude.{◌≡◌, ◌≤◌, ◌<◌, ◌↔◌, �
 ghost use Rattle.std.specs.Prelude.{IsErr, IsOk, IsOkUnless, OnOk, bit_or};
 ghost use Rattle.byteorder.specs.Endian.{big_number};
 ghost use Rattle.key_wrap_core.specs.Words.{word_bytes};
-ghost use Rattle.key_wrap_core.specs.Lengths.{IsPaddedKeyLength};
+ghost use Rattle.key_wrap_core.specs.Lengths.{IsPaddedKeyLength, IsPaddedTextLength};
 ghost use Rattle.key_wrap_core.specs.Padded.{aiv};
 ghost use Rattle.key_wrap_core.specs.PaddedRegisters.{Holds, HoldsLength};
 
@@ -20,7 +20,7 @@ pub(crate) const DEFAULT_IV: u64 = 0xA6A6_A6A6_A6A6_A6A6;
 pub(crate) const AIV_PREFIX: u32 = 0xA659_59A6;
 
 // The alternative initial value of a key of `len` bytes (RFC 5649, section 3).
-pub(crate) fn initial_value(len: usize) -> u64
+pub(crate) fn padded_iv(len: usize) -> u64
     requires { len ≤ MAX_KEY }
     ensures { result ≡ aiv len }
 {
@@ -64,9 +64,7 @@ pub(crate) fn given_length(iv: u64) -> u64
 // prefix, the range of the length, the zero padding. All three are computed, with no branch and no
 // index that depends on the registers or the initial value.
 pub(crate) fn padded_difference(iv: u64, registers: &[u8]) -> u64
-    requires whole_words { length registers.now % 8 ≡ 0 }
-    requires some { 8 ≤ length registers.now }
-    requires at_most { length registers.now ≤ MAX_KEY }
+    requires { IsPaddedTextLength (8 + length registers.now) }
     ensures passes { result ≡ 0 → HoldsLength (word_bytes iv ++ registers.now) (iv % 2 ^ 32) }
     ensures refuses { ¬ (result ≡ 0) → (key : List ℕ) → IsPaddedKeyLength (length key)
         → ¬ Holds (word_bytes iv ++ registers.now) key }

@@ -1,20 +1,17 @@
-//! Unwraps a buffer before the form is known, compares what it found with each form, and wraps the
-//! buffer again. No branch depends on the key's length.
+//! Wraps a buffer, unwraps one before its form is known, compares what it found with the plain form,
+//! and wraps it again if it was refused. No branch depends on the key's length.
 
-ghost use Rattle.std.specs.Prelude.{◌≡◌, ◌↔◌, ◌⊎◌, ℕ, ◌+◌, ◌*◌, ◌++◌, List, length, drop, IsErr, IsOk};
+ghost use Rattle.std.specs.Prelude.{◌≡◌, ◌↔◌, ◌⊎◌, ◌+◌, ◌++◌, length, drop, IsErr, IsOk};
 ghost use Rattle.block_pair.specs.Metered.{counted};
 ghost use Rattle.key_wrap_core.specs.Words.{word_bytes};
 ghost use Rattle.key_wrap_core.specs.Lengths.{IsPaddedTextLength};
 ghost use Rattle.key_wrap_core.specs.PaddedRegisters.{PaddedRegisters};
 ghost use Rattle.key_wrap_core.specs.NoKey.{NoKey};
 ghost use Rattle.key_wrap_core.specs.Calls.{block_calls};
-ghost use Rattle.key_wrap_core.specs.declared.forms.Form.{Form};
-ghost use Rattle.key_wrap_core.specs.declared.agreed_form.AgreedForm.{AgreedForm};
-ghost use Rattle.key_wrap_core.specs.Forms.{IsTextLengthAs, by_default};
 ghost use Rattle.key_wrap_core.specs.Found.{HoldsIn};
 
 use crate::agreed_form::AgreedForm;
-use crate::checks::{DEFAULT_IV, is_zero, padded_difference};
+use crate::checks::is_zero;
 use crate::faults::InPlaceFault;
 use crate::lengths::WORD;
 use crate::machine::{unwrap_slice, wrap_slice};
@@ -23,7 +20,7 @@ use byteorder::{BigEndian, ByteOrder};
 
 // C1 .. Cn after the first word of the buffer become the registers that the machine runs back to,
 // and the answer is the initial value. For two words and more both forms unwrap by the same steps.
-pub(crate) fn unwrap_found<B: BlockPair>(meter: &mut Meter<B>, buf: &mut [u8]) -> u64
+pub(crate) fn unwrap_buffer<B: BlockPair>(meter: &mut Meter<B>, buf: &mut [u8]) -> u64
     requires { IsPaddedTextLength (length buf.old) }
     ensures found { PaddedRegisters (B.encrypted meter.old.pair)
         (word_bytes result ++ drop 8 buf.new) buf.old }
@@ -34,13 +31,11 @@ pub(crate) fn unwrap_found<B: BlockPair>(meter: &mut Meter<B>, buf: &mut [u8]) -
 }
 
 // The registers after the first word of the buffer become what they are wrapped to under this
-// initial value, the whole buffer: under that with which they were found, the text again.
-pub(crate) fn wrap_found<B: BlockPair>(meter: &mut Meter<B>, iv: u64, buf: &mut [u8])
+// initial value, the whole buffer: under the value with which they were found, the text again.
+pub(crate) fn wrap_buffer<B: BlockPair>(meter: &mut Meter<B>, iv: u64, buf: &mut [u8])
     requires { IsPaddedTextLength (length buf.old) }
     ensures wrapped { PaddedRegisters (B.encrypted meter.old.pair)
         (word_bytes iv ++ drop 8 buf.old) buf.new }
-    ensures restored { (text : List ℕ) → PaddedRegisters (B.encrypted meter.old.pair)
-        (word_bytes iv ++ drop 8 buf.old) text → buf.new ≡ text }
     ensures calls { meter.new ≡ counted (block_calls (length buf.old)) meter.old }
 {
     let c0 = wrap_slice(meter, iv, &mut buf[WORD..]);
@@ -62,29 +57,15 @@ pub(crate) fn decide_or_restore<B: BlockPair>(
     ensures passes { IsOk result ↔ (difference ≡ 0) }
     ensures kept { IsOk result → buf.new ≡ buf.old }
     ensures meter_kept { IsOk result → meter.new ≡ meter.old }
-    ensures restored { IsErr result → (text : List ℕ)
-        → PaddedRegisters (B.encrypted meter.old.pair) (word_bytes found ++ drop 8 buf.old) text
-        → buf.new ≡ text }
+    ensures restored { IsErr result → PaddedRegisters (B.encrypted meter.old.pair)
+        (word_bytes found ++ drop 8 buf.old) buf.new }
     ensures calls { IsErr result → meter.new ≡ counted (block_calls (length buf.old)) meter.old }
 {
     if difference == 0 {
         return Ok(());
     }
-    wrap_found(meter, found, buf);
+    wrap_buffer(meter, found, buf);
     Err(InPlaceFault::Integrity)
-}
-
-// 0 if the initial value and the registers hold a key in this form.
-pub(crate) fn form_difference(form: &AgreedForm, iv: u64, registers: &[u8]) -> u64
-    requires { IsTextLengthAs form.now (8 + length registers.now) }
-    ensures passes { result ≡ 0
-        → (key : List ℕ) × HoldsIn form.now key (word_bytes iv ++ registers.now) }
-    ensures refuses { ¬ (result ≡ 0) → NoKey (HoldsIn form.now) (word_bytes iv ++ registers.now) }
-{
-    match form {
-        AgreedForm::Plain(agreed) => plain_difference(agreed.word(), iv, registers),
-        AgreedForm::Padded => padded_difference(iv, registers),
-    }
 }
 
 // 0 if the registers are a plain key under the initial value found, which is the expected one. One
@@ -100,18 +81,6 @@ pub(crate) fn plain_difference(expected: u64, iv: u64, registers: &[u8]) -> u64
         return 1;
     }
     iv ^ expected
-}
-
-// 0 if they hold a key in one of the two forms, under the default initial value.
-pub(crate) fn either_difference(iv: u64, registers: &[u8]) -> u64
-    requires { IsPaddedTextLength (8 + length registers.now) }
-    ensures passes { result ≡ 0
-        → (form : Form) × (key : List ℕ) × HoldsIn (by_default form) key (word_bytes iv ++ registers.now) }
-    ensures refuses { ¬ (result ≡ 0)
-        → (form : Form) → NoKey (HoldsIn (by_default form)) (word_bytes iv ++ registers.now) }
-{
-    let plain = plain_difference(DEFAULT_IV, iv, registers);
-    either(plain, padded_difference(iv, registers))
 }
 
 // 0 if one of the two is 0, with no branch.

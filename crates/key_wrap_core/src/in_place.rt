@@ -1,10 +1,10 @@
 //! The calls in the caller's buffer. They take no memory.
 
-ghost use Rattle.std.specs.Prelude.{◌≡◌, ℕ, List, length, take, drop, replicate, All, Err};
+ghost use Rattle.std.specs.Prelude.{◌≡◌, ◌≤◌, ◌++◌, ℕ, List, length, take, drop, replicate};
 ghost use Rattle.std.specs.Prelude.{OnOk, IfOk, IsOk};
-ghost use Rattle.block_pair.specs.Metered.{counted};
+ghost use Rattle.key_wrap_core.specs.Words.{word_bytes};
 ghost use Rattle.key_wrap_core.specs.Lengths.{IsPlainTextLength, IsPaddedTextLength};
-ghost use Rattle.key_wrap_core.specs.Plain.{Plain, IsReserved, default_iv};
+ghost use Rattle.key_wrap_core.specs.Plain.{Plain, default_iv};
 ghost use Rattle.key_wrap_core.specs.Padded.{Padded};
 ghost use Rattle.key_wrap_core.specs.Calls.{block_calls};
 ghost use Rattle.key_wrap_core.specs.InPlace.{IsPaddedRoom, key_in};
@@ -13,10 +13,10 @@ ghost use Rattle.key_wrap_core.specs.BufferCalls.{Wrapping, KeepsOrClears};
 ghost use Rattle.key_wrap_core.specs.BufferCalls.{IsKeyBuffer, CountsCalls};
 
 use crate::agreed_form::AgreedForm;
-use crate::checks::{DEFAULT_IV, initial_value};
+use crate::checks::{DEFAULT_IV, padded_iv};
 use crate::faults::InPlaceFault;
+use crate::found::wrap_buffer;
 use crate::lengths::{WORD, padded_length_ok, padded_text_length_ok, text_length_ok};
-use crate::machine::wrap_slice;
 use crate::unwrapping::{unwrap_padded_registers, unwrap_registers};
 use block_pair::{BlockPair, Meter};
 use byteorder::{BigEndian, ByteOrder};
@@ -36,17 +36,6 @@ pub fn wrap_in_place<B: BlockPair>(meter: &mut Meter<B>, buf: &mut [u8]) -> Resu
     }
     wrap_buffer(meter, DEFAULT_IV, buf);
     Ok(())
-}
-
-// The key after the first 8 bytes of the buffer becomes its plain wrapping under this initial
-// value, the whole buffer.
-pub(crate) fn wrap_buffer<B: BlockPair>(meter: &mut Meter<B>, iv: u64, buf: &mut [u8])
-    requires { IsPlainTextLength (length buf.old) }
-    ensures answer { Plain (B.encrypted meter.old.pair) iv (drop 8 buf.old) buf.new }
-    ensures calls { meter.new ≡ counted (block_calls (length buf.old)) meter.old }
-{
-    let c0 = wrap_slice(meter, iv, &mut buf[WORD..]);
-    BigEndian::write_u64(buf, c0);
 }
 
 /// Unwraps the plain wrapping in the buffer, which becomes 8 zero bytes and the key (RFC 3394,
@@ -72,27 +61,8 @@ pub fn unwrap_in_place<B: BlockPair>(
     if !text_length_ok(buf.len()) {
         return Err(InPlaceFault::BadLength);
     }
-    unwrap_buffer(meter, DEFAULT_IV, buf)
-}
-
-// The plain wrapping in the buffer becomes 8 zero bytes and the key whose wrapping it is under this
-// initial value, or only zeros if there is none.
-pub(crate) fn unwrap_buffer<B: BlockPair>(
-    meter: &mut Meter<B>,
-    iv: u64,
-    buf: &mut [u8],
-) -> Result<(), InPlaceFault>
-    requires length { IsPlainTextLength (length buf.old) }
-    requires free { ¬ IsReserved iv }
-    ensures unwraps { Unwrapping (IsPlainTextLength (length buf.old)) (AgreedForm.Plain iv)
-        (B.encrypted meter.old.pair) buf.old (λ _. drop 8 buf.new) result }
-    ensures first_word { OnOk result (take 8 buf.new ≡ replicate 8 0) }
-    ensures cleared { result ≡ Err InPlaceFault.Integrity → All (λ byte. byte ≡ 0) buf.new }
-    ensures calls { meter.new ≡ counted (block_calls (length buf.old)) meter.old }
-{
-    let c0 = BigEndian::read_u64(buf);
-    buf[..WORD].fill(0);
-    unwrap_registers(meter, iv, c0, &mut buf[WORD..])
+    let c0 = take_first(buf);
+    unwrap_registers(meter, DEFAULT_IV, c0, &mut buf[WORD..])
 }
 
 /// Wraps the `m`-byte key at offset 8 in place (RFC 5649, section 4.1). Afterwards the whole buffer
@@ -113,8 +83,7 @@ pub fn wrap_padded_in_place<B: BlockPair>(
         return Err(InPlaceFault::BadLength);
     }
     buf[WORD + m..].fill(0);
-    let c0 = wrap_slice(meter, initial_value(m), &mut buf[WORD..]);
-    BigEndian::write_u64(buf, c0);
+    wrap_buffer(meter, padded_iv(m), buf);
     Ok(())
 }
 
@@ -142,7 +111,17 @@ pub fn unwrap_padded_in_place<B: BlockPair>(
     if !padded_text_length_ok(buf.len()) {
         return Err(InPlaceFault::BadLength);
     }
-    let c0 = BigEndian::read_u64(buf);
-    buf[..WORD].fill(0);
+    let c0 = take_first(buf);
     unwrap_padded_registers(meter, c0, &mut buf[WORD..])
+}
+
+// The first word of a text, which becomes zeros.
+pub(crate) fn take_first(buf: &mut [u8]) -> u64
+    requires { 8 ≤ length buf.old }
+    ensures first { word_bytes result ≡ take 8 buf.old }
+    ensures cleared { buf.new ≡ replicate 8 0 ++ drop 8 buf.old }
+{
+    let first = BigEndian::read_u64(buf);
+    buf[..WORD].fill(0);
+    first
 }

@@ -9,7 +9,7 @@ ghost use Rattle.key_wrap_core.specs.InPlace.{ArePlainLengths};
 
 use crate::agreed_form::AgreedForm;
 use crate::faults::InPlaceFault;
-use crate::in_place::wrap_buffer;
+use crate::found::wrap_buffer;
 use crate::initial_value::InitialValue;
 use crate::lengths::{WORD, key_length_ok, text_length_ok};
 use crate::unwrapping::unwrap_registers;

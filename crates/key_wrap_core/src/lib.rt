@@ -55,3 +55,6 @@ pub use unwrap_steps::{
 };
 pub use whole_runs::{whole_unwrap_law, whole_wrap_law};
 pub use wrap_steps::{begin_wrap, begin_wrap_padded, end_wrap, step_wrap};
+
+#[cfg(test)]
+mod tests;

@@ -1,13 +1,14 @@
 //! The machine of RFC 3394, section 2.2, in its indexed form: A is a word, and the registers R[1]
 //! .. R[n] stay in place in a slice.
 
-ghost use Rattle.std.specs.Prelude.{◌≡◌, ◌+◌, ◌%◌, ◌≤◌, ◌++◌, length};
+ghost use Rattle.std.specs.Prelude.{◌≡◌, ◌+◌, ◌++◌, length};
 ghost use Rattle.block_pair.specs.Metered.{counted};
 ghost use Rattle.key_wrap_core.specs.Words.{word_bytes};
+ghost use Rattle.key_wrap_core.specs.Lengths.{IsPlainTextLength, IsPaddedTextLength};
 ghost use Rattle.key_wrap_core.specs.PaddedRegisters.{PaddedRegisters};
 ghost use Rattle.key_wrap_core.specs.Calls.{block_calls};
 
-use crate::lengths::{MAX_KEY, WORD};
+use crate::lengths::WORD;
 use crate::steps::{
     first_block, last_block, step_count, step_registers, step_words, unstep_registers,
 };
@@ -17,9 +18,7 @@ use byteorder::{BigEndian, ByteOrder};
 // The key data in the registers become C1 .. Cn, and the result is C0 (RFC 3394, section 2.2.1; for
 // one word RFC 5649, section 4.1).
 pub(crate) fn wrap_slice<B: BlockPair>(meter: &mut Meter<B>, iv: u64, registers: &mut [u8]) -> u64
-    requires whole_words { length registers.old % 8 ≡ 0 }
-    requires some { 8 ≤ length registers.old }
-    requires within { length registers.old ≤ MAX_KEY }
+    requires { IsPaddedTextLength (8 + length registers.old) }
     ensures wrapped { PaddedRegisters (B.encrypted meter.old.pair)
         (word_bytes iv ++ registers.old) (word_bytes result ++ registers.new) }
     ensures meter { meter.new ≡ counted (block_calls (8 + length registers.old)) meter.old }
@@ -33,9 +32,7 @@ pub(crate) fn wrap_slice<B: BlockPair>(meter: &mut Meter<B>, iv: u64, registers:
 
 // `wrap_slice` of two words and more: a loop that asks for the form in each step takes 6 to 10 % longer.
 fn wrap_words<B: BlockPair>(meter: &mut Meter<B>, iv: u64, registers: &mut [u8]) -> u64
-    requires whole_words { length registers.old % 8 ≡ 0 }
-    requires more { 16 ≤ length registers.old }
-    requires within { length registers.old ≤ MAX_KEY }
+    requires { IsPlainTextLength (8 + length registers.old) }
     ensures wrapped { PaddedRegisters (B.encrypted meter.old.pair)
         (word_bytes iv ++ registers.old) (word_bytes result ++ registers.new) }
     ensures meter { meter.new ≡ counted (block_calls (8 + length registers.old)) meter.old }
@@ -50,9 +47,7 @@ fn wrap_words<B: BlockPair>(meter: &mut Meter<B>, iv: u64, registers: &mut [u8])
 // C1 .. Cn in the registers become the key data, and the result is the initial value (RFC 3394,
 // section 2.2.2; for one word RFC 5649, section 4.2).
 pub(crate) fn unwrap_slice<B: BlockPair>(meter: &mut Meter<B>, c0: u64, registers: &mut [u8]) -> u64
-    requires whole_words { length registers.old % 8 ≡ 0 }
-    requires some { 8 ≤ length registers.old }
-    requires within { length registers.old ≤ MAX_KEY }
+    requires { IsPaddedTextLength (8 + length registers.old) }
     ensures wrapped { PaddedRegisters (B.encrypted meter.old.pair)
         (word_bytes result ++ registers.new) (word_bytes c0 ++ registers.old) }
     ensures meter { meter.new ≡ counted (block_calls (8 + length registers.old)) meter.old }

@@ -1,24 +1,19 @@
 //! Rewrapping in the caller's buffer: from one pair to another, with the form kept or changed, and
 //! past what is new already. It takes no memory, and a refusal leaves the buffer as it was.
 
-ghost use Rattle.std.specs.Prelude.{◌≡◌, ◌↔◌, ℕ, ◌+◌, ◌*◌, ◌++◌, List, length, drop, true, false};
-ghost use Rattle.std.specs.Prelude.{Bool, Result, Ok, Err, IsErr, IsOk, OnOk, IfOk, IfErr, IsTrue};
-ghost use Rattle.block_pair.specs.Metered.{counted};
+ghost use Rattle.std.specs.Prelude.{◌≡◌, ◌↔◌, ℕ, ◌+◌, ◌++◌, List, length, false, Bool, Result, IsTrue};
 ghost use Rattle.key_wrap_core.specs.Words.{word_bytes};
 ghost use Rattle.key_wrap_core.specs.Lengths.{IsPaddedTextLength};
-ghost use Rattle.key_wrap_core.specs.Calls.{block_calls};
 ghost use Rattle.key_wrap_core.specs.Forms.{IsKeyLengthAs};
 ghost use Rattle.key_wrap_core.specs.Found.{HoldsIn};
-ghost use Rattle.key_wrap_core.specs.NoKey.{NoKey};
-ghost use Rattle.key_wrap_core.specs.Rewrap.{IsFrom, IsOldLength, IsRewrapping, IsOld, RewrapResults};
+ghost use Rattle.key_wrap_core.specs.Rewrap.{IsFrom, IsOldLength, IsRewrapping, RewrapResults};
+ghost use Rattle.key_wrap_core.specs.Rewrap.{to_form, to_itself};
 ghost use Rattle.key_wrap_core.specs.BufferCalls.{RewrapCalls};
-ghost use Rattle.key_wrap_core.specs.Rewrap.{IsFound, HasFault, RewrapsOld, to_form, to_itself, IsWrapping, IsNoWrapping};
+ghost use Rattle.key_wrap_core.specs.Private.{Finds, TellsKey, as_fresh};
 
 use crate::agreed_form::AgreedForm;
-use crate::checks::{given_length, initial_value, is_zero};
-use crate::found::{
-    decide_or_restore, either_difference, form_difference, unwrap_found, wrap_found,
-};
+use crate::checks::{DEFAULT_IV, given_length, is_zero, padded_difference, padded_iv};
+use crate::found::{decide_or_restore, either, plain_difference, unwrap_buffer, wrap_buffer};
 use crate::lengths::{WORD, is_text_length, padded_text_length_ok};
 use block_pair::{BlockPair, Meter};
 use thiserror::Error;
@@ -81,10 +76,16 @@ pub fn rewrap<O: BlockPair, N: BlockPair>(
         Ok(()) => return Ok(Rewrapped::Fresh),
         Err(fault) => fault,
     };
-    if pass_new && fault != RewrapFault::KeyNotPlain && is_wrapped(new, &to_itself(forms), buf) {
-        return Ok(Rewrapped::AlreadyNew);
+    if !pass_new || fault == RewrapFault::KeyNotPlain {
+        return Err(fault);
     }
-    Err(fault)
+    match find(new, &to_itself(forms), buf) {
+        Ok(found) => {
+            wrap_buffer(new, found, buf);
+            Ok(Rewrapped::AlreadyNew)
+        }
+        Err(_) => Err(fault),
+    }
 }
 
 // Rewraps a wrapping under the old pair. A refusal leaves the buffer as it was.
@@ -94,22 +95,21 @@ fn rewrap_old<O: BlockPair, N: BlockPair>(
     forms: &RewrapForms,
     buf: &mut [u8],
 ) -> Result<(), RewrapFault>
-    ensures rewraps { RewrapsOld forms.now (O.encrypted old.old.pair) (N.encrypted new.old.pair)
-        buf.old result buf.new }
-    ensures unwrap_calls { OnOk result (old.new ≡ counted (block_calls (length buf.old)) old.old) }
-    ensures wrap_calls { OnOk result (new.new ≡ counted (block_calls (length buf.old)) new.old) }
-    ensures refused_calls { IsErr result → IsOldLength forms.now (length buf.old)
-        → old.new ≡ counted (2 * block_calls (length buf.old)) old.old }
-    ensures old_meter_kept { ¬ IsOldLength forms.now (length buf.old) → old.new ≡ old.old }
-    ensures new_meter_kept { IsErr result → new.new ≡ new.old }
+    ensures rewraps { IsRewrapping false forms.now (O.encrypted old.old.pair)
+        (N.encrypted new.old.pair) buf.old (as_fresh result) buf.new }
+    ensures calls { RewrapCalls false forms.now (length buf.old)
+        old.old old.new new.old new.new (as_fresh result) }
 {
-    let found = find(old, forms, buf)?;
+    let found = match find(old, forms, buf) {
+        Ok(found) => found,
+        Err(fault) => return Err(fault),
+    };
     let misfit = misfit(forms, found, &buf[WORD..]);
     let Ok(()) = decide_or_restore(old, found, misfit, buf) else {
         return Err(RewrapFault::KeyNotPlain);
     };
     let iv = new_iv(forms, found, &buf[WORD..]);
-    wrap_found(new, iv, buf);
+    wrap_buffer(new, iv, buf);
     Ok(())
 }
 
@@ -119,46 +119,18 @@ fn find<B: BlockPair>(
     forms: &RewrapForms,
     buf: &mut [u8],
 ) -> Result<u64, RewrapFault>
-    ensures found { IfOk result (λ found. IsFound forms.now (B.encrypted meter.old.pair) buf.old
-        (word_bytes found ++ drop 8 buf.new)) }
-    ensures refused { IfErr result (λ fault. HasFault forms.now (B.encrypted meter.old.pair) buf.old
-        fault) }
-    ensures no_key { ¬ (result ≡ Err RewrapFault.KeyNotPlain) }
-    ensures same { IsErr result → buf.new ≡ buf.old }
-    ensures legal { IsOk result → IsOldLength forms.now (length buf.old) }
-    ensures calls { IsOk result → meter.new ≡ counted (block_calls (length buf.old)) meter.old }
-    ensures refused_calls { IsErr result → IsOldLength forms.now (length buf.old)
-        → meter.new ≡ counted (2 * block_calls (length buf.old)) meter.old }
-    ensures meter_kept { ¬ IsOldLength forms.now (length buf.old) → meter.new ≡ meter.old }
+    ensures { Finds forms.now (B.encrypted meter.old.pair) buf.old buf.new
+        meter.old meter.new result }
 {
     if !rewrap_length_ok(forms, buf.len()) {
         return Err(RewrapFault::BadLength);
     }
-    let found = unwrap_found(meter, buf);
+    let found = unwrap_buffer(meter, buf);
     let difference = old_difference(forms, found, &buf[WORD..]);
     let Ok(()) = decide_or_restore(meter, found, difference, buf) else {
         return Err(RewrapFault::Integrity);
     };
     Ok(found)
-}
-
-// Whether the buffer holds a wrapping in one of the old forms. The buffer stays as it is.
-fn is_wrapped<B: BlockPair>(meter: &mut Meter<B>, forms: &RewrapForms, buf: &mut [u8]) -> bool
-    ensures is { IsTrue result → IsOld forms.now (B.encrypted meter.old.pair) buf.old }
-    ensures is_not { ¬ IsTrue result → IsNoWrapping forms.now (B.encrypted meter.old.pair) buf.old }
-    ensures same { buf.new ≡ buf.old }
-    ensures legal { IsTrue result → IsOldLength forms.now (length buf.old) }
-    ensures calls { IsOldLength forms.now (length buf.old)
-        → meter.new ≡ counted (2 * block_calls (length buf.old)) meter.old }
-    ensures meter_kept { ¬ IsOldLength forms.now (length buf.old) → meter.new ≡ meter.old }
-{
-    match find(meter, forms, buf) {
-        Ok(found) => {
-            wrap_found(meter, found, buf);
-            true
-        }
-        Err(_) => false,
-    }
 }
 
 // The forms of a rewrapping from the new pair to itself.
@@ -187,14 +159,17 @@ pub fn rewrap_length_ok(forms: &RewrapForms, len: usize) -> bool
 // 0 if the initial value and the registers hold a key in one of the old forms.
 fn old_difference(forms: &RewrapForms, iv: u64, registers: &[u8]) -> u64
     requires { IsOldLength forms.now (8 + length registers.now) }
-    ensures passes { result ≡ 0 → (form : AgreedForm) × IsFrom forms.now form
-        × (key : List ℕ) × HoldsIn form key (word_bytes iv ++ registers.now) }
-    ensures refuses { ¬ (result ≡ 0) → (form : AgreedForm) → IsFrom forms.now form
-        → NoKey (HoldsIn form) (word_bytes iv ++ registers.now) }
+    ensures { TellsKey (IsFrom forms.now) (word_bytes iv ++ registers.now) result }
 {
     match forms {
-        RewrapForms::Kept => either_difference(iv, registers),
-        RewrapForms::Changed { old, .. } => form_difference(old, iv, registers),
+        RewrapForms::Kept => {
+            let plain = plain_difference(DEFAULT_IV, iv, registers);
+            either(plain, padded_difference(iv, registers))
+        }
+        RewrapForms::Changed { old, .. } => match old {
+            AgreedForm::Plain(agreed) => plain_difference(agreed.word(), iv, registers),
+            AgreedForm::Padded => padded_difference(iv, registers),
+        },
     }
 }
 
@@ -229,7 +204,7 @@ fn new_iv(forms: &RewrapForms, iv: u64, registers: &[u8]) -> u64
     match forms {
         RewrapForms::Kept => iv,
         RewrapForms::Changed { old, new } => match (old, new) {
-            (AgreedForm::Plain(_), AgreedForm::Padded) => initial_value(registers.len()),
+            (AgreedForm::Plain(_), AgreedForm::Padded) => padded_iv(registers.len()),
             (AgreedForm::Padded, AgreedForm::Plain(agreed)) => agreed.word(),
             (AgreedForm::Plain(_), AgreedForm::Plain(agreed)) => agreed.word(),
             (AgreedForm::Padded, AgreedForm::Padded) => iv,
@@ -246,53 +221,3 @@ pub fn one_result_law<O: BlockPair, N: BlockPair>(old: &O, new: &N)
         → IsRewrapping pass_new forms (O.encrypted old.now) (N.encrypted new.now) text other_result other
         → (other_result ≡ result) × (other ≡ after) }
 {}
-
-#[cfg(test)]
-mod tests {
-    use super::*;
-    use crate::{Form, wrap_in_place, wrap_padded_in_place};
-    use block_pair::SwapHalves;
-
-    // Of each result the buffer after it, over the drill block.
-    #[test]
-    fn restores_what_it_refuses(rt: HostRuntime) {
-        let pair = SwapHalves;
-        let (mut old, mut new) = (Meter::new(&pair), Meter::new(&pair));
-        let mut buf = *b"0123456789abcdefghijklmn";
-        let kept = RewrapForms::Kept;
-        let answer = rewrap(&mut old, &mut new, &kept, true, &mut buf);
-        assert!(rt; answer == Err(RewrapFault::Integrity));
-        assert_eq!(rt; buf, *b"0123456789abcdefghijklmn");
-        assert!(rt; old.count() == 24 && new.count() == 24);
-
-        let changed = RewrapForms::Changed {
-            old: AgreedForm::Padded,
-            new: AgreedForm::by_default(Form::Plain),
-        };
-        let mut short = *b"a key of 14 b..         ";
-        let wrapped = wrap_padded_in_place(&mut old, &mut short, 14);
-        assert!(rt; wrapped.is_ok());
-        let before = short;
-        let answer = rewrap(&mut old, &mut new, &changed, true, &mut short);
-        assert!(rt; answer == Err(RewrapFault::KeyNotPlain));
-        assert_eq!(rt; short, before);
-        let answer = rewrap(&mut old, &mut new, &kept, true, &mut short);
-        assert!(rt; answer == Ok(Rewrapped::Fresh));
-        assert_eq!(rt; short, before);
-
-        let mut plain = *b"........a key of 16 byte";
-        let wrapped = wrap_in_place(&mut new, &mut plain);
-        assert!(rt; wrapped.is_ok());
-        let before = plain;
-        let answer = rewrap(&mut old, &mut new, &changed, true, &mut plain);
-        assert!(rt; answer == Ok(Rewrapped::AlreadyNew));
-        assert_eq!(rt; plain, before);
-        let answer = rewrap(&mut old, &mut new, &changed, false, &mut plain);
-        assert!(rt; answer == Err(RewrapFault::Integrity));
-        assert_eq!(rt; plain, before);
-        let mut odd = *b"01234567890123456789";
-        let answer = rewrap(&mut old, &mut new, &kept, false, &mut odd);
-        assert!(rt; answer == Err(RewrapFault::BadLength));
-        assert_eq!(rt; odd, *b"01234567890123456789");
-    }
-}

@@ -7,10 +7,9 @@ ghost use Rattle.block_pair.specs.Words.{IsBlock};
 ghost use Rattle.key_wrap_core.specs.Words.{word_bytes};
 ghost use Rattle.key_wrap_core.specs.Lengths.{IsPaddedTextLength};
 ghost use Rattle.key_wrap_core.specs.Calls.{block_calls};
-ghost use Rattle.key_wrap_core.specs.Steps.{WrapSteps, WrapState};
-ghost use Rattle.key_wrap_core.specs.StepCalls.{IsWrapStep};
-ghost use Rattle.key_wrap_core.specs.Steps.{UnwrapSteps, UnwrapState};
-ghost use Rattle.key_wrap_core.specs.StepCalls.{IsUnwrapStep};
+ghost use Rattle.key_wrap_core.specs.Steps.{WrapState, UnwrapState};
+ghost use Rattle.key_wrap_core.specs.StepCalls.{IsWrapStep, IsUnwrapStep};
+ghost use Rattle.key_wrap_core.specs.Private.{IsWordsStep, IsWordsUnstep};
 
 use crate::lengths::{MAX_KEY, WORD};
 use byteorder::{BigEndian, ByteOrder};
@@ -85,14 +84,9 @@ pub(crate) fn step_registers(registers: &mut [u8], done: u64, block: [u8; 16]) -
 // 3394, section 2.2.1).
 #[inline(always)]
 pub(crate) fn step_words(registers: &mut [u8], done: usize, block: [u8; 16]) -> [u8; 16]
-    requires whole_words { length registers.old % 8 ≡ 0 }
-    requires some { 8 ≤ length registers.old }
-    requires within { length registers.old ≤ MAX_KEY }
+    requires legal { IsPaddedTextLength (8 + length registers.old) }
     requires left { done < 6 * (length registers.old / 8) }
-    ensures { (E : List ℕ → List ℕ) (iv : ℕ) (key before : List ℕ)
-        → WrapSteps E iv key done registers.old before
-        → block ≡ E before
-        → WrapSteps E iv key (done + 1) registers.new result }
+    ensures { IsWordsStep done (done + 1) registers.old registers.new block result }
 {
     let n = registers.len() / WORD;
     let a = BigEndian::read_u64(&block) ^ (done as u64 + 1);
@@ -121,14 +115,9 @@ pub(crate) fn unstep_registers(registers: &mut [u8], left: u64, block: [u8; 16])
 // (section 2.2.2).
 #[inline(always)]
 fn unstep_words(registers: &mut [u8], left: usize, block: [u8; 16]) -> [u8; 16]
-    requires whole_words { length registers.old % 8 ≡ 0 }
-    requires some { 8 ≤ length registers.old }
-    requires within { length registers.old ≤ MAX_KEY }
+    requires legal { IsPaddedTextLength (8 + length registers.old) }
     requires left { left < 6 * (length registers.old / 8) }
-    ensures { (E : List ℕ → List ℕ) (text before : List ℕ)
-        → UnwrapSteps E text (left + 1) registers.old before
-        → E block ≡ before
-        → UnwrapSteps E text left registers.new result }
+    ensures { IsWordsUnstep (left + 1) left registers.old registers.new block result }
 {
     let n = registers.len() / WORD;
     let a = BigEndian::read_u64(&block) ^ left as u64;

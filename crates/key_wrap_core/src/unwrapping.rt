@@ -1,23 +1,15 @@
 //! The checked unwrapping of the registers, wherever they lie: in a buffer after C0, or in one of
 //! their own.
 
-ghost use Rattle.std.specs.Prelude.{◌≡◌, ◌+◌, ◌++◌, [], ℕ, List, length, take, All, Err};
-ghost use Rattle.std.specs.Prelude.{IfOk, IsErr, IsOkUnless, ◌%◌, ◌^◌};
-ghost use Rattle.block_pair.specs.Pair.{AreInverse};
+ghost use Rattle.std.specs.Prelude.{◌≡◌, ◌+◌, ◌++◌, ◌%◌, ◌^◌, [], length, take, All, Err, IfOk};
 ghost use Rattle.block_pair.specs.Metered.{counted};
 ghost use Rattle.key_wrap_core.specs.Words.{word_bytes};
 ghost use Rattle.key_wrap_core.specs.Lengths.{IsPlainTextLength, IsPaddedTextLength};
 ghost use Rattle.key_wrap_core.specs.Plain.{IsReserved};
-ghost use Rattle.key_wrap_core.specs.Padded.{padded};
-ghost use Rattle.key_wrap_core.specs.Registers.{Registers};
-ghost use Rattle.key_wrap_core.specs.PaddedRegisters.{PaddedRegisters};
-ghost use Rattle.key_wrap_core.specs.NoKey.{NoKey};
 ghost use Rattle.key_wrap_core.specs.Calls.{block_calls};
 ghost use Rattle.key_wrap_core.specs.Unwrapping.{Unwrapping};
 ghost use Rattle.key_wrap_core.specs.BufferCalls.{UnwrappingEither, IsKeyBuffer};
-ghost use Rattle.key_wrap_core.specs.declared.forms.Form.{Form};
-ghost use Rattle.key_wrap_core.specs.Forms.{with_value};
-ghost use Rattle.key_wrap_core.specs.Found.{HoldsIn};
+ghost use Rattle.key_wrap_core.specs.Private.{EndsIn};
 
 use crate::agreed_form::AgreedForm;
 use crate::checks::{decide, given_length, padded_difference};
@@ -52,12 +44,8 @@ pub(crate) fn unwrap_registers<B: BlockPair>(
 pub(crate) fn end_plain(found: u64, iv: u64, registers: &mut [u8]) -> Result<(), InPlaceFault>
     requires length { IsPlainTextLength (8 + length registers.old) }
     requires free { ¬ IsReserved iv }
-    ensures answer { (E D : List ℕ → List ℕ) (text : List ℕ) → AreInverse E D
-        → Registers E (word_bytes found ++ registers.old) text
-        → Unwrapping (IsPlainTextLength (length text)) (AgreedForm.Plain iv) E text
+    ensures { EndsIn (AgreedForm.Plain iv) found registers.old registers.new
         (λ _. registers.new) result }
-    ensures cleared { result ≡ Err InPlaceFault.Integrity → All (λ byte. byte ≡ 0) registers.new }
-    ensures only_fault { IsOkUnless result InPlaceFault.Integrity }
 {
     decide(found ^ iv, registers)
 }
@@ -85,13 +73,9 @@ pub(crate) fn unwrap_padded_registers<B: BlockPair>(
 // as many bytes as the answer says, and become zeros if they do not.
 pub(crate) fn end_padded(found: u64, registers: &mut [u8]) -> Result<usize, InPlaceFault>
     requires { IsPaddedTextLength (8 + length registers.old) }
-    ensures answer { (E D : List ℕ → List ℕ) (text : List ℕ) → AreInverse E D
-        → PaddedRegisters E (word_bytes found ++ registers.old) text
-        → Unwrapping (IsPaddedTextLength (length text)) AgreedForm.Padded E text
+    ensures ends { EndsIn AgreedForm.Padded found registers.old registers.new
         (λ m. take m registers.new) result }
     ensures key { IfOk result (λ m. IsKeyBuffer [] (take m registers.new) m registers.new) }
-    ensures cleared { result ≡ Err InPlaceFault.Integrity → All (λ byte. byte ≡ 0) registers.new }
-    ensures only_fault { IsOkUnless result InPlaceFault.Integrity }
 {
     decide(padded_difference(found, registers), registers)?;
     Ok(given_length(found) as usize)
@@ -117,22 +101,6 @@ pub(crate) fn unwrap_any_registers<B: BlockPair>(
     ensures calls { meter.new ≡ counted (block_calls (8 + length registers.old)) meter.old }
 {
     let found = unwrap_slice(meter, c0, registers);
-    end_any(found, iv, registers)
-}
-
-// The registers that the steps led back to stay if they hold a key in one of the two forms under
-// the initial value found, and become zeros if they do not.
-pub(crate) fn end_any(found: u64, iv: u64, registers: &mut [u8]) -> Result<FoundKey, InPlaceFault>
-    requires { IsPaddedTextLength (8 + length registers.old) }
-    ensures holds { IfOk result (λ key. HoldsIn (with_value key.form iv)
-        (take key.len registers.new) (word_bytes found ++ registers.old)
-        × (length (take key.len registers.new) ≡ key.len)
-        × (registers.new ≡ padded (take key.len registers.new))) }
-    ensures none { IsErr result
-        → (form : Form) → NoKey (HoldsIn (with_value form iv)) (word_bytes found ++ registers.old) }
-    ensures only_fault { IsOkUnless result InPlaceFault.Integrity }
-    ensures cleared { IsErr result → All (λ byte. byte ≡ 0) registers.new }
-{
     let padded = padded_difference(found, registers);
     let plain = plain_difference(iv, found, registers);
     decide(either(plain, padded), registers)?;

@@ -14,7 +14,7 @@ ghost use Rattle.key_wrap_core.specs.BufferCalls.{RefusesLength};
 ghost use Rattle.key_wrap_core.specs.Calls.{block_calls};
 ghost use Rattle.key_wrap_core.specs.StepCalls.{WrapBegun, IsWrapStep, WrapEnded};
 
-use crate::checks::initial_value;
+use crate::checks::padded_iv;
 use crate::faults::InPlaceFault;
 use crate::initial_value::InitialValue;
 use crate::lengths::{WORD, key_length_ok, padded_length_ok};
@@ -64,7 +64,7 @@ pub fn begin_wrap_padded(
     }
     *done = 0;
     registers[m..].fill(0);
-    *block = first_block(initial_value(m), registers);
+    *block = first_block(padded_iv(m), registers);
     Ok(())
 }
 

@@ -1,3 +1,4 @@
 -- The definitions of the lanes.
 pub mod Lanes
+pub mod LaneCalls
 pub mod Turn

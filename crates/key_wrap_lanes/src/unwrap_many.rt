@@ -1,132 +1,85 @@
 //! Unwrapping many texts of one length, step by step.
 
-ghost use Rattle.std.specs.Prelude.{◌≡◌, ◌↔◌, ℕ, ◌+◌, ◌-◌, ◌*◌, ◌/◌, ◌%◌, ◌≤◌, ◌<◌, ◌++◌, List, ◌∷◌, [], length, take, drop};
-ghost use Rattle.std.specs.Prelude.{Ok, Err, OnOk, IsOkUnless, Result, All};
+ghost use Rattle.std.specs.Prelude.{◌≡◌, ℕ, ◌+◌, ◌-◌, ◌*◌, ◌/◌, ◌%◌, ◌≤◌, ◌<◌, ◌++◌, List, ◌∷◌, [], length, take, drop};
+ghost use Rattle.std.specs.Prelude.{Ok, Err, OnOk, Result, All};
 ghost use Rattle.key_wrap_core.specs.Lengths.{IsPlainTextLength};
 ghost use Rattle.key_wrap_core.specs.Calls.{block_calls};
 ghost use Rattle.key_wrap_core.specs.Steps.{UnwrapState};
 ghost use Rattle.key_wrap_lanes.specs.Lanes.{AreLanes, IsEnded, part_at, registers_at, block_at};
+ghost use Rattle.key_wrap_lanes.specs.LaneCalls.{BeginsUnwraps, StepsUnwraps, EndsUnwraps};
 
 use crate::lane_turns::turn_lanes;
 use crate::lanes::{BLOCK, WORD, lanes_ok, step_count};
 use key_wrap_core::{InPlaceFault, InitialValue, begin_unwrap, end_unwrap};
+use keywrap_calls::{BAD_IV, BAD_LENGTH, DONE, initial_value};
 
-// The statuses of a lane, as the calls of the libraries return them.
-const DONE: u8 = 0;
-
-const INTEGRITY: u8 = 5;
-
-/// Begins the plain unwrapping of each of many texts: `left` becomes the number of steps, and each
-/// block the first to decrypt.
+/// Begins the plain unwrapping of each of many texts: `*left` is the number of steps, and each block
+/// the first block to decrypt.
 ///
-/// `BadLength`, with everything as it was, if `text_length_ok` refuses `text_len`, or there are not
-/// as many texts as blocks.
-pub fn begin_unwrap_many(
-    texts: &[u8],
-    text_len: usize,
-    left: &mut u64,
-    blocks: &mut [u8],
-) -> Result<(), InPlaceFault>
-    ensures bad_length { (result ≡ Err InPlaceFault.BadLength)
-        ↔ ¬ AreLanes text_len texts.now blocks.old }
-    ensures only_fault { IsOkUnless result InPlaceFault.BadLength }
-    ensures left_kept { result ≡ Err InPlaceFault.BadLength → left.new ≡ left.old }
-    ensures blocks_kept { result ≡ Err InPlaceFault.BadLength → blocks.new ≡ blocks.old }
-    ensures all_left { OnOk result (left.new ≡ block_calls text_len) }
-    ensures begins { OnOk result ((i : ℕ) → i < length blocks.old / 16
-        → (E : List ℕ → List ℕ)
-        → let text = part_at text_len i texts.now in
-        UnwrapState E text left.new (drop 8 text) (block_at i blocks.new)) }
+/// `BAD_LENGTH`, with everything as it was, if no plain wrapped key has the length `text_len`, or
+/// there are not as many texts as blocks.
+pub fn begin_unwrap_many(texts: &[u8], text_len: usize, left: &mut u64, blocks: &mut [u8]) -> i32
+    ensures { BeginsUnwraps text_len texts.now left.old left.new blocks.old blocks.new result }
 {
     if !lanes_ok(text_len, texts.len(), blocks.len()) {
-        return Err(InPlaceFault::BadLength);
+        return BAD_LENGTH;
     }
     *left = step_count(text_len);
     begin_lanes(texts, text_len, blocks);
-    Ok(())
+    DONE
 }
 
-/// Undoes one step more of each of many unwrappings, with `left` steps left and each block
-/// decrypted since the last: `left` counts down, and each block becomes the next to decrypt. The
-/// first 8 bytes of each text stay as they are.
+/// Undoes one step of each of many unwrappings, with its decrypted block. Subtracts 1 from `*left`,
+/// and each block is the next block to decrypt. The first 8 bytes of each text stay as they are.
 ///
-/// `BadLength`, with everything as it was, if `text_length_ok` refuses `text_len`, there are not as
-/// many texts as blocks, no step is left, or more than there are.
-pub fn step_unwrap_many(
-    texts: &mut [u8],
-    text_len: usize,
-    left: &mut u64,
-    blocks: &mut [u8],
-) -> Result<(), InPlaceFault>
-    ensures bad_length { (result ≡ Err InPlaceFault.BadLength)
-        ↔ ¬ (AreLanes text_len texts.old blocks.old × (1 ≤ left.old)
-        × (left.old ≤ block_calls text_len)) }
-    ensures only_fault { IsOkUnless result InPlaceFault.BadLength }
-    ensures texts_kept { result ≡ Err InPlaceFault.BadLength → texts.new ≡ texts.old }
-    ensures left_kept { result ≡ Err InPlaceFault.BadLength → left.new ≡ left.old }
-    ensures blocks_kept { result ≡ Err InPlaceFault.BadLength → blocks.new ≡ blocks.old }
-    ensures counts { OnOk result (left.old ≡ left.new + 1) }
-    ensures firsts { OnOk result ((i : ℕ) → i < length blocks.old / 16
-        → take 8 (part_at text_len i texts.new) ≡ take 8 (part_at text_len i texts.old)) }
-
-    // For each lane and every E: if E takes the block to the last one, one step less is left.
-    ensures steps { OnOk result ((i : ℕ) → i < length blocks.old / 16
-        → (E : List ℕ → List ℕ) (text before : List ℕ)
-        → UnwrapState E text left.old (registers_at text_len i texts.old) before
-        → E (block_at i blocks.old) ≡ before
-        → UnwrapState E text left.new (registers_at text_len i texts.new) (block_at i blocks.new)) }
+/// `BAD_LENGTH`, with everything as it was, if no plain wrapped key has the length `text_len`, there
+/// are not as many texts as blocks, no step is left, or more than there are.
+pub fn step_unwrap_many(texts: &mut [u8], text_len: usize, left: &mut u64, blocks: &mut [u8]) -> i32
+    ensures { StepsUnwraps text_len texts.old texts.new left.old left.new blocks.old blocks.new result }
 {
     if !lanes_ok(text_len, texts.len(), blocks.len())
         || *left == 0
         || *left > step_count(text_len)
     {
-        return Err(InPlaceFault::BadLength);
+        return BAD_LENGTH;
     }
     *left -= 1;
     let n = (text_len / WORD - 1) as u32;
     let own = *left as u32 % n;
     let next = register_before(own, n);
     turn_lanes(texts, text_len, *left, own as usize, next as usize, blocks);
-    Ok(())
+    DONE
 }
 
-/// Ends many plain unwrappings under this initial value. Each text has its status, one byte: 0 if
-/// its registers are the key that was wrapped, and 5 if the text is the wrapping of no key, and then
-/// they are zeros. The first 8 bytes of each text stay as they are, and the blocks become zeros.
+/// Ends many plain unwrappings under the initial value `iv`. The status of a text, one byte, is
+/// `DONE`, and its registers are the key, or `INTEGRITY`, and they are zeros. The first 8 bytes of
+/// each text stay as they are. The blocks are zeros.
 ///
-/// `BadLength`, with everything as it was, if `text_length_ok` refuses `text_len`, there are not as
-/// many texts, blocks and statuses, or a step is left.
+/// `BAD_LENGTH` if no plain wrapped key has the length `text_len`, there are not as many texts,
+/// blocks and statuses, or a step is left. Each refusal leaves everything as it was.
 pub fn end_unwrap_many(
-    iv: &InitialValue,
+    iv: &[u8],
     texts: &mut [u8],
     text_len: usize,
     left: u64,
     blocks: &mut [u8],
     statuses: &mut [u8],
-) -> Result<(), InPlaceFault>
-    ensures bad_length { (result ≡ Err InPlaceFault.BadLength)
-        ↔ ¬ (AreLanes text_len texts.old blocks.old × (left ≡ 0)
-        × (length statuses.old ≡ length blocks.old / 16)) }
-    ensures only_fault { IsOkUnless result InPlaceFault.BadLength }
-    ensures texts_kept { result ≡ Err InPlaceFault.BadLength → texts.new ≡ texts.old }
-    ensures blocks_kept { result ≡ Err InPlaceFault.BadLength → blocks.new ≡ blocks.old }
-    ensures statuses_kept { result ≡ Err InPlaceFault.BadLength → statuses.new ≡ statuses.old }
-    ensures firsts { OnOk result ((i : ℕ) → i < length blocks.old / 16
-        → take 8 (part_at text_len i texts.new) ≡ take 8 (part_at text_len i texts.old)) }
-    ensures ends { OnOk result ((i : ℕ) → i < length blocks.old / 16
-        → IsEnded iv.now (registers_at text_len i texts.old) (block_at i blocks.old)
-        (registers_at text_len i texts.new) (part_at 1 i statuses.new)) }
-    ensures blocks_cleared { OnOk result (All (λ byte. byte ≡ 0) blocks.new) }
+) -> i32
+    ensures { EndsUnwraps iv.now text_len texts.old texts.new left
+        blocks.old blocks.new statuses.old statuses.new result }
 {
+    let Some(value) = initial_value(iv) else {
+        return BAD_IV;
+    };
     if !lanes_ok(text_len, texts.len(), blocks.len())
         || left != 0
         || statuses.len() != blocks.len() / BLOCK
     {
-        return Err(InPlaceFault::BadLength);
+        return BAD_LENGTH;
     }
-    end_lanes(iv, texts, text_len, blocks, statuses);
+    end_lanes(&value, texts, text_len, blocks, statuses);
     blocks.fill(0);
-    Ok(())
+    DONE
 }
 
 // The first block of each lane.
@@ -215,7 +168,7 @@ fn lane_status(ended: Result<(), InPlaceFault>) -> u8
     ensures refused { ended ≡ Err InPlaceFault.Integrity → result ≡ 5 }
 {
     match ended {
-        Ok(()) => DONE,
-        Err(_) => INTEGRITY,
+        Ok(()) => 0,
+        Err(_) => 5,
     }
 }

@@ -1,80 +1,51 @@
 //! Wrapping many keys of one length, step by step.
 
-ghost use Rattle.std.specs.Prelude.{◌≡◌, ◌↔◌, ℕ, ◌+◌, ◌*◌, ◌/◌, ◌%◌, ◌≤◌, ◌<◌, ◌++◌, List, length, take, drop};
-ghost use Rattle.std.specs.Prelude.{Err, OnOk, IsOkUnless};
-ghost use Rattle.key_wrap_core.specs.Lengths.{IsPlainKeyLength, IsPaddedKeyLength, IsPlainTextLength};
-ghost use Rattle.key_wrap_core.specs.Plain.{Plain};
-ghost use Rattle.key_wrap_core.specs.Padded.{Padded, aiv, padded};
-ghost use Rattle.key_wrap_core.specs.Calls.{block_calls};
+ghost use Rattle.std.specs.Prelude.{◌≡◌, ℕ, ◌+◌, ◌*◌, ◌/◌, ◌%◌, ◌≤◌, ◌<◌, ◌++◌, List, length, take, drop};
+ghost use Rattle.key_wrap_core.specs.Lengths.{IsPlainTextLength};
 ghost use Rattle.key_wrap_core.specs.Steps.{WrapState};
 ghost use Rattle.key_wrap_lanes.specs.Lanes.{AreLanes, part_at, registers_at, block_at};
+ghost use Rattle.key_wrap_lanes.specs.LaneCalls.{BeginsWraps, StepsWraps, EndsWraps};
 
 use crate::lane_turns::turn_lanes;
 use crate::lanes::{BLOCK, WORD, lanes_ok, step_count};
-use key_wrap_core::{InPlaceFault, InitialValue, begin_wrap};
+use key_wrap_core::{InitialValue, begin_wrap};
+use keywrap_calls::{BAD_IV, BAD_LENGTH, DONE, initial_value};
 
-/// Begins the plain wrapping of each of many keys under this initial value: `done` becomes 0, and
-/// each block the first to encrypt. Each text contains its key after its first 8 bytes.
+/// Begins the plain wrapping of each of many keys under the initial value `iv`: `*done` is 0, and
+/// each block the first block to encrypt. Each text contains its key after its first 8 bytes.
 ///
-/// `BadLength`, with everything as it was, if `text_length_ok` refuses `text_len`, or there are not
-/// as many texts as blocks.
+/// `BAD_LENGTH` if no plain wrapped key has the length `text_len`, or there are not as many texts as
+/// blocks. Each refusal leaves everything as it was.
 pub fn begin_wrap_many(
-    iv: &InitialValue,
+    iv: &[u8],
     texts: &[u8],
     text_len: usize,
     done: &mut u64,
     blocks: &mut [u8],
-) -> Result<(), InPlaceFault>
-    ensures bad_length { (result ≡ Err InPlaceFault.BadLength)
-        ↔ ¬ AreLanes text_len texts.now blocks.old }
-    ensures only_fault { IsOkUnless result InPlaceFault.BadLength }
-    ensures done_kept { result ≡ Err InPlaceFault.BadLength → done.new ≡ done.old }
-    ensures blocks_kept { result ≡ Err InPlaceFault.BadLength → blocks.new ≡ blocks.old }
-    ensures none_done { OnOk result (done.new ≡ 0) }
-    ensures begins { OnOk result ((i : ℕ) → i < length blocks.old / 16
-        → (E : List ℕ → List ℕ)
-        → let registers = registers_at text_len i texts.now in
-        WrapState E iv.now registers 0 registers (block_at i blocks.new)) }
+) -> i32
+    ensures { BeginsWraps iv.now text_len texts.now done.old done.new blocks.old blocks.new result }
 {
+    let Some(value) = initial_value(iv) else {
+        return BAD_IV;
+    };
     if !lanes_ok(text_len, texts.len(), blocks.len()) {
-        return Err(InPlaceFault::BadLength);
+        return BAD_LENGTH;
     }
     *done = 0;
-    begin_lanes(iv, texts, text_len, blocks);
-    Ok(())
+    begin_lanes(&value, texts, text_len, blocks);
+    DONE
 }
 
-/// Makes one step more of each of many wrappings, with `done` steps done and each block encrypted
-/// since: `done` counts it, and each block becomes the next to encrypt. The first 8 bytes of each
-/// text stay as they are.
+/// Makes one step of each of many wrappings, with its encrypted block. Adds 1 to `*done`, and each
+/// block is the next block to encrypt. The first 8 bytes of each text stay as they are.
 ///
-/// `BadLength`, with everything as it was, if `text_length_ok` refuses `text_len`, there are not as
-/// many texts as blocks, or all steps are done.
-pub fn step_wrap_many(
-    texts: &mut [u8],
-    text_len: usize,
-    done: &mut u64,
-    blocks: &mut [u8],
-) -> Result<(), InPlaceFault>
-    ensures bad_length { (result ≡ Err InPlaceFault.BadLength)
-        ↔ ¬ (AreLanes text_len texts.old blocks.old × (done.old < block_calls text_len)) }
-    ensures only_fault { IsOkUnless result InPlaceFault.BadLength }
-    ensures texts_kept { result ≡ Err InPlaceFault.BadLength → texts.new ≡ texts.old }
-    ensures done_kept { result ≡ Err InPlaceFault.BadLength → done.new ≡ done.old }
-    ensures blocks_kept { result ≡ Err InPlaceFault.BadLength → blocks.new ≡ blocks.old }
-    ensures counts { OnOk result (done.new ≡ done.old + 1) }
-    ensures firsts { OnOk result ((i : ℕ) → i < length blocks.old / 16
-        → take 8 (part_at text_len i texts.new) ≡ take 8 (part_at text_len i texts.old)) }
-
-    // For each lane and every E: if the block is E of the last one, one step more is done.
-    ensures steps { OnOk result ((i : ℕ) → i < length blocks.old / 16
-        → (E : List ℕ → List ℕ) (iv : ℕ) (key before : List ℕ)
-        → WrapState E iv key done.old (registers_at text_len i texts.old) before
-        → block_at i blocks.old ≡ E before
-        → WrapState E iv key done.new (registers_at text_len i texts.new) (block_at i blocks.new)) }
+/// `BAD_LENGTH`, with everything as it was, if no plain wrapped key has the length `text_len`, there
+/// are not as many texts as blocks, or all steps are done.
+pub fn step_wrap_many(texts: &mut [u8], text_len: usize, done: &mut u64, blocks: &mut [u8]) -> i32
+    ensures { StepsWraps text_len texts.old texts.new done.old done.new blocks.old blocks.new result }
 {
     if !lanes_ok(text_len, texts.len(), blocks.len()) || *done >= step_count(text_len) {
-        return Err(InPlaceFault::BadLength);
+        return BAD_LENGTH;
     }
     // In 32 bits, which the processor divides in less time.
     let n = (text_len / WORD - 1) as u32;
@@ -82,41 +53,22 @@ pub fn step_wrap_many(
     *done += 1;
     let next = register_after(own, n);
     turn_lanes(texts, text_len, *done, own as usize, next as usize, blocks);
-    Ok(())
+    DONE
 }
 
 /// Ends many wrappings, in either form: each text, with the first 8 bytes of its block before its
 /// registers, is the wrapped key.
 ///
-/// `BadLength`, with everything as it was, if `text_length_ok` refuses `text_len`, there are not as
-/// many texts as blocks, or not all steps are done.
-pub fn end_wrap_many(
-    texts: &mut [u8],
-    text_len: usize,
-    done: u64,
-    blocks: &[u8],
-) -> Result<(), InPlaceFault>
-    ensures bad_length { (result ≡ Err InPlaceFault.BadLength)
-        ↔ ¬ (AreLanes text_len texts.old blocks.now × (done ≡ block_calls text_len)) }
-    ensures only_fault { IsOkUnless result InPlaceFault.BadLength }
-    ensures kept { result ≡ Err InPlaceFault.BadLength → texts.new ≡ texts.old }
-    ensures plain { OnOk result ((i : ℕ) → i < length blocks.now / 16
-        → (E : List ℕ → List ℕ) (iv : ℕ) (key : List ℕ)
-        → IsPlainKeyLength (length key)
-        → WrapState E iv key done (registers_at text_len i texts.old) (block_at i blocks.now)
-        → Plain E iv key (part_at text_len i texts.new)) }
-    ensures padded { OnOk result ((i : ℕ) → i < length blocks.now / 16
-        → (E : List ℕ → List ℕ) (key : List ℕ)
-        → IsPaddedKeyLength (length key)
-        → WrapState E (aiv (length key)) (padded key) done (registers_at text_len i texts.old)
-        (block_at i blocks.now)
-        → Padded E key (part_at text_len i texts.new)) }
+/// `BAD_LENGTH`, with everything as it was, if no plain wrapped key has the length `text_len`, there
+/// are not as many texts as blocks, or not all steps are done.
+pub fn end_wrap_many(texts: &mut [u8], text_len: usize, done: u64, blocks: &[u8]) -> i32
+    ensures { EndsWraps text_len texts.old texts.new done blocks.now result }
 {
     if !lanes_ok(text_len, texts.len(), blocks.len()) || done != step_count(text_len) {
-        return Err(InPlaceFault::BadLength);
+        return BAD_LENGTH;
     }
     write_firsts(texts, text_len, blocks);
-    Ok(())
+    DONE
 }
 
 // The first block of each lane.

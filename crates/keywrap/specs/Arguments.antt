@@ -1,5 +1,5 @@
 -- What a command is for the arguments that clap parsed, option by option. Clap refuses options that exclude each other.
-use Rattle.std.specs.Prelude.{◌≡◌, ◌↔◌, ◌⊎◌, ℕ, Bool, IsTrue, List, Option, Some, None, codes}
+use Rattle.std.specs.Prelude.{◌≡◌, ◌↔◌, ◌⊎◌, ℕ, IsTrue, List, Option, Some, None, codes}
 use Rattle.std.specs.Borrow.{Bor}
 use Rattle.key_wrap_core.specs.Plain.{default_iv}
 use Rattle.key_wrap_core.specs.declared.agreed_form.AgreedForm.{AgreedForm}
@@ -8,16 +8,19 @@ use Rattle.key_wrap_core.specs.declared.forms.Form.TheVariants.{Plain, Padded}
 use Rattle.key_wrap_core.specs.Forms.{with_value}
 use Rattle.key_wrap_core.specs.declared.rewrapping.RewrapForms.{RewrapForms}
 use Rattle.key_wrap_core.specs.declared.rewrapping.RewrapForms.TheVariants.{Kept, Changed}
+use Rattle.key_lines.specs.declared.text.TextNotation.{TextNotation}
+use Rattle.key_lines.specs.declared.text.TextNotation.TheVariants as texts
 use Rattle.keywrap_args.specs.Given.{Has, IsSet, Lacks}
 use Rattle.keywrap_args.specs.declared.parser.Args.{Args}
 use Rattle.keywrap_args.specs.declared.subcommands.Subcommand.{Subcommand}
 use Rattle.keywrap_args.specs.declared.subcommands.Subcommand.TheVariants as words
+use Rattle.keywrap_cli.specs.Files.{line_notation}
 use Rattle.keywrap_cli.specs.InitialValue.{DenotesIv}
 use Rattle.keywrap_cli.specs.declared.convert.Direction.TheVariants as directions
 use Rattle.keywrap_cli.specs.declared.job.Job.{Job}
 use Rattle.keywrap_cli.specs.declared.job.Job.TheVariants as jobs
 use Rattle.keywrap_cli.specs.declared.job.Notation.{Notation}
-use Rattle.keywrap_cli.specs.declared.job.Notation.TheVariants.{Raw, Hex, Base64, Base64Url}
+use Rattle.keywrap_cli.specs.declared.job.Notation.TheVariants.{Raw, Hex, Base64}
 use Rattle.keywrap_cli.specs.declared.operation.Operation.{Operation}
 use Rattle.keywrap_cli.specs.declared.operation.Operation.TheVariants as operations
 use Rattle.keywrap.specs.declared.command.Command.{Command}
@@ -29,12 +32,16 @@ pub record IsForm (args : Args) (flag : List ℕ) (form : Form) : Type 0 where
   pub padded : IsSet args flag → form ≡ Padded
   pub plain : ¬ IsSet args flag → form ≡ Plain
 
+-- the notation of lines
+pub record IsTextNotation (args : Args) (notation : TextNotation) : Type 0 where
+  pub base64 : IsSet args (codes "base64") → notation ≡ texts.Base64
+  pub base64url : ¬ IsSet args (codes "base64") → IsSet args (codes "base64url") → notation ≡ texts.Base64Url
+  pub hex : ¬ IsSet args (codes "base64") → ¬ IsSet args (codes "base64url") → notation ≡ texts.Hex
+
 -- the notation of the input and of the output
 pub record IsNotation (args : Args) (notation : Notation) : Type 0 where
   pub raw : IsSet args (codes "raw") → notation ≡ Raw
-  pub base64 : ¬ IsSet args (codes "raw") → IsSet args (codes "base64") → notation ≡ Base64
-  pub base64url : ¬ IsSet args (codes "raw") → ¬ IsSet args (codes "base64") → IsSet args (codes "base64url") → notation ≡ Base64Url
-  pub hex : ¬ IsSet args (codes "raw") → ¬ IsSet args (codes "base64") → ¬ IsSet args (codes "base64url") → notation ≡ Hex
+  pub text : ¬ IsSet args (codes "raw") → (own : TextNotation) × IsTextNotation args own × (notation ≡ line_notation own)
 
 -- the notation of the KEK files
 pub record IsKekNotation (args : Args) (notation : Notation) : Type 0 where
@@ -79,7 +86,7 @@ IsFile args option None = Lacks args option ⊎ Has args option (codes "-")
 -- the options that go with `--lines`
 abbrev pub AreLineOptions : Args → Option LineOptions → Type 0
 AreLineOptions args (Some lines) =
-    IsSet args (codes "lines") × (IsTrue lines.keep_going ↔ IsSet args (codes "keep-going")) × (IsTrue lines.quiet ↔ IsSet args (codes "quiet"))
+    IsSet args (codes "lines") × IsTextNotation args lines.notation × (IsTrue lines.keep_going ↔ IsSet args (codes "keep-going")) × (IsTrue lines.quiet ↔ IsSet args (codes "quiet"))
 AreLineOptions args None = ¬ IsSet args (codes "lines")
 
 abbrev pub IsCommand : Args → Command → Type 0

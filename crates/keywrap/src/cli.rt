@@ -2,13 +2,16 @@
 
 ghost use Rattle.std.specs.Prelude.{◌≡◌, IfOk};
 ghost use Rattle.keywrap.specs.Arguments.{AreForms, AreLineOptions, IsCommand, IsForm};
-ghost use Rattle.keywrap.specs.Arguments.{IsInitialValue, IsJob, IsKekNotation, IsNotation, IsOperation};
+ghost use Rattle.keywrap.specs.Arguments.{IsInitialValue, IsJob, IsKekNotation, IsNotation};
+ghost use Rattle.keywrap.specs.Arguments.{IsOperation, IsTextNotation};
 
 use crate::command::{Command, LineOptions, Run, agreed_form};
+use key_lines::TextNotation;
 use key_wrap_core::{Form, InitialValue, RewrapForms};
 use keywrap_args::{Args, Subcommand, parse};
 use keywrap_cli::{
-    Direction, IvFault, Job, Notation, Operation, ProgramFault, Rewrapping, Task, parse_iv,
+    Direction, IvFault, Job, Notation, Operation, ProgramFault, Rewrapping, Task, line_notation,
+    parse_iv,
 };
 use std::alloc::Global;
 
@@ -140,13 +143,21 @@ fn notation(args: &Args<'_>) -> Notation
     ensures { IsNotation args.now result }
 {
     if args.has("raw") {
-        Notation::Raw
-    } else if args.has("base64") {
-        Notation::Base64
+        return Notation::Raw;
+    }
+    line_notation(text_notation(args))
+}
+
+// Clap refuses `--raw` with `--lines`.
+fn text_notation(args: &Args<'_>) -> TextNotation
+    ensures { IsTextNotation args.now result }
+{
+    if args.has("base64") {
+        TextNotation::Base64
     } else if args.has("base64url") {
-        Notation::Base64Url
+        TextNotation::Base64Url
     } else {
-        Notation::Hex
+        TextNotation::Hex
     }
 }
 
@@ -171,6 +182,7 @@ fn lines(args: &Args<'_>) -> Option<LineOptions>
         return None;
     }
     Some(LineOptions {
+        notation: text_notation(args),
         keep_going: args.has("keep-going"),
         quiet: args.has("quiet"),
     })

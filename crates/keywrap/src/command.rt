@@ -3,6 +3,7 @@
 ghost use Rattle.std.specs.Prelude.{◌≡◌};
 ghost use Rattle.key_wrap_core.specs.Forms.{with_value};
 
+use key_lines::TextNotation;
 use key_wrap_core::{AgreedForm, Form, InitialValue};
 use keywrap_cli::{Direction, Operation};
 use keywrap_io::FileRole;
@@ -40,6 +41,8 @@ pub struct Run<'a> {
 /// The options that go with `--lines`.
 #[derive(Clone, Copy)]
 pub struct LineOptions {
+    /// The notation of the lines.
+    pub notation: TextNotation,
     /// The run continues after a refused line.
     pub keep_going: bool,
     /// No progress is shown.

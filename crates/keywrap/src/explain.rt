@@ -4,9 +4,9 @@ use crate::command::{Run, agreed_form};
 use key_files::{FileFault, MAX_FILE};
 use key_lines::LineFault;
 use key_wrap_core::AgreedForm::{self, Padded, Plain};
-use key_wrap_core::{InitialValue, MAX_KEY, RewrapForms};
+use key_wrap_core::{InitialValue, MAX_KEY, RewrapFault, RewrapForms};
 use keywrap_args::Escaped;
-use keywrap_cli::{Job, JobFault, Notation, Operation, ProgramFault, Refusal};
+use keywrap_cli::{Job, JobFault, Notation, Operation, ProgramFault};
 use keywrap_io::{FileRole, Inspected, Inspection, Reason};
 use std::fmt;
 
@@ -25,7 +25,9 @@ pub fn fault_cause<F>(
     fault: &ProgramFault,
 ) -> Option<Cause> {
     match fault {
-        ProgramFault::Job(JobFault::Write { .. }) | ProgramFault::Write { .. } => {
+        ProgramFault::Job(JobFault::Write { .. })
+        | ProgramFault::Write { .. }
+        | ProgramFault::Unsent { .. } => {
             Some((FileRole::Output, Reason::from_os_error(output.os_error)))
         }
         ProgramFault::Job(fault) => job_cause(operation, input, *fault),
@@ -86,14 +88,16 @@ fn job_cause<F>(
 fn line_cause<F>(
     operation: &Operation<Inspected<F>>,
     input: &Inspection,
-    fault: LineFault<Refusal>,
+    fault: LineFault<RewrapFault>,
 ) -> Cause {
     let reason = match fault {
-        LineFault::Input(FileFault::OddDigits) => Reason::NameOnly,
+        LineFault::Input(FileFault::OddDigits) | LineFault::Memory | LineFault::TooManyLines => {
+            Reason::NameOnly
+        }
         LineFault::Input(fault) => file_reason(fault, input),
-        LineFault::Refused(Refusal::Integrity) => return integrity_cause(operation),
-        LineFault::Refused(Refusal::BadLength) => Reason::Text(legal_lengths(operation)),
-        LineFault::Refused(Refusal::KeyNotPlain) => Reason::Text(KEY_NOT_PLAIN),
+        LineFault::Refused(RewrapFault::Integrity) => return integrity_cause(operation),
+        LineFault::Refused(RewrapFault::BadLength) => Reason::Text(legal_lengths(operation)),
+        LineFault::Refused(RewrapFault::KeyNotPlain) => Reason::Text(KEY_NOT_PLAIN),
     };
     (FileRole::Input, reason)
 }

@@ -2,8 +2,9 @@
 
 use crate::command::Run;
 use crate::prompt::is_typed;
-use key_lines::{RefusalLog, RefusedLine, RunFault, RunSummary};
-use keywrap_cli::{Operation, Outcome, ProgramFault, Refusal, lines_status};
+use key_lines::{RefusalLog, RefusedLine, RunFault, RunOptions, RunSummary};
+use key_wrap_core::RewrapFault;
+use keywrap_cli::{Operation, Outcome, ProgramFault, lines_status};
 use keywrap_io::{
     CountingReader, FileRole, InputSource, Inspected, LineCounts, Progress, Streams,
     is_output_piped,
@@ -19,12 +20,12 @@ const READ_BUFFER: usize = 65_536;
 /// The exit status of an operation that was not refused, and the counts if they are shown.
 pub type Answer = Outcome<(u8, Option<LineCounts>)>;
 
-type RunResult = Result<RunSummary<Refusal>, RunFault<Refusal>>;
+type RunResult = Result<RunSummary<RewrapFault>, RunFault<RewrapFault>>;
 
 /// The options of a run over lines.
 #[derive(Clone, Copy)]
 pub struct LineRun {
-    keep_going: bool,
+    options: RunOptions,
     shows_progress: bool,
     shows_counts: bool,
 }
@@ -39,7 +40,10 @@ impl LineRun {
         let is_terminal = streams.error.is_terminal();
         let is_shown = is_terminal && is_free && !options.quiet;
         Some(LineRun {
-            keep_going: options.keep_going,
+            options: RunOptions {
+                notation: options.notation,
+                keep_going: options.keep_going,
+            },
             shows_progress: is_shown && (run.output.is_some() || !is_output_piped(rt)),
             shows_counts: is_shown || run.verbose && (is_free || !is_terminal),
         })
@@ -52,7 +56,7 @@ impl LineRun {
         rt: &R,
         operation: &mut Operation<K>,
         input: &mut Inspected<InputSource<I>>,
-        out: &mut Inspected<W>,
+        out: &mut W,
     ) -> Result<Answer, ProgramFault> {
         let progress = Progress::start(rt, self.shows_progress, input.file.length());
         let reader = CountingReader {
@@ -62,7 +66,7 @@ impl LineRun {
         let run = self.run(rt.alloc(), operation, reader, out);
         progress.clear();
         let Outcome { result, same_kek } = run?;
-        let result = summary(result, out.inspection.bytes as usize)?;
+        let result = summary(result)?;
         // A rewrap marks the lines that it passes.
         let passed = match operation {
             Operation::Rewrap { task, .. } if task.pass_new => Some(result.marked),
@@ -89,19 +93,19 @@ impl LineRun {
         let Ok(mut reader) = BufReader::with_capacity(alloc, READ_BUFFER, reader) else {
             return Err(ProgramFault::Memory);
         };
-        let run = operation.run_lines(alloc, self.keep_going, &mut log, &mut reader, out);
+        let run = operation.run_lines(alloc, self.options, &mut log, &mut reader, out);
         run.map_err(ProgramFault::Job)
     }
 }
 
-fn summary(run: RunResult, written: usize) -> Result<RunSummary<Refusal>, ProgramFault> {
+fn summary(run: RunResult) -> Result<RunSummary<RewrapFault>, ProgramFault> {
     match run {
         Ok(summary) if summary.lines == 0 => Err(ProgramFault::NoLines),
         Ok(summary) => Ok(summary),
-        Err(RunFault::AtLine { line, fault }) => {
-            Err(ProgramFault::Line(RefusedLine { line, fault }))
+        Err(RunFault::AtLine(refused)) => Err(ProgramFault::Line(refused)),
+        Err(RunFault::Write { answered, unsent }) => {
+            Err(ProgramFault::Unsent { answered, unsent })
         }
-        Err(RunFault::Write { .. }) => Err(ProgramFault::Write { written }),
     }
 }
 
@@ -109,8 +113,8 @@ fn summary(run: RunResult, written: usize) -> Result<RunSummary<Refusal>, Progra
 #[derive(Drop)]
 struct RefusedLines<'p, 'r, R>(&'p Progress<'r, R>);
 
-impl<R: Eprint + AllocGlobal + Env + Clock> RefusalLog<Refusal> for RefusedLines<'_, '_, R> {
-    fn receive(&mut self, refused: &RefusedLine<Refusal>) {
+impl<R: Eprint + AllocGlobal + Env + Clock> RefusalLog<RewrapFault> for RefusedLines<'_, '_, R> {
+    fn receive(&mut self, refused: &RefusedLine<RewrapFault>) {
         self.0.print_line(ProgramFault::Line(*refused));
     }
 }

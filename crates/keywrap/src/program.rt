@@ -59,7 +59,7 @@ fn stop<R: Print + Eprint>(rt: &R, reason: &Stop) -> u8 {
         Stop::Args(Usage(text)) => {
             // Nothing is left to do if standard error is closed.
             let _ = rt.eprint(text.as_str());
-            statuses::REFUSED_WORDS
+            statuses::USAGE
         }
         Stop::Args(Memory) => print_fault(rt, &ProgramFault::Memory),
         Stop::Fault(fault) => print_fault(rt, fault),

@@ -49,8 +49,8 @@ impl<'a, R: Host> Session<'a, R> {
     /// Does the run, reports on standard error, and returns the exit status.
     ///
     /// The first of these faults is reported: RawToTerminal, a closed stream whose place cannot be
-    /// taken, KekOpen, NewKekOpen, InputOpen, OutputOpen or Memory for a new file, the faults of the
-    /// operation, Flush.
+    /// taken, KekOpen, NewKekOpen, InputOpen, OutputOpen or Memory for a new file, the faults of
+    /// the operation, Flush.
     pub fn run(&self) -> u8 {
         let is_terminal = self.run.output.is_none() && self.streams.output.is_terminal();
         let answer = if is_terminal && self.run.operation.writes_raw() {

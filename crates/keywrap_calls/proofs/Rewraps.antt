@@ -1,51 +1,37 @@
 -- What the rewraps promise, from what is known of the outcome.
-use Rattle.std.proofs.Common.{◌≡◌, subst, ℕ, List, refl, ◌∙◌, All, Result, Ok, Err, false, ◌⊎◌, inl, inr, ◌<◌, ◌/◌, arith}
+use Rattle.std.proofs.Common.{◌≡◌, subst, ap, ℕ, List, refl, ◌∙◌, All, Result, Ok, Err, false, ◌⊎◌, inl, inr, ◌<◌, ◌/◌, arith}
 use lib.IntN.{ℤ}
 use Rattle.std.specs.Prelude.{IsErr}
 use Rattle.key_wrap_core.specs.declared.rewrapping.Rewrapped.{Rewrapped}
 use Rattle.key_wrap_core.specs.declared.rewrapping.RewrapFault.{RewrapFault}
 use Rattle.key_wrap_core.specs.declared.rewrapping.RewrapFault.TheVariants.{BadLength, Integrity, KeyNotPlain}
 use Rattle.key_wrap_core.specs.Rewrap.{IsRewrapping}
-use Rattle.keywrap_calls.specs.Status.{IsBadKek, IsBadLength, IsIntegrity, IsKeyNotPlain}
-use Rattle.keywrap_calls.specs.Rewraps.{AreKeks, AreFlags, forms_of, passes_new, rewrap_status, already_of, IsRewrapResult, Rewraps}
+use Rattle.keywrap_calls.specs.Status.{IsDone, IsBadKek, IsBadLength, IsIntegrity, IsKeyNotPlain}
+use Rattle.keywrap_calls.specs.Rewraps.{AreKeks, AreFlags, forms_of, passes_new, rewrap_status, already_of, Rewraps}
 use Rattle.keywrap_calls.specs.Rewraps.{in_place_status, IsLeft, RewrapsInPlace}
 
-module _ (E F : List ℕ → List ℕ) (old_kek new_kek : List ℕ) (flags : ℕ) (old new : List ℕ) where
-  result_of : (outcome : Result Rewrapped RewrapFault) → (AreFlags flags → IsRewrapping (passes_new flags) (forms_of flags) E F old outcome new)
-      → AreFlags flags → IsRewrapResult (passes_new flags) (forms_of flags) E F old new (already_of outcome) (rewrap_status outcome)
-  result_of outcome told legal = record { result = outcome; rewraps = told legal; status_is = refl; already_is = refl }
+-- no outcome is a bad KEK
+no_bad_kek : (outcome : Result Rewrapped RewrapFault) → ¬ IsBadKek (rewrap_status outcome)
+no_bad_kek (Ok done) s = let wrong = s in cc
+no_bad_kek (Err BadLength) s = let wrong = s in cc
+no_bad_kek (Err Integrity) s = let wrong = s in cc
+no_bad_kek (Err KeyNotPlain) s = let wrong = s in cc
 
-  pub rewraps : (outcome : Result Rewrapped RewrapFault) → AreKeks old_kek new_kek
-      → (AreFlags flags → IsRewrapping (passes_new flags) (forms_of flags) E F old outcome new) → (¬ AreFlags flags → outcome ≡ Err BadLength)
-      → (IsErr outcome → new ≡ old) → Rewraps E F old_kek new_kek flags old new (already_of outcome) (rewrap_status outcome)
-  rewraps (Ok done) keks told bad_flags kept = record {
-    bad_kek = (λ s. absurd (let wrong = s in cc), λ no. absurd (no keks));
-    bad_flags = λ _ bad. absurd (let wrong = bad_flags bad in cc);
-    rewraps = λ _ legal. result_of (Ok done) told legal;
-    kept = λ no. absurd (no refl);
-    not_already = λ no. absurd (no refl);
-  }
-  rewraps (Err BadLength) keks told bad_flags kept = record {
-    bad_kek = (λ s. absurd (let wrong = s in cc), λ no. absurd (no keks));
-    bad_flags = λ _ _. refl;
-    rewraps = λ _ legal. result_of (Err BadLength) told legal;
-    kept = λ _. kept refl;
-    not_already = λ _. refl;
-  }
-  rewraps (Err Integrity) keks told bad_flags kept = record {
-    bad_kek = (λ s. absurd (let wrong = s in cc), λ no. absurd (no keks));
-    bad_flags = λ _ bad. absurd (let wrong = bad_flags bad in cc);
-    rewraps = λ _ legal. result_of (Err Integrity) told legal;
-    kept = λ _. kept refl;
-    not_already = λ _. refl;
-  }
-  rewraps (Err KeyNotPlain) keks told bad_flags kept = record {
-    bad_kek = (λ s. absurd (let wrong = s in cc), λ no. absurd (no keks));
-    bad_flags = λ _ bad. absurd (let wrong = bad_flags bad in cc);
-    rewraps = λ _ legal. result_of (Err KeyNotPlain) told legal;
-    kept = λ _. kept refl;
-    not_already = λ _. refl;
-  }
+refusal : (outcome : Result Rewrapped RewrapFault) → ¬ IsDone (rewrap_status outcome) → IsErr outcome × (already_of outcome ≡ 0)
+refusal (Ok done) other = absurd (other refl)
+refusal (Err fault) other = (refl, refl)
+
+pub rewraps : (E F : List ℕ → List ℕ) (old_kek new_kek : List ℕ) (flags : ℕ) (old new : List ℕ) (outcome : Result Rewrapped RewrapFault)
+    → AreKeks old_kek new_kek → (AreFlags flags → IsRewrapping (passes_new flags) (forms_of flags) E F old outcome new)
+    → (¬ AreFlags flags → outcome ≡ Err BadLength) → (IsErr outcome → new ≡ old)
+    → Rewraps E F old_kek new_kek flags old new (already_of outcome) (rewrap_status outcome)
+rewraps E F old_kek new_kek flags old new outcome keks told bad_flags kept = record {
+  bad_kek = (λ s. absurd (no_bad_kek outcome s), λ no. absurd (no keks));
+  bad_flags = λ _ bad. ap (λ (o : Result Rewrapped RewrapFault). rewrap_status o) (bad_flags bad);
+  rewraps = λ _ legal. record { result = outcome; rewraps = told legal; status_is = refl; already_is = refl };
+  kept = λ no. let refused = refusal outcome no in kept refused.0;
+  not_already = λ no. let refused = refusal outcome no in refused.1;
+}
 
 -- the call of version 1.0, from the other call with the same flags, or with a bit that is no flag
 module _ (E F : List ℕ → List ℕ) (old_kek new_kek : List ℕ) (forms flags : ℕ) (old after : List ℕ) (already : ℕ)

@@ -22,8 +22,8 @@ pub fn unwrap_any<A: KeyInit>(
     padded: &mut u32,
     key_len: &mut usize,
 ) -> i32
-    ensures { UnwrapsAny (cipher kek.now)
-        kek.now text.now key.old key.new padded.new key_len.new result }
+    ensures { UnwrapsAny (cipher kek.now) kek.now text.now key.old key.new padded.new
+        key_len.new result }
 {
     *padded = 0;
     *key_len = 0;

@@ -25,8 +25,8 @@ pub fn kind<A: KeyInit>(
     padded: &mut u32,
     key_len: &mut usize,
 ) -> i32
-    ensures { FindsKind (cipher kek.now)
-        kek.now text.now scratch.old scratch.new padded.new key_len.new result }
+    ensures { FindsKind (cipher kek.now) kek.now text.now scratch.old scratch.new
+        padded.new key_len.new result }
 {
     *padded = 0;
     *key_len = 0;

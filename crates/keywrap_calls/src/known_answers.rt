@@ -3,15 +3,14 @@
 ghost use Rattle.std.specs.Prelude.{◌↔◌, ◌⊎◌, ◌≤◌, [], length, take, IsTrue};
 ghost use Rattle.std.specs.List.{AllByRecursion};
 ghost use Rattle.fips197.specs.Cipher.{cipher};
+ghost use Rattle.keywrap_calls.specs.Tried.{AllTried, Calls, Gives, GivesBoth, GivesKey, Refuses};
 ghost use Rattle.fips197.specs.KeyExpansion.{IsKekLength};
+ghost use Rattle.key_wrap_core.specs.Plain.{Plain, default_iv};
 ghost use Rattle.key_wrap_core.specs.NoKey.{NoKey};
 ghost use Rattle.key_wrap_core.specs.Padded.{Padded};
-ghost use Rattle.key_wrap_core.specs.Plain.{Plain, default_iv};
-ghost use Rattle.keywrap_calls.specs.Calls.{Wraps, Unwraps, WrapsPadded, UnwrapsPadded};
-ghost use Rattle.keywrap_calls.specs.Calls.{IsPaddedKey};
+ghost use Rattle.keywrap_calls.specs.Calls.{Wraps, Unwraps, WrapsPadded, UnwrapsPadded, IsPaddedKey};
 ghost use Rattle.keywrap_calls.specs.SelfTest.{IsAllRight, IsRight};
 ghost use Rattle.keywrap_calls.specs.Status.{IsDone, IsIntegrity};
-ghost use Rattle.keywrap_calls.specs.Tried.{AllTried, Calls, Gives, GivesBoth, GivesKey, Refuses};
 ghost use Rattle.test_vectors.specs.Published.{published_vectors, damaged, damaged_kek};
 
 use crate::status::{DONE, INTEGRITY};

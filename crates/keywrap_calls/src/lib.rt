@@ -3,6 +3,7 @@
 #![tactic(auto)]
 
 mod any_form;
+mod arguments;
 mod kinds;
 mod known_answers;
 mod many_kinds;
@@ -22,6 +23,7 @@ mod version_number;
 mod wrap_steps;
 
 pub use any_form::unwrap_any;
+pub use arguments::{In, Out};
 pub use kinds::kind;
 pub use known_answers::{TestedCalls, self_test};
 pub use many_kinds::kind_many;

@@ -18,21 +18,21 @@ use key_wrap_core::padded_text_length_ok;
 /// its key: as many slots of one length as there are `forms`, `key_lens` and `statuses`. A form is
 /// 0, or 1 for the padded form. `scratch` is 8 bytes shorter than a slot, and zero afterwards.
 ///
-/// The room and the KEK come together, as `keyed`. A refusal of the call leaves the buffers as they
-/// were.
+/// A refusal of the call leaves the buffers as they were.
 pub fn kind_many<A: KeyInit>(
-    keyed: (A::Room, &[u8]),
+    room: A::Room,
+    kek: &[u8],
     texts: &[u8],
     scratch: &mut [u8],
     forms: &mut [u8],
     key_lens: &mut [usize],
     statuses: &mut [u8],
 ) -> i32
-    ensures finds { FindsMany (cipher keyed.entry.1.now) keyed.entry.1.now texts.now scratch.old scratch.new
+    ensures finds { FindsMany (cipher kek.now) kek.now texts.now scratch.old scratch.new
         forms.old forms.new key_lens.old key_lens.new statuses.old statuses.new result }
     ensures cleared { IsDone result → All (λ byte. byte ≡ 0) scratch.new }
 {
-    let Ok(aes) = A::new_in(keyed.1, keyed.0) else {
+    let Ok(aes) = A::new_in(kek, room) else {
         return BAD_KEK;
     };
     if !are_kind_slots(

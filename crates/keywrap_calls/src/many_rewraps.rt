@@ -7,7 +7,7 @@ ghost use Rattle.key_wrap_core.specs.Rewrap.{IsOldLength};
 ghost use Rattle.keywrap_calls.specs.Many.{AreRewrapSlots, RewrapsMany, RewrapsSlot, slot_at};
 
 use crate::many_slots::slot_len;
-use crate::rewrapping::{NO_FLAG, PASS_NEW, forms_of, rewrap_as};
+use crate::rewrapping::{forms_of, rewrap_as};
 use crate::status::{BAD_KEK, BAD_LENGTH, DONE};
 use block_pair::{BlockPair, Meter};
 use fips197::KeyInit;
@@ -60,10 +60,7 @@ fn rewrap_slot_len(flags: u32, len: usize, count: usize) -> Option<usize>
 fn is_rewrap_length(flags: u32, len: usize) -> bool
     ensures { IsTrue result ↔ (AreFlags flags × IsOldLength (forms_of flags) len) }
 {
-    if flags >= NO_FLAG {
-        return false;
-    }
-    match forms_of(flags % PASS_NEW) {
+    match forms_of(flags) {
         Some(forms) => rewrap_length_ok(&forms, len),
         None => false,
     }

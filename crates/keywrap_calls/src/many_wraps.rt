@@ -10,7 +10,6 @@ ghost use Rattle.keywrap_calls.specs.Many.{AreUnwrapFlags, IsSlotLength, AreUnwr
 use crate::many_slots::{slot_len, status_byte};
 use crate::padded_in_place::{unwrap_padded_under, wrap_padded_under};
 use crate::plain_in_place::{unwrap_under, wrap_under};
-use crate::rewrapping::{NEW_PADDED, OLD_PADDED};
 use crate::status::{BAD_KEK, BAD_LENGTH, DONE};
 use block_pair::BlockPair;
 use fips197::KeyInit;
@@ -64,7 +63,7 @@ fn new_form(flags: u32) -> Option<Form>
 {
     match flags {
         0 => Some(Form::Plain),
-        NEW_PADDED => Some(Form::Padded),
+        2 => Some(Form::Padded),
         _ => None,
     }
 }
@@ -161,7 +160,7 @@ fn old_form(flags: u32) -> Option<Form>
 {
     match flags {
         0 => Some(Form::Plain),
-        OLD_PADDED => Some(Form::Padded),
+        1 => Some(Form::Padded),
         _ => None,
     }
 }

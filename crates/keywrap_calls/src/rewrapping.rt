@@ -3,7 +3,7 @@
 ghost use Rattle.std.specs.Prelude.{◌≡◌, ◌<◌, ◌⊎◌, All, IfSome, IfNone, IsErr, Err};
 ghost use Rattle.fips197.specs.Cipher.{cipher};
 ghost use Rattle.keywrap_calls.specs.Status.{IsBadKek, IsBadLength, IsIntegrity, IsKeyNotPlain};
-ghost use Rattle.keywrap_calls.specs.Rewraps.{AreForms, AreFlags, forms_of, passes_new};
+ghost use Rattle.keywrap_calls.specs.Rewraps.{AreFlags, forms_of, passes_new};
 ghost use Rattle.keywrap_calls.specs.Rewraps.{Rewraps, RewrapsInPlace, already_of, rewrap_status};
 ghost use Rattle.key_wrap_core.specs.Forms.{by_default};
 ghost use Rattle.key_wrap_core.specs.Rewrap.{IsRewrapping};
@@ -13,22 +13,11 @@ use block_pair::{BlockPair, Meter};
 use fips197::KeyInit;
 use key_wrap_core::{AgreedForm, Form, RewrapFault, RewrapForms, Rewrapped};
 
-// The flag of a wrapped key that is given in the padded form.
-pub(crate) const OLD_PADDED: u32 = 1;
-
-// The flag of a wrapped key that is to be answered in the padded form.
-pub(crate) const NEW_PADDED: u32 = 2;
-
-const BOTH_PADDED: u32 = OLD_PADDED + NEW_PADDED;
-
-// The flag of a wrapped key that may be in either form, and keeps it.
-const KEEP_FORM: u32 = 4;
-
-// The flag beside each of these: a wrapped key that is new already is passed.
-pub(crate) const PASS_NEW: u32 = 8;
+// The flag beside the forms: a wrapped key that is new already is passed.
+const PASS_NEW: u32 = 8;
 
 // A bit that is no flag.
-pub(crate) const NO_FLAG: u32 = 16;
+const NO_FLAG: u32 = 16;
 
 /// Replaces the wrapped key in `buffer`, under the old KEK, by the same key wrapped under the new
 /// KEK, of the same length (RFC 3394 and RFC 5649). `keywrap.h` has the `flags`. `*already` is
@@ -84,7 +73,7 @@ fn in_place_flags(forms: u32) -> u32
     ensures same { forms < 4 → result ≡ forms }
     ensures other { ¬ (forms < 4) → result ≡ 16 }
 {
-    if forms <= BOTH_PADDED { forms } else { NO_FLAG }
+    if forms < 4 { forms } else { NO_FLAG }
 }
 
 // The status of version 1.0, and its buffer.
@@ -120,26 +109,24 @@ pub(crate) fn rewrap_as<O: BlockPair, N: BlockPair>(
     ensures bad_flags { ¬ AreFlags flags → result ≡ Err RewrapFault.BadLength }
     ensures kept { IsErr result → buf.new ≡ buf.old }
 {
-    if flags >= NO_FLAG {
-        return Err(RewrapFault::BadLength);
+    match forms_of(flags) {
+        Some(forms) => key_wrap_core::rewrap(old, new, &forms, flags >= PASS_NEW, buf),
+        None => Err(RewrapFault::BadLength),
     }
-    let Some(forms) = forms_of(flags % PASS_NEW) else {
-        return Err(RewrapFault::BadLength);
-    };
-    key_wrap_core::rewrap(old, new, &forms, flags >= PASS_NEW, buf)
 }
 
-// Returns the forms that these flags request.
+// The forms that the flags request. Bit 0: the old form is padded. Bit 1: the new form is padded. Bit 2:
+// the form is kept.
 pub(crate) fn forms_of(flags: u32) -> Option<RewrapForms>
-    ensures named { IfSome result (λ forms. AreForms flags × (forms ≡ forms_of flags)) }
-    ensures refused { IfNone result (¬ AreForms flags) }
+    ensures named { IfSome result (λ forms. AreFlags flags × (forms ≡ forms_of flags)) }
+    ensures refused { IfNone result (¬ AreFlags flags) }
 {
     match flags {
-        0 => Some(changed(Form::Plain, Form::Plain)),
-        OLD_PADDED => Some(changed(Form::Padded, Form::Plain)),
-        NEW_PADDED => Some(changed(Form::Plain, Form::Padded)),
-        BOTH_PADDED => Some(changed(Form::Padded, Form::Padded)),
-        KEEP_FORM => Some(RewrapForms::Kept),
+        0 | 8 => Some(changed(Form::Plain, Form::Plain)),
+        1 | 9 => Some(changed(Form::Padded, Form::Plain)),
+        2 | 10 => Some(changed(Form::Plain, Form::Padded)),
+        3 | 11 => Some(changed(Form::Padded, Form::Padded)),
+        4 | 12 => Some(RewrapForms::Kept),
         _ => None,
     }
 }

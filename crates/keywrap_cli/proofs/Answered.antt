@@ -18,8 +18,8 @@ use Rattle.keywrap_cli.specs.declared.job.Job.TheVariants.{UnwrapAny}
 use Rattle.keywrap_cli.specs.declared.job.JobFault.{JobFault}
 use Rattle.keywrap_cli.specs.declared.job.Notation.{Notation}
 use Rattle.keywrap_cli.specs.declared.job.Task.{Task}
-use Rattle.keywrap_cli.specs.declared.refusal.Refusal.{Refusal}
-use Rattle.keywrap_cli.specs.declared.refusal.Refusal.TheVariants as refusals
+use Rattle.key_wrap_core.specs.declared.rewrapping.RewrapFault.{RewrapFault}
+use Rattle.key_wrap_core.specs.declared.rewrapping.RewrapFault.TheVariants as refusals
 
 -- a conversion is no check
 pub unmarked : (direction : Direction) (text : List ℕ) → HasMark (job_of direction) text Unmarked
@@ -56,14 +56,14 @@ not_bad directions.Wrap form X legal bad = bad legal
 not_bad directions.Unwrap form X legal bad = bad legal
 
 -- a refusal writes nothing
-pub refused_write : (answers : List ℕ → Result Answer Refusal → Type 0) (lacks : List ℕ → Type 0) (X : List ℕ) (out : Option (List ℕ)) (refusal : Refusal)
+pub refused_write : (answers : List ℕ → Result Answer RewrapFault → Type 0) (lacks : List ℕ → Type 0) (X : List ℕ) (out : Option (List ℕ)) (refusal : RewrapFault)
     → answers X (Err refusal) → WritesAnswer answers lacks X out out (Err (job_fault_of refusal))
 refused_write answers lacks X out refusals.BadLength h = (h, Keeps-refl out)
 refused_write answers lacks X out refusals.Integrity h = (h, Keeps-refl out)
 refused_write answers lacks X out refusals.KeyNotPlain h = (h, Keeps-refl out)
 
 -- what was written for an input that was answered
-output_from : (notation : Notation) (answers : List ℕ → Result Answer Refusal → Type 0) (lacks : List ℕ → Type 0) (Is : List ℕ → List ℕ → Type 0)
+output_from : (notation : Notation) (answers : List ℕ → Result Answer RewrapFault → Type 0) (lacks : List ℕ → Type 0) (Is : List ℕ → List ℕ → Type 0)
     (input input' out out' : Option (List ℕ)) (answer : Answer) → ((X : List ℕ) → answers X (Ok answer) → Is X answer.text)
     → (text : Result (Vec ℕ Global) JobFault) → ReadsInput notation input input' text → WritesFrom answers lacks text out out' (Ok answer)
     → WritesOutput notation Is input input' out out'
@@ -76,7 +76,7 @@ output_from notation answers lacks Is input input' out out' answer each (Ok X) r
 }
 output_from notation answers lacks Is input input' out out' answer each (Err fault) read rest = let no = rest.0 in cc
 
-pub written_output : (notation : Notation) (answers : List ℕ → Result Answer Refusal → Type 0) (lacks : List ℕ → Type 0) (Is : List ℕ → List ℕ → Type 0)
+pub written_output : (notation : Notation) (answers : List ℕ → Result Answer RewrapFault → Type 0) (lacks : List ℕ → Type 0) (Is : List ℕ → List ℕ → Type 0)
     (input input' out out' : Option (List ℕ)) (answer : Answer) → ((X : List ℕ) → answers X (Ok answer) → Is X answer.text)
     → RunsInput notation answers lacks input input' out out' (Ok answer) → WritesOutput notation Is input input' out out'
 written_output notation answers lacks Is input input' out out' answer each run =

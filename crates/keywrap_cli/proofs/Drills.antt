@@ -1,10 +1,10 @@
 -- The bytes that the text of a drill denotes: within the limit, the bytes of its digits. Such a text is refused only for
 -- its digits. So the decoding's answer is the text's answer, by cases.
-use Rattle.std.proofs.Common.{◌≡◌, ◌≢◌, ◌↔◌, ℕ, ◌<◌, ◌≤◌, List, length, Vec, Bool, true, false, Option, Some, None, Result, Ok, Err, IfOk, IsOk, MatchResult}
+use Rattle.std.proofs.Common.{◌≡◌, ◌≢◌, ◌↔◌, ◌||◌, not, position, ℕ, ◌<◌, ◌≤◌, List, length, Vec, Bool, true, false, Option, Some, None, Result, Ok, Err, IfOk, IsOk, MatchResult}
 use Rattle.std.proofs.Common.{IsErrAnd, refl, sym, ◌∙◌, ap, subst, cond}
 use Rattle.std.specs.declared.alloc.Global.{Global}
 use Rattle.std.proofs.lemmas.Bool.{lt-ltb, le-ltb}
-use Rattle.key_files.specs.HexText.{first_bad, digits_of}
+use Rattle.key_files.specs.HexText.{digits_of, is_hex_digit, is_skipped}
 use Rattle.key_files.specs.Meaning.{file_meaning, hex_meaning, digits_meaning}
 use Rattle.key_files.specs.declared.fault.FileFault.{FileFault}
 use Rattle.key_files.specs.declared.fault.FileFault.TheVariants as files
@@ -27,7 +27,7 @@ spelled_faults None digits fault not_bad not_odd e = odd_or_paired _ _ fault not
 hex_faults : (text : List ℕ) (fault : FileFault) → ((at : ℕ) → fault ≢ files.BadDigit at)
     → fault ≢ files.OddDigits → hex_meaning text ≢ Err fault
 unfolding hex_meaning
-hex_faults text fault not_bad not_odd e = spelled_faults (first_bad text) (digits_of text) fault not_bad not_odd e
+hex_faults text fault not_bad not_odd e = spelled_faults (position (λ c. not (is_skipped c || is_hex_digit c)) text) (digits_of text) fault not_bad not_odd e
 
 -- a long text is too long
 pub long_text : (text : List ℕ) → MAX_FILE < length text → drill_meaning text ≡ Err files.TooLong

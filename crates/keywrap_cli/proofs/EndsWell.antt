@@ -27,7 +27,7 @@ use Rattle.key_files.specs.Writing.{IsLine}
 use Rattle.key_lines.specs.declared.text.TextNotation.{TextNotation}
 use Rattle.key_lines.specs.declared.text.TextNotation.TheVariants as texts
 use Rattle.keywrap_cli.specs.Engine.{AnswersEachLine, AnswersInput, IsDoneAs, IsRefusedBefore, OpensKeks, RunsInput, UnderReadKek, WritesFrom}
-use Rattle.keywrap_cli.specs.Files.{IsOneLine, line_notation, text_notation}
+use Rattle.keywrap_cli.specs.Files.{IsOneLine, line_notation}
 use Rattle.keywrap_cli.specs.Job.{RunsJob}
 use Rattle.keywrap_cli.specs.Operation.{in_lines, lines_of as lines_of_task}
 use Rattle.keywrap_cli.specs.Readings.{ReadsInput, ReadsKek, kek_fault_of}
@@ -41,11 +41,11 @@ use Rattle.keywrap_cli.specs.declared.kek_file.KekRole.TheVariants.{Kek}
 use Rattle.keywrap_cli.specs.declared.job.Notation.{Notation}
 use Rattle.keywrap_cli.specs.declared.job.Task.{Task}
 use Rattle.keywrap_cli.specs.declared.kek_file.Keks.{Keks}
-use Rattle.keywrap_cli.specs.declared.refusal.Refusal.{Refusal}
+use Rattle.key_wrap_core.specs.declared.rewrapping.RewrapFault.{RewrapFault}
 use Rattle.keywrap_cli.specs.declared.rewrapping.Rewrapping.{Rewrapping}
 
 abbrev Results : Type 0
-Results = List (Result Answer (LineFault Refusal))
+Results = List (Result Answer (LineFault RewrapFault))
 
 nothing_first : {A : Type 0} (xs : List A) → first_of xs ≡ None → xs ≡ []
 nothing_first [] h = refl
@@ -65,7 +65,7 @@ checked iv task E X answer job h zero =
     let own = subst (λ (j : Job). AnswerOfJob j iv task E X (Ok answer)) job h in
     of_kind iv E X answer.text answer.mark own.0.0 own.0.1 own.0.2 own.1 zero
 
-same_length : (options : RunOptions) (answers : List ℕ → Result Answer Refusal → Type 0) (lines : List (List ℕ)) (results : Results)
+same_length : (options : RunOptions) (answers : List ℕ → Result Answer RewrapFault → Type 0) (lines : List (List ℕ)) (results : Results)
     → AreResults options answers lines results → length lines ≡ length results
 same_length options answers [] [] are = refl
 same_length options answers (line ∷ lines) (result ∷ results) (h, rest) =
@@ -97,7 +97,7 @@ all_rewrapped options task E F [] (result ∷ results) n are none = absurd are
 all_rewrapped options task E F (line ∷ lines) [] n are none = absurd are
 
 -- the text has the lines of a run that reached its end
-some_lines : (text : List ℕ) (lines more : List (List ℕ)) (results : Results) (summary : RunSummary Refusal)
+some_lines : (text : List ℕ) (lines more : List (List ℕ)) (results : Results) (summary : RunSummary RewrapFault)
     → lines_of text ≡ lines ++ more → more ≡ [] → length lines ≡ length results → summary.lines ≡ length results → summary.lines ≢ 0
     → lines_of text ≢ []
 some_lines text lines more results summary split end same count some empty =
@@ -107,7 +107,7 @@ some_lines text lines more results summary split end same count some empty =
     some (omega (arith, count, same, zero))
 
 pub check_ends_well : (input out out' : Option (List ℕ)) (options : RunOptions) (iv : ℕ) (task : Task) (E : List ℕ → List ℕ)
-    (summary : RunSummary Refusal) (job : Option Job) → job ≡ Some task.job → task.job ≡ Check → EndsWell job summary
+    (summary : RunSummary RewrapFault) (job : Option Job) → job ≡ Some task.job → task.job ≡ Check → EndsWell job summary
     → IfSome input (λ text. WritesAnswers options (JobAnswer iv task E) text out out' (Ok summary))
     → IfSome input (λ text. AreWrappedLines options.notation iv E text)
 check_ends_well None out out' options iv task E summary job own is well w = tt
@@ -127,20 +127,20 @@ line_in texts.Hex text line = line
 line_in texts.Base64 text line = line
 line_in texts.Base64Url text line = line
 
-pub job_lines : (iv : ℕ) (task : Task) (E : List ℕ → List ℕ) → AreLines (JobAnswer iv (in_lines task) E)
-job_lines iv task E X answer h = line_in (text_notation task.input) answer.text h.2
+pub job_lines : (notation : TextNotation) (iv : ℕ) (task : Task) (E : List ℕ → List ℕ) → AreLines (JobAnswer iv (in_lines notation task) E)
+job_lines notation iv task E X answer h = line_in notation answer.text h.2
 
-pub rewrap_lines : (task : Rewrapping) (E F : List ℕ → List ℕ) → AreLines (RewrappingAnswer (lines_of_task task) E F)
-rewrap_lines task E F X answer h = line_in (text_notation task.input) answer.text h.5
+pub rewrap_lines : (notation : TextNotation) (task : Rewrapping) (E F : List ℕ → List ℕ) → AreLines (RewrappingAnswer (lines_of_task notation task) E F)
+rewrap_lines notation task E F X answer h = line_in notation answer.text h.5
 
-pub each_line : (input out out' : Option (List ℕ)) (options : RunOptions) (answers : List ℕ → Result Answer Refusal → Type 0)
-    (run : Result (RunSummary Refusal) (RunFault Refusal)) → AreLines answers → IfSome input (λ text. WritesAnswers options answers text out out' run)
+pub each_line : (input out out' : Option (List ℕ)) (options : RunOptions) (answers : List ℕ → Result Answer RewrapFault → Type 0)
+    (run : Result (RunSummary RewrapFault) (RunFault RewrapFault)) → AreLines answers → IfSome input (λ text. WritesAnswers options answers text out out' run)
     → IfSome input (λ text. AnswersEachLine options answers text out out' run)
 each_line None out out' options answers run lines w = tt
 each_line (Some text) out out' options answers run lines w = record { written = w; one_each = w.one_each lines }
 
 pub rewrap_ends_well : (input out out' : Option (List ℕ)) (options : RunOptions) (task : Rewrapping) (E F : List ℕ → List ℕ)
-    (summary : RunSummary Refusal) (job : Option Job) → AreLines (RewrappingAnswer task E F) → EndsWell job summary
+    (summary : RunSummary RewrapFault) (job : Option Job) → AreLines (RewrappingAnswer task E F) → EndsWell job summary
     → IfSome input (λ text. WritesAnswers options (RewrappingAnswer task E F) text out out' (Ok summary))
     → IfSome input (λ text. RewrapsLines options.notation task E F text out out')
 rewrap_ends_well None out out' options task E F summary job each well w = tt
@@ -160,7 +160,7 @@ rewrap_ends_well (Some text) out out' options task E F summary job each well w =
     }
 
 pub job_answers : (notation : Notation) (file file' : Option (List ℕ)) (K : List ℕ) → ReadsKek notation file file' (Ok K)
-    → (input out out' : Option (List ℕ)) (options : RunOptions) (iv : ℕ) (task : Task) (run : Result (RunSummary Refusal) (RunFault Refusal))
+    → (input out out' : Option (List ℕ)) (options : RunOptions) (iv : ℕ) (task : Task) (run : Result (RunSummary RewrapFault) (RunFault RewrapFault))
     → IfSome input (λ text. WritesAnswers options (JobAnswer iv task (cipher K)) text out out' run)
     → IfOk run (λ summary. EndsWell (Some task.job) summary → task.job ≡ Check → UnderReadKek notation file file'
     (λ K. IfSome input (λ text. AreWrappedLines options.notation iv (cipher K) text)))
@@ -169,7 +169,7 @@ job_answers notation file file' K read input out out' options iv task (Ok summar
 job_answers notation file file' K read input out out' options iv task (Err fault) w = tt
 
 pub rewrap_answers : (notation : Notation) (kek kek' new new' : Option (List ℕ)) (keks : Keks) → OpensKeks notation kek kek' new new' (Ok keks)
-    → (input out out' : Option (List ℕ)) (options : RunOptions) (task : Rewrapping) (run : Result (RunSummary Refusal) (RunFault Refusal))
+    → (input out out' : Option (List ℕ)) (options : RunOptions) (task : Rewrapping) (run : Result (RunSummary RewrapFault) (RunFault RewrapFault))
     → AreLines (RewrappingAnswer task (cipher keks.old) (cipher keks.new))
     → IfSome input (λ text. WritesAnswers options (RewrappingAnswer task (cipher keks.old) (cipher keks.new)) text out out' run)
     → IfOk run (λ summary. EndsWell None summary → UnderReadKek notation kek kek' (λ K. UnderReadKek notation new new'

@@ -1,8 +1,10 @@
 -- The answers of jobs and rewrappings to bytes: the bytes of an input or of a line. A job has one KEK, a rewrapping
 -- two. An output is in the notation of the input. The plain form has the initial value `iv`.
-use Rattle.std.specs.Prelude.{◌≡◌, ℕ, List, [], ◌∷◌, ◌++◌, length, codes, Result, Ok, Err}
+use Rattle.std.specs.Prelude.{◌≡◌, ⊤, ℕ, List, [], ◌∷◌, ◌++◌, length, codes, Result, Ok, Err}
 use Rattle.std.specs.Fmt.{decimal}
 use Rattle.key_lines.specs.Answers.{Answer}
+use Rattle.key_lines.specs.declared.fault.AnswerFault.{AnswerFault}
+use Rattle.key_lines.specs.declared.fault.AnswerFault.TheVariants.{Refused, Memory}
 use Rattle.key_lines.specs.declared.job.Mark.{Mark}
 use Rattle.key_lines.specs.declared.job.Mark.TheVariants.{Unmarked, Marked}
 use Rattle.key_wrap_core.specs.NoKey.{NoKey}
@@ -12,7 +14,6 @@ use Rattle.key_wrap_core.specs.declared.faults.InPlaceFault.{InPlaceFault}
 use Rattle.key_wrap_core.specs.declared.faults.InPlaceFault.TheVariants as in_place
 use Rattle.key_wrap_core.specs.Rewrap.{IsRefused, IsRewrapping}
 use Rattle.key_wrap_core.specs.declared.rewrapping.RewrapFault.{RewrapFault}
-use Rattle.key_wrap_core.specs.declared.rewrapping.RewrapFault.TheVariants as rewraps
 use Rattle.key_wrap_core.specs.declared.rewrapping.Rewrapped.{Rewrapped}
 use Rattle.key_wrap_core.specs.declared.rewrapping.Rewrapped.TheVariants.{Fresh, AlreadyNew}
 use Rattle.key_wrap_core.specs.declared.forms.Form.{Form}
@@ -28,8 +29,7 @@ use Rattle.keywrap_cli.specs.declared.job.Done.TheVariants.{Written, Neither}
 use Rattle.keywrap_cli.specs.declared.job.Job.{Job}
 use Rattle.keywrap_cli.specs.declared.job.Job.TheVariants.{Wrap, Unwrap, UnwrapAny, Check}
 use Rattle.keywrap_cli.specs.declared.job.Task.{Task}
-use Rattle.keywrap_cli.specs.declared.refusal.Refusal.{Refusal}
-use Rattle.keywrap_cli.specs.declared.refusal.Refusal.TheVariants.{BadLength, Integrity, KeyNotPlain}
+use Rattle.key_wrap_core.specs.declared.rewrapping.RewrapFault.TheVariants.{BadLength, Integrity, KeyNotPlain}
 use Rattle.keywrap_cli.specs.declared.rewrapping.Rewrapping.{Rewrapping}
 
 -- the line of a check: the form and the key's length in decimal
@@ -69,18 +69,19 @@ abbrev pub HasMark : Job → List ℕ → Mark → Type 0
 HasMark job text Unmarked = ¬ ((job ≡ Check) × (text ≡ kind_line kinds.Neither))
 HasMark job text Marked = (job ≡ Check) × (text ≡ kind_line kinds.Neither)
 
--- the refusals of a job and of a rewrapping
-abbrev pub job_refusal : InPlaceFault → Refusal
+-- the refusal of a job
+abbrev pub job_refusal : InPlaceFault → RewrapFault
 job_refusal in_place.BadLength = BadLength
 job_refusal in_place.Integrity = Integrity
 
-abbrev pub rewrap_refusal : RewrapFault → Refusal
-rewrap_refusal rewraps.BadLength = BadLength
-rewrap_refusal rewraps.Integrity = Integrity
-rewrap_refusal rewraps.KeyNotPlain = KeyNotPlain
+-- what a call made in this output is such a result, unless memory was lacking
+abbrev pub IsMade : {F : Type 0} → (Result (List ℕ) F → Type 0) → List ℕ → Result Unit (AnswerFault F) → Type 0
+IsMade Is output (Ok done) = Is (Ok output)
+IsMade Is output (Err (Refused fault)) = Is (Err fault)
+IsMade Is output (Err Memory) = ⊤
 
 -- the answer of this job to the bytes X, by cases, in the form and the notation of the task
-abbrev pub AnswerOfJob : Job → ℕ → Task → (List ℕ → List ℕ) → List ℕ → Result Answer Refusal → Type 0
+abbrev pub AnswerOfJob : Job → ℕ → Task → (List ℕ → List ℕ) → List ℕ → Result Answer RewrapFault → Type 0
 AnswerOfJob job iv task E X (Ok answer) =
     WritesFor job iv task E X answer.text × HasMark job answer.text answer.mark × IsOneLine task.input answer.text
 AnswerOfJob job iv task E X (Err BadLength) = HasBadLength job task.form X
@@ -88,7 +89,7 @@ AnswerOfJob job iv task E X (Err Integrity) = HasNoKey job task.form iv E X
 AnswerOfJob job iv task E X (Err KeyNotPlain) = ⊥
 
 -- the answer of the task's job to the bytes X
-abbrev pub JobAnswer : ℕ → Task → (List ℕ → List ℕ) → List ℕ → Result Answer Refusal → Type 0
+abbrev pub JobAnswer : ℕ → Task → (List ℕ → List ℕ) → List ℕ → Result Answer RewrapFault → Type 0
 JobAnswer iv task E X answer = AnswerOfJob task.job iv task E X answer
 
 -- the result of a call whose answer has this mark
@@ -107,12 +108,11 @@ rewrap_mark Fresh = Unmarked
 rewrap_mark AlreadyNew = Marked
 
 -- the answer of a rewrapping to the text, printed in its notation
-abbrev pub RewrappingAnswer : Rewrapping → (List ℕ → List ℕ) → (List ℕ → List ℕ) → List ℕ → Result Answer Refusal → Type 0
+abbrev pub RewrappingAnswer : Rewrapping → (List ℕ → List ℕ) → (List ℕ → List ℕ) → List ℕ → Result Answer RewrapFault → Type 0
 RewrappingAnswer task E F text (Ok answer) =
     (rewrapped : Rewrapped) × (made : List ℕ) × IsRewrapping task.pass_new task.forms E F text (Ok rewrapped) made
     × (answer.mark ≡ rewrap_mark rewrapped) × (answer.text ≡ printed task.input made) × IsOneLine task.input answer.text
-RewrappingAnswer task E F text (Err refusal) =
-    (fault : RewrapFault) × IsRefused task.pass_new task.forms E F text fault × (refusal ≡ rewrap_refusal fault)
+RewrappingAnswer task E F text (Err fault) = IsRefused task.pass_new task.forms E F text fault
 
 -- the text has a rewrapping
 abbrev pub HasRewrapping : Rewrapping → (List ℕ → List ℕ) → (List ℕ → List ℕ) → List ℕ → Type 0

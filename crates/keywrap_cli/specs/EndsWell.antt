@@ -12,7 +12,6 @@ use Rattle.key_wrap_core.specs.Forms.{Stands}
 use Rattle.key_wrap_core.specs.declared.forms.Form.{Form}
 use Rattle.keywrap_cli.specs.Answers.{RewrapsTo}
 use Rattle.keywrap_cli.specs.Engine.{UnderReadKek}
-use Rattle.keywrap_cli.specs.Files.{text_notation}
 use Rattle.keywrap_cli.specs.Readings.{ReadsFile}
 use Rattle.keywrap_cli.specs.Rewrapping.{WritesTheNewText}
 use Rattle.keywrap_cli.specs.Operation.{MatchOperations, lines_of as lines_of_task}
@@ -21,11 +20,11 @@ use Rattle.keywrap_cli.specs.declared.job.Job.TheVariants.{Check, Wrap}
 use Rattle.keywrap_cli.specs.declared.job.Notation.{Notation}
 use Rattle.keywrap_cli.specs.declared.operation.Operation.{Operation}
 use Rattle.keywrap_cli.specs.declared.operation.Operation.TheVariants.{Job as OfJob, Rewrap}
-use Rattle.keywrap_cli.specs.declared.refusal.Refusal.{Refusal}
+use Rattle.key_wrap_core.specs.declared.rewrapping.RewrapFault.{RewrapFault}
 use Rattle.keywrap_cli.specs.declared.rewrapping.Rewrapping.{Rewrapping}
 
 -- a run over lines that ends with status 0: there was a line, none was refused, and a check found a key in each
-pub record EndsWell (job : Option Job) (summary : RunSummary Refusal) : Type 0 where
+pub record EndsWell (job : Option Job) (summary : RunSummary RewrapFault) : Type 0 where
   pub some : summary.lines ≢ 0
   pub none_refused : summary.first_refused ≡ None
   pub all_found : job ≡ Some Check → summary.marked ≡ 0
@@ -65,13 +64,13 @@ pub record RewrapsLines (notation : TextNotation) (task : Rewrapping) (E F : Lis
 -- What a run over lines says that ends with status 0. If a check does, the input has a line, and each line denotes a wrapping, in
 -- some form, of some key under AES of the KEK. If a rewrap does, line i of the output is the wrapping, under AES of the
 -- new KEK, of the key of line i of the input.
-abbrev pub AnswersAllLines : {K : Type 0} → (K → Option (List ℕ)) → Operation K → Operation K → Option (List ℕ) → Option (List ℕ)
+abbrev pub AnswersAllLines : {K : Type 0} → (K → Option (List ℕ)) → TextNotation → Operation K → Operation K → Option (List ℕ) → Option (List ℕ)
     → Option (List ℕ) → Type 0
-AnswersAllLines known old new input out out' = MatchOperations old new
+AnswersAllLines known notation old new input out out' = MatchOperations old new
     (λ iv task kek iv' task' kek'. task.job ≡ Check → UnderReadKek task.kek (known kek) (known kek')
-    (λ K. IfSome input (λ text. AreWrappedLines (text_notation task.input) iv (cipher K) text)))
+    (λ K. IfSome input (λ text. AreWrappedLines notation iv (cipher K) text)))
     (λ task kek new task' kek' new'. UnderReadKek task.kek (known kek) (known kek') (λ K. UnderReadKek task.kek (known new) (known new')
-    (λ L. IfSome input (λ text. RewrapsLines (text_notation task.input) (lines_of_task task) (cipher K) (cipher L) text out out'))))
+    (λ L. IfSome input (λ text. RewrapsLines notation (lines_of_task notation task) (cipher K) (cipher L) text out out'))))
 
 -- the input denotes the wrapping, in some form, of some key
 pub record ReadsWrapping (notation : Notation) (iv : ℕ) (E : List ℕ → List ℕ) (input input' : Option (List ℕ)) : Type 0 where

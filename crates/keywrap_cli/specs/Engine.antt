@@ -20,8 +20,8 @@ use Rattle.keywrap_cli.specs.declared.job.JobFault.TheVariants.{BadLength, Integ
 use Rattle.keywrap_cli.specs.declared.job.Notation.{Notation}
 use Rattle.keywrap_cli.specs.declared.kek_file.KekRole.TheVariants.{Kek, NewKek}
 use Rattle.keywrap_cli.specs.declared.kek_file.Keks.{Keks}
-use Rattle.keywrap_cli.specs.declared.refusal.Refusal.{Refusal}
-use Rattle.keywrap_cli.specs.declared.refusal.Refusal.TheVariants as refusals
+use Rattle.key_wrap_core.specs.declared.rewrapping.RewrapFault.{RewrapFault}
+use Rattle.key_wrap_core.specs.declared.rewrapping.RewrapFault.TheVariants as refusals
 
 -- The effect of a call that reads a KEK file: if the file denotes a KEK, `Then` holds for it, and otherwise `Refused`
 -- for the reason.
@@ -55,7 +55,7 @@ IsRefusedBefore fault input input' out out' answer = (answer ≡ Err fault) × (
 
 -- The bytes in the writer after an input X, by cases: the whole output of the job, or its first `written` bytes, or
 -- none. Memory may only be lacking for the bytes of which `lacks` holds.
-abbrev pub WritesAnswer : (List ℕ → Result Answer Refusal → Type 0) → (List ℕ → Type 0) → List ℕ → Option (List ℕ) → Option (List ℕ)
+abbrev pub WritesAnswer : (List ℕ → Result Answer RewrapFault → Type 0) → (List ℕ → Type 0) → List ℕ → Option (List ℕ) → Option (List ℕ)
     → Result Answer JobFault → Type 0
 WritesAnswer answers lacks X old new (Ok answer) = answers X (Ok answer) × Appends old new answer.text
 WritesAnswer answers lacks X old new (Err (Write written)) =
@@ -67,13 +67,13 @@ WritesAnswer answers lacks X old new (Err Memory) = lacks X × Keeps old new
 WritesAnswer answers lacks X old new (Err fault) = ⊥
 
 -- the same, after the input was read or refused
-abbrev pub WritesFrom : (List ℕ → Result Answer Refusal → Type 0) → (List ℕ → Type 0) → Result (Vec ℕ Global) JobFault → Option (List ℕ)
+abbrev pub WritesFrom : (List ℕ → Result Answer RewrapFault → Type 0) → (List ℕ → Type 0) → Result (Vec ℕ Global) JobFault → Option (List ℕ)
     → Option (List ℕ) → Result Answer JobFault → Type 0
 WritesFrom answers lacks (Ok X) out out' outcome = WritesAnswer answers lacks X.items out out' outcome
 WritesFrom answers lacks (Err fault) out out' outcome = (outcome ≡ Err fault) × (out' ≡ out)
 
 -- The effect of a run over a whole input.
-pub record RunsInput (notation : Notation) (answers : List ℕ → Result Answer Refusal → Type 0) (lacks : List ℕ → Type 0)
+pub record RunsInput (notation : Notation) (answers : List ℕ → Result Answer RewrapFault → Type 0) (lacks : List ℕ → Type 0)
     (input input' out out' : Option (List ℕ)) (outcome : Result Answer JobFault) : Type 0 where
   pub text : Result (Vec ℕ Global) JobFault
   pub read : ReadsInput notation input input' text
@@ -86,27 +86,27 @@ IsDoneAs done (Err fault) (Err other) = other ≡ fault
 IsDoneAs done outcome answer = ⊥
 
 -- the effect of a run over a whole input, with the result of the call
-abbrev pub AnswersInput : Notation → (List ℕ → Result Answer Refusal → Type 0) → (List ℕ → Type 0) → (Mark → Done)
+abbrev pub AnswersInput : Notation → (List ℕ → Result Answer RewrapFault → Type 0) → (List ℕ → Type 0) → (Mark → Done)
     → Option (List ℕ) → Option (List ℕ) → Option (List ℕ) → Option (List ℕ) → Result Done JobFault → Type 0
 AnswersInput notation answers lacks done input input' out out' answer =
     (outcome : Result Answer JobFault) × RunsInput notation answers lacks input input' out out' outcome × IsDoneAs done outcome answer
 
 -- The effect of a run over lines of at most 4,194,304 bytes. If the rest of the input is known, the answers to its
 -- first lines were written, in order.
-abbrev pub AnswersLines : RunOptions → (List ℕ → Result Answer Refusal → Type 0) → Option (List ℕ) → Option (List ℕ)
-    → Option (List ℕ) → Option (List ℕ) → Option (List (RefusedLine Refusal)) → Option (List (RefusedLine Refusal))
-    → Result (Result (RunSummary Refusal) (RunFault Refusal)) JobFault → Type 0
+abbrev pub AnswersLines : RunOptions → (List ℕ → Result Answer RewrapFault → Type 0) → Option (List ℕ) → Option (List ℕ)
+    → Option (List ℕ) → Option (List ℕ) → Option (List (RefusedLine RewrapFault)) → Option (List (RefusedLine RewrapFault))
+    → Result (Result (RunSummary RewrapFault) (RunFault RewrapFault)) JobFault → Type 0
 AnswersLines options answers input input' out out' log log' answer = IsOkAnd answer (λ run.
     RunsLines options answers input input' out out' log log' run × IfSome input (λ text. WritesAnswers options answers text out out' run))
 
 -- the answers to the lines of a text, of which line i is the answer to line i
-pub record AnswersEachLine (options : RunOptions) (answers : List ℕ → Result Answer Refusal → Type 0) (text : List ℕ)
-    (out out' : Option (List ℕ)) (run : Result (RunSummary Refusal) (RunFault Refusal)) : Type 0 where
+pub record AnswersEachLine (options : RunOptions) (answers : List ℕ → Result Answer RewrapFault → Type 0) (text : List ℕ)
+    (out out' : Option (List ℕ)) (run : Result (RunSummary RewrapFault) (RunFault RewrapFault)) : Type 0 where
   pub written : WritesAnswers options answers text out out' run
   pub one_each : AreOneEach (map output_of written.results) (lines_of (written_for written.results))
 
 -- a job's fault for a refusal of its bytes
-abbrev pub job_fault_of : Refusal → JobFault
+abbrev pub job_fault_of : RewrapFault → JobFault
 job_fault_of refusals.BadLength = BadLength
 job_fault_of refusals.Integrity = Integrity
 job_fault_of refusals.KeyNotPlain = KeyNotPlain

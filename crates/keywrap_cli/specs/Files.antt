@@ -36,10 +36,3 @@ abbrev pub line_notation : TextNotation → Notation
 line_notation texts.Hex = Hex
 line_notation texts.Base64 = Base64
 line_notation texts.Base64Url = Base64Url
-
--- the notation of lines for a notation of files; raw bytes have no lines, so lines are in hex instead
-abbrev pub text_notation : Notation → TextNotation
-text_notation Raw = texts.Hex
-text_notation Hex = texts.Hex
-text_notation Base64 = texts.Base64
-text_notation Base64Url = texts.Base64Url

@@ -3,6 +3,7 @@ pub mod Conversion
 pub mod Drill
 pub mod EndsWell
 pub mod Engine
+pub mod Faults
 pub mod Files
 pub mod InitialValue
 pub mod Job

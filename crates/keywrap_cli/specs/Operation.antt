@@ -5,20 +5,20 @@ use Rattle.key_lines.specs.declared.fault.RefusedLine.{RefusedLine}
 use Rattle.key_lines.specs.declared.fault.RunFault.{RunFault}
 use Rattle.key_lines.specs.declared.run.RunOptions.{RunOptions}
 use Rattle.key_lines.specs.declared.summary.RunSummary.{RunSummary}
+use Rattle.key_lines.specs.declared.text.TextNotation.{TextNotation}
 use Rattle.keywrap_cli.specs.Answers.{JobAnswer, RewrappingAnswer}
 use Rattle.keywrap_cli.specs.Engine.{AnswersEachLine, AnswersLines, IsRefusedBefore, UnderKek, UnderKeks, UnderReadKek}
-use Rattle.keywrap_cli.specs.Files.{line_notation, text_notation}
+use Rattle.keywrap_cli.specs.Files.{line_notation}
 use Rattle.keywrap_cli.specs.Job.{RunsJob, WritesTheAnswer}
 use Rattle.keywrap_cli.specs.Readings.{kek_fault_of}
 use Rattle.keywrap_cli.specs.Rewrapping.{RunsRewrap, TellsSameKek, WritesTheNewText}
 use Rattle.keywrap_cli.specs.declared.job.Done.{Done}
 use Rattle.keywrap_cli.specs.declared.job.JobFault.{JobFault}
-use Rattle.keywrap_cli.specs.declared.job.Notation.{Notation}
 use Rattle.keywrap_cli.specs.declared.job.Task.{Task}
 use Rattle.keywrap_cli.specs.declared.kek_file.KekRole.TheVariants.{Kek}
 use Rattle.keywrap_cli.specs.declared.operation.Operation.{Operation}
 use Rattle.keywrap_cli.specs.declared.operation.Operation.TheVariants.{Job, Rewrap}
-use Rattle.keywrap_cli.specs.declared.refusal.Refusal.{Refusal}
+use Rattle.key_wrap_core.specs.declared.rewrapping.RewrapFault.{RewrapFault}
 use Rattle.keywrap_cli.specs.declared.rewrapping.Rewrapping.{Rewrapping}
 
 -- a property of a job, or of a rewrap
@@ -56,35 +56,31 @@ TellsSameKekOf known old new same = MatchOperations old new (λ iv task kek iv' 
 abbrev pub IsSameTask : {K : Type 0} → Operation K → Operation K → Type 0
 IsSameTask old new = MatchOperations old new (λ iv task kek iv' task' kek'. (iv' ≡ iv) × (task' ≡ task)) (λ task kek new task' kek' new'. task' ≡ task)
 
--- how a run over lines reads an input in this notation
-abbrev pub line_options : Notation → Bool → RunOptions
-line_options notation keep_going = record { notation = text_notation notation; keep_going = keep_going }
+-- the task, and the rewrapping, with lines in this notation as its input and output
+abbrev pub in_lines : TextNotation → Task → Task
+in_lines notation task = record { job = task.job; form = task.form; input = line_notation notation; kek = task.kek }
 
--- the task, and the rewrapping, with its input and output as lines
-abbrev pub in_lines : Task → Task
-in_lines task = record { job = task.job; form = task.form; input = line_notation (text_notation task.input); kek = task.kek }
-
-abbrev pub lines_of : Rewrapping → Rewrapping
-lines_of task = record { forms = task.forms; pass_new = task.pass_new; input = line_notation (text_notation task.input); kek = task.kek }
+abbrev pub lines_of : TextNotation → Rewrapping → Rewrapping
+lines_of notation task = record { forms = task.forms; pass_new = task.pass_new; input = line_notation notation; kek = task.kek }
 
 -- The same line by line: the KEK files are read first, and then each line is answered.
-abbrev pub RunsOperationLines : {K : Type 0} → (K → Option (List ℕ)) → Bool → Operation K → Operation K → Option (List ℕ)
-    → Option (List ℕ) → Option (List ℕ) → Option (List ℕ) → Option (List (RefusedLine Refusal)) → Option (List (RefusedLine Refusal))
-    → Result (Result (RunSummary Refusal) (RunFault Refusal)) JobFault → Type 0
-RunsOperationLines known keep_going old new input input' out out' log log' answer = MatchOperations old new
+abbrev pub RunsOperationLines : {K : Type 0} → (K → Option (List ℕ)) → RunOptions → Operation K → Operation K → Option (List ℕ)
+    → Option (List ℕ) → Option (List ℕ) → Option (List ℕ) → Option (List (RefusedLine RewrapFault)) → Option (List (RefusedLine RewrapFault))
+    → Result (Result (RunSummary RewrapFault) (RunFault RewrapFault)) JobFault → Type 0
+RunsOperationLines known options old new input input' out out' log log' answer = MatchOperations old new
     (λ iv task kek iv' task' kek'. UnderKek task.kek (known kek) (known kek')
-    (λ K. AnswersLines (line_options task.input keep_going) (JobAnswer iv (in_lines task) (cipher K)) input input' out out' log log' answer)
+    (λ K. AnswersLines options (JobAnswer iv (in_lines options.notation task) (cipher K)) input input' out out' log log' answer)
     (λ fault. (log' ≡ log) × IsRefusedBefore (kek_fault_of Kek fault) input input' out out' answer))
     (λ task kek new task' kek' new'. UnderKeks task.kek (known kek) (known kek') (known new) (known new')
-    (λ K L. AnswersLines (line_options task.input keep_going) (RewrappingAnswer (lines_of task) (cipher K) (cipher L)) input input' out out' log log' answer)
+    (λ K L. AnswersLines options (RewrappingAnswer (lines_of options.notation task) (cipher K) (cipher L)) input input' out out' log log' answer)
     (λ fault. (log' ≡ log) × IsRefusedBefore fault input input' out out' answer))
 
 -- The headline of lines. If the rest of the input is known, the answers to its first lines were written, in order, each
 -- under AES of the KEKs that the KEK files denote. Line i of the output is the answer to line i.
-abbrev pub WritesTheLinesOf : {K : Type 0} → (K → Option (List ℕ)) → Bool → Operation K → Operation K → Option (List ℕ) → Option (List ℕ)
-    → Option (List ℕ) → Result (RunSummary Refusal) (RunFault Refusal) → Type 0
-WritesTheLinesOf known keep_going old new input out out' run = MatchOperations old new
+abbrev pub WritesTheLinesOf : {K : Type 0} → (K → Option (List ℕ)) → RunOptions → Operation K → Operation K → Option (List ℕ) → Option (List ℕ)
+    → Option (List ℕ) → Result (RunSummary RewrapFault) (RunFault RewrapFault) → Type 0
+WritesTheLinesOf known options old new input out out' run = MatchOperations old new
     (λ iv task kek iv' task' kek'. UnderReadKek task.kek (known kek) (known kek') (λ K. IfSome input
-    (λ text. AnswersEachLine (line_options task.input keep_going) (JobAnswer iv (in_lines task) (cipher K)) text out out' run)))
+    (λ text. AnswersEachLine options (JobAnswer iv (in_lines options.notation task) (cipher K)) text out out' run)))
     (λ task kek new task' kek' new'. UnderReadKek task.kek (known kek) (known kek') (λ K. UnderReadKek task.kek (known new) (known new') (λ L. IfSome input
-    (λ text. AnswersEachLine (line_options task.input keep_going) (RewrappingAnswer (lines_of task) (cipher K) (cipher L)) text out out' run))))
+    (λ text. AnswersEachLine options (RewrappingAnswer (lines_of options.notation task) (cipher K) (cipher L)) text out out' run))))

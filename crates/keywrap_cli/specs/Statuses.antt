@@ -3,15 +3,15 @@
 use Rattle.std.specs.Prelude.{ℕ}
 use Rattle.key_files.specs.declared.fault.FileFault.TheVariants as files
 use Rattle.key_lines.specs.declared.fault.LineFault.{LineFault}
-use Rattle.key_lines.specs.declared.fault.LineFault.TheVariants.{Input, Refused}
+use Rattle.key_lines.specs.declared.fault.LineFault.TheVariants.{Input, Refused, Memory, TooManyLines}
 use Rattle.keywrap_cli.specs.declared.drilling.DrillFault.{DrillFault}
 use Rattle.keywrap_cli.specs.declared.drilling.DrillFault.TheVariants as drills
 use Rattle.keywrap_cli.specs.declared.fault.ProgramFault.{ProgramFault}
 use Rattle.keywrap_cli.specs.declared.fault.ProgramFault.TheVariants as program
 use Rattle.keywrap_cli.specs.declared.job.JobFault.{JobFault}
 use Rattle.keywrap_cli.specs.declared.job.JobFault.TheVariants as jobs
-use Rattle.keywrap_cli.specs.declared.refusal.Refusal.{Refusal}
-use Rattle.keywrap_cli.specs.declared.refusal.Refusal.TheVariants.{BadLength, Integrity, KeyNotPlain}
+use Rattle.key_wrap_core.specs.declared.rewrapping.RewrapFault.{RewrapFault}
+use Rattle.key_wrap_core.specs.declared.rewrapping.RewrapFault.TheVariants.{BadLength, Integrity, KeyNotPlain}
 
 abbrev pub job_status : JobFault → ℕ
 job_status (jobs.KekFile fault) = 6
@@ -25,13 +25,15 @@ job_status jobs.KeyNotPlain = 4
 job_status (jobs.Write written) = 6
 job_status jobs.Memory = 7
 
-abbrev pub line_status : LineFault Refusal → ℕ
+abbrev pub line_status : LineFault RewrapFault → ℕ
 line_status (Input files.Read) = 6
 line_status (Input files.TooLong) = 6
 line_status (Input (files.BadDigit at)) = 6
 line_status (Input files.OddDigits) = 6
 line_status (Input (files.BadBase64 wrong)) = 6
 line_status (Input files.Memory) = 7
+line_status Memory = 7
+line_status TooManyLines = 6
 line_status (Refused BadLength) = 4
 line_status (Refused Integrity) = 5
 line_status (Refused KeyNotPlain) = 4
@@ -57,5 +59,6 @@ fault_status (program.Line line) = line_status line.fault
 fault_status program.NoLines = 4
 fault_status (program.Drill fault) = drill_status fault
 fault_status (program.Write written) = 6
+fault_status (program.Unsent answered unsent) = 6
 fault_status program.Flush = 6
 fault_status program.Memory = 7

@@ -1,13 +1,12 @@
 //! Unwrapping in whichever form a key is wrapped.
 
-ghost use Rattle.std.specs.Prelude.{◌≢◌, length, Ok, Err, IfOk};
-ghost use Rattle.key_lines.specs.Answers.{made};
+ghost use Rattle.std.specs.Prelude.{◌≢◌, length, Err};
 ghost use Rattle.key_wrap_core.specs.Lengths.{IsPaddedTextLength};
-ghost use Rattle.keywrap_cli.specs.Answers.{FindsKey};
+ghost use Rattle.keywrap_cli.specs.Answers.{FindsKey, IsMade};
 
 use block_pair::{BlockPair, Meter};
+use key_lines::AnswerFault;
 use key_wrap_core::{InPlaceFault, InitialValue, padded_text_length_ok, unwrap_any_into};
-use std::alloc::AllocError;
 
 /// Replaces `output` with the key of a wrapping in either form. The plain form has this initial
 /// value.
@@ -16,22 +15,22 @@ pub fn unwrap_any<B: BlockPair>(
     pair: &B,
     input: &[u8],
     output: &mut Vec<u8>,
-) -> Result<Result<(), InPlaceFault>, AllocError>
-    ensures answer { IfOk result (λ done. FindsKey iv.now (B.encrypted pair.now) input.now
-        (made output.new.items done)) }
-    ensures legal { result ≢ Ok (Err InPlaceFault.BadLength)
+) -> Result<(), AnswerFault<InPlaceFault>>
+    ensures answer { IsMade (FindsKey iv.now (B.encrypted pair.now) input.now)
+        output.new.items result }
+    ensures legal { result ≢ Err (AnswerFault.Refused InPlaceFault.BadLength)
         → IsPaddedTextLength (length input.now) }
 {
     // The padded form has all legal lengths of the plain form.
     if !padded_text_length_ok(input.len()) {
-        return Ok(Err(InPlaceFault::BadLength));
+        return Err(AnswerFault::Refused(InPlaceFault::BadLength));
     }
     output.resize(input.len() - 8, 0)?;
     match unwrap_any_into(&mut Meter::new(pair), iv, input, output) {
         Ok(found) => {
             output.truncate(found.len);
-            Ok(Ok(()))
+            Ok(())
         }
-        Err(fault) => Ok(Err(fault)),
+        Err(fault) => Err(AnswerFault::Refused(fault)),
     }
 }

@@ -1,16 +1,16 @@
 //! Wrapping and unwrapping in a direction and a form.
 
-ghost use Rattle.std.specs.Prelude.{◌≢◌, ◌↔◌, length, Ok, Err, IfOk, IsTrue};
+ghost use Rattle.std.specs.Prelude.{◌≢◌, ◌↔◌, length, Err, IsTrue};
 ghost use Rattle.key_lines.specs.Answers.{made};
-ghost use Rattle.keywrap_cli.specs.Answers.{MakesConversion};
+ghost use Rattle.keywrap_cli.specs.Answers.{IsMade, MakesConversion};
 ghost use Rattle.keywrap_cli.specs.Conversion.{HasRoom, IsInputLength};
 
 use block_pair::{BlockPair, Meter};
+use key_lines::AnswerFault;
 use key_wrap_core::{
     Form, InPlaceFault, InitialValue, key_length_ok, padded_length_ok, padded_text_length_ok,
     text_length_ok, unwrap_into_with, unwrap_padded_into, wrap_into_with, wrap_padded_into,
 };
-use std::alloc::AllocError;
 
 // The size of a word in bytes.
 const WORD: usize = 8;
@@ -33,17 +33,20 @@ pub fn convert_into<B: BlockPair>(
     pair: &B,
     input: &[u8],
     output: &mut Vec<u8>,
-) -> Result<Result<(), InPlaceFault>, AllocError>
-    ensures answer { IfOk result (λ done. MakesConversion direction form iv.now
-        (B.encrypted pair.now) input.now (made output.new.items done)) }
-    ensures legal { result ≢ Ok (Err InPlaceFault.BadLength)
+) -> Result<(), AnswerFault<InPlaceFault>>
+    ensures answer { IsMade (MakesConversion direction form iv.now (B.encrypted pair.now) input.now)
+        output.new.items result }
+    ensures legal { result ≢ Err (AnswerFault.Refused InPlaceFault.BadLength)
         → IsInputLength direction form (length input.now) }
 {
     if !is_input_length(direction, form, input.len()) {
-        return Ok(Err(InPlaceFault::BadLength));
+        return Err(AnswerFault::Refused(InPlaceFault::BadLength));
     }
     output.resize(room_for(direction, form, input.len()), 0)?;
-    Ok(convert_in_room(direction, form, iv, pair, input, output))
+    match convert_in_room(direction, form, iv, pair, input, output) {
+        Ok(()) => Ok(()),
+        Err(fault) => Err(AnswerFault::Refused(fault)),
+    }
 }
 
 fn is_input_length(direction: Direction, form: Form, len: usize) -> bool

@@ -8,6 +8,7 @@ ghost use Rattle.keywrap_cli.specs.Drill.{DrillAnswer, TextAnswer, drill_meaning
 use crate::convert::{Direction, convert_into};
 use block_pair::SwapHalves;
 use key_files::{FileFault, MAX_FILE, decode_hex};
+use key_lines::AnswerFault;
 use key_wrap_core::{Form, InPlaceFault, InitialValue};
 use std::alloc::Global;
 use thiserror::Error;
@@ -55,10 +56,10 @@ pub fn drill(
     let iv = InitialValue::default();
     let mut output = Vec::new(alloc);
     match convert_into(direction, form, &iv, &SwapHalves, &input, &mut output) {
-        Ok(Ok(())) => Ok(output),
-        Ok(Err(InPlaceFault::BadLength)) => Err(DrillFault::BadLength),
-        Ok(Err(InPlaceFault::Integrity)) => Err(DrillFault::Integrity),
-        Err(_) => Err(DrillFault::Memory),
+        Ok(()) => Ok(output),
+        Err(AnswerFault::Refused(InPlaceFault::BadLength)) => Err(DrillFault::BadLength),
+        Err(AnswerFault::Refused(InPlaceFault::Integrity)) => Err(DrillFault::Integrity),
+        Err(AnswerFault::Memory) => Err(DrillFault::Memory),
     }
 }
 

@@ -7,15 +7,15 @@ ghost use Rattle.keywrap_cli.specs.Files.{IsOneLine, printed};
 
 use crate::files::{input_fault, read_file};
 use crate::job::{JobFault, Notation};
-use crate::refusal::Refusal;
 use key_files::{Alphabet, print_base64, print_hex, write_raw};
-use key_lines::{LineJob, Mark};
+use key_lines::{AnswerFault, LineJob, Mark};
+use key_wrap_core::RewrapFault;
 use std::alloc::{AllocError, Global};
 use std::io::{Read, Write};
 
 /// Reads the input, writes the answer of the job for this input, and returns the answer's mark.
 /// Nothing is written before the whole output is made, and the call does not flush.
-pub fn run_input<J: LineJob<Refusal = Refusal>, R: Read, W: Write>(
+pub fn run_input<J: LineJob<Refusal = RewrapFault>, R: Read, W: Write>(
     alloc: Global,
     notation: Notation,
     job: &J,
@@ -33,7 +33,7 @@ pub fn run_input<J: LineJob<Refusal = Refusal>, R: Read, W: Write>(
 }
 
 // Makes the whole answer for the bytes, and then writes it.
-fn write_answer<J: LineJob<Refusal = Refusal>, W: Write>(
+fn write_answer<J: LineJob<Refusal = RewrapFault>, W: Write>(
     alloc: Global,
     job: &J,
     bytes: &mut Vec<u8>,
@@ -45,9 +45,9 @@ fn write_answer<J: LineJob<Refusal = Refusal>, W: Write>(
 {
     let mut output = Vec::new(alloc);
     let mark = match job.answer(bytes, &mut output) {
-        Ok(Ok(mark)) => mark,
-        Ok(Err(refusal)) => return Err(job_fault(refusal)),
-        Err(_) => return Err(JobFault::Memory),
+        Ok(mark) => mark,
+        Err(AnswerFault::Refused(refusal)) => return Err(job_fault(refusal)),
+        Err(AnswerFault::Memory) => return Err(JobFault::Memory),
     };
     match write_raw(out, &output) {
         Ok(()) => Ok(mark),
@@ -58,13 +58,13 @@ fn write_answer<J: LineJob<Refusal = Refusal>, W: Write>(
 }
 
 // Returns the job's fault for a refusal of its bytes.
-fn job_fault(refusal: Refusal) -> JobFault
+fn job_fault(refusal: RewrapFault) -> JobFault
     ensures { result ≡ job_fault_of refusal }
 {
     match refusal {
-        Refusal::BadLength => JobFault::BadLength,
-        Refusal::Integrity => JobFault::Integrity,
-        Refusal::KeyNotPlain => JobFault::KeyNotPlain,
+        RewrapFault::BadLength => JobFault::BadLength,
+        RewrapFault::Integrity => JobFault::Integrity,
+        RewrapFault::KeyNotPlain => JobFault::KeyNotPlain,
     }
 }
 

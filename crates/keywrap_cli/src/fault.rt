@@ -1,16 +1,18 @@
 //! The faults of the program, with their lines on standard error and their exit statuses.
 
 ghost use Rattle.std.specs.Prelude.{◌≡◌, ◌≢◌, ◌↔◌, ◌⊎◌};
+ghost use Rattle.keywrap_cli.specs.Faults.{hex_fault_of, vectors_fault_of};
 ghost use Rattle.keywrap_cli.specs.Statuses.{drill_status, fault_status, job_status, line_status};
+ghost use Rattle.keywrap_cli.specs.declared.fault.ProgramFault.TheVariants as ProgramFaults;
 
 use crate::drilling::DrillFault;
 use crate::initial_value::IvFault;
 use crate::job::JobFault;
-use crate::refusal::Refusal;
 use crate::report::VectorsFault;
 use crate::statuses;
 use key_files::{FileFault, HexWriteFault, WriteFault};
 use key_lines::{LineFault, RefusedLine};
+use key_wrap_core::RewrapFault;
 use thiserror::Error;
 
 /// A fault of the program, other than one of its arguments. Its message is its line on standard
@@ -36,14 +38,17 @@ pub enum ProgramFault {
     #[error("keywrap: {0}")]
     Job(JobFault),
     #[error("keywrap: {0}")]
-    Line(RefusedLine<Refusal>),
+    Line(RefusedLine<RewrapFault>),
     #[error("keywrap: no lines")]
     NoLines,
     #[error("keywrap: {0}")]
     Drill(DrillFault),
-    /// The help, the vectors, the answer of the drill or the answers to lines could not be written.
+    /// The help, the vectors or the answer of the drill could not be written.
     #[error("keywrap: output: refused after {written} bytes")]
     Write { written: usize },
+    /// The answers to `answered` lines were written but for their last `unsent` bytes.
+    #[error("keywrap: output: refused {unsent} bytes before the end of line {answered}")]
+    Unsent { answered: u64, unsent: usize },
     /// Standard output can't be flushed, or the new file can't be renamed.
     #[error("keywrap: output: cannot be flushed")]
     Flush,
@@ -59,12 +64,13 @@ impl ProgramFault {
     {
         match self {
             ProgramFault::Iv(_) | ProgramFault::NewIv(_) | ProgramFault::RawToTerminal =>
-                statuses::REFUSED_WORDS,
+                statuses::USAGE,
             ProgramFault::KekOpen
             | ProgramFault::NewKekOpen
             | ProgramFault::InputOpen
             | ProgramFault::OutputOpen
             | ProgramFault::Write { .. }
+            | ProgramFault::Unsent { .. }
             | ProgramFault::Flush => statuses::INPUT_OUTPUT,
             ProgramFault::Job(fault) => job_status(fault),
             ProgramFault::Line(refused) => line_status(refused.fault),
@@ -97,15 +103,18 @@ fn job_status(fault: &JobFault) -> u8
     }
 }
 
-pub(crate) fn line_status(fault: LineFault<Refusal>) -> u8
+pub(crate) fn line_status(fault: LineFault<RewrapFault>) -> u8
     ensures status { result ≡ line_status fault }
     ensures failed { result ≢ 0 }
 {
     match fault {
-        LineFault::Refused(Refusal::BadLength | Refusal::KeyNotPlain) => { statuses::BAD_LENGTH }
-        LineFault::Refused(Refusal::Integrity) => statuses::FAILED,
-        LineFault::Input(FileFault::Memory) => statuses::MEMORY,
-        LineFault::Input(
+        LineFault::Refused(RewrapFault::BadLength | RewrapFault::KeyNotPlain) => {
+            statuses::BAD_LENGTH
+        }
+        LineFault::Refused(RewrapFault::Integrity) => statuses::FAILED,
+        LineFault::Memory | LineFault::Input(FileFault::Memory) => statuses::MEMORY,
+        LineFault::TooManyLines
+        | LineFault::Input(
             FileFault::Read
             | FileFault::TooLong
             | FileFault::BadDigit { .. }
@@ -130,6 +139,8 @@ fn drill_status(fault: &DrillFault) -> u8
 }
 
 impl From<VectorsFault> for ProgramFault {
+    ghost from_gives = { λ vectors fault. fault ≡ vectors_fault_of vectors };
+
     fn from(fault: VectorsFault) -> ProgramFault {
         match fault {
             VectorsFault::Memory => ProgramFault::Memory,
@@ -139,6 +150,8 @@ impl From<VectorsFault> for ProgramFault {
 }
 
 impl From<HexWriteFault> for ProgramFault {
+    ghost from_gives = { λ write fault. fault ≡ hex_fault_of write };
+
     fn from(fault: HexWriteFault) -> ProgramFault {
         match fault {
             HexWriteFault::Memory => ProgramFault::Memory,
@@ -148,6 +161,8 @@ impl From<HexWriteFault> for ProgramFault {
 }
 
 impl From<WriteFault> for ProgramFault {
+    ghost from_gives = { λ write fault. fault ≡ ProgramFaults.Write write.written };
+
     fn from(fault: WriteFault) -> ProgramFault {
         ProgramFault::Write {
             written: fault.written,

@@ -1,19 +1,18 @@
 //! Runs a job under a KEK on the bytes of an input or of a line.
 
-ghost use Rattle.std.specs.Prelude.{◌≡◌, IfErr, IfOk, OnOk, string_bytes};
-ghost use Rattle.key_lines.specs.Answers.{answered};
+ghost use Rattle.std.specs.Prelude.{◌≡◌, IfOk, Ok, OnOk, string_bytes};
+ghost use Rattle.key_lines.specs.Answers.{IsAnswered, answered};
 ghost use Rattle.keywrap_cli.specs.Answers.{AnswerOfJob, HasBadLength, JobAnswer};
-ghost use Rattle.keywrap_cli.specs.Answers.{job_of, kind_line};
+ghost use Rattle.keywrap_cli.specs.Answers.{job_of, job_refusal, kind_line};
 ghost use Rattle.keywrap_cli.specs.Files.{IsOneLine, printed};
 
 use crate::any_form::unwrap_any;
 use crate::convert::{Direction, convert_into};
 use crate::engine::print_in;
 use crate::job::{Job, Task};
-use crate::refusal::{Refusal, job_refusal};
 use block_pair::{BlockPair, Meter};
-use key_lines::{LineJob, Mark};
-use key_wrap_core::{InitialValue, Kind, kind_into_with};
+use key_lines::{AnswerFault, LineJob, Mark};
+use key_wrap_core::{InPlaceFault, InitialValue, Kind, RewrapFault, kind_into_with};
 use std::alloc::{AllocError, Global};
 
 /// A job under a block permutation. Only the plain form uses the initial value.
@@ -26,7 +25,7 @@ pub struct KeyJob<B: BlockPair> {
 }
 
 impl<B: BlockPair> LineJob for KeyJob<B> {
-    type Refusal = Refusal;
+    type Refusal = RewrapFault;
 
     ghost answers = { λ job bytes answer. JobAnswer job.iv job.task (B.encrypted job.pair)
         bytes answer };
@@ -37,12 +36,15 @@ impl<B: BlockPair> LineJob for KeyJob<B> {
         &self,
         bytes: &mut Vec<u8>,
         output: &mut Vec<u8>,
-    ) -> Result<Result<Mark, Refusal>, AllocError> {
+    ) -> Result<Mark, AnswerFault<RewrapFault>> {
         match self.task.job {
             Job::Wrap => self.convert(Direction::Wrap, bytes, output),
             Job::Unwrap => self.convert(Direction::Unwrap, bytes, output),
             Job::UnwrapAny => self.unwrap_any(bytes, output),
-            Job::Check => self.check(bytes, output),
+            Job::Check => match self.check(bytes, output) {
+                Ok(mark) => Ok(mark),
+                Err(_) => Err(AnswerFault::Memory),
+            },
         }
     }
 }
@@ -54,12 +56,11 @@ impl<B: BlockPair> KeyJob<B> {
         direction: Direction,
         bytes: &mut Vec<u8>,
         output: &mut Vec<u8>,
-    ) -> Result<Result<Mark, Refusal>, AllocError>
-        ensures answer { IfOk result (λ mark. AnswerOfJob (job_of direction) self.now.iv
-            self.now.task (B.encrypted self.now.pair) bytes.old.items
-            (answered output.new.items mark)) }
-        ensures memory { IfErr result (λ _. ¬ HasBadLength (job_of direction) self.now.task.form
-            bytes.old.items) }
+    ) -> Result<Mark, AnswerFault<RewrapFault>>
+        ensures { IsAnswered (AnswerOfJob (job_of direction) self.now.iv self.now.task
+            (B.encrypted self.now.pair) bytes.old.items)
+            (¬ HasBadLength (job_of direction) self.now.task.form bytes.old.items)
+            output.new.items result }
     {
         match convert_into(
             direction,
@@ -69,12 +70,16 @@ impl<B: BlockPair> KeyJob<B> {
             bytes,
             output,
         ) {
-            Ok(Ok(())) => {}
-            Ok(Err(fault)) => return Ok(Err(job_refusal(fault))),
-            Err(fault) => return Err(fault),
+            Ok(()) => {}
+            Err(AnswerFault::Refused(fault)) => {
+                return Err(AnswerFault::Refused(job_refusal(fault)));
+            }
+            Err(AnswerFault::Memory) => return Err(AnswerFault::Memory),
         }
-        self.print(bytes, output)?;
-        Ok(Ok(Mark::Unmarked))
+        match self.print(bytes, output) {
+            Ok(()) => Ok(Mark::Unmarked),
+            Err(_) => Err(AnswerFault::Memory),
+        }
     }
 
     // Makes the answer of an unwrapping in either form.
@@ -82,19 +87,23 @@ impl<B: BlockPair> KeyJob<B> {
         &self,
         bytes: &mut Vec<u8>,
         output: &mut Vec<u8>,
-    ) -> Result<Result<Mark, Refusal>, AllocError>
-        ensures answer { IfOk result (λ mark. AnswerOfJob Job.UnwrapAny self.now.iv self.now.task
-            (B.encrypted self.now.pair) bytes.old.items (answered output.new.items mark)) }
-        ensures memory { IfErr result (λ _. ¬ HasBadLength Job.UnwrapAny self.now.task.form
-            bytes.old.items) }
+    ) -> Result<Mark, AnswerFault<RewrapFault>>
+        ensures { IsAnswered (AnswerOfJob Job.UnwrapAny self.now.iv self.now.task
+            (B.encrypted self.now.pair) bytes.old.items)
+            (¬ HasBadLength Job.UnwrapAny self.now.task.form bytes.old.items)
+            output.new.items result }
     {
         match unwrap_any(&self.iv, &self.pair, bytes, output) {
-            Ok(Ok(())) => {}
-            Ok(Err(fault)) => return Ok(Err(job_refusal(fault))),
-            Err(fault) => return Err(fault),
+            Ok(()) => {}
+            Err(AnswerFault::Refused(fault)) => {
+                return Err(AnswerFault::Refused(job_refusal(fault)));
+            }
+            Err(AnswerFault::Memory) => return Err(AnswerFault::Memory),
         }
-        self.print(bytes, output)?;
-        Ok(Ok(Mark::Unmarked))
+        match self.print(bytes, output) {
+            Ok(()) => Ok(Mark::Unmarked),
+            Err(_) => Err(AnswerFault::Memory),
+        }
     }
 
     // Prints the answer in `output`. `bytes` is room for it.
@@ -109,9 +118,9 @@ impl<B: BlockPair> KeyJob<B> {
     }
 
     // Makes the answer of a check. `output` is the room for the registers.
-    fn check(&self, text: &[u8], output: &mut Vec<u8>) -> Result<Result<Mark, Refusal>, AllocError>
+    fn check(&self, text: &[u8], output: &mut Vec<u8>) -> Result<Mark, AllocError>
         ensures { IfOk result (λ mark. AnswerOfJob Job.Check self.now.iv self.now.task
-            (B.encrypted self.now.pair) text.now (answered output.new.items mark)) }
+            (B.encrypted self.now.pair) text.now (answered output.new.items (Ok mark))) }
     {
         output.resize(text.len().saturating_sub(8), 0)?;
         let Ok(found) = kind_into_with(&mut Meter::new(&self.pair), &self.iv, text, output) else {
@@ -121,9 +130,19 @@ impl<B: BlockPair> KeyJob<B> {
         output.clear();
         output.extend_from_slice(line.as_bytes())?;
         match found {
-            Kind::Plain(_) | Kind::Padded(_) => Ok(Ok(Mark::Unmarked)),
-            Kind::Neither => Ok(Ok(Mark::Marked)),
+            Kind::Plain(_) | Kind::Padded(_) => Ok(Mark::Unmarked),
+            Kind::Neither => Ok(Mark::Marked),
         }
+    }
+}
+
+// Returns the refusal of a job.
+fn job_refusal(fault: InPlaceFault) -> RewrapFault
+    ensures { result ≡ job_refusal fault }
+{
+    match fault {
+        InPlaceFault::BadLength => RewrapFault::BadLength,
+        InPlaceFault::Integrity => RewrapFault::Integrity,
     }
 }
 

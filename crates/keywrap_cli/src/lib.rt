@@ -1,6 +1,6 @@
 //! The command `keywrap`, as calls over readers and writers: jobs over a whole input and line by
-//! line, rewrapping, the drill, the published vectors. Also the exit status of each fault and of each
-//! run, and the messages, which are tested and not proved.
+//! line, rewrapping, the drill, the published vectors. Also the exit status of each fault and of
+//! each run, and the messages, which are tested and not proved.
 #![tactic(auto)]
 
 mod any_form;
@@ -16,7 +16,6 @@ mod kek_file;
 mod key_job;
 mod lines;
 mod operation;
-mod refusal;
 mod report;
 mod rewrap;
 mod rewrap_job;
@@ -33,8 +32,8 @@ pub use fault::ProgramFault;
 pub use flushed::{run_drill, run_vectors, write_help};
 pub use initial_value::{IvFault, parse_iv};
 pub use job::{Done, Job, JobFault, Notation, Outcome, Task, run_job, run_with};
+pub use lines::line_notation;
 pub use operation::Operation;
-pub use refusal::Refusal;
 pub use report::{VectorsFault, vectors};
 pub use rewrap::run_rewrap;
 pub use rewrapping::Rewrapping;

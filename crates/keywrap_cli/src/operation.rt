@@ -12,13 +12,12 @@ ghost use Rattle.keywrap_cli.specs.Rewrapping.{result_of};
 use crate::job::{Done, Job, JobFault, Notation, Outcome, Task, run};
 use crate::kek_file::{Keks, read_kek, read_keks};
 use crate::key_job::KeyJob;
-use crate::lines::{line_notation, text_notation};
-use crate::refusal::Refusal;
+use crate::lines::line_notation;
 use crate::rewrap::rewrap;
 use crate::rewrap_job::RewrapJob;
 use crate::rewrapping::Rewrapping;
 use key_lines::{LineRun, LineSource, RefusalLog, RunFault, RunOptions, RunSummary};
-use key_wrap_core::{AgreedForm, InitialValue, RewrapForms};
+use key_wrap_core::{AgreedForm, InitialValue, RewrapFault, RewrapForms};
 use std::alloc::Global;
 use std::io::{Read, Write};
 
@@ -166,42 +165,37 @@ impl<K: Read> Operation<K> {
         }
     }
 
-    /// Runs the operation on each line of the input, as [`LineRun::run`] does. Lines of a raw
-    /// input are read as hex. With `keep_going` the run continues after a refused line.
+    /// Runs the operation on each line of the input, as [`LineRun::run`] does. The notation of the
+    /// lines takes the place of the task's notation of the input.
     ///
     /// The outer `Err` is the fault of a KEK file: then the input was not read, and nothing was
     /// written. `marked` in the summary counts answers that are `none` or a copied wrapped key.
-    pub fn run_lines<L: RefusalLog<Refusal>, I: LineSource, W: Write>(
+    pub fn run_lines<L: RefusalLog<RewrapFault>, I: LineSource, W: Write>(
         &mut self,
         alloc: Global,
-        keep_going: bool,
+        options: RunOptions,
         log: &mut L,
         input: &mut I,
         out: &mut W,
-    ) -> Result<Outcome<Result<RunSummary<Refusal>, RunFault<Refusal>>>, JobFault>
-        ensures run { RunsOperationLines K.remaining keep_going self.old self.new
+    ) -> Result<Outcome<Result<RunSummary<RewrapFault>, RunFault<RewrapFault>>>, JobFault>
+        ensures run { RunsOperationLines K.remaining options self.old self.new
             (I.remaining input.old) (I.remaining input.new)
             (W.contents out.old) (W.contents out.new)
             (L.received log.old) (L.received log.new) (result_of result) }
 
         // The output has the answers to the first lines, in order, each under the KEKs that the
         // KEK files denote.
-        ensures headline { IfOk result (λ outcome. WritesTheLinesOf K.remaining keep_going
+        ensures headline { IfOk result (λ outcome. WritesTheLinesOf K.remaining options
             self.old self.new (I.remaining input.old)
             (W.contents out.old) (W.contents out.new) outcome.result) }
         // If the run ends with status 0, each line was answered: see [`lines_status`].
         ensures ends_well { IfOk result (λ outcome. IfOk outcome.result (λ summary.
-            EndsWell (job_in self.old) summary → AnswersAllLines K.remaining self.old self.new
-            (I.remaining input.old) (W.contents out.old) (W.contents out.new))) }
+            EndsWell (job_in self.old) summary → AnswersAllLines K.remaining options.notation
+            self.old self.new (I.remaining input.old) (W.contents out.old) (W.contents out.new))) }
         ensures same_kek { IfOk result (λ outcome.
             TellsSameKekOf K.remaining self.old self.new outcome.same_kek) }
         ensures same_task { IsSameTask self.old self.new }
     {
-        let notation = text_notation(self.input_notation());
-        let options = RunOptions {
-            notation,
-            keep_going,
-        };
         match self {
             Operation::Job { iv, task, kek } => {
                 let pair = match read_kek(alloc, task.kek, kek) {
@@ -212,7 +206,7 @@ impl<K: Read> Operation<K> {
                     alloc,
                     iv: *iv,
                     task: Task {
-                        input: line_notation(notation),
+                        input: line_notation(options.notation),
                         ..*task
                     },
                     pair,
@@ -228,7 +222,7 @@ impl<K: Read> Operation<K> {
                     Err(fault) => return Err(fault),
                 };
                 let task = Rewrapping {
-                    input: line_notation(notation),
+                    input: line_notation(options.notation),
                     ..*task
                 };
                 let job = RewrapJob { task, old, new };

@@ -4,12 +4,10 @@ ghost use Rattle.std.specs.Prelude.{◌≡◌};
 ghost use Rattle.keywrap_cli.specs.Answers.{HasRewrapping, RewrappingAnswer, rewrap_mark};
 
 use crate::engine::print_in;
-use crate::refusal::{Refusal, rewrap_refusal};
 use crate::rewrapping::Rewrapping;
 use block_pair::{BlockPair, Meter};
-use key_lines::{LineJob, Mark};
-use key_wrap_core::{Rewrapped, rewrap};
-use std::alloc::AllocError;
+use key_lines::{AnswerFault, LineJob, Mark};
+use key_wrap_core::{RewrapFault, Rewrapped, rewrap};
 
 /// A rewrapping from the old block permutation to the new one.
 #[derive(Drop)]
@@ -20,7 +18,7 @@ pub struct RewrapJob<O: BlockPair, N: BlockPair> {
 }
 
 impl<O: BlockPair, N: BlockPair> LineJob for RewrapJob<O, N> {
-    type Refusal = Refusal;
+    type Refusal = RewrapFault;
 
     ghost answers = { λ job text answer. RewrappingAnswer job.task
         (O.encrypted job.old) (N.encrypted job.new) text answer };
@@ -32,7 +30,7 @@ impl<O: BlockPair, N: BlockPair> LineJob for RewrapJob<O, N> {
         &self,
         bytes: &mut Vec<u8>,
         output: &mut Vec<u8>,
-    ) -> Result<Result<Mark, Refusal>, AllocError> {
+    ) -> Result<Mark, AnswerFault<RewrapFault>> {
         let (mut old, mut new) = (Meter::new(&self.old), Meter::new(&self.new));
         let Rewrapping {
             forms,
@@ -41,10 +39,12 @@ impl<O: BlockPair, N: BlockPair> LineJob for RewrapJob<O, N> {
         } = &self.task;
         let rewrapped = match rewrap(&mut old, &mut new, forms, *pass_new, bytes) {
             Ok(rewrapped) => rewrapped,
-            Err(fault) => return Ok(Err(rewrap_refusal(fault))),
+            Err(fault) => return Err(AnswerFault::Refused(fault)),
         };
-        print_in(self.task.input, bytes, output)?;
-        Ok(Ok(rewrap_mark(rewrapped)))
+        match print_in(self.task.input, bytes, output) {
+            Ok(()) => Ok(rewrap_mark(rewrapped)),
+            Err(_) => Err(AnswerFault::Memory),
+        }
     }
 }
 

@@ -6,9 +6,9 @@ ghost use Rattle.keywrap_cli.specs.Statuses.{line_status};
 
 use crate::fault::line_status;
 use crate::job::{Done, Job};
-use crate::refusal::Refusal;
 use crate::statuses;
 use key_lines::{RefusedLine, RunSummary};
+use key_wrap_core::RewrapFault;
 
 /// Returns the exit status of a run over a whole input.
 pub fn done_status(done: Done) -> u8
@@ -23,10 +23,10 @@ pub fn done_status(done: Done) -> u8
 
 /// Returns the exit status of a run over lines: the status of the first refused line. A check marks
 /// the lines for which it found no key. A run over no lines is refused.
-pub fn lines_status(job: Option<Job>, summary: &RunSummary<Refusal>) -> u8
+pub fn lines_status(job: Option<Job>, summary: &RunSummary<RewrapFault>) -> u8
     ensures done { (result ≡ 0) ↔ EndsWell job summary.now }
     ensures no_lines { summary.now.lines ≡ 0 → result ≡ 4 }
-    ensures refused { summary.now.lines ≢ 0 → (refused : RefusedLine Refusal)
+    ensures refused { summary.now.lines ≢ 0 → (refused : RefusedLine RewrapFault)
         → summary.now.first_refused ≡ Some refused → result ≡ line_status refused.fault }
     ensures none { summary.now.lines ≢ 0 → summary.now.first_refused ≡ None → result ≢ 0
         → result ≡ 5 }

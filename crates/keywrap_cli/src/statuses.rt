@@ -4,7 +4,7 @@
 pub const DONE: u8 = 0;
 
 /// The command line or the value of `--iv` was refused, or raw bytes would go to a terminal.
-pub const REFUSED_WORDS: u8 = 2;
+pub const USAGE: u8 = 2;
 
 /// A KEK is not 16, 24 or 32 bytes long.
 pub const KEK_LENGTH: u8 = 3;

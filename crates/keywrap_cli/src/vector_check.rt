@@ -9,6 +9,7 @@ ghost use Rattle.test_vectors.specs.Vectors.{TestVector, shown};
 use crate::convert::{Direction, convert_into};
 use crate::kek_file::Aes;
 use block_pair::BlockPair;
+use key_lines::AnswerFault;
 use key_wrap_core::{Form, InitialValue};
 use std::alloc::{AllocError, Global};
 use test_vectors::{Algorithm, Vector};
@@ -98,9 +99,9 @@ fn convert<B: BlockPair>(
     let iv = InitialValue::default();
     let mut output = Vec::new(alloc);
     match convert_into(direction, form, &iv, pair, input, &mut output) {
-        Ok(Ok(())) => Ok(Some(output)),
-        Ok(Err(_)) => Ok(None),
-        Err(fault) => Err(fault),
+        Ok(()) => Ok(Some(output)),
+        Err(AnswerFault::Refused(_)) => Ok(None),
+        Err(AnswerFault::Memory) => Err(AllocError),
     }
 }
 

@@ -1,7 +1,7 @@
-//! The files and streams of the command `keywrap`: what was read of a file, the reason of a refusal,
-//! the output file and the files that it must not replace, and the progress of a run. The readers
-//! and writers pass the bytes of the files and streams below them unchanged. No contract covers the
-//! rest: the tests of the program do.
+//! The files and streams of the command `keywrap`: what was read of a file, the reason of a
+//! refusal, the output file and the files that it must not replace, and the progress of a run. The
+//! readers and writers pass the bytes of the files and streams below them unchanged. No contract
+//! covers the rest: the tests of the program do.
 #![tactic(auto)]
 
 mod file_role;
@@ -13,6 +13,8 @@ mod progress;
 mod protected;
 mod reason;
 mod streams;
+#[cfg(test)]
+mod tests;
 
 pub use file_role::FileRole;
 pub use inspected::{Inspected, Inspection};

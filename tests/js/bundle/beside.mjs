@@ -1,6 +1,6 @@
 // An entry for a bundler: the module lies beside the bundle.
 
 import { load } from 'keywrap';
-import { wrapped } from './wrapped.mjs';
+import { both } from './both.mjs';
 
-export const beside = async () => wrapped(await load());
+export const beside = async () => both(await load());

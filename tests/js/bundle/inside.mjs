@@ -2,6 +2,6 @@
 
 import { load } from 'keywrap';
 import module from 'keywrap/keywrap.wasm';
-import { wrapped } from './wrapped.mjs';
+import { both } from './both.mjs';
 
-globalThis.inside = async () => wrapped(await load(module));
+globalThis.inside = async () => both(await load(module));

@@ -21,8 +21,25 @@ export function inOtherRealm(given) {
     return frame.contentWindow.Uint8Array.from(given);
 }
 
-// The bundles, each as a call that wraps.
+// The bundles, each as a call that wraps and unwraps.
 export async function readBundles() {
     await import('/bundles/inside.js');
     return { beside: (await import('/bundles/beside.mjs')).beside, inside: globalThis.inside };
+}
+
+// The result of the bundle of keywrap/inline in a page of a server that has only this file. Its policy
+// allows the page to run WebAssembly, and no connection.
+export async function onlyFile() {
+    const frame = document.createElement('iframe');
+    const posted = new Promise((resolve) => {
+        addEventListener('message', ({ data }) => resolve(data), { once: true });
+    });
+    frame.src = await read('/alone', 'text');
+    document.body.append(frame);
+    const result = await posted;
+    const requests = await read('/requests', 'text');
+    if (requests !== 'GET / GET /bundle.js') {
+        throw new Error(`the page requested: ${requests}`);
+    }
+    return result;
 }

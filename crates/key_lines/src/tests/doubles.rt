@@ -2,9 +2,9 @@
 
 ghost use Rattle.std.specs.Prelude.{⊤};
 
-use crate::{LineJob, Mark, RefusalLog, RefusedLine};
+use crate::{AnswerFault, LineJob, Mark, RefusalLog, RefusedLine};
 use key_files::print_hex;
-use std::alloc::{AllocError, Global};
+use std::alloc::Global;
 use std::io::{self, Read, Write};
 
 /// Gives one byte a read. One read fails, and those after it go on.
@@ -85,14 +85,10 @@ impl LineJob for Echo {
 
     ghost answers = { λ _ _ _. ⊤ };
 
-    fn answer(
-        &self,
-        bytes: &mut Vec<u8>,
-        output: &mut Vec<u8>,
-    ) -> Result<Result<Mark, u8>, AllocError> {
+    fn answer(&self, bytes: &mut Vec<u8>, output: &mut Vec<u8>) -> Result<Mark, AnswerFault<u8>> {
         match bytes.as_slice() {
-            [0xff] => Ok(Err(0xff)),
-            [0xfe] => Err(AllocError),
+            [0xff] => Err(AnswerFault::Refused(0xff)),
+            [0xfe] => Err(AnswerFault::Memory),
             text => {
                 let mark = if text.is_empty() {
                     Mark::Marked
@@ -100,7 +96,7 @@ impl LineJob for Echo {
                     Mark::Unmarked
                 };
                 print_hex(text, output)?;
-                Ok(Ok(mark))
+                Ok(mark)
             }
         }
     }

@@ -27,42 +27,42 @@ static RUNS: [(&[u8], Result<u64, RunFault<u8>>, &[u8]); 11] = [
     ),
     (
         b"00\n0g\n01\n",
-        Err(RunFault::AtLine {
+        Err(RunFault::AtLine(RefusedLine {
             line: 2,
             fault: LineFault::Input(FileFault::BadDigit { at: 1 }),
-        }),
+        })),
         b"00\n",
     ),
     (
         b"000\n01\n",
-        Err(RunFault::AtLine {
+        Err(RunFault::AtLine(RefusedLine {
             line: 1,
             fault: LineFault::Input(FileFault::OddDigits),
-        }),
+        })),
         b"",
     ),
     (
         b"00\n\0\n",
-        Err(RunFault::AtLine {
+        Err(RunFault::AtLine(RefusedLine {
             line: 2,
             fault: LineFault::Input(FileFault::BadDigit { at: 0 }),
-        }),
+        })),
         b"00\n",
     ),
     (
         b"00\n01\nff",
-        Err(RunFault::AtLine {
+        Err(RunFault::AtLine(RefusedLine {
             line: 3,
             fault: LineFault::Refused(0xff),
-        }),
+        })),
         b"00\n01\n",
     ),
     (
         b"FE\n",
-        Err(RunFault::AtLine {
+        Err(RunFault::AtLine(RefusedLine {
             line: 1,
-            fault: LineFault::Input(FileFault::Memory),
-        }),
+            fault: LineFault::Memory,
+        })),
         b"",
     ),
     (b" 00 \n\n", Ok(2), b"00\n\n"),
@@ -126,10 +126,10 @@ fn takes_blanks_at_the_ends_alone(rt: HostRuntime) -> Result<(), Fail> {
         );
         let wanted = match refused {
             None => Ok(1),
-            Some(at) => Err(RunFault::AtLine {
+            Some(at) => Err(RunFault::AtLine(RefusedLine {
                 line: 1,
                 fault: LineFault::Input(FileFault::BadDigit { at: *at }),
-            }),
+            })),
         };
         assert!(rt;
             answer.map(|summary| summary.lines) == wanted && out.as_slice() == *want,
@@ -171,10 +171,10 @@ static PASSED: [(
     ),
     (
         b"0g\nfe\n00\n",
-        Err(RunFault::AtLine {
+        Err(RunFault::AtLine(RefusedLine {
             line: 2,
-            fault: LineFault::Input(FileFault::Memory),
-        }),
+            fault: LineFault::Memory,
+        })),
         b"\n",
         1,
         Some(RefusedLine {
@@ -277,7 +277,7 @@ fn stops_at_the_line_whose_read_fails(rt: HostRuntime) -> Result<(), Fail> {
         );
         let fault = LineFault::Input(FileFault::Read);
         assert!(rt;
-            answer == Err(RunFault::AtLine { line, fault }),
+            answer == Err(RunFault::AtLine(RefusedLine { line, fault })),
             "after {reads} reads"
         );
         assert!(rt; text.starts_with(&out) && out.len() == reads / 3 * 3);

@@ -6,8 +6,11 @@ use std::alloc::{AllocError, Global};
 use std::process::Abort;
 use std::test::Fail;
 
-/// Lengths beyond 4,105 bytes: around the powers of two, some fixed odd ones, and the largest.
-pub const FAR: [usize; 28] = [
+/// An initial value that both ends may agree on.
+pub const OTHER: [u8; 8] = *b"\x01\x23\x45\x67\x89\xAB\xCD\xEF";
+
+// Lengths beyond 4,105 bytes: around the powers of two, some fixed odd ones, and the largest.
+const FAR: [usize; 28] = [
     8_191, 8_192, 8_193, 16_383, 16_384, 16_385, 32_767, 32_768, 32_769, 65_535, 65_536, 65_537,
     131_071, 131_072, 131_073, 262_143, 262_144, 262_145, 524_287, 524_288, 524_289, 5_003, 70_001,
     100_003, 777_777, 1_000_001, 1_048_575, MAX_KEY,
@@ -33,65 +36,42 @@ fn largest(alloc: Global, multiplier: u64, increment: u64) -> Result<Vec<u8>, Al
     Ok(key)
 }
 
+// What was wrapped: its kind is named, and rewraps in its form and with the form kept leave it.
+fn is_kept(
+    rt: &impl Abort,
+    alloc: Global,
+    text: &[u8],
+    form: Form,
+    want: Kind,
+) -> Result<(), Fail> {
+    let pair = SwapHalves;
+    let is = kind(alloc, &pair, text)?;
+    let again = rewrap(alloc, &pair, form, &pair, form, text)?;
+    let kept = rewrap_keeping_form(alloc, &pair, &pair, text)?;
+    assert!(rt;
+        is == want && again.as_slice() == text && kept.as_slice() == text,
+        "{want:?}"
+    );
+    Ok(())
+}
+
 // In the padded form: wraps the key, unwraps it, names its kind and rewraps it.
 fn goes_padded(rt: &impl Abort, alloc: Global, key: &[u8]) -> Result<(), Fail> {
     let text = wrap_padded(alloc, &SwapHalves, key)?;
     let back = unwrap_padded(alloc, &SwapHalves, &text)?;
-    let is = kind(alloc, &SwapHalves, &text)?;
-    assert!(rt;
-        back.as_slice() == key && is == Kind::Padded(key.len()),
-        "{} bytes",
-        key.len()
-    );
-    let again = rewrap(
-        alloc,
-        &SwapHalves,
-        Form::Padded,
-        &SwapHalves,
-        Form::Padded,
-        &text,
-    )?;
-    let kept = rewrap_keeping_form(alloc, &SwapHalves, &SwapHalves, &text)?;
-    assert!(rt; again == text && kept == text, "{} bytes", key.len());
-    Ok(())
+    assert!(rt; back.as_slice() == key, "{} bytes", key.len());
+    is_kept(rt, alloc, &text, Form::Padded, Kind::Padded(key.len()))
 }
 
 // In the plain form too, and rewraps from form to form.
 fn goes_plain(rt: &impl Abort, alloc: Global, key: &[u8]) -> Result<(), Fail> {
-    let text = wrap(alloc, &SwapHalves, key)?;
-    let back = unwrap(alloc, &SwapHalves, &text)?;
-    let is = kind(alloc, &SwapHalves, &text)?;
-    assert!(rt;
-        back.as_slice() == key && is == Kind::Plain(key.len()),
-        "{} bytes",
-        key.len()
-    );
-    let again = rewrap(
-        alloc,
-        &SwapHalves,
-        Form::Plain,
-        &SwapHalves,
-        Form::Plain,
-        &text,
-    )?;
-    let kept = rewrap_keeping_form(alloc, &SwapHalves, &SwapHalves, &text)?;
-    assert!(rt; again == text && kept == text, "{} bytes", key.len());
-    let padded = rewrap(
-        alloc,
-        &SwapHalves,
-        Form::Plain,
-        &SwapHalves,
-        Form::Padded,
-        &text,
-    )?;
-    let back = rewrap(
-        alloc,
-        &SwapHalves,
-        Form::Padded,
-        &SwapHalves,
-        Form::Plain,
-        &padded,
-    )?;
+    let pair = SwapHalves;
+    let text = wrap(alloc, &pair, key)?;
+    let back = unwrap(alloc, &pair, &text)?;
+    assert!(rt; back.as_slice() == key, "{} bytes", key.len());
+    is_kept(rt, alloc, &text, Form::Plain, Kind::Plain(key.len()))?;
+    let padded = rewrap(alloc, &pair, Form::Plain, &pair, Form::Padded, &text)?;
+    let back = rewrap(alloc, &pair, Form::Padded, &pair, Form::Plain, &padded)?;
     assert!(rt; back == text, "{} bytes", key.len());
     Ok(())
 }
@@ -116,6 +96,21 @@ fn gives_up_for_memory_at_no_length_or_content(rt: HostRuntime) -> Result<(), Fa
                 goes_plain(&rt, rt.alloc(), key)?;
             }
         }
+    }
+    Ok(())
+}
+
+// Each legal length to 4,104 bytes, those around the powers of two, and some fixed ones.
+#[test]
+fn gives_up_for_memory_at_no_length_under_another_value(rt: HostRuntime) -> Result<(), Fail> {
+    let alloc = rt.alloc();
+    let iv = InitialValue::new(OTHER)?;
+    let key = vec![in alloc; 0x5A; MAX_KEY]?;
+    for len in (16..=4_104).step_by(8).chain(FAR) {
+        let key = key.get(..len / 8 * 8).unwrap_or(&[]);
+        let text = wrap_with(alloc, &SwapHalves, &iv, key)?;
+        let again = unwrap_with(alloc, &SwapHalves, &iv, &text)?;
+        assert!(rt; again.as_slice() == key, "{len} bytes");
     }
     Ok(())
 }

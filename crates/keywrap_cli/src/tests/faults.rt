@@ -7,7 +7,7 @@ use crate::job::JobFault;
 use key_files::FileFault;
 use std::test::Fail;
 
-static FAULTS: [(ProgramFault, &str, u8); 34] = [
+static FAULTS: [(ProgramFault, &str, u8); 35] = [
     (ProgramFault::NoLines, "keywrap: no lines", 4),
     (
         ProgramFault::Job(JobFault::KekLength),
@@ -162,6 +162,14 @@ static FAULTS: [(ProgramFault, &str, u8); 34] = [
     (
         ProgramFault::Write { written: 0 },
         "keywrap: output: refused after 0 bytes",
+        6,
+    ),
+    (
+        ProgramFault::Unsent {
+            answered: 2,
+            unsent: 49,
+        },
+        "keywrap: output: refused 49 bytes before the end of line 2",
         6,
     ),
     (ProgramFault::Flush, "keywrap: output: cannot be flushed", 6),

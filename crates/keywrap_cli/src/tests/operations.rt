@@ -6,10 +6,9 @@ use super::jobs::{BAD_LENGTH, HEX_KEK, HEX_TEXT, INTEGRITY, PADDED_KEK, TEXT_OF_
 use super::rewraps::{NEW_KEK, NEW_OF_7, NEW_PADDED, NEW_TEXT};
 use crate::job::JobFault;
 use crate::operation::Operation;
-use crate::refusal::Refusal;
 use crate::rewrapping::Rewrapping;
-use key_lines::{LineFault, RefusalLog, RefusedLine, RunSummary};
-use key_wrap_core::{AgreedForm, Form, RewrapForms};
+use key_lines::{LineFault, RefusalLog, RefusedLine, RunOptions, RunSummary, TextNotation};
+use key_wrap_core::{AgreedForm, Form, RewrapFault, RewrapForms};
 use std::io::BufReader;
 use std::test::Fail;
 
@@ -82,8 +81,8 @@ fn passes_what_is_new_already(rt: HostRuntime) {
 #[derive(Drop)]
 pub struct NoLog;
 
-impl RefusalLog<Refusal> for NoLog {
-    fn receive(&mut self, _refused: &RefusedLine<Refusal>) {}
+impl RefusalLog<RewrapFault> for NoLog {
+    fn receive(&mut self, _refused: &RefusedLine<RewrapFault>) {}
 }
 
 #[test]
@@ -95,13 +94,17 @@ fn counts_the_lines_that_pass(rt: HostRuntime) -> Result<(), Fail> {
     let mut input = BufReader::with_capacity(rt.alloc(), 16, Trickle::in_pieces(lines, 7))?;
     let mut out = Narrow::in_pieces(rt.alloc(), 7);
     let mut operation = operation(PLAIN, HEX_KEK);
-    let run = match operation.run_lines(rt.alloc(), true, &mut NoLog, &mut input, &mut out) {
+    let options = RunOptions {
+        notation: TextNotation::Hex,
+        keep_going: true,
+    };
+    let run = match operation.run_lines(rt.alloc(), options, &mut NoLog, &mut input, &mut out) {
         Ok(outcome) => Ok(outcome.result),
         Err(fault) => Err(fault),
     };
     let first_refused = Some(RefusedLine {
         line: 3,
-        fault: LineFault::Refused(Refusal::BadLength),
+        fault: LineFault::Refused(RewrapFault::BadLength),
     });
     assert!(rt;
         run == Ok(Ok(RunSummary {

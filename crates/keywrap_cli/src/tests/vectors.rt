@@ -1,5 +1,5 @@
-//! The lines of the published vectors, of tables with one changed vector, and over calls of which one
-//! is damaged.
+//! The lines of the published vectors, of tables with one changed vector, and over calls of which
+//! one is damaged.
 
 ghost use Rattle.std.specs.Prelude.{⊤};
 

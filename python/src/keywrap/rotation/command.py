@@ -12,7 +12,6 @@ import time
 from typing import Any, Callable, Dict, Iterable, Iterator, List, Optional, Sequence, Set, Tuple
 
 from . import engine, options as arguments, report as reports
-from .dask import Dask
 from .earlier import Resume, merge
 from .engine import Answer
 from .jobs import Jobs
@@ -23,7 +22,7 @@ from .progress import Progress
 from .record import Reader, Writer, in_order
 from .report import Lines, Report, ReportFailed
 from .schedule import Rate
-from .stores import Store, Unit
+from .stores import Beat, Store, Unit
 
 _ROTATED = "{keys} keys: {old} rewrapped, {keys_new} new before, {keys_refused} refused"
 _COUNTED = "{keys} keys: {old} old, {keys_new} new, {keys_refused} under neither KEK"
@@ -156,6 +155,8 @@ class Run:
 
     def _engine(self, work: Callable[..., Answer], pair: Challenges) -> Any:
         if self.options.dask is not None:
+            from .dask import Dask
+
             return Dask(self.options.dask, work, functools.partial(probe, *pair))
         return Jobs(self.options.jobs, work, self.options.timeout, self.progress.tick)
 
@@ -197,19 +198,19 @@ def _lines(options: argparse.Namespace) -> Optional[Lines]:
 
 
 def _rotate(store: Store, pair: Challenges, whole: bool, pace: engine.Pace, unit: Unit,
-            beat: engine.Beat = engine.no_beat) -> Answer:  # fmt: skip
+            beat: Beat = engine.no_beat) -> Answer:  # fmt: skip
     return engine.rotate_unit(store, unit, pair, whole, beat, pace)
 
 
-def _verify(store: Store, pair: Challenges, unit: Unit, *beat: engine.Beat) -> Answer:
+def _verify(store: Store, pair: Challenges, unit: Unit, *beat: Beat) -> Answer:
     return engine.verify_unit(store, unit, pair, *beat)
 
 
-def _probe(store: Store, pair: Challenges, unit: Unit, *beat: engine.Beat) -> Answer:
+def _probe(store: Store, pair: Challenges, unit: Unit, *beat: Beat) -> Answer:
     return engine.probe_unit(store, unit, pair, *beat)
 
 
-def _count(store: Store, pair: Challenges, unit: Unit, *beat: engine.Beat) -> Answer:
+def _count(store: Store, pair: Challenges, unit: Unit, *beat: Beat) -> Answer:
     return engine.count_unit(store, unit, pair, *beat)
 
 

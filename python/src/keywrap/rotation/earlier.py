@@ -3,7 +3,7 @@
 from __future__ import annotations
 
 import json
-from typing import Any, Dict, Iterable, Iterator, List, Optional, Sequence
+from typing import Any, Dict, Iterable, Iterator, List, Optional, Sequence, Set
 
 from .engine import Answer
 from .keys import Refused
@@ -19,6 +19,8 @@ class Earlier:
         self.option, self.name = option, name
         self.shard = head_of(option, next(self._texts(), ""))
         self.end: Optional[Dict[str, Any]] = None
+        #: The files that were replaced by their parts.
+        self.joined: Set[str] = set()
 
     def _texts(self) -> Iterator[str]:
         try:
@@ -52,7 +54,14 @@ class Earlier:
         for number, line in enumerate(self._lines()):
             self.end = line if "status" in line else None
             if "unit" in line:
+                self.joined |= _files_of(line, is_joined=True)
                 yield f"{line['unit']}\0{number:015}\0{json.dumps(line)}"
+
+
+def _files_of(answer: Answer, *, is_joined: bool) -> Set[str]:
+    """The file that an answer replaced by all its parts, or whose part it has made."""
+    state = answer.get("state")
+    return {state["file"]} if isinstance(state, dict) and state["joined"] == is_joined else set()
 
 
 class Resume:
@@ -74,25 +83,35 @@ class Resume:
 
     def _is_done(self, unit: Unit, answer: Answer) -> bool:
         is_new = answer["outcome"] == "new" and not answer["refused"]
-        return is_new and bool(answer.get("state")) and self.store.is_as(unit, answer["state"])
+        return is_new and isinstance(answer.get("state"), list) and self.store.is_as(unit, answer["state"])
 
 
 def merge(names: Sequence[str], report: Report) -> int:
     """Merges the reports of all shards into one, and returns the exit status for the whole."""
     found: Dict[str, str] = {}
     statuses: List[int] = []
+    waiting: Dict[str, str] = {}
+    joined: Set[str] = set()
     for name in names:
         earlier = Earlier("--merge", name)
         if earlier.shard in found:
             raise Refused(f"--merge: two reports are of shard {earlier.shard}: {found[earlier.shard]} and {name}")
         for answer in earlier.answers():
             report.answer(answer)
+            if answer["outcome"] == "part":
+                waiting.update((file, answer["unit"]) for file in _files_of(answer, is_joined=False))
+        joined |= earlier.joined
         found[earlier.shard] = name
         if earlier.end is None:
             statuses.append(UNFINISHED)
             report.say(f"{name}: its last run did not end: run shard {earlier.shard} again")
         else:
             statuses.append(earlier.end["status"])
+    # They are in the files by now, or are named here.
+    report.tally.outcomes["new"] += report.tally.outcomes.pop("part", 0)
+    for file in sorted(waiting.keys() - joined):
+        statuses.append(UNFINISHED)
+        report.say(f"{waiting[file]}: no run has put the parts together: run all parts again")
     for shard in _missing(found):
         statuses.append(UNFINISHED)
         report.say(f"there is no report of shard {shard}")

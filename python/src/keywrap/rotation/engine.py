@@ -11,8 +11,8 @@ from typing import Any, Callable, Counter, Dict, Iterator, List, Tuple
 
 from . import keks
 from .keks import Challenges
-from .keys import Block, Changed, Elsewhere, Gone, Refused, Unsynced, material, rewrapped, right_names, under_which
-from .stores import Opened, Store, Unit
+from .keys import Again, Block, Changed, Elsewhere, Gone, Refused, Unsynced, material, rewrapped, right_names, under_which
+from .stores import Beat, Opened, Store, Unit
 
 #: How often a unit is rotated again if somebody else wrote it meanwhile.
 ATTEMPTS = 3
@@ -21,8 +21,6 @@ NAMED = 1000
 _BEHIND_SECONDS = 0.5
 
 Answer = Dict[str, Any]
-#: Called for each part of a unit that is done, with its weight. Without weight it is a sign of life.
-Beat = Callable[[int], None]
 #: Called for each block, with its number of keys: returns how many seconds to wait.
 Pace = Callable[[int], float]
 
@@ -38,7 +36,7 @@ def no_pace(keys: int) -> float:
 def answer_of(unit: Unit, outcome: str, why: Any = None, **more: Any) -> Answer:
     """Returns the line of a unit in a report.
 
-    The outcome is new, verified, counted, probed, refused, gone, elsewhere or unanswered.
+    The outcome is new, part, verified, counted, probed, refused, gone, elsewhere or unanswered.
     """
     return {"unit": unit.name, "outcome": outcome, "why": why, "machine": socket.gethostname(), "keys": 0, "passed": 0,
             "refused": 0, "named": [], **more}  # fmt: skip
@@ -97,7 +95,7 @@ def _answered(unit: Unit, attempt: Callable[[], Answer]) -> Answer:
             return answer_of(unit, "gone")
         except Elsewhere:
             return answer_of(unit, "elsewhere")
-        except Unsynced as error:
+        except (Again, Unsynced) as error:
             return answer_of(unit, "unanswered", str(error))
         except Refused as refusal:
             return answer_of(unit, "refused", str(refusal))
@@ -131,8 +129,8 @@ def rotate_unit(store: Store, unit: Unit, pair: Challenges, whole: bool = False,
                 _wait(pace(fresh.keys), beat)
             if whole and count.refused:
                 return count.answer(unit, "refused", why="nothing of it was changed", keys=0)
-            state = opened.replace()
-        return count.answer(unit, "new", passed=count.keys - count.changed - count.refused, state=state)
+            state = opened.replace(beat)
+        return count.answer(unit, opened.outcome, passed=count.keys - count.changed - count.refused, state=state)
 
     return _answered(unit, attempt)
 

@@ -5,8 +5,8 @@ from __future__ import annotations
 
 from typing import Any, Iterator, List, Mapping, NamedTuple, Optional
 
+from .digests import BLOCK
 from .keys import LONGEST, Block, Readable, Refused, Text
-from .replacing import BLOCK
 
 
 class Record(NamedTuple):

@@ -6,10 +6,10 @@ import contextlib
 import os
 from typing import Iterable, Iterator, List, Mapping, Optional, Protocol
 
-from .keys import Block, Changed, Fresh, Readable, Refused
+from .keys import Block, Fresh, Readable, Refused
 from .paths import Paths
-from .replacing import BLOCK, Successor, is_as, new_digest, opened, short, state_of
-from .stores import Opened, Simple, State, Unit
+from .replacing import Content, Successor, is_as, opened, state_of
+from .stores import Beat, Opened, Simple, State, Unit
 
 
 class Format(Protocol):
@@ -20,14 +20,15 @@ class Format(Protocol):
         """Returns the content of the block with the new texts. Everything else stays to the byte."""
 
 
-class _Reader:
-    """Reads from the start. It has no descriptor of its own, which would keep the lock of the file."""
+class Reader:
+    """Reads from the start, or a range. It has no descriptor of its own, which would keep the lock of the file."""
 
-    def __init__(self, descriptor: int) -> None:
-        self.descriptor, self.offset = descriptor, 0
+    def __init__(self, descriptor: int, begin: int = 0, end: Optional[int] = None) -> None:
+        self.descriptor, self.offset, self.end = descriptor, begin, end
 
     def read(self, size: int) -> bytes:
-        content = os.pread(self.descriptor, size, self.offset)
+        left = size if self.end is None else min(size, self.end - self.offset)
+        content = os.pread(self.descriptor, left, self.offset)
         self.offset += len(content)
         return content
 
@@ -35,44 +36,33 @@ class _Reader:
 class _OpenFile:
     """A file, and a new one that begins at the first block with a change."""
 
+    outcome = "new"
+
     def __init__(self, descriptor: int, successor: "_Lazy", files: "Files") -> None:
         self.descriptor, self.successor, self.files = descriptor, successor, files
-        self.digest, self.length = new_digest(), 0
+        self.read = Content()
 
     def blocks(self) -> Iterator[Block]:
-        for block in self.files.format.blocks(_Reader(self.descriptor)):
+        for block in self.files.format.blocks(Reader(self.descriptor)):
             yield block
-            self.digest.update(block.content)
-            self.length += len(block.content)
-        if not self.length:
+            self.read.add(block.content)
+        if not self.read.length:
             raise Refused("no key")
 
     def write(self, block: Block, fresh: Fresh) -> None:
         new = self.successor.made
         if new is None and fresh.changed:
             new = self.successor.make()
-            self._copy(new)
+            for content in self.read.again(self.descriptor):
+                new.write(content)
         if new is not None:
             new.write(self.files.format.joined(block, fresh.texts) if fresh.content is None else fresh.content)
 
-    def _copy(self, new: Successor) -> None:
-        """Copies what was read before this block, and compares it with what was read."""
-        digest, offset = new_digest(), 0
-        while offset < self.length:
-            content = os.pread(self.descriptor, min(BLOCK, self.length - offset), offset)
-            if not content:
-                raise Changed
-            digest.update(content)
-            new.write(content)
-            offset += len(content)
-        if digest.digest() != self.digest.digest():
-            raise Changed
-
-    def replace(self) -> State:
+    def replace(self, beat: Beat) -> State:
         new = self.successor.made
         if new is None:
-            return state_of(self.successor.before, self.digest)
-        new.replace(self.descriptor, short(self.digest), quiesced=self.files.quiesced)
+            return state_of(self.successor.before, self.read.digest)
+        new.replace(self.descriptor, self.read, quiesced=self.files.quiesced)
         return state_of(os.fstat(new.descriptor), new.digest)
 
 

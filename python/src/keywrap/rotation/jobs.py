@@ -12,9 +12,9 @@ from collections import deque
 from multiprocessing.connection import Connection, wait
 from typing import Callable, Deque, Dict, Iterable, Iterator, List, Tuple
 
-from .engine import Answer, Beat, answer_of
+from .engine import Answer, answer_of
 from .keks import WrongKeks
-from .stores import Unit
+from .stores import Beat, Unit
 
 #: The units of a block at most, and how far a unit may be ahead of the first one that is not answered.
 LARGEST, WINDOW = 64, 10000

@@ -100,6 +100,10 @@ class Elsewhere(Exception):
     """Another run is at work on the unit, or has done it."""
 
 
+class Again(Exception):
+    """Other runs have to do their parts again."""
+
+
 class Unsynced(Exception):
     """The unit is new, but the system could not sync it."""
 
@@ -119,25 +123,23 @@ def _are_done(statuses: bytearray) -> bool:
 
 
 class HexLines(NamedTuple):
-    """The keys of lines that all have one length, behind each other. They are decoded and encoded at once."""
+    """The keys of lines that all have one length, behind each other. They are decoded and encoded at once.
 
-    keys: Union[bytes, bytearray]
+    The check of what was written decodes it by the call that has decoded what was read: keys under the KEK came of it.
+    """
+
+    keys: bytearray
     length: int
 
     @staticmethod
     def of(content: bytes) -> Optional["HexLines"]:
-        """Returns the keys if each line is hex digits and LF, and all are equally long."""
+        """Returns the keys if each line is hex digits and LF, and all are as long as the same wrapped key."""
         size = content.find(b"\n") + 1
-        count, rest = divmod(len(content), size or 1)
-        # An odd number of digits in each line would be even in all lines together.
-        if size < 3 or size % 2 == 0 or rest or content[size - 1 :: size] != b"\n" * count:
+        length = (size - 1) // 2
+        if size < 3 or length % 8:
             return None
-        try:
-            keys = binascii.unhexlify(content.replace(b"\n", b""))
-        except ValueError:
-            return None
-        # There is no other LF if all else is digits.
-        return HexLines(keys, size // 2) if 2 * len(keys) + count == len(content) else None
+        keys = _many.hex_slots(content, len(content) // size, length)
+        return None if keys is None else HexLines(keys, length)
 
     def each(self) -> List[bytes]:
         keys = bytes(self.keys)
@@ -149,7 +151,7 @@ class HexLines(NamedTuple):
         return all(_are_done(_many.check_slots(kek, keys, self.length)[0]) for keys in some)
 
     def content(self) -> bytes:
-        return binascii.hexlify(self.keys, b"\n", self.length) + b"\n"
+        return _many.hex_text(self.keys, self.length)
 
 
 class Block(NamedTuple):
@@ -290,7 +292,7 @@ class Decoded:
 
 def _all_rewrapped(keks: Keks, lines: HexLines) -> Optional[Fresh]:
     """Rewraps all lines at once, or returns `None` if a key is refused, or is under the new KEK already."""
-    texts = bytearray(lines.keys)
+    texts = lines.keys[:]
     old = keks.old
     if len(old) > 1:  # In most blocks all keys are under one KEK: the first key shows which.
         first = [bytes(texts[: lines.length])]

@@ -5,8 +5,8 @@ from __future__ import annotations
 import io
 from typing import Iterator, List, Mapping
 
+from .digests import BLOCK
 from .keys import BLANKS, LONGEST, Block, HexLines, Readable, Refused, Text, prefix_of
-from .replacing import BLOCK
 
 
 class Lines:

@@ -10,12 +10,14 @@ from typing import Iterator
 from .files import Format
 from .keys import Block, Changed, Fresh, Refused
 from .paths import Shard, in_order, names_in
-from .stores import Opened, Simple, State, Unit
+from .stores import Beat, Opened, Simple, State, Unit
 from .user_commands import Commands
 
 
 class _OpenObject:
     """An object that was got."""
+
+    outcome = "new"
 
     def __init__(self, objects: "Objects", name: str, room: Path) -> None:
         self.objects, self.values, self.new = objects, {"name": name, "file": str(room / "old")}, room / "new"
@@ -34,7 +36,7 @@ class _OpenObject:
             self.is_changed = True
             self.new.write_bytes(self.objects.format.joined(block, fresh.texts))
 
-    def replace(self) -> State:
+    def replace(self, beat: Beat) -> State:
         """Puts the new object, unless the object has another version by now."""
         if self.is_changed:
             try:

@@ -10,19 +10,11 @@ from typing import Any, Optional, Sequence
 import keywrap
 
 from . import kek_sources, keks
-from .csv_column import CsvColumn
 from .files import Files, Format
-from .json_member import JsonMember
 from .keys import Prefix, Prefixed, Refused
 from .lines import Lines, OneKey
-from .objects import Objects
 from .paths import Paths, Shard
-from .postgresql import Postgresql
-from .replication import Replication
-from .rows import Table
-from .sqlite import Sqlite
 from .stores import Store
-from .user_commands import Commands
 
 EPILOG = """Exit status: 0 all keys are under the new KEK; 2 arguments, or a report, a record or a store that belongs to
 other KEKs, were refused; 3 a machine lacks the KEKs of the rotation; 4 the report, record or progress file cannot be
@@ -105,6 +97,8 @@ def _add_stores(parser: argparse.ArgumentParser) -> None:
     parser.add_argument("--files-from", metavar="F", help="take the files whose names are the lines of F")
     parser.add_argument("--shard", metavar="I/N", type=_shard, default=Shard(),
                         help="take part I of N parts of the store: N runs take all of it")  # fmt: skip
+    parser.add_argument("--parts", metavar="DIR", help="with --shard: divide each file of lines itself, and put its part "
+                        "into DIR; the run that makes the last part replaces the file")  # fmt: skip
     parser.add_argument("--quiesced", action="store_true", help="nobody writes the files: replace them even if the "
                         "system cannot exchange names")  # fmt: skip
 
@@ -168,6 +162,11 @@ def _reason(options: argparse.Namespace) -> Optional[str]:
             and options.postgresql is not None and rotates,
         "--shard goes with neither --all-or-nothing nor --merge": options.shard != Shard()
             and (options.merge or options.all_or_nothing and is_table),
+        "--parts goes with a rotation of files of lines only": options.parts is not None and not (is_file and rotates
+            and not (options.one_key or options.csv or options.json or options.notation == "raw")),
+        "--parts needs --shard": options.parts is not None and options.shard.total == 1,
+        "--parts goes with neither --all-or-nothing, --resume nor --dask": options.parts is not None and (
+            options.all_or_nothing or options.resume is not None or options.dask is not None),
         "--kek-name goes with --csv, --json, --table and --postgresql only": options.kek_name and not has_names,
         "--kek-name needs --keks or --new-keks": options.kek_name and not (options.keks or options.new_keks),
         "--keks and --new-keks need --kek-name or --prefix-format": (options.keks or options.new_keks)
@@ -212,26 +211,45 @@ def _notation(options: argparse.Namespace) -> str:
 
 
 def store_of(options: argparse.Namespace) -> Store:
+    """Makes the store. Only what it needs is imported: the others would double the time of the start."""
     notation, column, whole = _notation(options), options.column or "key", bool(options.all_or_nothing)
     paths = Paths(options.files, options.exclude, options.files_from)
     if options.table is not None:
+        from .rows import Table
+        from .sqlite import Sqlite
+
         table = Table(options.table, column, options.id or "rowid", options.kek_name, options.shard)
         return Sqlite(table, notation, whole, paths)
     if options.postgresql is not None:
+        from .postgresql import Postgresql
+        from .replication import Replication
+        from .rows import Table
+
         table = Table(options.postgresql, column, options.id or "id", options.kek_name, options.shard)
         only_reads = verifies(options) or options.dry_run
         return Postgresql(table, notation, whole, only_reads, Replication(table, options.max_lag))
     if options.objects is not None:
+        from .objects import Objects
+        from .user_commands import Commands
+
         # A command is given up before the process that waits for it would be.
         commands = Commands(options.get, options.put, 0.75 * options.timeout)
         return Objects(options.objects, OneKey(notation), commands, options.shard)
+    if options.parts is not None:
+        from .parts import Parts
+
+        return Parts(Lines(notation), paths, options.shard, options.parts, options.quiesced)
     return Files(_format(options, notation), paths._replace(shard=options.shard), options.quiesced)
 
 
 def _format(options: argparse.Namespace, notation: str) -> Format:
     if options.csv is not None:
+        from .csv_column import CsvColumn
+
         return CsvColumn(options.csv, notation, options.kek_name)
     if options.json is not None:
+        from .json_member import JsonMember
+
         return JsonMember(options.json, notation, options.kek_name)
     if options.one_key or notation == "raw":
         return OneKey(notation)
@@ -240,7 +258,7 @@ def _format(options: argparse.Namespace, notation: str) -> Format:
 
 def outside(options: argparse.Namespace) -> None:
     """Refuses an output file that is one of the files, or below them."""
-    for option in ("report", "resume", "record", "progress_file", "verify_record", "objects", "files_from"):
+    for option in ("report", "resume", "record", "progress_file", "verify_record", "objects", "files_from", "parts"):
         name: Any = getattr(options, option)
         path = None if name is None else os.path.realpath(name)
         if path and any((path + os.sep).startswith(os.path.realpath(file) + os.sep) for file in options.files):

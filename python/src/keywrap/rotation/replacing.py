@@ -11,22 +11,18 @@ import contextlib
 import ctypes
 import errno
 import fcntl
-import hashlib
 import os
-import platform
 import re
 import secrets
 import stat
 import time
 from typing import Any, Iterator, Optional, Tuple
 
+from .digests import BLOCK, DIGITS, Digest, digest_of, digests_of, is_of, named, new_digest, short
 from .keys import Changed, Gone, Refused, Unsynced
 
-#: How much is read at once. The buffers of a block stay in a processor's cache.
-BLOCK = 1 << 16
 #: How many seconds a rotation waits for another process that has locked a file.
 LOCK_SECONDS = 60.0
-_DIGITS = 24
 _NAME = re.compile(rb"\.rotating\.[0-9a-f]{8}\.([0-9a-f]{24})\.([0-9a-f]{24})\.(.+)", re.DOTALL)
 _EXCHANGE = 2
 _CALLS = {"x86_64": 316, "aarch64": 276}
@@ -39,7 +35,7 @@ class NoExchange(Refused):
 
 def exchange(one: bytes, other: bytes) -> None:
     """Exchanges two names in one step, or raises `NoExchange` or `OSError`."""
-    number = _CALLS.get(platform.machine())
+    number = _CALLS.get(os.uname().machine)
     if number is None:
         raise NoExchange(_WITHOUT)
     if _libc.syscall(number, -100, ctypes.c_char_p(one), -100, ctypes.c_char_p(other), _EXCHANGE) == 0:
@@ -52,32 +48,39 @@ def exchange(one: bytes, other: bytes) -> None:
 _WITHOUT = "this file system cannot exchange two files: stop all writers, then use --quiesced"
 
 
-def new_digest() -> "hashlib._Hash":
-    """Returns a BLAKE2b digest for the content of a file. OpenSSL's takes 0.8 of the time of Python's own."""
-    try:
-        return hashlib.new("blake2b512")
-    except ValueError:
-        return hashlib.blake2b()
+class Content:
+    """What was read of a file by now."""
+
+    def __init__(self) -> None:
+        self.digest, self.length = new_digest(), 0
+
+    def add(self, part: bytes) -> None:
+        self.digest.update(part)
+        self.length += len(part)
+
+    def is_in(self, descriptor: int) -> bool:
+        """Whether this is the whole content of the file."""
+        return digest_of(descriptor) == short(self.digest)
+
+    def again(self, descriptor: int) -> Iterator[bytes]:
+        """Yields the content: reads it again, and compares it. Raises `Changed`."""
+        digest, offset = new_digest(), 0
+        while offset < self.length:
+            part = os.pread(descriptor, min(BLOCK, self.length - offset), offset)
+            if not part:
+                raise Changed
+            digest.update(part)
+            yield part
+            offset += len(part)
+        if digest.hexdigest() != self.digest.hexdigest():
+            raise Changed
 
 
-def digest_of(descriptor: int) -> str:
-    """Returns the digest of the whole file."""
-    digest, offset = new_digest(), 0
-    while block := os.pread(descriptor, BLOCK, offset):
-        digest.update(block)
-        offset += len(block)
-    return short(digest)
-
-
-def short(digest: "hashlib._Hash") -> str:
-    return digest.hexdigest()[:_DIGITS]
-
-
-def _lock(descriptor: int) -> None:
+def lock(descriptor: int, kind: int = fcntl.LOCK_EX) -> None:
     until = time.monotonic() + LOCK_SECONDS
     while True:
         try:
-            return fcntl.flock(descriptor, fcntl.LOCK_EX | fcntl.LOCK_NB)
+            return fcntl.flock(descriptor, kind | fcntl.LOCK_NB)
         except BlockingIOError:
             if time.monotonic() > until:
                 raise Refused("another program has locked it") from None
@@ -85,7 +88,7 @@ def _lock(descriptor: int) -> None:
 
 
 @contextlib.contextmanager
-def opened(path: bytes) -> Iterator[Tuple[int, os.stat_result]]:
+def opened(path: bytes, *, is_shared: bool = False) -> Iterator[Tuple[int, os.stat_result]]:
     """Opens and locks a regular file with one name. Raises `Gone`, `Changed` or `Refused`."""
     try:
         before = os.lstat(path)
@@ -100,8 +103,8 @@ def opened(path: bytes) -> Iterator[Tuple[int, os.stat_result]]:
     except FileNotFoundError:
         raise Gone from None
     try:
-        _lock(descriptor)
-        if _identity(os.fstat(descriptor)) != _identity(before) or not _has_name(path, before):
+        lock(descriptor, fcntl.LOCK_SH if is_shared else fcntl.LOCK_EX)
+        if _identity(os.fstat(descriptor)) != _identity(before) or not has_name(path, before):
             raise Changed
         yield descriptor, before
     finally:
@@ -114,7 +117,7 @@ def _identity(status: os.stat_result) -> Tuple[int, ...]:
             status.st_mtime_ns)  # fmt: skip
 
 
-def _has_name(path: bytes, status: os.stat_result) -> bool:
+def has_name(path: bytes, status: os.stat_result) -> bool:
     """Whether this name belongs to this file, unwritten."""
     try:
         return _identity(os.lstat(path)) == _identity(status)
@@ -142,6 +145,12 @@ def _keep_access(new: int, before: os.stat_result) -> None:
         raise Refused("its owner, group or mode cannot be kept")
 
 
+def write_all(descriptor: int, content: bytes) -> None:
+    view = memoryview(content)
+    while view:
+        view = view[os.write(descriptor, view) :]
+
+
 class Successor:
     """A new file that takes the place of another one. It has no name before `replace`, if the system can do that."""
 
@@ -150,7 +159,7 @@ class Successor:
         self.directory = os.path.dirname(path) or b"."
         self.name: Optional[bytes] = None
         self.digest = new_digest()
-        if len(self._temporary("0" * _DIGITS, "0" * _DIGITS)) > 255:
+        if len(self._temporary("0" * DIGITS, "0" * DIGITS)) > 255:
             raise Refused("its name is too long for a temporary name beside it")
         try:
             self.descriptor = os.open(self.directory, os.O_TMPFILE | os.O_RDWR | os.O_CLOEXEC, 0o600)
@@ -158,7 +167,7 @@ class Successor:
             if error.errno not in (errno.EOPNOTSUPP, errno.EISDIR, errno.EINVAL):
                 raise
             # Whoever finds this name after a kill finds an unfinished file.
-            self.name = os.path.join(self.directory, self._temporary("0" * _DIGITS, "0" * _DIGITS))
+            self.name = os.path.join(self.directory, self._temporary("0" * DIGITS, "0" * DIGITS))
             self.descriptor = os.open(self.name, os.O_CREAT | os.O_EXCL | os.O_RDWR | os.O_CLOEXEC, 0o600)
         fcntl.flock(self.descriptor, fcntl.LOCK_EX)
 
@@ -168,9 +177,7 @@ class Successor:
 
     def write(self, content: bytes) -> None:
         self.digest.update(content)
-        view = memoryview(content)
-        while view:
-            view = view[os.write(self.descriptor, view) :]
+        write_all(self.descriptor, content)
 
     def close(self) -> None:
         """Removes the new file unless it has taken its place."""
@@ -179,15 +186,15 @@ class Successor:
                 os.unlink(self.name)
         os.close(self.descriptor)
 
-    def replace(self, old: int, read: str, *, quiesced: bool = False) -> None:
-        """Puts the new file in the place of the old one, whose content had the digest `read`, or raises `Changed`."""
+    def replace(self, old: int, read: Content, *, quiesced: bool = False) -> None:
+        """Puts the new file in the place of the old one, whose content was `read`, or raises `Changed`."""
         _keep_access(self.descriptor, self.before)
         os.fsync(self.descriptor)
-        if not _has_name(self.path, self.before):
+        if not has_name(self.path, self.before):
             raise Changed
         if quiesced:
             return self._rename(old, read)
-        self._give_name(read)
+        self._give_name(short(read.digest))
         assert self.name is not None
         try:
             exchange(self.name, self.path)
@@ -195,16 +202,16 @@ class Successor:
             raise Changed from None
         # From here the temporary name belongs to what came out.
         came_out, self.name = self.name, None
-        if not _has_name(came_out, self.before) or digest_of(old) != read:
+        if not has_name(came_out, self.before) or not read.is_in(old):
             self._put_back(came_out)
             raise Changed
         _finish_replacing(self.directory, came_out)
 
-    def _rename(self, old: int, read: str) -> None:
+    def _rename(self, old: int, read: Content) -> None:
         """Replaces the file without an exchange. A write at this moment would be lost."""
-        if digest_of(old) != read:
+        if not read.is_in(old):
             raise Changed
-        self._give_name(read)
+        self._give_name(short(read.digest))
         assert self.name is not None
         os.rename(self.name, self.path)
         self.name = None
@@ -240,13 +247,17 @@ def _finish_replacing(directory: bytes, old: Optional[bytes]) -> None:
     try:
         if old is not None:
             os.unlink(old)
-        descriptor = os.open(directory, os.O_RDONLY | os.O_DIRECTORY | os.O_CLOEXEC)
-        try:
-            os.fsync(descriptor)
-        finally:
-            os.close(descriptor)
+        sync_directory(directory)
     except OSError as error:
         raise Unsynced(f"it is new, but was not synced: {error.strerror}") from None
+
+
+def sync_directory(directory: bytes) -> None:
+    descriptor = os.open(directory, os.O_RDONLY | os.O_DIRECTORY | os.O_CLOEXEC)
+    try:
+        os.fsync(descriptor)
+    finally:
+        os.close(descriptor)
 
 
 def replace(path: str, new_bytes: bytes, *, old_bytes: bytes) -> None:
@@ -260,10 +271,9 @@ def replace(path: str, new_bytes: bytes, *, old_bytes: bytes) -> None:
     name = os.fsencode(path)
     try:
         with opened(name) as (old, before):
-            digest = new_digest()
-            digest.update(old_bytes)
-            read = short(digest)
-            if digest_of(old) != read:
+            read = Content()
+            read.add(old_bytes)
+            if not read.is_in(old):
                 raise Changed
             successor = Successor(name, before)
             try:
@@ -277,9 +287,9 @@ def replace(path: str, new_bytes: bytes, *, old_bytes: bytes) -> None:
         raise Refused("No such file or directory") from None
 
 
-def state_of(status: os.stat_result, digest: "hashlib._Hash") -> Tuple[int, int, str]:
+def state_of(status: os.stat_result, digest: Digest) -> Tuple[int, int, str]:
     """The size and the time of a file, and the digest of its content."""
-    return status.st_size, status.st_mtime_ns, short(digest)
+    return status.st_size, status.st_mtime_ns, named(digest)
 
 
 def is_as(path: bytes, state: Any) -> bool:
@@ -289,7 +299,7 @@ def is_as(path: bytes, state: Any) -> bool:
         if [status.st_size, status.st_mtime_ns, stat.S_ISREG(status.st_mode)] == [*state[:2], True]:
             descriptor = os.open(path, os.O_RDONLY | os.O_NOFOLLOW | os.O_CLOEXEC)
             try:
-                return bool(digest_of(descriptor) == state[2])
+                return is_of(descriptor, state[2])
             finally:
                 os.close(descriptor)
     return False
@@ -322,14 +332,14 @@ def recover(directory: bytes, name: bytes) -> Optional[str]:
 def _finish(temporary: bytes, descriptor: int, base: bytes, digests: Tuple[str, str]) -> Optional[str]:
     """The killed run did not exchange the names, or what came out is what was read; or it has to be put back."""
     read, new = digests
-    if not _has_name(temporary, os.fstat(descriptor)):
+    if not has_name(temporary, os.fstat(descriptor)):
         return None
-    if new != "0" * _DIGITS and digest_of(descriptor) in (read, new):
+    if new != "0" * DIGITS and {read, new} & set(digests_of(descriptor)):
         os.unlink(temporary)
         return None
     try:
         with opened(base) as (current, _):
-            if digest_of(current) != new:
+            if new not in digests_of(current):
                 return "a killed run left it, and it is not what that run wrote: compare it with the file"
             exchange(temporary, base)
             if not _is(temporary, current):

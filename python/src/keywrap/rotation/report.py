@@ -166,6 +166,8 @@ class Report:
         more = f", {not_begun} not begun" if not_begun else ""
         units = f"{counts['done']} done, {counts['refused']} refused, {counts['gone']} gone"
         old = counts["keys"] - counts["keys_new"] - counts["keys_refused"]
+        if tally.outcomes["part"]:
+            self.say(f"{tally.outcomes['part']} {noun} wait for the runs that make their other parts")
         for label, number in sorted(tally.under.items()):
             self.say(f"{number} keys were under {label}")
         self.say(f"{noun}: {units}, {counts['unanswered']} unanswered{more}; {words.format(old=old, **counts)}")

@@ -6,7 +6,7 @@ from typing import Any, Iterable, Iterator, List, NamedTuple, Optional, Protocol
 
 from .keys import BLANKS, LONGEST, Block, Changed, Fresh, Refused, Text
 from .paths import Shard
-from .stores import Simple, State
+from .stores import Beat, Simple, State
 
 #: How many rows a unit has at most, and how many bytes a block has about.
 ROWS, BLOCK_BYTES = 1000, 1 << 20
@@ -89,6 +89,8 @@ class Driver(Protocol):
 class OpenRows:
     """A range that is being read. A whole table is written block by block, in a transaction that locks it."""
 
+    outcome = "new"
+
     def __init__(self, driver: Driver, notation: str, whole: bool, may_be_empty: bool) -> None:
         self.driver, self.notation, self.whole, self.may_be_empty = driver, notation, whole, may_be_empty
         self.writes: List[List[Write]] = []
@@ -135,7 +137,7 @@ class OpenRows:
             self.are_left |= done < len(writes)
         self.writes = []
 
-    def replace(self) -> State:
+    def replace(self, beat: Beat) -> State:
         self._put()
         if not self.driver.commit(self.refused, self.are_left):
             raise Changed

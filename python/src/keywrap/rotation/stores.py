@@ -2,7 +2,7 @@
 
 from __future__ import annotations
 
-from typing import Any, ContextManager, Iterable, Iterator, NamedTuple, Optional, Protocol, Tuple
+from typing import Any, Callable, ContextManager, Dict, Iterable, Iterator, NamedTuple, Protocol, Tuple, Union
 
 from .keks import Challenges
 from .keys import Block, Fresh
@@ -19,12 +19,19 @@ class Unit(NamedTuple):
     group: str = ""
 
 
-#: The size, the time and the digest of a unit, or `None` if a store has none.
-State = Optional[Tuple[int, int, str]]
+#: The size, the time and the digest of a unit; of a part, its file, and whether that was replaced; or `None`.
+State = Union[Tuple[int, int, str], Dict[str, Any], None]
+
+
+#: Called for each part of a unit that is done, with its weight. Without weight it is a sign of life.
+Beat = Callable[[int], None]
 
 
 class Opened(Protocol):
     """A unit that is being read. What `write` was given counts only after `replace`."""
+
+    #: After `replace`: new, or part if other runs have to do theirs before the store has it.
+    outcome: str
 
     def blocks(self) -> Iterator[Block]:
         """Reads the keys from the start."""
@@ -32,7 +39,7 @@ class Opened(Protocol):
     def write(self, block: Block, fresh: Fresh) -> None:
         """Takes what a block becomes."""
 
-    def replace(self) -> State:
+    def replace(self, beat: Beat) -> State:
         """Replaces what was read, or raises `Changed`. Returns how a later run can tell that nobody wrote it since."""
 
 

@@ -10,23 +10,22 @@ use Rattle.key_wrap.proofs.padded.unwrap_padded_on.Goals as goal
 
 pub returns-then-not-padded_text_length_ok : goal.returns-then-not-padded_text_length_ok
 returns-then-not-padded_text_length_ok g c =
-    let E = g.B.BlockPair.encrypted c.args.pair.now in
+    let E = g.B.BlockPair.encrypted c.args.meter.now.pair in
     unwrap_refused InPadded E c.args.text.now
-    (λ key h. padded_text_legal (g.met.B.BlockPair.lawful c.args.pair.now) h)
+    (λ key h. padded_text_legal (g.met.B.BlockPair.lawful c.args.meter.now.pair) h)
     (λ legal. true_or_false c.if-not-padded_text_length_ok.true (c.padded_text_length_ok.ensures.1 legal))
 
 pub returns-in_err-len : goal.returns-in_err-len
 returns-in_err-len g c =
-    let E = g.B.BlockPair.encrypted c.args.pair.now in
+    let E = g.B.BlockPair.encrypted c.args.meter.now.pair in
     let text : List ℕ = c.args.text.now in
     let legal = c.padded_text_length_ok.ensures.0 c.if-not-padded_text_length_ok.false in
     let room : List ℕ = c.deref_mut.result.now in
     let size : length room ≡ length text - 8 = c.deref_mut.ensures.len ∙ c.in_ok-key.ensures.len in
     let lengths : ArePaddedLengths (length room) (length text) = (legal, omega arith) in
-    let own = ap (λ m. m.pair) c.new.ensures in
-    let w = refused (Padded (g.B.BlockPair.encrypted c.new.result.pair)) (ArePaddedLengths (length room) (length text)) (λ (m : ℕ). take m c.unwrap_padded_into.new.key) text
+    let w = refused (Padded (g.B.BlockPair.encrypted c.args.meter.now.pair)) (ArePaddedLengths (length room) (length text)) (λ (m : ℕ). take m c.unwrap_padded_into.new.key) text
     c.in_err-len.field-0.0 c.from_residual-in_err-len.result lengths c.in_err-len.ensures.unwraps.answer c.from_residual-in_err-len.ensures in
-    unwrap_none InPadded E text c.from_residual-in_err-len.result legal w.0 (rw own at w.1)
+    unwrap_none InPadded E text c.from_residual-in_err-len.result legal w.0 w.1
 
 pub returns : goal.returns
 returns g c =
@@ -34,8 +33,7 @@ returns g c =
     let new : List ℕ = c.unwrap_padded_into.new.key in
     let back = written_back c.in_ok-key.key.len new c.in_ok-key.key.items (omega arith) in
     let key : c.truncate.new.self.items ≡ take c.in_ok-len.len new = c.truncate.ensures.items ∙ ap (take c.in_ok-len.len) back in
-    let own = ap (λ m. m.pair) c.new.ensures in
-    let w = rw own at c.in_ok-len.ensures.unwraps in
+    let w = c.in_ok-len.ensures.unwraps in
     record {
       bad_length = (λ e. ok_or_err e, λ bad. absurd (bad legal));
       answer = (legal, rw key w.answer.1);

@@ -1,5 +1,5 @@
 -- The buffer has the length of the wrapped key, so what is written into it is returned.
-use Rattle.std.proofs.Common.{arith, ap}
+use Rattle.std.proofs.Common.{arith}
 use Rattle.key_wrap_core.proofs.Refusals.{ok_or_err}
 use Rattle.key_wrap.proofs.Promises.{written_back}
 use Rattle.key_wrap.proofs.padded.wrap_padded_on.Goals as goal
@@ -8,8 +8,7 @@ pub returns : goal.returns
 returns g c =
     let legal = c.padded_length_ok.ensures.0 c.if-not-padded_length_ok.false in
     let back = written_back c.in_ok-text.text.len c.wrap_padded_into.new.text c.in_ok-text.text.items (omega arith) in
-    let own = ap (λ m. m.pair) c.new.ensures in
-    let w = rw (own, c.unwrap.ensures) at c.wrap_padded_into.ensures.wraps in
+    let w = rw c.unwrap.ensures at c.wrap_padded_into.ensures.wraps in
     record {
       bad_length = (λ e. ok_or_err e, λ bad. absurd (bad legal));
       memory = λ e. legal;

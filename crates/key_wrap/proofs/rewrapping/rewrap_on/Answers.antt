@@ -12,7 +12,7 @@ pub returns-then-not-rewrap_length_ok : goal.returns-then-not-rewrap_length_ok
 returns-then-not-rewrap_length_ok g c =
     let text : List ℕ = c.args.text.now in
     let illegal : ¬ IsOldLength c.args.forms.now (length text) = λ legal. true_or_false c.if-not-rewrap_length_ok.true (c.rewrap_length_ok.ensures.1 legal) in
-    let results = results_of (g.N.BlockPair.encrypted c.args.new.now) _ c.args.forms.now text text (Err BadLength) (g.met.O.BlockPair.lawful c.args.old.now)
+    let results = results_of (g.N.BlockPair.encrypted c.args.new.now.pair) _ c.args.forms.now text text (Err BadLength) (g.met.O.BlockPair.lawful c.args.old.now.pair)
     (refused_length c.args.forms.now _ _ text illegal) in
     record {
       memory = λ e. cc;
@@ -23,9 +23,7 @@ returns-then-not-rewrap_length_ok g c =
 pub returns-in_err-rewrap : goal.returns-in_err-rewrap
 returns-in_err-rewrap g c =
     let same : c.deref_mut.result.now ≡ c.args.text.now = c.deref_mut.ensures.value ∙ c.in_ok-buffer.ensures.items in
-    let own = ap (λ m. m.pair) c.new-unwraps.ensures in
-    let own' = ap (λ m. m.pair) c.new-wraps.ensures in
-    let results = rw (own, own', same) at c.in_err-rewrap.ensures.results in
+    let results = rw same at c.in_err-rewrap.ensures.results in
     let is = refused_rewrap c.in_err-rewrap.field-0.0 c.from_residual-in_err-rewrap.result c.from_residual-in_err-rewrap.ensures in
     rw is.0 (record {
       memory = λ e. absurd (is.1 (is.0 ∙ e));
@@ -37,12 +35,10 @@ pub returns : goal.returns
 returns g c =
     let text : List ℕ = c.args.text.now in
     let same : c.deref_mut.result.now ≡ text = c.deref_mut.ensures.value ∙ c.in_ok-buffer.ensures.items in
-    let own = ap (λ m. m.pair) c.new-unwraps.ensures in
-    let own' = ap (λ m. m.pair) c.new-wraps.ensures in
     let new : List ℕ = c.rewrap.new.buf in
     let size : length new ≡ length text = search rules in
     let back = written_back c.in_ok-buffer.buffer.len new c.in_ok-buffer.buffer.items (omega arith) in
-    let results = rw (own, own', same) at c.in_ok-rewrap.ensures.results in
+    let results = rw same at c.in_ok-rewrap.ensures.results in
     record {
       memory = λ e. cc;
       results = λ some. (Ok c.in_ok-rewrap.field-0, new, results, back);

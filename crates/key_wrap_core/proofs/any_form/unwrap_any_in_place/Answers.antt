@@ -5,7 +5,6 @@ use Rattle.block_pair.specs.Metered.{counted}
 use Rattle.key_wrap_core.specs.Words.{word_bytes}
 use Rattle.key_wrap_core.specs.Calls.{block_calls}
 use Rattle.key_wrap_core.proofs.Refusals.{true_or_false}
-use Rattle.key_wrap_core.proofs.Spelling.{read_word, each_byte}
 use Rattle.key_wrap_core.proofs.InPlaceForm.{first_cleared}
 use Rattle.key_wrap_core.proofs.Unwrappings.{ok_legal, behind_zeros}
 use Rattle.key_wrap_core.proofs.EitherForms.{either_legal}
@@ -19,11 +18,10 @@ returns-then-not-padded_text_length_ok-clause-accepts g c = λ form key h.
 pub returns : goal.returns
 returns g c =
     let text : List ℕ = c.args.buf.now in
-    let c0 : ℕ = c.read_u64-c0.result in
+    let c0 : ℕ = c.take_first-c0.result in
     let legal = c.padded_text_length_ok.ensures.0 c.if-not-padded_text_length_ok.false in
-    let front : word_bytes c0 ≡ take 8 text = read_word text c0 (omega arith) (each_byte text (search rules)) c.read_u64-c0.ensures in
     let registers : List ℕ = c.unwrap_any_registers.new.registers in
-    let states = first_cleared c0 text c.fill.new.self registers (omega arith) front (c.fill.ensures.after (λ y e. e)) (search rules) in
+    let states = first_cleared c0 text c.take_first-c0.new.buf registers (omega arith) c.take_first-c0.ensures.first c.take_first-c0.ensures.cleared in
     let r = c.unwrap_any_registers.result in
     let w = rw (states.given, c.word.ensures.value) at c.unwrap_any_registers.ensures in
     let u = w.unwraps in

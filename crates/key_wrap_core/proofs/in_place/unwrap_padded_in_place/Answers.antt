@@ -7,7 +7,6 @@ use Rattle.key_wrap_core.specs.Words.{word_bytes}
 use Rattle.key_wrap_core.specs.Lengths.{IsPaddedTextLength}
 use Rattle.key_wrap_core.specs.InPlace.{key_in}
 use Rattle.key_wrap_core.proofs.Refusals.{true_or_false}
-use Rattle.key_wrap_core.proofs.Spelling.{read_word, each_byte}
 use Rattle.key_wrap_core.proofs.FormLengths.{padded_text_legal}
 use Rattle.key_wrap_core.proofs.InPlaceForm.{first_cleared}
 use Rattle.key_wrap_core.proofs.Unwrappings.{renamed, ok_legal, behind_zeros}
@@ -22,11 +21,9 @@ pub returns : goal.returns
 returns g c =
     let text : List ℕ = c.args.buf.now in
     let legal = c.padded_text_length_ok.ensures.0 c.if-not-padded_text_length_ok.false in
-    let front : word_bytes c.read_u64-c0.result ≡ take 8 text =
-    read_word text c.read_u64-c0.result (omega arith) (each_byte text (search rules)) c.read_u64-c0.ensures in
     let registers : List ℕ = c.unwrap_padded_registers.new.registers in
     let w = c.unwrap_padded_registers.ensures in
-    let states = first_cleared c.read_u64-c0.result text c.fill.new.self registers (omega arith) front (c.fill.ensures.after (λ y e. e)) (search rules) in
+    let states = first_cleared c.take_first-c0.result text c.take_first-c0.new.buf registers (omega arith) c.take_first-c0.ensures.first c.take_first-c0.ensures.cleared in
     let u = renamed IsPaddedTextLength {key = λ (m : ℕ). take m registers} states.given
     (ap (λ (bs : List ℕ). λ (m : ℕ). key_in m bs) (sym states.left)) w.answer in
     record {

@@ -1,20 +1,20 @@
--- The key has one text.
+-- The machine runs from the initial value and the key after the first word.
+use Rattle.std.proofs.Common.{ℕ, List, drop, ◌++◌, arith, refl, length-drop}
+use Rattle.key_wrap_core.specs.declared.forms.Form.TheVariants as forms
+use Rattle.key_wrap_core.specs.Words.{word_bytes}
+use Rattle.key_wrap_core.specs.Plain.{default_iv}
 use Rattle.key_wrap_core.proofs.Refusals.{ok_or_err}
-use Rattle.key_wrap_core.proofs.BothForms.{not_both_forms}
-use Rattle.key_wrap_core.proofs.PlainForm.{default_free, plain_only_text}
+use Rattle.key_wrap_core.proofs.PlainForm.{default_free}
+use Rattle.key_wrap_core.proofs.EitherForms.{wraps_found}
 use Rattle.key_wrap_core.proofs.in_place.wrap_in_place.Goals as goal
 
 pub returns : goal.returns
 returns g c =
-    let w = c.wrap_buffer.ensures in
+    let old : List ℕ = c.args.buf.now in
+    let legal = c.text_length_ok.ensures.0 c.if-not-text_length_ok.false in
+    let size = length-drop 8 old in
     record {
-      wraps = record {
-        bad_length = (λ e. ok_or_err e, λ bad. absurd (bad (c.text_length_ok.ensures.0 c.if-not-text_length_ok.false)));
-        only_fault = tt;
-        kept = λ e. ok_or_err e;
-        answer = w.answer;
-        only_text = λ other k. plain_only_text w.answer k;
-        other_form = λ other k. not_both_forms (g.met.B.BlockPair.lawful c.args.meter.now.pair) default_free w.answer k;
-      };
-      calls = record { kept = λ e. ok_or_err e; counts = λ _. w.calls };
+      wraps = wraps_found default_iv forms.Plain (drop 8 old) (word_bytes default_iv ++ drop 8 old) old c.wrap_buffer.new.buf
+          (g.met.B.BlockPair.lawful c.args.meter.now.pair) default_free legal ((omega arith, omega arith, omega arith), refl, omega arith) c.wrap_buffer.ensures.wrapped;
+      calls = record { kept = λ e. ok_or_err e; counts = λ _. c.wrap_buffer.ensures.calls };
     }

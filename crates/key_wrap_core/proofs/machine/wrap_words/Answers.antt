@@ -24,7 +24,7 @@ loop-done-preserved g c =
     let same : length c.loop-done.registers ≡ length c.args.registers.now = c.loop-done.auto.registers in
     let encrypted : c.enc.result ≡ E c.loop-done.block = rw kept at c.enc.ensures.answer in
     record {
-      state = more_stepped (λ e. absurd (omega (arith, e, same, c.requires.more)))
+      state = more_stepped (λ e. absurd (omega (arith, e, same, c.requires.1)))
           (λ h. c.step_words-block.ensures E c.args.iv c.args.registers.now c.loop-done.block h encrypted) (search rules) so_far.state;
       calls = called_next c.loop-done.done (c.loop-done.done + 1) c.args.meter.now c.loop-done.meter c.enc.new.self so_far.calls (search rules) refl;
     }
@@ -34,7 +34,7 @@ returns-clause-wrapped g c =
     let block : List ℕ = c.loop-done.block in
     let registers : List ℕ = c.loop-done.registers in
     let same : length registers ≡ length c.args.registers.now = c.loop-done.auto.registers in
-    let all : c.loop-done.done ≡ block_calls (8 + length registers) = rw same (omega (arith, more_calls (length c.args.registers.now) c.requires.more)) in
+    let all : c.loop-done.done ≡ block_calls (8 + length registers) = rw same (omega (arith, more_calls (length c.args.registers.now) (omega (arith, c.requires.1)))) in
     let state = c.loop-done.invariant.state in
     let whole : IsBlock block = state_block (g.met.B.BlockPair.lawful c.args.meter.now.pair) all state in
     let front : word_bytes c.read_u64.result ≡ take 8 block =

@@ -6,7 +6,7 @@ use Rattle.key_wrap_core.proofs.Rewraps.{holds_plain}
 use Rattle.key_wrap_core.proofs.rewrapping.new_iv.Goals as goal
 
 pub returns-in-Plain-Padded : goal.returns-in-Plain-Padded
-returns-in-Plain-Padded c = rw (c.in-Changed.is, c.in-Plain-Padded.is-0, c.in-Plain-Padded.is-1, c.initial_value.ensures) (λ form from key holds fits.
+returns-in-Plain-Padded c = rw (c.in-Changed.is, c.in-Plain-Padded.is-0, c.in-Plain-Padded.is-1, c.padded_iv.ensures) (λ form from key holds fits.
     to_padded _ c.args.iv c.args.registers.now key (search rules) (rw from at holds))
 
 pub returns-in-Plain-Plain : goal.returns-in-Plain-Plain

@@ -1,47 +1,56 @@
 -- What was refused is what it was, so the new pair unwraps the text.
-use Rattle.std.proofs.Common.{rules, ◌≡◌, ℕ, List, refl, ◌∙◌}
+use Rattle.std.proofs.Common.{rules, ◌≡◌, ◌++◌, ℕ, List, drop, refl}
 use Rattle.key_wrap_core.specs.declared.rewrapping.RewrapFault.TheVariants.{KeyNotPlain}
-use Rattle.key_wrap_core.proofs.Rewraps.{no_old}
+use Rattle.key_wrap_core.specs.Words.{word_bytes}
+use Rattle.key_wrap_core.specs.PaddedRegisters.{PaddedRegisters}
+use Rattle.key_wrap_core.specs.Rewrap.{to_itself}
+use Rattle.key_wrap_core.proofs.PaddedForm.{padded_registers_forward}
+use Rattle.key_wrap_core.proofs.Rewraps.{old_of, no_old}
 use Rattle.key_wrap_core.proofs.Results.{results_of}
 use Rattle.key_wrap_core.proofs.rewrapping.rewrap.Goals as goal
 
-pub returns-then-is_wrapped-clause-rewraps : goal.returns-then-is_wrapped-clause-rewraps
-returns-then-is_wrapped-clause-rewraps g c =
+pub returns-then-not-pass_new-clause-rewraps : goal.returns-then-not-pass_new-clause-rewraps
+returns-then-not-pass_new-clause-rewraps g c = search rules
+
+pub returns-in-Ok-find-clause-rewraps : goal.returns-in-Ok-find-clause-rewraps
+returns-in-Ok-find-clause-rewraps g c =
     let text : List ℕ = c.args.buf.now in
-    let inv = g.met.O.BlockPair.lawful c.args.old.now.pair in
     let refused = c.in-Err.ensures.rewraps in
     let other : ¬ (c.in-Err.fault ≡ KeyNotPlain) = search rules in
-    let new = rw (c.to_itself.ensures, refused.1, c.in-Err.ensures.new_meter_kept refl) at (c.is_wrapped.ensures.is c.if-is_wrapped.true) in
-    (c.if-pass_new.true, record { no_old = no_old c.args.forms.now text c.in-Err.fault inv refused.0 other; new = new }, c.is_wrapped.ensures.same ∙ refused.1)
+    let w = rw (c.to_itself.ensures, refused.1, c.in-Err.ensures.calls.new_unasked refl refl) at c.in-Ok-find.ensures in
+    let run : PaddedRegisters (g.N.BlockPair.encrypted c.find.new.meter.pair) (word_bytes c.in-Ok-find.found ++ drop 8 c.find.new.buf) text =
+    rw (w.calls refl) w.found.4 in (
+      c.if-not-pass_new.false,
+      record {
+        no_old = no_old c.args.forms.now text c.in-Err.fault (g.met.O.BlockPair.lawful c.args.old.now.pair) refused.0.0 other;
+        new = (w.found.0, w.found.2, old_of (to_itself c.args.forms.now) text _ (g.met.N.BlockPair.lawful c.args.new.now.pair) w.found);
+      },
+      padded_registers_forward c.wrap_buffer.ensures.wrapped run,
+    )
+
+pub returns-in-Err-find-clause-rewraps : goal.returns-in-Err-find-clause-rewraps
+returns-in-Err-find-clause-rewraps g c =
+    let refused = c.in-Err.ensures.rewraps in
+    let w = rw (c.to_itself.ensures, refused.1, c.in-Err.ensures.calls.new_unasked refl refl) at c.in-Err-find.ensures in
+    let none = no_old (to_itself c.args.forms.now) c.args.buf.now c.in-Err-find.field-0 (g.met.N.BlockPair.lawful c.args.new.now.pair) w.refused.0 w.refused.1 in
+    ((refused.0.0, λ pass is. none is.new.0 is.new.2.from is.new.1 is.new.2.stands), w.refused.2)
 
 pub returns-in-Ok-clause-results : goal.returns-in-Ok-clause-results
 returns-in-Ok-clause-results g c =
     results_of (g.N.BlockPair.encrypted c.args.new.now.pair) c.args.pass_new c.args.forms.now c.args.buf.now _ _ (g.met.O.BlockPair.lawful c.args.old.now.pair)
     c.in-Ok.ensures.rewraps
 
-pub returns-then-is_wrapped-clause-results : goal.returns-then-is_wrapped-clause-results
-returns-then-is_wrapped-clause-results g c =
+pub returns-then-not-pass_new-clause-results : goal.returns-then-not-pass_new-clause-results
+returns-then-not-pass_new-clause-results g c =
     results_of (g.N.BlockPair.encrypted c.args.new.now.pair) c.args.pass_new c.args.forms.now c.args.buf.now _ _ (g.met.O.BlockPair.lawful c.args.old.now.pair)
-    (returns-then-is_wrapped-clause-rewraps g c)
+    (returns-then-not-pass_new-clause-rewraps g c)
 
-pub returns-clause-rewraps : goal.returns-clause-rewraps
-returns-clause-rewraps g c = search rules
-
-pub returns-clause-results : goal.returns-clause-results
-returns-clause-results g c =
+pub returns-in-Ok-find-clause-results : goal.returns-in-Ok-find-clause-results
+returns-in-Ok-find-clause-results g c =
     results_of (g.N.BlockPair.encrypted c.args.new.now.pair) c.args.pass_new c.args.forms.now c.args.buf.now _ _ (g.met.O.BlockPair.lawful c.args.old.now.pair)
-    (returns-clause-rewraps g c)
+    (returns-in-Ok-find-clause-rewraps g c)
 
-pub returns-then-is_wrapped-clause-calls : goal.returns-then-is_wrapped-clause-calls
-returns-then-is_wrapped-clause-calls g c = record {
-  unwrap_calls = λ e. cc;
-  wrap_calls = λ e. cc;
-  old_calls = λ _. c.in-Err.ensures.refused_calls refl;
-  old_meter_kept = c.in-Err.ensures.old_meter_kept;
-  new_calls = λ _. rw (c.in-Err.ensures.rewraps.1, c.in-Err.ensures.new_meter_kept refl) at
-      (c.is_wrapped.ensures.calls (c.is_wrapped.ensures.legal c.if-is_wrapped.true));
-  new_refused_calls = search rules;
-  new_unasked = search rules;
-  new_untried = λ e. cc;
-  new_illegal = search rules;
-}
+pub returns-in-Err-find-clause-results : goal.returns-in-Err-find-clause-results
+returns-in-Err-find-clause-results g c =
+    results_of (g.N.BlockPair.encrypted c.args.new.now.pair) c.args.pass_new c.args.forms.now c.args.buf.now _ _ (g.met.O.BlockPair.lawful c.args.old.now.pair)
+    (returns-in-Err-find-clause-rewraps g c)

@@ -8,6 +8,7 @@ use Rattle.key_wrap_core.proofs.steps.step_words.Goals as goal
 
 pub returns : goal.returns
 returns c =
+    let legal = c.requires.legal in
     let n : ℕ = length c.args.registers.now / 8 in
     let t : ℕ = c.args.done in
     let i : ℕ = t % n in

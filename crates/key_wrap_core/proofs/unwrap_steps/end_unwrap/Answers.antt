@@ -1,7 +1,7 @@
 -- The steps led back to an initial value and registers.
 use Rattle.std.proofs.Common.{◌≡◌, arith}
 use Rattle.key_wrap_core.proofs.Refusals.{never_bad}
-use Rattle.key_wrap_core.proofs.UnwrapStepping.{unended_plain}
+use Rattle.key_wrap_core.proofs.UnwrapStepping.{unended_padded}
 use Rattle.key_wrap_core.proofs.unwrap_steps.end_unwrap.Goals as goal
 
 pub returns : goal.returns
@@ -14,7 +14,7 @@ returns c =
       refused = record { kept = λ e. never_bad c.end_plain.result only e; cleared = c.end_plain.ensures.cleared };
       block_kept = λ e. never_bad c.end_plain.result only e;
       answer = λ _ E D text inv state.
-          let run = unended_plain c.take_value-found.result (omega arith) c.take_value-found.ensures.value (rw zero at state) in
+          let run = unended_padded c.take_value-found.result c.take_value-found.ensures.value (rw zero at state) in
           rw c.word.ensures.value at (c.end_plain.ensures.answer E D text inv run);
       block_cleared = λ _. c.take_value-found.ensures.cleared;
     }

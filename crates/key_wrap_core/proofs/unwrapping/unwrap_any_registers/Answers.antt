@@ -1,16 +1,12 @@
 -- The machine ran back to an initial value and registers, which hold the key or none.
-use Rattle.std.proofs.Common.{◌≡◌, ℕ, ◌+◌, List, ◌++◌, length, take, arith, length-append}
-use Rattle.std.proofs.lemmas.Result.{IfOk-weaker}
+use Rattle.std.proofs.Common.{rules, ◌≡◌, ℕ, List, ◌++◌, length, refl, inl, inr}
 use Rattle.key_wrap_core.specs.Words.{word_bytes}
-use Rattle.key_wrap_core.specs.Plain.{IsReserved}
-use Rattle.key_wrap_core.specs.PaddedRegisters.{PaddedRegisters}
 use Rattle.key_wrap_core.specs.Lengths.{IsPaddedTextLength}
 use Rattle.key_wrap_core.specs.Forms.{with_value}
-use Rattle.key_wrap_core.specs.EitherForm.{IsEither, IsOnlyWrapping}
-use Rattle.key_wrap_core.proofs.Spelling.{length-word_bytes}
-use Rattle.key_wrap_core.proofs.Unwrappings.{ok_unless}
-use Rattle.key_wrap_core.proofs.FoundForms.{found_stands}
-use Rattle.key_wrap_core.proofs.EitherForms.{only_wrapping, no_other_form, no_key_in, any_answered}
+use Rattle.key_wrap_core.proofs.Refusals.{passed_on}
+use Rattle.key_wrap_core.proofs.Unwrappings.{word_size}
+use Rattle.key_wrap_core.proofs.FoundForms.{found_stands, no_form, padded_none_held}
+use Rattle.key_wrap_core.proofs.EitherForms.{any_held, either_found, either_none, no_key_in}
 use Rattle.key_wrap_core.proofs.unwrapping.unwrap_any_registers.Goals as goal
 
 pub returns : goal.returns
@@ -18,28 +14,36 @@ returns g c =
     let iv : ℕ = c.args.iv in
     let text : List ℕ = word_bytes c.args.c0 ++ c.args.registers.now in
     let found : ℕ = c.unwrap_slice-found.result in
-    let before : List ℕ = word_bytes found ++ c.unwrap_slice-found.new.registers in
-    let E = g.B.BlockPair.encrypted c.args.meter.now.pair in
+    let registers : List ℕ = c.unwrap_slice-found.new.registers in
     let inv = g.met.B.BlockPair.lawful c.args.meter.now.pair in
-    let run : PaddedRegisters (g.B.BlockPair.encrypted c.args.meter.now.pair) before text = c.unwrap_slice-found.ensures.wrapped in
-    let free : ¬ IsReserved iv = c.requires.free in
-    let e = c.end_any.ensures in
-    let r = c.end_any.result in
-    let size : length text ≡ 8 + length c.args.registers.now = omega (arith, length-append (word_bytes c.args.c0) c.args.registers.now, length-word_bytes c.args.c0) in
-    let legal : IsPaddedTextLength (length text) = rw size c.requires.length in
-    let wraps = IfOk-weaker r _ (λ key. IsOnlyWrapping (IsEither iv) E (with_value key.form iv) (take key.len c.end_any.new.registers) text) (λ key h.
-    only_wrapping iv key.form _ text inv free (found_stands (with_value key.form iv) _ before text h.0 run)) e.holds in
-    let u = any_answered iv E text (λ key. take key.len c.end_any.new.registers) r legal e.only_fault wraps (λ err. no_key_in iv before text inv run (e.none err)) in
-    record {
-      unwraps = record {
-        bad_length = u.bad_length;
-        integrity = u.integrity;
-        answer = wraps;
-        accepts = λ form other h. ok_unless r (u.accepts form other h);
-        other_form = IfOk-weaker r _ _ (λ key h.
-            no_other_form iv key.form _ text inv free (found_stands (with_value key.form iv) _ before text h.0 run)) e.holds;
-      };
-      key = IfOk-weaker r _ _ (λ key h. record { size = h.1; around = h.2 }) e.holds;
-      cleared = λ is. e.cleared (u.failed is);
+    let run = c.unwrap_slice-found.ensures.wrapped in
+    let d = c.in_ok-decide.ensures in
+    let key = c.found_key.result in
+    let told = rw d.kept at c.found_key.ensures.plain in
+    let held = any_held iv found c.padded_difference-padded.result c.plain_difference-plain.result registers key (search rules)
+    (c.either.ensures.0 (d.passes.0 refl)) c.plain_difference-plain.ensures.passes c.padded_difference-padded.ensures.passes c.found_key.ensures.padded told in
+    let legal : IsPaddedTextLength (length text) = rw (word_size c.args.c0 c.args.registers.now) c.requires.length in
+    rw d.kept (record {
+      unwraps = either_found iv key _ text inv c.requires.free legal (found_stands (with_value key.form iv) _ (word_bytes found ++ registers) text held.0 run);
+      key = record { size = held.1; around = held.2 };
+      cleared = λ e. cc;
       calls = c.unwrap_slice-found.ensures.meter;
-    }
+    })
+
+pub returns-in_err-decide : goal.returns-in_err-decide
+returns-in_err-decide g c =
+    let iv : ℕ = c.args.iv in
+    let text : List ℕ = word_bytes c.args.c0 ++ c.args.registers.now in
+    let before : List ℕ = word_bytes c.unwrap_slice-found.result ++ c.unwrap_slice-found.new.registers in
+    let inv = g.met.B.BlockPair.lawful c.args.meter.now.pair in
+    let d = c.in_err-decide.ensures in
+    let some : ¬ (c.either.result ≡ 0) = λ zero. absurd (let ok = d.passes.1 zero in cc) in
+    let plain = c.plain_difference-plain.ensures.refuses (λ zero. some (c.either.ensures.1 (inl zero))) in
+    let padded = padded_none_held before (c.padded_difference-padded.ensures.refuses (λ zero. some (c.either.ensures.1 (inr zero)))) in
+    let legal : IsPaddedTextLength (length text) = rw (word_size c.args.c0 c.args.registers.now) c.requires.length in
+    rw (passed_on c.from_residual.result c.in_err-decide.field-0.0 c.from_residual.ensures, d.only_fault) (record {
+      unwraps = either_none iv _ text legal (no_key_in iv before text inv c.unwrap_slice-found.ensures.wrapped (no_form iv before plain padded));
+      key = tt;
+      cleared = λ e. d.cleared refl;
+      calls = c.unwrap_slice-found.ensures.meter;
+    })

@@ -1,10 +1,10 @@
 -- The machine ran back to an initial value and registers.
-use Rattle.std.proofs.Common.{ℕ, List, ◌++◌}
+use Rattle.std.proofs.Common.{◌++◌}
 use Rattle.key_wrap_core.specs.Words.{word_bytes}
 use Rattle.key_wrap_core.proofs.unwrapping.unwrap_padded_registers.Goals as goal
 
 pub returns-clause-answer : goal.returns-clause-answer
 returns-clause-answer g c =
-    let text : List ℕ = word_bytes c.args.c0 ++ c.args.registers.now in
-    c.end_padded.ensures.answer (g.B.BlockPair.encrypted c.args.meter.now.pair) (g.B.BlockPair.decrypted c.args.meter.now.pair) text
-    (g.met.B.BlockPair.lawful c.args.meter.now.pair) c.unwrap_slice-found.ensures.wrapped
+    let pair = c.args.meter.now.pair in
+    c.end_padded.ensures.ends.answer (g.B.BlockPair.encrypted pair) (g.B.BlockPair.decrypted pair) (word_bytes c.args.c0 ++ c.args.registers.now)
+    (g.met.B.BlockPair.lawful pair) c.unwrap_slice-found.ensures.wrapped

@@ -24,6 +24,6 @@ returns c =
       begins = record {
         none_done = refl;
         begins = λ E. subst (λ (key : List ℕ). WrapState E (aiv c.args.m) key 0 now c.first_block.result) pads
-            (rw c.initial_value.ensures at (c.first_block.ensures E));
+            (rw c.padded_iv.ensures at (c.first_block.ensures E));
       };
     }

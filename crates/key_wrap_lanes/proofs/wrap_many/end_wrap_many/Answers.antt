@@ -1,18 +1,20 @@
 -- All the steps of each lane are done, and the first half of its block is written before its registers.
-use Rattle.std.proofs.Common.{rules, ◌≡◌}
+use Rattle.std.proofs.Common.{rules, ◌≡◌, refl, inl}
 use Rattle.key_wrap_core.specs.Calls.{block_calls}
 use Rattle.key_wrap_core.proofs.WrapStepping.{ended_plain, ended_padded}
 use Rattle.key_wrap_lanes.proofs.Turns.{all_steps}
 use Rattle.key_wrap_lanes.proofs.wrap_many.end_wrap_many.Goals as goal
 
-pub returns-clause-plain : goal.returns-clause-plain
-returns-clause-plain c = λ i below E iv key legal state.
+pub returns : goal.returns
+returns c =
     let lanes = c.lanes_ok.ensures.0 c.if-not-lanes_ok.false in
-    let given : c.args.done ≡ block_calls c.args.text_len = search rules in
-    rw (c.write_firsts.ensures i below) (ended_plain (all_steps c.args.texts.now c.args.blocks.now lanes below given) legal state)
-
-pub returns-clause-padded : goal.returns-clause-padded
-returns-clause-padded c = λ i below E key legal state.
-    let lanes = c.lanes_ok.ensures.0 c.if-not-lanes_ok.false in
-    let given : c.args.done ≡ block_calls c.args.text_len = search rules in
-    rw (c.write_firsts.ensures i below) (ended_padded (all_steps c.args.texts.now c.args.blocks.now lanes below given) legal state)
+    let all : c.args.done ≡ block_calls c.args.text_len = search rules in
+    record {
+      statuses = inl refl;
+      bad_length = (λ s. absurd (let wrong = s in cc), λ bad. absurd (bad (lanes, all)));
+      kept = λ other. absurd (other refl);
+      plain = λ _ i below E iv key legal state.
+          rw (c.write_firsts.ensures i below) (ended_plain (all_steps c.args.texts.now c.args.blocks.now lanes below all) legal state);
+      padded = λ _ i below E key legal state.
+          rw (c.write_firsts.ensures i below) (ended_padded (all_steps c.args.texts.now c.args.blocks.now lanes below all) legal state);
+    }

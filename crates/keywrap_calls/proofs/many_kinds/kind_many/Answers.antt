@@ -7,8 +7,8 @@ use Rattle.keywrap_calls.proofs.many_kinds.kind_many.Goals as goal
 
 pub returns-clause-finds : goal.returns-clause-finds
 returns-clause-finds g c =
-    let under : g.A.BlockPair.encrypted c.in-Ok.aes ≡ cipher c.args.keyed.1.now = c.in-Ok.ensures.cipher in
-    let legal_kek : IsKekLength (length c.args.keyed.1.now) = c.in-Ok.ensures.accepted.0 refl in
+    let under : g.A.BlockPair.encrypted c.in-Ok.aes ≡ cipher c.args.kek.now = c.in-Ok.ensures.cipher in
+    let legal_kek : IsKekLength (length c.args.kek.now) = c.in-Ok.ensures.accepted.0 refl in
     let legal = c.are_kind_slots.ensures.is.0 c.if-not-are_kind_slots.false in
     many_done _ _ _ _ _ legal_kek legal
-    (λ i below. rw (legal.2, sym under) (c.kind_slots.ensures.finds c.args.keyed.1.now legal_kek i below))
+    (λ i below. rw (legal.2, sym under) (c.kind_slots.ensures.finds c.args.kek.now legal_kek i below))

@@ -11,12 +11,11 @@ use crate::convert::Direction;
 use crate::drilling::{DrillFault, drill};
 use crate::job::{Job, JobFault, Task};
 use crate::operation::Operation;
-use crate::refusal::Refusal;
 use crate::report::{VectorsFault, vectors};
 use crate::vector_check::Library;
 use key_files::FileFault;
-use key_lines::{LineFault, RunFault};
-use key_wrap_core::{Form, InitialValue};
+use key_lines::{LineFault, RunFault, RunOptions, TextNotation};
+use key_wrap_core::{Form, InitialValue, RewrapFault};
 use std::alloc::Global;
 use std::process::Abort;
 
@@ -85,7 +84,7 @@ fn refuses_each_growth_of_the_vectors(rt: HostRuntime) {
 
 // The line of a wrapped key, and a shorter line that is refused. It needs no more memory than the
 // first one, so it is refused for its own fault, and never for lack of memory.
-static SECOND_LINES: [(&[u8], LineFault<Refusal>); 3] = [
+static SECOND_LINES: [(&[u8], LineFault<RewrapFault>); 3] = [
     (
         b"1fa68b0a8112b447aef34bd8fb5a7b829d3e862371d2cfe5\n0g\n",
         LineFault::Input(FileFault::BadDigit { at: 1 }),
@@ -96,7 +95,7 @@ static SECOND_LINES: [(&[u8], LineFault<Refusal>); 3] = [
     ),
     (
         b"1fa68b0a8112b447aef34bd8fb5a7b829d3e862371d2cfe5\n00\n",
-        LineFault::Refused(Refusal::BadLength),
+        LineFault::Refused(RewrapFault::BadLength),
     ),
 ];
 
@@ -107,7 +106,7 @@ fn refuses_each_growth_of_a_run_over_lines(rt: HostRuntime) {
         let mut free = room.as_mut_slice();
         let found = unwrap_lines(rt.alloc(), lines, &mut free);
         let written = 64_usize.saturating_sub(free.len());
-        if found == Some((1, LineFault::Input(FileFault::Memory))) {
+        if found == Some((1, LineFault::Memory)) {
             assert!(rt; written == 0);
         } else {
             assert!(rt; found == Some((2, fault)), "{fault:?}");
@@ -122,7 +121,7 @@ fn unwrap_lines(
     alloc: Global,
     mut lines: &[u8],
     out: &mut &mut [u8],
-) -> Option<(u64, LineFault<Refusal>)> {
+) -> Option<(u64, LineFault<RewrapFault>)> {
     let task = Task {
         job: Job::Unwrap,
         form: Form::Plain,
@@ -134,12 +133,16 @@ fn unwrap_lines(
         task,
         kek: Trickle::in_pieces(HEX_KEK, 7),
     };
-    match operation.run_lines(alloc, false, &mut NoLog, &mut lines, out) {
+    let options = RunOptions {
+        notation: TextNotation::Hex,
+        keep_going: false,
+    };
+    match operation.run_lines(alloc, options, &mut NoLog, &mut lines, out) {
         Ok(outcome) => match outcome.result {
-            Err(RunFault::AtLine { line, fault }) => Some((line, fault)),
+            Err(RunFault::AtLine(refused)) => Some((refused.line, refused.fault)),
             _ => None,
         },
-        Err(JobFault::Memory) => Some((1, LineFault::Input(FileFault::Memory))),
+        Err(JobFault::Memory) => Some((1, LineFault::Memory)),
         Err(_) => None,
     }
 }

@@ -1,16 +1,21 @@
 -- No line was answered, or the next one was.
-use Rattle.std.proofs.Common.{◌≡◌, ◌++◌, [], arith, inl, refl, rules}
-use Rattle.std.proofs.KnownBytes.{Consumes-nil}
-use Rattle.key_lines.proofs.Runs.{FindsLine-line, FindsLine-none, never_unread, stops_refused, stops_unread}
+use Rattle.std.proofs.Common.{◌≡◌, ◌++◌, Err, ap, inl, refl, rules, sym, ◌∙◌}
+use Rattle.key_lines.proofs.Runs.{FindsLine-line, FindsLine-none, line_fault-counted, line_fault-read, never_unread, stops_refused, stops_unread}
 use Rattle.key_lines.proofs.run.LineRun.next.Goals as goal
 
 pub returns-then-summary-clause-finds : goal.returns-then-summary-clause-finds
 returns-then-summary-clause-finds g c = λ out. FindsLine-none c.args.self.now.options _ out _ _ _ _ refl c.requires
-    ([], record { stands_after = Consumes-nil _; inside = λ k _ h. absurd (omega (arith, h)) })
+    refl
 
 pub returns-in-Err-clause-finds : goal.returns-in-Err-clause-finds
-returns-in-Err-clause-finds g c = λ out. FindsLine-none c.args.self.now.options _ out _ _ _ _ refl c.requires
-    (stops_unread c.args.self.now.options (g.J.LineJob.answers c.args.self.now.job) _ _ _ c.in-Err.fault c.in-Err.ensures.line)
+returns-in-Err-clause-finds g c = λ out. rw c.line_fault.ensures (FindsLine-none c.args.self.now.options _ out _ _ _ _ refl c.requires
+    (stops_unread c.args.self.now.options (g.J.LineJob.answers c.args.self.now.job) _ _ _ c.in-Err.fault c.in-Err.ensures.line))
+
+pub returns-in-Err-clause-read : goal.returns-in-Err-clause-read
+returns-in-Err-clause-read g c = λ sure e. c.in-Err.ensures.read sure (ap Err (line_fault-read c.in-Err.fault (sym c.line_fault.ensures ∙ cc e)))
+
+pub returns-in-Err-clause-too_many : goal.returns-in-Err-clause-too_many
+returns-in-Err-clause-too_many g c = λ e. absurd (line_fault-counted c.in-Err.fault (sym c.line_fault.ensures ∙ cc e))
 
 pub returns-in-Missing-clause-finds : goal.returns-in-Missing-clause-finds
 returns-in-Missing-clause-finds g c = λ out.
@@ -38,5 +43,9 @@ returns-clause-finds g c = λ out.
     made.1 put c.add_line.ensures.counts c.add_line.ensures.room c.add_line.ensures.logs
 
 pub returns-in-Err-make-clause-read : goal.returns-in-Err-make-clause-read
-returns-in-Err-make-clause-read g c = λ sure e. absurd (never_unread c.args.self.now.options (g.J.LineJob.answers c.args.self.now.job) c.deref.result.now c.make.new.output.items c.in-Err-make.fault c.in-Err-make.ensures
-    (cc e))
+returns-in-Err-make-clause-read g c = λ sure e. (never_unread c.args.self.now.options (g.J.LineJob.answers c.args.self.now.job) c.deref.result.now
+    c.make.new.output.items c.in-Err-make.fault c.in-Err-make.ensures).0 (cc e)
+
+pub returns-in-Err-make-clause-too_many : goal.returns-in-Err-make-clause-too_many
+returns-in-Err-make-clause-too_many g c = λ e. absurd ((never_unread c.args.self.now.options (g.J.LineJob.answers c.args.self.now.job) c.deref.result.now
+    c.make.new.output.items c.in-Err-make.fault c.in-Err-make.ensures).1 (cc e))

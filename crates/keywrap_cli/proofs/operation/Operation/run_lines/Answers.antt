@@ -15,20 +15,17 @@ returns-in-Err-read_keks-clause-run g c =
 
 pub returns-in-Ok-clause-run : goal.returns-in-Ok-clause-run
 returns-in-Ok-clause-run g c =
-    let own = rw c.in-Job.is at c.input_notation.ensures in
-    let over = rw (c.line_notation.ensures, c.text_notation-notation.ensures, own) at c.run.ensures in
+    let over = rw c.line_notation.ensures at c.run.ensures in
     rw c.in-Job.is (record { found = Ok c.in-Ok.pair; read = c.in-Ok.ensures; rest = (over.run, over.headline) })
 
 pub returns-in-Ok-clause-headline : goal.returns-in-Ok-clause-headline
 returns-in-Ok-clause-headline g c =
-    let own = rw c.in-Job.is at c.input_notation.ensures in
-    let over = rw (c.line_notation.ensures, c.text_notation-notation.ensures, own) at c.run.ensures in
-    rw c.in-Job.is (record { K = c.in-Ok.pair; read = c.in-Ok.ensures; then = each_line _ _ _ _ _ _ (job_lines _ c.in-Job.task _) over.headline })
+    let over = rw c.line_notation.ensures at c.run.ensures in
+    rw c.in-Job.is (record { K = c.in-Ok.pair; read = c.in-Ok.ensures; then = each_line _ _ _ _ _ _ (job_lines _ _ c.in-Job.task _) over.headline })
 
 pub returns-in-Ok-read_keks-clause-run : goal.returns-in-Ok-read_keks-clause-run
 returns-in-Ok-read_keks-clause-run g c =
-    let own = rw c.in-Rewrap.is at c.input_notation.ensures in
-    let over = rw (c.line_notation-in-Rewrap.ensures, c.text_notation-notation.ensures, own) at c.run-in-Rewrap.ensures in
+    let over = rw c.line_notation-in-Rewrap.ensures at c.run-in-Rewrap.ensures in
     let opened = c.in-Ok-read_keks.ensures in
     rw c.in-Rewrap.is (record {
       found = Ok c.in-Ok-read_keks.keks.old;
@@ -38,9 +35,8 @@ returns-in-Ok-read_keks-clause-run g c =
 
 pub returns-in-Ok-read_keks-clause-headline : goal.returns-in-Ok-read_keks-clause-headline
 returns-in-Ok-read_keks-clause-headline g c =
-    let own = rw c.in-Rewrap.is at c.input_notation.ensures in
-    let over = rw (c.line_notation-in-Rewrap.ensures, c.text_notation-notation.ensures, own) at c.run-in-Rewrap.ensures in
-    rw c.in-Rewrap.is (under_keks _ _ _ _ _ c.in-Ok-read_keks.keks _ c.in-Ok-read_keks.ensures (each_line _ _ _ _ _ _ (rewrap_lines c.in-Rewrap.task _ _) over.headline))
+    let over = rw c.line_notation-in-Rewrap.ensures at c.run-in-Rewrap.ensures in
+    rw c.in-Rewrap.is (under_keks _ _ _ _ _ c.in-Ok-read_keks.keks _ c.in-Ok-read_keks.ensures (each_line _ _ _ _ _ _ (rewrap_lines _ c.in-Rewrap.task _ _) over.headline))
 
 pub returns-in-Ok-read_keks-clause-same_kek : goal.returns-in-Ok-read_keks-clause-same_kek
 returns-in-Ok-read_keks-clause-same_kek g c =
@@ -48,12 +44,10 @@ returns-in-Ok-read_keks-clause-same_kek g c =
 
 pub returns-in-Ok-clause-ends_well : goal.returns-in-Ok-clause-ends_well
 returns-in-Ok-clause-ends_well g c =
-    let own = rw c.in-Job.is at c.input_notation.ensures in
-    let over = rw (c.line_notation.ensures, c.text_notation-notation.ensures, own) at c.run.ensures in
+    let over = rw c.line_notation.ensures at c.run.ensures in
     rw c.in-Job.is (job_answers _ _ _ c.in-Ok.pair c.in-Ok.ensures _ _ _ _ _ _ c.run.result over.headline)
 
 pub returns-in-Ok-read_keks-clause-ends_well : goal.returns-in-Ok-read_keks-clause-ends_well
 returns-in-Ok-read_keks-clause-ends_well g c =
-    let own = rw c.in-Rewrap.is at c.input_notation.ensures in
-    let over = rw (c.line_notation-in-Rewrap.ensures, c.text_notation-notation.ensures, own) at c.run-in-Rewrap.ensures in
-    rw c.in-Rewrap.is (rewrap_answers _ _ _ _ _ c.in-Ok-read_keks.keks c.in-Ok-read_keks.ensures _ _ _ _ _ c.run-in-Rewrap.result (rewrap_lines c.in-Rewrap.task _ _) over.headline)
+    let over = rw c.line_notation-in-Rewrap.ensures at c.run-in-Rewrap.ensures in
+    rw c.in-Rewrap.is (rewrap_answers _ _ _ _ _ c.in-Ok-read_keks.keks c.in-Ok-read_keks.ensures _ _ _ _ _ c.run-in-Rewrap.result (rewrap_lines _ c.in-Rewrap.task _ _) over.headline)

@@ -1,0 +1,64 @@
+-- The promises of the functions that only this crate calls.
+use Rattle.std.specs.Prelude.{◌≡◌, ℕ, ◌*◌, List, ◌++◌, length, drop, All, Result, Ok, Err, IsErr, IsOk, IsOkUnless, IfOk, IfErr}
+use Rattle.block_pair.specs.Pair.{AreInverse}
+use Rattle.block_pair.specs.Metered.{Metered, counted}
+use Rattle.key_wrap_core.specs.declared.agreed_form.AgreedForm.{AgreedForm}
+use Rattle.key_wrap_core.specs.declared.faults.InPlaceFault.{InPlaceFault}
+use Rattle.key_wrap_core.specs.declared.faults.InPlaceFault.TheVariants.{Integrity}
+use Rattle.key_wrap_core.specs.declared.rewrapping.RewrapForms.{RewrapForms}
+use Rattle.key_wrap_core.specs.declared.rewrapping.Rewrapped.{Rewrapped}
+use Rattle.key_wrap_core.specs.declared.rewrapping.Rewrapped.TheVariants.{Fresh}
+use Rattle.key_wrap_core.specs.declared.rewrapping.RewrapFault.{RewrapFault}
+use Rattle.key_wrap_core.specs.declared.rewrapping.RewrapFault.TheVariants.{KeyNotPlain}
+use Rattle.key_wrap_core.specs.Words.{word_bytes}
+use Rattle.key_wrap_core.specs.PaddedRegisters.{PaddedRegisters}
+use Rattle.key_wrap_core.specs.NoKey.{NoKey}
+use Rattle.key_wrap_core.specs.Calls.{block_calls}
+use Rattle.key_wrap_core.specs.Forms.{IsTextLengthAs}
+use Rattle.key_wrap_core.specs.Steps.{WrapSteps, UnwrapSteps}
+use Rattle.key_wrap_core.specs.Unwrapping.{Unwrapping}
+use Rattle.key_wrap_core.specs.Found.{HoldsIn}
+use Rattle.key_wrap_core.specs.Rewrap.{IsFrom, HasFault, IsOldLength}
+
+-- A step over two registers and more, for every E: if the block is E of the last one, t' steps are done after t.
+abbrev pub IsWordsStep : (t t' : ℕ) (registers registers' block block' : List ℕ) → Type 0
+IsWordsStep t t' registers registers' block block' = (E : List ℕ → List ℕ) (iv : ℕ) (key before : List ℕ)
+    → WrapSteps E iv key t registers before → block ≡ E before → WrapSteps E iv key t' registers' block'
+
+-- A step over them undone, for every E: if E takes the block to the last one, t' steps are left after t.
+abbrev pub IsWordsUnstep : (t t' : ℕ) (registers registers' block block' : List ℕ) → Type 0
+IsWordsUnstep t t' registers registers' block block' = (E : List ℕ → List ℕ) (text before : List ℕ)
+    → UnwrapSteps E text t registers before → E block ≡ before → UnwrapSteps E text t' registers' block'
+
+-- The end of an unwrapping in one form that led back to this initial value and the registers `old`, for every E that has an
+-- inverse. A key that was found is in the registers, and they are zeros if there is none.
+pub record EndsIn {A : Type 0} (form : AgreedForm) (found : ℕ) (old new : List ℕ) (key : A → List ℕ) (result : Result A InPlaceFault) : Type 0 where
+  pub answer : (E D : List ℕ → List ℕ) (text : List ℕ) → AreInverse E D → PaddedRegisters E (word_bytes found ++ old) text
+      → Unwrapping (IsTextLengthAs form (length text)) form E text key result
+  pub only_fault : IsOkUnless result Integrity
+  pub cleared : result ≡ Err Integrity → All (λ byte. byte ≡ 0) new
+
+-- The difference is 0 exactly if the buffer holds a key in one of these forms.
+pub record TellsKey (IsFrom : AgreedForm → Type 0) (buffer : List ℕ) (difference : ℕ) : Type 0 where
+  pub passes : difference ≡ 0 → (form : AgreedForm) × IsFrom form × (key : List ℕ) × HoldsIn form key buffer
+  pub refuses : ¬ (difference ≡ 0) → (form : AgreedForm) → IsFrom form → NoKey (HoldsIn form) buffer
+
+-- the registers hold a key in one of the forms, and are wrapped to the text
+abbrev pub IsFound : RewrapForms → (List ℕ → List ℕ) → (text before : List ℕ) → Type 0
+IsFound forms E text before = (form : AgreedForm) × IsFrom forms form × (key : List ℕ) × HoldsIn form key before × PaddedRegisters E before text
+
+-- the result of a rewrapping that does not look for what is new
+abbrev pub as_fresh : Result Unit RewrapFault → Result Rewrapped RewrapFault
+as_fresh (Ok done) = Ok Fresh
+as_fresh (Err fault) = Err fault
+
+-- A text is unwrapped in whichever of the old forms it is. A refusal leaves it as it was, and so unwrapped and wrapped again
+-- if its length is legal.
+pub record Finds {B : Type 0} (forms : RewrapForms) (E : List ℕ → List ℕ) (old new : List ℕ) (meter meter' : Metered B)
+    (result : Result ℕ RewrapFault) : Type 0 where
+  pub found : IfOk result (λ found. IsFound forms E old (word_bytes found ++ drop 8 new))
+  pub refused : IfErr result (λ fault. HasFault forms E old fault × ¬ (fault ≡ KeyNotPlain) × (new ≡ old))
+  pub legal : IsOk result → IsOldLength forms (length old)
+  pub calls : IsOk result → meter' ≡ counted (block_calls (length old)) meter
+  pub refused_calls : IsErr result → IsOldLength forms (length old) → meter' ≡ counted (2 * block_calls (length old)) meter
+  pub meter_kept : ¬ IsOldLength forms (length old) → meter' ≡ meter

@@ -1,0 +1,32 @@
+//! Worked answers of each call over the drill block, and printed faults.
+
+mod doubles;
+mod initial_values;
+mod padded;
+mod plain;
+mod rewraps;
+mod rows;
+mod steps;
+
+use crate::*;
+use std::test::Fail;
+
+#[test]
+fn faults_print_their_cause(rt: HostRuntime) -> Result<(), Fail> {
+    let lines = format!(in rt.alloc();
+        "{}; {}; {}; {}; {}; {}; {}",
+        InPlaceFault::BadLength,
+        InPlaceFault::Integrity,
+        RewrapFault::BadLength,
+        RewrapFault::Integrity,
+        RewrapFault::KeyNotPlain,
+        BadScratchLength,
+        ReservedIv
+    )?;
+    assert_eq!(rt;
+        lines.as_str(),
+        "bad length; integrity check failed; bad length; integrity check failed; bad length; \
+         bad length; initial value is reserved for the padded form"
+    );
+    Ok(())
+}

@@ -1,0 +1,12 @@
+//! Compiles keywrap.c, also in a debug build with optimization.
+
+fn main() {
+    cc::Build::new()
+        .file("keywrap.c")
+        .flag_if_supported("-std=c99")
+        .opt_level(2)
+        .compile("keywrap");
+    for file in ["keywrap.c", "keywrap.h", "keywrap_steps.h"] {
+        println!("cargo:rerun-if-changed={}", file);
+    }
+}

@@ -1,0 +1,3 @@
+module keywrap.example/keywrap
+
+go 1.19

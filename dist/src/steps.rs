@@ -1,0 +1,388 @@
+//! Wrapping step by step, by a block cipher of the caller: for a KEK that never leaves a token, or
+//! for an AES peripheral. keywrap.c computes which block to encrypt or decrypt next.
+//!
+//! ```
+//! use keywrap::steps::{Unwrapping, Wrapping};
+//!
+//! # let (key, mut wrapped, mut again) = ([1; 16], [0; 24], [0; 16]);
+//! # fn encrypt(block: &mut [u8; 16]) -> std::io::Result<()> { Ok(block.reverse()) }
+//! # fn decrypt(block: &mut [u8; 16]) -> std::io::Result<()> { Ok(block.reverse()) }
+//! Wrapping::new(&key, &mut wrapped)?.run(encrypt)?;
+//! Unwrapping::new(&wrapped, &mut again)?.run(decrypt)?;
+//! assert_eq!(again, key);
+//! # Ok::<(), keywrap::steps::Stopped<std::io::Error>>(())
+//! ```
+//!
+//! The function replaces a block by its encryption or decryption under the KEK. If it cannot be a
+//! function, because it is asynchronous, make the steps one by one:
+//!
+//! ```
+//! # use keywrap::steps::Wrapping;
+//! # struct Token;
+//! # impl Token { fn encrypt(&self, block: &[u8; 16]) -> [u8; 16] { *block } }
+//! # let (key, mut wrapped, token) = ([1; 16], [0; 24], Token);
+//! let mut wrapping = Wrapping::new(&key, &mut wrapped)?;
+//! while let Some(block) = wrapping.block() {
+//!     let encrypted = token.encrypt(block);
+//!     wrapping.step(&encrypted)?;
+//! }
+//! wrapping.end()?;
+//! # Ok::<(), keywrap::Error>(())
+//! ```
+//!
+//! The length of `out` must be right, as in the calls of [`KekSlice`](crate::KekSlice). If a
+//! wrapping or an unwrapping is refused at its beginning, `out` is unchanged. If it is given up
+//! later, also by a panic of the function, `out` is all zeros.
+
+use crate::error::{result_of, Error, Result};
+use crate::{room, sys, Form, IV};
+use core::fmt;
+use core::sync::atomic::{compiler_fence, Ordering};
+
+/// Why a wrapping or an unwrapping stopped.
+#[derive(Clone, Copy, Debug, PartialEq, Eq)]
+pub enum Stopped<E> {
+    /// It was refused.
+    Refused(Error),
+    /// The block cipher failed with this error.
+    Cipher(E),
+}
+
+impl<E> From<Error> for Stopped<E> {
+    fn from(error: Error) -> Self {
+        Stopped::Refused(error)
+    }
+}
+
+impl<E: fmt::Display> fmt::Display for Stopped<E> {
+    fn fmt(&self, f: &mut fmt::Formatter<'_>) -> fmt::Result {
+        match self {
+            Stopped::Refused(error) => error.fmt(f),
+            Stopped::Cipher(error) => error.fmt(f),
+        }
+    }
+}
+
+#[cfg(feature = "std")]
+impl<E: std::error::Error> std::error::Error for Stopped<E> {}
+
+/// The result of a step. Its lengths are right, so only the number of steps can be wrong.
+fn stepped(status: i32) -> Result<()> {
+    result_of(status, 0, Error::InvalidStep)
+}
+
+/// Writes zeros that the compiler cannot leave out.
+fn clear(bytes: &mut [u8]) {
+    for byte in bytes {
+        // SAFETY: the pointer comes from a reference.
+        unsafe { core::ptr::write_volatile(byte, 0) };
+    }
+    compiler_fence(Ordering::SeqCst);
+}
+
+/// Refuses a wrong length.
+fn fits(data_is_legal: bool, expected: usize, out: &[u8]) -> Result<()> {
+    if data_is_legal && out.len() == expected {
+        Ok(())
+    } else {
+        Err(Error::of_length(data_is_legal, expected))
+    }
+}
+
+/// Splits a wrapped key into its first 8 bytes and the registers.
+fn split(text: &mut [u8]) -> (&mut [u8], &mut [u8]) {
+    text.split_at_mut(text.len().min(8))
+}
+
+/// A wrapping that has begun.
+#[must_use]
+pub struct Wrapping<'a> {
+    out: &'a mut [u8],
+    done: u64,
+    steps: u64,
+    block: [u8; 16],
+}
+
+impl<'a> Wrapping<'a> {
+    /// Begins to wrap the key `data` in the plain form.
+    pub fn new(data: &[u8], out: &'a mut [u8]) -> Result<Self> {
+        Self::with_iv(&IV, data, out)
+    }
+
+    /// Begins to wrap the key `data` in the plain form, under an initial value that both ends
+    /// agreed on.
+    pub fn with_iv(iv: &[u8; 8], data: &[u8], out: &'a mut [u8]) -> Result<Self> {
+        fits(
+            Form::Plain.has_key_of(data.len()),
+            Form::Plain.text_len(data.len()),
+            out,
+        )?;
+        let mut new = Self::empty();
+        // SAFETY: the rules of `sys`. A block has 16 bytes.
+        let status = unsafe {
+            sys::keywrap_begin_wrap(
+                iv.as_ptr(),
+                iv.len(),
+                data.as_ptr(),
+                data.len(),
+                &mut new.done,
+                new.block.as_mut_ptr(),
+            )
+        };
+        result_of(status, 0, Error::InvalidDataSize)?;
+        new.hold(data, out);
+        Ok(new)
+    }
+
+    /// Begins to wrap the key `data` in the padded form.
+    pub fn with_padding(data: &[u8], out: &'a mut [u8]) -> Result<Self> {
+        fits(
+            Form::Padded.has_key_of(data.len()),
+            Form::Padded.text_len(data.len()),
+            out,
+        )?;
+        let mut new = Self::empty();
+        new.hold(data, out);
+        let (_, registers) = split(new.out);
+        // SAFETY: the rules of `sys`. A block has 16 bytes.
+        let status = unsafe {
+            sys::keywrap_begin_wrap_padded(
+                data.len(),
+                registers.as_mut_ptr(),
+                registers.len(),
+                &mut new.done,
+                new.block.as_mut_ptr(),
+            )
+        };
+        result_of(status, 0, Error::InvalidDataSize)?;
+        Ok(new)
+    }
+
+    fn empty() -> Self {
+        Self {
+            out: &mut [],
+            done: 0,
+            steps: 0,
+            block: [0; 16],
+        }
+    }
+
+    /// Copies the key to the registers, which are not shorter.
+    fn hold(&mut self, data: &[u8], out: &'a mut [u8]) {
+        self.out = out;
+        let (_, registers) = split(self.out);
+        for (to, from) in registers.iter_mut().zip(data) {
+            *to = *from;
+        }
+        // 6 steps for each 8 bytes, but 1 for 8 bytes.
+        self.steps = match registers.len() as u64 {
+            8 => 1,
+            len => len / 8 * 6,
+        };
+    }
+
+    /// Returns the next block to encrypt, or `None` after the last step.
+    #[must_use]
+    pub fn block(&self) -> Option<&[u8; 16]> {
+        if self.done < self.steps {
+            Some(&self.block)
+        } else {
+            None
+        }
+    }
+
+    /// Makes a step with the encryption of [`block`](Self::block).
+    pub fn step(&mut self, encrypted: &[u8; 16]) -> Result<()> {
+        if self.block().is_none() {
+            return Err(Error::InvalidStep);
+        }
+        self.block = *encrypted;
+        self.advance()
+    }
+
+    fn advance(&mut self) -> Result<()> {
+        let (_, registers) = split(self.out);
+        // SAFETY: the rules of `sys`. A block has 16 bytes.
+        stepped(unsafe {
+            sys::keywrap_step_wrap(
+                registers.as_mut_ptr(),
+                registers.len(),
+                &mut self.done,
+                self.block.as_mut_ptr(),
+            )
+        })
+    }
+
+    /// Ends the wrapping after the last step. Then `out` is the wrapped key.
+    pub fn end(mut self) -> Result<()> {
+        let (first, registers) = split(self.out);
+        // SAFETY: the rules of `sys`. There are 8 bytes before the registers, and a block has 16.
+        stepped(unsafe {
+            sys::keywrap_end_wrap(
+                first.as_mut_ptr(),
+                registers.as_ptr(),
+                registers.len(),
+                self.done,
+                self.block.as_ptr(),
+            )
+        })?;
+        // The drop does not clear it.
+        self.out = &mut [];
+        Ok(())
+    }
+
+    /// Makes all steps with a function that encrypts a block, and ends the wrapping.
+    pub fn run<E>(
+        mut self,
+        mut encrypt: impl FnMut(&mut [u8; 16]) -> core::result::Result<(), E>,
+    ) -> core::result::Result<(), Stopped<E>> {
+        while self.block().is_some() {
+            encrypt(&mut self.block).map_err(Stopped::Cipher)?;
+            self.advance()?;
+        }
+        Ok(self.end()?)
+    }
+}
+
+impl Drop for Wrapping<'_> {
+    fn drop(&mut self) {
+        clear(self.out);
+        clear(&mut self.block);
+    }
+}
+
+/// An unwrapping that has begun.
+#[must_use]
+pub struct Unwrapping<'a> {
+    out: &'a mut [u8],
+    left: u64,
+    block: [u8; 16],
+    /// The initial value of the plain form.
+    iv: Option<[u8; 8]>,
+}
+
+impl<'a> Unwrapping<'a> {
+    /// Begins to unwrap `data` in the plain form.
+    pub fn new(data: &[u8], out: &'a mut [u8]) -> Result<Self> {
+        Self::with_iv(&IV, data, out)
+    }
+
+    /// Begins to unwrap `data` in the plain form, under an initial value that both ends agreed on.
+    pub fn with_iv(iv: &[u8; 8], data: &[u8], out: &'a mut [u8]) -> Result<Self> {
+        Self::begin(Some(*iv), data, out, sys::keywrap_begin_unwrap)
+    }
+
+    /// Begins to unwrap `data` in the padded form.
+    pub fn with_padding(data: &[u8], out: &'a mut [u8]) -> Result<Self> {
+        Self::begin(None, data, out, sys::keywrap_begin_unwrap_padded)
+    }
+
+    fn begin(
+        iv: Option<[u8; 8]>,
+        data: &[u8],
+        out: &'a mut [u8],
+        begin: unsafe extern "C" fn(*const u8, *const u8, usize, *mut u64, *mut u8) -> i32,
+    ) -> Result<Self> {
+        let form = if iv.is_some() {
+            Form::Plain
+        } else {
+            Form::Padded
+        };
+        fits(form.has_text_of(data.len()), room(data.len()), out)?;
+        let (first, registers) = data.split_at(data.len().min(8));
+        let mut new = Self {
+            out: &mut [],
+            left: 0,
+            block: [0; 16],
+            iv,
+        };
+        // SAFETY: the rules of `sys`. There are 8 bytes before the registers, and a block has 16.
+        let status = unsafe {
+            begin(
+                first.as_ptr(),
+                registers.as_ptr(),
+                registers.len(),
+                &mut new.left,
+                new.block.as_mut_ptr(),
+            )
+        };
+        result_of(status, 0, Error::InvalidDataSize)?;
+        out.copy_from_slice(registers);
+        new.out = out;
+        Ok(new)
+    }
+
+    /// Returns the next block to decrypt, or `None` after the last step.
+    #[must_use]
+    pub fn block(&self) -> Option<&[u8; 16]> {
+        if self.left > 0 {
+            Some(&self.block)
+        } else {
+            None
+        }
+    }
+
+    /// Makes a step with the decryption of [`block`](Self::block).
+    pub fn step(&mut self, decrypted: &[u8; 16]) -> Result<()> {
+        if self.block().is_none() {
+            return Err(Error::InvalidStep);
+        }
+        self.block = *decrypted;
+        self.advance()
+    }
+
+    fn advance(&mut self) -> Result<()> {
+        // SAFETY: the rules of `sys`. A block has 16 bytes.
+        stepped(unsafe {
+            sys::keywrap_step_unwrap(
+                self.out.as_mut_ptr(),
+                self.out.len(),
+                &mut self.left,
+                self.block.as_mut_ptr(),
+            )
+        })
+    }
+
+    /// Ends the unwrapping after the last step, and returns the key, which is the start of `out`.
+    /// In the padded form zeros come after it.
+    pub fn end(mut self) -> Result<&'a [u8]> {
+        let mut key_len = self.out.len();
+        let (out, len, block) = (
+            self.out.as_mut_ptr(),
+            self.out.len(),
+            self.block.as_mut_ptr(),
+        );
+        // SAFETY: the rules of `sys`. A block has 16 bytes.
+        stepped(unsafe {
+            match &self.iv {
+                Some(iv) => {
+                    sys::keywrap_end_unwrap(iv.as_ptr(), iv.len(), out, len, self.left, block)
+                }
+                None => sys::keywrap_end_unwrap_padded(out, len, self.left, block, &mut key_len),
+            }
+        })?;
+        // The drop does not clear it.
+        let out = core::mem::take(&mut self.out);
+        out.get(..key_len).ok_or(Error::IntegrityCheckFailed)
+    }
+
+    /// Makes all steps with a function that decrypts a block, ends the unwrapping, and returns the
+    /// key, as [`end`](Self::end) does.
+    pub fn run<E>(
+        mut self,
+        mut decrypt: impl FnMut(&mut [u8; 16]) -> core::result::Result<(), E>,
+    ) -> core::result::Result<&'a [u8], Stopped<E>> {
+        while self.block().is_some() {
+            decrypt(&mut self.block).map_err(Stopped::Cipher)?;
+            self.advance()?;
+        }
+        Ok(self.end()?)
+    }
+}
+
+impl Drop for Unwrapping<'_> {
+    fn drop(&mut self) {
+        clear(self.out);
+        clear(&mut self.block);
+    }
+}

@@ -1,0 +1,45 @@
+#!/bin/sh
+# Unpacks Debian's packages for arm64 that are needed to build the wheel for aarch64 and to test it under qemu: Python
+# with the modules of the tests, OpenSSL, valgrind, and Rust's standard library. Any user may call it, since apt-get
+# uses a directory of its own. DIRECTORY is made completely or not at all. An existing DIRECTORY is not changed.
+#
+# usage: packaging/sysroot.sh [DIRECTORY]        (by default SYSROOT of the Makefile)
+
+set -eu
+packages='python3 libpython3-dev python3-cffi-backend python3-pytest python3-cryptography python3-cryptography-vectors
+    libssl-dev valgrind'
+[ $# -gt 0 ] || set -- "${XDG_CACHE_HOME:-${HOME:-}/.cache}/keywrap/sysroot-aarch64-unknown-linux-gnu"
+[ ! -d "$1" ] || exit 0
+mkdir -p -- "$(dirname -- "$1")"
+room=$(mktemp -d -- "$1.XXXXXX")
+trap 'rm -rf -- "$room"' EXIT
+trap 'exit 1' HUP INT TERM
+room=$(cd -- "$room" && pwd)
+
+# If root calls apt-get, it downloads as another user, who must be able to enter the directory.
+chmod 755 "$room"
+mkdir -p "$room/state/lists/partial" "$room/cache/archives/partial" "$room/root"
+: >"$room/status"
+cat >"$room/conf" <<CONF
+#clear APT::Update::Pre-Invoke;
+#clear APT::Update::Post-Invoke;
+#clear APT::Update::Post-Invoke-Success;
+#clear DPkg::Post-Invoke;
+#clear APT::Architectures;
+APT::Architecture "arm64";
+APT::Architectures "arm64";
+APT::Install-Recommends "false";
+Dir::State "$room/state";
+Dir::State::lists "$room/state/lists";
+Dir::State::status "$room/status";
+Dir::Cache "$room/cache";
+Dir::Cache::archives "$room/cache/archives";
+CONF
+# A list without packages for arm64 is not Debian's.
+apt-get -qq -c "$room/conf" update || echo 'sysroot.sh: some lists of packages are not there' >&2
+# shellcheck disable=SC2086
+apt-get -qq -c "$room/conf" install -y --download-only $packages >&2
+# Without the compiler for arm64 on which it depends.
+(cd "$room/cache/archives" && apt-get -qq -c "$room/conf" download libstd-rust-dev >&2)
+for package in "$room"/cache/archives/*.deb; do dpkg-deb -x "$package" "$room/root"; done
+mv -T -- "$room/root" "$1"

@@ -1,0 +1,23 @@
+"""Rotates a Secret of Kubernetes in JSON, whose data are wrapped keys: an example for stores of your own.
+
+usage: python -m keywrap.rotation.kubernetes_secret FILE"""
+
+import base64
+import json
+import sys
+
+from keywrap.rotate import challenges, replace, rewrap_all
+
+
+def main(path: str) -> None:
+    with open(path, "rb") as file:
+        old = file.read()
+    secret = json.loads(old)
+    keys = {name: base64.b64decode(key, validate=True) for name, key in secret["data"].items()}
+    fresh = rewrap_all(keys, challenges())
+    secret["data"] = {name: base64.b64encode(key).decode() for name, key in fresh.items()}
+    replace(path, json.dumps(secret, indent=2, ensure_ascii=False).encode() + b"\n", old_bytes=old)
+
+
+if __name__ == "__main__":
+    main(*sys.argv[1:])

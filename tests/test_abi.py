@@ -1,0 +1,80 @@
+"""Programs that were built for version 1.0.0 of the C library run with the shared object of today. tests/library/1.0.0
+has the header and the map of 1.0.0, of commit a4f7e5c."""
+
+import re
+
+import pytest
+
+from builds import ROOT, run
+
+FIRST = ROOT / "tests/library/1.0.0"
+TODAY = ROOT / "c/include"
+pytestmark = pytest.mark.needs("cc")
+
+
+def names(path):
+    """The nodes of a linker map, each with its names."""
+    text = re.sub(r"/\*.*?\*/", "", path.read_text(), flags=re.S)
+    nodes = re.findall(r"(KEYWRAP_[\d.]+) \{(.*?)\}", text, re.S)
+    return {node: re.findall(r"keywrap_\w+", listed) for node, listed in nodes}
+
+
+def stubs(directory, header, map_file):
+    """A shared object, with the types of the header's calls, whose functions return 0."""
+    source = re.sub(r"__attribute__ *\(\(.*?\)\)\)?(?= |\n)", "", run("cc", "-E", "-P", "-U__GNUC__", header))
+    calls = re.sub(r"(keywrap_\w+\([^;{}]*\));", r"\1 { return 0; }", source)
+    (directory / "stubs.c").write_text(calls)
+    run("cc", "-std=c99", "-g", "-w", "-shared", "-fPIC", f"-Wl,--version-script={map_file}", "-o",
+        directory / "stubs.so", directory / "stubs.c")
+    return directory / "stubs.so"
+
+
+def test_program_of_1_0_0_runs(library, tmp_path):
+    run("cc", "-std=c99", "-Wall", "-Wextra", "-Werror", f"-I{FIRST}", "-o", tmp_path / "program", FIRST / "program.c",
+        library / "libkeywrap.so.1")
+    ended = run("env", f"LD_LIBRARY_PATH={library}", tmp_path / "program")
+    assert re.search(r"^[1-9]\d* passed, 0 failed$", ended, re.M), ended
+
+
+def test_numbers_and_lengths_of_1_0_0_stay():
+    """Each constant and macro of 1.0.0, except its version."""
+    def constants(header):
+        text = re.sub(r"/\*.*?\*/", "", header.read_text(), flags=re.S).replace("\\\n", " ")
+        found = dict(re.findall(r"^ *(KEYWRAP_\w+) = (\d+)", text, re.M))
+        found |= dict(re.findall(r"^#define (KEYWRAP_\w+(?:\(\w+\))?) +(.*?) *$", text, re.M))
+        return {name: value for name, value in found.items() if not name.startswith("KEYWRAP_VERSION")}
+
+    first, today = constants(FIRST / "keywrap.h"), constants(TODAY / "keywrap.h")
+    assert {"KEYWRAP_OK", "KEYWRAP_INTEGRITY", "KEYWRAP_MAX_KEY", "KEYWRAP_ROOM(wrapped_len)"} <= first.keys()
+    values = {name: value for name, value in first.items() if value}
+    assert values == {name: today.get(name) for name in values}
+
+
+def test_each_name_is_in_the_node_of_its_version():
+    first, today = names(FIRST / "keywrap.map"), names(TODAY / "keywrap.map")
+    assert list(first) == ["KEYWRAP_1"] and list(today) == ["KEYWRAP_1", "KEYWRAP_1.1"]
+    assert today["KEYWRAP_1"] == first["KEYWRAP_1"]
+    headers = (TODAY / "keywrap.h").read_text() + (TODAY / "keywrap_steps.h").read_text()
+    assert {*today["KEYWRAP_1"], *today["KEYWRAP_1.1"]} == set(re.findall(r"\b(keywrap_\w+)\(", headers))
+
+
+@pytest.mark.needs("abidiff")
+def test_types_of_1_0_0_stay(tmp_path):
+    """abidiff compares the types of what both headers declare. It finds a changed one."""
+    for name in "first", "today", "changed":
+        (tmp_path / name).mkdir()
+    map_file = FIRST / "keywrap.map"
+    first = stubs(tmp_path / "first", FIRST / "keywrap.h", map_file)
+    today = stubs(tmp_path / "today", TODAY / "keywrap.h", map_file)
+    run("abidiff", "--no-added-syms", first, today)
+    (tmp_path / "keywrap.h").write_text((TODAY / "keywrap.h").read_text().replace("uint32_t forms", "uint64_t forms"))
+    changed = stubs(tmp_path / "changed", tmp_path / "keywrap.h", map_file)
+    with pytest.raises(AssertionError, match="keywrap_rewrap_in_place"):
+        run("abidiff", "--no-added-syms", first, changed)
+
+
+@pytest.mark.needs("abidiff")
+def test_names_of_1_0_0_stay(library, tmp_path):
+    """The library has no types for abidiff, only names and their versions."""
+    first = stubs(tmp_path, FIRST / "keywrap.h", FIRST / "keywrap.map")
+    run("abidiff", "--no-added-syms", "--ignore-soname", first, library / "libkeywrap.so.1")

@@ -1,0 +1,82 @@
+"""What scripts/facts.py writes follows from its sources: a change of one of them changes every file that has the fact.
+Each test changes a source in a copy of the tree."""
+
+import re
+import shutil
+import subprocess
+
+import pytest
+
+from builds import ROOT
+
+
+@pytest.fixture
+def tree(tmp_path):
+    tree = shutil.copytree(ROOT, tmp_path / "tree", ignore=shutil.ignore_patterns("out", ".git", "tests"))
+    shutil.copytree(ROOT / "tests/library/1.0.0", tree / "tests/library/1.0.0")
+    return tree
+
+
+def written(tree):
+    """Runs the script, and returns the names of the files that it changes."""
+    stale = subprocess.run([tree / "scripts/facts.py", "--check"], capture_output=True, text=True).stdout
+    subprocess.run([tree / "scripts/facts.py"], check=True)
+    assert subprocess.run([tree / "scripts/facts.py", "--check"], capture_output=True, text=True).stdout == ""
+    return {line.partition(":")[0] for line in stale.splitlines()}
+
+
+def replace(path, old, new):
+    text = path.read_text()
+    assert text.count(old) == 1, (path, text.count(old))
+    path.write_text(text.replace(old, new))
+
+
+def test_nothing_changed(tree):
+    assert written(tree) == set()
+
+
+def test_number_of_a_status(tree):
+    replace(tree / "crates/keywrap_calls/src/status.rt", "BAD_LENGTH: i32 = 4;", "BAD_LENGTH: i32 = 44;")
+    changed = {"c/include/keywrap.h", "docs/C_LIBRARY.md", "dist/src/sys.rs", "js/calls.js",
+               "java/keywrap/Library.java"}
+    assert written(tree) == changed
+    for name in changed:
+        assert re.search(r"BAD_LENGTH\W.{0,10}\b44\b", (tree / name).read_text()), name
+
+
+def test_new_status(tree):
+    """It is missed in each language whose refusals have a class or a text each."""
+    status = tree / "crates/keywrap_calls/src/status.rt"
+    status.write_text(f"{status.read_text()}pub const TOO_MANY: i32 = 9;\n")
+    ended = subprocess.run([tree / "scripts/facts.py", "--check"], capture_output=True, text=True)
+    assert ended.returncode == 1 and ended.stdout.splitlines() == [f"{name}: lacks the status TOO_MANY" for name in (
+        "c/include/keywrap.h", "docs/C_LIBRARY.md", "dist/src/sys.rs", "js/calls.js")]
+
+
+def test_longest_key(tree):
+    replace(tree / "c/include/keywrap.h", "KEYWRAP_MAX_KEY 1048576", "KEYWRAP_MAX_KEY 2097152")
+    assert written(tree) == {"dist/src/sys.rs", "js/calls.js"}
+
+
+def test_call(tree):
+    """A call of the header is exported, in the node of this version."""
+    header = tree / "c/include/keywrap.h"
+    replace(header, "int32_t keywrap_kind(", "int32_t keywrap_new(void);\nint32_t keywrap_kind(")
+    assert written(tree) == {"c/include/keywrap.map"}
+    assert "keywrap_new;" in (tree / "c/include/keywrap.map").read_text().partition("KEYWRAP_1.1 {")[2]
+    with open(tree / "c/hardware/keywrap.c", "a") as file:
+        file.write("int32_t keywrap_new(void) { return 0; }\n")
+    assert written(tree) == {"c/hardware/names"}
+
+
+def test_exit_status(tree):
+    replace(tree / "crates/keywrap_args/src/help.rt", "  7  out of memory\n", "  7  no memory\n")
+    assert written(tree) == {"README.md"}
+    assert "| 7 | no memory |" in (tree / "README.md").read_text()
+
+
+def test_option(tree):
+    text = (tree / "crates/keywrap_args/src/options.rt").read_text()
+    (tree / "crates/keywrap_args/src/options.rt").write_text(text.replace('"keep-going"', '"go-on"'))
+    completions = {f"command/completions/{name}" for name in ("keywrap.bash", "_keywrap", "keywrap.fish")}
+    assert written(tree) == completions | {"command/man/keywrap.1"}
