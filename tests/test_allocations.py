@@ -82,7 +82,7 @@ def test_ever_more_memory(keywrap, command, succeeds):
 
 def calls(crates):
     """The tests refuses_each_growth_.. of the test programs that `rt test` built in the crates."""
-    for crate, count in ("key_wrap", 5), ("keywrap_cli", None):
+    for crate, count in ("key_wrap", 6), ("keywrap_cli", None):
         program = os.path.abspath(f"{crates}/{crate}/out/{crate}_tests")
         listed = subprocess.run([program, "--list"], capture_output=True, text=True).stdout
         names = re.findall(r"(?m)^(.*::refuses_each_growth_.*): test$", listed)
@@ -95,7 +95,7 @@ if "TESTS" in os.environ:
     @pytest.mark.parametrize("program, name, count", calls(os.environ["TESTS"]))
     def test_each_allocation_of_a_call(preloaded, program, name, count, after):
         """The test fails if a call returns anything but Memory, or all that it returns with ample memory, and if a call
-        that returns Memory has written something, or given its pair a block. The tests of key_wrap make five calls, and
+        that returns Memory has written something, or given its pair a block. The tests of key_wrap make six calls, and
         one allocation in each."""
         run = preloaded("fail_alloc", Program(program))
         for number in itertools.count():

@@ -744,11 +744,27 @@ def test_no_process_leaves_a_core_file_or_shows_its_memory(store):
     running.communicate()
 
 
+# Each worker waits at the first key of its second file until the run has taken the interrupt.
+INTERRUPTED = SLOW.replace("    time.sleep(0.01)", """
+    seen.append(text)
+    while len(seen) > 30 and not os.path.exists("taken"):
+        time.sleep(0.01)
+""").replace("import time", """
+import os, time
+from keywrap.rotation.jobs import Jobs
+seen = []
+def stop(jobs, real=Jobs.stop):
+    real(jobs)
+    open("taken", "w").close()
+Jobs.stop = stop
+""")
+
+
 @pytest.mark.parametrize("sent", [signal.SIGINT, signal.SIGTERM])
 @pytest.mark.parametrize("to_all", [False, True])
 def test_an_interrupt_ends_between_two_files(store, sent, to_all):
     """Ctrl-C of a terminal reaches all processes. The report is whole."""
-    running = slowly(store, "--report", "report")
+    running = slowly(store, "--report", "report", program=INTERRUPTED)
     wait_for(lambda: "new" in state(store))
     for pid in [*(children(running) if to_all and sent == signal.SIGINT else []), running.pid]:
         os.kill(pid, sent)
