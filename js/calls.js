@@ -78,13 +78,18 @@ function flagOf(name, given) {
     return given;
 }
 
-/* What the statuses say of the inputs of a call */
+/* What the statuses say of the inputs of a call. scripts/facts.py writes the numbers and the texts. */
 
 const BAD_IV = 2;
 const BAD_KEK = 3;
 const BAD_LENGTH = 4;
 const INTEGRITY = 5;
 const KEY_NOT_PLAIN = 8;
+const TEXTS = {
+    [BAD_LENGTH]: 'bad length',
+    [INTEGRITY]: 'integrity check failed',
+    [KEY_NOT_PLAIN]: 'no plain key has the length of the key',
+};
 
 const isBadKek = ({ kind, bytes }) => kind === KEK && ![16, 24, 32].includes(bytes.length);
 const lengthIs = ({ kind, bytes }) =>
@@ -103,14 +108,14 @@ function refusalOf(status, call, inputs) {
         return new BadKekLength(lengthIs(kek));
     }
     if (status === BAD_LENGTH) {
-        return new BadLength(`bad length: ${lengthIs(inputs[inputs.length - 1])}`);
+        return new BadLength(`${TEXTS[status]}: ${lengthIs(inputs[inputs.length - 1])}`);
     }
     if (status === KEY_NOT_PLAIN) {
-        return new KeyNotPlain('bad length: no plain key has the length of the key; '
-            + `it must be ${PLAIN_KEY.legal} bytes`);
+        return new KeyNotPlain(
+            `${TEXTS[BAD_LENGTH]}: ${TEXTS[status]}; it must be ${PLAIN_KEY.legal} bytes`);
     }
     if (status === INTEGRITY) {
-        return new IntegrityFailed('integrity check failed: no wrapped key under this KEK');
+        return new IntegrityFailed(`${TEXTS[status]}: no wrapped key under this KEK`);
     }
     return new Error(`internal error: ${call} answered ${status}`);
 }
@@ -327,7 +332,7 @@ function takenMany(kind, given) {
     const inputs = Array.from(given, (input) => taken(kind, input));
     const [first] = inputs;
     if (!first || inputs.some(({ bytes }) => bytes.length !== first.bytes.length)) {
-        throw new BadLength(`bad length: ${kind.what}s must have one length, and there must be one`);
+        throw new BadLength(`${TEXTS[BAD_LENGTH]}: ${kind.what}s must have one length, and there must be one`);
     }
     if (first.bytes.length > kind.longest) {
         throw new BadLength(`bad length: ${lengthIs(first)}`);
@@ -392,8 +397,9 @@ function selfTest(machine) {
 
 /* An instance of the module */
 
-// The calls over a new instance of the module, whose bytes `find` returns if no source is given.
-export async function callsOver(source, find) {
+// The calls over a new instance of the module, whose bytes `find` returns if no source is given. It is
+// the default export, since the package exports all others.
+export default async function callsOver(source, find) {
     if (typeof WebAssembly !== 'object') {
         throw new Error('this host has no WebAssembly');
     }

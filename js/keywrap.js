@@ -1,10 +1,8 @@
 // The package over the file keywrap.wasm beside this one. keywrap.d.ts documents it.
 
-import { callsOver } from './calls.js';
+import callsOver from './calls.js';
 
-export {
-    BadInitialValue, BadKekLength, BadLength, IntegrityFailed, KeyNotPlain, KeywrapError,
-} from './calls.js';
+export * from './calls.js';
 
 // Returns the bytes of keywrap.wasm. A bundler that knows `new URL` copies the file. Node cannot fetch
 // a file. The module that reads one there is not named by a literal, so that bundlers for browsers do

@@ -1,37 +1,48 @@
 #!/usr/bin/env python3
 """Writes what follows from the sources: the completions of the three shells and the synopsis of the manual page; the
-map of the crates in docs/ARCHITECTURE.md; the names of the calls for linkers; the numbers of statuses, flags and
-lengths in each language; and README's table of exit statuses.
+map of the crates in docs/ARCHITECTURE.md; the names of the calls for linkers; the calls in Rust; the numbers and texts
+of statuses, the flags and the lengths in each language; and README's table of exit statuses.
 
-The sources are the options and the help in crates/keywrap_args, the statuses in crates/keywrap_calls/src/status.rt,
-crates.txt, and the prototypes and flags of keywrap.h and keywrap_steps.h.
+The sources are the options and the help in crates/keywrap_args, the statuses and their texts in
+crates/keywrap_calls/src, crates.txt, and the prototypes and flags of keywrap.h and keywrap_steps.h.
 
 usage: scripts/facts.py             writes the files
        scripts/facts.py --check     fails if a file is another
+Both name the files that lack a status, which are written by hand.
 """
 
 import re
 import sys
+import textwrap
 
 import completions
 from completions import TOP
 from synopsis import synopsis
 
 
-JAVA = "java/keywrap/Library.java"
+JAVA, RUST = "java/keywrap/Library.java", "dist/src/sys.rs"
+HEADERS = "c/include/keywrap.h", "c/include/keywrap_steps.h"
 # The files with the number of each status, and how one is written there. Java only has some of them.
 STATUSES = {
     "c/include/keywrap.h": r"KEYWRAP_{}\b = (\d+)",
     "docs/C_LIBRARY.md": r"`KEYWRAP_{}`, (\d+)",
-    "dist/src/sys.rs": r"KEYWRAP_{}: i32 = (\d+)",
     "js/calls.js": r"const {} = (\d+)",
     JAVA: r"int {} = (\d+)",
 }
 # The files with other numbers of keywrap.h: the longest key, and the flags of a rewrap.
 NUMBERS = {
-    "dist/src/sys.rs": r"KEYWRAP_{}: \w+ = (\d+)",
+    RUST: r"KEYWRAP_{}: \w+ = (\d+)",
     "js/calls.js": r"const {} = (\d+)",
 }
+# The files with texts of some statuses. Elsewhere keywrap_status_text returns them.
+TEXTS = {
+    "c/provider/errors.c": r'REASON_{}, "(.*)"',
+    "js/calls.js": r"\[{}\]: '(.*)'",
+}
+# The files with each exit status of the program, and how its number is written there.
+EXITS = {"crates/keywrap_args/src/help.rt": r"^  (\d+)  ", "command/man/keywrap.1": r"^\.It (\d+)$"}
+# The types of the headers in Rust.
+TYPES = {"uint8_t": "u8", "char": "u8", "int32_t": "i32", "uint32_t": "u32", "uint64_t": "u64", "size_t": "usize"}
 
 
 def read(name):
@@ -54,7 +65,7 @@ def calls(*headers):
 def export_map():
     """What libkeywrap.so shows: the calls of 1.0.0 in the node of their version, and the later ones in theirs."""
     first = calls("tests/library/1.0.0/keywrap.h")
-    later = [call for call in calls("c/include/keywrap.h", "c/include/keywrap_steps.h") if call not in first]
+    later = [call for call in calls(*HEADERS) if call not in first]
     nodes = [f"KEYWRAP_{version} {{\n    global:\n" + "".join(f"        {call};\n" for call in names) + local + "}"
              for version, names, local in (("1", first, "    local:\n        *;\n"), ("1.1", later, ""))]
     return f"""/* The names that libkeywrap.so shows: the calls of keywrap.h and keywrap_steps.h. A call that comes
@@ -85,31 +96,61 @@ def header_numbers():
                            read("c/include/keywrap.h"), re.M))
 
 
-def with_numbers(text, pattern, numbers):
-    """The text with the numbers of these constants, of those that it has."""
-    for name, number in numbers.items():
-        text = re.sub(pattern.format(name), lambda found: found[0][:-len(found[1])] + number, text)
+def texts():
+    """The text of each status, by the name of the status, and by its name in the provider for OpenSSL."""
+    found = dict(re.findall(r'^        ([A-Z_]+) => b"(.*)",$', read("crates/keywrap_calls/src/texts.rt"), re.M))
+    return {**found, "LENGTH": found["BAD_LENGTH"]}
+
+
+def with_values(text, pattern, values):
+    """The text with the values of these constants, of those that it has."""
+    for name, value in values.items():
+        text = re.sub(pattern.format(name), lambda found: value.join(found[0].rsplit(found[1], 1)), text)
     return text
+
+
+def declared(result, name, parameters):
+    """A call of a header, in Rust, on as many lines as it needs. No line ends inside of a parameter."""
+    def parameter(text):
+        *words, name = text.replace("KEYWRAP_RESTRICT", "").replace("*", " * ").split()
+        pointer = "" if "*" not in words else "*const " if "const" in words else "*mut "
+        return f"{name}: {pointer}{TYPES[words[words[0] == 'const']]}".replace(" ", "~")
+
+    parts = ", ".join(parameter(text) for text in parameters.split(",") if text != "void")
+    lines = textwrap.wrap(f"fn~{name}({parts})~->~{TYPES[result]};", 99, break_on_hyphens=False,
+                          initial_indent=" " * 4, subsequent_indent=" " * 8)
+    return "\n".join(lines).replace("~", " ") + "\n"
+
+
+def rust():
+    """sys.rs with the statuses, and with the calls that the other files of the crate make."""
+    made = "".join(path.read_text() for path in sorted((TOP / "dist/src").glob("*.rs")) if path.name != "sys.rs")
+    blocks = ["".join(declared(*call) for call in re.findall(r"^(\w+) (keywrap_\w+)\(([^;]*)\);", read(header), re.M)
+                      if re.search(rf"\b{call[1]}\b", made)) for header in HEADERS]
+    numbers = [f"    KEYWRAP_{name}: i32 = {number};\n" for name, number in statuses().items() if name != "NO_MEMORY"]
+    page = re.sub(r"(?<=constants! \{\n)(?:    KEYWRAP_\w+: i32 = \d+;\n)*?(?=    KEYWRAP_ALREADY)", "".join(numbers),
+                  read(RUST))
+    return re.sub(r"(?<=^calls! \{\n).*?(?=^\}\n)", "\n".join(blocks), page, flags=re.M | re.S)
 
 
 def lacking():
     """What has to be written by hand, once: a new status in each language, with what it means there."""
-    return [f"{name}: lacks the status {status}" for name, pattern in STATUSES.items() if name != JAVA
-            for status in statuses() if status not in ("OK", "NO_MEMORY")
-            and not re.search(pattern.format(status), read(name))]
-
-
-def exit_statuses():
-    """The rows of README's table for the exit statuses of the program, from the end of its help."""
-    notes = re.search(r"Exit status:\n((?:  .*\n)+)", read("crates/keywrap_args/src/help.rt"))[1]
-    return {number: f"| {number} | {means} |" for number, means in re.findall(r"^  (\d+)  (.*)$", notes, re.M)}
+    found = [f"{name}: lacks the status {status}" for name, pattern in STATUSES.items() if name != JAVA
+             for status in statuses() if status not in ("OK", "NO_MEMORY")
+             and not re.search(pattern.format(status), read(name))]
+    numbers = re.findall(r"u8 = (\d+);", read("crates/keywrap_cli/src/statuses.rt"))
+    return found + [f"{name}: lacks the exit status {number}" for name, pattern in EXITS.items() for number in numbers
+                    if number not in re.findall(pattern, read(name), re.M)]
 
 
 def readme():
-    text = read("README.md")
-    for number, row in exit_statuses().items():
-        text, count = re.subn(rf"^\| {number} \|.*$", lambda _: row, text, flags=re.M)
-        assert count == 1, f"README.md has {count} rows for the exit status {number}"
+    """README with the exit statuses of the program, from the end of its help. What to try, which the help also has,
+    would make the rows too long."""
+    notes = re.search(r"Exit status:\n((?:  .*\n)+)", read("crates/keywrap_args/src/help.rt"))[1]
+    rows = "".join(f"| {number} | {means} |\n" for number, means in re.findall(r"^  (\d+)  (.*)$", notes, re.M))
+    text, count = re.subn(r"(?<=\| Status \| Means \|\n\|---\|---\|\n)(?:\| \d \|.*\n)*", lambda _: rows,
+                          read("README.md"))
+    assert count == 1, "README.md lacks the table of exit statuses"
     return text
 
 
@@ -144,9 +185,12 @@ def results():
     yield "c/include/keywrap.map", export_map()
     yield "c/hardware/names", renamed()
     yield "README.md", readme()
-    for name in sorted({*STATUSES, *NUMBERS}):
-        text = with_numbers(read(name), STATUSES.get(name, "{}"), statuses() if name in STATUSES else {})
-        yield name, with_numbers(text, NUMBERS.get(name, "{}"), header_numbers() if name in NUMBERS else {})
+    for name in sorted({*STATUSES, *NUMBERS, *TEXTS}):
+        text = rust() if name == RUST else read(name)
+        for patterns, values in (STATUSES, statuses), (NUMBERS, header_numbers), (TEXTS, texts):
+            if name in patterns:
+                text = with_values(text, patterns[name], values())
+        yield name, text
 
 
 def main(arguments):

@@ -45,12 +45,26 @@ def test_number_of_a_status(tree):
 
 
 def test_new_status(tree):
-    """It is missed in each language whose refusals have a class or a text each."""
+    """It is written in Rust's list, and missed in each language whose refusals have a class or a text each."""
     status = tree / "crates/keywrap_calls/src/status.rt"
     status.write_text(f"{status.read_text()}pub const TOO_MANY: i32 = 9;\n")
-    ended = subprocess.run([tree / "scripts/facts.py", "--check"], capture_output=True, text=True)
+    ended = subprocess.run([tree / "scripts/facts.py"], capture_output=True, text=True)
     assert ended.returncode == 1 and ended.stdout.splitlines() == [f"{name}: lacks the status TOO_MANY" for name in (
-        "c/include/keywrap.h", "docs/C_LIBRARY.md", "dist/src/sys.rs", "js/calls.js")]
+        "c/include/keywrap.h", "docs/C_LIBRARY.md", "js/calls.js")]
+    assert "\n    KEYWRAP_TOO_MANY: i32 = 9;\n" in (tree / "dist/src/sys.rs").read_text()
+
+
+@pytest.mark.parametrize("status, text, changed", [
+    ("BAD_LENGTH", "bad length", {"js/calls.js", "c/provider/errors.c"}),
+    ("INTEGRITY", "integrity check failed", {"js/calls.js", "c/provider/errors.c"}),
+    ("NO_MEMORY", "out of memory", {"c/provider/errors.c"}),
+    ("KEY_NOT_PLAIN", "no plain key has the length of the key", {"js/calls.js"})])
+def test_text_of_a_status(tree, status, text, changed):
+    replace(tree / "crates/keywrap_calls/src/texts.rt", f'{status} => b"{text}"', f'{status} => b"other words"')
+    assert written(tree) == changed
+    for name in changed:
+        after = (tree / name).read_text()
+        assert after.count("other words") == 1 and not re.search(rf"['\"]{text}['\"]", after), name
 
 
 def test_longest_key(tree):
@@ -69,10 +83,40 @@ def test_call(tree):
     assert written(tree) == {"c/hardware/names"}
 
 
+def test_call_of_rust(tree):
+    """A call that the Rust crate makes is declared as the header declares it."""
+    header = tree / "c/include/keywrap.h"
+    replace(header, "int32_t keywrap_kind(", """uint32_t keywrap_new(const uint8_t *a, size_t a_len,
+                     uint8_t *KEYWRAP_RESTRICT b, size_t b_len, uint64_t *done,
+                     const uint8_t *a_name_that_needs_two_lines);
+int32_t keywrap_kind(""")
+    with open(tree / "dist/src/kek.rs", "a") as file:
+        file.write("use crate::sys::keywrap_new;\n")
+    assert written(tree) == {"c/include/keywrap.map", "dist/src/sys.rs"}
+    assert """
+    fn keywrap_new(a: *const u8, a_len: usize, b: *mut u8, b_len: usize, done: *mut u64,
+        a_name_that_needs_two_lines: *const u8) -> u32;
+""" in (tree / "dist/src/sys.rs").read_text()
+
+
 def test_exit_status(tree):
     replace(tree / "crates/keywrap_args/src/help.rt", "  7  out of memory\n", "  7  no memory\n")
     assert written(tree) == {"README.md"}
     assert "| 7 | no memory |" in (tree / "README.md").read_text()
+
+
+def test_new_exit_status(tree):
+    """It is missed in the help and in the manual page. The table of README has the lines of the help."""
+    statuses = tree / "crates/keywrap_cli/src/statuses.rt"
+    statuses.write_text(f"{statuses.read_text()}pub const LOCKED: u8 = 8;\n")
+    text, page = tree / "crates/keywrap_args/src/help.rt", tree / "command/man/keywrap.1"
+    lacks = [f"{path.relative_to(tree)}: lacks the exit status 8\n" for path in (text, page)]
+    assert subprocess.run([tree / "scripts/facts.py"], capture_output=True, text=True).stdout == "".join(lacks)
+    replace(text, "  7  out of memory\n", "  7  out of memory\n  8  a lock\n     Wait.\n")
+    assert subprocess.run([tree / "scripts/facts.py"], capture_output=True, text=True).stdout == lacks[1]
+    assert "\n| 7 | out of memory |\n| 8 | a lock |\n| 70 |" in (tree / "README.md").read_text()
+    replace(page, ".It 7\n", ".It 8\nA lock.\n.It 7\n")
+    assert written(tree) == set()
 
 
 def test_option(tree):

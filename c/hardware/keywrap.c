@@ -9,30 +9,21 @@
 #include "aes.h"
 #include "run.h"
 
-/* The calls of the library that is proved as a whole, renamed by c/hardware/names. */
-int32_t proved_keywrap_wrap(const uint8_t *, size_t, const uint8_t *, size_t, uint8_t *, size_t);
-int32_t proved_keywrap_unwrap(const uint8_t *, size_t, const uint8_t *, size_t, uint8_t *, size_t);
-int32_t proved_keywrap_wrap_with(const uint8_t *, size_t, const uint8_t *, size_t, const uint8_t *,
-                                 size_t, uint8_t *, size_t);
-int32_t proved_keywrap_unwrap_with(const uint8_t *, size_t, const uint8_t *, size_t,
-                                   const uint8_t *, size_t, uint8_t *, size_t);
-int32_t proved_keywrap_wrap_padded(const uint8_t *, size_t, const uint8_t *, size_t, uint8_t *,
-                                   size_t);
-int32_t proved_keywrap_unwrap_padded(const uint8_t *, size_t, const uint8_t *, size_t, uint8_t *,
-                                     size_t, size_t *);
-int32_t proved_keywrap_wrap_in_place(const uint8_t *, size_t, uint8_t *, size_t);
-int32_t proved_keywrap_unwrap_in_place(const uint8_t *, size_t, uint8_t *, size_t);
-int32_t proved_keywrap_wrap_padded_in_place(const uint8_t *, size_t, uint8_t *, size_t, size_t);
-int32_t proved_keywrap_unwrap_padded_in_place(const uint8_t *, size_t, uint8_t *, size_t, size_t *);
-int32_t proved_keywrap_kind(const uint8_t *, size_t, const uint8_t *, size_t, uint8_t *, size_t,
-                            uint32_t *, size_t *);
-int32_t proved_keywrap_unwrap_any(const uint8_t *, size_t, const uint8_t *, size_t, uint8_t *,
-                                  size_t, uint32_t *, size_t *);
-int32_t proved_keywrap_rewrap(const uint8_t *, size_t, const uint8_t *, size_t, uint8_t *, size_t,
-                              uint32_t, uint32_t *);
-int32_t proved_keywrap_rewrap_in_place(const uint8_t *, size_t, const uint8_t *, size_t, uint8_t *,
-                                       size_t, uint32_t);
-int32_t proved_keywrap_self_test(void);
+PROVED_CALL(wrap);
+PROVED_CALL(unwrap);
+PROVED_CALL(wrap_with);
+PROVED_CALL(unwrap_with);
+PROVED_CALL(wrap_padded);
+PROVED_CALL(unwrap_padded);
+PROVED_CALL(wrap_in_place);
+PROVED_CALL(unwrap_in_place);
+PROVED_CALL(wrap_padded_in_place);
+PROVED_CALL(unwrap_padded_in_place);
+PROVED_CALL(kind);
+PROVED_CALL(unwrap_any);
+PROVED_CALL(rewrap);
+PROVED_CALL(rewrap_in_place);
+PROVED_CALL(self_test);
 
 /* Makes all steps, and writes the first 8 bytes of the wrapped key. */
 static int32_t wrap(const uint8_t *kek, size_t kek_len, struct run *run, uint8_t *first,

@@ -9,15 +9,10 @@
 #include "aes.h"
 #include "run.h"
 
-/* The calls of the library that is proved as a whole, renamed by c/hardware/names. */
-int32_t proved_keywrap_rewrap_many(const uint8_t *, size_t, const uint8_t *, size_t, uint8_t *,
-                                   size_t, uint32_t, uint8_t *, size_t);
-int32_t proved_keywrap_wrap_many(const uint8_t *, size_t, uint8_t *, size_t, size_t, uint32_t,
-                                 uint8_t *, size_t);
-int32_t proved_keywrap_unwrap_many(const uint8_t *, size_t, uint8_t *, size_t, uint32_t, size_t *,
-                                   size_t, uint8_t *, size_t);
-int32_t proved_keywrap_kind_many(const uint8_t *, size_t, const uint8_t *, size_t, uint8_t *,
-                                 size_t, uint8_t *, size_t, size_t *, size_t, uint8_t *, size_t);
+PROVED_CALL(rewrap_many);
+PROVED_CALL(wrap_many);
+PROVED_CALL(unwrap_many);
+PROVED_CALL(kind_many);
 
 /* Three groups of 8 blocks; and the longest text of which a turn makes copies. */
 enum { LANES = 24, COPIED = 264 };

@@ -7,6 +7,10 @@
 
 static const uint8_t DEFAULT_IV[8] = {0xa6, 0xa6, 0xa6, 0xa6, 0xa6, 0xa6, 0xa6, 0xa6};
 
+/* Declares a call of the library that is proved as a whole, with the type of keywrap.h and the name
+ * of c/hardware/names. */
+#define PROVED_CALL(call) __typeof__(keywrap_##call) proved_keywrap_##call
+
 /* A wrapping or an unwrapping that has begun. */
 struct run {
     uint64_t steps;
