@@ -1,8 +1,8 @@
 #!/usr/bin/env python3
 """Lists the definitions that the contract of a call rests on, computed from `use` lines, and the hashes of a release.
 
-usage: scripts/trust.py                   writes the tables of docs/TRUST.md
-       scripts/trust.py --check           fails if the tables in docs/TRUST.md are others
+usage: scripts/trust.py                   writes the tables of docs/TRUST.md, and the lines of C that dist/README counts
+       scripts/trust.py --check           fails if the tables or the lines in docs/TRUST.md are others
        scripts/trust.py --hashes FILE     writes the hashes of SHA256SUMS, which `make dist` made, into docs/TRUST.md
        scripts/trust.py --check-hashes FILE     fails if the hashes there are others
 
@@ -126,7 +126,9 @@ def main(arguments):
     else:
         begin, end, text = BEGIN, END, tables().strip()
     head, rest = page.split(begin)
-    wanted = f"{head}{begin}\n{text}\n{end}{rest.split(end)[1]}"
+    by_hand, = re.findall(r"the (\d+) lines\sof\skeywrap.c", (TOP / "dist/README").read_text(encoding="utf-8"))
+    wanted = re.sub(r"[\d,]+(?= lines of C around the module)", f"{int(by_hand):,}",
+                    f"{head}{begin}\n{text}\n{end}{rest.split(end)[1]}")
     if not arguments or arguments[0] == "--hashes":
         PAGE.write_text(wanted, encoding="utf-8")
     elif page != wanted:
