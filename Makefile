@@ -88,7 +88,6 @@ dist-sources:
 export BENCH := $(abspath $(BENCH))
 bench: build library library-hardware provider wheel js
 	bench/wrap '$(LIBRARY)/libkeywrap.a'
-	bench/many '$(LIBRARY)/libkeywrap.a'
 	bench/provider '$(PROVIDER)/keywrap.so'
 	bench/java '$(LIBRARY)'
 	$(PYTHON) bench/lines '$(PROGRAM)'

@@ -1,8 +1,8 @@
 /* many.c: measures a rewrap in the call for many keys, beside the call for one key and an unwrap and
- * a wrap by nettle, whose key schedules are kept. All take turns, and the best time of each counts.
- * bench/many compiles and runs it. Writes the times as CSV. */
+ * a wrap by nettle, whose key schedules are kept. The best time of each counts. bench/wrap compiles
+ * and runs it. Writes the times as CSV. */
 
-#include "clock.h"
+#include "turns.h"
 
 #include <keywrap.h>
 #include <stdio.h>
@@ -13,13 +13,11 @@
 #include <nettle/nist-keywrap.h>
 #endif
 
-enum { KEYS = 2400, SINGLE = KEYS / 8, ROUNDS = 200, LONGEST = 32 + 8 };
+enum { KEYS = 2400, SINGLE = KEYS / 8, LONGEST = 32 + 8 };
 
 /* The calls of libkeywrap_hw, by other names. */
-int32_t hw_rewrap(const uint8_t *, size_t, const uint8_t *, size_t, uint8_t *, size_t, uint32_t,
-                  uint32_t *);
-int32_t hw_rewrap_many(const uint8_t *, size_t, const uint8_t *, size_t, uint8_t *, size_t,
-                       uint32_t, uint8_t *, size_t);
+__typeof__(keywrap_rewrap) hw_rewrap;
+__typeof__(keywrap_rewrap_many) hw_rewrap_many;
 
 static uint8_t old_kek[32], new_kek[32], before[KEYS * LONGEST], texts[KEYS * LONGEST];
 static uint8_t wanted[KEYS * LONGEST], statuses[KEYS];
@@ -27,14 +25,13 @@ static size_t text_len;
 static uint32_t flags;
 
 /* Each way rewraps this many keys, from the first one on. */
-static int by_hw_many(void) {
-    return hw_rewrap_many(old_kek, 32, new_kek, 32, texts, KEYS * text_len, flags, statuses, KEYS);
-}
-
-static int by_many(void) {
-    return keywrap_rewrap_many(old_kek, 32, new_kek, 32, texts, SINGLE * text_len, flags, statuses,
-                               SINGLE);
-}
+#define MANY_BY(name, rewrap_many, keys)                                                           \
+    static int name(void) {                                                                        \
+        return rewrap_many(old_kek, 32, new_kek, 32, texts, (keys) * text_len, flags, statuses,    \
+                           keys);                                                                  \
+    }
+MANY_BY(by_hw_many, hw_rewrap_many, KEYS)
+MANY_BY(by_many, keywrap_rewrap_many, SINGLE)
 
 /* The calls for one key. */
 #define SINGLE_BY(name, rewrap)                                                                    \
@@ -82,8 +79,10 @@ static const struct way {
 
 enum { WAY_COUNT = sizeof WAYS / sizeof *WAYS };
 
-/* Returns the nanoseconds a key. Each way must make the same of the keys. */
-static double turn(const struct way *way) {
+/* Returns the nanoseconds a key, of one call. Each way must make the same of the keys. */
+static double turn(int w, unsigned calls) {
+    const struct way *way = WAYS + w;
+    (void)calls;
     memcpy(texts, before, KEYS * text_len);
     const double start = now();
     const int failed = way->run();
@@ -116,14 +115,9 @@ int main(void) {
 #endif
     for (size_t key_len = 16; key_len <= 32; key_len += 16)
         for (flags = 0; flags <= 12; flags += 12) {
-            double best[WAY_COUNT];
+            double best[WAYS_AT_MOST];
             prepare(key_len);
-            for (int w = 0; w < WAY_COUNT; w++) best[w] = 1e18;
-            for (int round = 0; round < ROUNDS; round++)
-                for (int w = 0; w < WAY_COUNT; w++) {
-                    const double time = turn(WAYS + w);
-                    if (time < best[w]) best[w] = time;
-                }
+            take_turns(WAY_COUNT, turn, 1e9, best);
             for (int w = 0; w < WAY_COUNT; w++)
                 printf("\"%s\",%u,%zu,%.0f\n", WAYS[w].name, (unsigned)flags, key_len, best[w]);
         }

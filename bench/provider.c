@@ -1,9 +1,9 @@
 /* provider.c: how long a wrap and an unwrap by EVP take, each with a context of its own, by
  * OpenSSL's own provider and by ours, which is keywrap.so in the directory that is given. Both
- * must write the same bytes. They take turns, and the best time of each counts. bench/provider
- * compiles and runs it. Writes the times as CSV. */
+ * must write the same bytes. The best time of each counts. bench/provider compiles and runs it.
+ * Writes the times as CSV. */
 
-#include "clock.h"
+#include "turns.h"
 
 #include <openssl/evp.h>
 #include <openssl/provider.h>
@@ -11,8 +11,7 @@
 #include <stdio.h>
 #include <string.h>
 
-enum { THEIRS, OURS, SIDES, LONGEST = 4096, ROUNDS = 200 };
-static const double TURN_NS = 500000;
+enum { THEIRS, OURS, SIDES, LONGEST = 4096, ROW_NS = 200000000 };
 static const char *const PROVIDERS[SIDES] = {"default", "keywrap"};
 
 /* One row: a cipher, a direction, and the key's length. */
@@ -29,6 +28,10 @@ static const struct row ROWS[] = {{"AES-128-WRAP", 1, 16},     {"AES-128-WRAP", 
 
 static uint8_t kek[32], key[LONGEST], text[LONGEST + 16];
 
+/* What is timed now, and its cipher of each provider. */
+static const struct row *row;
+static EVP_CIPHER *ciphers[SIDES];
+
 /* Returns the length of the result, or 0 after a refusal. */
 static int call(const EVP_CIPHER *cipher, int wraps, const uint8_t *in, int len, uint8_t *out) {
     EVP_CIPHER_CTX *ctx = EVP_CIPHER_CTX_new();
@@ -40,18 +43,17 @@ static int call(const EVP_CIPHER *cipher, int wraps, const uint8_t *in, int len,
     return done ? out_len + more : 0;
 }
 
-/* Returns the nanoseconds per call, over a turn of `calls` calls. */
-static double turn(const EVP_CIPHER *cipher, const struct row *row, unsigned calls) {
+static double turn(int side, unsigned calls) {
     uint8_t out[LONGEST + 32];
-    double start = now();
+    const double start = now();
     for (unsigned i = 0; i < calls; i++)
-        call(cipher, row->wraps, row->wraps ? key : text, row->wraps ? row->len : row->len + 8,
-             out);
+        call(ciphers[side], row->wraps, row->wraps ? key : text,
+             row->wraps ? row->len : row->len + 8, out);
     return (now() - start) / calls;
 }
 
 /* Returns whether both make the same wrapped key, and each unwraps it. */
-static int agree(EVP_CIPHER *const ciphers[], const struct row *row) {
+static int agree(void) {
     uint8_t out[LONGEST + 32];
     int text_len = row->len + 8;
     if (call(ciphers[THEIRS], 1, key, row->len, text) != text_len) return 0;
@@ -63,26 +65,16 @@ static int agree(EVP_CIPHER *const ciphers[], const struct row *row) {
     return 1;
 }
 
-static int time_row(const struct row *row) {
-    EVP_CIPHER *ciphers[SIDES];
+static int time_row(void) {
     double best[SIDES];
-    unsigned calls[SIDES];
     for (int i = 0; i < SIDES; i++) {
         char properties[32];
         snprintf(properties, sizeof properties, "provider=%s", PROVIDERS[i]);
         ciphers[i] = EVP_CIPHER_fetch(NULL, row->name, properties);
         if (ciphers[i] == NULL) return 0;
     }
-    if (!agree(ciphers, row)) return 0;
-    for (int i = 0; i < SIDES; i++) {
-        best[i] = turn(ciphers[i], row, 1);
-        calls[i] = (unsigned)(TURN_NS / best[i]) + 1;
-    }
-    for (int round = 0; round < ROUNDS; round++)
-        for (int i = 0; i < SIDES; i++) {
-            double time = turn(ciphers[i], row, calls[i]);
-            if (time < best[i]) best[i] = time;
-        }
+    if (!agree()) return 0;
+    take_turns(SIDES, turn, ROW_NS, best);
     printf("%s,%s,%d,%.0f,%.0f\n", row->name, row->wraps ? "wrap" : "unwrap", row->len,
            best[THEIRS], best[OURS]);
     for (int i = 0; i < SIDES; i++) EVP_CIPHER_free(ciphers[i]);
@@ -99,9 +91,9 @@ int main(int argc, char **argv) {
     for (size_t i = 0; i < sizeof kek; i++) kek[i] = (uint8_t)(3 * i + 1);
     for (size_t i = 0; i < sizeof key; i++) key[i] = (uint8_t)(7 * i);
     printf("cipher,call,key,default_ns,keywrap_ns\n");
-    for (size_t i = 0; i < sizeof ROWS / sizeof *ROWS; i++)
-        if (!time_row(ROWS + i)) {
-            fprintf(stderr, "%s: not the same bytes\n", ROWS[i].name);
+    for (row = ROWS; row < ROWS + sizeof ROWS / sizeof *ROWS; row++)
+        if (!time_row()) {
+            fprintf(stderr, "%s: not the same bytes\n", row->name);
             return 1;
         }
     return 0;

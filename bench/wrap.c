@@ -1,13 +1,13 @@
 /* wrap.c: measures how long the library takes to wrap and to unwrap, beside other libraries if they
- * are installed and the same algorithm in C, each with its key schedule. First all must return the
- * same bytes. Then they take turns at every length, for many short rounds (a long call only in some
- * of them), and the best time of each counts. bench/wrap compiles and runs it. Writes CSV.
+ * are installed and the same algorithm in C, each with its key schedule. At every length all must
+ * return the same bytes, and the best time of each counts. bench/wrap compiles and runs it. Writes
+ * CSV.
  *
- * usage: wrap SECONDS        (at least five rounds) */
+ * usage: wrap SECONDS */
 
 #define OPENSSL_SUPPRESS_DEPRECATED
 
-#include "clock.h"
+#include "turns.h"
 
 #include <keywrap.h>
 #include <stdio.h>
@@ -31,18 +31,11 @@ enum { KEK_LEN = 32 };
 /* How a block is computed: in software, or by the AES instructions of the processor. */
 enum blocks { SOFTWARE, INSTRUCTIONS };
 
-static int wrap_ours(const uint8_t *kek, const uint8_t *key, size_t len, uint8_t *text) {
-    return keywrap_wrap(kek, KEK_LEN, key, len, text, KEYWRAP_TEXT_LEN(len)) == KEYWRAP_OK;
-}
-
-static int unwrap_ours(const uint8_t *kek, const uint8_t *text, size_t len, uint8_t *key) {
-    return keywrap_unwrap(kek, KEK_LEN, text, KEYWRAP_TEXT_LEN(len), key, len) == KEYWRAP_OK;
-}
-
-/* The calls of another build of the library, as bench/wrap renames them. */
+/* The calls of a build of the library: of the one that is measured, or of another, as bench/wrap
+ * renames them. */
 #define BUILD(name)                                                                                \
-    int32_t name##_wrap(const uint8_t *, size_t, const uint8_t *, size_t, uint8_t *, size_t);      \
-    int32_t name##_unwrap(const uint8_t *, size_t, const uint8_t *, size_t, uint8_t *, size_t);    \
+    __typeof__(keywrap_wrap) name##_wrap;                                                          \
+    __typeof__(keywrap_unwrap) name##_unwrap;                                                      \
     static int wrap_by_##name(const uint8_t *kek, const uint8_t *key, size_t len, uint8_t *text) { \
         return name##_wrap(kek, KEK_LEN, key, len, text, KEYWRAP_TEXT_LEN(len)) == KEYWRAP_OK;     \
     }                                                                                              \
@@ -50,11 +43,10 @@ static int unwrap_ours(const uint8_t *kek, const uint8_t *text, size_t len, uint
                                 uint8_t *key) {                                                    \
         return name##_unwrap(kek, KEK_LEN, text, KEYWRAP_TEXT_LEN(len), key, len) == KEYWRAP_OK;   \
     }
+BUILD(keywrap)
 BUILD(portable)
 BUILD(portable_hw)
-#ifdef HAVE_HARDWARE
 BUILD(hw)
-#endif
 
 #ifdef HAVE_OPENSSL
 static int wrap_openssl(const uint8_t *kek, const uint8_t *key, size_t len, uint8_t *text) {
@@ -132,10 +124,8 @@ static const struct peer {
     int (*wrap)(const uint8_t *kek, const uint8_t *key, size_t len, uint8_t *text);
     int (*unwrap)(const uint8_t *kek, const uint8_t *text, size_t len, uint8_t *key);
 } PEERS[] = {
-    {"keywrap", SOFTWARE, wrap_ours, unwrap_ours},
-#ifdef HAVE_HARDWARE
+    {"keywrap", SOFTWARE, wrap_by_keywrap, unwrap_by_keywrap},
     {"hardware", INSTRUCTIONS, wrap_by_hw, unwrap_by_hw},
-#endif
     {"portable", SOFTWARE, wrap_by_portable, unwrap_by_portable},
     {"portable_hw", INSTRUCTIONS, wrap_by_portable_hw, unwrap_by_portable_hw},
 #ifdef HAVE_OPENSSL
@@ -169,103 +159,54 @@ static const char *blocks_of(const struct peer *peer) {
     return peer->blocks == INSTRUCTIONS ? "AES inst." : "software";
 }
 
-enum direction { WRAP, UNWRAP };
-
 /* The lengths of the keys. The last is the longest that the library takes. */
 static const size_t LENS[] = {16, 32, 256, 4096, KEYWRAP_MAX_KEY};
-enum { LEN_COUNT = KEYWRAP_MAX_KEY > 4096 ? 5 : 4 };
-
-enum { ROUNDS_AT_LEAST = 5, TURN_NS = 300000, LONG_NS = 3000000 };
-
-/* One row of the result: what is timed, once in `every` rounds, in turns of `calls` calls, and the
- * best time of a call. */
-struct row {
-    enum direction direction;
-    size_t len;
-    unsigned every;
-    unsigned calls[PEER_COUNT];
-    double best[PEER_COUNT];
-};
-
-enum { ROW_COUNT = 2 * LEN_COUNT };
-
-static struct row rows[ROW_COUNT];
+enum { LEN_COUNT = sizeof LENS / sizeof *LENS };
 
 static uint8_t kek[KEK_LEN], key[KEYWRAP_MAX_KEY];
 static uint8_t text[KEYWRAP_MAX_TEXT], answer[KEYWRAP_MAX_TEXT];
 
-static int call(const struct row *row, int p) {
-    return row->direction == WRAP ? PEERS[p].wrap(kek, key, row->len, answer)
-                                  : PEERS[p].unwrap(kek, text, row->len, answer);
+/* What is timed now: `text` is the wrapped key. */
+static size_t len;
+static int unwraps;
+
+static int call(int p) {
+    return unwraps ? PEERS[p].unwrap(kek, text, len, answer) : PEERS[p].wrap(kek, key, len, answer);
 }
 
-/* Makes the wrapped key of the row, which its unwraps read. */
-static int prepare(const struct row *row) {
-    return PEERS->wrap(kek, key, row->len, text);
-}
-
-/* Returns whether each peer writes what this library writes. */
-static int agree(const struct row *row) {
-    if (!prepare(row)) return 0;
-    for (int p = 0; p < PEER_COUNT; p++) {
-        int same = call(row, p);
-        same = same
-               && (row->direction == WRAP ? !memcmp(answer, text, row->len + 8)
-                                          : !memcmp(answer, key, row->len));
-        if (!same) {
-            fprintf(stderr, "%s: other bytes, at a key of %zu bytes\n", PEERS[p].name, row->len);
+/* Makes the wrapped key, and returns whether each peer writes what this library writes. */
+static int agree(void) {
+    if (!PEERS->wrap(kek, key, len, text)) return 0;
+    for (int p = 0; p < PEER_COUNT; p++)
+        if (!call(p) || (unwraps ? memcmp(answer, key, len) : memcmp(answer, text, len + 8))) {
+            fprintf(stderr, "%s: other bytes, at a key of %zu bytes\n", PEERS[p].name, len);
             return 0;
         }
-    }
     return 1;
 }
 
-/* Returns the nanoseconds per call, over a turn of `calls` calls. */
-static double turn(const struct row *row, int p, unsigned calls) {
-    double start = now();
+static double turn(int p, unsigned calls) {
+    const double start = now();
     for (unsigned i = 0; i < calls; i++)
-        if (!call(row, p)) return 1e18;
+        if (!call(p)) return 1e18;
     return (now() - start) / calls;
 }
 
-/* Prepares a row, and returns whether it can be timed. */
-static int start(struct row *row) {
-    if (!agree(row)) return 0;
-    for (int p = 0; p < PEER_COUNT; p++) {
-        row->best[p] = turn(row, p, 1);
-        row->calls[p] = (unsigned)(TURN_NS / row->best[p]) + 1;
-    }
-    row->every = (unsigned)(row->best[0] / LONG_NS) + 1;
-    return 1;
-}
-
-static void take_turns(struct row *row) {
-    if (!prepare(row)) return;
-    for (int p = 0; p < PEER_COUNT; p++) {
-        double time = turn(row, p, row->calls[p]);
-        if (time < row->best[p]) row->best[p] = time;
-    }
-}
-
 int main(int argc, char **argv) {
-    unsigned rounds = 0;
-    double begun, all_ns = argc >= 2 ? atof(argv[1]) * 1e9 : 0;
+    const double row_ns = argc >= 2 ? atof(argv[1]) * 1e9 / (2 * LEN_COUNT) : 0;
+    double best[WAYS_AT_MOST];
     for (size_t i = 0; i < sizeof kek; i++) kek[i] = (uint8_t)(3 * i + 1);
     for (size_t i = 0; i < sizeof key; i++) key[i] = (uint8_t)(7 * i);
     start_peers();
-    for (int r = 0; r < ROW_COUNT; r++) {
-        rows[r].direction = r < LEN_COUNT ? WRAP : UNWRAP;
-        rows[r].len = LENS[r % LEN_COUNT];
-        if (!start(rows + r)) return 1;
-    }
-    for (begun = now(); rounds < ROUNDS_AT_LEAST || now() - begun < all_ns; rounds++)
-        for (int r = 0; r < ROW_COUNT; r++)
-            if (rounds % rows[r].every == 0) take_turns(rows + r);
     printf("library,blocks,kek,call,key,ns_per_block\n");
-    for (const struct row *row = rows; row < rows + ROW_COUNT; row++)
-        for (int p = 0; p < PEER_COUNT; p++)
-            printf("%s,%s,%zu,%s,%zu,%.1f\n", PEERS[p].name, blocks_of(PEERS + p), (size_t)KEK_LEN,
-                   row->direction == WRAP ? "wrap" : "unwrap", row->len,
-                   row->best[p] / (double)(6 * (row->len / 8)));
+    for (unwraps = 0; unwraps < 2; unwraps++)
+        for (int row = 0; row < LEN_COUNT; row++) {
+            len = LENS[row];
+            if (!agree()) return 1;
+            take_turns(PEER_COUNT, turn, row_ns, best);
+            for (int p = 0; p < PEER_COUNT; p++)
+                printf("%s,%s,%d,%s,%zu,%.1f\n", PEERS[p].name, blocks_of(PEERS + p), KEK_LEN,
+                       unwraps ? "unwrap" : "wrap", len, best[p] / (double)(6 * (len / 8)));
+        }
     return 0;
 }

@@ -8,7 +8,7 @@ crates/keywrap_calls/src, crates.txt, and the prototypes and flags of keywrap.h 
 
 usage: scripts/facts.py             writes the files
        scripts/facts.py --check     fails if a file is another
-Both name the files that lack a status, which are written by hand.
+Both name the files that lack a status or an option, which are written by hand.
 """
 
 import re
@@ -134,13 +134,17 @@ def rust():
 
 
 def lacking():
-    """What has to be written by hand, once: a new status in each language, with what it means there."""
+    """What has to be written by hand, once: a new status in each language, with what it means there; a new exit status
+    and a new option, with what the manual page says of it."""
     found = [f"{name}: lacks the status {status}" for name, pattern in STATUSES.items() if name != JAVA
              for status in statuses() if status not in ("OK", "NO_MEMORY")
              and not re.search(pattern.format(status), read(name))]
     numbers = re.findall(r"u8 = (\d+);", read("crates/keywrap_cli/src/statuses.rt"))
-    return found + [f"{name}: lacks the exit status {number}" for name, pattern in EXITS.items() for number in numbers
-                    if number not in re.findall(pattern, read(name), re.M)]
+    found += [f"{name}: lacks the exit status {number}" for name, pattern in EXITS.items() for number in numbers
+              if number not in re.findall(pattern, read(name), re.M)]
+    items = "\n".join(re.findall(r"^\.It .*", read("command/man/keywrap.1"), re.M))
+    return found + [f"command/man/keywrap.1: lacks the option --{option.name}" for option in completions.OPTIONS
+                    if not re.search(rf"Fl -{option.name}(?![\w-])", items)]
 
 
 def readme():

@@ -127,7 +127,6 @@ def curves(drawing, top, rows, title):
 
 
 def wrap():
-    """The time of a block call over the length of the key, beside other libraries."""
     about, rows = read("wrap")
     drawing = Drawing(584, "Nanoseconds for each block call, over the length of the key")
     drawing.text(8, 20, "Nanoseconds for each block call (six for each 8 bytes of key),")
@@ -159,17 +158,15 @@ def bars(about, title, line, groups):
 
 
 def lines():
-    """Keys per second of the command with --lines, beside a script and a process for each key."""
     about, rows = read("lines")
-    rates = [(row["job"], row["way"], int(row["keys_per_second"])) for row in rows]
+    rates = sorted(((row["job"], row["way"], int(row["keys_per_second"])) for row in rows), key=lambda row: -row[2])
     return bars(about, "Keys per second, from a file into a file",
                 "Keys per second, from a file into a file; keys and KEKs of 32 bytes.", [
-        (job, sorted([(way, rate, f"{rate:,}") for name, way, rate in rates if name == job], key=lambda row: -row[1]))
+        (job, [(way, rate, f"{rate:,}") for name, way, rate in rates if name == job])
         for job in ("wrap", "unwrap", "rewrap")])
 
 
 def provider():
-    """The time of a call by EVP, by OpenSSL's own provider and by ours."""
     about, rows = read("provider")
     return bars(about, "Microseconds for a call by EVP, by both providers",
                 "Microseconds for a call by EVP with AES-256-WRAP.", [
@@ -180,7 +177,6 @@ def provider():
 
 
 def js():
-    """The time of a wrap in a page, beside Web Crypto."""
     about, rows = read("js")
     return bars(about, "Microseconds for a wrap in a page, beside Web Crypto",
                 "Microseconds for a wrap in a page, with a KEK of 16 bytes.", [
@@ -191,7 +187,6 @@ def js():
 
 
 def many():
-    """The time of a rewrap of one of many keys, in the call for many and in the call for one."""
     about, rows = read("many")
     return bars(about, "Nanoseconds for a rewrap of one of many keys",
                 "Nanoseconds for a rewrap, of keys and KEKs of 32 bytes, on one core.", [
@@ -201,7 +196,6 @@ def many():
 
 
 def rotation():
-    """A terminal during and after the rotation of a million keys."""
     shown = []
     key, *lines_shown = (PICTURES / "rotation.txt").read_text(encoding="utf-8").splitlines()
     for line in lines_shown:
@@ -220,15 +214,15 @@ def rotation():
 
 
 def main(arguments):
-    stale = []
+    stale = False
     for draw in wrap, many, lines, provider, js, rotation:
         path, text = PICTURES / f"{draw.__name__}.svg", draw().svg()
         if arguments != ["--check"]:
             path.write_text(text, encoding="utf-8")
         elif not path.exists() or path.read_text(encoding="utf-8") != text:
-            stale.append(f"docs/pictures/{path.name}: stale, run make pictures")
-    print("\n".join(stale), end="\n" * bool(stale))
-    return 1 if stale else 0
+            stale = True
+            print(f"docs/pictures/{path.name}: stale, run make pictures")
+    return stale
 
 
 if __name__ == "__main__":

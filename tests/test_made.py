@@ -120,7 +120,11 @@ def test_new_exit_status(tree):
 
 
 def test_option(tree):
+    """It is missed in the manual page, which explains it."""
     text = (tree / "crates/keywrap_args/src/options.rt").read_text()
     (tree / "crates/keywrap_args/src/options.rt").write_text(text.replace('"keep-going"', '"go-on"'))
+    ended = subprocess.run([tree / "scripts/facts.py", "--check"], capture_output=True, text=True)
+    assert ended.stdout.startswith("command/man/keywrap.1: lacks the option --go-on\n")
+    replace(tree / "command/man/keywrap.1", ".It Fl -keep-going\n", ".It Fl -go-on\n")
     completions = {f"command/completions/{name}" for name in ("keywrap.bash", "_keywrap", "keywrap.fish")}
     assert written(tree) == completions | {"command/man/keywrap.1"}

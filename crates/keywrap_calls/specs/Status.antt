@@ -1,4 +1,4 @@
--- The statuses of the calls, which are the exit statuses of the command keywrap.
+-- The statuses of the calls. Each is a number here too, so that a changed constant of status.rt is refused.
 use Rattle.std.specs.Prelude.{◌≡◌, ◌⊎◌, ℤ, pos, Result, Ok, Err}
 use Rattle.key_wrap_core.specs.declared.faults.InPlaceFault.{InPlaceFault}
 use Rattle.key_wrap_core.specs.declared.faults.InPlaceFault.TheVariants.{BadLength, Integrity}

@@ -1,4 +1,5 @@
--- The text of a status, and the part of it in a buffer.
+-- The text of a status, and the part of it in a buffer. Numbers and texts are repeated here, so that a change of status.rt
+-- or texts.rt is refused.
 use Rattle.std.specs.Prelude.{ℕ, ℤ, pos, List, ◌∷◌, ◌++◌, ◌+◌, ◌-◌, length, take, drop, codes, if◌then◌else◌}
 use Rattle.std.specs.Ordering.{int_eq}
 

@@ -1,4 +1,4 @@
-//! The statuses of the calls: the exit statuses of the command.
+//! The statuses of the calls. Up to 7 they mean the same as the exit statuses of the command.
 
 ghost use Rattle.std.specs.Prelude.{◌≡◌};
 ghost use Rattle.keywrap_calls.specs.Status.{fault_status, outcome_status};

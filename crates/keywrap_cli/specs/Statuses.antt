@@ -1,5 +1,4 @@
--- The exit status of each fault: 2 for the arguments, 3 for a KEK, 4 for a length, 5 for the integrity check, 6 for a
--- file, 7 for memory.
+-- The exit status of each fault. It is a number here too, so that a changed constant of statuses.rt is refused.
 use Rattle.std.specs.Prelude.{ℕ}
 use Rattle.key_files.specs.declared.fault.FileFault.TheVariants as files
 use Rattle.key_lines.specs.declared.fault.LineFault.{LineFault}
