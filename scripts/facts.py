@@ -29,6 +29,8 @@ STATUSES = {
     "js/calls.js": r"const {} = (\d+)",
     JAVA: r"int {} = (\d+)",
 }
+# The files that give each status a name or a type of theirs, beside those above.
+NAMED = {"dist/keywrap.go": r"C\.KEYWRAP_{}\b", "dist/src/error.rs": r"\bKEYWRAP_{}\b"}
 # The files with other numbers of keywrap.h: the longest key, and the flags of a rewrap.
 NUMBERS = {
     RUST: r"KEYWRAP_{}: \w+ = (\d+)",
@@ -105,7 +107,8 @@ def texts():
 def with_values(text, pattern, values):
     """The text with the values of these constants, of those that it has."""
     for name, value in values.items():
-        text = re.sub(pattern.format(name), lambda found: value.join(found[0].rsplit(found[1], 1)), text)
+        for found in reversed([*re.finditer(pattern.format(name), text)]):
+            text = text[:found.start(1)] + value + text[found.end(1):]
     return text
 
 
@@ -136,7 +139,7 @@ def rust():
 def lacking():
     """What has to be written by hand, once: a new status in each language, with what it means there; a new exit status
     and a new option, with what the manual page says of it."""
-    found = [f"{name}: lacks the status {status}" for name, pattern in STATUSES.items() if name != JAVA
+    found = [f"{name}: lacks the status {status}" for name, pattern in {**STATUSES, **NAMED}.items() if name != JAVA
              for status in statuses() if status not in ("OK", "NO_MEMORY")
              and not re.search(pattern.format(status), read(name))]
     numbers = re.findall(r"u8 = (\d+);", read("crates/keywrap_cli/src/statuses.rt"))

@@ -50,7 +50,7 @@ def test_new_status(tree):
     status.write_text(f"{status.read_text()}pub const TOO_MANY: i32 = 9;\n")
     ended = subprocess.run([tree / "scripts/facts.py"], capture_output=True, text=True)
     assert ended.returncode == 1 and ended.stdout.splitlines() == [f"{name}: lacks the status TOO_MANY" for name in (
-        "c/include/keywrap.h", "docs/C_LIBRARY.md", "js/calls.js")]
+        "c/include/keywrap.h", "docs/C_LIBRARY.md", "js/calls.js", "dist/keywrap.go", "dist/src/error.rs")]
     assert "\n    KEYWRAP_TOO_MANY: i32 = 9;\n" in (tree / "dist/src/sys.rs").read_text()
 
 
