@@ -12,7 +12,8 @@ from builds import ROOT
 
 @pytest.fixture
 def tree(tmp_path):
-    tree = shutil.copytree(ROOT, tmp_path / "tree", ignore=shutil.ignore_patterns("out", ".git", "tests"))
+    tree = shutil.copytree(ROOT, tmp_path / "tree", ignore=shutil.ignore_patterns(
+        "out", ".git", "tests", "proofs", "must-fail"))
     shutil.copytree(ROOT / "tests/library/1.0.0", tree / "tests/library/1.0.0")
     return tree
 
