@@ -115,7 +115,7 @@ int main(void) {
 #endif
     for (size_t key_len = 16; key_len <= 32; key_len += 16)
         for (flags = 0; flags <= 12; flags += 12) {
-            double best[WAYS_AT_MOST];
+            double best[WAY_COUNT];
             prepare(key_len);
             take_turns(WAY_COUNT, turn, 1e9, best);
             for (int w = 0; w < WAY_COUNT; w++)

@@ -1,7 +1,7 @@
 /* wrap.c: measures how long the library takes to wrap and to unwrap, beside other libraries if they
- * are installed and the same algorithm in C, each with its key schedule. At every length all must
- * return the same bytes, and the best time of each counts. bench/wrap compiles and runs it. Writes
- * CSV.
+ * are installed and the same algorithm in C, each with its key schedule. First all must return the
+ * same bytes. Then the best time of each counts, at every length. bench/wrap compiles and runs it.
+ * Writes CSV.
  *
  * usage: wrap SECONDS */
 
@@ -161,52 +161,61 @@ static const char *blocks_of(const struct peer *peer) {
 
 /* The lengths of the keys. The last is the longest that the library takes. */
 static const size_t LENS[] = {16, 32, 256, 4096, KEYWRAP_MAX_KEY};
-enum { LEN_COUNT = sizeof LENS / sizeof *LENS };
+enum { LEN_COUNT = sizeof LENS / sizeof *LENS, WAY_COUNT = 2 * LEN_COUNT * PEER_COUNT };
 
-static uint8_t kek[KEK_LEN], key[KEYWRAP_MAX_KEY];
-static uint8_t text[KEYWRAP_MAX_TEXT], answer[KEYWRAP_MAX_TEXT];
+static uint8_t kek[KEK_LEN], key[KEYWRAP_MAX_KEY], answer[KEYWRAP_MAX_TEXT];
+/* The wrapped key of each length. */
+static uint8_t texts[LEN_COUNT][KEYWRAP_MAX_TEXT];
 
-/* What is timed now: `text` is the wrapped key. */
-static size_t len;
-static int unwraps;
-
-static int call(int p) {
-    return unwraps ? PEERS[p].unwrap(kek, text, len, answer) : PEERS[p].wrap(kek, key, len, answer);
+/* One of the ways: a peer, at a length, in a direction. */
+static struct way {
+    const struct peer *peer;
+    size_t len;
+    uint8_t *text;
+    int unwraps;
+} way_of(int w) {
+    const int at = w / PEER_COUNT % LEN_COUNT;
+    return (struct way){PEERS + w % PEER_COUNT, LENS[at], texts[at], w >= LEN_COUNT * PEER_COUNT};
 }
 
-/* Makes the wrapped key, and returns whether each peer writes what this library writes. */
-static int agree(void) {
-    if (!PEERS->wrap(kek, key, len, text)) return 0;
-    for (int p = 0; p < PEER_COUNT; p++)
-        if (!call(p) || (unwraps ? memcmp(answer, key, len) : memcmp(answer, text, len + 8))) {
-            fprintf(stderr, "%s: other bytes, at a key of %zu bytes\n", PEERS[p].name, len);
-            return 0;
-        }
-    return 1;
+static int call(const struct way *way) {
+    return way->unwraps ? way->peer->unwrap(kek, way->text, way->len, answer)
+                        : way->peer->wrap(kek, key, way->len, answer);
 }
 
-static double turn(int p, unsigned calls) {
+static double turn(int w, unsigned calls) {
+    const struct way way = way_of(w);
     const double start = now();
     for (unsigned i = 0; i < calls; i++)
-        if (!call(p)) return 1e18;
+        if (!call(&way)) return 1e18;
     return (now() - start) / calls;
 }
 
+/* Returns whether a peer writes what this library writes, which is the first. */
+static int agrees(const struct way *way) {
+    if (way->peer == PEERS && !PEERS->wrap(kek, key, way->len, way->text)) return 0;
+    return call(way) && (way->unwraps ? !memcmp(answer, key, way->len)
+                                      : !memcmp(answer, way->text, way->len + 8));
+}
+
 int main(int argc, char **argv) {
-    const double row_ns = argc >= 2 ? atof(argv[1]) * 1e9 / (2 * LEN_COUNT) : 0;
-    double best[WAYS_AT_MOST];
+    static double best[WAY_COUNT];
     for (size_t i = 0; i < sizeof kek; i++) kek[i] = (uint8_t)(3 * i + 1);
     for (size_t i = 0; i < sizeof key; i++) key[i] = (uint8_t)(7 * i);
     start_peers();
-    printf("library,blocks,kek,call,key,ns_per_block\n");
-    for (unwraps = 0; unwraps < 2; unwraps++)
-        for (int row = 0; row < LEN_COUNT; row++) {
-            len = LENS[row];
-            if (!agree()) return 1;
-            take_turns(PEER_COUNT, turn, row_ns, best);
-            for (int p = 0; p < PEER_COUNT; p++)
-                printf("%s,%s,%d,%s,%zu,%.1f\n", PEERS[p].name, blocks_of(PEERS + p), KEK_LEN,
-                       unwraps ? "unwrap" : "wrap", len, best[p] / (double)(6 * (len / 8)));
+    for (int w = 0; w < WAY_COUNT; w++) {
+        const struct way way = way_of(w);
+        if (!agrees(&way)) {
+            fprintf(stderr, "%s: other bytes, at a key of %zu bytes\n", way.peer->name, way.len);
+            return 1;
         }
+    }
+    take_turns(WAY_COUNT, turn, argc >= 2 ? atof(argv[1]) * 1e9 : 0, best);
+    printf("library,blocks,kek,call,key,ns_per_block\n");
+    for (int w = 0; w < WAY_COUNT; w++) {
+        const struct way way = way_of(w);
+        printf("%s,%s,%d,%s,%zu,%.1f\n", way.peer->name, blocks_of(way.peer), KEK_LEN,
+               way.unwraps ? "unwrap" : "wrap", way.len, best[w] / (double)(6 * (way.len / 8)));
+    }
     return 0;
 }
