@@ -21,9 +21,12 @@ launch() {
 # left: what a run left: temporary files, a rattle, a make over this tree. A process that the fake rattle had just
 # started when it was ended, such as a grep, ends by itself.
 left() {
-    local make
+    local make tries
     ls tmp
-    ! pgrep -f "$tree/bin/rattle" >/dev/null || sleep 1
+    for ((tries = 0; tries < 20; tries++)); do
+        pgrep -f "$tree/bin/rattle" >/dev/null || break
+        sleep 1
+    done
     pgrep -af "$tree/bin/rattle"
     for make in $(pgrep -f first_use.mk); do
         [ "$(readlink "/proc/$make/cwd")" != "$tree" ] || echo "make $make"
@@ -193,14 +196,15 @@ verdict 'a crate begins where those below it are proved' "$([ "$status" = 5 ] ||
         diff - <(printf '%s\n' 'ends second_four' 'above_second: build --jobs 2' 'ends above_second')
     grep -A 9 '^ends above' notes | grep -c '^ends .*_four' | grep -vx 3)"
 
-# If a proof fails, the proofs beside it are ended, and no other begins.
+# If a proof fails, the proofs beside it are ended, and no other begins. The second ends once make, which waits for its
+# children, has seen that the first failed.
 fresh; at='(first|second)_four' event='until_true begun 4
-    [ $crate = second_four ] || { touch ../../failed; exit 1; }
-    until_true [ -e ../../failed ]; sleep 0.5' launch
+    [ $crate = second_four ] || { echo $$ >../../failed; exit 1; }
+    until_true [ -s ../../failed ]; until_true eval "[ ! -e /proc/$(<../../failed) ]"' launch
 launched 'a proof fails beside others' 70 '' "$starts
 $(said first_four)
 keywrap: the build failed: first_four" 'ends fourth_four' 'ends second_four' 'ends third_four' "${begins[@]}"
-fresh; at='(first|third)_four' event='until_true begun 4; sleep 0.5; exit 1' launch
+fresh; at='(first|third)_four' event='until_true grep -q "^ends above" "$tree/notes"; exit 1' launch
 launched 'two proofs fail' 70 '' "$starts
 $(said first_four)
 $(said third_four)

@@ -61,7 +61,7 @@ def in_root(debs, script, **files):
         dpkg --root="$PWD/merged" -P {" ".join(PACKAGES)}
         find over/upper ! -type c -path '*keywrap*' >left"""
     ended = subprocess.run(["unshare", "-m", "bash", "-euc", IN_ROOT + script], stdin=subprocess.DEVNULL,
-                           capture_output=True, text=True, timeout=240)
+                           capture_output=True, text=True, timeout=1200)
     assert ended.returncode == 0, ended.stdout[-1500:] + ended.stderr[-1500:]
     return pathlib.Path("found").read_text().splitlines(), pathlib.Path("left").read_text()
 

@@ -151,7 +151,7 @@ class TestFaults:
         ids=["equal numbers on two file systems", "mount point", "equal number meanwhile"])
     def test_mounts(self, keywrap, script, ended):
         unshare, env = ["unshare", "-rm", "sh", "-eu", "-c"], {**os.environ, "program": keywrap.path}
-        run = subprocess.run([*unshare, script], env=env, capture_output=True, text=True, timeout=240)
+        run = subprocess.run([*unshare, script], env=env, capture_output=True, text=True, timeout=1200)
         if run.returncode == 77:
             pytest.skip("the file systems give other numbers")
         assert (run.returncode, run.stdout, run.stderr) == ended

@@ -129,3 +129,18 @@ def test_option(tree):
     replace(tree / "command/man/keywrap.1", ".It Fl -keep-going\n", ".It Fl -go-on\n")
     completions = {f"command/completions/{name}" for name in ("keywrap.bash", "_keywrap", "keywrap.fish")}
     assert written(tree) == completions | {"command/man/keywrap.1"}
+
+
+@pytest.mark.parametrize("name, old, new, error", [
+    ("options.rt", '"keep-going",', 'concat!("keep", "-going"),', "options.rt is not as it was"),
+    ("help.rt", "  7  out of memory\n", "  7  out of memory\n  8  other\n",
+     "README.md has 0 rows for the exit status 8")])
+def test_what_it_does_not_find(tree, name, old, new, error):
+    """An option that is written in another way, and an exit status without its row, are errors."""
+    source = tree / "crates/keywrap_args/src" / name
+    text = source.read_text()
+    assert old in text
+    source.write_text(text.replace(old, new, 1))
+    for more in [], ["--check"]:
+        ended = subprocess.run([tree / "scripts/facts.py", *more], capture_output=True, text=True)
+        assert ended.returncode == 1 and error in ended.stderr, ended

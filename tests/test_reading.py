@@ -38,7 +38,7 @@ def whatever_can_be_read(content, run):
     with open("content", "rb") as file, shared(file.fileno()) as name:
         yield run(name)
     os.mkfifo("named")
-    with subprocess.Popen(["timeout", "60", "sh", "-c", "cat content >named"]):
+    with subprocess.Popen(["timeout", "240", "sh", "-c", "cat content >named"]):
         yield run("named")
 
 

@@ -42,7 +42,7 @@ def follow(keywrap, files, script):
     os.symlink(keywrap.path, "bin/keywrap")
     pathlib.Path("script").write_text(script)
     ended = subprocess.run(["bash", "-u", "../script"], cwd="here", env=environment, stdin=subprocess.DEVNULL,
-                           stdout=subprocess.PIPE, stderr=subprocess.STDOUT, text=True, timeout=300)
+                           stdout=subprocess.PIPE, stderr=subprocess.STDOUT, text=True, timeout=1200)
     assert ended.returncode == 0, ended.stdout
     return ended.stdout
 

@@ -8,7 +8,7 @@ import time
 import pytest
 
 from commands import WRAP, table, unescaped
-from program import Ended, wait_for
+from program import Ended
 from vectors import KEK16, KEY16, VECTOR_LINES, WRAPPED16
 
 RAW = "keywrap: output: raw bytes do not go to a terminal; redirect it or use --output\n"
@@ -146,18 +146,12 @@ class TestProgress:
         assert [run.ended() for run in runs] == [Ended(0, f"{WRAPPED16}\n" * 2), Ended(0), Ended(0)]
         assert self.answers(count=2) and self.answers("verbose", 2)
 
-    def test_nothing_in_the_first_half_second(self, terminal):
-        """On a busy machine a run may take longer, and is tried again."""
-        pathlib.Path("in").write_text(f"{KEY16}\n" * 4000)
-        screens = []
-
-        def is_fast():
-            began = time.monotonic()
-            screens.append(terminal(f"{LINES} --input in >out").ended())
-            return time.monotonic() - began < 0.5
-
-        wait_for(is_fast)
-        assert screens[-1] == Ended(0, COUNTS.format(4000))
+    @pytest.mark.parametrize("pause, screen", [(124, ""), (126, rewritten(FAR + ", 100 % done, 0 s left"))])
+    def test_nothing_in_the_first_half_second(self, terminal, compiled, pause, screen):
+        """By a clock that only goes on in the four reads, of a KEK and its end and of an input and its end."""
+        preload = f"env LD_PRELOAD={compiled('fail_read')} TICK_READ={pause}"
+        ended = terminal(f"{preload} {LINES} --input first >out").ended()
+        assert ended.status == 0 and re.fullmatch(screen + COUNTS.format(1000), ended.stdout)
 
     def test_how_far_a_file_is(self, terminal, compiled):
         """The length of a regular file is known. It is read in five parts of 65,536 bytes, with a pause after each."""
@@ -180,12 +174,15 @@ class TestProgress:
             assert left > 0 or done == 100
 
     def test_a_file_that_grows(self, terminal, compiled):
-        """All of it is read. When more is read than it had at first, it is done as far as the program knows."""
+        """All of it is read. When more is read than it had at first, it is done as far as the program knows. The read
+        at its old end waits until it has grown."""
         pathlib.Path("in").write_text(f"{KEY16}\n" * 3000)
-        run = terminal(f"env LD_PRELOAD={compiled('fail_read')} SLOW_READ=600 {LINES} --input in >out")
+        preload = f"env LD_PRELOAD={compiled('fail_read')} HOLD_READ={3000 * 33} TICK_READ=600"
+        run = terminal(f"{preload} {LINES} --input in >out")
         run.child.expect("% done, [0-9]+ s left")
         with open("in", "a") as more:
             more.write(f"{KEY16}\n" * 6000)
+        pathlib.Path("go").touch()
         status, screen, _ = run.ended()
         reports = re.findall(FAR + r", (\d+) % done, (\d+) s left", screen)
         assert (status, self.answers(count=9000), reports[-1][2:]) == (0, True, ("100", "0"))
