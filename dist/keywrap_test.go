@@ -183,6 +183,9 @@ func TestAsTheReference(t *testing.T) {
 
 // Each wrong argument of each call, also if there are several. No argument is changed.
 func TestRefusals(t *testing.T) {
+	if keywrap.MaxKey != 1<<20 || keywrap.MaxWrapped != 1<<20+8 {
+		t.Error(keywrap.MaxKey, keywrap.MaxWrapped)
+	}
 	none, kek, short := []byte(nil), make([]byte, 16), make([]byte, 15)
 	for name, calls := range under(kek) {
 		for what, tried := range map[string]func([]byte) ([]byte, error){"wrap": calls.wrap, "unwrap": calls.unwrap,

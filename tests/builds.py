@@ -158,7 +158,8 @@ def package_of(debs, name):
 
 
 def unpacked(archive, directory):
-    """The only directory of a tar archive, whose members are of no user of this machine."""
+    """The only directory of a tar archive, which has no time, and whose members are of no user of this machine."""
+    assert pathlib.Path(archive).read_bytes()[4:8] == bytes(4), archive
     with tarfile.open(archive) as packed:
         for member in packed:
             assert (member.uid, member.gid, member.mtime) == (0, 0, 1767225600), member.name

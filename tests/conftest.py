@@ -207,6 +207,6 @@ def terminal(keywrap, files):
     def start(line, TERM="xterm", **env):
         env = {**os.environ, **env, "PATH": f"{files}/bin:{os.environ['PATH']}", "TERM": TERM}
         env = {name: value for name, value in env.items() if value is not None}
-        return Terminal(pexpect.spawn("/bin/sh", ["-c", line], env=env, timeout=240, echo=False, encoding="utf-8"))
+        return Terminal(pexpect.spawn("/bin/sh", ["-c", line], env=env, timeout=600, echo=False, encoding="utf-8"))
 
     return start

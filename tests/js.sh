@@ -120,6 +120,6 @@ fi
 ### The page
 
 if needs 'the page' node chromium; then
-    row 'the page' timeout 600 node page.mjs "$package" chromium "$room/chromium"
+    row 'the page' timeout 1200 node page.mjs "$package" chromium "$room/chromium"
 fi
 finish

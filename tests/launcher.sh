@@ -225,7 +225,7 @@ done
 mkfifo keys && exec 3<>keys
 on_screen() {
     fresh
-    SHELL=/bin/sh timeout 240 script -qefc 'exec env --default-signal ./keywrap h >out' screen <&3 >/dev/null
+    SHELL=/bin/sh timeout 600 script -qefc 'exec env --default-signal ./keywrap h >out' screen <&3 >/dev/null
     status=$?
     tr -d '\r' <screen | sed -n '/^keywrap: proving/,$ { s/.*\x1b\[K//; /^Script done/d; /./p }' >err
 }

@@ -52,7 +52,7 @@ offers_fish() (
 
 offers_zsh() (
     cd files || exit
-    HOME=$room TERM=dumb completions=$completions timeout 120 zsh -f "$root/tests/lib/offers.zsh" "$1" |
+    HOME=$room TERM=dumb completions=$completions timeout 600 zsh -f "$root/tests/lib/offers.zsh" "$1" |
         tr -d '\r' | sed -n 's/^offered: //p'
 )
 

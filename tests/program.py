@@ -61,7 +61,7 @@ def sh(script):
 def finish(run, given=None, text=True):
     """Writes the given bytes to a run, and returns how it ended. If `text` is False, its answer stays bytes."""
     try:
-        out, err = run.communicate(given, timeout=240)
+        out, err = run.communicate(given, timeout=600)
     except subprocess.TimeoutExpired:
         run.kill()
         raise
@@ -70,8 +70,8 @@ def finish(run, given=None, text=True):
 
 
 def wait_for(ready):
-    """Waits until this function returns true."""
-    end = time.monotonic() + 60
+    """Waits until this function returns true, for at most five minutes: a busy machine may take one."""
+    end = time.monotonic() + 300
     while not ready():
         assert time.monotonic() < end, "the run does not come to this point"
         time.sleep(0.01)

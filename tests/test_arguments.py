@@ -112,7 +112,7 @@ def follows(keywrap, examples):
     os.symlink(keywrap.path, "bin/keywrap")
     script = "".join(f"cat <<'END'\n$ {line}\nEND\n{line}\n" for line in re.findall(r"(?m)^\$ (.*)", examples))
     return subprocess.run(["bash", "-c", script], env={**os.environ, "PATH": f"{os.getcwd()}/bin:{os.environ['PATH']}"},
-                          stdout=subprocess.PIPE, stderr=subprocess.STDOUT, text=True, timeout=240).stdout
+                          stdout=subprocess.PIPE, stderr=subprocess.STDOUT, text=True, timeout=600).stdout
 
 
 class TestHelp:

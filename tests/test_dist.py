@@ -40,6 +40,9 @@ class TestWhole:
         assert kit_id.startswith(f"rattle-kit-{kit['version']} ") and len(kit["hashes"][0]["content"]) == 64
         assert {part["name"] for part in parts if part["type"] == "library"} == {
             "std", "base64", "byteorder", "clap", "hex", "linked_list_allocator", "memchr", "thiserror"}
+        crates = sorted(part["bom-ref"] for part in parts if part["type"] == "library")
+        assert {one["ref"]: sorted(one["dependsOn"]) for one in bill["dependencies"]} == {
+            "keywrap": crates, "kit": crates}
         files = {part["name"]: part["hashes"][0]["content"] for part in parts if part["type"] == "file"}
         assert files == {path.name: hashlib.sha256(path.read_bytes()).hexdigest() for path in dist.iterdir()
                          if path.suffix in (".gz", ".tgz", ".whl")}

@@ -224,12 +224,12 @@ class TestWhileItWaits:
 
 
 def ask(run, text, lines):
-    """Writes the text, and returns this many lines of answers, which must come within a minute."""
+    """Writes the text, and returns this many lines of answers, which must come within five minutes."""
     run.stdin.write(text.encode())
     run.stdin.flush()
     answers = b""
     while answers.count(b"\n") < lines:
-        assert select.select([run.stdout], [], [], 60)[0], "no answer"
+        assert select.select([run.stdout], [], [], 300)[0], "no answer"
         answers += os.read(run.stdout.fileno(), 1 << 16)
     return answers.decode()
 

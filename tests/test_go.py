@@ -70,6 +70,12 @@ def test_module(module, env):
     assert len(re.findall("^--- PASS: Test", said, re.M)) == 12 and len(re.findall("^--- PASS: Ex", said, re.M)) == 4
 
 
+def test_clears_what_was_not_ended(module, env):
+    """A key is cleared if the block cipher panics: not only the block, which a caller sees, too."""
+    shutil.copy(PROGRAMS / "cleared_test.go", module)
+    assert "--- PASS: TestClear" in run("go", "test", "-v", "-run", "TestClear", cwd=module, env=env)
+
+
 @slow
 @pytest.mark.parametrize("option, tool", [("-race", "go"), ("-asan", "sanitizers of gcc")])
 def test_sanitizers(module, env, option, tool):

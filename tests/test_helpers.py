@@ -2,6 +2,7 @@
 helpers that run commands notice one that fails, and give it nothing but what it may have."""
 
 import contextlib
+import gzip
 import pathlib
 import subprocess
 import tarfile
@@ -75,22 +76,25 @@ def test_alone(monkeypatch):
         run(*alone(["false", "echo later"]))
 
 
-@pytest.mark.parametrize("wrong", ["", "uid", "gid", "mtime"])
+@pytest.mark.parametrize("wrong", ["", "uid", "gid", "mtime", "archive"])
 def test_unpacked(wrong):
-    """A member of another owner or time is an error."""
+    """An archive with a time, and a member of another owner or time, are errors."""
     pathlib.Path("packed").mkdir()
     pathlib.Path("packed/file").write_text("text\n")
 
     def fixed(member):
         member.uid = member.gid = 0
         member.mtime = 1767225600
-        if wrong and member.isfile():
+        if wrong in ("uid", "gid", "mtime") and member.isfile():
             setattr(member, wrong, 1)
         return member
 
-    with tarfile.open("packed.tar.gz", "w:gz") as tar:
+    with tarfile.open("packed.tar", "w") as tar:
         tar.add("packed", filter=fixed)
-    with pytest.raises(AssertionError, match="packed/file") if wrong else contextlib.nullcontext():
+    packed = pathlib.Path("packed.tar").read_bytes()
+    pathlib.Path("packed.tar.gz").write_bytes(gzip.compress(packed, mtime=int(wrong == "archive")))
+    named = "packed.tar.gz" if wrong == "archive" else "packed/file"
+    with pytest.raises(AssertionError, match=named) if wrong else contextlib.nullcontext():
         assert (unpacked("packed.tar.gz", pathlib.Path("here")) / "file").read_text() == "text\n"
 
 

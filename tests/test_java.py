@@ -4,13 +4,15 @@ lines of java/README.md. The programs are in java/."""
 import os
 import pathlib
 import re
+import shutil
 import subprocess
 import zipfile
 
 import pytest
 
 import published
-from builds import ROOT, alone, run
+from builds import NAMES, ROOT, alone, run
+from hardware.bugs import plant
 
 pytestmark = pytest.mark.needs("javac", "jna.jar")
 
@@ -48,7 +50,7 @@ def test_no_warning():
         run("javac", "-Xlint:all", "-Werror", *options, "-cp", JNA, "-d", ".", *SOURCES, ROOT / "java/Example.java")
 
 
-@pytest.mark.parametrize("check", ["names", "lengths", "values", "calls", "damaged", "ignored", "keys"])
+@pytest.mark.parametrize("check", ["names", "lengths", "values", "calls", "damaged", "ignored", "keys", "cleared"])
 def test_compared(java, check):
     java("Checks", check)
 
@@ -57,6 +59,22 @@ def test_compared(java, check):
 def test_published(java, cases):
     found = cases()
     assert java("Published", input="".join(published.lines(found))) == published.all_right(found)
+
+
+def test_version(java):
+    """The provider has the numbers of the library's version."""
+    assert java("Checks", "version") == NAMES["VERSION"].removesuffix("-dev") + "\n"
+
+
+def test_self_test(java, tmp_path):
+    """There is no provider over a library that computes something else."""
+    for name in "keywrap.c", "keywrap.h", "keywrap_steps.h":
+        shutil.copy(ROOT / "dist" / name, tmp_path)
+    plant(ROOT / "tests/portable/bugs/rotation-to-the-other-side.edit", tmp_path)
+    run("cc", "-std=c99", "-O1", "-shared", "-fPIC", "-DKEYWRAP_NO_AES_INSTRUCTIONS", tmp_path / "keywrap.c", "-o",
+        tmp_path / "wrong.so")
+    with pytest.raises(AssertionError, match="the self test of the library failed"):
+        java("Checks", "names", env={**os.environ, "JAVA_TOOL_OPTIONS": f"-Dkeywrap.library={tmp_path}/wrong.so"})
 
 
 def test_other_library(java, thing):

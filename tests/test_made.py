@@ -68,9 +68,13 @@ def test_text_of_a_status(tree, status, text, changed):
         assert after.count("other words") == 1 and not re.search(rf"['\"]{text}['\"]", after), name
 
 
-def test_longest_key(tree):
-    replace(tree / "c/include/keywrap.h", "KEYWRAP_MAX_KEY 1048576", "KEYWRAP_MAX_KEY 2097152")
+@pytest.mark.parametrize("name, number", [
+    ("MAX_KEY", "1048576"), ("OLD_PADDED", "1u"), ("NEW_PADDED", "2u"), ("KEEP_FORM", "4u"), ("PASS_NEW", "8u")])
+def test_longest_key_and_flags(tree, name, number):
+    replace(tree / "c/include/keywrap.h", f"KEYWRAP_{name} {number}", f"KEYWRAP_{name} 3{number}")
     assert written(tree) == {"dist/src/sys.rs", "js/calls.js"}
+    for file in "dist/src/sys.rs", "js/calls.js":
+        assert re.search(rf"{name}\W.{{0,10}} 3{number.rstrip('u')};", (tree / file).read_text()), file
 
 
 def test_call(tree):

@@ -31,6 +31,16 @@ def test_make_wheel_without_build(python):
     assert "apt-get install python3-build python3-cffi python3-setuptools python3-wheel" in ended.stderr
 
 
+def test_make_without_headers(python):
+    """For a Python without Python.h, package.py says what to install."""
+    pathlib.Path("sitecustomize.py").write_text("import sysconfig\nsysconfig.get_path = lambda name: '/none'\n")
+    words = [python, ROOT / "packaging/package.py", "needs", python]
+    env = {**os.environ, "PYTHONPATH": os.getcwd()}
+    for headers, said in ([], ""), (["Python.h"], "apt-get install python3-dev, or name another Python"):
+        ended = subprocess.run([*words, *headers], cwd=ROOT, env=env, capture_output=True, text=True)
+        assert ended.returncode == bool(headers) and said in ended.stderr, ended
+
+
 def test_make_wheel_names_it_last(words, python, dist):
     said = run("make", "-s", "-C", ROOT, "wheel", *words, f"DIST={os.getcwd()}", f"PYTHON={python}")
     wheel, = pathlib.Path().glob("*.whl")
@@ -124,7 +134,7 @@ def test_tests_of_pyca(own_tests):
     """pyca's tests of these calls, from Debian's source package, over keywrap.pyca by their one import."""
     os.mkdir("source")
     ended = subprocess.run(["apt-get", "-qq", "source", "--download-only", "python-cryptography"], cwd="source",
-                           capture_output=True, timeout=60)
+                           capture_output=True, timeout=600)
     if ended.returncode:
         pytest.skip("apt-get has no source packages here (deb-src)")
     packed, = pathlib.Path("source").glob("*.orig.tar.xz") or pathlib.Path("source").glob("*.orig.tar.gz")

@@ -215,6 +215,17 @@ def test_aarch64(home, crate):
 
 
 @slow
+def test_self_test(cargo, crate):
+    """It fails over C that computes something else."""
+    copy = pathlib.Path(shutil.copytree(crate, "copy"))
+    plant(ROOT / "tests/portable/bugs/rotation-to-the-other-side.edit", copy)
+    words = ["cargo", "test", "--offline", "--test", "calls", "self_test_and_version"]
+    env = {**cargo.env, "CARGO_TARGET_DIR": os.path.abspath("out")}
+    ended = subprocess.run(words, cwd=copy, env=env, capture_output=True, text=True)
+    assert re.search("left: Err\\(IntegrityCheckFailed\\)", ended.stdout), ended
+
+
+@slow
 def test_bugs_are_caught(cargo, crate):
     """Each edit of bugs/, one after the other in one copy, without which its tests pass."""
     copy = pathlib.Path(shutil.copytree(crate, "copy"))

@@ -8,6 +8,7 @@ import mmap
 import os
 import sys
 import threading
+import time
 
 import pytest
 
@@ -233,26 +234,34 @@ def test_eight_threads():
 
 
 def test_other_threads_run_while_one_computes():
-    """The call is too short for Python itself to switch threads."""
+    """Python itself would not switch threads. On a busy machine the other thread may sleep through a call."""
     ticks, done = [0], threading.Event()
 
     def count():
         while not done.is_set():
             ticks[0] += 1
+            time.sleep(0)
+
+    def ticked():
+        before = ticks[0]
+        keywrap.wrap(KEK, bytes(1048576))
+        return ticks[0] > before
 
     counter = threading.Thread(target=count)
     interval = sys.getswitchinterval()
-    sys.setswitchinterval(2)
+    until = time.monotonic() + 60
     try:
         counter.start()
-        before = ticks[0]
-        keywrap.wrap(KEK, bytes(1048576))
-        after = ticks[0]
+        sys.setswitchinterval(1000)
+        # After it the counter waits by this interval, too.
+        time.sleep(0.1)
+        while not (found := ticked()) and time.monotonic() < until:
+            pass
     finally:
         done.set()
         sys.setswitchinterval(interval)
         counter.join()
-    assert after > before
+    assert found
 
 
 def resident():

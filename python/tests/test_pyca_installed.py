@@ -101,10 +101,14 @@ class TestLibraries:
         assert calls == ["wrap" if ours_first else "unwrap"]
 
 
-@pytest.fixture
-def importer():
+class Module(types.ModuleType):
+    """A library may have a class of its own for its modules."""
+
+
+@pytest.fixture(params=[types.ModuleType, Module])
+def importer(request):
     """A module that imported pyca's function under another name, and one that imported ours."""
-    module = types.ModuleType("importer")
+    module = request.param("importer")
     module.of_pyca, module.of_ours = PYCAS["aes_key_wrap"], ours.aes_key_wrap
     sys.modules["importer"] = module
     yield module
@@ -128,6 +132,23 @@ def test_names(importer, calls):
         assert {name: getattr(ours, name) for name in CALLS} == OURS
         assert later.call is PYCAS["aes_key_unwrap"]
     del sys.modules["later"]
+
+
+def test_other_code_in_the_place_of_pycas(calls):
+    """A second call of install replaces it, also in a module that imported it, and uninstall puts it back."""
+    module = types.ModuleType("importer")
+    module.call = theirs.aes_key_wrap = other = lambda *given: b"other"
+    sys.modules["importer"] = module
+    try:
+        ours.install()
+        assert theirs.aes_key_wrap(bytes(16), bytes(16)) == module.call(bytes(16), bytes(16)) != b"other"
+        assert calls == ["wrap", "wrap"]
+        ours.uninstall()
+        assert theirs.aes_key_wrap is module.call is other
+    finally:
+        del sys.modules["importer"]
+        theirs.aes_key_wrap = PYCAS["aes_key_wrap"]
+        ours.install()
 
 
 def test_loads_no_lazy_module():

@@ -58,6 +58,25 @@ final class Checks {
         return new SecretKeySpec(bytes, "AES");
     }
 
+    /** A key whose encoding is this array, and no copy. */
+    private static Key ofThese(byte[] bytes) {
+        return new Key() {
+            private static final long serialVersionUID = 1;
+
+            public String getAlgorithm() {
+                return "AES";
+            }
+
+            public String getFormat() {
+                return bytes == null ? null : "RAW";
+            }
+
+            public byte[] getEncoded() {
+                return bytes;
+            }
+        };
+    }
+
     private static Cipher begun(String name, String provider, int mode, Key kek, byte... iv) throws Exception {
         Cipher cipher = Cipher.getInstance(name, provider);
         cipher.init(mode, kek, iv.length == 0 ? null : new IvParameterSpec(iv));
@@ -282,26 +301,32 @@ final class Checks {
             throwsOne(InvalidKeyException.class,
                 () -> begun(name, OURS, Cipher.UNWRAP_MODE, kek).unwrap(noKey, "EC", type));
         }
-        Key hidden = new Key() {
-            private static final long serialVersionUID = 1;
-
-            public String getAlgorithm() {
-                return "AES";
-            }
-
-            public String getFormat() {
-                return null;
-            }
-
-            public byte[] getEncoded() {
-                return null;
-            }
-        };
+        Key hidden = ofThese(null);
         throwsOne(InvalidKeyException.class, () -> begun(name, OURS, Cipher.WRAP_MODE, hidden));
         throwsOne(InvalidKeyException.class, () -> begun(name, OURS, Cipher.WRAP_MODE, kek).wrap(hidden));
         throwsOne(IllegalBlockSizeException.class, () -> wrapped(name, OURS, kek, new byte[1048577]));
         check(Arrays.equals(wrapped(name, OURS, kek, new byte[1048576]), wrapped(name, THEIRS, kek, new byte[1048576])),
             "the longest key");
+    }
+
+    /** What getEncoded returned for a key and for a KEK is cleared after its use. */
+    static void cleared() throws Exception {
+        for (String name : FORMS) {
+            byte[] kek = random(16), key = random(32);
+            Cipher cipher = begun(name, OURS, Cipher.WRAP_MODE, ofThese(kek));
+            check(cipher.wrap(ofThese(key)).length == 40, name);
+            check(Arrays.equals(key, new byte[32]), "a key was left");
+            check(!Arrays.equals(kek, new byte[16]), "the KEK is in use");
+            cipher.init(Cipher.WRAP_MODE, aes(random(16)));
+            check(Arrays.equals(kek, new byte[16]), "a KEK was left");
+            byte[] wrong = random(15);
+            throwsOne(InvalidKeyException.class, () -> begun(name, OURS, Cipher.WRAP_MODE, ofThese(wrong)));
+            check(Arrays.equals(wrong, new byte[15]), "a refused KEK was left");
+        }
+    }
+
+    static void version() {
+        System.out.println(Security.getProvider(OURS).getVersionStr());
     }
 
     public static void main(String[] args) throws Exception {

@@ -71,16 +71,16 @@ export class Browser {
         return result.value;
     }
 
-    // Opens a page, and waits until the expression holds there, 120 seconds at most.
+    // Opens a page, and waits until the expression holds there, 300 seconds at most.
     async open(url, expression) {
         await this.send('Page.navigate', { url });
-        for (let turn = 0; turn < 1200; turn++) {
+        for (let turn = 0; turn < 3000; turn++) {
             if (await this.evaluate(expression).catch(() => false)) {
                 return;
             }
             await later(100);
         }
-        throw new Error(`${expression}: not within 120 seconds`);
+        throw new Error(`${expression}: not within 300 seconds`);
     }
 
     // Presses the middle of what has this id.

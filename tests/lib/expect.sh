@@ -66,10 +66,10 @@ same() {
         sed -n 's/^</only the first has/p; s/^>/only the second has/p')"
 }
 
-# until_true COMMAND..: waits until the command is true, for at most 60 seconds.
+# until_true COMMAND..: waits until the command is true, for at most 300 seconds.
 until_true() {
     local tries
-    for ((tries = 0; tries < 1200; tries++)); do
+    for ((tries = 0; tries < 6000; tries++)); do
         ! "$@" || return 0
         sleep 0.05
     done
