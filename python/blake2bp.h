@@ -12,7 +12,16 @@ typedef struct {
     uint8_t rest[2 * STRIPE]; /* they may be the last blocks of the lanes */
 } blake2bp;
 
+/* How many lanes are computed at once, as the compiler knows it. */
+#ifdef __GNUC__
+#define WIDTH LANES
+#define INLINED __attribute__((always_inline)) static inline
 typedef uint64_t lanes __attribute__((vector_size(8 * LANES)));
+#else
+#define WIDTH 1
+#define INLINED static
+typedef uint64_t lanes;
+#endif
 
 static const uint64_t IV[8] = {0x6a09e667f3bcc908, 0xbb67ae8584caa73b, 0x3c6ef372fe94f82b, 0xa54ff53a5f1d36f1,
                                0x510e527fade682d1, 0x9b05688c2b3e6c1f, 0x1f83d9abfb41bd6b, 0x5be0cd19137e2179};
@@ -34,37 +43,41 @@ static const uint8_t SIGMA[10][16] = {
      MIX(2, 7, 8, 13, (s)[12], (s)[13]), MIX(3, 4, 9, 14, (s)[14], (s)[15]))
 
 static inline uint64_t word(const uint8_t *at) {
-    uint64_t value;
+    uint64_t value = 0;
+#if defined __BYTE_ORDER__ && __BYTE_ORDER__ == __ORDER_LITTLE_ENDIAN__
     memcpy(&value, at, 8);
-#if __BYTE_ORDER__ == __ORDER_BIG_ENDIAN__
-    value = __builtin_bswap64(value);
+#else
+    for (int i = 0; i < 8; i++) value |= (uint64_t)at[i] << 8 * i;
 #endif
     return value;
 }
 
 /* Takes a block of each lane. `count` and `flags` have a number for each lane; flags[1] marks the last lane's last
    block. */
-__attribute__((always_inline)) static inline void compress(uint64_t (*h)[LANES], const uint8_t *stripe,
-                                                           const uint64_t *count, uint64_t (*flags)[LANES]) {
+INLINED void compress(uint64_t (*h)[LANES], const uint8_t *stripe, const uint64_t *count, uint64_t (*flags)[LANES]) {
     uint64_t words[16][LANES];
-    lanes m[16], v[16], more;
     for (int i = 0; i < 16; i++)
         for (int lane = 0; lane < LANES; lane++) words[i][lane] = word(stripe + BLOCK * lane + 8 * i);
-    memcpy(m, words, sizeof m);
-    memcpy(v, h, sizeof *h * 8);
-    for (int i = 0; i < 8; i++) v[i + 8] = (lanes){IV[i], IV[i], IV[i], IV[i]};
-    memcpy(&more, count, sizeof more);
-    v[12] ^= more;
-    for (int i = 0; i < 2; i++) {
-        memcpy(&more, flags[i], sizeof more);
-        v[14 + i] ^= more;
-    }
-    ROUND(SIGMA[0]); ROUND(SIGMA[1]); ROUND(SIGMA[2]); ROUND(SIGMA[3]); ROUND(SIGMA[4]); ROUND(SIGMA[5]);
-    ROUND(SIGMA[6]); ROUND(SIGMA[7]); ROUND(SIGMA[8]); ROUND(SIGMA[9]); ROUND(SIGMA[0]); ROUND(SIGMA[1]);
-    for (int i = 0; i < 8; i++) {
-        memcpy(&more, h[i], sizeof more);
-        more ^= v[i] ^ v[i + 8];
-        memcpy(h[i], &more, sizeof more);
+    for (int first = 0; first < LANES; first += WIDTH) {
+        lanes m[16], v[16], more;
+        for (int i = 0; i < 16; i++) memcpy(&m[i], &words[i][first], sizeof more);
+        for (int i = 0; i < 8; i++) {
+            memcpy(&v[i], &h[i][first], sizeof more);
+            v[i + 8] = (lanes){0} + IV[i];
+        }
+        memcpy(&more, &count[first], sizeof more);
+        v[12] ^= more;
+        for (int i = 0; i < 2; i++) {
+            memcpy(&more, &flags[i][first], sizeof more);
+            v[14 + i] ^= more;
+        }
+        ROUND(SIGMA[0]); ROUND(SIGMA[1]); ROUND(SIGMA[2]); ROUND(SIGMA[3]); ROUND(SIGMA[4]); ROUND(SIGMA[5]);
+        ROUND(SIGMA[6]); ROUND(SIGMA[7]); ROUND(SIGMA[8]); ROUND(SIGMA[9]); ROUND(SIGMA[0]); ROUND(SIGMA[1]);
+        for (int i = 0; i < 8; i++) {
+            memcpy(&more, &h[i][first], sizeof more);
+            more ^= v[i] ^ v[i + 8];
+            memcpy(&h[i][first], &more, sizeof more);
+        }
     }
 }
 
@@ -80,14 +93,14 @@ __attribute__((always_inline)) static inline void compress(uint64_t (*h)[LANES],
     }
 
 STRIPES(stripes_anywhere, )
-#ifdef __x86_64__
+#if defined __GNUC__ && defined __x86_64__
 STRIPES(stripes_avx2, __attribute__((target("avx2"))))
 STRIPES(stripes_avx512, __attribute__((target("avx512vl"))))
 #endif
 
 /* Whether this processor has instructions for four lanes. Otherwise BLAKE2b takes less time. */
 static int blake2bp_is_fast(void) {
-#ifdef __x86_64__
+#if defined __GNUC__ && defined __x86_64__
     return __builtin_cpu_supports("avx2") != 0;
 #else
     return 0;
@@ -95,7 +108,7 @@ static int blake2bp_is_fast(void) {
 }
 
 static void stripes(blake2bp *state, const uint8_t *stripe, size_t number) {
-#ifdef __x86_64__
+#if defined __GNUC__ && defined __x86_64__
     if (__builtin_cpu_supports("avx512vl")) return stripes_avx512(state, stripe, number);
     if (__builtin_cpu_supports("avx2")) return stripes_avx2(state, stripe, number);
 #endif

@@ -1,5 +1,7 @@
 /* Lines of hex digits that all have one length. */
 
+#if defined __clang__ || (defined __GNUC__ && __GNUC__ >= 9)
+
 typedef uint8_t digits __attribute__((vector_size(16)));
 typedef uint16_t pairs __attribute__((vector_size(16)));
 typedef uint8_t octets __attribute__((vector_size(8)));
@@ -56,3 +58,34 @@ static void hex_text(const uint8_t *keys, size_t count, size_t len, uint8_t *lin
         *lines++ = '\n';
     }
 }
+
+#else /* The same by one digit after another, for other compilers. */
+
+static int hex_lines(const uint8_t *lines, size_t count, size_t digit_count, uint8_t *keys) {
+    unsigned wrong = 0;
+    if (digit_count % 16 != 0) return 0;
+    for (; count > 0; count--) {
+        for (size_t at = 0; at < digit_count; at++, lines++) {
+            unsigned decimal = (unsigned)*lines - '0', letter = ((unsigned)*lines | 32) - 'a';
+            unsigned is_decimal = 0u - (decimal < 10), is_letter = 0u - (letter < 6);
+            unsigned digit = (decimal & is_decimal) | ((letter + 10) & is_letter);
+            wrong |= ~(is_decimal | is_letter);
+            if (at % 2 == 0) *keys = (uint8_t)(digit << 4);
+            else *keys++ |= (uint8_t)digit;
+        }
+        wrong |= *lines++ ^ '\n';
+    }
+    return wrong == 0;
+}
+
+static void hex_text(const uint8_t *keys, size_t count, size_t len, uint8_t *lines) {
+    for (; count > 0; count--) {
+        for (size_t at = 0; at < 2 * len; at++) {
+            unsigned digit = at % 2 == 0 ? *keys >> 4 : *keys++ & 15u;
+            *lines++ = (uint8_t)(digit + '0' + ((9 - digit) >> 8 & ('a' - '0' - 10)));
+        }
+        *lines++ = '\n';
+    }
+}
+
+#endif

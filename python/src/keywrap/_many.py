@@ -174,22 +174,22 @@ def rewrap_slots(old_kek: bytes, new_kek: bytes, texts: bytearray, length: int, 
     return statuses
 
 
-def hex_slots(lines: bytes, number: int, length: int) -> Optional[bytearray]:
+def hex_slots(lines: Union[bytes, bytearray], number: int, length: int) -> Optional[bytearray]:
     """Returns the keys in lines that are hex digits for `length` bytes and LF, or `None` if any line is something else.
 
     A wrapped key's length is a multiple of 8. Any other length is left to the caller.
     """
     keys = bytearray(number * length)
-    if len(lines) != number * (2 * length + 1) or not _lib.hex_lines(lines, number, 2 * length, _from(keys)):
+    if len(lines) != number * (2 * length + 1) or not _lib.hex_lines(_from(lines), number, 2 * length, _from(keys)):
         return None
     return keys
 
 
-def hex_text(keys: Union[bytes, bytearray], length: int) -> bytes:
+def hex_text(keys: Union[bytes, bytearray], length: int) -> bytearray:
     """Returns keys of `length` bytes, a multiple of 8, as lines of hex digits."""
     number = len(keys) // length
-    lines = bytes(number * (2 * length + 1))
-    _lib.hex_text(_from(keys), number, length, lines)
+    lines = bytearray(number * (2 * length + 1))
+    _lib.hex_text(_from(keys), number, length, _from(lines))
     return lines
 
 

@@ -1,5 +1,6 @@
 """The digests of contents: BLAKE2bp of the extension, and BLAKE2b."""
 
+import concurrent.futures
 import hashlib
 import os
 import pathlib
@@ -18,7 +19,7 @@ LONG = CONTENT * 4
 
 
 def test_of_each_length():
-    for length in [*range(2100), 4095, 4096, 65529, 65536, 70000]:
+    for length in [*range(3001), 4095, 4096, 65529, 65536, 70000]:
         digest = digests.Blake2bp()
         digest.update(CONTENT[:length])
         assert digest.hexdigest() == blake2bp(CONTENT[:length]).hexdigest(), length
@@ -35,6 +36,19 @@ def test_in_parts_of_any_length():
             if source.randrange(2):  # A digest does not end it.
                 assert digest.hexdigest() == blake2bp(CONTENT[:at]).hexdigest()
         assert digest.hexdigest() == blake2bp(CONTENT[:at]).hexdigest()
+
+
+def test_in_threads():
+    """Each has a state of its own, and the calls run at once."""
+    lengths = [source % 70000 for source in range(1000, 800_000, 997)]
+
+    def act(length):
+        digest = digests.Blake2bp()
+        digest.update(CONTENT[:length])
+        return digest.hexdigest()
+
+    with concurrent.futures.ThreadPoolExecutor(4) as threads:
+        assert list(threads.map(act, lengths)) == [blake2bp(CONTENT[:length]).hexdigest() for length in lengths]
 
 
 def test_a_published_digest():
@@ -78,13 +92,26 @@ def test_the_algorithm_is_named(tmp_path, monkeypatch, algorithm):
 
 
 SOURCES = pathlib.Path(__file__).resolve().parent.parent.parent
-# Prints the four digests of beginnings of the content, each in two parts; and takes lines of hex there and back.
+# Prints the four digests of beginnings of the content, each in two parts; and takes lines of hex there and back. Each
+# buffer has just the bytes that it needs, so that a sanitizer sees a byte more.
 PROGRAM = """
 #include <stdint.h>
 #include <stdio.h>
+#include <stdlib.h>
 #include <string.h>
+#ifdef WITHOUT_VECTORS
+#undef __GNUC__
+#undef __clang__
+#undef __BYTE_ORDER__
+#endif
 #include "blake2bp.h"
 #include "hex_lines.h"
+static void update(blake2bp *state, const uint8_t *content, size_t len) {
+    uint8_t *copy = malloc(len + (len == 0));
+    memcpy(copy, content, len);
+    blake2bp_update(state, copy, len);
+    free(copy);
+}
 int main(void) {
     static uint8_t content[70000], digests[256], lines[10 * 81], keys[400];
     size_t len = fread(content, 1, sizeof content, stdin);
@@ -93,19 +120,56 @@ int main(void) {
         if (part % 64 > 1 && part % 64 < 63) continue;
         blake2bp state;
         blake2bp_begin(&state);
-        blake2bp_update(&state, content, all / 3);
-        blake2bp_update(&state, content + all / 3, all - all / 3);
+        update(&state, content, all / 3);
+        update(&state, content + all / 3, all - all / 3);
         blake2bp_lanes(&state, digests);
         fwrite(digests, 1, sizeof digests, stdout);
     }
     hex_text(content, 10, 40, lines);
     fwrite(lines, 1, sizeof lines, stdout);
     putchar('0' + hex_lines(lines, 10, 80, keys) + 2 * (memcmp(keys, content, sizeof keys) == 0));
-    lines[400] = 'g';
+    lines[0] = 'G';
     putchar('0' + hex_lines(lines, 10, 80, keys) + (blake2bp_is_fast() != 0));
+    lines[0] = '0';
+    int right = 0;
+    for (int digit = 0; digit < 256; digit++) {
+        lines[80 * 5 + 7] = (uint8_t)digit;
+        right += hex_lines(lines, 10, 80, keys);
+    }
+    printf(" %d", right);
     return 0;
 }
 """
+SANITIZED = ["-O0", "-g", "-fsanitize=address,undefined", "-fno-sanitize-recover=all"]
+
+
+def compiled(directory, compiler, *flags, machine=()):
+    """Compiles the program, or skips if the compiler, what runs its programs, or a sanitizer is not here."""
+    tools = "apt-get install gcc clang qemu-user gcc-aarch64-linux-gnu gcc-s390x-linux-gnu"
+    for tool in (compiler, *machine[:1]):
+        if shutil.which(tool) is None:
+            pytest.skip(f"no {tool} ({tools})")
+    (directory / "empty.c").write_text("int main(void) { return 0; }")
+    if subprocess.run([compiler, *flags, "-o", directory / "empty", directory / "empty.c"], capture_output=True).returncode:
+        pytest.skip(f"{compiler} has no {' '.join(flags)}")
+    (directory / "program.c").write_text(PROGRAM)
+    strict = ["-std=c99", "-Wall", "-Wextra", "-Werror", f"-I{SOURCES}"]
+    subprocess.run([compiler, *strict, *flags, "-o", directory / "program", directory / "program.c"], check=True)
+    return [*machine, directory / "program"]
+
+
+def outcome(command):
+    """What the program found out: whether it has four lanes at once. Everything else is as it has to be."""
+    done = subprocess.run(command, input=CONTENT, stdout=subprocess.PIPE, check=True).stdout
+    lengths = [length for length in range(2112) if not 1 < length % 64 < 63]
+    expected = b"".join(lanes_of(CONTENT[:length]) for length in (*lengths, len(CONTENT)))
+    assert done[: len(expected)] == expected
+    rest = done[len(expected) :]
+    lines = b"".join(CONTENT[at : at + 40].hex().encode() + b"\n" for at in range(0, 400, 40))
+    assert rest[: len(lines)] == lines
+    found = rest[len(lines) :]
+    assert found in (b"30 22", b"31 22")
+    return found == b"31 22"
 
 
 @pytest.mark.parametrize("compiler, machine, is_fast", [
@@ -114,16 +178,21 @@ int main(void) {
     ("s390x-linux-gnu-gcc", ["qemu-s390x"], False)])  # fmt: skip
 def test_on_each_processor(tmp_path, compiler, machine, is_fast):
     """Without four lanes, with AVX2, with AVX-512 if this processor has it; and big-endian."""
-    for tool in (compiler, *machine[:1]):
-        if shutil.which(tool) is None:
-            pytest.skip(f"no {tool} (apt-get install gcc clang qemu-user gcc-aarch64-linux-gnu gcc-s390x-linux-gnu)")
-    (tmp_path / "program.c").write_text(PROGRAM)
-    flags = ["-std=c99", "-O2", "-Wall", "-Wextra", "-Werror", *(["-static"] if "linux" in compiler else [])]
-    subprocess.run([compiler, *flags, f"-I{SOURCES}", "-o", tmp_path / "program", tmp_path / "program.c"], check=True)
-    done = subprocess.run([*machine, tmp_path / "program"], input=CONTENT, stdout=subprocess.PIPE, check=True).stdout
-    lengths = [length for length in range(2112) if not 1 < length % 64 < 63]
-    expected = b"".join(lanes_of(CONTENT[:length]) for length in (*lengths, len(CONTENT)))
-    assert done[: len(expected)] == expected
-    rest = done[len(expected) :]
-    assert rest[:-2] == b"".join(CONTENT[at : at + 40].hex().encode() + b"\n" for at in range(0, 400, 40))
-    assert rest[-2:] in ([b"30", b"31"] if is_fast is None else [b"31" if is_fast else b"30"])
+    static = ["-static"] if "linux" in compiler else []
+    found = outcome(compiled(tmp_path, compiler, "-O2", *static, machine=machine))
+    assert is_fast in (None, found)
+
+
+@pytest.mark.parametrize("compiler", ["gcc", "clang"])
+@pytest.mark.parametrize("flags", [["-O0"], ["-O3"], SANITIZED], ids=["-O0", "-O3", "sanitizers"])
+def test_by_each_compiler(tmp_path, compiler, flags):
+    outcome(compiled(tmp_path, compiler, *flags))
+
+
+@pytest.mark.parametrize("compiler, machine, flags", [
+    ("gcc", [], ["-O2"]), ("clang", [], ["-O2"]), ("gcc", [], SANITIZED),
+    ("s390x-linux-gnu-gcc", ["qemu-s390x"], ["-O2", "-static"])],
+    ids=["gcc", "clang", "sanitizers", "s390x"])  # fmt: skip
+def test_by_a_compiler_without_vectors(tmp_path, compiler, machine, flags):
+    """As Microsoft's, or a gcc before 9."""
+    assert not outcome(compiled(tmp_path, compiler, "-DWITHOUT_VECTORS", "-pedantic", *flags, machine=machine))

@@ -283,6 +283,48 @@ def test_replaces_nothing_before_its_check(file, pair, monkeypatch, wrong, plain
     assert refusal(file, pair) == "a rewrapped key is not under the new KEK"
 
 
+def exchanged(items, at=4):
+    """The same items, two of them exchanged."""
+    return [*items[:at], items[at + 1], items[at], *items[at + 2 :]]
+
+
+def doubled(items, at=4):
+    return [*items[: at + 1], items[at], *items[at + 2 :]]
+
+
+@pytest.mark.parametrize("change", [exchanged, doubled])
+@pytest.mark.parametrize("name", ["hex_slots", "hex_text"])
+def test_a_line_that_is_decoded_or_encoded_wrongly_is_not_written(file, pair, monkeypatch, name, change):
+    """The keys are right ones, but not those of the lines."""
+    real = getattr(_many, name)
+
+    def wrong(*words):
+        found = real(*words)
+        size = len(found) // 12
+        return bytearray().join(change([found[at : at + size] for at in range(0, len(found), size)]))
+
+    monkeypatch.setattr(_many, name, wrong)
+    file.write_bytes(lines_under(KEK, EQUAL))
+    assert refusal(file, pair) == "its lines were decoded or encoded wrongly"
+
+
+@pytest.mark.parametrize("at", [0, 11])
+def test_python_decodes_the_first_and_the_last_line_too(file, pair, monkeypatch, at):
+    """Both calls change a bit of one line, so that one hides it from the other. Then Python decodes all lines."""
+    slots, text = _many.hex_slots, _many.hex_text
+
+    def changed(keys, length):
+        keys = bytearray(keys)
+        keys[at * length] ^= 1
+        return keys
+
+    monkeypatch.setattr(_many, "hex_slots", lambda lines, number, length: changed(slots(lines, number, length), length))
+    monkeypatch.setattr(_many, "hex_text", lambda keys, length: text(changed(keys, length), length))
+    file.write_bytes(lines_under(KEK, EQUAL))
+    rotated(file, pair)
+    assert file.read_bytes() == lines_under(NEW_KEK, EQUAL)
+
+
 # Notations, and files of one key.
 
 

@@ -44,3 +44,20 @@ def test_of_each_length(length):
 @pytest.mark.parametrize("length", [1, 7, 12, 20])
 def test_other_lengths_are_left_to_the_caller(length):
     assert _many.hex_slots(b"00" * length + b"\n", 1, length) is None
+
+
+@pytest.mark.parametrize("length", [8, 16, 24, 40])
+def test_random_texts(length):
+    """Digits of both cases, and often another byte at a random place."""
+    source = random.Random(length)
+    others = [byte for byte in range(256) if byte not in DIGITS + b"\n"]
+    for _ in range(500):
+        number = source.randrange(1, 6)
+        content = bytearray(b"".join(bytes(source.choices(DIGITS, k=2 * length)) + b"\n" for _ in range(number)))
+        if source.randrange(2):
+            keys = bytes.fromhex(content.decode())
+            assert _many.hex_slots(content, number, length) == _many.hex_slots(bytes(content), number, length) == keys
+            assert _many.hex_text(keys, length) == content.lower()
+        else:
+            content[source.randrange(len(content))] = source.choice(others)
+            assert _many.hex_slots(content, number, length) is None

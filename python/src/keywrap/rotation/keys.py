@@ -125,21 +125,25 @@ def _are_done(statuses: bytearray) -> bool:
 class HexLines(NamedTuple):
     """The keys of lines that all have one length, behind each other. They are decoded and encoded at once.
 
-    The check of what was written decodes it by the call that has decoded what was read: keys under the KEK came of it.
+    One call decodes what was read and what was written. So that no error of it loses a key, each text is compared with
+    what its keys are encoded to, or its keys with those that it was encoded from; and Python decodes two lines, too.
     """
 
     keys: bytearray
     length: int
 
     @staticmethod
-    def of(content: bytes) -> Optional["HexLines"]:
+    def of(content: Union[bytes, bytearray]) -> Optional["HexLines"]:
         """Returns the keys if each line is hex digits and LF, and all are as long as the same wrapped key."""
         size = content.find(b"\n") + 1
         length = (size - 1) // 2
         if size < 3 or length % 8:
             return None
         keys = _many.hex_slots(content, len(content) // size, length)
-        return None if keys is None else HexLines(keys, length)
+        if keys is None:
+            return None
+        ends = ((keys[:length], content[: size - 1]), (keys[-length:], content[-size:-1]))
+        return HexLines(keys, length) if all(key.hex().encode() == line.lower() for key, line in ends) else None
 
     def each(self) -> List[bytes]:
         keys = bytes(self.keys)
@@ -150,8 +154,13 @@ class HexLines(NamedTuple):
         some = (self.keys[: self.length], self.keys)
         return all(_are_done(_many.check_slots(kek, keys, self.length)[0]) for keys in some)
 
-    def content(self) -> bytes:
+    def content(self) -> bytearray:
         return _many.hex_text(self.keys, self.length)
+
+    def is_in(self, content: bytes) -> bool:
+        """Whether the content is these keys, in digits of either case."""
+        text = self.content()
+        return text == content or text == content.lower()
 
 
 class Block(NamedTuple):
@@ -184,7 +193,7 @@ class Fresh(NamedTuple):
     keys: int
     changed: int
     #: If all lines are new: they themselves. Then there are no texts.
-    content: Optional[bytes] = None
+    content: Union[bytes, bytearray, None] = None
     #: How many of them were under each of several KEKs.
     under: Mapping[str, int] = {}
 
@@ -225,6 +234,7 @@ def are_under(kek: bytes, keys: Sequence[bytes]) -> List[bool]:
 _FOREIGN, _NO_KEK = "integrity check failed", "there is no KEK of its name"
 _OLD_VERSION = "it is under the new KEK, but has the prefix of another one"
 _NOT_UNDER = "a rewrapped key is not under the new KEK"
+_WRONG_TEXT = "its lines were decoded or encoded wrongly"
 _FLAGS = _flags(False, False, True, True)
 #: How many keys of a name show whether it has the right KEK.
 _PROBED = 8
@@ -290,8 +300,10 @@ class Decoded:
                 yield pair, some
 
 
-def _all_rewrapped(keks: Keks, lines: HexLines) -> Optional[Fresh]:
+def _all_rewrapped(keks: Keks, lines: HexLines, read: bytes) -> Optional[Fresh]:
     """Rewraps all lines at once, or returns `None` if a key is refused, or is under the new KEK already."""
+    if not lines.is_in(read):
+        raise Refused(_WRONG_TEXT)
     texts = lines.keys[:]
     old = keks.old
     if len(old) > 1:  # In most blocks all keys are under one KEK: the first key shows which.
@@ -305,7 +317,9 @@ def _all_rewrapped(keks: Keks, lines: HexLines) -> Optional[Fresh]:
         return None
     content = HexLines(texts, lines.length).content()
     written = HexLines.of(content)
-    if written is None or not written.are_under(keks.new):
+    if written is None or written.keys != texts:
+        raise Refused(_WRONG_TEXT)
+    if not written.are_under(keks.new):
         raise Refused(_NOT_UNDER)
     return Fresh({}, [], len(statuses), len(statuses), content, {old[0][0]: len(statuses)})
 
@@ -318,7 +332,7 @@ def rewrapped(keks: NamedKeks, block: Block, may_be_new: bool = True) -> Fresh:
     if block.lines is not None:
         if may_be_new and block.lines.are_under(keks[None].new):
             return Fresh({}, [], len(block.lines.keys) // block.lines.length, 0)
-        fresh = _all_rewrapped(keks[None], block.lines)
+        fresh = _all_rewrapped(keks[None], block.lines, block.content)
         if fresh is not None:
             return fresh
     decoded = Decoded(block)
