@@ -45,6 +45,16 @@ sys.exit(main())
 """
 
 
+# Each worker waits before the first key of its second file until the test has made the file `go`.
+HELD = SLOW.replace("    time.sleep(0.01)", """
+    seen.append(text)
+    while len(seen) > 30 and not os.path.exists("go"):
+        time.sleep(0.01)
+""").replace("import time", "import os, time\nseen = []")
+# Before its first one.
+HELD_AT_ONCE = HELD.replace("len(seen) > 30 and ", "")
+
+
 @pytest.fixture(autouse=True)
 def keks(tmp_path_factory, monkeypatch):
     directory = tmp_path_factory.mktemp("keks")
@@ -317,23 +327,11 @@ def test_refused_keys_that_are_not_named_are_counted(capsys, refused, more):
 
 
 def test_a_kek_that_changes_meanwhile_is_one_line(store, keks):
-    """Each worker waits in its second file until the KEK has changed."""
-    program = ONE_BY_ONE + """
-import os, time
-calls = iter(range(1000))
-def act(text):
-    waits = next(calls) > 30
-    while waits and not os.path.exists("changed"):
-        time.sleep(0.01)
-_many.rewrap_slots = before_each_key(act)
-from keywrap.rotate import main
-sys.exit(main())
-"""
-    running = slowly(store, program=program)
+    running = slowly(store, program=HELD)
     wait_for(lambda: "new" in state(store))
     (keks / "other").write_text("77" * 16)
     os.rename("other", "new-kek.hex")
-    (keks / "changed").touch()
+    (keks / "go").touch()
     lines = running.communicate(timeout=240)[1].decode().splitlines()
     assert running.returncode == 3
     assert len(lines) == 2
@@ -386,10 +384,9 @@ def test_exclude(store):
 
 def test_a_live_directory_has_an_end(store):
     """Files are listed once. A file that is added is under the new KEK, and one that is removed is gone."""
-    program = "import os" + SLOW.replace("time.sleep(0.01)", "while not os.path.exists('go'): time.sleep(0.01)")
-    running = subprocess.Popen([sys.executable, "-B", "-c", program, "--jobs", "1", str(store)], stderr=subprocess.PIPE)
-    wait_for(lambda: children(running))
-    time.sleep(0.5)
+    run = [sys.executable, "-B", "-c", HELD_AT_ONCE, "--jobs", "1", str(store)]
+    running = subprocess.Popen(run, stderr=subprocess.PIPE)
+    wait_for(lambda: children(running))  # They begin after the files were listed.
     (store / "more").write_bytes(lines_under(NEW_KEK, KEYS[0]))
     (store / "7.hex").unlink()
     open("go", "w").close()
@@ -656,10 +653,9 @@ def alive(pid):
 
 
 def test_a_killed_run_is_begun_again(store):
-    running = slowly(store, "--report", "report")
+    running = slowly(store, "--report", "report", program=HELD)
     # A line is written as soon as its file is answered.
-    wait_for(lambda: os.path.exists("report") and len(open("report").readlines()) > 1 or running.poll() is not None)
-    assert running.poll() is None
+    wait_for(lambda: os.path.exists("report") and len(open("report").readlines()) > 1)
     workers = children(running)
     running.kill()
     running.communicate(timeout=240)
@@ -711,21 +707,26 @@ def test_what_only_a_person_can_decide_is_named(store):
 
 def test_workers_end_with_a_run_that_is_killed_before_they_begin(store):
     """They do not keep the pipe of standard error open, either."""
-    program = SLOW.replace("sys.exit(", """
+    program = HELD.replace("sys.exit(", """
 from keywrap.rotation import jobs
-begin = jobs._end_with_parent
-jobs._end_with_parent = lambda parent: time.sleep(1) or begin(parent)
+def begin(parent, real=jobs._end_with_parent):
+    while not os.path.exists("go"):
+        time.sleep(0.01)
+    real(parent)
+jobs._end_with_parent = begin
 sys.exit(""")
     running = slowly(store, program=program)
     workers = children(running)
     running.kill()
+    running.wait()
+    open("go", "w").close()
     assert running.communicate(timeout=60)[1] == b""
     wait_for(lambda: not any(map(alive, workers)))
     assert state(store) == ["old"] * FILES
 
 
 def test_workers_hold_no_stream_of_the_run(store):
-    running = slowly(store)
+    running = slowly(store, program=HELD)
     streams = {f"/proc/{worker}/fd/{stream}" for worker in children(running) for stream in (0, 1, 2)}
     wait_for(lambda: {os.readlink(stream) for stream in streams} == {"/dev/null"})
     assert len(streams) == 6
@@ -734,37 +735,33 @@ def test_workers_hold_no_stream_of_the_run(store):
 
 
 def test_no_process_leaves_a_core_file_or_shows_its_memory(store):
-    running = slowly(store)
+    running = slowly(store, program=HELD)
     wait_for(lambda: "new" in state(store))
     for pid in [running.pid, *children(running)]:
         assert resource.prlimit(pid, resource.RLIMIT_CORE) == (0, 0)
         # The owner of these files is root if a process is not dumpable.
         assert os.stat(f"/proc/{pid}/mem").st_uid == 0
-    wait_for(lambda: running.poll() is not None)
-    running.communicate()
+    open("go", "w").close()
+    running.communicate(timeout=240)
 
 
-# Each worker waits at the first key of its second file until the run has taken the interrupt.
-INTERRUPTED = SLOW.replace("    time.sleep(0.01)", """
-    seen.append(text)
-    while len(seen) > 30 and not os.path.exists("taken"):
-        time.sleep(0.01)
-""").replace("import time", """
-import os, time
+# The run makes this file when it has taken an interrupt.
+TAKEN = """
 from keywrap.rotation.jobs import Jobs
-seen = []
 def stop(jobs, real=Jobs.stop):
     real(jobs)
-    open("taken", "w").close()
+    open({!r}, "w").close()
 Jobs.stop = stop
-""")
+from keywrap.rotate import main
+"""
 
 
 @pytest.mark.parametrize("sent", [signal.SIGINT, signal.SIGTERM])
 @pytest.mark.parametrize("to_all", [False, True])
 def test_an_interrupt_ends_between_two_files(store, sent, to_all):
     """Ctrl-C of a terminal reaches all processes. The report is whole."""
-    running = slowly(store, "--report", "report", program=INTERRUPTED)
+    program = HELD.replace("from keywrap.rotate import main", TAKEN.format("go"))
+    running = slowly(store, "--report", "report", program=program)
     wait_for(lambda: "new" in state(store))
     for pid in [*(children(running) if to_all and sent == signal.SIGINT else []), running.pid]:
         os.kill(pid, sent)
@@ -780,21 +777,21 @@ def test_an_interrupt_ends_between_two_files(store, sent, to_all):
 
 
 def test_a_second_interrupt_ends_at_once(store):
-    running = slowly(store, program=SLOW.replace("0.01", "60"))
-    wait_for(lambda: len(children(running)) == 2)
-    time.sleep(0.5)
-    for _ in range(2):
-        running.send_signal(signal.SIGINT)
-        time.sleep(0.5)
+    running = slowly(store, program=HELD_AT_ONCE.replace("from keywrap.rotate import main", TAKEN.format("taken")))
+    running.send_signal(signal.SIGINT)
+    wait_for(lambda: os.path.exists("taken"))
+    running.send_signal(signal.SIGINT)
     assert running.communicate(timeout=30)[1].decode().splitlines()[-1] == "keywrap.rotate: interrupted: run it again"
     assert (running.returncode, state(store)) == (130, ["old"] * FILES)
 
 
 def test_killed_workers_are_replaced(store):
-    running = slowly(store)
+    running = slowly(store, program=HELD_AT_ONCE)
     for _ in range(3):
-        os.kill(children(running)[0], signal.SIGKILL)
-        time.sleep(0.2)
+        killed = children(running)[0]
+        os.kill(killed, signal.SIGKILL)
+        wait_for(lambda: killed not in children(running) and len(children(running)) == 2)
+    open("go", "w").close()
     stderr = running.communicate(timeout=240)[1]
     assert running.returncode == 0, stderr
     assert state(store) == ["new"] * FILES
