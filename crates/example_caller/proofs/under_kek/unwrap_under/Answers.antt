@@ -1,5 +1,5 @@
--- What `unwrap` ensures of its `aes`, said of the KEK.
-use Rattle.std.proofs.Common.{ℕ, List, refl, subst}
+-- What `unwrap` ensures of its `pair`, said of the KEK.
+use Rattle.std.proofs.Common.{ℕ, List, subst}
 use Rattle.aes_block.specs.Cipher.{cipher}
 use Rattle.key_wrap.specs.NoKey.{NoKey}
 use Rattle.key_wrap.specs.Plain.{Plain, default_iv}
@@ -7,7 +7,5 @@ use Rattle.example_caller.proofs.under_kek.unwrap_under.Goals as goal
 
 pub returns-in-Err-Integrity-clause-answer : goal.returns-in-Err-Integrity-clause-answer
 returns-in-Err-Integrity-clause-answer c =
-    let told = rw c.in-Err-Integrity.field-0-is at c.in-Err-Integrity.ensures.answer in (
-      c.in_ok-aes.ensures.accepted.0 refl,
-      subst (λ (K : List ℕ). NoKey (Plain (cipher K) default_iv) c.args.text.now) c.in_ok-aes.ensures.key told.1,
-    )
+    let told = rw c.in-Err-Integrity.field-0-is at c.in-Err-Integrity.ensures.answer in
+    subst (λ (K : List ℕ). NoKey (Plain (cipher K) default_iv) c.args.text.now) c.aes_256.ensures told.1
