@@ -1,7 +1,8 @@
--- What a command is for the arguments that clap parsed, option by option. Clap refuses options that exclude each other.
+-- What a command is for the arguments that clap parsed, option by option, and why there is none. Clap refuses options that
+-- exclude each other.
 use Rattle.std.specs.Prelude.{◌≡◌, ◌↔◌, ◌⊎◌, ℕ, IsTrue, List, Option, Some, None, codes}
 use Rattle.std.specs.Borrow.{Bor}
-use Rattle.key_wrap_core.specs.Plain.{default_iv}
+use Rattle.key_wrap_core.specs.Plain.{IsReserved, default_iv}
 use Rattle.key_wrap_core.specs.declared.agreed_form.AgreedForm.{AgreedForm}
 use Rattle.key_wrap_core.specs.declared.forms.Form.{Form}
 use Rattle.key_wrap_core.specs.declared.forms.Form.TheVariants.{Plain, Padded}
@@ -10,19 +11,25 @@ use Rattle.key_wrap_core.specs.declared.rewrapping.RewrapForms.{RewrapForms}
 use Rattle.key_wrap_core.specs.declared.rewrapping.RewrapForms.TheVariants.{Kept, Changed}
 use Rattle.key_lines.specs.declared.text.TextNotation.{TextNotation}
 use Rattle.key_lines.specs.declared.text.TextNotation.TheVariants as texts
-use Rattle.keywrap_args.specs.Given.{Has, IsSet, Lacks}
+use Rattle.keywrap_args.specs.Given.{Has, IsRefusal, IsSet, Lacks, NamesFile, NamesNoFile}
 use Rattle.keywrap_args.specs.declared.parser.Args.{Args}
 use Rattle.keywrap_args.specs.declared.subcommands.Subcommand.{Subcommand}
 use Rattle.keywrap_args.specs.declared.subcommands.Subcommand.TheVariants as words
 use Rattle.keywrap_cli.specs.Files.{line_notation}
-use Rattle.keywrap_cli.specs.InitialValue.{DenotesIv}
+use Rattle.keywrap_cli.specs.InitialValue.{DenotesIv, IsSixteenDigits}
 use Rattle.keywrap_cli.specs.declared.convert.Direction.TheVariants as directions
+use Rattle.keywrap_cli.specs.declared.fault.ProgramFault.{ProgramFault}
+use Rattle.keywrap_cli.specs.declared.fault.ProgramFault.TheVariants.{Iv, NewIv}
+use Rattle.keywrap_cli.specs.declared.initial_value.IvFault.{IvFault}
+use Rattle.keywrap_cli.specs.declared.initial_value.IvFault.TheVariants.{NotSixteenDigits, Reserved}
 use Rattle.keywrap_cli.specs.declared.job.Job.{Job}
 use Rattle.keywrap_cli.specs.declared.job.Job.TheVariants as jobs
 use Rattle.keywrap_cli.specs.declared.job.Notation.{Notation}
 use Rattle.keywrap_cli.specs.declared.job.Notation.TheVariants.{Raw, Hex, Base64}
 use Rattle.keywrap_cli.specs.declared.operation.Operation.{Operation}
 use Rattle.keywrap_cli.specs.declared.operation.Operation.TheVariants as operations
+use Rattle.keywrap.specs.declared.cli.Stop.{Stop}
+use Rattle.keywrap.specs.declared.cli.Stop.TheVariants as stops
 use Rattle.keywrap.specs.declared.command.Command.{Command}
 use Rattle.keywrap.specs.declared.command.Command.TheVariants.{Run, Drill, Vectors}
 use Rattle.keywrap.specs.declared.command.LineOptions.{LineOptions}
@@ -51,7 +58,7 @@ pub record IsKekNotation (args : Args) (notation : Notation) : Type 0 where
 
 -- the initial value of an option, or the default
 pub record IsInitialValue (args : Args) (option : List ℕ) (iv : ℕ) : Type 0 where
-  pub own : (digits : List ℕ) → Has args option digits → DenotesIv digits iv
+  pub own : (digits : List ℕ) → Has args option digits → DenotesIv digits iv × ¬ IsReserved iv
   pub default : Lacks args option → iv ≡ default_iv
 
 -- the form with its initial value
@@ -72,16 +79,16 @@ AreForms args (Changed old new) = (¬ IsSet args (codes "keep-form")) × IsAgree
 
 abbrev pub IsOperation : Args → Operation (Bor (List ℕ)) → Type 0
 IsOperation args (operations.Job iv task kek) =
-    IsJob args args.subcommand task.job × Has args (codes "kek") kek.now × IsInitialValue args (codes "iv") iv × IsForm args (codes "padded") task.form
+    IsJob args args.subcommand task.job × NamesFile args (codes "kek") kek.now × IsInitialValue args (codes "iv") iv × IsForm args (codes "padded") task.form
     × IsNotation args task.input × IsKekNotation args task.kek
 IsOperation args (operations.Rewrap task kek new) =
-    (args.subcommand ≡ words.Rewrap) × Has args (codes "kek") kek.now × Has args (codes "new-kek") new.now × AreForms args task.forms
+    (args.subcommand ≡ words.Rewrap) × NamesFile args (codes "kek") kek.now × NamesFile args (codes "new-kek") new.now × AreForms args task.forms
     × (IsTrue task.pass_new ↔ IsSet args (codes "pass-new")) × IsNotation args task.input × IsKekNotation args task.kek
 
 -- the file of an option, or a standard stream
 abbrev pub IsFile : Args → List ℕ → Option (Bor (List ℕ)) → Type 0
-IsFile args option (Some name) = Has args option name.now
-IsFile args option None = Lacks args option ⊎ Has args option (codes "-")
+IsFile args option (Some name) = NamesFile args option name.now
+IsFile args option None = NamesNoFile args option
 
 -- the options that go with `--lines`
 abbrev pub AreLineOptions : Args → Option LineOptions → Type 0
@@ -97,3 +104,41 @@ IsCommand args (Drill form direction hex) =
     (args.subcommand ≡ words.Drill) × IsForm args (codes "padded") form × (IsSet args (codes "unwrap") → direction ≡ directions.Unwrap)
     × (¬ IsSet args (codes "unwrap") → direction ≡ directions.Wrap) × Has args (codes "hex") hex.now
 IsCommand args Vectors = args.subcommand ≡ words.Vectors
+
+-- why the value of an option is not an initial value
+abbrev pub IsBadValue : Args → List ℕ → IvFault → Type 0
+IsBadValue args option NotSixteenDigits = (digits : List ℕ) × Has args option digits × ¬ IsSixteenDigits digits
+IsBadValue args option Reserved = (digits : List ℕ) × Has args option digits × ((iv : ℕ) × DenotesIv digits iv × IsReserved iv)
+
+-- why the initial values of a rewrap are refused: the first that is
+abbrev pub AreBadValues : Args → ProgramFault → Type 0
+AreBadValues args (Iv fault) = IsBadValue args (codes "iv") fault
+AreBadValues args (NewIv fault) = ((iv : ℕ) × IsInitialValue args (codes "iv") iv) × IsBadValue args (codes "new-iv") fault
+AreBadValues args fault = ⊥
+
+-- the option names a file
+abbrev pub NamesSome : Args → List ℕ → Type 0
+NamesSome args option = (name : List ℕ) × NamesFile args option name
+
+-- Why there is no job, no rewrap and no drill. An initial value is refused only after each KEK file has its name.
+abbrev pub RefusesJob : Args → Stop → Type 0
+RefusesJob args (stops.Args stop) = IsRefusal stop × NamesNoFile args (codes "kek")
+RefusesJob args (stops.Fault (Iv fault)) = NamesSome args (codes "kek") × IsBadValue args (codes "iv") fault
+RefusesJob args (stops.Fault fault) = ⊥
+
+abbrev pub RefusesRewrap : Args → Stop → Type 0
+RefusesRewrap args (stops.Args stop) = IsRefusal stop × (NamesNoFile args (codes "kek") ⊎ NamesNoFile args (codes "new-kek"))
+RefusesRewrap args (stops.Fault fault) =
+    NamesSome args (codes "kek") × NamesSome args (codes "new-kek") × (¬ IsSet args (codes "keep-form")) × AreBadValues args fault
+
+abbrev pub RefusesDrill : Args → Stop → Type 0
+RefusesDrill args (stops.Args stop) = IsRefusal stop × Lacks args (codes "hex")
+RefusesDrill args (stops.Fault fault) = ⊥
+
+abbrev pub RefusesCommand : Args → Subcommand → Stop → Type 0
+RefusesCommand args words.Wrap stop = RefusesJob args stop
+RefusesCommand args words.Unwrap stop = RefusesJob args stop
+RefusesCommand args words.Check stop = RefusesJob args stop
+RefusesCommand args words.Rewrap stop = RefusesRewrap args stop
+RefusesCommand args words.Drill stop = RefusesDrill args stop
+RefusesCommand args words.Vectors stop = ⊥

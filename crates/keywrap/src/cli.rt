@@ -1,9 +1,12 @@
 //! Reads the arguments into a `Command`.
 
-ghost use Rattle.std.specs.Prelude.{◌≡◌, IfOk};
-ghost use Rattle.keywrap.specs.Arguments.{AreForms, AreLineOptions, IsCommand, IsForm};
-ghost use Rattle.keywrap.specs.Arguments.{IsInitialValue, IsJob, IsKekNotation, IsNotation};
-ghost use Rattle.keywrap.specs.Arguments.{IsOperation, IsTextNotation};
+ghost use Rattle.std.specs.Prelude.{◌≡◌, IfErr, IfOk, codes};
+ghost use Rattle.keywrap.specs.Arguments.{AreBadValues, AreForms, AreLineOptions, IsBadValue};
+ghost use Rattle.keywrap.specs.Arguments.{IsCommand, IsForm, IsInitialValue, IsJob};
+ghost use Rattle.keywrap.specs.Arguments.{IsKekNotation, IsNotation, IsOperation, IsTextNotation};
+ghost use Rattle.keywrap.specs.Arguments.{RefusesCommand, RefusesDrill, RefusesJob, RefusesRewrap};
+ghost use Rattle.keywrap_args.specs.Given.{IsSet};
+ghost use Rattle.keywrap.specs.declared.cli.Stop.TheVariants as Stops;
 
 use crate::command::{Command, LineOptions, Run, agreed_form};
 use key_lines::TextNotation;
@@ -25,12 +28,16 @@ pub enum Stop {
 }
 
 impl From<keywrap_args::Stop> for Stop {
+    ghost from_gives = { λ args stop. stop ≡ Stops.Args args };
+
     fn from(stop: keywrap_args::Stop) -> Stop {
         Stop::Args(stop)
     }
 }
 
 impl From<ProgramFault> for Stop {
+    ghost from_gives = { λ fault stop. stop ≡ Stops.Fault fault };
+
     fn from(fault: ProgramFault) -> Stop {
         Stop::Fault(fault)
     }
@@ -46,7 +53,8 @@ pub fn read_command<'a>(alloc: Global, args: &'a [String]) -> Result<Command<'a>
 
 /// Returns the command for arguments that clap parsed.
 pub fn command<'a>(args: &Args<'a>) -> Result<Command<'a>, Stop>
-    ensures { IfOk result (λ command. IsCommand args.now command) }
+    ensures command { IfOk result (λ command. IsCommand args.now command) }
+    ensures refused { IfErr result (λ stop. RefusesCommand args.now args.now.subcommand stop) }
 {
     let operation = match args.subcommand {
         Subcommand::Wrap => job(Job::Wrap, args)?,
@@ -69,7 +77,8 @@ pub fn command<'a>(args: &Args<'a>) -> Result<Command<'a>, Stop>
 // UnwrapAny and Check try both forms and ignore this one.
 fn job<'a>(job: Job, args: &Args<'a>) -> Result<Operation<&'a str>, Stop>
     requires { IsJob args.now args.now.subcommand job }
-    ensures { IfOk result (λ operation. IsOperation args.now operation) }
+    ensures operation { IfOk result (λ operation. IsOperation args.now operation) }
+    ensures refused { IfErr result (λ stop. RefusesJob args.now stop) }
 {
     let kek = args.kek_file("kek")?;
     let iv = initial_value(args, "iv").map_err(ProgramFault::Iv)?;
@@ -84,7 +93,8 @@ fn job<'a>(job: Job, args: &Args<'a>) -> Result<Operation<&'a str>, Stop>
 
 fn rewrap<'a>(args: &Args<'a>) -> Result<Operation<&'a str>, Stop>
     requires { args.now.subcommand ≡ Subcommand.Rewrap }
-    ensures { IfOk result (λ operation. IsOperation args.now operation) }
+    ensures operation { IfOk result (λ operation. IsOperation args.now operation) }
+    ensures refused { IfErr result (λ stop. RefusesRewrap args.now stop) }
 {
     let kek = args.kek_file("kek")?;
     let new_kek = args.kek_file("new-kek")?;
@@ -98,8 +108,10 @@ fn rewrap<'a>(args: &Args<'a>) -> Result<Operation<&'a str>, Stop>
 }
 
 // Clap refuses `--keep-form` with the arguments for one of the forms.
-fn rewrap_forms(args: &Args<'_>) -> Result<RewrapForms, Stop>
-    ensures { IfOk result (λ forms. AreForms args.now forms) }
+fn rewrap_forms(args: &Args<'_>) -> Result<RewrapForms, ProgramFault>
+    ensures forms { IfOk result (λ forms. AreForms args.now forms) }
+    ensures refused { IfErr result (λ fault. (¬ IsSet args.now (codes "keep-form"))
+        × AreBadValues args.now fault) }
 {
     if args.has("keep-form") {
         return Ok(RewrapForms::Kept);
@@ -114,7 +126,8 @@ fn rewrap_forms(args: &Args<'_>) -> Result<RewrapForms, Stop>
 
 fn drill<'a>(args: &Args<'a>) -> Result<Command<'a>, Stop>
     requires { args.now.subcommand ≡ Subcommand.Drill }
-    ensures { IfOk result (λ command. IsCommand args.now command) }
+    ensures command { IfOk result (λ command. IsCommand args.now command) }
+    ensures refused { IfErr result (λ stop. RefusesDrill args.now stop) }
 {
     let direction = if args.has("unwrap") {
         Direction::Unwrap
@@ -189,7 +202,8 @@ fn lines(args: &Args<'_>) -> Option<LineOptions>
 }
 
 fn initial_value(args: &Args<'_>, option: &str) -> Result<InitialValue, IvFault>
-    ensures { IfOk result (λ iv. IsInitialValue args.now option.now iv) }
+    ensures value { IfOk result (λ iv. IsInitialValue args.now option.now iv) }
+    ensures refused { IfErr result (λ fault. IsBadValue args.now option.now fault) }
 {
     match args.value(option) {
         Some(digits) => parse_iv(digits),

@@ -1,8 +1,9 @@
 //! Parses the arguments with clap.
 
-ghost use Rattle.std.specs.Prelude.{◌≡◌, ◌↔◌, ◌⊎◌, Some, None, IfOk, IsTrue, MatchOption};
+ghost use Rattle.std.specs.Prelude.{◌≡◌, ◌↔◌, Some, IfErr, IfOk, IsTrue, MatchOption};
 ghost use Rattle.std.specs.Prelude.{codes, option_map};
-ghost use Rattle.keywrap_args.specs.Given.{given};
+ghost use Rattle.keywrap_args.specs.Given.{given, IsRefusal, Lacks, NamesFile, NamesNoFile};
+ghost use Rattle.keywrap_args.specs.declared.parser.Stop.TheVariants as Stops;
 
 use crate::hints::message;
 use crate::subcommands::{Subcommand, matches_of, subcommand_named};
@@ -33,6 +34,8 @@ pub enum Stop {
 }
 
 impl From<AllocError> for Stop {
+    ghost from_gives = { λ _ stop. stop ≡ Stops.Memory };
+
     fn from(_error: AllocError) -> Stop {
         Stop::Memory
     }
@@ -94,7 +97,8 @@ impl<'a> Args<'a> {
 
     /// Returns the value of a required argument. Clap has refused arguments without it.
     pub fn required(&self, argument: &str) -> Result<&'a str, Stop>
-        ensures { IfOk result (λ value. given self.now argument.now ≡ Some value.now) }
+        ensures value { IfOk result (λ value. given self.now argument.now ≡ Some value.now) }
+        ensures refused { IfErr result (λ stop. IsRefusal stop × Lacks self.now argument.now) }
     {
         match self.value(argument) {
             Some(value) => Ok(value),
@@ -105,9 +109,8 @@ impl<'a> Args<'a> {
     /// Returns the file of an option, or `None` for the standard stream: the option is not given,
     /// or its value is `-`.
     pub fn file(&self, option: &str) -> Option<&'a str>
-        ensures { MatchOption result ((given self.now option.now ≡ None)
-            ⊎ (given self.now option.now ≡ Some (codes "-")))
-            (λ name. (given self.now option.now ≡ Some name.now) × ¬ (name.now ≡ codes "-")) }
+        ensures { MatchOption result (NamesNoFile self.now option.now)
+            (λ name. NamesFile self.now option.now name.now) }
     {
         match self.value(option) {
             Some(name) => if name == "-" { None } else { Some(name) },
@@ -118,8 +121,9 @@ impl<'a> Args<'a> {
     /// Returns the KEK file of an option. `-` is rejected: elsewhere it means standard input, here
     /// it would be a file name.
     pub fn kek_file(&self, option: &str) -> Result<&'a str, Stop>
-        ensures { IfOk result (λ name. (given self.now option.now ≡ Some name.now)
-            × ¬ (name.now ≡ codes "-")) }
+        ensures name { IfOk result (λ name. NamesFile self.now option.now name.now) }
+        ensures refused { IfErr result (λ stop. IsRefusal stop
+            × NamesNoFile self.now option.now) }
     {
         let name = self.required(option)?;
         if name != "-" {
@@ -134,7 +138,9 @@ impl<'a> Args<'a> {
 }
 
 // A refusal that clap does not know, in clap's form.
-fn refusal(alloc: Global, said: &str) -> Result<Stop, AllocError> {
+fn refusal(alloc: Global, said: &str) -> Result<Stop, AllocError>
+    ensures { IfOk result (λ stop. IsRefusal stop) }
+{
     Ok(Stop::Usage(format!(in alloc; "error: {said}{USAGE}")?))
 }
 

@@ -1,5 +1,6 @@
 pub mod Answered
 pub mod Conversions
+pub mod CutOff
 pub mod Drills
 pub mod EndsWell
 pub mod InitialValues

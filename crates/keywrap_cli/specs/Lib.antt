@@ -5,6 +5,7 @@ pub mod EndsWell
 pub mod Engine
 pub mod Faults
 pub mod Files
+pub mod Flushed
 pub mod InitialValue
 pub mod Job
 pub mod Operation

@@ -1,10 +1,13 @@
 //! The commands without files: they write their answer, flush it, and return the exit status.
 
-ghost use Rattle.std.specs.Prelude.{◌≡◌, ◌⊎◌, List, ℕ, IfOk, true, false};
+ghost use Rattle.std.specs.Prelude.{◌≡◌, ◌↔◌, ◌⊎◌, List, ℕ, Err, IfErr, IfOk, true, false};
 ghost use Rattle.std.specs.Io.KnownBytes.{Appends, Keeps};
+ghost use Rattle.key_files.specs.declared.fault.FileFault.TheVariants as FileFaults;
 ghost use Rattle.test_vectors.specs.Published.{published_vectors};
-ghost use Rattle.keywrap_cli.specs.Drill.{IsDrillLine};
+ghost use Rattle.keywrap_cli.specs.Drill.{IsDrillLine, drill_meaning};
+ghost use Rattle.keywrap_cli.specs.Flushed.{IsCutOff, IsDrillFault, IsVectorsFault, WritesReport};
 ghost use Rattle.keywrap_cli.specs.Vectors.{IsVerdictOnAll};
+ghost use Rattle.keywrap_cli.specs.declared.drilling.DrillFault.TheVariants as DrillFaults;
 
 use crate::convert::Direction;
 use crate::drilling::drill;
@@ -29,6 +32,14 @@ pub fn run_drill<W: Write>(
     ensures line { IfOk result (λ status. (line : List ℕ)
         × IsDrillLine direction form text.now line
         × Appends (W.contents out.old) (W.contents out.new) line) }
+    ensures fault { IfErr result (λ fault. IsDrillFault direction form text.now
+        (W.contents out.old) (W.contents out.new) fault) }
+    ensures too_long { (result ≡ Err (ProgramFault.Drill DrillFaults.TooLong))
+        ↔ (drill_meaning text.now ≡ Err FileFaults.TooLong) }
+    ensures bad_digit { (at : ℕ) → (result ≡ Err (ProgramFault.Drill (DrillFaults.BadDigit at)))
+        ↔ (drill_meaning text.now ≡ Err (FileFaults.BadDigit at)) }
+    ensures odd_digits { (result ≡ Err (ProgramFault.Drill DrillFaults.OddDigits))
+        ↔ (drill_meaning text.now ≡ Err FileFaults.OddDigits) }
 {
     let bytes = match drill(alloc, form, direction, text) {
         Ok(bytes) => bytes,
@@ -40,9 +51,13 @@ pub fn run_drill<W: Write>(
 
 /// Writes the lines of [`vectors`]. The status is 0 if every vector is right, else 5.
 pub fn run_vectors<C: VectorCalls, W: Write>(alloc: Global, out: &mut W) -> Result<u8, ProgramFault>
-    ensures { IfOk result (λ status.
+    ensures verdict { IfOk result (λ status.
         ((status ≡ 0) × IsVerdictOnAll C.gave published_vectors true)
         ⊎ ((status ≡ 5) × IsVerdictOnAll C.gave published_vectors false)) }
+    ensures report { IfOk result (λ status.
+        WritesReport C.gave (W.contents out.old) (W.contents out.new) status) }
+    ensures fault { IfErr result (λ fault.
+        IsVectorsFault C.gave (W.contents out.old) (W.contents out.new) fault) }
 {
     if vectors::<C, W>(alloc, out)? {
         flush(out, statuses::DONE)
@@ -56,6 +71,8 @@ pub fn write_help<W: Write>(text: &str, out: &mut W) -> Result<u8, ProgramFault>
     ensures done { IfOk result (λ status. status ≡ 0) }
     ensures text { IfOk result (λ status.
         Appends (W.contents out.old) (W.contents out.new) text.now) }
+    ensures fault { IfErr result (λ fault.
+        IsCutOff text.now (W.contents out.old) (W.contents out.new) fault) }
 {
     write_raw(out, text.as_bytes())?;
     flush(out, statuses::DONE)
@@ -64,6 +81,7 @@ pub fn write_help<W: Write>(text: &str, out: &mut W) -> Result<u8, ProgramFault>
 // Flushes the output, and returns the status of a call without a fault.
 fn flush<W: Write>(out: &mut W, status: u8) -> Result<u8, ProgramFault>
     ensures status { IfOk result (λ answer. answer ≡ status) }
+    ensures fault { IfErr result (λ fault. fault ≡ ProgramFault.Flush) }
     ensures kept { Keeps (W.contents out.old) (W.contents out.new) }
 {
     match out.flush() {
