@@ -99,13 +99,6 @@ to_padded iv found registers key word holds =
     let whole : padded key ≡ key = padded_whole key holds.0.0 in
     ((omega arith, omega arith), rw (rest, whole) refl)
 
--- and under another initial value
-pub to_value : (iv value found : ℕ) (registers key : List ℕ) → IsWord found → IsWord value → HoldsIn (Plain iv) key (word_bytes found ++ registers)
-    → HoldsIn (Plain value) key (word_bytes value ++ registers)
-to_value iv value found registers key word word' holds =
-    let rest : registers ≡ key = (word_front found iv registers key word holds.2 holds.1).1 in
-    (holds.0, ap (λ (bs : List ℕ). word_bytes value ++ bs) rest, word')
-
 -- the registers lent are all after the first word
 pub behind_first : (buf : List ℕ) → take (length buf - 8) (drop 8 buf) ≡ drop 8 buf
 behind_first buf = take_all (length buf - 8) (drop 8 buf) (omega (arith, length-drop 8 buf))

@@ -13,7 +13,11 @@ use Rattle.key_wrap_core.specs.InPlace.{IsPaddedRoom, key_in}
 use Rattle.key_wrap_core.proofs.PaddedForm.{aiv_word}
 use Rattle.key_wrap_core.proofs.Spelling.{length-word_bytes, word_front}
 
--- what the machine leaves in its part of the buffer
+-- the machine is lent all but the first word
+pub lent_length : (buf : List ℕ) → 8 ≤ length buf → 8 + length (take (length buf - 8) (drop 8 buf)) ≡ length buf
+lent_length buf some = omega (arith, length-take (length buf - 8) (drop 8 buf), length-drop 8 buf)
+
+-- what it leaves in its part of the buffer
 pub registers_now : (buf registers : List ℕ) → 8 ≤ length buf → length registers ≡ length buf - 8
     → drop 8 (put_mid 8 (length buf - 8) buf registers) ≡ registers
 registers_now buf registers some size =

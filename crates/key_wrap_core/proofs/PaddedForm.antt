@@ -158,14 +158,6 @@ padded_only_key {key = key} {other = other} inv h k =
     held_key (word_bytes (aiv (length key)) ++ padded key) key other h.legal k.legal refl
     (padded_registers_backward inv (padded_registers h) (padded_registers k))
 
--- the registers that run from the key's initial value and the padded key end in the key's one padded text
-pub padded_wrapped : {E : List ℕ → List ℕ} (key before after text : List ℕ) → IsPaddedKeyLength (length key) → Holds before key
-    → PaddedRegisters E before after → text ≡ after
-    → Padded E key text × ((other : List ℕ) → Padded E key other → other ≡ text)
-padded_wrapped {E = E} key before after text legal holds run ends =
-    let h : Padded E key text = rw ends (registers_padded key before after legal holds run) in
-    (h, λ other k. padded_only_text h k)
-
 -- the buffer to which the registers run back holds the key, and no other key belongs to the text
 pub padded_unwrapped : {E D : List ℕ → List ℕ} {buffer after : List ℕ} (read text key : List ℕ) (len : ℕ) → AreInverse E D → PaddedRegisters E buffer after
     → after ≡ text → read ≡ buffer → HoldsLength read len → key ≡ take len (drop 8 read)

@@ -11,7 +11,7 @@ use Rattle.key_wrap_core.specs.declared.rewrapping.RewrapFault.{RewrapFault}
 use Rattle.key_wrap_core.specs.declared.rewrapping.RewrapFault.TheVariants.{BadLength, Integrity, KeyNotPlain}
 use Rattle.key_wrap_core.specs.Forms.{StandsAs, IsKeyLengthAs}
 use Rattle.key_wrap_core.specs.Rewrap.{IsFrom, IsRewrapped, IsRewrapping, IsNew, IsRefused, HasFault, HasGoodKey, RewrapResults, back, to_form}
-use Rattle.key_wrap_core.proofs.Rewraps.{stands_old}
+use Rattle.key_wrap_core.proofs.Rewraps.{only_fault}
 
 key_legal : (F : List ℕ → List ℕ) (form : AgreedForm) (key text : List ℕ) → StandsAs form F key text → IsKeyLengthAs form (length key)
 key_legal F (agreed.Plain iv) key text h = h.legal
@@ -31,23 +31,17 @@ good_of forms E F text after is = (is.0, is.1, is.2, key_legal F (to_form forms 
 -- and such a text has no fault
 no_fault : {E D : List ℕ → List ℕ} (forms : RewrapForms) (text : List ℕ) (fault : RewrapFault) → AreInverse E D → HasGoodKey forms E text
     → ¬ HasFault forms E text fault
-no_fault forms text BadLength inv good bad = bad (stands_old forms good.0 good.1 text inv good.2.from good.2.stands)
-no_fault forms text Integrity inv good none = none.1 good.0 good.2.from good.1 good.2.stands
-no_fault forms text KeyNotPlain inv good bad =
-    let same = bad.2.only good.0 good.1 good.2.from good.2.stands in bad.3 (rw (same.0, same.1) at good.3)
+no_fault forms text fault inv good has = (only_fault forms good.0 good.1 text fault inv good.2 has).1 good.3
 
 -- and has no other
 same_fault : {E D : List ℕ → List ℕ} (forms : RewrapForms) (text : List ℕ) (fault other : RewrapFault) → AreInverse E D → HasFault forms E text fault
     → HasFault forms E text other → other ≡ fault
+same_fault forms text KeyNotPlain other inv h k = (only_fault forms h.0 h.1 text other inv h.2 k).0
 same_fault forms text BadLength BadLength inv h k = refl
 same_fault forms text Integrity Integrity inv h k = refl
-same_fault forms text KeyNotPlain KeyNotPlain inv h k = refl
 same_fault forms text BadLength Integrity inv h k = absurd (h k.0)
 same_fault forms text Integrity BadLength inv h k = absurd (k h.0)
-same_fault forms text BadLength KeyNotPlain inv h k = absurd (h (stands_old forms k.0 k.1 text inv k.2.from k.2.stands))
-same_fault forms text KeyNotPlain BadLength inv h k = absurd (k (stands_old forms h.0 h.1 text inv h.2.from h.2.stands))
-same_fault forms text Integrity KeyNotPlain inv h k = absurd (h.1 k.0 k.2.from k.1 k.2.stands)
-same_fault forms text KeyNotPlain Integrity inv h k = absurd (k.1 h.0 h.2.from h.1 h.2.stands)
+same_fault forms text fault KeyNotPlain inv h k = sym (only_fault forms k.0 k.1 text fault inv k.2 h).0
 
 pub one_result : {E D : List ℕ → List ℕ} (F : List ℕ → List ℕ) (pass_new : Bool) (forms : RewrapForms) (text after other : List ℕ)
     (result other_result : Result Rewrapped RewrapFault) → AreInverse E D → IsRewrapping pass_new forms E F text result after
@@ -97,10 +91,9 @@ comes_back Kept text after other is is' =
 comes_back (Changed old new) text after other is is' =
     let same = is.3.only is'.0 is'.1 is'.2.from is'.2.stands in is.2.alone other (rw is.2.from (rw same.1 at is'.3.stands))
 
-pub results_of : {E D : List ℕ → List ℕ} (F : List ℕ → List ℕ) (pass_new : Bool) (forms : RewrapForms) (text after : List ℕ)
-    (result : Result Rewrapped RewrapFault) → AreInverse E D → IsRewrapping pass_new forms E F text result after
-    → RewrapResults pass_new forms E F text result after
-results_of {E = E} F pass_new forms text after result inv is =
+pub results_of : {E D F : List ℕ → List ℕ} {pass_new : Bool} {forms : RewrapForms} {text after : List ℕ} {result : Result Rewrapped RewrapFault}
+    → AreInverse E D → IsRewrapping pass_new forms E F text result after → RewrapResults pass_new forms E F text result after
+results_of {E = E} {F = F} {pass_new = pass_new} {forms = forms} {text = text} {after = after} {result = result} inv is =
     let relation : Result Rewrapped RewrapFault → Type 0 = λ r. IsRewrapping pass_new forms E F text r after in
     let one = one_result F pass_new forms text after text result in
     record {

@@ -12,18 +12,16 @@ use Rattle.key_wrap_core.specs.declared.rewrapping.RewrapFault.TheVariants.{BadL
 use Rattle.key_wrap_core.specs.Words.{word_bytes}
 use Rattle.key_wrap_core.specs.Lengths.{IsPlainKeyLength, IsPaddedTextLength}
 use Rattle.key_wrap_core.specs.Plain.{default_iv}
-use Rattle.key_wrap_core.specs.Padded.{aiv, padded}
-use Rattle.key_wrap_core.specs.Forms.{StandsAs}
+use Rattle.key_wrap_core.specs.Forms.{StandsAs, IsKeyLengthAs}
 use Rattle.key_wrap_core.specs.Found.{HoldsIn}
-use Rattle.key_wrap_core.specs.Rewrap.{IsFrom, IsWrapping, IsOldLength, IsNoWrapping, HasFault, to_form, to_itself}
-use Rattle.key_wrap_core.specs.Private.{IsFound}
-use Rattle.key_wrap_core.proofs.Spelling.{word_front}
+use Rattle.key_wrap_core.specs.EitherForm.{NoKeyIn}
+use Rattle.key_wrap_core.specs.Rewrap.{IsFrom, IsWrapping, HasFault, to_form, to_itself}
+use Rattle.key_wrap_core.specs.Private.{Fits, IsFound}
 use Rattle.key_wrap_core.proofs.PlainForm.{default_free, padded_whole}
-use Rattle.key_wrap_core.proofs.PaddedForm.{aiv_word}
 use Rattle.key_wrap_core.proofs.ThreeChecks.{held_word}
 use Rattle.key_wrap_core.proofs.Differences.{or_parts, or_both, xor_same, same_xor}
 use Rattle.key_wrap_core.proofs.FoundForms.{only_key, only_text, text_legal, found_stands}
-use Rattle.key_wrap_core.proofs.EitherForms.{only_wrapping}
+use Rattle.key_wrap_core.proofs.EitherForms.{held_padded, only_wrapping}
 
 pub wrapping_of : {E D : List ℕ → List ℕ} (forms : RewrapForms) (form : AgreedForm) (key text : List ℕ) → AreInverse E D → IsFrom forms form
     → StandsAs form E key text → IsWrapping forms E form key text
@@ -44,23 +42,24 @@ pub from_itself : (forms : RewrapForms) (form : AgreedForm) → IsFrom forms for
 from_itself Kept form from = from
 from_itself (Changed old new) form from = refl
 
--- a text to which a key belongs has a legal length
-pub stands_old : {E D : List ℕ → List ℕ} (forms : RewrapForms) (form : AgreedForm) (key text : List ℕ) → AreInverse E D → IsFrom forms form
-    → StandsAs form E key text → IsOldLength forms (length text)
-stands_old forms form key text inv from h = (form, from, text_legal form key text inv h)
+-- a key whose length is legal in the plain form is held in it
+pub fits_plain : (form : AgreedForm) (iv found misfit : ℕ) (registers key : List ℕ) → IsWord found → IsWord iv
+    → HoldsIn form key (word_bytes found ++ registers) → (misfit ≡ 0) ↔ IsPlainKeyLength (length key) → Fits (Plain iv) key registers misfit iv
+fits_plain form iv found misfit registers key word word' holds fits = record {
+  fits = fits;
+  holds = λ plain. (plain, ap (λ (bs : List ℕ). word_bytes iv ++ bs) (held_padded form found registers key word holds ∙ padded_whole key plain.0), word');
+}
 
--- a padded key whose length is legal in the plain form is held in it
-pub holds_plain : (iv found : ℕ) (registers key : List ℕ) → IsWord found → IsWord iv → HoldsIn Padded key (word_bytes found ++ registers)
-    → IsPlainKeyLength (length key) → HoldsIn (Plain iv) key (word_bytes iv ++ registers)
-holds_plain iv found registers key word word' holds plain =
-    let rest = (word_front found (aiv (length key)) registers (padded key) word (aiv_word (length key) holds.0.1) holds.1).1 in
-    (plain, ap (λ (bs : List ℕ). word_bytes iv ++ bs) (rest ∙ padded_whole key plain.0), word')
+-- a key is held in its own form
+pub fits_own : (form : AgreedForm) (iv : ℕ) (registers key : List ℕ) → HoldsIn form key (word_bytes iv ++ registers) → Fits form key registers 0 iv
+fits_own (Plain value) iv registers key holds = record { fits = (λ _. holds.0, λ _. refl); holds = λ _. holds }
+fits_own Padded iv registers key holds = record { fits = (λ _. holds.0, λ _. refl); holds = λ _. holds }
 
 -- the difference from a length that is legal in the plain form
-pub fits_plain : (one_word found : ℕ) (registers key : List ℕ) → IsWord found → IsPaddedTextLength (8 + length registers)
+pub plain_misfit : (one_word found : ℕ) (registers key : List ℕ) → IsWord found → IsPaddedTextLength (8 + length registers)
     → (length registers - 8 ≡ 0 → one_word ≡ 1) → (¬ (length registers - 8 ≡ 0) → one_word ≡ 0) → HoldsIn Padded key (word_bytes found ++ registers)
     → (bit_or one_word (bit_xor (found % 2 ^ 32) (length registers)) ≡ 0) ↔ IsPlainKeyLength (length key)
-fits_plain one_word found registers key word legal short long holds =
+plain_misfit one_word found registers key word legal short long holds =
     let h = held_word found registers key word holds.0 holds.1 in
     let given : ℕ = found % 2 ^ 32 in (
       λ zero.
@@ -73,9 +72,16 @@ fits_plain one_word found registers key word legal short long holds =
           (same_xor given (length registers) (omega (arith, h.1, h.2, h.3, plain.0, legal.0))),
     )
 
--- a text that is refused, and not for the length of its key, is no wrapping
+-- a text to which a key belongs is refused only for the length of that key
+pub only_fault : {E D : List ℕ → List ℕ} (forms : RewrapForms) (form : AgreedForm) (key text : List ℕ) (fault : RewrapFault) → AreInverse E D
+    → IsWrapping forms E form key text → HasFault forms E text fault → (fault ≡ KeyNotPlain) × ¬ IsKeyLengthAs (to_form forms form) (length key)
+only_fault forms form key text BadLength inv w bad = absurd (bad (form, w.from, text_legal form key text inv w.stands))
+only_fault forms form key text Integrity inv w none = absurd (none.1 form w.from key w.stands)
+only_fault forms form key text KeyNotPlain inv w bad =
+    let same = w.only bad.0 bad.1 bad.2.from bad.2.stands in (refl, rw (same.0, same.1) at bad.3)
+
+-- so a text that is refused for another cause is no wrapping
 pub no_old : {E D : List ℕ → List ℕ} (forms : RewrapForms) (text : List ℕ) (fault : RewrapFault) → AreInverse E D → HasFault forms E text fault
-    → ¬ (fault ≡ KeyNotPlain) → IsNoWrapping forms E text
-no_old forms text BadLength inv bad other = λ form from key h. bad (stands_old forms form key text inv from h)
-no_old forms text Integrity inv none other = none.1
-no_old forms text KeyNotPlain inv bad other = absurd (other refl)
+    → ¬ (fault ≡ KeyNotPlain) → NoKeyIn (IsFrom forms) E text
+no_old forms text fault inv has other = λ form from key h.
+    other (only_fault forms form key text fault inv (wrapping_of forms form key text inv from h) has).0

@@ -13,7 +13,6 @@ use Rattle.key_wrap_core.specs.declared.faults.InPlaceFault.TheVariants.{BadLeng
 use Rattle.key_wrap_core.specs.Words.{word_bytes}
 use Rattle.key_wrap_core.specs.Lengths.{IsPlainTextLength, IsPaddedTextLength, IsPaddedKeyLength}
 use Rattle.key_wrap_core.specs.Plain.{Plain, IsReserved, default_iv}
-use Rattle.key_wrap_core.specs.Padded.{Padded}
 use Rattle.key_wrap_core.specs.Registers.{Registers}
 use Rattle.key_wrap_core.specs.PaddedRegisters.{PaddedRegisters, Holds, HoldsLength}
 use Rattle.key_wrap_core.specs.NoKey.{NoKey, NoPlainKey}

@@ -5,7 +5,6 @@ use Rattle.key_wrap_core.specs.declared.agreed_form.AgreedForm.{AgreedForm}
 use Rattle.key_wrap_core.specs.declared.forms.Form.{Form}
 use Rattle.key_wrap_core.specs.declared.forms.FoundKey.{FoundKey}
 use Rattle.key_wrap_core.specs.declared.forms.Kind.{Kind}
-use Rattle.key_wrap_core.specs.declared.faults.BadScratchLength.{BadScratchLength}
 use Rattle.key_wrap_core.specs.declared.faults.InPlaceFault.{InPlaceFault}
 use Rattle.key_wrap_core.specs.declared.faults.InPlaceFault.TheVariants.{BadLength, Integrity}
 use Rattle.key_wrap_core.specs.declared.rewrapping.RewrapForms.{RewrapForms}
@@ -63,8 +62,9 @@ pub record CountsCalls {B A : Type 0} (calls : ℕ) (old new : Metered B) (resul
 
 -- The scratch buffer and the meter of a call that finds a kind. The text is unwrapped, and the scratch buffer cleared, if
 -- its length is legal and the scratch buffer is 8 bytes shorter.
-pub record UsesScratch {B : Type 0} (text old new : List ℕ) (meter meter' : Metered B) (result : Result Kind BadScratchLength) : Type 0 where
+pub record UsesScratch {B : Type 0} (text old new : List ℕ) (meter meter' : Metered B) (result : Result Kind InPlaceFault) : Type 0 where
   pub bad_length : IsErr result ↔ (IsPaddedTextLength (length text) × ¬ (length text ≡ length old + 8))
+  pub only_fault : IsOkUnless result BadLength
   pub kept : IsErr result ⊎ ¬ IsPaddedTextLength (length text) → new ≡ old
   pub meter_kept : IsErr result ⊎ ¬ IsPaddedTextLength (length text) → meter' ≡ meter
   pub cleared : IfOk result (λ _. IsPaddedTextLength (length text) → All (λ byte. byte ≡ 0) new)

@@ -1,7 +1,6 @@
 -- The promises of the functions that only this crate calls.
-use Rattle.std.specs.Prelude.{◌≡◌, ℕ, ◌*◌, List, ◌++◌, length, drop, All, Result, Ok, Err, IsErr, IsOk, IsOkUnless, IfOk, IfErr}
+use Rattle.std.specs.Prelude.{◌≡◌, ◌↔◌, ℕ, List, ◌++◌, length, All, Result, Ok, Err, IsOkUnless}
 use Rattle.block_pair.specs.Pair.{AreInverse}
-use Rattle.block_pair.specs.Metered.{Metered, counted}
 use Rattle.key_wrap_core.specs.declared.agreed_form.AgreedForm.{AgreedForm}
 use Rattle.key_wrap_core.specs.declared.faults.InPlaceFault.{InPlaceFault}
 use Rattle.key_wrap_core.specs.declared.faults.InPlaceFault.TheVariants.{Integrity}
@@ -9,16 +8,14 @@ use Rattle.key_wrap_core.specs.declared.rewrapping.RewrapForms.{RewrapForms}
 use Rattle.key_wrap_core.specs.declared.rewrapping.Rewrapped.{Rewrapped}
 use Rattle.key_wrap_core.specs.declared.rewrapping.Rewrapped.TheVariants.{Fresh}
 use Rattle.key_wrap_core.specs.declared.rewrapping.RewrapFault.{RewrapFault}
-use Rattle.key_wrap_core.specs.declared.rewrapping.RewrapFault.TheVariants.{KeyNotPlain}
 use Rattle.key_wrap_core.specs.Words.{word_bytes}
 use Rattle.key_wrap_core.specs.PaddedRegisters.{PaddedRegisters}
 use Rattle.key_wrap_core.specs.NoKey.{NoKey}
-use Rattle.key_wrap_core.specs.Calls.{block_calls}
-use Rattle.key_wrap_core.specs.Forms.{IsTextLengthAs}
+use Rattle.key_wrap_core.specs.Forms.{IsKeyLengthAs, IsTextLengthAs}
 use Rattle.key_wrap_core.specs.Steps.{WrapSteps, UnwrapSteps}
 use Rattle.key_wrap_core.specs.Unwrapping.{Unwrapping}
 use Rattle.key_wrap_core.specs.Found.{HoldsIn}
-use Rattle.key_wrap_core.specs.Rewrap.{IsFrom, HasFault, IsOldLength}
+use Rattle.key_wrap_core.specs.Rewrap.{IsFrom}
 
 -- A step over two registers and more, for every E: if the block is E of the last one, t' steps are done after t.
 abbrev pub IsWordsStep : (t t' : ℕ) (registers registers' block block' : List ℕ) → Type 0
@@ -43,6 +40,11 @@ pub record TellsKey (IsFrom : AgreedForm → Type 0) (buffer : List ℕ) (differ
   pub passes : difference ≡ 0 → (form : AgreedForm) × IsFrom form × (key : List ℕ) × HoldsIn form key buffer
   pub refuses : ¬ (difference ≡ 0) → (form : AgreedForm) → IsFrom form → NoKey (HoldsIn form) buffer
 
+-- The difference is 0 exactly if the length of the key is legal in this form. Then the registers hold it there under this value.
+pub record Fits (form : AgreedForm) (key registers : List ℕ) (difference iv : ℕ) : Type 0 where
+  pub fits : (difference ≡ 0) ↔ IsKeyLengthAs form (length key)
+  pub holds : IsKeyLengthAs form (length key) → HoldsIn form key (word_bytes iv ++ registers)
+
 -- the registers hold a key in one of the forms, and are wrapped to the text
 abbrev pub IsFound : RewrapForms → (List ℕ → List ℕ) → (text before : List ℕ) → Type 0
 IsFound forms E text before = (form : AgreedForm) × IsFrom forms form × (key : List ℕ) × HoldsIn form key before × PaddedRegisters E before text
@@ -51,14 +53,3 @@ IsFound forms E text before = (form : AgreedForm) × IsFrom forms form × (key :
 abbrev pub as_fresh : Result Unit RewrapFault → Result Rewrapped RewrapFault
 as_fresh (Ok done) = Ok Fresh
 as_fresh (Err fault) = Err fault
-
--- A text is unwrapped in whichever of the old forms it is. A refusal leaves it as it was, and so unwrapped and wrapped again
--- if its length is legal.
-pub record Finds {B : Type 0} (forms : RewrapForms) (E : List ℕ → List ℕ) (old new : List ℕ) (meter meter' : Metered B)
-    (result : Result ℕ RewrapFault) : Type 0 where
-  pub found : IfOk result (λ found. IsFound forms E old (word_bytes found ++ drop 8 new))
-  pub refused : IfErr result (λ fault. HasFault forms E old fault × ¬ (fault ≡ KeyNotPlain) × (new ≡ old))
-  pub legal : IsOk result → IsOldLength forms (length old)
-  pub calls : IsOk result → meter' ≡ counted (block_calls (length old)) meter
-  pub refused_calls : IsErr result → IsOldLength forms (length old) → meter' ≡ counted (2 * block_calls (length old)) meter
-  pub meter_kept : ¬ IsOldLength forms (length old) → meter' ≡ meter

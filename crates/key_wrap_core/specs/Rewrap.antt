@@ -34,35 +34,23 @@ IsOldLength forms len = (form : AgreedForm) × IsFrom forms form × IsTextLength
 abbrev pub IsWrapping : RewrapForms → (List ℕ → List ℕ) → AgreedForm → (key text : List ℕ) → Type 0
 IsWrapping forms E form key text = IsOnlyWrapping (IsFrom forms) E form key text
 
--- it is the wrapping of a key
-abbrev pub IsOld : RewrapForms → (List ℕ → List ℕ) → List ℕ → Type 0
-IsOld forms E text = (form : AgreedForm) × (key : List ℕ) × IsWrapping forms E form key text
-
--- it is the wrapping of none
-abbrev pub IsNoWrapping : RewrapForms → (List ℕ → List ℕ) → List ℕ → Type 0
-IsNoWrapping forms E text = NoKeyIn (IsFrom forms) E text
-
 -- The answer is the new wrapping, under F, of the only key of which the text is a wrapping under E. So unwrapping the
 -- answer gives exactly the old key, and rewrapping back gives the text.
 abbrev pub IsRewrapped : RewrapForms → (List ℕ → List ℕ) → (List ℕ → List ℕ) → List ℕ → List ℕ → Type 0
 IsRewrapped forms E F text answer = (form : AgreedForm) × (key : List ℕ) × IsWrapping forms E form key text
     × IsWrapping (to_itself forms) F (to_form forms form) key answer
 
--- the text is the wrapping of a key whose length is not legal in the new form
-abbrev pub HasBadKey : RewrapForms → (List ℕ → List ℕ) → List ℕ → Type 0
-HasBadKey forms E text = (form : AgreedForm) × (key : List ℕ) × IsWrapping forms E form key text
-    × ¬ IsKeyLengthAs (to_form forms form) (length key)
-
--- why a text is refused
+-- Why a text is refused: for its length, as the wrapping of no key, or of a key whose length is not legal in the new form.
 abbrev pub HasFault : RewrapForms → (List ℕ → List ℕ) → List ℕ → RewrapFault → Type 0
 HasFault forms E text BadLength = ¬ IsOldLength forms (length text)
-HasFault forms E text Integrity = IsOldLength forms (length text) × IsNoWrapping forms E text
-HasFault forms E text KeyNotPlain = HasBadKey forms E text
+HasFault forms E text Integrity = IsOldLength forms (length text) × NoKeyIn (IsFrom forms) E text
+HasFault forms E text KeyNotPlain = (form : AgreedForm) × (key : List ℕ) × IsWrapping forms E form key text
+    × ¬ IsKeyLengthAs (to_form forms form) (length key)
 
 -- The text is no wrapping under E, but one under F in the new form.
 pub record IsNew (forms : RewrapForms) (E F : List ℕ → List ℕ) (text : List ℕ) : Type 0 where
-  pub no_old : IsNoWrapping forms E text
-  pub new : IsOld (to_itself forms) F text
+  pub no_old : NoKeyIn (IsFrom forms) E text
+  pub new : (form : AgreedForm) × (key : List ℕ) × IsWrapping (to_itself forms) F form key text
 
 -- a text that is refused with `pass_new` is not new already
 abbrev pub IsRefused : Bool → RewrapForms → (List ℕ → List ℕ) → (List ℕ → List ℕ) → List ℕ → RewrapFault → Type 0
@@ -92,7 +80,7 @@ pub record RewrapResults (pass_new : Bool) (forms : RewrapForms) (E F : List ℕ
   pub already_new : (result ≡ Ok AlreadyNew) ↔ ((pass_new ≡ true) × IsNew forms E F text)
   pub bad_length : (result ≡ Err BadLength) ↔ IsRefused pass_new forms E F text BadLength
   pub integrity : (result ≡ Err Integrity) ↔ IsRefused pass_new forms E F text Integrity
-  pub key_not_plain : (result ≡ Err KeyNotPlain) ↔ HasBadKey forms E text
+  pub key_not_plain : (result ≡ Err KeyNotPlain) ↔ HasFault forms E text KeyNotPlain
   -- the buffer is what it was after each other result
   pub kept : ¬ (result ≡ Ok Fresh) → after ≡ text
   -- unwrapping the new wrapped key gives exactly the old key

@@ -13,11 +13,6 @@ pub enum InPlaceFault {
     Integrity,
 }
 
-/// The scratch buffer must be 8 bytes shorter than the wrapped key.
-#[derive(Clone, Copy, Debug, PartialEq, Eq, Error)]
-#[error("bad length")]
-pub struct BadScratchLength;
-
 /// The first four bytes of an initial value are A65959A6, as in the padded form (RFC 5649, section
 /// 3).
 #[derive(Clone, Copy, Debug, PartialEq, Eq, Error)]

@@ -20,6 +20,7 @@ use byteorder::{BigEndian, ByteOrder};
 
 // C1 .. Cn after the first word of the buffer become the registers that the machine runs back to,
 // and the answer is the initial value. For two words and more both forms unwrap by the same steps.
+#[tactic(auto, using(crate::proofs::InPlaceForm::lent_length))]
 pub(crate) fn unwrap_buffer<B: BlockPair>(meter: &mut Meter<B>, buf: &mut [u8]) -> u64
     requires { IsPaddedTextLength (length buf.old) }
     ensures found { PaddedRegisters (B.encrypted meter.old.pair)
@@ -32,6 +33,7 @@ pub(crate) fn unwrap_buffer<B: BlockPair>(meter: &mut Meter<B>, buf: &mut [u8]) 
 
 // The registers after the first word of the buffer become what they are wrapped to under this
 // initial value, the whole buffer: under the value with which they were found, the text again.
+#[tactic(auto, using(crate::proofs::InPlaceForm::lent_length, crate::proofs::InPlaceForm::registers_now, crate::proofs::FoundForms::behind_first), unfolding(crate::specs::Words::word_bytes))]
 pub(crate) fn wrap_buffer<B: BlockPair>(meter: &mut Meter<B>, iv: u64, buf: &mut [u8])
     requires { IsPaddedTextLength (length buf.old) }
     ensures wrapped { PaddedRegisters (B.encrypted meter.old.pair)
@@ -70,6 +72,7 @@ pub(crate) fn decide_or_restore<B: BlockPair>(
 
 // 0 if the registers are a plain key under the initial value found, which is the expected one. One
 // word of key data is wrapped only in the padded form.
+#[tactic(auto, using(crate::proofs::FoundForms::one_word, crate::proofs::FoundForms::plain_holds, crate::proofs::FoundForms::plain_differs))]
 pub(crate) fn plain_difference(expected: u64, iv: u64, registers: &[u8]) -> u64
     requires { IsPaddedTextLength (8 + length registers.now) }
     ensures passes { result ≡ 0

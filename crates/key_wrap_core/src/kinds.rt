@@ -6,7 +6,7 @@ ghost use Rattle.key_wrap_core.specs.Kind.{IsTheKind, kind_as};
 ghost use Rattle.key_wrap_core.specs.BufferCalls.{UsesScratch};
 
 use crate::any_form::unwrap_any_into;
-use crate::faults::{BadScratchLength, InPlaceFault};
+use crate::faults::InPlaceFault;
 use crate::forms::{Form, FoundKey, Kind};
 use crate::initial_value::InitialValue;
 use crate::lengths::padded_text_length_ok;
@@ -17,13 +17,13 @@ use block_pair::{BlockPair, Meter};
 /// becomes zeros. If the length of `text` is legal in neither form, the result is `Neither`, and
 /// the scratch buffer may have any length and is unchanged.
 ///
-/// Refused exactly if the length of `text` is legal and the scratch buffer has the wrong length.
-/// Then the buffer and the meter are unchanged.
+/// `BadLength`, with the buffer and the meter unchanged, exactly if the length of `text` is legal
+/// and the scratch buffer has the wrong length. There is no other fault.
 pub fn kind_into<B: BlockPair>(
     meter: &mut Meter<B>,
     text: &[u8],
     scratch: &mut [u8],
-) -> Result<Kind, BadScratchLength>
+) -> Result<Kind, InPlaceFault>
     ensures kind { IfOk result (IsTheKind default_iv (B.encrypted meter.old.pair) text.now) }
     ensures scratch { UsesScratch text.now scratch.old scratch.new meter.old meter.new result }
 {
@@ -37,7 +37,7 @@ pub fn kind_into_with<B: BlockPair>(
     iv: &InitialValue,
     text: &[u8],
     scratch: &mut [u8],
-) -> Result<Kind, BadScratchLength>
+) -> Result<Kind, InPlaceFault>
     ensures kind { IfOk result (IsTheKind iv.now (B.encrypted meter.old.pair) text.now) }
     ensures scratch { UsesScratch text.now scratch.old scratch.new meter.old meter.new result }
 {
@@ -50,7 +50,7 @@ pub fn kind_into_with<B: BlockPair>(
             Ok(kind_of(found))
         }
         Err(InPlaceFault::Integrity) => Ok(Kind::Neither),
-        Err(InPlaceFault::BadLength) => Err(BadScratchLength),
+        Err(InPlaceFault::BadLength) => Err(InPlaceFault::BadLength),
     }
 }
 

@@ -36,7 +36,7 @@ mod wrap_steps;
 
 pub use agreed_form::AgreedForm;
 pub use any_form::{unwrap_any_in_place, unwrap_any_into};
-pub use faults::{BadScratchLength, InPlaceFault, ReservedIv};
+pub use faults::{InPlaceFault, ReservedIv};
 pub use forms::{Form, FoundKey, Kind};
 pub use in_place::{unwrap_in_place, unwrap_padded_in_place, wrap_in_place, wrap_padded_in_place};
 pub use initial_value::InitialValue;

@@ -1,15 +1,17 @@
 //! Rewrapping in the caller's buffer: from one pair to another, with the form kept or changed, and
 //! past what is new already. It takes no memory, and a refusal leaves the buffer as it was.
 
-ghost use Rattle.std.specs.Prelude.{◌≡◌, ◌↔◌, ℕ, ◌+◌, ◌++◌, List, length, false, Bool, Result, IsTrue};
+ghost use Rattle.std.specs.Prelude.{◌≡◌, ◌↔◌, ℕ, ◌+◌, ◌*◌, ◌++◌, List, length, drop, false, Bool, Result, IsTrue, IsOk, IsErr, IfOk, IfErr};
+ghost use Rattle.block_pair.specs.Metered.{counted};
+ghost use Rattle.key_wrap_core.specs.Calls.{block_calls};
 ghost use Rattle.key_wrap_core.specs.Words.{word_bytes};
 ghost use Rattle.key_wrap_core.specs.Lengths.{IsPaddedTextLength};
 ghost use Rattle.key_wrap_core.specs.Forms.{IsKeyLengthAs};
 ghost use Rattle.key_wrap_core.specs.Found.{HoldsIn};
-ghost use Rattle.key_wrap_core.specs.Rewrap.{IsFrom, IsOldLength, IsRewrapping, RewrapResults};
+ghost use Rattle.key_wrap_core.specs.Rewrap.{HasFault, IsFrom, IsOldLength, IsRewrapping, RewrapResults};
 ghost use Rattle.key_wrap_core.specs.Rewrap.{to_form, to_itself};
 ghost use Rattle.key_wrap_core.specs.BufferCalls.{RewrapCalls};
-ghost use Rattle.key_wrap_core.specs.Private.{Finds, TellsKey, as_fresh};
+ghost use Rattle.key_wrap_core.specs.Private.{Fits, IsFound, TellsKey, as_fresh};
 
 use crate::agreed_form::AgreedForm;
 use crate::checks::{DEFAULT_IV, given_length, is_zero, padded_difference, padded_iv};
@@ -104,23 +106,31 @@ fn rewrap_old<O: BlockPair, N: BlockPair>(
         Ok(found) => found,
         Err(fault) => return Err(fault),
     };
-    let misfit = misfit(forms, found, &buf[WORD..]);
+    let (misfit, iv) = fit(forms, found, &buf[WORD..]);
     let Ok(()) = decide_or_restore(old, found, misfit, buf) else {
         return Err(RewrapFault::KeyNotPlain);
     };
-    let iv = new_iv(forms, found, &buf[WORD..]);
     wrap_buffer(new, iv, buf);
     Ok(())
 }
 
 // Unwraps a wrapping in one of the old forms. A refusal leaves the buffer as it was.
+#[tactic(auto, using(crate::proofs::FoundForms::behind_first))]
 fn find<B: BlockPair>(
     meter: &mut Meter<B>,
     forms: &RewrapForms,
     buf: &mut [u8],
 ) -> Result<u64, RewrapFault>
-    ensures { Finds forms.now (B.encrypted meter.old.pair) buf.old buf.new
-        meter.old meter.new result }
+    ensures found { IfOk result (λ iv. IsFound forms.now (B.encrypted meter.old.pair)
+        buf.old (word_bytes iv ++ drop 8 buf.new)) }
+    ensures refused { IfErr result (λ fault. HasFault forms.now (B.encrypted meter.old.pair)
+        buf.old fault × ¬ (fault ≡ RewrapFault.KeyNotPlain)) }
+    ensures kept { IsErr result → buf.new ≡ buf.old }
+    ensures legal { IsOk result → IsOldLength forms.now (length buf.old) }
+    ensures calls { IsOk result → meter.new ≡ counted (block_calls (length buf.old)) meter.old }
+    ensures refused_calls { IsErr result → IsOldLength forms.now (length buf.old)
+        → meter.new ≡ counted (2 * block_calls (length buf.old)) meter.old }
+    ensures meter_kept { ¬ IsOldLength forms.now (length buf.old) → meter.new ≡ meter.old }
 {
     if !rewrap_length_ok(forms, buf.len()) {
         return Err(RewrapFault::BadLength);
@@ -157,6 +167,7 @@ pub fn rewrap_length_ok(forms: &RewrapForms, len: usize) -> bool
 }
 
 // 0 if the initial value and the registers hold a key in one of the old forms.
+#[tactic(auto, using(crate::proofs::FoundForms::padded_holds, crate::proofs::FoundForms::padded_none_held))]
 fn old_difference(forms: &RewrapForms, iv: u64, registers: &[u8]) -> u64
     requires { IsOldLength forms.now (8 + length registers.now) }
     ensures { TellsKey (IsFrom forms.now) (word_bytes iv ++ registers.now) result }
@@ -173,41 +184,27 @@ fn old_difference(forms: &RewrapForms, iv: u64, registers: &[u8]) -> u64
     }
 }
 
-// 0 if the length of the key that they hold is legal in the new form. A padded key may have a
-// length that no plain key has: it does not fill its words, or has only one word.
-fn misfit(forms: &RewrapForms, iv: u64, registers: &[u8]) -> u64
+// 0 if the length of the key that they hold is legal in the new form, and the initial value under
+// which they hold it there. A padded key may have a length that no plain key has: it does not fill
+// its words, or has only one word.
+#[tactic(auto, using(crate::proofs::Rewraps::fits_own, crate::proofs::FoundForms::to_padded))]
+fn fit(forms: &RewrapForms, iv: u64, registers: &[u8]) -> (u64, u64)
     requires { IsPaddedTextLength (8 + length registers.now) }
     ensures { (form : AgreedForm) → IsFrom forms.now form → (key : List ℕ)
         → HoldsIn form key (word_bytes iv ++ registers.now)
-        → (result ≡ 0) ↔ IsKeyLengthAs (to_form forms.now form) (length key) }
+        → Fits (to_form forms.now form) key registers.now result.0 result.1 }
 {
     match forms {
-        RewrapForms::Kept => 0,
+        RewrapForms::Kept => (0, iv),
         RewrapForms::Changed { old, new } => match (old, new) {
-            (AgreedForm::Padded, AgreedForm::Plain(_)) => {
+            (AgreedForm::Plain(_), AgreedForm::Padded) => (0, padded_iv(registers.len())),
+            (AgreedForm::Padded, AgreedForm::Plain(agreed)) => {
                 let one_word = is_zero((registers.len() - WORD) as u64);
-                one_word | (given_length(iv) ^ registers.len() as u64)
+                let misfit = one_word | (given_length(iv) ^ registers.len() as u64);
+                (misfit, agreed.word())
             }
-            _ => 0,
-        },
-    }
-}
-
-// The initial value under which the registers hold the key in the new form.
-fn new_iv(forms: &RewrapForms, iv: u64, registers: &[u8]) -> u64
-    requires { IsPaddedTextLength (8 + length registers.now) }
-    ensures { (form : AgreedForm) → IsFrom forms.now form → (key : List ℕ)
-        → HoldsIn form key (word_bytes iv ++ registers.now)
-        → IsKeyLengthAs (to_form forms.now form) (length key)
-        → HoldsIn (to_form forms.now form) key (word_bytes result ++ registers.now) }
-{
-    match forms {
-        RewrapForms::Kept => iv,
-        RewrapForms::Changed { old, new } => match (old, new) {
-            (AgreedForm::Plain(_), AgreedForm::Padded) => padded_iv(registers.len()),
-            (AgreedForm::Padded, AgreedForm::Plain(agreed)) => agreed.word(),
-            (AgreedForm::Plain(_), AgreedForm::Plain(agreed)) => agreed.word(),
-            (AgreedForm::Padded, AgreedForm::Padded) => iv,
+            (AgreedForm::Plain(_), AgreedForm::Plain(agreed)) => (0, agreed.word()),
+            (AgreedForm::Padded, AgreedForm::Padded) => (0, iv),
         },
     }
 }

@@ -1,5 +1,5 @@
 -- What the flags of a rewrap request, and the promises of the calls that rewrap.
-use Rattle.std.specs.Prelude.{◌≡◌, ◌↔◌, ℕ, zero, suc, ℤ, pos, Bool, true, false, List, length, All, Result, Ok, Err, ◌<◌, ◌/◌, ◌%◌}
+use Rattle.std.specs.Prelude.{◌≡◌, ◌↔◌, ℕ, zero, suc, ℤ, pos, Bool, false, List, length, All, Result, Ok, Err, ◌<◌, ◌/◌, ◌%◌, ◌==◌, if◌then◌else◌, nat_lt}
 use Rattle.fips197.specs.KeyExpansion.{IsKekLength}
 use Rattle.key_wrap_core.specs.declared.forms.Form.{Form}
 use Rattle.key_wrap_core.specs.declared.forms.Form.TheVariants.{Plain, Padded}
@@ -11,15 +11,11 @@ use Rattle.key_wrap_core.specs.declared.rewrapping.RewrapFault.{RewrapFault}
 use Rattle.key_wrap_core.specs.declared.rewrapping.RewrapFault.TheVariants.{BadLength, Integrity, KeyNotPlain}
 use Rattle.key_wrap_core.specs.Forms.{by_default}
 use Rattle.key_wrap_core.specs.Rewrap.{IsRewrapping}
-use Rattle.keywrap_calls.specs.Status.{IsDone, IsBadKek, IsBadLength}
+use Rattle.keywrap_calls.specs.Status.{IsDone, IsBadKek, IsBadLength, IsIntegrity}
 
--- the flags of the forms: only bits of the first two are set, or only the third one
-abbrev pub AreForms : ℕ → Type 0
-AreForms flags = flags < 5
-
--- and each also with the fourth bit
+-- only bits of the first two are set, or only the third one; and each also with the fourth bit
 abbrev pub AreFlags : ℕ → Type 0
-AreFlags flags = (flags < 16) × AreForms (flags % 8)
+AreFlags flags = (flags < 16) × (flags % 8 < 5)
 
 -- the form that a bit names: padded exactly if it is set
 abbrev pub form_of_bit : ℕ → Form
@@ -31,20 +27,12 @@ abbrev pub changed : ℕ → RewrapForms
 changed flags = Changed (by_default (form_of_bit (flags % 2))) (by_default (form_of_bit (flags / 2 % 2)))
 
 -- if bit 2 is set, the form is kept
-abbrev pub kept_if : ℕ → RewrapForms → RewrapForms
-kept_if zero forms = forms
-kept_if (suc _) forms = Kept
-
 abbrev pub forms_of : ℕ → RewrapForms
-forms_of flags = kept_if (flags / 4 % 2) (changed flags)
-
-abbrev pub is_set : ℕ → Bool
-is_set zero = false
-is_set (suc _) = true
+forms_of flags = if flags / 4 % 2 == 0 then changed flags else Kept
 
 -- if bit 3 is set, a wrapped key that is new already is passed
 abbrev pub passes_new : ℕ → Bool
-passes_new flags = is_set (flags / 8)
+passes_new flags = nat_lt 7 flags
 
 -- both KEKs have legal lengths
 abbrev pub AreKeks : List ℕ → List ℕ → Type 0
@@ -62,44 +50,24 @@ already_of (Ok Fresh) = 0
 already_of (Ok AlreadyNew) = 1
 already_of (Err fault) = 0
 
--- the buffer, the number and the status that come of a rewrapping of the old buffer. There is only one such result
-pub record IsRewrapResult (pass_new : Bool) (forms : RewrapForms) (E F : List ℕ → List ℕ) (old new : List ℕ) (already : ℕ) (status : ℤ)
-    : Type 0 where
-  pub result : Result Rewrapped RewrapFault
-  pub rewraps : IsRewrapping pass_new forms E F old result new
-  pub status_is : status ≡ rewrap_status result
-  pub already_is : already ≡ already_of result
-
 -- a call that rewraps from E (the old KEK) to F (the new KEK); each refusal leaves the buffer unchanged
 pub record Rewraps (E F : List ℕ → List ℕ) (old_kek new_kek : List ℕ) (flags : ℕ) (old new : List ℕ) (already : ℕ) (status : ℤ)
     : Type 0 where
   pub bad_kek : IsBadKek status ↔ ¬ AreKeks old_kek new_kek
   pub bad_flags : AreKeks old_kek new_kek → ¬ AreFlags flags → IsBadLength status
-  pub rewraps : AreKeks old_kek new_kek → AreFlags flags
-      → IsRewrapResult (passes_new flags) (forms_of flags) E F old new already status
+  -- the status and the number are those of a rewrapping of the old buffer; there is only one such result
+  pub rewraps : AreKeks old_kek new_kek → AreFlags flags → (result : Result Rewrapped RewrapFault)
+      × IsRewrapping (passes_new flags) (forms_of flags) E F old result new × (status ≡ rewrap_status result) × (already ≡ already_of result)
   pub kept : ¬ IsDone status → new ≡ old
   pub not_already : ¬ IsDone status → already ≡ 0
 
--- In the call of version 1.0 a key whose length is not legal in the new form is a bad length, and two refusals leave the
--- buffer zero.
-abbrev pub in_place_status : Result Rewrapped RewrapFault → ℤ
-in_place_status (Ok done) = pos 0
-in_place_status (Err BadLength) = pos 4
-in_place_status (Err Integrity) = pos 5
-in_place_status (Err KeyNotPlain) = pos 4
-
-abbrev pub IsLeft : Result Rewrapped RewrapFault → (after new : List ℕ) → Type 0
-IsLeft (Ok done) after new = new ≡ after
-IsLeft (Err BadLength) after new = new ≡ after
-IsLeft (Err Integrity) after new = All (λ byte. byte ≡ 0) new
-IsLeft (Err KeyNotPlain) after new = All (λ byte. byte ≡ 0) new
-
-pub record IsInPlaceResult (forms : RewrapForms) (E F : List ℕ → List ℕ) (old new : List ℕ) (status : ℤ) : Type 0 where
-  pub result : Result Rewrapped RewrapFault
-  pub after : List ℕ
-  pub rewraps : IsRewrapping false forms E F old result after
-  pub status_is : status ≡ in_place_status result
-  pub new_is : IsLeft result after new
+-- In the call of version 1.0 a key whose length is not legal in the new form is a bad length, and two refusals leave zeros in
+-- place of the buffer after the rewrapping.
+abbrev pub IsInPlace : Result Rewrapped RewrapFault → (after new : List ℕ) → ℤ → Type 0
+IsInPlace (Ok done) after new status = IsDone status × (new ≡ after)
+IsInPlace (Err BadLength) after new status = IsBadLength status × (new ≡ after)
+IsInPlace (Err Integrity) after new status = IsIntegrity status × All (λ byte. byte ≡ 0) new
+IsInPlace (Err KeyNotPlain) after new status = IsBadLength status × All (λ byte. byte ≡ 0) new
 
 -- the call of version 1.0, which keeps no form and passes nothing
 pub record RewrapsInPlace (E F : List ℕ → List ℕ) (old_kek new_kek : List ℕ) (flags : ℕ) (old new : List ℕ) (status : ℤ)
@@ -107,4 +75,5 @@ pub record RewrapsInPlace (E F : List ℕ → List ℕ) (old_kek new_kek : List 
   pub bad_kek : IsBadKek status ↔ ¬ AreKeks old_kek new_kek
   pub kept : IsBadKek status → new ≡ old
   pub bad_flags : AreKeks old_kek new_kek → ¬ (flags < 4) → IsBadLength status × (new ≡ old)
-  pub rewraps : AreKeks old_kek new_kek → flags < 4 → IsInPlaceResult (forms_of flags) E F old new status
+  pub rewraps : AreKeks old_kek new_kek → flags < 4 → (result : Result Rewrapped RewrapFault) × (after : List ℕ)
+      × IsRewrapping false (forms_of flags) E F old result after × IsInPlace result after new status

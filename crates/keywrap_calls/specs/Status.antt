@@ -23,10 +23,6 @@ IsBadLength status = status ≡ pos 4
 abbrev pub IsIntegrity : ℤ → Type 0
 IsIntegrity status = status ≡ pos 5
 
--- the wrapped key is the wrapping of a key whose length no plain key has
-abbrev pub IsKeyNotPlain : ℤ → Type 0
-IsKeyNotPlain status = status ≡ pos 8
-
 -- the statuses of a wrapping call
 abbrev pub IsWrapStatus : ℤ → Type 0
 IsWrapStatus status = IsDone status ⊎ (IsBadKek status ⊎ IsBadLength status)
@@ -34,14 +30,6 @@ IsWrapStatus status = IsDone status ⊎ (IsBadKek status ⊎ IsBadLength status)
 -- the statuses of an unwrapping call
 abbrev pub IsUnwrapStatus : ℤ → Type 0
 IsUnwrapStatus status = IsWrapStatus status ⊎ IsIntegrity status
-
--- the statuses of a wrapping call under an agreed initial value
-abbrev pub IsWrapWithStatus : ℤ → Type 0
-IsWrapWithStatus status = IsBadIv status ⊎ IsWrapStatus status
-
--- the statuses of an unwrapping call under an agreed initial value
-abbrev pub IsUnwrapWithStatus : ℤ → Type 0
-IsUnwrapWithStatus status = IsBadIv status ⊎ IsUnwrapStatus status
 
 -- the status of a refusal
 abbrev pub fault_status : InPlaceFault → ℤ

@@ -1,9 +1,9 @@
 //! Rewrapping in one buffer: from one KEK and form to another, the key never given out.
 
-ghost use Rattle.std.specs.Prelude.{◌≡◌, ◌<◌, ◌⊎◌, All, IfSome, IfNone, IsErr, Err};
+ghost use Rattle.std.specs.Prelude.{◌≡◌, IfSome, IfNone, IsErr, Err};
 ghost use Rattle.fips197.specs.Cipher.{cipher};
-ghost use Rattle.keywrap_calls.specs.Status.{IsBadKek, IsBadLength, IsIntegrity, IsKeyNotPlain};
-ghost use Rattle.keywrap_calls.specs.Rewraps.{AreFlags, forms_of, passes_new};
+ghost use Rattle.keywrap_calls.specs.Status.{IsBadKek};
+ghost use Rattle.keywrap_calls.specs.Rewraps.{AreFlags, IsInPlace, forms_of, passes_new};
 ghost use Rattle.keywrap_calls.specs.Rewraps.{Rewraps, RewrapsInPlace, already_of, rewrap_status};
 ghost use Rattle.key_wrap_core.specs.Forms.{by_default};
 ghost use Rattle.key_wrap_core.specs.Rewrap.{IsRewrapping};
@@ -15,9 +15,6 @@ use key_wrap_core::{AgreedForm, Form, RewrapFault, RewrapForms, Rewrapped};
 
 // The flag beside the forms: a wrapped key that is new already is passed.
 const PASS_NEW: u32 = 8;
-
-// A bit that is no flag.
-const NO_FLAG: u32 = 16;
 
 /// Replaces the wrapped key in `buffer`, under the old KEK, by the same key wrapped under the new
 /// KEK, of the same length (RFC 3394 and RFC 5649). `keywrap.h` has the `flags`. `*already` is
@@ -44,8 +41,7 @@ pub fn rewrap<A: KeyInit>(
         return BAD_KEK;
     };
     let outcome = rewrap_as(&mut Meter::new(&old), &mut Meter::new(&new), flags, buffer);
-    *already = already_of(outcome);
-    rewrap_status(outcome)
+    report(outcome, already)
 }
 
 /// The call of version 1.0: `forms` has a flag for each wrapped key with the padded form, and no
@@ -62,36 +58,35 @@ pub fn rewrap_in_place<A: KeyInit>(
     ensures { RewrapsInPlace (cipher old_kek.now) (cipher new_kek.now)
         old_kek.now new_kek.now forms buffer.old buffer.new result }
 {
-    let mut already = 0;
-    let flags = in_place_flags(forms);
-    let status = rewrap::<A>(rooms, old_kek, new_kek, buffer, flags, &mut already);
-    in_place_status(status, buffer)
-}
-
-// The flags of version 1.0, or a bit that is no flag.
-fn in_place_flags(forms: u32) -> u32
-    ensures same { forms < 4 → result ≡ forms }
-    ensures other { ¬ (forms < 4) → result ≡ 16 }
-{
-    if forms < 4 { forms } else { NO_FLAG }
+    let Ok(old) = A::new_in(old_kek, rooms.0) else {
+        return BAD_KEK;
+    };
+    let Ok(new) = A::new_in(new_kek, rooms.1) else {
+        return BAD_KEK;
+    };
+    if forms > 3 {
+        return BAD_LENGTH;
+    }
+    let outcome = rewrap_as(&mut Meter::new(&old), &mut Meter::new(&new), forms, buffer);
+    in_place_status(outcome, buffer)
 }
 
 // The status of version 1.0, and its buffer.
-fn in_place_status(status: i32, buffer: &mut [u8]) -> i32
-    ensures not_plain { IsKeyNotPlain status → IsBadLength result }
-    ensures same { ¬ IsKeyNotPlain status → result ≡ status }
-    ensures bad_kek { IsBadKek result → IsBadKek status }
-    ensures cleared { IsIntegrity status ⊎ IsKeyNotPlain status
-        → All (λ byte. byte ≡ 0) buffer.new }
-    ensures kept { ¬ (IsIntegrity status ⊎ IsKeyNotPlain status) → buffer.new ≡ buffer.old }
+fn in_place_status(outcome: Result<Rewrapped, RewrapFault>, buffer: &mut [u8]) -> i32
+    ensures is { IsInPlace outcome buffer.old buffer.new result }
+    ensures other { ¬ IsBadKek result }
 {
-    if status == INTEGRITY || status == KEY_NOT_PLAIN {
-        buffer.fill(0);
-    }
-    if status == KEY_NOT_PLAIN {
-        BAD_LENGTH
-    } else {
-        status
+    match outcome {
+        Ok(_) => DONE,
+        Err(RewrapFault::BadLength) => BAD_LENGTH,
+        Err(RewrapFault::Integrity) => {
+            buffer.fill(0);
+            INTEGRITY
+        }
+        Err(RewrapFault::KeyNotPlain) => {
+            buffer.fill(0);
+            BAD_LENGTH
+        }
     }
 }
 
@@ -141,20 +136,12 @@ fn changed(old: Form, new: Form) -> RewrapForms
     }
 }
 
-// 1 for a wrapped key that was new already, else 0.
-fn already_of(outcome: Result<Rewrapped, RewrapFault>) -> u32
-    ensures { result ≡ already_of outcome }
+// The status of an outcome, and 1 for a wrapped key that was new already, else 0.
+fn report(outcome: Result<Rewrapped, RewrapFault>, already: &mut u32) -> i32
+    ensures status { result ≡ rewrap_status outcome }
+    ensures already { already.new ≡ already_of outcome }
 {
-    match outcome {
-        Ok(Rewrapped::AlreadyNew) => 1,
-        Ok(Rewrapped::Fresh) | Err(_) => 0,
-    }
-}
-
-// The status of an outcome.
-fn rewrap_status(outcome: Result<Rewrapped, RewrapFault>) -> i32
-    ensures { result ≡ rewrap_status outcome }
-{
+    *already = u32::from(outcome == Ok(Rewrapped::AlreadyNew));
     match outcome {
         Ok(_) => DONE,
         Err(RewrapFault::BadLength) => BAD_LENGTH,

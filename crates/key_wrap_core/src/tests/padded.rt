@@ -70,7 +70,7 @@ fn refuses_lengths_of_neither_form(rt: HostRuntime) {
     let any = unwrap_any_into(&mut meter, &iv, &[0x5A; 24], &mut key);
     assert!(rt; any == Err(InPlaceFault::BadLength) && key == [0x5A; 15]);
     let is = kind_into(&mut meter, &[0x5A; 24], &mut key);
-    assert!(rt; is == Err(BadScratchLength) && key == [0x5A; 15]);
+    assert!(rt; is == Err(InPlaceFault::BadLength) && key == [0x5A; 15]);
     let is = kind_into(&mut meter, &[0x5A; 20], &mut key);
     assert!(rt; is == Ok(Kind::Neither) && key == [0x5A; 15] && meter.count() == 0);
 }

@@ -12,11 +12,9 @@ pub returns-then-not-rewrap_length_ok : goal.returns-then-not-rewrap_length_ok
 returns-then-not-rewrap_length_ok g c =
     let text : List ℕ = c.args.text.now in
     let illegal : ¬ IsOldLength c.args.forms.now (length text) = λ legal. true_or_false c.if-not-rewrap_length_ok.true (c.rewrap_length_ok.ensures.1 legal) in
-    let results = results_of (g.N.BlockPair.encrypted c.args.new.now.pair) _ c.args.forms.now text text (Err BadLength) (g.met.O.BlockPair.lawful c.args.old.now.pair)
-    (refused_length c.args.forms.now _ _ text illegal) in
     record {
       memory = λ e. cc;
-      results = λ some. (Err BadLength, text, results, refl);
+      results = λ some. (Err BadLength, text, results_of (g.met.O.BlockPair.lawful c.args.old.now.pair) (refused_length c.args.forms.now _ _ text illegal), refl);
       size = tt;
     }
 

@@ -1,8 +1,7 @@
 -- The machine was given the text, and leaves the key after eight zeros, or only zeros.
-use Rattle.std.proofs.Common.{rules, ◌≡◌, ℕ, List, take, replicate, arith, ap, ◌∙◌}
+use Rattle.std.proofs.Common.{rules, ◌≡◌, ℕ, List, replicate, arith, ap, ◌∙◌}
 use Rattle.std.proofs.lemmas.List.Elements.{All-append, All-replicate}
 use Rattle.block_pair.specs.Metered.{counted}
-use Rattle.key_wrap_core.specs.Words.{word_bytes}
 use Rattle.key_wrap_core.specs.Calls.{block_calls}
 use Rattle.key_wrap_core.proofs.Refusals.{true_or_false}
 use Rattle.key_wrap_core.proofs.InPlaceForm.{first_cleared}

@@ -1,8 +1,6 @@
 -- The machine was given the text, its first word and the rest, and leaves the registers after the first word.
-use Rattle.std.proofs.Common.{rules, ◌≡◌, ℕ, List, length, take, drop, ◌+◌, ◌-◌, ◌++◌, arith, refl, ap, ◌∙◌, length-take, length-drop}
+use Rattle.std.proofs.Common.{rules, ◌≡◌, ℕ, List, length, take, drop, ◌-◌, ◌++◌, arith, refl}
 use borrow.Rule.Slice.PartMut.{put_mid}
-use Rattle.block_pair.specs.Metered.{counted}
-use Rattle.key_wrap_core.specs.Calls.{block_calls}
 use Rattle.key_wrap_core.specs.Words.{word_bytes}
 use Rattle.key_wrap_core.proofs.Spelling.{read_word, each_byte}
 use Rattle.key_wrap_core.proofs.InPlaceForm.{text_again, registers_now}
@@ -18,10 +16,3 @@ returns-clause-found g c =
     text_again c0 text (take (length text - 8) (drop 8 text)) (omega arith) front refl in
     let rest : drop 8 (put_mid 8 (length text - 8) text registers) ≡ registers = registers_now text registers (omega arith) (search rules) in
     rw rest (rw whole at c.unwrap_slice.ensures.wrapped)
-
-pub returns-clause-calls : goal.returns-clause-calls
-returns-clause-calls g c =
-    let text : List ℕ = c.args.buf.now in
-    let whole : 8 + length (take (length text - 8) (drop 8 text)) ≡ length text =
-    omega (arith, length-take (length text - 8) (drop 8 text), length-drop 8 text, c.requires.1) in
-    c.unwrap_slice.ensures.meter ∙ ap (λ (len : ℕ). counted (block_calls len) c.args.meter.now) whole

@@ -1,9 +1,8 @@
 -- The machine was given the text, and leaves the key after eight zeros, or only zeros.
-use Rattle.std.proofs.Common.{rules, ◌≡◌, ℕ, List, take, drop, replicate, All, arith, sym, ap, subst, ◌∙◌}
+use Rattle.std.proofs.Common.{rules, ◌≡◌, ℕ, List, drop, replicate, All, arith, sym, ap, subst, ◌∙◌}
 use Rattle.std.proofs.lemmas.List.Elements.{All-append, All-replicate}
 use Rattle.block_pair.specs.Metered.{counted}
 use Rattle.key_wrap_core.specs.Calls.{block_calls}
-use Rattle.key_wrap_core.specs.Words.{word_bytes}
 use Rattle.key_wrap_core.specs.Lengths.{IsPlainTextLength}
 use Rattle.key_wrap_core.proofs.Refusals.{true_or_false}
 use Rattle.key_wrap_core.proofs.FormLengths.{plain_text_legal}

@@ -14,6 +14,7 @@ returns-then-not-padded_text_length_ok g c =
       kind = k;
       scratch = record {
         bad_length = (λ e. true_or_false refl e, λ bad. absurd (illegal bad.0));
+        only_fault = tt;
         kept = λ h. refl;
         meter_kept = λ h. refl;
         cleared = λ legal. absurd (illegal legal);

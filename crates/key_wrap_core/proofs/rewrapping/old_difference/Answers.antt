@@ -20,19 +20,3 @@ returns-in-Kept c =
       refuses = λ some form own. rw own.1 (no_form default_iv buffer (p.refuses (λ zero. some (c.either.ensures.1 (inl zero))))
           (padded_none_held buffer (w.refuses (λ zero. some (c.either.ensures.1 (inr zero))))) own.0);
     })
-
-pub returns-in-Plain : goal.returns-in-Plain
-returns-in-Plain c =
-    let w = rw c.word.ensures.value at c.plain_difference.ensures in
-    rw (c.in-Changed.is, c.in-Plain.is) (record {
-      passes = λ zero. (Plain c.in-Plain.agreed, refl, c.args.registers.now, w.passes zero);
-      refuses = λ some own is. rw is (w.refuses some);
-    })
-
-pub returns-in-Padded : goal.returns-in-Padded
-returns-in-Padded c =
-    let buffer = word_bytes c.args.iv ++ c.args.registers.now in
-    rw (c.in-Changed.is, c.in-Padded.is) (record {
-      passes = λ zero. let held = padded_holds _ buffer (c.padded_difference-in-Padded.ensures.passes zero) in (Padded, refl, held.0, held.1);
-      refuses = λ some own is. rw is (padded_none_held buffer (c.padded_difference-in-Padded.ensures.refuses some));
-    })

@@ -1,5 +1,5 @@
 -- What was refused is what it was, so the new pair unwraps the text.
-use Rattle.std.proofs.Common.{rules, ◌≡◌, ◌++◌, ℕ, List, drop, refl}
+use Rattle.std.proofs.Common.{rules, ◌≡◌, ◌++◌, ◌∙◌, ℕ, List, drop, refl}
 use Rattle.key_wrap_core.specs.declared.rewrapping.RewrapFault.TheVariants.{KeyNotPlain}
 use Rattle.key_wrap_core.specs.Words.{word_bytes}
 use Rattle.key_wrap_core.specs.PaddedRegisters.{PaddedRegisters}
@@ -8,9 +8,6 @@ use Rattle.key_wrap_core.proofs.PaddedForm.{padded_registers_forward}
 use Rattle.key_wrap_core.proofs.Rewraps.{old_of, no_old}
 use Rattle.key_wrap_core.proofs.Results.{results_of}
 use Rattle.key_wrap_core.proofs.rewrapping.rewrap.Goals as goal
-
-pub returns-then-not-pass_new-clause-rewraps : goal.returns-then-not-pass_new-clause-rewraps
-returns-then-not-pass_new-clause-rewraps g c = search rules
 
 pub returns-in-Ok-find-clause-rewraps : goal.returns-in-Ok-find-clause-rewraps
 returns-in-Ok-find-clause-rewraps g c =
@@ -31,26 +28,18 @@ returns-in-Ok-find-clause-rewraps g c =
 pub returns-in-Err-find-clause-rewraps : goal.returns-in-Err-find-clause-rewraps
 returns-in-Err-find-clause-rewraps g c =
     let refused = c.in-Err.ensures.rewraps in
-    let w = rw (c.to_itself.ensures, refused.1, c.in-Err.ensures.calls.new_unasked refl refl) at c.in-Err-find.ensures in
-    let none = no_old (to_itself c.args.forms.now) c.args.buf.now c.in-Err-find.field-0 (g.met.N.BlockPair.lawful c.args.new.now.pair) w.refused.0 w.refused.1 in
-    ((refused.0.0, λ pass is. none is.new.0 is.new.2.from is.new.1 is.new.2.stands), w.refused.2)
+    let w = rw (c.to_itself.ensures, refused.1, c.in-Err.ensures.calls.new_unasked refl refl) at c.in-Err-find.ensures.refused in
+    let none = no_old (to_itself c.args.forms.now) c.args.buf.now c.in-Err-find.field-0 (g.met.N.BlockPair.lawful c.args.new.now.pair) w.0 w.1 in
+    ((refused.0.0, λ pass is. none is.new.0 is.new.2.from is.new.1 is.new.2.stands), c.in-Err-find.ensures.kept refl ∙ refused.1)
 
 pub returns-in-Ok-clause-results : goal.returns-in-Ok-clause-results
-returns-in-Ok-clause-results g c =
-    results_of (g.N.BlockPair.encrypted c.args.new.now.pair) c.args.pass_new c.args.forms.now c.args.buf.now _ _ (g.met.O.BlockPair.lawful c.args.old.now.pair)
-    c.in-Ok.ensures.rewraps
+returns-in-Ok-clause-results g c = results_of (g.met.O.BlockPair.lawful c.args.old.now.pair) c.in-Ok.ensures.rewraps
 
 pub returns-then-not-pass_new-clause-results : goal.returns-then-not-pass_new-clause-results
-returns-then-not-pass_new-clause-results g c =
-    results_of (g.N.BlockPair.encrypted c.args.new.now.pair) c.args.pass_new c.args.forms.now c.args.buf.now _ _ (g.met.O.BlockPair.lawful c.args.old.now.pair)
-    (returns-then-not-pass_new-clause-rewraps g c)
+returns-then-not-pass_new-clause-results g c = results_of (g.met.O.BlockPair.lawful c.args.old.now.pair) (search rules)
 
 pub returns-in-Ok-find-clause-results : goal.returns-in-Ok-find-clause-results
-returns-in-Ok-find-clause-results g c =
-    results_of (g.N.BlockPair.encrypted c.args.new.now.pair) c.args.pass_new c.args.forms.now c.args.buf.now _ _ (g.met.O.BlockPair.lawful c.args.old.now.pair)
-    (returns-in-Ok-find-clause-rewraps g c)
+returns-in-Ok-find-clause-results g c = results_of (g.met.O.BlockPair.lawful c.args.old.now.pair) (returns-in-Ok-find-clause-rewraps g c)
 
 pub returns-in-Err-find-clause-results : goal.returns-in-Err-find-clause-results
-returns-in-Err-find-clause-results g c =
-    results_of (g.N.BlockPair.encrypted c.args.new.now.pair) c.args.pass_new c.args.forms.now c.args.buf.now _ _ (g.met.O.BlockPair.lawful c.args.old.now.pair)
-    (returns-in-Err-find-clause-rewraps g c)
+returns-in-Err-find-clause-results g c = results_of (g.met.O.BlockPair.lawful c.args.old.now.pair) (returns-in-Err-find-clause-rewraps g c)

@@ -1,9 +1,5 @@
 -- The key belongs to the text if the initial value found and the registers hold one.
-use Rattle.std.proofs.Common.{rules, ℕ, List, length, ◌≡◌, ◌%◌, ◌^◌, arith, refl, length-append}
-use Rattle.block_pair.specs.Pair.{AreInverse}
-use Rattle.key_wrap_core.specs.Words.{word_bytes}
-use Rattle.key_wrap_core.specs.Lengths.{IsPaddedTextLength}
-use Rattle.key_wrap_core.specs.PaddedRegisters.{PaddedRegisters}
+use Rattle.std.proofs.Common.{rules, ℕ, List, ◌%◌, ◌^◌, refl}
 use Rattle.key_wrap_core.proofs.Refusals.{passed_on}
 use Rattle.key_wrap_core.proofs.InPlaceForm.{held_rest, held_size}
 use Rattle.key_wrap_core.proofs.Unwrappings.{padded_found, padded_none, text_size}
