@@ -23,7 +23,8 @@ kit := $(shell dirname -- "$$(dirname -- "$$(readlink -f -- "$$(command -v rt)")
 kept = crates/keywrap/out/kept
 refused := $(shell help=$$('$(kit)/bin/rattle' build --help 2>/dev/null); \
     for option in $(options); do case $$help in (*"$$option"*) ;; (*) echo $$option ;; esac; done)
-# The crates that a crate names in crates.txt; the ones that have a directory here; and all crates below it.
+# The crates that a crate names in crates.txt, also for its tests; the ones of the program that have a directory here;
+# and all crates below it. The kit has the others that have no directory here.
 named = $(shell sed -n 's/^$(1): *//p' crates.txt)
 below = $(filter $(CRATES),$(call named,$(1)))
 all_below = $(sort $(foreach crate,$(call below,$(1)),$(crate) $(call all_below,$(crate))))
@@ -43,7 +44,7 @@ keywrap_io keywrap_args: gently = nice -n 19
 # A second job costs a seventh of a crate's processor time, and these are done before anything waits for them.
 keywrap_io keywrap_args aes_vector: jobs = 1
 
-externs = $(foreach crate,std $(filter-out $(CRATES),$(call named,$@)),--extern $(crate)='$(kit)/rlibs/$(crate).rlib') \
+externs = $(foreach crate,std $(filter-out $(notdir $(wildcard crates/*)),$(call named,$@)),--extern $(crate)='$(kit)/rlibs/$(crate).rlib') \
     $(foreach crate,$(call below,$@),--extern $(crate)=../../$(kept)/$(crate).rlib)
 # A signal to make ends rattle: no shell is between them.
 rattle = cd 'crates/$@' && exec $(gently) '$(kit)/bin/rattle' build --crate-name $@ $(externs) \

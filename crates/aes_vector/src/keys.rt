@@ -3,15 +3,15 @@
 ghost use Rattle.std.specs.Prelude.{◌≡◌, ◌≤◌, ◌<◌, ℕ, map};
 ghost use Rattle.fips197.specs.Words.{block_of};
 ghost use Rattle.fips197.specs.Rounds.{inv_mix_columns};
-ghost use Rattle.aes_vector.specs.Tower.{affine_element};
+ghost use Rattle.aes_vector.specs.Tower.{affine_element, key_byte};
 ghost use Rattle.aes_vector.specs.VectorSchedule.{IsFirstKey, IsLastKey, IsMiddleKey};
 ghost use Rattle.aes_vector.specs.VectorSchedule.{key_at, key_block};
 
-use crate::expansion::MAX_WORDS;
 use crate::lanes::{linear, vector_of};
 use crate::rows::{turned_1, turned_2, turned_3};
 use crate::tables::*;
 use byteorder::{BigEndian, ByteOrder};
+use fips197::MAX_WORDS;
 use std::simd::prelude::*;
 
 // How many round keys the longest schedule has.
@@ -41,14 +41,22 @@ pub(crate) fn round_keys(words: &[u32; MAX_WORDS], rounds: usize, keys: &mut [Ro
     keys[rounds] = last_key(key_block(words, rounds));
 }
 
+// A round key before the last, for the cipher.
+#[inline(always)]
+fn enc_form(key: u8x16) -> u8x16
+    ensures { map key_byte result ≡ key }
+{
+    let by_low = u8x16::from_array(MASKED_TOWER_LOW);
+    let by_high = u8x16::from_array(TOWER_HIGH);
+    linear(by_low, by_high, key)
+}
+
 #[inline(always)]
 fn first_key(key: u8x16) -> RoundKey
     ensures { IsFirstKey result key }
 {
-    let by_low = u8x16::from_array(MASKED_TOWER_LOW);
-    let by_high = u8x16::from_array(TOWER_HIGH);
     RoundKey {
-        enc: linear(by_low, by_high, key),
+        enc: enc_form(key),
         dec: key,
     }
 }
@@ -57,10 +65,8 @@ fn first_key(key: u8x16) -> RoundKey
 fn middle_key(key: u8x16) -> RoundKey
     ensures { IsMiddleKey result key }
 {
-    let by_low = u8x16::from_array(MASKED_TOWER_LOW);
-    let by_high = u8x16::from_array(TOWER_HIGH);
     RoundKey {
-        enc: linear(by_low, by_high, key),
+        enc: enc_form(key),
         dec: inv_mixed(key),
     }
 }

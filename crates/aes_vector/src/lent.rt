@@ -1,10 +1,7 @@
 //! AES under one key, in a buffer that is lent, and its round keys.
 
-ghost use Rattle.std.specs.Prelude.{◌≡◌, ◌<◌, ◌↔◌, List, ℕ, length, map};
-ghost use Rattle.std.specs.Prelude.{IsOk, IsErr, IfOk};
-ghost use Rattle.std.specs.List.{AllByRecursion};
-ghost use Rattle.block_pair.specs.Words.{IsByte};
-ghost use Rattle.fips197.specs.KeyExpansion.{IsKekLength, IsKeyExpansion, key_expansion};
+ghost use Rattle.std.specs.Prelude.{◌≡◌, ◌<◌, map};
+ghost use Rattle.fips197.specs.Keyed.{IsRoundCount, MakesAes};
 ghost use Rattle.fips197.specs.KeyExpansion.{round_key, rounds_of};
 ghost use Rattle.fips197.specs.Rounds.{inv_mix_columns};
 ghost use Rattle.aes_vector.specs.Tower.{affine_element, key_byte, last_key_byte};
@@ -42,14 +39,7 @@ impl<'a> LentAes<'a> {
     /// Returns AES under the key-encryption key `kek`, with its schedule in this buffer. Refuses a
     /// key that is not of 16, 24 or 32 bytes.
     pub fn new(kek: &[u8], room: &'a mut Room) -> Result<LentAes<'a>, BadKekLength>
-        ensures accepted { IsOk result ↔ IsKekLength (length kek.now) }
-        ensures refused { IsErr result ↔ ¬ IsKekLength (length kek.now) }
-        ensures key { IfOk result (λ aes. aes ≡ kek.now) }
-
-        // A law for callers, about definitions only: the key has one key schedule, given by the
-        // standard's equations, and the round keys come from it.
-        ensures schedule { IsKekLength (length kek.now)
-            → (w : List ℕ) → IsKeyExpansion kek.now w ↔ (w ≡ key_expansion kek.now) }
+        ensures { MakesAes kek.now result }
     {
         let Ok(rounds) = fill(kek, &mut room.keys, &mut room.words) else {
             return Err(BadKekLength);
@@ -62,12 +52,7 @@ impl<'a> LentAes<'a> {
 
     /// How many rounds the cipher has under this key: 10, 12 or 14 (FIPS 197, 5, table 3).
     pub fn rounds(&self) -> u8
-        ensures legal { IsKekLength (length self.now) }
-        ensures bytes { AllByRecursion IsByte self.now }
-        ensures sixteen { length self.now ≡ 16 → result ≡ 10 }
-        ensures twenty_four { length self.now ≡ 24 → result ≡ 12 }
-        ensures thirty_two { length self.now ≡ 32 → result ≡ 14 }
-        ensures value { result ≡ rounds_of self.now }
+        ensures { IsRoundCount self.now result }
     {
         self.rounds
     }

@@ -3,8 +3,8 @@
 ghost use Rattle.std.specs.Prelude.{◌≡◌, All, replicate};
 ghost use Rattle.aes_vector.specs.VectorRoom.{no_key};
 
-use crate::expansion::MAX_WORDS;
 use crate::keys::{MAX_KEYS, RoundKey};
+use fips197::MAX_WORDS;
 use std::marker::Model;
 use std::simd::prelude::*;
 

@@ -5,9 +5,9 @@ ghost use Rattle.std.specs.Prelude.{IsOk, IsErr, IfOk};
 ghost use Rattle.fips197.specs.KeyExpansion.{IsKekLength};
 ghost use Rattle.aes_vector.specs.VectorSchedule.{IsVectorSchedule, key_of};
 
-use crate::expansion::{MAX_WORDS, expand};
+use crate::expansion::ByShuffles;
 use crate::keys::{MAX_KEYS, RoundKey, round_keys};
-use fips197::BadKekLength;
+use fips197::{BadKekLength, MAX_WORDS, expand_key};
 
 // The round keys of `kek` into `keys`, by way of `words`, and for how many rounds they are.
 pub(crate) fn fill(
@@ -43,7 +43,7 @@ fn with_words(
     ensures key { key_of result keys.new ≡ kek.now }
 {
     let rounds = key_words + 6;
-    expand(kek, key_words, words);
+    expand_key::<ByShuffles>(kek, key_words, words);
     round_keys(words, rounds, keys);
     rounds as u8
 }

@@ -7,6 +7,8 @@ pub mod SBox
 pub mod SBoxLaw
 pub mod KeyExpansion
 pub mod KeyExpansionLaw
+pub mod Keyed
+pub mod KeyedLaw
 pub mod Words
 pub mod ExpandingLaw
 pub mod State

@@ -8,7 +8,6 @@ use std::alloc::{AllocError, Allocator, Global};
 use std::test::Fail;
 
 mod base64_texts;
-mod doubles;
 mod growths;
 mod lengths;
 mod reading;

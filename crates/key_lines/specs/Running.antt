@@ -175,3 +175,13 @@ pub record WritesAnswers {R : Type 0} (options : RunOptions) (answers : List ℕ
   pub unsent : List ℕ
   pub sends : Sends out out' (written_for results) unsent
   pub all_but : AreUnsent unsent answer
+
+-- A run whose reader cannot fail ends with no unreadable line.
+abbrev pub NoReadFault : {A R : Type 0} → Bool → Result A (RunFault R) → Type 0
+NoReadFault {A} {R} can_fail result =
+    can_fail ≡ false → (refused : RefusedLine R) → refused.fault ≡ Input files.Read → result ≢ Err (AtLine refused)
+
+-- A run ends for too many lines only at the last number that a line can have.
+abbrev pub TooManyAtLast : {A R : Type 0} → Result A (RunFault R) → Type 0
+TooManyAtLast {A} {R} result =
+    (refused : RefusedLine R) → result ≡ Err (AtLine refused) → refused.fault ≡ TooManyLines → refused.line ≡ 18446744073709551615

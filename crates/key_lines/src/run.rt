@@ -5,7 +5,7 @@ ghost use Rattle.std.specs.Prelude.{Ok, Err, false, length, IfSome};
 ghost use Rattle.key_lines.specs.Answers.{answered};
 ghost use Rattle.key_lines.specs.Meaning.{LinesAreFiles, PrintsBack};
 ghost use Rattle.key_lines.specs.Running.{FindsLine, MakesAnswer, MakesOutput, RunsLines};
-ghost use Rattle.key_lines.specs.Running.{StepsLine, WritesAnswers, is_own};
+ghost use Rattle.key_lines.specs.Running.{NoReadFault, StepsLine, TooManyAtLast, WritesAnswers, is_own};
 ghost use Rattle.key_lines.specs.Summary.{HasRoom};
 
 use crate::block::{BLOCK, send};
@@ -83,12 +83,8 @@ impl<J: LineJob> LineRun<J> {
         ensures read_back { PrintsBack self.now.options.notation }
         // Only a failed read ends the run as unreadable, and only the last number of a line as one
         // with too many lines.
-        ensures read { R.can_fail ≡ false → (refused : RefusedLine J.Refusal)
-            → refused.fault ≡ LineFault.Input FileFault.Read
-            → result ≢ Err (RunFault.AtLine refused) }
-        ensures too_many { (refused : RefusedLine J.Refusal)
-            → result ≡ Err (RunFault.AtLine refused)
-            → refused.fault ≡ LineFault.TooManyLines → refused.line ≡ 18446744073709551615 }
+        ensures read { NoReadFault R.can_fail result }
+        ensures too_many { TooManyAtLast result }
     {
         let mut buffers = Buffers {
             line: Vec::new(alloc),
@@ -128,14 +124,10 @@ impl<J: LineJob> LineRun<J> {
             (W.contents out.old) (W.contents out.new)
             (L.received log.old) (L.received log.new)
             buffers.old.block.items buffers.new.block.items summary.old summary.new result }
-        ensures read { R.can_fail ≡ false → (refused : RefusedLine J.Refusal)
-            → refused.fault ≡ LineFault.Input FileFault.Read
-            → result ≢ Err (RunFault.AtLine refused) }
-        ensures too_many { (refused : RefusedLine J.Refusal)
-            → result ≡ Err (RunFault.AtLine refused)
-            → refused.fault ≡ LineFault.TooManyLines → refused.line ≡ 18446744073709551615 }
+        ensures read { NoReadFault R.can_fail result }
+        ensures too_many { TooManyAtLast result }
     {
-        let found = self.next(log, input, buffers, summary);
+        let found = self.next(summary, log, input, buffers);
         if let Ok(Line::Ended) = found {
             if !input.may_wait() && buffers.block.len() < BLOCK {
                 return Ok(Line::Ended);
@@ -159,10 +151,10 @@ impl<J: LineJob> LineRun<J> {
     // Answers the next line, if there is one, in the block.
     fn next<L: RefusalLog<J::Refusal>, R: LineSource>(
         &self,
+        summary: &mut RunSummary<J::Refusal>,
         log: &mut L,
         input: &mut R,
         buffers: &mut Buffers,
-        summary: &mut RunSummary<J::Refusal>,
     ) -> Result<Line, LineFault<J::Refusal>>
         requires { HasRoom summary.old }
         ensures finds { (out : Option (List ℕ)) → FindsLine self.now.options

@@ -7,7 +7,7 @@ ghost use Rattle.key_wrap.specs.Results.{Rewraps};
 
 use crate::faults::UnwrapFault;
 use block_pair::{BlockPair, Meter};
-use key_wrap_core::{AgreedForm, Form, RewrapForms, rewrap_length_ok};
+use key_wrap_core::{Form, RewrapForms, rewrap_length_ok};
 use std::alloc::{Allocator, Global};
 
 /// Returns the wrapping, in the new form under the new pair, of the one key whose wrapping in the
@@ -30,12 +30,7 @@ pub fn rewrap<O: BlockPair, N: BlockPair>(
     ensures other_form { IfOk result (λ answer.
         NoOtherForm (by_default new_form) (N.encrypted new.now) answer.items) }
 {
-    let old_form = AgreedForm::by_default(old_form);
-    let new_form = AgreedForm::by_default(new_form);
-    let forms = RewrapForms::Changed {
-        old: old_form,
-        new: new_form,
-    };
+    let forms = RewrapForms::by_default(old_form, new_form);
     let (mut old, mut new) = (Meter::new(old), Meter::new(new));
     rewrap_on(alloc, &mut old, &mut new, &forms, text)
 }

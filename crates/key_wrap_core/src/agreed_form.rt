@@ -1,10 +1,11 @@
-//! The forms with the initial value that both ends agreed on.
+//! The forms with the initial value that both ends agreed on, and the change from one to another.
 
 ghost use Rattle.std.specs.Prelude.{◌≡◌};
 ghost use Rattle.key_wrap_core.specs.Forms.{by_default};
 
 use crate::forms::Form;
 use crate::initial_value::InitialValue;
+use crate::rewrapping::RewrapForms;
 
 /// A form of key wrap with its initial value.
 #[derive(Clone, Copy, Debug)]
@@ -23,6 +24,18 @@ impl AgreedForm {
         match form {
             Form::Plain => AgreedForm::Plain(InitialValue::default()),
             Form::Padded => AgreedForm::Padded,
+        }
+    }
+}
+
+impl RewrapForms {
+    /// From one form to another, with the default initial value.
+    pub fn by_default(old: Form, new: Form) -> RewrapForms
+        ensures { result ≡ RewrapForms.Changed (by_default old) (by_default new) }
+    {
+        RewrapForms::Changed {
+            old: AgreedForm::by_default(old),
+            new: AgreedForm::by_default(new),
         }
     }
 }

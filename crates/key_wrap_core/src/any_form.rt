@@ -7,8 +7,7 @@ ghost use Rattle.key_wrap_core.specs.Lengths.{IsPaddedTextLength};
 ghost use Rattle.key_wrap_core.specs.Calls.{block_calls};
 ghost use Rattle.key_wrap_core.specs.Forms.{Stands};
 ghost use Rattle.key_wrap_core.specs.InPlace.{ArePaddedLengths, key_in};
-ghost use Rattle.key_wrap_core.specs.BufferCalls.{UnwrappingEither, KeepsOrClears};
-ghost use Rattle.key_wrap_core.specs.BufferCalls.{IsKeyBuffer, CountsCalls};
+ghost use Rattle.key_wrap_core.specs.BufferCalls.{UnwrappingEither, KeepsOrClears, IsKeyBuffer, CountsCalls};
 
 use crate::faults::InPlaceFault;
 use crate::forms::FoundKey;

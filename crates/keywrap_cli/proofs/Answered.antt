@@ -2,12 +2,15 @@
 use Rattle.std.proofs.Common.{◌≡◌, ℕ, List, length, Option, Result, Ok, Err, Vec}
 use Rattle.std.proofs.KnownBytes.{Keeps-refl}
 use Rattle.std.specs.declared.alloc.Global.{Global}
-use Rattle.key_lines.specs.Answers.{Answer}
-use Rattle.key_lines.specs.declared.job.Mark.TheVariants.{Unmarked}
+use Rattle.key_lines.specs.Answers.{Answer, IsAnswered}
+use Rattle.key_lines.specs.declared.fault.AnswerFault.{AnswerFault}
+use Rattle.key_lines.specs.declared.fault.AnswerFault.TheVariants as answering
+use Rattle.key_lines.specs.declared.job.Mark.{Mark}
+use Rattle.key_lines.specs.declared.job.Mark.TheVariants.{Unmarked, Marked}
 use Rattle.key_wrap_core.specs.declared.forms.Form.{Form}
 use Rattle.key_wrap_core.specs.declared.faults.InPlaceFault.{InPlaceFault}
 use Rattle.key_wrap_core.specs.declared.faults.InPlaceFault.TheVariants.{BadLength, Integrity}
-use Rattle.keywrap_cli.specs.Answers.{AnswerOfJob, FindsKey, HasBadLength, HasMark, MakesConversion, job_of, job_refusal}
+use Rattle.keywrap_cli.specs.Answers.{AnswerOfJob, FindsKey, HasBadLength, HasMark, IsPrinted, MakesConversion, job_of, job_refusal}
 use Rattle.keywrap_cli.specs.Conversion.{IsInputLength}
 use Rattle.keywrap_cli.specs.Engine.{RunsInput, WritesAnswer, WritesFrom, WritesOutput, job_fault_of}
 use Rattle.keywrap_cli.specs.Files.{IsOneLine, printed}
@@ -49,6 +52,16 @@ found_refusal iv task E X Integrity h = h
 pub found : (iv : ℕ) (task : Task) (E : List ℕ → List ℕ) (X Y text : List ℕ) → FindsKey iv E X (Ok Y) → text ≡ printed task.input Y
     → IsOneLine task.input text → AnswerOfJob UnwrapAny iv task E X (Ok (record { text = text; mark = Unmarked }))
 found iv task E X Y text h is line = ((h.0, Y, h.1, is), λ no. let wrong = no.0 in cc, line)
+
+-- what a call answers with the bytes Y, from what it printed
+pub printed_answer : (answers : Result Answer RewrapFault → Type 0) (lacks : Type 0) (notation : Notation) (Y text : List ℕ)
+    (result : Result Mark (AnswerFault RewrapFault)) → IsPrinted notation Y text result
+    → (text ≡ printed notation Y → IsOneLine notation text → answers (Ok (record { text = text; mark = Unmarked }))) → lacks
+    → IsAnswered answers lacks text result
+printed_answer answers lacks notation Y text (Ok Unmarked) h answer none = answer h.1 h.2
+printed_answer answers lacks notation Y text (Ok Marked) h answer none = let no = h.0 in cc
+printed_answer answers lacks notation Y text (Err (answering.Refused refusal)) h answer none = cc
+printed_answer answers lacks notation Y text (Err answering.Memory) h answer none = none
 
 -- a legal length is not a bad one
 pub not_bad : (direction : Direction) (form : Form) (X : List ℕ) → IsInputLength direction form (length X) → ¬ HasBadLength (job_of direction) form X

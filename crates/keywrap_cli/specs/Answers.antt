@@ -28,6 +28,7 @@ use Rattle.keywrap_cli.specs.declared.job.Done.{Done}
 use Rattle.keywrap_cli.specs.declared.job.Done.TheVariants.{Written, Neither}
 use Rattle.keywrap_cli.specs.declared.job.Job.{Job}
 use Rattle.keywrap_cli.specs.declared.job.Job.TheVariants.{Wrap, Unwrap, UnwrapAny, Check}
+use Rattle.keywrap_cli.specs.declared.job.Notation.{Notation}
 use Rattle.keywrap_cli.specs.declared.job.Task.{Task}
 use Rattle.key_wrap_core.specs.declared.rewrapping.RewrapFault.TheVariants.{BadLength, Integrity, KeyNotPlain}
 use Rattle.keywrap_cli.specs.declared.rewrapping.Rewrapping.{Rewrapping}
@@ -79,6 +80,11 @@ abbrev pub IsMade : {F : Type 0} → (Result (List ℕ) F → Type 0) → List �
 IsMade Is output (Ok done) = Is (Ok output)
 IsMade Is output (Err (Refused fault)) = Is (Err fault)
 IsMade Is output (Err Memory) = ⊤
+
+-- a call printed the bytes Y as this text, one line unless the notation is raw; or memory was lacking
+abbrev pub IsPrinted : Notation → List ℕ → List ℕ → Result Mark (AnswerFault RewrapFault) → Type 0
+IsPrinted notation Y text (Ok mark) = (mark ≡ Unmarked) × (text ≡ printed notation Y) × IsOneLine notation text
+IsPrinted notation Y text (Err fault) = fault ≡ Memory
 
 -- the answer of this job to the bytes X, by cases, in the form and the notation of the task
 abbrev pub AnswerOfJob : Job → ℕ → Task → (List ℕ → List ℕ) → List ℕ → Result Answer RewrapFault → Type 0

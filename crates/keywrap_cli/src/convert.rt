@@ -43,7 +43,7 @@ pub fn convert_into<B: BlockPair>(
         return Err(AnswerFault::Refused(InPlaceFault::BadLength));
     }
     output.resize(room_for(direction, form, input.len()), 0)?;
-    match convert_in_room(direction, form, iv, pair, input, output) {
+    match convert_in_room(direction, form, iv, &mut Meter::new(pair), input, output) {
         Ok(()) => Ok(()),
         Err(fault) => Err(AnswerFault::Refused(fault)),
     }
@@ -78,20 +78,19 @@ fn convert_in_room<B: BlockPair>(
     direction: Direction,
     form: Form,
     iv: &InitialValue,
-    pair: &B,
+    meter: &mut Meter<B>,
     input: &[u8],
     output: &mut Vec<u8>,
 ) -> Result<(), InPlaceFault>
     requires { HasRoom direction form (length input.now) (length output.old.items) }
     ensures { MakesConversion direction form iv.now
-        (B.encrypted pair.now) input.now (made output.new.items result) }
+        (B.encrypted meter.old.pair) input.now (made output.new.items result) }
 {
-    let mut meter = Meter::new(pair);
     match (direction, form) {
-        (Direction::Wrap, Form::Plain) => wrap_into_with(&mut meter, iv, input, output),
-        (Direction::Wrap, Form::Padded) => wrap_padded_into(&mut meter, input, output),
-        (Direction::Unwrap, Form::Plain) => unwrap_into_with(&mut meter, iv, input, output),
-        (Direction::Unwrap, Form::Padded) => match unwrap_padded_into(&mut meter, input, output) {
+        (Direction::Wrap, Form::Plain) => wrap_into_with(meter, iv, input, output),
+        (Direction::Wrap, Form::Padded) => wrap_padded_into(meter, input, output),
+        (Direction::Unwrap, Form::Plain) => unwrap_into_with(meter, iv, input, output),
+        (Direction::Unwrap, Form::Padded) => match unwrap_padded_into(meter, input, output) {
             Ok(len) => {
                 output.truncate(len);
                 Ok(())

@@ -194,10 +194,7 @@ pub fn run<K: Read, R: Read, W: Write>(
         (K.remaining kek.old) (K.remaining kek.new) (R.remaining input.old) (R.remaining input.new)
         (W.contents out.old) (W.contents out.new) }
 {
-    let pair = match read_kek(alloc, task.kek, kek) {
-        Ok(pair) => pair,
-        Err(fault) => return Err(fault),
-    };
+    let pair = read_kek(alloc, task.kek, kek)?;
     let job = KeyJob {
         alloc,
         iv: *iv,

@@ -1,10 +1,9 @@
 //! Runs a job under a KEK on the bytes of an input or of a line.
 
-ghost use Rattle.std.specs.Prelude.{◌≡◌, IfOk, Ok, OnOk, string_bytes};
+ghost use Rattle.std.specs.Prelude.{◌≡◌, IfOk, Ok, string_bytes};
 ghost use Rattle.key_lines.specs.Answers.{IsAnswered, answered};
-ghost use Rattle.keywrap_cli.specs.Answers.{AnswerOfJob, HasBadLength, JobAnswer};
+ghost use Rattle.keywrap_cli.specs.Answers.{AnswerOfJob, HasBadLength, IsPrinted, JobAnswer};
 ghost use Rattle.keywrap_cli.specs.Answers.{job_of, job_refusal, kind_line};
-ghost use Rattle.keywrap_cli.specs.Files.{IsOneLine, printed};
 
 use crate::any_form::unwrap_any;
 use crate::convert::{Direction, convert_into};
@@ -70,15 +69,9 @@ impl<B: BlockPair> KeyJob<B> {
             bytes,
             output,
         ) {
-            Ok(()) => {}
-            Err(AnswerFault::Refused(fault)) => {
-                return Err(AnswerFault::Refused(job_refusal(fault)));
-            }
-            Err(AnswerFault::Memory) => return Err(AnswerFault::Memory),
-        }
-        match self.print(bytes, output) {
-            Ok(()) => Ok(Mark::Unmarked),
-            Err(_) => Err(AnswerFault::Memory),
+            Ok(()) => self.print(bytes, output),
+            Err(AnswerFault::Refused(fault)) => Err(AnswerFault::Refused(job_refusal(fault))),
+            Err(AnswerFault::Memory) => Err(AnswerFault::Memory),
         }
     }
 
@@ -94,27 +87,23 @@ impl<B: BlockPair> KeyJob<B> {
             output.new.items result }
     {
         match unwrap_any(&self.iv, &self.pair, bytes, output) {
-            Ok(()) => {}
-            Err(AnswerFault::Refused(fault)) => {
-                return Err(AnswerFault::Refused(job_refusal(fault)));
-            }
-            Err(AnswerFault::Memory) => return Err(AnswerFault::Memory),
-        }
-        match self.print(bytes, output) {
-            Ok(()) => Ok(Mark::Unmarked),
-            Err(_) => Err(AnswerFault::Memory),
+            Ok(()) => self.print(bytes, output),
+            Err(AnswerFault::Refused(fault)) => Err(AnswerFault::Refused(job_refusal(fault))),
+            Err(AnswerFault::Memory) => Err(AnswerFault::Memory),
         }
     }
 
-    // Prints the answer in `output`. `bytes` is room for it.
-    fn print(&self, bytes: &mut Vec<u8>, output: &mut Vec<u8>) -> Result<(), AllocError>
-        ensures bytes { OnOk result (output.new.items
-            ≡ printed self.now.task.input output.old.items) }
-        ensures one_line { OnOk result (IsOneLine self.now.task.input output.new.items) }
+    // Prints the answer in `output`, without a mark. `bytes` is room for it.
+    fn print(
+        &self,
+        bytes: &mut Vec<u8>,
+        output: &mut Vec<u8>,
+    ) -> Result<Mark, AnswerFault<RewrapFault>>
+        ensures { IsPrinted self.now.task.input output.old.items output.new.items result }
     {
         print_in(self.task.input, output, bytes)?;
         std::mem::swap(bytes, output);
-        Ok(())
+        Ok(Mark::Unmarked)
     }
 
     // Makes the answer of a check. `output` is the room for the registers.

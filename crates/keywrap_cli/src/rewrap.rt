@@ -10,7 +10,7 @@ use crate::job::{Done, JobFault, Notation, Outcome};
 use crate::kek_file::{Keks, read_keks};
 use crate::rewrap_job::RewrapJob;
 use crate::rewrapping::Rewrapping;
-use key_wrap_core::{AgreedForm, Form, RewrapForms};
+use key_wrap_core::{Form, RewrapForms};
 use std::alloc::Global;
 use std::io::{Read, Write};
 
@@ -51,10 +51,7 @@ pub fn run_rewrap<K: Read, N: Read, R: Read, W: Write>(
         (W.contents out.old) (W.contents out.new) }
 {
     let task = Rewrapping {
-        forms: RewrapForms::Changed {
-            old: AgreedForm::by_default(old_form),
-            new: AgreedForm::by_default(new_form),
-        },
+        forms: RewrapForms::by_default(old_form, new_form),
         pass_new: false,
         input: input_notation,
         kek: kek_notation,

@@ -3,7 +3,6 @@
 mod block_calls;
 mod cases;
 mod checks;
-mod doubles;
 mod drills;
 mod faults;
 mod hostile;

@@ -1,11 +1,11 @@
 //! Base64 texts whose meaning RFC 4648 gives, and texts that are none.
 
-use super::doubles::Trickle;
 use super::is_answer;
 use crate::{Alphabet, Base64Fault, FileFault, decode_symbols_into, print_base64, read_base64};
 use std::alloc::Global;
 use std::process::Abort;
 use std::test::Fail;
+use test_doubles::Trickle;
 
 // RFC 4648, section 10.
 static VECTORS: [(&[u8], &[u8]); 7] = [

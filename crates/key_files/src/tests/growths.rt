@@ -1,7 +1,6 @@
 //! Heaps of every size, so that each allocation in turn is the first that is refused: the answer is
 //! Memory, or the one that there is with ample memory.
 
-use super::doubles::{Narrow, Trickle};
 use super::is_answer;
 use crate::base64_text::decode_base64;
 use crate::{FileFault, HexWriteFault, decode_hex, read_hex, read_raw, write_hex};
@@ -9,6 +8,7 @@ use linked_list_allocator::LocalHeap;
 use std::alloc::Allocator;
 use std::process::Abort;
 use std::test::Fail;
+use test_doubles::{Narrow, Trickle};
 
 // A heap's least block, and more than a call takes for the digits.
 const STEP: usize = 16;

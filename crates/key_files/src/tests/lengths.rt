@@ -1,6 +1,5 @@
 //! With ample memory, and readers and writers that never fail, no call gives up at any length.
 
-use super::doubles::Narrow;
 use super::reading::reads;
 use super::writing::writes;
 use super::{COUNTING, Notation, filled, is_answer};
@@ -8,6 +7,7 @@ use crate::{MAX_FILE, decode_hex};
 use std::alloc::Global;
 use std::process::Abort;
 use std::test::Fail;
+use test_doubles::Narrow;
 
 // Zeros, ff, counting and pseudo-random bytes.
 const CONTENTS: [[u8; 3]; 4] = [[0, 1, 0], [0xff, 1, 0], COUNTING, [1, 109, 53]];
@@ -22,11 +22,6 @@ fn gives_up_for_memory_at_no_length(rt: HostRuntime) -> Result<(), Fail> {
     run_each_length(&rt, rt.alloc(), usize::MAX)
 }
 
-#[test]
-fn gives_up_for_io_at_no_length(rt: HostRuntime) -> Result<(), Fail> {
-    run_each_length(&rt, rt.alloc(), 1)
-}
-
 // Each call on bytes of each content and length, with readers and writers of up to `size` bytes.
 fn run_each_length(rt: &impl Abort, alloc: Global, size: usize) -> Result<(), Fail> {
     for content in CONTENTS {
@@ -38,6 +33,11 @@ fn run_each_length(rt: &impl Abort, alloc: Global, size: usize) -> Result<(), Fa
         }
     }
     Ok(())
+}
+
+#[test]
+fn gives_up_for_io_at_no_length(rt: HostRuntime) -> Result<(), Fail> {
+    run_each_length(&rt, rt.alloc(), 1)
 }
 
 fn run_on(rt: &impl Abort, alloc: Global, bytes: &[u8], size: usize) -> Result<(), Fail> {

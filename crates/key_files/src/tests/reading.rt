@@ -2,12 +2,12 @@
 
 ghost use Rattle.std.specs.Prelude.{◌<◌};
 
-use super::doubles::{FAULTS, Trickle};
 use super::{COUNTING, Notation, filled, is_answer};
 use crate::{FileFault, MAX_FILE, decode_hex, read_hex, read_raw};
 use std::alloc::Global;
 use std::process::Abort;
 use std::test::Fail;
+use test_doubles::{FAULTS, Trickle};
 
 // One byte a read, pieces about as large as the most that one read may give, and all at once.
 const SIZES: [usize; 5] = [1, 4_095, 4_096, 4_097, usize::MAX];

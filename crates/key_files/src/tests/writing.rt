@@ -1,12 +1,12 @@
 //! Bytes and lines by writers that take them whole or in pieces, fail or fill up.
 
 use super::Notation;
-use super::doubles::{FAULTS, Narrow, STOPS, Stop};
 use super::reading::FAR;
 use crate::{HexWriteFault, write_hex, write_raw};
 use std::alloc::Global;
 use std::process::Abort;
 use std::test::Fail;
+use test_doubles::{Narrow, STOPPINGS, Stop};
 
 // The wrapping of RFC 3394, section 4.1.
 const TEXT: &[u8] = b"\x1f\xa6\x8b\x0a\x81\x12\xb4\x47\xae\xf3\x4b\xd8\xfb\x5a\x7b\x82\
@@ -53,14 +53,12 @@ fn each_refused_write_is_counted(rt: HostRuntime) -> Result<(), Fail> {
     let zeros = [0; 2_050];
     let mut line = vec![in rt.alloc(); b'0'; 4_100]?;
     line.push(b'\n')?;
-    for faults in FAULTS {
-        for stop in STOPS {
-            for room in 0..=LINE.len() {
-                stops_after(&rt, rt.alloc(), TEXT, LINE, room, stop, faults);
-            }
-            for room in FAR {
-                stops_after(&rt, rt.alloc(), &zeros, &line, room, stop, faults);
-            }
+    for (stop, faults) in STOPPINGS {
+        for room in 0..=LINE.len() {
+            stops_after(&rt, rt.alloc(), TEXT, LINE, room, stop, faults);
+        }
+        for room in FAR {
+            stops_after(&rt, rt.alloc(), &zeros, &line, room, stop, faults);
         }
     }
     Ok(())

@@ -1,11 +1,11 @@
 //! Lines of every length about the limit and the reader's buffer, and allocations that are refused.
 
-use super::doubles::Trickle;
 use crate::line::{Line, read_line};
 use key_files::FileFault;
 use linked_list_allocator::LocalHeap;
 use std::io::BufReader;
 use std::test::Fail;
+use test_doubles::Trickle;
 
 static TEXTS: [(&[u8], &[&[u8]]); 8] = [
     (b"", &[]),
@@ -74,7 +74,7 @@ fn refuses_one_byte_past_the_limit(rt: HostRuntime) -> Result<(), Fail> {
 #[test]
 fn reads_a_line_byte_by_byte(rt: HostRuntime) -> Result<(), Fail> {
     static TEXT: [u8; 6_000] = [b'a'; 6_000];
-    let trickle = Trickle::new(&TEXT, usize::MAX);
+    let trickle = Trickle::in_pieces(&TEXT, 1);
     let mut reader = BufReader::with_capacity(rt.alloc(), 4_096, trickle)?;
     let mut line = Vec::new(rt.alloc());
     let met = read_line(&mut reader, &mut line, TEXT.len())?;

@@ -1,21 +1,57 @@
 //! Runs that answer each line, that stop at one, and whose output is refused at each byte.
 
-use super::doubles::{Echo, Narrow, Told, Trickle};
-use crate::{LineFault, LineRun, RefusedLine, RunFault, RunOptions, TextNotation};
+use super::doubles::{Echo, Told};
+use crate::{LineFault, LineRun, LineSource, RefusedLine, RunFault, RunOptions, TextNotation};
 use key_files::{Base64Fault, FileFault};
-use std::io::BufReader;
+use std::alloc::Global;
+use std::io::{BufReader, Write};
 use std::test::Fail;
+use test_doubles::{Narrow, Stop, Trickle};
 
-// A run of the job of the tests.
-fn run_of(notation: TextNotation, keep_going: bool) -> LineRun<Echo> {
-    let options = RunOptions {
-        notation,
-        keep_going,
-    };
-    LineRun { options, job: Echo }
+const HEX: RunOptions = RunOptions {
+    notation: TextNotation::Hex,
+    keep_going: false,
+};
+
+const HEX_TO_END: RunOptions = RunOptions {
+    notation: TextNotation::Hex,
+    keep_going: true,
+};
+
+const BASE64_TO_END: RunOptions = RunOptions {
+    notation: TextNotation::Base64,
+    keep_going: true,
+};
+
+// Runs the job of the tests. Returns how many lines were answered, or the fault.
+fn run<R: LineSource, W: Write>(
+    alloc: Global,
+    options: RunOptions,
+    told: &mut Told,
+    input: &mut R,
+    out: &mut W,
+) -> Result<u64, RunFault<u8>> {
+    let summary = LineRun { options, job: Echo }.run(alloc, told, input, out)?;
+    Ok(summary.lines)
 }
 
-static RUNS: [(&[u8], Result<u64, RunFault<u8>>, &[u8]); 11] = [
+// How many lines are answered, or the line at which the run stops, with its fault.
+type Wanted = Result<u64, (u64, LineFault<u8>)>;
+
+fn result_of(wanted: Wanted) -> Result<u64, RunFault<u8>> {
+    match wanted {
+        Ok(lines) => Ok(lines),
+        Err((line, fault)) => Err(RunFault::AtLine(RefusedLine { line, fault })),
+    }
+}
+
+const BAD_DIGIT_0: LineFault<u8> = LineFault::Input(FileFault::BadDigit { at: 0 });
+
+const BAD_DIGIT_1: LineFault<u8> = LineFault::Input(FileFault::BadDigit { at: 1 });
+
+const ODD_DIGITS: LineFault<u8> = LineFault::Input(FileFault::OddDigits);
+
+static RUNS: [(&[u8], Wanted, &[u8]); 11] = [
     (b"", Ok(0), b""),
     (b"\n", Ok(1), b"\n"),
     (b"00", Ok(1), b"00\n"),
@@ -25,46 +61,15 @@ static RUNS: [(&[u8], Result<u64, RunFault<u8>>, &[u8]); 11] = [
         Ok(4),
         b"0102030405\n0a0b\n\n7f\n",
     ),
-    (
-        b"00\n0g\n01\n",
-        Err(RunFault::AtLine(RefusedLine {
-            line: 2,
-            fault: LineFault::Input(FileFault::BadDigit { at: 1 }),
-        })),
-        b"00\n",
-    ),
-    (
-        b"000\n01\n",
-        Err(RunFault::AtLine(RefusedLine {
-            line: 1,
-            fault: LineFault::Input(FileFault::OddDigits),
-        })),
-        b"",
-    ),
-    (
-        b"00\n\0\n",
-        Err(RunFault::AtLine(RefusedLine {
-            line: 2,
-            fault: LineFault::Input(FileFault::BadDigit { at: 0 }),
-        })),
-        b"00\n",
-    ),
+    (b"00\n0g\n01\n", Err((2, BAD_DIGIT_1)), b"00\n"),
+    (b"000\n01\n", Err((1, ODD_DIGITS)), b""),
+    (b"00\n\0\n", Err((2, BAD_DIGIT_0)), b"00\n"),
     (
         b"00\n01\nff",
-        Err(RunFault::AtLine(RefusedLine {
-            line: 3,
-            fault: LineFault::Refused(0xff),
-        })),
+        Err((3, LineFault::Refused(0xff))),
         b"00\n01\n",
     ),
-    (
-        b"FE\n",
-        Err(RunFault::AtLine(RefusedLine {
-            line: 1,
-            fault: LineFault::Memory,
-        })),
-        b"",
-    ),
+    (b"FE\n", Err((1, LineFault::Memory)), b""),
     (b" 00 \n\n", Ok(2), b"00\n\n"),
 ];
 
@@ -74,14 +79,9 @@ fn answers_the_lines_before_the_first_refused_one(rt: HostRuntime) -> Result<(),
         for capacity in [1, 4_096] {
             let mut input = BufReader::with_capacity(rt.alloc(), capacity, *text)?;
             let mut out = Vec::new(rt.alloc());
-            let answer = run_of(TextNotation::Hex, false).run(
-                rt.alloc(),
-                &mut Told::new(),
-                &mut input,
-                &mut out,
-            );
+            let answer = run(rt.alloc(), HEX, &mut Told::new(), &mut input, &mut out);
             assert!(rt;
-                answer.map(|summary| summary.lines) == *want && out.as_slice() == *written,
+                answer == result_of(*want) && out.as_slice() == *written,
                 "of {text:?}"
             );
         }
@@ -118,21 +118,13 @@ fn takes_blanks_at_the_ends_alone(rt: HostRuntime) -> Result<(), Fail> {
     for (line, want, refused) in &BLANKS {
         let mut input: &[u8] = line;
         let mut out = Vec::new(rt.alloc());
-        let answer = run_of(TextNotation::Hex, false).run(
-            rt.alloc(),
-            &mut Told::new(),
-            &mut input,
-            &mut out,
-        );
+        let answer = run(rt.alloc(), HEX, &mut Told::new(), &mut input, &mut out);
         let wanted = match refused {
             None => Ok(1),
-            Some(at) => Err(RunFault::AtLine(RefusedLine {
-                line: 1,
-                fault: LineFault::Input(FileFault::BadDigit { at: *at }),
-            })),
+            Some(at) => Err((1, LineFault::Input(FileFault::BadDigit { at: *at }))),
         };
         assert!(rt;
-            answer.map(|summary| summary.lines) == wanted && out.as_slice() == *want,
+            answer == result_of(wanted) && out.as_slice() == *want,
             "of {line:?}"
         );
     }
@@ -141,13 +133,7 @@ fn takes_blanks_at_the_ends_alone(rt: HostRuntime) -> Result<(), Fail> {
 
 // The text, what a run that goes on answers and writes, how many refusals it tells, and the last of
 // them: its line, and why.
-static PASSED: [(
-    &[u8],
-    Result<u64, RunFault<u8>>,
-    &[u8],
-    u64,
-    Option<RefusedLine<u8>>,
-); 4] = [
+static PASSED: [(&[u8], Wanted, &[u8], u64, Option<RefusedLine<u8>>); 4] = [
     (b"00\n01", Ok(2), b"00\n01\n", 0, None),
     (
         b"00\n0g\nff\n0\n01",
@@ -156,7 +142,7 @@ static PASSED: [(
         3,
         Some(RefusedLine {
             line: 4,
-            fault: LineFault::Input(FileFault::OddDigits),
+            fault: ODD_DIGITS,
         }),
     ),
     (
@@ -171,15 +157,12 @@ static PASSED: [(
     ),
     (
         b"0g\nfe\n00\n",
-        Err(RunFault::AtLine(RefusedLine {
-            line: 2,
-            fault: LineFault::Memory,
-        })),
+        Err((2, LineFault::Memory)),
         b"\n",
         1,
         Some(RefusedLine {
             line: 1,
-            fault: LineFault::Input(FileFault::BadDigit { at: 1 }),
+            fault: BAD_DIGIT_1,
         }),
     ),
 ];
@@ -190,14 +173,9 @@ fn goes_on_after_refused_lines(rt: HostRuntime) -> Result<(), Fail> {
         let mut input: &[u8] = text;
         let mut out = Vec::new(rt.alloc());
         let mut told = Told::new();
-        let answer = run_of(TextNotation::Hex, true).run(
-            rt.alloc(),
-            &mut told,
-            &mut input,
-            &mut out,
-        );
+        let answer = run(rt.alloc(), HEX_TO_END, &mut told, &mut input, &mut out);
         assert!(rt;
-            answer.map(|summary| summary.lines) == *want && out.as_slice() == *written,
+            answer == result_of(*want) && out.as_slice() == *written,
             "of {text:?}"
         );
         assert!(rt; told.count == *count && told.last == *last, "of {text:?}");
@@ -212,17 +190,10 @@ fn counts_what_a_refused_write_left_out(rt: HostRuntime) -> Result<(), Fail> {
         let whole = b"0102\n03\n";
         for room in 0..whole.len() {
             let mut input = text;
-            let mut out = Narrow::new(rt.alloc(), room);
-            let answer = run_of(TextNotation::Hex, false).run(
-                rt.alloc(),
-                &mut Told::new(),
-                &mut input,
-                &mut out,
-            );
+            let mut out = Narrow::stopping(rt.alloc(), room, Stop::Fails, 1);
+            let answer = run(rt.alloc(), HEX, &mut Told::new(), &mut input, &mut out);
             let unsent = whole.len() - room;
-            assert!(rt;
-                answer.map(|summary| summary.lines) == Err(RunFault::Write { answered, unsent })
-            );
+            assert!(rt; answer == Err(RunFault::Write { answered, unsent }));
             assert_eq!(rt; out.out(), &whole[..room]);
         }
     }
@@ -239,13 +210,8 @@ fn stops_where_the_writer_refuses_a_full_block(rt: HostRuntime) -> Result<(), Fa
         text.extend_from_slice(&line)?;
     }
     let mut input = text.as_slice();
-    let mut out = Narrow::new(rt.alloc(), 10);
-    let answer = run_of(TextNotation::Hex, false).run(
-        rt.alloc(),
-        &mut Told::new(),
-        &mut input,
-        &mut out,
-    );
+    let mut out = Narrow::stopping(rt.alloc(), 10, Stop::Fails, 1);
+    let answer = run(rt.alloc(), HEX, &mut Told::new(), &mut input, &mut out);
     let unsent = 80_002 - 10;
     let answered = 2;
     assert!(rt; answer == Err(RunFault::Write { answered, unsent }));
@@ -267,17 +233,12 @@ fn stops_at_the_line_whose_read_fails(rt: HostRuntime) -> Result<(), Fail> {
         (7, 3),
         (8, 3),
     ] {
-        let mut input = BufReader::new(rt.alloc(), Trickle::new(text, reads))?;
+        let mut input = BufReader::new(rt.alloc(), Trickle::failing(text, reads, 1))?;
         let mut out = Vec::new(rt.alloc());
-        let answer = run_of(TextNotation::Hex, false).run(
-            rt.alloc(),
-            &mut Told::new(),
-            &mut input,
-            &mut out,
-        );
+        let answer = run(rt.alloc(), HEX, &mut Told::new(), &mut input, &mut out);
         let fault = LineFault::Input(FileFault::Read);
         assert!(rt;
-            answer == Err(RunFault::AtLine(RefusedLine { line, fault })),
+            answer == result_of(Err((line, fault))),
             "after {reads} reads"
         );
         assert!(rt; text.starts_with(&out) && out.len() == reads / 3 * 3);
@@ -290,13 +251,8 @@ fn answers_lines_of_base64(rt: HostRuntime) -> Result<(), Fail> {
     let mut input = b"-_8\n\t+/8= \nZ m\n".as_slice();
     let mut out = Vec::new(rt.alloc());
     let mut told = Told::new();
-    let answer = run_of(TextNotation::Base64, true).run(
-        rt.alloc(),
-        &mut told,
-        &mut input,
-        &mut out,
-    );
-    assert!(rt; answer.map(|summary| summary.lines) == Ok(3));
+    let answer = run(rt.alloc(), BASE64_TO_END, &mut told, &mut input, &mut out);
+    assert!(rt; answer == Ok(3));
     assert!(rt; out.as_slice() == b"fbff\nfbff\n\n".as_slice());
     let fault = LineFault::Input(FileFault::BadBase64(Base64Fault::Character { at: 1 }));
     assert!(rt; told.last == Some(RefusedLine { line: 3, fault }));

@@ -184,19 +184,18 @@ fn takes_no_memory_at_an_illegal_length(rt: HostRuntime) -> Result<(), Fail> {
 fn refuses_each_growth_of_six_calls(rt: HostRuntime) {
     let (alloc, iv) = (rt.alloc(), InitialValue::default());
     let (text, key) = ([0; 24], [0; 16]);
-    let mut wraps = meter();
+    let (mut wraps, mut padded_wraps) = (meter(), meter());
+    let (mut unwraps, mut padded_unwraps, mut found) = (meter(), meter(), meter());
     let refused = wrap_on(alloc, &mut wraps, &iv, &key).err() == Some(WrapFault::Memory);
     assert!(rt; wraps.count() == if refused { 0 } else { 12 });
-    let mut wraps = meter();
-    let refused = wrap_padded_on(alloc, &mut wraps, &key).err() == Some(WrapFault::Memory);
-    assert!(rt; wraps.count() == if refused { 0 } else { 12 });
-    let mut unwraps = meter();
+    let answer = wrap_padded_on(alloc, &mut padded_wraps, &key).err();
+    let refused = answer == Some(WrapFault::Memory);
+    assert!(rt; padded_wraps.count() == if refused { 0 } else { 12 });
     let refused = unwrap_on(alloc, &mut unwraps, &iv, &text).err() == Some(UnwrapFault::Memory);
     assert!(rt; unwraps.count() == if refused { 0 } else { 12 });
-    let mut unwraps = meter();
-    let refused = unwrap_padded_on(alloc, &mut unwraps, &text).err() == Some(UnwrapFault::Memory);
-    assert!(rt; unwraps.count() == if refused { 0 } else { 12 });
-    let mut found = meter();
+    let answer = unwrap_padded_on(alloc, &mut padded_unwraps, &text).err();
+    let refused = answer == Some(UnwrapFault::Memory);
+    assert!(rt; padded_unwraps.count() == if refused { 0 } else { 12 });
     let refused = kind_on(alloc, &mut found, &iv, &text) == Err(KindFault::Memory);
     assert!(rt; found.count() == if refused { 0 } else { 12 });
     let (mut old, mut new) = (meter(), meter());

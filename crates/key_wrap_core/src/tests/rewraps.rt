@@ -94,10 +94,7 @@ const ROWS: [(Option<(Form, Form)>, bool, &[u64], Answer, &[u64]); 30] = [
 fn forms_of(forms: Option<(Form, Form)>) -> RewrapForms {
     match forms {
         None => RewrapForms::Kept,
-        Some((old, new)) => RewrapForms::Changed {
-            old: AgreedForm::by_default(old),
-            new: AgreedForm::by_default(new),
-        },
+        Some((old, new)) => RewrapForms::by_default(old, new),
     }
 }
 

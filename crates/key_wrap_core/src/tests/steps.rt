@@ -2,6 +2,7 @@
 
 use super::rows::{KEY, NOT_PADDED, NOT_PLAIN, PADDED_KEYS, PLAIN, is_cleared, spelled};
 use crate::*;
+use std::alloc::Global;
 use std::test::Fail;
 
 const REFUSED: Result<(), InPlaceFault> = Err(InPlaceFault::BadLength);
@@ -147,22 +148,28 @@ fn unwraps_a_plain_key_by_steps(rt: HostRuntime) -> Result<(), Fail> {
     Ok(())
 }
 
+// Unwraps padded words by steps. Returns the result, the registers, and what the caller holds.
+fn unwrap_padded(
+    alloc: Global,
+    words: &[u64],
+) -> Result<(Result<usize, InPlaceFault>, Vec<u8>, Held), Fail> {
+    let (first, mut registers) = match words {
+        [first, rest @ ..] => (first.to_be_bytes(), spelled(alloc, rest)?),
+        [] => ([0; 8], spelled(alloc, &[])?),
+    };
+    let steps = steps_of(registers.len());
+    let mut held = Held::new(first);
+    begin_unwrap_padded(&held.first, &registers, &mut held.steps, &mut held.block)?;
+    held.unwrap(&mut registers, steps)?;
+    let ended = end_unwrap_padded(&mut registers, held.steps, &mut held.block);
+    Ok((ended, registers, held))
+}
+
 #[test]
 fn unwraps_padded_keys_by_steps(rt: HostRuntime) -> Result<(), Fail> {
     for (key, words) in PADDED_KEYS {
-        let (first, text) = match words {
-            [first, rest @ ..] => (first.to_be_bytes(), spelled(rt.alloc(), rest)?),
-            [] => ([0; 8], spelled(rt.alloc(), &[])?),
-        };
-        let mut registers = text;
+        let (ended, registers, held) = unwrap_padded(rt.alloc(), words)?;
         let (m, steps) = (key.len(), steps_of(registers.len()));
-        let mut held = Held::new(first);
-        let begun = begin_unwrap_padded(&held.first, &registers, &mut held.steps, &mut held.block);
-        assert!(rt;
-            begun == Ok(()) && held.unwrap(&mut registers, steps) == Ok(()),
-            "{m} bytes"
-        );
-        let ended = end_unwrap_padded(&mut registers, held.steps, &mut held.block);
         assert!(rt; ended == Ok(m) && registers.starts_with(key), "{m} bytes");
         assert!(rt; is_cleared(registers.get(m..).unwrap_or(&[1])), "{m} bytes");
         assert!(rt;
@@ -176,19 +183,7 @@ fn unwraps_padded_keys_by_steps(rt: HostRuntime) -> Result<(), Fail> {
 #[test]
 fn refuses_what_is_no_padded_wrapping_by_steps(rt: HostRuntime) -> Result<(), Fail> {
     for (words, _, why) in NOT_PADDED {
-        let (first, text) = match words {
-            [first, rest @ ..] => (first.to_be_bytes(), spelled(rt.alloc(), rest)?),
-            [] => ([0; 8], spelled(rt.alloc(), &[])?),
-        };
-        let mut registers = text;
-        let steps = steps_of(registers.len());
-        let mut held = Held::new(first);
-        let begun = begin_unwrap_padded(&held.first, &registers, &mut held.steps, &mut held.block);
-        assert!(rt;
-            begun == Ok(()) && held.unwrap(&mut registers, steps) == Ok(()),
-            "{why}"
-        );
-        let ended = end_unwrap_padded(&mut registers, held.steps, &mut held.block);
+        let (ended, registers, held) = unwrap_padded(rt.alloc(), words)?;
         assert!(rt;
             ended == Err(InPlaceFault::Integrity) && is_cleared(&registers),
             "{why}"

@@ -1,54 +1,16 @@
 //! How many block calls a line costs, with a block permutation that counts them.
 
-ghost use Rattle.block_pair.specs.Halves.{swapped_halves};
-ghost use Rattle.block_pair.specs.HalvesLaw.{swap_halves_lawful};
-
+use super::operations::{Forms, KEPT, PLAIN, TO_PADDED, TO_PLAIN, rewrap_forms};
 use super::wrapping::wrapped;
 use crate::job::{Job, Notation, Task};
 use crate::key_job::KeyJob;
 use crate::rewrap_job::RewrapJob;
 use crate::rewrapping::Rewrapping;
-use block_pair::{BlockPair, SwapHalves};
+use block_pair::SwapHalves;
 use key_lines::LineJob;
-use key_wrap_core::{AgreedForm, Form, InitialValue, RewrapForms};
-use std::cell::Cell;
+use key_wrap_core::{Form, InitialValue};
 use std::test::Fail;
-
-// The toy cipher, and the number of its calls.
-#[derive(Drop)]
-struct Tally {
-    blocks: Cell<u64>,
-}
-
-impl Tally {
-    fn new() -> Self {
-        Tally {
-            blocks: Cell::new(0),
-        }
-    }
-
-    fn tick(&self) {
-        self.blocks.set(self.blocks.get().saturating_add(1));
-    }
-}
-
-impl BlockPair for Tally {
-    ghost encrypted = { λ _. swapped_halves };
-
-    ghost decrypted = { λ _. swapped_halves };
-
-    fn enc(&self, b: [u8; 16]) -> [u8; 16] {
-        self.tick();
-        SwapHalves.enc(b)
-    }
-
-    fn dec(&self, b: [u8; 16]) -> [u8; 16] {
-        self.tick();
-        SwapHalves.dec(b)
-    }
-
-    ghost lawful = { λ _. swap_halves_lawful };
-}
+use test_doubles::Tally;
 
 // The job, the form, the number of zeros in the input, and the number of calls: six for each 8
 // bytes of key, and one for a padded key of up to 8 bytes. A wrapped key of 16 bytes is padded.
@@ -82,39 +44,18 @@ fn a_line_costs_six_calls_for_eight_bytes(rt: HostRuntime) -> Result<(), Fail> {
         let (mut bytes, mut output) = (Vec::new(rt.alloc()), Vec::new(rt.alloc()));
         bytes.resize(len, 0)?;
         let _outcome = run.answer(&mut bytes, &mut output);
-        assert_eq!(rt; run.pair.blocks.get(), calls, "{len} bytes");
+        assert_eq!(rt; run.pair.calls(), calls, "{len} bytes");
     }
     Ok(())
 }
 
-// Whether the form is kept; otherwise the old and the new form.
-type Change = (bool, Form, Form);
-
-const KEPT: Change = (true, Form::Plain, Form::Plain);
-
-const PLAIN: Change = (false, Form::Plain, Form::Plain);
-
-const TO_PADDED: Change = (false, Form::Plain, Form::Padded);
-
-const TO_PLAIN: Change = (false, Form::Padded, Form::Plain);
-
-const PADDED: Change = (false, Form::Padded, Form::Padded);
-
-fn forms_of((kept, old, new): Change) -> RewrapForms {
-    if kept {
-        return RewrapForms::Kept;
-    }
-    RewrapForms::Changed {
-        old: AgreedForm::by_default(old),
-        new: AgreedForm::by_default(new),
-    }
-}
+const PADDED: Forms = Some((Form::Padded, Form::Padded));
 
 // The forms, whether keys under the new KEK are copied, the form and the length of the wrapped key,
 // and the calls under the old KEK and under the new one. Each unwrapping and wrapping costs as much
 // as above. What a KEK refuses is unwrapped and wrapped again under it, which restores the bytes;
 // so is a wrapped key that is new already.
-static REWRAPS: [(Change, bool, Form, usize, [u64; 2]); 13] = [
+static REWRAPS: [(Forms, bool, Form, usize, [u64; 2]); 13] = [
     (KEPT, false, Form::Plain, 24, [18, 18]),
     (KEPT, false, Form::Padded, 8, [1, 1]),
     (KEPT, true, Form::Padded, 17, [18, 18]),
@@ -134,10 +75,10 @@ static REWRAPS: [(Change, bool, Form, usize, [u64; 2]); 13] = [
 
 #[test]
 fn a_rewrapped_line_costs_an_unwrapping_and_a_wrapping(rt: HostRuntime) -> Result<(), Fail> {
-    for (change, pass_new, form, len, calls) in REWRAPS {
+    for (forms, pass_new, form, len, calls) in REWRAPS {
         let run = RewrapJob {
             task: Rewrapping {
-                forms: forms_of(change),
+                forms: rewrap_forms(forms),
                 pass_new,
                 input: Notation::Hex,
                 kek: Notation::Hex,
@@ -152,10 +93,9 @@ fn a_rewrapped_line_costs_an_unwrapping_and_a_wrapping(rt: HostRuntime) -> Resul
         let mut output = Vec::new(rt.alloc());
         let _outcome = run.answer(&mut bytes, &mut output);
         assert_eq!(rt;
-            [run.old.blocks.get(), run.new.blocks.get()],
+            [run.old.calls(), run.new.calls()],
             calls,
-            "{:?}, passing {pass_new}, of {form:?} {len}",
-            change
+            "{forms:?}, passing {pass_new}, of {form:?} {len}"
         );
     }
     Ok(())

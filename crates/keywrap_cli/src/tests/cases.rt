@@ -1,6 +1,5 @@
 //! Test cases: a call, its files, its result and its output; and how a case is run.
 
-use super::doubles::{Narrow, Trickle};
 use crate::convert::Direction;
 use crate::job::{Done, Job, JobFault, Notation, Task, run_job, run_with};
 use crate::rewrap::run_rewrap;
@@ -8,6 +7,7 @@ use key_wrap_core::{Form, InitialValue};
 use std::alloc::Global;
 use std::io::Write;
 use std::process::Abort;
+use test_doubles::{Narrow, Trickle};
 
 /// A call. The last two fields are the notations of the input and of the KEK files. Before them,
 /// `With` has an initial value, and `Rewrap` the old and the new form.

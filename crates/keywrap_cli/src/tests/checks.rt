@@ -16,6 +16,12 @@ const SHORT: &[u8] = b"1fa68b0a8112b447aef34bd8fb5a7b829d3e862371d2cf";
 
 const CHANGED: &[u8] = b"1fa68b0a8112b447aef34bd8fb5a7b829d3e862371d2cfe4";
 
+const PLAIN_16: &[u8] = b"plain 16\n";
+
+const PADDED_7: &[u8] = b"padded 7\n";
+
+const NONE: &[u8] = b"none\n";
+
 pub static CASES: [Case; 9] = [
     Case(
         CHECK,
@@ -23,22 +29,17 @@ pub static CASES: [Case; 9] = [
         WRITTEN,
         b"padded 20\n",
     ),
-    Case(CHECK, [PADDED_KEK, b"", TEXT_OF_7], WRITTEN, b"padded 7\n"),
-    Case(CHECK, [HEX_KEK, b"", SHORT], NEITHER, b"none\n"),
-    Case(CHECK, [HEX_KEK, b"", CHANGED], NEITHER, b"none\n"),
-    Case(CHECK, [HEX_KEK, b"", BLANKS], NEITHER, b"none\n"),
-    Case(
-        PADDED_CHECK,
-        [HEX_KEK, b"", HEX_TEXT],
-        WRITTEN,
-        b"plain 16\n",
-    ),
+    Case(CHECK, [PADDED_KEK, b"", TEXT_OF_7], WRITTEN, PADDED_7),
+    Case(CHECK, [HEX_KEK, b"", SHORT], NEITHER, NONE),
+    Case(CHECK, [HEX_KEK, b"", CHANGED], NEITHER, NONE),
+    Case(CHECK, [HEX_KEK, b"", BLANKS], NEITHER, NONE),
+    Case(PADDED_CHECK, [HEX_KEK, b"", HEX_TEXT], WRITTEN, PLAIN_16),
     Case(
         PADDED_CHECK,
         [PADDED_KEK, b"", TEXT_OF_7],
         WRITTEN,
-        b"padded 7\n",
+        PADDED_7,
     ),
-    Case(PADDED_CHECK, [HEX_KEK, b"", CHANGED], NEITHER, b"none\n"),
-    Case(PADDED_CHECK, [HEX_KEK, b"", BLANKS], NEITHER, b"none\n"),
+    Case(PADDED_CHECK, [HEX_KEK, b"", CHANGED], NEITHER, NONE),
+    Case(PADDED_CHECK, [HEX_KEK, b"", BLANKS], NEITHER, NONE),
 ];

@@ -59,13 +59,10 @@ fn each_case_has_its_answer_in_pieces_and_whole(rt: HostRuntime) {
 }
 
 #[test]
-fn answers_each_read_that_fails(rt: HostRuntime) {
-    try_each_case(&rt, rt.alloc(), Trial::Reads);
-}
-
-#[test]
-fn counts_what_went_out_at_each_write_that_stops(rt: HostRuntime) {
-    try_each_case(&rt, rt.alloc(), Trial::Writes);
+fn answers_each_read_and_write_that_fails(rt: HostRuntime) {
+    for trial in [Trial::Reads, Trial::Writes] {
+        try_each_case(&rt, rt.alloc(), trial);
+    }
 }
 
 // `rt try --test --fail-alloc N` refuses the Nth allocation of this test; the gate refuses none.

@@ -1,27 +1,27 @@
 //! Rewraps by `Operation`, as the program makes them with `--pass-new`.
 
 use super::cases::{Answer, HEX, WRITTEN};
-use super::doubles::{Narrow, Trickle};
 use super::jobs::{BAD_LENGTH, HEX_KEK, HEX_TEXT, INTEGRITY, PADDED_KEK, TEXT_OF_20};
 use super::rewraps::{NEW_KEK, NEW_OF_7, NEW_PADDED, NEW_TEXT};
 use crate::job::JobFault;
 use crate::operation::Operation;
 use crate::rewrapping::Rewrapping;
 use key_lines::{LineFault, RefusalLog, RefusedLine, RunOptions, RunSummary, TextNotation};
-use key_wrap_core::{AgreedForm, Form, RewrapFault, RewrapForms};
+use key_wrap_core::{Form, RewrapFault, RewrapForms};
 use std::io::BufReader;
 use std::test::Fail;
+use test_doubles::{Narrow, Trickle};
 
-// The old and the new form of a rewrap, with the default initial value. `None` keeps the form.
-type Forms = Option<(Form, Form)>;
+/// The old and the new form of a rewrap, with the default initial value. `None` keeps the form.
+pub type Forms = Option<(Form, Form)>;
 
-const KEPT: Forms = None;
+pub const KEPT: Forms = None;
 
-const PLAIN: Forms = Some((Form::Plain, Form::Plain));
+pub const PLAIN: Forms = Some((Form::Plain, Form::Plain));
 
-const TO_PADDED: Forms = Some((Form::Plain, Form::Padded));
+pub const TO_PADDED: Forms = Some((Form::Plain, Form::Padded));
 
-const TO_PLAIN: Forms = Some((Form::Padded, Form::Plain));
+pub const TO_PLAIN: Forms = Some((Form::Padded, Form::Plain));
 
 const KEY_NOT_PLAIN: Answer = Err(JobFault::KeyNotPlain);
 
@@ -54,13 +54,11 @@ fn operation(forms: Forms, kek: &'static [u8]) -> Operation<Trickle<'static>> {
     }
 }
 
-fn rewrap_forms(forms: Forms) -> RewrapForms {
+/// Returns the forms of a rewrap.
+pub fn rewrap_forms(forms: Forms) -> RewrapForms {
     match forms {
         None => RewrapForms::Kept,
-        Some((old, new)) => RewrapForms::Changed {
-            old: AgreedForm::by_default(old),
-            new: AgreedForm::by_default(new),
-        },
+        Some((old, new)) => RewrapForms::by_default(old, new),
     }
 }
 

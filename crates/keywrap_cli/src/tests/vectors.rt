@@ -3,7 +3,6 @@
 
 ghost use Rattle.std.specs.Prelude.{⊤};
 
-use super::doubles::{Narrow, Unflushed};
 use crate::convert::Direction;
 use crate::fault::ProgramFault;
 use crate::flushed::{run_drill, run_vectors, write_help};
@@ -13,6 +12,7 @@ use key_wrap_core::Form;
 use std::alloc::{AllocError, Global};
 use std::process::Abort;
 use std::test::Fail;
+use test_doubles::{Narrow, Unflushed};
 use test_vectors::{Algorithm, Vector, published};
 
 pub const LINES: &str = "\

@@ -1,6 +1,5 @@
 use Rattle.std.proofs.Common.{refl}
-use Rattle.aes_vector.proofs.KeyForms.{enc_form}
 use Rattle.aes_vector.proofs.keys.first_key.Goals as goal
 
 pub returns : goal.returns
-returns c = record { enc = enc_form c.args.key c.fits-key c.linear.ensures; dec = refl }
+returns c = record { enc = c.enc_form.ensures; dec = refl }

@@ -14,15 +14,15 @@ kept : (c : goal.After-round_keys) → key_of (c.args.key_words + 6) c.round_key
 kept c =
     let K = c.args.kek.now in
     let some = legal_words K c.requires.legal in
-    let words = c.expand.new.words in
+    let words = c.expand_key.new.words in
     let count : c.args.key_words + 6 ≡ rounds_of K = omega arith in
     let n = 4 * (c.args.key_words + 6 - 6) in
     ap (take n)
     (ap₂ (λ (x y : List ℕ). x ++ y) c.round_keys.ensures.first.enc (c.round_keys.ensures.middle 1 (omega arith) (omega arith)).enc)
-    ∙ first_blocks K words (c.args.key_words + 6) c.requires.legal (λ i. (c.type_inv.kek i).fits) count c.expand.ensures
+    ∙ first_blocks K words (c.args.key_words + 6) c.requires.legal (λ i. (c.type_inv.kek i).fits) count c.expand_key.ensures
 
-key_is : (c : goal.After-round_keys) (k : ℕ) → k ≤ rounds_of c.args.kek.now → key_block c.expand.new.words k ≡ round_key c.args.kek.now k
-key_is c k h = words_key c.args.kek.now c.expand.new.words k c.requires.legal c.expand.ensures h
+key_is : (c : goal.After-round_keys) (k : ℕ) → k ≤ rounds_of c.args.kek.now → key_block c.expand_key.new.words k ≡ round_key c.args.kek.now k
+key_is c k h = words_key c.args.kek.now c.expand_key.new.words k c.requires.legal c.expand_key.ensures h
 
 keys : (c : goal.After-round_keys) → AreRoundKeys c.args.kek.now (c.args.key_words + 6) c.round_keys.new.keys
 keys c =

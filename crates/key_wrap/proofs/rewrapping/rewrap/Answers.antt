@@ -5,7 +5,7 @@ use Rattle.key_wrap.proofs.rewrapping.rewrap.Goals as goal
 
 pub returns-clause-rewraps : goal.returns-clause-rewraps
 returns-clause-rewraps g c =
-    rw (ap (λ m. m.pair) c.new-old.ensures, ap (λ m. m.pair) c.new-new.ensures, c.by_default-old_form.ensures, c.by_default-new_form.ensures) at
+    rw (ap (λ m. m.pair) c.new-old.ensures, ap (λ m. m.pair) c.new-new.ensures, c.by_default-forms.ensures) at
     c.rewrap_on.ensures
 
 pub returns-clause-other_form : goal.returns-clause-other_form

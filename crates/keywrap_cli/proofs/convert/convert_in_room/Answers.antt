@@ -11,37 +11,34 @@ use Rattle.keywrap_cli.proofs.convert.convert_in_room.Goals as goal
 
 pub returns-in-Wrap-Plain : goal.returns-in-Wrap-Plain
 returns-in-Wrap-Plain g c =
-    let own = ap (λ m. m.pair) c.new-meter.ensures in
-    let w = rw own at c.wrap_into_with.ensures.wraps in
+    let w = c.wrap_into_with.ensures.wraps in
     let new : List ℕ = c.wrap_into_with.new.text in
     let back = take_at new (drop (length new) c.args.output.now.items) c.args.output.now.len (omega arith) in
     let asked = rw (c.in-Wrap-Plain.is-0, c.in-Wrap-Plain.is-1) at c.requires in
     let room : ArePlainLengths (length c.args.input.now) (length c.deref_mut.result.now) = rw c.deref_mut.ensures.value asked in
     let legal : OnOk c.wrap_into_with.result (IsTextLength forms.Plain (length new)) =
     on_ok_weaker c.wrap_into_with.result plain_text_legal w.answer in
-    rw (c.in-Wrap-Plain.is-0, c.in-Wrap-Plain.is-1, back) (wrapped forms.Plain c.args.iv.now (g.B.BlockPair.encrypted c.args.pair.now)
+    rw (c.in-Wrap-Plain.is-0, c.in-Wrap-Plain.is-1, back) (wrapped forms.Plain c.args.iv.now (g.B.BlockPair.encrypted c.args.meter.now.pair)
     c.args.input.now new c.wrap_into_with.result room w.bad_length w.only_fault legal w.answer w.only_text)
 
 pub returns-in-Unwrap-Plain : goal.returns-in-Unwrap-Plain
 returns-in-Unwrap-Plain g c =
-    let own = ap (λ m. m.pair) c.new-meter.ensures in
-    let w = rw own at c.unwrap_into_with.ensures.unwraps in
+    let w = c.unwrap_into_with.ensures.unwraps in
     let new : List ℕ = c.unwrap_into_with.new.key in
     let given : List ℕ = c.deref_mut-in-Unwrap-Plain.result.now in
     let back = take_at new (drop (length new) c.args.output.now.items) c.args.output.now.len (omega arith) in
     let asked = rw (c.in-Unwrap-Plain.is-0, c.in-Unwrap-Plain.is-1) at c.requires in
     let legal : ArePlainLengths (length given) (length c.args.input.now) = rw c.deref_mut-in-Unwrap-Plain.ensures.value asked in
     rw (c.in-Unwrap-Plain.is-0, c.in-Unwrap-Plain.is-1, back) (unwrapped forms.Plain c.args.iv.now
-    (Plain (g.B.BlockPair.encrypted c.args.pair.now) c.args.iv.now) (g.B.BlockPair.encrypted c.args.pair.now) c.args.input.now new
+    (Plain (g.B.BlockPair.encrypted c.args.meter.now.pair) c.args.iv.now) (g.B.BlockPair.encrypted c.args.meter.now.pair) c.args.input.now new
     (ArePlainLengths (length given) (length c.args.input.now)) c.unwrap_into_with.result legal
     (omega (arith, legal), omega (arith, legal), omega (arith, legal)) (λ k h. h) (λ k h. h) w.answer w.only_key w.restores w.other_form)
 
 pub returns-in-Ok : goal.returns-in-Ok
 returns-in-Ok g c =
-    let own = ap (λ m. m.pair) c.new-meter.ensures in
     let new : List ℕ = c.unwrap_padded_into.new.key in
     let back = take_at new (drop (length new) c.args.output.now.items) c.args.output.now.len (omega arith) in
     let key : c.truncate.new.self.items ≡ take c.in-Ok.len new = c.truncate.ensures.items ∙ ap (take c.in-Ok.len) back in
-    let w = rw own at c.in-Ok.ensures.unwraps in
+    let w = c.in-Ok.ensures.unwraps in
     rw (c.in-Unwrap-Padded.is-0, c.in-Unwrap-Padded.is-1, key)
     (record { stands = w.answer.1; alone = w.only_key; restores = w.restores; one_form = w.other_form })

@@ -2,7 +2,6 @@
 //! `rt try --test --fail-alloc N` refuses the Nth allocation; the gate refuses none.
 
 use super::super::cases::{Case, HEX, run};
-use super::super::doubles::Trickle;
 use super::super::jobs::{HEX_KEK, HEX_KEY, RAW_KEY};
 use super::super::operations::NoLog;
 use super::super::vectors::LINES;
@@ -18,6 +17,7 @@ use key_lines::{LineFault, RunFault, RunOptions, TextNotation};
 use key_wrap_core::{Form, InitialValue, RewrapFault};
 use std::alloc::Global;
 use std::process::Abort;
+use test_doubles::Trickle;
 
 pub(super) fn run_in_room(rt: &impl Abort, alloc: Global, case: &Case) {
     let Case(call, _, wanted, output) = *case;

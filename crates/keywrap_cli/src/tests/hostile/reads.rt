@@ -1,11 +1,11 @@
 //! Each read fails in turn, once or from then on.
 
 use super::super::cases::{Case, run};
-use super::super::doubles::{FAULTS, Narrow, Trickle};
 use crate::job::JobFault;
 use key_files::FileFault;
 use std::alloc::Global;
 use std::process::Abort;
+use test_doubles::{FAULTS, Narrow, Trickle};
 
 // The faults of a failed read of the KEK, the new KEK and the input.
 static READ_FAULTS: [JobFault; 3] = [

@@ -1,13 +1,13 @@
 //! Each write fails in turn, once or from then on, by an error or by taking no bytes.
 
 use super::super::cases::{Case, run};
-use super::super::doubles::{Narrow, STOPPINGS};
 use super::super::vectors::LINES;
 use crate::job::JobFault;
 use crate::report::{VectorsFault, vectors};
 use crate::vector_check::Library;
 use std::alloc::Global;
 use std::process::Abort;
+use test_doubles::{Narrow, STOPPINGS};
 
 // A writer that failed once is not called again. A fault after the output is not reached.
 pub(super) fn stop_each_write(rt: &impl Abort, alloc: Global, case: &Case) {

@@ -1,7 +1,8 @@
 -- The key that was found, in the notation of the task.
 use Rattle.std.proofs.Common.{ℕ, List, Ok, Err, subst}
-use Rattle.keywrap_cli.specs.Answers.{FindsKey}
-use Rattle.keywrap_cli.proofs.Answered.{found, found_refusal}
+use Rattle.keywrap_cli.specs.Answers.{AnswerOfJob, FindsKey, HasBadLength}
+use Rattle.keywrap_cli.specs.declared.job.Job.TheVariants.{UnwrapAny}
+use Rattle.keywrap_cli.proofs.Answered.{found, found_refusal, printed_answer}
 use Rattle.keywrap_cli.proofs.key_job.KeyJob.unwrap_any.Goals as goal
 
 pub returns-in-Err-Refused : goal.returns-in-Err-Refused
@@ -15,13 +16,13 @@ pub returns-in-Err-Memory : goal.returns-in-Err-Memory
 returns-in-Err-Memory g c = λ bad. bad
     (rw c.deref.ensures.value at (c.unwrap_any.ensures.legal (rw c.in-Err-Memory.is (rw c.in-Err-Memory.field-0-is (λ e. cc e)))))
 
-pub returns-in-Ok-print : goal.returns-in-Ok-print
-returns-in-Ok-print g c =
+pub returns-in-Ok : goal.returns-in-Ok
+returns-in-Ok g c =
     let E = g.B.BlockPair.encrypted c.args.self.now.pair in
     let key = c.unwrap_any.new.output.items in
     let is : FindsKey c.args.self.now.iv E c.deref.result.now (Ok key) = c.in-Ok.ensures.answer in
-    found c.args.self.now.iv c.args.self.now.task E c.args.bytes.now.items key c.print.new.output.items
-    (subst (λ (X : List ℕ). FindsKey c.args.self.now.iv E X (Ok key)) c.deref.ensures.value is) c.in-Ok-print.ensures.bytes c.in-Ok-print.ensures.one_line
-
-pub returns-in-Err : goal.returns-in-Err
-returns-in-Err g c = λ bad. bad (rw c.deref.ensures.value at (c.in-Ok.ensures.legal (λ e. cc e)))
+    printed_answer (AnswerOfJob UnwrapAny c.args.self.now.iv c.args.self.now.task E c.args.bytes.now.items)
+    (¬ HasBadLength UnwrapAny c.args.self.now.task.form c.args.bytes.now.items) c.args.self.now.task.input key c.print.new.output.items c.print.result c.print.ensures
+    (found c.args.self.now.iv c.args.self.now.task E c.args.bytes.now.items key c.print.new.output.items
+    (subst (λ (X : List ℕ). FindsKey c.args.self.now.iv E X (Ok key)) c.deref.ensures.value is))
+    (λ bad. bad (rw c.deref.ensures.value at (c.in-Ok.ensures.legal (λ e. cc e))))

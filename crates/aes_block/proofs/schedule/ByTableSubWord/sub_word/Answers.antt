@@ -1,7 +1,7 @@
 -- The S-box on each of the four bytes is SubWord.
 use Rattle.std.proofs.Common.{refl}
 use Rattle.fips197.specs.KeyExpansion.{sub_word}
-use Rattle.aes_block.proofs.schedule.sub_word.Goals as goal
+use Rattle.aes_block.proofs.schedule.ByTableSubWord.sub_word.Goals as goal
 
 pub returns : goal.returns
 unfolding sub_word

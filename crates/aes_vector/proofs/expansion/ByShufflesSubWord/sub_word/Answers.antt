@@ -4,7 +4,7 @@ use lib.Lanes.{number_l}
 use Rattle.fips197.specs.KeyExpansion.{sub_word}
 use Rattle.fips197.specs.SBox.{s_box}
 use Rattle.fips197.specs.SBoxLaw.{s_box_byte}
-use Rattle.aes_vector.proofs.expansion.sub_word.Goals as goal
+use Rattle.aes_vector.proofs.expansion.ByShufflesSubWord.sub_word.Goals as goal
 
 -- the lowest 32 bits of a number whose lowest bytes are a, b, c and d
 lowest : (a b c d rest : ℕ) → a < 256 → b < 256 → c < 256 → d < 256

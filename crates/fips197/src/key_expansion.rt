@@ -1,0 +1,63 @@
+//! The key expansion in words (FIPS 197, section 5.2), over any code for SubWord.
+
+ghost use Rattle.std.specs.Prelude.{◌≡◌, ◌≤◌, ◌+◌, ◌*◌, ◌/◌, length, take};
+ghost use Rattle.fips197.specs.KeyExpansion.{IsKekLength, key_expansion, rounds_of};
+ghost use Rattle.fips197.specs.KeyExpansion.{sub_word, temp};
+
+use byteorder::{BigEndian, ByteOrder};
+
+// Rcon[1] to Rcon[10] (FIPS 197, 5.2, table 5).
+static ROUND_CONSTANTS: [u32; 10] = [
+    0x0100_0000,
+    0x0200_0000,
+    0x0400_0000,
+    0x0800_0000,
+    0x1000_0000,
+    0x2000_0000,
+    0x4000_0000,
+    0x8000_0000,
+    0x1B00_0000,
+    0x3600_0000,
+];
+
+/// The length of the longest key schedule in words: four for each of 14 rounds, and four more.
+pub const MAX_WORDS: usize = 60;
+
+/// The code of an AES for SubWord.
+pub trait SubWord {
+    /// Applies the S-box to each byte of a word.
+    fn sub_word(word: u32) -> u32
+        ensures { result ≡ sub_word word };
+}
+
+/// Writes the key schedule of `kek`, which has `key_words` words: the key's words, and each word
+/// after them from those before it. The rest of `words` stays.
+// Without division, if `key_words` is a number where this is called.
+#[inline(always)]
+pub fn expand_key<S: SubWord>(kek: &[u8], key_words: usize, words: &mut [u32; MAX_WORDS])
+    requires legal { IsKekLength (length kek.now) }
+    requires words { length kek.now ≡ 4 * key_words }
+    ensures { take (4 * (rounds_of kek.now + 1)) words.new ≡ key_expansion kek.now }
+{
+    BigEndian::read_u32_into(kek, &mut words[..key_words]);
+    for i in key_words..4 * (key_words + 7) {
+        words[i] = words[i - key_words] ^ temp::<S>(key_words, i, words[i - 1]);
+    }
+}
+
+// What is xored to the word `key_words` places before place `i`, from the word before it.
+#[inline(always)]
+fn temp<S: SubWord>(key_words: usize, i: usize, word: u32) -> u32
+    requires low { 4 ≤ key_words }
+    requires after_key { key_words ≤ i }
+    requires within { i / key_words ≤ 10 }
+    ensures { result ≡ temp key_words i word }
+{
+    if i % key_words == 0 {
+        S::sub_word(word.rotate_left(8)) ^ ROUND_CONSTANTS[i / key_words - 1]
+    } else if key_words == 8 && i % 8 == 4 {
+        S::sub_word(word)
+    } else {
+        word
+    }
+}
