@@ -30,11 +30,25 @@ pub trait SubWord {
         ensures { result ≡ sub_word word };
 }
 
-/// Writes the key schedule of `kek`, which has `key_words` words: the key's words, and each word
-/// after them from those before it. The rest of `words` stays.
+/// Writes the key schedule of `kek`: the key's words, and each word after them from those before it.
+/// The rest of `words` stays. Nothing is written unless `kek` has `key_words` words, and a legal
+/// length.
 // Without division, if `key_words` is a number where this is called.
 #[inline(always)]
 pub fn expand_key<S: SubWord>(kek: &[u8], key_words: usize, words: &mut [u32; MAX_WORDS])
+    ensures schedule { IsKekLength (length kek.now) → length kek.now ≡ 4 * key_words
+        → take (4 * (rounds_of kek.now + 1)) words.new ≡ key_expansion kek.now }
+    ensures kept { ¬ (IsKekLength (length kek.now) × (length kek.now ≡ 4 * key_words))
+        → words.new ≡ words.old }
+{
+    if matches!(key_words, 4 | 6 | 8) && kek.len() == 4 * key_words {
+        expand::<S>(kek, key_words, words);
+    }
+}
+
+// The same for a key of a legal length.
+#[inline(always)]
+fn expand<S: SubWord>(kek: &[u8], key_words: usize, words: &mut [u32; MAX_WORDS])
     requires legal { IsKekLength (length kek.now) }
     requires words { length kek.now ≡ 4 * key_words }
     ensures { take (4 * (rounds_of kek.now + 1)) words.new ≡ key_expansion kek.now }

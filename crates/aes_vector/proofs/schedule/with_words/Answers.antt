@@ -19,10 +19,10 @@ kept c =
     let n = 4 * (c.args.key_words + 6 - 6) in
     ap (take n)
     (ap₂ (λ (x y : List ℕ). x ++ y) c.round_keys.ensures.first.enc (c.round_keys.ensures.middle 1 (omega arith) (omega arith)).enc)
-    ∙ first_blocks K words (c.args.key_words + 6) c.requires.legal (λ i. (c.type_inv.kek i).fits) count c.expand_key.ensures
+    ∙ first_blocks K words (c.args.key_words + 6) c.requires.legal (λ i. (c.type_inv.kek i).fits) count (c.expand_key.ensures.schedule c.requires.legal c.requires.words)
 
 key_is : (c : goal.After-round_keys) (k : ℕ) → k ≤ rounds_of c.args.kek.now → key_block c.expand_key.new.words k ≡ round_key c.args.kek.now k
-key_is c k h = words_key c.args.kek.now c.expand_key.new.words k c.requires.legal c.expand_key.ensures h
+key_is c k h = words_key c.args.kek.now c.expand_key.new.words k c.requires.legal (c.expand_key.ensures.schedule c.requires.legal c.requires.words) h
 
 keys : (c : goal.After-round_keys) → AreRoundKeys c.args.kek.now (c.args.key_words + 6) c.round_keys.new.keys
 keys c =

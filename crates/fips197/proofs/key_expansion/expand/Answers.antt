@@ -6,7 +6,7 @@ use Rattle.std.proofs.lemmas.List.{ext_get_or, get_or_append_left, get_or-set_sa
 use Rattle.fips197.specs.KeyExpansion.{key_words, rounds_of, temp, key_expansion}
 use Rattle.fips197.specs.KeyExpansionLaw.{key_expansion_is, legal_words}
 use Rattle.fips197.specs.ExpandingLaw.{read_word}
-use Rattle.fips197.proofs.key_expansion.expand_key.Goals as goal
+use Rattle.fips197.proofs.key_expansion.expand.Goals as goal
 
 pub loop-i-init : goal.loop-i-init
 loop-i-init g c =
