@@ -8,8 +8,8 @@ use crate::prompt::prompt;
 use crate::warnings::warn;
 use keywrap_cli::{Job, Operation, Outcome, ProgramFault, done_status};
 use keywrap_io::{
-    Access, FileId, FileRole, InputSource, Inspected, Output, OutputFault, OutputFile, Protected,
-    Reason, Streams, occupy_closed, open,
+    Access, FileId, FileRole, InputSource, Inspected, Output, OutputFile, Protected, Reason,
+    Streams, occupy_closed, open,
 };
 use std::alloc::Global;
 use std::io::{self, Printer, Read, Write};
@@ -116,12 +116,8 @@ impl<'a, R: Host> Session<'a, R> {
                 };
                 match OutputFile::create(self.rt, name, &protected, access) {
                     Ok(file) => Output::File(file),
-                    Err(OutputFault::Open(reason)) => {
-                        return Err(self.refuse_open(FileRole::Output, reason));
-                    }
-                    Err(OutputFault::Memory) => {
-                        return Err(self.refuse(&ProgramFault::Memory, None));
-                    }
+                    Err(Reason::Memory) => return Err(self.refuse(&ProgramFault::Memory, None)),
+                    Err(reason) => return Err(self.refuse_open(FileRole::Output, reason)),
                 }
             }
             None => Output::Stdout(io::writer(self.rt)),

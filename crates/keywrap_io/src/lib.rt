@@ -20,7 +20,7 @@ pub use file_role::FileRole;
 pub use inspected::{Inspected, Inspection};
 pub use line_counts::LineCounts;
 pub use output::Output;
-pub use output_file::{Access, OutputFault, OutputFile};
+pub use output_file::{Access, OutputFile};
 pub use progress::{CountingReader, Progress};
 pub use protected::{FileId, Protected};
 pub use reason::Reason;

@@ -16,21 +16,6 @@ const PERMISSIONS: u32 = 0o777;
 
 const NOT_OWNER: u32 = 0o077;
 
-/// Why there is no new file.
-#[derive(Clone, Copy)]
-pub enum OutputFault {
-    /// It cannot be made, or must not replace the file that exists.
-    Open(Reason),
-    /// An allocation failed.
-    Memory,
-}
-
-impl From<AllocError> for OutputFault {
-    fn from(_error: AllocError) -> OutputFault {
-        OutputFault::Memory
-    }
-}
-
 /// Who may use a new file.
 #[derive(Clone, Copy)]
 pub enum Access {
@@ -57,8 +42,8 @@ impl<'a> OutputFile<'a> {
         name: &'a str,
         protected: &Protected,
         access: Access,
-    ) -> Result<OutputFile<'a>, OutputFault> {
-        let old = existing_target(rt, name, protected).map_err(OutputFault::Open)?;
+    ) -> Result<OutputFile<'a>, Reason> {
+        let old = existing_target(rt, name, protected)?;
         let new = create_temporary(rt, name)?;
         let is_set = match (old, access) {
             (Some(old), Access::LikeOld) => copy_ownership(&new.file, &old),
@@ -70,7 +55,7 @@ impl<'a> OutputFile<'a> {
             Err(error) => error.raw_os_error(),
         };
         new.discard(rt);
-        Err(OutputFault::Open(Reason::OwnershipNotKept(error)))
+        Err(Reason::OwnershipNotKept(error))
     }
 
     /// Renames the new file, which is whole, to its name, and syncs its directory.
@@ -115,7 +100,7 @@ impl<'a> OutputFile<'a> {
 fn create_temporary<'a, R: AllocGlobal + Files<File = File>>(
     rt: &R,
     name: &'a str,
-) -> Result<OutputFile<'a>, OutputFault> {
+) -> Result<OutputFile<'a>, Reason> {
     for number in 0..MAX_TEMPORARIES {
         let temporary = temporary_name(rt.alloc(), name, number)?;
         match open_new(rt, temporary.as_str()) {
@@ -127,10 +112,10 @@ fn create_temporary<'a, R: AllocGlobal + Files<File = File>>(
                 });
             }
             Err(error) if error.kind() == io::ErrorKind::AlreadyExists => {}
-            Err(error) => return Err(OutputFault::Open(Reason::from(error))),
+            Err(error) => return Err(Reason::from(error)),
         }
     }
-    Err(OutputFault::Open(Reason::Text("files of its name with .part0 to .part99 are there")))
+    Err(Reason::Text("files of its name with .part0 to .part99 are there"))
 }
 
 fn temporary_name(alloc: Global, name: &str, number: u8) -> Result<String, AllocError> {

@@ -1,5 +1,6 @@
 //! Why a file was refused: the end of the second line, after the name of the file.
 
+use std::alloc::AllocError;
 use std::{fmt, io};
 
 /// Why a file was refused.
@@ -7,6 +8,8 @@ use std::{fmt, io};
 pub enum Reason {
     /// Only the name is shown: the first line has the reason.
     NameOnly,
+    /// An allocation failed: the first line has this reason, and no file caused it.
+    Memory,
     /// The system's error of this number.
     Os(i32),
     /// The output file cannot have the owner, group and mode that it should, with the system's
@@ -39,10 +42,16 @@ impl From<io::Error> for Reason {
     }
 }
 
+impl From<AllocError> for Reason {
+    fn from(_error: AllocError) -> Reason {
+        Reason::Memory
+    }
+}
+
 impl fmt::Display for Reason {
     fn fmt<W: fmt::Write>(&self, f: &mut fmt::Formatter<W>) -> fmt::Result {
         match *self {
-            Reason::NameOnly => Ok(()),
+            Reason::NameOnly | Reason::Memory => Ok(()),
             Reason::Os(number) => write!(f, ": {}", io::Error::from_raw_os_error(number)),
             Reason::OwnershipNotKept(Some(number)) => {
                 write!(f, "{NOT_KEPT}: {}", io::Error::from_raw_os_error(number))
