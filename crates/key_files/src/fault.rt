@@ -61,10 +61,10 @@ pub struct WriteFault {
 #[derive(Clone, Copy, Debug, PartialEq, Eq, Error)]
 pub enum HexWriteFault {
     /// An allocation failed, and nothing was written.
-    #[error("out of memory")]
+    #[error("{}", FileFault::Memory)]
     Memory,
     /// The writer failed, or took none of the remaining bytes.
-    #[error("refused after {written} bytes")]
+    #[error("{}", WriteFault {written: *written})]
     Write {
         /// The number of bytes of the text that were written.
         written: usize,

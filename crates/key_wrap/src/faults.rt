@@ -14,7 +14,7 @@ use thiserror::Error;
 #[derive(Clone, Copy, Debug, PartialEq, Eq, Error)]
 pub enum WrapFault {
     /// The key has no legal length.
-    #[error("bad length")]
+    #[error("{}", InPlaceFault::BadLength)]
     BadLength,
     /// There is no memory for the wrapping.
     #[error("out of memory")]
@@ -33,13 +33,13 @@ impl From<AllocError> for WrapFault {
 #[derive(Clone, Copy, Debug, PartialEq, Eq, Error)]
 pub enum UnwrapFault {
     /// The wrapped key has no legal length; of a rewrapping also: its key has none in the new form.
-    #[error("bad length")]
+    #[error("{}", InPlaceFault::BadLength)]
     BadLength,
     /// What is unwrapped is the wrapping of no key (RFC 3394, section 2.2.3; RFC 5649, section 3).
-    #[error("integrity check failed")]
+    #[error("{}", InPlaceFault::Integrity)]
     Integrity,
     /// There is no memory for the key, or of a rewrapping for the new wrapping.
-    #[error("out of memory")]
+    #[error("{}", WrapFault::Memory)]
     Memory,
 }
 
@@ -78,7 +78,7 @@ impl From<AllocError> for UnwrapFault {
 #[derive(Clone, Copy, Debug, PartialEq, Eq, Error)]
 pub enum KindFault {
     /// There is no memory to unwrap in.
-    #[error("out of memory")]
+    #[error("{}", WrapFault::Memory)]
     Memory,
 }
 

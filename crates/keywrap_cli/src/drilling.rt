@@ -17,20 +17,20 @@ use thiserror::Error;
 #[derive(Clone, Copy, Debug, PartialEq, Error)]
 pub enum DrillFault {
     /// The text has more than `MAX_FILE` bytes.
-    #[error("input: too long")]
+    #[error("input: {}", FileFault::TooLong)]
     TooLong,
     /// The byte at offset `at` is the first that is neither a hex digit nor a space, tab, CR or LF.
-    #[error("input: no hex digit at byte {at}")]
+    #[error("input: {}", FileFault::BadDigit {at: *at})]
     BadDigit { at: usize },
-    #[error("input: odd number of hex digits")]
+    #[error("input: {}", FileFault::OddDigits)]
     OddDigits,
     /// The length of the key or the wrapped key is not legal in this form.
-    #[error("bad length")]
+    #[error("{}", InPlaceFault::BadLength)]
     BadLength,
     /// The input is not a wrapping in this form.
-    #[error("integrity check failed")]
+    #[error("{}", InPlaceFault::Integrity)]
     Integrity,
-    #[error("out of memory")]
+    #[error("{}", FileFault::Memory)]
     Memory,
 }
 

@@ -44,7 +44,7 @@ pub enum ProgramFault {
     #[error("keywrap: {0}")]
     Drill(DrillFault),
     /// The help, the vectors or the answer of the drill could not be written.
-    #[error("keywrap: output: refused after {written} bytes")]
+    #[error("keywrap: {}", JobFault::Write {written: *written})]
     Write { written: usize },
     /// The answers to `answered` lines were written but for their last `unsent` bytes.
     #[error("keywrap: output: refused {unsent} bytes before the end of line {answered}")]
@@ -52,7 +52,7 @@ pub enum ProgramFault {
     /// Standard output can't be flushed, or the new file can't be renamed.
     #[error("keywrap: output: cannot be flushed")]
     Flush,
-    #[error("keywrap: out of memory")]
+    #[error("keywrap: {}", JobFault::Memory)]
     Memory,
 }
 

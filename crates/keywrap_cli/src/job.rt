@@ -9,9 +9,9 @@ use crate::convert::Direction;
 use crate::engine::run_input;
 use crate::kek_file::read_kek;
 use crate::key_job::KeyJob;
-use key_files::FileFault;
+use key_files::{FileFault, WriteFault};
 use key_lines::Mark;
-use key_wrap_core::{Form, InitialValue};
+use key_wrap_core::{Form, InPlaceFault, InitialValue};
 use std::alloc::Global;
 use std::io::{Read, Write};
 use thiserror::Error;
@@ -92,22 +92,22 @@ pub enum JobFault {
     #[error("input: {0}")]
     InputFile(FileFault),
     /// The length of the key or the wrapped key is not legal in this form.
-    #[error("bad length")]
+    #[error("{}", InPlaceFault::BadLength)]
     BadLength,
     /// The input is not a wrapping in this form under this KEK.
-    #[error("integrity check failed")]
+    #[error("{}", InPlaceFault::Integrity)]
     Integrity,
     /// A rewrap found the key, but no plain key has its length. `run_rewrap` returns BadLength
     /// instead.
-    #[error("bad length")]
+    #[error("{}", InPlaceFault::BadLength)]
     KeyNotPlain,
     /// The writer took only `written` bytes of the output.
-    #[error("output: refused after {written} bytes")]
+    #[error("output: {}", WriteFault {written: *written})]
     Write {
         /// The number of bytes that were written.
         written: usize,
     },
-    #[error("out of memory")]
+    #[error("{}", FileFault::Memory)]
     Memory,
 }
 

@@ -7,6 +7,7 @@ ghost use Rattle.keywrap_cli.specs.Vectors.{IsReport, IsVerdictOnAll, verdict};
 ghost use Rattle.test_vectors.specs.Published.{published_vectors};
 ghost use Rattle.test_vectors.specs.Vectors.{shown};
 
+use crate::job::JobFault;
 use crate::vector_check::{VectorCalls, is_right};
 use key_files::write_raw;
 use std::alloc::{AllocError, Global};
@@ -18,10 +19,10 @@ use thiserror::Error;
 #[derive(Clone, Copy, Debug, PartialEq, Error)]
 pub enum VectorsFault {
     /// An allocation failed, and nothing was written.
-    #[error("out of memory")]
+    #[error("{}", JobFault::Memory)]
     Memory,
     /// The writer took only `written` bytes of the lines.
-    #[error("output: refused after {written} bytes")]
+    #[error("{}", JobFault::Write {written: *written})]
     Write {
         /// The number of bytes that were written.
         written: usize,
