@@ -144,6 +144,17 @@ def test_several_files_are_each_divided(file, made, tmp_path):
         ("keys", "sub/keys", "sub/more"), True)  # fmt: skip
 
 
+def test_a_list_of_files_and_exclude(file, made, tmp_path):
+    (tmp_path / "sub").mkdir()
+    for name in ("more", "sub/one", "sub/other"):
+        (tmp_path / name).write_bytes(OLD)
+    (tmp_path / "list").write_text("more\n")
+    for number in (1, 2):
+        assert made(number, 2, "--files-from", "list", "--exclude", "other", "sub")[0] == 0
+    names = ("keys", "more", "sub/one", "sub/other")
+    assert [(tmp_path / name).read_bytes() for name in names] == [NEW, NEW, NEW, OLD]
+
+
 def test_a_second_rotation_changes_nothing(file, made, capfd):
     for _ in range(2):
         for number in (1, 2):

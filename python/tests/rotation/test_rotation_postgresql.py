@@ -252,7 +252,11 @@ def test_waits_while_a_replica_is_behind(server, replica, monkeypatch):
     replica.sql("SELECT pg_wal_replay_pause()")
     server.sql("SELECT pg_logical_emit_message(false, '', repeat('x', 3000000))")
     running = subprocess.Popen(command("--max-lag", "2", "--timeout", "5"), stderr=subprocess.PIPE)
-    time.sleep(7)
+    until = time.monotonic() + 60
+    while not has_queue(server):
+        assert time.monotonic() < until
+        time.sleep(0.1)
+    time.sleep(7)  # Who waits is not given up.
     assert (running.poll(), server.held()) == (None, OLD)
     replica.sql("SELECT pg_wal_replay_resume()")
     lines = running.communicate(timeout=120)[1].decode().splitlines()
@@ -315,15 +319,26 @@ def test_other_keks_than_those_of_the_queue_are_refused(server, keks, which):
 
 
 def test_a_kek_that_changes_meanwhile(server, keks):
-    """No row is under a third KEK."""
+    """No row is under a third KEK. Each process waits in one of its first ranges until the KEK has changed."""
     server.fill(rows(KEK, MANY))
-    server.sql("CREATE TABLE IF NOT EXISTS old (key bytea); INSERT INTO old SELECT key FROM keys")
-    running = subprocess.Popen(command("--jobs", "2"), stderr=subprocess.PIPE)
-    while running.poll() is None and server.sql("SELECT count(*) FROM keys WHERE key <> ALL (ARRAY(SELECT key FROM old))"
-                                                ) == "0\n":  # fmt: skip
+    program = ONE_BY_ONE + """
+import os, time
+calls = iter(range(10000))
+def act(text):
+    waits = next(calls) > 30
+    while waits and not os.path.exists("go"):
         time.sleep(0.01)
+_many.rewrap_slots = before_each_key(act)
+""" + SMALL.format(rows=7)
+    run = [sys.executable, "-B", "-c", program, "--jobs", "2", "--postgresql", "keys"]
+    running = subprocess.Popen(run, stderr=subprocess.PIPE)
+    until = time.monotonic() + 60
+    while server.held() == rows(KEK, MANY):
+        assert time.monotonic() < until
+        time.sleep(0.05)
     (keks / "other").write_text("33" * 16)
     os.rename("other", "new-kek.hex")
+    open("go", "w").close()
     lines = running.communicate(timeout=240)[1].decode().splitlines()
     assert (running.returncode, len(lines)) == (3, 2), lines
     new, old = rows(NEW_KEK, MANY), rows(KEK, MANY)

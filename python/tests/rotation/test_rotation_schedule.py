@@ -99,15 +99,18 @@ def filled(count):
     connection.close()
 
 
-# Each of many transactions locks the database for a while.
+# Each of many transactions locks the database for a while, and notes when.
 SLOW = """
-import sqlite3, sys, time
+import os, sqlite3, sys, time
 from keywrap.rotation import sqlite
 sqlite.ROWS = 50
+notes = os.open("times", os.O_CREAT | os.O_APPEND | os.O_WRONLY, 0o600)
 class Slow(sqlite3.Connection):
     def commit(self):
+        began = time.monotonic()
         time.sleep(0.05)
         super().commit()
+        os.write(notes, f"{began!r} {time.monotonic()!r}\\n".encode())
 connect = sqlite3.connect
 sqlite3.connect = lambda *words, **more: connect(*words, **more, factory=Slow)
 from keywrap.rotate import main
@@ -116,24 +119,22 @@ sys.exit(main())
 
 
 def test_a_writer_of_sqlite_gets_in_between():
-    """Four processes write as fast as they may. A program that looks for its turn every 20 ms waits for a few of theirs."""
+    """Four processes write as fast as they may, but leave the database alone for as long as they locked it."""
     filled(3000)
     running = subprocess.Popen([sys.executable, "-B", "-c", SLOW, "--jobs", "4", "--table", "keys", "keys.db"],
                                stderr=subprocess.DEVNULL)  # fmt: skip
-    refused, most, done = 0, 0, 0
+    done = 0
     while running.poll() is None:
-        connection = sqlite3.connect("keys.db", timeout=0, isolation_level=None)
-        try:
-            connection.execute("UPDATE keys SET key = key WHERE id = 1")
-            refused, done = 0, done + 1
-        except sqlite3.OperationalError:
-            refused += 1
-            most = max(most, refused)
+        connection = sqlite3.connect("keys.db", timeout=60, isolation_level=None)
+        connection.execute("UPDATE keys SET key = key WHERE id = 1")
         connection.close()
+        done += 1
         time.sleep(0.02)
-    assert running.returncode == 0
-    # Half of the time is free: 40 refusals in turn mean that nobody left it any.
-    assert done > 20 and most < 40
+    assert running.returncode == 0 and done > 1
+    turns = sorted(tuple(map(float, line.split())) for line in open("times"))
+    assert len(turns) >= 60
+    for (began, ended), (following, _) in zip(turns, turns[1:]):
+        assert following - ended >= ended - began
 
 
 def test_rate(tmp_path):

@@ -12,7 +12,7 @@ import pytest
 
 pytest.importorskip("cryptography", reason="no cryptography (apt-get install python3-cryptography)")
 
-from rotation_help import KEK, NEW_KEK, left_over, lines_under, make_keys, set_keks, wrapped_under  # noqa: E402
+from rotation_help import KEK, NEW_KEK, ONE_BY_ONE, left_over, lines_under, make_keys, set_keks, wrapped_under  # noqa: E402
 
 from keywrap.rotation import command, replacing  # noqa: E402
 from keywrap.rotation.paths import Paths, Shard  # noqa: E402
@@ -298,42 +298,45 @@ def test_resumes_a_rotation_of_files(rotated, capfd, words):
 
 # An array of jobs.
 
+# Two shards with several files.
+KILLED = [shard for shard in range(1, 11) if sum(
+    Shard(shard, 10).has(f"{number % 3}/{number}.hex") for number in range(FILES)) > 1][:2]  # fmt: skip
+
 
 def test_ten_shards_over_xargs(store):
-    """Four at a time. Two are killed and started again; then the merged report is whole, and so is the store."""
-    program = f"""
-import sys
-sys.path.insert(0, {os.path.dirname(__file__)!r})
-from keywrap import _many
-from one_by_one import before_each_key
-import time
-_many.rewrap_slots = before_each_key(lambda text: time.sleep(0.02))
+    """Four at a time. Two are killed in their second files and started again; then the merged report is whole, and so is
+    the store."""
+    program = ONE_BY_ONE + """
+import os, time
+seen = []
+def act(text):
+    seen.append(text)
+    while len(seen) > 5 and "wait" in os.environ:
+        time.sleep(0.01)
+_many.rewrap_slots = before_each_key(act)
 from keywrap.rotate import main
 sys.exit(main())
 """
     with open("slow.py", "w") as file:
         file.write(program)
-    line = (f"{sys.executable} -B slow.py --jobs 1 --shard {{}}/10 --report report.{{}} store & echo $! > pid.{{}}; "
-            "wait $!")  # fmt: skip
+    line = (f"case {{}} in {'|'.join(map(str, KILLED))}) export wait=1;; esac; {sys.executable} -B slow.py --jobs 1 "
+            "--shard {}/10 --report report.{} store & echo $! > new.{}; mv new.{} pid.{}; wait $!")  # fmt: skip
     running = subprocess.Popen(["xargs", "-P", "4", "-I{}", "sh", "-c", line], stdin=subprocess.PIPE, text=True,
                                stderr=subprocess.PIPE)  # fmt: skip
     running.stdin.write("".join(f"{number}\n" for number in range(1, 11)))
     running.stdin.close()
-    killed = []
     until = time.monotonic() + 120
-    while len(killed) < 2 and time.monotonic() < until:
-        for number in range(1, 11):
-            if number not in killed and len(killed) < 2 and os.path.exists(f"report.{number}") and (
-                    len(open(f"report.{number}").readlines()) == 2):  # fmt: skip
-                os.kill(int(open(f"pid.{number}").read()), signal.SIGKILL)
-                killed.append(number)
-        time.sleep(0.005)
+    for number in KILLED:
+        while not (os.path.exists(f"pid.{number}") and os.path.exists(f"report.{number}") and
+                   len(open(f"report.{number}").readlines()) == 2):  # fmt: skip
+            assert time.monotonic() < until
+            time.sleep(0.05)
+        os.kill(int(open(f"pid.{number}").read()), signal.SIGKILL)
     running.stderr.read()
     assert running.wait() == 123
-    assert len(killed) == 2
     merge = [sys.executable, "-B", "-m", "keywrap.rotate", "--merge", *(f"report.{number}" for number in range(1, 11))]
     assert subprocess.run(merge, stderr=subprocess.DEVNULL).returncode == 6
-    for number in killed:
+    for number in KILLED:
         again = [sys.executable, "-B", "-m", "keywrap.rotate", "--shard", f"{number}/10", "--report", f"report.{number}"]
         assert subprocess.run([*again, "store"], stderr=subprocess.DEVNULL).returncode == 0
     done = subprocess.run([*merge, "--report", "whole"], stderr=subprocess.PIPE, text=True)
