@@ -50,10 +50,10 @@ for (const [engine, pattern] of [
         console.log(`left out: ${engine}`);
         continue;
     }
-    const room = mkdtempSync(join(tmpdir(), 'bench'));
-    const { times = [], failures = [] } = await postedBy(engine, program, room, (url) => (
+    const workdir = mkdtempSync(join(tmpdir(), 'bench'));
+    const { times = [], failures = [] } = await postedBy(engine, program, workdir, (url) => (
         url === '/' ? PAGE : readFileSync(join(packed, basename(url)))));
-    rmSync(room, { recursive: true, force: true });
+    rmSync(workdir, { recursive: true, force: true });
     failures.forEach((failure) => console.log(`${engine}: ${failure}`));
     found.push(...times.map((row) => [engine, ...row].join(',')));
 }

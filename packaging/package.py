@@ -106,11 +106,11 @@ def archive(directory, file):
 
 
 def files(name, file, *sources):
-    with tempfile.TemporaryDirectory() as room:
-        room = pathlib.Path(room, name)
-        room.mkdir()
-        subprocess.run(["cp", "-R", *sources, room], check=True)
-        pack(room, file)
+    with tempfile.TemporaryDirectory() as workdir:
+        workdir = pathlib.Path(workdir, name)
+        workdir.mkdir()
+        subprocess.run(["cp", "-R", *sources, workdir], check=True)
+        pack(workdir, file)
 
 
 def npm(directory):
@@ -178,8 +178,8 @@ def wheel(python, library, file, sysroot=None):
         env["CFLAGS"] = f"-I{next(include.glob('python3.*'))} -idirafter {include} {env.get('CFLAGS', '')}"
         env["LDSHARED"] = f"{env['CC']} -shared"
         env["_PYTHON_HOST_PLATFORM"] = f"linux-{platform.removeprefix('manylinux_2_17_')}"
-    with tempfile.TemporaryDirectory() as room:
-        options = pathlib.Path(room, "options")
+    with tempfile.TemporaryDirectory() as workdir:
+        options = pathlib.Path(workdir, "options")
         options.write_text(f"[bdist_wheel]\nplat_name = {platform}\n")
         python_package(python, "wheel", pathlib.Path(library, "python"), file.parent, {
             "keywrap.h": "c/include/keywrap.h", "keywrap_steps.h": "c/include/keywrap_steps.h",
@@ -189,13 +189,13 @@ def wheel(python, library, file, sysroot=None):
 
 def sdist(python, file):
     """The package beside the C of dist/, which pip builds on any machine."""
-    with tempfile.TemporaryDirectory() as room:
-        room, name = pathlib.Path(room), pathlib.Path(file).name
-        python_package(python, "sdist", room / "package", room, {
+    with tempfile.TemporaryDirectory() as workdir:
+        workdir, name = pathlib.Path(workdir), pathlib.Path(file).name
+        python_package(python, "sdist", workdir / "package", workdir, {
             name: f"dist/{name}" for name in ("keywrap.c", "keywrap.h", "keywrap_steps.h")})
-        with tarfile.open(room / name) as packed:
-            packed.extractall(room)
-        pack(room / name.removesuffix(".tar.gz"), file)
+        with tarfile.open(workdir / name) as packed:
+            packed.extractall(workdir)
+        pack(workdir / name.removesuffix(".tar.gz"), file)
 
 
 def linked_crates():

@@ -11,16 +11,16 @@ packages='python3 libpython3-dev python3-cffi-backend python3-pytest python3-cry
 [ $# -gt 0 ] || set -- "${XDG_CACHE_HOME:-${HOME:-}/.cache}/keywrap/sysroot-aarch64-unknown-linux-gnu"
 [ ! -d "$1" ] || exit 0
 mkdir -p -- "$(dirname -- "$1")"
-room=$(mktemp -d -- "$1.XXXXXX")
-trap 'rm -rf -- "$room"' EXIT
+workdir=$(mktemp -d -- "$1.XXXXXX")
+trap 'rm -rf -- "$workdir"' EXIT
 trap 'exit 1' HUP INT TERM
-room=$(cd -- "$room" && pwd)
+workdir=$(cd -- "$workdir" && pwd)
 
 # If root calls apt-get, it downloads as another user, who must be able to enter the directory.
-chmod 755 "$room"
-mkdir -p "$room/state/lists/partial" "$room/cache/archives/partial" "$room/root"
-: >"$room/status"
-cat >"$room/conf" <<CONF
+chmod 755 "$workdir"
+mkdir -p "$workdir/state/lists/partial" "$workdir/cache/archives/partial" "$workdir/root"
+: >"$workdir/status"
+cat >"$workdir/conf" <<CONF
 #clear APT::Update::Pre-Invoke;
 #clear APT::Update::Post-Invoke;
 #clear APT::Update::Post-Invoke-Success;
@@ -29,17 +29,17 @@ cat >"$room/conf" <<CONF
 APT::Architecture "arm64";
 APT::Architectures "arm64";
 APT::Install-Recommends "false";
-Dir::State "$room/state";
-Dir::State::lists "$room/state/lists";
-Dir::State::status "$room/status";
-Dir::Cache "$room/cache";
-Dir::Cache::archives "$room/cache/archives";
+Dir::State "$workdir/state";
+Dir::State::lists "$workdir/state/lists";
+Dir::State::status "$workdir/status";
+Dir::Cache "$workdir/cache";
+Dir::Cache::archives "$workdir/cache/archives";
 CONF
 # A list without packages for arm64 is not Debian's.
-apt-get -qq -c "$room/conf" update || echo 'sysroot.sh: some lists of packages are not there' >&2
+apt-get -qq -c "$workdir/conf" update || echo 'sysroot.sh: some lists of packages are not there' >&2
 # shellcheck disable=SC2086
-apt-get -qq -c "$room/conf" install -y --download-only $packages >&2
+apt-get -qq -c "$workdir/conf" install -y --download-only $packages >&2
 # Without the compiler for arm64 on which it depends.
-(cd "$room/cache/archives" && apt-get -qq -c "$room/conf" download libstd-rust-dev >&2)
-for package in "$room"/cache/archives/*.deb; do dpkg-deb -x "$package" "$room/root"; done
-mv -T -- "$room/root" "$1"
+(cd "$workdir/cache/archives" && apt-get -qq -c "$workdir/conf" download libstd-rust-dev >&2)
+for package in "$workdir"/cache/archives/*.deb; do dpkg-deb -x "$package" "$workdir/root"; done
+mv -T -- "$workdir/root" "$1"

@@ -7,11 +7,11 @@ import { extname } from 'node:path';
 
 // webkit's program is MiniBrowser.
 const COMMANDS = {
-    chromium: (program, room, url) => [program, '--headless=new', '--no-sandbox', '--disable-gpu',
-        '--disable-dev-shm-usage', '--no-first-run', `--user-data-dir=${room}/profile`, url],
-    firefox: (program, room, url) => [
-        program, '--headless', '--no-remote', '--profile', `${room}/profile`, url],
-    webkit: (program, room, url) => ['xvfb-run', '-a', 'dbus-run-session', '--', program, url],
+    chromium: (program, workdir, url) => [program, '--headless=new', '--no-sandbox', '--disable-gpu',
+        '--disable-dev-shm-usage', '--no-first-run', `--user-data-dir=${workdir}/profile`, url],
+    firefox: (program, workdir, url) => [
+        program, '--headless', '--no-remote', '--profile', `${workdir}/profile`, url],
+    webkit: (program, workdir, url) => ['xvfb-run', '-a', 'dbus-run-session', '--', program, url],
 };
 const TYPES = {
     '.mjs': 'text/javascript', '.js': 'text/javascript', '.wasm': 'application/wasm',
@@ -32,9 +32,9 @@ const text = async (request) => {
 };
 
 // Returns the object that the page / posts to /posted, or one with `failures`. A server on this
-// machine, only for this run, answers each request with answer(url, posted). `room` is an empty
+// machine, only for this run, answers each request with answer(url, posted). `workdir` is an empty
 // directory for the files of the engine.
-export async function postedBy(engine, program, room, answer) {
+export async function postedBy(engine, program, workdir, answer) {
     let tell;
     const told = new Promise((resolve) => { tell = resolve; });
     const server = createServer(async (request, response) => {
@@ -52,14 +52,14 @@ export async function postedBy(engine, program, room, answer) {
         }
     });
     await new Promise((listening) => { server.listen(0, '127.0.0.1', listening); });
-    await mkdir(`${room}/profile`, { recursive: true });
+    await mkdir(`${workdir}/profile`, { recursive: true });
     const url = `http://127.0.0.1:${server.address().port}/`;
-    const [command, ...words] = COMMANDS[engine](program, room, url);
+    const [command, ...words] = COMMANDS[engine](program, workdir, url);
     const browser = spawn(command, words, {
         detached: true,
         stdio: 'ignore',
         env: {
-            ...process.env, HOME: room, XDG_RUNTIME_DIR: room, LIBGL_ALWAYS_SOFTWARE: '1',
+            ...process.env, HOME: workdir, XDG_RUNTIME_DIR: workdir, LIBGL_ALWAYS_SOFTWARE: '1',
             WEBKIT_DISABLE_SANDBOX_THIS_IS_DANGEROUS: '1', WEBKIT_FORCE_SANDBOX: '0',
         },
     });

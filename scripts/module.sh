@@ -16,18 +16,18 @@ kit=$(readlink -f -- "$rt")
 kit=${kit%/bin/rt}
 target=wasm64-unknown-unknown
 
-room=$(mktemp -d)
-trap 'rm -rf "$room"' EXIT
+workdir=$(mktemp -d)
+trap 'rm -rf "$workdir"' EXIT
 trap 'exit 1' HUP INT TERM
 (cd crates/keywrap_wasm && rt lib --target $target --backend llvm)
 
 # A memory that never grows: the stack, which comes first, and twice the longest wrapped key.
 "$kit/bin/rattle-link" --target $target --toolchain "$kit/toolchain" --memory 2228224 --stack 65536 \
-    -o "$room/wide.wasm" crates/keywrap_wasm/out/libkeywrap_wasm.a
+    -o "$workdir/wide.wasm" crates/keywrap_wasm/out/libkeywrap_wasm.a
 # keywrap.js resets the state beside the memory, so the module has to export it.
-"${wasm_opt%opt}dis" --enable-memory64 --enable-bulk-memory "$room/wide.wasm" -o "$room/wide.wat"
+"${wasm_opt%opt}dis" --enable-memory64 --enable-bulk-memory "$workdir/wide.wasm" -o "$workdir/wide.wat"
 sed -i 's/^ (export "__heap_base" .*/&\
-    (export "__stack_pointer" (global $__stack_pointer)) (export "__in_call" (global $in_call))/' "$room/wide.wat"
+    (export "__stack_pointer" (global $__stack_pointer)) (export "__in_call" (global $in_call))/' "$workdir/wide.wat"
 # The features that the module uses. A host needs the last two.
 "$wasm_opt" --mvp-features --enable-memory64 --enable-bulk-memory --enable-mutable-globals --memory64-lowering \
-    "$room/wide.wat" -o "$file"
+    "$workdir/wide.wat" -o "$file"

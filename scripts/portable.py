@@ -43,8 +43,8 @@ def the_one(what, pattern, text):
 
 def translated(wasm):
     """The module as wasm2c writes it in C."""
-    with tempfile.TemporaryDirectory() as room:
-        out = pathlib.Path(room) / "module.c"
+    with tempfile.TemporaryDirectory() as workdir:
+        out = pathlib.Path(workdir) / "module.c"
         subprocess.run([WASM2C, "-n", "keywrap", wasm, "-o", out], check=True)
         text = out.read_text()
     # The two globals that the module exports for keywrap.js have no names here.

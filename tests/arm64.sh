@@ -14,8 +14,8 @@ export TARGET=aarch64-unknown-linux-gnu
 . "$root/tests/library/machine.sh"
 
 # making GOAL VARIABLE=VALUE..: makes the goal for aarch64.
-library=${KEYWRAP_ARM64:-$room/library}
-making() { make -s -C "$root" "$@" LIBRARY="$library" SYSROOT="$sysroot" DIST="$room/dist"; }
+library=${KEYWRAP_ARM64:-$workdir/library}
+making() { make -s -C "$root" "$@" LIBRARY="$library" SYSROOT="$sysroot" DIST="$workdir/dist"; }
 
 # are_arm FILE..: all objects in these files are for aarch64.
 are_arm() { [ "$(LC_ALL=C readelf -h "$@" | sed -n 's/^ *Machine: *//p' | sort -u)" = AArch64 ]; }
@@ -95,7 +95,7 @@ assert utils.parse_wheel_filename(sys.argv[1])[3] & set(tags.sys_tags())' "$whee
 # package_tests: no test of the package fails or is skipped. Tests of threads are left out, and tests that start other
 # programs, which qemu cannot: one_exception, keywrap.rotate, keywrap.vectors and install().
 package_tests() {
-    PYTHONPATH=$room/site KEYWRAP_CALLS=10000 "${arm_python[@]}" -m pytest -q -p no:cacheprovider \
+    PYTHONPATH=$workdir/site KEYWRAP_CALLS=10000 "${arm_python[@]}" -m pytest -q -p no:cacheprovider \
         -k 'not thread and not one_exception and not pyca_installed' "$root"/python/tests/test_[!rv]*.py >tests.log
     grep -E '^[0-9]+ passed' tests.log | grep -vE 'skipped|failed|error' || { cat tests.log && false; }
 }

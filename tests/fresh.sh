@@ -6,11 +6,11 @@
 #        directory there, or takes the one that was kept)
 
 set -u
-# shellcheck source=tests/lib/room.sh
-. "${BASH_SOURCE[0]%/*}/lib/room.sh"
+# shellcheck source=tests/lib/workdir.sh
+. "${BASH_SOURCE[0]%/*}/lib/workdir.sh"
 [ -n "${KEYWRAP_FRESH:-}" ] && needs 'a fresh machine' root debootstrap 'overlay of the root directory' ||
     { finish; exit; }
-[[ $KEYWRAP_FRESH = /* ]] && fresh=$KEYWRAP_FRESH || fresh=$room/fresh
+[[ $KEYWRAP_FRESH = /* ]] && fresh=$KEYWRAP_FRESH || fresh=$workdir/fresh
 kit=$(dirname "$(dirname "$(readlink -f "$(command -v rt)")")")
 run_it() { sed -n '/^## Run it/,/^## /s/^    //p' "$root/README.md"; }
 # The packages of its first line.

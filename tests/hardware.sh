@@ -18,7 +18,7 @@ row 'a hardened shared object' hardened "$library/libkeywrap_hw.so.1"
 row 'its own name' grep -q 'SONAME.*\[libkeywrap_hw\.so\.1\]' elf
 # installs FILE..: these files of the library are installed, with their modes and the targets of their links.
 installs() {
-    in_library install-library HARDWARE=1 prefix="$room/stage" &&
+    in_library install-library HARDWARE=1 prefix="$workdir/stage" &&
         diff <(find stage/lib -name '*_hw*' -printf '%m %f %l\n' | sort) <(printf '%s\n' "$@" | sort)
 }
 of_debian=libkeywrap_hw.so.${version/-/\~}
@@ -28,7 +28,7 @@ options=(-std=c99 -O2 -Wall -Wextra -pedantic -Werror "-I$root/c/include" "-I$ro
 # with_lto COMPILER: the library is built by these flags, in a directory with a blank in its name, and a program over it
 # passes.
 with_lto() {
-    make -s -C "$root" library HARDWARE=1 CC="$1" CFLAGS='-O2 -flto' LIBRARY="$room/with lto" ARCHIVE="$archive" &&
+    make -s -C "$root" library HARDWARE=1 CC="$1" CFLAGS='-O2 -flto' LIBRARY="$workdir/with lto" ARCHIVE="$archive" &&
         "$1" -flto "${options[@]}" "$root"/tests/library/*.c "$root/c/reference/one_table.c" \
             'with lto/libkeywrap_hw.a' -o 'with lto/checks' &&
         writes ' passed, 0 failed' 'with lto/checks' few
@@ -66,9 +66,9 @@ if needs 'a KEK in a token' openssl softhsm2-util 'pkcs11.h of p11-kit' pkg-conf
     sed -n '/^## A KEK that never leaves a token/,/^## A CMS/s/^    //p' "$root/docs/RECIPES.md" >recipe
     sed -n 's/^[$] //p' recipe >script
     mkdir token
-    row 'the recipe of a token' diff <(cd token && EXAMPLES=$room/stage/share/doc/keywrap/examples \
-        PKG_CONFIG_PATH=$room/stage/lib/pkgconfig \
-        LD_LIBRARY_PATH=$room/stage/lib bash ../script 2>&1) <(grep -v '^[$] ' recipe)
+    row 'the recipe of a token' diff <(cd token && EXAMPLES=$workdir/stage/share/doc/keywrap/examples \
+        PKG_CONFIG_PATH=$workdir/stage/lib/pkgconfig \
+        LD_LIBRARY_PATH=$workdir/stage/lib bash ../script 2>&1) <(grep -v '^[$] ' recipe)
     row 'the example of a token: no warning' cc "${options[@]}" "${pkcs11[@]}" -c "$root/c/examples/c/token.c" \
         -o token.o
 fi
@@ -130,7 +130,7 @@ on() {
 
 row 'the programs: compile' builds here cc
 if [ -x evp ]; then
-    row 'make provider HARDWARE=1' in_library provider HARDWARE=1 PROVIDER="$room/here"
+    row 'make provider HARDWARE=1' in_library provider HARDWARE=1 PROVIDER="$workdir/here"
     row 'it uses the hardware' grep -qw aes_set_encrypt <(nm here/keywrap.so)
     row 'the comparisons: compile' compares here -lcrypto cc
 fi
@@ -181,7 +181,7 @@ needs 'aarch64' $arm-gcc qemu-aarch64 || { finish; exit; }
 export TARGET=aarch64-unknown-linux-gnu
 # shellcheck source=tests/library/machine.sh
 . "$root/tests/library/machine.sh"
-library=$room/arm_library
+library=$workdir/arm_library
 made=(make -s -C "$root" HARDWARE=1 LIBRARY="$library" ${KEYWRAP_ARM64:+ARCHIVE="$KEYWRAP_ARM64/libkeywrap.a"})
 row 'aarch64: make library HARDWARE=1' "${made[@]}" library
 row 'aarch64: the programs: compile' builds arm $arm-gcc
@@ -192,7 +192,7 @@ if [ -d "$sysroot/usr/include/openssl" ]; then
     runs=(qemu-aarch64 -L "$sysroot")
     of_debian=(-idirafter "$sysroot/usr/include" -idirafter "$sysroot/usr/include/$arm")
     libcrypto=$sysroot/usr/lib/$arm/libcrypto.so
-    row 'aarch64: make provider HARDWARE=1' "${made[@]}" provider PROVIDER="$room/arm" CPPFLAGS="${of_debian[*]}"
+    row 'aarch64: make provider HARDWARE=1' "${made[@]}" provider PROVIDER="$workdir/arm" CPPFLAGS="${of_debian[*]}"
     row 'aarch64: the comparisons: compile' compares arm "$libcrypto" $arm-gcc "${of_debian[@]}"
     mkdir -p arm_without
     slow row 'aarch64 without AES: the comparisons: compile' compares arm_without "$libcrypto" $arm-gcc \

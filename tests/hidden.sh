@@ -8,8 +8,8 @@
 #        named. Without KEYWRAP_HIDDEN=1 nothing is run
 
 set -u
-# shellcheck source=tests/lib/room.sh
-. "${BASH_SOURCE[0]%/*}/lib/room.sh"
+# shellcheck source=tests/lib/workdir.sh
+. "${BASH_SOURCE[0]%/*}/lib/workdir.sh"
 [ "${KEYWRAP_HIDDEN:-}" = 1 ] && needs 'hidden tools' root 'overlay of the root directory' || { finish; exit; }
 [ $# -gt 0 ] || mapfile -t names < <(cd "$root/tests" && printf '%s\n' test_*.py *.sh | grep -vxE '(hidden|fresh)\.sh')
 [ $# = 0 ] || names=("$@")
@@ -40,7 +40,7 @@ print(*(spec and (spec.submodule_search_locations or [spec.origin]) or []), sep=
 # without TOOL..: runs the tests in a copy of the root directory, without these tools.
 without() {
     local tool
-    mount -t tmpfs none "$room/over" && cd "$room/over" && mkdir upper work merged &&
+    mount -t tmpfs none "$workdir/over" && cd "$workdir/over" && mkdir upper work merged &&
         mount -t overlay overlay -o lowerdir=/,upperdir=upper,workdir=work merged && cd merged && mkdir -p before &&
         for tool in proc dev sys; do mount --rbind "/$tool" "$tool"; done &&
         pivot_root . before && cd / && umount -l before && hash -r || return
@@ -51,7 +51,7 @@ without() {
 row_without() {
     mkdir -p over
     (export -f hide without is_here compiles sanitizes overlays
-        unshare -m bash -c "$(declare -p root room names packages_of found_by); without \"\$@\"" - "$@") >log 2>&1
+        unshare -m bash -c "$(declare -p root workdir names packages_of found_by); without \"\$@\"" - "$@") >log 2>&1
     tail -n 1 log
     verdict "without $*" \
         "$(tail -n 1 log | grep -vE '^[0-9]+ passed, 0 failed, '; grep -E '^FAILED|cannot be hidden' log)"

@@ -12,7 +12,7 @@ set -u
 
 ### The package, where a user has it
 
-package=$room/node_modules/keywrap
+package=$workdir/node_modules/keywrap
 cp -R "$root"/tests/js/. "$root/scripts/engine.mjs" .
 if [ -d "${KEYWRAP_JS:-}" ]; then
     mkdir node_modules
@@ -54,7 +54,7 @@ fi
 ### Node
 
 # The published cases, as tests/published.py prints them.
-tables=$room/tables
+tables=$workdir/tables
 mkdir "$tables" && python3 "$root/tests/published.py" foreign >"$tables/foreign.txt"
 ! needs_python "NIST's cases" cryptography_vectors || "$python" "$root/tests/published.py" nist >"$tables/nist.txt"
 
@@ -120,6 +120,6 @@ fi
 ### The page
 
 if needs 'the page' node chromium; then
-    row 'the page' timeout 1200 node page.mjs "$package" chromium "$room/chromium"
+    row 'the page' timeout 1200 node page.mjs "$package" chromium "$workdir/chromium"
 fi
 finish

@@ -11,8 +11,8 @@ set -u
 
 ### The archives
 
-[ -n "${KEYWRAP_ARCHIVES:-}" ] || row 'both archives' "$root/tests/library/build.sh" "$room" || { finish; exit; }
-read -ra archives <<<"${KEYWRAP_ARCHIVES:-$room/rattle.a $room/llvm.a}"
+[ -n "${KEYWRAP_ARCHIVES:-}" ] || row 'both archives' "$root/tests/library/build.sh" "$workdir" || { finish; exit; }
+read -ra archives <<<"${KEYWRAP_ARCHIVES:-$workdir/rattle.a $workdir/llvm.a}"
 
 compilers=()
 for compiler in gcc clang; do
@@ -196,7 +196,7 @@ each_way() {
 
 for archive in "${archives[@]}"; do
     name=$(basename "$archive" .a)
-    library=$room/$name.library
+    library=$workdir/$name.library
     row "make library, of $name" in_library library
     shown "$name"
     for compiler in "${compilers[@]}"; do
@@ -206,7 +206,7 @@ done
 
 ### Installed, from other languages
 
-prefix=$room/prefix installed=$root/tests/library/installed
+prefix=$workdir/prefix installed=$root/tests/library/installed
 row 'make install-library' in_library install-library PREFIX="$prefix"
 export LD_LIBRARY_PATH=$prefix/lib
 
@@ -262,8 +262,8 @@ done
 
 jna=/usr/share/java/jna.jar
 if needs 'the Java example' javac jna.jar; then
-    row 'the Java example' writes $rfc3394_41 java -Djava.io.tmpdir="$room" -Djna.library.path="$prefix/lib" -cp $jna \
-        "$root/c/examples/java/Wrap.java"
+    row 'the Java example' writes $rfc3394_41 java -Djava.io.tmpdir="$workdir" -Djna.library.path="$prefix/lib" \
+        -cp $jna "$root/c/examples/java/Wrap.java"
 fi
 if needs 'the Node example' node node_api.h; then
     node_headers=$(dirname "$(command -v node)")/../include/node
@@ -282,7 +282,7 @@ by_cmake() {
 }
 # lies WORDS FILE..: an install with these words makes these files, and no others except documents.
 lies() {
-    rm -rf stage && in_library install-library DESTDIR="$room/stage" $1 &&
+    rm -rf stage && in_library install-library DESTDIR="$workdir/stage" $1 &&
         diff <(cd stage && find . -name doc -prune -o ! -type d -print | sort) <(printf './%s\n' "${@:2}" | sort)
 }
 shared=libkeywrap.so.$of_debian
@@ -298,12 +298,12 @@ row 'keywrap.pc outside the prefix' diff <(head -n 3 stage/b/lib/pkgconfig/keywr
     <(printf '%s\n' prefix=/a libdir=/b/lib includedir=/c)
 row 'the documents in docdir' test -f stage/d/doc/C_LIBRARY.md
 if needs 'the package file of CMake' cmake; then
-    row 'CMake, include elsewhere' by_cmake "$room/stage/b/lib" 1
+    row 'CMake, include elsewhere' by_cmake "$workdir/stage/b/lib" 1
     row 'CMake' by_cmake "$prefix/lib" "$number"
     row 'CMake, a version that is not there' fails by_cmake "$prefix/lib" 1.99
     row 'CMake, another major version' fails by_cmake "$prefix/lib" 2
 fi
-row 'its make uninstall-library' eval 'in_library uninstall-library DESTDIR="$room/stage" prefix=/a libdir=/b/lib \
+row 'its make uninstall-library' eval 'in_library uninstall-library DESTDIR="$workdir/stage" prefix=/a libdir=/b/lib \
     includedir=/c docdir=/d/doc && [ -z "$(find stage ! -type d)" ]'
 # stripped: the shared object has only the symbols that it exports, and the archive all.
 stripped() {

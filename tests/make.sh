@@ -9,8 +9,8 @@ set -u
 # shellcheck source=tests/lib/stand_in.sh
 . "${BASH_SOURCE[0]%/*}/lib/stand_in.sh"
 # The paths of the archives are in one word of the environment, so this path has no space.
-mkdir "$room/temporary"
-export TMPDIR=$room/temporary
+mkdir "$workdir/temporary"
+export TMPDIR=$workdir/temporary
 
 # script NAME COUNTS STATUS: a fake tests/NAME.sh. It records its arguments.
 script() {

@@ -1,4 +1,4 @@
-"""The completions of zsh and fish describe commands and options as the short help does. tests/papers.sh tries what is
+"""The completions of zsh and fish describe commands and options as the short help does. tests/shells.sh tries what is
 offered."""
 
 import pathlib

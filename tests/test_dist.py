@@ -140,7 +140,7 @@ def typed(readme):
 # the root directory `bare`, which has /proc: the loader uses it to find their directory, until there is a copy in
 # /usr/local.
 IN_BARE = r"""
-bare() { unshare -R "$room/bare" -w "/$name" "$@"; }
+bare() { unshare -R "$workdir/bare" -w "/$name" "$@"; }
 mkdir etc && cp -a /etc/alternatives /etc/ld.so.conf* etc 2>log || true
 mount -t tmpfs none /usr/local && mount --bind etc /etc
 [ ! -d /var/cache/ldconfig ] || mount -t tmpfs none /var/cache/ldconfig
@@ -170,7 +170,7 @@ def test_readme_in_an_empty_root(thing, keywrap, name):
             script.append('bare() { "$@"; }')
         script.append(re.sub(r"(^|\| )(bin/keywrap|\./wrap)", r"\1bare \2", line))
     said = run("unshare", "-rm", "bash", "-ec", IN_BARE + "\n".join(script), env={
-        **os.environ, "room": os.getcwd(), "name": archive_name(name)})
+        **os.environ, "workdir": os.getcwd(), "name": archive_name(name)})
     if name == "command":
         assert said.splitlines() == answers and len(answers) == 4 and KEY16 in answers
     else:
@@ -189,13 +189,13 @@ def test_readme_builds_the_provider(thing):
 @pytest.mark.needs("cc", "cmake")
 def test_cmake(thing):
     """The target is shared, and the other one static."""
-    room, example = os.getcwd(), ROOT / "c/examples/c/wrap.c"
+    workdir, example = os.getcwd(), ROOT / "c/examples/c/wrap.c"
     run("cmake", "-S", ROOT / "tests/library/installed", "-B", "built", "-Dasked=", f"-Dexample={example}",
         f"-Dkeywrap_DIR={thing('archive of library')}/lib/cmake/keywrap")
     run("cmake", "--build", "built")
     for program, needed in [("shared", ["libkeywrap.so.1", "libc.so.6"]), ("static", ["libc.so.6"])]:
-        assert re.findall(r"\(NEEDED\).*\[(.*)\]", run("readelf", "-d", f"{room}/built/{program}")) == needed
-        assert f"wrap: done: {WRAPPED24}" in run(f"{room}/built/{program}")
+        assert re.findall(r"\(NEEDED\).*\[(.*)\]", run("readelf", "-d", f"{workdir}/built/{program}")) == needed
+        assert f"wrap: done: {WRAPPED24}" in run(f"{workdir}/built/{program}")
 
 
 def test_help(dist):

@@ -51,7 +51,7 @@ def test_fault(keywrap, tmp_path_factory, line, content, comparison, args):
 def test_failed_row_of_a_script(line):
     """The scripts' rows report a command that fails, and so does the script's status."""
     lib = pathlib.Path(__file__).resolve().parent / "lib"
-    script = f". {lib}/expect.sh; . {lib}/tools.sh; room=$PWD; row right true; {line}; finish"
+    script = f". {lib}/expect.sh; . {lib}/tools.sh; workdir=$PWD; row right true; {line}; finish"
     ended = subprocess.run(["bash", "-c", script], stdout=subprocess.PIPE, text=True)
     first, *_, last = ended.stdout.splitlines()
     assert (ended.returncode, first[:12], last) == (1, "FAILED: name", "1 passed, 1 failed, 0 skipped")

@@ -123,8 +123,8 @@ class TestCompared:
 def test_installed_and_removed(library, words):
     """In OpenSSL's directory of modules, or in another: one file, which make uninstall-provider removes."""
     directory = "/opt/modules" if words else re.search('"(.*)"', run("openssl", "version", "-m"))[1]
-    room = os.getcwd()
-    made = ["make", "-s", "-C", ROOT, f"LIBRARY={library}", f"DESTDIR={room}/stage", f"PROVIDER={room}/built"]
+    workdir = os.getcwd()
+    made = ["make", "-s", "-C", ROOT, f"LIBRARY={library}", f"DESTDIR={workdir}/stage", f"PROVIDER={workdir}/built"]
     run(*made, "install-provider", "-o", "library", *words)
     stage = pathlib.Path("stage")
     assert [path for path in stage.rglob("*") if path.is_file()] == [stage / directory[1:] / "keywrap.so"]

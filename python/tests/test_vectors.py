@@ -54,12 +54,12 @@ class TestCommand:
     @pytest.fixture(autouse=True)
     def in_directory(self, tmp_path, monkeypatch):
         monkeypatch.chdir(tmp_path)
-        self.room = tmp_path
+        self.workdir = tmp_path
 
     def command(self, **texts):
         """Runs the command over files of these names and texts. Returns the status and both outputs."""
         for name, text in texts.items():
-            (self.room / name).write_bytes(text.encode())
+            (self.workdir / name).write_bytes(text.encode())
         ended = subprocess.run([sys.executable, "-m", "keywrap.vectors", *texts], capture_output=True)
         return ended.returncode, ended.stdout.decode(), ended.stderr.decode()
 

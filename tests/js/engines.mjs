@@ -1,9 +1,9 @@
 // Opens a page in an engine. The page runs the tests and posts what they came to. A server on this
 // machine, only for this run, has the package, the tests, published cases and the answers of OpenSSL.
 //
-// usage: node engines.mjs ENGINE PROGRAM ROOM PACKAGE BUNDLES TABLES
+// usage: node engines.mjs ENGINE PROGRAM WORKDIR PACKAGE BUNDLES TABLES
 //            ENGINE: chromium, firefox or webkit (whose program is MiniBrowser)
-//            ROOM: an empty directory for the engine's own files
+//            WORKDIR: an empty directory for the engine's own files
 //            BUNDLES, TABLES: the directories of the bundles ('' if there are none) and of published cases
 
 import { readFile } from 'node:fs/promises';
@@ -12,7 +12,7 @@ import { basename } from 'node:path';
 import { ISOLATED, postedBy } from './engine.mjs';
 import * as openssl from './openssl.mjs';
 
-const [, , engine, program, room, packed, bundles, tables] = process.argv;
+const [, , engine, program, workdir, packed, bundles, tables] = process.argv;
 const TESTS = new URL('.', import.meta.url).pathname;
 const DIRECTORIES = { keywrap: packed, tests: TESTS, page: `${TESTS}page`, bundles, tables };
 const NAMES = [
@@ -76,6 +76,6 @@ async function answer(url, posted) {
     return found ?? readFile(`${DIRECTORIES[directory]}/${basename(name)}`);
 }
 
-const { agent, count, failures } = await postedBy(engine, program, room, answer);
+const { agent, count, failures } = await postedBy(engine, program, workdir, answer);
 console.log([agent, ...failures, `${count} tests, ${failures.length} failed`].join('\n'));
 process.exit(failures.length === 0 && count >= 40 ? 0 : 1);

@@ -16,10 +16,10 @@ verdict() {
 # row NAME COMMAND..: the command must succeed. If it fails, the start of its output is shown.
 row() {
     [ -z "${is_omitted:-}" ] || { omitted=$((omitted + 1)) && return; }
-    if "${@:2}" >"$room/row.log" 2>&1; then passed=$((passed + 1)) && return; fi
+    if "${@:2}" >"$workdir/row.log" 2>&1; then passed=$((passed + 1)) && return; fi
     failed=$((failed + 1))
     echo "FAILED: $1"
-    head -n 20 "$room/row.log"
+    head -n 20 "$workdir/row.log"
     return 1
 }
 

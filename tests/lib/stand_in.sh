@@ -4,8 +4,8 @@
 #
 # SH=PATH has another shell than /bin/sh run the launcher.
 
-# shellcheck source=tests/lib/room.sh
-. "${BASH_SOURCE[0]%/*}/room.sh"
+# shellcheck source=tests/lib/workdir.sh
+. "${BASH_SOURCE[0]%/*}/workdir.sh"
 
 mkdir -p 'a tree'/{bin,tmp,tests/library} && cd 'a tree' || exit
 cp -R "$root"/{.ci,keywrap,Makefile,c,command,packaging,scripts,python,docs,java} .

@@ -1,6 +1,7 @@
 # shellcheck shell=bash disable=SC2034,SC2154
 # The machine that TARGET names, this one if none: its compiler $cc, how the names of its tools begin ($tools), how a
-# program for it runs here ("${runs[@]}"), and how under memcheck ("${memcheck[@]}"). Sourced, after tests/lib/room.sh.
+# program for it runs here ("${runs[@]}"), and how under memcheck ("${memcheck[@]}"). Sourced, after
+# tests/lib/workdir.sh.
 
 cc=${CC:-cc} tools='' runs=() memcheck=(valgrind)
 

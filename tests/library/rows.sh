@@ -1,15 +1,15 @@
 # shellcheck shell=bash disable=SC2034,SC2154
 # How the scripts over the C library begin, and what they use.
 
-# shellcheck source=tests/lib/room.sh
-. "${BASH_SOURCE[0]%/*}/../lib/room.sh"
+# shellcheck source=tests/lib/workdir.sh
+. "${BASH_SOURCE[0]%/*}/../lib/workdir.sh"
 version=$(make -s --no-print-directory -C "$root" version)
 cc=${CC:-cc}
 # The prefix of the names of the machine's tools.
 tools=
 # The archive of the C library: the last of those that were built before, or the one that make has built.
 archive=${KEYWRAP_ARCHIVES:-crates/keywrap_c/out/libkeywrap_c.a}
-archive=${archive##* } library=$room/library
+archive=${archive##* } library=$workdir/library
 sanitize=("-fsanitize=address,undefined" -fno-sanitize-recover=all)
 # A processor that lacks what the library needs, and one that has only that, by qemu-x86_64.
 without_sse41=(qemu-x86_64 -cpu 'qemu64,-ssse3,-sse4.1,-sse4.2,-popcnt')
@@ -20,7 +20,7 @@ fails() { ! "$@"; }
 
 # writes TEXT COMMAND..: the command succeeds, and its output has the text.
 writes() {
-    "${@:2}" >"$room/written" && grep -qF -e "$1" "$room/written" || { cat "$room/written" && false; }
+    "${@:2}" >"$workdir/written" && grep -qF -e "$1" "$workdir/written" || { cat "$workdir/written" && false; }
 }
 
 # in_library TARGET VARIABLE=VALUE..: makes the target over the archive $archive, in the directory $library.
@@ -61,8 +61,8 @@ wants() {
 
 # hardened FILE: its tables are read-only once it is loaded.
 hardened() {
-    readelf -dlW "$1" >"$room/elf" && grep -q BIND_NOW "$room/elf" && grep -q GNU_RELRO "$room/elf" &&
-        ! grep -q TEXTREL "$room/elf"
+    readelf -dlW "$1" >"$workdir/elf" && grep -q BIND_NOW "$workdir/elf" && grep -q GNU_RELRO "$workdir/elf" &&
+        ! grep -q TEXTREL "$workdir/elf"
 }
 
 # shown NAME: the rows.
@@ -71,7 +71,7 @@ shown() {
     row "$1: the names of the archive" shows -g "$library/libkeywrap.a"
     row "$1: the names of the shared object" versioned "$library/libkeywrap.so.1"
     row "$1: a hardened shared object" hardened "$library/libkeywrap.so.1"
-    row "$1: its name" grep -q 'SONAME.*\[libkeywrap\.so\.1\]' "$room/elf"
+    row "$1: its name" grep -q 'SONAME.*\[libkeywrap\.so\.1\]' "$workdir/elf"
     [ -n "$tools" ] ||
         row "$1: its self test sees a changed byte" \
             python3 "$root/tests/library/patched.py" "$library/libkeywrap.so.1" $([ "$1" = rattle ] || echo decryption)

@@ -19,8 +19,8 @@ class _OpenObject:
 
     outcome = "new"
 
-    def __init__(self, objects: "Objects", name: str, room: Path) -> None:
-        self.objects, self.values, self.new = objects, {"name": name, "file": str(room / "old")}, room / "new"
+    def __init__(self, objects: "Objects", name: str, workdir: Path) -> None:
+        self.objects, self.values, self.new = objects, {"name": name, "file": str(workdir / "old")}, workdir / "new"
         self.values["version"] = objects.commands.run("get", self.values)
         self.is_changed = False
 
@@ -56,8 +56,8 @@ class Objects(Simple):
 
     @contextmanager
     def open(self, unit: Unit) -> Iterator[Opened]:
-        with tempfile.TemporaryDirectory(prefix="keywrap.rotate.") as room:
-            yield _OpenObject(self, unit.place, Path(room))
+        with tempfile.TemporaryDirectory(prefix="keywrap.rotate.") as workdir:
+            yield _OpenObject(self, unit.place, Path(workdir))
 
     def units(self) -> Iterator[Unit]:
         for name in in_order(filter(self.shard.has, names_in("--objects", self.manifest))):

@@ -2,7 +2,7 @@
 # Compares the completions of three shells with the program's help, and tries make install and make uninstall with the
 # built program. A part without its tool is skipped.
 #
-# usage: tests/papers.sh        (KEYWRAP=PATH tries another program)
+# usage: tests/shells.sh        (KEYWRAP=PATH tries another program)
 
 set -u
 # shellcheck source=tests/lib/program.sh
@@ -46,13 +46,13 @@ offers_bash() (
 offers_fish() (
     cd files || exit
     # shellcheck disable=SC2016
-    HOME=$room fish --no-config -c 'source $argv[1]; complete -C $argv[2]' "$completions/keywrap.fish" "$1" |
+    HOME=$workdir fish --no-config -c 'source $argv[1]; complete -C $argv[2]' "$completions/keywrap.fish" "$1" |
         cut -f 1
 )
 
 offers_zsh() (
     cd files || exit
-    HOME=$room TERM=dumb completions=$completions timeout 600 zsh -f "$root/tests/lib/offers.zsh" "$1" |
+    HOME=$workdir TERM=dumb completions=$completions timeout 600 zsh -f "$root/tests/lib/offers.zsh" "$1" |
         tr -d '\r' | sed -n 's/^offered: //p'
 )
 
@@ -142,7 +142,7 @@ fi
 # A small archive instead of the real one, which tests/library.sh installs.
 made() {
     make -s --no-print-directory -o build -C "$root" "$@" PROGRAM="$program" \
-        LIBRARY="$room/library" ARCHIVE="$room/library.a"
+        LIBRARY="$workdir/library" ARCHIVE="$workdir/library.a"
 }
 documents='644 share/doc/keywrap/CHANGELOG.md
 644 share/doc/keywrap/RECIPES.md
@@ -160,7 +160,7 @@ files_of() { find "$1" ! -type d -printf '%m %P\n'; }
 # A file of another package, in a directory that exists already.
 mkdir -p "stage to/opt/share/man/man1"
 echo other >"stage to/opt/share/man/man1/other.1"
-stage="$room/stage to"
+stage="$workdir/stage to"
 row 'make install-command, with a umask' eval 'umask 077; made install-command DESTDIR="$stage" PREFIX=/opt; umask 022'
 same 'what make install-command installs' "$command_files"$'\n644 share/man/man1/other.1' "$(files_of "$stage/opt")"
 row 'the installed program is the program' cmp "$program" "$stage/opt/bin/keywrap"
