@@ -1,5 +1,5 @@
 -- What is promised of a rewrapping that takes memory, at each result of the call in its buffer.
-use Rattle.std.proofs.Common.{◌≡◌, ℕ, List, length, false, Result, Ok, Err, Vec, IfOk, IsErr, IsErrAnd, refl, ap}
+use Rattle.std.proofs.Common.{◌≡◌, ℕ, List, length, false, Result, Ok, Err, Vec, IfOk, refl}
 use Rattle.block_pair.specs.Pair.{AreInverse}
 use Rattle.key_wrap_core.specs.declared.rewrapping.RewrapForms.{RewrapForms}
 use Rattle.key_wrap_core.specs.declared.rewrapping.RewrapForms.TheVariants.{Changed}
@@ -24,16 +24,10 @@ pub refused_length : (forms : RewrapForms) (E F : List ℕ → List ℕ) (text :
 refused_length forms E F text bad = ((bad, λ no. absurd (let same = no in cc)), refl)
 
 -- the call in the buffer takes no memory
-no_memory : (fault : RewrapFault) → ¬ (rewrap_fault fault ≡ Memory)
+pub no_memory : (fault : RewrapFault) → ¬ (rewrap_fault fault ≡ Memory)
 no_memory BadLength = λ e. cc
 no_memory Integrity = λ e. cc
 no_memory KeyNotPlain = λ e. cc
-
--- the call in the buffer refused, and the call that takes memory reports it
-pub refused_rewrap : {Z : Type 0} (fault : RewrapFault) (answer : Result (Vec ℕ Z) UnwrapFault)
-    → IsErr answer × IsErrAnd answer (λ e. e ≡ rewrap_fault fault) → (answer ≡ Err (rewrap_fault fault)) × ¬ (answer ≡ Err Memory)
-refused_rewrap fault (Ok out) is = let no = is.0 in cc
-refused_rewrap fault (Err e) is = (ap (λ (f : UnwrapFault). Err f) is.1, λ same. no_memory fault (let own = is.1 in cc))
 
 -- a fresh wrapping is none in the other form
 other_form : {Z : Type 0} {D : List ℕ → List ℕ} (form : Form) (old : AgreedForm) (E F : List ℕ → List ℕ) (text : List ℕ) (out : Vec ℕ Z)

@@ -1,9 +1,10 @@
 -- The parts of the caller's buffer: its first word, and the registers that the machine is lent.
-use Rattle.std.proofs.Common.{◌≡◌, ℕ, ◌+◌, ◌-◌, ◌*◌, ◌≤◌, List, [], ◌++◌, length, take, drop, replicate, refl, ap, ◌∙◌, arith, length-append, length-drop}
+use Rattle.std.proofs.Common.{◌≡◌, ℕ, ◌+◌, ◌-◌, ◌*◌, ◌<◌, ◌≤◌, List, [], ◌++◌, length, get_or, take, drop, replicate, refl, ap, ◌∙◌, arith, length-append, length-drop}
 use Rattle.std.proofs.Common.{length-take}
 use Rattle.std.proofs.Math.Seq.{take-add}
 use Rattle.std.proofs.lemmas.List.{append_assoc, append-nil, take_at, drop_at, drop_all, take_all, take-append-drop}
 use borrow.Rule.Slice.PartMut.{put_mid}
+use Rattle.byteorder.specs.Endian.{big_from}
 use Rattle.block_pair.specs.Words.{IsWord}
 use Rattle.key_wrap_core.specs.Words.{word_bytes}
 use Rattle.key_wrap_core.specs.Lengths.{IsPaddedKeyLength}
@@ -11,11 +12,18 @@ use Rattle.key_wrap_core.specs.Padded.{aiv, padded, word_count}
 use Rattle.key_wrap_core.specs.PaddedRegisters.{HoldsLength}
 use Rattle.key_wrap_core.specs.InPlace.{IsPaddedRoom, key_in}
 use Rattle.key_wrap_core.proofs.PaddedForm.{aiv_word}
-use Rattle.key_wrap_core.proofs.Spelling.{length-word_bytes, word_front}
+use Rattle.key_wrap_core.proofs.Spelling.{length-word_bytes, word_front, read_word, each_byte}
 
 -- the machine is lent all but the first word
 pub lent_length : (buf : List ℕ) → 8 ≤ length buf → 8 + length (take (length buf - 8) (drop 8 buf)) ≡ length buf
 lent_length buf some = omega (arith, length-take (length buf - 8) (drop 8 buf), length-drop 8 buf)
+
+-- beside the word that was read
+pub lent_text : (word : ℕ) (text : List ℕ) → 8 ≤ length text → ((i : ℕ) → get_or text i 0 < 256) → word ≡ big_from 0 8 text
+    → word_bytes word ++ take (length text - 8) (drop 8 text) ≡ text
+lent_text word text some bytes read =
+    let rest : take (length text - 8) (drop 8 text) ≡ drop 8 text = take_all (length text - 8) (drop 8 text) (omega (arith, length-drop 8 text)) in
+    rw (rest, read_word text word some (each_byte text bytes) read) (take-append-drop 8 text)
 
 -- what it leaves in its part of the buffer
 pub registers_now : (buf registers : List ℕ) → 8 ≤ length buf → length registers ≡ length buf - 8

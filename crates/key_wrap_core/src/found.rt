@@ -20,7 +20,7 @@ use byteorder::{BigEndian, ByteOrder};
 
 // C1 .. Cn after the first word of the buffer become the registers that the machine runs back to,
 // and the answer is the initial value. For two words and more both forms unwrap by the same steps.
-#[tactic(auto, using(crate::proofs::InPlaceForm::lent_length))]
+#[tactic(auto, using(crate::proofs::InPlaceForm::lent_length, crate::proofs::InPlaceForm::lent_text, crate::proofs::InPlaceForm::registers_now))]
 pub(crate) fn unwrap_buffer<B: BlockPair>(meter: &mut Meter<B>, buf: &mut [u8]) -> u64
     requires { IsPaddedTextLength (length buf.old) }
     ensures found { PaddedRegisters (B.encrypted meter.old.pair)

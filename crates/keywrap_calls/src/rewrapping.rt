@@ -5,13 +5,12 @@ ghost use Rattle.fips197.specs.Cipher.{cipher};
 ghost use Rattle.keywrap_calls.specs.Status.{IsBadKek};
 ghost use Rattle.keywrap_calls.specs.Rewraps.{AreFlags, IsInPlace, forms_of, passes_new};
 ghost use Rattle.keywrap_calls.specs.Rewraps.{Rewraps, RewrapsInPlace, already_of, rewrap_status};
-ghost use Rattle.key_wrap_core.specs.Forms.{by_default};
 ghost use Rattle.key_wrap_core.specs.Rewrap.{IsRewrapping};
 
 use crate::status::{BAD_KEK, BAD_LENGTH, DONE, INTEGRITY, KEY_NOT_PLAIN};
 use block_pair::{BlockPair, Meter};
 use fips197::KeyInit;
-use key_wrap_core::{AgreedForm, Form, RewrapFault, RewrapForms, Rewrapped};
+use key_wrap_core::{Form, RewrapFault, RewrapForms, Rewrapped};
 
 // The flag beside the forms: a wrapped key that is new already is passed.
 const PASS_NEW: u32 = 8;
@@ -117,22 +116,12 @@ pub(crate) fn forms_of(flags: u32) -> Option<RewrapForms>
     ensures refused { IfNone result (¬ AreFlags flags) }
 {
     match flags {
-        0 | 8 => Some(changed(Form::Plain, Form::Plain)),
-        1 | 9 => Some(changed(Form::Padded, Form::Plain)),
-        2 | 10 => Some(changed(Form::Plain, Form::Padded)),
-        3 | 11 => Some(changed(Form::Padded, Form::Padded)),
+        0 | 8 => Some(RewrapForms::by_default(Form::Plain, Form::Plain)),
+        1 | 9 => Some(RewrapForms::by_default(Form::Padded, Form::Plain)),
+        2 | 10 => Some(RewrapForms::by_default(Form::Plain, Form::Padded)),
+        3 | 11 => Some(RewrapForms::by_default(Form::Padded, Form::Padded)),
         4 | 12 => Some(RewrapForms::Kept),
         _ => None,
-    }
-}
-
-// From one form to another, with the default initial value.
-fn changed(old: Form, new: Form) -> RewrapForms
-    ensures { result ≡ RewrapForms.Changed (by_default old) (by_default new) }
-{
-    RewrapForms::Changed {
-        old: AgreedForm::by_default(old),
-        new: AgreedForm::by_default(new),
     }
 }
 

@@ -2,10 +2,11 @@
 use Rattle.std.proofs.Common.{rules, ◌≡◌, ℕ, List, length, Ok, Err, arith, ap, refl, ◌∙◌}
 use Rattle.key_wrap_core.specs.declared.rewrapping.RewrapFault.TheVariants.{BadLength}
 use Rattle.key_wrap_core.specs.Rewrap.{IsOldLength}
-use Rattle.key_wrap_core.proofs.Refusals.{true_or_false}
+use Rattle.key_wrap_core.proofs.Refusals.{passed_on, true_or_false}
 use Rattle.key_wrap_core.proofs.Results.{results_of}
 use Rattle.key_wrap.proofs.Promises.{written_back}
-use Rattle.key_wrap.proofs.Rewraps.{refused_length, refused_rewrap}
+use Rattle.key_wrap.specs.Results.{rewrap_fault}
+use Rattle.key_wrap.proofs.Rewraps.{refused_length, no_memory}
 use Rattle.key_wrap.proofs.rewrapping.rewrap_on.Goals as goal
 
 pub returns-then-not-rewrap_length_ok : goal.returns-then-not-rewrap_length_ok
@@ -22,9 +23,8 @@ pub returns-in_err-rewrap : goal.returns-in_err-rewrap
 returns-in_err-rewrap g c =
     let same : c.deref_mut.result.now ≡ c.args.text.now = c.deref_mut.ensures.value ∙ c.in_ok-buffer.ensures.items in
     let results = rw same at c.in_err-rewrap.ensures.results in
-    let is = refused_rewrap c.in_err-rewrap.field-0.0 c.from_residual-in_err-rewrap.result c.from_residual-in_err-rewrap.ensures in
-    rw is.0 (record {
-      memory = λ e. absurd (is.1 (is.0 ∙ e));
+    rw (passed_on c.from_residual-in_err-rewrap.result (rewrap_fault c.in_err-rewrap.field-0.0) c.from_residual-in_err-rewrap.ensures) (record {
+      memory = λ e. absurd (no_memory c.in_err-rewrap.field-0.0 (let own = e in cc));
       results = λ some. (Err c.in_err-rewrap.field-0.0, _, results, refl);
       size = tt;
     })
