@@ -1,8 +1,6 @@
 -- What was refused is what it was, so the new pair unwraps the text.
-use Rattle.std.proofs.Common.{rules, ◌≡◌, ◌++◌, ◌∙◌, ℕ, List, drop, refl}
+use Rattle.std.proofs.Common.{rules, ◌≡◌, ◌∙◌, ℕ, List, refl}
 use Rattle.key_wrap_core.specs.declared.rewrapping.RewrapFault.TheVariants.{KeyNotPlain}
-use Rattle.key_wrap_core.specs.Words.{word_bytes}
-use Rattle.key_wrap_core.specs.PaddedRegisters.{PaddedRegisters}
 use Rattle.key_wrap_core.specs.Rewrap.{to_itself}
 use Rattle.key_wrap_core.proofs.PaddedForm.{padded_registers_forward}
 use Rattle.key_wrap_core.proofs.Rewraps.{old_of, no_old}
@@ -14,15 +12,13 @@ returns-in-Ok-find-clause-rewraps g c =
     let text : List ℕ = c.args.buf.now in
     let refused = c.in-Err.ensures.rewraps in
     let other : ¬ (c.in-Err.fault ≡ KeyNotPlain) = search rules in
-    let w = rw (c.to_itself.ensures, refused.1, c.in-Err.ensures.calls.new_unasked refl refl) at c.in-Ok-find.ensures in
-    let run : PaddedRegisters (g.N.BlockPair.encrypted c.find.new.meter.pair) (word_bytes c.in-Ok-find.found ++ drop 8 c.find.new.buf) text =
-    rw (w.calls refl) w.found.4 in (
+    let w = rw (c.to_itself.ensures, refused.1, c.in-Err.ensures.calls.new_unasked refl refl) at c.in-Ok-find.ensures in (
       c.if-not-pass_new.false,
       record {
         no_old = no_old c.args.forms.now text c.in-Err.fault (g.met.O.BlockPair.lawful c.args.old.now.pair) refused.0.0 other;
         new = (w.found.0, w.found.2, old_of (to_itself c.args.forms.now) text _ (g.met.N.BlockPair.lawful c.args.new.now.pair) w.found);
       },
-      padded_registers_forward c.wrap_buffer.ensures.wrapped run,
+      padded_registers_forward (rw (w.calls refl) at c.wrap_buffer.ensures.wrapped) w.found.4,
     )
 
 pub returns-in-Err-find-clause-rewraps : goal.returns-in-Err-find-clause-rewraps

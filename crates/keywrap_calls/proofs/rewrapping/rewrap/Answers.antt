@@ -15,10 +15,5 @@ returns g c =
     ap (λ m. g.A.BlockPair.encrypted m.pair) c.new-2.ensures ∙ c.in-Ok-new_in.ensures.cipher in
     let told = c.rewrap_as-outcome.ensures in
     let fits : SFits w32 c.report.result = search rules in
-    let outcome = c.rewrap_as-outcome.result in
-    let flags = c.args.flags in
-    let old_kek = c.args.old_kek.now in
-    let new_kek = c.args.new_kek.now in
-    let old = c.args.buffer.now in
-    let new = c.rewrap_as-outcome.new.buf in
-    rw (passed_on fits c.report.ensures.status, c.report.ensures.already, sym from, sym to) (rewraps _ _ old_kek new_kek flags old new outcome (c.in-Ok.ensures.accepted.0 refl, c.in-Ok-new_in.ensures.accepted.0 refl) told.rewraps told.bad_flags told.kept)
+    rw (passed_on fits c.report.ensures.status, c.report.ensures.already, sym from, sym to)
+    (rewraps _ _ c.args.old_kek.now c.args.new_kek.now c.args.flags _ _ c.rewrap_as-outcome.result (c.in-Ok.ensures.accepted.0 refl, c.in-Ok-new_in.ensures.accepted.0 refl) told.rewraps told.bad_flags told.kept)
