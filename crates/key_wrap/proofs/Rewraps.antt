@@ -1,5 +1,5 @@
 -- What is promised of a rewrapping that takes memory, at each result of the call in its buffer.
-use Rattle.std.proofs.Common.{◌≡◌, ℕ, List, length, false, Result, Ok, Err, Vec, IfOk, refl}
+use Rattle.std.proofs.Common.{◌≡◌, ℕ, List, false, Result, Ok, Err, Vec, IfOk, refl}
 use Rattle.block_pair.specs.Pair.{AreInverse}
 use Rattle.key_wrap_core.specs.declared.rewrapping.RewrapForms.{RewrapForms}
 use Rattle.key_wrap_core.specs.declared.rewrapping.RewrapForms.TheVariants.{Changed}
@@ -11,17 +11,12 @@ use Rattle.key_wrap_core.specs.declared.forms.Form.{Form}
 use Rattle.key_wrap_core.specs.declared.agreed_form.AgreedForm.{AgreedForm}
 use Rattle.key_wrap_core.specs.Plain.{default_iv}
 use Rattle.key_wrap_core.specs.Forms.{NoOtherForm, by_default}
-use Rattle.key_wrap_core.specs.Rewrap.{IsOldLength, IsRewrapping, RewrapResults}
+use Rattle.key_wrap_core.specs.Rewrap.{RewrapResults}
 use Rattle.key_wrap_core.proofs.PlainForm.{default_free}
 use Rattle.key_wrap_core.proofs.EitherForms.{no_other_form}
 use Rattle.key_wrap.specs.declared.faults.UnwrapFault.{UnwrapFault}
 use Rattle.key_wrap.specs.declared.faults.UnwrapFault.TheVariants.{Memory}
 use Rattle.key_wrap.specs.Results.{IsAnswerOf, Rewraps, rewrap_fault}
-
--- a text of no legal length is refused for it, and nothing asks for more
-pub refused_length : (forms : RewrapForms) (E F : List ℕ → List ℕ) (text : List ℕ) → ¬ IsOldLength forms (length text)
-    → IsRewrapping false forms E F text (Err BadLength) text
-refused_length forms E F text bad = ((bad, λ no. absurd (let same = no in cc)), refl)
 
 -- the call in the buffer takes no memory
 pub no_memory : (fault : RewrapFault) → ¬ (rewrap_fault fault ≡ Memory)

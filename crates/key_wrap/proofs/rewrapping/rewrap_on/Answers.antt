@@ -1,12 +1,12 @@
 -- The buffer holds the text, so what the call in it promises of the text is what is promised here.
-use Rattle.std.proofs.Common.{rules, ◌≡◌, ℕ, List, length, Ok, Err, arith, ap, refl, ◌∙◌}
+use Rattle.std.proofs.Common.{rules, ◌≡◌, ℕ, List, length, Ok, Err, arith, refl, ◌∙◌}
 use Rattle.key_wrap_core.specs.declared.rewrapping.RewrapFault.TheVariants.{BadLength}
 use Rattle.key_wrap_core.specs.Rewrap.{IsOldLength}
 use Rattle.key_wrap_core.proofs.Refusals.{passed_on, true_or_false}
 use Rattle.key_wrap_core.proofs.Results.{results_of}
 use Rattle.key_wrap.proofs.Promises.{written_back}
 use Rattle.key_wrap.specs.Results.{rewrap_fault}
-use Rattle.key_wrap.proofs.Rewraps.{refused_length, no_memory}
+use Rattle.key_wrap.proofs.Rewraps.{no_memory}
 use Rattle.key_wrap.proofs.rewrapping.rewrap_on.Goals as goal
 
 pub returns-then-not-rewrap_length_ok : goal.returns-then-not-rewrap_length_ok
@@ -15,7 +15,7 @@ returns-then-not-rewrap_length_ok g c =
     let illegal : ¬ IsOldLength c.args.forms.now (length text) = λ legal. true_or_false c.if-not-rewrap_length_ok.true (c.rewrap_length_ok.ensures.1 legal) in
     record {
       memory = λ e. cc;
-      results = λ some. (Err BadLength, text, results_of (g.met.O.BlockPair.lawful c.args.old.now.pair) (refused_length c.args.forms.now _ _ text illegal), refl);
+      results = λ some. (Err BadLength, text, results_of (g.met.O.BlockPair.lawful c.args.old.now.pair) ((illegal, λ no. absurd (true_or_false refl no)), refl), refl);
       size = tt;
     }
 

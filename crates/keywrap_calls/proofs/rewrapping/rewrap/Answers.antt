@@ -1,19 +1,14 @@
--- The pairs in the meters are AES under the KEKs (`from`, `to`).
-use Rattle.std.proofs.Common.{◌≡◌, ap, ◌∙◌, sym, refl, rules}
+-- The pairs in the meters are AES under the KEKs.
+use Rattle.std.proofs.Common.{ap, refl, rules}
 use mir.Syntax.{w32}
 use mir.Val.{SFits}
-use Rattle.fips197.specs.Cipher.{cipher}
 use Rattle.keywrap_calls.proofs.Calls.{passed_on}
 use Rattle.keywrap_calls.proofs.Rewraps.{rewraps}
 use Rattle.keywrap_calls.proofs.rewrapping.rewrap.Goals as goal
 
 pub returns : goal.returns
 returns g c =
-    let from : g.A.BlockPair.encrypted c.new.result.pair ≡ cipher c.args.old_kek.now =
-    ap (λ m. g.A.BlockPair.encrypted m.pair) c.new.ensures ∙ c.in-Ok.ensures.cipher in
-    let to : g.A.BlockPair.encrypted c.new-2.result.pair ≡ cipher c.args.new_kek.now =
-    ap (λ m. g.A.BlockPair.encrypted m.pair) c.new-2.ensures ∙ c.in-Ok-new_in.ensures.cipher in
-    let told = c.rewrap_as-outcome.ensures in
+    let told = rw (ap (λ m. m.pair) c.new.ensures, ap (λ m. m.pair) c.new-2.ensures, c.in-Ok.ensures.cipher, c.in-Ok-new_in.ensures.cipher) at c.rewrap_as-outcome.ensures in
     let fits : SFits w32 c.report.result = search rules in
-    rw (passed_on fits c.report.ensures.status, c.report.ensures.already, sym from, sym to)
+    rw (passed_on fits c.report.ensures.status, c.report.ensures.already)
     (rewraps _ _ c.args.old_kek.now c.args.new_kek.now c.args.flags _ _ c.rewrap_as-outcome.result (c.in-Ok.ensures.accepted.0 refl, c.in-Ok-new_in.ensures.accepted.0 refl) told.rewraps told.bad_flags told.kept)
