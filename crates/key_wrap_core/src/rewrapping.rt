@@ -15,6 +15,7 @@ ghost use Rattle.key_wrap_core.specs.Private.{Fits, IsFound, TellsKey, as_fresh}
 
 use crate::agreed_form::AgreedForm;
 use crate::checks::{DEFAULT_IV, given_length, is_zero, padded_difference, padded_iv};
+use crate::faults::InPlaceFault;
 use crate::found::{decide_or_restore, either, plain_difference, unwrap_buffer, wrap_buffer};
 use crate::lengths::{WORD, is_text_length, padded_text_length_ok};
 use block_pair::{BlockPair, Meter};
@@ -47,13 +48,13 @@ pub enum Rewrapped {
 #[derive(Clone, Copy, Debug, PartialEq, Eq, Error)]
 pub enum RewrapFault {
     /// The wrapped key's length is legal in no old form.
-    #[error("bad length")]
+    #[error("{}", InPlaceFault::BadLength)]
     BadLength,
     /// It is the wrapping of no key.
-    #[error("integrity check failed")]
+    #[error("{}", InPlaceFault::Integrity)]
     Integrity,
     /// It is the padded wrapping of a key whose length no plain key has.
-    #[error("bad length")]
+    #[error("{}", InPlaceFault::BadLength)]
     KeyNotPlain,
 }
 
