@@ -3,6 +3,7 @@
 ghost use Rattle.std.specs.Prelude.{◌≡◌, ◌≤◌, ◌<◌, ℕ, map};
 ghost use Rattle.fips197.specs.Words.{block_of};
 ghost use Rattle.fips197.specs.Rounds.{inv_mix_columns};
+ghost use Rattle.aes_vector.specs.Tables.{linear};
 ghost use Rattle.aes_vector.specs.Tower.{affine_element, key_byte};
 ghost use Rattle.aes_vector.specs.VectorSchedule.{IsFirstKey, IsLastKey, IsMiddleKey};
 ghost use Rattle.aes_vector.specs.VectorSchedule.{key_at, key_block};
@@ -41,10 +42,11 @@ pub(crate) fn round_keys(words: &[u32; MAX_WORDS], rounds: usize, keys: &mut [Ro
     keys[rounds] = last_key(key_block(words, rounds));
 }
 
-// A round key before the last, for the cipher.
+// A round key before the last, or a block, in the form of the cipher.
 #[inline(always)]
-fn enc_form(key: u8x16) -> u8x16
-    ensures { map key_byte result ≡ key }
+pub(crate) fn enc_form(key: u8x16) -> u8x16
+    ensures lanes { result ≡ map (linear MASKED_TOWER_LOW TOWER_HIGH) key }
+    ensures form { map key_byte result ≡ key }
 {
     let by_low = u8x16::from_array(MASKED_TOWER_LOW);
     let by_high = u8x16::from_array(TOWER_HIGH);

@@ -7,6 +7,7 @@ ghost use Rattle.fips197.specs.Rounds.{inv_mix_columns, inv_shift_rows, inv_sub_
 ghost use Rattle.fips197.specs.Cipher.{last_round, round};
 ghost use Rattle.aes_vector.specs.Tower.{affine_element, element, key_byte, last_key_byte};
 
+use crate::keys::enc_form;
 use crate::lanes::linear;
 use crate::rows::{
     InvRows, inv_rows_0, inv_rows_1, inv_rows_2, inv_rows_3, rows_0, rows_1, rows_2, rows_3,
@@ -20,9 +21,7 @@ use std::simd::prelude::*;
 pub(crate) fn first_state(key: u8x16, block: u8x16) -> u8x16
     ensures { map element result ≡ add_round_key (map key_byte key) block }
 {
-    let by_low = u8x16::from_array(MASKED_TOWER_LOW);
-    let by_high = u8x16::from_array(TOWER_HIGH);
-    linear(by_low, by_high, block) ^ key
+    enc_form(block) ^ key
 }
 
 // A round: each row of a column is twice one byte, thrice the next, and the other two.

@@ -6,7 +6,7 @@ ghost use Rattle.example_caller.specs.ReversalLaw.{reversal_lawful};
 use block_pair::BlockPair;
 
 /// A block of 16 bytes, read backward. It is a block permutation, and hides nothing.
-#[derive(Clone, Copy, Debug)]
+#[derive(Clone, Copy)]
 pub struct Reversal;
 
 impl BlockPair for Reversal {

@@ -8,19 +8,19 @@ use std::test::Fail;
 
 #[test]
 fn faults_print_their_cause(rt: HostRuntime) -> Result<(), Fail> {
-    let lines = format!(in rt.alloc();
-        "{}; {}; {}; {}; {}; {}",
-        WrapFault::BadLength,
-        WrapFault::Memory,
+    let wraps = format!(in rt.alloc(); "{}; {}", WrapFault::BadLength, WrapFault::Memory)?;
+    assert_eq!(rt; wraps.as_str(), "bad length; out of memory");
+    let unwraps = format!(in rt.alloc();
+        "{}; {}; {}",
         UnwrapFault::BadLength,
         UnwrapFault::Integrity,
-        UnwrapFault::Memory,
-        KindFault::Memory
+        UnwrapFault::Memory
     )?;
     assert_eq!(rt;
-        lines.as_str(),
-        "bad length; out of memory; bad length; integrity check failed; out of memory; \
-         out of memory"
+        unwraps.as_str(),
+        "bad length; integrity check failed; out of memory"
     );
+    let kinds = format!(in rt.alloc(); "{}", KindFault::Memory)?;
+    assert_eq!(rt; kinds.as_str(), "out of memory");
     Ok(())
 }

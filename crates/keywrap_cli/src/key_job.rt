@@ -93,19 +93,6 @@ impl<B: BlockPair> KeyJob<B> {
         }
     }
 
-    // Prints the answer in `output`, without a mark. `bytes` is room for it.
-    fn print(
-        &self,
-        bytes: &mut Vec<u8>,
-        output: &mut Vec<u8>,
-    ) -> Result<Mark, AnswerFault<RewrapFault>>
-        ensures { IsPrinted self.now.task.input output.old.items output.new.items result }
-    {
-        print_in(self.task.input, output, bytes)?;
-        std::mem::swap(bytes, output);
-        Ok(Mark::Unmarked)
-    }
-
     // Makes the answer of a check. `output` is the room for the registers.
     fn check(&self, text: &[u8], output: &mut Vec<u8>) -> Result<Mark, AllocError>
         ensures { IfOk result (λ mark. AnswerOfJob Job.Check self.now.iv self.now.task
@@ -122,6 +109,19 @@ impl<B: BlockPair> KeyJob<B> {
             Kind::Plain(_) | Kind::Padded(_) => Ok(Mark::Unmarked),
             Kind::Neither => Ok(Mark::Marked),
         }
+    }
+
+    // Prints the answer in `output`, without a mark. `bytes` is room for it.
+    fn print(
+        &self,
+        bytes: &mut Vec<u8>,
+        output: &mut Vec<u8>,
+    ) -> Result<Mark, AnswerFault<RewrapFault>>
+        ensures { IsPrinted self.now.task.input output.old.items output.new.items result }
+    {
+        print_in(self.task.input, output, bytes)?;
+        std::mem::swap(bytes, output);
+        Ok(Mark::Unmarked)
     }
 }
 

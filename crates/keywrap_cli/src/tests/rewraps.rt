@@ -9,6 +9,14 @@ use crate::job::JobFault;
 use key_files::FileFault;
 use key_wrap_core::Form;
 
+pub const PLAIN: Call = Call::Rewrap(Form::Plain, Form::Plain, HEX, HEX);
+
+const TO_PADDED: Call = Call::Rewrap(Form::Plain, Form::Padded, HEX, HEX);
+
+const TO_PLAIN: Call = Call::Rewrap(Form::Padded, Form::Plain, HEX, HEX);
+
+const PADDED: Call = Call::Rewrap(Form::Padded, Form::Padded, HEX, HEX);
+
 /// The KEK of RFC 3394, section 4.3.
 pub const NEW_KEK: &[u8] = b"000102030405060708090a0b0c0d0e0f101112131415161718191a1b1c1d1e1f\n";
 
@@ -32,18 +40,6 @@ const FIFTEEN: &[u8] = b"000102030405060708090a0b0c0d0e";
 
 const TWENTY_THREE: &[u8] = b"1fa68b0a8112b447aef34bd8fb5a7b829d3e862371d2cf";
 
-pub const PLAIN: Call = Call::Rewrap(Form::Plain, Form::Plain, HEX, HEX);
-
-const RAW_PLAIN: Call = Call::Rewrap(Form::Plain, Form::Plain, RAW, RAW);
-
-const RAW_KEKS: Call = Call::Rewrap(Form::Plain, Form::Plain, HEX, RAW);
-
-const TO_PADDED: Call = Call::Rewrap(Form::Plain, Form::Padded, HEX, HEX);
-
-const TO_PLAIN: Call = Call::Rewrap(Form::Padded, Form::Plain, HEX, HEX);
-
-const PADDED: Call = Call::Rewrap(Form::Padded, Form::Padded, HEX, HEX);
-
 const NEW_KEK_LENGTH: Answer = Err(JobFault::NewKekLength);
 
 const NEW_KEK_DIGIT: Answer = Err(JobFault::NewKekFile(FileFault::BadDigit { at: 1 }));
@@ -53,13 +49,13 @@ const NEW_KEK_DIGITS: Answer = Err(JobFault::NewKekFile(FileFault::OddDigits));
 pub static CASES: [Case; 23] = [
     Case(PLAIN, [HEX_KEK, NEW_KEK, HEX_TEXT], WRITTEN, NEW_TEXT),
     Case(
-        RAW_PLAIN,
+        Call::Rewrap(Form::Plain, Form::Plain, RAW, RAW),
         [RAW_KEK, RAW_NEW_KEK, RAW_TEXT],
         WRITTEN,
         RAW_NEW_TEXT,
     ),
     Case(
-        RAW_KEKS,
+        Call::Rewrap(Form::Plain, Form::Plain, HEX, RAW),
         [RAW_KEK, RAW_NEW_KEK, HEX_TEXT],
         WRITTEN,
         NEW_TEXT,
