@@ -95,7 +95,6 @@ bench: build library library-hardware provider wheel js
 	bench/js.mjs '$(JS)'
 	$(PYTHON) bench/rotation '$(PROGRAM)' '$(wheel)'
 
-# The plots; the completions and the map of the crates; the tables of docs/TRUST.md.
 pictures:
 	scripts/plots.py
 	scripts/facts.py
