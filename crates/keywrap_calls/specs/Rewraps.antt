@@ -22,13 +22,9 @@ abbrev pub form_of_bit : ℕ → Form
 form_of_bit zero = Plain
 form_of_bit (suc _) = Padded
 
--- bit 0 is about the old form, bit 1 about the new one
-abbrev pub changed : ℕ → RewrapForms
-changed flags = Changed (by_default (form_of_bit (flags % 2))) (by_default (form_of_bit (flags / 2 % 2)))
-
--- if bit 2 is set, the form is kept
+-- bit 0 is about the old form, bit 1 about the new one; if bit 2 is set, the form is kept
 abbrev pub forms_of : ℕ → RewrapForms
-forms_of flags = if flags / 4 % 2 == 0 then changed flags else Kept
+forms_of flags = if flags / 4 % 2 == 0 then Changed (by_default (form_of_bit (flags % 2))) (by_default (form_of_bit (flags / 2 % 2))) else Kept
 
 -- if bit 3 is set, a wrapped key that is new already is passed
 abbrev pub passes_new : ℕ → Bool

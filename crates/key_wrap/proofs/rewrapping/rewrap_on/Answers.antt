@@ -11,11 +11,10 @@ use Rattle.key_wrap.proofs.rewrapping.rewrap_on.Goals as goal
 
 pub returns-then-not-rewrap_length_ok : goal.returns-then-not-rewrap_length_ok
 returns-then-not-rewrap_length_ok g c =
-    let text : List ℕ = c.args.text.now in
-    let illegal : ¬ IsOldLength c.args.forms.now (length text) = λ legal. true_or_false c.if-not-rewrap_length_ok.true (c.rewrap_length_ok.ensures.1 legal) in
+    let illegal : ¬ IsOldLength c.args.forms.now (length c.args.text.now) = λ legal. true_or_false c.if-not-rewrap_length_ok.true (c.rewrap_length_ok.ensures.1 legal) in
     record {
       memory = λ e. cc;
-      results = λ some. (Err BadLength, text, results_of (g.met.O.BlockPair.lawful c.args.old.now.pair) ((illegal, λ no. absurd (true_or_false refl no)), refl), refl);
+      results = λ some. (Err BadLength, _, results_of (g.met.O.BlockPair.lawful c.args.old.now.pair) ((illegal, λ no. absurd (true_or_false refl no)), refl), refl);
       size = tt;
     }
 
@@ -31,10 +30,9 @@ returns-in_err-rewrap g c =
 
 pub returns : goal.returns
 returns g c =
-    let text : List ℕ = c.args.text.now in
-    let same : c.deref_mut.result.now ≡ text = c.deref_mut.ensures.value ∙ c.in_ok-buffer.ensures.items in
+    let same : c.deref_mut.result.now ≡ c.args.text.now = c.deref_mut.ensures.value ∙ c.in_ok-buffer.ensures.items in
     let new : List ℕ = c.rewrap.new.buf in
-    let size : length new ≡ length text = search rules in
+    let size : length new ≡ length c.args.text.now = search rules in
     let back = written_back c.in_ok-buffer.buffer.len new c.in_ok-buffer.buffer.items (omega arith) in
     let results = rw same at c.in_ok-rewrap.ensures.results in
     record {
