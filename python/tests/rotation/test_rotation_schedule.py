@@ -119,7 +119,7 @@ sys.exit(main())
 
 
 def test_a_writer_of_sqlite_gets_in_between():
-    """Four processes write as fast as they may, but leave the database alone for as long as they locked it."""
+    """Four processes write as fast as they may, but do not lock the database for as long as they locked it."""
     filled(3000)
     running = subprocess.Popen([sys.executable, "-B", "-c", SLOW, "--jobs", "4", "--table", "keys", "keys.db"],
                                stderr=subprocess.DEVNULL)  # fmt: skip
