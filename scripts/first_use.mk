@@ -44,7 +44,8 @@ keywrap_io keywrap_args: gently = nice -n 19
 # A second job costs a seventh of a crate's processor time, and these are done before anything waits for them.
 keywrap_io keywrap_args aes_vector: jobs = 1
 
-externs = $(foreach crate,std $(filter-out $(notdir $(wildcard crates/*)),$(call named,$@)),--extern $(crate)='$(kit)/rlibs/$(crate).rlib') \
+externs = $(foreach crate,std $(filter-out $(notdir $(wildcard crates/*)),$(call named,$@)),\
+    --extern $(crate)='$(kit)/rlibs/$(crate).rlib') \
     $(foreach crate,$(call below,$@),--extern $(crate)=../../$(kept)/$(crate).rlib)
 # A signal to make ends rattle: no shell is between them.
 rattle = cd 'crates/$@' && exec $(gently) '$(kit)/bin/rattle' build --crate-name $@ $(externs) \

@@ -58,7 +58,7 @@ def test_width():
     data = [":!crates", ":!python", ":!command/completions", ":!crates.txt", ":!*.csv", ":!*.svg",
             ":!tests/launcher.txt", ":!dist/keywrap.c"]
     search = ["git", "-C", ROOT, "grep", "-I", "--count", "-E", ".{121}", "--", "."]
-    assert "crates.txt:1\n" in subprocess.run(search, capture_output=True, text=True).stdout
+    assert "crates.txt:" in subprocess.run(search, capture_output=True, text=True).stdout
     assert subprocess.run([*search, *data], capture_output=True, text=True).stdout == ""
 
 
