@@ -108,8 +108,10 @@ def test_variables_of_several_keks(rotated, monkeypatch):
     assert rotated("store")[0] == 0
     assert read("store") == hexes(NEW_KEK)
     # Options take the place of all of them.
-    write("store", hexes(OTHERS[0]))
-    assert rotated("--kek", "kek.hex", "store")[0] == 5
+    for words in (["--kek", "kek.hex"], ["--kek-command", "cat kek.hex"]):
+        monkeypatch.setenv("KEYWRAP_KEK_2", "0.hex")
+        write("store", hexes(OTHERS[0]))
+        assert rotated(*words, "store")[0] == 5
 
 
 def test_a_report_belongs_to_all_keks(rotated):
