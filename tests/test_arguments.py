@@ -168,7 +168,8 @@ class TestHelp:
 
     def test_messages_of_the_page(self):
         """The messages that the page quotes end a text in the sources of the program. N and L are numbers there."""
-        sources = "\n".join(path.read_text() for name in ("key_files", "keywrap_cli", "keywrap_io", "keywrap")
+        crates = ("key_wrap_core", "key_files", "keywrap_cli", "keywrap_io", "keywrap")
+        sources = "\n".join(path.read_text() for name in crates
                             for path in (ROOT / "crates" / name / "src").glob("*.rt"))
         first = "no |bad |cannot |too |odd |base64 |length |last |refused |output: "
         quoted = re.findall(rf"(?m)^\.(?:It |Pq )?Ql ((?:{first}).*?)[ .,:]*$", PAGE)
