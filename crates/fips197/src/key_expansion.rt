@@ -33,7 +33,7 @@ pub trait SubWord {
 /// Writes the key schedule of `kek`: the key's words, and each word after them from those before it.
 /// The rest of `words` stays. Nothing is written unless `kek` has `key_words` words, and a legal
 /// length.
-// Without division, if `key_words` is a number where this is called.
+// The compiler leaves out the division if the caller passes `key_words` as a number.
 #[inline(always)]
 pub fn expand_key<S: SubWord>(kek: &[u8], key_words: usize, words: &mut [u32; MAX_WORDS])
     ensures schedule { IsKekLength (length kek.now) → length kek.now ≡ 4 * key_words

@@ -51,7 +51,7 @@ pub record Rewraps (E F : List ℕ → List ℕ) (old_kek new_kek : List ℕ) (f
     : Type 0 where
   pub bad_kek : IsBadKek status ↔ ¬ AreKeks old_kek new_kek
   pub bad_flags : AreKeks old_kek new_kek → ¬ AreFlags flags → IsBadLength status
-  -- the status and the number are those of a rewrapping of the old buffer; there is only one such result
+  -- a rewrapping of the old buffer has this status and this number; there is only one such result
   pub rewraps : AreKeks old_kek new_kek → AreFlags flags → (result : Result Rewrapped RewrapFault)
       × IsRewrapping (passes_new flags) (forms_of flags) E F old result new × (status ≡ rewrap_status result) × (already ≡ already_of result)
   pub kept : ¬ IsDone status → new ≡ old
