@@ -16,7 +16,7 @@ use Rattle.key_wrap_core.proofs.PlainForm.{default_free}
 use Rattle.key_wrap_core.proofs.EitherForms.{no_other_form}
 use Rattle.key_wrap.specs.declared.faults.UnwrapFault.{UnwrapFault}
 use Rattle.key_wrap.specs.declared.faults.UnwrapFault.TheVariants.{Memory}
-use Rattle.key_wrap.specs.Results.{IsAnswerOf, Rewraps, rewrap_fault}
+use Rattle.key_wrap.specs.Results.{IsAnswerOf, RewrapsToVec, rewrap_fault}
 
 -- the call in the buffer takes no memory
 pub no_memory : (fault : RewrapFault) → ¬ (rewrap_fault fault ≡ Memory)
@@ -37,7 +37,7 @@ other_form form old E F text out (Err fault) after inv results is = cc
 
 -- and so the new wrapping is none
 pub new_form_only : {Z : Type 0} {D : List ℕ → List ℕ} (form : Form) (old : AgreedForm) (E F : List ℕ → List ℕ) (text : List ℕ)
-    (answer : Result (Vec ℕ Z) UnwrapFault) → AreInverse F D → Rewraps (Changed old (by_default form)) E F text answer
+    (answer : Result (Vec ℕ Z) UnwrapFault) → AreInverse F D → RewrapsToVec (Changed old (by_default form)) E F text answer
     → IfOk answer (λ out. NoOtherForm (by_default form) F out.items)
 new_form_only form old E F text (Ok out) inv is =
     let found = is.results (λ e. cc) in

@@ -61,7 +61,7 @@ IsAnswerOf (Err fault) after answer = answer ≡ Err (rewrap_fault fault)
 
 -- The promise about the result of a rewrap that takes memory: the result of the call in its buffer, or there was no memory for a
 -- text of a legal length.
-pub record Rewraps {Z : Type 0} (forms : RewrapForms) (E F : List ℕ → List ℕ) (text : List ℕ) (answer : Result (Vec ℕ Z) UnwrapFault) : Type 0 where
+pub record RewrapsToVec {Z : Type 0} (forms : RewrapForms) (E F : List ℕ → List ℕ) (text : List ℕ) (answer : Result (Vec ℕ Z) UnwrapFault) : Type 0 where
   pub memory : answer ≡ Err Memory → IsOldLength forms (length text)
   pub results : ¬ (answer ≡ Err Memory) → (result : Result Rewrapped RewrapFault) × (after : List ℕ)
       × RewrapResults false forms E F text result after × IsAnswerOf result after answer

@@ -3,7 +3,7 @@
 ghost use Rattle.std.specs.Prelude.{IfOk};
 ghost use Rattle.key_wrap_core.specs.declared.rewrapping.RewrapForms.{RewrapForms};
 ghost use Rattle.key_wrap_core.specs.Forms.{NoOtherForm, by_default};
-ghost use Rattle.key_wrap.specs.Results.{Rewraps};
+ghost use Rattle.key_wrap.specs.Results.{RewrapsToVec};
 
 use crate::faults::UnwrapFault;
 use block_pair::{BlockPair, Meter};
@@ -25,7 +25,7 @@ pub fn rewrap<O: BlockPair, N: BlockPair>(
     new_form: Form,
     text: &[u8],
 ) -> Result<Vec<u8>, UnwrapFault>
-    ensures rewraps { Rewraps (RewrapForms.Changed (by_default old_form) (by_default new_form))
+    ensures rewraps { RewrapsToVec (RewrapForms.Changed (by_default old_form) (by_default new_form))
         (O.encrypted old.now) (N.encrypted new.now) text.now result }
     ensures other_form { IfOk result (λ answer.
         NoOtherForm (by_default new_form) (N.encrypted new.now) answer.items) }
@@ -47,7 +47,7 @@ pub fn rewrap_keeping_form<O: BlockPair, N: BlockPair>(
     new: &N,
     text: &[u8],
 ) -> Result<Vec<u8>, UnwrapFault>
-    ensures { Rewraps RewrapForms.Kept (O.encrypted old.now) (N.encrypted new.now) text.now result }
+    ensures { RewrapsToVec RewrapForms.Kept (O.encrypted old.now) (N.encrypted new.now) text.now result }
 {
     let (mut old, mut new) = (Meter::new(old), Meter::new(new));
     rewrap_on(alloc, &mut old, &mut new, &RewrapForms::Kept, text)
@@ -61,7 +61,7 @@ pub(crate) fn rewrap_on<A: Allocator, O: BlockPair, N: BlockPair>(
     forms: &RewrapForms,
     text: &[u8],
 ) -> Result<Vec<u8, A>, UnwrapFault>
-    ensures { Rewraps forms.now (O.encrypted old.old.pair) (N.encrypted new.old.pair) text.now result }
+    ensures { RewrapsToVec forms.now (O.encrypted old.old.pair) (N.encrypted new.old.pair) text.now result }
 {
     if !rewrap_length_ok(forms, text.len()) {
         return Err(UnwrapFault::BadLength);

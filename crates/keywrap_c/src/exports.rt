@@ -5,7 +5,7 @@ ghost use Rattle.std.specs.Prelude.{◌≡◌, ◌↔◌, ◌⊎◌, ◌<◌, []
 ghost use Rattle.fips197.specs.Cipher.{cipher};
 ghost use Rattle.key_wrap_core.specs.InPlace.{key_in};
 ghost use Rattle.keywrap_calls.specs.Status.{IsDone, IsIntegrity};
-ghost use Rattle.keywrap_calls.specs.Calls.{Wraps, Unwraps, WrapsWith, UnwrapsWith, WrapsInPlace, UnwrapsInPlace};
+ghost use Rattle.keywrap_calls.specs.Calls.{WrapsPlain, UnwrapsPlain, WrapsWith, UnwrapsWith, WrapsInPlace, UnwrapsInPlace};
 ghost use Rattle.keywrap_calls.specs.Calls.{WrapsPadded, UnwrapsPadded, WrapsPaddedInPlace, UnwrapsPaddedInPlace, IsPaddedKey};
 ghost use Rattle.keywrap_calls.specs.Any.{UnwrapsAny};
 ghost use Rattle.keywrap_calls.specs.Kinds.{FindsKind};
@@ -44,7 +44,7 @@ macro_rules! in_rooms {
 /// Wraps in the plain form.
 #[unsafe(no_mangle)]
 pub extern "C" fn keywrap_wrap(kek: In, key: In, text: Out) -> i32
-    ensures { Wraps (cipher kek.now) kek.now key.now text.old text.new result }
+    ensures { WrapsPlain (cipher kek.now) kek.now key.now text.old text.new result }
 {
     in_room!(wrap, kek, key, text)
 }
@@ -52,7 +52,7 @@ pub extern "C" fn keywrap_wrap(kek: In, key: In, text: Out) -> i32
 /// Unwraps in the plain form.
 #[unsafe(no_mangle)]
 pub extern "C" fn keywrap_unwrap(kek: In, text: In, key: Out) -> i32
-    ensures { Unwraps (cipher kek.now) kek.now text.now key.old key.new result }
+    ensures { UnwrapsPlain (cipher kek.now) kek.now text.now key.old key.new result }
 {
     in_room!(unwrap, kek, text, key)
 }

@@ -51,11 +51,11 @@ pub record IsPaddedKey (E : List ℕ → List ℕ) (text key front new : List �
   pub around : IsDone status → new ≡ front ++ padded key
 
 -- the plain form, from one buffer into another
-abbrev pub Wraps : (E : List ℕ → List ℕ) (kek key old new : List ℕ) (status : ℤ) → Type 0
-Wraps E kek key old new status = IsWrapCall (ArePlainLengths (length key) (length old)) (Plain E default_iv) kek key old new status
+abbrev pub WrapsPlain : (E : List ℕ → List ℕ) (kek key old new : List ℕ) (status : ℤ) → Type 0
+WrapsPlain E kek key old new status = IsWrapCall (ArePlainLengths (length key) (length old)) (Plain E default_iv) kek key old new status
 
-abbrev pub Unwraps : (E : List ℕ → List ℕ) (kek text old new : List ℕ) (status : ℤ) → Type 0
-Unwraps E kek text old new status =
+abbrev pub UnwrapsPlain : (E : List ℕ → List ℕ) (kek text old new : List ℕ) (status : ℤ) → Type 0
+UnwrapsPlain E kek text old new status =
     IsUnwrapCall (ArePlainLengths (length old) (length text)) (Plain E default_iv) (Padded E) kek text new old new status
 
 -- the plain form under an initial value, from one buffer into another

@@ -12,14 +12,14 @@ use Rattle.test_vectors.specs.declared.table.Algorithm.{Algorithm}
 use Rattle.test_vectors.specs.declared.table.Algorithm.TheVariants.{KeyWrap, KeyWrapWithPadding, Encryption}
 
 -- the wrapped key is the wrapping of the key under AES of the KEK. A library encrypts no single blocks.
-abbrev pub Wraps : Algorithm → List ℕ → List ℕ → List ℕ → Type 0
-Wraps KeyWrap kek key text = IsKekLength (length kek) × Plain (cipher kek) default_iv key text
-Wraps KeyWrapWithPadding kek key text = IsKekLength (length kek) × Padded (cipher kek) key text
-Wraps Encryption kek key text = ⊤
+abbrev pub IsWrappedUnder : Algorithm → List ℕ → List ℕ → List ℕ → Type 0
+IsWrappedUnder KeyWrap kek key text = IsKekLength (length kek) × Plain (cipher kek) default_iv key text
+IsWrappedUnder KeyWrapWithPadding kek key text = IsKekLength (length kek) × Padded (cipher kek) key text
+IsWrappedUnder Encryption kek key text = ⊤
 
-abbrev pub IsRight : TestVector → Type 0
-IsRight v = Wraps v.algorithm v.key v.input v.output
+abbrev pub IsRightWrapping : TestVector → Type 0
+IsRightWrapping v = IsWrappedUnder v.algorithm v.key v.input v.output
 
 pub record IsAllRight : Type 0 where
-  pub wrappings : AllByRecursion IsRight published_vectors
+  pub wrappings : AllByRecursion IsRightWrapping published_vectors
   pub refused : NoKey (Plain (cipher damaged_kek) default_iv) damaged

@@ -2,7 +2,7 @@
 use Rattle.std.specs.Prelude.{◌≡◌, ⊤, ℕ, ℤ, List, take}
 use Rattle.std.specs.List.{AllByRecursion}
 use Rattle.fips197.specs.Cipher.{cipher}
-use Rattle.keywrap_calls.specs.Calls.{Wraps, Unwraps, WrapsPadded, UnwrapsPadded}
+use Rattle.keywrap_calls.specs.Calls.{WrapsPlain, UnwrapsPlain, WrapsPadded, UnwrapsPadded}
 use Rattle.keywrap_calls.specs.Status.{IsDone, IsIntegrity}
 use Rattle.test_vectors.specs.Published.{published_vectors, damaged, damaged_kek}
 use Rattle.test_vectors.specs.declared.table.Algorithm.{Algorithm}
@@ -58,8 +58,8 @@ pub record AllTried (calls : Calls) : Type 0 where
 -- the exports, with the meaning of each call
 abbrev pub exports : Calls
 exports = record {
-  wrap = λ kek key old new status. Wraps (cipher kek) kek key old new status;
-  unwrap = λ kek text old new status. Unwraps (cipher kek) kek text old new status;
+  wrap = λ kek key old new status. WrapsPlain (cipher kek) kek key old new status;
+  unwrap = λ kek text old new status. UnwrapsPlain (cipher kek) kek text old new status;
   wrap_padded = λ kek key old new status. WrapsPadded (cipher kek) kek key old new status;
   unwrap_padded = λ kek text old new len status. UnwrapsPadded (cipher kek) kek text old new len status;
 }

@@ -8,8 +8,8 @@ ghost use Rattle.fips197.specs.KeyExpansion.{IsKekLength};
 ghost use Rattle.key_wrap_core.specs.Plain.{Plain, default_iv};
 ghost use Rattle.key_wrap_core.specs.NoKey.{NoKey};
 ghost use Rattle.key_wrap_core.specs.Padded.{Padded};
-ghost use Rattle.keywrap_calls.specs.Calls.{Wraps, Unwraps, WrapsPadded, UnwrapsPadded, IsPaddedKey};
-ghost use Rattle.keywrap_calls.specs.SelfTest.{IsAllRight, IsRight};
+ghost use Rattle.keywrap_calls.specs.Calls.{WrapsPlain, UnwrapsPlain, WrapsPadded, UnwrapsPadded, IsPaddedKey};
+ghost use Rattle.keywrap_calls.specs.SelfTest.{IsAllRight, IsRightWrapping};
 ghost use Rattle.keywrap_calls.specs.Status.{IsDone, IsIntegrity};
 ghost use Rattle.test_vectors.specs.Published.{published_vectors, damaged, damaged_kek};
 
@@ -30,12 +30,12 @@ pub trait TestedCalls {
 
     /// Wraps in the plain form.
     fn wrap(kek: &[u8], key: &[u8], text: &mut [u8]) -> i32
-        ensures wraps { Wraps (cipher kek.now) kek.now key.now text.old text.new result }
+        ensures wraps { WrapsPlain (cipher kek.now) kek.now key.now text.old text.new result }
         ensures made { calls.wrap kek.now key.now text.old text.new result };
 
     /// Unwraps in the plain form.
     fn unwrap(kek: &[u8], text: &[u8], key: &mut [u8]) -> i32
-        ensures unwraps { Unwraps (cipher kek.now) kek.now text.now key.old key.new result }
+        ensures unwraps { UnwrapsPlain (cipher kek.now) kek.now text.now key.old key.new result }
         ensures made { calls.unwrap kek.now text.now key.old key.new result };
 
     /// Wraps in the padded form.
@@ -65,7 +65,7 @@ pub fn self_test<C: TestedCalls>() -> i32
 }
 
 fn wrappings_are_right<C: TestedCalls>() -> bool
-    ensures right { IsTrue result ↔ AllByRecursion IsRight published_vectors }
+    ensures right { IsTrue result ↔ AllByRecursion IsRightWrapping published_vectors }
     ensures tried { IsTrue result → AllByRecursion
         (λ v. GivesBoth C.calls v.algorithm v.key v.input v.output) published_vectors }
 {

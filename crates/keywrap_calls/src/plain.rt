@@ -1,7 +1,7 @@
 //! The plain form from one buffer into another.
 
 ghost use Rattle.fips197.specs.Cipher.{cipher};
-ghost use Rattle.keywrap_calls.specs.Calls.{Wraps, Unwraps};
+ghost use Rattle.keywrap_calls.specs.Calls.{WrapsPlain, UnwrapsPlain};
 
 use crate::status::{BAD_KEK, status_of};
 use block_pair::Meter;
@@ -10,7 +10,7 @@ use key_wrap_core::{unwrap_into, wrap_into};
 
 /// Wraps `key` under `kek` in the plain form, into `text` (RFC 3394, section 2.2.1).
 pub fn wrap<A: KeyInit>(room: A::Room, kek: &[u8], key: &[u8], text: &mut [u8]) -> i32
-    ensures { Wraps (cipher kek.now) kek.now key.now text.old text.new result }
+    ensures { WrapsPlain (cipher kek.now) kek.now key.now text.old text.new result }
 {
     let Ok(aes) = A::new_in(kek, room) else {
         return BAD_KEK;
@@ -21,7 +21,7 @@ pub fn wrap<A: KeyInit>(room: A::Room, kek: &[u8], key: &[u8], text: &mut [u8]) 
 /// Unwraps `text`, in the plain form under `kek`, into `key` (RFC 3394, section 2.2.2). At
 /// `INTEGRITY` every byte of `key` is zero.
 pub fn unwrap<A: KeyInit>(room: A::Room, kek: &[u8], text: &[u8], key: &mut [u8]) -> i32
-    ensures { Unwraps (cipher kek.now) kek.now text.now key.old key.new result }
+    ensures { UnwrapsPlain (cipher kek.now) kek.now text.now key.old key.new result }
 {
     let Ok(aes) = A::new_in(kek, room) else {
         return BAD_KEK;

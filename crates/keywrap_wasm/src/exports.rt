@@ -4,7 +4,7 @@ ghost use Rattle.std.specs.Prelude.{◌≡◌, ◌↔◌, ◌⊎◌, ◌<◌, []
 ghost use Rattle.aes_block.specs.Cipher.{cipher};
 ghost use Rattle.key_wrap_core.specs.InPlace.{key_in};
 ghost use Rattle.keywrap_calls.specs.Status.{IsDone, IsIntegrity};
-ghost use Rattle.keywrap_calls.specs.Calls.{Wraps, Unwraps, WrapsWith, UnwrapsWith, WrapsInPlace, UnwrapsInPlace};
+ghost use Rattle.keywrap_calls.specs.Calls.{WrapsPlain, UnwrapsPlain, WrapsWith, UnwrapsWith, WrapsInPlace, UnwrapsInPlace};
 ghost use Rattle.keywrap_calls.specs.Calls.{WrapsPadded, UnwrapsPadded, WrapsPaddedInPlace, UnwrapsPaddedInPlace, IsPaddedKey};
 ghost use Rattle.keywrap_calls.specs.Any.{UnwrapsAny};
 ghost use Rattle.keywrap_calls.specs.Kinds.{FindsKind};
@@ -21,7 +21,7 @@ use keywrap_calls::{In, Out, TestedCalls};
 /// Wraps in the plain form.
 #[unsafe(no_mangle)]
 pub extern "C" fn keywrap_wrap(kek: In, key: In, text: Out) -> i32
-    ensures { Wraps (cipher kek.now) kek.now key.now text.old text.new result }
+    ensures { WrapsPlain (cipher kek.now) kek.now key.now text.old text.new result }
 {
     keywrap_calls::wrap::<Aes>((), kek, key, text)
 }
@@ -29,7 +29,7 @@ pub extern "C" fn keywrap_wrap(kek: In, key: In, text: Out) -> i32
 /// Unwraps in the plain form.
 #[unsafe(no_mangle)]
 pub extern "C" fn keywrap_unwrap(kek: In, text: In, key: Out) -> i32
-    ensures { Unwraps (cipher kek.now) kek.now text.now key.old key.new result }
+    ensures { UnwrapsPlain (cipher kek.now) kek.now text.now key.old key.new result }
 {
     keywrap_calls::unwrap::<Aes>((), kek, text, key)
 }

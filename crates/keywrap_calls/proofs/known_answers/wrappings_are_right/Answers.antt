@@ -1,13 +1,13 @@
 -- If all wrappings are right, each was found so, by calls.
 use Rattle.std.proofs.Common.{◌↔◌, IsTrue, rules}
 use Rattle.std.specs.List.{AllByRecursion}
-use Rattle.keywrap_calls.specs.SelfTest.{IsRight}
+use Rattle.keywrap_calls.specs.SelfTest.{IsRightWrapping}
 use Rattle.test_vectors.specs.Published.{published_vectors}
 use Rattle.keywrap_calls.proofs.known_answers.wrappings_are_right.Goals as goal
 
 pub returns-then-seven-clause-tried : goal.returns-then-seven-clause-tried
 returns-then-seven-clause-tried g c = λ said.
-    let right : IsTrue c.is_padded-eight.result ↔ AllByRecursion IsRight published_vectors = search rules in
+    let right : IsTrue c.is_padded-eight.result ↔ AllByRecursion IsRightWrapping published_vectors = search rules in
     let all = right.0 said in (
       c.is_plain-one.ensures.tried (c.is_plain-one.ensures.right.1 all.0),
       (

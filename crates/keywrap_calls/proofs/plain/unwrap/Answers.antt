@@ -4,7 +4,7 @@ use mir.Syntax.{w32}
 use mir.Val.{SFits}
 use Rattle.fips197.specs.Cipher.{cipher}
 use Rattle.keywrap_calls.specs.Status.{outcome_status}
-use Rattle.keywrap_calls.specs.Calls.{Unwraps}
+use Rattle.keywrap_calls.specs.Calls.{UnwrapsPlain}
 use Rattle.keywrap_calls.proofs.Calls.{unwraps, passed_on}
 use Rattle.keywrap_calls.proofs.plain.unwrap.Goals as goal
 
@@ -16,6 +16,6 @@ returns g c =
     let told = c.unwrap_into.ensures.unwraps in
     let left = c.unwrap_into.ensures.refused in
     let fits : SFits w32 c.status_of.result = search rules in
-    subst (λ status. Unwraps (cipher c.args.kek.now) c.args.kek.now c.args.text.now c.args.key.now c.unwrap_into.new.key status) (sym (passed_on fits c.status_of.ensures))
-    (subst (λ E. Unwraps E c.args.kek.now c.args.text.now c.args.key.now c.unwrap_into.new.key (outcome_status c.unwrap_into.result)) under
+    subst (λ status. UnwrapsPlain (cipher c.args.kek.now) c.args.kek.now c.args.text.now c.args.key.now c.unwrap_into.new.key status) (sym (passed_on fits c.status_of.ensures))
+    (subst (λ E. UnwrapsPlain E c.args.kek.now c.args.text.now c.args.key.now c.unwrap_into.new.key (outcome_status c.unwrap_into.result)) under
     (unwraps _ _ _ _ _ _ _ _ _ (λ _. c.unwrap_into.new.key) legal_kek told.answer told.only_key told.restores told.other_form left.kept left.cleared (λ _ _. refl)))

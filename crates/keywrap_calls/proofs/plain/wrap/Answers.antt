@@ -4,7 +4,7 @@ use mir.Syntax.{w32}
 use mir.Val.{SFits}
 use Rattle.fips197.specs.Cipher.{cipher}
 use Rattle.keywrap_calls.specs.Status.{outcome_status}
-use Rattle.keywrap_calls.specs.Calls.{Wraps}
+use Rattle.keywrap_calls.specs.Calls.{WrapsPlain}
 use Rattle.keywrap_calls.proofs.Calls.{wraps, passed_on}
 use Rattle.keywrap_calls.proofs.Lengths.{plain_lengths-not_refused}
 use Rattle.keywrap_calls.proofs.plain.wrap.Goals as goal
@@ -16,6 +16,6 @@ returns g c =
     let legal_kek = c.in-Ok.ensures.accepted.0 refl in
     let told = c.wrap_into.ensures.wraps in
     let fits : SFits w32 c.status_of.result = search rules in
-    subst (λ status. Wraps (cipher c.args.kek.now) c.args.kek.now c.args.key.now c.args.text.now c.wrap_into.new.text status) (sym (passed_on fits c.status_of.ensures))
-    (subst (λ E. Wraps E c.args.kek.now c.args.key.now c.args.text.now c.wrap_into.new.text (outcome_status c.wrap_into.result)) under
+    subst (λ status. WrapsPlain (cipher c.args.kek.now) c.args.kek.now c.args.key.now c.args.text.now c.wrap_into.new.text status) (sym (passed_on fits c.status_of.ensures))
+    (subst (λ E. WrapsPlain E c.args.kek.now c.args.key.now c.args.text.now c.wrap_into.new.text (outcome_status c.wrap_into.result)) under
     (wraps _ _ _ _ _ _ _ legal_kek (plain_lengths-not_refused _ _) told.bad_length told.only_fault told.kept told.answer told.only_text))
