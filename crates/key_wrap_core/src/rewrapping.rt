@@ -3,13 +3,13 @@
 
 ghost use Rattle.std.specs.Prelude.{◌≡◌, ◌↔◌, ℕ, ◌+◌, ◌*◌, ◌++◌, List, length, drop, false, Bool, Result, IsTrue, IsOk, IsErr, IfOk, IfErr};
 ghost use Rattle.block_pair.specs.Metered.{counted};
-ghost use Rattle.key_wrap_core.specs.Calls.{block_calls};
 ghost use Rattle.key_wrap_core.specs.Words.{word_bytes};
 ghost use Rattle.key_wrap_core.specs.Lengths.{IsPaddedTextLength};
-ghost use Rattle.key_wrap_core.specs.Forms.{IsKeyLengthAs};
-ghost use Rattle.key_wrap_core.specs.Found.{HoldsIn};
 ghost use Rattle.key_wrap_core.specs.Rewrap.{HasFault, IsFrom, IsOldLength, IsRewrapping, RewrapResults};
 ghost use Rattle.key_wrap_core.specs.Rewrap.{to_form, to_itself};
+ghost use Rattle.key_wrap_core.specs.Forms.{IsKeyLengthAs};
+ghost use Rattle.key_wrap_core.specs.Found.{HoldsIn};
+ghost use Rattle.key_wrap_core.specs.Calls.{block_calls};
 ghost use Rattle.key_wrap_core.specs.BufferCalls.{RewrapCalls};
 ghost use Rattle.key_wrap_core.specs.Private.{Fits, IsFound, TellsKey, as_fresh};
 
