@@ -39,16 +39,16 @@ def test_in_parts_of_any_length():
 
 
 def test_in_threads():
-    """Each has a state of its own, and the calls run at once."""
-    lengths = [source % 70000 for source in range(1000, 800_000, 997)]
+    """Each has a state of its own. The calls run at once: each takes milliseconds."""
+    contents = [CONTENT[at:] * 100 for at in range(8)]
 
-    def act(length):
+    def act(content):
         digest = digests.Blake2bp()
-        digest.update(CONTENT[:length])
+        digest.update(content)
         return digest.hexdigest()
 
     with concurrent.futures.ThreadPoolExecutor(4) as threads:
-        assert list(threads.map(act, lengths)) == [blake2bp(CONTENT[:length]).hexdigest() for length in lengths]
+        assert list(threads.map(act, contents)) == [blake2bp(content).hexdigest() for content in contents]
 
 
 def test_a_published_digest():
