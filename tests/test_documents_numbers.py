@@ -78,12 +78,16 @@ class TestMeasured:
         assert text.format(*map(times.get, ways)) in words_of("docs/C_LIBRARY.md")
 
     def test_times_of_a_rotation(self):
-        """docs/RECIPES.md has the times of docs/pictures/stores.csv, with two digits, and the memory."""
+        """docs/RECIPES.md has the numbers of docs/pictures/stores.csv, with two digits, and the memory."""
+        def two_digits(number):
+            rounded = float(f"{float(number):.2g}")
+            return f"{rounded:,.0f}" if rounded >= 100 else f"{rounded:g}"
+
         page = text_of("docs/RECIPES.md")
-        table = re.search(r"^\| \| first run \| again \| memory \|\n.*\n((?:\|.*\n)+)", page, re.M)
-        due = [["lines" if store == "files" else store,
-                *(f"{float(f'{float(time):.2g}'):g} µs" for time in times), f"{memory} MB"]
-               for store, *times, memory in measured("stores")[1:]]
+        table = re.search(r"^\| \| jobs \| keys/s .*\n\|-.*\n((?:\|.*\n)+)", page, re.M)
+        due = [["lines" if store == "files" else store, jobs, two_digits(rate), f"{two_digits(us)} µs", f"{two_digits(again)} µs",
+                f"{memory} MB", f"{two_digits(wait)} ms" if wait else ""]
+               for store, jobs, rate, us, again, memory, wait in measured("stores")[1:]]
         assert [[cell.strip() for cell in line.split("|")[1:-1]] for line in table[1].splitlines()] == due
 
     def test_times_in_python_and_java(self):

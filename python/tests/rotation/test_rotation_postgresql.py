@@ -259,6 +259,11 @@ def test_waits_while_a_replica_is_behind(server, replica, monkeypatch):
     time.sleep(7)  # Who waits is not given up.
     assert (running.poll(), server.held()) == (None, OLD)
     replica.sql("SELECT pg_wal_replay_resume()")
+    resumed = time.monotonic()
+    while server.held() == OLD:
+        assert time.monotonic() < resumed + 60
+        time.sleep(0.02)
+    print(f"the first keys are new {time.monotonic() - resumed:.1f} s after the replica goes on")
     lines = running.communicate(timeout=120)[1].decode().splitlines()
     assert (running.returncode, server.held()) == (0, NEW), lines
     replica.sql("SELECT pg_wal_replay_pause()")
