@@ -4,7 +4,7 @@
  *     cc -O2 -c keywrap.c
  *
  * Version 1.1.0-dev. `make dist-sources` of the repository writes this file; do not edit it.
- * By Rattle rattle-kit-13b logic dac8208d650f15bf, binaryen 108, wabt 1.0.32.
+ * By Rattle rattle-kit-13f logic dac8208d650f15bf, binaryen 108, wabt 1.0.32.
  * docs/TRUST.md of the repository says what is proved, what is translated and what is trusted.
  *
  * It has four parts: the runtime; the module, which wasm2c translated from the WebAssembly that the
@@ -573,85 +573,84 @@ static void w2c_f4(struct instance *, u64, u64, u64);
 static void w2c_f5(struct instance *, u64, u64, u64, u64, u64, u64, u64);
 static u64 w2c_f6(struct instance *, u64, u64, u64, u64);
 static void w2c_f7(struct instance *, u64, u64, u64, u64, u64, u64, u64, u64);
-static u32 w2c_f8(struct instance *, u64, u64, u64, u64, u64, u64, u32, u64);
-static void w2c_f9(struct instance *, u64, u64, u64, u32, u64, u64);
-static void w2c_f10(struct instance *, u64, u64, u64, u64, u64);
-static u32 w2c_f11(struct instance *, u64, u64, u64, u64, u64);
-static void w2c_f12(struct instance *, u64, u64, u64, u64);
-static void w2c_f13(struct instance *, u64, u64, u64);
-static void w2c_f14(struct instance *, u64, u64, u32, u64, u64, u64, u64);
-static u32 w2c_f15(struct instance *, u64, u64, u64, u64, u64, u64);
-static u32 w2c_f16(struct instance *, u64, u64, u64);
-static u32 w2c_f17(struct instance *, u64, u64, u64, u64, u64, u64);
-static u32 w2c_f18(struct instance *, u64, u64, u64, u64);
-static u32 w2c_f19(struct instance *, u64, u64, u64, u64, u64, u64);
-static u32 w2c_f20(struct instance *, u64, u64, u64, u64, u64, u64, u64);
+static void w2c_f8(struct instance *, u64, u64, u64, u32, u64, u64);
+static void w2c_f9(struct instance *, u64, u64, u64, u64, u64);
+static u32 w2c_f10(struct instance *, u64, u64, u64, u64, u64);
+static void w2c_f11(struct instance *, u64, u64, u64, u64);
+static void w2c_f12(struct instance *, u64, u64, u64);
+static void w2c_f13(struct instance *, u64, u64, u32, u64, u64, u64, u64);
+static u32 w2c_f14(struct instance *, u64, u64, u64, u64, u64, u64);
+static u32 w2c_f15(struct instance *, u64, u64, u64);
+static u32 w2c_f16(struct instance *, u64, u64, u64, u64, u64, u64);
+static u32 w2c_f17(struct instance *, u64, u64, u64, u64);
+static u32 w2c_f18(struct instance *, u64, u64, u64, u64, u64, u64);
+static u32 w2c_f19(struct instance *, u64, u64, u64, u64, u64, u64, u64);
+static void w2c_f20(struct instance *, u64, u32, u64, u64, u64, u64, u64);
 static void w2c_f21(struct instance *, u64, u32, u64, u64, u64, u64, u64);
-static void w2c_f22(struct instance *, u64, u32, u64, u64, u64, u64, u64);
 #endif
 static u32 w2c_keywrap_begin_unwrap(struct instance *, u64, u64, u64, u64, u64);
-static u32 w2c_f24(struct instance *, u64, u64, u64, u64, u64);
+static u32 w2c_f23(struct instance *, u64, u64, u64, u64, u64);
 static u32 w2c_keywrap_begin_unwrap_padded(struct instance *, u64, u64, u64, u64, u64);
-static u32 w2c_f26(struct instance *, u64, u64, u64, u64, u64);
+static u32 w2c_f25(struct instance *, u64, u64, u64, u64, u64);
 static u32 w2c_keywrap_begin_wrap(struct instance *, u64, u64, u64, u64, u64, u64);
-static u32 w2c_f28(struct instance *, u64, u64, u64, u64, u64, u64);
+static u32 w2c_f27(struct instance *, u64, u64, u64, u64, u64, u64);
 static u32 w2c_keywrap_begin_wrap_padded(struct instance *, u64, u64, u64, u64, u64);
-static u32 w2c_f30(struct instance *, u64, u64, u64, u64, u64);
+static u32 w2c_f29(struct instance *, u64, u64, u64, u64, u64);
 static u32 w2c_keywrap_end_unwrap(struct instance *, u64, u64, u64, u64, u64, u64);
-static u32 w2c_f32(struct instance *, u64, u64, u64, u64, u64, u64);
+static u32 w2c_f31(struct instance *, u64, u64, u64, u64, u64, u64);
 static u32 w2c_keywrap_end_unwrap_padded(struct instance *, u64, u64, u64, u64, u64);
-static u32 w2c_f34(struct instance *, u64, u64, u64, u64, u64);
+static u32 w2c_f33(struct instance *, u64, u64, u64, u64, u64);
 static u32 w2c_keywrap_end_wrap(struct instance *, u64, u64, u64, u64, u64);
-static u32 w2c_f36(struct instance *, u64, u64, u64, u64);
+static u32 w2c_f35(struct instance *, u64, u64, u64, u64);
 #ifndef KEYWRAP_STEPS_ONLY
 static u32 w2c_keywrap_kind(struct instance *, u64, u64, u64, u64, u64, u64, u64, u64);
-static u32 w2c_f38(struct instance *, u64, u64, u64, u64, u64, u64, u64, u64);
+static u32 w2c_f37(struct instance *, u64, u64, u64, u64, u64, u64, u64, u64);
 static u32 w2c_keywrap_kind_many(struct instance *, u64, u64, u64, u64, u64, u64, u64, u64, u64, u64, u64, u64);
-static u32 w2c_f40(struct instance *, u64, u64, u64, u64, u64, u64, u64, u64, u64, u64, u64, u64);
+static u32 w2c_f39(struct instance *, u64, u64, u64, u64, u64, u64, u64, u64, u64, u64, u64, u64);
 static u32 w2c_keywrap_rewrap(struct instance *, u64, u64, u64, u64, u64, u64, u32, u64);
-static u32 w2c_f42(struct instance *, u64, u64, u64, u64, u64, u64, u32, u64);
+static u32 w2c_f41(struct instance *, u64, u64, u64, u64, u64, u64, u32, u64);
 static u32 w2c_keywrap_rewrap_in_place(struct instance *, u64, u64, u64, u64, u64, u64, u32);
-static u32 w2c_f44(struct instance *, u64, u64, u64, u64, u64, u64, u32);
+static u32 w2c_f43(struct instance *, u64, u64, u64, u64, u64, u64, u32);
 static u32 w2c_keywrap_rewrap_many(struct instance *, u64, u64, u64, u64, u64, u64, u32, u64, u64);
-static u32 w2c_f46(struct instance *, u64, u64, u64, u64, u64, u64, u32, u64, u64);
+static u32 w2c_f45(struct instance *, u64, u64, u64, u64, u64, u64, u32, u64, u64);
 static u32 w2c_keywrap_self_test(struct instance *);
-static u32 w2c_f48(struct instance *);
+static u32 w2c_f47(struct instance *);
 static u64 w2c_keywrap_status_text(struct instance *, u32, u64, u64);
-static u64 w2c_f50(struct instance *, u32, u64, u64);
+static u64 w2c_f49(struct instance *, u32, u64, u64);
 #endif
 static u32 w2c_keywrap_step_unwrap(struct instance *, u64, u64, u64, u64);
-static u32 w2c_f52(struct instance *, u64, u64, u64, u64);
+static u32 w2c_f51(struct instance *, u64, u64, u64, u64);
 static u32 w2c_keywrap_step_wrap(struct instance *, u64, u64, u64, u64);
-static u32 w2c_f54(struct instance *, u64, u64, u64, u64);
+static u32 w2c_f53(struct instance *, u64, u64, u64, u64);
 #ifndef KEYWRAP_STEPS_ONLY
 static u32 w2c_keywrap_unwrap(struct instance *, u64, u64, u64, u64, u64, u64);
-static u32 w2c_f56(struct instance *, u64, u64, u64, u64, u64, u64);
+static u32 w2c_f55(struct instance *, u64, u64, u64, u64, u64, u64);
 static u32 w2c_keywrap_unwrap_any(struct instance *, u64, u64, u64, u64, u64, u64, u64, u64);
-static u32 w2c_f58(struct instance *, u64, u64, u64, u64, u64, u64, u64, u64);
+static u32 w2c_f57(struct instance *, u64, u64, u64, u64, u64, u64, u64, u64);
 static u32 w2c_keywrap_unwrap_in_place(struct instance *, u64, u64, u64, u64);
-static u32 w2c_f60(struct instance *, u64, u64, u64, u64);
+static u32 w2c_f59(struct instance *, u64, u64, u64, u64);
 static u32 w2c_keywrap_unwrap_many(struct instance *, u64, u64, u64, u64, u32, u64, u64, u64, u64);
-static u32 w2c_f62(struct instance *, u64, u64, u64, u64, u32, u64, u64, u64, u64);
+static u32 w2c_f61(struct instance *, u64, u64, u64, u64, u32, u64, u64, u64, u64);
 static u32 w2c_keywrap_unwrap_padded(struct instance *, u64, u64, u64, u64, u64, u64, u64);
-static u32 w2c_f64(struct instance *, u64, u64, u64, u64, u64, u64, u64);
+static u32 w2c_f63(struct instance *, u64, u64, u64, u64, u64, u64, u64);
 static u32 w2c_keywrap_unwrap_padded_in_place(struct instance *, u64, u64, u64, u64, u64);
-static u32 w2c_f66(struct instance *, u64, u64, u64, u64, u64);
+static u32 w2c_f65(struct instance *, u64, u64, u64, u64, u64);
 static u32 w2c_keywrap_unwrap_with(struct instance *, u64, u64, u64, u64, u64, u64, u64, u64);
-static u32 w2c_f68(struct instance *, u64, u64, u64, u64, u64, u64, u64, u64);
+static u32 w2c_f67(struct instance *, u64, u64, u64, u64, u64, u64, u64, u64);
 static u32 w2c_keywrap_version(struct instance *);
-static void w2c_f70(struct instance *);
+static void w2c_f69(struct instance *);
 static u32 w2c_keywrap_wrap(struct instance *, u64, u64, u64, u64, u64, u64);
-static u32 w2c_f72(struct instance *, u64, u64, u64, u64, u64, u64);
+static u32 w2c_f71(struct instance *, u64, u64, u64, u64, u64, u64);
 static u32 w2c_keywrap_wrap_in_place(struct instance *, u64, u64, u64, u64);
-static u32 w2c_f74(struct instance *, u64, u64, u64, u64);
+static u32 w2c_f73(struct instance *, u64, u64, u64, u64);
 static u32 w2c_keywrap_wrap_many(struct instance *, u64, u64, u64, u64, u64, u32, u64, u64);
-static u32 w2c_f76(struct instance *, u64, u64, u64, u64, u64, u32, u64, u64);
+static u32 w2c_f75(struct instance *, u64, u64, u64, u64, u64, u32, u64, u64);
 static u32 w2c_keywrap_wrap_padded(struct instance *, u64, u64, u64, u64, u64, u64);
-static u32 w2c_f78(struct instance *, u64, u64, u64, u64, u64, u64);
+static u32 w2c_f77(struct instance *, u64, u64, u64, u64, u64, u64);
 static u32 w2c_keywrap_wrap_padded_in_place(struct instance *, u64, u64, u64, u64, u64);
-static u32 w2c_f80(struct instance *, u64, u64, u64, u64, u64);
+static u32 w2c_f79(struct instance *, u64, u64, u64, u64, u64);
 static u32 w2c_keywrap_wrap_with(struct instance *, u64, u64, u64, u64, u64, u64, u64, u64);
-static u32 w2c_f82(struct instance *, u64, u64, u64, u64, u64, u64, u64, u64);
+static u32 w2c_f81(struct instance *, u64, u64, u64, u64, u64, u64, u64, u64);
 #endif
 static u32 w2c_f0(struct instance *instance) {
   u32 w2c_l0 = 0;
@@ -1008,18 +1007,19 @@ static void w2c_f4(struct instance *instance, u64 w2c_p0, u64 w2c_p1, u64 w2c_p2
     if (w2c_i0) {goto w2c_L9;}
   w2c_B6:;
   w2c_j0 = w2c_l5;
-  w2c_j1 = 3ull;
-  w2c_j0 *= w2c_j1;
+  w2c_j1 = 2ull;
+  w2c_j0 <<= (w2c_j1 & 63);
+  w2c_l6 = w2c_j0;
+  w2c_j0 = w2c_p2;
   w2c_j1 = 28ull;
   w2c_j0 += w2c_j1;
-  w2c_l10 = w2c_j0;
+  w2c_l7 = w2c_j0;
   w2c_j0 = w2c_l4;
   w2c_j1 = 256ull;
   w2c_j0 += w2c_j1;
   w2c_j1 = w2c_p2;
   w2c_j2 = 18446744073709551612ull;
   w2c_j1 &= w2c_j2;
-  w2c_l7 = w2c_j1;
   w2c_j0 += w2c_j1;
   w2c_j1 = 18446744073709551612ull;
   w2c_j0 += w2c_j1;
@@ -1037,7 +1037,7 @@ static void w2c_f4(struct instance *instance, u64 w2c_p0, u64 w2c_p1, u64 w2c_p2
     w2c_j1 = w2c_l3;
     w2c_j2 = w2c_l5;
     w2c_j1 = DIV_U(w2c_j1, w2c_j2);
-    w2c_l6 = w2c_j1;
+    w2c_l10 = w2c_j1;
     w2c_j2 = w2c_l5;
     w2c_j1 *= w2c_j2;
     w2c_j0 -= w2c_j1;
@@ -1099,7 +1099,7 @@ static void w2c_f4(struct instance *instance, u64 w2c_p0, u64 w2c_p1, u64 w2c_p2
     w2c_i2 = 16711935u;
     w2c_i1 &= w2c_i2;
     w2c_i0 |= w2c_i1;
-    w2c_j1 = w2c_l6;
+    w2c_j1 = w2c_l10;
     w2c_j2 = 2ull;
     w2c_j1 <<= (w2c_j2 & 63);
     w2c_j2 = 65532ull;
@@ -1134,7 +1134,7 @@ static void w2c_f4(struct instance *instance, u64 w2c_p0, u64 w2c_p1, u64 w2c_p2
     w2c_i0 <<= (w2c_i1 & 31);
     w2c_i1 = w2c_l11;
     w2c_j1 = (u64)(w2c_i1);
-    w2c_l6 = w2c_j1;
+    w2c_l10 = w2c_j1;
     w2c_j2 = 24ull;
     w2c_j1 >>= (w2c_j2 & 63);
     w2c_i1 = (u32)(w2c_j1);
@@ -1153,7 +1153,7 @@ static void w2c_f4(struct instance *instance, u64 w2c_p0, u64 w2c_p1, u64 w2c_p2
     w2c_i2 = 16u;
     w2c_i1 <<= (w2c_i2 & 31);
     w2c_i0 |= w2c_i1;
-    w2c_j1 = w2c_l6;
+    w2c_j1 = w2c_l10;
     w2c_j2 = 255ull;
     w2c_j1 &= w2c_j2;
     w2c_i1 = (u32)(w2c_j1);
@@ -1175,7 +1175,7 @@ static void w2c_f4(struct instance *instance, u64 w2c_p0, u64 w2c_p1, u64 w2c_p2
     w2c_l11 = w2c_i0;
     w2c_B11:;
     w2c_j0 = w2c_l9;
-    w2c_j1 = w2c_l7;
+    w2c_j1 = w2c_l6;
     w2c_j0 += w2c_j1;
     w2c_i0 = (u32)(w2c_j0);
     w2c_i1 = w2c_l11;
@@ -1189,15 +1189,11 @@ static void w2c_f4(struct instance *instance, u64 w2c_p0, u64 w2c_p1, u64 w2c_p2
     w2c_j1 = 4ull;
     w2c_j0 += w2c_j1;
     w2c_l9 = w2c_j0;
-    w2c_j0 = w2c_l3;
-    w2c_j1 = 1ull;
-    w2c_j0 += w2c_j1;
-    w2c_l3 = w2c_j0;
-    w2c_j0 = w2c_l10;
-    w2c_j1 = 18446744073709551615ull;
-    w2c_j0 += w2c_j1;
-    w2c_l10 = w2c_j0;
-    w2c_j1 = 0ull;
+    w2c_j0 = w2c_l7;
+    w2c_j1 = w2c_l3;
+    w2c_j2 = 1ull;
+    w2c_j1 += w2c_j2;
+    w2c_l3 = w2c_j1;
     w2c_i0 = w2c_j0 != w2c_j1;
     if (w2c_i0) {goto w2c_L10;}
   w2c_j0 = w2c_l4;
@@ -2940,169 +2936,7 @@ static void w2c_f7(struct instance *instance, u64 w2c_p0, u64 w2c_p1, u64 w2c_p2
   w2c_j0 += w2c_j1;
   instance->w2c_g0 = w2c_j0;
 }
-static u32 w2c_f8(struct instance *instance, u64 w2c_p0, u64 w2c_p1, u64 w2c_p2, u64 w2c_p3, u64 w2c_p4, u64 w2c_p5, u32 w2c_p6, u64 w2c_p7) {
-  u32 w2c_l9 = 0, w2c_l10 = 0;
-  u64 w2c_l8 = 0;
-  const struct memory memory = instance->w2c_memory;
-  (void)memory;
-  u32 w2c_i0, w2c_i1, w2c_i2, w2c_i3;
-  u64 w2c_j0, w2c_j1, w2c_j2, w2c_j3, w2c_j4, w2c_j5;
-  w2c_j0 = instance->w2c_g0;
-  w2c_j1 = 1024ull;
-  w2c_j0 -= w2c_j1;
-  w2c_l8 = w2c_j0;
-  instance->w2c_g0 = w2c_j0;
-  w2c_j0 = w2c_l8;
-  w2c_l8 = w2c_j0;
-  w2c_j1 = 16ull;
-  w2c_i0 = (u64)((s64)w2c_j0 < (s64)w2c_j1);
-  if (w2c_i0) {goto w2c_B0;}
-  w2c_j0 = w2c_l8;
-  w2c_j1 = 288ull;
-  w2c_j0 += w2c_j1;
-  w2c_i0 = (u32)(w2c_j0);
-  w2c_i1 = 0u;
-  w2c_j2 = 248ull;
-  w2c_i2 = (u32)(w2c_j2);
-  memory_fill(memory, w2c_i0, w2c_i1, w2c_i2);
-  w2c_j0 = w2c_l8;
-  w2c_j1 = 40ull;
-  w2c_j0 += w2c_j1;
-  w2c_i0 = (u32)(w2c_j0);
-  w2c_i1 = 0u;
-  w2c_j2 = 248ull;
-  w2c_i2 = (u32)(w2c_j2);
-  memory_fill(memory, w2c_i0, w2c_i1, w2c_i2);
-  w2c_j0 = w2c_p7;
-  w2c_i0 = (u32)(w2c_j0);
-  w2c_i1 = 0u;
-  i32_store(memory, (u64)(w2c_i0), w2c_i1);
-  w2c_j0 = w2c_l8;
-  w2c_j1 = 288ull;
-  w2c_j0 += w2c_j1;
-  w2c_j1 = w2c_p0;
-  w2c_j2 = w2c_p1;
-  w2c_f4(instance, w2c_j0, w2c_j1, w2c_j2);
-  w2c_i0 = 3u;
-  w2c_l9 = w2c_i0;
-  w2c_j0 = w2c_l8;
-  w2c_i0 = (u32)(w2c_j0);
-  w2c_i0 = i32_load8_u(memory, (u64)(w2c_i0) + 288u);
-  if (w2c_i0) {goto w2c_B1;}
-  w2c_j0 = w2c_l8;
-  w2c_j1 = 780ull;
-  w2c_j0 += w2c_j1;
-  w2c_i0 = (u32)(w2c_j0);
-  w2c_j1 = w2c_l8;
-  w2c_j2 = 288ull;
-  w2c_j1 += w2c_j2;
-  w2c_j2 = 4ull;
-  w2c_j1 += w2c_j2;
-  w2c_i1 = (u32)(w2c_j1);
-  w2c_j2 = 244ull;
-  w2c_i2 = (u32)(w2c_j2);
-  memory_copy(memory, memory, w2c_i0, w2c_i1, w2c_i2);
-  w2c_j0 = w2c_l8;
-  w2c_j1 = 40ull;
-  w2c_j0 += w2c_j1;
-  w2c_j1 = w2c_p2;
-  w2c_j2 = w2c_p3;
-  w2c_f4(instance, w2c_j0, w2c_j1, w2c_j2);
-  w2c_j0 = w2c_l8;
-  w2c_i0 = (u32)(w2c_j0);
-  w2c_i0 = i32_load8_u(memory, (u64)(w2c_i0) + 40u);
-  if (w2c_i0) {goto w2c_B1;}
-  w2c_j0 = w2c_l8;
-  w2c_j1 = 536ull;
-  w2c_j0 += w2c_j1;
-  w2c_i0 = (u32)(w2c_j0);
-  w2c_j1 = w2c_l8;
-  w2c_j2 = 40ull;
-  w2c_j1 += w2c_j2;
-  w2c_j2 = 4ull;
-  w2c_j1 += w2c_j2;
-  w2c_i1 = (u32)(w2c_j1);
-  w2c_j2 = 244ull;
-  w2c_i2 = (u32)(w2c_j2);
-  memory_copy(memory, memory, w2c_i0, w2c_i1, w2c_i2);
-  w2c_j0 = w2c_l8;
-  w2c_i0 = (u32)(w2c_j0);
-  w2c_j1 = 0ull;
-  i64_store(memory, (u64)(w2c_i0) + 32, w2c_j1);
-  w2c_j0 = w2c_l8;
-  w2c_i0 = (u32)(w2c_j0);
-  w2c_j1 = 0ull;
-  i64_store(memory, (u64)(w2c_i0) + 16, w2c_j1);
-  w2c_j0 = w2c_l8;
-  w2c_i0 = (u32)(w2c_j0);
-  w2c_j1 = w2c_l8;
-  w2c_j2 = 780ull;
-  w2c_j1 += w2c_j2;
-  i64_store(memory, (u64)(w2c_i0) + 24, w2c_j1);
-  w2c_j0 = w2c_l8;
-  w2c_i0 = (u32)(w2c_j0);
-  w2c_j1 = w2c_l8;
-  w2c_j2 = 536ull;
-  w2c_j1 += w2c_j2;
-  i64_store(memory, (u64)(w2c_i0) + 8, w2c_j1);
-  w2c_j0 = w2c_l8;
-  w2c_j1 = w2c_l8;
-  w2c_j2 = 24ull;
-  w2c_j1 += w2c_j2;
-  w2c_j2 = w2c_l8;
-  w2c_j3 = 8ull;
-  w2c_j2 += w2c_j3;
-  w2c_i3 = w2c_p6;
-  w2c_j4 = w2c_p4;
-  w2c_j5 = w2c_p5;
-  w2c_f9(instance, w2c_j0, w2c_j1, w2c_j2, w2c_i3, w2c_j4, w2c_j5);
-  w2c_j0 = w2c_p7;
-  w2c_i0 = (u32)(w2c_j0);
-  w2c_j1 = w2c_l8;
-  w2c_i1 = (u32)(w2c_j1);
-  w2c_i1 = i32_load8_u(memory, (u64)(w2c_i1));
-  w2c_p6 = w2c_i1;
-  w2c_i2 = 4294967295u;
-  w2c_i1 ^= w2c_i2;
-  w2c_j2 = w2c_l8;
-  w2c_i2 = (u32)(w2c_j2);
-  w2c_i2 = i32_load8_u(memory, (u64)(w2c_i2) + 1u);
-  w2c_l10 = w2c_i2;
-  w2c_i3 = 255u;
-  w2c_i2 &= w2c_i3;
-  w2c_i3 = 1u;
-  w2c_i2 = w2c_i2 == w2c_i3;
-  w2c_i1 &= w2c_i2;
-  i32_store(memory, (u64)(w2c_i0), w2c_i1);
-  w2c_i0 = 0u;
-  w2c_l9 = w2c_i0;
-  w2c_i0 = w2c_p6;
-  w2c_i1 = 1u;
-  w2c_i0 &= w2c_i1;
-  w2c_i0 = !(w2c_i0);
-  if (w2c_i0) {goto w2c_B1;}
-  w2c_i0 = w2c_l10;
-  w2c_j0 = (u64)(w2c_i0);
-  w2c_j1 = 255ull;
-  w2c_j0 &= w2c_j1;
-  w2c_j1 = 2ull;
-  w2c_j0 <<= (w2c_j1 & 63);
-  w2c_i0 = (u32)(w2c_j0);
-  w2c_i0 = constant_i32_load((u64)(w2c_i0) + 68780u);
-  w2c_l9 = w2c_i0;
-  w2c_B1:;
-  w2c_j0 = w2c_l8;
-  w2c_j1 = 1024ull;
-  w2c_j0 += w2c_j1;
-  instance->w2c_g0 = w2c_j0;
-  w2c_i0 = w2c_l9;
-  goto w2c_Bfunc;
-  w2c_B0:;
-  UNREACHABLE;
-  w2c_Bfunc:;
-  return w2c_i0;
-}
-static void w2c_f9(struct instance *instance, u64 w2c_p0, u64 w2c_p1, u64 w2c_p2, u32 w2c_p3, u64 w2c_p4, u64 w2c_p5) {
+static void w2c_f8(struct instance *instance, u64 w2c_p0, u64 w2c_p1, u64 w2c_p2, u32 w2c_p3, u64 w2c_p4, u64 w2c_p5) {
   u32 w2c_l12 = 0, w2c_l13 = 0, w2c_l14 = 0, w2c_l15 = 0;
   u64 w2c_l6 = 0, w2c_l7 = 0, w2c_l8 = 0, w2c_l9 = 0, w2c_l10 = 0, w2c_l11 = 0;
   const struct memory memory = instance->w2c_memory;
@@ -3118,93 +2952,89 @@ static void w2c_f9(struct instance *instance, u64 w2c_p0, u64 w2c_p1, u64 w2c_p2
   w2c_l6 = w2c_j0;
   w2c_j1 = 16ull;
   w2c_i0 = (u64)((s64)w2c_j0 < (s64)w2c_j1);
-  if (w2c_i0) {goto w2c_B2;}
-  w2c_i0 = 0u;
-  w2c_l12 = w2c_i0;
+  if (w2c_i0) {goto w2c_B0;}
   w2c_i0 = 1u;
+  w2c_l12 = w2c_i0;
+  w2c_i0 = 0u;
   w2c_l13 = w2c_i0;
   w2c_i0 = 1u;
   w2c_l14 = w2c_i0;
   w2c_j0 = 0ull;
   w2c_l7 = w2c_j0;
+  w2c_i0 = 1u;
+  w2c_l15 = w2c_i0;
   w2c_j0 = 0ull;
   w2c_l8 = w2c_j0;
   w2c_j0 = 0ull;
   w2c_l9 = w2c_j0;
-  w2c_i0 = 1u;
-  w2c_l15 = w2c_i0;
   w2c_j0 = 0ull;
   w2c_l10 = w2c_j0;
   w2c_j0 = 0ull;
   w2c_l11 = w2c_j0;
   w2c_i0 = w2c_p3;
   switch (w2c_i0) {
-    case 0: goto w2c_B8;
-    case 1: goto w2c_B7;
-    case 2: goto w2c_B6;
-    case 3: goto w2c_B5;
-    case 4: goto w2c_B3;
-    case 5: goto w2c_B0;
-    case 6: goto w2c_B0;
-    case 7: goto w2c_B0;
-    case 8: goto w2c_B8;
-    case 9: goto w2c_B7;
-    case 10: goto w2c_B6;
-    case 11: goto w2c_B5;
-    case 12: goto w2c_B3;
-    default: goto w2c_B0;
+    case 0: goto w2c_B7;
+    case 1: goto w2c_B6;
+    case 2: goto w2c_B5;
+    case 3: goto w2c_B4;
+    case 4: goto w2c_B2;
+    case 5: goto w2c_B1;
+    case 6: goto w2c_B1;
+    case 7: goto w2c_B1;
+    case 8: goto w2c_B7;
+    case 9: goto w2c_B6;
+    case 10: goto w2c_B5;
+    case 11: goto w2c_B4;
+    case 12: goto w2c_B2;
+    default: goto w2c_B1;
   }
-  w2c_B8:;
-  w2c_j0 = 12008468691120727718ull;
-  w2c_l9 = w2c_j0;
-  w2c_j0 = 1ull;
-  w2c_l7 = w2c_j0;
-  w2c_i0 = 0u;
-  w2c_l14 = w2c_i0;
-  w2c_i0 = 0u;
-  w2c_l12 = w2c_i0;
-  w2c_j0 = 0ull;
-  w2c_l8 = w2c_j0;
-  w2c_i0 = 1u;
-  w2c_l15 = w2c_i0;
-  w2c_j0 = 0ull;
-  w2c_l10 = w2c_j0;
-  w2c_j0 = 12008468691120727718ull;
-  w2c_l11 = w2c_j0;
-  goto w2c_B3;
   w2c_B7:;
   w2c_j0 = 12008468691120727718ull;
-  w2c_l11 = w2c_j0;
+  w2c_l9 = w2c_j0;
+  w2c_j0 = 1ull;
+  w2c_l7 = w2c_j0;
+  w2c_i0 = 0u;
+  w2c_l14 = w2c_i0;
   w2c_i0 = 1u;
-  w2c_l12 = w2c_i0;
+  w2c_l15 = w2c_i0;
+  w2c_j0 = 0ull;
+  w2c_l8 = w2c_j0;
+  w2c_j0 = 0ull;
+  w2c_l10 = w2c_j0;
+  w2c_j0 = 12008468691120727718ull;
+  w2c_l11 = w2c_j0;
+  goto w2c_B2;
+  w2c_B6:;
+  w2c_j0 = 12008468691120727718ull;
+  w2c_l11 = w2c_j0;
   w2c_j0 = 1ull;
   w2c_l7 = w2c_j0;
   w2c_i0 = 0u;
   w2c_l14 = w2c_i0;
   w2c_i0 = 0u;
-  w2c_l13 = w2c_i0;
+  w2c_l15 = w2c_i0;
   w2c_j0 = 1ull;
   w2c_l8 = w2c_j0;
   w2c_j0 = 0ull;
   w2c_l9 = w2c_j0;
-  w2c_i0 = 1u;
-  w2c_l15 = w2c_i0;
   w2c_j0 = 0ull;
   w2c_l10 = w2c_j0;
-  goto w2c_B3;
-  w2c_B6:;
+  goto w2c_B2;
+  w2c_B5:;
   w2c_j0 = 12008468691120727718ull;
   w2c_l9 = w2c_j0;
   w2c_j0 = 1ull;
   w2c_l7 = w2c_j0;
   w2c_i0 = 0u;
   w2c_l14 = w2c_i0;
-  w2c_i0 = 0u;
-  w2c_l12 = w2c_i0;
+  w2c_i0 = 1u;
+  w2c_l15 = w2c_i0;
   w2c_j0 = 0ull;
   w2c_l8 = w2c_j0;
-  goto w2c_B4;
-  w2c_B5:;
+  w2c_i0 = 0u;
+  w2c_l12 = w2c_i0;
+  goto w2c_B3;
+  w2c_B4:;
   w2c_j0 = 1ull;
   w2c_l7 = w2c_j0;
   w2c_i0 = 0u;
@@ -3212,19 +3042,17 @@ static void w2c_f9(struct instance *instance, u64 w2c_p0, u64 w2c_p1, u64 w2c_p2
   w2c_i0 = 0u;
   w2c_l14 = w2c_i0;
   w2c_i0 = 0u;
-  w2c_l13 = w2c_i0;
+  w2c_l15 = w2c_i0;
   w2c_j0 = 1ull;
   w2c_l8 = w2c_j0;
   w2c_j0 = 0ull;
   w2c_l9 = w2c_j0;
-  w2c_B4:;
-  w2c_i0 = 0u;
-  w2c_l15 = w2c_i0;
+  w2c_B3:;
   w2c_j0 = 1ull;
   w2c_l10 = w2c_j0;
   w2c_j0 = 0ull;
   w2c_l11 = w2c_j0;
-  w2c_B3:;
+  w2c_B2:;
   w2c_j0 = w2c_l6;
   w2c_i0 = (u32)(w2c_j0);
   w2c_j1 = w2c_l11;
@@ -3268,22 +3096,41 @@ static void w2c_f9(struct instance *instance, u64 w2c_p0, u64 w2c_p1, u64 w2c_p2
   w2c_j2 = w2c_l6;
   w2c_j3 = w2c_p4;
   w2c_j4 = w2c_p5;
-  w2c_f10(instance, w2c_j0, w2c_j1, w2c_j2, w2c_j3, w2c_j4);
+  w2c_f9(instance, w2c_j0, w2c_j1, w2c_j2, w2c_j3, w2c_j4);
   w2c_j0 = w2c_l6;
   w2c_i0 = (u32)(w2c_j0);
   w2c_i0 = i32_load8_u(memory, (u64)(w2c_i0) + 40u);
-  if (w2c_i0) {goto w2c_B12;}
+  if (w2c_i0) {goto w2c_B10;}
+  w2c_j0 = 0ull;
+  w2c_l10 = w2c_j0;
   w2c_j0 = w2c_l6;
   w2c_i0 = (u32)(w2c_j0);
   w2c_j0 = i64_load(memory, (u64)(w2c_i0) + 48u);
   w2c_l7 = w2c_j0;
   w2c_i0 = w2c_l14;
-  if (w2c_i0) {goto w2c_B11;}
-  w2c_j0 = 0ull;
-  w2c_l10 = w2c_j0;
-  w2c_i0 = w2c_l12;
+  w2c_i0 = !(w2c_i0);
+  if (w2c_i0) {goto w2c_B12;}
+  w2c_j0 = w2c_l7;
+  w2c_l8 = w2c_j0;
+  goto w2c_B11;
+  w2c_B12:;
+  w2c_i0 = w2c_l15;
   w2c_i0 = !(w2c_i0);
   if (w2c_i0) {goto w2c_B13;}
+  w2c_j0 = w2c_l11;
+  w2c_j1 = w2c_p5;
+  w2c_j2 = 11986710452722728952ull;
+  w2c_j1 += w2c_j2;
+  w2c_i2 = w2c_l12;
+  w2c_j0 = w2c_i2 ? w2c_j0 : w2c_j1;
+  w2c_l8 = w2c_j0;
+  goto w2c_B11;
+  w2c_B13:;
+  w2c_j0 = w2c_l7;
+  w2c_l8 = w2c_j0;
+  w2c_i0 = w2c_l12;
+  w2c_i0 = !(w2c_i0);
+  if (w2c_i0) {goto w2c_B11;}
   w2c_j0 = w2c_l7;
   w2c_j1 = 4294967295ull;
   w2c_j0 &= w2c_j1;
@@ -3298,74 +3145,57 @@ static void w2c_f9(struct instance *instance, u64 w2c_p0, u64 w2c_p1, u64 w2c_p2
   w2c_j1 = (u64)(w2c_i1);
   w2c_j0 |= w2c_j1;
   w2c_l10 = w2c_j0;
-  w2c_B13:;
+  w2c_j0 = w2c_l11;
+  w2c_l8 = w2c_j0;
+  w2c_B11:;
   w2c_j0 = w2c_p1;
   w2c_j1 = w2c_l7;
   w2c_j2 = w2c_l10;
   w2c_j3 = w2c_p4;
   w2c_j4 = w2c_p5;
-  w2c_i0 = w2c_f11(instance, w2c_j0, w2c_j1, w2c_j2, w2c_j3, w2c_j4);
+  w2c_i0 = w2c_f10(instance, w2c_j0, w2c_j1, w2c_j2, w2c_j3, w2c_j4);
   w2c_i1 = 255u;
   w2c_i0 &= w2c_i1;
-  if (w2c_i0) {goto w2c_B10;}
-  w2c_i0 = w2c_l13;
-  w2c_i0 = !(w2c_i0);
-  if (w2c_i0) {goto w2c_B14;}
-  w2c_j0 = w2c_l11;
-  w2c_j1 = w2c_p5;
-  w2c_j2 = 11986710452722728952ull;
-  w2c_j1 += w2c_j2;
-  w2c_i2 = w2c_l15;
-  w2c_j0 = w2c_i2 ? w2c_j0 : w2c_j1;
-  w2c_l7 = w2c_j0;
+  if (w2c_i0) {goto w2c_B9;}
+  w2c_j0 = w2c_p2;
+  w2c_j1 = w2c_l8;
+  w2c_j2 = w2c_p4;
+  w2c_j3 = w2c_p5;
+  w2c_f11(instance, w2c_j0, w2c_j1, w2c_j2, w2c_j3);
+  w2c_i0 = 0u;
+  w2c_l13 = w2c_i0;
+  w2c_i0 = 0u;
+  w2c_l12 = w2c_i0;
   goto w2c_B1;
-  w2c_B14:;
-  w2c_j0 = w2c_l11;
-  w2c_j1 = w2c_l7;
-  w2c_i2 = w2c_l15;
-  w2c_j0 = w2c_i2 ? w2c_j0 : w2c_j1;
-  w2c_l7 = w2c_j0;
-  goto w2c_B1;
-  w2c_B12:;
+  w2c_B10:;
   w2c_j0 = w2c_l6;
   w2c_i0 = (u32)(w2c_j0);
   w2c_i0 = i32_load8_u(memory, (u64)(w2c_i0) + 41u);
   w2c_l15 = w2c_i0;
   w2c_i0 = 1u;
-  w2c_l13 = w2c_i0;
+  w2c_l12 = w2c_i0;
   w2c_i0 = w2c_p3;
   w2c_i1 = 7u;
   w2c_i0 = w2c_i0 > w2c_i1;
-  if (w2c_i0) {goto w2c_B9;}
+  if (w2c_i0) {goto w2c_B8;}
   w2c_i0 = w2c_l15;
-  w2c_l12 = w2c_i0;
-  goto w2c_B0;
-  w2c_B11:;
-  w2c_j0 = w2c_p1;
-  w2c_j1 = w2c_l7;
-  w2c_j2 = 0ull;
-  w2c_j3 = w2c_p4;
-  w2c_j4 = w2c_p5;
-  w2c_i0 = w2c_f11(instance, w2c_j0, w2c_j1, w2c_j2, w2c_j3, w2c_j4);
-  w2c_i1 = 255u;
-  w2c_i0 &= w2c_i1;
-  w2c_i0 = !(w2c_i0);
-  if (w2c_i0) {goto w2c_B1;}
-  w2c_B10:;
-  w2c_i0 = 1u;
   w2c_l13 = w2c_i0;
-  w2c_i0 = 2u;
-  w2c_l12 = w2c_i0;
-  goto w2c_B0;
+  goto w2c_B1;
   w2c_B9:;
-  w2c_i0 = 2u;
+  w2c_i0 = 1u;
   w2c_l12 = w2c_i0;
+  w2c_i0 = 2u;
+  w2c_l13 = w2c_i0;
+  goto w2c_B1;
+  w2c_B8:;
+  w2c_i0 = 2u;
+  w2c_l13 = w2c_i0;
   w2c_i0 = w2c_l15;
   w2c_i1 = 255u;
   w2c_i0 &= w2c_i1;
   w2c_i1 = 2u;
   w2c_i0 = w2c_i0 == w2c_i1;
-  if (w2c_i0) {goto w2c_B0;}
+  if (w2c_i0) {goto w2c_B1;}
   w2c_j0 = w2c_l6;
   w2c_i0 = (u32)(w2c_j0);
   w2c_j1 = w2c_l7;
@@ -3403,53 +3233,44 @@ static void w2c_f9(struct instance *instance, u64 w2c_p0, u64 w2c_p1, u64 w2c_p2
   w2c_j2 += w2c_j3;
   w2c_j3 = w2c_p4;
   w2c_j4 = w2c_p5;
-  w2c_f10(instance, w2c_j0, w2c_j1, w2c_j2, w2c_j3, w2c_j4);
+  w2c_f9(instance, w2c_j0, w2c_j1, w2c_j2, w2c_j3, w2c_j4);
   w2c_i0 = w2c_l15;
-  w2c_l12 = w2c_i0;
+  w2c_l13 = w2c_i0;
   w2c_j0 = w2c_l6;
   w2c_i0 = (u32)(w2c_j0);
   w2c_i0 = i32_load8_u(memory, (u64)(w2c_i0) + 80u);
-  w2c_l13 = w2c_i0;
-  if (w2c_i0) {goto w2c_B0;}
+  w2c_l12 = w2c_i0;
+  if (w2c_i0) {goto w2c_B1;}
   w2c_j0 = w2c_p2;
   w2c_j1 = w2c_l6;
   w2c_i1 = (u32)(w2c_j1);
   w2c_j1 = i64_load(memory, (u64)(w2c_i1) + 88u);
   w2c_j2 = w2c_p4;
   w2c_j3 = w2c_p5;
-  w2c_f12(instance, w2c_j0, w2c_j1, w2c_j2, w2c_j3);
+  w2c_f11(instance, w2c_j0, w2c_j1, w2c_j2, w2c_j3);
   w2c_i0 = 0u;
-  w2c_l13 = w2c_i0;
+  w2c_l12 = w2c_i0;
   w2c_i0 = 1u;
-  w2c_l12 = w2c_i0;
-  goto w2c_B0;
-  w2c_B2:;
-  UNREACHABLE;
-  w2c_B1:;
-  w2c_j0 = w2c_p2;
-  w2c_j1 = w2c_l7;
-  w2c_j2 = w2c_p4;
-  w2c_j3 = w2c_p5;
-  w2c_f12(instance, w2c_j0, w2c_j1, w2c_j2, w2c_j3);
-  w2c_i0 = 0u;
-  w2c_l12 = w2c_i0;
-  w2c_i0 = 0u;
   w2c_l13 = w2c_i0;
-  w2c_B0:;
-  w2c_j0 = w2c_p0;
-  w2c_i0 = (u32)(w2c_j0);
-  w2c_i1 = w2c_l12;
-  i32_store8(memory, (u64)(w2c_i0) + 1, w2c_i1);
+  w2c_B1:;
   w2c_j0 = w2c_p0;
   w2c_i0 = (u32)(w2c_j0);
   w2c_i1 = w2c_l13;
+  i32_store8(memory, (u64)(w2c_i0) + 1, w2c_i1);
+  w2c_j0 = w2c_p0;
+  w2c_i0 = (u32)(w2c_j0);
+  w2c_i1 = w2c_l12;
   i32_store8(memory, (u64)(w2c_i0), w2c_i1);
   w2c_j0 = w2c_l6;
   w2c_j1 = 96ull;
   w2c_j0 += w2c_j1;
   instance->w2c_g0 = w2c_j0;
+  goto w2c_Bfunc;
+  w2c_B0:;
+  UNREACHABLE;
+  w2c_Bfunc:;
 }
-static void w2c_f10(struct instance *instance, u64 w2c_p0, u64 w2c_p1, u64 w2c_p2, u64 w2c_p3, u64 w2c_p4) {
+static void w2c_f9(struct instance *instance, u64 w2c_p0, u64 w2c_p1, u64 w2c_p2, u64 w2c_p3, u64 w2c_p4) {
   u64 w2c_l5 = 0, w2c_l6 = 0, w2c_l7 = 0;
   const struct memory memory = instance->w2c_memory;
   (void)memory;
@@ -3766,7 +3587,7 @@ static void w2c_f10(struct instance *instance, u64 w2c_p0, u64 w2c_p1, u64 w2c_p
   w2c_j2 = w2c_p2;
   w2c_j3 = w2c_p3;
   w2c_j4 = w2c_p4;
-  w2c_i0 = w2c_f11(instance, w2c_j0, w2c_j1, w2c_j2, w2c_j3, w2c_j4);
+  w2c_i0 = w2c_f10(instance, w2c_j0, w2c_j1, w2c_j2, w2c_j3, w2c_j4);
   w2c_i1 = 255u;
   w2c_i0 &= w2c_i1;
   w2c_i0 = !(w2c_i0);
@@ -3799,7 +3620,7 @@ static void w2c_f10(struct instance *instance, u64 w2c_p0, u64 w2c_p1, u64 w2c_p
   instance->w2c_g0 = w2c_j0;
   w2c_Bfunc:;
 }
-static u32 w2c_f11(struct instance *instance, u64 w2c_p0, u64 w2c_p1, u64 w2c_p2, u64 w2c_p3, u64 w2c_p4) {
+static u32 w2c_f10(struct instance *instance, u64 w2c_p0, u64 w2c_p1, u64 w2c_p2, u64 w2c_p3, u64 w2c_p4) {
   u64 w2c_l5 = 0;
   const struct memory memory = instance->w2c_memory;
   (void)memory;
@@ -3823,7 +3644,7 @@ static u32 w2c_f11(struct instance *instance, u64 w2c_p0, u64 w2c_p1, u64 w2c_p2
   w2c_j1 = w2c_p1;
   w2c_j2 = w2c_p3;
   w2c_j3 = w2c_p4;
-  w2c_f12(instance, w2c_j0, w2c_j1, w2c_j2, w2c_j3);
+  w2c_f11(instance, w2c_j0, w2c_j1, w2c_j2, w2c_j3);
   w2c_j0 = w2c_l5;
   instance->w2c_g0 = w2c_j0;
   w2c_i0 = 1u;
@@ -3833,7 +3654,7 @@ static u32 w2c_f11(struct instance *instance, u64 w2c_p0, u64 w2c_p1, u64 w2c_p2
   w2c_Bfunc:;
   return w2c_i0;
 }
-static void w2c_f12(struct instance *instance, u64 w2c_p0, u64 w2c_p1, u64 w2c_p2, u64 w2c_p3) {
+static void w2c_f11(struct instance *instance, u64 w2c_p0, u64 w2c_p1, u64 w2c_p2, u64 w2c_p3) {
   u64 w2c_l4 = 0, w2c_l5 = 0, w2c_l6 = 0, w2c_l7 = 0, w2c_l8 = 0, w2c_l9 = 0;
   const struct memory memory = instance->w2c_memory;
   (void)memory;
@@ -3959,7 +3780,7 @@ static void w2c_f12(struct instance *instance, u64 w2c_p0, u64 w2c_p1, u64 w2c_p
     w2c_i1 = (u32)(w2c_j1);
     w2c_j1 = i64_load(memory, (u64)(w2c_i1));
     w2c_j2 = w2c_l4;
-    w2c_f13(instance, w2c_j0, w2c_j1, w2c_j2);
+    w2c_f12(instance, w2c_j0, w2c_j1, w2c_j2);
     w2c_j0 = w2c_l4;
     w2c_i0 = (u32)(w2c_j0);
     w2c_j0 = i64_load(memory, (u64)(w2c_i0) + 16u);
@@ -4132,7 +3953,7 @@ static void w2c_f12(struct instance *instance, u64 w2c_p0, u64 w2c_p1, u64 w2c_p
   w2c_i1 = (u32)(w2c_j1);
   w2c_j1 = i64_load(memory, (u64)(w2c_i1));
   w2c_j2 = w2c_l4;
-  w2c_f13(instance, w2c_j0, w2c_j1, w2c_j2);
+  w2c_f12(instance, w2c_j0, w2c_j1, w2c_j2);
   w2c_j0 = w2c_l4;
   w2c_i0 = (u32)(w2c_j0);
   w2c_j0 = i64_load(memory, (u64)(w2c_i0) + 16u);
@@ -4157,7 +3978,7 @@ static void w2c_f12(struct instance *instance, u64 w2c_p0, u64 w2c_p1, u64 w2c_p
   UNREACHABLE;
   w2c_Bfunc:;
 }
-static void w2c_f13(struct instance *instance, u64 w2c_p0, u64 w2c_p1, u64 w2c_p2) {
+static void w2c_f12(struct instance *instance, u64 w2c_p0, u64 w2c_p1, u64 w2c_p2) {
   u32 w2c_l3 = 0, w2c_l4 = 0, w2c_l5 = 0, w2c_l6 = 0, w2c_l7 = 0, w2c_l8 = 0, w2c_l9 = 0, w2c_l10 = 0;
   u64 w2c_l11 = 0, w2c_l12 = 0;
   const struct memory memory = instance->w2c_memory;
@@ -4748,7 +4569,7 @@ static void w2c_f13(struct instance *instance, u64 w2c_p0, u64 w2c_p1, u64 w2c_p
   UNREACHABLE;
   w2c_Bfunc:;
 }
-static void w2c_f14(struct instance *instance, u64 w2c_p0, u64 w2c_p1, u32 w2c_p2, u64 w2c_p3, u64 w2c_p4, u64 w2c_p5, u64 w2c_p6) {
+static void w2c_f13(struct instance *instance, u64 w2c_p0, u64 w2c_p1, u32 w2c_p2, u64 w2c_p3, u64 w2c_p4, u64 w2c_p5, u64 w2c_p6) {
   u32 w2c_l8 = 0;
   u64 w2c_l7 = 0;
   const struct memory memory = instance->w2c_memory;
@@ -4797,7 +4618,7 @@ static void w2c_f14(struct instance *instance, u64 w2c_p0, u64 w2c_p1, u32 w2c_p
     w2c_i3 = w2c_p2;
     w2c_j4 = w2c_p4;
     w2c_j5 = w2c_p3;
-    w2c_f9(instance, w2c_j0, w2c_j1, w2c_j2, w2c_i3, w2c_j4, w2c_j5);
+    w2c_f8(instance, w2c_j0, w2c_j1, w2c_j2, w2c_i3, w2c_j4, w2c_j5);
     w2c_j0 = w2c_l7;
     w2c_i0 = (u32)(w2c_j0);
     w2c_i0 = i32_load8_u(memory, (u64)(w2c_i0) + 9u);
@@ -4854,7 +4675,7 @@ static void w2c_f14(struct instance *instance, u64 w2c_p0, u64 w2c_p1, u32 w2c_p
   UNREACHABLE;
   w2c_Bfunc:;
 }
-static u32 w2c_f15(struct instance *instance, u64 w2c_p0, u64 w2c_p1, u64 w2c_p2, u64 w2c_p3, u64 w2c_p4, u64 w2c_p5) {
+static u32 w2c_f14(struct instance *instance, u64 w2c_p0, u64 w2c_p1, u64 w2c_p2, u64 w2c_p3, u64 w2c_p4, u64 w2c_p5) {
   u32 w2c_l8 = 0;
   u64 w2c_l6 = 0, w2c_l7 = 0;
   const struct memory memory = instance->w2c_memory;
@@ -4963,7 +4784,7 @@ static u32 w2c_f15(struct instance *instance, u64 w2c_p0, u64 w2c_p1, u64 w2c_p2
   w2c_j3 = 40ull;
   w2c_j2 += w2c_j3;
   w2c_j3 = w2c_l7;
-  w2c_f12(instance, w2c_j0, w2c_j1, w2c_j2, w2c_j3);
+  w2c_f11(instance, w2c_j0, w2c_j1, w2c_j2, w2c_j3);
   w2c_j0 = w2c_l7;
   w2c_j1 = w2c_p5;
   w2c_i0 = w2c_j0 != w2c_j1;
@@ -5023,7 +4844,7 @@ static u32 w2c_f15(struct instance *instance, u64 w2c_p0, u64 w2c_p1, u64 w2c_p2
   w2c_j0 += w2c_j1;
   w2c_j1 = w2c_p5;
   w2c_j2 = w2c_p4;
-  w2c_i0 = w2c_f16(instance, w2c_j0, w2c_j1, w2c_j2);
+  w2c_i0 = w2c_f15(instance, w2c_j0, w2c_j1, w2c_j2);
   w2c_i0 = !(w2c_i0);
   if (w2c_i0) {goto w2c_B1;}
   w2c_j0 = w2c_l6;
@@ -5050,7 +4871,7 @@ static u32 w2c_f15(struct instance *instance, u64 w2c_p0, u64 w2c_p1, u64 w2c_p2
   w2c_j5 = 8ull;
   w2c_j4 += w2c_j5;
   w2c_j5 = w2c_p3;
-  w2c_i0 = w2c_f17(instance, w2c_j0, w2c_j1, w2c_j2, w2c_j3, w2c_j4, w2c_j5);
+  w2c_i0 = w2c_f16(instance, w2c_j0, w2c_j1, w2c_j2, w2c_j3, w2c_j4, w2c_j5);
   if (w2c_i0) {goto w2c_B1;}
   w2c_j0 = w2c_l6;
   w2c_i0 = (u32)(w2c_j0);
@@ -5107,7 +4928,7 @@ static u32 w2c_f15(struct instance *instance, u64 w2c_p0, u64 w2c_p1, u64 w2c_p2
   w2c_j0 += w2c_j1;
   w2c_j1 = w2c_p3;
   w2c_j2 = w2c_p2;
-  w2c_i0 = w2c_f16(instance, w2c_j0, w2c_j1, w2c_j2);
+  w2c_i0 = w2c_f15(instance, w2c_j0, w2c_j1, w2c_j2);
   w2c_l8 = w2c_i0;
   w2c_B1:;
   w2c_j0 = w2c_l6;
@@ -5121,7 +4942,7 @@ static u32 w2c_f15(struct instance *instance, u64 w2c_p0, u64 w2c_p1, u64 w2c_p2
   w2c_Bfunc:;
   return w2c_i0;
 }
-static u32 w2c_f16(struct instance *instance, u64 w2c_p0, u64 w2c_p1, u64 w2c_p2) {
+static u32 w2c_f15(struct instance *instance, u64 w2c_p0, u64 w2c_p1, u64 w2c_p2) {
   u32 w2c_l10 = 0;
   u64 w2c_l3 = 0, w2c_l4 = 0, w2c_l5 = 0, w2c_l6 = 0, w2c_l7 = 0, w2c_l8 = 0, w2c_l9 = 0;
   const struct memory memory = instance->w2c_memory;
@@ -7071,7 +6892,7 @@ static u32 w2c_f16(struct instance *instance, u64 w2c_p0, u64 w2c_p1, u64 w2c_p2
   w2c_i0 &= w2c_i1;
   return w2c_i0;
 }
-static u32 w2c_f17(struct instance *instance, u64 w2c_p0, u64 w2c_p1, u64 w2c_p2, u64 w2c_p3, u64 w2c_p4, u64 w2c_p5) {
+static u32 w2c_f16(struct instance *instance, u64 w2c_p0, u64 w2c_p1, u64 w2c_p2, u64 w2c_p3, u64 w2c_p4, u64 w2c_p5) {
   u32 w2c_l9 = 0;
   u64 w2c_l6 = 0, w2c_l7 = 0, w2c_l8 = 0;
   const struct memory memory = instance->w2c_memory;
@@ -7364,7 +7185,7 @@ static u32 w2c_f17(struct instance *instance, u64 w2c_p0, u64 w2c_p1, u64 w2c_p2
   w2c_Bfunc:;
   return w2c_i0;
 }
-static u32 w2c_f18(struct instance *instance, u64 w2c_p0, u64 w2c_p1, u64 w2c_p2, u64 w2c_p3) {
+static u32 w2c_f17(struct instance *instance, u64 w2c_p0, u64 w2c_p1, u64 w2c_p2, u64 w2c_p3) {
   u32 w2c_l7 = 0, w2c_l8 = 0;
   u64 w2c_l4 = 0, w2c_l5 = 0, w2c_l6 = 0;
   const struct memory memory = instance->w2c_memory;
@@ -7419,7 +7240,7 @@ static u32 w2c_f18(struct instance *instance, u64 w2c_p0, u64 w2c_p1, u64 w2c_p2
   w2c_j6 = 8ull;
   w2c_j5 += w2c_j6;
   w2c_l6 = w2c_j5;
-  w2c_i0 = w2c_f19(instance, w2c_j0, w2c_j1, w2c_j2, w2c_j3, w2c_j4, w2c_j5);
+  w2c_i0 = w2c_f18(instance, w2c_j0, w2c_j1, w2c_j2, w2c_j3, w2c_j4, w2c_j5);
   w2c_l8 = w2c_i0;
   w2c_j0 = w2c_l6;
   w2c_j1 = w2c_p3;
@@ -7482,7 +7303,7 @@ static u32 w2c_f18(struct instance *instance, u64 w2c_p0, u64 w2c_p1, u64 w2c_p2
   w2c_j0 += w2c_j1;
   w2c_j1 = w2c_p3;
   w2c_j2 = w2c_p2;
-  w2c_i0 = w2c_f16(instance, w2c_j0, w2c_j1, w2c_j2);
+  w2c_i0 = w2c_f15(instance, w2c_j0, w2c_j1, w2c_j2);
   w2c_i0 = !(w2c_i0);
   if (w2c_i0) {goto w2c_B1;}
   w2c_j0 = w2c_l4;
@@ -7514,7 +7335,7 @@ static u32 w2c_f18(struct instance *instance, u64 w2c_p0, u64 w2c_p1, u64 w2c_p2
   w2c_j4 += w2c_j5;
   w2c_j5 = w2c_l5;
   w2c_j6 = w2c_l4;
-  w2c_i0 = w2c_f20(instance, w2c_j0, w2c_j1, w2c_j2, w2c_j3, w2c_j4, w2c_j5, w2c_j6);
+  w2c_i0 = w2c_f19(instance, w2c_j0, w2c_j1, w2c_j2, w2c_j3, w2c_j4, w2c_j5, w2c_j6);
   if (w2c_i0) {goto w2c_B1;}
   w2c_j0 = w2c_l4;
   w2c_i0 = (u32)(w2c_j0);
@@ -7577,7 +7398,7 @@ static u32 w2c_f18(struct instance *instance, u64 w2c_p0, u64 w2c_p1, u64 w2c_p2
   w2c_j0 += w2c_j1;
   w2c_j1 = w2c_p1;
   w2c_j2 = w2c_p0;
-  w2c_i0 = w2c_f16(instance, w2c_j0, w2c_j1, w2c_j2);
+  w2c_i0 = w2c_f15(instance, w2c_j0, w2c_j1, w2c_j2);
   w2c_l7 = w2c_i0;
   w2c_B1:;
   w2c_j0 = w2c_l4;
@@ -7591,7 +7412,7 @@ static u32 w2c_f18(struct instance *instance, u64 w2c_p0, u64 w2c_p1, u64 w2c_p2
   w2c_Bfunc:;
   return w2c_i0;
 }
-static u32 w2c_f19(struct instance *instance, u64 w2c_p0, u64 w2c_p1, u64 w2c_p2, u64 w2c_p3, u64 w2c_p4, u64 w2c_p5) {
+static u32 w2c_f18(struct instance *instance, u64 w2c_p0, u64 w2c_p1, u64 w2c_p2, u64 w2c_p3, u64 w2c_p4, u64 w2c_p5) {
   u32 w2c_l10 = 0;
   u64 w2c_l6 = 0, w2c_l7 = 0, w2c_l8 = 0, w2c_l9 = 0;
   const struct memory memory = instance->w2c_memory;
@@ -7836,7 +7657,7 @@ static u32 w2c_f19(struct instance *instance, u64 w2c_p0, u64 w2c_p1, u64 w2c_p2
   w2c_j1 |= w2c_j2;
   w2c_j2 = w2c_p4;
   w2c_j3 = w2c_p5;
-  w2c_f12(instance, w2c_j0, w2c_j1, w2c_j2, w2c_j3);
+  w2c_f11(instance, w2c_j0, w2c_j1, w2c_j2, w2c_j3);
   w2c_i0 = 0u;
   w2c_l10 = w2c_i0;
   w2c_B1:;
@@ -7851,7 +7672,7 @@ static u32 w2c_f19(struct instance *instance, u64 w2c_p0, u64 w2c_p1, u64 w2c_p2
   w2c_Bfunc:;
   return w2c_i0;
 }
-static u32 w2c_f20(struct instance *instance, u64 w2c_p0, u64 w2c_p1, u64 w2c_p2, u64 w2c_p3, u64 w2c_p4, u64 w2c_p5, u64 w2c_p6) {
+static u32 w2c_f19(struct instance *instance, u64 w2c_p0, u64 w2c_p1, u64 w2c_p2, u64 w2c_p3, u64 w2c_p4, u64 w2c_p5, u64 w2c_p6) {
   u32 w2c_l10 = 0;
   u64 w2c_l7 = 0, w2c_l8 = 0, w2c_l9 = 0;
   const struct memory memory = instance->w2c_memory;
@@ -8232,7 +8053,7 @@ static u32 w2c_f20(struct instance *instance, u64 w2c_p0, u64 w2c_p1, u64 w2c_p2
   w2c_Bfunc:;
   return w2c_i0;
 }
-static void w2c_f21(struct instance *instance, u64 w2c_p0, u32 w2c_p1, u64 w2c_p2, u64 w2c_p3, u64 w2c_p4, u64 w2c_p5, u64 w2c_p6) {
+static void w2c_f20(struct instance *instance, u64 w2c_p0, u32 w2c_p1, u64 w2c_p2, u64 w2c_p3, u64 w2c_p4, u64 w2c_p5, u64 w2c_p6) {
   u64 w2c_l7 = 0, w2c_l8 = 0, w2c_l9 = 0, w2c_l10 = 0, w2c_l11 = 0, w2c_l12 = 0, w2c_l13 = 0;
   const struct memory memory = instance->w2c_memory;
   (void)memory;
@@ -8873,7 +8694,7 @@ static void w2c_f21(struct instance *instance, u64 w2c_p0, u32 w2c_p1, u64 w2c_p
   UNREACHABLE;
   w2c_Bfunc:;
 }
-static void w2c_f22(struct instance *instance, u64 w2c_p0, u32 w2c_p1, u64 w2c_p2, u64 w2c_p3, u64 w2c_p4, u64 w2c_p5, u64 w2c_p6) {
+static void w2c_f21(struct instance *instance, u64 w2c_p0, u32 w2c_p1, u64 w2c_p2, u64 w2c_p3, u64 w2c_p4, u64 w2c_p5, u64 w2c_p6) {
   u32 w2c_l11 = 0;
   u64 w2c_l7 = 0, w2c_l8 = 0, w2c_l9 = 0, w2c_l10 = 0;
   const struct memory memory = instance->w2c_memory;
@@ -8934,7 +8755,7 @@ static void w2c_f22(struct instance *instance, u64 w2c_p0, u32 w2c_p1, u64 w2c_p
     w2c_j1 = 12008468691120727718ull;
     w2c_j2 = w2c_p4;
     w2c_j3 = w2c_p3;
-    w2c_f12(instance, w2c_j0, w2c_j1, w2c_j2, w2c_j3);
+    w2c_f11(instance, w2c_j0, w2c_j1, w2c_j2, w2c_j3);
     w2c_j0 = w2c_p5;
     w2c_i0 = (u32)(w2c_j0);
     w2c_i1 = 0u;
@@ -9017,7 +8838,7 @@ static void w2c_f22(struct instance *instance, u64 w2c_p0, u32 w2c_p1, u64 w2c_p
     w2c_j1 = w2c_l8;
     w2c_j2 = w2c_p4;
     w2c_j3 = w2c_p3;
-    w2c_f12(instance, w2c_j0, w2c_j1, w2c_j2, w2c_j3);
+    w2c_f11(instance, w2c_j0, w2c_j1, w2c_j2, w2c_j3);
     w2c_j0 = w2c_p5;
     w2c_i0 = (u32)(w2c_j0);
     w2c_i1 = 0u;
@@ -9069,7 +8890,7 @@ static void w2c_f22(struct instance *instance, u64 w2c_p0, u32 w2c_p1, u64 w2c_p
     w2c_j1 = w2c_l8;
     w2c_j2 = w2c_p4;
     w2c_j3 = w2c_p3;
-    w2c_f12(instance, w2c_j0, w2c_j1, w2c_j2, w2c_j3);
+    w2c_f11(instance, w2c_j0, w2c_j1, w2c_j2, w2c_j3);
     w2c_j0 = w2c_p5;
     w2c_i0 = (u32)(w2c_j0);
     w2c_i1 = 0u;
@@ -9125,7 +8946,7 @@ static void w2c_f22(struct instance *instance, u64 w2c_p0, u32 w2c_p1, u64 w2c_p
     w2c_j1 = w2c_l8;
     w2c_j2 = w2c_p4;
     w2c_j3 = w2c_p3;
-    w2c_f12(instance, w2c_j0, w2c_j1, w2c_j2, w2c_j3);
+    w2c_f11(instance, w2c_j0, w2c_j1, w2c_j2, w2c_j3);
     w2c_j0 = w2c_p5;
     w2c_i0 = (u32)(w2c_j0);
     w2c_i1 = 0u;
@@ -9171,13 +8992,13 @@ static u32 w2c_keywrap_begin_unwrap(struct instance *instance, u64 w2c_p0, u64 w
   w2c_j2 = w2c_p2;
   w2c_j3 = w2c_p3;
   w2c_j4 = w2c_p4;
-  w2c_i0 = w2c_f24(instance, w2c_j0, w2c_j1, w2c_j2, w2c_j3, w2c_j4);
+  w2c_i0 = w2c_f23(instance, w2c_j0, w2c_j1, w2c_j2, w2c_j3, w2c_j4);
   w2c_l5 = w2c_i0;
   w2c_f1(instance);
   w2c_i0 = w2c_l5;
   return w2c_i0;
 }
-static u32 w2c_f24(struct instance *instance, u64 w2c_p0, u64 w2c_p1, u64 w2c_p2, u64 w2c_p3, u64 w2c_p4) {
+static u32 w2c_f23(struct instance *instance, u64 w2c_p0, u64 w2c_p1, u64 w2c_p2, u64 w2c_p3, u64 w2c_p4) {
   u32 w2c_l5 = 0;
   u64 w2c_l6 = 0;
   const struct memory memory = instance->w2c_memory;
@@ -9306,13 +9127,13 @@ static u32 w2c_keywrap_begin_unwrap_padded(struct instance *instance, u64 w2c_p0
   w2c_j2 = w2c_p2;
   w2c_j3 = w2c_p3;
   w2c_j4 = w2c_p4;
-  w2c_i0 = w2c_f26(instance, w2c_j0, w2c_j1, w2c_j2, w2c_j3, w2c_j4);
+  w2c_i0 = w2c_f25(instance, w2c_j0, w2c_j1, w2c_j2, w2c_j3, w2c_j4);
   w2c_l5 = w2c_i0;
   w2c_f1(instance);
   w2c_i0 = w2c_l5;
   return w2c_i0;
 }
-static u32 w2c_f26(struct instance *instance, u64 w2c_p0, u64 w2c_p1, u64 w2c_p2, u64 w2c_p3, u64 w2c_p4) {
+static u32 w2c_f25(struct instance *instance, u64 w2c_p0, u64 w2c_p1, u64 w2c_p2, u64 w2c_p3, u64 w2c_p4) {
   u32 w2c_l5 = 0;
   u64 w2c_l6 = 0;
   const struct memory memory = instance->w2c_memory;
@@ -9451,13 +9272,13 @@ static u32 w2c_keywrap_begin_wrap(struct instance *instance, u64 w2c_p0, u64 w2c
   w2c_j3 = w2c_p3;
   w2c_j4 = w2c_p4;
   w2c_j5 = w2c_p5;
-  w2c_i0 = w2c_f28(instance, w2c_j0, w2c_j1, w2c_j2, w2c_j3, w2c_j4, w2c_j5);
+  w2c_i0 = w2c_f27(instance, w2c_j0, w2c_j1, w2c_j2, w2c_j3, w2c_j4, w2c_j5);
   w2c_l6 = w2c_i0;
   w2c_f1(instance);
   w2c_i0 = w2c_l6;
   return w2c_i0;
 }
-static u32 w2c_f28(struct instance *instance, u64 w2c_p0, u64 w2c_p1, u64 w2c_p2, u64 w2c_p3, u64 w2c_p4, u64 w2c_p5) {
+static u32 w2c_f27(struct instance *instance, u64 w2c_p0, u64 w2c_p1, u64 w2c_p2, u64 w2c_p3, u64 w2c_p4, u64 w2c_p5) {
   u32 w2c_l6 = 0;
   const struct memory memory = instance->w2c_memory;
   (void)memory;
@@ -9548,13 +9369,13 @@ static u32 w2c_keywrap_begin_wrap_padded(struct instance *instance, u64 w2c_p0, 
   w2c_j2 = w2c_p2;
   w2c_j3 = w2c_p3;
   w2c_j4 = w2c_p4;
-  w2c_i0 = w2c_f30(instance, w2c_j0, w2c_j1, w2c_j2, w2c_j3, w2c_j4);
+  w2c_i0 = w2c_f29(instance, w2c_j0, w2c_j1, w2c_j2, w2c_j3, w2c_j4);
   w2c_l5 = w2c_i0;
   w2c_f1(instance);
   w2c_i0 = w2c_l5;
   return w2c_i0;
 }
-static u32 w2c_f30(struct instance *instance, u64 w2c_p0, u64 w2c_p1, u64 w2c_p2, u64 w2c_p3, u64 w2c_p4) {
+static u32 w2c_f29(struct instance *instance, u64 w2c_p0, u64 w2c_p1, u64 w2c_p2, u64 w2c_p3, u64 w2c_p4) {
   u32 w2c_l5 = 0;
   const struct memory memory = instance->w2c_memory;
   (void)memory;
@@ -9708,13 +9529,13 @@ static u32 w2c_keywrap_end_unwrap(struct instance *instance, u64 w2c_p0, u64 w2c
   w2c_j3 = w2c_p3;
   w2c_j4 = w2c_p4;
   w2c_j5 = w2c_p5;
-  w2c_i0 = w2c_f32(instance, w2c_j0, w2c_j1, w2c_j2, w2c_j3, w2c_j4, w2c_j5);
+  w2c_i0 = w2c_f31(instance, w2c_j0, w2c_j1, w2c_j2, w2c_j3, w2c_j4, w2c_j5);
   w2c_l6 = w2c_i0;
   w2c_f1(instance);
   w2c_i0 = w2c_l6;
   return w2c_i0;
 }
-static u32 w2c_f32(struct instance *instance, u64 w2c_p0, u64 w2c_p1, u64 w2c_p2, u64 w2c_p3, u64 w2c_p4, u64 w2c_p5) {
+static u32 w2c_f31(struct instance *instance, u64 w2c_p0, u64 w2c_p1, u64 w2c_p2, u64 w2c_p3, u64 w2c_p4, u64 w2c_p5) {
   u32 w2c_l8 = 0;
   u64 w2c_l6 = 0, w2c_l7 = 0;
   const struct memory memory = instance->w2c_memory;
@@ -9925,13 +9746,13 @@ static u32 w2c_keywrap_end_unwrap_padded(struct instance *instance, u64 w2c_p0, 
   w2c_j2 = w2c_p2;
   w2c_j3 = w2c_p3;
   w2c_j4 = w2c_p4;
-  w2c_i0 = w2c_f34(instance, w2c_j0, w2c_j1, w2c_j2, w2c_j3, w2c_j4);
+  w2c_i0 = w2c_f33(instance, w2c_j0, w2c_j1, w2c_j2, w2c_j3, w2c_j4);
   w2c_l5 = w2c_i0;
   w2c_f1(instance);
   w2c_i0 = w2c_l5;
   return w2c_i0;
 }
-static u32 w2c_f34(struct instance *instance, u64 w2c_p0, u64 w2c_p1, u64 w2c_p2, u64 w2c_p3, u64 w2c_p4) {
+static u32 w2c_f33(struct instance *instance, u64 w2c_p0, u64 w2c_p1, u64 w2c_p2, u64 w2c_p3, u64 w2c_p4) {
   u32 w2c_l7 = 0;
   u64 w2c_l5 = 0, w2c_l6 = 0;
   const struct memory memory = instance->w2c_memory;
@@ -10157,13 +9978,13 @@ static u32 w2c_keywrap_end_wrap(struct instance *instance, u64 w2c_p0, u64 w2c_p
   w2c_j1 = w2c_p2;
   w2c_j2 = w2c_p3;
   w2c_j3 = w2c_p4;
-  w2c_i0 = w2c_f36(instance, w2c_j0, w2c_j1, w2c_j2, w2c_j3);
+  w2c_i0 = w2c_f35(instance, w2c_j0, w2c_j1, w2c_j2, w2c_j3);
   w2c_l5 = w2c_i0;
   w2c_f1(instance);
   w2c_i0 = w2c_l5;
   return w2c_i0;
 }
-static u32 w2c_f36(struct instance *instance, u64 w2c_p0, u64 w2c_p1, u64 w2c_p2, u64 w2c_p3) {
+static u32 w2c_f35(struct instance *instance, u64 w2c_p0, u64 w2c_p1, u64 w2c_p2, u64 w2c_p3) {
   u32 w2c_l4 = 0;
   const struct memory memory = instance->w2c_memory;
   (void)memory;
@@ -10292,13 +10113,13 @@ static u32 w2c_keywrap_kind(struct instance *instance, u64 w2c_p0, u64 w2c_p1, u
   w2c_j5 = w2c_p5;
   w2c_j6 = w2c_p6;
   w2c_j7 = w2c_p7;
-  w2c_i0 = w2c_f38(instance, w2c_j0, w2c_j1, w2c_j2, w2c_j3, w2c_j4, w2c_j5, w2c_j6, w2c_j7);
+  w2c_i0 = w2c_f37(instance, w2c_j0, w2c_j1, w2c_j2, w2c_j3, w2c_j4, w2c_j5, w2c_j6, w2c_j7);
   w2c_l8 = w2c_i0;
   w2c_f1(instance);
   w2c_i0 = w2c_l8;
   return w2c_i0;
 }
-static u32 w2c_f38(struct instance *instance, u64 w2c_p0, u64 w2c_p1, u64 w2c_p2, u64 w2c_p3, u64 w2c_p4, u64 w2c_p5, u64 w2c_p6, u64 w2c_p7) {
+static u32 w2c_f37(struct instance *instance, u64 w2c_p0, u64 w2c_p1, u64 w2c_p2, u64 w2c_p3, u64 w2c_p4, u64 w2c_p5, u64 w2c_p6, u64 w2c_p7) {
   u32 w2c_l9 = 0, w2c_l10 = 0;
   u64 w2c_l8 = 0;
   const struct memory memory = instance->w2c_memory;
@@ -10552,13 +10373,13 @@ static u32 w2c_keywrap_kind_many(struct instance *instance, u64 w2c_p0, u64 w2c_
   w2c_j9 = w2c_p9;
   w2c_j10 = w2c_p10;
   w2c_j11 = w2c_p11;
-  w2c_i0 = w2c_f40(instance, w2c_j0, w2c_j1, w2c_j2, w2c_j3, w2c_j4, w2c_j5, w2c_j6, w2c_j7, w2c_j8, w2c_j9, w2c_j10, w2c_j11);
+  w2c_i0 = w2c_f39(instance, w2c_j0, w2c_j1, w2c_j2, w2c_j3, w2c_j4, w2c_j5, w2c_j6, w2c_j7, w2c_j8, w2c_j9, w2c_j10, w2c_j11);
   w2c_l12 = w2c_i0;
   w2c_f1(instance);
   w2c_i0 = w2c_l12;
   return w2c_i0;
 }
-static u32 w2c_f40(struct instance *instance, u64 w2c_p0, u64 w2c_p1, u64 w2c_p2, u64 w2c_p3, u64 w2c_p4, u64 w2c_p5, u64 w2c_p6, u64 w2c_p7, 
+static u32 w2c_f39(struct instance *instance, u64 w2c_p0, u64 w2c_p1, u64 w2c_p2, u64 w2c_p3, u64 w2c_p4, u64 w2c_p5, u64 w2c_p6, u64 w2c_p7, 
     u64 w2c_p8, u64 w2c_p9, u64 w2c_p10, u64 w2c_p11) {
   u32 w2c_l13 = 0;
   u64 w2c_l12 = 0;
@@ -10730,41 +10551,137 @@ static u32 w2c_keywrap_rewrap(struct instance *instance, u64 w2c_p0, u64 w2c_p1,
   w2c_j5 = w2c_p5;
   w2c_i6 = w2c_p6;
   w2c_j7 = w2c_p7;
-  w2c_i0 = w2c_f42(instance, w2c_j0, w2c_j1, w2c_j2, w2c_j3, w2c_j4, w2c_j5, w2c_i6, w2c_j7);
+  w2c_i0 = w2c_f41(instance, w2c_j0, w2c_j1, w2c_j2, w2c_j3, w2c_j4, w2c_j5, w2c_i6, w2c_j7);
   w2c_p6 = w2c_i0;
   w2c_f1(instance);
   w2c_i0 = w2c_p6;
   return w2c_i0;
 }
-static u32 w2c_f42(struct instance *instance, u64 w2c_p0, u64 w2c_p1, u64 w2c_p2, u64 w2c_p3, u64 w2c_p4, u64 w2c_p5, u32 w2c_p6, u64 w2c_p7) {
+static u32 w2c_f41(struct instance *instance, u64 w2c_p0, u64 w2c_p1, u64 w2c_p2, u64 w2c_p3, u64 w2c_p4, u64 w2c_p5, u32 w2c_p6, u64 w2c_p7) {
+  u32 w2c_l9 = 0;
   u64 w2c_l8 = 0;
   const struct memory memory = instance->w2c_memory;
   (void)memory;
-  u32 w2c_i0, w2c_i3, w2c_i5, w2c_i6, w2c_i7;
+  u32 w2c_i0, w2c_i1, w2c_i2, w2c_i3, w2c_i4, w2c_i7;
   u64 w2c_j0, w2c_j1, w2c_j2, w2c_j3, w2c_j4, w2c_j5, w2c_j6, w2c_j7;
   w2c_j0 = instance->w2c_g0;
+  w2c_j1 = 1024ull;
+  w2c_j0 -= w2c_j1;
   w2c_l8 = w2c_j0;
-  w2c_j1 = 15ull;
-  w2c_i0 = (u64)((s64)w2c_j0 > (s64)w2c_j1);
-  if (w2c_i0) {goto w2c_B0;}
-  UNREACHABLE;
-  w2c_B0:;
-  w2c_j0 = w2c_p0;
-  w2c_j1 = 4096ull;
-  w2c_j2 = 0ull;
-  w2c_j3 = w2c_p0;
-  w2c_i3 = !(w2c_j3);
-  w2c_j1 = w2c_i3 ? w2c_j1 : w2c_j2;
+  instance->w2c_g0 = w2c_j0;
+  w2c_j0 = w2c_l8;
+  w2c_l8 = w2c_j0;
+  w2c_j1 = 16ull;
+  w2c_i0 = (u64)((s64)w2c_j0 < (s64)w2c_j1);
+  if (w2c_i0) {goto w2c_B2;}
+  w2c_j0 = w2c_l8;
+  w2c_j1 = 288ull;
   w2c_j0 += w2c_j1;
-  w2c_j1 = w2c_p1;
-  w2c_j2 = w2c_p2;
-  w2c_j3 = 4096ull;
-  w2c_j4 = 0ull;
-  w2c_j5 = w2c_p2;
-  w2c_i5 = !(w2c_j5);
-  w2c_j3 = w2c_i5 ? w2c_j3 : w2c_j4;
+  w2c_i0 = (u32)(w2c_j0);
+  w2c_i1 = 0u;
+  w2c_j2 = 248ull;
+  w2c_i2 = (u32)(w2c_j2);
+  memory_fill(memory, w2c_i0, w2c_i1, w2c_i2);
+  w2c_j0 = w2c_l8;
+  w2c_j1 = 40ull;
+  w2c_j0 += w2c_j1;
+  w2c_i0 = (u32)(w2c_j0);
+  w2c_i1 = 0u;
+  w2c_j2 = 248ull;
+  w2c_i2 = (u32)(w2c_j2);
+  memory_fill(memory, w2c_i0, w2c_i1, w2c_i2);
+  w2c_j0 = w2c_p7;
+  w2c_i0 = (u32)(w2c_j0);
+  w2c_i1 = 0u;
+  i32_store(memory, (u64)(w2c_i0), w2c_i1);
+  w2c_j0 = w2c_l8;
+  w2c_j1 = 288ull;
+  w2c_j0 += w2c_j1;
+  w2c_j1 = w2c_p0;
+  w2c_j2 = 4096ull;
+  w2c_j3 = 0ull;
+  w2c_j4 = w2c_p0;
+  w2c_i4 = !(w2c_j4);
+  w2c_j2 = w2c_i4 ? w2c_j2 : w2c_j3;
+  w2c_j1 += w2c_j2;
+  w2c_j2 = w2c_p1;
+  w2c_f4(instance, w2c_j0, w2c_j1, w2c_j2);
+  w2c_i0 = 3u;
+  w2c_l9 = w2c_i0;
+  w2c_j0 = w2c_l8;
+  w2c_i0 = (u32)(w2c_j0);
+  w2c_i0 = i32_load8_u(memory, (u64)(w2c_i0) + 288u);
+  if (w2c_i0) {goto w2c_B0;}
+  w2c_j0 = w2c_l8;
+  w2c_j1 = 780ull;
+  w2c_j0 += w2c_j1;
+  w2c_i0 = (u32)(w2c_j0);
+  w2c_j1 = w2c_l8;
+  w2c_j2 = 288ull;
+  w2c_j1 += w2c_j2;
+  w2c_j2 = 4ull;
+  w2c_j1 += w2c_j2;
+  w2c_i1 = (u32)(w2c_j1);
+  w2c_j2 = 244ull;
+  w2c_i2 = (u32)(w2c_j2);
+  memory_copy(memory, memory, w2c_i0, w2c_i1, w2c_i2);
+  w2c_j0 = w2c_l8;
+  w2c_j1 = 40ull;
+  w2c_j0 += w2c_j1;
+  w2c_j1 = w2c_p2;
+  w2c_j2 = 4096ull;
+  w2c_j3 = 0ull;
+  w2c_j4 = w2c_p2;
+  w2c_i4 = !(w2c_j4);
+  w2c_j2 = w2c_i4 ? w2c_j2 : w2c_j3;
+  w2c_j1 += w2c_j2;
+  w2c_j2 = w2c_p3;
+  w2c_f4(instance, w2c_j0, w2c_j1, w2c_j2);
+  w2c_j0 = w2c_l8;
+  w2c_i0 = (u32)(w2c_j0);
+  w2c_i0 = i32_load8_u(memory, (u64)(w2c_i0) + 40u);
+  if (w2c_i0) {goto w2c_B0;}
+  w2c_j0 = w2c_l8;
+  w2c_j1 = 536ull;
+  w2c_j0 += w2c_j1;
+  w2c_i0 = (u32)(w2c_j0);
+  w2c_j1 = w2c_l8;
+  w2c_j2 = 40ull;
+  w2c_j1 += w2c_j2;
+  w2c_j2 = 4ull;
+  w2c_j1 += w2c_j2;
+  w2c_i1 = (u32)(w2c_j1);
+  w2c_j2 = 244ull;
+  w2c_i2 = (u32)(w2c_j2);
+  memory_copy(memory, memory, w2c_i0, w2c_i1, w2c_i2);
+  w2c_j0 = w2c_l8;
+  w2c_i0 = (u32)(w2c_j0);
+  w2c_j1 = 0ull;
+  i64_store(memory, (u64)(w2c_i0) + 32, w2c_j1);
+  w2c_j0 = w2c_l8;
+  w2c_i0 = (u32)(w2c_j0);
+  w2c_j1 = 0ull;
+  i64_store(memory, (u64)(w2c_i0) + 16, w2c_j1);
+  w2c_j0 = w2c_l8;
+  w2c_i0 = (u32)(w2c_j0);
+  w2c_j1 = w2c_l8;
+  w2c_j2 = 780ull;
+  w2c_j1 += w2c_j2;
+  i64_store(memory, (u64)(w2c_i0) + 24, w2c_j1);
+  w2c_j0 = w2c_l8;
+  w2c_i0 = (u32)(w2c_j0);
+  w2c_j1 = w2c_l8;
+  w2c_j2 = 536ull;
+  w2c_j1 += w2c_j2;
+  i64_store(memory, (u64)(w2c_i0) + 8, w2c_j1);
+  w2c_j0 = w2c_l8;
+  w2c_j1 = w2c_l8;
+  w2c_j2 = 24ull;
+  w2c_j1 += w2c_j2;
+  w2c_j2 = w2c_l8;
+  w2c_j3 = 8ull;
   w2c_j2 += w2c_j3;
-  w2c_j3 = w2c_p3;
+  w2c_i3 = w2c_p6;
   w2c_j4 = w2c_p4;
   w2c_j5 = 4096ull;
   w2c_j6 = 0ull;
@@ -10773,13 +10690,47 @@ static u32 w2c_f42(struct instance *instance, u64 w2c_p0, u64 w2c_p1, u64 w2c_p2
   w2c_j5 = w2c_i7 ? w2c_j5 : w2c_j6;
   w2c_j4 += w2c_j5;
   w2c_j5 = w2c_p5;
-  w2c_i6 = w2c_p6;
-  w2c_j7 = w2c_p7;
-  w2c_i0 = w2c_f8(instance, w2c_j0, w2c_j1, w2c_j2, w2c_j3, w2c_j4, w2c_j5, w2c_i6, w2c_j7);
-  w2c_p6 = w2c_i0;
-  w2c_j0 = w2c_l8;
-  instance->w2c_g0 = w2c_j0;
+  w2c_f8(instance, w2c_j0, w2c_j1, w2c_j2, w2c_i3, w2c_j4, w2c_j5);
+  w2c_j0 = w2c_p7;
+  w2c_i0 = (u32)(w2c_j0);
+  w2c_j1 = w2c_l8;
+  w2c_i1 = (u32)(w2c_j1);
+  w2c_i1 = i32_load8_u(memory, (u64)(w2c_i1));
+  w2c_l9 = w2c_i1;
+  w2c_i1 = !(w2c_i1);
+  w2c_j2 = w2c_l8;
+  w2c_i2 = (u32)(w2c_j2);
+  w2c_i2 = i32_load8_u(memory, (u64)(w2c_i2) + 1u);
+  w2c_p6 = w2c_i2;
+  w2c_i3 = 255u;
+  w2c_i2 &= w2c_i3;
+  w2c_i3 = 1u;
+  w2c_i2 = w2c_i2 == w2c_i3;
+  w2c_i1 &= w2c_i2;
+  i32_store(memory, (u64)(w2c_i0), w2c_i1);
+  w2c_i0 = w2c_l9;
+  if (w2c_i0) {goto w2c_B1;}
+  w2c_i0 = 0u;
+  w2c_l9 = w2c_i0;
+  goto w2c_B0;
+  w2c_B2:;
+  UNREACHABLE;
+  w2c_B1:;
   w2c_i0 = w2c_p6;
+  w2c_j0 = (u64)(w2c_i0);
+  w2c_j1 = 255ull;
+  w2c_j0 &= w2c_j1;
+  w2c_j1 = 2ull;
+  w2c_j0 <<= (w2c_j1 & 63);
+  w2c_i0 = (u32)(w2c_j0);
+  w2c_i0 = constant_i32_load((u64)(w2c_i0) + 68780u);
+  w2c_l9 = w2c_i0;
+  w2c_B0:;
+  w2c_j0 = w2c_l8;
+  w2c_j1 = 1024ull;
+  w2c_j0 += w2c_j1;
+  instance->w2c_g0 = w2c_j0;
+  w2c_i0 = w2c_l9;
   return w2c_i0;
 }
 static u32 w2c_keywrap_rewrap_in_place(struct instance *instance, u64 w2c_p0, u64 w2c_p1, u64 w2c_p2, u64 w2c_p3, u64 w2c_p4, u64 w2c_p5, u32 w2c_p6) {
@@ -10800,23 +10751,21 @@ static u32 w2c_keywrap_rewrap_in_place(struct instance *instance, u64 w2c_p0, u6
   w2c_j4 = w2c_p4;
   w2c_j5 = w2c_p5;
   w2c_i6 = w2c_p6;
-  w2c_i0 = w2c_f44(instance, w2c_j0, w2c_j1, w2c_j2, w2c_j3, w2c_j4, w2c_j5, w2c_i6);
+  w2c_i0 = w2c_f43(instance, w2c_j0, w2c_j1, w2c_j2, w2c_j3, w2c_j4, w2c_j5, w2c_i6);
   w2c_p6 = w2c_i0;
   w2c_f1(instance);
   w2c_i0 = w2c_p6;
   return w2c_i0;
 }
-static u32 w2c_f44(struct instance *instance, u64 w2c_p0, u64 w2c_p1, u64 w2c_p2, u64 w2c_p3, u64 w2c_p4, u64 w2c_p5, u32 w2c_p6) {
+static u32 w2c_f43(struct instance *instance, u64 w2c_p0, u64 w2c_p1, u64 w2c_p2, u64 w2c_p3, u64 w2c_p4, u64 w2c_p5, u32 w2c_p6) {
   u32 w2c_l8 = 0;
   u64 w2c_l7 = 0;
   const struct memory memory = instance->w2c_memory;
   (void)memory;
-  u32 w2c_i0, w2c_i1, w2c_i2, w2c_i3, w2c_i5, w2c_i6, w2c_i7, w2c_i8, 
-      w2c_i9;
-  u64 w2c_j0, w2c_j1, w2c_j2, w2c_j3, w2c_j4, w2c_j5, w2c_j6, w2c_j7, 
-      w2c_j8;
+  u32 w2c_i0, w2c_i1, w2c_i2, w2c_i3, w2c_i4, w2c_i7;
+  u64 w2c_j0, w2c_j1, w2c_j2, w2c_j3, w2c_j4, w2c_j5, w2c_j6, w2c_j7;
   w2c_j0 = instance->w2c_g0;
-  w2c_j1 = 16ull;
+  w2c_j1 = 1024ull;
   w2c_j0 -= w2c_j1;
   w2c_l7 = w2c_j0;
   instance->w2c_g0 = w2c_j0;
@@ -10825,22 +10774,114 @@ static u32 w2c_f44(struct instance *instance, u64 w2c_p0, u64 w2c_p1, u64 w2c_p2
   w2c_j1 = 16ull;
   w2c_i0 = (u64)((s64)w2c_j0 < (s64)w2c_j1);
   if (w2c_i0) {goto w2c_B0;}
-  w2c_j0 = w2c_p0;
-  w2c_j1 = 4096ull;
-  w2c_j2 = 0ull;
-  w2c_j3 = w2c_p0;
-  w2c_i3 = !(w2c_j3);
-  w2c_j1 = w2c_i3 ? w2c_j1 : w2c_j2;
+  w2c_j0 = w2c_l7;
+  w2c_j1 = 288ull;
   w2c_j0 += w2c_j1;
-  w2c_j1 = w2c_p1;
-  w2c_j2 = w2c_p2;
-  w2c_j3 = 4096ull;
-  w2c_j4 = 0ull;
-  w2c_j5 = w2c_p2;
-  w2c_i5 = !(w2c_j5);
-  w2c_j3 = w2c_i5 ? w2c_j3 : w2c_j4;
+  w2c_i0 = (u32)(w2c_j0);
+  w2c_i1 = 0u;
+  w2c_j2 = 248ull;
+  w2c_i2 = (u32)(w2c_j2);
+  memory_fill(memory, w2c_i0, w2c_i1, w2c_i2);
+  w2c_j0 = w2c_l7;
+  w2c_j1 = 40ull;
+  w2c_j0 += w2c_j1;
+  w2c_i0 = (u32)(w2c_j0);
+  w2c_i1 = 0u;
+  w2c_j2 = 248ull;
+  w2c_i2 = (u32)(w2c_j2);
+  memory_fill(memory, w2c_i0, w2c_i1, w2c_i2);
+  w2c_j0 = w2c_l7;
+  w2c_j1 = 288ull;
+  w2c_j0 += w2c_j1;
+  w2c_j1 = w2c_p0;
+  w2c_j2 = 4096ull;
+  w2c_j3 = 0ull;
+  w2c_j4 = w2c_p0;
+  w2c_i4 = !(w2c_j4);
+  w2c_j2 = w2c_i4 ? w2c_j2 : w2c_j3;
+  w2c_j1 += w2c_j2;
+  w2c_j2 = w2c_p1;
+  w2c_f4(instance, w2c_j0, w2c_j1, w2c_j2);
+  w2c_i0 = 3u;
+  w2c_l8 = w2c_i0;
+  w2c_j0 = w2c_l7;
+  w2c_i0 = (u32)(w2c_j0);
+  w2c_i0 = i32_load8_u(memory, (u64)(w2c_i0) + 288u);
+  if (w2c_i0) {goto w2c_B1;}
+  w2c_j0 = w2c_l7;
+  w2c_j1 = 780ull;
+  w2c_j0 += w2c_j1;
+  w2c_i0 = (u32)(w2c_j0);
+  w2c_j1 = w2c_l7;
+  w2c_j2 = 288ull;
+  w2c_j1 += w2c_j2;
+  w2c_j2 = 4ull;
+  w2c_j1 += w2c_j2;
+  w2c_i1 = (u32)(w2c_j1);
+  w2c_j2 = 244ull;
+  w2c_i2 = (u32)(w2c_j2);
+  memory_copy(memory, memory, w2c_i0, w2c_i1, w2c_i2);
+  w2c_j0 = w2c_l7;
+  w2c_j1 = 40ull;
+  w2c_j0 += w2c_j1;
+  w2c_j1 = w2c_p2;
+  w2c_j2 = 4096ull;
+  w2c_j3 = 0ull;
+  w2c_j4 = w2c_p2;
+  w2c_i4 = !(w2c_j4);
+  w2c_j2 = w2c_i4 ? w2c_j2 : w2c_j3;
+  w2c_j1 += w2c_j2;
+  w2c_j2 = w2c_p3;
+  w2c_f4(instance, w2c_j0, w2c_j1, w2c_j2);
+  w2c_j0 = w2c_l7;
+  w2c_i0 = (u32)(w2c_j0);
+  w2c_i0 = i32_load8_u(memory, (u64)(w2c_i0) + 40u);
+  if (w2c_i0) {goto w2c_B1;}
+  w2c_j0 = w2c_l7;
+  w2c_j1 = 536ull;
+  w2c_j0 += w2c_j1;
+  w2c_i0 = (u32)(w2c_j0);
+  w2c_j1 = w2c_l7;
+  w2c_j2 = 40ull;
+  w2c_j1 += w2c_j2;
+  w2c_j2 = 4ull;
+  w2c_j1 += w2c_j2;
+  w2c_i1 = (u32)(w2c_j1);
+  w2c_j2 = 244ull;
+  w2c_i2 = (u32)(w2c_j2);
+  memory_copy(memory, memory, w2c_i0, w2c_i1, w2c_i2);
+  w2c_i0 = w2c_p6;
+  w2c_i1 = 3u;
+  w2c_i0 = w2c_i0 > w2c_i1;
+  if (w2c_i0) {goto w2c_B2;}
+  w2c_j0 = w2c_l7;
+  w2c_i0 = (u32)(w2c_j0);
+  w2c_j1 = 0ull;
+  i64_store(memory, (u64)(w2c_i0) + 32, w2c_j1);
+  w2c_j0 = w2c_l7;
+  w2c_i0 = (u32)(w2c_j0);
+  w2c_j1 = 0ull;
+  i64_store(memory, (u64)(w2c_i0) + 16, w2c_j1);
+  w2c_j0 = w2c_l7;
+  w2c_i0 = (u32)(w2c_j0);
+  w2c_j1 = w2c_l7;
+  w2c_j2 = 780ull;
+  w2c_j1 += w2c_j2;
+  i64_store(memory, (u64)(w2c_i0) + 24, w2c_j1);
+  w2c_j0 = w2c_l7;
+  w2c_i0 = (u32)(w2c_j0);
+  w2c_j1 = w2c_l7;
+  w2c_j2 = 536ull;
+  w2c_j1 += w2c_j2;
+  i64_store(memory, (u64)(w2c_i0) + 8, w2c_j1);
+  w2c_j0 = w2c_l7;
+  w2c_j1 = w2c_l7;
+  w2c_j2 = 24ull;
+  w2c_j1 += w2c_j2;
+  w2c_j2 = w2c_l7;
+  w2c_j3 = 8ull;
   w2c_j2 += w2c_j3;
-  w2c_j3 = w2c_p3;
+  w2c_i3 = w2c_p6;
   w2c_j4 = w2c_p4;
   w2c_j5 = 4096ull;
   w2c_j6 = 0ull;
@@ -10848,67 +10889,94 @@ static u32 w2c_f44(struct instance *instance, u64 w2c_p0, u64 w2c_p1, u64 w2c_p2
   w2c_i7 = !(w2c_j7);
   w2c_j5 = w2c_i7 ? w2c_j5 : w2c_j6;
   w2c_j4 += w2c_j5;
-  w2c_p4 = w2c_j4;
+  w2c_p0 = w2c_j4;
   w2c_j5 = w2c_p5;
-  w2c_i6 = w2c_p6;
-  w2c_i7 = 16u;
-  w2c_i8 = w2c_p6;
-  w2c_i9 = 4u;
-  w2c_i8 = w2c_i8 < w2c_i9;
-  w2c_i6 = w2c_i8 ? w2c_i6 : w2c_i7;
-  w2c_j7 = w2c_l7;
-  w2c_j8 = 12ull;
-  w2c_j7 += w2c_j8;
-  w2c_i0 = w2c_f8(instance, w2c_j0, w2c_j1, w2c_j2, w2c_j3, w2c_j4, w2c_j5, w2c_i6, w2c_j7);
-  w2c_p6 = w2c_i0;
-  w2c_i1 = 4294967291u;
-  w2c_i0 += w2c_i1;
+  w2c_f8(instance, w2c_j0, w2c_j1, w2c_j2, w2c_i3, w2c_j4, w2c_j5);
+  w2c_i0 = 0u;
+  w2c_l8 = w2c_i0;
+  w2c_j0 = w2c_l7;
+  w2c_i0 = (u32)(w2c_j0);
+  w2c_i0 = i32_load8_u(memory, (u64)(w2c_i0));
+  w2c_i1 = 1u;
+  w2c_i0 &= w2c_i1;
+  w2c_i0 = !(w2c_i0);
+  if (w2c_i0) {goto w2c_B1;}
+  w2c_i0 = 4u;
+  w2c_l8 = w2c_i0;
+  w2c_j0 = w2c_l7;
+  w2c_i0 = (u32)(w2c_j0);
+  w2c_i0 = i32_load8_u(memory, (u64)(w2c_i0) + 1u);
+  w2c_j0 = (u64)(w2c_i0);
+  w2c_j1 = 255ull;
+  w2c_j0 &= w2c_j1;
+  w2c_i0 = (u32)(w2c_j0);
   switch (w2c_i0) {
-    case 0: goto w2c_B3;
-    case 1: goto w2c_B2;
-    case 2: goto w2c_B2;
-    case 3: goto w2c_B3;
-    default: goto w2c_B2;
+    case 0: goto w2c_B1;
+    case 1: goto w2c_B4;
+    case 2: goto w2c_B3;
+    default: goto w2c_B1;
   }
-  w2c_B3:;
+  w2c_B4:;
+  w2c_i0 = 5u;
+  w2c_l8 = w2c_i0;
   w2c_j0 = w2c_p5;
   w2c_i0 = !(w2c_j0);
-  if (w2c_i0) {goto w2c_B4;}
+  if (w2c_i0) {goto w2c_B1;}
   w2c_j0 = w2c_p5;
   w2c_j1 = 18446744073709551615ull;
   w2c_j0 += w2c_j1;
-  w2c_p5 = w2c_j0;
+  w2c_p1 = w2c_j0;
   w2c_i0 = !(w2c_j0);
-  w2c_l8 = w2c_i0;
+  w2c_p6 = w2c_i0;
   if (w2c_i0) {goto w2c_B5;}
-  w2c_i0 = w2c_l8;
+  w2c_i0 = w2c_p6;
   if (w2c_i0) {goto w2c_B5;}
-  w2c_j0 = w2c_p4;
+  w2c_j0 = w2c_p0;
   w2c_i0 = (u32)(w2c_j0);
   w2c_i1 = 0u;
-  w2c_j2 = w2c_p5;
+  w2c_j2 = w2c_p1;
   w2c_i2 = (u32)(w2c_j2);
   memory_fill(memory, w2c_i0, w2c_i1, w2c_i2);
   w2c_B5:;
-  w2c_j0 = w2c_p4;
-  w2c_j1 = w2c_p5;
+  w2c_j0 = w2c_p0;
+  w2c_j1 = w2c_p1;
   w2c_j0 += w2c_j1;
   w2c_i0 = (u32)(w2c_j0);
   w2c_i1 = 0u;
   i32_store8(memory, (u64)(w2c_i0), w2c_i1);
-  w2c_B4:;
-  w2c_i0 = 4u;
+  goto w2c_B1;
+  w2c_B3:;
+  w2c_j0 = w2c_p5;
+  w2c_i0 = !(w2c_j0);
+  if (w2c_i0) {goto w2c_B2;}
+  w2c_j0 = w2c_p5;
+  w2c_j1 = 18446744073709551615ull;
+  w2c_j0 += w2c_j1;
+  w2c_p1 = w2c_j0;
+  w2c_i0 = !(w2c_j0);
   w2c_l8 = w2c_i0;
-  w2c_i0 = w2c_p6;
-  w2c_i1 = 8u;
-  w2c_i0 = w2c_i0 == w2c_i1;
-  if (w2c_i0) {goto w2c_B1;}
+  if (w2c_i0) {goto w2c_B6;}
+  w2c_i0 = w2c_l8;
+  if (w2c_i0) {goto w2c_B6;}
+  w2c_j0 = w2c_p0;
+  w2c_i0 = (u32)(w2c_j0);
+  w2c_i1 = 0u;
+  w2c_j2 = w2c_p1;
+  w2c_i2 = (u32)(w2c_j2);
+  memory_fill(memory, w2c_i0, w2c_i1, w2c_i2);
+  w2c_B6:;
+  w2c_j0 = w2c_p0;
+  w2c_j1 = w2c_p1;
+  w2c_j0 += w2c_j1;
+  w2c_i0 = (u32)(w2c_j0);
+  w2c_i1 = 0u;
+  i32_store8(memory, (u64)(w2c_i0), w2c_i1);
   w2c_B2:;
-  w2c_i0 = w2c_p6;
+  w2c_i0 = 4u;
   w2c_l8 = w2c_i0;
   w2c_B1:;
   w2c_j0 = w2c_l7;
-  w2c_j1 = 16ull;
+  w2c_j1 = 1024ull;
   w2c_j0 += w2c_j1;
   instance->w2c_g0 = w2c_j0;
   w2c_i0 = w2c_l8;
@@ -10939,13 +11007,13 @@ static u32 w2c_keywrap_rewrap_many(struct instance *instance, u64 w2c_p0, u64 w2
   w2c_i6 = w2c_p6;
   w2c_j7 = w2c_p7;
   w2c_j8 = w2c_p8;
-  w2c_i0 = w2c_f46(instance, w2c_j0, w2c_j1, w2c_j2, w2c_j3, w2c_j4, w2c_j5, w2c_i6, w2c_j7, w2c_j8);
+  w2c_i0 = w2c_f45(instance, w2c_j0, w2c_j1, w2c_j2, w2c_j3, w2c_j4, w2c_j5, w2c_i6, w2c_j7, w2c_j8);
   w2c_p6 = w2c_i0;
   w2c_f1(instance);
   w2c_i0 = w2c_p6;
   return w2c_i0;
 }
-static u32 w2c_f46(struct instance *instance, u64 w2c_p0, u64 w2c_p1, u64 w2c_p2, u64 w2c_p3, u64 w2c_p4, u64 w2c_p5, u32 w2c_p6, u64 w2c_p7, 
+static u32 w2c_f45(struct instance *instance, u64 w2c_p0, u64 w2c_p1, u64 w2c_p2, u64 w2c_p3, u64 w2c_p4, u64 w2c_p5, u32 w2c_p6, u64 w2c_p7, 
     u64 w2c_p8) {
   u32 w2c_l10 = 0, w2c_l11 = 0;
   u64 w2c_l9 = 0;
@@ -11140,7 +11208,7 @@ static u32 w2c_f46(struct instance *instance, u64 w2c_p0, u64 w2c_p1, u64 w2c_p2
   w2c_j6 = w2c_i8 ? w2c_j6 : w2c_j7;
   w2c_j5 += w2c_j6;
   w2c_j6 = w2c_p8;
-  w2c_f14(instance, w2c_j0, w2c_j1, w2c_i2, w2c_j3, w2c_j4, w2c_j5, w2c_j6);
+  w2c_f13(instance, w2c_j0, w2c_j1, w2c_i2, w2c_j3, w2c_j4, w2c_j5, w2c_j6);
   w2c_i0 = 0u;
   w2c_l10 = w2c_i0;
   w2c_B1:;
@@ -11166,13 +11234,13 @@ static u32 w2c_keywrap_self_test(struct instance *instance) {
   w2c_f2(instance);
   UNREACHABLE;
   w2c_B0:;
-  w2c_i0 = w2c_f48(instance);
+  w2c_i0 = w2c_f47(instance);
   w2c_l0 = w2c_i0;
   w2c_f1(instance);
   w2c_i0 = w2c_l0;
   return w2c_i0;
 }
-static u32 w2c_f48(struct instance *instance) {
+static u32 w2c_f47(struct instance *instance) {
   u32 w2c_l1 = 0, w2c_l2 = 0, w2c_l3 = 0, w2c_l4 = 0, w2c_l5 = 0, w2c_l6 = 0, w2c_l7 = 0, w2c_l8 = 0, 
       w2c_l9 = 0;
   u64 w2c_l0 = 0;
@@ -11196,7 +11264,7 @@ static u32 w2c_f48(struct instance *instance) {
   w2c_j3 = 16ull;
   w2c_j4 = 68168ull;
   w2c_j5 = 24ull;
-  w2c_i0 = w2c_f15(instance, w2c_j0, w2c_j1, w2c_j2, w2c_j3, w2c_j4, w2c_j5);
+  w2c_i0 = w2c_f14(instance, w2c_j0, w2c_j1, w2c_j2, w2c_j3, w2c_j4, w2c_j5);
   w2c_l1 = w2c_i0;
   w2c_j0 = 68192ull;
   w2c_j1 = 24ull;
@@ -11204,7 +11272,7 @@ static u32 w2c_f48(struct instance *instance) {
   w2c_j3 = 16ull;
   w2c_j4 = 68216ull;
   w2c_j5 = 24ull;
-  w2c_i0 = w2c_f15(instance, w2c_j0, w2c_j1, w2c_j2, w2c_j3, w2c_j4, w2c_j5);
+  w2c_i0 = w2c_f14(instance, w2c_j0, w2c_j1, w2c_j2, w2c_j3, w2c_j4, w2c_j5);
   w2c_l2 = w2c_i0;
   w2c_j0 = 68240ull;
   w2c_j1 = 32ull;
@@ -11212,7 +11280,7 @@ static u32 w2c_f48(struct instance *instance) {
   w2c_j3 = 16ull;
   w2c_j4 = 68272ull;
   w2c_j5 = 24ull;
-  w2c_i0 = w2c_f15(instance, w2c_j0, w2c_j1, w2c_j2, w2c_j3, w2c_j4, w2c_j5);
+  w2c_i0 = w2c_f14(instance, w2c_j0, w2c_j1, w2c_j2, w2c_j3, w2c_j4, w2c_j5);
   w2c_l3 = w2c_i0;
   w2c_j0 = 68192ull;
   w2c_j1 = 24ull;
@@ -11220,7 +11288,7 @@ static u32 w2c_f48(struct instance *instance) {
   w2c_j3 = 24ull;
   w2c_j4 = 68320ull;
   w2c_j5 = 32ull;
-  w2c_i0 = w2c_f15(instance, w2c_j0, w2c_j1, w2c_j2, w2c_j3, w2c_j4, w2c_j5);
+  w2c_i0 = w2c_f14(instance, w2c_j0, w2c_j1, w2c_j2, w2c_j3, w2c_j4, w2c_j5);
   w2c_l4 = w2c_i0;
   w2c_j0 = 68240ull;
   w2c_j1 = 32ull;
@@ -11228,7 +11296,7 @@ static u32 w2c_f48(struct instance *instance) {
   w2c_j3 = 24ull;
   w2c_j4 = 68352ull;
   w2c_j5 = 32ull;
-  w2c_i0 = w2c_f15(instance, w2c_j0, w2c_j1, w2c_j2, w2c_j3, w2c_j4, w2c_j5);
+  w2c_i0 = w2c_f14(instance, w2c_j0, w2c_j1, w2c_j2, w2c_j3, w2c_j4, w2c_j5);
   w2c_l5 = w2c_i0;
   w2c_j0 = 68240ull;
   w2c_j1 = 32ull;
@@ -11236,19 +11304,19 @@ static u32 w2c_f48(struct instance *instance) {
   w2c_j3 = 32ull;
   w2c_j4 = 68416ull;
   w2c_j5 = 40ull;
-  w2c_i0 = w2c_f15(instance, w2c_j0, w2c_j1, w2c_j2, w2c_j3, w2c_j4, w2c_j5);
+  w2c_i0 = w2c_f14(instance, w2c_j0, w2c_j1, w2c_j2, w2c_j3, w2c_j4, w2c_j5);
   w2c_l6 = w2c_i0;
   w2c_j0 = 68480ull;
   w2c_j1 = 20ull;
   w2c_j2 = 68500ull;
   w2c_j3 = 32ull;
-  w2c_i0 = w2c_f18(instance, w2c_j0, w2c_j1, w2c_j2, w2c_j3);
+  w2c_i0 = w2c_f17(instance, w2c_j0, w2c_j1, w2c_j2, w2c_j3);
   w2c_l7 = w2c_i0;
   w2c_j0 = 68532ull;
   w2c_j1 = 7ull;
   w2c_j2 = 68539ull;
   w2c_j3 = 16ull;
-  w2c_i0 = w2c_f18(instance, w2c_j0, w2c_j1, w2c_j2, w2c_j3);
+  w2c_i0 = w2c_f17(instance, w2c_j0, w2c_j1, w2c_j2, w2c_j3);
   w2c_l8 = w2c_i0;
   w2c_j0 = w2c_l0;
   w2c_j1 = 52ull;
@@ -11387,13 +11455,13 @@ static u64 w2c_keywrap_status_text(struct instance *instance, u32 w2c_p0, u64 w2
   w2c_i0 = w2c_p0;
   w2c_j1 = w2c_p1;
   w2c_j2 = w2c_p2;
-  w2c_j0 = w2c_f50(instance, w2c_i0, w2c_j1, w2c_j2);
+  w2c_j0 = w2c_f49(instance, w2c_i0, w2c_j1, w2c_j2);
   w2c_p2 = w2c_j0;
   w2c_f1(instance);
   w2c_j0 = w2c_p2;
   return w2c_j0;
 }
-static u64 w2c_f50(struct instance *instance, u32 w2c_p0, u64 w2c_p1, u64 w2c_p2) {
+static u64 w2c_f49(struct instance *instance, u32 w2c_p0, u64 w2c_p1, u64 w2c_p2) {
   u64 w2c_l3 = 0, w2c_l4 = 0, w2c_l5 = 0, w2c_l6 = 0, w2c_l7 = 0, w2c_l8 = 0, w2c_l9 = 0, w2c_l10 = 0, 
       w2c_l11 = 0;
   const struct memory memory = instance->w2c_memory;
@@ -11600,13 +11668,13 @@ static u32 w2c_keywrap_step_unwrap(struct instance *instance, u64 w2c_p0, u64 w2
   w2c_j1 = w2c_p1;
   w2c_j2 = w2c_p2;
   w2c_j3 = w2c_p3;
-  w2c_i0 = w2c_f52(instance, w2c_j0, w2c_j1, w2c_j2, w2c_j3);
+  w2c_i0 = w2c_f51(instance, w2c_j0, w2c_j1, w2c_j2, w2c_j3);
   w2c_l4 = w2c_i0;
   w2c_f1(instance);
   w2c_i0 = w2c_l4;
   return w2c_i0;
 }
-static u32 w2c_f52(struct instance *instance, u64 w2c_p0, u64 w2c_p1, u64 w2c_p2, u64 w2c_p3) {
+static u32 w2c_f51(struct instance *instance, u64 w2c_p0, u64 w2c_p1, u64 w2c_p2, u64 w2c_p3) {
   u32 w2c_l4 = 0;
   u64 w2c_l5 = 0, w2c_l6 = 0, w2c_l7 = 0;
   const struct memory memory = instance->w2c_memory;
@@ -11791,13 +11859,13 @@ static u32 w2c_keywrap_step_wrap(struct instance *instance, u64 w2c_p0, u64 w2c_
   w2c_j1 = w2c_p1;
   w2c_j2 = w2c_p2;
   w2c_j3 = w2c_p3;
-  w2c_i0 = w2c_f54(instance, w2c_j0, w2c_j1, w2c_j2, w2c_j3);
+  w2c_i0 = w2c_f53(instance, w2c_j0, w2c_j1, w2c_j2, w2c_j3);
   w2c_l4 = w2c_i0;
   w2c_f1(instance);
   w2c_i0 = w2c_l4;
   return w2c_i0;
 }
-static u32 w2c_f54(struct instance *instance, u64 w2c_p0, u64 w2c_p1, u64 w2c_p2, u64 w2c_p3) {
+static u32 w2c_f53(struct instance *instance, u64 w2c_p0, u64 w2c_p1, u64 w2c_p2, u64 w2c_p3) {
   u32 w2c_l4 = 0;
   u64 w2c_l5 = 0, w2c_l6 = 0, w2c_l7 = 0, w2c_l8 = 0, w2c_l9 = 0;
   const struct memory memory = instance->w2c_memory;
@@ -11990,13 +12058,13 @@ static u32 w2c_keywrap_unwrap(struct instance *instance, u64 w2c_p0, u64 w2c_p1,
   w2c_j3 = w2c_p3;
   w2c_j4 = w2c_p4;
   w2c_j5 = w2c_p5;
-  w2c_i0 = w2c_f56(instance, w2c_j0, w2c_j1, w2c_j2, w2c_j3, w2c_j4, w2c_j5);
+  w2c_i0 = w2c_f55(instance, w2c_j0, w2c_j1, w2c_j2, w2c_j3, w2c_j4, w2c_j5);
   w2c_l6 = w2c_i0;
   w2c_f1(instance);
   w2c_i0 = w2c_l6;
   return w2c_i0;
 }
-static u32 w2c_f56(struct instance *instance, u64 w2c_p0, u64 w2c_p1, u64 w2c_p2, u64 w2c_p3, u64 w2c_p4, u64 w2c_p5) {
+static u32 w2c_f55(struct instance *instance, u64 w2c_p0, u64 w2c_p1, u64 w2c_p2, u64 w2c_p3, u64 w2c_p4, u64 w2c_p5) {
   const struct memory memory = instance->w2c_memory;
   (void)memory;
   u32 w2c_i0, w2c_i3, w2c_i5, w2c_i7;
@@ -12025,7 +12093,7 @@ static u32 w2c_f56(struct instance *instance, u64 w2c_p0, u64 w2c_p1, u64 w2c_p2
   w2c_j5 = w2c_i7 ? w2c_j5 : w2c_j6;
   w2c_j4 += w2c_j5;
   w2c_j5 = w2c_p5;
-  w2c_i0 = w2c_f17(instance, w2c_j0, w2c_j1, w2c_j2, w2c_j3, w2c_j4, w2c_j5);
+  w2c_i0 = w2c_f16(instance, w2c_j0, w2c_j1, w2c_j2, w2c_j3, w2c_j4, w2c_j5);
   return w2c_i0;
 }
 static u32 w2c_keywrap_unwrap_any(struct instance *instance, u64 w2c_p0, u64 w2c_p1, u64 w2c_p2, u64 w2c_p3, u64 w2c_p4, u64 w2c_p5, u64 w2c_p6, u64 w2c_p7) {
@@ -12048,13 +12116,13 @@ static u32 w2c_keywrap_unwrap_any(struct instance *instance, u64 w2c_p0, u64 w2c
   w2c_j5 = w2c_p5;
   w2c_j6 = w2c_p6;
   w2c_j7 = w2c_p7;
-  w2c_i0 = w2c_f58(instance, w2c_j0, w2c_j1, w2c_j2, w2c_j3, w2c_j4, w2c_j5, w2c_j6, w2c_j7);
+  w2c_i0 = w2c_f57(instance, w2c_j0, w2c_j1, w2c_j2, w2c_j3, w2c_j4, w2c_j5, w2c_j6, w2c_j7);
   w2c_l8 = w2c_i0;
   w2c_f1(instance);
   w2c_i0 = w2c_l8;
   return w2c_i0;
 }
-static u32 w2c_f58(struct instance *instance, u64 w2c_p0, u64 w2c_p1, u64 w2c_p2, u64 w2c_p3, u64 w2c_p4, u64 w2c_p5, u64 w2c_p6, u64 w2c_p7) {
+static u32 w2c_f57(struct instance *instance, u64 w2c_p0, u64 w2c_p1, u64 w2c_p2, u64 w2c_p3, u64 w2c_p4, u64 w2c_p5, u64 w2c_p6, u64 w2c_p7) {
   u32 w2c_l9 = 0;
   u64 w2c_l8 = 0;
   const struct memory memory = instance->w2c_memory;
@@ -12222,13 +12290,13 @@ static u32 w2c_keywrap_unwrap_in_place(struct instance *instance, u64 w2c_p0, u6
   w2c_j1 = w2c_p1;
   w2c_j2 = w2c_p2;
   w2c_j3 = w2c_p3;
-  w2c_i0 = w2c_f60(instance, w2c_j0, w2c_j1, w2c_j2, w2c_j3);
+  w2c_i0 = w2c_f59(instance, w2c_j0, w2c_j1, w2c_j2, w2c_j3);
   w2c_l4 = w2c_i0;
   w2c_f1(instance);
   w2c_i0 = w2c_l4;
   return w2c_i0;
 }
-static u32 w2c_f60(struct instance *instance, u64 w2c_p0, u64 w2c_p1, u64 w2c_p2, u64 w2c_p3) {
+static u32 w2c_f59(struct instance *instance, u64 w2c_p0, u64 w2c_p1, u64 w2c_p2, u64 w2c_p3) {
   u32 w2c_l5 = 0;
   u64 w2c_l4 = 0;
   const struct memory memory = instance->w2c_memory;
@@ -12431,13 +12499,13 @@ static u32 w2c_keywrap_unwrap_many(struct instance *instance, u64 w2c_p0, u64 w2
   w2c_j6 = w2c_p6;
   w2c_j7 = w2c_p7;
   w2c_j8 = w2c_p8;
-  w2c_i0 = w2c_f62(instance, w2c_j0, w2c_j1, w2c_j2, w2c_j3, w2c_i4, w2c_j5, w2c_j6, w2c_j7, w2c_j8);
+  w2c_i0 = w2c_f61(instance, w2c_j0, w2c_j1, w2c_j2, w2c_j3, w2c_i4, w2c_j5, w2c_j6, w2c_j7, w2c_j8);
   w2c_p4 = w2c_i0;
   w2c_f1(instance);
   w2c_i0 = w2c_p4;
   return w2c_i0;
 }
-static u32 w2c_f62(struct instance *instance, u64 w2c_p0, u64 w2c_p1, u64 w2c_p2, u64 w2c_p3, u32 w2c_p4, u64 w2c_p5, u64 w2c_p6, u64 w2c_p7, 
+static u32 w2c_f61(struct instance *instance, u64 w2c_p0, u64 w2c_p1, u64 w2c_p2, u64 w2c_p3, u32 w2c_p4, u64 w2c_p5, u64 w2c_p6, u64 w2c_p7, 
     u64 w2c_p8) {
   u32 w2c_l10 = 0, w2c_l11 = 0;
   u64 w2c_l9 = 0;
@@ -12572,7 +12640,7 @@ static u32 w2c_f62(struct instance *instance, u64 w2c_p0, u64 w2c_p1, u64 w2c_p2
   w2c_j6 = w2c_i8 ? w2c_j6 : w2c_j7;
   w2c_j5 += w2c_j6;
   w2c_j6 = w2c_p8;
-  w2c_f21(instance, w2c_j0, w2c_i1, w2c_j2, w2c_j3, w2c_j4, w2c_j5, w2c_j6);
+  w2c_f20(instance, w2c_j0, w2c_i1, w2c_j2, w2c_j3, w2c_j4, w2c_j5, w2c_j6);
   w2c_i0 = 0u;
   w2c_l10 = w2c_i0;
   w2c_B1:;
@@ -12606,13 +12674,13 @@ static u32 w2c_keywrap_unwrap_padded(struct instance *instance, u64 w2c_p0, u64 
   w2c_j4 = w2c_p4;
   w2c_j5 = w2c_p5;
   w2c_j6 = w2c_p6;
-  w2c_i0 = w2c_f64(instance, w2c_j0, w2c_j1, w2c_j2, w2c_j3, w2c_j4, w2c_j5, w2c_j6);
+  w2c_i0 = w2c_f63(instance, w2c_j0, w2c_j1, w2c_j2, w2c_j3, w2c_j4, w2c_j5, w2c_j6);
   w2c_l7 = w2c_i0;
   w2c_f1(instance);
   w2c_i0 = w2c_l7;
   return w2c_i0;
 }
-static u32 w2c_f64(struct instance *instance, u64 w2c_p0, u64 w2c_p1, u64 w2c_p2, u64 w2c_p3, u64 w2c_p4, u64 w2c_p5, u64 w2c_p6) {
+static u32 w2c_f63(struct instance *instance, u64 w2c_p0, u64 w2c_p1, u64 w2c_p2, u64 w2c_p3, u64 w2c_p4, u64 w2c_p5, u64 w2c_p6) {
   const struct memory memory = instance->w2c_memory;
   (void)memory;
   u32 w2c_i0, w2c_i3, w2c_i5, w2c_i7;
@@ -12642,7 +12710,7 @@ static u32 w2c_f64(struct instance *instance, u64 w2c_p0, u64 w2c_p1, u64 w2c_p2
   w2c_j4 += w2c_j5;
   w2c_j5 = w2c_p5;
   w2c_j6 = w2c_p6;
-  w2c_i0 = w2c_f20(instance, w2c_j0, w2c_j1, w2c_j2, w2c_j3, w2c_j4, w2c_j5, w2c_j6);
+  w2c_i0 = w2c_f19(instance, w2c_j0, w2c_j1, w2c_j2, w2c_j3, w2c_j4, w2c_j5, w2c_j6);
   return w2c_i0;
 }
 static u32 w2c_keywrap_unwrap_padded_in_place(struct instance *instance, u64 w2c_p0, u64 w2c_p1, u64 w2c_p2, u64 w2c_p3, u64 w2c_p4) {
@@ -12662,13 +12730,13 @@ static u32 w2c_keywrap_unwrap_padded_in_place(struct instance *instance, u64 w2c
   w2c_j2 = w2c_p2;
   w2c_j3 = w2c_p3;
   w2c_j4 = w2c_p4;
-  w2c_i0 = w2c_f66(instance, w2c_j0, w2c_j1, w2c_j2, w2c_j3, w2c_j4);
+  w2c_i0 = w2c_f65(instance, w2c_j0, w2c_j1, w2c_j2, w2c_j3, w2c_j4);
   w2c_l5 = w2c_i0;
   w2c_f1(instance);
   w2c_i0 = w2c_l5;
   return w2c_i0;
 }
-static u32 w2c_f66(struct instance *instance, u64 w2c_p0, u64 w2c_p1, u64 w2c_p2, u64 w2c_p3, u64 w2c_p4) {
+static u32 w2c_f65(struct instance *instance, u64 w2c_p0, u64 w2c_p1, u64 w2c_p2, u64 w2c_p3, u64 w2c_p4) {
   u32 w2c_l8 = 0;
   u64 w2c_l5 = 0, w2c_l6 = 0, w2c_l7 = 0;
   const struct memory memory = instance->w2c_memory;
@@ -12956,13 +13024,13 @@ static u32 w2c_keywrap_unwrap_with(struct instance *instance, u64 w2c_p0, u64 w2
   w2c_j5 = w2c_p5;
   w2c_j6 = w2c_p6;
   w2c_j7 = w2c_p7;
-  w2c_i0 = w2c_f68(instance, w2c_j0, w2c_j1, w2c_j2, w2c_j3, w2c_j4, w2c_j5, w2c_j6, w2c_j7);
+  w2c_i0 = w2c_f67(instance, w2c_j0, w2c_j1, w2c_j2, w2c_j3, w2c_j4, w2c_j5, w2c_j6, w2c_j7);
   w2c_l8 = w2c_i0;
   w2c_f1(instance);
   w2c_i0 = w2c_l8;
   return w2c_i0;
 }
-static u32 w2c_f68(struct instance *instance, u64 w2c_p0, u64 w2c_p1, u64 w2c_p2, u64 w2c_p3, u64 w2c_p4, u64 w2c_p5, u64 w2c_p6, u64 w2c_p7) {
+static u32 w2c_f67(struct instance *instance, u64 w2c_p0, u64 w2c_p1, u64 w2c_p2, u64 w2c_p3, u64 w2c_p4, u64 w2c_p5, u64 w2c_p6, u64 w2c_p7) {
   u32 w2c_l14 = 0;
   u64 w2c_l8 = 0, w2c_l9 = 0, w2c_l10 = 0, w2c_l11 = 0, w2c_l12 = 0, w2c_l13 = 0;
   const struct memory memory = instance->w2c_memory;
@@ -13355,12 +13423,12 @@ static u32 w2c_keywrap_version(struct instance *instance) {
   w2c_f2(instance);
   UNREACHABLE;
   w2c_B0:;
-  w2c_f70(instance);
+  w2c_f69(instance);
   w2c_f1(instance);
   w2c_i0 = 65792u;
   return w2c_i0;
 }
-static void w2c_f70(struct instance *instance) {
+static void w2c_f69(struct instance *instance) {
   const struct memory memory = instance->w2c_memory;
   (void)memory;
   u32 w2c_i0;
@@ -13390,13 +13458,13 @@ static u32 w2c_keywrap_wrap(struct instance *instance, u64 w2c_p0, u64 w2c_p1, u
   w2c_j3 = w2c_p3;
   w2c_j4 = w2c_p4;
   w2c_j5 = w2c_p5;
-  w2c_i0 = w2c_f72(instance, w2c_j0, w2c_j1, w2c_j2, w2c_j3, w2c_j4, w2c_j5);
+  w2c_i0 = w2c_f71(instance, w2c_j0, w2c_j1, w2c_j2, w2c_j3, w2c_j4, w2c_j5);
   w2c_l6 = w2c_i0;
   w2c_f1(instance);
   w2c_i0 = w2c_l6;
   return w2c_i0;
 }
-static u32 w2c_f72(struct instance *instance, u64 w2c_p0, u64 w2c_p1, u64 w2c_p2, u64 w2c_p3, u64 w2c_p4, u64 w2c_p5) {
+static u32 w2c_f71(struct instance *instance, u64 w2c_p0, u64 w2c_p1, u64 w2c_p2, u64 w2c_p3, u64 w2c_p4, u64 w2c_p5) {
   u32 w2c_l8 = 0;
   u64 w2c_l6 = 0, w2c_l7 = 0;
   const struct memory memory = instance->w2c_memory;
@@ -13575,7 +13643,7 @@ static u32 w2c_f72(struct instance *instance, u64 w2c_p0, u64 w2c_p1, u64 w2c_p2
   w2c_j1 = 12008468691120727718ull;
   w2c_j2 = w2c_p4;
   w2c_j3 = w2c_p5;
-  w2c_f12(instance, w2c_j0, w2c_j1, w2c_j2, w2c_j3);
+  w2c_f11(instance, w2c_j0, w2c_j1, w2c_j2, w2c_j3);
   w2c_i0 = 0u;
   w2c_l8 = w2c_i0;
   w2c_B1:;
@@ -13606,13 +13674,13 @@ static u32 w2c_keywrap_wrap_in_place(struct instance *instance, u64 w2c_p0, u64 
   w2c_j1 = w2c_p1;
   w2c_j2 = w2c_p2;
   w2c_j3 = w2c_p3;
-  w2c_i0 = w2c_f74(instance, w2c_j0, w2c_j1, w2c_j2, w2c_j3);
+  w2c_i0 = w2c_f73(instance, w2c_j0, w2c_j1, w2c_j2, w2c_j3);
   w2c_l4 = w2c_i0;
   w2c_f1(instance);
   w2c_i0 = w2c_l4;
   return w2c_i0;
 }
-static u32 w2c_f74(struct instance *instance, u64 w2c_p0, u64 w2c_p1, u64 w2c_p2, u64 w2c_p3) {
+static u32 w2c_f73(struct instance *instance, u64 w2c_p0, u64 w2c_p1, u64 w2c_p2, u64 w2c_p3) {
   u32 w2c_l5 = 0;
   u64 w2c_l4 = 0;
   const struct memory memory = instance->w2c_memory;
@@ -13702,7 +13770,7 @@ static u32 w2c_f74(struct instance *instance, u64 w2c_p0, u64 w2c_p1, u64 w2c_p2
   w2c_j3 = w2c_i5 ? w2c_j3 : w2c_j4;
   w2c_j2 += w2c_j3;
   w2c_j3 = w2c_p3;
-  w2c_f12(instance, w2c_j0, w2c_j1, w2c_j2, w2c_j3);
+  w2c_f11(instance, w2c_j0, w2c_j1, w2c_j2, w2c_j3);
   w2c_i0 = 0u;
   w2c_l5 = w2c_i0;
   w2c_B1:;
@@ -13736,13 +13804,13 @@ static u32 w2c_keywrap_wrap_many(struct instance *instance, u64 w2c_p0, u64 w2c_
   w2c_i5 = w2c_p5;
   w2c_j6 = w2c_p6;
   w2c_j7 = w2c_p7;
-  w2c_i0 = w2c_f76(instance, w2c_j0, w2c_j1, w2c_j2, w2c_j3, w2c_j4, w2c_i5, w2c_j6, w2c_j7);
+  w2c_i0 = w2c_f75(instance, w2c_j0, w2c_j1, w2c_j2, w2c_j3, w2c_j4, w2c_i5, w2c_j6, w2c_j7);
   w2c_p5 = w2c_i0;
   w2c_f1(instance);
   w2c_i0 = w2c_p5;
   return w2c_i0;
 }
-static u32 w2c_f76(struct instance *instance, u64 w2c_p0, u64 w2c_p1, u64 w2c_p2, u64 w2c_p3, u64 w2c_p4, u32 w2c_p5, u64 w2c_p6, u64 w2c_p7) {
+static u32 w2c_f75(struct instance *instance, u64 w2c_p0, u64 w2c_p1, u64 w2c_p2, u64 w2c_p3, u64 w2c_p4, u32 w2c_p5, u64 w2c_p6, u64 w2c_p7) {
   u32 w2c_l9 = 0;
   u64 w2c_l8 = 0;
   const struct memory memory = instance->w2c_memory;
@@ -13883,7 +13951,7 @@ static u32 w2c_f76(struct instance *instance, u64 w2c_p0, u64 w2c_p1, u64 w2c_p2
   w2c_j6 = w2c_i8 ? w2c_j6 : w2c_j7;
   w2c_j5 += w2c_j6;
   w2c_j6 = w2c_p7;
-  w2c_f22(instance, w2c_j0, w2c_i1, w2c_j2, w2c_j3, w2c_j4, w2c_j5, w2c_j6);
+  w2c_f21(instance, w2c_j0, w2c_i1, w2c_j2, w2c_j3, w2c_j4, w2c_j5, w2c_j6);
   w2c_i0 = 0u;
   w2c_l9 = w2c_i0;
   w2c_B1:;
@@ -13916,13 +13984,13 @@ static u32 w2c_keywrap_wrap_padded(struct instance *instance, u64 w2c_p0, u64 w2
   w2c_j3 = w2c_p3;
   w2c_j4 = w2c_p4;
   w2c_j5 = w2c_p5;
-  w2c_i0 = w2c_f78(instance, w2c_j0, w2c_j1, w2c_j2, w2c_j3, w2c_j4, w2c_j5);
+  w2c_i0 = w2c_f77(instance, w2c_j0, w2c_j1, w2c_j2, w2c_j3, w2c_j4, w2c_j5);
   w2c_l6 = w2c_i0;
   w2c_f1(instance);
   w2c_i0 = w2c_l6;
   return w2c_i0;
 }
-static u32 w2c_f78(struct instance *instance, u64 w2c_p0, u64 w2c_p1, u64 w2c_p2, u64 w2c_p3, u64 w2c_p4, u64 w2c_p5) {
+static u32 w2c_f77(struct instance *instance, u64 w2c_p0, u64 w2c_p1, u64 w2c_p2, u64 w2c_p3, u64 w2c_p4, u64 w2c_p5) {
   const struct memory memory = instance->w2c_memory;
   (void)memory;
   u32 w2c_i0, w2c_i3, w2c_i5, w2c_i7;
@@ -13951,7 +14019,7 @@ static u32 w2c_f78(struct instance *instance, u64 w2c_p0, u64 w2c_p1, u64 w2c_p2
   w2c_j5 = w2c_i7 ? w2c_j5 : w2c_j6;
   w2c_j4 += w2c_j5;
   w2c_j5 = w2c_p5;
-  w2c_i0 = w2c_f19(instance, w2c_j0, w2c_j1, w2c_j2, w2c_j3, w2c_j4, w2c_j5);
+  w2c_i0 = w2c_f18(instance, w2c_j0, w2c_j1, w2c_j2, w2c_j3, w2c_j4, w2c_j5);
   return w2c_i0;
 }
 static u32 w2c_keywrap_wrap_padded_in_place(struct instance *instance, u64 w2c_p0, u64 w2c_p1, u64 w2c_p2, u64 w2c_p3, u64 w2c_p4) {
@@ -13971,13 +14039,13 @@ static u32 w2c_keywrap_wrap_padded_in_place(struct instance *instance, u64 w2c_p
   w2c_j2 = w2c_p2;
   w2c_j3 = w2c_p3;
   w2c_j4 = w2c_p4;
-  w2c_i0 = w2c_f80(instance, w2c_j0, w2c_j1, w2c_j2, w2c_j3, w2c_j4);
+  w2c_i0 = w2c_f79(instance, w2c_j0, w2c_j1, w2c_j2, w2c_j3, w2c_j4);
   w2c_l5 = w2c_i0;
   w2c_f1(instance);
   w2c_i0 = w2c_l5;
   return w2c_i0;
 }
-static u32 w2c_f80(struct instance *instance, u64 w2c_p0, u64 w2c_p1, u64 w2c_p2, u64 w2c_p3, u64 w2c_p4) {
+static u32 w2c_f79(struct instance *instance, u64 w2c_p0, u64 w2c_p1, u64 w2c_p2, u64 w2c_p3, u64 w2c_p4) {
   u32 w2c_l6 = 0;
   u64 w2c_l5 = 0;
   const struct memory memory = instance->w2c_memory;
@@ -14111,7 +14179,7 @@ static u32 w2c_f80(struct instance *instance, u64 w2c_p0, u64 w2c_p1, u64 w2c_p2
   w2c_j1 |= w2c_j2;
   w2c_j2 = w2c_p0;
   w2c_j3 = w2c_p3;
-  w2c_f12(instance, w2c_j0, w2c_j1, w2c_j2, w2c_j3);
+  w2c_f11(instance, w2c_j0, w2c_j1, w2c_j2, w2c_j3);
   w2c_i0 = 0u;
   w2c_l6 = w2c_i0;
   w2c_B1:;
@@ -14146,13 +14214,13 @@ static u32 w2c_keywrap_wrap_with(struct instance *instance, u64 w2c_p0, u64 w2c_
   w2c_j5 = w2c_p5;
   w2c_j6 = w2c_p6;
   w2c_j7 = w2c_p7;
-  w2c_i0 = w2c_f82(instance, w2c_j0, w2c_j1, w2c_j2, w2c_j3, w2c_j4, w2c_j5, w2c_j6, w2c_j7);
+  w2c_i0 = w2c_f81(instance, w2c_j0, w2c_j1, w2c_j2, w2c_j3, w2c_j4, w2c_j5, w2c_j6, w2c_j7);
   w2c_l8 = w2c_i0;
   w2c_f1(instance);
   w2c_i0 = w2c_l8;
   return w2c_i0;
 }
-static u32 w2c_f82(struct instance *instance, u64 w2c_p0, u64 w2c_p1, u64 w2c_p2, u64 w2c_p3, u64 w2c_p4, u64 w2c_p5, u64 w2c_p6, u64 w2c_p7) {
+static u32 w2c_f81(struct instance *instance, u64 w2c_p0, u64 w2c_p1, u64 w2c_p2, u64 w2c_p3, u64 w2c_p4, u64 w2c_p5, u64 w2c_p6, u64 w2c_p7) {
   u32 w2c_l10 = 0;
   u64 w2c_l8 = 0, w2c_l9 = 0;
   const struct memory memory = instance->w2c_memory;
@@ -14395,7 +14463,7 @@ static u32 w2c_f82(struct instance *instance, u64 w2c_p0, u64 w2c_p1, u64 w2c_p2
   w2c_j1 = w2c_l9;
   w2c_j2 = w2c_p1;
   w2c_j3 = w2c_p7;
-  w2c_f12(instance, w2c_j0, w2c_j1, w2c_j2, w2c_j3);
+  w2c_f11(instance, w2c_j0, w2c_j1, w2c_j2, w2c_j3);
   w2c_i0 = 0u;
   w2c_l10 = w2c_i0;
   w2c_B1:;
@@ -15019,6 +15087,10 @@ static APART void decrypt_8_blocks(const struct aes *aes, uint8_t blocks[8 * BLO
 
 static const uint8_t DEFAULT_IV[8] = {0xa6, 0xa6, 0xa6, 0xa6, 0xa6, 0xa6, 0xa6, 0xa6};
 
+/* Declares a call of the library that is proved as a whole, with the type of keywrap.h and the name
+ * of c/hardware/names. */
+#define PROVED_CALL(call) __typeof__(keywrap_##call) proved_keywrap_##call
+
 /* A wrapping or an unwrapping that has begun. */
 struct run {
     uint64_t steps;
@@ -15419,30 +15491,21 @@ int aes_works(void) {
 
 
 
-/* The calls of the library that is proved as a whole, renamed by c/hardware/names. */
-int32_t proved_keywrap_wrap(const uint8_t *, size_t, const uint8_t *, size_t, uint8_t *, size_t);
-int32_t proved_keywrap_unwrap(const uint8_t *, size_t, const uint8_t *, size_t, uint8_t *, size_t);
-int32_t proved_keywrap_wrap_with(const uint8_t *, size_t, const uint8_t *, size_t, const uint8_t *,
-                                 size_t, uint8_t *, size_t);
-int32_t proved_keywrap_unwrap_with(const uint8_t *, size_t, const uint8_t *, size_t,
-                                   const uint8_t *, size_t, uint8_t *, size_t);
-int32_t proved_keywrap_wrap_padded(const uint8_t *, size_t, const uint8_t *, size_t, uint8_t *,
-                                   size_t);
-int32_t proved_keywrap_unwrap_padded(const uint8_t *, size_t, const uint8_t *, size_t, uint8_t *,
-                                     size_t, size_t *);
-int32_t proved_keywrap_wrap_in_place(const uint8_t *, size_t, uint8_t *, size_t);
-int32_t proved_keywrap_unwrap_in_place(const uint8_t *, size_t, uint8_t *, size_t);
-int32_t proved_keywrap_wrap_padded_in_place(const uint8_t *, size_t, uint8_t *, size_t, size_t);
-int32_t proved_keywrap_unwrap_padded_in_place(const uint8_t *, size_t, uint8_t *, size_t, size_t *);
-int32_t proved_keywrap_kind(const uint8_t *, size_t, const uint8_t *, size_t, uint8_t *, size_t,
-                            uint32_t *, size_t *);
-int32_t proved_keywrap_unwrap_any(const uint8_t *, size_t, const uint8_t *, size_t, uint8_t *,
-                                  size_t, uint32_t *, size_t *);
-int32_t proved_keywrap_rewrap(const uint8_t *, size_t, const uint8_t *, size_t, uint8_t *, size_t,
-                              uint32_t, uint32_t *);
-int32_t proved_keywrap_rewrap_in_place(const uint8_t *, size_t, const uint8_t *, size_t, uint8_t *,
-                                       size_t, uint32_t);
-int32_t proved_keywrap_self_test(void);
+PROVED_CALL(wrap);
+PROVED_CALL(unwrap);
+PROVED_CALL(wrap_with);
+PROVED_CALL(unwrap_with);
+PROVED_CALL(wrap_padded);
+PROVED_CALL(unwrap_padded);
+PROVED_CALL(wrap_in_place);
+PROVED_CALL(unwrap_in_place);
+PROVED_CALL(wrap_padded_in_place);
+PROVED_CALL(unwrap_padded_in_place);
+PROVED_CALL(kind);
+PROVED_CALL(unwrap_any);
+PROVED_CALL(rewrap);
+PROVED_CALL(rewrap_in_place);
+PROVED_CALL(self_test);
 
 /* Makes all steps, and writes the first 8 bytes of the wrapped key. */
 static int32_t wrap(const uint8_t *kek, size_t kek_len, struct run *run, uint8_t *first,
@@ -15800,15 +15863,10 @@ static int32_t keywrap_step_unwrap_many(uint8_t *texts, size_t texts_len, size_t
 
 
 
-/* The calls of the library that is proved as a whole, renamed by c/hardware/names. */
-int32_t proved_keywrap_rewrap_many(const uint8_t *, size_t, const uint8_t *, size_t, uint8_t *,
-                                   size_t, uint32_t, uint8_t *, size_t);
-int32_t proved_keywrap_wrap_many(const uint8_t *, size_t, uint8_t *, size_t, size_t, uint32_t,
-                                 uint8_t *, size_t);
-int32_t proved_keywrap_unwrap_many(const uint8_t *, size_t, uint8_t *, size_t, uint32_t, size_t *,
-                                   size_t, uint8_t *, size_t);
-int32_t proved_keywrap_kind_many(const uint8_t *, size_t, const uint8_t *, size_t, uint8_t *,
-                                 size_t, uint8_t *, size_t, size_t *, size_t, uint8_t *, size_t);
+PROVED_CALL(rewrap_many);
+PROVED_CALL(wrap_many);
+PROVED_CALL(unwrap_many);
+PROVED_CALL(kind_many);
 
 /* Three groups of 8 blocks; and the longest text of which a turn makes copies. */
 enum { LANES = 24, COPIED = 264 };
