@@ -85,8 +85,9 @@ class TestMeasured:
 
         page = text_of("docs/RECIPES.md")
         table = re.search(r"^\| \| jobs \| keys/s .*\n\|-.*\n((?:\|.*\n)+)", page, re.M)
-        due = [["lines" if store == "files" else store, jobs, two_digits(rate), f"{two_digits(us)} µs", f"{two_digits(again)} µs",
-                f"{memory} MB", f"{two_digits(wait)} ms" if wait else ""]
+        due = [["lines" if store == "files" else store, jobs, two_digits(rate),
+                *(f"{two_digits(time)} µs" for time in (us, again)), f"{memory} MB",
+                f"{two_digits(wait)} ms" if wait else ""]
                for store, jobs, rate, us, again, memory, wait in measured("stores")[1:]]
         assert [[cell.strip() for cell in line.split("|")[1:-1]] for line in table[1].splitlines()] == due
 
