@@ -145,10 +145,8 @@ SANITIZED = ["-O0", "-g", "-fsanitize=address,undefined", "-fno-sanitize-recover
 
 def compiled(directory, compiler, *flags, machine=()):
     """Compiles the program, or skips if the compiler, what runs its programs, or a sanitizer is not here."""
-    tools = "apt-get install gcc clang qemu-user gcc-aarch64-linux-gnu gcc-s390x-linux-gnu"
-    for tool in (compiler, *machine[:1]):
-        if shutil.which(tool) is None:
-            pytest.skip(f"no {tool} ({tools})")
+    if any(shutil.which(tool) is None for tool in (compiler, *machine[:1])):
+        pytest.skip("no compiler (apt-get install gcc clang qemu-user gcc-aarch64-linux-gnu gcc-s390x-linux-gnu)")
     (directory / "empty.c").write_text("int main(void) { return 0; }")
     if subprocess.run([compiler, *flags, "-o", directory / "empty", directory / "empty.c"], capture_output=True).returncode:
         pytest.skip(f"{compiler} has no {' '.join(flags)}")
