@@ -87,13 +87,12 @@ dist-sources:
 # With BENCH=DIRECTORY it also writes DIRECTORY/*.csv; `make bench BENCH=docs/pictures` renews the data of the plots.
 export BENCH := $(abspath $(BENCH))
 bench: build library library-hardware provider wheel js
-	bench/wrap '$(LIBRARY)/libkeywrap.a'
-	bench/provider '$(PROVIDER)/keywrap.so'
-	bench/java '$(LIBRARY)'
-	$(PYTHON) bench/lines '$(PROGRAM)'
-	$(PYTHON) bench/python '$(wheel)'
-	bench/js.mjs '$(JS)'
-	$(PYTHON) bench/rotation '$(PROGRAM)' '$(wheel)'
+	bench/wrap '$(LIBRARY)/libkeywrap.a' '$(PROVIDER)/keywrap.so'
+	bench/record java bench/java '$(LIBRARY)'
+	bench/record lines $(PYTHON) bench/lines '$(PROGRAM)'
+	bench/record python $(PYTHON) bench/python '$(wheel)'
+	bench/record js bench/js.mjs '$(JS)'
+	bench/record stores $(PYTHON) bench/rotation '$(wheel)'
 
 pictures:
 	scripts/plots.py

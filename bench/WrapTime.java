@@ -1,5 +1,5 @@
-// Writes the microseconds that a wrap of 32 bytes takes with a new KEK each time: the best of many rounds. bench/java
-// compiles and runs it. The argument is the provider's name.
+// Writes a name, and the microseconds that a wrap of 32 bytes takes with a new KEK each time: the best of many rounds.
+// bench/java compiles and runs it. The arguments are the name and the provider.
 
 import java.security.Security;
 import javax.crypto.Cipher;
@@ -10,7 +10,7 @@ final class WrapTime {
 
     public static void main(String[] args) throws Exception {
         Security.addProvider(new keywrap.KeywrapProvider());
-        Cipher cipher = Cipher.getInstance("AES/KW/NoPadding", args[0]);
+        Cipher cipher = Cipher.getInstance("AES/KW/NoPadding", args[1]);
         SecretKeySpec kek = new SecretKeySpec(new byte[32], "AES"), key = new SecretKeySpec(new byte[32], "AES");
         long best = Long.MAX_VALUE;
         for (int round = 0; round < ROUNDS; round++) {
@@ -21,6 +21,6 @@ final class WrapTime {
             }
             best = Math.min(best, System.nanoTime() - begun);
         }
-        System.out.printf("%.2f%n", best / 1000.0 / CALLS);
+        System.out.printf("%s,%.2f%n", args[0], best / 1000.0 / CALLS);
     }
 }

@@ -1,6 +1,6 @@
 #!/usr/bin/env node
 // Measures how long a wrap in JavaScript takes, beside Web Crypto in the same page, in each engine
-// that is installed: the fastest of several rounds.
+// that is installed: the fastest of several rounds. Writes CSV.
 //
 // usage: bench/js.mjs PACKAGE         (what `make js` made)
 
@@ -41,21 +41,19 @@ for (const [length, count] of [[16, 2000], [32, 2000], [1048576, 1]]) {
 await fetch('/posted', { method: 'POST', body: JSON.stringify({ times }) });
 </script>`;
 
-const found = ['engine,key,keywrap_us,web_crypto_us'];
+console.log('engine,key,keywrap_us,web_crypto_us');
 for (const [engine, pattern] of [
     ['chromium', '/usr/bin/chromium'], ['firefox', '/usr/bin/firefox-esr'],
     ['webkit', '/usr/lib/*/webkit2gtk-4.*/MiniBrowser']]) {
     const [program] = String(spawnSync('sh', ['-c', `ls ${pattern}`]).stdout).split('\n');
     if (!program) {
-        console.log(`left out: ${engine}`);
+        console.error(`left out: ${engine}`);
         continue;
     }
     const workdir = mkdtempSync(join(tmpdir(), 'bench'));
     const { times = [], failures = [] } = await postedBy(engine, program, workdir, (url) => (
         url === '/' ? PAGE : readFileSync(join(packed, basename(url)))));
     rmSync(workdir, { recursive: true, force: true });
-    failures.forEach((failure) => console.log(`${engine}: ${failure}`));
-    found.push(...times.map((row) => [engine, ...row].join(',')));
+    failures.forEach((failure) => console.error(`${engine}: ${failure}`));
+    times.forEach((row) => console.log([engine, ...row].join(',')));
 }
-const record = new URL('record', import.meta.url).pathname;
-spawnSync(record, ['js'], { input: `${found.join('\n')}\n`, stdio: ['pipe', 1, 2] });

@@ -1,221 +1,253 @@
-/* wrap.c: measures how long the library takes to wrap and to unwrap, beside other libraries if they
- * are installed and the same algorithm in C, each with its key schedule. First all must return the
- * same bytes. Then the best time of each counts, at every length. bench/wrap compiles and runs it.
- * Writes CSV.
+/* wrap.c: measures how long the library takes, beside other libraries and the same algorithm in C:
+ * for a wrap and an unwrap, each with its key schedule, and for a rewrap, where nettle keeps its
+ * schedules. First all must return the same bytes. Then the best time of each counts. bench/wrap
+ * compiles and runs it. Writes CSV.
  *
- * usage: wrap SECONDS */
+ * usage: wrap [SECONDS]       (SECONDS for wraps and unwraps; without it, rewraps) */
 
 #define OPENSSL_SUPPRESS_DEPRECATED
 
 #include "turns.h"
 
+#include <gcrypt.h>
 #include <keywrap.h>
+#include <nettle/aes.h>
+#include <nettle/nist-keywrap.h>
+#include <openssl/aes.h>
 #include <stdio.h>
 #include <stdlib.h>
 #include <string.h>
-#ifdef HAVE_OPENSSL
-#include <openssl/aes.h>
-#endif
-#ifdef HAVE_NETTLE
-#include <nettle/aes.h>
-#include <nettle/nist-keywrap.h>
-#endif
-#ifdef HAVE_GCRYPT
-#include <gcrypt.h>
-#endif
 
 #include "one_table.h"
 
 enum { KEK_LEN = 32 };
-
-/* How a block is computed: in software, or by the AES instructions of the processor. */
-enum blocks { SOFTWARE, INSTRUCTIONS };
-
-/* The calls of a build of the library: of the one that is measured, or of another, as bench/wrap
- * renames them. */
-#define BUILD(name)                                                                                \
-    __typeof__(keywrap_wrap) name##_wrap;                                                          \
-    __typeof__(keywrap_unwrap) name##_unwrap;                                                      \
-    static int wrap_by_##name(const uint8_t *kek, const uint8_t *key, size_t len, uint8_t *text) { \
-        return name##_wrap(kek, KEK_LEN, key, len, text, KEYWRAP_TEXT_LEN(len)) == KEYWRAP_OK;     \
-    }                                                                                              \
-    static int unwrap_by_##name(const uint8_t *kek, const uint8_t *text, size_t len,               \
-                                uint8_t *key) {                                                    \
-        return name##_unwrap(kek, KEK_LEN, text, KEYWRAP_TEXT_LEN(len), key, len) == KEYWRAP_OK;   \
-    }
-BUILD(keywrap)
-BUILD(portable)
-BUILD(portable_hw)
-BUILD(hw)
-
-#ifdef HAVE_OPENSSL
-static int wrap_openssl(const uint8_t *kek, const uint8_t *key, size_t len, uint8_t *text) {
-    AES_KEY keys;
-    return AES_set_encrypt_key(kek, 8 * KEK_LEN, &keys) == 0
-           && AES_wrap_key(&keys, NULL, text, key, (unsigned)len) == (int)len + 8;
-}
-
-static int unwrap_openssl(const uint8_t *kek, const uint8_t *text, size_t len, uint8_t *key) {
-    AES_KEY keys;
-    return AES_set_decrypt_key(kek, 8 * KEK_LEN, &keys) == 0
-           && AES_unwrap_key(&keys, NULL, key, text, (unsigned)len + 8) == (int)len;
-}
-#endif
-
-#ifdef HAVE_NETTLE
 static const uint8_t INITIAL_VALUE[8] = {0xA6, 0xA6, 0xA6, 0xA6, 0xA6, 0xA6, 0xA6, 0xA6};
 
-static int wrap_nettle(const uint8_t *kek, const uint8_t *key, size_t len, uint8_t *text) {
+static uint8_t kek[KEK_LEN], new_kek[KEK_LEN], key[KEYWRAP_MAX_KEY], answer[KEYWRAP_MAX_TEXT];
+
+/*** Wraps and unwraps ***/
+
+/* A call with the arguments of keywrap_wrap or keywrap_unwrap, which returns 0 after success. */
+#define CALL(name)                                                                                 \
+    int32_t name(const uint8_t *kek, size_t kek_len, const uint8_t *in, size_t in_len,             \
+                 uint8_t *out, size_t out_len)
+typedef CALL(wrap_call);
+
+/* Of other builds of the library, as bench/wrap renames them. */
+wrap_call portable_wrap, portable_unwrap, portable_hw_wrap, portable_hw_unwrap, hw_wrap, hw_unwrap;
+
+static CALL(openssl_wrap) {
+    AES_KEY keys;
+    return AES_set_encrypt_key(kek, 8 * (int)kek_len, &keys)
+           || AES_wrap_key(&keys, NULL, out, in, (unsigned)in_len) != (int)out_len;
+}
+
+static CALL(openssl_unwrap) {
+    AES_KEY keys;
+    return AES_set_decrypt_key(kek, 8 * (int)kek_len, &keys)
+           || AES_unwrap_key(&keys, NULL, out, in, (unsigned)in_len) != (int)out_len;
+}
+
+static CALL(nettle_wrap) {
     struct aes256_ctx keys;
     aes256_set_encrypt_key(&keys, kek);
-    nist_keywrap16(&keys, (nettle_cipher_func *)aes256_encrypt, INITIAL_VALUE, len + 8, text, key);
-    return 1;
+    nist_keywrap16(&keys, (nettle_cipher_func *)aes256_encrypt, INITIAL_VALUE, out_len, out, in);
+    return 0;
 }
 
-static int unwrap_nettle(const uint8_t *kek, const uint8_t *text, size_t len, uint8_t *key) {
+static CALL(nettle_unwrap) {
     struct aes256_ctx keys;
     aes256_set_decrypt_key(&keys, kek);
-    return nist_keyunwrap16(&keys, (nettle_cipher_func *)aes256_decrypt, INITIAL_VALUE, len, key,
-                            text);
-}
-#endif
-
-#ifdef HAVE_GCRYPT
-static int gcrypt_open(gcry_cipher_hd_t *handle, const uint8_t *kek) {
-    return gcry_cipher_open(handle, GCRY_CIPHER_AES256, GCRY_CIPHER_MODE_AESWRAP, 0) == 0
-           && gcry_cipher_setkey(*handle, kek, KEK_LEN) == 0;
+    return !nist_keyunwrap16(&keys, (nettle_cipher_func *)aes256_decrypt, INITIAL_VALUE, out_len,
+                             out, in);
 }
 
-static int wrap_gcrypt(const uint8_t *kek, const uint8_t *key, size_t len, uint8_t *text) {
-    gcry_cipher_hd_t handle = NULL;
-    int done = gcrypt_open(&handle, kek)
-               && gcry_cipher_encrypt(handle, text, len + 8, key, len) == 0;
-    gcry_cipher_close(handle);
-    return done;
-}
+#define GCRYPT(name, crypt)                                                                        \
+    static CALL(name) {                                                                            \
+        gcry_cipher_hd_t handle = NULL;                                                            \
+        int failed =                                                                               \
+            gcry_cipher_open(&handle, GCRY_CIPHER_AES256, GCRY_CIPHER_MODE_AESWRAP, 0)             \
+            || gcry_cipher_setkey(handle, kek, kek_len)                                            \
+            || crypt(handle, out, out_len, in, in_len);                                            \
+        gcry_cipher_close(handle);                                                                 \
+        return failed;                                                                             \
+    }
+GCRYPT(gcrypt_wrap, gcry_cipher_encrypt)
+GCRYPT(gcrypt_unwrap, gcry_cipher_decrypt)
 
-static int unwrap_gcrypt(const uint8_t *kek, const uint8_t *text, size_t len, uint8_t *key) {
-    gcry_cipher_hd_t handle = NULL;
-    int done = gcrypt_open(&handle, kek)
-               && gcry_cipher_decrypt(handle, key, len, text, len + 8) == 0;
-    gcry_cipher_close(handle);
-    return done;
-}
-#endif
-
-static int wrap_one_table(const uint8_t *kek, const uint8_t *key, size_t len, uint8_t *text) {
+static CALL(one_table_wraps) {
     struct one_table keys;
-    one_table_schedule(&keys, kek, KEK_LEN);
-    one_table_wrap(&keys, 0xA6A6A6A6A6A6A6A6u, key, len, text);
-    return 1;
+    one_table_schedule(&keys, kek, kek_len);
+    one_table_wrap(&keys, 0xA6A6A6A6A6A6A6A6u, in, in_len, out);
+    return 0;
 }
 
-static int unwrap_one_table(const uint8_t *kek, const uint8_t *text, size_t len, uint8_t *key) {
+static CALL(one_table_unwraps) {
     struct one_table keys;
-    one_table_schedule(&keys, kek, KEK_LEN);
-    return one_table_unwrap(&keys, text, key, len) == 0xA6A6A6A6A6A6A6A6u;
+    one_table_schedule(&keys, kek, kek_len);
+    return one_table_unwrap(&keys, in, out, out_len) != 0xA6A6A6A6A6A6A6A6u;
 }
 
-/* Each call makes its key schedule, and returns whether it succeeded. `len` is the length of the
- * key. The text is 8 bytes longer. This library comes first. */
+/* `blocks` is how a block is computed, if the processor has AES instructions. */
 static const struct peer {
-    const char *name;
-    enum blocks blocks;
-    int (*wrap)(const uint8_t *kek, const uint8_t *key, size_t len, uint8_t *text);
-    int (*unwrap)(const uint8_t *kek, const uint8_t *text, size_t len, uint8_t *key);
+    const char *name, *blocks;
+    wrap_call *wrap, *unwrap;
 } PEERS[] = {
-    {"keywrap", SOFTWARE, wrap_by_keywrap, unwrap_by_keywrap},
-    {"hardware", INSTRUCTIONS, wrap_by_hw, unwrap_by_hw},
-    {"portable", SOFTWARE, wrap_by_portable, unwrap_by_portable},
-    {"portable_hw", INSTRUCTIONS, wrap_by_portable_hw, unwrap_by_portable_hw},
-#ifdef HAVE_OPENSSL
-    {"openssl", SOFTWARE, wrap_openssl, unwrap_openssl},
-#endif
-#ifdef HAVE_NETTLE
-    {"nettle", INSTRUCTIONS, wrap_nettle, unwrap_nettle},
-#endif
-#ifdef HAVE_GCRYPT
-    {"gcrypt", INSTRUCTIONS, wrap_gcrypt, unwrap_gcrypt},
-#endif
-    {"C", SOFTWARE, wrap_one_table, unwrap_one_table},
+    {"keywrap", "software", keywrap_wrap, keywrap_unwrap},
+    {"hardware", "AES inst.", hw_wrap, hw_unwrap},
+    {"portable", "software", portable_wrap, portable_unwrap},
+    {"portable_hw", "AES inst.", portable_hw_wrap, portable_hw_unwrap},
+    /* Neither this call of OpenSSL nor a wrap by EVP uses AES instructions. */
+    {"openssl", "software", openssl_wrap, openssl_unwrap},
+    {"nettle", "AES inst.", nettle_wrap, nettle_unwrap},
+    {"gcrypt", "AES inst.", gcrypt_wrap, gcrypt_unwrap},
+    {"C", "software", one_table_wraps, one_table_unwraps},
 };
-
-enum { PEER_COUNT = sizeof PEERS / sizeof *PEERS };
-
-static void start_peers(void) {
-    one_table_start();
-#ifdef HAVE_GCRYPT
-    gcry_check_version(NULL);
-    gcry_control(GCRYCTL_DISABLE_SECMEM, 0);
-    gcry_control(GCRYCTL_INITIALIZATION_FINISHED, 0);
-#endif
-}
-
-/* A peer with AES instructions does without them if the processor has none. */
-static const char *blocks_of(const struct peer *peer) {
-#ifdef __x86_64__
-    if (!__builtin_cpu_supports("aes")) return "software";
-#endif
-    return peer->blocks == INSTRUCTIONS ? "AES inst." : "software";
-}
 
 /* The lengths of the keys. The last is the longest that the library takes. */
 static const size_t LENS[] = {16, 32, 256, 4096, KEYWRAP_MAX_KEY};
-enum { LEN_COUNT = sizeof LENS / sizeof *LENS, WAY_COUNT = 2 * LEN_COUNT * PEER_COUNT };
+enum { PEER_COUNT = sizeof PEERS / sizeof *PEERS, LEN_COUNT = sizeof LENS / sizeof *LENS };
+enum { WAY_COUNT = 2 * LEN_COUNT * PEER_COUNT };
 
-static uint8_t kek[KEK_LEN], key[KEYWRAP_MAX_KEY], answer[KEYWRAP_MAX_TEXT];
 /* The wrapped key of each length. */
 static uint8_t texts[LEN_COUNT][KEYWRAP_MAX_TEXT];
 
-/* One of the ways: a peer, at a length, in a direction. */
+/* One of the ways: a call of a peer, for a key of a length, that must make `out` of `in`. */
 static struct way {
     const struct peer *peer;
+    const char *name;
     size_t len;
-    uint8_t *text;
-    int unwraps;
+    wrap_call *call;
+    const uint8_t *in, *out;
+    size_t in_len, out_len;
 } way_of(int w) {
+    const struct peer *peer = PEERS + w % PEER_COUNT;
     const int at = w / PEER_COUNT % LEN_COUNT;
-    return (struct way){PEERS + w % PEER_COUNT, LENS[at], texts[at], w >= LEN_COUNT * PEER_COUNT};
+    const size_t len = LENS[at];
+    if (w < WAY_COUNT / 2)
+        return (struct way){peer, "wrap", len, peer->wrap, key, texts[at], len, len + 8};
+    return (struct way){peer, "unwrap", len, peer->unwrap, texts[at], key, len + 8, len};
 }
 
-static int call(const struct way *way) {
-    return way->unwraps ? way->peer->unwrap(kek, way->text, way->len, answer)
-                        : way->peer->wrap(kek, key, way->len, answer);
-}
-
-static double turn(int w, unsigned calls) {
+static double wrap_turn(int w, unsigned calls) {
     const struct way way = way_of(w);
     const double start = now();
     for (unsigned i = 0; i < calls; i++)
-        if (!call(&way)) return 1e18;
+        if (way.call(kek, KEK_LEN, way.in, way.in_len, answer, way.out_len)) return 1e18;
     return (now() - start) / calls;
 }
 
-/* Returns whether a peer writes what this library writes, which is the first. */
-static int agrees(const struct way *way) {
-    if (way->peer == PEERS && !PEERS->wrap(kek, key, way->len, way->text)) return 0;
-    return call(way) && (way->unwraps ? !memcmp(answer, key, way->len)
-                                      : !memcmp(answer, way->text, way->len + 8));
-}
-
-int main(int argc, char **argv) {
+static int time_wraps(double seconds) {
     static double best[WAY_COUNT];
-    for (size_t i = 0; i < sizeof kek; i++) kek[i] = (uint8_t)(3 * i + 1);
-    for (size_t i = 0; i < sizeof key; i++) key[i] = (uint8_t)(7 * i);
-    start_peers();
+    for (int at = 0; at < LEN_COUNT; at++)
+        if (keywrap_wrap(kek, KEK_LEN, key, LENS[at], texts[at], LENS[at] + 8)) return 1;
     for (int w = 0; w < WAY_COUNT; w++) {
         const struct way way = way_of(w);
-        if (!agrees(&way)) {
+        if (wrap_turn(w, 1) >= 1e18 || memcmp(answer, way.out, way.out_len)) {
             fprintf(stderr, "%s: other bytes, at a key of %zu bytes\n", way.peer->name, way.len);
             return 1;
         }
     }
-    take_turns(WAY_COUNT, turn, argc >= 2 ? atof(argv[1]) * 1e9 : 0, best);
+    take_turns(WAY_COUNT, wrap_turn, seconds * 1e9, best);
     printf("library,blocks,kek,call,key,ns_per_block\n");
     for (int w = 0; w < WAY_COUNT; w++) {
         const struct way way = way_of(w);
-        printf("%s,%s,%d,%s,%zu,%.1f\n", way.peer->name, blocks_of(way.peer), KEK_LEN,
-               way.unwraps ? "unwrap" : "wrap", way.len, best[w] / (double)(6 * (way.len / 8)));
+        printf("%s,%s,%d,%s,%zu,%.1f\n", way.peer->name,
+               __builtin_cpu_supports("aes") ? way.peer->blocks : "software", KEK_LEN, way.name,
+               way.len, best[w] / (double)(6 * (way.len / 8)));
     }
     return 0;
+}
+
+/*** Rewraps ***/
+
+enum { KEYS = 2400, SINGLE = KEYS / 8, LONGEST = 32 + 8 };
+typedef __typeof__(keywrap_rewrap) rewrap_call;
+typedef __typeof__(keywrap_rewrap_many) rewrap_many_call;
+rewrap_call hw_rewrap;
+rewrap_many_call hw_rewrap_many;
+
+static uint8_t before[KEYS * LONGEST], buffer[KEYS * LONGEST], wanted[KEYS * LONGEST];
+static size_t text_len;
+static uint32_t flags;
+static struct aes256_ctx decrypting, encrypting;
+
+static int32_t nettle_rewrap(const uint8_t *old_kek, size_t old_kek_len, const uint8_t *new_kek,
+                             size_t new_kek_len, uint8_t *text, size_t text_len, uint32_t flags,
+                             uint32_t *already) {
+    uint8_t unwrapped[LONGEST];
+    int done = nist_keyunwrap16(&decrypting, (nettle_cipher_func *)aes256_decrypt, INITIAL_VALUE,
+                                text_len - 8, unwrapped, text);
+    nist_keywrap16(&encrypting, (nettle_cipher_func *)aes256_encrypt, INITIAL_VALUE, text_len, text,
+                   unwrapped);
+    return !done;
+}
+
+/* Each rewraps this many keys, from the first one on, in a call for all or in a call for each. */
+static const struct rewrapper {
+    const char *name;
+    size_t keys;
+    rewrap_many_call *many;
+    rewrap_call *one;
+} REWRAPPERS[] = {
+    {"keywrap_hw, many", KEYS, hw_rewrap_many, NULL},
+    {"keywrap_hw, one", SINGLE, NULL, hw_rewrap},
+    {"nettle, kept schedules", SINGLE, NULL, nettle_rewrap},
+    {"keywrap, many", SINGLE, keywrap_rewrap_many, NULL},
+    {"keywrap, one", SINGLE, NULL, keywrap_rewrap},
+};
+
+enum { REWRAPPER_COUNT = sizeof REWRAPPERS / sizeof *REWRAPPERS };
+
+/* Returns the nanoseconds a key, of one turn over all keys. Each must make the same of the keys. */
+static double rewrap_turn(int w, unsigned calls) {
+    static uint8_t statuses[KEYS];
+    const struct rewrapper *by = REWRAPPERS + w;
+    uint32_t already;
+    int32_t failed = 0;
+    (void)calls;
+    memcpy(buffer, before, KEYS * text_len);
+    const double start = now();
+    if (by->many)
+        failed = by->many(kek, KEK_LEN, new_kek, KEK_LEN, buffer, by->keys * text_len, flags,
+                          statuses, by->keys);
+    else
+        for (size_t i = 0; i < by->keys; i++)
+            failed |= by->one(kek, KEK_LEN, new_kek, KEK_LEN, buffer + text_len * i, text_len,
+                              flags, &already);
+    const double time = (now() - start) / (double)by->keys;
+    if (failed || memcmp(buffer, wanted, by->keys * text_len)) {
+        fprintf(stderr, "%s: a wrong result\n", by->name);
+        exit(1);
+    }
+    return time;
+}
+
+static int time_rewraps(void) {
+    double best[REWRAPPER_COUNT];
+    aes256_set_decrypt_key(&decrypting, kek);
+    aes256_set_encrypt_key(&encrypting, new_kek);
+    printf("way,flags,key,ns_per_key\n");
+    for (size_t len = 16; len <= 32; len += 16)
+        for (flags = 0; flags <= 12; flags += 12) {
+            text_len = len + 8;
+            for (size_t i = 0, at = 0; i < KEYS; i++, at += text_len)
+                if (keywrap_wrap(kek, KEK_LEN, key + i, len, before + at, text_len)
+                    || keywrap_wrap(new_kek, KEK_LEN, key + i, len, wanted + at, text_len))
+                    return 1;
+            take_turns(REWRAPPER_COUNT, rewrap_turn, 1e9, best);
+            for (int w = 0; w < REWRAPPER_COUNT; w++)
+                printf("\"%s\",%u,%zu,%.0f\n", REWRAPPERS[w].name, flags, len, best[w]);
+        }
+    return 0;
+}
+
+int main(int argc, char **argv) {
+    for (size_t i = 0; i < KEK_LEN; i++) kek[i] = (uint8_t)(3 * i + 1), new_kek[i] = (uint8_t)~i;
+    for (size_t i = 0; i < sizeof key; i++) key[i] = (uint8_t)(7 * i);
+    one_table_start();
+    gcry_check_version(NULL);
+    gcry_control(GCRYCTL_DISABLE_SECMEM, 0);
+    gcry_control(GCRYCTL_INITIALIZATION_FINISHED, 0);
+    return argc > 1 ? time_wraps(atof(argv[1])) : time_rewraps();
 }

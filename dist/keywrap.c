@@ -3,7 +3,7 @@
  *
  *     cc -O2 -c keywrap.c
  *
- * Version 1.1.0-dev. `make dist-sources` of the repository writes this file; do not edit it.
+ * Version 1.1.0. `make dist-sources` of the repository writes this file; do not edit it.
  * By Rattle rattle-kit-13f logic dac8208d650f15bf, binaryen 108, wabt 1.0.32.
  * docs/TRUST.md of the repository says what is proved, what is translated and what is trusted.
  *

@@ -14,9 +14,7 @@ usage: package.py documents DIRECTORY MACHINE README DOCUMENT..   copies documen
 The same sources and SOURCE_DATE_EPOCH always give the same bytes."""
 
 import base64
-import gzip
 import hashlib
-import io
 import json
 import os
 import pathlib
@@ -24,7 +22,6 @@ import re
 import shutil
 import subprocess
 import sys
-import tarfile
 import tempfile
 import zipfile
 
@@ -56,12 +53,6 @@ def with_links(text, names=()):
     return re.sub(r"\[([^]]*)\]\(([^)]*)\)", link, text)
 
 
-def write(path, text):
-    """Writes a file for everyone to read, whatever the umask is."""
-    path.write_text(text)
-    path.chmod(0o644)
-
-
 def documents(directory, machine, readme, *paths):
     directory = pathlib.Path(directory)
     directory.mkdir(parents=True, exist_ok=True)
@@ -69,28 +60,20 @@ def documents(directory, machine, readme, *paths):
     shared = f"libkeywrap.so.{VERSION.replace('-', '~')}"
     for name, value in ("VERSION", VERSION), ("SHARED", shared), ("PROCESSORS", PROCESSORS[machine]):
         text = text.replace(f"@{name}@", value)
-    write(directory / readme, text)
+    (directory / readme).write_text(text)
     names = [pathlib.Path(path).stem for path in paths]
     for path in map(pathlib.Path, paths):
-        write(directory / path.name, with_links(path.read_text(), names))
+        (directory / path.name).write_text(with_links(path.read_text(), names))
 
 
 def pack(directory, file):
-    """Packs a directory. Owner, time and all modes except the x bit are fixed."""
-    def fixed(member):
-        member.uid = member.gid = 0
-        member.uname = member.gname = ""
-        member.mtime = int(os.environ["SOURCE_DATE_EPOCH"])
-        member.mode = 0o755 if member.mode & 0o100 or member.isdir() else 0o644
-        return member
-
-    packed = io.BytesIO()
-    with tarfile.open(fileobj=packed, mode="w", format=tarfile.USTAR_FORMAT) as tar:
-        tar.add(directory, directory.name, filter=fixed)
+    """Packs a directory. Order, owner, time and all modes except the x bit are fixed."""
     file = pathlib.Path(file).absolute()
     file.parent.mkdir(parents=True, exist_ok=True)
     new = file.with_name(f"{file.name}.new")
-    new.write_bytes(gzip.compress(packed.getvalue(), 9, mtime=0))
+    fixed = ["--sort=name", "--format=ustar", "--owner=0", "--group=0", "--numeric-owner", "--mode=u=rwX,go=rX",
+             f"--mtime=@{os.environ['SOURCE_DATE_EPOCH']}"]
+    subprocess.run(["tar", "-C", directory.parent, *fixed, "-I", "gzip -9n", "-cf", new, directory.name], check=True)
     new.rename(file)
     print(file)
 
@@ -120,9 +103,10 @@ def npm(directory):
         if path.suffix in (".wasm", ".js", ".mjs", ".cjs", ".ts", ".html"):
             shutil.copyfile(path, directory / path.name)
     module = base64.b64encode(pathlib.Path("dist/keywrap.wasm").read_bytes()).decode()
-    write(directory / "module.js", f"// The bytes of keywrap.wasm in base64.\nexport default '{module}';\n")
-    write(directory / "README.md", with_links(pathlib.Path("js/README.md").read_text()))
-    write(directory / "package.json", pathlib.Path("js/package.json.in").read_text().replace("@VERSION@", VERSION))
+    (directory / "module.js").write_text(f"// The bytes of keywrap.wasm in base64.\nexport default '{module}';\n")
+    (directory / "README.md").write_text(with_links(pathlib.Path("js/README.md").read_text()))
+    package = pathlib.Path("js/package.json.in").read_text().replace("@VERSION@", VERSION)
+    (directory / "package.json").write_text(package)
     print(directory)
 
 
@@ -137,9 +121,9 @@ def go(directory, *paths):
             member = zipfile.ZipInfo(f"{module}@{version}/{file.relative_to(root)}")
             member.compress_type, member.external_attr = zipfile.ZIP_DEFLATED, 0o100644 << 16
             packed.writestr(member, file.read_bytes())
-    write(place / f"{version}.mod", (root / "go.mod").read_text())
-    write(place / f"{version}.info", json.dumps({"Version": version, "Time": "2026-01-01T00:00:00Z"}) + "\n")
-    write(place / "list", f"{version}\n")
+    shutil.copyfile(root / "go.mod", place / f"{version}.mod")
+    (place / f"{version}.info").write_text(json.dumps({"Version": version, "Time": "2026-01-01T00:00:00Z"}) + "\n")
+    (place / "list").write_text(f"{version}\n")
     print(directory)
 
 
@@ -158,7 +142,7 @@ def python_package(python, kind, package, directory, sources, env=None):
         shutil.rmtree(cache)
     for name, source in {"VERSION": "VERSION", **sources}.items():
         shutil.copyfile(source, package / name)
-    write(package / "README.md", with_links(pathlib.Path("python/README.md").read_text()))
+    (package / "README.md").write_text(with_links(pathlib.Path("python/README.md").read_text()))
     directory.mkdir(parents=True, exist_ok=True)
     options = [f"--{kind}", "--no-isolation", "--outdir", directory, package]
     built = subprocess.run([python, "-m", "build", *options], env=env, stdout=subprocess.PIPE,
@@ -193,8 +177,7 @@ def sdist(python, file):
         workdir, name = pathlib.Path(workdir), pathlib.Path(file).name
         python_package(python, "sdist", workdir / "package", workdir, {
             name: f"dist/{name}" for name in ("keywrap.c", "keywrap.h", "keywrap_steps.h")})
-        with tarfile.open(workdir / name) as packed:
-            packed.extractall(workdir)
+        shutil.unpack_archive(workdir / name, workdir)
         pack(workdir / name.removesuffix(".tar.gz"), file)
 
 

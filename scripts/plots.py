@@ -126,8 +126,7 @@ def curves(drawing, top, rows, title):
         drawing.text(points[-1][0] + 15, round(end + 4, 1), label, "strong" if kind == "ours" else "")
 
 
-def wrap():
-    about, rows = read("wrap")
+def wrap(about, rows):
     drawing = Drawing(584, "Nanoseconds for each block call, over the length of the key")
     drawing.text(8, 20, "Nanoseconds for each block call (six for each 8 bytes of key),")
     drawing.text(8, 38, "over the length of the key in bytes. KEKs of 32 bytes.")
@@ -137,62 +136,50 @@ def wrap():
     return drawing
 
 
-def bars(about, title, line, groups):
+def bars(about, title, groups, shown="{:,.0f}"):
     """Groups of bars with a label and a value for each, every group with its own scale. keywrap's bars are blue."""
     drawing = Drawing(74 + sum(28 + 26 * len(rows) for _, rows in groups), title)
-    drawing.text(8, 20, line)
+    drawing.text(8, 20, title)
     y = 38
     for name, rows in groups:
         drawing.text(8, y + 10, name, "strong")
         y += 18
-        for label, value, shown in rows:
+        for label, value in rows:
             width = max(2, round(188 * value / max(row[1] for row in rows), 1))
             is_ours = label.startswith("keywrap")
             drawing.text(172, y + 15, label, "end")
             drawing.box(180, y, width, 20, "ours_bar" if is_ours else "bar")
-            drawing.text(186 + width, y + 15, shown, "strong" if is_ours else "")
+            drawing.text(186 + width, y + 15, shown.format(value), "strong" if is_ours else "")
             y += 26
         y += 10
     drawing.note(about)
     return drawing
 
 
-def lines():
-    about, rows = read("lines")
-    rates = sorted(((row["job"], row["way"], int(row["keys_per_second"])) for row in rows), key=lambda row: -row[2])
-    return bars(about, "Keys per second, from a file into a file",
-                "Keys per second, from a file into a file; keys and KEKs of 32 bytes.", [
-        (job, [(way, rate, f"{rate:,}") for name, way, rate in rates if name == job])
-        for job in ("wrap", "unwrap", "rewrap")])
-
-
-def provider():
-    about, rows = read("provider")
-    return bars(about, "Microseconds for a call by EVP, by both providers",
-                "Microseconds for a call by EVP with AES-256-WRAP.", [
-        (f"{row['call']}, key of {row['key']} bytes",
-         [(name, int(row[column]), f"{int(row[column]) / 1000:.1f}")
-          for name, column in (("OpenSSL's provider", "default_ns"), ("keywrap", "keywrap_ns"))])
-        for row in rows if row["cipher"] == "AES-256-WRAP"])
-
-
-def js():
-    about, rows = read("js")
-    return bars(about, "Microseconds for a wrap in a page, beside Web Crypto",
-                "Microseconds for a wrap in a page, with a KEK of 16 bytes.", [
-        (f"{row['engine'].capitalize()}, key of {size(int(row['key']))}" + " bytes" * (row["key"] == "32"),
-         [(name, float(row[column]), f"{float(row[column]):,.0f}")
-          for name, column in (("Web Crypto", "web_crypto_us"), ("keywrap", "keywrap_us"))])
-        for row in rows if row["key"] != "16"])
-
-
-def many():
-    about, rows = read("many")
-    return bars(about, "Nanoseconds for a rewrap of one of many keys",
-                "Nanoseconds for a rewrap, of keys and KEKs of 32 bytes, on one core.", [
-        (name, [(row["way"], float(row["ns_per_key"]), f"{int(row['ns_per_key']):,}")
-                for row in rows if row["flags"] == flags and row["key"] == "32"])
+def many(about, rows):
+    return bars(about, "Nanoseconds for a rewrap, of keys and KEKs of 32 bytes, on one core.", [
+        (name, [(row["way"], int(row["ns_per_key"])) for row in rows if row["flags"] == flags and row["key"] == "32"])
         for flags, name in (("0", "plain to plain"), ("12", "the form kept, what is new passed"))])
+
+
+def lines(about, rows):
+    rates = sorted(((row["job"], row["way"], int(row["keys_per_second"])) for row in rows), key=lambda row: -row[2])
+    return bars(about, "Keys per second, from a file into a file; keys and KEKs of 32 bytes.", [
+        (job, [(way, rate) for name, way, rate in rates if name == job]) for job in ("wrap", "unwrap", "rewrap")])
+
+
+def provider(about, rows):
+    return bars(about, "Microseconds for a call by EVP with AES-256-WRAP.", [
+        (f"{row['call']}, key of {row['key']} bytes",
+         [("OpenSSL's provider", int(row["default_ns"]) / 1000), ("keywrap", int(row["keywrap_ns"]) / 1000)])
+        for row in rows if row["cipher"] == "AES-256-WRAP"], "{:.1f}")
+
+
+def js(about, rows):
+    return bars(about, "Microseconds for a wrap in a page, with a KEK of 16 bytes.", [
+        (f"{row['engine'].capitalize()}, key of {size(int(row['key']))}" + " bytes" * (row["key"] == "32"),
+         [("Web Crypto", float(row["web_crypto_us"])), ("keywrap", float(row["keywrap_us"]))])
+        for row in rows if row["key"] != "16"])
 
 
 def rotation():
@@ -216,7 +203,8 @@ def rotation():
 def main(arguments):
     stale = False
     for draw in wrap, many, lines, provider, js, rotation:
-        path, text = PICTURES / f"{draw.__name__}.svg", draw().svg()
+        path, data = PICTURES / f"{draw.__name__}.svg", () if draw == rotation else read(draw.__name__)
+        text = draw(*data).svg()
         if arguments != ["--check"]:
             path.write_text(text, encoding="utf-8")
         elif not path.exists() or path.read_text(encoding="utf-8") != text:

@@ -40,8 +40,11 @@ row 'the calls: compile' "$cc" -std=c99 -O2 -Wall -Wextra -pedantic -Werror "-I$
     "-I$root/c/reference" "$root"/tests/library/*.c "$root/c/reference/one_table.c" "$library/libkeywrap.so.1" \
     -o checks
 # They run beside the next rows.
-"${runs[@]}" -cpu cortex-a53 -E "LD_LIBRARY_PATH=$library" ./checks few >calls.log 2>&1 &
-calls=$!
+calls=
+if [ "${KEYWRAP_ALL:-}" = 1 ]; then
+    "${runs[@]}" -cpu cortex-a53 -E "LD_LIBRARY_PATH=$library" ./checks few >calls.log 2>&1 &
+    calls=$!
+fi
 
 ### What depends on secrets
 
@@ -67,6 +70,7 @@ elif needs_python 'the wheel' build cffi setuptools wheel; then
     row 'what it makes' diff <(ls dist) \
         <(printf '%s\n' SHA256SUMS "$wheel" "keywrap-$version.cdx.json" "$packed.tar.gz" | sort)
     row 'its checksums' env -C dist sha256sum -c --strict SHA256SUMS
+    row 'its checksums in TRUST.md' "$python" "$root/scripts/trust.py" --check-hashes dist/SHA256SUMS
     row 'the wheel, unpacked' "$python" -m zipfile -e "dist/$wheel" site
 fi
 [ -d dist ] || row 'make dist-library' making dist-library
@@ -108,5 +112,5 @@ if [ -d site ]; then
     row 'Python takes the wheel' takes
     slow row 'the tests of the package' package_tests
 fi
-row 'the calls' eval 'wait $calls || { cat calls.log && false; }'
+slow row 'the calls' eval 'wait $calls || { cat calls.log && false; }'
 finish

@@ -115,11 +115,12 @@ builds() {
 compares() { "${@:3}" "${options[@]}" "${comparing[@]}" "$2" -o "$1/compared"; }
 # on PROCESSOR DIRECTORY AES COMMAND..: run by the command, the programs use this AES and find no fault.
 on() {
-    local part
+    local part software=
+    [[ $1 != *without* ]] || software=slow
     row "$1: the AES" writes "$3" "${@:4}" "$2/chosen"
-    row "$1: the calls" writes ' passed, 0 failed' "${@:4}" "$2/checks" few
+    $software row "$1: the calls" writes ' passed, 0 failed' "${@:4}" "$2/checks" few
     slow row "$1: many keys, at each place" writes ' passed, 0 failed' "${@:4}" "$2/checks" many
-    row "$1: the published cases" writes "$(wc -l <cases) right" "${@:4}" "$2/published" <cases
+    $software row "$1: the published cases" writes "$(wc -l <cases) right" "${@:4}" "$2/published" <cases
     [ -e "${2%_without}/compared" ] || return
     row "$1: the provider, parameters" "${@:4}" "$2/compared" "$2" parameters
     # shellcheck disable=SC2086
@@ -156,7 +157,7 @@ row 'the stack: compiles' cc -std=c99 -O1 -g "${options[@]:2}" "$root/tests/secr
 row 'the stack: runs' ./stack && cp row.log stacked
 row 'the stack: every export' diff <(sed 's/[, ].*//; s/^/keywrap_/' stacked | sort -u) <(echo "$exports")
 row 'the stack: round keys are cleared' left 16
-row 'the calls, all' writes ' passed, 0 failed' here/checks
+slow row 'the calls, all' writes ' passed, 0 failed' here/checks
 if needs 'the calls, sanitized' 'sanitizers of cc'; then
     row 'the calls, sanitized: compile' cc "${options[@]}" -g "${sanitize[@]}" "$root"/tests/library/*.c \
         "$root/c/reference/one_table.c" "$root"/c/hardware/*.c proved.a -o sanitized

@@ -150,11 +150,13 @@ class TestRepeatedFacts:
         assert re.findall(r'\.version\("(.*?)"\)', text_of(sources)) == [version]
         assert ".".join(re.findall(r"^#define KEYWRAP_VERSION_[A-Z]* (\d+)$", header, re.M)) == number
         assert "".join(re.findall('^#define KEYWRAP_PRERELEASE "(.*)" ', header, re.M)) == dev
-        assert re.search("^## (.*)$", text_of("CHANGELOG.md"), re.M)[1] == version
+        newest, date = re.search(r"^## (\S+)(?: \((\d{4}-\d\d-\d\d)\))?$", text_of("CHANGELOG.md"), re.M).groups()
+        assert newest == version and bool(date) == (not dev)
         assert re.search('^version = "(.*)"$', text_of("dist/Cargo.toml"), re.M)[1] == version
         changes = f"keywrap ({version.replace('-', '~')}) unstable; urgency=medium\n"
         assert text_of("packaging/debian/changelog").startswith(changes)
-        search = ["grep", "-rlIF", "--exclude-dir=out", "-e", version, "-e", version.replace("-dev", ".dev0")]
+        search = ["grep", "-rlIF", "--exclude-dir=out", "--exclude-dir=debian", "-e", version]
+        search += ["-e", version.replace("-dev", ".dev0")]
         search += "keywrap Makefile command packaging scripts python js".split()
         search += [f"crates/{name}" for name in ("keywrap", "keywrap_cli", "keywrap_args")]
         assert subprocess.run(search, cwd=ROOT, stdout=subprocess.PIPE, text=True).stdout == f"{sources}\n"
@@ -163,10 +165,11 @@ class TestRepeatedFacts:
         """README is short, and its first paragraph has what decides for a visitor."""
         page = text_of("README.md")
         assert len(re.sub('<img src=.* alt="(.*)">', r"\1", page).split()) <= 1200
+        assert len(text_of("docs/UPGRADING.md").split()) <= 300
         first = " ".join(page.split("\n\n")[1].split())
-        assert re.search("^`keywrap` encrypts .* licence .* No version has been released.* the kit of Rattle ", first)
-        for answer in ("not even 1.0.0", "not a validated FIPS 140 module", "aarch64, tested under qemu only",
-                       "we know no outside review", "does not wipe its memory",
+        assert re.search("^`keywrap` encrypts .* licence .* A version is a commit .* the kit of Rattle ", first)
+        for answer in ("Whether one is published is the owner's decision", "not a validated FIPS 140 module",
+                       "aarch64, tested under qemu only", "we know no outside review", "does not wipe its memory",
                        "is [measured](SECURITY.md), not proved"):
             assert answer in " ".join(page.split())
 
@@ -194,7 +197,7 @@ class TestRepeatedFacts:
 
     def test_calls_since_1_1(self):
         """The header, its page and the changes have the calls of keywrap.map's second version."""
-        header, changes = text_of("c/include/keywrap.h"), text_of("CHANGELOG.md").partition("Added:")[2]
+        header, changes = text_of("c/include/keywrap.h"), text_of("CHANGELOG.md").partition("### New\n")[2]
         second = re.search(r"KEYWRAP_1.1 \{(.*?)\}", text_of("c/include/keywrap.map"), re.S)[1]
         new = {call for call in re.findall(r"(keywrap_\w+);", second) if re.search(rf"\b{call}\(", header)}
         assert len(new) >= 4
@@ -202,7 +205,7 @@ class TestRepeatedFacts:
         assert {call for block in blocks for call in re.findall(r"^\w+ (keywrap_\w+)\(", block, re.M)} == new
         page = " ".join(text_of("docs/C_LIBRARY.md").split())
         assert set(re.findall(r"`(keywrap_\w+)[^`]*` \(since 1\.1\)", page)) == new
-        listed = re.search(r"^- C: (.*?)^- ", changes, re.M | re.S)[1]
+        listed = re.search(r"^C, .*?:\n\n(.*?)\n\n", changes, re.M | re.S)[1]
         assert set(re.findall(r"`(keywrap_[a-z_]+)`", listed)) == new
 
     @pytest.mark.parametrize("words, elsewhere", [

@@ -8,6 +8,7 @@ import re
 import pytest
 
 from builds import ROOT, run
+from program import all_of
 from tools import need
 
 PAGE = (ROOT / "docs/C_LIBRARY.md").read_text()
@@ -80,7 +81,7 @@ def facts(once, request):
     return find
 
 
-@pytest.mark.parametrize("machine", ["x86-64", "aarch64", "portable C on 32-bit Arm"])
+@pytest.mark.parametrize("machine", all_of(["x86-64", "aarch64", "portable C on 32-bit Arm"], ["x86-64"]))
 class TestEachMachine:
     def test_code_and_stack(self, facts, machine):
         """No call takes more than the sheet has, and none takes less than four fifths."""

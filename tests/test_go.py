@@ -84,7 +84,8 @@ def test_sanitizers(module, env, option, tool):
     run("go", "test", "-short", option, "./...", cwd=module, env=env)
 
 
-@pytest.mark.parametrize("cipher", [[], ["cipher"]], ids=["library", "cipher"])
+@pytest.mark.parametrize("cipher", [pytest.param([], id="library"),
+                                    pytest.param(["cipher"], id="cipher", marks=slow)])
 def test_published(program, env, cipher):
     directory = program("published.go")
     run("go", "build", "-o", "published", "published.go", cwd=directory, env=env)
@@ -119,6 +120,7 @@ class TestReadme:
         assert [len(self.DIRECTORY), len(self.PACKED)] == [4, 5]
 
     @pytest.mark.needs("no network")
+    @slow
     @pytest.mark.parametrize("lines", [DIRECTORY, PACKED], ids=["directory", "packed"])
     def test_lines(self, program, env, lines):
         """Without a network, and without the kit on the PATH. The tests of the program fail if the module is wrong."""
@@ -147,7 +149,8 @@ def test_packed_files(thing):
 
 
 @pytest.mark.needs("go-jose")
-@pytest.mark.parametrize("package", all_of(["./cipher", "."], ["./cipher"]))
+@slow
+@pytest.mark.parametrize("package", ["./cipher", "."])
 def test_go_jose(env, package):
     """go-jose's own tests, of its key wrap and of all, with keywrap.Cipher over Go's AES for its key wrap."""
     need(*["go-cmp"] * (package == "."))
@@ -225,7 +228,7 @@ def archive(once):
     return once("go-archive", build) / "libkeywrap.a"
 
 
-@pytest.mark.parametrize("bug", all_of(BUGS, ["bytes-beside-an-error", "keks-exchanged"]))
+@pytest.mark.parametrize("bug", all_of(BUGS, ["bytes-beside-an-error"]))
 def test_bug_is_caught(module, env, archive, bug):
     """By the module's own tests, which name a result."""
     name, old, new = BUGS[bug]

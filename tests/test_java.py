@@ -13,6 +13,7 @@ import pytest
 import published
 from builds import NAMES, ROOT, alone, run
 from hardware.bugs import plant
+from program import slow
 
 pytestmark = pytest.mark.needs("javac", "jna.jar")
 
@@ -102,6 +103,7 @@ def test_cms(java, classes):
 
 
 @pytest.mark.needs("no network")
+@slow
 class TestReadme:
     BUILD, EXAMPLE, UNCHANGED = (re.findall(r"^    (.*)", (ROOT / "java/README.md").read_text(), re.M)[lines]
                                  for lines in (slice(2), slice(2, 3), slice(3, None)))

@@ -62,6 +62,7 @@ def made_here():
         pytest.skip(f"dist/ is by {named}; here are {here}")
 
 
+@slow
 def test_is_what_the_tree_makes(built):
     """Each file of dist/, byte by byte, but for those that are written by hand."""
     made_here()
@@ -75,7 +76,8 @@ def test_is_what_the_tree_makes(built):
 
 
 @pytest.mark.parametrize("compiler", NATIVE)
-@pytest.mark.parametrize("only", ["", TABLES, "-DKEYWRAP_STEPS_ONLY", "-DKEYWRAP_TRAP()=__builtin_trap()"])
+@pytest.mark.parametrize("only", all_of(
+    ["", TABLES, "-DKEYWRAP_STEPS_ONLY", "-DKEYWRAP_TRAP()=__builtin_trap()"], [""]))
 @pytest.mark.parametrize("options", all_of(["-O0 -std=c99", "-O2 -std=c17", "-O3 -std=c99", "-Os -std=c99"], [
     "-O2 -std=c17"]))
 def test_compiles_without_a_warning(portable, compiler, only, options):
@@ -84,7 +86,7 @@ def test_compiles_without_a_warning(portable, compiler, only, options):
     run(compiler, *STRICT, *options.split(), *only.split(), "-c", portable / "keywrap.c", "-o", "keywrap.o")
 
 
-@pytest.mark.parametrize("name", all_of(MACHINES, [*NATIVE, "gcc, tables"]))
+@pytest.mark.parametrize("name", all_of(MACHINES, ["gcc", "gcc, tables"]))
 def test_calls(portable, name):
     """The checks of tests/library."""
     few = ["few"] if name not in NATIVE or not ALL else []
@@ -92,7 +94,7 @@ def test_calls(portable, name):
     assert re.fullmatch(r"\d{6,} passed, 0 failed", last)
 
 
-@pytest.mark.parametrize("name", all_of(MACHINES, [*NATIVE, "gcc, tables", "arm", "s390x"]))
+@pytest.mark.parametrize("name", all_of(MACHINES, ["s390x"]))
 def test_published(portable, name):
     program = compiled_program(portable, name, [ROOT / "tests/published.c"], "-O2")
     for cases in published.foreign(), published.nist_or_skip()[::1 if ALL or name == "gcc" else 6]:
@@ -115,7 +117,7 @@ def random_calls(directory, library, name, *options):
     return [*runner, "./fuzz"]
 
 
-@pytest.mark.parametrize("name", [*NATIVE, "gcc, tables", "an old x86-64"])
+@pytest.mark.parametrize("name", all_of([*NATIVE, "gcc, tables", "an old x86-64"], ["gcc, tables"]))
 def test_as_the_library(portable, library, name):
     """Random calls, right ones and refusals, of all calls and steps: as the library, byte by byte."""
     cases = 1000000 if ALL and name in NATIVE else 10000 if "old" in name else 40000
@@ -137,7 +139,7 @@ def test_valgrind(portable):
     run("valgrind", "-q", "--error-exitcode=9", "--leak-check=full", *program, input=some)
 
 
-@pytest.mark.parametrize("name", all_of(MACHINES, ["gcc", "gcc, tables"]))
+@pytest.mark.parametrize("name", all_of(MACHINES, ["gcc"]))
 def test_lengths(portable, name):
     assert run(*compiled_program(portable, name, [OWN / "lengths.c"], "-O2")) == "all are right\n"
 
@@ -158,7 +160,7 @@ def documented_secrets(name):
     return int(found[1 if "tables" in name else 2])
 
 
-@pytest.mark.parametrize("name", [*NATIVE, "gcc, tables", "clang, tables"])
+@pytest.mark.parametrize("name", all_of([*NATIVE, "gcc, tables", "clang, tables"], ["gcc", "gcc, tables"]))
 @pytest.mark.parametrize("level", all_of(["-O1", "-O2", "-O3", "-Os"], ["-O2"]))
 def test_stack(portable, name, level):
     """SECURITY.md's bytes below the stack pointer depend on a KEK or a key."""
@@ -169,7 +171,7 @@ def test_stack(portable, name, level):
 
 
 @pytest.mark.parametrize("only", ["", "-DKEYWRAP_STEPS_ONLY"])
-@pytest.mark.parametrize("name", MACHINES)
+@pytest.mark.parametrize("name", all_of(MACHINES, ["gcc", "gcc, tables", "arm"]))
 def test_object(portable, name, only):
     """What the object needs, that it shows the calls of the headers only, and what of its data can be written."""
     compiler, _ = MACHINES[name]
@@ -200,7 +202,7 @@ def test_stack_in_readme(portable):
     assert stack - 1000 < used < stack
 
 
-@pytest.mark.parametrize("options", [[], [TABLES]])
+@pytest.mark.parametrize("options", [pytest.param([], marks=slow), [TABLES]])
 def test_self_test_sees_a_changed_byte(portable, options):
     need("gcc")
     run("gcc", *STRICT, "-O2", "-shared", "-fPIC", *options, portable / "keywrap.c", "-o", "keywrap.so")
@@ -312,7 +314,7 @@ def test_from_a_clone_without_the_kit():
 
 
 @pytest.mark.parametrize("bug", all_of([path.stem for path in sorted(OWN.glob("bugs/*.edit"))], [
-    "no-wipe-after-a-refusal", "scratch-kept-with-instructions"]))
+    "scratch-kept-with-instructions"]))
 def test_bug_is_caught(portable, library, tmp_path, bug):
     """By random calls, with AES instructions or without, by the longest lengths, or by what is left on the stack."""
     need("sanitizers of gcc")

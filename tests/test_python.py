@@ -12,7 +12,7 @@ import pytest
 
 import published
 from builds import NAMES, ROOT, run
-from program import SLOW, slow
+from program import SLOW, all_of, slow
 from tools import need
 from vectors import WRAPPED32
 
@@ -116,11 +116,17 @@ def own_tests(installed, keywrap, record_property):
     return call
 
 
-@pytest.mark.parametrize("file", sorted(str(path.relative_to(TESTS)) for path in TESTS.rglob("test_*.py")))
+FILES = sorted(str(path.relative_to(TESTS)) for path in TESTS.rglob("test_*.py"))
+# These start servers, make a run for each row, or kill runs.
+LONG = {f"rotation/test_rotation_{name}.py" for name in "command dask kills objects postgresql recipes".split()}
+
+
+@pytest.mark.parametrize("file", all_of(FILES, {*FILES} - LONG))
 def test_own_tests(own_tests, file):
     own_tests(TESTS / file)
 
 
+@slow
 @pytest.mark.needs("sanitizers of gcc")
 def test_hostile_objects_under_the_address_sanitizer(own_tests):
     """The system's allocator has each object in a block of its own, whose ends the sanitizer watches."""

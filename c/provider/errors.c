@@ -14,7 +14,7 @@ const OSSL_ITEM REASONS[] = {
     {REASON_NO_KEK, "no KEK was given"},
     {REASON_LENGTH, "bad length"},
     {REASON_NO_INPUT, "no input was given"},
-    {REASON_PLAIN_IV, "initial value reserved for the padded form"},
+    {REASON_RESERVED_IV, "initial value reserved for the padded form"},
     {REASON_PADDED_IV, "not the initial value of the padded form"},
     {REASON_TOO_LONG, "longer than 1048576 bytes of key"},
     {REASON_NO_MEMORY, "out of memory"},

@@ -158,7 +158,7 @@ pub struct Kind {
 #[derive(Clone, Copy, Debug, PartialEq, Eq)]
 pub enum Forms {
     /// The wrapped key has either form, and keeps it.
-    Keep,
+    Kept,
     /// The wrapped key has one form, and gets one.
     Given {
         /// The form under the old KEK.
@@ -172,7 +172,7 @@ impl Forms {
     /// The flags of a rewrap.
     pub(crate) fn flags(self, pass_new: bool) -> u32 {
         let forms = match self {
-            Forms::Keep => KEYWRAP_KEEP_FORM,
+            Forms::Kept => KEYWRAP_KEEP_FORM,
             Forms::Given { old, new } => {
                 old.flag(KEYWRAP_OLD_PADDED) | new.flag(KEYWRAP_NEW_PADDED)
             }

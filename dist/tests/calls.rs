@@ -213,7 +213,7 @@ fn damaged() {
             assert_eq!(kek.unwrap_any_vec(&plain), Err(IntegrityCheckFailed));
             assert_eq!(kek.kind_vec(&padded), Err(IntegrityCheckFailed));
         }
-        for forms in [Forms::Keep, given(Form::Plain, Form::Plain)] {
+        for forms in [Forms::Kept, given(Form::Plain, Form::Plain)] {
             let mut buffer = plain.clone();
             let rewrapped = kek.rewrap(&KekAes256::from([9; 32]), &mut buffer, forms, true);
             assert_eq!(rewrapped, Err(IntegrityCheckFailed));
@@ -343,7 +343,7 @@ fn lengths() {
         assert_eq!(unwrapped, Err(refused(padded, IntegrityCheckFailed)));
         assert_eq!(buffer, if padded { vec![0; len] } else { data.clone() });
         let mut buffer = data.clone();
-        let rewrapped = kek.rewrap(&kek, &mut buffer, Forms::Keep, false);
+        let rewrapped = kek.rewrap(&kek, &mut buffer, Forms::Kept, false);
         assert_eq!(rewrapped, Err(refused(padded, IntegrityCheckFailed)));
         assert_eq!(buffer, data);
         #[cfg(feature = "alloc")]
@@ -452,7 +452,7 @@ fn kek_lengths() {
             );
             for (old, new) in [(kek, &*right), (&*right, kek), (kek, kek)] {
                 let mut buffer = [1; 24];
-                let rewrapped = old.rewrap(new, &mut buffer, Forms::Keep, false);
+                let rewrapped = old.rewrap(new, &mut buffer, Forms::Kept, false);
                 assert_eq!(rewrapped, Err(Error::InvalidKekSize { size }));
                 assert_eq!(buffer, [1; 24]);
             }
@@ -495,7 +495,7 @@ fn rewraps() {
     ] {
         let key = [9; 24];
         let (before, after) = (wrapped(&old_kek, old, &key), wrapped(&new_kek, new, &key));
-        let all = [given(old, new), Forms::Keep];
+        let all = [given(old, new), Forms::Kept];
         for forms in if old == new { &all[..] } else { &all[..1] } {
             for pass_new in [false, true] {
                 let mut buffer = before.clone();
@@ -514,7 +514,7 @@ fn rewraps() {
             // From the other form, or to the other KEK.
             let other = if old == Plain { Padded } else { Plain };
             let mut buffer = wrapped(&old_kek, other, &key);
-            let due = if *forms == Forms::Keep {
+            let due = if *forms == Forms::Kept {
                 Ok(Rewrapped::Fresh)
             } else {
                 Err(IntegrityCheckFailed)

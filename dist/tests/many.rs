@@ -90,7 +90,7 @@ fn rewraps() {
             slots[SLOT + 9] ^= 1;
             let before = slots.clone();
             let forms = if old == new {
-                Forms::Keep
+                Forms::Kept
             } else {
                 Forms::Given { old, new }
             };
@@ -177,7 +177,7 @@ fn lengths() {
             );
             assert_eq!(slots == vec![1; len], due.is_err());
             let mut slots = vec![1; len];
-            let rewrapped = kek.rewrap_many(&other, &mut slots, Forms::Keep, true, &mut statuses);
+            let rewrapped = kek.rewrap_many(&other, &mut slots, Forms::Kept, true, &mut statuses);
             assert_eq!(
                 rewrapped.map(|_| ()),
                 if is_legal(16) {
@@ -229,6 +229,6 @@ fn lengths() {
         Err(size)
     );
     let mut one = [before];
-    let refused = kek.rewrap_many(short, &mut [1; 24], Forms::Keep, true, &mut one);
+    let refused = kek.rewrap_many(short, &mut [1; 24], Forms::Kept, true, &mut one);
     assert_eq!(refused.map(|_| ()), Err(size));
 }

@@ -330,7 +330,7 @@ void many_keys(const uint8_t *keks, const uint8_t *some, int few, int places) {
         for (size_t n = 0; n < 5; n++) all_wraps(slots[n], few);
         for (size_t t = 0; t < 5; t++)
             for (size_t n = 0; n < 5; n++)
-                if (!few || (i == 2 && (t == 2 || (n == 4 && !places))))
+                if (!few || (i == 2 && t == 2 && (n == 4 || places)))
                     each_place(text_lens[t], slots[n], i == 2 && (!few || places) ? 1 : 12);
         if (i == 2) many_slots(text_lens + (few ? 2 : 0), few ? 1 : 4);
         free_kek(&old);

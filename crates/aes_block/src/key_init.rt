@@ -5,7 +5,7 @@ use fips197::{BadKekLength, KeyInit};
 
 // The round keys are in the value itself.
 impl KeyInit for Aes {
-    type Room = ();
+    type Schedule = ();
 
     fn new_in(kek: &[u8], _room: ()) -> Result<Aes, BadKekLength> {
         Aes::new(kek)

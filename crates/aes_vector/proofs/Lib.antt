@@ -5,7 +5,7 @@ pub mod EveryByte
 pub mod FirstBlocks
 pub mod KeyForms
 pub mod Mixing
-pub mod Rooms
+pub mod ZeroSchedules
 pub mod RoundLanes
 pub mod Starts
 pub mod Unmixing

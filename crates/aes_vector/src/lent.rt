@@ -6,8 +6,8 @@ ghost use Rattle.fips197.specs.KeyExpansion.{round_key, rounds_of};
 ghost use Rattle.fips197.specs.Rounds.{inv_mix_columns};
 ghost use Rattle.aes_vector.specs.Tower.{affine_element, key_byte, last_key_byte};
 
+use crate::key_schedule::KeySchedule;
 use crate::keys::{MAX_KEYS, RoundKey};
-use crate::room::Room;
 use crate::rows::InvRows;
 use crate::schedule::fill;
 use crate::tables::{INV_ROWS_0, INV_ROWS_1, INV_ROWS_2, INV_ROWS_3};
@@ -38,14 +38,14 @@ impl<'a> Model for LentAes<'a> {
 impl<'a> LentAes<'a> {
     /// Returns AES under the key-encryption key `kek`, with its schedule in this buffer. Refuses a
     /// key that is not of 16, 24 or 32 bytes.
-    pub fn new(kek: &[u8], room: &'a mut Room) -> Result<LentAes<'a>, BadKekLength>
+    pub fn new(kek: &[u8], schedule: &'a mut KeySchedule) -> Result<LentAes<'a>, BadKekLength>
         ensures { MakesAes kek.now result }
     {
-        let Ok(rounds) = fill(kek, &mut room.keys, &mut room.words) else {
+        let Ok(rounds) = fill(kek, &mut schedule.keys, &mut schedule.words) else {
             return Err(BadKekLength);
         };
         Ok(LentAes {
-            keys: &room.keys,
+            keys: &schedule.keys,
             rounds,
         })
     }

@@ -10,20 +10,20 @@
 mod cipher;
 mod expansion;
 mod key_init;
+mod key_schedule;
 mod keys;
 mod lanes;
 mod lent;
 mod owned;
-mod room;
 mod rounds;
 mod rows;
 mod schedule;
 mod tables;
 mod tower;
 
+pub use key_schedule::KeySchedule;
 pub use lent::LentAes;
 pub use owned::VectorAes;
-pub use room::Room;
 
 #[cfg(test)]
 mod tests;

@@ -1,11 +1,11 @@
-//! AES under one key, with the room for its round keys.
+//! AES under one key, with the memory for its round keys.
 
 ghost use Rattle.std.specs.Prelude.{◌≡◌};
 ghost use Rattle.fips197.specs.Keyed.{IsRoundCount, MakesAes};
 
+use crate::key_schedule::no_keys;
 use crate::keys::{MAX_KEYS, RoundKey};
 use crate::lent::LentAes;
-use crate::room::no_keys;
 use crate::schedule::fill;
 use fips197::{BadKekLength, MAX_WORDS};
 use std::marker::Model;

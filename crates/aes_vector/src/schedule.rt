@@ -1,4 +1,4 @@
-//! The key schedule of a key, in both directions, into room for it.
+//! The key schedule of a key, in both directions, into memory for it.
 
 ghost use Rattle.std.specs.Prelude.{◌≡◌, ◌*◌, ◌↔◌, length};
 ghost use Rattle.std.specs.Prelude.{IsOk, IsErr, IfOk};

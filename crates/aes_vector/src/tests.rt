@@ -7,7 +7,7 @@ ghost use Rattle.aes_vector.specs.Tables.{FindsInverse, FindsInverseMultiple, Fi
 ghost use Rattle.aes_vector.specs.Tables.{FindsSBox, IsInversion};
 
 use crate::tables::*;
-use crate::{LentAes, Room, VectorAes};
+use crate::{KeySchedule, LentAes, VectorAes};
 use block_pair::BlockPair;
 use std::process::Abort;
 use std::test::Fail;
@@ -50,8 +50,8 @@ fn answers_the_standards_vectors(rt: HostRuntime) -> Result<(), Fail> {
         if let Algorithm::Encryption = vector.algorithm {
             let owned = VectorAes::new(vector.key)?;
             gives_the_vector(&rt, &owned, owned.rounds(), vector)?;
-            let mut room = Room::new();
-            let lent = LentAes::new(vector.key, &mut room)?;
+            let mut schedule = KeySchedule::new();
+            let lent = LentAes::new(vector.key, &mut schedule)?;
             gives_the_vector(&rt, &lent, lent.rounds(), vector)?;
         }
     }
@@ -73,17 +73,17 @@ fn gives_the_vector(
     Ok(())
 }
 
-// To the contract a refused key may leave anything in its room.
+// To the contract a refused key may leave anything in that memory.
 #[test]
 fn a_refused_key_leaves_its_room(rt: HostRuntime) {
-    let mut room = Room::new();
+    let mut schedule = KeySchedule::new();
     for len in [0, 15, 17, 33] {
         assert!(rt;
-            LentAes::new(&[1; 33][..len], &mut room).is_err(),
+            LentAes::new(&[1; 33][..len], &mut schedule).is_err(),
             "{len} bytes"
         );
-        assert!(rt; room.words.iter().all(|word| *word == 0), "{len} bytes");
-        for key in &room.keys {
+        assert!(rt; schedule.words.iter().all(|word| *word == 0), "{len} bytes");
+        for key in &schedule.keys {
             assert!(rt; key.enc.to_array() == [0; 16], "{len} bytes");
             assert!(rt; key.dec.to_array() == [0; 16], "{len} bytes");
         }

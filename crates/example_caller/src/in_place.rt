@@ -3,7 +3,7 @@
 ghost use Rattle.std.specs.Prelude.{◌≡◌, ◌↔◌, ℕ, List, length, drop, All, Err, IfOk, IsOk};
 ghost use Rattle.std.specs.Prelude.{IsOkUnless};
 ghost use Rattle.aes_block.specs.Cipher.{cipher};
-ghost use Rattle.key_wrap.specs.Calls.{block_calls};
+ghost use Rattle.key_wrap.specs.BlockCalls.{block_calls};
 ghost use Rattle.key_wrap.specs.Lengths.{IsPlainTextLength};
 ghost use Rattle.key_wrap.specs.Plain.{Plain, default_iv};
 

@@ -25,7 +25,7 @@ use Rattle.key_files.specs.declared.base64_text.Alphabet.{Alphabet}
 use Rattle.key_files.specs.declared.base64_text.Alphabet.TheVariants.{Standard, UrlSafe}
 use Rattle.key_files.specs.declared.hex_text.Blanks.{Blanks}
 use Rattle.key_files.specs.declared.hex_text.Blanks.TheVariants.{Allowed, Refused}
-use Rattle.key_files.specs.declared.fault.Base64Fault.{Base64Fault}
+use Rattle.key_files.specs.declared.fault.FileFault.{FileFault}
 use Rattle.key_files.specs.HexText.{is_allowed_blank, is_skipped}
 use Rattle.key_files.specs.Writing.{PrintsAs}
 use Rattle.key_files.proofs.Lists.{IsLine-of, all-both, all-append, all-replicate, all-drop, filter-all, position-none, all-from_none, prefix_len-all, all-behind, all-unfiltered, behind-unfiltered, of_blanks, IsBytes-filter}
@@ -351,7 +351,7 @@ module _ (text bytes : List ℕ) (fits : IsBytes text) where
       IsBase64Of-decoded (encoding_of text) text bytes (refl, refl, refl, refl) fits (is ∙ ap Ok e)
   encoded (Err error) is same = cc same
 
-  placed-sound : (found : Option Base64Fault) → placed_meaning found text ≡ Ok bytes → IsBase64Of text bytes
+  placed-sound : (found : Option FileFault) → placed_meaning found text ≡ Ok bytes → IsBase64Of text bytes
   placed-sound None h = encoded (decode_of (encoding_of text) text) refl h
   placed-sound (Some fault) h = cc h
 

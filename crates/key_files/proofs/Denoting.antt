@@ -2,11 +2,11 @@
 use Rattle.std.proofs.Common.{◌≡◌, ◌≢◌, ◌<◌, ◌≤◌, ◌%◌, ℕ, List, length, Option, Some, None, Result, Ok, Err, arith, refl, sym, ◌∙◌}
 use Rattle.std.proofs.lemmas.Bool.Decides.{nat_tests}
 use Rattle.key_files.specs.declared.fault.FileFault.{FileFault}
-use Rattle.key_files.specs.declared.fault.FileFault.TheVariants.{Read, TooLong, BadDigit, OddDigits, BadBase64, Memory}
+use Rattle.key_files.specs.declared.fault.FileFault.TheVariants.{Read, TooLong, BadDigit, OddDigits, BadCharacter, BehindPadding, BadBase64Length, TrailingBits, Memory}
 use Rattle.std.specs.declared.vec.Vec.{Vec}
 use Rattle.key_files.specs.Decoding.{DecodesHex}
-use Rattle.key_files.specs.Reading.{IsMeaning, answer_of}
-use Rattle.key_files.specs.Meaning.{file_meaning, hex_meaning, digit_text_meaning, digits_meaning}
+use Rattle.key_files.specs.FileReading.{IsMeaning, answer_of}
+use Rattle.key_files.specs.FileMeaning.{file_meaning, hex_meaning, digit_text_meaning, digits_meaning}
 use Rattle.key_files.specs.HexText.{first_bad, digits_of, paired}
 use Rattle.key_files.specs.declared.hex_text.Blanks.TheVariants.{Allowed, Refused}
 
@@ -57,4 +57,7 @@ DecodesHex-means text (Err Memory) d = tt
 DecodesHex-means text (Err TooLong) d = (d.refused TooLong (λ e. cc e)).0 refl
 DecodesHex-means text (Err (BadDigit at)) d = (d.refused (BadDigit at) (λ e. cc e)).0 refl
 DecodesHex-means text (Err OddDigits) d = (d.refused OddDigits (λ e. cc e)).0 refl
-DecodesHex-means text (Err (BadBase64 wrong)) d = (d.refused (BadBase64 wrong) (λ e. cc e)).0 refl
+DecodesHex-means text (Err (BadCharacter at)) d = (d.refused (BadCharacter at) (λ e. cc e)).0 refl
+DecodesHex-means text (Err (BehindPadding at)) d = (d.refused (BehindPadding at) (λ e. cc e)).0 refl
+DecodesHex-means text (Err BadBase64Length) d = (d.refused BadBase64Length (λ e. cc e)).0 refl
+DecodesHex-means text (Err TrailingBits) d = (d.refused TrailingBits (λ e. cc e)).0 refl

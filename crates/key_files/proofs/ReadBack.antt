@@ -6,7 +6,7 @@ use Rattle.std.proofs.lemmas.List.Elements.{filter-append}
 use Rattle.std.proofs.lemmas.Iterator.Adapters.{position_from-zero}
 use Rattle.hex.specs.Hex.{IsBytes, encode_lower}
 use Rattle.key_files.specs.HexText.{digits_of, first_bad, hex_line, is_hex_digit, is_skipped}
-use Rattle.key_files.specs.Meaning.{digit_text_meaning, digits_meaning, hex_meaning}
+use Rattle.key_files.specs.FileMeaning.{digit_text_meaning, digits_meaning, hex_meaning}
 use Rattle.key_files.specs.Writing.{PrintsAs}
 use Rattle.key_files.specs.declared.hex_text.Blanks.TheVariants.{Allowed, Refused}
 use Rattle.key_files.proofs.Lists.{IsLine-of, all-both, all-filter, all-found, all-unfiltered, filter-all, of_blanks, position-none}

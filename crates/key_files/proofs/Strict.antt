@@ -9,7 +9,7 @@ use Rattle.hex.specs.Hex.{IsBytes, encode_lower, encode_with, lower_digits}
 use Rattle.hex.proofs.Pairs.{drop-pair}
 use Rattle.key_files.specs.HexText.{first_bad, is_hex_digit, paired}
 use Rattle.key_files.specs.declared.hex_text.Blanks.TheVariants.{Refused}
-use Rattle.key_files.specs.Meaning.{digit_text_meaning, digits_meaning}
+use Rattle.key_files.specs.FileMeaning.{digit_text_meaning, digits_meaning}
 use Rattle.key_files.proofs.Denoting.{digit_text_meaning-even}
 use Rattle.key_files.proofs.Lists.{position-none}
 

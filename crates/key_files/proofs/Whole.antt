@@ -7,9 +7,9 @@ use Rattle.std.specs.Io.KnownBytes.{Consumes, IsAtEnd}
 use Rattle.std.proofs.KnownBytes.{Consumes-trans}
 use Rattle.std.proofs.lemmas.Bool.{cases_lt}
 use Rattle.key_files.specs.declared.fault.FileFault.{FileFault}
-use Rattle.key_files.specs.declared.fault.FileFault.TheVariants.{Read, TooLong, BadDigit, OddDigits, BadBase64, Memory}
-use Rattle.key_files.specs.Meaning.{file_meaning, raw_meaning}
-use Rattle.key_files.specs.Reading.{IsMeaning, ReadsAs, ReadsToEnd, answer_of}
+use Rattle.key_files.specs.declared.fault.FileFault.TheVariants.{Read, TooLong, BadDigit, OddDigits, BadCharacter, BehindPadding, BadBase64Length, TrailingBits, Memory}
+use Rattle.key_files.specs.FileMeaning.{file_meaning, raw_meaning}
+use Rattle.key_files.specs.FileReading.{IsMeaning, ReadsAs, ReadsToEnd, answer_of}
 use Rattle.key_files.proofs.Denoting.{file_meaning-past, file_meaning-within}
 
 -- a read that took no byte
@@ -76,8 +76,11 @@ ReadsAs-refused {meaning = meaning} {limit = limit} TooLong r =
     let past = file_meaning-past meaning limit r.taken (r.too_long.0 refl) in
     record { taken = r.taken; stands_after = r.stands_after; at_most = r.at_most; means = past; too_long = r.too_long; to_end = tt }
 ReadsAs-refused (BadDigit at) r = absurd (raw_refused r (λ e. cc e) r.means)
-ReadsAs-refused (BadBase64 wrong) r = absurd (raw_refused r (λ e. cc e) r.means)
 ReadsAs-refused OddDigits r = absurd (raw_refused r (λ e. cc e) r.means)
+ReadsAs-refused (BadCharacter at) r = absurd (raw_refused r (λ e. cc e) r.means)
+ReadsAs-refused (BehindPadding at) r = absurd (raw_refused r (λ e. cc e) r.means)
+ReadsAs-refused BadBase64Length r = absurd (raw_refused r (λ e. cc e) r.means)
+ReadsAs-refused TrailingBits r = absurd (raw_refused r (λ e. cc e) r.means)
 
 -- a raw file that was read whole is what was taken
 taken-raw : {limit : ℕ} {old new : Option (List ℕ)} {text : List ℕ} (r : ReadsAs raw_meaning limit old new (Ok text))
@@ -114,7 +117,10 @@ pub ReadsAs-decoded : {meaning : List ℕ → Result (List ℕ) FileFault} {limi
 ReadsAs-decoded (Ok bytes) short r means = ReadsAs-text (Ok bytes) r means (λ e. cc e) r.to_end
 ReadsAs-decoded (Err (BadDigit at)) short r means = ReadsAs-text (Err (BadDigit at)) r means (λ e. cc e) r.to_end
 ReadsAs-decoded (Err OddDigits) short r means = ReadsAs-text (Err OddDigits) r means (λ e. cc e) r.to_end
-ReadsAs-decoded (Err (BadBase64 wrong)) short r means = ReadsAs-text (Err (BadBase64 wrong)) r means (λ e. cc e) r.to_end
+ReadsAs-decoded (Err (BadCharacter at)) short r means = ReadsAs-text (Err (BadCharacter at)) r means (λ e. cc e) r.to_end
+ReadsAs-decoded (Err (BehindPadding at)) short r means = ReadsAs-text (Err (BehindPadding at)) r means (λ e. cc e) r.to_end
+ReadsAs-decoded (Err BadBase64Length) short r means = ReadsAs-text (Err BadBase64Length) r means (λ e. cc e) r.to_end
+ReadsAs-decoded (Err TrailingBits) short r means = ReadsAs-text (Err TrailingBits) r means (λ e. cc e) r.to_end
 ReadsAs-decoded (Err TooLong) short r means = absurd (short means)
 ReadsAs-decoded (Err Read) short r means = ReadsAs-text (Err Read) r tt (λ e. cc e) tt
 ReadsAs-decoded (Err Memory) short r means = ReadsAs-text (Err Memory) r tt (λ e. cc e) tt

@@ -13,10 +13,8 @@ use Rattle.key_files.specs.declared.base64_text.Alphabet.{Alphabet}
 use Rattle.key_files.specs.declared.base64_text.Alphabet.TheVariants.{Standard, UrlSafe}
 use Rattle.key_files.specs.declared.hex_text.Blanks.{Blanks}
 use Rattle.key_files.specs.declared.hex_text.Blanks.TheVariants.{Allowed, Refused}
-use Rattle.key_files.specs.declared.fault.Base64Fault.{Base64Fault}
-use Rattle.key_files.specs.declared.fault.Base64Fault.TheVariants.{Character, BehindPadding, Length, TrailingBits}
 use Rattle.key_files.specs.declared.fault.FileFault.{FileFault}
-use Rattle.key_files.specs.declared.fault.FileFault.TheVariants.{BadBase64}
+use Rattle.key_files.specs.declared.fault.FileFault.TheVariants.{BadCharacter, BehindPadding, BadBase64Length, TrailingBits}
 
 -- the characters that only section 4 has, `+` and `/`
 abbrev pub is_standard : ℕ → Bool
@@ -88,34 +86,34 @@ abbrev pub encoding_of : List ℕ → GeneralPurpose
 encoding_of text = encoding (alphabet_of text) (has_padding text)
 
 -- the fault of a text whose characters are all allowed, and which is not an encoding
-abbrev pub base64_fault_of : DecodeError → Base64Fault
+abbrev pub base64_fault_of : DecodeError → FileFault
 base64_fault_of (InvalidLastSymbol at symbol value) = TrailingBits
-base64_fault_of error = Length
+base64_fault_of error = BadBase64Length
 
 abbrev pub decoded_meaning : Result (List ℕ) DecodeError → Result (List ℕ) FileFault
 decoded_meaning (Ok bytes) = Ok bytes
-decoded_meaning (Err error) = Err (BadBase64 (base64_fault_of error))
+decoded_meaning (Err error) = Err (base64_fault_of error)
 
 -- what such a text denotes: the bytes that it encodes
 abbrev pub symbols_meaning : List ℕ → Result (List ℕ) FileFault
 symbols_meaning text = decoded_meaning (decode_of (encoding_of text) text)
 
 -- why a text denotes no bytes: the place of a character that is not allowed in it, or that follows its padding
-abbrev pub place_fault : Option ℕ → ℕ → Option ℕ → Option Base64Fault
-place_fault (Some at) before behind = Some (Character at)
+abbrev pub place_fault : Option ℕ → ℕ → Option ℕ → Option FileFault
+place_fault (Some at) before behind = Some (BadCharacter at)
 place_fault None before (Some at) = Some (BehindPadding (before + at))
 place_fault None before None = None
 
-abbrev pub misplaced : Blanks → List ℕ → Option Base64Fault
+abbrev pub misplaced : Blanks → List ℕ → Option FileFault
 misplaced blanks text =
     place_fault (first_foreign blanks text) (before_padding text) (first_no_padding blanks (drop (before_padding text) text))
 
 -- the same for a text without blanks
-abbrev pub misplaced_symbol : List ℕ → Option Base64Fault
+abbrev pub misplaced_symbol : List ℕ → Option FileFault
 misplaced_symbol text = misplaced Refused text
 
-abbrev pub placed_meaning : Option Base64Fault → List ℕ → Result (List ℕ) FileFault
-placed_meaning (Some fault) text = Err (BadBase64 fault)
+abbrev pub placed_meaning : Option FileFault → List ℕ → Result (List ℕ) FileFault
+placed_meaning (Some fault) text = Err fault
 placed_meaning None text = symbols_meaning text
 
 -- A text denotes the bytes that it encodes, in either alphabet, with its padding complete or omitted. Blanks are

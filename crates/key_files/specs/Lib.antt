@@ -1,7 +1,7 @@
 -- The definitions: the hex notation, what a file denotes, what a call that reads or writes takes, leaves and answers.
 pub mod HexText
 pub mod Base64Text
-pub mod Meaning
+pub mod FileMeaning
 pub mod Decoding
-pub mod Reading
+pub mod FileReading
 pub mod Writing

@@ -12,10 +12,10 @@ ghost use Rattle.key_files.specs.Base64Text.{output_encoding, symbol_text_meanin
 ghost use Rattle.key_files.specs.Decoding.{DecodesText, place_of};
 ghost use Rattle.key_files.specs.HexText.{is_allowed_blank};
 ghost use Rattle.key_files.specs.declared.fault.FileFault.{FileFault};
-ghost use Rattle.key_files.specs.Reading.{IsMeaning, answer_of};
+ghost use Rattle.key_files.specs.FileReading.{IsMeaning, answer_of};
 ghost use Rattle.key_files.specs.Writing.{PrintsAs};
 
-use crate::fault::{Base64Fault, FileFault};
+use crate::fault::FileFault;
 use crate::hex_text::{Blanks, is_allowed_blank, is_skipped};
 use base64::engine::GeneralPurpose;
 use base64::engine::general_purpose::{STANDARD, STANDARD_NO_PAD, URL_SAFE, URL_SAFE_NO_PAD};
@@ -33,8 +33,8 @@ pub enum Alphabet {
 
 /// Replaces `bytes` with the bytes that a base64 text without blanks denotes.
 ///
-/// Returns the first error that applies: BadBase64 with Character or BehindPadding, Memory,
-/// BadBase64 with Length or TrailingBits.
+/// Returns the first error that applies: BadCharacter or BehindPadding, Memory, BadBase64Length or
+/// TrailingBits.
 #[tactic(auto, unfolding(crate::specs::Base64Text::symbol_text_meaning))]
 pub fn decode_symbols_into(text: &[u8], bytes: &mut Vec<u8>) -> Result<(), FileFault>
     ensures meaning { DecodesText (symbol_text_meaning text.now) bytes.new.items result }
@@ -45,13 +45,13 @@ pub fn decode_symbols_into(text: &[u8], bytes: &mut Vec<u8>) -> Result<(), FileF
     ensures memory { result ≡ Err FileFault.Memory → misplaced_symbol text.now ≡ None }
 {
     if let Some(fault) = misplaced(Blanks::Refused, text) {
-        return Err(FileFault::BadBase64(fault));
+        return Err(fault);
     }
     bytes.clear();
     match encoding_of(text).decode_vec(text, bytes) {
         Ok(()) => Ok(()),
         Err(DecodeAllocError::OutOfMemory) => Err(FileFault::Memory),
-        Err(DecodeAllocError::DecodeError(error)) => Err(FileFault::BadBase64(fault_of(error))),
+        Err(DecodeAllocError::DecodeError(error)) => Err(fault_of(error)),
     }
 }
 
@@ -67,13 +67,13 @@ pub(crate) fn decode_base64<A: Allocator + Copy>(
     ensures unread { ¬ (result ≡ Err FileFault.Read) }
 {
     if let Some(fault) = misplaced(Blanks::Allowed, text) {
-        return Err(FileFault::BadBase64(fault));
+        return Err(fault);
     }
     let kept = kept(alloc, text)?;
     match encoding_of(&kept).decode(alloc, &kept) {
         Ok(bytes) => Ok(bytes),
         Err(DecodeAllocError::OutOfMemory) => Err(FileFault::Memory),
-        Err(DecodeAllocError::DecodeError(error)) => Err(FileFault::BadBase64(fault_of(error))),
+        Err(DecodeAllocError::DecodeError(error)) => Err(fault_of(error)),
     }
 }
 
@@ -128,30 +128,29 @@ fn output_encoding(alphabet: Alphabet) -> GeneralPurpose
 }
 
 // Returns the fault of a text whose characters are all allowed.
-fn fault_of(error: DecodeError) -> Base64Fault
+fn fault_of(error: DecodeError) -> FileFault
     ensures fault { result ≡ base64_fault_of error }
-    ensures placeless { place_of (FileFault.BadBase64 result) ≡ 0 }
+    ensures placeless { place_of result ≡ 0 }
 {
     match error {
-        DecodeError::InvalidLastSymbol { .. } => Base64Fault::TrailingBits,
-        _ => Base64Fault::Length,
+        DecodeError::InvalidLastSymbol { .. } => FileFault::TrailingBits,
+        _ => FileFault::BadBase64Length,
     }
 }
 
 // Returns the first character that is not allowed at its place.
-fn misplaced(blanks: Blanks, text: &[u8]) -> Option<Base64Fault>
+fn misplaced(blanks: Blanks, text: &[u8]) -> Option<FileFault>
     ensures first { result ≡ misplaced blanks text.now }
-    ensures within { IfSome result (λ fault. place_of (FileFault.BadBase64 fault)
-        ≤ length text.now) }
+    ensures within { IfSome result (λ fault. place_of fault ≤ length text.now) }
 {
     if let Some(at) = first_foreign(blanks, text) {
-        return Some(Base64Fault::Character { at });
+        return Some(FileFault::BadCharacter { at });
     }
     let before = before_padding(text);
     let Some(at) = first_no_padding(blanks, &text[before..]) else {
         return None;
     };
-    Some(Base64Fault::BehindPadding { at: before + at })
+    Some(FileFault::BehindPadding { at: before + at })
 }
 
 fn first_foreign(blanks: Blanks, text: &[u8]) -> Option<usize>

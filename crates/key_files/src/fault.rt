@@ -23,30 +23,22 @@ pub enum FileFault {
     /// The number of hex digits is odd.
     #[error("odd number of hex digits")]
     OddDigits,
-    /// The text is not base64.
-    #[error("{0}")]
-    BadBase64(Base64Fault),
+    /// The byte at offset `at` is the first that is not a character of the text's base64 alphabet
+    /// (RFC 4648, sections 4 and 5), not padding, and not an allowed space, tab, CR or LF.
+    #[error("no base64 character at byte {at}")]
+    BadCharacter { at: usize },
+    /// The byte at offset `at` is the first byte after the base64 padding that is not padding.
+    #[error("base64 goes on after its padding at byte {at}")]
+    BehindPadding { at: usize },
+    /// The number of base64 characters, with the padding, does not encode whole bytes.
+    #[error("length is not that of base64")]
+    BadBase64Length,
+    /// The last base64 character has non-zero bits after the last byte.
+    #[error("last base64 character has bits of no byte")]
+    TrailingBits,
     /// An allocation failed.
     #[error("out of memory")]
     Memory,
-}
-
-/// Why a text is not base64 (RFC 4648, sections 4 and 5). Offsets count all bytes, from 0.
-#[derive(Clone, Copy, Debug, PartialEq, Eq, Error)]
-pub enum Base64Fault {
-    /// The byte at `at` is the first that is not a character of the text's alphabet, not padding,
-    /// and not an allowed space, tab, CR or LF.
-    #[error("no base64 character at byte {at}")]
-    Character { at: usize },
-    /// The byte at `at` is the first byte after the padding that is not padding.
-    #[error("base64 goes on after its padding at byte {at}")]
-    BehindPadding { at: usize },
-    /// The number of characters, with the padding, does not encode whole bytes.
-    #[error("length is not that of base64")]
-    Length,
-    /// The last character has non-zero bits after the last byte.
-    #[error("last base64 character has bits of no byte")]
-    TrailingBits,
 }
 
 /// A writer that failed, or took none of the remaining bytes.

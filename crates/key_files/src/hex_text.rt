@@ -4,7 +4,7 @@ ghost use Rattle.std.specs.Prelude.{◌≡◌, ◌≢◌, ◌<◌, ◌≤◌, �
 ghost use Rattle.std.specs.Prelude.{Err, Ok, true};
 ghost use Rattle.key_files.specs.Decoding.{Decodes, DecodesHex, place_of};
 ghost use Rattle.key_files.specs.HexText.{digits_of, first_bad, is_allowed_blank, is_skipped};
-ghost use Rattle.key_files.specs.Meaning.{digit_text_meaning, hex_meaning};
+ghost use Rattle.key_files.specs.FileMeaning.{digit_text_meaning, hex_meaning};
 ghost use Rattle.key_files.specs.declared.fault.FileFault.{FileFault};
 
 use crate::digit::{byte_of, is_hex_digit};
@@ -22,7 +22,7 @@ pub(crate) enum Blanks {
 /// anywhere.
 ///
 /// Returns the first error that applies: BadDigit, OddDigits, Memory. The first two take no memory.
-#[tactic(auto, unfolding(crate::specs::Meaning::hex_meaning))]
+#[tactic(auto, unfolding(crate::specs::FileMeaning::hex_meaning))]
 pub fn decode_hex<A: Allocator + Copy>(alloc: A, text: &[u8]) -> Result<Vec<u8, A>, FileFault>
     ensures { DecodesHex text.now result }
 {
@@ -45,7 +45,7 @@ pub fn decode_hex<A: Allocator + Copy>(alloc: A, text: &[u8]) -> Result<Vec<u8, 
 /// `bytes` has.
 ///
 /// Returns the first error that applies: BadDigit, OddDigits, Memory.
-#[tactic(auto, unfolding(crate::specs::Meaning::digit_text_meaning))]
+#[tactic(auto, unfolding(crate::specs::FileMeaning::digit_text_meaning))]
 pub fn decode_digits_into<A: Allocator>(
     text: &[u8],
     bytes: &mut Vec<u8, A>,

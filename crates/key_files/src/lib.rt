@@ -11,7 +11,7 @@ mod read;
 mod write;
 
 pub use base64_text::{Alphabet, decode_symbols_into, print_base64};
-pub use fault::{Base64Fault, FileFault, HexWriteFault, WriteFault};
+pub use fault::{FileFault, HexWriteFault, WriteFault};
 pub use hex_text::{decode_digits_into, decode_hex};
 pub use read::{MAX_FILE, read_base64, read_hex, read_raw};
 pub use write::{print_hex, write_hex, write_raw};

@@ -3,8 +3,8 @@
 ghost use Rattle.std.specs.Prelude.{◌≡◌, ◌<◌, ◌≤◌, length, take, IfOk, IfErr};
 ghost use Rattle.std.specs.Io.KnownBytes.{Consumes, IsAtEnd, Keeps};
 ghost use Rattle.key_files.specs.Base64Text.{FilesEncode, base64_meaning};
-ghost use Rattle.key_files.specs.Meaning.{raw_meaning, hex_meaning};
-ghost use Rattle.key_files.specs.Reading.{ReadsAs, answer_of};
+ghost use Rattle.key_files.specs.FileMeaning.{raw_meaning, hex_meaning};
+ghost use Rattle.key_files.specs.FileReading.{ReadsAs, answer_of};
 
 use crate::base64_text::decode_base64;
 use crate::fault::FileFault;

@@ -1,7 +1,7 @@
 //! Files and texts whose bytes are known, and what the faults say.
 
 ghost use Rattle.std.specs.Prelude.{◌≡◌, [], ◌∷◌, Ok, Err, codes};
-ghost use Rattle.key_files.specs.Meaning.{hex_meaning};
+ghost use Rattle.key_files.specs.FileMeaning.{hex_meaning};
 
 use super::*;
 use std::alloc::{AllocError, Allocator, Global};
@@ -49,10 +49,10 @@ fn filled(alloc: Global, content: [u8; 3], len: usize) -> Result<Vec<u8>, AllocE
 fn says_each_fault(rt: HostRuntime) -> Result<(), Fail> {
     let lines = format!(in rt.alloc();
         "{}; {}; {}; {}; {}; {}; {}; {}; {}; {}; {}; {}",
-        FileFault::BadBase64(Base64Fault::Character { at: 7 }),
-        Base64Fault::BehindPadding { at: 9 },
-        Base64Fault::Length,
-        Base64Fault::TrailingBits,
+        FileFault::BadCharacter { at: 7 },
+        FileFault::BehindPadding { at: 9 },
+        FileFault::BadBase64Length,
+        FileFault::TrailingBits,
         FileFault::Read,
         FileFault::TooLong,
         FileFault::BadDigit { at: 4_194_303 },
@@ -73,7 +73,7 @@ fn says_each_fault(rt: HostRuntime) -> Result<(), Fail> {
 }
 
 // The definition itself, computed on texts whose meaning is known.
-#[tactic(auto, unfolding(crate::specs::Meaning::hex_meaning, crate::specs::HexText::paired))]
+#[tactic(auto, unfolding(crate::specs::FileMeaning::hex_meaning, crate::specs::HexText::paired))]
 fn known_meanings()
     ensures two { hex_meaning (codes "0aFF") ≡ Ok (10 ∷ 255 ∷ []) }
     ensures spaced { hex_meaning (codes " 0 A\n") ≡ Ok (10 ∷ []) }

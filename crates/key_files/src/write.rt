@@ -3,7 +3,7 @@
 ghost use Rattle.std.specs.Prelude.{◌≡◌, ◌<◌, length, take, OnOk, IfErr, Ok};
 ghost use Rattle.std.specs.Io.KnownBytes.{Appends};
 ghost use Rattle.key_files.specs.HexText.{hex_line};
-ghost use Rattle.key_files.specs.Meaning.{hex_meaning};
+ghost use Rattle.key_files.specs.FileMeaning.{hex_meaning};
 ghost use Rattle.key_files.specs.Writing.{PrintsAs, WritesHex};
 
 use crate::fault::{HexWriteFault, WriteFault};

@@ -1,14 +1,16 @@
 -- What a line denotes, from what its text denotes, and the answer if it denotes no bytes.
-use Rattle.std.proofs.Common.{◌≡◌, ℕ, ◌≤◌, List, length, Result, Err, inl, inr, refl, ap, ◌∙◌}
+use Rattle.std.proofs.Common.{◌≡◌, ℕ, ◌≤◌, List, length, Result, Ok, Err, inl, inr, refl, ap, ◌∙◌}
 use Rattle.std.specs.List.{prefix_len}
 use Rattle.key_files.specs.Decoding.{DecodesText, fault_behind}
 use Rattle.key_files.proofs.Denoting.{file_meaning-within}
-use Rattle.key_files.specs.declared.fault.Base64Fault.TheVariants.{Character, BehindPadding, Length, TrailingBits}
 use Rattle.key_files.specs.declared.fault.FileFault.{FileFault}
-use Rattle.key_files.specs.declared.fault.FileFault.TheVariants.{Read, TooLong, BadDigit, OddDigits, BadBase64, Memory}
-use Rattle.key_lines.specs.Answers.{Answer, line_fault_of}
-use Rattle.key_lines.specs.Meaning.{blank_ended_meaning, is_blank, line_limit, line_meaning, meaning_behind, text_meaning, text_of}
+use Rattle.key_files.specs.declared.fault.FileFault.TheVariants.{Read, TooLong, BadDigit, OddDigits, BadCharacter, BehindPadding, BadBase64Length, TrailingBits, Memory}
+use Rattle.key_lines.specs.LineAnswers.{Answer, IsAnswered, answered, line_fault_of}
+use Rattle.key_lines.specs.LineMeaning.{blank_ended_meaning, is_blank, line_limit, line_meaning, meaning_behind, text_meaning, text_of}
 use Rattle.key_lines.specs.Running.{MakesAnswer}
+use Rattle.key_lines.specs.declared.fault.LineFault.{LineFault}
+use Rattle.key_lines.specs.declared.fault.LineFault.TheVariants as line_faults
+use Rattle.key_lines.specs.declared.job.Note.{Note}
 use Rattle.key_lines.specs.declared.text.TextNotation.{TextNotation}
 
 -- a line denotes what its text does
@@ -24,10 +26,10 @@ DecodesText-line notation line bytes Read d = d
 DecodesText-line notation line bytes TooLong d = d
 DecodesText-line notation line bytes (BadDigit at) d = blank_ended_meaning-is notation line _ d
 DecodesText-line notation line bytes OddDigits d = blank_ended_meaning-is notation line _ d
-DecodesText-line notation line bytes (BadBase64 (Character at)) d = blank_ended_meaning-is notation line _ d
-DecodesText-line notation line bytes (BadBase64 (BehindPadding at)) d = blank_ended_meaning-is notation line _ d
-DecodesText-line notation line bytes (BadBase64 Length) d = blank_ended_meaning-is notation line _ d
-DecodesText-line notation line bytes (BadBase64 TrailingBits) d = blank_ended_meaning-is notation line _ d
+DecodesText-line notation line bytes (BadCharacter at) d = blank_ended_meaning-is notation line _ d
+DecodesText-line notation line bytes (BehindPadding at) d = blank_ended_meaning-is notation line _ d
+DecodesText-line notation line bytes BadBase64Length d = blank_ended_meaning-is notation line _ d
+DecodesText-line notation line bytes TrailingBits d = blank_ended_meaning-is notation line _ d
 DecodesText-line notation line bytes Memory d = tt
 
 -- a line within the limit
@@ -44,4 +46,17 @@ MakesAnswer-input notation answers line bytes Read fits d = absurd d
 MakesAnswer-input notation answers line bytes TooLong fits d = absurd d
 MakesAnswer-input notation answers line bytes (BadDigit at) fits d = inr (refl, line_meaning-within notation line fits ∙ d)
 MakesAnswer-input notation answers line bytes OddDigits fits d = inr (refl, line_meaning-within notation line fits ∙ d)
-MakesAnswer-input notation answers line bytes (BadBase64 wrong) fits d = inr (refl, line_meaning-within notation line fits ∙ d)
+MakesAnswer-input notation answers line bytes (BadCharacter at) fits d = inr (refl, line_meaning-within notation line fits ∙ d)
+MakesAnswer-input notation answers line bytes (BehindPadding at) fits d = inr (refl, line_meaning-within notation line fits ∙ d)
+MakesAnswer-input notation answers line bytes BadBase64Length fits d = inr (refl, line_meaning-within notation line fits ∙ d)
+MakesAnswer-input notation answers line bytes TrailingBits fits d = inr (refl, line_meaning-within notation line fits ∙ d)
+
+-- the answer of a job to the bytes that a line denotes
+pub MakesAnswer-job : {R : Type 0} (notation : TextNotation) (answers : List ℕ → Result Answer R → Type 0) (lacks : Type 0)
+    (line bytes output : List ℕ) (result : Result Note (LineFault R)) → line_meaning notation line ≡ Ok bytes
+    → IsAnswered (answers bytes) lacks output result → MakesAnswer notation answers line (answered output result)
+MakesAnswer-job notation answers lacks line bytes output (Ok _) is h = (bytes, is, h)
+MakesAnswer-job notation answers lacks line bytes output (Err (line_faults.Refused refusal)) is h = inr (refl, (bytes, is, h))
+MakesAnswer-job notation answers lacks line bytes output (Err line_faults.Memory) is h = inl refl
+MakesAnswer-job notation answers lacks line bytes output (Err (line_faults.Input fault)) is h = absurd h
+MakesAnswer-job notation answers lacks line bytes output (Err line_faults.TooManyLines) is h = absurd h

@@ -3,9 +3,9 @@ use Rattle.std.proofs.Common.{◌≡◌, ℕ, List, [], ◌∷◌, ◌++◌, map
 use Rattle.std.specs.Prelude.{◌⊎◌}
 use Rattle.std.specs.Io.KnownBytes.{Consumes}
 use Rattle.key_files.specs.Writing.{IsLine}
-use Rattle.key_lines.specs.Answers.{Answer, AreLines, AreOneEach, output_of}
+use Rattle.key_lines.specs.LineAnswers.{Answer, AreLines, AreOneEach, output_of}
 use Rattle.key_lines.specs.Lines.{lines_of, EndsLine}
-use Rattle.key_lines.specs.Reading.{IsAllOf}
+use Rattle.key_lines.specs.LineReading.{IsAllOf}
 use Rattle.key_lines.specs.Running.{AreResults, Counts, RunsLines, WritesAnswers, written_for}
 use Rattle.key_lines.specs.declared.fault.LineFault.{LineFault}
 use Rattle.key_lines.specs.declared.fault.RefusedLine.{RefusedLine}

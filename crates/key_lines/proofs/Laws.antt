@@ -13,7 +13,7 @@ use Rattle.key_files.proofs.Base64Back.{IsBase64Of-output, base64_meaning-accept
 use Rattle.key_files.proofs.Lists.{IsBytes-drop, IsBytes-take, all-append, all-both, drop_one, no_lf}
 use Rattle.key_files.proofs.ReadBack.{all-lower, hex_meaning-of_text}
 use Rattle.key_files.proofs.Strict.{digit_text_meaning-lower}
-use Rattle.key_lines.specs.Meaning.{LinesAreFiles, PrintsBack, blank_ended_meaning, is_blank, meaning_behind, text_meaning, text_of}
+use Rattle.key_lines.specs.LineMeaning.{LinesAreFiles, PrintsBack, blank_ended_meaning, is_blank, meaning_behind, text_meaning, text_of}
 use Rattle.key_lines.specs.declared.text.TextNotation.{TextNotation}
 use Rattle.key_lines.specs.declared.text.TextNotation.TheVariants.{Hex, Base64, Base64Url}
 

@@ -8,13 +8,13 @@ use Rattle.std.proofs.lemmas.List.{map-append}
 use Rattle.std.proofs.lemmas.List.Folds.{concat-append}
 use Rattle.key_files.specs.declared.fault.FileFault.{FileFault}
 use Rattle.key_files.specs.declared.fault.FileFault.TheVariants as files
-use Rattle.key_lines.specs.Answers.{Answer, Logs, answered, line_fault_of, output_of, refusal_of, refusals_of}
+use Rattle.key_lines.specs.LineAnswers.{Answer, Logs, answered, line_fault_of, output_of, refusal_of, refusals_of}
 use Rattle.key_lines.specs.Block.{Sends}
 use Rattle.key_lines.specs.Lines.{lines_of, EndsWithLf, EndsLine}
-use Rattle.key_lines.specs.Meaning.{line_limit}
-use Rattle.key_lines.specs.Reading.{IsAllOf, ReadsLine, TakesLine}
+use Rattle.key_lines.specs.LineMeaning.{line_limit}
+use Rattle.key_lines.specs.LineReading.{IsAllOf, ReadsLine, TakesLine}
 use Rattle.key_lines.specs.Running.{AreResults, FindsLine, LineAnswer, LineResult, MakesOutput, RunsLines, StepEnds, Steps, StepsLine, StopsFor, is_own, written_for}
-use Rattle.key_lines.specs.Summary.{HasRoom, counted, counted_all}
+use Rattle.key_lines.specs.Summary.{CanAddLine, counted, counted_all}
 use Rattle.key_lines.specs.declared.line.Line.{Line}
 use Rattle.key_lines.specs.declared.line.Line.TheVariants.{Ended, Last, Missing}
 use Rattle.key_lines.specs.declared.fault.LineFault.{LineFault}
@@ -22,7 +22,7 @@ use Rattle.key_lines.specs.declared.fault.LineFault.TheVariants.{Input, Refused,
 use Rattle.key_lines.specs.declared.fault.RefusedLine.{RefusedLine}
 use Rattle.key_lines.specs.declared.fault.RunFault.{RunFault}
 use Rattle.key_lines.specs.declared.fault.RunFault.TheVariants.{AtLine, Write}
-use Rattle.key_lines.specs.declared.job.Mark.{Mark}
+use Rattle.key_lines.specs.declared.job.Note.{Note}
 use Rattle.key_lines.specs.declared.run.RunOptions.{RunOptions}
 use Rattle.key_lines.specs.declared.summary.RunSummary.{RunSummary}
 use Rattle.key_lines.proofs.Blocks.{Sends-trans}
@@ -48,9 +48,9 @@ module _ {R : Type 0} (options : RunOptions) (answers : List ℕ → Result Answ
 
   -- a line that was answered, or skipped
   pub FindsLine-line : (a b o : Option (List ℕ)) (log log' : Option (List (RefusedLine R))) (block block' line : List ℕ) (s s' : RunSummary R)
-      (output : List ℕ) (made : Result Mark (LineFault R)) (met : Line) → met ≢ Missing → ReadsLine line_limit a b line (Ok met)
+      (output : List ℕ) (made : Result Note (LineFault R)) (met : Line) → met ≢ Missing → ReadsLine line_limit a b line (Ok met)
       → LineResult options answers line (answered output made) → output ≡ output_of (answered output made) → block' ≡ block ++ output
-      → ((text : List ℕ) → s' ≡ counted s (answered text made)) → HasRoom s'
+      → ((text : List ℕ) → s' ≡ counted s (answered text made)) → CanAddLine s'
       → ((text : List ℕ) → Logs log log' (refusal_of (s.lines + 1) (answered text made)))
       → FindsLine options answers a b o o log log' block block' s s' (Ok met)
   FindsLine-line a b o log log' block block' line s s' output made met some r h is put counts room logs =
@@ -74,7 +74,7 @@ module _ {R : Type 0} (options : RunOptions) (answers : List ℕ → Result Answ
         ends = t.1;
       }
 
-  Steps-none : (a o : Option (List ℕ)) (log : Option (List (RefusedLine R))) (block block' : List ℕ) (s : RunSummary R) → block' ≡ block → HasRoom s
+  Steps-none : (a o : Option (List ℕ)) (log : Option (List (RefusedLine R))) (block block' : List ℕ) (s : RunSummary R) → block' ≡ block → CanAddLine s
       → Steps options answers a a o o log log block block' s s
   Steps-none a o log block block' s same room = record {
     lines = record {
@@ -92,7 +92,7 @@ module _ {R : Type 0} (options : RunOptions) (answers : List ℕ → Result Answ
 
   -- no line, or one at which the run stops
   pub FindsLine-none : {found : Result Line (LineFault R)} {a c : Option (List ℕ)} (o : Option (List ℕ)) (log : Option (List (RefusedLine R)))
-      (block block' : List ℕ) (s : RunSummary R) → block' ≡ block → HasRoom s → StepEnds options answers [] a a c found
+      (block block' : List ℕ) (s : RunSummary R) → block' ≡ block → CanAddLine s → StepEnds options answers [] a a c found
       → FindsLine options answers a c o o log log block block' s s found
   unfolding Steps-none
   FindsLine-none {a = a} o log block block' s same room ends = record { left = a; steps = Steps-none a o log block block' s same room; ends = ends }
@@ -104,7 +104,10 @@ module _ {R : Type 0} (options : RunOptions) (answers : List ℕ → Result Answ
   stops_unread a c line files.Memory r = (line, r.0.stands_after)
   stops_unread a c line (files.BadDigit at) r = absurd r
   stops_unread a c line files.OddDigits r = absurd r
-  stops_unread a c line (files.BadBase64 wrong) r = absurd r
+  stops_unread a c line (files.BadCharacter at) r = absurd r
+  stops_unread a c line (files.BehindPadding at) r = absurd r
+  stops_unread a c line files.BadBase64Length r = absurd r
+  stops_unread a c line files.TrailingBits r = absurd r
 
   pub stops_refused : (a c : Option (List ℕ)) (line shown : List ℕ) (met : Line) (fault : LineFault R) → met ≢ Missing → ReadsLine line_limit a c line (Ok met)
       → shown ≡ line → (fault ≡ Memory) ⊎ ((options.keep_going ≡ false) × (is_own fault ≡ true) × LineAnswer options.notation answers shown (Err fault))
@@ -120,7 +123,10 @@ module _ {R : Type 0} (options : RunOptions) (answers : List ℕ → Result Answ
       at (Refused refusal) (inr m) = (shown, t, m.2, m.0)
       at (Input (files.BadDigit place)) (inr m) = (shown, t, m.2, m.0)
       at (Input files.OddDigits) (inr m) = (shown, t, m.2, m.0)
-      at (Input (files.BadBase64 wrong)) (inr m) = (shown, t, m.2, m.0)
+      at (Input (files.BadCharacter place)) (inr m) = (shown, t, m.2, m.0)
+      at (Input (files.BehindPadding place)) (inr m) = (shown, t, m.2, m.0)
+      at (Input files.BadBase64Length) (inr m) = (shown, t, m.2, m.0)
+      at (Input files.TrailingBits) (inr m) = (shown, t, m.2, m.0)
       at (Input files.Read) (inr m) = cc m.1
       at (Input files.TooLong) (inr m) = cc m.1
       at (Input files.Memory) (inr m) = cc m.1
@@ -198,7 +204,7 @@ module _ {R : Type 0} (options : RunOptions) (answers : List ℕ → Result Answ
   -- ---- a run
 
   abbrev none : RunSummary R
-  none = record { lines = 0; marked = 0; refused = 0; first_refused = None }
+  none = record { lines = 0; noted = 0; refused = 0; first_refused = None }
 
   -- lines were answered, and what comes next begins a line
   pub record Run (a b o p : Option (List ℕ)) (l m : Option (List (RefusedLine R))) (block : List ℕ) (s : RunSummary R) : Type 0 where
@@ -208,7 +214,7 @@ module _ {R : Type 0} (options : RunOptions) (answers : List ℕ → Result Answ
   pub Run-none : (a o : Option (List ℕ)) (log : Option (List (RefusedLine R))) (block : List ℕ) → block ≡ [] → Run a a o o log log block none
   unfolding Steps-none
   Run-none a o log block empty = record {
-    steps = Steps-none a o log [] block none empty (record { lines = omega arith; marked = omega arith; refused = omega arith });
+    steps = Steps-none a o log [] block none empty (record { lines = omega arith; noted = omega arith; refused = omega arith });
     ends = inl refl;
   }
 
@@ -248,7 +254,10 @@ module _ {R : Type 0} (options : RunOptions) (answers : List ℕ → Result Answ
   next_of (Err (Input files.Memory)) taken a b c e = (e.1.taken, e.1.stands_after)
   next_of (Err (Input (files.BadDigit at))) taken a b c e = (e.1.taken, e.1.stands_after)
   next_of (Err (Input files.OddDigits)) taken a b c e = (e.1.taken, e.1.stands_after)
-  next_of (Err (Input (files.BadBase64 wrong))) taken a b c e = (e.1.taken, e.1.stands_after)
+  next_of (Err (Input (files.BadCharacter at))) taken a b c e = (e.1.taken, e.1.stands_after)
+  next_of (Err (Input (files.BehindPadding at))) taken a b c e = (e.1.taken, e.1.stands_after)
+  next_of (Err (Input files.BadBase64Length)) taken a b c e = (e.1.taken, e.1.stands_after)
+  next_of (Err (Input files.TrailingBits)) taken a b c e = (e.1.taken, e.1.stands_after)
   next_of (Err (Refused refusal)) taken a b c e = (e.1.taken, e.1.stands_after)
   next_of (Err Memory) taken a b c e = e
   next_of (Err TooManyLines) taken a b c e = ([], subst (λ o. Consumes b o []) (sym e) (Consumes-nil b))
@@ -318,7 +327,10 @@ line_fault-read files.TooLong e = cc e
 line_fault-read files.Memory e = cc e
 line_fault-read (files.BadDigit at) e = cc e
 line_fault-read files.OddDigits e = cc e
-line_fault-read (files.BadBase64 wrong) e = cc e
+line_fault-read (files.BadCharacter at) e = cc e
+line_fault-read (files.BehindPadding at) e = cc e
+line_fault-read files.BadBase64Length e = cc e
+line_fault-read files.TrailingBits e = cc e
 
 pub line_fault-counted : {R : Type 0} (fault : FileFault) → (let made : LineFault R = line_fault_of fault in made ≢ TooManyLines)
 line_fault-counted files.Read e = cc e
@@ -326,7 +338,10 @@ line_fault-counted files.TooLong e = cc e
 line_fault-counted files.Memory e = cc e
 line_fault-counted (files.BadDigit at) e = cc e
 line_fault-counted files.OddDigits e = cc e
-line_fault-counted (files.BadBase64 wrong) e = cc e
+line_fault-counted (files.BadCharacter at) e = cc e
+line_fault-counted (files.BehindPadding at) e = cc e
+line_fault-counted files.BadBase64Length e = cc e
+line_fault-counted files.TrailingBits e = cc e
 
 -- a line at which a run stops is one line
 pub same_fault : {R T : Type 0} (a b : RefusedLine R) → (let stop : Result T (RunFault R) = Err (AtLine a) in stop ≡ Err (AtLine b)) → a.fault ≡ b.fault

@@ -11,7 +11,7 @@ use Rattle.std.proofs.lemmas.Bool.Decides.{nat_tests}
 use Rattle.std.proofs.lemmas.List.{length-take, take-take}
 use Rattle.key_files.specs.declared.fault.FileFault.{FileFault}
 use Rattle.key_files.specs.declared.fault.FileFault.TheVariants.{Memory}
-use Rattle.key_lines.specs.Reading.{IsAllOf, MovesPart}
+use Rattle.key_lines.specs.LineReading.{IsAllOf, MovesPart}
 use Rattle.key_lines.specs.declared.line.Part.{Part}
 use Rattle.key_lines.proofs.Takings.{length-nil}
 

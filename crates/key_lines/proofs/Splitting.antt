@@ -2,7 +2,7 @@
 use Rattle.std.proofs.Common.{◌≡◌, ◌≢◌, ℕ, ◌==◌, List, [], ◌∷◌, ◌++◌, cond, true, false, Bool, inl, inr, refl, sym, ap, ◌∙◌, ne_eqb, append_assoc}
 use Rattle.std.proofs.lemmas.List.Elements.{All-head, All-tail}
 use Rattle.key_lines.specs.Lines.{lines_of, before_first, EndsWithLf, EndsLine}
-use Rattle.key_lines.specs.Reading.{HasNoLf}
+use Rattle.key_lines.specs.LineReading.{HasNoLf}
 
 -- a line that an LF ends is the first
 pub lines_of-ended : (line rest : List ℕ) → HasNoLf line → lines_of (line ++ 10 ∷ rest) ≡ line ∷ lines_of rest

@@ -1,6 +1,6 @@
 -- The summary of a run, as lines are added to it, and the log.
 use Rattle.std.proofs.Common.{◌≡◌, ℕ, ◌+◌, List, [], ◌∷◌, ◌++◌, length, Option, None, Some, Result, Ok, Err, refl, sym, ap, ◌∙◌, arith, append_assoc, append-nil}
-use Rattle.key_lines.specs.Answers.{Answer, Logs, marks_of, refusal_of, refusals_of}
+use Rattle.key_lines.specs.LineAnswers.{Answer, Logs, notes_of, refusal_of, refusals_of}
 use Rattle.key_lines.specs.Summary.{Summarizes, counted, counted_all, first_of, first_or}
 use Rattle.key_lines.specs.declared.fault.LineFault.{LineFault}
 use Rattle.key_lines.specs.declared.fault.RefusedLine.{RefusedLine}
@@ -47,27 +47,27 @@ first_of_both-cons (Some y) x xs = refl
 -- what a summary counts, and these lines
 pub record Counted {R : Type 0} (s s' : RunSummary R) (results : List (Result Answer (LineFault R))) : Type 0 where
   pub lines : s'.lines ≡ s.lines + length results
-  pub marked : s'.marked ≡ s.marked + marks_of results
+  pub noted : s'.noted ≡ s.noted + notes_of results
   pub refused : s'.refused ≡ s.refused + length (refusals_of (s.lines + 1) results)
   pub first_refused : s'.first_refused ≡ first_of_both s.first_refused (refusals_of (s.lines + 1) results)
 
 pub counts_all : {R : Type 0} (s : RunSummary R) (results : List (Result Answer (LineFault R))) → Counted s (counted_all s results) results
-counts_all s [] = record { lines = omega arith; marked = omega arith; refused = omega arith; first_refused = first_of_both-nil s.first_refused }
+counts_all s [] = record { lines = omega arith; noted = omega arith; refused = omega arith; first_refused = first_of_both-nil s.first_refused }
 counts_all s (Ok answer ∷ rs) =
     let h = counts_all (counted s (Ok answer)) rs in
-    record { lines = omega (arith, h.lines); marked = omega (arith, h.marked); refused = h.refused; first_refused = h.first_refused }
+    record { lines = omega (arith, h.lines); noted = omega (arith, h.noted); refused = h.refused; first_refused = h.first_refused }
 counts_all s (Err fault ∷ rs) =
     let h = counts_all (counted s (Err fault)) rs in
     record {
       lines = omega (arith, h.lines);
-      marked = h.marked;
+      noted = h.noted;
       refused = omega (arith, h.refused);
       first_refused = h.first_refused ∙ first_of_both-cons s.first_refused (record { line = s.lines + 1; fault = fault }) (refusals_of (s.lines + 1 + 1) rs);
     }
 
 -- the summary of a whole run
 pub summarizes_all : {R : Type 0} (results : List (Result Answer (LineFault R))) (s : RunSummary R)
-    → s ≡ counted_all (record { lines = 0; marked = 0; refused = 0; first_refused = None }) results → Summarizes results s
+    → s ≡ counted_all (record { lines = 0; noted = 0; refused = 0; first_refused = None }) results → Summarizes results s
 summarizes_all results s is =
-    let h = counts_all (record { lines = 0; marked = 0; refused = 0; first_refused = None }) results in
-    rw is (record { lines = omega (arith, h.lines); marked = omega (arith, h.marked); refused = omega (arith, h.refused); first_refused = h.first_refused })
+    let h = counts_all (record { lines = 0; noted = 0; refused = 0; first_refused = None }) results in
+    rw is (record { lines = omega (arith, h.lines); noted = omega (arith, h.noted); refused = omega (arith, h.refused); first_refused = h.first_refused })

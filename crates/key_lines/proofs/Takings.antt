@@ -4,8 +4,8 @@ use Rattle.std.proofs.lemmas.List.Elements.{All-append}
 use Rattle.std.specs.Io.KnownBytes.{Consumes}
 use Rattle.std.proofs.KnownBytes.{Consumes-trans}
 use Rattle.key_files.specs.declared.fault.FileFault.{FileFault}
-use Rattle.key_files.specs.declared.fault.FileFault.TheVariants.{Read, TooLong, BadDigit, OddDigits, BadBase64, Memory}
-use Rattle.key_lines.specs.Reading.{HasNoLf, IsAllOf, TakesPart, ReadsLine, MovesPart}
+use Rattle.key_files.specs.declared.fault.FileFault.TheVariants.{Read, TooLong, BadDigit, OddDigits, BadCharacter, BehindPadding, BadBase64Length, TrailingBits, Memory}
+use Rattle.key_lines.specs.LineReading.{HasNoLf, IsAllOf, TakesPart, ReadsLine, MovesPart}
 use Rattle.key_lines.specs.declared.line.Line.{Line}
 use Rattle.key_lines.specs.declared.line.Line.TheVariants as lines
 use Rattle.key_lines.specs.declared.line.Part.TheVariants.{Ended, Missing}
@@ -37,7 +37,10 @@ ReadsLine-failed {limit} {a} {b} c {before} after (Err f) fault is t fits m = su
     at Memory w = (TakesPart-same t w.0 w.1, subst (λ l. length l ≤ limit) (sym w.1) fits)
     at (BadDigit n) w = w
     at OddDigits w = w
-    at (BadBase64 wrong) w = w
+    at (BadCharacter n) w = w
+    at (BehindPadding n) w = w
+    at BadBase64Length w = w
+    at TrailingBits w = w
 
 -- the LF that ends the line
 pub ReadsLine-ended : {limit : ℕ} {a b c : Option (List ℕ)} {before after : List ℕ} → TakesPart a b before

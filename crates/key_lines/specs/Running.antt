@@ -3,14 +3,14 @@
 use Rattle.std.specs.Prelude.{◌≡◌, ◌≢◌, ℕ, ◌+◌, ◌<◌, ◌⊎◌, ⊤, Bool, true, false, List, [], ◌∷◌, ◌++◌, length, map, Option, Result, Ok, Err}
 use Rattle.std.specs.List.{concat}
 use Rattle.std.specs.Io.KnownBytes.{Consumes}
-use Rattle.key_lines.specs.Answers.{Answer, AreLines, AreOneEach, Logs, answered, output_of, refusals_of}
+use Rattle.key_lines.specs.LineAnswers.{Answer, AreLines, AreOneEach, Logs, answered, output_of, refusals_of}
 use Rattle.key_lines.specs.Block.{Sends}
 use Rattle.key_files.specs.declared.fault.FileFault.TheVariants as files
 use Rattle.key_lines.specs.Lines.{lines_of, EndsWithLf, EndsLine}
-use Rattle.key_lines.specs.Meaning.{line_limit, line_meaning}
-use Rattle.key_lines.specs.Reading.{IsAllOf, TakesLine, TakesPart}
-use Rattle.key_lines.specs.Summary.{HasRoom, Summarizes, counted_all}
-use Rattle.key_lines.specs.declared.job.Mark.{Mark}
+use Rattle.key_lines.specs.LineMeaning.{line_limit, line_meaning}
+use Rattle.key_lines.specs.LineReading.{IsAllOf, TakesLine, TakesPart}
+use Rattle.key_lines.specs.Summary.{CanAddLine, Summarizes, counted_all}
+use Rattle.key_lines.specs.declared.job.Note.{Note}
 use Rattle.key_lines.specs.declared.text.TextNotation.{TextNotation}
 use Rattle.key_lines.specs.declared.line.Line.{Line}
 use Rattle.key_lines.specs.declared.line.Line.TheVariants.{Ended}
@@ -34,7 +34,10 @@ abbrev pub is_own : {R : Type 0} → LineFault R → Bool
 is_own (Refused refusal) = true
 is_own (Input (files.BadDigit at)) = true
 is_own (Input files.OddDigits) = true
-is_own (Input (files.BadBase64 wrong)) = true
+is_own (Input (files.BadCharacter at)) = true
+is_own (Input (files.BehindPadding at)) = true
+is_own (Input files.BadBase64Length) = true
+is_own (Input files.TrailingBits) = true
 is_own (Input files.Read) = false
 is_own (Input files.TooLong) = false
 is_own (Input files.Memory) = false
@@ -72,7 +75,7 @@ MakesAnswer notation answers line (Ok answer) = LineAnswer notation answers line
 MakesAnswer notation answers line (Err fault) = (fault ≡ Memory) ⊎ ((is_own fault ≡ true) × LineAnswer notation answers line (Err fault))
 
 -- What the call that makes what is written for a line answers, and leaves in its output.
-abbrev pub MakesOutput : {R : Type 0} → RunOptions → (List ℕ → Result Answer R → Type 0) → List ℕ → List ℕ → Result (Result Mark (LineFault R)) (LineFault R) → Type 0
+abbrev pub MakesOutput : {R : Type 0} → RunOptions → (List ℕ → Result Answer R → Type 0) → List ℕ → List ℕ → Result (Result Note (LineFault R)) (LineFault R) → Type 0
 MakesOutput options answers line output (Ok made) = LineResult options answers line (answered output made) × (output ≡ output_of (answered output made))
 MakesOutput options answers line output (Err fault) =
     (fault ≡ Memory) ⊎ ((options.keep_going ≡ false) × (is_own fault ≡ true) × LineAnswer options.notation answers line (Err fault))
@@ -92,7 +95,7 @@ AreUnsent bytes (Err (Write answered unsent)) = (length bytes ≡ unsent) × (0 
 AreUnsent bytes answer = bytes ≡ []
 
 -- Lines were taken whole from the input, and these are their results, in order.
-pub record AnswersLines {R : Type 0} (options : RunOptions) (answers : List ℕ → Result Answer R → Type 0)
+pub record TakesLines {R : Type 0} (options : RunOptions) (answers : List ℕ → Result Answer R → Type 0)
     (input input' : Option (List ℕ)) : Type 0 where
   pub taken : List ℕ
   pub results : List (Result Answer (LineFault R))
@@ -105,7 +108,7 @@ pub record RunsLines {R : Type 0} (options : RunOptions) (answers : List ℕ →
     (input input' out out' : Option (List ℕ)) (log log' : Option (List (RefusedLine R))) (answer : Result (RunSummary R) (RunFault R)) : Type 0 where
   -- what the input had left once the last line was answered
   pub left : Option (List ℕ)
-  pub lines : AnswersLines options answers input left
+  pub lines : TakesLines options answers input left
   -- it ends where all of the input was taken, or at the next line
   pub ends : RunEnds options answers lines.results (IsAllOf lines.taken input) left input' answer
   -- the log received the refused lines, each once and in order
@@ -120,10 +123,10 @@ pub record RunsLines {R : Type 0} (options : RunOptions) (answers : List ℕ →
 pub record Steps {R : Type 0} (options : RunOptions) (answers : List ℕ → Result Answer R → Type 0)
     (input left out out' : Option (List ℕ)) (log log' : Option (List (RefusedLine R))) (block block' : List ℕ) (summary summary' : RunSummary R)
     : Type 0 where
-  pub lines : AnswersLines options answers input left
+  pub lines : TakesLines options answers input left
   pub sends : Sends out out' (block ++ written_for lines.results) block'
   pub counts : summary' ≡ counted_all summary lines.results
-  pub room : HasRoom summary'
+  pub room : CanAddLine summary'
   pub logs : Logs log log' (refusals_of (summary.lines + 1) lines.results)
 
 -- how a step ends that took these bytes: what was found of the next line

@@ -1,6 +1,6 @@
 -- What the summary of a run says of its lines.
 use Rattle.std.specs.Prelude.{◌≡◌, ◌+◌, ◌≤◌, List, [], ◌∷◌, length, Option, Some, None, Result, Ok, Err}
-use Rattle.key_lines.specs.Answers.{Answer, mark_count, marks_of, refusals_of}
+use Rattle.key_lines.specs.LineAnswers.{Answer, note_count, notes_of, refusals_of}
 use Rattle.key_lines.specs.declared.fault.LineFault.{LineFault}
 use Rattle.key_lines.specs.declared.summary.RunSummary.{RunSummary}
 
@@ -12,7 +12,7 @@ first_of (x ∷ xs) = Some x
 -- the summary counts exactly these lines: what became of each is known
 pub record Summarizes {R : Type 0} (results : List (Result Answer (LineFault R))) (summary : RunSummary R) : Type 0 where
   pub lines : summary.lines ≡ length results
-  pub marked : summary.marked ≡ marks_of results
+  pub noted : summary.noted ≡ notes_of results
   pub refused : summary.refused ≡ length (refusals_of 1 results)
   pub first_refused : summary.first_refused ≡ first_of (refusals_of 1 results)
 
@@ -25,13 +25,13 @@ first_or (Some y) x = Some y
 abbrev pub counted : {R : Type 0} → RunSummary R → Result Answer (LineFault R) → RunSummary R
 counted s (Ok answer) = record {
   lines = s.lines + 1;
-  marked = s.marked + mark_count answer.mark;
+  noted = s.noted + note_count answer.note;
   refused = s.refused;
   first_refused = s.first_refused;
 }
 counted s (Err fault) = record {
   lines = s.lines + 1;
-  marked = s.marked;
+  noted = s.noted;
   refused = s.refused + 1;
   first_refused = first_or s.first_refused (record { line = s.lines + 1; fault = fault });
 }
@@ -42,7 +42,7 @@ counted_all s [] = s
 counted_all s (result ∷ results) = counted_all (counted s result) results
 
 -- each line has a number, and no other count is larger
-pub record HasRoom {R : Type 0} (s : RunSummary R) : Type 0 where
+pub record CanAddLine {R : Type 0} (s : RunSummary R) : Type 0 where
   pub lines : s.lines ≤ 18446744073709551614
-  pub marked : s.marked ≤ s.lines
+  pub noted : s.noted ≤ s.lines
   pub refused : s.refused ≤ s.lines

@@ -1,23 +1,14 @@
 //! Why a run stops.
 
 ghost use Rattle.std.specs.Prelude.{◌≡◌};
-ghost use Rattle.key_lines.specs.Answers.{line_fault_of};
-ghost use Rattle.key_lines.specs.declared.fault.AnswerFault.TheVariants as AnswerFaults;
+ghost use Rattle.key_lines.specs.LineAnswers.{line_fault_of};
+ghost use Rattle.key_lines.specs.declared.fault.LineFault.TheVariants as LineFaults;
 
 use key_files::FileFault;
 use std::alloc::AllocError;
 use std::fmt;
 
-/// Why bytes have no answer.
-#[derive(Clone, Copy, Debug, PartialEq)]
-pub enum AnswerFault<R> {
-    /// They were refused.
-    Refused(R),
-    /// An allocation failed.
-    Memory,
-}
-
-/// Why a line was refused.
+/// Why a line or its bytes were refused.
 #[derive(Clone, Copy, Debug, PartialEq)]
 pub enum LineFault<R> {
     /// The line cannot be read or decoded.
@@ -53,11 +44,11 @@ pub enum RunFault<R> {
     },
 }
 
-impl<R> From<AllocError> for AnswerFault<R> {
-    ghost from_gives = { λ _ fault. fault ≡ AnswerFaults.Memory };
+impl<R> From<AllocError> for LineFault<R> {
+    ghost from_gives = { λ _ fault. fault ≡ LineFaults.Memory };
 
-    fn from(_error: AllocError) -> AnswerFault<R> {
-        AnswerFault::Memory
+    fn from(_error: AllocError) -> LineFault<R> {
+        LineFault::Memory
     }
 }
 

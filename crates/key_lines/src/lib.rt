@@ -16,8 +16,8 @@ mod source;
 mod summary;
 mod text;
 
-pub use fault::{AnswerFault, LineFault, RefusedLine, RunFault};
-pub use job::{LineJob, Mark};
+pub use fault::{LineFault, RefusedLine, RunFault};
+pub use job::{LineJob, Note};
 pub use log::RefusalLog;
 pub use run::{LineRun, RunOptions};
 pub use source::LineSource;

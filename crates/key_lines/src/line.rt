@@ -2,7 +2,7 @@
 
 ghost use Rattle.std.specs.Prelude.{◌≡◌, ◌≢◌, ◌<◌, ◌≤◌, length, take, slice_index, All, vec_len};
 ghost use Rattle.std.specs.Prelude.{Err, false};
-ghost use Rattle.key_lines.specs.Reading.{MovesPart, ReadsLine};
+ghost use Rattle.key_lines.specs.LineReading.{MovesPart, ReadsLine};
 
 use crate::source::LineSource;
 use key_files::FileFault;

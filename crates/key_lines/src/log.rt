@@ -1,7 +1,7 @@
 //! The log of refused lines.
 
 ghost use Rattle.std.specs.Prelude.{List, Option, None, [], ◌∷◌};
-ghost use Rattle.key_lines.specs.Answers.{Logs};
+ghost use Rattle.key_lines.specs.LineAnswers.{Logs};
 ghost use Rattle.key_lines.specs.declared.fault.RefusedLine.{RefusedLine};
 
 use crate::fault::RefusedLine;

@@ -2,15 +2,15 @@
 
 ghost use Rattle.std.specs.Prelude.{◌≡◌, ◌≢◌, ◌≤◌, ℕ, List, Option};
 ghost use Rattle.std.specs.Prelude.{Ok, Err, false, length, IfSome};
-ghost use Rattle.key_lines.specs.Answers.{answered};
-ghost use Rattle.key_lines.specs.Meaning.{LinesAreFiles, PrintsBack};
+ghost use Rattle.key_lines.specs.LineAnswers.{answered};
+ghost use Rattle.key_lines.specs.LineMeaning.{LinesAreFiles, PrintsBack};
 ghost use Rattle.key_lines.specs.Running.{FindsLine, MakesAnswer, MakesOutput, RunsLines};
 ghost use Rattle.key_lines.specs.Running.{NoReadFault, StepsLine, TooManyAtLast, WritesAnswers, is_own};
-ghost use Rattle.key_lines.specs.Summary.{HasRoom};
+ghost use Rattle.key_lines.specs.Summary.{CanAddLine};
 
 use crate::block::{BLOCK, send};
-use crate::fault::{AnswerFault, LineFault, RefusedLine, RunFault, line_fault};
-use crate::job::{LineJob, Mark};
+use crate::fault::{LineFault, RefusedLine, RunFault, line_fault};
+use crate::job::{LineJob, Note};
 use crate::line::{Line, read_line};
 use crate::log::RefusalLog;
 use crate::source::LineSource;
@@ -94,7 +94,7 @@ impl<J: LineJob> LineRun<J> {
         };
         let mut summary = RunSummary {
             lines: 0,
-            marked: 0,
+            noted: 0,
             refused: 0,
             first_refused: None,
         };
@@ -118,7 +118,7 @@ impl<J: LineJob> LineRun<J> {
         buffers: &mut Buffers,
         summary: &mut RunSummary<J::Refusal>,
     ) -> Result<Line, RunFault<J::Refusal>>
-        requires { HasRoom summary.old }
+        requires { CanAddLine summary.old }
         ensures steps { StepsLine self.now.options (J.answers self.now.job)
             (R.remaining input.old) (R.remaining input.new)
             (W.contents out.old) (W.contents out.new)
@@ -156,7 +156,7 @@ impl<J: LineJob> LineRun<J> {
         input: &mut R,
         buffers: &mut Buffers,
     ) -> Result<Line, LineFault<J::Refusal>>
-        requires { HasRoom summary.old }
+        requires { CanAddLine summary.old }
         ensures finds { (out : Option (List ℕ)) → FindsLine self.now.options
             (J.answers self.now.job) (R.remaining input.old) (R.remaining input.new) out out
             (L.received log.old) (L.received log.new)
@@ -193,13 +193,13 @@ impl<J: LineJob> LineRun<J> {
         line: &[u8],
         bytes: &mut Vec<u8>,
         output: &mut Vec<u8>,
-    ) -> Result<Result<Mark, LineFault<J::Refusal>>, LineFault<J::Refusal>>
+    ) -> Result<Result<Note, LineFault<J::Refusal>>, LineFault<J::Refusal>>
         requires { length line.now ≤ 4194304 }
         ensures { MakesOutput self.now.options (J.answers self.now.job) line.now
             output.new.items result }
     {
-        let fault = match self.answer(line, bytes, output) {
-            Ok(mark) => return Ok(Ok(mark)),
+        let fault = match self.make_answer(line, bytes, output) {
+            Ok(note) => return Ok(Ok(note)),
             Err(fault) => fault,
         };
         if !self.options.keep_going || !is_own(&fault) {
@@ -213,12 +213,12 @@ impl<J: LineJob> LineRun<J> {
     }
 
     // Makes the answer to a line, in `output`.
-    fn answer(
+    fn make_answer(
         &self,
         line: &[u8],
         bytes: &mut Vec<u8>,
         output: &mut Vec<u8>,
-    ) -> Result<Mark, LineFault<J::Refusal>>
+    ) -> Result<Note, LineFault<J::Refusal>>
         requires { length line.now ≤ 4194304 }
         ensures { MakesAnswer self.now.options.notation (J.answers self.now.job) line.now
             (answered output.new.items result) }
@@ -226,11 +226,7 @@ impl<J: LineJob> LineRun<J> {
         if let Err(fault) = decode_line(self.options.notation, line, bytes) {
             return Err(line_fault(fault));
         }
-        match self.job.answer(bytes, output) {
-            Ok(mark) => Ok(mark),
-            Err(AnswerFault::Refused(refusal)) => Err(LineFault::Refused(refusal)),
-            Err(AnswerFault::Memory) => Err(LineFault::Memory),
-        }
+        self.job.answer(bytes, output)
     }
 }
 
@@ -240,9 +236,14 @@ fn is_own<F>(fault: &LineFault<F>) -> bool
 {
     match fault {
         LineFault::Refused(_) => true,
-        LineFault::Input(FileFault::BadDigit { .. }) => true,
-        LineFault::Input(FileFault::OddDigits) => true,
-        LineFault::Input(FileFault::BadBase64(_)) => true,
+        LineFault::Input(
+            FileFault::BadDigit { .. }
+            | FileFault::OddDigits
+            | FileFault::BadCharacter { .. }
+            | FileFault::BehindPadding { .. }
+            | FileFault::BadBase64Length
+            | FileFault::TrailingBits,
+        ) => true,
         LineFault::Input(FileFault::Read | FileFault::TooLong | FileFault::Memory) => false,
         LineFault::Memory | LineFault::TooManyLines => false,
     }

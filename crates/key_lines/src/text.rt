@@ -3,9 +3,9 @@
 ghost use Rattle.std.specs.Prelude.{◌≡◌, ◌+◌, ◌≤◌, length, IfErr};
 ghost use Rattle.std.specs.List.{prefix_len, suffix_len};
 ghost use Rattle.key_files.specs.Decoding.{DecodesText, fault_behind, place_of};
-ghost use Rattle.key_lines.specs.Meaning.{blank_ended_meaning, is_blank, text_meaning, text_of};
+ghost use Rattle.key_lines.specs.LineMeaning.{blank_ended_meaning, is_blank, text_meaning, text_of};
 
-use key_files::{Base64Fault, FileFault, decode_digits_into, decode_symbols_into};
+use key_files::{FileFault, decode_digits_into, decode_symbols_into};
 
 /// The notation of a line.
 #[derive(Clone, Copy)]
@@ -54,14 +54,11 @@ fn fault_behind(before: usize, fault: FileFault) -> FileFault
 {
     match fault {
         FileFault::BadDigit { at } => FileFault::BadDigit { at: before + at },
-        FileFault::BadBase64(Base64Fault::Character { at }) => {
-            FileFault::BadBase64(Base64Fault::Character { at: before + at })
-        }
-        FileFault::BadBase64(Base64Fault::BehindPadding { at }) => {
-            FileFault::BadBase64(Base64Fault::BehindPadding { at: before + at })
-        }
-        FileFault::BadBase64(Base64Fault::Length | Base64Fault::TrailingBits)
-        | FileFault::OddDigits
+        FileFault::BadCharacter { at } => FileFault::BadCharacter { at: before + at },
+        FileFault::BehindPadding { at } => FileFault::BehindPadding { at: before + at },
+        FileFault::OddDigits
+        | FileFault::BadBase64Length
+        | FileFault::TrailingBits
         | FileFault::Read
         | FileFault::TooLong
         | FileFault::Memory => fault,

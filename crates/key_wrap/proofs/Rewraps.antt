@@ -31,7 +31,7 @@ other_form : {Z : Type 0} {D : List ℕ → List ℕ} (form : Form) (old : Agree
     → NoOtherForm (by_default form) F out.items
 other_form form old E F text out (Ok Fresh) after inv results is =
     let good = results.fresh.0 refl in
-    rw is (no_other_form default_iv form good.1 after inv default_free ((results.same_key refl good.0 good.2.from good.1).1 good.2.stands))
+    rw is (no_other_form default_iv form good.1 after inv default_free ((results.same_key refl good.0 good.2.from good.1).1 good.2.wrapping))
 other_form form old E F text out (Ok AlreadyNew) after inv results is = absurd (let no = (results.already_new.0 refl).0 in cc)
 other_form form old E F text out (Err fault) after inv results is = cc
 

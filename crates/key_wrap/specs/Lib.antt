@@ -1,7 +1,7 @@
 -- The results of the calls, and the definitions that they rest on.
 pub mod Results
+pub use Rattle.key_wrap_core.specs.BlockCalls
 pub use Rattle.key_wrap_core.specs.BufferCalls
-pub use Rattle.key_wrap_core.specs.Calls
 pub use Rattle.key_wrap_core.specs.EitherForm
 pub use Rattle.key_wrap_core.specs.Forms
 pub use Rattle.key_wrap_core.specs.InPlace

@@ -8,7 +8,7 @@ use Rattle.key_wrap_core.specs.declared.rewrapping.Rewrapped.{Rewrapped}
 use Rattle.key_wrap_core.specs.declared.rewrapping.RewrapFault.{RewrapFault}
 use Rattle.key_wrap_core.specs.declared.rewrapping.RewrapFault.TheVariants as rewraps
 use Rattle.key_wrap_core.specs.NoKey.{NoKey}
-use Rattle.key_wrap_core.specs.Forms.{StandsAs, IsKeyLengthAs, IsTextLengthAs, NoOtherForm}
+use Rattle.key_wrap_core.specs.Forms.{IsWrapping, IsKeyLengthAs, IsTextLengthAs, NoOtherForm}
 use Rattle.key_wrap_core.specs.Rewrap.{IsOldLength, RewrapResults}
 use Rattle.key_wrap.specs.declared.faults.UnwrapFault.{UnwrapFault}
 use Rattle.key_wrap.specs.declared.faults.UnwrapFault.TheVariants.{BadLength, Integrity, Memory}
@@ -23,9 +23,9 @@ unwrap_fault in_place.Integrity = Integrity
 -- The result of an unwrap in a form, under E. BadLength if the length of the text is not legal. Otherwise the key, or
 -- Integrity if there is none, or Memory.
 abbrev pub UnwrapAnswer : {Z : Type 0} → AgreedForm → (List ℕ → List ℕ) → List ℕ → Result (Vec ℕ Z) UnwrapFault → Type 0
-UnwrapAnswer form E text (Ok key) = IsTextLengthAs form (length text) × StandsAs form E key.items text
+UnwrapAnswer form E text (Ok key) = IsTextLengthAs form (length text) × IsWrapping form E key.items text
 UnwrapAnswer form E text (Err BadLength) = ¬ IsTextLengthAs form (length text)
-UnwrapAnswer form E text (Err Integrity) = IsTextLengthAs form (length text) × NoKey (StandsAs form E) text
+UnwrapAnswer form E text (Err Integrity) = IsTextLengthAs form (length text) × NoKey (IsWrapping form E) text
 UnwrapAnswer form E text (Err Memory) = IsTextLengthAs form (length text)
 
 -- The promise of each wrapping call that allocates memory: the result is the only wrapping of the key in this form under E,
@@ -33,8 +33,8 @@ UnwrapAnswer form E text (Err Memory) = IsTextLengthAs form (length text)
 pub record Wrapped {Z : Type 0} (form : AgreedForm) (E : List ℕ → List ℕ) (key : List ℕ) (result : Result (Vec ℕ Z) WrapFault) : Type 0 where
   pub bad_length : (result ≡ Err wrap_faults.BadLength) ↔ ¬ IsKeyLengthAs form (length key)
   pub memory : result ≡ Err wrap_faults.Memory → IsKeyLengthAs form (length key)
-  pub answer : IfOk result (λ text. StandsAs form E key text.items)
-  pub only_text : IfOk result (λ text. (other : List ℕ) → StandsAs form E key other → other ≡ text.items)
+  pub answer : IfOk result (λ text. IsWrapping form E key text.items)
+  pub only_text : IfOk result (λ text. (other : List ℕ) → IsWrapping form E key other → other ≡ text.items)
   pub other_form : IfOk result (λ text. NoOtherForm form E text.items)
 
 -- The promise of each unwrapping call that allocates memory. A wrapping is refused only if there is no memory. Wrapping the
@@ -42,9 +42,9 @@ pub record Wrapped {Z : Type 0} (form : AgreedForm) (E : List ℕ → List ℕ) 
 pub record Unwrapped {Z : Type 0} (form : AgreedForm) (E : List ℕ → List ℕ) (text : List ℕ) (result : Result (Vec ℕ Z) UnwrapFault) : Type 0 where
   pub bad_length : (result ≡ Err BadLength) ↔ ¬ IsTextLengthAs form (length text)
   pub answer : UnwrapAnswer form E text result
-  pub accepts : (key : List ℕ) → StandsAs form E key text → IsOkUnless result Memory
-  pub only_key : IfOk result (λ key. (other : List ℕ) → StandsAs form E other text → other ≡ key.items)
-  pub restores : IfOk result (λ key. (other : List ℕ) → StandsAs form E key.items other → other ≡ text)
+  pub accepts : (key : List ℕ) → IsWrapping form E key text → IsOkUnless result Memory
+  pub only_key : IfOk result (λ key. (other : List ℕ) → IsWrapping form E other text → other ≡ key.items)
+  pub restores : IfOk result (λ key. (other : List ℕ) → IsWrapping form E key.items other → other ≡ text)
   pub other_form : OnOk result (NoOtherForm form E text)
 
 -- the fault of a rewrap that takes memory, if the call in its buffer refuses

@@ -15,10 +15,10 @@ use Rattle.key_wrap_core.specs.Words.{word_bytes}
 use Rattle.key_wrap_core.specs.Lengths.{IsPaddedTextLength}
 use Rattle.key_wrap_core.specs.Plain.{IsReserved}
 use Rattle.key_wrap_core.specs.Padded.{aiv, padded}
-use Rattle.key_wrap_core.specs.PaddedRegisters.{PaddedRegisters, HoldsLength}
+use Rattle.key_wrap_core.specs.PaddedRegisters.{PaddedRegisters, HasKeyLength}
 use Rattle.key_wrap_core.specs.NoKey.{NoKey}
-use Rattle.key_wrap_core.specs.Forms.{Stands, NoOtherForm, with_value}
-use Rattle.key_wrap_core.specs.Found.{HoldsIn}
+use Rattle.key_wrap_core.specs.Forms.{IsWrappingWithIv, NoOtherForm, with_value}
+use Rattle.key_wrap_core.specs.Found.{IsIvAndKey}
 use Rattle.key_wrap_core.specs.EitherForm.{IsEither, IsOnlyWrapping, NoKeyIn}
 use Rattle.key_wrap_core.specs.BufferCalls.{UnwrappingEither, Wrapping}
 use Rattle.key_wrap_core.proofs.Refusals.{ok_or_err}
@@ -28,46 +28,46 @@ use Rattle.key_wrap_core.proofs.PlainForm.{padded_whole}
 use Rattle.key_wrap_core.proofs.PaddedForm.{aiv_word}
 use Rattle.key_wrap_core.proofs.InPlaceForm.{held_size}
 use Rattle.key_wrap_core.proofs.BothForms.{not_both_forms}
-use Rattle.key_wrap_core.proofs.FoundForms.{only_key, only_text, stands_found, found_stands}
+use Rattle.key_wrap_core.proofs.FoundForms.{only_key, only_text, wrapping_found, found_wrapping}
 
 -- one key belongs to a text, in one form
 pub one_either : {E D : List ℕ → List ℕ} (iv : ℕ) (form other_form : Form) (key other text : List ℕ) → AreInverse E D → ¬ IsReserved iv
-    → Stands form iv E key text → Stands other_form iv E other text → (other_form ≡ form) × (other ≡ key)
+    → IsWrappingWithIv form iv E key text → IsWrappingWithIv other_form iv E other text → (other_form ≡ form) × (other ≡ key)
 one_either iv forms.Plain forms.Plain key other text inv free h k = (refl, only_key (Plain iv) key other text inv h k)
 one_either iv forms.Padded forms.Padded key other text inv free h k = (refl, only_key Padded key other text inv h k)
 one_either iv forms.Plain forms.Padded key other text inv free h k = absurd (not_both_forms inv free h k)
 one_either iv forms.Padded forms.Plain key other text inv free h k = absurd (not_both_forms inv free k h)
 
-pub only_wrapping : {E D : List ℕ → List ℕ} (iv : ℕ) (form : Form) (key text : List ℕ) → AreInverse E D → ¬ IsReserved iv → Stands form iv E key text
+pub only_wrapping : {E D : List ℕ → List ℕ} (iv : ℕ) (form : Form) (key text : List ℕ) → AreInverse E D → ¬ IsReserved iv → IsWrappingWithIv form iv E key text
     → IsOnlyWrapping (IsEither iv) E (with_value form iv) key text
 only_wrapping {E = E} iv form key text inv free h = record {
   from = (form, refl);
-  stands = h;
+  wrapping = h;
   only = λ other_form other own k.
       let same = one_either iv form own.0 key other text inv free h (rw own.1 at k) in (own.1 ∙ ap (λ (f : Form). with_value f iv) same.0, same.1);
   alone = λ other k. only_text (with_value form iv) E key text other h k;
 }
 
 -- the text has a legal length
-pub either_legal : {E D : List ℕ → List ℕ} (iv : ℕ) (form : Form) (key text : List ℕ) → AreInverse E D → Stands form iv E key text
+pub either_legal : {E D : List ℕ → List ℕ} (iv : ℕ) (form : Form) (key text : List ℕ) → AreInverse E D → IsWrappingWithIv form iv E key text
     → IsPaddedTextLength (length text)
 either_legal iv forms.Plain key text inv h = let legal = plain_text_legal h in (legal.0, omega (arith, legal.1), legal.2)
 either_legal iv forms.Padded key text inv h = padded_text_legal inv h
 
 -- and none in the other form, whatever the initial value
-pub no_other_form : {E D : List ℕ → List ℕ} (iv : ℕ) (form : Form) (key text : List ℕ) → AreInverse E D → ¬ IsReserved iv → Stands form iv E key text
+pub no_other_form : {E D : List ℕ → List ℕ} (iv : ℕ) (form : Form) (key text : List ℕ) → AreInverse E D → ¬ IsReserved iv → IsWrappingWithIv form iv E key text
     → NoOtherForm (with_value form iv) E text
 no_other_form iv forms.Plain key text inv free h = λ other k. not_both_forms inv free h k
 no_other_form iv forms.Padded key text inv free h = λ iv' word free' other k. not_both_forms inv free' k h
 
 -- nothing was found
 pub no_key_in : {E D : List ℕ → List ℕ} (iv : ℕ) (before text : List ℕ) → AreInverse E D → PaddedRegisters E before text
-    → ((form : Form) → NoKey (HoldsIn (with_value form iv)) before) → NoKeyIn (IsEither iv) E text
+    → ((form : Form) → NoKey (IsIvAndKey (with_value form iv)) before) → NoKeyIn (IsEither iv) E text
 no_key_in {E = E} iv before text inv run none = λ form own key h.
-    none own.0 key (stands_found (with_value own.0 iv) key before text inv run (rw own.1 at h))
+    none own.0 key (wrapping_found (with_value own.0 iv) key before text inv run (rw own.1 at h))
 
 -- the registers are the key and its padding
-pub held_padded : (form : AgreedForm) (found : ℕ) (registers key : List ℕ) → IsWord found → HoldsIn form key (word_bytes found ++ registers)
+pub held_padded : (form : AgreedForm) (found : ℕ) (registers key : List ℕ) → IsWord found → IsIvAndKey form key (word_bytes found ++ registers)
     → registers ≡ padded key
 held_padded (Plain iv) found registers key word holds =
     (word_front found iv registers key word holds.2 holds.1).1 ∙ sym (padded_whole key holds.0.0)
@@ -76,10 +76,10 @@ held_padded Padded found registers key word holds =
 
 -- the key that was found, by the difference from a padded one
 pub any_held : (iv found padded_key plain_key : ℕ) (registers : List ℕ) (key : FoundKey) → IsWord found → (plain_key ≡ 0) ⊎ (padded_key ≡ 0)
-    → (plain_key ≡ 0 → HoldsIn (Plain iv) registers (word_bytes found ++ registers))
-    → (padded_key ≡ 0 → HoldsLength (word_bytes found ++ registers) (found % 2 ^ 32))
+    → (plain_key ≡ 0 → IsIvAndKey (Plain iv) registers (word_bytes found ++ registers))
+    → (padded_key ≡ 0 → HasKeyLength (word_bytes found ++ registers) (found % 2 ^ 32))
     → (padded_key ≡ 0 → (key.form ≡ forms.Padded) × (key.len ≡ found % 2 ^ 32)) → (¬ (padded_key ≡ 0) → (key.form ≡ forms.Plain) × (key.len ≡ length registers))
-    → HoldsIn (with_value key.form iv) (take key.len registers) (word_bytes found ++ registers) × (length (take key.len registers) ≡ key.len)
+    → IsIvAndKey (with_value key.form iv) (take key.len registers) (word_bytes found ++ registers) × (length (take key.len registers) ≡ key.len)
     × (registers ≡ padded (take key.len registers))
 any_held iv found padded_key plain_key registers key word some plain held told other =
     let least : 0 ≤ padded_key = omega arith in
@@ -88,8 +88,8 @@ any_held iv found padded_key plain_key registers key word some plain held told o
           let h = held (sym zero) in
           let size : length (take (found % 2 ^ 32) registers) ≡ found % 2 ^ 32 = held_size found (found % 2 ^ 32) registers h in
           let cut : drop 8 (word_bytes found ++ registers) ≡ registers = drop_at (word_bytes found) registers 8 (length-word_bytes found) in
-          let holds : HoldsIn Padded (take (found % 2 ^ 32) registers) (word_bytes found ++ registers) =
-          subst (λ (bs : List ℕ). HoldsIn Padded (take (found % 2 ^ 32) bs) (word_bytes found ++ registers)) cut (rw h.size h.legal, h.holds) in
+          let holds : IsIvAndKey Padded (take (found % 2 ^ 32) registers) (word_bytes found ++ registers) =
+          subst (λ (bs : List ℕ). IsIvAndKey Padded (take (found % 2 ^ 32) bs) (word_bytes found ++ registers)) cut (rw h.size h.legal, h.holds) in
           rw (k.0, k.1) (holds, size, held_padded Padded found registers (take (found % 2 ^ 32) registers) word holds)
       | inr more ↦ let k = other (λ e. absurd (omega arith)) in
           let zero : plain_key ≡ 0 = elim some [ inl e ↦ e | inr e ↦ absurd (omega arith) ] in
@@ -99,12 +99,12 @@ any_held iv found padded_key plain_key registers key word some plain held told o
 
 -- so what was found is what the call promises
 pub either_found : {E D : List ℕ → List ℕ} {Legal : Type 0} (iv : ℕ) (found : FoundKey) (key : FoundKey → List ℕ) (text : List ℕ) → AreInverse E D
-    → ¬ IsReserved iv → Legal → Stands found.form iv E (key found) text → UnwrappingEither Legal iv E text key (Ok found)
+    → ¬ IsReserved iv → Legal → IsWrappingWithIv found.form iv E (key found) text → UnwrappingEither Legal iv E text key (Ok found)
 either_found iv found key text inv free legal h =
     let wraps = only_wrapping iv found.form (key found) text inv free h in
     record {
       bad_length = (λ e. cc, λ bad. absurd (bad legal));
-      integrity = (λ e. cc, λ no. absurd (no.1 (with_value found.form iv) wraps.from (key found) wraps.stands));
+      integrity = (λ e. cc, λ no. absurd (no.1 (with_value found.form iv) wraps.from (key found) wraps.wrapping));
       answer = wraps;
       accepts = λ form other k. tt;
       other_form = no_other_form iv found.form (key found) text inv free h;
@@ -123,9 +123,9 @@ either_none iv key text legal none = record {
 
 -- what the machine wraps, from an initial value and a key
 pub wraps_found : {E D : List ℕ → List ℕ} {Legal : Type 0} (iv : ℕ) (form : Form) (key before old new : List ℕ) → AreInverse E D → ¬ IsReserved iv → Legal
-    → HoldsIn (with_value form iv) key before → PaddedRegisters E before new → Wrapping Legal (with_value form iv) E key old new (Ok tt)
+    → IsIvAndKey (with_value form iv) key before → PaddedRegisters E before new → Wrapping Legal (with_value form iv) E key old new (Ok tt)
 wraps_found {E = E} iv form key before old new inv free legal holds run =
-    let h = found_stands (with_value form iv) key before new holds run in
+    let h = found_wrapping (with_value form iv) key before new holds run in
     record {
       bad_length = (λ e. ok_or_err e, λ bad. absurd (bad legal));
       only_fault = tt;

@@ -9,7 +9,7 @@ use Rattle.block_pair.specs.Words.{IsWord}
 use Rattle.key_wrap_core.specs.Words.{word_bytes}
 use Rattle.key_wrap_core.specs.Lengths.{IsPaddedKeyLength}
 use Rattle.key_wrap_core.specs.Padded.{aiv, padded, word_count}
-use Rattle.key_wrap_core.specs.PaddedRegisters.{HoldsLength}
+use Rattle.key_wrap_core.specs.PaddedRegisters.{HasKeyLength}
 use Rattle.key_wrap_core.specs.InPlace.{IsPaddedRoom, key_in}
 use Rattle.key_wrap_core.proofs.PaddedForm.{aiv_word}
 use Rattle.key_wrap_core.proofs.Spelling.{length-word_bytes, word_front, read_word, each_byte}
@@ -33,7 +33,7 @@ registers_now buf registers some size =
     drop_at (take 8 buf) (registers ++ drop (length buf - 8) (drop 8 buf)) 8 (omega (arith, length-take 8 buf)) ∙ rw past (append-nil registers)
 
 -- the rest of what holds a key is the padded key
-pub held_rest : (iv len : ℕ) (registers : List ℕ) → IsWord iv → HoldsLength (word_bytes iv ++ registers) len → registers ≡ padded (take len registers)
+pub held_rest : (iv len : ℕ) (registers : List ℕ) → IsWord iv → HasKeyLength (word_bytes iv ++ registers) len → registers ≡ padded (take len registers)
 held_rest iv len registers word held =
     let rest : drop 8 (word_bytes iv ++ registers) ≡ registers = drop_at (word_bytes iv) registers 8 (length-word_bytes iv) in
     let key : List ℕ = take len (drop 8 (word_bytes iv ++ registers)) in
@@ -42,7 +42,7 @@ held_rest iv len registers word held =
     ∙ ap (λ (bs : List ℕ). padded (take len bs)) rest
 
 -- and its key has the length that it is held with
-pub held_size : (iv len : ℕ) (registers : List ℕ) → HoldsLength (word_bytes iv ++ registers) len → length (take len registers) ≡ len
+pub held_size : (iv len : ℕ) (registers : List ℕ) → HasKeyLength (word_bytes iv ++ registers) len → length (take len registers) ≡ len
 held_size iv len registers held =
     let own : take len (drop 8 (word_bytes iv ++ registers)) ≡ take len registers =
     ap (take len) (drop_at (word_bytes iv) registers 8 (length-word_bytes iv)) in

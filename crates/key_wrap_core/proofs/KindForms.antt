@@ -16,17 +16,17 @@ pub kind_found : {E : List ℕ → List ℕ} (iv : ℕ) (form : Form) (len : ℕ
     → IsOnlyWrapping (IsEither iv) E (with_value form iv) key text → length key ≡ len → NoOtherForm (with_value form iv) E text
     → IsTheKind iv E text (kind_as form len)
 kind_found iv forms.Plain len key text w size none = record {
-  is = (key, size, w.stands);
+  is = (key, size, w.wrapping);
   plain = λ other h. ap InPlain (sym size ∙ ap length (sym (w.only (Plain iv) other (forms.Plain, refl) h).1));
   padded = λ other h. absurd (none other h);
-  neither = λ h k. absurd (h key w.stands);
+  neither = λ h k. absurd (h key w.wrapping);
   other_form = none;
 }
 kind_found iv forms.Padded len key text w size none = record {
-  is = (key, size, w.stands);
+  is = (key, size, w.wrapping);
   plain = λ other h. let no : Plain iv ≡ Padded = (w.only (Plain iv) other (forms.Plain, refl) h).0 in cc;
   padded = λ other h. ap InPadded (sym size ∙ ap length (sym (w.only Padded other (forms.Padded, refl) h).1));
-  neither = λ h k. absurd (k key w.stands);
+  neither = λ h k. absurd (k key w.wrapping);
   other_form = none;
 }
 

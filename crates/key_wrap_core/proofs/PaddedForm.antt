@@ -9,7 +9,7 @@ use Rattle.key_wrap_core.specs.Tape.{Wraps}
 use Rattle.key_wrap_core.specs.Lengths.{IsPaddedKeyLength}
 use Rattle.key_wrap_core.specs.Registers.{Registers}
 use Rattle.key_wrap_core.specs.Padded.{Padded, PaddedText, aiv, padded, word_count}
-use Rattle.key_wrap_core.specs.PaddedRegisters.{PaddedRegisters, Holds, HoldsLength}
+use Rattle.key_wrap_core.specs.PaddedRegisters.{PaddedRegisters, IsAivAndKey, HasKeyLength}
 use Rattle.key_wrap_core.specs.NoKey.{NoKey}
 use Rattle.key_wrap_core.proofs.Spelling.{length-spelled, joined_block, block_words, spelled_same, word_front}
 use Rattle.key_wrap_core.proofs.Tapes.{wraps_iv, wraps_key, wraps_forward, registers_of, registers_backward}
@@ -128,7 +128,7 @@ padded_registers {key = key} h = record {
   text_words = h.text_words;
 }
 
-pub registers_padded : {E : List ℕ → List ℕ} (key before text : List ℕ) → IsPaddedKeyLength (length key) → Holds before key → PaddedRegisters E before text
+pub registers_padded : {E : List ℕ → List ℕ} (key before text : List ℕ) → IsPaddedKeyLength (length key) → IsAivAndKey before key → PaddedRegisters E before text
     → Padded E key text
 registers_padded {E = E} key before text legal holds r =
     let front = word_front r.iv (aiv (length key)) (spelled r.P) (padded key) r.word (aiv_word (length key) legal.1) (r.key_words ∙ holds) in
@@ -144,7 +144,7 @@ pub padded_only_text : {E : List ℕ → List ℕ} {key text other : List ℕ} �
 padded_only_text h k = padded_registers_forward (padded_registers k) (padded_registers h)
 
 -- the registers hold one key
-pub held_key : (buffer key other : List ℕ) → IsPaddedKeyLength (length key) → IsPaddedKeyLength (length other) → Holds buffer key → Holds buffer other
+pub held_key : (buffer key other : List ℕ) → IsPaddedKeyLength (length key) → IsPaddedKeyLength (length other) → IsAivAndKey buffer key → IsAivAndKey buffer other
     → other ≡ key
 held_key buffer key other legal legal' h k =
     let front = word_front (aiv (length other)) (aiv (length key)) (padded other) (padded key) (aiv_word (length other) legal'.1)
@@ -160,7 +160,7 @@ padded_only_key {key = key} {other = other} inv h k =
 
 -- the buffer to which the registers run back holds the key, and no other key belongs to the text
 pub padded_unwrapped : {E D : List ℕ → List ℕ} {buffer after : List ℕ} (read text key : List ℕ) (len : ℕ) → AreInverse E D → PaddedRegisters E buffer after
-    → after ≡ text → read ≡ buffer → HoldsLength read len → key ≡ take len (drop 8 read)
+    → after ≡ text → read ≡ buffer → HasKeyLength read len → key ≡ take len (drop 8 read)
     → Padded E key text × ((other : List ℕ) → Padded E other text → other ≡ key) × ((other : List ℕ) → Padded E key other → other ≡ text)
 padded_unwrapped {E = E} read text key len inv back ends same held cut =
     let run : PaddedRegisters E read text = rw (same, ← ends) back in
@@ -170,7 +170,7 @@ padded_unwrapped {E = E} read text key len inv back ends same held cut =
 
 -- and if it holds no key, none belongs to the text
 pub padded_refused : {E D : List ℕ → List ℕ} {buffer after : List ℕ} (read text : List ℕ) → AreInverse E D → PaddedRegisters E buffer after → after ≡ text
-    → read ≡ buffer → ((key : List ℕ) → IsPaddedKeyLength (length key) → ¬ Holds read key) → NoKey (Padded E) text
+    → read ≡ buffer → ((key : List ℕ) → IsPaddedKeyLength (length key) → ¬ IsAivAndKey read key) → NoKey (Padded E) text
 padded_refused {E = E} read text inv back ends same none key h =
     let run : PaddedRegisters E read text = rw (same, ← ends) back in
     none key h.legal (padded_registers_backward inv run (padded_registers h))

@@ -8,7 +8,7 @@ use Rattle.std.specs.List.{AllByRecursion}
 use Rattle.block_pair.specs.Words.{IsByte, IsWord}
 use Rattle.block_pair.specs.Each.{each_append}
 use Rattle.key_wrap_core.specs.Words.{at}
-use Rattle.key_wrap_core.specs.Calls.{block_calls}
+use Rattle.key_wrap_core.specs.BlockCalls.{block_calls}
 use Rattle.key_wrap_core.specs.Steps.{TapeBetween, HoldPlaces}
 use Rattle.key_wrap_core.proofs.Spelling.{words_of_bytes, length-spelled}
 use Rattle.key_wrap_core.proofs.Registering.{each_replicate}

@@ -9,7 +9,7 @@ use Rattle.key_wrap_core.specs.declared.lengths.TheConstants.{MAX_KEY}
 use Rattle.key_wrap_core.specs.Words.{word_bytes}
 use Rattle.key_wrap_core.specs.Lengths.{IsPaddedKeyLength}
 use Rattle.key_wrap_core.specs.Padded.{aiv, padded, word_count}
-use Rattle.key_wrap_core.specs.PaddedRegisters.{Holds, HoldsLength}
+use Rattle.key_wrap_core.specs.PaddedRegisters.{IsAivAndKey, HasKeyLength}
 use Rattle.key_wrap_core.proofs.Spelling.{length-word_bytes, word_front}
 use Rattle.key_wrap_core.proofs.PaddedForm.{aiv_word}
 use Rattle.key_wrap_core.proofs.FormLengths.{length-padded}
@@ -25,7 +25,7 @@ zeros (x ∷ xs) h =
 -- registers that pass the checks hold a key of the length that the initial value says
 pub passes_word : (iv len : ℕ) (registers : List ℕ) → length registers % 8 ≡ 0 → 8 ≤ length registers → length registers ≤ MAX_KEY → iv / 2 ^ 32 ≡ 0xA659_59A6
     → iv % 2 ^ 32 ≡ len
-    → length registers < len + 8 → len ≤ length registers → All (λ x. x ≡ 0) (drop len registers) → HoldsLength (word_bytes iv ++ registers) len
+    → length registers < len + 8 → len ≤ length registers → All (λ x. x ≡ 0) (drop len registers) → HasKeyLength (word_bytes iv ++ registers) len
 passes_word iv len registers whole some most prefix number low high blank =
     let rest : drop 8 (word_bytes iv ++ registers) ≡ registers = drop_at (word_bytes iv) registers 8 (length-word_bytes iv) in
     let value : iv ≡ aiv len = omega arith in
@@ -44,7 +44,7 @@ passes_word iv len registers whole some most prefix number low high blank =
     }
 
 -- registers that hold a key pass the checks
-pub held_word : (iv : ℕ) (registers key : List ℕ) → IsWord iv → IsPaddedKeyLength (length key) → Holds (word_bytes iv ++ registers) key
+pub held_word : (iv : ℕ) (registers key : List ℕ) → IsWord iv → IsPaddedKeyLength (length key) → IsAivAndKey (word_bytes iv ++ registers) key
     → (iv / 2 ^ 32 ≡ 0xA659_59A6) × (iv % 2 ^ 32 ≡ length key) × (length registers < length key + 8) × (length key ≤ length registers) × All (λ x. x ≡ 0)
     (drop (length key) registers)
 held_word iv registers key word legal holds =

@@ -14,9 +14,9 @@ use Rattle.key_wrap_core.specs.Words.{word_bytes}
 use Rattle.key_wrap_core.specs.Lengths.{IsPlainTextLength, IsPaddedTextLength, IsPaddedKeyLength}
 use Rattle.key_wrap_core.specs.Plain.{Plain, IsReserved, default_iv}
 use Rattle.key_wrap_core.specs.Registers.{Registers}
-use Rattle.key_wrap_core.specs.PaddedRegisters.{PaddedRegisters, Holds, HoldsLength}
+use Rattle.key_wrap_core.specs.PaddedRegisters.{PaddedRegisters, IsAivAndKey, HasKeyLength}
 use Rattle.key_wrap_core.specs.NoKey.{NoKey, NoPlainKey}
-use Rattle.key_wrap_core.specs.Forms.{StandsAs}
+use Rattle.key_wrap_core.specs.Forms.{IsWrapping}
 use Rattle.key_wrap_core.specs.InPlace.{key_in}
 use Rattle.key_wrap_core.specs.Unwrapping.{Unwrapping}
 use Rattle.key_wrap_core.specs.BufferCalls.{IsKeyBuffer}
@@ -29,7 +29,7 @@ use Rattle.key_wrap_core.proofs.Differences.{xor_same, same_xor}
 
 -- no key belongs to the text
 none_found : {A : Type 0} {Legal : Type 0} {form : AgreedForm} {E : List ℕ → List ℕ} {text : List ℕ} {key : A → List ℕ}
-    → Legal → NoKey (StandsAs form E) text → Unwrapping Legal form E text key (Err Integrity)
+    → Legal → NoKey (IsWrapping form E) text → Unwrapping Legal form E text key (Err Integrity)
 none_found legal none = record {
   bad_length = (λ e. cc, λ bad. absurd (bad legal));
   answer = (legal, none);
@@ -59,14 +59,14 @@ pub plain_found : {E D : List ℕ → List ℕ} (iv : ℕ) (key text : List ℕ)
     → Unwrapping (IsPlainTextLength (length text)) (InPlain iv) E text (λ (_ : Unit {0}). key) (Ok tt)
 plain_found {E = E} iv key text inv word free legal run =
     let size : length text ≡ 8 + length key = omega (arith, registers_length run, length-append (word_bytes iv) key, length-word_bytes iv) in
-    let stands : Plain E iv key text = registers_plain iv key text word (omega arith, omega arith, omega arith) run in
+    let wrapping : Plain E iv key text = registers_plain iv key text word (omega arith, omega arith, omega arith) run in
     record {
       bad_length = (λ e. cc, λ bad. absurd (bad legal));
-      answer = (legal, stands);
+      answer = (legal, wrapping);
       accepts = search rules;
-      only_key = λ other k. plain_only_key inv stands k;
-      restores = λ other k. plain_only_text stands k;
-      other_form = λ other k. not_both_forms inv free stands k;
+      only_key = λ other k. plain_only_key inv wrapping k;
+      restores = λ other k. plain_only_text wrapping k;
+      other_form = λ other k. not_both_forms inv free wrapping k;
     }
 
 -- and if they run back to another initial value, no key belongs to the text
@@ -100,7 +100,7 @@ text_size found registers text inv run = padded_registers_length inv run ∙ wor
 
 -- the registers run back to an initial value and registers that hold a key of len bytes
 pub padded_found : {E D : List ℕ → List ℕ} {len : ℕ} (iv : ℕ) (registers text : List ℕ) → AreInverse E D → IsPaddedTextLength (length text)
-    → PaddedRegisters E (word_bytes iv ++ registers) text → HoldsLength (word_bytes iv ++ registers) len
+    → PaddedRegisters E (word_bytes iv ++ registers) text → HasKeyLength (word_bytes iv ++ registers) len
     → Unwrapping (IsPaddedTextLength (length text)) InPadded E text (λ m. take m registers) (Ok len)
 padded_found {len = len} iv registers text inv legal run held =
     let cut : take len registers ≡ take len (drop 8 (word_bytes iv ++ registers)) =
@@ -118,7 +118,7 @@ padded_found {len = len} iv registers text inv legal run held =
 -- and if they hold no key, none belongs to the text
 pub padded_none : {E D : List ℕ → List ℕ} (iv : ℕ) (registers : List ℕ) (key : ℕ → List ℕ) (text : List ℕ) → AreInverse E D → IsPaddedTextLength (length text)
     → PaddedRegisters E (word_bytes iv ++ registers) text
-    → ((other : List ℕ) → IsPaddedKeyLength (length other) → ¬ Holds (word_bytes iv ++ registers) other)
+    → ((other : List ℕ) → IsPaddedKeyLength (length other) → ¬ IsAivAndKey (word_bytes iv ++ registers) other)
     → Unwrapping (IsPaddedTextLength (length text)) InPadded E text key (Err Integrity)
 padded_none iv registers key text inv legal run holds =
     none_found legal (padded_refused (word_bytes iv ++ registers) text inv run refl refl holds)

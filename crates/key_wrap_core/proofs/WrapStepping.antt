@@ -11,7 +11,7 @@ use Rattle.block_pair.specs.Each.{each_take, each_drop}
 use Rattle.block_pair.specs.Pair.{AreInverse}
 use Rattle.block_pair.specs.Words.{IsByte, IsWord, IsBlock}
 use Rattle.key_wrap_core.specs.Words.{at, word_bytes, spelled, joined}
-use Rattle.key_wrap_core.specs.Calls.{block_calls}
+use Rattle.key_wrap_core.specs.BlockCalls.{block_calls}
 use Rattle.key_wrap_core.specs.Tape.{Tape}
 use Rattle.key_wrap_core.specs.Lengths.{IsPlainKeyLength, IsPaddedKeyLength}
 use Rattle.key_wrap_core.specs.Plain.{Plain}

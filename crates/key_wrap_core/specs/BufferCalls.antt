@@ -14,8 +14,8 @@ use Rattle.key_wrap_core.specs.declared.rewrapping.RewrapFault.{RewrapFault}
 use Rattle.key_wrap_core.specs.declared.rewrapping.RewrapFault.TheVariants.{KeyNotPlain}
 use Rattle.key_wrap_core.specs.Lengths.{IsPaddedTextLength}
 use Rattle.key_wrap_core.specs.Padded.{padded}
-use Rattle.key_wrap_core.specs.Calls.{block_calls}
-use Rattle.key_wrap_core.specs.Forms.{Stands, StandsAs, NoOtherForm, with_value}
+use Rattle.key_wrap_core.specs.BlockCalls.{block_calls}
+use Rattle.key_wrap_core.specs.Forms.{IsWrappingWithIv, IsWrapping, NoOtherForm, with_value}
 use Rattle.key_wrap_core.specs.EitherForm.{IsEither, IsOnlyWrapping, NoKeyIn}
 use Rattle.key_wrap_core.specs.Rewrap.{IsOldLength, to_itself}
 
@@ -31,8 +31,8 @@ pub record Wrapping (Legal : Type 0) (form : AgreedForm) (E : List ℕ → List 
   pub bad_length : (result ≡ Err BadLength) ↔ ¬ Legal
   pub only_fault : IsOkUnless result BadLength
   pub kept : result ≡ Err BadLength → new ≡ old
-  pub answer : OnOk result (StandsAs form E key new)
-  pub only_text : OnOk result ((other : List ℕ) → StandsAs form E key other → other ≡ new)
+  pub answer : OnOk result (IsWrapping form E key new)
+  pub only_text : OnOk result ((other : List ℕ) → IsWrapping form E key other → other ≡ new)
   pub other_form : OnOk result (NoOtherForm form E new)
 
 -- The promise of a call that unwraps this text in either form under E. It is the wrapping of only this key, and only in the
@@ -42,7 +42,7 @@ pub record UnwrappingEither (Legal : Type 0) (iv : ℕ) (E : List ℕ → List �
   pub bad_length : (result ≡ Err BadLength) ↔ ¬ Legal
   pub integrity : (result ≡ Err Integrity) ↔ (Legal × NoKeyIn (IsEither iv) E text)
   pub answer : IfOk result (λ found. IsOnlyWrapping (IsEither iv) E (with_value found.form iv) (key found) text)
-  pub accepts : (form : Form) (other : List ℕ) → Stands form iv E other text → IsOkUnless result BadLength
+  pub accepts : (form : Form) (other : List ℕ) → IsWrappingWithIv form iv E other text → IsOkUnless result BadLength
   pub other_form : IfOk result (λ found. NoOtherForm (with_value found.form iv) E text)
 
 -- what each refusal of an unwrapping leaves in its buffer

@@ -11,9 +11,9 @@ use Rattle.key_wrap_core.specs.Padded.{Padded}
 use Rattle.key_wrap_core.specs.NoKey.{NoKey, NoPlainKey}
 
 -- the wrapped key is the wrapping of the key in this form under E
-abbrev pub StandsAs : AgreedForm → (List ℕ → List ℕ) → List ℕ → List ℕ → Type 0
-StandsAs (InPlain iv) E key text = Plain E iv key text
-StandsAs InPadded E key text = Padded E key text
+abbrev pub IsWrapping : AgreedForm → (List ℕ → List ℕ) → List ℕ → List ℕ → Type 0
+IsWrapping (InPlain iv) E key text = Plain E iv key text
+IsWrapping InPadded E key text = Padded E key text
 
 -- the form, with this initial value if it is the plain form
 abbrev pub with_value : Form → ℕ → AgreedForm
@@ -24,12 +24,13 @@ with_value forms.Padded iv = InPadded
 abbrev pub by_default : Form → AgreedForm
 by_default form = with_value form default_iv
 
-abbrev pub Stands : Form → ℕ → (List ℕ → List ℕ) → List ℕ → List ℕ → Type 0
-Stands form iv E key text = StandsAs (with_value form iv) E key text
+-- the same in this form, with this initial value if it is the plain form
+abbrev pub IsWrappingWithIv : Form → ℕ → (List ℕ → List ℕ) → List ℕ → List ℕ → Type 0
+IsWrappingWithIv form iv E key text = IsWrapping (with_value form iv) E key text
 
 -- the wrapped key is the standard's wrapping of the key in this form under E: the plain one has the default initial value
-abbrev pub StandsIn : Form → (List ℕ → List ℕ) → List ℕ → List ℕ → Type 0
-StandsIn form E key text = StandsAs (by_default form) E key text
+abbrev pub IsDefaultWrapping : Form → (List ℕ → List ℕ) → List ℕ → List ℕ → Type 0
+IsDefaultWrapping form E key text = IsWrapping (by_default form) E key text
 
 abbrev pub IsKeyLengthAs : AgreedForm → ℕ → Type 0
 IsKeyLengthAs (InPlain iv) len = IsPlainKeyLength len

@@ -5,9 +5,9 @@ use Rattle.key_wrap_core.specs.declared.agreed_form.AgreedForm.TheVariants.{Plai
 use Rattle.block_pair.specs.Words.{IsWord}
 use Rattle.key_wrap_core.specs.Words.{word_bytes}
 use Rattle.key_wrap_core.specs.Lengths.{IsPlainKeyLength, IsPaddedKeyLength}
-use Rattle.key_wrap_core.specs.PaddedRegisters.{Holds}
+use Rattle.key_wrap_core.specs.PaddedRegisters.{IsAivAndKey}
 
 -- the buffer is the initial value of this form and the key, in the padded form with its padding
-abbrev pub HoldsIn : AgreedForm → (key buffer : List ℕ) → Type 0
-HoldsIn (Plain iv) key buffer = IsPlainKeyLength (length key) × (buffer ≡ word_bytes iv ++ key) × IsWord iv
-HoldsIn Padded key buffer = IsPaddedKeyLength (length key) × Holds buffer key
+abbrev pub IsIvAndKey : AgreedForm → (key buffer : List ℕ) → Type 0
+IsIvAndKey (Plain iv) key buffer = IsPlainKeyLength (length key) × (buffer ≡ word_bytes iv ++ key) × IsWord iv
+IsIvAndKey Padded key buffer = IsPaddedKeyLength (length key) × IsAivAndKey buffer key

@@ -24,8 +24,8 @@ key_in m buffer = take m (drop 8 buffer)
 
 -- The result of an unwrap that allocates no memory, in the form with this relation of keys and wrapped keys. BadLength
 -- if the lengths are not legal. Otherwise the key, or Integrity if there is none.
-abbrev pub KeyAnswer : {A : Type 0} → (Legal : Type 0) → (Stands : List ℕ → List ℕ → Type 0) → (text : List ℕ) → (key : A → List ℕ)
+abbrev pub KeyAnswer : {A : Type 0} → (Legal : Type 0) → (Relates : List ℕ → List ℕ → Type 0) → (text : List ℕ) → (key : A → List ℕ)
     → Result A InPlaceFault → Type 0
-KeyAnswer Legal Stands text key (Ok m) = Legal × Stands (key m) text
-KeyAnswer Legal Stands text key (Err BadLength) = ¬ Legal
-KeyAnswer Legal Stands text key (Err Integrity) = Legal × NoKey Stands text
+KeyAnswer Legal Relates text key (Ok m) = Legal × Relates (key m) text
+KeyAnswer Legal Relates text key (Err BadLength) = ¬ Legal
+KeyAnswer Legal Relates text key (Err Integrity) = Legal × NoKey Relates text

@@ -8,7 +8,7 @@ pub mod Registers
 pub mod PaddedRegisters
 pub mod NoKey
 pub mod Kind
-pub mod Calls
+pub mod BlockCalls
 pub mod Steps
 pub mod InPlace
 pub mod Forms

@@ -5,7 +5,7 @@ use Rattle.key_wrap_core.specs.Plain.{Plain, IsReserved}
 
 -- the wrapped key is not the wrapping of a key
 abbrev pub NoKey : (List ℕ → List ℕ → Type 0) → List ℕ → Type 0
-NoKey Stands text = (key : List ℕ) → ¬ Stands key text
+NoKey Relates text = (key : List ℕ) → ¬ Relates key text
 
 -- the wrapped key is not a plain wrapping, under any initial value
 abbrev pub NoPlainKey : (List ℕ → List ℕ) → List ℕ → Type 0

@@ -15,11 +15,11 @@ pub record PaddedRegisters (E : List ℕ → List ℕ) (before after : List ℕ)
   pub text_words : PaddedText E iv P after
 
 -- the buffer is the alternative initial value of the key, and then the padded key
-abbrev pub Holds : List ℕ → List ℕ → Type 0
-Holds buffer key = buffer ≡ word_bytes (aiv (length key)) ++ padded key
+abbrev pub IsAivAndKey : List ℕ → List ℕ → Type 0
+IsAivAndKey buffer key = buffer ≡ word_bytes (aiv (length key)) ++ padded key
 
 -- the buffer holds a key of that many bytes, which follows its initial value
-pub record HoldsLength (buffer : List ℕ) (len : ℕ) : Type 0 where
+pub record HasKeyLength (buffer : List ℕ) (len : ℕ) : Type 0 where
   pub legal : IsPaddedKeyLength len
   pub size : length (take len (drop 8 buffer)) ≡ len
-  pub holds : Holds buffer (take len (drop 8 buffer))
+  pub holds : IsAivAndKey buffer (take len (drop 8 buffer))

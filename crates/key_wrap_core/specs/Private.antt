@@ -14,7 +14,7 @@ use Rattle.key_wrap_core.specs.NoKey.{NoKey}
 use Rattle.key_wrap_core.specs.Forms.{IsKeyLengthAs, IsTextLengthAs}
 use Rattle.key_wrap_core.specs.Steps.{WrapSteps, UnwrapSteps}
 use Rattle.key_wrap_core.specs.Unwrapping.{Unwrapping}
-use Rattle.key_wrap_core.specs.Found.{HoldsIn}
+use Rattle.key_wrap_core.specs.Found.{IsIvAndKey}
 use Rattle.key_wrap_core.specs.Rewrap.{IsFrom}
 
 -- A step over two registers and more, for every E: if the block is E of the last one, t' steps are done after t.
@@ -37,17 +37,17 @@ pub record EndsIn {A : Type 0} (form : AgreedForm) (found : ℕ) (old new : List
 
 -- The difference is 0 exactly if the buffer holds a key in one of these forms.
 pub record TellsKey (IsFrom : AgreedForm → Type 0) (buffer : List ℕ) (difference : ℕ) : Type 0 where
-  pub passes : difference ≡ 0 → (form : AgreedForm) × IsFrom form × (key : List ℕ) × HoldsIn form key buffer
-  pub refuses : ¬ (difference ≡ 0) → (form : AgreedForm) → IsFrom form → NoKey (HoldsIn form) buffer
+  pub passes : difference ≡ 0 → (form : AgreedForm) × IsFrom form × (key : List ℕ) × IsIvAndKey form key buffer
+  pub refuses : ¬ (difference ≡ 0) → (form : AgreedForm) → IsFrom form → NoKey (IsIvAndKey form) buffer
 
 -- The difference is 0 exactly if the length of the key is legal in this form. Then the registers hold it there under this value.
 pub record Fits (form : AgreedForm) (key registers : List ℕ) (difference iv : ℕ) : Type 0 where
   pub fits : (difference ≡ 0) ↔ IsKeyLengthAs form (length key)
-  pub holds : IsKeyLengthAs form (length key) → HoldsIn form key (word_bytes iv ++ registers)
+  pub holds : IsKeyLengthAs form (length key) → IsIvAndKey form key (word_bytes iv ++ registers)
 
 -- the registers hold a key in one of the forms, and are wrapped to the text
 abbrev pub IsFound : RewrapForms → (List ℕ → List ℕ) → (text before : List ℕ) → Type 0
-IsFound forms E text before = (form : AgreedForm) × IsFrom forms form × (key : List ℕ) × HoldsIn form key before × PaddedRegisters E before text
+IsFound forms E text before = (form : AgreedForm) × IsFrom forms form × (key : List ℕ) × IsIvAndKey form key before × PaddedRegisters E before text
 
 -- the result of a rewrapping that does not look for what is new
 abbrev pub as_fresh : Result Unit RewrapFault → Result Rewrapped RewrapFault

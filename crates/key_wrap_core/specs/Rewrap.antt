@@ -8,7 +8,7 @@ use Rattle.key_wrap_core.specs.declared.rewrapping.Rewrapped.TheVariants.{Fresh,
 use Rattle.key_wrap_core.specs.declared.rewrapping.RewrapFault.{RewrapFault}
 use Rattle.key_wrap_core.specs.declared.rewrapping.RewrapFault.TheVariants.{BadLength, Integrity, KeyNotPlain}
 use Rattle.key_wrap_core.specs.Plain.{default_iv}
-use Rattle.key_wrap_core.specs.Forms.{StandsAs, IsKeyLengthAs, IsTextLengthAs}
+use Rattle.key_wrap_core.specs.Forms.{IsWrapping, IsKeyLengthAs, IsTextLengthAs}
 use Rattle.key_wrap_core.specs.EitherForm.{IsEither, IsOnlyWrapping, NoKeyIn}
 
 -- a form in which the text may be a wrapping
@@ -31,26 +31,26 @@ abbrev pub IsOldLength : RewrapForms → ℕ → Type 0
 IsOldLength forms len = (form : AgreedForm) × IsFrom forms form × IsTextLengthAs form len
 
 -- the text is the only wrapping of this key in this form, one of the old ones, under E
-abbrev pub IsWrapping : RewrapForms → (List ℕ → List ℕ) → AgreedForm → (key text : List ℕ) → Type 0
-IsWrapping forms E form key text = IsOnlyWrapping (IsFrom forms) E form key text
+abbrev pub IsOldWrapping : RewrapForms → (List ℕ → List ℕ) → AgreedForm → (key text : List ℕ) → Type 0
+IsOldWrapping forms E form key text = IsOnlyWrapping (IsFrom forms) E form key text
 
 -- The answer is the new wrapping, under F, of the only key of which the text is a wrapping under E. So unwrapping the
 -- answer gives exactly the old key, and rewrapping back gives the text.
 abbrev pub IsRewrapped : RewrapForms → (List ℕ → List ℕ) → (List ℕ → List ℕ) → List ℕ → List ℕ → Type 0
-IsRewrapped forms E F text answer = (form : AgreedForm) × (key : List ℕ) × IsWrapping forms E form key text
-    × IsWrapping (to_itself forms) F (to_form forms form) key answer
+IsRewrapped forms E F text answer = (form : AgreedForm) × (key : List ℕ) × IsOldWrapping forms E form key text
+    × IsOldWrapping (to_itself forms) F (to_form forms form) key answer
 
 -- Why a text is refused: for its length, as the wrapping of no key, or of a key whose length is not legal in the new form.
 abbrev pub HasFault : RewrapForms → (List ℕ → List ℕ) → List ℕ → RewrapFault → Type 0
 HasFault forms E text BadLength = ¬ IsOldLength forms (length text)
 HasFault forms E text Integrity = IsOldLength forms (length text) × NoKeyIn (IsFrom forms) E text
-HasFault forms E text KeyNotPlain = (form : AgreedForm) × (key : List ℕ) × IsWrapping forms E form key text
+HasFault forms E text KeyNotPlain = (form : AgreedForm) × (key : List ℕ) × IsOldWrapping forms E form key text
     × ¬ IsKeyLengthAs (to_form forms form) (length key)
 
 -- The text is no wrapping under E, but one under F in the new form.
 pub record IsNew (forms : RewrapForms) (E F : List ℕ → List ℕ) (text : List ℕ) : Type 0 where
   pub no_old : NoKeyIn (IsFrom forms) E text
-  pub new : (form : AgreedForm) × (key : List ℕ) × IsWrapping (to_itself forms) F form key text
+  pub new : (form : AgreedForm) × (key : List ℕ) × IsOldWrapping (to_itself forms) F form key text
 
 -- a text that is refused with `pass_new` is not new already
 abbrev pub IsRefused : Bool → RewrapForms → (List ℕ → List ℕ) → (List ℕ → List ℕ) → List ℕ → RewrapFault → Type 0
@@ -70,7 +70,7 @@ back (Changed old new) = Changed new old
 
 -- the text is the wrapping of a key whose length is legal in the new form
 abbrev pub HasGoodKey : RewrapForms → (List ℕ → List ℕ) → List ℕ → Type 0
-HasGoodKey forms E text = (form : AgreedForm) × (key : List ℕ) × IsWrapping forms E form key text
+HasGoodKey forms E text = (form : AgreedForm) × (key : List ℕ) × IsOldWrapping forms E form key text
     × IsKeyLengthAs (to_form forms form) (length key)
 
 -- Exactly when each result of a rewrapping comes, what it leaves in the buffer, and what a fresh wrapping is.
@@ -85,6 +85,6 @@ pub record RewrapResults (pass_new : Bool) (forms : RewrapForms) (E F : List ℕ
   pub kept : ¬ (result ≡ Ok Fresh) → after ≡ text
   -- unwrapping the new wrapped key gives exactly the old key
   pub same_key : result ≡ Ok Fresh → (form : AgreedForm) → IsFrom forms form → (key : List ℕ)
-      → StandsAs (to_form forms form) F key after ↔ StandsAs form E key text
+      → IsWrapping (to_form forms form) F key after ↔ IsWrapping form E key text
   -- rewrapping back gives the old wrapped key
   pub restores : result ≡ Ok Fresh → (other : List ℕ) → IsRewrapped (back forms) F E after other → other ≡ text

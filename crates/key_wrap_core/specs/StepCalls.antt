@@ -6,7 +6,7 @@ use Rattle.key_wrap_core.specs.declared.faults.InPlaceFault.{InPlaceFault}
 use Rattle.key_wrap_core.specs.Lengths.{IsPlainKeyLength, IsPaddedKeyLength}
 use Rattle.key_wrap_core.specs.Plain.{Plain}
 use Rattle.key_wrap_core.specs.Padded.{Padded, aiv, padded}
-use Rattle.key_wrap_core.specs.Calls.{block_calls}
+use Rattle.key_wrap_core.specs.BlockCalls.{block_calls}
 use Rattle.key_wrap_core.specs.Forms.{IsTextLengthAs}
 use Rattle.key_wrap_core.specs.Steps.{WrapState, UnwrapState}
 use Rattle.key_wrap_core.specs.Unwrapping.{Unwrapping}

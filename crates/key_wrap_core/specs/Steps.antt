@@ -2,7 +2,7 @@
 -- registers and the next block are after some of them (RFC 3394, section 2.2; RFC 5649, section 4).
 use Rattle.std.specs.Prelude.{◌≡◌, ◌⊎◌, ℕ, ◌+◌, ◌-◌, ◌*◌, ◌%◌, ◌≤◌, ◌<◌, List, ◌∷◌, length, take, drop, bit_xor}
 use Rattle.block_pair.specs.Words.{IsWord, IsBlock}
-use Rattle.key_wrap_core.specs.Calls.{block_calls}
+use Rattle.key_wrap_core.specs.BlockCalls.{block_calls}
 use Rattle.key_wrap_core.specs.Words.{AreWords, at, word_bytes, spelled, joined}
 
 -- A tape for E and n of which the equations of the steps s + 1 .. e hold; with s = 0 and e = 6n, a `Tape`.

@@ -4,8 +4,8 @@
 ghost use Rattle.std.specs.Prelude.{ℕ, List, [], length, take, replicate, IfOk, IsOk};
 ghost use Rattle.key_wrap_core.specs.declared.forms.Form.{Form};
 ghost use Rattle.key_wrap_core.specs.Lengths.{IsPaddedTextLength};
-ghost use Rattle.key_wrap_core.specs.Calls.{block_calls};
-ghost use Rattle.key_wrap_core.specs.Forms.{Stands};
+ghost use Rattle.key_wrap_core.specs.BlockCalls.{block_calls};
+ghost use Rattle.key_wrap_core.specs.Forms.{IsWrappingWithIv};
 ghost use Rattle.key_wrap_core.specs.InPlace.{ArePaddedLengths, key_in};
 ghost use Rattle.key_wrap_core.specs.BufferCalls.{UnwrappingEither, KeepsOrClears, IsKeyBuffer, CountsCalls};
 
@@ -35,7 +35,7 @@ pub fn unwrap_any_in_place<B: BlockPair>(
 
     // A wrapping in either form is not refused.
     ensures accepts { (form : Form) → (key : List ℕ)
-        → Stands form iv.now (B.encrypted meter.old.pair) key buf.old → IsOk result }
+        → IsWrappingWithIv form iv.now (B.encrypted meter.old.pair) key buf.old → IsOk result }
     ensures key { IfOk result (λ found.
         IsKeyBuffer (replicate 8 0) (key_in found.len buf.new) found.len buf.new) }
     ensures refused { KeepsOrClears buf.old buf.new result }

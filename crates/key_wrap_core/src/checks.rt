@@ -7,7 +7,7 @@ ghost use Rattle.byteorder.specs.Endian.{big_number};
 ghost use Rattle.key_wrap_core.specs.Words.{word_bytes};
 ghost use Rattle.key_wrap_core.specs.Lengths.{IsPaddedKeyLength, IsPaddedTextLength};
 ghost use Rattle.key_wrap_core.specs.Padded.{aiv};
-ghost use Rattle.key_wrap_core.specs.PaddedRegisters.{Holds, HoldsLength};
+ghost use Rattle.key_wrap_core.specs.PaddedRegisters.{IsAivAndKey, HasKeyLength};
 
 use crate::faults::InPlaceFault;
 use crate::lengths::{MAX_KEY, WORD};
@@ -65,9 +65,9 @@ pub(crate) fn given_length(iv: u64) -> u64
 // index that depends on the registers or the initial value.
 pub(crate) fn padded_difference(iv: u64, registers: &[u8]) -> u64
     requires { IsPaddedTextLength (8 + length registers.now) }
-    ensures passes { result ≡ 0 → HoldsLength (word_bytes iv ++ registers.now) (iv % 2 ^ 32) }
+    ensures passes { result ≡ 0 → HasKeyLength (word_bytes iv ++ registers.now) (iv % 2 ^ 32) }
     ensures refuses { ¬ (result ≡ 0) → (key : List ℕ) → IsPaddedKeyLength (length key)
-        → ¬ Holds (word_bytes iv ++ registers.now) key }
+        → ¬ IsAivAndKey (word_bytes iv ++ registers.now) key }
 {
     let prefix = (iv >> 32) ^ u64::from(AIV_PREFIX);
     // At least 8, and far more, if the length is not in its range.

@@ -7,8 +7,8 @@ ghost use Rattle.key_wrap_core.specs.Words.{word_bytes};
 ghost use Rattle.key_wrap_core.specs.Lengths.{IsPaddedTextLength};
 ghost use Rattle.key_wrap_core.specs.PaddedRegisters.{PaddedRegisters};
 ghost use Rattle.key_wrap_core.specs.NoKey.{NoKey};
-ghost use Rattle.key_wrap_core.specs.Calls.{block_calls};
-ghost use Rattle.key_wrap_core.specs.Found.{HoldsIn};
+ghost use Rattle.key_wrap_core.specs.BlockCalls.{block_calls};
+ghost use Rattle.key_wrap_core.specs.Found.{IsIvAndKey};
 
 use crate::agreed_form::AgreedForm;
 use crate::checks::is_zero;
@@ -76,9 +76,9 @@ pub(crate) fn decide_or_restore<B: BlockPair>(
 pub(crate) fn plain_difference(expected: u64, iv: u64, registers: &[u8]) -> u64
     requires { IsPaddedTextLength (8 + length registers.now) }
     ensures passes { result ≡ 0
-        → HoldsIn (AgreedForm.Plain expected) registers.now (word_bytes iv ++ registers.now) }
+        → IsIvAndKey (AgreedForm.Plain expected) registers.now (word_bytes iv ++ registers.now) }
     ensures refuses { ¬ (result ≡ 0)
-        → NoKey (HoldsIn (AgreedForm.Plain expected)) (word_bytes iv ++ registers.now) }
+        → NoKey (IsIvAndKey (AgreedForm.Plain expected)) (word_bytes iv ++ registers.now) }
 {
     if registers.len() == WORD {
         return 1;

@@ -6,7 +6,7 @@ ghost use Rattle.key_wrap_core.specs.Words.{word_bytes};
 ghost use Rattle.key_wrap_core.specs.Lengths.{IsPlainTextLength, IsPaddedTextLength};
 ghost use Rattle.key_wrap_core.specs.Plain.{Plain, default_iv};
 ghost use Rattle.key_wrap_core.specs.Padded.{Padded};
-ghost use Rattle.key_wrap_core.specs.Calls.{block_calls};
+ghost use Rattle.key_wrap_core.specs.BlockCalls.{block_calls};
 ghost use Rattle.key_wrap_core.specs.InPlace.{IsPaddedRoom, key_in};
 ghost use Rattle.key_wrap_core.specs.Unwrapping.{Unwrapping};
 ghost use Rattle.key_wrap_core.specs.BufferCalls.{Wrapping, KeepsOrClears};

@@ -2,7 +2,7 @@
 
 ghost use Rattle.std.specs.Prelude.{[], length, take, IfOk};
 ghost use Rattle.key_wrap_core.specs.Plain.{default_iv};
-ghost use Rattle.key_wrap_core.specs.Calls.{block_calls};
+ghost use Rattle.key_wrap_core.specs.BlockCalls.{block_calls};
 ghost use Rattle.key_wrap_core.specs.InPlace.{IsPaddedRoom, ArePlainLengths, ArePaddedLengths};
 ghost use Rattle.key_wrap_core.specs.Unwrapping.{Unwrapping};
 ghost use Rattle.key_wrap_core.specs.BufferCalls.{Wrapping, KeepsOrClears};

@@ -2,7 +2,7 @@
 //! ends agreed on. They take no memory.
 
 ghost use Rattle.std.specs.Prelude.{length};
-ghost use Rattle.key_wrap_core.specs.Calls.{block_calls};
+ghost use Rattle.key_wrap_core.specs.BlockCalls.{block_calls};
 ghost use Rattle.key_wrap_core.specs.Unwrapping.{Unwrapping};
 ghost use Rattle.key_wrap_core.specs.BufferCalls.{Wrapping, KeepsOrClears, CountsCalls};
 ghost use Rattle.key_wrap_core.specs.InPlace.{ArePlainLengths};

@@ -8,8 +8,8 @@ ghost use Rattle.key_wrap_core.specs.Lengths.{IsPaddedTextLength};
 ghost use Rattle.key_wrap_core.specs.Rewrap.{HasFault, IsFrom, IsOldLength, IsRewrapping, RewrapResults};
 ghost use Rattle.key_wrap_core.specs.Rewrap.{to_form, to_itself};
 ghost use Rattle.key_wrap_core.specs.Forms.{IsKeyLengthAs};
-ghost use Rattle.key_wrap_core.specs.Found.{HoldsIn};
-ghost use Rattle.key_wrap_core.specs.Calls.{block_calls};
+ghost use Rattle.key_wrap_core.specs.Found.{IsIvAndKey};
+ghost use Rattle.key_wrap_core.specs.BlockCalls.{block_calls};
 ghost use Rattle.key_wrap_core.specs.BufferCalls.{RewrapCalls};
 ghost use Rattle.key_wrap_core.specs.Private.{Fits, IsFound, TellsKey, as_fresh};
 
@@ -192,7 +192,7 @@ fn old_difference(forms: &RewrapForms, iv: u64, registers: &[u8]) -> u64
 fn fit(forms: &RewrapForms, iv: u64, registers: &[u8]) -> (u64, u64)
     requires { IsPaddedTextLength (8 + length registers.now) }
     ensures { (form : AgreedForm) → IsFrom forms.now form → (key : List ℕ)
-        → HoldsIn form key (word_bytes iv ++ registers.now)
+        → IsIvAndKey form key (word_bytes iv ++ registers.now)
         → Fits (to_form forms.now form) key registers.now result.0 result.1 }
 {
     match forms {

@@ -6,7 +6,7 @@ ghost use Rattle.std.specs.Prelude.{IsTrue};
 ghost use Rattle.block_pair.specs.Words.{IsBlock};
 ghost use Rattle.key_wrap_core.specs.Words.{word_bytes};
 ghost use Rattle.key_wrap_core.specs.Lengths.{IsPaddedTextLength};
-ghost use Rattle.key_wrap_core.specs.Calls.{block_calls};
+ghost use Rattle.key_wrap_core.specs.BlockCalls.{block_calls};
 ghost use Rattle.key_wrap_core.specs.Steps.{WrapState, UnwrapState};
 ghost use Rattle.key_wrap_core.specs.StepCalls.{IsWrapStep, IsUnwrapStep};
 ghost use Rattle.key_wrap_core.specs.Private.{IsWordsStep, IsWordsUnstep};

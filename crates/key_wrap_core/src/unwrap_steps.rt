@@ -9,7 +9,7 @@
 ghost use Rattle.std.specs.Prelude.{◌≡◌, ◌↔◌, ◌+◌, ◌≤◌, [], length, take, All};
 ghost use Rattle.std.specs.Prelude.{Err, OnOk, IfOk};
 ghost use Rattle.key_wrap_core.specs.Lengths.{IsPlainKeyLength, IsPlainTextLength, IsPaddedTextLength};
-ghost use Rattle.key_wrap_core.specs.Calls.{block_calls};
+ghost use Rattle.key_wrap_core.specs.BlockCalls.{block_calls};
 ghost use Rattle.key_wrap_core.specs.BufferCalls.{RefusesLength, KeepsOrClears, IsKeyBuffer};
 ghost use Rattle.key_wrap_core.specs.StepCalls.{UnwrapBegun, IsUnwrapStep, EndsUnwrapping};
 ghost use Rattle.key_wrap_core.specs.Words.{word_bytes};

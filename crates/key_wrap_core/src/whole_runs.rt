@@ -6,7 +6,7 @@ ghost use Rattle.key_wrap_core.specs.Lengths.{IsPlainKeyLength, IsPaddedKeyLengt
 ghost use Rattle.key_wrap_core.specs.Plain.{Plain};
 ghost use Rattle.key_wrap_core.specs.Padded.{Padded, aiv, padded};
 ghost use Rattle.key_wrap_core.specs.PaddedRegisters.{PaddedRegisters};
-ghost use Rattle.key_wrap_core.specs.Calls.{block_calls};
+ghost use Rattle.key_wrap_core.specs.BlockCalls.{block_calls};
 ghost use Rattle.key_wrap_core.specs.Steps.{WrapRun, UnwrapRun};
 
 /// Says that all steps of a wrapping, six for each 8 bytes of the key, or one for one word, end in the

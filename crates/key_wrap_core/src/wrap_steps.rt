@@ -11,7 +11,7 @@ ghost use Rattle.key_wrap_core.specs.Lengths.{IsPlainKeyLength, IsPaddedTextLeng
 ghost use Rattle.key_wrap_core.specs.Padded.{aiv, padded};
 ghost use Rattle.key_wrap_core.specs.InPlace.{IsPaddedRoom};
 ghost use Rattle.key_wrap_core.specs.BufferCalls.{RefusesLength};
-ghost use Rattle.key_wrap_core.specs.Calls.{block_calls};
+ghost use Rattle.key_wrap_core.specs.BlockCalls.{block_calls};
 ghost use Rattle.key_wrap_core.specs.StepCalls.{WrapBegun, IsWrapStep, WrapEnded};
 
 use crate::checks::padded_iv;

@@ -12,7 +12,7 @@ use Rattle.key_wrap_core.specs.declared.agreed_form.AgreedForm.TheVariants.{Plai
 use Rattle.key_wrap_core.specs.declared.faults.InPlaceFault.{InPlaceFault}
 use Rattle.key_wrap_core.specs.declared.faults.InPlaceFault.TheVariants.{BadLength, Integrity}
 use Rattle.key_wrap_core.specs.Lengths.{IsPlainTextLength}
-use Rattle.key_wrap_core.specs.Calls.{block_calls}
+use Rattle.key_wrap_core.specs.BlockCalls.{block_calls}
 use Rattle.key_wrap_core.specs.Steps.{WrapState, UnwrapState}
 use Rattle.key_wrap_core.specs.StepCalls.{EndsUnwrapping}
 use Rattle.key_wrap_core.proofs.Stepping.{after_turn, before_turn}

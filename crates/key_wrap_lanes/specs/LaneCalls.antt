@@ -5,7 +5,7 @@ use Rattle.std.specs.Prelude.{◌≡◌, ◌↔◌, ◌⊎◌, ℕ, ℤ, ◌+◌
 use Rattle.key_wrap_core.specs.Lengths.{IsPlainKeyLength, IsPaddedKeyLength}
 use Rattle.key_wrap_core.specs.Plain.{Plain}
 use Rattle.key_wrap_core.specs.Padded.{Padded, aiv, padded}
-use Rattle.key_wrap_core.specs.Calls.{block_calls}
+use Rattle.key_wrap_core.specs.BlockCalls.{block_calls}
 use Rattle.key_wrap_core.specs.Steps.{WrapState, UnwrapState}
 use Rattle.key_wrap_core.specs.StepCalls.{IsWrapStep, IsUnwrapStep}
 use Rattle.keywrap_calls.specs.Status.{IsDone, IsBadIv, IsBadLength}

@@ -3,7 +3,7 @@
 ghost use Rattle.std.specs.Prelude.{◌≡◌, ℕ, ◌+◌, ◌-◌, ◌*◌, ◌/◌, ◌%◌, ◌≤◌, ◌<◌, ◌++◌, List, ◌∷◌, [], length, take, drop};
 ghost use Rattle.std.specs.Prelude.{Ok, Err, OnOk, Result, All};
 ghost use Rattle.key_wrap_core.specs.Lengths.{IsPlainTextLength};
-ghost use Rattle.key_wrap_core.specs.Calls.{block_calls};
+ghost use Rattle.key_wrap_core.specs.BlockCalls.{block_calls};
 ghost use Rattle.key_wrap_core.specs.Steps.{UnwrapState};
 ghost use Rattle.key_wrap_lanes.specs.Lanes.{AreLanes, IsEnded, part_at, registers_at, block_at};
 ghost use Rattle.key_wrap_lanes.specs.LaneCalls.{BeginsUnwraps, StepsUnwraps, EndsUnwraps};
@@ -11,7 +11,7 @@ ghost use Rattle.key_wrap_lanes.specs.LaneCalls.{BeginsUnwraps, StepsUnwraps, En
 use crate::lane_turns::turn_lanes;
 use crate::lanes::{BLOCK, WORD, lanes_ok, step_count};
 use key_wrap_core::{InPlaceFault, InitialValue, begin_unwrap, end_unwrap};
-use keywrap_calls::{BAD_IV, BAD_LENGTH, DONE, initial_value};
+use keywrap_calls::{BAD_IV, BAD_LENGTH, DONE, iv_from_bytes};
 
 /// Begins the plain unwrapping of each of many texts: `*left` is the number of steps, and each block
 /// the first block to decrypt.
@@ -68,7 +68,7 @@ pub fn end_unwrap_many(
     ensures { EndsUnwraps iv.now text_len texts.old texts.new left
         blocks.old blocks.new statuses.old statuses.new result }
 {
-    let Some(value) = initial_value(iv) else {
+    let Some(value) = iv_from_bytes(iv) else {
         return BAD_IV;
     };
     if !lanes_ok(text_len, texts.len(), blocks.len())

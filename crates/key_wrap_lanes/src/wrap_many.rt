@@ -9,7 +9,7 @@ ghost use Rattle.key_wrap_lanes.specs.LaneCalls.{BeginsWraps, StepsWraps, EndsWr
 use crate::lane_turns::turn_lanes;
 use crate::lanes::{BLOCK, WORD, lanes_ok, step_count};
 use key_wrap_core::{InitialValue, begin_wrap};
-use keywrap_calls::{BAD_IV, BAD_LENGTH, DONE, initial_value};
+use keywrap_calls::{BAD_IV, BAD_LENGTH, DONE, iv_from_bytes};
 
 /// Begins the plain wrapping of each of many keys under the initial value `iv`: `*done` is 0, and
 /// each block the first block to encrypt. Each text contains its key after its first 8 bytes.
@@ -25,7 +25,7 @@ pub fn begin_wrap_many(
 ) -> i32
     ensures { BeginsWraps iv.now text_len texts.now done.old done.new blocks.old blocks.new result }
 {
-    let Some(value) = initial_value(iv) else {
+    let Some(value) = iv_from_bytes(iv) else {
         return BAD_IV;
     };
     if !lanes_ok(text_len, texts.len(), blocks.len()) {

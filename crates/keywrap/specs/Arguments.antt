@@ -28,8 +28,8 @@ use Rattle.keywrap_cli.specs.declared.job.Notation.{Notation}
 use Rattle.keywrap_cli.specs.declared.job.Notation.TheVariants.{Raw, Hex, Base64}
 use Rattle.keywrap_cli.specs.declared.operation.Operation.{Operation}
 use Rattle.keywrap_cli.specs.declared.operation.Operation.TheVariants as operations
-use Rattle.keywrap.specs.declared.cli.Stop.{Stop}
-use Rattle.keywrap.specs.declared.cli.Stop.TheVariants as stops
+use Rattle.keywrap.specs.declared.cli.CommandStop.{CommandStop}
+use Rattle.keywrap.specs.declared.cli.CommandStop.TheVariants as stops
 use Rattle.keywrap.specs.declared.command.Command.{Command}
 use Rattle.keywrap.specs.declared.command.Command.TheVariants.{Run, Drill, Vectors}
 use Rattle.keywrap.specs.declared.command.LineOptions.{LineOptions}
@@ -121,21 +121,21 @@ abbrev pub NamesSome : Args → List ℕ → Type 0
 NamesSome args option = (name : List ℕ) × NamesFile args option name
 
 -- Why there is no job, no rewrap and no drill. An initial value is refused only after each KEK file has its name.
-abbrev pub RefusesJob : Args → Stop → Type 0
+abbrev pub RefusesJob : Args → CommandStop → Type 0
 RefusesJob args (stops.Args stop) = IsRefusal stop × NamesNoFile args (codes "kek")
 RefusesJob args (stops.Fault (Iv fault)) = NamesSome args (codes "kek") × IsBadValue args (codes "iv") fault
 RefusesJob args (stops.Fault fault) = ⊥
 
-abbrev pub RefusesRewrap : Args → Stop → Type 0
+abbrev pub RefusesRewrap : Args → CommandStop → Type 0
 RefusesRewrap args (stops.Args stop) = IsRefusal stop × (NamesNoFile args (codes "kek") ⊎ NamesNoFile args (codes "new-kek"))
 RefusesRewrap args (stops.Fault fault) =
     NamesSome args (codes "kek") × NamesSome args (codes "new-kek") × (¬ IsSet args (codes "keep-form")) × AreBadValues args fault
 
-abbrev pub RefusesDrill : Args → Stop → Type 0
+abbrev pub RefusesDrill : Args → CommandStop → Type 0
 RefusesDrill args (stops.Args stop) = IsRefusal stop × Lacks args (codes "hex")
 RefusesDrill args (stops.Fault fault) = ⊥
 
-abbrev pub RefusesCommand : Args → Subcommand → Stop → Type 0
+abbrev pub RefusesCommand : Args → Subcommand → CommandStop → Type 0
 RefusesCommand args words.Wrap stop = RefusesJob args stop
 RefusesCommand args words.Unwrap stop = RefusesJob args stop
 RefusesCommand args words.Check stop = RefusesJob args stop

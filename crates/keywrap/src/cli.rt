@@ -6,7 +6,7 @@ ghost use Rattle.keywrap.specs.Arguments.{IsCommand, IsForm, IsInitialValue, IsJ
 ghost use Rattle.keywrap.specs.Arguments.{IsKekNotation, IsNotation, IsOperation, IsTextNotation};
 ghost use Rattle.keywrap.specs.Arguments.{RefusesCommand, RefusesDrill, RefusesJob, RefusesRewrap};
 ghost use Rattle.keywrap_args.specs.Given.{IsSet};
-ghost use Rattle.keywrap.specs.declared.cli.Stop.TheVariants as Stops;
+ghost use Rattle.keywrap.specs.declared.cli.CommandStop.TheVariants as Stops;
 
 use crate::command::{Command, LineOptions, Run, agreed_form};
 use key_lines::TextNotation;
@@ -20,26 +20,26 @@ use std::alloc::Global;
 
 /// Why no command is run.
 #[derive(Drop)]
-pub enum Stop {
+pub enum CommandStop {
     /// The help or a message is printed instead.
-    Args(keywrap_args::Stop),
+    Args(keywrap_args::ParseStop),
     /// An initial value was refused.
     Fault(ProgramFault),
 }
 
-impl From<keywrap_args::Stop> for Stop {
+impl From<keywrap_args::ParseStop> for CommandStop {
     ghost from_gives = { λ args stop. stop ≡ Stops.Args args };
 
-    fn from(stop: keywrap_args::Stop) -> Stop {
-        Stop::Args(stop)
+    fn from(stop: keywrap_args::ParseStop) -> CommandStop {
+        CommandStop::Args(stop)
     }
 }
 
-impl From<ProgramFault> for Stop {
+impl From<ProgramFault> for CommandStop {
     ghost from_gives = { λ fault stop. stop ≡ Stops.Fault fault };
 
-    fn from(fault: ProgramFault) -> Stop {
-        Stop::Fault(fault)
+    fn from(fault: ProgramFault) -> CommandStop {
+        CommandStop::Fault(fault)
     }
 }
 
@@ -47,12 +47,12 @@ impl From<ProgramFault> for Stop {
 ///
 /// The first of these stops is returned: the help, the version or arguments that clap refuses, `-`
 /// as a KEK file, `--iv`, `--new-iv`.
-pub fn read_command<'a>(alloc: Global, args: &'a [String]) -> Result<Command<'a>, Stop> {
+pub fn read_command<'a>(alloc: Global, args: &'a [String]) -> Result<Command<'a>, CommandStop> {
     command(&parse(alloc, args)?)
 }
 
 /// Returns the command for arguments that clap parsed.
-pub fn command<'a>(args: &Args<'a>) -> Result<Command<'a>, Stop>
+pub fn command<'a>(args: &Args<'a>) -> Result<Command<'a>, CommandStop>
     ensures command { IfOk result (λ command. IsCommand args.now command) }
     ensures refused { IfErr result (λ stop. RefusesCommand args.now args.now.subcommand stop) }
 {
@@ -75,13 +75,13 @@ pub fn command<'a>(args: &Args<'a>) -> Result<Command<'a>, Stop>
 }
 
 // UnwrapAny and Check try both forms and ignore this one.
-fn job<'a>(job: Job, args: &Args<'a>) -> Result<Operation<&'a str>, Stop>
+fn job<'a>(job: Job, args: &Args<'a>) -> Result<Operation<&'a str>, CommandStop>
     requires { IsJob args.now args.now.subcommand job }
     ensures operation { IfOk result (λ operation. IsOperation args.now operation) }
     ensures refused { IfErr result (λ stop. RefusesJob args.now stop) }
 {
     let kek = args.kek_file("kek")?;
-    let iv = initial_value(args, "iv").map_err(ProgramFault::Iv)?;
+    let iv = parse_iv_option(args, "iv").map_err(ProgramFault::Iv)?;
     let task = Task {
         job,
         form: form(args, "padded"),
@@ -91,7 +91,7 @@ fn job<'a>(job: Job, args: &Args<'a>) -> Result<Operation<&'a str>, Stop>
     Ok(Operation::Job { iv, task, kek })
 }
 
-fn rewrap<'a>(args: &Args<'a>) -> Result<Operation<&'a str>, Stop>
+fn rewrap<'a>(args: &Args<'a>) -> Result<Operation<&'a str>, CommandStop>
     requires { args.now.subcommand ≡ Subcommand.Rewrap }
     ensures operation { IfOk result (λ operation. IsOperation args.now operation) }
     ensures refused { IfErr result (λ stop. RefusesRewrap args.now stop) }
@@ -116,15 +116,15 @@ fn rewrap_forms(args: &Args<'_>) -> Result<RewrapForms, ProgramFault>
     if args.has("keep-form") {
         return Ok(RewrapForms::Kept);
     }
-    let iv = initial_value(args, "iv").map_err(ProgramFault::Iv)?;
-    let new_iv = initial_value(args, "new-iv").map_err(ProgramFault::NewIv)?;
+    let iv = parse_iv_option(args, "iv").map_err(ProgramFault::Iv)?;
+    let new_iv = parse_iv_option(args, "new-iv").map_err(ProgramFault::NewIv)?;
     Ok(RewrapForms::Changed {
         old: agreed_form(form(args, "padded"), iv),
         new: agreed_form(form(args, "new-padded"), new_iv),
     })
 }
 
-fn drill<'a>(args: &Args<'a>) -> Result<Command<'a>, Stop>
+fn drill<'a>(args: &Args<'a>) -> Result<Command<'a>, CommandStop>
     requires { args.now.subcommand ≡ Subcommand.Drill }
     ensures command { IfOk result (λ command. IsCommand args.now command) }
     ensures refused { IfErr result (λ stop. RefusesDrill args.now stop) }
@@ -201,7 +201,7 @@ fn lines(args: &Args<'_>) -> Option<LineOptions>
     })
 }
 
-fn initial_value(args: &Args<'_>, option: &str) -> Result<InitialValue, IvFault>
+fn parse_iv_option(args: &Args<'_>, option: &str) -> Result<InitialValue, IvFault>
     ensures value { IfOk result (λ iv. IsInitialValue args.now option.now iv) }
     ensures refused { IfErr result (λ fault. IsBadValue args.now option.now fault) }
 {

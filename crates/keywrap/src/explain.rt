@@ -108,7 +108,10 @@ fn file_reason(fault: FileFault, seen: &Inspection) -> Reason {
         FileFault::TooLong => Reason::MoreThan(MAX_FILE),
         FileFault::BadDigit { .. } => Reason::Text("not hex"),
         FileFault::OddDigits => Reason::HexDigits(seen.hex_digits),
-        FileFault::BadBase64(_) => Reason::Text("not base64"),
+        FileFault::BadCharacter { .. }
+        | FileFault::BehindPadding { .. }
+        | FileFault::BadBase64Length
+        | FileFault::TrailingBits => Reason::Text("not base64"),
         FileFault::Memory => Reason::NameOnly,
     }
 }

@@ -18,28 +18,28 @@ use std::time::Clock;
 const READ_BUFFER: usize = 65_536;
 
 /// The exit status of an operation that was not refused, and the counts if they are shown.
-pub type Answer = Outcome<(u8, Option<LineCounts>)>;
+pub type RunOutcome = Outcome<(u8, Option<LineCounts>)>;
 
 type RunResult = Result<RunSummary<RewrapFault>, RunFault<RewrapFault>>;
 
-/// The options of a run over lines.
+/// A run over lines as a command asks for it: its options, and what it shows.
 #[derive(Clone, Copy)]
-pub struct LineRun {
+pub struct LineCommand {
     options: RunOptions,
     shows_progress: bool,
     shows_counts: bool,
 }
 
-impl LineRun {
+impl LineCommand {
     /// Returns the options of a run over the lines of the input, if `--lines` was given.
-    pub fn new<R: Files>(rt: &R, run: &Run<'_>, streams: Streams) -> Option<LineRun> {
+    pub fn new<R: Files>(rt: &R, run: &Run<'_>, streams: Streams) -> Option<LineCommand> {
         let options = run.lines?;
         // Progress would be mixed with answers or with typed lines on the same terminal.
         let has_answers = run.output.is_none() && streams.output.is_terminal();
         let is_free = !has_answers && !is_typed(run, FileRole::Input, streams);
         let is_terminal = streams.error.is_terminal();
         let is_shown = is_terminal && is_free && !options.quiet;
-        Some(LineRun {
+        Some(LineCommand {
             options: RunOptions {
                 notation: options.notation,
                 keep_going: options.keep_going,
@@ -51,25 +51,25 @@ impl LineRun {
 
     /// Runs the operation on each line. The message of a skipped line is printed at once, and the
     /// first of these lines determines the status. An input without lines is refused.
-    pub fn answer<R: Eprint + AllocGlobal + Env + Clock, K: Read, I: Read, W: Write>(
+    pub fn run<R: Eprint + AllocGlobal + Env + Clock, K: Read, I: Read, W: Write>(
         self,
         rt: &R,
         operation: &mut Operation<K>,
         input: &mut Inspected<InputSource<I>>,
         out: &mut W,
-    ) -> Result<Answer, ProgramFault> {
+    ) -> Result<RunOutcome, ProgramFault> {
         let progress = Progress::start(rt, self.shows_progress, input.file.length());
         let reader = CountingReader {
             input,
             progress: &progress,
         };
-        let run = self.run(rt.alloc(), operation, reader, out);
+        let run = self.run_buffered(rt.alloc(), operation, reader, out);
         progress.clear();
         let Outcome { result, same_kek } = run?;
         let result = summary(result)?;
-        // A rewrap marks the lines that it passes.
+        // A rewrap notes the lines that it passes.
         let passed = match operation {
-            Operation::Rewrap { task, .. } if task.pass_new => Some(result.marked),
+            Operation::Rewrap { task, .. } if task.pass_new => Some(result.noted),
             _ => None,
         };
         let counts = LineCounts {
@@ -82,7 +82,7 @@ impl LineRun {
         Ok(Outcome { result, same_kek })
     }
 
-    fn run<R: Eprint + AllocGlobal + Env + Clock, K: Read, I: Read, W: Write>(
+    fn run_buffered<R: Eprint + AllocGlobal + Env + Clock, K: Read, I: Read, W: Write>(
         self,
         alloc: Global,
         operation: &mut Operation<K>,

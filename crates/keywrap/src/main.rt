@@ -4,11 +4,11 @@
 mod cli;
 mod command;
 mod explain;
-mod host;
 mod lines;
 mod program;
 mod prompt;
 mod session;
+mod system;
 mod warnings;
 
 use keywrap_io::{Streams, stream_kind};

@@ -1,25 +1,25 @@
 //! The program, from its arguments to its exit status.
 
-use crate::cli::{Stop, read_command};
+use crate::cli::{CommandStop, read_command};
 use crate::command::Command;
 use crate::explain::print_fault;
-use crate::host::Host;
 use crate::session::Session;
-use keywrap_args::Stop::{Help, Memory, Usage};
+use crate::system::System;
+use keywrap_args::ParseStop::{Help, Memory, Usage};
 use keywrap_args::arguments;
 use keywrap_cli::{Library, ProgramFault, run_drill, run_vectors, statuses, write_help};
 use keywrap_io::Streams;
 use std::{env, io};
 
 /// Runs the program on the arguments that it was started with, and returns its exit status.
-pub fn run<R: Host>(rt: &R, streams: Streams) -> u8 {
-    match answer(rt, streams) {
+pub fn run<R: System>(rt: &R, streams: Streams) -> u8 {
+    match run_arguments(rt, streams) {
         Ok(status) => status,
-        Err(reason) => stop(rt, &reason),
+        Err(stop) => print_stop(rt, &stop),
     }
 }
 
-fn answer<R: Host>(rt: &R, streams: Streams) -> Result<u8, Stop> {
+fn run_arguments<R: System>(rt: &R, streams: Streams) -> Result<u8, CommandStop> {
     let args = arguments(rt)?;
     let mut command = read_command(rt.alloc(), args.as_slice())?;
     if let Command::Run(run) = &mut command {
@@ -29,11 +29,11 @@ fn answer<R: Host>(rt: &R, streams: Streams) -> Result<u8, Stop> {
 }
 
 // Whether the environment turns `--verbose` on.
-fn is_verbose<R: Host>(rt: &R) -> bool {
+fn is_verbose<R: System>(rt: &R) -> bool {
     env::var(rt, "KEYWRAP_VERBOSE").is_ok_and(|value| value.as_str() == "1")
 }
 
-fn run_command<R: Host>(rt: &R, command: &Command<'_>, streams: Streams) -> u8 {
+fn run_command<R: System>(rt: &R, command: &Command<'_>, streams: Streams) -> u8 {
     let result = match command {
         Command::Run(run) => return Session::new(rt, run, streams).run(),
         Command::Drill {
@@ -50,18 +50,18 @@ fn run_command<R: Host>(rt: &R, command: &Command<'_>, streams: Streams) -> u8 {
 }
 
 // Help goes to standard output, and a message on the arguments to standard error.
-fn stop<R: Print + Eprint>(rt: &R, reason: &Stop) -> u8 {
-    match reason {
-        Stop::Args(Help(text)) => match write_help(text.as_str(), &mut io::writer(rt)) {
+fn print_stop<R: Print + Eprint>(rt: &R, stop: &CommandStop) -> u8 {
+    match stop {
+        CommandStop::Args(Help(text)) => match write_help(text.as_str(), &mut io::writer(rt)) {
             Ok(status) => status,
             Err(fault) => print_fault(rt, &fault),
         },
-        Stop::Args(Usage(text)) => {
+        CommandStop::Args(Usage(text)) => {
             // Nothing is left to do if standard error is closed.
             let _ = rt.eprint(text.as_str());
             statuses::USAGE
         }
-        Stop::Args(Memory) => print_fault(rt, &ProgramFault::Memory),
-        Stop::Fault(fault) => print_fault(rt, fault),
+        CommandStop::Args(Memory) => print_fault(rt, &ProgramFault::Memory),
+        CommandStop::Fault(fault) => print_fault(rt, fault),
     }
 }

@@ -2,9 +2,9 @@
 
 use crate::command::Run;
 use crate::explain::{Cause, ShownName, fault_cause, open_fault, print_fault};
-use crate::host::Host;
-use crate::lines::{Answer, LineRun};
+use crate::lines::{LineCommand, RunOutcome};
 use crate::prompt::prompt;
+use crate::system::System;
 use crate::warnings::warn;
 use keywrap_cli::{Job, Operation, Outcome, ProgramFault, done_status};
 use keywrap_io::{
@@ -35,7 +35,7 @@ type Source<I> = Inspected<InputSource<I>>;
 // The operation, with its open KEK files.
 type Opened<I> = Operation<Source<I>>;
 
-impl<'a, R: Host> Session<'a, R> {
+impl<'a, R: System> Session<'a, R> {
     /// Makes a session for a run. Nothing is opened.
     pub fn new(rt: &'a R, run: &'a Run<'a>, streams: Streams) -> Self {
         Session {
@@ -53,21 +53,21 @@ impl<'a, R: Host> Session<'a, R> {
     /// the operation, Flush.
     pub fn run(&self) -> u8 {
         let is_terminal = self.run.output.is_none() && self.streams.output.is_terminal();
-        let answer = if is_terminal && self.run.operation.writes_raw() {
+        let outcome = if is_terminal && self.run.operation.writes_raw() {
             Err(self.refuse(&ProgramFault::RawToTerminal, None))
         } else {
             match occupy_closed(self.rt, self.streams) {
-                Ok(_occupied) => self.answer_files(),
+                Ok(_occupied) => self.open_keks_and_run(),
                 // No file of the run causes such a fault, so there is no second line.
                 Err(role) => Err(self.refuse(&open_fault(role), None)),
             }
         };
-        match answer {
+        match outcome {
             Ok(status) | Err(Refused(status)) => status,
         }
     }
 
-    fn answer_files(&self) -> Result<u8, Refused> {
+    fn open_keks_and_run(&self) -> Result<u8, Refused> {
         let kek = self.open(FileRole::Kek)?;
         let mut operation = match &self.run.operation {
             Operation::Job { iv, task, .. } => Operation::Job {
@@ -81,10 +81,10 @@ impl<'a, R: Host> Session<'a, R> {
                 new_kek: self.open(FileRole::NewKek)?,
             },
         };
-        self.answer_operation(&mut operation)
+        self.open_io_and_run(&mut operation)
     }
 
-    fn answer_operation(&self, operation: &mut Opened<R::Reader>) -> Result<u8, Refused> {
+    fn open_io_and_run(&self, operation: &mut Opened<R::Reader>) -> Result<u8, Refused> {
         let mut input = self.open(FileRole::Input)?;
         let mut output = self.open_output(operation, &input)?;
         prompt(self.rt, self.run, self.streams);
@@ -146,12 +146,12 @@ impl<'a, R: Host> Session<'a, R> {
         output: &mut Inspected<Output<'a, Printer<'a, R>>>,
     ) -> Result<u8, Refused> {
         match self.operate(operation, input, output) {
-            Ok(answer) => {
+            Ok(outcome) => {
                 if let Err(reason) = output.file.commit(self.rt) {
                     let cause = (FileRole::Output, reason);
                     return Err(self.refuse(&ProgramFault::Flush, Some(cause)));
                 }
-                Ok(self.report(operation, answer))
+                Ok(self.report(operation, outcome))
             }
             Err(fault) => {
                 output.file.discard(self.rt);
@@ -168,18 +168,18 @@ impl<'a, R: Host> Session<'a, R> {
         operation: &mut Opened<R::Reader>,
         input: &mut Source<R::Reader>,
         output: &mut Inspected<Output<'a, Printer<'a, R>>>,
-    ) -> Result<Answer, ProgramFault> {
-        match LineRun::new(self.rt, self.run, self.streams) {
-            Some(lines) => lines.answer(self.rt, operation, input, output),
+    ) -> Result<RunOutcome, ProgramFault> {
+        match LineCommand::new(self.rt, self.run, self.streams) {
+            Some(lines) => lines.run(self.rt, operation, input, output),
             None => run_whole(self.rt.alloc(), operation, input, output),
         }
     }
 
     // Nothing is lost if standard error is closed.
-    fn report(&self, operation: &Opened<R::Reader>, answer: Answer) -> u8 {
-        let (status, counts) = answer.result;
+    fn report(&self, operation: &Opened<R::Reader>, outcome: RunOutcome) -> u8 {
+        let (status, counts) = outcome.result;
         if self.explains {
-            warn(self.rt, self.run, operation, answer.same_kek);
+            warn(self.rt, self.run, operation, outcome.same_kek);
         }
         if let Some(counts) = counts {
             let _ = self.rt.eprintln(counts);
@@ -213,7 +213,7 @@ fn run_whole<K: Read, I: Read, W: Write>(
     operation: &mut Operation<K>,
     input: &mut I,
     out: &mut W,
-) -> Result<Answer, ProgramFault> {
+) -> Result<RunOutcome, ProgramFault> {
     let run = operation.run(alloc, input, out);
     let Outcome { result, same_kek } = run.map_err(ProgramFault::Job)?;
     let result = (done_status(result), None);

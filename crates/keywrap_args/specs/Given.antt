@@ -2,8 +2,8 @@
 use Rattle.std.specs.Prelude.{◌≡◌, ◌⊎◌, ⊤, ℕ, List, Option, Some, None, codes}
 use Rattle.clap.specs.Matches.{first_value, found_of}
 use Rattle.keywrap_args.specs.declared.parser.Args.{Args}
-use Rattle.keywrap_args.specs.declared.parser.Stop.{Stop}
-use Rattle.keywrap_args.specs.declared.parser.Stop.TheVariants.{Help, Usage, Memory}
+use Rattle.keywrap_args.specs.declared.parser.ParseStop.{ParseStop}
+use Rattle.keywrap_args.specs.declared.parser.ParseStop.TheVariants.{Help, Usage, Memory}
 
 -- the value of an argument
 unfoldable pub given : Args → List ℕ → Option (List ℕ)
@@ -30,7 +30,7 @@ abbrev pub NamesNoFile : Args → List ℕ → Type 0
 NamesNoFile args option = Lacks args option ⊎ Has args option (codes "-")
 
 -- a message on refused arguments, or no memory for it
-abbrev pub IsRefusal : Stop → Type 0
+abbrev pub IsRefusal : ParseStop → Type 0
 IsRefusal (Help text) = ⊥
 IsRefusal (Usage text) = ⊤
 IsRefusal Memory = ⊤

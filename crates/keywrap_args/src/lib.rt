@@ -10,5 +10,5 @@ mod parser;
 mod subcommands;
 
 pub use escape::Escaped;
-pub use parser::{Args, Stop, arguments, parse};
+pub use parser::{Args, ParseStop, arguments, parse};
 pub use subcommands::Subcommand;

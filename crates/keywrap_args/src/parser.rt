@@ -3,7 +3,7 @@
 ghost use Rattle.std.specs.Prelude.{◌≡◌, ◌↔◌, Some, IfErr, IfOk, IsTrue, MatchOption};
 ghost use Rattle.std.specs.Prelude.{codes, option_map};
 ghost use Rattle.keywrap_args.specs.Given.{given, IsRefusal, Lacks, NamesFile, NamesNoFile};
-ghost use Rattle.keywrap_args.specs.declared.parser.Stop.TheVariants as Stops;
+ghost use Rattle.keywrap_args.specs.declared.parser.ParseStop.TheVariants as Stops;
 
 use crate::hints::message;
 use crate::subcommands::{Subcommand, matches_of, subcommand_named};
@@ -24,7 +24,7 @@ pub struct Args<'a> {
 
 /// What the program prints instead of running a subcommand.
 #[derive(Drop)]
-pub enum Stop {
+pub enum ParseStop {
     /// The help or the version, for standard output.
     Help(String),
     /// What is wrong with the arguments, for standard error.
@@ -33,19 +33,19 @@ pub enum Stop {
     Memory,
 }
 
-impl From<AllocError> for Stop {
+impl From<AllocError> for ParseStop {
     ghost from_gives = { λ _ stop. stop ≡ Stops.Memory };
 
-    fn from(_error: AllocError) -> Stop {
-        Stop::Memory
+    fn from(_error: AllocError) -> ParseStop {
+        ParseStop::Memory
     }
 }
 
 /// Returns the arguments that the program was started with.
-pub fn arguments<R: Env + AllocGlobal>(rt: &R) -> Result<Vec<String>, Stop> {
+pub fn arguments<R: Env + AllocGlobal>(rt: &R) -> Result<Vec<String>, ParseStop> {
     match env::args(rt) {
         Ok(args) => Ok(args.collect::<Vec<String>>(rt.alloc())?),
-        Err(error) if error.kind() == io::ErrorKind::OutOfMemory => Err(Stop::Memory),
+        Err(error) if error.kind() == io::ErrorKind::OutOfMemory => Err(ParseStop::Memory),
         Err(_) => {
             let said = "invalid UTF-8 was detected in one or more arguments";
             Err(refusal(rt.alloc(), said)?)
@@ -54,14 +54,14 @@ pub fn arguments<R: Env + AllocGlobal>(rt: &R) -> Result<Vec<String>, Stop> {
 }
 
 /// Parses the arguments. The first one is the name of the program.
-pub fn parse<'a>(alloc: Global, args: &'a [String]) -> Result<Args<'a>, Stop> {
+pub fn parse<'a>(alloc: Global, args: &'a [String]) -> Result<Args<'a>, ParseStop> {
     let mut matches = match matches_of(alloc, args) {
         Ok(matches) => matches,
-        Err(error) if error.kind() == ErrorKind::OutOfMemory => return Err(Stop::Memory),
+        Err(error) if error.kind() == ErrorKind::OutOfMemory => return Err(ParseStop::Memory),
         Err(error) if error.use_stderr() => {
-            return Err(Stop::Usage(message(alloc, args, error)?));
+            return Err(ParseStop::Usage(message(alloc, args, error)?));
         }
-        Err(error) => return Err(Stop::Help(format!(in alloc; "{error}")?)),
+        Err(error) => return Err(ParseStop::Help(format!(in alloc; "{error}")?)),
     };
     if let Some((name, matches)) = matches.remove_subcommand() {
         if let Some(subcommand) = subcommand_named(name) {
@@ -96,7 +96,7 @@ impl<'a> Args<'a> {
     }
 
     /// Returns the value of a required argument. Clap has refused arguments without it.
-    pub fn required(&self, argument: &str) -> Result<&'a str, Stop>
+    pub fn required(&self, argument: &str) -> Result<&'a str, ParseStop>
         ensures value { IfOk result (λ value. given self.now argument.now ≡ Some value.now) }
         ensures refused { IfErr result (λ stop. IsRefusal stop × Lacks self.now argument.now) }
     {
@@ -120,7 +120,7 @@ impl<'a> Args<'a> {
 
     /// Returns the KEK file of an option. `-` is rejected: elsewhere it means standard input, here
     /// it would be a file name.
-    pub fn kek_file(&self, option: &str) -> Result<&'a str, Stop>
+    pub fn kek_file(&self, option: &str) -> Result<&'a str, ParseStop>
         ensures name { IfOk result (λ name. NamesFile self.now option.now name.now) }
         ensures refused { IfErr result (λ stop. IsRefusal stop
             × NamesNoFile self.now option.now) }
@@ -138,10 +138,10 @@ impl<'a> Args<'a> {
 }
 
 // A refusal that clap does not know, in clap's form.
-fn refusal(alloc: Global, said: &str) -> Result<Stop, AllocError>
+fn refusal(alloc: Global, said: &str) -> Result<ParseStop, AllocError>
     ensures { IfOk result (λ stop. IsRefusal stop) }
 {
-    Ok(Stop::Usage(format!(in alloc; "error: {said}{USAGE}")?))
+    Ok(ParseStop::Usage(format!(in alloc; "error: {said}{USAGE}")?))
 }
 
 const USAGE: &str = "\n\nUsage: keywrap <COMMAND>\n\nFor more information, try '--help'.\n";

@@ -8,35 +8,35 @@ ghost use Rattle.keywrap_calls.specs.Status.{IsDone, IsIntegrity};
 ghost use Rattle.keywrap_calls.specs.Calls.{WrapsPlain, UnwrapsPlain, WrapsWith, UnwrapsWith, WrapsInPlace, UnwrapsInPlace};
 ghost use Rattle.keywrap_calls.specs.Calls.{WrapsPadded, UnwrapsPadded, WrapsPaddedInPlace, UnwrapsPaddedInPlace, IsPaddedKey};
 ghost use Rattle.keywrap_calls.specs.Any.{UnwrapsAny};
-ghost use Rattle.keywrap_calls.specs.Kinds.{FindsKind};
+ghost use Rattle.keywrap_calls.specs.KindCalls.{FindsKind};
 ghost use Rattle.keywrap_calls.specs.Rewraps.{Rewraps, RewrapsInPlace};
 ghost use Rattle.keywrap_calls.specs.Many.{WrapsMany, UnwrapsMany, RewrapsMany, FindsMany};
 ghost use Rattle.keywrap_calls.specs.SelfTest.{IsAllRight};
-ghost use Rattle.keywrap_calls.specs.StatusTexts.{text_of, fitting, begun_with};
+ghost use Rattle.keywrap_calls.specs.StatusTexts.{status_text_of, fitting, begun_with};
 ghost use Rattle.keywrap_calls.specs.Tried.{exports};
 ghost use Rattle.keywrap_calls.specs.Version.{version};
 
-use aes_vector::{LentAes, Room};
+use aes_vector::{KeySchedule, LentAes};
 use keywrap_calls::{In, Out, TestedCalls};
 
-// Makes a call with room for the round keys of its KEK.
-macro_rules! in_room {
+// Makes a call with memory for the round keys of its KEK.
+macro_rules! with_schedule {
     ($call:ident, $($argument:expr),*) => {{
-        let mut room = Room::new();
-        let status = keywrap_calls::$call::<LentAes>(&mut room, $($argument),*);
-        room.clear();
+        let mut schedule = KeySchedule::new();
+        let status = keywrap_calls::$call::<LentAes>(&mut schedule, $($argument),*);
+        schedule.clear();
         status
     }};
 }
 
-// Makes a call with room for the round keys of both KEKs.
-macro_rules! in_rooms {
+// Makes a call with memory for the round keys of both KEKs.
+macro_rules! with_schedules {
     ($call:ident, $($argument:expr),*) => {{
-        let mut old_room = Room::new();
-        let mut new_room = Room::new();
-        let rooms = (&mut old_room, &mut new_room);
-        let status = keywrap_calls::$call::<LentAes>(rooms, $($argument),*);
-        clear_rooms(&mut old_room, &mut new_room);
+        let mut old_schedule = KeySchedule::new();
+        let mut new_schedule = KeySchedule::new();
+        let schedules = (&mut old_schedule, &mut new_schedule);
+        let status = keywrap_calls::$call::<LentAes>(schedules, $($argument),*);
+        clear_schedules(&mut old_schedule, &mut new_schedule);
         status
     }};
 }
@@ -46,7 +46,7 @@ macro_rules! in_rooms {
 pub extern "C" fn keywrap_wrap(kek: In, key: In, text: Out) -> i32
     ensures { WrapsPlain (cipher kek.now) kek.now key.now text.old text.new result }
 {
-    in_room!(wrap, kek, key, text)
+    with_schedule!(wrap, kek, key, text)
 }
 
 /// Unwraps in the plain form.
@@ -54,7 +54,7 @@ pub extern "C" fn keywrap_wrap(kek: In, key: In, text: Out) -> i32
 pub extern "C" fn keywrap_unwrap(kek: In, text: In, key: Out) -> i32
     ensures { UnwrapsPlain (cipher kek.now) kek.now text.now key.old key.new result }
 {
-    in_room!(unwrap, kek, text, key)
+    with_schedule!(unwrap, kek, text, key)
 }
 
 /// Wraps in the plain form under an initial value.
@@ -62,7 +62,7 @@ pub extern "C" fn keywrap_unwrap(kek: In, text: In, key: Out) -> i32
 pub extern "C" fn keywrap_wrap_with(kek: In, iv: In, key: In, text: Out) -> i32
     ensures { WrapsWith (cipher kek.now) kek.now iv.now key.now text.old text.new result }
 {
-    in_room!(wrap_with, kek, iv, key, text)
+    with_schedule!(wrap_with, kek, iv, key, text)
 }
 
 /// Unwraps in the plain form under an initial value.
@@ -70,7 +70,7 @@ pub extern "C" fn keywrap_wrap_with(kek: In, iv: In, key: In, text: Out) -> i32
 pub extern "C" fn keywrap_unwrap_with(kek: In, iv: In, text: In, key: Out) -> i32
     ensures { UnwrapsWith (cipher kek.now) kek.now iv.now text.now key.old key.new result }
 {
-    in_room!(unwrap_with, kek, iv, text, key)
+    with_schedule!(unwrap_with, kek, iv, text, key)
 }
 
 /// Wraps in the plain form, in one buffer.
@@ -78,7 +78,7 @@ pub extern "C" fn keywrap_unwrap_with(kek: In, iv: In, text: In, key: Out) -> i3
 pub extern "C" fn keywrap_wrap_in_place(kek: In, buffer: Out) -> i32
     ensures { WrapsInPlace (cipher kek.now) kek.now buffer.old buffer.new result }
 {
-    in_room!(wrap_in_place, kek, buffer)
+    with_schedule!(wrap_in_place, kek, buffer)
 }
 
 /// Unwraps in the plain form, in one buffer.
@@ -87,7 +87,7 @@ pub extern "C" fn keywrap_unwrap_in_place(kek: In, buffer: Out) -> i32
     ensures unwraps { UnwrapsInPlace (cipher kek.now) kek.now buffer.old buffer.new result }
     ensures first_word { IsDone result → take 8 buffer.new ≡ replicate 8 0 }
 {
-    in_room!(unwrap_in_place, kek, buffer)
+    with_schedule!(unwrap_in_place, kek, buffer)
 }
 
 /// Wraps in the padded form.
@@ -95,7 +95,7 @@ pub extern "C" fn keywrap_unwrap_in_place(kek: In, buffer: Out) -> i32
 pub extern "C" fn keywrap_wrap_padded(kek: In, key: In, text: Out) -> i32
     ensures { WrapsPadded (cipher kek.now) kek.now key.now text.old text.new result }
 {
-    in_room!(wrap_padded, kek, key, text)
+    with_schedule!(wrap_padded, kek, key, text)
 }
 
 /// Unwraps in the padded form.
@@ -105,7 +105,7 @@ pub extern "C" fn keywrap_unwrap_padded(kek: In, text: In, key: Out, key_len: &m
     ensures key { IsPaddedKey (cipher kek.now)
         text.now (take key_len.new key.new) [] key.new key_len.new result }
 {
-    in_room!(unwrap_padded, kek, text, key, key_len)
+    with_schedule!(unwrap_padded, kek, text, key, key_len)
 }
 
 /// Wraps in the padded form, in one buffer.
@@ -113,7 +113,7 @@ pub extern "C" fn keywrap_unwrap_padded(kek: In, text: In, key: Out, key_len: &m
 pub extern "C" fn keywrap_wrap_padded_in_place(kek: In, buffer: Out, key_len: usize) -> i32
     ensures { WrapsPaddedInPlace (cipher kek.now) kek.now key_len buffer.old buffer.new result }
 {
-    in_room!(wrap_padded_in_place, kek, buffer, key_len)
+    with_schedule!(wrap_padded_in_place, kek, buffer, key_len)
 }
 
 /// Unwraps in the padded form, in one buffer.
@@ -124,7 +124,7 @@ pub extern "C" fn keywrap_unwrap_padded_in_place(kek: In, buffer: Out, key_len: 
     ensures key { IsPaddedKey (cipher kek.now)
         buffer.old (key_in key_len.new buffer.new) (replicate 8 0) buffer.new key_len.new result }
 {
-    in_room!(unwrap_padded_in_place, kek, buffer, key_len)
+    with_schedule!(unwrap_padded_in_place, kek, buffer, key_len)
 }
 
 /// Unwraps in whichever form the wrapped key is.
@@ -139,7 +139,7 @@ pub extern "C" fn keywrap_unwrap_any(
     ensures { UnwrapsAny (cipher kek.now) kek.now text.now key.old key.new padded.new
         key_len.new result }
 {
-    in_room!(unwrap_any, kek, text, key, padded, key_len)
+    with_schedule!(unwrap_any, kek, text, key, padded, key_len)
 }
 
 /// Finds the form of a wrapped key, and the length of its key.
@@ -154,7 +154,7 @@ pub extern "C" fn keywrap_kind(
     ensures { FindsKind (cipher kek.now) kek.now text.now scratch.old scratch.new
         padded.new key_len.new result }
 {
-    in_room!(kind, kek, text, scratch, padded, key_len)
+    with_schedule!(kind, kek, text, scratch, padded, key_len)
 }
 
 /// Rewraps in one buffer; after each refusal the buffer is what it was.
@@ -169,7 +169,7 @@ pub extern "C" fn keywrap_rewrap(
     ensures { Rewraps (cipher old_kek.now) (cipher new_kek.now)
         old_kek.now new_kek.now flags buffer.old buffer.new already.new result }
 {
-    in_rooms!(rewrap, old_kek, new_kek, buffer, flags, already)
+    with_schedules!(rewrap, old_kek, new_kek, buffer, flags, already)
 }
 
 /// Rewraps as version 1.0 did, which left zeros after a failed check.
@@ -178,7 +178,7 @@ pub extern "C" fn keywrap_rewrap_in_place(old_kek: In, new_kek: In, buffer: Out,
     ensures { RewrapsInPlace (cipher old_kek.now) (cipher new_kek.now)
         old_kek.now new_kek.now forms buffer.old buffer.new result }
 {
-    in_rooms!(rewrap_in_place, old_kek, new_kek, buffer, forms)
+    with_schedules!(rewrap_in_place, old_kek, new_kek, buffer, forms)
 }
 
 /// Wraps the key in each slot of a buffer.
@@ -193,7 +193,7 @@ pub extern "C" fn keywrap_wrap_many(
     ensures { WrapsMany (cipher kek.now)
         kek.now key_len flags texts.old texts.new statuses.old statuses.new result }
 {
-    in_room!(wrap_many, kek, texts, key_len, flags, statuses)
+    with_schedule!(wrap_many, kek, texts, key_len, flags, statuses)
 }
 
 /// Unwraps the wrapped key in each slot of a buffer.
@@ -208,7 +208,7 @@ pub extern "C" fn keywrap_unwrap_many(
     ensures { UnwrapsMany (cipher kek.now) kek.now flags texts.old texts.new
         key_lens.old key_lens.new statuses.old statuses.new result }
 {
-    in_room!(unwrap_many, kek, texts, flags, key_lens, statuses)
+    with_schedule!(unwrap_many, kek, texts, flags, key_lens, statuses)
 }
 
 /// Rewraps the wrapped key in each slot of a buffer.
@@ -223,7 +223,7 @@ pub extern "C" fn keywrap_rewrap_many(
     ensures { RewrapsMany (cipher old_kek.now) (cipher new_kek.now)
         old_kek.now new_kek.now flags texts.old texts.new statuses.old statuses.new result }
 {
-    in_rooms!(rewrap_many, old_kek, new_kek, texts, flags, statuses)
+    with_schedules!(rewrap_many, old_kek, new_kek, texts, flags, statuses)
 }
 
 /// Finds the form of the wrapped key in each slot of a buffer, and the length of its key.
@@ -240,16 +240,16 @@ pub extern "C" fn keywrap_kind_many(
         forms.old forms.new key_lens.old key_lens.new statuses.old statuses.new result }
     ensures cleared { IsDone result → All (λ byte. byte ≡ 0) scratch.new }
 {
-    in_room!(kind_many, kek, texts, scratch, forms, key_lens, statuses)
+    with_schedule!(kind_many, kek, texts, scratch, forms, key_lens, statuses)
 }
 
 /// Writes the text of a status.
 #[unsafe(no_mangle)]
 pub extern "C" fn keywrap_status_text(status: i32, text: Out) -> usize
-    ensures whole_length { result ≡ length (text_of status) }
+    ensures whole_length { result ≡ length (status_text_of status) }
     ensures short { result < 80 }
     ensures written { 0 < length text.old
-        → text.new ≡ begun_with (fitting (text_of status) text.old) text.old }
+        → text.new ≡ begun_with (fitting (status_text_of status) text.old) text.old }
 {
     keywrap_calls::status_text(status, text)
 }
@@ -294,14 +294,14 @@ impl TestedCalls for Exports {
     }
 }
 
-// Writes zeros over both rooms, and over what the making of the key schedules left on the stack:
-// its own room lies there.
+// Writes zeros over both key schedules, and over what making them left on the stack, where
+// `cover` lies.
 #[inline(never)]
-fn clear_rooms(old: &mut Room, new: &mut Room)
+fn clear_schedules(old: &mut KeySchedule, new: &mut KeySchedule)
     ensures old { All (λ x. x ≡ 0) old.new }
     ensures new { All (λ x. x ≡ 0) new.new }
 {
-    let mut cover = Room::new();
+    let mut cover = KeySchedule::new();
     cover.clear();
     old.clear();
     new.clear();

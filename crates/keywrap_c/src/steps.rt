@@ -1,8 +1,8 @@
 //! The exports of the steps, for an AES outside the library. `keywrap_steps.h` describes each call.
 
 ghost use Rattle.key_wrap_core.specs.Lengths.{IsPlainTextLength, IsPaddedTextLength};
-ghost use Rattle.keywrap_calls.specs.Steps.{BeginsWrap, BeginsPadded, StepsWrap, EndsWrap};
-ghost use Rattle.keywrap_calls.specs.Steps.{BeginsUnwrap, StepsUnwrap, EndsUnwrap, EndsPadded};
+ghost use Rattle.keywrap_calls.specs.StepPromises.{BeginsWrap, BeginsPadded, StepsWrap, EndsWrap};
+ghost use Rattle.keywrap_calls.specs.StepPromises.{BeginsUnwrap, StepsUnwrap, EndsUnwrap, EndsPadded};
 
 use keywrap_calls::{In, Out};
 

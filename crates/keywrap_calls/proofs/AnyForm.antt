@@ -9,7 +9,7 @@ use Rattle.key_wrap_core.specs.declared.faults.InPlaceFault.TheVariants.{BadLeng
 use Rattle.key_wrap_core.specs.InPlace.{ArePaddedLengths}
 use Rattle.key_wrap_core.specs.Padded.{padded}
 use Rattle.key_wrap_core.specs.Plain.{default_iv}
-use Rattle.key_wrap_core.specs.Forms.{Stands, NoOtherForm, by_default, with_value}
+use Rattle.key_wrap_core.specs.Forms.{IsWrappingWithIv, NoOtherForm, by_default, with_value}
 use Rattle.key_wrap_core.specs.EitherForm.{IsEither, IsOnlyWrapping, NoKeyIn}
 use Rattle.keywrap_calls.specs.Status.{fault_status}
 use Rattle.keywrap_calls.specs.Any.{UnwrapsAny, form_of}
@@ -51,7 +51,7 @@ module _ (E : List ℕ → List ℕ) (kek text old new : List ℕ) (iv : ℕ) (d
 
   pub refused_any : (fault : InPlaceFault) → ((refusal fault ≡ Err BadLength) ↔ ¬ ArePaddedLengths (length old) (length text))
       → ((refusal fault ≡ Err Integrity) ↔ (ArePaddedLengths (length old) (length text) × NoKeyIn (IsEither iv) E text))
-      → ((form : Form) (key : List ℕ) → Stands form iv E key text → IsOkUnless (refusal fault) BadLength)
+      → ((form : Form) (key : List ℕ) → IsWrappingWithIv form iv E key text → IsOkUnless (refusal fault) BadLength)
       → (refusal fault ≡ Err BadLength → new ≡ old) → (refusal fault ≡ Err Integrity → All (λ byte. byte ≡ 0) new)
       → UnwrapsAny E kek text old new 0 0 (fault_status fault)
   refused_any BadLength bad_length integrity accepts kept cleared = record {
@@ -76,7 +76,7 @@ module _ (E : List ℕ → List ℕ) (kek text old new : List ℕ) (iv : ℕ) (d
     integrity = (λ _. (legal_kek, (integrity.0 refl).0, subst (λ v. NoKeyIn (IsEither v) E text) default (integrity.0 refl).1), λ _. refl);
     answer = λ s. absurd (let wrong = s in cc);
     other_form = λ s. absurd (let wrong = s in cc);
-    accepts = λ form key _ _ stands. absurd (let wrong = accepts form key (subst (λ v. Stands form v E key text) (sym default) stands) in cc);
+    accepts = λ form key _ _ wrapping. absurd (let wrong = accepts form key (subst (λ v. IsWrappingWithIv form v E key text) (sym default) wrapping) in cc);
     size = λ s. absurd (let wrong = s in cc);
     buffer = λ s. absurd (let wrong = s in cc);
     flag = omega arith;

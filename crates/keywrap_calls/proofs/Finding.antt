@@ -6,7 +6,7 @@ use Rattle.key_wrap_core.specs.Lengths.{IsPaddedTextLength}
 use Rattle.key_wrap_core.specs.Plain.{Plain, default_iv}
 use Rattle.key_wrap_core.specs.Padded.{Padded}
 use Rattle.key_wrap_core.specs.Kind.{IsKindOf, NoOtherKey}
-use Rattle.keywrap_calls.specs.Kinds.{FindsKind, HasScratch}
+use Rattle.keywrap_calls.specs.KindCalls.{FindsKind, HasScratch}
 
 module _ (E : List ℕ → List ℕ) (kek text old new : List ℕ) (legal_kek : IsKekLength (length kek))
     (room : HasScratch (length text) (length old)) (kept : ¬ IsPaddedTextLength (length text) → new ≡ old)
@@ -22,8 +22,8 @@ module _ (E : List ℕ → List ℕ) (kek text old new : List ℕ) (legal_kek : 
     done = λ _. (legal_kek, room);
     answer = λ _. answer;
     other_form = λ _. other_form;
-    plain = λ key _ _ stands. (refl, refl, let same = is_plain key stands in cc);
-    padded = λ key _ _ stands. absurd (other_form key stands);
+    plain = λ key _ _ wrapping. (refl, refl, let same = is_plain key wrapping in cc);
+    padded = λ key _ _ wrapping. absurd (other_form key wrapping);
     none = λ no. absurd (no refl);
     kept_at_bad_kek = λ s. absurd (let wrong = s in cc);
     kept_at_bad_length = λ s. absurd (let wrong = s in cc);
@@ -43,8 +43,8 @@ module _ (E : List ℕ → List ℕ) (kek text old new : List ℕ) (legal_kek : 
     done = λ _. (legal_kek, room);
     answer = λ _. answer;
     other_form = λ _. other_form;
-    plain = λ key _ _ stands. absurd (let wrong = is_plain key stands in cc);
-    padded = λ key _ _ stands. (refl, refl, let same = is_padded key stands in cc);
+    plain = λ key _ _ wrapping. absurd (let wrong = is_plain key wrapping in cc);
+    padded = λ key _ _ wrapping. (refl, refl, let same = is_padded key wrapping in cc);
     none = λ no. absurd (no refl);
     kept_at_bad_kek = λ s. absurd (let wrong = s in cc);
     kept_at_bad_length = λ s. absurd (let wrong = s in cc);
@@ -61,8 +61,8 @@ module _ (E : List ℕ → List ℕ) (kek text old new : List ℕ) (legal_kek : 
     done = λ s. absurd (let wrong = s in cc);
     answer = λ s. absurd (let wrong = s in cc);
     other_form = λ s. absurd (let wrong = s in cc);
-    plain = λ key _ _ stands. absurd (answer.0 key stands);
-    padded = λ key _ _ stands. absurd (answer.1 key stands);
+    plain = λ key _ _ wrapping. absurd (answer.0 key wrapping);
+    padded = λ key _ _ wrapping. absurd (answer.1 key wrapping);
     none = λ _. (refl, refl);
     kept_at_bad_kek = λ s. absurd (let wrong = s in cc);
     kept_at_bad_length = λ s. absurd (let wrong = s in cc);

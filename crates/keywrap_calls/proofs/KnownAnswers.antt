@@ -16,32 +16,32 @@ use Rattle.keywrap_calls.specs.Status.{IsDone, IsIntegrity}
 use Rattle.keywrap_calls.specs.Calls.{IsWrapCall, IsUnwrapCall}
 
 -- a wrap that is not done
-pub not_wrapped : (Legal : Type 0) (Stands : List ℕ → List ℕ → Type 0) (kek key text old new : List ℕ) (status : ℤ)
-    → IsWrapCall Legal Stands kek key old new status → (Stands key text → Legal) → ¬ IsDone status
-    → IsTrue false ↔ (IsKekLength (length kek) × Stands key text)
-not_wrapped Legal Stands kek key text old new status call legal refused =
+pub not_wrapped : (Legal : Type 0) (Relates : List ℕ → List ℕ → Type 0) (kek key text old new : List ℕ) (status : ℤ)
+    → IsWrapCall Legal Relates kek key old new status → (Relates key text → Legal) → ¬ IsDone status
+    → IsTrue false ↔ (IsKekLength (length kek) × Relates key text)
+not_wrapped Legal Relates kek key text old new status call legal refused =
     (λ s. absurd (let wrong = s in cc), λ right. absurd (refused (call.done.1 (right.0, legal right.1))))
 
 -- another wrapped key
-pub other_text : (Legal : Type 0) (Stands : List ℕ → List ℕ → Type 0) (kek key text old new : List ℕ) (status : ℤ)
-    → IsWrapCall Legal Stands kek key old new status → IsDone status → ¬ (new ≡ text)
-    → IsTrue false ↔ (IsKekLength (length kek) × Stands key text)
-other_text Legal Stands kek key text old new status call done differ =
+pub other_text : (Legal : Type 0) (Relates : List ℕ → List ℕ → Type 0) (kek key text old new : List ℕ) (status : ℤ)
+    → IsWrapCall Legal Relates kek key old new status → IsDone status → ¬ (new ≡ text)
+    → IsTrue false ↔ (IsKekLength (length kek) × Relates key text)
+other_text Legal Relates kek key text old new status call done differ =
     (λ s. absurd (let wrong = s in cc), λ right. absurd (differ (sym ((call.answer done).only_text text right.1))))
 
 -- an unwrapping that is not done
-pub not_unwrapped : (Legal : Type 0) (Stands Other : List ℕ → List ℕ → Type 0) (kek text key found old new : List ℕ) (status : ℤ)
-    → IsUnwrapCall Legal Stands Other kek text found old new status → Legal → ¬ IsDone status
-    → IsTrue false ↔ (IsKekLength (length kek) × Stands key text)
-not_unwrapped Legal Stands Other kek text key found old new status call legal refused =
+pub not_unwrapped : (Legal : Type 0) (Relates Other : List ℕ → List ℕ → Type 0) (kek text key found old new : List ℕ) (status : ℤ)
+    → IsUnwrapCall Legal Relates Other kek text found old new status → Legal → ¬ IsDone status
+    → IsTrue false ↔ (IsKekLength (length kek) × Relates key text)
+not_unwrapped Legal Relates Other kek text key found old new status call legal refused =
     (λ s. absurd (let wrong = s in cc), λ right. absurd (refused (call.accepts key right.0 legal right.1)))
 
 -- the key that is found, or another one
-pub found_key : (Legal : Type 0) (Stands Other : List ℕ → List ℕ → Type 0) (kek text key found old new : List ℕ) (status : ℤ) (same : Bool)
-    → IsUnwrapCall Legal Stands Other kek text found old new status → IsDone status → Decides same (found ≡ key)
-    → IsTrue same ↔ (IsKekLength (length kek) × Stands key text)
-found_key Legal Stands Other kek text key found old new status same call done decides = (
-  λ s. ((call.done done).0, subst (λ (k : List ℕ). Stands k text) (decides.0 s) (call.answer done).stands),
+pub found_key : (Legal : Type 0) (Relates Other : List ℕ → List ℕ → Type 0) (kek text key found old new : List ℕ) (status : ℤ) (same : Bool)
+    → IsUnwrapCall Legal Relates Other kek text found old new status → IsDone status → Decides same (found ≡ key)
+    → IsTrue same ↔ (IsKekLength (length kek) × Relates key text)
+found_key Legal Relates Other kek text key found old new status same call done decides = (
+  λ s. ((call.done done).0, subst (λ (k : List ℕ). Relates k text) (decides.0 s) (call.answer done).wrapping),
   λ right. decides.1 (sym ((call.answer done).only_key key right.1)),
 )
 

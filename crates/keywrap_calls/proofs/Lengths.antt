@@ -5,7 +5,7 @@ use Rattle.std.proofs.Math.Logic.{by_cases}
 use Rattle.key_wrap_core.specs.declared.lengths.TheConstants.{MAX_KEY}
 use Rattle.key_wrap_core.specs.Lengths.{IsPlainKeyLength, IsPlainTextLength, IsPaddedTextLength}
 use Rattle.key_wrap_core.specs.InPlace.{IsPaddedRoom, ArePlainLengths}
-use Rattle.keywrap_calls.specs.Kinds.{HasScratch}
+use Rattle.keywrap_calls.specs.KindCalls.{HasScratch}
 
 -- a buffer whose key has a legal length after the first word
 pub plain_text_length : (buffer : List ℕ) → IsPlainKeyLength (length (drop 8 buffer)) → IsPlainTextLength (length buffer)

@@ -1,5 +1,5 @@
 -- Lemmas that several calls share.
-pub mod Calls
+pub mod CallPromises
 pub mod Finding
 pub mod AnyForm
 pub mod KnownAnswers

@@ -8,9 +8,9 @@ use mir.Val.{SFits, of_z, to_z}
 use Rattle.fips197.specs.KeyExpansion.{IsKekLength}
 use Rattle.key_wrap_core.specs.Lengths.{IsPaddedTextLength}
 use Rattle.key_wrap_core.proofs.Parts.{Writes, part_written, part_kept}
-use Rattle.keywrap_calls.specs.Kinds.{FindsKind}
+use Rattle.keywrap_calls.specs.KindCalls.{FindsKind}
 use Rattle.keywrap_calls.specs.Status.{IsUnwrapStatus}
-use Rattle.keywrap_calls.proofs.Calls.{passed_on}
+use Rattle.keywrap_calls.proofs.CallPromises.{passed_on}
 use Rattle.keywrap_calls.specs.Many.{slot_at, IsManyCall}
 
 -- The slots before one are done, each by S from what it was to what it is, and the others are as they were.

@@ -6,7 +6,7 @@ use Rattle.key_wrap_core.specs.declared.forms.Form.TheVariants.{Plain, Padded}
 use Rattle.key_wrap_core.specs.InPlace.{ArePaddedLengths}
 use Rattle.key_wrap_core.specs.Padded.{padded}
 use Rattle.key_wrap_core.specs.Plain.{default_iv}
-use Rattle.key_wrap_core.specs.Forms.{StandsIn, NoOtherForm, by_default}
+use Rattle.key_wrap_core.specs.Forms.{IsDefaultWrapping, NoOtherForm, by_default}
 use Rattle.key_wrap_core.specs.EitherForm.{IsEither, IsOnlyWrapping, NoKeyIn}
 use Rattle.keywrap_calls.specs.Status.{IsDone, IsBadKek, IsBadLength, IsIntegrity, IsUnwrapStatus}
 
@@ -26,7 +26,7 @@ pub record UnwrapsAny (E : List ℕ → List ℕ) (kek text old new : List ℕ) 
   pub answer : IsDone status → IsOnlyWrapping (IsEither default_iv) E (by_default (form_of is_padded)) (take key_len new) text
   pub other_form : IsDone status → NoOtherForm (by_default (form_of is_padded)) E text
   pub accepts : (form : Form) (key : List ℕ) → IsKekLength (length kek) → ArePaddedLengths (length old) (length text)
-      → StandsIn form E key text → IsDone status
+      → IsDefaultWrapping form E key text → IsDone status
   pub size : IsDone status → length (take key_len new) ≡ key_len
   pub buffer : IsDone status → new ≡ padded (take key_len new)
   pub flag : is_padded < 2

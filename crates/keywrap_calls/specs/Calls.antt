@@ -8,32 +8,32 @@ use Rattle.key_wrap_core.specs.Padded.{Padded, padded}
 use Rattle.key_wrap_core.specs.NoKey.{NoKey, NoPlainKey}
 use Rattle.key_wrap_core.specs.InPlace.{IsPaddedRoom, ArePlainLengths, ArePaddedLengths, key_in}
 use Rattle.keywrap_calls.specs.Status.{IsDone, IsBadIv, IsBadKek, IsBadLength, IsIntegrity, IsWrapStatus, IsUnwrapStatus}
-use Rattle.keywrap_calls.specs.Answers.{IsWrapping, IsUnwrapping}
+use Rattle.keywrap_calls.specs.CallAnswers.{IsWrapAnswer, IsUnwrapAnswer}
 use Rattle.keywrap_calls.specs.AgreedValue.{IsIv, iv_word}
 
 -- a call that wraps the key, in the form with this relation of keys and texts, if the lengths of its buffers are legal
-pub record IsWrapCall (Legal : Type 0) (Stands : List ℕ → List ℕ → Type 0) (kek key old new : List ℕ) (status : ℤ) : Type 0 where
+pub record IsWrapCall (Legal : Type 0) (Relates : List ℕ → List ℕ → Type 0) (kek key old new : List ℕ) (status : ℤ) : Type 0 where
   pub statuses : IsWrapStatus status
   pub bad_kek : IsBadKek status ↔ ¬ IsKekLength (length kek)
   pub bad_length : IsBadLength status ↔ (IsKekLength (length kek) × ¬ Legal)
   pub done : IsDone status ↔ (IsKekLength (length kek) × Legal)
   pub kept : ¬ IsDone status → new ≡ old
-  pub answer : IsDone status → IsWrapping Stands key new
+  pub answer : IsDone status → IsWrapAnswer Relates key new
 
 -- a call that unwraps the text and finds the key; in the other form the text is not a wrapping. A wrapping is refused
 -- only for its lengths
-pub record IsUnwrapCall (Legal : Type 0) (Stands Other : List ℕ → List ℕ → Type 0) (kek text key old new : List ℕ) (status : ℤ)
+pub record IsUnwrapCall (Legal : Type 0) (Relates Other : List ℕ → List ℕ → Type 0) (kek text key old new : List ℕ) (status : ℤ)
     : Type 0 where
   pub statuses : IsUnwrapStatus status
   pub bad_kek : IsBadKek status ↔ ¬ IsKekLength (length kek)
   pub bad_length : IsBadLength status ↔ (IsKekLength (length kek) × ¬ Legal)
   pub done : IsDone status → IsKekLength (length kek) × Legal
-  pub integrity : IsIntegrity status ↔ (IsKekLength (length kek) × Legal × NoKey Stands text)
+  pub integrity : IsIntegrity status ↔ (IsKekLength (length kek) × Legal × NoKey Relates text)
   pub kept_at_bad_kek : IsBadKek status → new ≡ old
   pub kept_at_bad_length : IsBadLength status → new ≡ old
   pub cleared : IsIntegrity status → All (λ byte. byte ≡ 0) new
-  pub answer : IsDone status → IsUnwrapping Stands Other text key
-  pub accepts : (other : List ℕ) → IsKekLength (length kek) → Legal → Stands other text → IsDone status
+  pub answer : IsDone status → IsUnwrapAnswer Relates Other text key
+  pub accepts : (other : List ℕ) → IsKekLength (length kek) → Legal → Relates other text → IsDone status
 
 -- a call under an initial value that both ends agreed on: a refused value is the first cause, and leaves the buffer
 -- unchanged

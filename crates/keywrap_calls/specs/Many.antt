@@ -9,7 +9,7 @@ use Rattle.key_wrap_core.specs.InPlace.{ArePlainLengths, IsPaddedRoom, key_in}
 use Rattle.key_wrap_core.specs.Rewrap.{IsOldLength}
 use Rattle.keywrap_calls.specs.Status.{IsDone, IsBadKek, IsBadLength, IsWrapStatus}
 use Rattle.keywrap_calls.specs.Calls.{WrapsInPlace, WrapsPaddedInPlace, UnwrapsInPlace, UnwrapsPaddedInPlace, IsPaddedKey}
-use Rattle.keywrap_calls.specs.Kinds.{FindsKind}
+use Rattle.keywrap_calls.specs.KindCalls.{FindsKind}
 use Rattle.keywrap_calls.specs.Rewraps.{Rewraps, AreKeks, AreFlags, forms_of, form_of_bit}
 
 -- the slot at a place, counted from 0, of slots of n bytes

@@ -4,8 +4,8 @@ use Rattle.std.specs.Prelude.{ℕ, ℤ, pos, List, ◌∷◌, ◌++◌, ◌+◌,
 use Rattle.std.specs.Ordering.{int_eq}
 
 -- the text of a status, without the zero at its end
-abbrev pub text_of : ℤ → List ℕ
-text_of status =
+abbrev pub status_text_of : ℤ → List ℕ
+status_text_of status =
     if int_eq status (pos 0) then codes "done"
     else (if int_eq status (pos 2) then codes "initial value is not 8 bytes, or is reserved for the padded form"
     else (if int_eq status (pos 3) then codes "key length is not 16, 24 or 32 bytes"

@@ -13,7 +13,7 @@ abbrev pub Call : Type 1
 Call = List ℕ → List ℕ → List ℕ → List ℕ → ℤ → Type 0
 
 -- the calls of a library; the last leaves the length of a key, too
-pub record Calls : Type 1 where
+pub record LibraryCalls : Type 1 where
   pub wrap : Call
   pub unwrap : Call
   pub wrap_padded : Call
@@ -27,7 +27,7 @@ pub record Gives (call : Call) (kek input output : List ℕ) : Type 0 where
   pub made : call kek input before output status
 
 -- a call of `unwrap_padded` gave this key, at the front of its buffer
-pub record GivesKey (calls : Calls) (kek text key : List ℕ) : Type 0 where
+pub record GivesKey (calls : LibraryCalls) (kek text key : List ℕ) : Type 0 where
   pub before : List ℕ
   pub after : List ℕ
   pub len : ℕ
@@ -37,7 +37,7 @@ pub record GivesKey (calls : Calls) (kek text key : List ℕ) : Type 0 where
   pub made : calls.unwrap_padded kek text before after len status
 
 -- a call of `unwrap` refused this text
-pub record Refuses (calls : Calls) (kek text : List ℕ) : Type 0 where
+pub record Refuses (calls : LibraryCalls) (kek text : List ℕ) : Type 0 where
   pub before : List ℕ
   pub after : List ℕ
   pub status : ℤ
@@ -45,18 +45,18 @@ pub record Refuses (calls : Calls) (kek text : List ℕ) : Type 0 where
   pub made : calls.unwrap kek text before after status
 
 -- calls gave the wrapped key for the key, and the key for the wrapped key
-abbrev pub GivesBoth : Calls → Algorithm → List ℕ → List ℕ → List ℕ → Type 0
+abbrev pub GivesBoth : LibraryCalls → Algorithm → List ℕ → List ℕ → List ℕ → Type 0
 GivesBoth calls KeyWrap kek key text = Gives calls.wrap kek key text × Gives calls.unwrap kek text key
 GivesBoth calls KeyWrapWithPadding kek key text = Gives calls.wrap_padded kek key text × GivesKey calls kek text key
 GivesBoth calls Encryption kek key text = ⊤
 
 -- all published vectors were tried in both directions, and a call refused the damaged wrapped key
-pub record AllTried (calls : Calls) : Type 0 where
+pub record AllTried (calls : LibraryCalls) : Type 0 where
   pub wrappings : AllByRecursion (λ v. GivesBoth calls v.algorithm v.key v.input v.output) published_vectors
   pub refused : Refuses calls damaged_kek damaged
 
 -- the exports, with the meaning of each call
-abbrev pub exports : Calls
+abbrev pub exports : LibraryCalls
 exports = record {
   wrap = λ kek key old new status. WrapsPlain (cipher kek) kek key old new status;
   unwrap = λ kek text old new status. UnwrapsPlain (cipher kek) kek text old new status;

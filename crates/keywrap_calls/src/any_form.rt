@@ -15,7 +15,7 @@ use key_wrap_core::{Form, InitialValue, unwrap_any_into};
 ///
 /// At `INTEGRITY` every byte of `key` is zero. Both numbers are 0 at each refusal.
 pub fn unwrap_any<A: KeyInit>(
-    room: A::Room,
+    schedule: A::Schedule,
     kek: &[u8],
     text: &[u8],
     key: &mut [u8],
@@ -27,7 +27,7 @@ pub fn unwrap_any<A: KeyInit>(
 {
     *padded = 0;
     *key_len = 0;
-    let Ok(aes) = A::new_in(kek, room) else {
+    let Ok(aes) = A::new_in(kek, schedule) else {
         return BAD_KEK;
     };
     match unwrap_any_into(&mut Meter::new(&aes), &InitialValue::default(), text, key) {

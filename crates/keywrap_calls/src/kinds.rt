@@ -3,7 +3,7 @@
 ghost use Rattle.std.specs.Prelude.{◌<◌, ℕ, List, length};
 ghost use Rattle.fips197.specs.Cipher.{cipher};
 ghost use Rattle.fips197.specs.KeyExpansion.{IsKekLength};
-ghost use Rattle.keywrap_calls.specs.Kinds.{FindsKind};
+ghost use Rattle.keywrap_calls.specs.KindCalls.{FindsKind};
 
 use crate::status::{BAD_KEK, BAD_LENGTH, DONE, INTEGRITY};
 use block_pair::{BlockPair, Meter};
@@ -18,7 +18,7 @@ use key_wrap_core::{Kind, kind_into};
 /// length is legal in a form, every byte of `scratch` is zero afterwards. Both numbers are 0 at
 /// each refusal. `INTEGRITY` means that neither form fits, or a length that neither form has.
 pub fn kind<A: KeyInit>(
-    room: A::Room,
+    schedule: A::Schedule,
     kek: &[u8],
     text: &[u8],
     scratch: &mut [u8],
@@ -30,7 +30,7 @@ pub fn kind<A: KeyInit>(
 {
     *padded = 0;
     *key_len = 0;
-    let Ok(aes) = A::new_in(kek, room) else {
+    let Ok(aes) = A::new_in(kek, schedule) else {
         return BAD_KEK;
     };
     kind_under(&aes, text, scratch, padded, key_len)

@@ -3,7 +3,7 @@
 ghost use Rattle.std.specs.Prelude.{◌↔◌, ◌⊎◌, ◌≤◌, [], length, take, IsTrue};
 ghost use Rattle.std.specs.List.{AllByRecursion};
 ghost use Rattle.fips197.specs.Cipher.{cipher};
-ghost use Rattle.keywrap_calls.specs.Tried.{AllTried, Calls, Gives, GivesBoth, GivesKey, Refuses};
+ghost use Rattle.keywrap_calls.specs.Tried.{AllTried, LibraryCalls, Gives, GivesBoth, GivesKey, Refuses};
 ghost use Rattle.fips197.specs.KeyExpansion.{IsKekLength};
 ghost use Rattle.key_wrap_core.specs.Plain.{Plain, default_iv};
 ghost use Rattle.key_wrap_core.specs.NoKey.{NoKey};
@@ -26,7 +26,7 @@ const LONGEST: usize = 32;
 /// The calls of a library that its self test makes.
 pub trait TestedCalls {
     /// What was called, and what it gave. Without a meaning, so that the self test has to call.
-    ghost calls: { Calls };
+    ghost calls: { LibraryCalls };
 
     /// Wraps in the plain form.
     fn wrap(kek: &[u8], key: &[u8], text: &mut [u8]) -> i32

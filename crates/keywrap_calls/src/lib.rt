@@ -33,7 +33,7 @@ pub use padded::{unwrap_padded, wrap_padded};
 pub use padded_in_place::{unwrap_padded_in_place, wrap_padded_in_place};
 pub use plain::{unwrap, wrap};
 pub use plain_in_place::{unwrap_in_place, wrap_in_place};
-pub use plain_with::{initial_value, unwrap_with, wrap_with};
+pub use plain_with::{iv_from_bytes, unwrap_with, wrap_with};
 pub use rewrapping::{rewrap, rewrap_in_place};
 pub use status::{BAD_IV, BAD_KEK, BAD_LENGTH, DONE, INTEGRITY, KEY_NOT_PLAIN, NO_MEMORY};
 pub use texts::status_text;

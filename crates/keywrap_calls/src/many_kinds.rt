@@ -20,7 +20,7 @@ use key_wrap_core::padded_text_length_ok;
 ///
 /// A refusal of the call leaves the buffers as they were.
 pub fn kind_many<A: KeyInit>(
-    room: A::Room,
+    schedule: A::Schedule,
     kek: &[u8],
     texts: &[u8],
     scratch: &mut [u8],
@@ -32,7 +32,7 @@ pub fn kind_many<A: KeyInit>(
         forms.old forms.new key_lens.old key_lens.new statuses.old statuses.new result }
     ensures cleared { IsDone result → All (λ byte. byte ≡ 0) scratch.new }
 {
-    let Ok(aes) = A::new_in(kek, room) else {
+    let Ok(aes) = A::new_in(kek, schedule) else {
         return BAD_KEK;
     };
     if !are_kind_slots(

@@ -19,7 +19,7 @@ use key_wrap_core::{RewrapFault, Rewrapped, rewrap_length_ok};
 ///
 /// A refused slot is what it was. A refusal of the call leaves both buffers as they were.
 pub fn rewrap_many<A: KeyInit>(
-    rooms: (A::Room, A::Room),
+    schedules: (A::Schedule, A::Schedule),
     old_kek: &[u8],
     new_kek: &[u8],
     texts: &mut [u8],
@@ -29,10 +29,10 @@ pub fn rewrap_many<A: KeyInit>(
     ensures { RewrapsMany (cipher old_kek.now) (cipher new_kek.now)
         old_kek.now new_kek.now flags texts.old texts.new statuses.old statuses.new result }
 {
-    let Ok(old) = A::new_in(old_kek, rooms.0) else {
+    let Ok(old) = A::new_in(old_kek, schedules.0) else {
         return BAD_KEK;
     };
-    let Ok(new) = A::new_in(new_kek, rooms.1) else {
+    let Ok(new) = A::new_in(new_kek, schedules.1) else {
         return BAD_KEK;
     };
     let Some(len) = rewrap_slot_len(flags, texts.len(), statuses.len()) else {

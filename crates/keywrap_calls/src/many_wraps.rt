@@ -21,7 +21,7 @@ use key_wrap_core::{Form, key_length_ok, padded_length_ok, padded_text_length_ok
 ///
 /// A refusal of the call leaves both buffers as they were.
 pub fn wrap_many<A: KeyInit>(
-    room: A::Room,
+    schedule: A::Schedule,
     kek: &[u8],
     texts: &mut [u8],
     key_len: usize,
@@ -31,7 +31,7 @@ pub fn wrap_many<A: KeyInit>(
     ensures { WrapsMany (cipher kek.now)
         kek.now key_len flags texts.old texts.new statuses.old statuses.new result }
 {
-    let Ok(aes) = A::new_in(kek, room) else {
+    let Ok(aes) = A::new_in(kek, schedule) else {
         return BAD_KEK;
     };
     let Some((form, len)) = wrap_slots_of(flags, key_len, texts.len(), statuses.len()) else {
@@ -117,7 +117,7 @@ fn wrap_slot<B: BlockPair>(pair: &B, form: Form, key_len: usize, text: &mut [u8]
 ///
 /// A refusal of the call leaves the buffers as they were.
 pub fn unwrap_many<A: KeyInit>(
-    room: A::Room,
+    schedule: A::Schedule,
     kek: &[u8],
     texts: &mut [u8],
     flags: u32,
@@ -127,7 +127,7 @@ pub fn unwrap_many<A: KeyInit>(
     ensures { UnwrapsMany (cipher kek.now) kek.now flags texts.old texts.new
         key_lens.old key_lens.new statuses.old statuses.new result }
 {
-    let Ok(aes) = A::new_in(kek, room) else {
+    let Ok(aes) = A::new_in(kek, schedule) else {
         return BAD_KEK;
     };
     let count = statuses.len();

@@ -10,10 +10,15 @@ use fips197::KeyInit;
 use key_wrap_core::{unwrap_padded_into, wrap_padded_into};
 
 /// Wraps `key` under `kek` in the padded form, into `text` (RFC 5649, section 4.1).
-pub fn wrap_padded<A: KeyInit>(room: A::Room, kek: &[u8], key: &[u8], text: &mut [u8]) -> i32
+pub fn wrap_padded<A: KeyInit>(
+    schedule: A::Schedule,
+    kek: &[u8],
+    key: &[u8],
+    text: &mut [u8],
+) -> i32
     ensures { WrapsPadded (cipher kek.now) kek.now key.now text.old text.new result }
 {
-    let Ok(aes) = A::new_in(kek, room) else {
+    let Ok(aes) = A::new_in(kek, schedule) else {
         return BAD_KEK;
     };
     status_of(wrap_padded_into(&mut Meter::new(&aes), key, text))
@@ -23,7 +28,7 @@ pub fn wrap_padded<A: KeyInit>(room: A::Room, kek: &[u8], key: &[u8], text: &mut
 /// zero bytes after it (RFC 5649, section 4.2). At `INTEGRITY` every byte of `key` is zero.
 /// `*key_len` is 0 at each refusal.
 pub fn unwrap_padded<A: KeyInit>(
-    room: A::Room,
+    schedule: A::Schedule,
     kek: &[u8],
     text: &[u8],
     key: &mut [u8],
@@ -34,7 +39,7 @@ pub fn unwrap_padded<A: KeyInit>(
         text.now (take key_len.new key.new) [] key.new key_len.new result }
 {
     *key_len = 0;
-    let Ok(aes) = A::new_in(kek, room) else {
+    let Ok(aes) = A::new_in(kek, schedule) else {
         return BAD_KEK;
     };
     match unwrap_padded_into(&mut Meter::new(&aes), text, key) {

@@ -13,14 +13,14 @@ use fips197::KeyInit;
 /// Wraps the key of `key_len` bytes after the first 8 bytes of `buffer` under `kek` in the padded
 /// form, into the whole buffer (RFC 5649, section 4.1). Other bytes of the buffer are ignored.
 pub fn wrap_padded_in_place<A: KeyInit>(
-    room: A::Room,
+    schedule: A::Schedule,
     kek: &[u8],
     buffer: &mut [u8],
     key_len: usize,
 ) -> i32
     ensures { WrapsPaddedInPlace (cipher kek.now) kek.now key_len buffer.old buffer.new result }
 {
-    let Ok(aes) = A::new_in(kek, room) else {
+    let Ok(aes) = A::new_in(kek, schedule) else {
         return BAD_KEK;
     };
     wrap_padded_under(&aes, buffer, key_len)
@@ -39,7 +39,7 @@ pub(crate) fn wrap_padded_under<B: BlockPair>(pair: &B, buffer: &mut [u8], key_l
 /// `*key_len` bytes, and zero bytes to the end (RFC 5649, section 4.2). At `INTEGRITY` every byte
 /// of the buffer is zero. `*key_len` is 0 at each refusal.
 pub fn unwrap_padded_in_place<A: KeyInit>(
-    room: A::Room,
+    schedule: A::Schedule,
     kek: &[u8],
     buffer: &mut [u8],
     key_len: &mut usize,
@@ -50,7 +50,7 @@ pub fn unwrap_padded_in_place<A: KeyInit>(
         buffer.old (key_in key_len.new buffer.new) (replicate 8 0) buffer.new key_len.new result }
 {
     *key_len = 0;
-    let Ok(aes) = A::new_in(kek, room) else {
+    let Ok(aes) = A::new_in(kek, schedule) else {
         return BAD_KEK;
     };
     unwrap_padded_under(&aes, buffer, key_len)

@@ -9,10 +9,10 @@ use fips197::KeyInit;
 use key_wrap_core::{unwrap_into, wrap_into};
 
 /// Wraps `key` under `kek` in the plain form, into `text` (RFC 3394, section 2.2.1).
-pub fn wrap<A: KeyInit>(room: A::Room, kek: &[u8], key: &[u8], text: &mut [u8]) -> i32
+pub fn wrap<A: KeyInit>(schedule: A::Schedule, kek: &[u8], key: &[u8], text: &mut [u8]) -> i32
     ensures { WrapsPlain (cipher kek.now) kek.now key.now text.old text.new result }
 {
-    let Ok(aes) = A::new_in(kek, room) else {
+    let Ok(aes) = A::new_in(kek, schedule) else {
         return BAD_KEK;
     };
     status_of(wrap_into(&mut Meter::new(&aes), key, text))
@@ -20,10 +20,10 @@ pub fn wrap<A: KeyInit>(room: A::Room, kek: &[u8], key: &[u8], text: &mut [u8]) 
 
 /// Unwraps `text`, in the plain form under `kek`, into `key` (RFC 3394, section 2.2.2). At
 /// `INTEGRITY` every byte of `key` is zero.
-pub fn unwrap<A: KeyInit>(room: A::Room, kek: &[u8], text: &[u8], key: &mut [u8]) -> i32
+pub fn unwrap<A: KeyInit>(schedule: A::Schedule, kek: &[u8], text: &[u8], key: &mut [u8]) -> i32
     ensures { UnwrapsPlain (cipher kek.now) kek.now text.now key.old key.new result }
 {
-    let Ok(aes) = A::new_in(kek, room) else {
+    let Ok(aes) = A::new_in(kek, schedule) else {
         return BAD_KEK;
     };
     status_of(unwrap_into(&mut Meter::new(&aes), text, key))

@@ -12,10 +12,10 @@ use fips197::KeyInit;
 
 /// Wraps the key after the first 8 bytes of `buffer`, which are ignored, under `kek` in the plain
 /// form, into the whole buffer (RFC 3394, section 2.2.1).
-pub fn wrap_in_place<A: KeyInit>(room: A::Room, kek: &[u8], buffer: &mut [u8]) -> i32
+pub fn wrap_in_place<A: KeyInit>(schedule: A::Schedule, kek: &[u8], buffer: &mut [u8]) -> i32
     ensures { WrapsInPlace (cipher kek.now) kek.now buffer.old buffer.new result }
 {
-    let Ok(aes) = A::new_in(kek, room) else {
+    let Ok(aes) = A::new_in(kek, schedule) else {
         return BAD_KEK;
     };
     wrap_under(&aes, buffer)
@@ -32,11 +32,11 @@ pub(crate) fn wrap_under<B: BlockPair>(pair: &B, buffer: &mut [u8]) -> i32
 
 /// Unwraps the plain wrapping in `buffer`, which becomes 8 zero bytes and its key under `kek` (RFC
 /// 3394, section 2.2.2). At `INTEGRITY` every byte of the buffer is zero.
-pub fn unwrap_in_place<A: KeyInit>(room: A::Room, kek: &[u8], buffer: &mut [u8]) -> i32
+pub fn unwrap_in_place<A: KeyInit>(schedule: A::Schedule, kek: &[u8], buffer: &mut [u8]) -> i32
     ensures unwraps { UnwrapsInPlace (cipher kek.now) kek.now buffer.old buffer.new result }
     ensures first_word { IsDone result → take 8 buffer.new ≡ replicate 8 0 }
 {
-    let Ok(aes) = A::new_in(kek, room) else {
+    let Ok(aes) = A::new_in(kek, schedule) else {
         return BAD_KEK;
     };
     unwrap_under(&aes, buffer)

@@ -13,7 +13,7 @@ use key_wrap_core::{InitialValue, unwrap_into_with, wrap_into_with};
 /// Wraps `key` under `kek` and the initial value `iv` in the plain form, into `text` (RFC 3394,
 /// sections 2.2.1 and 2.2.3.2).
 pub fn wrap_with<A: KeyInit>(
-    room: A::Room,
+    schedule: A::Schedule,
     kek: &[u8],
     iv: &[u8],
     key: &[u8],
@@ -21,10 +21,10 @@ pub fn wrap_with<A: KeyInit>(
 ) -> i32
     ensures { WrapsWith (cipher kek.now) kek.now iv.now key.now text.old text.new result }
 {
-    let Some(value) = initial_value(iv) else {
+    let Some(value) = iv_from_bytes(iv) else {
         return BAD_IV;
     };
-    let Ok(aes) = A::new_in(kek, room) else {
+    let Ok(aes) = A::new_in(kek, schedule) else {
         return BAD_KEK;
     };
     status_of(wrap_into_with(&mut Meter::new(&aes), &value, key, text))
@@ -33,7 +33,7 @@ pub fn wrap_with<A: KeyInit>(
 /// Unwraps `text`, in the plain form under `kek` and the initial value `iv`, into `key` (RFC 3394,
 /// sections 2.2.2 and 2.2.3.2). At `INTEGRITY` every byte of `key` is zero.
 pub fn unwrap_with<A: KeyInit>(
-    room: A::Room,
+    schedule: A::Schedule,
     kek: &[u8],
     iv: &[u8],
     text: &[u8],
@@ -41,10 +41,10 @@ pub fn unwrap_with<A: KeyInit>(
 ) -> i32
     ensures { UnwrapsWith (cipher kek.now) kek.now iv.now text.now key.old key.new result }
 {
-    let Some(value) = initial_value(iv) else {
+    let Some(value) = iv_from_bytes(iv) else {
         return BAD_IV;
     };
-    let Ok(aes) = A::new_in(kek, room) else {
+    let Ok(aes) = A::new_in(kek, schedule) else {
         return BAD_KEK;
     };
     status_of(unwrap_into_with(&mut Meter::new(&aes), &value, text, key))
@@ -53,7 +53,7 @@ pub fn unwrap_with<A: KeyInit>(
 /// Returns the initial value of these bytes. `None` if they are not 8 bytes, or are reserved for
 /// the padded form.
 #[tactic(auto, unfolding(crate::specs::AgreedValue::iv_word, crate::specs::AgreedValue::IsIv))]
-pub fn initial_value(bytes: &[u8]) -> Option<InitialValue>
+pub fn iv_from_bytes(bytes: &[u8]) -> Option<InitialValue>
     ensures given { IfSome result (λ value. IsIv bytes.now × (value ≡ iv_word bytes.now)) }
     ensures refused { IfNone result (¬ IsIv bytes.now) }
 {

@@ -22,7 +22,7 @@ const PASS_NEW: u32 = 8;
 /// After each refusal the buffer is what it was. `KEY_NOT_PLAIN` means that the wrapped key is
 /// genuine, but that its key has a length that no plain key has.
 pub fn rewrap<A: KeyInit>(
-    rooms: (A::Room, A::Room),
+    schedules: (A::Schedule, A::Schedule),
     old_kek: &[u8],
     new_kek: &[u8],
     buffer: &mut [u8],
@@ -33,10 +33,10 @@ pub fn rewrap<A: KeyInit>(
         old_kek.now new_kek.now flags buffer.old buffer.new already.new result }
 {
     *already = 0;
-    let Ok(old) = A::new_in(old_kek, rooms.0) else {
+    let Ok(old) = A::new_in(old_kek, schedules.0) else {
         return BAD_KEK;
     };
-    let Ok(new) = A::new_in(new_kek, rooms.1) else {
+    let Ok(new) = A::new_in(new_kek, schedules.1) else {
         return BAD_KEK;
     };
     let outcome = rewrap_as(&mut Meter::new(&old), &mut Meter::new(&new), flags, buffer);
@@ -48,7 +48,7 @@ pub fn rewrap<A: KeyInit>(
 /// legal in the new form is `BAD_LENGTH`, and after this refusal and after `INTEGRITY` every byte
 /// of the buffer is zero.
 pub fn rewrap_in_place<A: KeyInit>(
-    rooms: (A::Room, A::Room),
+    schedules: (A::Schedule, A::Schedule),
     old_kek: &[u8],
     new_kek: &[u8],
     buffer: &mut [u8],
@@ -57,10 +57,10 @@ pub fn rewrap_in_place<A: KeyInit>(
     ensures { RewrapsInPlace (cipher old_kek.now) (cipher new_kek.now)
         old_kek.now new_kek.now forms buffer.old buffer.new result }
 {
-    let Ok(old) = A::new_in(old_kek, rooms.0) else {
+    let Ok(old) = A::new_in(old_kek, schedules.0) else {
         return BAD_KEK;
     };
-    let Ok(new) = A::new_in(new_kek, rooms.1) else {
+    let Ok(new) = A::new_in(new_kek, schedules.1) else {
         return BAD_KEK;
     };
     if forms > 3 {

@@ -1,7 +1,7 @@
 //! The texts of statuses.
 
 ghost use Rattle.std.specs.Prelude.{◌≡◌, ◌<◌, length};
-ghost use Rattle.keywrap_calls.specs.StatusTexts.{text_of, fitting, begun_with};
+ghost use Rattle.keywrap_calls.specs.StatusTexts.{status_text_of, fitting, begun_with};
 
 use crate::status::{BAD_IV, BAD_KEK, BAD_LENGTH, DONE, INTEGRITY, KEY_NOT_PLAIN, NO_MEMORY};
 
@@ -9,10 +9,10 @@ use crate::status::{BAD_IV, BAD_KEK, BAD_LENGTH, DONE, INTEGRITY, KEY_NOT_PLAIN,
 /// `text` is empty. Returns the length of the whole text without the zero: if it is not less than
 /// the buffer's length, the text was cut.
 pub fn status_text(status: i32, text: &mut [u8]) -> usize
-    ensures whole_length { result ≡ length (text_of status) }
+    ensures whole_length { result ≡ length (status_text_of status) }
     ensures short { result < 80 }
     ensures written { 0 < length text.old
-        → text.new ≡ begun_with (fitting (text_of status) text.old) text.old }
+        → text.new ≡ begun_with (fitting (status_text_of status) text.old) text.old }
 {
     let words = words_of(status);
     if let Some(room) = text.len().checked_sub(1) {
@@ -25,7 +25,7 @@ pub fn status_text(status: i32, text: &mut [u8]) -> usize
 
 // The text of a status.
 fn words_of(status: i32) -> &'static [u8]
-    ensures text { result.now ≡ text_of status }
+    ensures text { result.now ≡ status_text_of status }
     ensures short { length result.now < 80 }
 {
     match status {

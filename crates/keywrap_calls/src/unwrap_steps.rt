@@ -1,9 +1,9 @@
 //! Unwrapping step by step, for an AES outside the library.
 
 ghost use Rattle.key_wrap_core.specs.Lengths.{IsPlainTextLength, IsPaddedTextLength};
-ghost use Rattle.keywrap_calls.specs.Steps.{BeginsUnwrap, StepsUnwrap, EndsUnwrap, EndsPadded};
+ghost use Rattle.keywrap_calls.specs.StepPromises.{BeginsUnwrap, StepsUnwrap, EndsUnwrap, EndsPadded};
 
-use crate::plain_with::initial_value;
+use crate::plain_with::iv_from_bytes;
 use crate::status::{BAD_IV, BAD_LENGTH, DONE, INTEGRITY};
 use key_wrap_core::InPlaceFault;
 
@@ -52,7 +52,7 @@ pub fn step_unwrap(registers: &mut [u8], left: &mut u64, block: &mut [u8; 16]) -
 pub fn end_unwrap(iv: &[u8], registers: &mut [u8], left: u64, block: &mut [u8; 16]) -> i32
     ensures { EndsUnwrap iv.now registers.old registers.new left block.old block.new result }
 {
-    let Some(value) = initial_value(iv) else {
+    let Some(value) = iv_from_bytes(iv) else {
         return BAD_IV;
     };
     match key_wrap_core::end_unwrap(&value, registers, left, block) {

@@ -1,8 +1,8 @@
 //! Wrapping step by step, for an AES outside the library.
 
-ghost use Rattle.keywrap_calls.specs.Steps.{BeginsWrap, BeginsPadded, StepsWrap, EndsWrap};
+ghost use Rattle.keywrap_calls.specs.StepPromises.{BeginsWrap, BeginsPadded, StepsWrap, EndsWrap};
 
-use crate::plain_with::initial_value;
+use crate::plain_with::iv_from_bytes;
 use crate::status::{BAD_IV, BAD_LENGTH, DONE};
 
 /// Begins the plain wrapping of the key in `registers` under the initial value `iv` (RFC 3394,
@@ -10,7 +10,7 @@ use crate::status::{BAD_IV, BAD_LENGTH, DONE};
 pub fn begin_wrap(iv: &[u8], registers: &[u8], done: &mut u64, block: &mut [u8; 16]) -> i32
     ensures { BeginsWrap iv.now registers.now done.old done.new block.old block.new result }
 {
-    let Some(value) = initial_value(iv) else {
+    let Some(value) = iv_from_bytes(iv) else {
         return BAD_IV;
     };
     match key_wrap_core::begin_wrap(&value, registers, done, block) {

@@ -1,8 +1,9 @@
 -- What a call makes of its input in a buffer with room, from what the call promises, by the cases of its result.
 use Rattle.std.proofs.Common.{◌≡◌, ◌↔◌, ℕ, List, length, Result, Ok, Err, OnOk, refl}
 use Rattle.std.specs.Prelude.{IsOkUnless}
-use Rattle.key_lines.specs.Answers.{made}
-use Rattle.key_wrap_core.specs.Forms.{IsTextLength, Stands, with_value}
+use Rattle.key_lines.specs.LineAnswers.{made}
+use Rattle.key_lines.specs.declared.fault.LineFault.TheVariants.{Refused}
+use Rattle.key_wrap_core.specs.Forms.{IsTextLength, IsWrappingWithIv, with_value}
 use Rattle.key_wrap_core.specs.EitherForm.{IsEither, IsOnlyWrapping, NoKeyIn}
 use Rattle.key_wrap_core.specs.InPlace.{ArePaddedLengths, KeyAnswer}
 use Rattle.key_wrap_core.specs.Forms.{NoOtherForm}
@@ -10,37 +11,37 @@ use Rattle.key_wrap_core.specs.declared.faults.InPlaceFault.{InPlaceFault}
 use Rattle.key_wrap_core.specs.declared.faults.InPlaceFault.TheVariants.{BadLength, Integrity}
 use Rattle.key_wrap_core.specs.declared.forms.Form.{Form}
 use Rattle.key_wrap_core.specs.declared.forms.FoundKey.{FoundKey}
-use Rattle.keywrap_cli.specs.Answers.{FindsKey, MakesConversion}
+use Rattle.keywrap_cli.specs.JobAnswers.{FindsKey, IsMade, MakesConversion, job_refusal}
 use Rattle.keywrap_cli.specs.Conversion.{IsInputLength, IsKeyOf}
 use Rattle.keywrap_cli.specs.declared.convert.Direction.TheVariants.{Wrap, Unwrap}
 
 -- a wrapping of a key with a legal length
 pub wrapped : {Room : Type 0} (form : Form) (iv : ℕ) (E : List ℕ → List ℕ) (key text : List ℕ) (r : Result (Unit {0}) InPlaceFault)
     → Room → ((r ≡ Err BadLength) ↔ ¬ Room) → IsOkUnless r BadLength → OnOk r (IsTextLength form (length text))
-    → OnOk r (Stands form iv E key text) → OnOk r ((other : List ℕ) → Stands form iv E key other → other ≡ text)
+    → OnOk r (IsWrappingWithIv form iv E key text) → OnOk r ((other : List ℕ) → IsWrappingWithIv form iv E key other → other ≡ text)
     → MakesConversion Wrap form iv E key (made text r)
-wrapped form iv E key text (Ok done) room bad only legal stands alone = record { legal = legal; stands = stands; alone = alone }
-wrapped form iv E key text (Err BadLength) room bad only legal stands alone = absurd (bad.0 refl room)
-wrapped form iv E key text (Err Integrity) room bad only legal stands alone = absurd (cc only)
+wrapped form iv E key text (Ok done) room bad only legal wrapping alone = record { legal = legal; wrapping = wrapping; alone = alone }
+wrapped form iv E key text (Err BadLength) room bad only legal wrapping alone = absurd (bad.0 refl room)
+wrapped form iv E key text (Err Integrity) room bad only legal wrapping alone = absurd (cc only)
 
 -- an unwrapping of a text with a legal length, in the form that relates these keys to texts
 pub refused_unwrap : {A : Type 0} (form : Form) (iv : ℕ) (Fits : List ℕ → List ℕ → Type 0) (E : List ℕ → List ℕ) (text : List ℕ)
     (Legal : Type 0) (key : A → List ℕ) (fault : InPlaceFault) → Legal → IsInputLength Unwrap form (length text)
-    → ((wrapped : List ℕ) → Stands form iv E wrapped text → Fits wrapped text) → KeyAnswer Legal Fits text key (Err fault)
+    → ((wrapped : List ℕ) → IsWrappingWithIv form iv E wrapped text → Fits wrapped text) → KeyAnswer Legal Fits text key (Err fault)
     → MakesConversion Unwrap form iv E text (Err fault)
 refused_unwrap form iv Fits E text Legal key BadLength legal fits same h = absurd (h legal)
 refused_unwrap form iv Fits E text Legal key Integrity legal fits same h = (fits, λ wrapped s. h.1 wrapped (same wrapped s))
 
 pub unwrapped : (form : Form) (iv : ℕ) (Fits : List ℕ → List ℕ → Type 0) (E : List ℕ → List ℕ) (text key : List ℕ) (Legal : Type 0)
     (r : Result (Unit {0}) InPlaceFault) → Legal → IsInputLength Unwrap form (length text)
-    → ((wrapped : List ℕ) → Stands form iv E wrapped text → Fits wrapped text)
-    → ((wrapped : List ℕ) → Fits wrapped text → Stands form iv E wrapped text)
+    → ((wrapped : List ℕ) → IsWrappingWithIv form iv E wrapped text → Fits wrapped text)
+    → ((wrapped : List ℕ) → Fits wrapped text → IsWrappingWithIv form iv E wrapped text)
     → KeyAnswer Legal Fits text (λ (_ : Unit {0}). key) r
-    → OnOk r ((other : List ℕ) → Stands form iv E other text → other ≡ key)
-    → OnOk r ((other : List ℕ) → Stands form iv E key other → other ≡ text)
+    → OnOk r ((other : List ℕ) → IsWrappingWithIv form iv E other text → other ≡ key)
+    → OnOk r ((other : List ℕ) → IsWrappingWithIv form iv E key other → other ≡ text)
     → OnOk r (NoOtherForm (with_value form iv) E text) → MakesConversion Unwrap form iv E text (made key r)
 unwrapped form iv Fits E text key Legal (Ok done) legal fits to from h alone restores one =
-    record { stands = from key h.1; alone = alone; restores = restores; one_form = one }
+    record { wrapping = from key h.1; alone = alone; restores = restores; one_form = one }
 unwrapped form iv Fits E text key Legal (Err fault) legal fits to from h alone restores one =
     refused_unwrap {A = Unit {0}} form iv Fits E text Legal (λ (_ : Unit {0}). key) fault legal fits to h
 
@@ -58,8 +59,14 @@ none_found iv room E text Integrity legal bad none = (legal.0, λ own. (none.0 r
 pub is_found : (iv : ℕ) (E : List ℕ → List ℕ) (form : Form) (key text : List ℕ)
     → IsOnlyWrapping (IsEither iv) E (with_value form iv) key text → NoOtherForm (with_value form iv) E text → IsKeyOf form iv E text key
 is_found iv E form key text is one = record {
-  stands = is.stands;
+  wrapping = is.wrapping;
   alone = λ other h. (is.only (with_value form iv) other (form, refl) h).1;
   restores = is.alone;
   one_form = one;
 }
+
+-- the refusal of a call that made nothing
+pub IsMade-refused : (Is : Result (List ℕ) InPlaceFault → Type 0) (output : List ℕ) (fault : InPlaceFault) → Is (Err fault)
+    → IsMade Is output (Err (Refused (job_refusal fault)))
+IsMade-refused Is output BadLength h = h
+IsMade-refused Is output Integrity h = h

@@ -9,7 +9,7 @@ use Rattle.key_files.specs.declared.fault.HexWriteFault.TheVariants as hex
 use Rattle.key_wrap_core.specs.declared.forms.Form.{Form}
 use Rattle.keywrap_cli.specs.Drill.{DrillAnswer}
 use Rattle.keywrap_cli.specs.Faults.{hex_fault_of}
-use Rattle.keywrap_cli.specs.Flushed.{IsDrillFault}
+use Rattle.keywrap_cli.specs.Fileless.{IsDrillFault}
 use Rattle.keywrap_cli.specs.declared.convert.Direction.{Direction}
 use Rattle.keywrap_cli.specs.declared.fault.ProgramFault.{ProgramFault}
 use Rattle.keywrap_cli.specs.declared.fault.ProgramFault.TheVariants.{Flush}

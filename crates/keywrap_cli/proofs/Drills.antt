@@ -5,7 +5,7 @@ use Rattle.std.proofs.Common.{IsErrAnd, refl, sym, ◌∙◌, ap, subst, cond}
 use Rattle.std.specs.declared.alloc.Global.{Global}
 use Rattle.std.proofs.lemmas.Bool.{lt-ltb, le-ltb}
 use Rattle.key_files.specs.HexText.{digits_of, is_hex_digit, is_skipped}
-use Rattle.key_files.specs.Meaning.{file_meaning, hex_meaning, digits_meaning}
+use Rattle.key_files.specs.FileMeaning.{file_meaning, hex_meaning, digits_meaning}
 use Rattle.key_files.specs.declared.fault.FileFault.{FileFault}
 use Rattle.key_files.specs.declared.fault.FileFault.TheVariants as files
 use Rattle.key_files.specs.declared.read.TheConstants.{MAX_FILE}
@@ -52,8 +52,14 @@ fault_answer text files.Read short refused memory =
     absurd (hex_faults text files.Read (λ at h. (cc)) (λ h. (cc)) (refused (λ h. (cc))))
 fault_answer text files.TooLong short refused memory =
     absurd (hex_faults text files.TooLong (λ at h. (cc)) (λ h. (cc)) (refused (λ h. (cc))))
-fault_answer text (files.BadBase64 wrong) short refused memory =
-    absurd (hex_faults text (files.BadBase64 wrong) (λ at h. (cc)) (λ h. (cc)) (refused (λ h. (cc))))
+fault_answer text (files.BadCharacter place) short refused memory =
+    absurd (hex_faults text (files.BadCharacter place) (λ at h. (cc)) (λ h. (cc)) (refused (λ h. (cc))))
+fault_answer text (files.BehindPadding place) short refused memory =
+    absurd (hex_faults text (files.BehindPadding place) (λ at h. (cc)) (λ h. (cc)) (refused (λ h. (cc))))
+fault_answer text files.BadBase64Length short refused memory =
+    absurd (hex_faults text files.BadBase64Length (λ at h. (cc)) (λ h. (cc)) (refused (λ h. (cc))))
+fault_answer text files.TrailingBits short refused memory =
+    absurd (hex_faults text files.TrailingBits (λ at h. (cc)) (λ h. (cc)) (refused (λ h. (cc))))
 fault_answer text (files.BadDigit at) short refused memory = short_text text short ∙ refused (λ h. (cc))
 fault_answer text files.OddDigits short refused memory = short_text text short ∙ refused (λ h. (cc))
 fault_answer text files.Memory short refused memory =

@@ -6,32 +6,32 @@ use Rattle.key_files.specs.declared.fault.FileFault.{FileFault}
 use Rattle.std.specs.List.{AllByRecursion}
 use Rattle.std.specs.Io.KnownBytes.{Appends}
 use Rattle.fips197.specs.Cipher.{cipher}
-use Rattle.key_lines.specs.Answers.{Answer, AreLines, mark_count, marks_of, output_of, refusals_of}
+use Rattle.key_lines.specs.LineAnswers.{Answer, AreLines, note_count, notes_of, output_of, refusals_of}
 use Rattle.key_lines.specs.Lines.{lines_of}
 use Rattle.key_lines.specs.Running.{AreResults, WritesAnswers, written_for}
 use Rattle.key_lines.specs.Summary.{first_of}
 use Rattle.key_lines.specs.declared.fault.LineFault.{LineFault}
 use Rattle.key_lines.specs.declared.fault.RunFault.{RunFault}
-use Rattle.key_lines.specs.declared.job.Mark.{Mark}
-use Rattle.key_lines.specs.declared.job.Mark.TheVariants.{Unmarked, Marked}
+use Rattle.key_lines.specs.declared.job.Note.{Note}
+use Rattle.key_lines.specs.declared.job.Note.TheVariants as notes
 use Rattle.key_lines.specs.declared.run.RunOptions.{RunOptions}
 use Rattle.key_lines.specs.declared.summary.RunSummary.{RunSummary}
-use Rattle.key_wrap_core.specs.Forms.{Stands}
+use Rattle.key_wrap_core.specs.Forms.{IsWrappingWithIv}
 use Rattle.key_wrap_core.specs.Kind.{IsKindWith}
 use Rattle.key_wrap_core.specs.declared.forms.Form.{Form}
 use Rattle.key_wrap_core.specs.declared.forms.Form.TheVariants as forms
 use Rattle.key_wrap_core.specs.declared.forms.Kind.{Kind}
 use Rattle.key_wrap_core.specs.declared.forms.Kind.TheVariants as kinds
-use Rattle.keywrap_cli.specs.Answers.{AnswerOfJob, HasBadLength, HasMark, JobAnswer, RewrappingAnswer, done_of, kind_line}
+use Rattle.keywrap_cli.specs.JobAnswers.{AnswerOfJob, HasBadLength, HasNote, JobAnswer, RewrappingAnswer, done_of, kind_line}
 use Rattle.key_files.specs.Writing.{IsLine}
 use Rattle.key_lines.specs.declared.text.TextNotation.{TextNotation}
 use Rattle.key_lines.specs.declared.text.TextNotation.TheVariants as texts
-use Rattle.keywrap_cli.specs.Engine.{AnswersEachLine, AnswersInput, IsDoneAs, IsRefusedBefore, OpensKeks, RunsInput, UnderReadKek, WritesFrom}
+use Rattle.keywrap_cli.specs.RunSteps.{AnswersEachLine, AnswersInput, IsDoneAs, IsRefusedBefore, OpensKeks, RunsInput, UnderReadKek, WritesFrom}
 use Rattle.keywrap_cli.specs.Files.{IsOneLine, line_notation}
 use Rattle.keywrap_cli.specs.Job.{RunsJob}
-use Rattle.keywrap_cli.specs.Operation.{in_lines, lines_of as lines_of_task}
-use Rattle.keywrap_cli.specs.Readings.{ReadsInput, ReadsKek, kek_fault_of}
-use Rattle.keywrap_cli.proofs.Readings.{under_keks}
+use Rattle.keywrap_cli.specs.Operation.{in_lines, rewrapping_in_lines}
+use Rattle.keywrap_cli.specs.JobReading.{ReadsInput, ReadsKek, kek_fault_of}
+use Rattle.keywrap_cli.proofs.BothKeks.{under_keks}
 use Rattle.keywrap_cli.specs.EndsWell.{AreOutputs, AreWrappedLines, EndsWell, IsRewrappedLine, IsWrappedLine, ReadsWrapping, RewrapsLines}
 use Rattle.keywrap_cli.specs.declared.job.Job.{Job}
 use Rattle.keywrap_cli.specs.declared.job.Job.TheVariants.{Check, Unwrap, UnwrapAny, Wrap}
@@ -51,19 +51,20 @@ nothing_first : {A : Type 0} (xs : List A) → first_of xs ≡ None → xs ≡ [
 nothing_first [] h = refl
 nothing_first (x ∷ xs) h = cc
 
--- a check whose answer has no mark found a key
-of_kind : (iv : ℕ) (E : List ℕ → List ℕ) (X text : List ℕ) (mark : Mark) (kind : Kind) → IsKindWith iv E X kind → text ≡ kind_line kind
-    → HasMark Check text mark → mark_count mark ≡ 0 → (form : Form) × (key : List ℕ) × Stands form iv E key X
-of_kind iv E X text Unmarked (kinds.Plain m) is same mark zero = (forms.Plain, is.0, is.2)
-of_kind iv E X text Unmarked (kinds.Padded m) is same mark zero = (forms.Padded, is.0, is.2)
-of_kind iv E X text Unmarked kinds.Neither is same mark zero = absurd (mark (refl, same))
-of_kind iv E X text Marked kind is same mark zero = cc
+-- a check whose answer has no note found a key
+of_kind : (iv : ℕ) (E : List ℕ → List ℕ) (X text : List ℕ) (note : Note) (kind : Kind) → IsKindWith iv E X kind → text ≡ kind_line kind
+    → HasNote Check text note → note_count note ≡ 0 → (form : Form) × (key : List ℕ) × IsWrappingWithIv form iv E key X
+of_kind iv E X text notes.None (kinds.Plain m) is same note zero = (forms.Plain, is.0, is.2)
+of_kind iv E X text notes.None (kinds.Padded m) is same note zero = (forms.Padded, is.0, is.2)
+of_kind iv E X text notes.None kinds.Neither is same note zero = absurd (note (refl, same))
+of_kind iv E X text notes.NoKey kind is same note zero = cc
+of_kind iv E X text notes.AlreadyNew kind is same note zero = absurd note
 
 checked : (iv : ℕ) (task : Task) (E : List ℕ → List ℕ) (X : List ℕ) (answer : Answer) → task.job ≡ Check → JobAnswer iv task E X (Ok answer)
-    → mark_count answer.mark ≡ 0 → (form : Form) × (key : List ℕ) × Stands form iv E key X
+    → note_count answer.note ≡ 0 → (form : Form) × (key : List ℕ) × IsWrappingWithIv form iv E key X
 checked iv task E X answer job h zero =
     let own = subst (λ (j : Job). AnswerOfJob j iv task E X (Ok answer)) job h in
-    of_kind iv E X answer.text answer.mark own.0.0 own.0.1 own.0.2 own.1 zero
+    of_kind iv E X answer.text answer.note own.0.0 own.0.1 own.0.2 own.1 zero
 
 same_length : (options : RunOptions) (answers : List ℕ → Result Answer RewrapFault → Type 0) (lines : List (List ℕ)) (results : Results)
     → AreResults options answers lines results → length lines ≡ length results
@@ -75,7 +76,7 @@ same_length options answers [] (result ∷ results) are = absurd are
 same_length options answers (line ∷ lines) [] are = absurd are
 
 all_wrapped : (options : RunOptions) (iv : ℕ) (task : Task) (E : List ℕ → List ℕ) (lines : List (List ℕ)) (results : Results) (n : ℕ)
-    → task.job ≡ Check → AreResults options (JobAnswer iv task E) lines results → refusals_of n results ≡ [] → marks_of results ≡ 0
+    → task.job ≡ Check → AreResults options (JobAnswer iv task E) lines results → refusals_of n results ≡ [] → notes_of results ≡ 0
     → AllByRecursion (IsWrappedLine options.notation iv E) lines
 all_wrapped options iv task E [] [] n job are none zero = tt
 all_wrapped options iv task E (line ∷ lines) (Ok answer ∷ results) n job (h, rest) none zero =
@@ -113,7 +114,7 @@ pub check_ends_well : (input out out' : Option (List ℕ)) (options : RunOptions
 check_ends_well None out out' options iv task E summary job own is well w = tt
 check_ends_well (Some text) out out' options iv task E summary job own is well w =
     let none : refusals_of 1 w.results ≡ [] = nothing_first (refusals_of 1 w.results) (sym w.counts.0.first_refused ∙ well.none_refused) in
-    let zero : marks_of w.results ≡ 0 = sym w.counts.0.marked ∙ well.all_found (own ∙ ap Some is) in
+    let zero : notes_of w.results ≡ 0 = sym w.counts.0.noted ∙ well.all_found (own ∙ ap Some is) in
     let all = all_wrapped options iv task E w.lines w.results 1 is w.answered none zero in
     let whole : w.lines ≡ lines_of text = sym (w.split ∙ ap (λ m. w.lines ++ m) w.counts.1 ∙ append-nil w.lines) in (
       some_lines text w.lines w.more w.results summary w.split w.counts.1 (same_length options (JobAnswer iv task E) w.lines w.results w.answered)
@@ -130,7 +131,7 @@ line_in texts.Base64Url text line = line
 pub job_lines : (notation : TextNotation) (iv : ℕ) (task : Task) (E : List ℕ → List ℕ) → AreLines (JobAnswer iv (in_lines notation task) E)
 job_lines notation iv task E X answer h = line_in notation answer.text h.2
 
-pub rewrap_lines : (notation : TextNotation) (task : Rewrapping) (E F : List ℕ → List ℕ) → AreLines (RewrappingAnswer (lines_of_task notation task) E F)
+pub rewrap_lines : (notation : TextNotation) (task : Rewrapping) (E F : List ℕ → List ℕ) → AreLines (RewrappingAnswer (rewrapping_in_lines notation task) E F)
 rewrap_lines notation task E F X answer h = line_in notation answer.text h.5
 
 pub each_line : (input out out' : Option (List ℕ)) (options : RunOptions) (answers : List ℕ → Result Answer RewrapFault → Type 0)
@@ -181,26 +182,27 @@ rewrap_answers notation kek kek' new new' keks opened input out out' options tas
 
 -- ---- a run over a whole input
 
-unmarked_is_zero : (mark : Mark) → Written ≡ done_of mark → mark_count mark ≡ 0
-unmarked_is_zero Unmarked is = refl
-unmarked_is_zero Marked is = cc
+none_noted : (job : Job) (text : List ℕ) (note : Note) → HasNote job text note → Written ≡ done_of note → note_count note ≡ 0
+none_noted job text notes.None has is = refl
+none_noted job text notes.NoKey has is = cc
+none_noted job text notes.AlreadyNew has is = absurd has
 
 answered_wrapping : (job : Job) (iv : ℕ) (task : Task) (E : List ℕ → List ℕ) (X : List ℕ) (answer : Answer) → job ≢ Wrap
-    → AnswerOfJob job iv task E X (Ok answer) → mark_count answer.mark ≡ 0 → (form : Form) × (key : List ℕ) × Stands form iv E key X
+    → AnswerOfJob job iv task E X (Ok answer) → note_count answer.note ≡ 0 → (form : Form) × (key : List ℕ) × IsWrappingWithIv form iv E key X
 answered_wrapping Wrap iv task E X answer not h zero = absurd (not refl)
-answered_wrapping Unwrap iv task E X answer not h zero = (task.form, h.0.0, h.0.1.stands)
-answered_wrapping UnwrapAny iv task E X answer not h zero = (h.0.0, h.0.1, h.0.2.stands)
-answered_wrapping Check iv task E X answer not h zero = of_kind iv E X answer.text answer.mark h.0.0 h.0.1 h.0.2 h.1 zero
+answered_wrapping Unwrap iv task E X answer not h zero = (task.form, h.0.0, h.0.1.wrapping)
+answered_wrapping UnwrapAny iv task E X answer not h zero = (h.0.0, h.0.1, h.0.2.wrapping)
+answered_wrapping Check iv task E X answer not h zero = of_kind iv E X answer.text answer.note h.0.0 h.0.1 h.0.2 h.1 zero
 
 module _ (iv : ℕ) (task : Task) (E : List ℕ → List ℕ) (input input' out out' : Option (List ℕ)) (not : task.job ≢ Wrap) where
   abbrev Lacks : List ℕ → Type 0
   Lacks X = ¬ HasBadLength task.job task.form X
 
-  of_text : (answer : Answer) → Written ≡ done_of answer.mark → (text : Result (Vec ℕ Global) JobFault) → ReadsInput task.input input input' text
+  of_text : (answer : Answer) → Written ≡ done_of answer.note → (text : Result (Vec ℕ Global) JobFault) → ReadsInput task.input input input' text
       → WritesFrom (JobAnswer iv task E) Lacks text out out' (Ok answer) → ReadsWrapping task.input iv E input input'
   of_text answer is (Ok X) read rest =
-      let found = answered_wrapping task.job iv task E X.items answer not rest.0 (unmarked_is_zero answer.mark is) in
-      record { X = X.items; read = read; form = found.0; key = found.1; stands = found.2 }
+      let found = answered_wrapping task.job iv task E X.items answer not rest.0 (none_noted task.job answer.text answer.note rest.0.1 is) in
+      record { X = X.items; read = read; form = found.0; key = found.1; wrapping = found.2 }
   of_text answer is (Err fault) read rest = let no = rest.0 in cc
 
   of_outcome : (outcome : Result Answer JobFault) → RunsInput task.input (JobAnswer iv task E) Lacks input input' out out' outcome

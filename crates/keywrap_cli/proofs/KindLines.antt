@@ -9,7 +9,7 @@ use Rattle.key_files.proofs.Lists.{IsLine-of, all-append}
 use Rattle.key_wrap_core.specs.Kind.{IsKindWith}
 use Rattle.key_wrap_core.specs.declared.forms.Kind.{Kind}
 use Rattle.key_wrap_core.specs.declared.forms.Kind.TheVariants as kinds
-use Rattle.keywrap_cli.specs.Answers.{kind_line}
+use Rattle.keywrap_cli.specs.JobAnswers.{kind_line}
 use Rattle.keywrap_cli.specs.Files.{IsOneLine}
 use Rattle.keywrap_cli.specs.declared.job.Notation.{Notation}
 use Rattle.keywrap_cli.specs.declared.job.Notation.TheVariants.{Raw, Hex, Base64, Base64Url}

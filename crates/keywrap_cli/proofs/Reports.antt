@@ -3,18 +3,18 @@ use Rattle.std.specs.Io.KnownBytes.{Appends}
 use Rattle.std.proofs.Common.{◌≡◌, ◌+◌, ◌<◌, ◌&&◌, ℕ, Option, subst, take, map, get_or, Bool, true, false, List, [], ◌∷◌, ◌++◌, length, refl, sym}
 use Rattle.std.proofs.Common.{inl, inr, ap, ◌∙◌, append_assoc, arith, length-append}
 use Rattle.std.proofs.lemmas.List.{append-nil, map-append, take_more}
-use Rattle.keywrap_cli.specs.Vectors.{AreVerdicts, Gave, IsReport, IsVerdict, IsVerdictOnAll, lines_of, verdict, all_true}
+use Rattle.keywrap_cli.specs.VectorReport.{AreVerdicts, Gave, IsReport, IsVerdict, IsVerdictOnAll, report_lines, verdict, all_true}
 use Rattle.test_vectors.specs.Vectors.{TestVector}
 
 lines_more : (vectors : List TestVector) (oks : List Bool) (v : TestVector) (ok : Bool) → length oks ≡ length vectors
-    → lines_of (vectors ++ v ∷ []) (oks ++ ok ∷ []) ≡ lines_of vectors oks ++ (v.name ++ verdict ok)
+    → report_lines (vectors ++ v ∷ []) (oks ++ ok ∷ []) ≡ report_lines vectors oks ++ (v.name ++ verdict ok)
 lines_more [] [] v ok e = append-nil (v.name ++ verdict ok)
 lines_more [] (o ∷ oks) v ok e = absurd (omega arith)
 lines_more (w ∷ vectors) [] v ok e = absurd (omega arith)
 lines_more (w ∷ vectors) (o ∷ oks) v ok e =
     let rest : length oks ≡ length vectors = omega arith in
     rw (lines_more vectors oks v ok rest)
-    (sym (append_assoc (w.name ++ verdict o) (lines_of vectors oks) (v.name ++ verdict ok)))
+    (sym (append_assoc (w.name ++ verdict o) (report_lines vectors oks) (v.name ++ verdict ok)))
 
 verdicts_more : (gave : Gave) (vectors : List TestVector) (oks : List Bool) (v : TestVector) (ok : Bool) → length oks ≡ length vectors
     → AreVerdicts gave vectors oks → IsVerdict gave v ok → AreVerdicts gave (vectors ++ v ∷ []) (oks ++ ok ∷ [])

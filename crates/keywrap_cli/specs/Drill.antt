@@ -3,7 +3,7 @@ use Rattle.std.specs.Prelude.{◌≡◌, ℕ, List, length, Result, Ok, Err, Vec
 use Rattle.std.specs.declared.alloc.Global.{Global}
 use Rattle.block_pair.specs.Halves.{swapped_halves}
 use Rattle.key_files.specs.HexText.{hex_line}
-use Rattle.key_files.specs.Meaning.{file_meaning, hex_meaning}
+use Rattle.key_files.specs.FileMeaning.{file_meaning, hex_meaning}
 use Rattle.key_files.specs.declared.fault.FileFault.{FileFault}
 use Rattle.key_files.specs.declared.fault.FileFault.TheVariants as files
 use Rattle.key_wrap_core.specs.Plain.{default_iv}
@@ -33,7 +33,10 @@ text_fault_of (files.BadDigit at) = BadDigit at
 text_fault_of files.OddDigits = OddDigits
 text_fault_of files.Read = Memory
 text_fault_of files.TooLong = Memory
-text_fault_of (files.BadBase64 wrong) = Memory
+text_fault_of (files.BadCharacter at) = Memory
+text_fault_of (files.BehindPadding at) = Memory
+text_fault_of files.BadBase64Length = Memory
+text_fault_of files.TrailingBits = Memory
 text_fault_of files.Memory = Memory
 
 -- The result with the toy cipher and the default initial value, by cases. Memory is only possible if the text denotes

@@ -3,18 +3,18 @@ use Rattle.std.specs.Prelude.{◌≡◌, ◌≢◌, ⊤, ℕ, List, [], ◌∷�
 use Rattle.std.specs.List.{AllByRecursion, concat}
 use Rattle.std.specs.Io.KnownBytes.{Appends}
 use Rattle.fips197.specs.Cipher.{cipher}
-use Rattle.key_lines.specs.Answers.{AreOneEach}
+use Rattle.key_lines.specs.LineAnswers.{AreOneEach}
 use Rattle.key_lines.specs.Lines.{lines_of}
-use Rattle.key_lines.specs.Meaning.{line_meaning}
+use Rattle.key_lines.specs.LineMeaning.{line_meaning}
 use Rattle.key_lines.specs.declared.summary.RunSummary.{RunSummary}
 use Rattle.key_lines.specs.declared.text.TextNotation.{TextNotation}
-use Rattle.key_wrap_core.specs.Forms.{Stands}
+use Rattle.key_wrap_core.specs.Forms.{IsWrappingWithIv}
 use Rattle.key_wrap_core.specs.declared.forms.Form.{Form}
-use Rattle.keywrap_cli.specs.Answers.{RewrapsTo}
-use Rattle.keywrap_cli.specs.Engine.{UnderReadKek}
-use Rattle.keywrap_cli.specs.Readings.{ReadsFile}
+use Rattle.keywrap_cli.specs.JobAnswers.{RewrapsTo}
+use Rattle.keywrap_cli.specs.RunSteps.{UnderReadKek}
+use Rattle.keywrap_cli.specs.JobReading.{ReadsFile}
 use Rattle.keywrap_cli.specs.Rewrapping.{WritesTheNewText}
-use Rattle.keywrap_cli.specs.Operation.{MatchOperations, lines_of as lines_of_task}
+use Rattle.keywrap_cli.specs.Operation.{MatchOperations, rewrapping_in_lines}
 use Rattle.keywrap_cli.specs.declared.job.Job.{Job}
 use Rattle.keywrap_cli.specs.declared.job.Job.TheVariants.{Check, Wrap}
 use Rattle.keywrap_cli.specs.declared.job.Notation.{Notation}
@@ -27,7 +27,7 @@ use Rattle.keywrap_cli.specs.declared.rewrapping.Rewrapping.{Rewrapping}
 pub record EndsWell (job : Option Job) (summary : RunSummary RewrapFault) : Type 0 where
   pub some : summary.lines ≢ 0
   pub none_refused : summary.first_refused ≡ None
-  pub all_found : job ≡ Some Check → summary.marked ≡ 0
+  pub all_found : job ≡ Some Check → summary.noted ≡ 0
 
 -- the job of an operation that is no rewrap
 abbrev pub job_in : {K : Type 0} → Operation K → Option Job
@@ -37,7 +37,7 @@ job_in (Rewrap task kek new) = None
 -- the line denotes the wrapping, in some form, of some key
 abbrev pub IsWrappedLine : TextNotation → ℕ → (List ℕ → List ℕ) → List ℕ → Type 0
 IsWrappedLine notation iv E line =
-    (X : List ℕ) × (line_meaning notation line ≡ Ok X) × ((form : Form) × (key : List ℕ) × Stands form iv E key X)
+    (X : List ℕ) × (line_meaning notation line ≡ Ok X) × ((form : Form) × (key : List ℕ) × IsWrappingWithIv form iv E key X)
 
 -- the text has a line, and each of its lines denotes a wrapping
 abbrev pub AreWrappedLines : TextNotation → ℕ → (List ℕ → List ℕ) → List ℕ → Type 0
@@ -70,7 +70,7 @@ AnswersAllLines known notation old new input out out' = MatchOperations old new
     (λ iv task kek iv' task' kek'. task.job ≡ Check → UnderReadKek task.kek (known kek) (known kek')
     (λ K. IfSome input (λ text. AreWrappedLines notation iv (cipher K) text)))
     (λ task kek new task' kek' new'. UnderReadKek task.kek (known kek) (known kek') (λ K. UnderReadKek task.kek (known new) (known new')
-    (λ L. IfSome input (λ text. RewrapsLines notation (lines_of_task notation task) (cipher K) (cipher L) text out out'))))
+    (λ L. IfSome input (λ text. RewrapsLines notation (rewrapping_in_lines notation task) (cipher K) (cipher L) text out out'))))
 
 -- the input denotes the wrapping, in some form, of some key
 pub record ReadsWrapping (notation : Notation) (iv : ℕ) (E : List ℕ → List ℕ) (input input' : Option (List ℕ)) : Type 0 where
@@ -78,7 +78,7 @@ pub record ReadsWrapping (notation : Notation) (iv : ℕ) (E : List ℕ → List
   pub read : ReadsFile notation input input' (Ok X)
   pub form : Form
   pub key : List ℕ
-  pub stands : Stands form iv E key X
+  pub wrapping : IsWrappingWithIv form iv E key X
 
 -- What a run over a whole input says that ends with status 0. Unless it wraps a key, the input is a wrapping under AES
 -- of the KEK. If it rewraps, the output is the new wrapping of the key of the input.

@@ -3,8 +3,8 @@ use Rattle.key_files.specs.declared.fault.HexWriteFault.{HexWriteFault}
 use Rattle.key_files.specs.declared.fault.HexWriteFault.TheVariants as hex
 use Rattle.keywrap_cli.specs.declared.fault.ProgramFault.{ProgramFault}
 use Rattle.keywrap_cli.specs.declared.fault.ProgramFault.TheVariants.{Memory, Write}
-use Rattle.keywrap_cli.specs.declared.report.VectorsFault.{VectorsFault}
-use Rattle.keywrap_cli.specs.declared.report.VectorsFault.TheVariants as vectors
+use Rattle.keywrap_cli.specs.declared.vector_report.VectorsFault.{VectorsFault}
+use Rattle.keywrap_cli.specs.declared.vector_report.VectorsFault.TheVariants as vectors
 
 abbrev pub vectors_fault_of : VectorsFault → ProgramFault
 vectors_fault_of vectors.Memory = Memory

@@ -2,7 +2,7 @@
 use Rattle.std.specs.Prelude.{⊤, ℕ, List, Result}
 use Rattle.key_files.specs.Base64Text.{base64_line, base64_meaning}
 use Rattle.key_files.specs.HexText.{hex_line}
-use Rattle.key_files.specs.Meaning.{raw_meaning, hex_meaning}
+use Rattle.key_files.specs.FileMeaning.{raw_meaning, hex_meaning}
 use Rattle.key_files.specs.Writing.{IsLine}
 use Rattle.key_files.specs.declared.base64_text.Alphabet.TheVariants.{Standard, UrlSafe}
 use Rattle.key_files.specs.declared.fault.FileFault.{FileFault}

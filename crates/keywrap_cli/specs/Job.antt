@@ -3,9 +3,9 @@
 use Rattle.std.specs.Prelude.{ℕ, List, Option, Result}
 use Rattle.fips197.specs.Cipher.{cipher}
 use Rattle.key_wrap_core.specs.declared.forms.Form.TheVariants.{Plain}
-use Rattle.keywrap_cli.specs.Answers.{HasBadLength, JobAnswer, WritesFor, done_of, job_of}
-use Rattle.keywrap_cli.specs.Engine.{AnswersInput, IsRefusedBefore, UnderKek, UnderReadKek, WritesOutput}
-use Rattle.keywrap_cli.specs.Readings.{kek_fault_of}
+use Rattle.keywrap_cli.specs.JobAnswers.{HasBadLength, JobAnswer, WritesFor, done_of, job_of}
+use Rattle.keywrap_cli.specs.RunSteps.{AnswersInput, IsRefusedBefore, UnderKek, UnderReadKek, WritesOutput}
+use Rattle.keywrap_cli.specs.JobReading.{kek_fault_of}
 use Rattle.keywrap_cli.specs.declared.kek_file.KekRole.TheVariants.{Kek}
 use Rattle.keywrap_cli.specs.declared.convert.Direction.{Direction}
 use Rattle.keywrap_cli.specs.declared.job.Done.{Done}

@@ -6,11 +6,11 @@ use Rattle.key_lines.specs.declared.fault.RunFault.{RunFault}
 use Rattle.key_lines.specs.declared.run.RunOptions.{RunOptions}
 use Rattle.key_lines.specs.declared.summary.RunSummary.{RunSummary}
 use Rattle.key_lines.specs.declared.text.TextNotation.{TextNotation}
-use Rattle.keywrap_cli.specs.Answers.{JobAnswer, RewrappingAnswer}
-use Rattle.keywrap_cli.specs.Engine.{AnswersEachLine, AnswersLines, IsRefusedBefore, UnderKek, UnderKeks, UnderReadKek}
+use Rattle.keywrap_cli.specs.JobAnswers.{JobAnswer, RewrappingAnswer}
+use Rattle.keywrap_cli.specs.RunSteps.{AnswersEachLine, AnswersLines, IsRefusedBefore, UnderKek, UnderKeks, UnderReadKek}
 use Rattle.keywrap_cli.specs.Files.{line_notation}
 use Rattle.keywrap_cli.specs.Job.{RunsJob, WritesTheAnswer}
-use Rattle.keywrap_cli.specs.Readings.{kek_fault_of}
+use Rattle.keywrap_cli.specs.JobReading.{kek_fault_of}
 use Rattle.keywrap_cli.specs.Rewrapping.{RunsRewrap, TellsSameKek, WritesTheNewText}
 use Rattle.keywrap_cli.specs.declared.job.Done.{Done}
 use Rattle.keywrap_cli.specs.declared.job.JobFault.{JobFault}
@@ -60,8 +60,8 @@ IsSameTask old new = MatchOperations old new (λ iv task kek iv' task' kek'. (iv
 abbrev pub in_lines : TextNotation → Task → Task
 in_lines notation task = record { job = task.job; form = task.form; input = line_notation notation; kek = task.kek }
 
-abbrev pub lines_of : TextNotation → Rewrapping → Rewrapping
-lines_of notation task = record { forms = task.forms; pass_new = task.pass_new; input = line_notation notation; kek = task.kek }
+abbrev pub rewrapping_in_lines : TextNotation → Rewrapping → Rewrapping
+rewrapping_in_lines notation task = record { forms = task.forms; pass_new = task.pass_new; input = line_notation notation; kek = task.kek }
 
 -- The same line by line: the KEK files are read first, and then each line is answered.
 abbrev pub RunsOperationLines : {K : Type 0} → (K → Option (List ℕ)) → RunOptions → Operation K → Operation K → Option (List ℕ)
@@ -72,7 +72,7 @@ RunsOperationLines known options old new input input' out out' log log' answer =
     (λ K. AnswersLines options (JobAnswer iv (in_lines options.notation task) (cipher K)) input input' out out' log log' answer)
     (λ fault. (log' ≡ log) × IsRefusedBefore (kek_fault_of Kek fault) input input' out out' answer))
     (λ task kek new task' kek' new'. UnderKeks task.kek (known kek) (known kek') (known new) (known new')
-    (λ K L. AnswersLines options (RewrappingAnswer (lines_of options.notation task) (cipher K) (cipher L)) input input' out out' log log' answer)
+    (λ K L. AnswersLines options (RewrappingAnswer (rewrapping_in_lines options.notation task) (cipher K) (cipher L)) input input' out out' log log' answer)
     (λ fault. (log' ≡ log) × IsRefusedBefore fault input input' out out' answer))
 
 -- The headline of lines. If the rest of the input is known, the answers to its first lines were written, in order, each
@@ -83,4 +83,4 @@ WritesTheLinesOf known options old new input out out' run = MatchOperations old 
     (λ iv task kek iv' task' kek'. UnderReadKek task.kek (known kek) (known kek') (λ K. IfSome input
     (λ text. AnswersEachLine options (JobAnswer iv (in_lines options.notation task) (cipher K)) text out out' run)))
     (λ task kek new task' kek' new'. UnderReadKek task.kek (known kek) (known kek') (λ K. UnderReadKek task.kek (known new) (known new') (λ L. IfSome input
-    (λ text. AnswersEachLine options (RewrappingAnswer (lines_of options.notation task) (cipher K) (cipher L)) text out out' run))))
+    (λ text. AnswersEachLine options (RewrappingAnswer (rewrapping_in_lines options.notation task) (cipher K) (cipher L)) text out out' run))))

@@ -3,8 +3,8 @@
 use Rattle.std.specs.Prelude.{◌≡◌, ◌↔◌, ℕ, Bool, false, IsTrue, List, Option, Result, Ok, Err}
 use Rattle.fips197.specs.Cipher.{cipher}
 use Rattle.key_wrap_core.specs.declared.rewrapping.RewrapForms.{RewrapForms}
-use Rattle.keywrap_cli.specs.Answers.{HasRewrapping, RewrappingAnswer, RewrapsTo, written}
-use Rattle.keywrap_cli.specs.Engine.{AnswersInput, IsRefusedBefore, UnderKeks, UnderReadKek, WritesOutput}
+use Rattle.keywrap_cli.specs.JobAnswers.{HasRewrapping, RewrappingAnswer, RewrapsTo, written}
+use Rattle.keywrap_cli.specs.RunSteps.{AnswersInput, IsRefusedBefore, UnderKeks, UnderReadKek, WritesOutput}
 use Rattle.keywrap_cli.specs.declared.job.Done.{Done}
 use Rattle.keywrap_cli.specs.declared.job.JobFault.{JobFault}
 use Rattle.keywrap_cli.specs.declared.job.JobFault.TheVariants.{BadLength, KeyNotPlain}

@@ -1,15 +1,16 @@
 //! Wrapping and unwrapping in a direction and a form.
 
-ghost use Rattle.std.specs.Prelude.{◌≢◌, ◌↔◌, length, Err, IsTrue};
-ghost use Rattle.key_lines.specs.Answers.{made};
-ghost use Rattle.keywrap_cli.specs.Answers.{IsMade, MakesConversion};
+ghost use Rattle.std.specs.Prelude.{◌≡◌, ◌≢◌, ◌↔◌, length, Err, IsTrue};
+ghost use Rattle.key_lines.specs.LineAnswers.{made};
+ghost use Rattle.keywrap_cli.specs.JobAnswers.{IsMade, MakesConversion, job_refusal};
 ghost use Rattle.keywrap_cli.specs.Conversion.{HasRoom, IsInputLength};
 
 use block_pair::{BlockPair, Meter};
-use key_lines::AnswerFault;
+use key_lines::LineFault;
 use key_wrap_core::{
-    Form, InPlaceFault, InitialValue, key_length_ok, padded_length_ok, padded_text_length_ok,
-    text_length_ok, unwrap_into_with, unwrap_padded_into, wrap_into_with, wrap_padded_into,
+    Form, InPlaceFault, InitialValue, RewrapFault, key_length_ok, padded_length_ok,
+    padded_text_length_ok, text_length_ok, unwrap_into_with, unwrap_padded_into, wrap_into_with,
+    wrap_padded_into,
 };
 
 // The size of a word in bytes.
@@ -25,7 +26,7 @@ pub enum Direction {
 }
 
 /// Replaces `output` with the wrapping of a key, or with the key of a wrapping. The plain form has
-/// this initial value.
+/// this initial value. The only errors are Refused, with BadLength or Integrity, and Memory.
 pub fn convert_into<B: BlockPair>(
     direction: Direction,
     form: Form,
@@ -33,19 +34,29 @@ pub fn convert_into<B: BlockPair>(
     pair: &B,
     input: &[u8],
     output: &mut Vec<u8>,
-) -> Result<(), AnswerFault<InPlaceFault>>
+) -> Result<(), LineFault<RewrapFault>>
     ensures answer { IsMade (MakesConversion direction form iv.now (B.encrypted pair.now) input.now)
         output.new.items result }
-    ensures legal { result ≢ Err (AnswerFault.Refused InPlaceFault.BadLength)
+    ensures legal { result ≢ Err (LineFault.Refused RewrapFault.BadLength)
         → IsInputLength direction form (length input.now) }
 {
     if !is_input_length(direction, form, input.len()) {
-        return Err(AnswerFault::Refused(InPlaceFault::BadLength));
+        return Err(LineFault::Refused(RewrapFault::BadLength));
     }
     output.resize(room_for(direction, form, input.len()), 0)?;
     match convert_in_room(direction, form, iv, &mut Meter::new(pair), input, output) {
         Ok(()) => Ok(()),
-        Err(fault) => Err(AnswerFault::Refused(fault)),
+        Err(fault) => Err(LineFault::Refused(job_refusal(fault))),
+    }
+}
+
+/// Returns a job's refusal for the fault of a conversion.
+pub fn job_refusal(fault: InPlaceFault) -> RewrapFault
+    ensures { result ≡ job_refusal fault }
+{
+    match fault {
+        InPlaceFault::BadLength => RewrapFault::BadLength,
+        InPlaceFault::Integrity => RewrapFault::Integrity,
     }
 }
 

@@ -8,8 +8,8 @@ ghost use Rattle.keywrap_cli.specs.Drill.{DrillAnswer, TextAnswer, drill_meaning
 use crate::convert::{Direction, convert_into};
 use block_pair::SwapHalves;
 use key_files::{FileFault, MAX_FILE, decode_hex};
-use key_lines::AnswerFault;
-use key_wrap_core::{Form, InPlaceFault, InitialValue};
+use key_lines::LineFault;
+use key_wrap_core::{Form, InPlaceFault, InitialValue, RewrapFault};
 use std::alloc::Global;
 use thiserror::Error;
 
@@ -57,9 +57,10 @@ pub fn drill(
     let mut output = Vec::new(alloc);
     match convert_into(direction, form, &iv, &SwapHalves, &input, &mut output) {
         Ok(()) => Ok(output),
-        Err(AnswerFault::Refused(InPlaceFault::BadLength)) => Err(DrillFault::BadLength),
-        Err(AnswerFault::Refused(InPlaceFault::Integrity)) => Err(DrillFault::Integrity),
-        Err(AnswerFault::Memory) => Err(DrillFault::Memory),
+        Err(LineFault::Refused(RewrapFault::BadLength)) => Err(DrillFault::BadLength),
+        Err(LineFault::Refused(RewrapFault::Integrity)) => Err(DrillFault::Integrity),
+        // Memory: no other fault can occur.
+        Err(_) => Err(DrillFault::Memory),
     }
 }
 
@@ -73,14 +74,20 @@ fn bytes_of(alloc: Global, text: &str) -> Result<Vec<u8>, DrillFault>
     decode_hex(alloc, text.as_bytes()).map_err(text_fault)
 }
 
-// Read, TooLong and BadBase64 cannot occur: the text is a slice, not too long, and read as hex.
+// Read, TooLong and the faults of base64 cannot occur: the text is a slice, not too long, and read as
+// hex.
 fn text_fault(fault: FileFault) -> DrillFault
     ensures { result ≡ text_fault_of fault }
 {
     match fault {
         FileFault::BadDigit { at } => DrillFault::BadDigit { at },
         FileFault::OddDigits => DrillFault::OddDigits,
-        FileFault::Read | FileFault::TooLong | FileFault::BadBase64(_) | FileFault::Memory =>
-            DrillFault::Memory,
+        FileFault::Read
+        | FileFault::TooLong
+        | FileFault::BadCharacter { .. }
+        | FileFault::BehindPadding { .. }
+        | FileFault::BadBase64Length
+        | FileFault::TrailingBits
+        | FileFault::Memory => DrillFault::Memory,
     }
 }

@@ -2,14 +2,14 @@
 
 ghost use Rattle.std.specs.Prelude.{◌≡◌, ◌≢◌, ◌↔◌, ◌⊎◌};
 ghost use Rattle.keywrap_cli.specs.Faults.{hex_fault_of, vectors_fault_of};
-ghost use Rattle.keywrap_cli.specs.Statuses.{drill_status, fault_status, job_status, line_status};
+ghost use Rattle.keywrap_cli.specs.Statuses.{drill_status, program_status, job_status, line_status};
 ghost use Rattle.keywrap_cli.specs.declared.fault.ProgramFault.TheVariants as ProgramFaults;
 
 use crate::drilling::DrillFault;
 use crate::initial_value::IvFault;
 use crate::job::JobFault;
-use crate::report::VectorsFault;
 use crate::statuses;
+use crate::vector_report::VectorsFault;
 use key_files::{FileFault, HexWriteFault, WriteFault};
 use key_lines::{LineFault, RefusedLine};
 use key_wrap_core::RewrapFault;
@@ -59,7 +59,7 @@ pub enum ProgramFault {
 impl ProgramFault {
     /// Returns the exit status.
     pub fn status(&self) -> u8
-        ensures status { result ≡ fault_status self.now }
+        ensures status { result ≡ program_status self.now }
         ensures failed { result ≢ 0 }
     {
         match self {
@@ -119,7 +119,10 @@ pub(crate) fn line_status(fault: LineFault<RewrapFault>) -> u8
             | FileFault::TooLong
             | FileFault::BadDigit { .. }
             | FileFault::OddDigits
-            | FileFault::BadBase64(_),
+            | FileFault::BadCharacter { .. }
+            | FileFault::BehindPadding { .. }
+            | FileFault::BadBase64Length
+            | FileFault::TrailingBits,
         ) => statuses::INPUT_OUTPUT,
     }
 }

@@ -1,8 +1,8 @@
 //! Reads the files of an operation.
 
 ghost use Rattle.std.specs.Prelude.{◌≡◌};
-ghost use Rattle.key_files.specs.Reading.{answer_of};
-ghost use Rattle.keywrap_cli.specs.Readings.{ReadsFile, named_fault_of};
+ghost use Rattle.key_files.specs.FileReading.{answer_of};
+ghost use Rattle.keywrap_cli.specs.JobReading.{ReadsFile, named_fault_of};
 
 use crate::job::{JobFault, Notation};
 use key_files::{FileFault, MAX_FILE, read_base64, read_hex, read_raw};

@@ -3,14 +3,14 @@
 ghost use Rattle.std.specs.Prelude.{◌≡◌, IsOk};
 ghost use Rattle.key_wrap_core.specs.Plain.{default_iv};
 ghost use Rattle.keywrap_cli.specs.Job.{RunsJob, WritesTheAnswer, plain_task};
-ghost use Rattle.keywrap_cli.specs.Answers.{done_of, job_of};
+ghost use Rattle.keywrap_cli.specs.JobAnswers.{done_of, job_of};
 
 use crate::convert::Direction;
-use crate::engine::run_input;
 use crate::kek_file::read_kek;
 use crate::key_job::KeyJob;
+use crate::whole_input::run_input;
 use key_files::{FileFault, WriteFault};
-use key_lines::Mark;
+use key_lines::Note;
 use key_wrap_core::{Form, InPlaceFault, InitialValue};
 use std::alloc::Global;
 use std::io::{Read, Write};
@@ -202,17 +202,17 @@ pub fn run<K: Read, R: Read, W: Write>(
         pair,
     };
     match run_input(alloc, task.input, &job, input, out) {
-        Ok(mark) => Ok(done_of(mark)),
+        Ok(note) => Ok(done_of(note)),
         Err(fault) => Err(fault),
     }
 }
 
-// The outcome for an answer with this mark.
-fn done_of(mark: Mark) -> Done
-    ensures { result ≡ done_of mark }
+// Returns the outcome for an answer with this note.
+fn done_of(note: Note) -> Done
+    ensures { result ≡ done_of note }
 {
-    match mark {
-        Mark::Unmarked => Done::Written,
-        Mark::Marked => Done::Neither,
+    match note {
+        Note::None | Note::AlreadyNew => Done::Written,
+        Note::NoKey => Done::Neither,
     }
 }

@@ -1,8 +1,8 @@
 //! Reads KEKs from files.
 
 ghost use Rattle.std.specs.Prelude.{◌≡◌, IfOk};
-ghost use Rattle.keywrap_cli.specs.Engine.{OpensKeks};
-ghost use Rattle.keywrap_cli.specs.Readings.{OpensKek, kek_fault_of};
+ghost use Rattle.keywrap_cli.specs.RunSteps.{OpensKeks};
+ghost use Rattle.keywrap_cli.specs.JobReading.{OpensKek, kek_fault_of};
 
 use crate::files::read_file;
 use crate::job::{JobFault, Notation};

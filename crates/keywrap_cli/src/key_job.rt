@@ -1,17 +1,17 @@
 //! Runs a job under a KEK on the bytes of an input or of a line.
 
 ghost use Rattle.std.specs.Prelude.{◌≡◌, IfOk, Ok, string_bytes};
-ghost use Rattle.key_lines.specs.Answers.{IsAnswered, answered};
-ghost use Rattle.keywrap_cli.specs.Answers.{AnswerOfJob, HasBadLength, IsPrinted, JobAnswer};
-ghost use Rattle.keywrap_cli.specs.Answers.{job_of, job_refusal, kind_line};
+ghost use Rattle.key_lines.specs.LineAnswers.{IsAnswered, answered};
+ghost use Rattle.keywrap_cli.specs.JobAnswers.{AnswerOfJob, HasBadLength, IsPrinted, JobAnswer};
+ghost use Rattle.keywrap_cli.specs.JobAnswers.{job_of, kind_line};
 
 use crate::any_form::unwrap_any;
 use crate::convert::{Direction, convert_into};
-use crate::engine::print_in;
 use crate::job::{Job, Task};
+use crate::whole_input::print_in;
 use block_pair::{BlockPair, Meter};
-use key_lines::{AnswerFault, LineJob, Mark};
-use key_wrap_core::{InPlaceFault, InitialValue, Kind, RewrapFault, kind_into_with};
+use key_lines::{LineFault, LineJob, Note};
+use key_wrap_core::{InitialValue, Kind, RewrapFault, kind_into_with};
 use std::alloc::{AllocError, Global};
 
 /// A job under a block permutation. Only the plain form uses the initial value.
@@ -35,14 +35,14 @@ impl<B: BlockPair> LineJob for KeyJob<B> {
         &self,
         bytes: &mut Vec<u8>,
         output: &mut Vec<u8>,
-    ) -> Result<Mark, AnswerFault<RewrapFault>> {
+    ) -> Result<Note, LineFault<RewrapFault>> {
         match self.task.job {
             Job::Wrap => self.convert(Direction::Wrap, bytes, output),
             Job::Unwrap => self.convert(Direction::Unwrap, bytes, output),
             Job::UnwrapAny => self.unwrap_any(bytes, output),
             Job::Check => match self.check(bytes, output) {
-                Ok(mark) => Ok(mark),
-                Err(_) => Err(AnswerFault::Memory),
+                Ok(note) => Ok(note),
+                Err(_) => Err(LineFault::Memory),
             },
         }
     }
@@ -55,24 +55,21 @@ impl<B: BlockPair> KeyJob<B> {
         direction: Direction,
         bytes: &mut Vec<u8>,
         output: &mut Vec<u8>,
-    ) -> Result<Mark, AnswerFault<RewrapFault>>
+    ) -> Result<Note, LineFault<RewrapFault>>
         ensures { IsAnswered (AnswerOfJob (job_of direction) self.now.iv self.now.task
             (B.encrypted self.now.pair) bytes.old.items)
             (¬ HasBadLength (job_of direction) self.now.task.form bytes.old.items)
             output.new.items result }
     {
-        match convert_into(
+        convert_into(
             direction,
             self.task.form,
             &self.iv,
             &self.pair,
             bytes,
             output,
-        ) {
-            Ok(()) => self.print(bytes, output),
-            Err(AnswerFault::Refused(fault)) => Err(AnswerFault::Refused(job_refusal(fault))),
-            Err(AnswerFault::Memory) => Err(AnswerFault::Memory),
-        }
+        )?;
+        self.print(bytes, output)
     }
 
     // Makes the answer of an unwrapping in either form.
@@ -80,23 +77,20 @@ impl<B: BlockPair> KeyJob<B> {
         &self,
         bytes: &mut Vec<u8>,
         output: &mut Vec<u8>,
-    ) -> Result<Mark, AnswerFault<RewrapFault>>
+    ) -> Result<Note, LineFault<RewrapFault>>
         ensures { IsAnswered (AnswerOfJob Job.UnwrapAny self.now.iv self.now.task
             (B.encrypted self.now.pair) bytes.old.items)
             (¬ HasBadLength Job.UnwrapAny self.now.task.form bytes.old.items)
             output.new.items result }
     {
-        match unwrap_any(&self.iv, &self.pair, bytes, output) {
-            Ok(()) => self.print(bytes, output),
-            Err(AnswerFault::Refused(fault)) => Err(AnswerFault::Refused(job_refusal(fault))),
-            Err(AnswerFault::Memory) => Err(AnswerFault::Memory),
-        }
+        unwrap_any(&self.iv, &self.pair, bytes, output)?;
+        self.print(bytes, output)
     }
 
     // Makes the answer of a check. `output` is the room for the registers.
-    fn check(&self, text: &[u8], output: &mut Vec<u8>) -> Result<Mark, AllocError>
-        ensures { IfOk result (λ mark. AnswerOfJob Job.Check self.now.iv self.now.task
-            (B.encrypted self.now.pair) text.now (answered output.new.items (Ok mark))) }
+    fn check(&self, text: &[u8], output: &mut Vec<u8>) -> Result<Note, AllocError>
+        ensures { IfOk result (λ note. AnswerOfJob Job.Check self.now.iv self.now.task
+            (B.encrypted self.now.pair) text.now (answered output.new.items (Ok note))) }
     {
         output.resize(text.len().saturating_sub(8), 0)?;
         let Ok(found) = kind_into_with(&mut Meter::new(&self.pair), &self.iv, text, output) else {
@@ -106,32 +100,22 @@ impl<B: BlockPair> KeyJob<B> {
         output.clear();
         output.extend_from_slice(line.as_bytes())?;
         match found {
-            Kind::Plain(_) | Kind::Padded(_) => Ok(Mark::Unmarked),
-            Kind::Neither => Ok(Mark::Marked),
+            Kind::Plain(_) | Kind::Padded(_) => Ok(Note::None),
+            Kind::Neither => Ok(Note::NoKey),
         }
     }
 
-    // Prints the answer in `output`, without a mark. `bytes` is room for it.
+    // Prints the answer in `output`, without a note. `bytes` is room for it.
     fn print(
         &self,
         bytes: &mut Vec<u8>,
         output: &mut Vec<u8>,
-    ) -> Result<Mark, AnswerFault<RewrapFault>>
+    ) -> Result<Note, LineFault<RewrapFault>>
         ensures { IsPrinted self.now.task.input output.old.items output.new.items result }
     {
         print_in(self.task.input, output, bytes)?;
         std::mem::swap(bytes, output);
-        Ok(Mark::Unmarked)
-    }
-}
-
-// Returns the refusal of a job.
-fn job_refusal(fault: InPlaceFault) -> RewrapFault
-    ensures { result ≡ job_refusal fault }
-{
-    match fault {
-        InPlaceFault::BadLength => RewrapFault::BadLength,
-        InPlaceFault::Integrity => RewrapFault::Integrity,
+        Ok(Note::None)
     }
 }
 

@@ -169,7 +169,7 @@ impl<K: Read> Operation<K> {
     /// lines takes the place of the task's notation of the input.
     ///
     /// The outer `Err` is the fault of a KEK file: then the input was not read, and nothing was
-    /// written. `marked` in the summary counts answers that are `none` or a copied wrapped key.
+    /// written. `noted` in the summary counts answers that are `none` or a copied wrapped key.
     pub fn run_lines<L: RefusalLog<RewrapFault>, I: LineSource, W: Write>(
         &mut self,
         alloc: Global,

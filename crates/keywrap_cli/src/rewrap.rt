@@ -5,11 +5,11 @@ ghost use Rattle.key_wrap_core.specs.Forms.{by_default};
 ghost use Rattle.keywrap_cli.specs.Rewrapping.{RunsRewrap, TellsSameKek, WritesTheNewText};
 ghost use Rattle.keywrap_cli.specs.Rewrapping.{result_of, rewrapping, without_cause};
 
-use crate::engine::run_input;
 use crate::job::{Done, JobFault, Notation, Outcome};
 use crate::kek_file::{Keks, read_keks};
 use crate::rewrap_job::RewrapJob;
 use crate::rewrapping::Rewrapping;
+use crate::whole_input::run_input;
 use key_wrap_core::{Form, RewrapForms};
 use std::alloc::Global;
 use std::io::{Read, Write};

@@ -1,12 +1,12 @@
 //! Rewraps the bytes of an input or of a line.
 
 ghost use Rattle.std.specs.Prelude.{◌≡◌};
-ghost use Rattle.keywrap_cli.specs.Answers.{HasRewrapping, RewrappingAnswer, rewrap_mark};
+ghost use Rattle.keywrap_cli.specs.JobAnswers.{HasRewrapping, RewrappingAnswer, rewrap_note};
 
-use crate::engine::print_in;
 use crate::rewrapping::Rewrapping;
+use crate::whole_input::print_in;
 use block_pair::{BlockPair, Meter};
-use key_lines::{AnswerFault, LineJob, Mark};
+use key_lines::{LineFault, LineJob, Note};
 use key_wrap_core::{RewrapFault, Rewrapped, rewrap};
 
 /// A rewrapping from the old block permutation to the new one.
@@ -30,7 +30,7 @@ impl<O: BlockPair, N: BlockPair> LineJob for RewrapJob<O, N> {
         &self,
         bytes: &mut Vec<u8>,
         output: &mut Vec<u8>,
-    ) -> Result<Mark, AnswerFault<RewrapFault>> {
+    ) -> Result<Note, LineFault<RewrapFault>> {
         let (mut old, mut new) = (Meter::new(&self.old), Meter::new(&self.new));
         let Rewrapping {
             forms,
@@ -39,21 +39,21 @@ impl<O: BlockPair, N: BlockPair> LineJob for RewrapJob<O, N> {
         } = &self.task;
         let rewrapped = match rewrap(&mut old, &mut new, forms, *pass_new, bytes) {
             Ok(rewrapped) => rewrapped,
-            Err(fault) => return Err(AnswerFault::Refused(fault)),
+            Err(fault) => return Err(LineFault::Refused(fault)),
         };
         match print_in(self.task.input, bytes, output) {
-            Ok(()) => Ok(rewrap_mark(rewrapped)),
-            Err(_) => Err(AnswerFault::Memory),
+            Ok(()) => Ok(rewrap_note(rewrapped)),
+            Err(_) => Err(LineFault::Memory),
         }
     }
 }
 
-// The mark of an answer: a wrapped key that is new already is marked.
-fn rewrap_mark(rewrapped: Rewrapped) -> Mark
-    ensures { result ≡ rewrap_mark rewrapped }
+// Returns the note on the answer of a rewrap.
+fn rewrap_note(rewrapped: Rewrapped) -> Note
+    ensures { result ≡ rewrap_note rewrapped }
 {
     match rewrapped {
-        Rewrapped::Fresh => Mark::Unmarked,
-        Rewrapped::AlreadyNew => Mark::Marked,
+        Rewrapped::Fresh => Note::None,
+        Rewrapped::AlreadyNew => Note::AlreadyNew,
     }
 }

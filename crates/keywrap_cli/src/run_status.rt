@@ -21,7 +21,7 @@ pub fn done_status(done: Done) -> u8
     }
 }
 
-/// Returns the exit status of a run over lines: the status of the first refused line. A check marks
+/// Returns the exit status of a run over lines: the status of the first refused line. A check notes
 /// the lines for which it found no key. A run over no lines is refused.
 pub fn lines_status(job: Option<Job>, summary: &RunSummary<RewrapFault>) -> u8
     ensures done { (result ≡ 0) ↔ EndsWell job summary.now }
@@ -38,7 +38,7 @@ pub fn lines_status(job: Option<Job>, summary: &RunSummary<RewrapFault>) -> u8
         return line_status(refused.fault);
     }
     match job {
-        Some(Job::Check) if summary.marked > 0 => statuses::FAILED,
+        Some(Job::Check) if summary.noted > 0 => statuses::FAILED,
         _ => statuses::DONE,
     }
 }

@@ -2,14 +2,14 @@
 
 ghost use Rattle.std.specs.Prelude.{◌≡◌, ◌≢◌, ◌↔◌, length, Some, IfOk, IsTrue, MatchOption};
 ghost use Rattle.block_pair.specs.Words.{IsBlock};
-ghost use Rattle.keywrap_cli.specs.Vectors.{Codes, Converts, Gave, Gives, IsFound, IsMissed};
-ghost use Rattle.keywrap_cli.specs.Vectors.{IsRight, IsVerdict, bytes_of};
+ghost use Rattle.keywrap_cli.specs.VectorReport.{Codes, Converts, Gave, LibraryGives, IsReproduced, IsMissed};
+ghost use Rattle.keywrap_cli.specs.VectorReport.{IsRight, IsVerdict, bytes_of};
 ghost use Rattle.test_vectors.specs.Vectors.{TestVector, shown};
 
 use crate::convert::{Direction, convert_into};
 use crate::kek_file::Aes;
 use block_pair::BlockPair;
-use key_lines::AnswerFault;
+use key_lines::LineFault;
 use key_wrap_core::{Form, InitialValue};
 use std::alloc::{AllocError, Global};
 use test_vectors::{Algorithm, Vector};
@@ -36,7 +36,7 @@ pub trait VectorCalls {
 pub struct Library;
 
 impl VectorCalls for Library {
-    ghost gave = { Gives };
+    ghost gave = { LibraryGives };
 
     fn call(
         alloc: Global,
@@ -58,7 +58,7 @@ impl VectorCalls for Library {
 
 /// A law: what the calls of this crate gave is right exactly if they gave the bytes of the vector.
 pub fn library_law()
-    ensures found { (v : TestVector) → IsFound ⟦<Library as VectorCalls>⟧.gave v → IsRight v }
+    ensures found { (v : TestVector) → IsReproduced ⟦<Library as VectorCalls>⟧.gave v → IsRight v }
     ensures missed { (v : TestVector) → IsMissed ⟦<Library as VectorCalls>⟧.gave v → ¬ IsRight v }
 {}
 
@@ -100,8 +100,8 @@ fn convert<B: BlockPair>(
     let mut output = Vec::new(alloc);
     match convert_into(direction, form, &iv, pair, input, &mut output) {
         Ok(()) => Ok(Some(output)),
-        Err(AnswerFault::Refused(_)) => Ok(None),
-        Err(AnswerFault::Memory) => Err(AllocError),
+        Err(LineFault::Refused(_)) => Ok(None),
+        Err(_) => Err(AllocError),
     }
 }
 

@@ -7,11 +7,11 @@ ghost use Rattle.keywrap_calls.specs.Status.{IsDone, IsIntegrity};
 ghost use Rattle.keywrap_calls.specs.Calls.{WrapsPlain, UnwrapsPlain, WrapsWith, UnwrapsWith, WrapsInPlace, UnwrapsInPlace};
 ghost use Rattle.keywrap_calls.specs.Calls.{WrapsPadded, UnwrapsPadded, WrapsPaddedInPlace, UnwrapsPaddedInPlace, IsPaddedKey};
 ghost use Rattle.keywrap_calls.specs.Any.{UnwrapsAny};
-ghost use Rattle.keywrap_calls.specs.Kinds.{FindsKind};
+ghost use Rattle.keywrap_calls.specs.KindCalls.{FindsKind};
 ghost use Rattle.keywrap_calls.specs.Rewraps.{Rewraps, RewrapsInPlace};
 ghost use Rattle.keywrap_calls.specs.Many.{WrapsMany, UnwrapsMany, RewrapsMany, FindsMany};
 ghost use Rattle.keywrap_calls.specs.SelfTest.{IsAllRight};
-ghost use Rattle.keywrap_calls.specs.StatusTexts.{text_of, fitting, begun_with};
+ghost use Rattle.keywrap_calls.specs.StatusTexts.{status_text_of, fitting, begun_with};
 ghost use Rattle.keywrap_calls.specs.Tried.{exports};
 ghost use Rattle.keywrap_calls.specs.Version.{version};
 
@@ -223,10 +223,10 @@ pub extern "C" fn keywrap_kind_many(
 /// Writes the text of a status.
 #[unsafe(no_mangle)]
 pub extern "C" fn keywrap_status_text(status: i32, text: Out) -> usize
-    ensures whole_length { result ≡ length (text_of status) }
+    ensures whole_length { result ≡ length (status_text_of status) }
     ensures short { result < 80 }
     ensures written { 0 < length text.old
-        → text.new ≡ begun_with (fitting (text_of status) text.old) text.old }
+        → text.new ≡ begun_with (fitting (status_text_of status) text.old) text.old }
 {
     keywrap_calls::status_text(status, text)
 }

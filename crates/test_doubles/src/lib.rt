@@ -8,7 +8,7 @@ mod writers;
 
 pub use reader::Trickle;
 pub use tally::Tally;
-pub use writers::{Narrow, STOPPINGS, Stop, Unflushed};
+pub use writers::{Narrow, STOPPINGS, Stopping, Unflushed};
 
 /// How often a double fails: once, after which it continues, or at every call.
 pub const FAULTS: [usize; 2] = [1, usize::MAX];

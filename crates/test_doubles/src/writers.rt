@@ -5,7 +5,7 @@ use std::io::{self, Write};
 
 /// How a writer fails.
 #[derive(Clone, Copy, Debug)]
-pub enum Stop {
+pub enum Stopping {
     /// It returns an error.
     Fails,
     /// It takes no bytes.
@@ -13,11 +13,11 @@ pub enum Stop {
 }
 
 /// How a writer fails, and how often.
-pub const STOPPINGS: [(Stop, usize); 4] = [
-    (Stop::Fails, 1),
-    (Stop::TakesNone, 1),
-    (Stop::Fails, usize::MAX),
-    (Stop::TakesNone, usize::MAX),
+pub const STOPPINGS: [(Stopping, usize); 4] = [
+    (Stopping::Fails, 1),
+    (Stopping::TakesNone, 1),
+    (Stopping::Fails, usize::MAX),
+    (Stopping::TakesNone, usize::MAX),
 ];
 
 /// A writer that takes bytes in pieces, and fails at one of them.
@@ -30,7 +30,7 @@ pub struct Narrow {
     size: usize,
     // The bytes left before the fault, its kind, and how often the writer fails there.
     room: usize,
-    stop: Stop,
+    stop: Stopping,
     faults: usize,
 }
 
@@ -42,13 +42,13 @@ impl Narrow {
             out: Vec::new(alloc),
             size,
             room: usize::MAX,
-            stop: Stop::Fails,
+            stop: Stopping::Fails,
             faults: 0,
         }
     }
 
     /// Makes a writer that takes one byte per write, and fails `faults` times after `room` bytes.
-    pub fn stopping(alloc: Global, room: usize, stop: Stop, faults: usize) -> Self {
+    pub fn stopping(alloc: Global, room: usize, stop: Stopping, faults: usize) -> Self {
         Narrow {
             room,
             stop,
@@ -59,7 +59,7 @@ impl Narrow {
 
     /// Makes a writer that takes one byte per write, and always fails after `room` bytes.
     pub fn failing(alloc: Global, room: usize) -> Self {
-        Narrow::stopping(alloc, room, Stop::Fails, usize::MAX)
+        Narrow::stopping(alloc, room, Stopping::Fails, usize::MAX)
     }
 
     /// Returns the bytes that were written.
@@ -73,8 +73,8 @@ impl Write for Narrow {
         if self.room == 0 && self.faults > 0 {
             self.faults -= 1;
             return match self.stop {
-                Stop::Fails => Err(io::Error::from(io::ErrorKind::Interrupted)),
-                Stop::TakesNone => Ok(0),
+                Stopping::Fails => Err(io::Error::from(io::ErrorKind::Interrupted)),
+                Stopping::TakesNone => Ok(0),
             };
         }
         let most = if self.faults > 0 {

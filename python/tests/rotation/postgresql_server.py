@@ -1,4 +1,4 @@
-"""A PostgreSQL server of its own for tests and benchmarks."""
+"""A PostgreSQL server of its own for tests."""
 
 import os
 import pathlib

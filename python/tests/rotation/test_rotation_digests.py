@@ -10,6 +10,7 @@ import subprocess
 
 import pytest
 from rotation_digests import blake2bp, lanes_of
+from rotation_help import slow
 
 from keywrap.rotation import digests, replacing
 
@@ -171,8 +172,10 @@ def outcome(command):
 
 
 @pytest.mark.parametrize("compiler, machine, is_fast", [
-    ("gcc", [], None), ("clang", [], None), ("gcc", ["qemu-x86_64", "-cpu", "Nehalem"], False),
-    ("gcc", ["qemu-x86_64", "-cpu", "Haswell"], True), ("aarch64-linux-gnu-gcc", ["qemu-aarch64"], False),
+    ("gcc", [], None), pytest.param("clang", [], None, marks=slow),
+    pytest.param("gcc", ["qemu-x86_64", "-cpu", "Nehalem"], False, marks=slow),
+    pytest.param("gcc", ["qemu-x86_64", "-cpu", "Haswell"], True, marks=slow),
+    pytest.param("aarch64-linux-gnu-gcc", ["qemu-aarch64"], False, marks=slow),
     ("s390x-linux-gnu-gcc", ["qemu-s390x"], False)])  # fmt: skip
 def test_on_each_processor(tmp_path, compiler, machine, is_fast):
     """Without four lanes, with AVX2, with AVX-512 if this processor has it; and big-endian."""
@@ -181,6 +184,7 @@ def test_on_each_processor(tmp_path, compiler, machine, is_fast):
     assert is_fast in (None, found)
 
 
+@slow
 @pytest.mark.parametrize("compiler", ["gcc", "clang"])
 @pytest.mark.parametrize("flags", [["-O0"], ["-O3"], SANITIZED], ids=["-O0", "-O3", "sanitizers"])
 def test_by_each_compiler(tmp_path, compiler, flags):
@@ -188,8 +192,8 @@ def test_by_each_compiler(tmp_path, compiler, flags):
 
 
 @pytest.mark.parametrize("compiler, machine, flags", [
-    ("gcc", [], ["-O2"]), ("clang", [], ["-O2"]), ("gcc", [], SANITIZED),
-    ("s390x-linux-gnu-gcc", ["qemu-s390x"], ["-O2", "-static"])],
+    ("gcc", [], ["-O2"]), pytest.param("clang", [], ["-O2"], marks=slow), ("gcc", [], SANITIZED),
+    pytest.param("s390x-linux-gnu-gcc", ["qemu-s390x"], ["-O2", "-static"], marks=slow)],
     ids=["gcc", "clang", "sanitizers", "s390x"])  # fmt: skip
 def test_by_a_compiler_without_vectors(tmp_path, compiler, machine, flags):
     """As Microsoft's, or a gcc before 9."""

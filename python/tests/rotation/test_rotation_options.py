@@ -13,7 +13,7 @@ import pytest
 
 pytest.importorskip("cryptography", reason="no cryptography (apt-get install python3-cryptography)")
 
-from rotation_help import KEK, NEW_KEK, lines_under, make_keys, set_keks, wrapped_under  # noqa: E402
+from rotation_help import KEK, NEW_KEK, lines_under, make_keys, set_keks, slow, wrapped_under  # noqa: E402
 
 from keywrap.rotation import command, jobs, replacing, sqlite  # noqa: E402
 
@@ -230,7 +230,7 @@ def test_attributes_from_a_cache(rotated, monkeypatch):
     assert open("store/0", "rb").read() == lines_under(NEW_KEK, KEYS[1:2])
 
 
-@pytest.mark.parametrize("kind", ["files", "table"])
+@pytest.mark.parametrize("kind", ["files", pytest.param("table", marks=slow)])
 def test_memory_does_not_grow_with_the_store(kind):
     """Neither of the run nor of its processes: 64 MB are enough for 400,000 keys."""
     key = wrapped_under(KEK, bytes(32))

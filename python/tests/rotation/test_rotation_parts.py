@@ -15,7 +15,7 @@ import pytest
 pytest.importorskip("cryptography", reason="no cryptography (apt-get install python3-cryptography)")
 
 from rotation_help import KEK, NEW_KEK, ONE_BY_ONE, left_over, lines_under  # noqa: E402
-from rotation_help import make_keys, set_keks, wrapped_under  # noqa: E402
+from rotation_help import make_keys, set_keks, slow, wrapped_under  # noqa: E402
 
 from keywrap.rotation import command, digests, lines, part_files, replacing  # noqa: E402
 
@@ -80,7 +80,7 @@ def test_the_last_part_replaces_the_file(file, made, capfd, order):
     assert command.main(["--verify", "keys"]) == 0
 
 
-@pytest.mark.parametrize("total", [2, 7, 61])
+@pytest.mark.parametrize("total", [2, 7, pytest.param(61, marks=slow)])
 @pytest.mark.parametrize("content", ["lines", "no last LF", "one line", "of one length"])
 def test_each_line_is_in_one_part(file, made, capfd, total, content):
     """Whatever the boundaries: also if parts are empty."""

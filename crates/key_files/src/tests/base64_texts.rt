@@ -1,7 +1,7 @@
 //! Base64 texts whose meaning RFC 4648 gives, and texts that are none.
 
 use super::is_answer;
-use crate::{Alphabet, Base64Fault, FileFault, decode_symbols_into, print_base64, read_base64};
+use crate::{Alphabet, FileFault, decode_symbols_into, print_base64, read_base64};
 use std::alloc::Global;
 use std::process::Abort;
 use std::test::Fail;
@@ -18,31 +18,31 @@ static VECTORS: [(&[u8], &[u8]); 7] = [
     (b"foobar", b"Zm9vYmFy"),
 ];
 
-static TEXTS: [(&[u8], Result<&[u8], Base64Fault>); 17] = [
+static TEXTS: [(&[u8], Result<&[u8], FileFault>); 17] = [
     (b"Zg", Ok(b"f")),
     (b"Zm8", Ok(b"fo")),
     (b"+/8=", Ok(b"\xfb\xff")),
     (b"-_8", Ok(b"\xfb\xff")),
     (b"-_8=", Ok(b"\xfb\xff")),
-    (b"Z", Err(Base64Fault::Length)),
-    (b"=", Err(Base64Fault::Length)),
-    (b"Zg=", Err(Base64Fault::Length)),
-    (b"Zm8==", Err(Base64Fault::Length)),
-    (b"Zm9v====", Err(Base64Fault::Length)),
-    (b"Zh==", Err(Base64Fault::TrailingBits)),
-    (b"Zm9", Err(Base64Fault::TrailingBits)),
-    (b"Zg==Zg==", Err(Base64Fault::BehindPadding { at: 4 })),
-    (b"+AA_", Err(Base64Fault::Character { at: 3 })),
-    (b"_AA+", Err(Base64Fault::Character { at: 3 })),
-    (b"Zg*=", Err(Base64Fault::Character { at: 2 })),
-    (b"\xef\xbb\xbfZg", Err(Base64Fault::Character { at: 0 })),
+    (b"Z", Err(FileFault::BadBase64Length)),
+    (b"=", Err(FileFault::BadBase64Length)),
+    (b"Zg=", Err(FileFault::BadBase64Length)),
+    (b"Zm8==", Err(FileFault::BadBase64Length)),
+    (b"Zm9v====", Err(FileFault::BadBase64Length)),
+    (b"Zh==", Err(FileFault::TrailingBits)),
+    (b"Zm9", Err(FileFault::TrailingBits)),
+    (b"Zg==Zg==", Err(FileFault::BehindPadding { at: 4 })),
+    (b"+AA_", Err(FileFault::BadCharacter { at: 3 })),
+    (b"_AA+", Err(FileFault::BadCharacter { at: 3 })),
+    (b"Zg*=", Err(FileFault::BadCharacter { at: 2 })),
+    (b"\xef\xbb\xbfZg", Err(FileFault::BadCharacter { at: 0 })),
 ];
 
 // Of each the same with blanks around and between, which a text without them refuses.
-static SPACED: [(&[u8], Result<&[u8], Base64Fault>, usize); 3] = [
+static SPACED: [(&[u8], Result<&[u8], FileFault>, usize); 3] = [
     (b"Zm9v\r\nYmFy\n", Ok(b"foobar"), 4),
     (b"Zm8 =\t", Ok(b"fo"), 3),
-    (b" Zg= =\nZg", Err(Base64Fault::BehindPadding { at: 7 }), 0),
+    (b" Zg= =\nZg", Err(FileFault::BehindPadding { at: 7 }), 0),
 ];
 
 #[test]
@@ -54,7 +54,7 @@ fn decodes_base64_texts_and_files(rt: HostRuntime) {
         means(&rt, rt.alloc(), text, *want, *want);
     }
     for (text, want, blank) in &SPACED {
-        let refused = Err(Base64Fault::Character { at: *blank });
+        let refused = Err(FileFault::BadCharacter { at: *blank });
         means(&rt, rt.alloc(), text, *want, refused);
     }
 }
@@ -64,20 +64,14 @@ fn means(
     rt: &impl Abort,
     alloc: Global,
     text: &[u8],
-    file: Result<&[u8], Base64Fault>,
-    alone: Result<&[u8], Base64Fault>,
+    file: Result<&[u8], FileFault>,
+    alone: Result<&[u8], FileFault>,
 ) {
     let answer = read_base64(alloc, &mut Trickle::in_pieces(text, 3), text.len());
-    assert!(rt;
-        is_answer(answer, file.map_err(FileFault::BadBase64)),
-        "{text:?}"
-    );
+    assert!(rt; is_answer(answer, file), "{text:?}");
     let mut bytes = Vec::new(alloc);
     let answer = decode_symbols_into(text, &mut bytes).map(|()| bytes);
-    assert!(rt;
-        is_answer(answer, alone.map_err(FileFault::BadBase64)),
-        "{text:?}"
-    );
+    assert!(rt; is_answer(answer, alone), "{text:?}");
 }
 
 #[test]

@@ -6,7 +6,7 @@ use crate::{HexWriteFault, write_hex, write_raw};
 use std::alloc::Global;
 use std::process::Abort;
 use std::test::Fail;
-use test_doubles::{Narrow, STOPPINGS, Stop};
+use test_doubles::{Narrow, STOPPINGS, Stopping};
 
 // The wrapping of RFC 3394, section 4.1.
 const TEXT: &[u8] = b"\x1f\xa6\x8b\x0a\x81\x12\xb4\x47\xae\xf3\x4b\xd8\xfb\x5a\x7b\x82\
@@ -71,7 +71,7 @@ fn stops_after(
     bytes: &[u8],
     line: &[u8],
     room: usize,
-    stop: Stop,
+    stop: Stopping,
     faults: usize,
 ) {
     let raw = Narrow::stopping(alloc, room, stop, faults);

@@ -2,11 +2,11 @@
 
 ghost use Rattle.std.specs.Prelude.{⊤};
 
-use crate::{AnswerFault, LineJob, Mark, RefusalLog, RefusedLine};
+use crate::{LineFault, LineJob, Note, RefusalLog, RefusedLine};
 use key_files::print_hex;
 
 /// Answers the bytes in hex, except for a single FF, which has no answer, and a single FE, for
-/// which it has no memory. It marks the answer to no bytes.
+/// which it has no memory. It notes NoKey on the answer to no bytes.
 #[derive(Clone, Copy)]
 pub struct Echo;
 
@@ -15,18 +15,18 @@ impl LineJob for Echo {
 
     ghost answers = { λ _ _ _. ⊤ };
 
-    fn answer(&self, bytes: &mut Vec<u8>, output: &mut Vec<u8>) -> Result<Mark, AnswerFault<u8>> {
+    fn answer(&self, bytes: &mut Vec<u8>, output: &mut Vec<u8>) -> Result<Note, LineFault<u8>> {
         match bytes.as_slice() {
-            [0xff] => Err(AnswerFault::Refused(0xff)),
-            [0xfe] => Err(AnswerFault::Memory),
+            [0xff] => Err(LineFault::Refused(0xff)),
+            [0xfe] => Err(LineFault::Memory),
             text => {
-                let mark = if text.is_empty() {
-                    Mark::Marked
+                let note = if text.is_empty() {
+                    Note::NoKey
                 } else {
-                    Mark::Unmarked
+                    Note::None
                 };
                 print_hex(text, output)?;
-                Ok(mark)
+                Ok(note)
             }
         }
     }

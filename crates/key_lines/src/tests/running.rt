@@ -2,11 +2,11 @@
 
 use super::doubles::{Echo, Told};
 use crate::{LineFault, LineRun, LineSource, RefusedLine, RunFault, RunOptions, TextNotation};
-use key_files::{Base64Fault, FileFault};
+use key_files::FileFault;
 use std::alloc::Global;
 use std::io::{BufReader, Write};
 use std::test::Fail;
-use test_doubles::{Narrow, Stop, Trickle};
+use test_doubles::{Narrow, Stopping, Trickle};
 
 const HEX: RunOptions = RunOptions {
     notation: TextNotation::Hex,
@@ -190,7 +190,7 @@ fn counts_what_a_refused_write_left_out(rt: HostRuntime) -> Result<(), Fail> {
         let whole = b"0102\n03\n";
         for room in 0..whole.len() {
             let mut input = text;
-            let mut out = Narrow::stopping(rt.alloc(), room, Stop::Fails, 1);
+            let mut out = Narrow::stopping(rt.alloc(), room, Stopping::Fails, 1);
             let answer = run(rt.alloc(), HEX, &mut Told::new(), &mut input, &mut out);
             let unsent = whole.len() - room;
             assert!(rt; answer == Err(RunFault::Write { answered, unsent }));
@@ -210,7 +210,7 @@ fn stops_where_the_writer_refuses_a_full_block(rt: HostRuntime) -> Result<(), Fa
         text.extend_from_slice(&line)?;
     }
     let mut input = text.as_slice();
-    let mut out = Narrow::stopping(rt.alloc(), 10, Stop::Fails, 1);
+    let mut out = Narrow::stopping(rt.alloc(), 10, Stopping::Fails, 1);
     let answer = run(rt.alloc(), HEX, &mut Told::new(), &mut input, &mut out);
     let unsent = 80_002 - 10;
     let answered = 2;
@@ -254,7 +254,7 @@ fn answers_lines_of_base64(rt: HostRuntime) -> Result<(), Fail> {
     let answer = run(rt.alloc(), BASE64_TO_END, &mut told, &mut input, &mut out);
     assert!(rt; answer == Ok(3));
     assert!(rt; out.as_slice() == b"fbff\nfbff\n\n".as_slice());
-    let fault = LineFault::Input(FileFault::BadBase64(Base64Fault::Character { at: 1 }));
+    let fault = LineFault::Input(FileFault::BadCharacter { at: 1 });
     assert!(rt; told.last == Some(RefusedLine { line: 3, fault }));
     Ok(())
 }

@@ -107,7 +107,7 @@ fn counts_the_lines_that_pass(rt: HostRuntime) -> Result<(), Fail> {
     assert!(rt;
         run == Ok(Ok(RunSummary {
             lines: 3,
-            marked: 1,
+            noted: 1,
             refused: 1,
             first_refused,
         }))

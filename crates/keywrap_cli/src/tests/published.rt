@@ -1,7 +1,7 @@
 //! The published vectors by the definitions only: no code runs.
 
 ghost use Rattle.std.specs.List.{AllByRecursion};
-ghost use Rattle.keywrap_cli.specs.Vectors.{IsRight};
+ghost use Rattle.keywrap_cli.specs.VectorReport.{IsRight};
 ghost use Rattle.test_vectors.specs.Published.{published_vectors};
 
 // A law: the wrapped keys of RFC 3394 and RFC 5649 are wrappings by the definitions, and the blocks

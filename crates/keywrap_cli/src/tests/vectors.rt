@@ -5,9 +5,9 @@ ghost use Rattle.std.specs.Prelude.{⊤};
 
 use crate::convert::Direction;
 use crate::fault::ProgramFault;
-use crate::flushed::{run_drill, run_vectors, write_help};
-use crate::report::{report_on, vectors};
+use crate::fileless::{run_drill, run_vectors, write_help};
 use crate::vector_check::{Library, VectorCalls};
+use crate::vector_report::{report_on, vectors};
 use key_wrap_core::Form;
 use std::alloc::{AllocError, Global};
 use std::process::Abort;

@@ -2,9 +2,8 @@
 
 use crate::convert::{Direction, convert_into};
 use block_pair::BlockPair;
-use key_lines::AnswerFault;
 use key_wrap_core::{Form, InitialValue};
-use std::alloc::{AllocError, Global};
+use std::alloc::Global;
 use std::test::Fail;
 
 /// Returns the wrapping of a key in a form. The plain form has this initial value.
@@ -16,9 +15,6 @@ pub fn wrapped<B: BlockPair>(
     key: &[u8],
 ) -> Result<Vec<u8>, Fail> {
     let mut text = Vec::new(alloc);
-    match convert_into(Direction::Wrap, form, iv, pair, key, &mut text) {
-        Ok(()) => Ok(text),
-        Err(AnswerFault::Refused(fault)) => Err(Fail::from(fault)),
-        Err(AnswerFault::Memory) => Err(Fail::from(AllocError)),
-    }
+    convert_into(Direction::Wrap, form, iv, pair, key, &mut text)?;
+    Ok(text)
 }

@@ -5,8 +5,8 @@ use Rattle.key_wrap.specs.Plain.{Plain, default_iv}
 use Rattle.example_caller.proofs.in_place.unwrap_here.Goals as goal
 
 pub returns-in_err-unwrap_in_place-clause-accepts : goal.returns-in_err-unwrap_in_place-clause-accepts
-returns-in_err-unwrap_in_place-clause-accepts c = λ key stands.
+returns-in_err-unwrap_in_place-clause-accepts c = λ key wrapping.
     let of_aes : c.new-meter.result.pair ≡ c.args.aes.now = ap (λ m. m.pair) c.new-meter.ensures in
-    let of_meter = subst (λ (K : List ℕ). Plain (cipher K) default_iv key c.args.buffer.now) (sym of_aes) stands in
+    let of_meter = subst (λ (K : List ℕ). Plain (cipher K) default_iv key c.args.buffer.now) (sym of_aes) wrapping in
     let accepted : false ≡ true = c.in_err-unwrap_in_place.ensures.accepts key of_meter in
     cc

@@ -2,7 +2,7 @@
 use Rattle.std.proofs.Common.{◌≡◌, Err, sym, ap, ◌∙◌, subst}
 use Rattle.std.specs.List.{prefix_len}
 use Rattle.key_files.specs.Decoding.{DecodesText, fault_behind}
-use Rattle.key_lines.specs.Meaning.{blank_ended_meaning, is_blank, text_meaning}
+use Rattle.key_lines.specs.LineMeaning.{blank_ended_meaning, is_blank, text_meaning}
 use Rattle.key_lines.proofs.Denoting.{DecodesText-line, blank_ended_meaning-is}
 use Rattle.key_lines.proofs.text.decode_line.Goals as goal
 

@@ -2,7 +2,7 @@
 use Rattle.std.proofs.Common.{rules, ◌≡◌, ℕ, List, replicate, arith, ap, ◌∙◌}
 use Rattle.std.proofs.lemmas.List.Elements.{All-append, All-replicate}
 use Rattle.block_pair.specs.Metered.{counted}
-use Rattle.key_wrap_core.specs.Calls.{block_calls}
+use Rattle.key_wrap_core.specs.BlockCalls.{block_calls}
 use Rattle.key_wrap_core.proofs.Refusals.{true_or_false}
 use Rattle.key_wrap_core.proofs.InPlaceForm.{first_cleared}
 use Rattle.key_wrap_core.proofs.Unwrappings.{ok_legal, behind_zeros}

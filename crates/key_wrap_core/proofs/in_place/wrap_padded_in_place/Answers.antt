@@ -3,12 +3,12 @@ use Rattle.std.proofs.Common.{rules, ◌≡◌, ℕ, List, length, drop, ◌+◌
 use borrow.Rule.Slice.PartMut.{put_mid}
 use Rattle.block_pair.specs.Metered.{counted}
 use Rattle.key_wrap_core.specs.declared.forms.Form.TheVariants as forms
-use Rattle.key_wrap_core.specs.Calls.{block_calls}
+use Rattle.key_wrap_core.specs.BlockCalls.{block_calls}
 use Rattle.key_wrap_core.specs.Words.{word_bytes}
 use Rattle.key_wrap_core.specs.Lengths.{IsPaddedKeyLength}
 use Rattle.key_wrap_core.specs.Plain.{default_iv}
 use Rattle.key_wrap_core.specs.Padded.{aiv, padded}
-use Rattle.key_wrap_core.specs.PaddedRegisters.{Holds}
+use Rattle.key_wrap_core.specs.PaddedRegisters.{IsAivAndKey}
 use Rattle.key_wrap_core.specs.InPlace.{IsPaddedRoom, key_in}
 use Rattle.key_wrap_core.proofs.Refusals.{ok_or_err}
 use Rattle.key_wrap_core.proofs.PlainForm.{default_free}
@@ -31,7 +31,7 @@ returns g c =
     let long : length filled ≡ length old = search rules in
     let first : c.padded_iv.result ≡ aiv (length key) = c.padded_iv.ensures ∙ ap aiv (sym count) in
     let before : List ℕ = word_bytes c.padded_iv.result ++ drop 8 filled in
-    let holds : Holds before key = rw (first, after_first) refl in
+    let holds : IsAivAndKey before key = rw (first, after_first) refl in
     let fits : IsPaddedKeyLength (length key) = rw count legal in
     record {
       wraps = wraps_found default_iv forms.Padded key before old c.wrap_buffer.new.buf (g.met.B.BlockPair.lawful c.args.meter.now.pair) default_free room

@@ -3,7 +3,7 @@ use Rattle.std.proofs.Common.{rules, ◌≡◌, ℕ, List, length, take, ◌+◌
 use Rattle.block_pair.specs.Metered.{counted}
 use Rattle.key_wrap_core.specs.Words.{word_bytes}
 use Rattle.key_wrap_core.specs.Lengths.{IsPlainTextLength}
-use Rattle.key_wrap_core.specs.Calls.{block_calls}
+use Rattle.key_wrap_core.specs.BlockCalls.{block_calls}
 use Rattle.key_wrap_core.specs.InPlace.{ArePlainLengths}
 use Rattle.key_wrap_core.proofs.Spelling.{read_word, each_byte, length-word_bytes}
 use Rattle.key_wrap_core.proofs.InPlaceForm.{text_again}

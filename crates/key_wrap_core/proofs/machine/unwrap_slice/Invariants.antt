@@ -1,7 +1,7 @@
 -- The unwrapping has these steps left, and each that was undone was one block call.
 use Rattle.std.proofs.Common.{◌-◌, ◌+◌, length}
 use Rattle.key_wrap_core.specs.Words.{word_bytes}
-use Rattle.key_wrap_core.specs.Calls.{block_calls}
+use Rattle.key_wrap_core.specs.BlockCalls.{block_calls}
 use Rattle.std.proofs.Common.{◌++◌}
 use Rattle.key_wrap_core.specs.Steps.{UnwrapState}
 use Rattle.key_wrap_core.proofs.Counting.{Called}

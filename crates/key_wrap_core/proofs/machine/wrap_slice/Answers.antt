@@ -2,7 +2,7 @@
 use Rattle.std.proofs.Common.{rules, ◌≡◌, ◌+◌, ℕ, List, length, take, arith}
 use Rattle.block_pair.specs.Words.{IsBlock}
 use Rattle.key_wrap_core.specs.Words.{word_bytes}
-use Rattle.key_wrap_core.specs.Calls.{block_calls}
+use Rattle.key_wrap_core.specs.BlockCalls.{block_calls}
 use Rattle.key_wrap_core.specs.Steps.{WrapState}
 use Rattle.key_wrap_core.proofs.Spelling.{read_word}
 use Rattle.key_wrap_core.proofs.Stepping.{one_call}

@@ -2,7 +2,7 @@
 use Rattle.std.proofs.Common.{refl}
 use Rattle.std.proofs.lemmas.Bool.{false≢true}
 use Rattle.key_wrap_core.proofs.PaddedForm.{padded_registers_forward}
-use Rattle.key_wrap_core.proofs.FoundForms.{stands_found, behind_first}
+use Rattle.key_wrap_core.proofs.FoundForms.{wrapping_found, behind_first}
 use Rattle.key_wrap_core.proofs.rewrapping.find.Goals as goal
 
 pub returns-in_default-clause-refused : goal.returns-in_default-clause-refused
@@ -11,7 +11,7 @@ returns-in_default-clause-refused g c =
     (λ zero. false≢true (c.in_default.ensures.passes.1 zero)) in (
       (
         c.rewrap_length_ok.ensures.0 c.if-not-rewrap_length_ok.false,
-        λ form from key h. none form from key (stands_found form key _ c.args.buf.now (g.met.B.BlockPair.lawful c.args.meter.now.pair) c.unwrap_buffer-found.ensures.found h),
+        λ form from key h. none form from key (wrapping_found form key _ c.args.buf.now (g.met.B.BlockPair.lawful c.args.meter.now.pair) c.unwrap_buffer-found.ensures.found h),
       ),
       λ e. cc,
     )

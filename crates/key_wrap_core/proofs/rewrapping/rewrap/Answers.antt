@@ -26,7 +26,7 @@ returns-in-Err-find-clause-rewraps g c =
     let refused = c.in-Err.ensures.rewraps in
     let w = rw (c.to_itself.ensures, refused.1, c.in-Err.ensures.calls.new_unasked refl refl) at c.in-Err-find.ensures.refused in
     let none = no_old (to_itself c.args.forms.now) c.args.buf.now c.in-Err-find.field-0 (g.met.N.BlockPair.lawful c.args.new.now.pair) w.0 w.1 in
-    ((refused.0.0, λ pass is. none is.new.0 is.new.2.from is.new.1 is.new.2.stands), c.in-Err-find.ensures.kept refl ∙ refused.1)
+    ((refused.0.0, λ pass is. none is.new.0 is.new.2.from is.new.1 is.new.2.wrapping), c.in-Err-find.ensures.kept refl ∙ refused.1)
 
 pub returns-in-Ok-clause-results : goal.returns-in-Ok-clause-results
 returns-in-Ok-clause-results g c = results_of (g.met.O.BlockPair.lawful c.args.old.now.pair) c.in-Ok.ensures.rewraps

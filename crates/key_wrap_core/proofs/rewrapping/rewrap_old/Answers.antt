@@ -3,7 +3,7 @@ use Rattle.std.proofs.Common.{rules, refl}
 use Rattle.std.proofs.lemmas.Bool.{false≢true}
 use Rattle.key_wrap_core.specs.Rewrap.{to_form, to_itself}
 use Rattle.key_wrap_core.proofs.PaddedForm.{padded_registers_forward}
-use Rattle.key_wrap_core.proofs.FoundForms.{found_stands, behind_first}
+use Rattle.key_wrap_core.proofs.FoundForms.{found_wrapping, behind_first}
 use Rattle.key_wrap_core.proofs.Rewraps.{old_of, wrapping_of, from_itself}
 use Rattle.key_wrap_core.proofs.rewrapping.rewrap_old.Goals as goal
 
@@ -25,7 +25,7 @@ returns-clause-rewraps g c =
     let kept = c.in-Ok-decide_or_restore.ensures.kept refl in
     let fit = (rw (behind_first c.find.new.buf) at (c.fit-misfit.ensures held.0 held.1 held.2)) held.3 in
     let after = fit.holds (fit.fits.0 (c.in-Ok-decide_or_restore.ensures.passes.0 refl)) in
-    let wraps = found_stands new_form held.2 _ c.wrap_buffer.new.buf after (rw kept at c.wrap_buffer.ensures.wrapped) in (
+    let wraps = found_wrapping new_form held.2 _ c.wrap_buffer.new.buf after (rw kept at c.wrap_buffer.ensures.wrapped) in (
       held.0,
       held.2,
       old_of forms c.args.buf.now _ (g.met.O.BlockPair.lawful c.args.old.now.pair) held,

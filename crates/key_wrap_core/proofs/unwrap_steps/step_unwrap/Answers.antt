@@ -1,6 +1,6 @@
 -- The number counts down before the step is undone.
 use Rattle.std.proofs.Common.{rules, ◌≡◌, ◌+◌, ◌-◌, ◌≤◌, length, arith, sym}
-use Rattle.key_wrap_core.specs.Calls.{block_calls}
+use Rattle.key_wrap_core.specs.BlockCalls.{block_calls}
 use Rattle.key_wrap_core.proofs.Refusals.{ok_or_err}
 use Rattle.key_wrap_core.proofs.Spelling.{each_byte}
 use Rattle.key_wrap_core.proofs.unwrap_steps.step_unwrap.Goals as goal

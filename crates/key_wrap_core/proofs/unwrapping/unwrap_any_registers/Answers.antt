@@ -5,7 +5,7 @@ use Rattle.key_wrap_core.specs.Lengths.{IsPaddedTextLength}
 use Rattle.key_wrap_core.specs.Forms.{with_value}
 use Rattle.key_wrap_core.proofs.Refusals.{passed_on}
 use Rattle.key_wrap_core.proofs.Unwrappings.{word_size}
-use Rattle.key_wrap_core.proofs.FoundForms.{found_stands, no_form, padded_none_held}
+use Rattle.key_wrap_core.proofs.FoundForms.{found_wrapping, no_form, padded_none_held}
 use Rattle.key_wrap_core.proofs.EitherForms.{any_held, either_found, either_none, no_key_in}
 use Rattle.key_wrap_core.proofs.unwrapping.unwrap_any_registers.Goals as goal
 
@@ -24,7 +24,7 @@ returns g c =
     (c.either.ensures.0 (d.passes.0 refl)) c.plain_difference-plain.ensures.passes c.padded_difference-padded.ensures.passes c.found_key.ensures.padded told in
     let legal : IsPaddedTextLength (length text) = rw (word_size c.args.c0 c.args.registers.now) c.requires.length in
     rw d.kept (record {
-      unwraps = either_found iv key _ text inv c.requires.free legal (found_stands (with_value key.form iv) _ (word_bytes found ++ registers) text held.0 run);
+      unwraps = either_found iv key _ text inv c.requires.free legal (found_wrapping (with_value key.form iv) _ (word_bytes found ++ registers) text held.0 run);
       key = record { size = held.1; around = held.2 };
       cleared = λ e. cc;
       calls = c.unwrap_slice-found.ensures.meter;

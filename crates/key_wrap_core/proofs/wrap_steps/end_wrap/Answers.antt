@@ -1,6 +1,6 @@
 -- All the steps are done, and A6n, or the first half of the one block, is written before the registers.
 use Rattle.std.proofs.Common.{rules, ◌≡◌, ◌+◌, length}
-use Rattle.key_wrap_core.specs.Calls.{block_calls}
+use Rattle.key_wrap_core.specs.BlockCalls.{block_calls}
 use Rattle.key_wrap_core.proofs.Refusals.{ok_or_err}
 use Rattle.key_wrap_core.proofs.WrapStepping.{ended_plain, ended_padded}
 use Rattle.key_wrap_core.proofs.wrap_steps.end_wrap.Goals as goal

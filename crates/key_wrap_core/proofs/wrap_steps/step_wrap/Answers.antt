@@ -1,5 +1,5 @@
 use Rattle.std.proofs.Common.{rules, ◌+◌, ◌<◌, length, refl}
-use Rattle.key_wrap_core.specs.Calls.{block_calls}
+use Rattle.key_wrap_core.specs.BlockCalls.{block_calls}
 use Rattle.key_wrap_core.proofs.Refusals.{ok_or_err}
 use Rattle.key_wrap_core.proofs.wrap_steps.step_wrap.Goals as goal
 

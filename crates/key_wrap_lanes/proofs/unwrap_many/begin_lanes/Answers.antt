@@ -1,6 +1,6 @@
 -- The first block of each lane, over its text.
 use Rattle.std.proofs.Common.{rules, ◌≡◌, ◌+◌, ◌*◌, ◌/◌, ◌-◌, ◌≤◌, ◌<◌, ℕ, List, length, arith, refl}
-use Rattle.key_wrap_core.specs.Calls.{block_calls}
+use Rattle.key_wrap_core.specs.BlockCalls.{block_calls}
 use Rattle.key_wrap_core.specs.Steps.{UnwrapState}
 use Rattle.key_wrap_lanes.specs.Lanes.{part_at, registers_at}
 use Rattle.key_wrap_core.proofs.Parts.{Writes, part_room, part_length}

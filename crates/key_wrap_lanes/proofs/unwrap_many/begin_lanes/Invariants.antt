@@ -1,6 +1,6 @@
 -- The blocks before this one are the first of their unwrappings.
 use Rattle.std.proofs.Common.{ℕ, ◌<◌, List, drop}
-use Rattle.key_wrap_core.specs.Calls.{block_calls}
+use Rattle.key_wrap_core.specs.BlockCalls.{block_calls}
 use Rattle.key_wrap_core.specs.Steps.{UnwrapState}
 use Rattle.key_wrap_lanes.specs.Lanes.{part_at, block_at}
 use Rattle.key_wrap_lanes.proofs.unwrap_many.begin_lanes.Given as goal

@@ -1,6 +1,6 @@
 -- The number counts down before the lanes are turned, and the turn of a lane is its step undone.
 use Rattle.std.proofs.Common.{rules, ◌≡◌, ℕ, ◌+◌, ◌/◌, ◌%◌, ◌-◌, ◌<◌, ◌≤◌, arith, refl, inl}
-use Rattle.key_wrap_core.specs.Calls.{block_calls}
+use Rattle.key_wrap_core.specs.BlockCalls.{block_calls}
 use Rattle.key_wrap_core.proofs.Spelling.{each_byte}
 use Rattle.key_wrap_lanes.proofs.Turns.{lane_of, unwrap_turned}
 use Rattle.key_wrap_lanes.proofs.unwrap_many.step_unwrap_many.Goals as goal

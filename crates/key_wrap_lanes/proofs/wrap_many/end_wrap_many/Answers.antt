@@ -1,6 +1,6 @@
 -- All the steps of each lane are done, and the first half of its block is written before its registers.
 use Rattle.std.proofs.Common.{rules, ◌≡◌, refl, inl}
-use Rattle.key_wrap_core.specs.Calls.{block_calls}
+use Rattle.key_wrap_core.specs.BlockCalls.{block_calls}
 use Rattle.key_wrap_core.proofs.WrapStepping.{ended_plain, ended_padded}
 use Rattle.key_wrap_lanes.proofs.Turns.{all_steps}
 use Rattle.key_wrap_lanes.proofs.wrap_many.end_wrap_many.Goals as goal

@@ -1,6 +1,6 @@
 -- The turn of a lane is its step.
 use Rattle.std.proofs.Common.{rules, ℕ, ◌/◌, ◌%◌, ◌-◌, ◌<◌, arith, refl, inl}
-use Rattle.key_wrap_core.specs.Calls.{block_calls}
+use Rattle.key_wrap_core.specs.BlockCalls.{block_calls}
 use Rattle.key_wrap_core.proofs.Spelling.{each_byte}
 use Rattle.key_wrap_lanes.proofs.Turns.{lane_of, wrap_turned}
 use Rattle.key_wrap_lanes.proofs.wrap_many.step_wrap_many.Goals as goal

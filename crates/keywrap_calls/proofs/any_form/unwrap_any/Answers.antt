@@ -5,7 +5,7 @@ use mir.Val.{SFits}
 use Rattle.fips197.specs.Cipher.{cipher}
 use Rattle.keywrap_calls.specs.Any.{UnwrapsAny}
 use Rattle.keywrap_calls.specs.Status.{fault_status}
-use Rattle.keywrap_calls.proofs.Calls.{passed_on}
+use Rattle.keywrap_calls.proofs.CallPromises.{passed_on}
 use Rattle.keywrap_calls.proofs.AnyForm.{found_any, refused_any}
 use Rattle.keywrap_calls.proofs.any_form.unwrap_any.Goals as goal
 

@@ -3,7 +3,7 @@ use Rattle.std.proofs.Common.{◌≡◌, ◌≢◌, ℕ, ◌+◌, ◌*◌, ◌-�
 use mir.Syntax.{w32}
 use mir.Val.{SFits}
 use Rattle.keywrap_calls.specs.Many.{slot_at}
-use Rattle.keywrap_calls.proofs.Calls.{passed_on}
+use Rattle.keywrap_calls.proofs.CallPromises.{passed_on}
 use Rattle.key_wrap_core.proofs.Parts.{part_room, part_length}
 use Rattle.keywrap_calls.proofs.Slots.{some_kek, some_kek_legal, status_passed, scratch_cleared}
 use Rattle.keywrap_calls.proofs.many_kinds.kind_slots.Goals as goal

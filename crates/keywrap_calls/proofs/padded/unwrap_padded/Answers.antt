@@ -6,7 +6,7 @@ use Rattle.fips197.specs.Cipher.{cipher}
 use Rattle.key_wrap_core.proofs.Unwrappings.{default_among}
 use Rattle.keywrap_calls.specs.Status.{outcome_status}
 use Rattle.keywrap_calls.specs.Calls.{UnwrapsPadded, IsPaddedKey}
-use Rattle.keywrap_calls.proofs.Calls.{unwraps, passed_on}
+use Rattle.keywrap_calls.proofs.CallPromises.{unwraps, passed_on}
 use Rattle.keywrap_calls.proofs.padded.unwrap_padded.Goals as goal
 
 pub returns-in-Ok-unwrap_padded_into-clause-unwraps : goal.returns-in-Ok-unwrap_padded_into-clause-unwraps

@@ -6,7 +6,7 @@ use Rattle.key_wrap_core.specs.InPlace.{key_in}
 use Rattle.key_wrap_core.proofs.Unwrappings.{default_among}
 use Rattle.keywrap_calls.specs.Status.{outcome_status}
 use Rattle.keywrap_calls.specs.Calls.{UnwrapsPaddedInPlace, IsPaddedKey}
-use Rattle.keywrap_calls.proofs.Calls.{unwraps, passed_on}
+use Rattle.keywrap_calls.proofs.CallPromises.{unwraps, passed_on}
 use Rattle.keywrap_calls.proofs.padded_in_place.unwrap_padded_under.Goals as goal
 
 pub returns-in-Ok-clause-unwraps : goal.returns-in-Ok-clause-unwraps

@@ -4,7 +4,7 @@ use mir.Syntax.{w32}
 use mir.Val.{SFits}
 use Rattle.keywrap_calls.specs.Status.{outcome_status}
 use Rattle.keywrap_calls.specs.Calls.{WrapsPaddedInPlace}
-use Rattle.keywrap_calls.proofs.Calls.{wraps, passed_on}
+use Rattle.keywrap_calls.proofs.CallPromises.{wraps, passed_on}
 use Rattle.keywrap_calls.proofs.Lengths.{room-not_refused}
 use Rattle.keywrap_calls.proofs.padded_in_place.wrap_padded_under.Goals as goal
 

@@ -5,7 +5,7 @@ use mir.Val.{SFits}
 use Rattle.fips197.specs.Cipher.{cipher}
 use Rattle.keywrap_calls.specs.Status.{outcome_status}
 use Rattle.keywrap_calls.specs.Calls.{UnwrapsPlain}
-use Rattle.keywrap_calls.proofs.Calls.{unwraps, passed_on}
+use Rattle.keywrap_calls.proofs.CallPromises.{unwraps, passed_on}
 use Rattle.keywrap_calls.proofs.plain.unwrap.Goals as goal
 
 pub returns : goal.returns

@@ -5,7 +5,7 @@ use mir.Val.{SFits}
 use Rattle.fips197.specs.Cipher.{cipher}
 use Rattle.keywrap_calls.specs.Status.{outcome_status}
 use Rattle.keywrap_calls.specs.Calls.{WrapsPlain}
-use Rattle.keywrap_calls.proofs.Calls.{wraps, passed_on}
+use Rattle.keywrap_calls.proofs.CallPromises.{wraps, passed_on}
 use Rattle.keywrap_calls.proofs.Lengths.{plain_lengths-not_refused}
 use Rattle.keywrap_calls.proofs.plain.wrap.Goals as goal
 

@@ -4,7 +4,7 @@ use mir.Syntax.{w32}
 use mir.Val.{SFits}
 use Rattle.keywrap_calls.specs.Status.{outcome_status}
 use Rattle.keywrap_calls.specs.Calls.{UnwrapsInPlace}
-use Rattle.keywrap_calls.proofs.Calls.{unwraps, passed_on}
+use Rattle.keywrap_calls.proofs.CallPromises.{unwraps, passed_on}
 use Rattle.keywrap_calls.proofs.plain_in_place.unwrap_under.Goals as goal
 
 pub returns-clause-unwraps : goal.returns-clause-unwraps

@@ -4,7 +4,7 @@ use mir.Syntax.{w32}
 use mir.Val.{SFits}
 use Rattle.keywrap_calls.specs.Status.{outcome_status}
 use Rattle.keywrap_calls.specs.Calls.{WrapsInPlace}
-use Rattle.keywrap_calls.proofs.Calls.{wraps, passed_on}
+use Rattle.keywrap_calls.proofs.CallPromises.{wraps, passed_on}
 use Rattle.keywrap_calls.proofs.Lengths.{plain_text-not_refused}
 use Rattle.keywrap_calls.proofs.plain_in_place.wrap_under.Goals as goal
 

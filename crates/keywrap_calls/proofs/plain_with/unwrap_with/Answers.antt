@@ -9,7 +9,7 @@ use Rattle.key_wrap_core.specs.InPlace.{ArePlainLengths}
 use Rattle.keywrap_calls.specs.Status.{outcome_status}
 use Rattle.keywrap_calls.specs.AgreedValue.{iv_word}
 use Rattle.keywrap_calls.specs.Calls.{UnwrapsWith, IsUnwrapCall}
-use Rattle.keywrap_calls.proofs.Calls.{unwraps, called_with, passed_on}
+use Rattle.keywrap_calls.proofs.CallPromises.{unwraps, called_with, passed_on}
 use Rattle.keywrap_calls.proofs.plain_with.unwrap_with.Goals as goal
 
 pub returns : goal.returns

@@ -8,7 +8,7 @@ use Rattle.key_wrap_core.specs.InPlace.{ArePlainLengths}
 use Rattle.keywrap_calls.specs.Status.{outcome_status}
 use Rattle.keywrap_calls.specs.AgreedValue.{iv_word}
 use Rattle.keywrap_calls.specs.Calls.{WrapsWith, IsWrapCall}
-use Rattle.keywrap_calls.proofs.Calls.{wraps, called_with, passed_on}
+use Rattle.keywrap_calls.proofs.CallPromises.{wraps, called_with, passed_on}
 use Rattle.keywrap_calls.proofs.Lengths.{plain_lengths-not_refused}
 use Rattle.keywrap_calls.proofs.plain_with.wrap_with.Goals as goal
 

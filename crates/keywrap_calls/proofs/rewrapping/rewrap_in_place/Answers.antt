@@ -2,7 +2,7 @@
 use Rattle.std.proofs.Common.{ap, refl, rules}
 use mir.Syntax.{w32}
 use mir.Val.{SFits}
-use Rattle.keywrap_calls.proofs.Calls.{passed_on}
+use Rattle.keywrap_calls.proofs.CallPromises.{passed_on}
 use Rattle.keywrap_calls.proofs.Rewraps.{in_place}
 use Rattle.keywrap_calls.proofs.rewrapping.rewrap_in_place.Goals as goal
 

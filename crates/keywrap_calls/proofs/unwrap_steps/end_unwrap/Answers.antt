@@ -4,7 +4,7 @@ use Rattle.std.proofs.lemmas.Grind.{common_steps}
 use Rattle.key_wrap_core.specs.Plain.{Plain}
 use Rattle.key_wrap_core.specs.Padded.{Padded}
 use Rattle.key_wrap_core.specs.NoKey.{NoKey}
-use Rattle.keywrap_calls.specs.Answers.{IsUnwrapping}
+use Rattle.keywrap_calls.specs.CallAnswers.{IsUnwrapAnswer}
 use Rattle.keywrap_calls.specs.AgreedValue.{iv_word}
 use Rattle.keywrap_calls.proofs.unwrap_steps.end_unwrap.Goals as goal
 
@@ -18,8 +18,8 @@ returns-in-Ok c =
       kept = grind (arith, common_steps);
       answer = λ _ E D text inv state.
           let u = c.in-Ok.ensures.answer (λ e. cc) E D text inv state in
-          subst (λ (v : ℕ). IsUnwrapping (Plain E v) (Padded E) text c.end_unwrap.new.registers) word
-          (record { stands = u.answer.1; only_key = u.only_key; restores = u.restores; other_form = u.other_form });
+          subst (λ (v : ℕ). IsUnwrapAnswer (Plain E v) (Padded E) text c.end_unwrap.new.registers) word
+          (record { wrapping = u.answer.1; only_key = u.only_key; restores = u.restores; other_form = u.other_form });
       integrity = λ s. absurd (let wrong = s in cc);
       cleared = λ s. absurd (let wrong = s in cc);
       block_cleared = λ _. c.in-Ok.ensures.block_cleared (λ e. cc);

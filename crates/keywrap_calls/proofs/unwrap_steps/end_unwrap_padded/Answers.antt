@@ -11,8 +11,8 @@ returns-in-Ok c = record {
   no_key = grind (arith, common_steps);
   answer = λ _ E D text inv state.
       let u = c.in-Ok.ensures.answer (λ e. cc) E D text inv state in (u.answer.1, u.other_form);
-  only_key = λ _ E D text other inv state stands.
-      let u = c.in-Ok.ensures.answer (λ e. cc) E D text inv state in u.only_key other stands;
+  only_key = λ _ E D text other inv state wrapping.
+      let u = c.in-Ok.ensures.answer (λ e. cc) E D text inv state in u.only_key other wrapping;
   integrity = λ s. absurd (let wrong = s in cc);
   size = λ _. c.in-Ok.ensures.key.size;
   around = λ _. c.in-Ok.ensures.key.around;

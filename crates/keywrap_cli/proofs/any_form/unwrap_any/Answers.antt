@@ -1,9 +1,10 @@
 -- What the call in the room promises.
-use Rattle.std.proofs.Common.{rules, ◌≡◌, ◌-◌, ◌∙◌, ℕ, List, length, take, drop, arith, ap}
+use Rattle.std.proofs.Common.{rules, ◌≡◌, ◌-◌, ◌∙◌, ℕ, List, [], length, take, drop, arith, ap}
 use Rattle.std.proofs.lemmas.List.{take_at}
 use Rattle.key_wrap_core.specs.InPlace.{ArePaddedLengths}
 use Rattle.key_wrap_core.specs.Lengths.{IsPaddedTextLength}
-use Rattle.keywrap_cli.proofs.Conversions.{is_found, none_found}
+use Rattle.keywrap_cli.specs.JobAnswers.{FindsKey}
+use Rattle.keywrap_cli.proofs.Conversions.{IsMade-refused, is_found, none_found}
 use Rattle.keywrap_cli.proofs.any_form.unwrap_any.Goals as goal
 
 pub returns-in-Ok-clause-answer : goal.returns-in-Ok-clause-answer
@@ -24,4 +25,5 @@ returns-in-Err-clause-answer g c =
     let ok : IsPaddedTextLength (length text) = search rules in
     let size : room ≡ length text - 8 = search rules in
     let legal : ArePaddedLengths room (length text) = (ok, omega (arith, ok, size)) in
-    none_found _ room _ text _ legal w.bad_length w.integrity
+    rw c.job_refusal.ensures (IsMade-refused (FindsKey c.args.iv.now (g.B.BlockPair.encrypted c.args.pair.now) text) [] c.in-Err.fault
+    (none_found _ room _ text _ legal w.bad_length w.integrity))

@@ -1,4 +1,4 @@
-use Rattle.std.proofs.Common.{◌≡◌, ◌+◌, ◌∙◌, ℕ, List, length, take, drop, OnOk, arith, ap}
+use Rattle.std.proofs.Common.{◌≡◌, ◌∙◌, ℕ, List, length, take, drop, OnOk, arith, ap}
 use Rattle.std.proofs.lemmas.List.{take_at}
 use Rattle.std.proofs.lemmas.Result.{on_ok_weaker}
 use Rattle.key_wrap_core.specs.Forms.{IsTextLength}
@@ -41,4 +41,4 @@ returns-in-Ok g c =
     let key : c.truncate.new.self.items ≡ take c.in-Ok.len new = c.truncate.ensures.items ∙ ap (take c.in-Ok.len) back in
     let w = c.in-Ok.ensures.unwraps in
     rw (c.in-Unwrap-Padded.is-0, c.in-Unwrap-Padded.is-1, key)
-    (record { stands = w.answer.1; alone = w.only_key; restores = w.restores; one_form = w.other_form })
+    (record { wrapping = w.answer.1; alone = w.only_key; restores = w.restores; one_form = w.other_form })

@@ -1,9 +1,9 @@
--- The KEK was read, and the engine says the rest, or it was refused.
+-- The KEK was read, and the run says the rest, or it was refused.
 use Rattle.std.proofs.Common.{◌≡◌, Ok, Err, refl, rules}
-use Rattle.key_lines.specs.Answers.{Answer}
+use Rattle.key_lines.specs.LineAnswers.{Answer}
 use Rattle.fips197.specs.Cipher.{cipher}
-use Rattle.keywrap_cli.specs.Answers.{JobAnswer, WritesFor}
-use Rattle.keywrap_cli.specs.Readings.{kek_fault_of}
+use Rattle.keywrap_cli.specs.JobAnswers.{JobAnswer, WritesFor}
+use Rattle.keywrap_cli.specs.JobReading.{kek_fault_of}
 use Rattle.keywrap_cli.specs.declared.kek_file.KekRole.TheVariants.{Kek}
 use Rattle.keywrap_cli.proofs.Answered.{written_output}
 use Rattle.keywrap_cli.proofs.job.run.Goals as goal
@@ -21,7 +21,7 @@ returns-in-Ok g c =
     let iv = c.args.iv.now in
     let task = c.args.task in
     let E = cipher c.in_ok-pair.pair in
-    let answer : Answer = record { text = w.0; mark = c.in-Ok.mark } in
+    let answer : Answer = record { text = w.0; note = c.in-Ok.note } in
     record {
       run = record { found = Ok c.in_ok-pair.pair; read = opened; rest = (Ok answer, w.1, c.done_of.ensures) };
       headline = λ ok. record {

@@ -1,10 +1,10 @@
--- Both KEKs were read, and the engine says the rest, or one was refused.
+-- Both KEKs were read, and the run says the rest, or one was refused.
 use Rattle.std.proofs.Common.{Ok, Err, refl}
 use Rattle.fips197.specs.Cipher.{cipher}
-use Rattle.key_lines.specs.Answers.{Answer}
-use Rattle.keywrap_cli.specs.Answers.{RewrappingAnswer, RewrapsTo}
+use Rattle.key_lines.specs.LineAnswers.{Answer}
+use Rattle.keywrap_cli.specs.JobAnswers.{RewrappingAnswer, RewrapsTo}
 use Rattle.keywrap_cli.proofs.Answered.{written_output}
-use Rattle.keywrap_cli.proofs.Readings.{refused_before, under_keks}
+use Rattle.keywrap_cli.proofs.BothKeks.{refused_before, under_keks}
 use Rattle.keywrap_cli.proofs.rewrap.rewrap.Goals as goal
 
 pub returns-in-Err : goal.returns-in-Err
@@ -22,7 +22,7 @@ returns-in-Ok-run_input g c =
     let task = c.args.task.now in
     let E = cipher keks.old in
     let F = cipher keks.new in
-    let answer : Answer = record { text = w.0; mark = c.in-Ok-run_input.field-0 } in
+    let answer : Answer = record { text = w.0; note = c.in-Ok-run_input.field-0 } in
     record {
       run = record { found = Ok keks.old; read = opened.0; rest = record { found = Ok keks.new; read = opened.1; rest = (Ok answer, w.1, refl) } };
       headline = λ ok. under_keks _ _ _ _ _ keks _ opened

@@ -3,8 +3,8 @@
 use super::super::cases::{Case, run};
 use super::super::vectors::LINES;
 use crate::job::JobFault;
-use crate::report::{VectorsFault, vectors};
 use crate::vector_check::Library;
+use crate::vector_report::{VectorsFault, vectors};
 use std::alloc::Global;
 use std::process::Abort;
 use test_doubles::{Narrow, STOPPINGS};

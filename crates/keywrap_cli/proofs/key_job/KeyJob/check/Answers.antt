@@ -1,7 +1,7 @@
 -- The line gives the text's kind, in a buffer that was cleared.
 use Rattle.std.proofs.Common.{◌≡◌, ap, refl, ◌∙◌, rules}
-use Rattle.key_lines.specs.declared.job.Mark.TheVariants.{Unmarked}
-use Rattle.keywrap_cli.specs.Answers.{HasMark, kind_line}
+use Rattle.key_lines.specs.declared.job.Note.TheVariants as notes
+use Rattle.keywrap_cli.specs.JobAnswers.{HasNote, kind_line}
 use Rattle.keywrap_cli.specs.declared.job.Job.TheVariants.{Check}
 use Rattle.keywrap_cli.proofs.KindLines.{check_line}
 use Rattle.keywrap_cli.proofs.key_job.KeyJob.check.Goals as goal
@@ -12,8 +12,8 @@ returns-in-Plain g c =
     let w = rw own at c.in-Ok.ensures in
     let line : c.extend_from_slice.new.self.items ≡ kind_line c.in-Ok.found =
     c.in_ok-extend_from_slice.ensures.items ∙ (rw c.clear.ensures.items (c.as_bytes.ensures.value ∙ c.in_ok-line.ensures)) in
-    let mark : HasMark Check c.extend_from_slice.new.self.items Unmarked = search rules in
-    ((c.in-Ok.found, w.kind.is, line), mark, check_line _ _ _ c.args.self.now.task.input _ c.in-Ok.found w.kind.is line)
+    let note : HasNote Check c.extend_from_slice.new.self.items notes.None = search rules in
+    ((c.in-Ok.found, w.kind.is, line), note, check_line _ _ _ c.args.self.now.task.input _ c.in-Ok.found w.kind.is line)
 
 pub returns : goal.returns
 returns g c =

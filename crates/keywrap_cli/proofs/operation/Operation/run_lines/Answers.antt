@@ -1,7 +1,7 @@
 -- The KEKs were read, and then each line was answered, or one was refused.
 use Rattle.std.proofs.Common.{Ok, Err, ap, refl}
 use Rattle.keywrap_cli.proofs.EndsWell.{each_line, job_answers, job_lines, rewrap_answers, rewrap_lines}
-use Rattle.keywrap_cli.proofs.Readings.{refused_lines, under_keks}
+use Rattle.keywrap_cli.proofs.BothKeks.{refused_lines, under_keks}
 use Rattle.keywrap_cli.proofs.operation.Operation.run_lines.Goals as goal
 
 pub returns-in-Err-clause-run : goal.returns-in-Err-clause-run

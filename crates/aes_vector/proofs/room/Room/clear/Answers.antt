@@ -1,5 +1,0 @@
-use Rattle.aes_vector.proofs.Rooms.{all_zeros}
-use Rattle.aes_vector.proofs.room.Room.clear.Goals as goal
-
-pub returns : goal.returns
-returns c = record { zeros = all_zeros _ _ c.clear_both.ensures.keys c.clear_both.ensures.words }

@@ -1,8 +1,0 @@
-use Rattle.std.proofs.Common.{map, take, string_bytes}
-use Rattle.keywrap_cli.specs.Vectors.{IsReport}
-use Rattle.test_vectors.specs.Vectors.{shown}
-use Rattle.keywrap_cli.proofs.report.report_on.Given as goal
-
-abbrev pub invariant-loop-vector : goal.invariant-loop-vector
-invariant-loop-vector g l =
-    IsReport g.C.VectorCalls.gave (map shown (take l.vector-index l.table)) (string_bytes l.report.text) l.report.all_ok
