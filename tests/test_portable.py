@@ -40,14 +40,27 @@ MACHINES = {
 NATIVE = ["gcc", "clang"]
 
 
-def compiled_program(directory, name, sources, *options, library=()):
-    """Compiles a program over the keywrap.c in the directory, by the compiler of this name. Returns its command."""
-    compiler, runner = MACHINES[name]
-    need(compiler[0], *runner[:1])
-    command = [*compiler, *STRICT, f"-I{directory}", f"-I{ROOT}/c/reference", *options]
-    run(*command, *library, "-c", f"{directory}/keywrap.c", "-o", "keywrap.o")
-    run(*command, *sources, "keywrap.o", "-o", "program")
-    return [*runner, "./program"]
+@pytest.fixture
+def portable_program(once):
+    """portable_program("gcc", SOURCES, "-O2") is the command of a program over dist/, of which each object is compiled
+    once for all tests, or over the keywrap.c of another directory, in which a bug is planted."""
+    def make(name, sources, *options, directory=DIST):
+        compiler, runner = MACHINES[name]
+        need(compiler[0], *runner[:1])
+        command = [*compiler, *STRICT, *options, *["-Wno-error"] * (directory != DIST)]
+
+        def compile_object(there):
+            run(*command, "-c", f"{directory}/keywrap.c", "-o", f"{there}/keywrap.o")
+
+        there = pathlib.Path()
+        if directory == DIST:
+            there = once(re.sub("[ /]", "-", "-".join(["object", name, *options])), compile_object)
+        else:
+            compile_object(there)
+        run(*command, f"-I{directory}", f"-I{ROOT}/c/reference", *sources, there / "keywrap.o", "-o", "program")
+        return [*runner, "./program"]
+
+    return make
 
 
 @functools.cache
@@ -87,16 +100,16 @@ def test_compiles_without_a_warning(portable, compiler, only, options):
 
 
 @pytest.mark.parametrize("name", all_of(MACHINES, ["gcc", "gcc, tables"]))
-def test_calls(portable, name):
+def test_calls(portable_program, name):
     """The checks of tests/library."""
     few = ["few"] if name not in NATIVE or not ALL else []
-    last = run(*compiled_program(portable, name, LIBRARY, "-O2"), *few).splitlines()[-1]
+    last = run(*portable_program(name, LIBRARY, "-O2"), *few).splitlines()[-1]
     assert re.fullmatch(r"\d{6,} passed, 0 failed", last)
 
 
 @pytest.mark.parametrize("name", all_of(MACHINES, ["s390x"]))
-def test_published(portable, name):
-    program = compiled_program(portable, name, [ROOT / "tests/published.c"], "-O2")
+def test_published(portable_program, name):
+    program = portable_program(name, [ROOT / "tests/published.c"], "-O2")
     for cases in published.foreign(), published.nist_or_skip()[::1 if ALL or name == "gcc" else 6]:
         assert run(*program, input="".join(published.lines(cases))) == published.all_right(cases)
 
@@ -126,28 +139,28 @@ def test_as_the_library(portable, library, name):
 
 @slow
 @pytest.mark.parametrize("name", NATIVE)
-def test_sanitizers(portable, name):
+def test_sanitizers(portable_program, name):
     need(f"sanitizers of {name}")
-    assert run(*compiled_program(portable, name, LIBRARY, "-O2", "-g", *SANITIZED), "few").endswith(" 0 failed\n")
+    assert run(*portable_program(name, LIBRARY, "-O2", "-g", *SANITIZED), "few").endswith(" 0 failed\n")
 
 
 @slow
-def test_valgrind(portable):
+def test_valgrind(portable_program):
     need("valgrind")
-    program = compiled_program(portable, "gcc", [ROOT / "tests/published.c"], "-O1", "-g")
+    program = portable_program("gcc", [ROOT / "tests/published.c"], "-O1", "-g")
     some = "".join(published.lines(published.foreign()))
     run("valgrind", "-q", "--error-exitcode=9", "--leak-check=full", *program, input=some)
 
 
 @pytest.mark.parametrize("name", all_of(MACHINES, ["gcc"]))
-def test_lengths(portable, name):
-    assert run(*compiled_program(portable, name, [OWN / "lengths.c"], "-O2")) == "all are right\n"
+def test_lengths(portable_program, name):
+    assert run(*portable_program(name, [OWN / "lengths.c"], "-O2")) == "all are right\n"
 
 
-def secrets_left(directory, name, *options):
+def secrets_left(portable_program, name, level, **directory):
     """The most bytes below the stack pointer that depend on a KEK or a key, copies of these, and how many calls there
     are. The first call is left out: it also tests the AES."""
-    program = compiled_program(directory, name, [ROOT / "tests/secrets/stack.c"], "-Wl,-z,now", "-Wno-error", *options)
+    program = portable_program(name, [ROOT / "tests/secrets/stack.c", "-Wl,-z,now"], level, **directory)
     counts = [list(map(int, line.split()[3:7])) for line in run(*program).splitlines()[1:]]
     kek, new_kek, key, copies = map(max, zip(*counts))
     return max(kek, new_kek, key), copies, len(counts)
@@ -162,9 +175,9 @@ def documented_secrets(name):
 
 @pytest.mark.parametrize("name", all_of([*NATIVE, "gcc, tables", "clang, tables"], ["gcc", "gcc, tables"]))
 @pytest.mark.parametrize("level", all_of(["-O1", "-O2", "-O3", "-Os"], ["-O2"]))
-def test_stack(portable, name, level):
+def test_stack(portable, portable_program, name, level):
     """SECURITY.md's bytes below the stack pointer depend on a KEK or a key."""
-    most, copies, calls = secrets_left(portable, name, level)
+    most, copies, calls = secrets_left(portable_program, name, level)
     exports = re.findall(r"^int32_t keywrap_", (portable / "keywrap.h").read_text(), re.M)
     assert calls >= 6 * len(exports) - 1
     assert most <= documented_secrets(name) and copies == 0
@@ -315,7 +328,7 @@ def test_from_a_clone_without_the_kit():
 
 @pytest.mark.parametrize("bug", all_of([path.stem for path in sorted(OWN.glob("bugs/*.edit"))], [
     "scratch-kept-with-instructions"]))
-def test_bug_is_caught(portable, library, tmp_path, bug):
+def test_bug_is_caught(portable, portable_program, library, tmp_path, bug):
     """By random calls, with AES instructions or without, by the longest lengths, or by what is left on the stack."""
     need("sanitizers of gcc")
     for name in "keywrap.c", "keywrap.h", "keywrap_steps.h":
@@ -326,9 +339,10 @@ def test_bug_is_caught(portable, library, tmp_path, bug):
         return subprocess.run([*program, *words], capture_output=True).returncode != 0
 
     def leaves_secrets():
-        return secrets_left(tmp_path, "gcc, tables", "-O2")[0] > documented_secrets("gcc, tables")
+        most, _, _ = secrets_left(portable_program, "gcc, tables", "-O2", directory=tmp_path)
+        return most > documented_secrets("gcc, tables")
 
-    lengths = [OWN / "lengths.c"], "-O1", *SANITIZED, "-Wno-error"
+    lengths = [OWN / "lengths.c"], "-O1", *SANITIZED
     assert (fails(random_calls(tmp_path, library, "gcc, tables", "-Wno-error"), "20000", "1")
             or fails(random_calls(tmp_path, library, "gcc", "-Wno-error"), "20000", "1")
-            or fails(compiled_program(tmp_path, "gcc, tables", *lengths)) or leaves_secrets())
+            or fails(portable_program("gcc, tables", *lengths, directory=tmp_path)) or leaves_secrets())

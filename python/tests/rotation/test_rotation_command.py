@@ -777,12 +777,33 @@ def test_an_interrupt_ends_between_two_files(store, sent, to_all):
 
 
 def test_a_second_interrupt_ends_at_once(store):
-    running = slowly(store, program=HELD_AT_ONCE.replace("from keywrap.rotate import main", TAKEN.format("taken")))
+    program = HELD_AT_ONCE.replace("    seen.append(text)", "    open(f'holds {os.getpid()}', 'w').close()")
+    running = slowly(store, program=program.replace("from keywrap.rotate import main", TAKEN.format("taken")))
+    wait_for(lambda: len([name for name in os.listdir() if name.startswith("holds ")]) == 2)
     running.send_signal(signal.SIGINT)
     wait_for(lambda: os.path.exists("taken"))
     running.send_signal(signal.SIGINT)
     assert running.communicate(timeout=30)[1].decode().splitlines()[-1] == "keywrap.rotate: interrupted: run it again"
     assert (running.returncode, state(store)) == (130, ["old"] * FILES)
+
+
+@pytest.mark.parametrize("method, found", [("alive", "old"), ("end", "new")])
+def test_two_interrupts_while_processes_begin_or_end(store, method, found):
+    """None of them is left, for which the run would wait at its end."""
+    program = SLOW.replace("from keywrap.rotate import main", f"""
+import os, signal
+from keywrap.rotation.jobs import _Worker as Worker
+def then(worker, real=Worker.{method}):
+    ended = real(worker)
+    for number in (signal.SIGINT, signal.SIGTERM):
+        os.kill(os.getpid(), number)
+    return ended
+Worker.{method} = then
+from keywrap.rotate import main
+""")
+    running = started(program, *names(store))
+    assert running.communicate(timeout=30)[1].decode().splitlines()[-1] == "keywrap.rotate: interrupted: run it again"
+    assert (running.returncode, state(store)) == (130, [found] * FILES)
 
 
 def test_killed_workers_are_replaced(store):

@@ -2,6 +2,7 @@
 
 from __future__ import annotations
 
+import contextlib
 import ctypes
 import mmap
 import multiprocessing
@@ -21,6 +22,7 @@ LARGEST, WINDOW = 64, 10000
 #: How many processes may end over one unit.
 DEATHS = 4
 _PR_SET_PDEATHSIG = 1
+_INTERRUPTS = (signal.SIGINT, signal.SIGTERM)
 
 Indexed = Tuple[int, Unit]
 Work = Callable[[Unit, Beat], Answer]
@@ -56,6 +58,16 @@ class _Shared:
         return sum(self.numbers[1 : self.processes + 1])
 
 
+@contextlib.contextmanager
+def _uninterrupted() -> Iterator[None]:
+    """Interrupts wait until the end: a process that begins is in the list of those to end before one is raised."""
+    try:
+        signal.pthread_sigmask(signal.SIG_BLOCK, _INTERRUPTS)
+        yield
+    finally:
+        signal.pthread_sigmask(signal.SIG_UNBLOCK, _INTERRUPTS)
+
+
 def _end_with_parent(parent: int) -> None:
     """Ends this process with its parent, and gives back the parent's standard streams: who reads them would wait."""
     ctypes.CDLL(None).prctl(_PR_SET_PDEATHSIG, signal.SIGKILL)
@@ -69,6 +81,7 @@ def _end_with_parent(parent: int) -> None:
 
 def _serve(connection: Connection, work: Work, shared: _Shared, number: int, parent: int) -> None:
     signal.signal(signal.SIGINT, signal.SIG_IGN)  # The parent stops the run between two units.
+    signal.pthread_sigmask(signal.SIG_UNBLOCK, _INTERRUPTS)
     _end_with_parent(parent)
     while True:
         try:
@@ -144,14 +157,21 @@ class Jobs:
         self.size = max(1, min(LARGEST, count // (8 * self.jobs)))
         self.ahead, self.open = 0, set()  # type: Tuple[int, set[int]]
         try:
-            self.workers = [_Worker(self.work, self.shared, number) for number in range(min(self.jobs, count))]
+            for number in range(min(self.jobs, count)):
+                with _uninterrupted():
+                    self.workers.append(_Worker(self.work, self.shared, number))
             while self._feed():
                 for number, answer in self._heard():
                     self.open.discard(number)
                     yield number, answer
         finally:
-            for worker in self.workers:
-                worker.end()
+            try:
+                # One that came just before is raised here, when all later ones wait already.
+                signal.pthread_sigmask(signal.SIG_BLOCK, _INTERRUPTS)
+            finally:
+                for worker in self.workers:
+                    worker.end()
+                signal.pthread_sigmask(signal.SIG_UNBLOCK, _INTERRUPTS)
 
     def stop(self) -> None:
         """Lets each process end its unit, and no more are handed out."""
@@ -210,4 +230,5 @@ class Jobs:
             worker.units.popleft()
             yield number, answer_of(unit, "unanswered", why)
         self.again.extend(worker.units)
-        self.workers[self.workers.index(worker)] = _Worker(self.work, self.shared, worker.number)
+        with _uninterrupted():
+            self.workers[self.workers.index(worker)] = _Worker(self.work, self.shared, worker.number)
