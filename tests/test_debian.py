@@ -66,9 +66,9 @@ def in_root(debs, script, **files):
     return pathlib.Path("found").read_text().splitlines(), pathlib.Path("left").read_text()
 
 
-@pytest.mark.needs("root", "overlay of the root directory", "cc", "openssl", "pkg-config")
+@pytest.mark.needs("root", "overlay of the root directory", "cc", "openssl", "pkg-config", "zsh")
 def test_installed_in_use_and_removed(debs):
-    """What README shows, the provider, the Python package, the C library."""
+    """What README shows, the provider, the Python package, the C library. zsh finds its completion."""
     example = re.search(r"^    \$ \(umask.*?^$", (ROOT / "README.md").read_text(), re.M | re.S)[0]
     lines = [line.removeprefix("    ") for line in example.splitlines()]
     typed = [line[2:].replace("./keywrap", "keywrap") for line in lines if line.startswith("$ ")]
@@ -79,12 +79,13 @@ python3 -c 'import keywrap; print(keywrap.wrap(bytes(range(16)), bytes(range(0, 
 cc /usr/share/doc/libkeywrap-dev/examples/c/wrap.c $(pkg-config --cflags --libs keywrap) -o wrap
 ./wrap | grep '^wrap: done: ' >>found
 python3 -m keywrap.rotate --version | grep '^keywrap.rotate 1' >>log
+zsh -fc 'autoload -U compinit && compinit -D -u && print -r -- $_comps[keywrap]' >>found
 """, example="\n".join(typed) + "\n")
     answers = [line for line in lines if line and not line.startswith("$ ")]
     assert len(answers) == 2
     # RFC 3394, 4.1 by Python and 4.2 by C.
     assert found == [*answers, "1fa68b0a8112b447aef34bd8fb5a7b829d3e862371d2cfe5",
-                     "wrap: done: 96778b25ae6ca435f92b5b97c050aed2468ab8a17ad84e5d"]
+                     "wrap: done: 96778b25ae6ca435f92b5b97c050aed2468ab8a17ad84e5d", "_keywrap"]
     assert left == ""
 
 
@@ -102,12 +103,6 @@ def test_recipe_of_a_package(debs, thing, package, name):
     examples = "/usr/share/doc/libkeywrap-dev/examples"
     script = f"mkdir here && cd here && EXAMPLES={examples} bash -u ../recipe >../found 2>&1"
     assert in_root(debs, script, recipe=typed)[0] == shown.splitlines()
-
-
-@pytest.mark.needs("root", "overlay of the root directory", "zsh")
-def test_zsh_finds_its_completion(debs):
-    script = "zsh -fc 'autoload -U compinit && compinit -D -u && print -r -- $_comps[keywrap]' >found"
-    assert in_root(debs, script)[0] == ["_keywrap"]
 
 
 def test_symbols(debs):

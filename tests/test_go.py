@@ -33,7 +33,7 @@ MACHINES = {
 def env(once):
     """An empty environment without the kit on the PATH and without a proxy. What is built is kept in its home."""
     home = once("go-home", lambda directory: None)
-    return {"PATH": "/usr/bin:/bin", "HOME": str(home), "GOPROXY": "off", "GOFLAGS": "-modcacherw"}
+    return {"PATH": "/usr/bin:/bin", "HOME": str(home), "GOPROXY": "off", "GOFLAGS": "-modcacherw -trimpath"}
 
 
 @pytest.fixture
@@ -62,18 +62,14 @@ def program(env):
 
 
 def test_module(module, env):
-    """Its tests, which run its examples, and nothing that gofmt or vet says."""
+    """Its tests, which run its examples, and nothing that gofmt or vet says. A key is cleared if the block cipher
+    panics: not only the block, which a caller sees, too."""
+    shutil.copy(PROGRAMS / "cleared_test.go", module)
     assert run("gofmt", "-l", ".", cwd=module, env=env) == ""
     vetted = subprocess.run(["go", "vet", "./..."], cwd=module, env=env, capture_output=True, text=True)
     assert (vetted.returncode, vetted.stdout, vetted.stderr) == (0, "", "")
     said = run("go", "test", "-v", "./...", cwd=module, env=env)
-    assert len(re.findall("^--- PASS: Test", said, re.M)) == 12 and len(re.findall("^--- PASS: Ex", said, re.M)) == 4
-
-
-def test_clears_what_was_not_ended(module, env):
-    """A key is cleared if the block cipher panics: not only the block, which a caller sees, too."""
-    shutil.copy(PROGRAMS / "cleared_test.go", module)
-    assert "--- PASS: TestClear" in run("go", "test", "-v", "-run", "TestClear", cwd=module, env=env)
+    assert len(re.findall("^--- PASS: Test", said, re.M)) == 13 and len(re.findall("^--- PASS: Ex", said, re.M)) == 4
 
 
 @slow

@@ -31,7 +31,8 @@ def compiled(directory, path, *sources):
 
 @pytest.fixture(scope="session")
 def classes(once):
-    programs = [PROGRAMS / f"{name}.java" for name in ("Checks", "Cleared", "Published")]
+    """The provider, the example and the programs, compiled without a warning."""
+    programs = [ROOT / "java/Example.java", *(PROGRAMS / f"{name}.java" for name in ("Checks", "Cleared", "Published"))]
     return once("java-classes", lambda directory: compiled(directory, [JNA], *SOURCES, *programs))
 
 
@@ -45,10 +46,10 @@ def java(classes, library):
     return call
 
 
-def test_no_warning():
-    """The sources of the provider and of the example compile without one, for Java 11 too."""
-    for options in [], ["--release", "11"]:
-        run("javac", "-Xlint:all", "-Werror", *options, "-cp", JNA, "-d", ".", *SOURCES, ROOT / "java/Example.java")
+def test_no_warning_for_java_11():
+    """Of the provider and of the example."""
+    options = ["-Xlint:all", "-Werror", "--release", "11"]
+    run("javac", *options, "-cp", JNA, "-d", ".", *SOURCES, ROOT / "java/Example.java")
 
 
 @pytest.mark.parametrize("check", ["names", "lengths", "values", "calls", "damaged", "ignored", "keys", "cleared"])

@@ -88,13 +88,13 @@ def test_is_what_the_tree_makes(built):
         assert (ROOT / name).read_bytes() == pathlib.Path("made", name.removeprefix("dist/")).read_bytes(), name
 
 
-@pytest.mark.parametrize("compiler", NATIVE)
+@pytest.mark.parametrize("compiler", all_of(NATIVE, ["clang"]))
 @pytest.mark.parametrize("only", all_of(
     ["", TABLES, "-DKEYWRAP_STEPS_ONLY", "-DKEYWRAP_TRAP()=__builtin_trap()"], [""]))
 @pytest.mark.parametrize("options", all_of(["-O0 -std=c99", "-O2 -std=c17", "-O3 -std=c99", "-Os -std=c99"], [
     "-O2 -std=c17"]))
 def test_compiles_without_a_warning(portable, compiler, only, options):
-    """The other tests compile it with -O2 as C99."""
+    """The other tests compile it with -O2 as C99, most by gcc."""
     need(compiler)
     run(compiler, *STRICT, *options.split(), *only.split(), "-c", portable / "keywrap.c", "-o", "keywrap.o")
 
@@ -184,7 +184,7 @@ def test_stack(portable, portable_program, name, level):
 
 
 @pytest.mark.parametrize("only", ["", "-DKEYWRAP_STEPS_ONLY"])
-@pytest.mark.parametrize("name", all_of(MACHINES, ["gcc", "gcc, tables", "arm"]))
+@pytest.mark.parametrize("name", all_of(MACHINES, ["gcc", "arm"]))
 def test_object(portable, name, only):
     """What the object needs, that it shows the calls of the headers only, and what of its data can be written."""
     compiler, _ = MACHINES[name]
@@ -326,8 +326,7 @@ def test_from_a_clone_without_the_kit():
     assert f"Python {key}" in said and f"JavaScript {key}" in said
 
 
-@pytest.mark.parametrize("bug", all_of([path.stem for path in sorted(OWN.glob("bugs/*.edit"))], [
-    "scratch-kept-with-instructions"]))
+@pytest.mark.parametrize("bug", all_of([path.stem for path in sorted(OWN.glob("bugs/*.edit"))], ["numbers-exchanged"]))
 def test_bug_is_caught(portable, portable_program, library, tmp_path, bug):
     """By random calls, with AES instructions or without, by the longest lengths, or by what is left on the stack."""
     need("sanitizers of gcc")

@@ -180,8 +180,8 @@ def calls(once, home, crate):
     return once("rust-published", build) / "out/debug/published"
 
 
-@pytest.mark.parametrize("cases", [pytest.param(published.nist_or_skip, id="nist", marks=slow),
-                                   pytest.param(published.foreign, id="foreign")])
+@slow
+@pytest.mark.parametrize("cases", [published.nist_or_skip, published.foreign], ids=["nist", "foreign"])
 def test_published(calls, cases):
     """Into buffers, in place and as a Vec; the foreign ones also by steps."""
     found, steps = cases(), ["steps"] if cases is published.foreign else []

@@ -176,7 +176,7 @@ def outcome(command):
     pytest.param("gcc", ["qemu-x86_64", "-cpu", "Nehalem"], False, marks=slow),
     pytest.param("gcc", ["qemu-x86_64", "-cpu", "Haswell"], True, marks=slow),
     pytest.param("aarch64-linux-gnu-gcc", ["qemu-aarch64"], False, marks=slow),
-    ("s390x-linux-gnu-gcc", ["qemu-s390x"], False)])  # fmt: skip
+    pytest.param("s390x-linux-gnu-gcc", ["qemu-s390x"], False, marks=slow)])  # fmt: skip
 def test_on_each_processor(tmp_path, compiler, machine, is_fast):
     """Without four lanes, with AVX2, with AVX-512 if this processor has it; and big-endian."""
     static = ["-static"] if "linux" in compiler else []
