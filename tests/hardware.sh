@@ -118,7 +118,7 @@ on() {
     local part software=
     [[ $1 != *without* ]] || software=slow
     row "$1: the AES" writes "$3" "${@:4}" "$2/chosen"
-    $software row "$1: the calls" writes ' passed, 0 failed' "${@:4}" "$2/checks" few
+    slow row "$1: the calls" writes ' passed, 0 failed' "${@:4}" "$2/checks" few
     slow row "$1: many keys, at each place" writes ' passed, 0 failed' "${@:4}" "$2/checks" many
     $software row "$1: the published cases" writes "$(wc -l <cases) right" "${@:4}" "$2/published" <cases
     [ -e "${2%_without}/compared" ] || return
@@ -159,9 +159,9 @@ row 'the stack: every export' diff <(sed 's/[, ].*//; s/^/keywrap_/' stacked | s
 row 'the stack: round keys are cleared' left 16
 slow row 'the calls, all' writes ' passed, 0 failed' here/checks
 if needs 'the calls, sanitized' 'sanitizers of cc'; then
-    row 'the calls, sanitized: compile' cc "${options[@]}" -g "${sanitize[@]}" "$root"/tests/library/*.c \
+    slow row 'the calls, sanitized: compile' cc "${options[@]}" -g "${sanitize[@]}" "$root"/tests/library/*.c \
         "$root/c/reference/one_table.c" "$root"/c/hardware/*.c proved.a -o sanitized
-    row 'the calls, sanitized' writes ' passed, 0 failed' ./sanitized few
+    slow row 'the calls, sanitized' writes ' passed, 0 failed' ./sanitized few
 fi
 threads=(cc "${options[@]}" -g -pthread "$root/tests/hardware/threads.c")
 for name in keywrap keywrap_hw; do

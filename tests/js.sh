@@ -109,12 +109,18 @@ const k = await load(), inline: Keywrap = await loadInline(); const b = new Uint
 k.rewrap(b, b, b, { oldPadded: true, keepForm: false }); k.wrap(b, b, { iv: b }); k.unwrap(b, b, { iv: b });
 k.unwrapPadded(b, k.wrapPadded(b, b)); const text: string = k.version; const error: BadLength = new KeyNotPlain();
 k.rewrap(b, b, b, { passNew: true }); const key: Uint8Array = k.unwrapAny(b, b).key;" >right.mts
-    row 'the types of a caller' "${types[@]}" right.mts
-    # wrong MESSAGE PROGRAM: tsc refuses a program with this message.
-    wrong() { echo "$head $2" >wrong.mts && ! "${types[@]}" wrong.mts >log && grep -q "$1" log; }
-    row 'a result is not a string' wrong "type 'string'" 'const text: string = k.wrap(b, b, { iv: b });'
-    row 'a padded form has no initial value' wrong 'Expected 2 arguments' 'k.wrapPadded(b, b, { iv: b });'
-    row 'what load returns cannot be changed' wrong 'read-only' 'k.version = "1.0.0";'
+    # A result is not a string, a padded form has no initial value, and what load returns cannot be changed.
+    echo "$head
+const text: string = k.wrap(b, b, { iv: b });
+k.wrapPadded(b, b, { iv: b });
+k.version = '1.0.0';" >wrong.mts
+    # refused: tsc refuses the last three lines of the wrong program, each for its reason, and nothing else.
+    refused() {
+        ! "${types[@]}" right.mts wrong.mts >log && cat log && [ "$(grep -c '^[^ ]' log)" = 3 ] &&
+            grep -q "^wrong.mts(4,.* type 'string'" log && grep -q '^wrong.mts(5,.*Expected 2 arguments' log &&
+            grep -q '^wrong.mts(6,.*read-only' log
+    }
+    row 'the types of a caller' refused
 fi
 
 ### The page

@@ -222,9 +222,9 @@ class TestPortable:
             vectors.write_text(f"{text[:at]}e{text[at + 1:]}")
             assert subprocess.run(["make", "-C", "portable", "check"], capture_output=True).returncode != 0
 
+    @slow
     @pytest.mark.parametrize("old, new", [
-        ("-(u32)(bits)", "bits"),
-        pytest.param("if (call->key_len) *call->key_len", "if (call->flag) *call->key_len", marks=slow)])
+        ("-(u32)(bits)", "bits"), ("if (call->key_len) *call->key_len", "if (call->flag) *call->key_len")])
     def test_a_bug_fails_the_check(self, old, new):
         source = pathlib.Path("portable/keywrap.c")
         assert old in source.read_text()

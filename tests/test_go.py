@@ -12,7 +12,7 @@ import pytest
 
 import published
 from builds import NAMES, ROOT, alone, run
-from program import all_of, slow
+from program import slow
 from tools import need
 
 pytestmark = pytest.mark.needs("go", "cc")
@@ -33,7 +33,7 @@ MACHINES = {
 def env(once):
     """An empty environment without the kit on the PATH and without a proxy. What is built is kept in its home."""
     home = once("go-home", lambda directory: None)
-    return {"PATH": "/usr/bin:/bin", "HOME": str(home), "GOPROXY": "off", "GOFLAGS": "-modcacherw -trimpath"}
+    return {"PATH": "/usr/bin:/bin", "HOME": str(home), "GOPROXY": "off", "GOFLAGS": "-modcacherw"}
 
 
 @pytest.fixture
@@ -80,8 +80,8 @@ def test_sanitizers(module, env, option, tool):
     run("go", "test", "-short", option, "./...", cwd=module, env=env)
 
 
-@pytest.mark.parametrize("cipher", [pytest.param([], id="library"),
-                                    pytest.param(["cipher"], id="cipher", marks=slow)])
+@slow
+@pytest.mark.parametrize("cipher", [[], ["cipher"]], ids=["library", "cipher"])
 def test_published(program, env, cipher):
     directory = program("published.go")
     run("go", "build", "-o", "published", "published.go", cwd=directory, env=env)
@@ -224,7 +224,8 @@ def archive(once):
     return once("go-archive", build) / "libkeywrap.a"
 
 
-@pytest.mark.parametrize("bug", all_of(BUGS, ["bytes-beside-an-error"]))
+@slow
+@pytest.mark.parametrize("bug", BUGS)
 def test_bug_is_caught(module, env, archive, bug):
     """By the module's own tests, which name a result."""
     name, old, new = BUGS[bug]

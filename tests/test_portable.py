@@ -184,7 +184,7 @@ def test_stack(portable, portable_program, name, level):
 
 
 @pytest.mark.parametrize("only", ["", "-DKEYWRAP_STEPS_ONLY"])
-@pytest.mark.parametrize("name", all_of(MACHINES, ["gcc", "arm"]))
+@pytest.mark.parametrize("name", all_of(MACHINES, ["gcc"]))
 def test_object(portable, name, only):
     """What the object needs, that it shows the calls of the headers only, and what of its data can be written."""
     compiler, _ = MACHINES[name]
