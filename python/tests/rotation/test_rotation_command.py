@@ -783,7 +783,7 @@ def test_a_second_interrupt_ends_at_once(store):
     running.send_signal(signal.SIGINT)
     wait_for(lambda: os.path.exists("taken"))
     running.send_signal(signal.SIGINT)
-    assert running.communicate(timeout=30)[1].decode().splitlines()[-1] == "keywrap.rotate: interrupted: run it again"
+    assert running.communicate(timeout=240)[1].decode().splitlines()[-1] == "keywrap.rotate: interrupted: run it again"
     assert (running.returncode, state(store)) == (130, ["old"] * FILES)
 
 
@@ -802,7 +802,7 @@ Worker.{method} = then
 from keywrap.rotate import main
 """)
     running = started(program, *names(store))
-    assert running.communicate(timeout=30)[1].decode().splitlines()[-1] == "keywrap.rotate: interrupted: run it again"
+    assert running.communicate(timeout=240)[1].decode().splitlines()[-1] == "keywrap.rotate: interrupted: run it again"
     assert (running.returncode, state(store)) == (130, [found] * FILES)
 
 
