@@ -147,8 +147,7 @@ def test_features(name, home, crate, features):
 def test_lints(name, home, crate):
     """No warning of the compiler, of clippy or of rustdoc."""
     cargo = Cargo(name, home)
-    if not pathlib.Path(cargo.path, "cargo-clippy").exists():
-        need("cargo-clippy")
+    need("clippy of Debian" if name == "debian" else "cargo-clippy")
     for features in FEATURES:
         cargo("clippy", "--offline", "--all-targets", *features.split(), "--", "-D", "warnings", cwd=crate)
     cargo("doc", "--offline", "--no-deps", cwd=crate, env={"RUSTDOCFLAGS": "-D warnings"})
@@ -203,10 +202,10 @@ def test_without_std(cargo, crate):
 @slow
 def test_aarch64(home, crate):
     """The crate's tests by Debian's cargo under qemu."""
-    need("aarch64-linux-gnu-gcc", "qemu-aarch64")
+    need("aarch64-linux-gnu-gcc", "qemu-aarch64", "cargo of Debian")
     cache = os.environ.get("XDG_CACHE_HOME", os.path.expanduser("~/.cache"))
     root = pathlib.Path(cache, f"keywrap/sysroot-{ARM}/usr")
-    if "debian" not in CARGOS or not list(root.glob(f"lib/rustlib/{ARM}/lib/libstd-*.rlib")):
+    if not list(root.glob(f"lib/rustlib/{ARM}/lib/libstd-*.rlib")):
         pytest.skip(f"no std of Rust in {root} (packaging/sysroot.sh)")
     of_target = f"CARGO_TARGET_{ARM.upper().replace('-', '_')}"
     said = Cargo("debian", home)("test", "--offline", "--all-features", "--target", ARM, cwd=crate, env={
@@ -223,7 +222,7 @@ def test_self_test(cargo, crate):
     words = ["cargo", "test", "--offline", "--test", "calls", "self_test_and_version"]
     env = {**cargo.env, "CARGO_TARGET_DIR": os.path.abspath("out")}
     ended = subprocess.run(words, cwd=copy, env=env, capture_output=True, text=True)
-    assert re.search("left: Err\\(IntegrityCheckFailed\\)", ended.stdout), ended
+    assert re.search("left: `?Err\\(IntegrityCheckFailed\\)", ended.stdout), ended
 
 
 @slow
