@@ -119,7 +119,15 @@ def test_recipe(request, typed, answer, tmp_path, environment):
     environment.pop("KEYWRAP_KEK", None)
     done = subprocess.run(["bash", "-u", script], cwd=tmp_path / "here", env=environment, stdout=subprocess.PIPE,
                           stderr=subprocess.STDOUT, stdin=subprocess.DEVNULL, check=False, text=True)
-    assert [line.strip() for line in done.stdout.splitlines()] == [line.strip() for line in answer.splitlines()]
+    lines, due = ([counted_at_once(line.strip()) for line in text.splitlines()] for text in (done.stdout, answer))
+    assert lines == due
+
+
+def counted_at_once(line):
+    """Of the ten runs that each make a part of a file, two may find all parts at once. One of them replaces the file,
+    and the other one counts its keys as new before."""
+    return re.sub(r"(?<=keywrap.rotate: units: 10 done, )(.*; \d+ keys: )(\d+) rewrapped, (\d+) new before",
+                  lambda found: f"{found[1]}{int(found[2]) + int(found[3])} new", line)  # fmt: skip
     assert done.returncode == 0
 
 
