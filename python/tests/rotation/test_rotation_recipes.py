@@ -120,7 +120,7 @@ def test_recipe(request, typed, answer, tmp_path, environment):
     done = subprocess.run(["bash", "-u", script], cwd=tmp_path / "here", env=environment, stdout=subprocess.PIPE,
                           stderr=subprocess.STDOUT, stdin=subprocess.DEVNULL, check=False, text=True)
     lines, due = ([counted_at_once(line.strip()) for line in text.splitlines()] for text in (done.stdout, answer))
-    assert lines == due
+    assert (done.returncode, lines) == (0, due)
 
 
 def counted_at_once(line):
@@ -128,7 +128,6 @@ def counted_at_once(line):
     and the other one counts its keys as new before."""
     return re.sub(r"(?<=keywrap.rotate: units: 10 done, )(.*; \d+ keys: )(\d+) rewrapped, (\d+) new before",
                   lambda found: f"{found[1]}{int(found[2]) + int(found[3])} new", line)  # fmt: skip
-    assert done.returncode == 0
 
 
 # A test double of Slurm's sbatch: it runs the line for each task.
