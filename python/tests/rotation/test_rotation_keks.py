@@ -1,9 +1,10 @@
-"""Several KEKs in one store, KEKs by the names beside keys or in their prefixes, and KEKs that lie on no disk."""
+"""KEKs: their files, pipes and challenges, several in one store, by names beside keys, and texts before keys."""
 
 import base64
 import csv
 import json
 import os
+import pickle
 import sqlite3
 import subprocess
 import sys
@@ -14,42 +15,30 @@ import pytest
 pytest.importorskip("cryptography", reason="no cryptography (apt-get install python3-cryptography)")
 
 from cryptography.hazmat.primitives import keywrap as pyca  # noqa: E402
-from rotation_help import KEK, NEW_KEK, make_keys, secrets_in, set_keks, wrapped_under  # noqa: E402
+from rotation_help import KEK, NEW_KEK, ROTATE, make_keys, rotate, secrets_in, set_keks, slow, wrapped_under  # noqa: E402
 
-from keywrap import rotate  # noqa: E402
-from keywrap.rotation import command  # noqa: E402
+from keywrap.rotate import EqualKeks, Keks, WrongKeks, challenges, rewrap_all  # noqa: E402
 
 KEYS = make_keys(12)
-OTHERS = [bytes([number]) * (16, 24, 32)[number % 3] for number in range(1, 5)]
+OTHERS = [bytes([number]) * length for number, length in ((1, 32), (2, 16), (3, 24))]
 OF_TABLE = {"a": OTHERS[0], "b c": OTHERS[1], "ü": OTHERS[2]}
-NEW_OF_TABLE = {name: bytes(reversed(range(50 + at, 82 + at))) for at, name in enumerate(OF_TABLE)}
+NEW_OF_TABLE = {name: bytes([200 + at]) * 32 for at, name in enumerate(OF_TABLE)}
 
 
 @pytest.fixture(autouse=True)
 def keks(tmp_path, monkeypatch):
     set_keks(tmp_path, monkeypatch)
     monkeypatch.chdir(tmp_path)
-    for variable in ("KEYWRAP_KEK_2", "KEYWRAP_KEK_3"):
-        monkeypatch.setenv(variable, "")
-        monkeypatch.delenv(variable)
     for number, kek in enumerate(OTHERS):
         (tmp_path / f"{number}.hex").write_text(kek.hex())
-    yield tmp_path
-    for name in ("held", "tables"):
-        getattr(command.arguments.keks, name).clear()
+    return tmp_path
 
 
-@pytest.fixture
-def rotated(capfd):
-    """rotated(words): the exit status and the lines of standard error, which contain no KEK."""
-
-    def run(*words):
-        status = command.main(["--jobs", "2", *words])
-        said = capfd.readouterr().err
-        assert secrets_in(said.encode()) == []
-        return status, said.splitlines()
-
-    return run
+def rotated(*words, **more):
+    """Its output contains no KEK."""
+    done = rotate("--jobs", "2", *words, **more)
+    assert secrets_in("\n".join(done.said).encode()) == []
+    return done
 
 
 def hexes(kek, keys=KEYS):
@@ -66,80 +55,142 @@ def read(name):
         return file.read().splitlines()
 
 
+# Files, pipes and challenges.
+
+
+@pytest.mark.parametrize("content, why", [
+    (KEK, "not hex: --raw-kek reads a KEK of raw bytes"), (KEK.hex().encode()[:30], "the KEK is 15 bytes long"),
+    (b"", "the KEK is 0 bytes long"), (base64.b64encode(KEK), "not hex")])  # fmt: skip
+def test_a_wrong_kek_file_is_named_without_its_content(keks, content, why):
+    (keks / "kek").write_bytes(content)
+    write("store", hexes(KEK))
+    done = rotated("--kek", "kek", "store")
+    assert (done.status, done.said[0].startswith(f"keywrap.rotate: the KEK: {keks}/kek: {why}")) == (3, True)
+    assert not content or content.decode("latin1") not in done.said[0]
+
+
+def test_a_kek_in_the_place_of_its_file_is_not_shown():
+    done = rotated("--kek", KEK.hex(), "store")
+    assert (done.status, done.said) == (3, ["keywrap.rotate: the KEK: it: No such file or directory"])
+
+
+def test_kek_files_may_have_blanks_and_line_ends(keks):
+    (keks / "kek.hex").write_text(f" {KEK.hex()[:10]}\r\n{KEK.hex()[10:].upper()}\t\n")
+    write("store", hexes(KEK))
+    assert rotated("store") == 0 and read("store") == hexes(NEW_KEK)
+
+
+def test_raw_keks(keks):
+    (keks / "kek").write_bytes(KEK)
+    (keks / "new").write_bytes(NEW_KEK)
+    write("store", hexes(KEK))
+    assert rotated("--raw-kek", "--kek", "kek.hex", "--new-kek", "new", "store").has(
+        "kek.hex: looks like hex: omit --raw-kek to read it as hex")  # fmt: skip
+    assert rotated("--raw-kek", "--kek", "kek", "--new-kek", "new", "store") == 0
+    assert read("store") == hexes(NEW_KEK)
+
+
+def test_keks_of_pipes():
+    """They are read once, and the processes of each pass have them."""
+    write("store", hexes(KEK))
+    line = f"{' '.join(ROTATE)} --jobs 2 --kek <(cat kek.hex) --new-kek <(cat new-kek.hex) store"
+    assert subprocess.run(["bash", "-c", line]).returncode == 0
+    assert read("store") == hexes(NEW_KEK)
+    os.mkfifo("fifo")
+    thread = threading.Thread(target=lambda: open("fifo", "w").write(NEW_KEK.hex()))
+    thread.start()
+    assert rotated("--verify", "--new-kek", "fifo", "store") == 0
+    thread.join()
+
+
+def test_swapped_keks_are_refused_by_a_challenge(keks):
+    """Without one a second rotation with swapped KEKs undoes the first one, and cannot know it."""
+    done = rotated("--make-challenges")
+    assert (done.status, done.printed.split()) == (0, [f"{keks}/kek.challenge", f"{keks}/new-kek.challenge"])
+    for kek, name in (KEK, "kek.challenge"), (NEW_KEK, "new-kek.challenge"):
+        assert len(pyca.aes_key_unwrap(kek, bytes.fromhex(read(name)[0]))) == 32
+    again = rotated("--make-challenges")
+    assert (again.status, again.has("kek.challenge: File exists")) == (3, True)
+    write("store", hexes(KEK))
+    assert rotated("--new-challenge", "new-kek.challenge", "store") == 0
+    swapped = ["--new-challenge", "new-kek.challenge", "--kek", "new-kek.hex", "--new-kek", "kek.hex", "store"]
+    for words in (swapped, ["--verify", *swapped], ["--dry-run", *swapped]):
+        done = rotated(*words)
+        assert (done.status, done.has("the new KEK is not that of --new-challenge")) == (3, True)
+    assert read("store") == hexes(NEW_KEK)
+    assert rotated("--verify", "--new-challenge", "new-kek.challenge", "store") == 0
+
+
+@pytest.mark.parametrize("other", [(KEK, bytes(32)), (bytes(16), NEW_KEK), (NEW_KEK, KEK)])
+def test_other_keks_than_at_the_beginning(keks, monkeypatch, other):
+    pair = challenges()
+    assert rewrap_all({"a": wrapped_under(KEK, KEYS[0])}, pair) == {"a": wrapped_under(NEW_KEK, KEYS[0])}
+    set_keks(keks, monkeypatch, *other)
+    with pytest.raises(WrongKeks, match="the KEKs of this machine are not those that the rotation began with"):
+        rewrap_all({"a": wrapped_under(KEK, KEYS[0])}, pair)
+
+
+def test_equal_keks_are_noticed(keks, monkeypatch):
+    set_keks(keks, monkeypatch, KEK, KEK)
+    with pytest.raises(EqualKeks):
+        challenges()
+
+
+def test_no_kek_is_sent():
+    pair = challenges()
+    assert secrets_in(pickle.dumps(pair)) == []
+    assert pickle.loads(pickle.dumps(pair)).rings() == pair.rings()
+    with pytest.raises(TypeError, match="KEKs are not sent"):
+        pickle.dumps(pair.rings())
+
+
 # Several KEKs.
 
 SEVERAL = ["--kek", "kek.hex", "--kek", "0.hex", "--kek", "1.hex"]
 
 
-def test_a_key_under_any_of_several_keks(rotated):
+def test_a_key_under_any_of_several_keks(keks):
     mixed = [wrapped_under([KEK, *OTHERS[:2], NEW_KEK][at % 4], key).hex() for at, key in enumerate(KEYS)]
     write("store", [*mixed, hexes(OTHERS[2])[0]])
-    status, lines = rotated(*SEVERAL, "--report", "report", "store")
+    dry = rotated("--dry-run", *SEVERAL, "store")
+    labels = sorted(f"{keks}/{name}.hex" for name in ("0", "1", "kek"))
+    assert [line for line in dry.said if "keys are under" in line] == [
+        f"keywrap.rotate: 3 keys are under {label}" for label in labels]  # fmt: skip
+    done = rotated(*SEVERAL, "store")
     assert read("store") == [*hexes(NEW_KEK), hexes(OTHERS[2])[0]]
-    assert (status, lines[0].endswith("store: line 13: integrity check failed")) == (5, True)
-    assert lines[1:4] == [f"keywrap.rotate: 3 keys were under {name}.hex" for name in ("0", "1", "kek")]
-    assert lines[-1].endswith("13 keys: 9 rewrapped, 3 new before, 1 refused")
-    answer, counts = [json.loads(line) for line in read("report")][1:]
-    assert answer["under"] == counts["under"] == {"kek.hex": 3, "0.hex": 3, "1.hex": 3}
-    assert len(json.loads(read("report")[0])["challenges"]) == 4
+    assert (done.status, done.said[0].endswith("store: line 13: under no KEK of this rotation")) == (5, True)
+    assert done.said[1:4] == [f"keywrap.rotate: 3 keys were under {label}" for label in labels]
+    assert (done.counts["keys"], done.counts["rewrapped"], done.counts["refused"]) == (13, 9, 1)
 
 
 @pytest.mark.parametrize("kek", [0, 1, 2])
-def test_lines_of_one_length_under_one_of_several_keks(rotated, kek):
+def test_lines_of_one_length_under_one_of_several_keks(keks, kek):
+    """All lines at once: they are counted under the KEK that fits."""
     plain = [bytes([at]) * 32 for at in range(50)]
     write("store", hexes([KEK, *OTHERS][kek], plain))
-    assert rotated(*SEVERAL, "store")[0] == 0
-    assert read("store") == hexes(NEW_KEK, plain)
-    status, lines = rotated("--dry-run", *SEVERAL, "store")
-    assert lines[-1].endswith("50 keys: 0 old, 50 new, 0 under neither KEK")
+    done = rotated(*SEVERAL, "store")
+    assert (done.status, read("store")) == (0, hexes(NEW_KEK, plain))
+    assert done.said[0] == f"keywrap.rotate: 50 keys were under {keks}/{('kek', '0', '1')[kek]}.hex"
 
 
-def test_counts_under_which(rotated):
-    write("store", [wrapped_under([KEK, *OTHERS[:2], NEW_KEK][at % 4], key).hex() for at, key in enumerate(KEYS)])
-    status, lines = rotated("--dry-run", *SEVERAL, "store")
-    assert lines == [*(f"keywrap.rotate: 3 keys were under {name}.hex" for name in ("0", "1", "kek")),
-                     "keywrap.rotate: files: 1 done, 0 refused, 0 gone, 0 unanswered; "
-                     "12 keys: 9 old, 3 new, 0 under neither KEK"]  # fmt: skip
-
-
-def test_variables_of_several_keks(rotated, monkeypatch):
+def test_variables_of_several_keks(monkeypatch):
     monkeypatch.setenv("KEYWRAP_KEK_2", "0.hex")
     write("store", [*hexes(KEK)[:6], *hexes(OTHERS[0])[6:]])
-    assert rotated("store")[0] == 0
-    assert read("store") == hexes(NEW_KEK)
-    # Options take the place of all of them.
-    for words in (["--kek", "kek.hex"], ["--kek-command", "cat kek.hex"]):
-        monkeypatch.setenv("KEYWRAP_KEK_2", "0.hex")
-        write("store", hexes(OTHERS[0]))
-        assert rotated(*words, "store")[0] == 5
-
-
-def test_a_report_belongs_to_all_keks(rotated):
-    write("store", hexes(KEK))
-    rotated(*SEVERAL, "--report", "report", "store")
-    for words in (SEVERAL[:4], [*SEVERAL[:2], *SEVERAL[4:], *SEVERAL[2:4]], [*SEVERAL[:4], "--kek", "3.hex"]):
-        status, lines = rotated(*words, "--report", "report", "store")
-        assert (status, "it belongs to a rotation with other KEKs" in lines[0]) == (2, True)
-    assert rotated(*SEVERAL, "--report", "report", "store")[0] == 0
-
-
-def test_the_new_kek_is_none_of_several(rotated):
-    write("store", hexes(KEK))
-    said = ["keywrap.rotate: the KEK and the new KEK are the same key"]
-    assert rotated("--kek", "kek.hex", "--kek", "new-kek.hex", "store") == (2, said)
-    assert read("store") == hexes(KEK)
+    assert rotated("store") == 0 and read("store") == hexes(NEW_KEK)
+    write("store", hexes(OTHERS[0]))
+    assert rotated("--kek", "kek.hex", "store") == 5
 
 
 # Names beside keys.
 
 
 def tables():
-    for table, keks in (("table", OF_TABLE), ("new-table", NEW_OF_TABLE)):
+    for table, of in (("table", OF_TABLE), ("new-table", NEW_OF_TABLE)):
         os.makedirs("keks", exist_ok=True)
-        for at, kek in enumerate(keks.values()):
+        for at, kek in enumerate(of.values()):
             with open(f"keks/{table}{at}.hex", "w") as file:
                 file.write(kek.hex())
-        write(f"keks/{table}", [f"{name}={table}{at}.hex" for at, name in enumerate(keks)])
+        write(f"keks/{table}", [f"{name}={table}{at}.hex" for at, name in enumerate(of)])
     return ["--keks", "keks/table", "--new-keks", "keks/new-table"]
 
 
@@ -147,18 +198,14 @@ def named(at):
     return [*OF_TABLE][at % 3]
 
 
-def in_csv(keks, keys=KEYS):
-    lines = (f"{at},{named(at)},{wrapped_under(keks[named(at)], key).hex()}" for at, key in enumerate(keys))
+def in_csv(of, keys=KEYS):
+    lines = (f"{at},{named(at)},{wrapped_under(of[named(at)], key).hex()}" for at, key in enumerate(keys))
     return ["id,owner,wrapped", *lines]
 
 
-def in_json(keks):
-    return [json.dumps({"owner": named(at), "wrapped": wrapped_under(keks[named(at)], key).hex()}, ensure_ascii=False)
+def in_json(of):
+    return [json.dumps({"owner": named(at), "wrapped": wrapped_under(of[named(at)], key).hex()}, ensure_ascii=False)
             for at, key in enumerate(KEYS)]  # fmt: skip
-
-
-def in_table(keks):
-    return [(named(at), wrapped_under(keks[named(at)], key)) for at, key in enumerate(KEYS)]
 
 
 NAMED = {"csv": (["--csv", "wrapped", "--kek-name", "owner"], in_csv),
@@ -167,298 +214,149 @@ NAMED = {"csv": (["--csv", "wrapped", "--kek-name", "owner"], in_csv),
 
 @pytest.mark.parametrize("kind", NAMED)
 @pytest.mark.parametrize("one", [False, True], ids=["a new KEK for each name", "one new KEK"])
-def test_names_choose_the_kek(rotated, kind, one):
+def test_names_choose_the_kek(kind, one):
     words, content = NAMED[kind]
-    words = [*words, *(tables()[:2] if one else tables())]
+    of_keks = tables()[:2] if one else tables()
     write("store", content(OF_TABLE))
     new = dict.fromkeys(OF_TABLE, NEW_KEK) if one else NEW_OF_TABLE
     for again in (False, True):
-        status, lines = rotated(*words, "--report", "report", "store")
-        assert (status, read("store")) == (0, content(new))
-        assert lines[-1].endswith(f"12 keys: {0 if again else 12} rewrapped, {12 if again else 0} new before, 0 refused")
-    assert json.loads(read("report")[1])["under"] == dict.fromkeys(OF_TABLE, 4)
-    verify = words[:2] if one else [*words[:4], *tables()[2:]]
-    assert rotated("--verify", *verify, "--record", "record", "store")[0] == 0
-    assert rotated("--verify-record", "record", *verify, "store")[0] == 0
+        done = rotated(*words, *of_keks, "store")
+        assert (done.status, read("store"), done.counts["rewrapped"]) == (0, content(new), 0 if again else 12)
+        assert again or done.said[:3] == [f"keywrap.rotate: 4 keys were under {name}" for name in OF_TABLE]
+    os.unlink("keks/table0.hex")  # To verify, nobody reads the old ones.
+    assert rotated("--verify", *words, *of_keks, "store") == 0
     write("store", content(OF_TABLE))
-    assert rotated("--verify", *verify, "store")[0] == 5
+    assert rotated("--verify", *words, *of_keks, "store") == 5
 
 
-def test_names_in_a_column_of_sqlite(rotated):
+def test_names_in_a_column_of_sqlite():
+    def content(of):
+        return [(named(at), wrapped_under(of[named(at)], key)) for at, key in enumerate(KEYS)]
+
     connection = sqlite3.connect("keys.db", isolation_level=None)
     connection.execute("CREATE TABLE keys (owner TEXT, key BLOB)")
-    connection.executemany("INSERT INTO keys VALUES (?, ?)", in_table(OF_TABLE))
+    connection.executemany("INSERT INTO keys VALUES (?, ?)", content(OF_TABLE))
     words = [*tables(), "--table", "keys", "--kek-name", "owner"]
-    assert rotated(*words, "keys.db")[0] == 0
-    assert connection.execute("SELECT * FROM keys").fetchall() == in_table(NEW_OF_TABLE)
+    assert rotated(*words, "keys.db") == 0
+    assert connection.execute("SELECT * FROM keys").fetchall() == content(NEW_OF_TABLE)
     connection.execute("UPDATE keys SET owner = 'stranger' WHERE rowid = 2")
     connection.execute("UPDATE keys SET owner = NULL WHERE rowid = 3")
     connection.close()
-    status, lines = rotated(*words, "keys.db")
-    assert (status, [line.split(": rows 1 to 12: ")[1] for line in lines[:2]]) == (
-        5, ["row 2: there is no KEK of its name", "row 3: there is no KEK of its name"])
+    done = rotated(*words, "keys.db")
+    assert (done.status, [line.split("keys.db: ")[1] for line in done.said[:2]]) == (
+        5, ["row 2: no KEK for the name 'stranger'", "row 3: it has no name of a KEK"])  # fmt: skip
+    assert rotated(*words[:-1], "ownr", "keys.db").has("the table 'keys' has no column 'ownr'")
 
 
-def test_a_name_does_not_try_other_keks(rotated):
+def test_a_name_does_not_try_other_keks():
     """A key that is under the KEK of another name is refused."""
     lines = in_csv(OF_TABLE)
     moved = lines[2].replace("b c,", "a,")
     write("store", [lines[0], lines[1], moved, *lines[3:]])
-    status, said = rotated(*NAMED["csv"][0], *tables(), "store")
-    assert (status, said[0].endswith("line 3: integrity check failed")) == (5, True)
+    done = rotated(*NAMED["csv"][0], *tables(), "store")
+    assert (done.status, done.said[0].endswith("line 3: under no KEK of this rotation")) == (5, True)
     new = in_csv(NEW_OF_TABLE)
     assert read("store") == [new[0], new[1], moved, *new[3:]]
 
 
-def test_a_report_belongs_to_the_names_of_a_table(rotated):
-    words = [*NAMED["csv"][0], *tables(), "--report", "report", "store"]
-    write("store", in_csv(OF_TABLE))
-    assert rotated(*words)[0] == 0
-    for table in ("table", "new-table"):
-        write(f"keks/{table}", read(f"keks/{table}")[::-1])
-    assert rotated(*words)[0] == 0
-    for table in ("table", "new-table"):
-        write(f"keks/{table}", [line.replace("a=", "aa=") for line in read(f"keks/{table}")])
-    status, lines = rotated(*words)
-    assert (status, "it belongs to a rotation with other KEKs" in lines[-1]) == (2, True), lines
-
-
-WRONG = [
-    ("keks/table", ["a=table0.hex", "b c"], "--keks: line 2 is not NAME=FILE"),
-    ("keks/table", ["=table0.hex"], "--keks: line 1 is not NAME=FILE"),
-    ("keks/table", ["a=table0.hex", "a=table1.hex"], "--keks: line 2 has a name that an earlier line has"),
-    ("keks/table", [], "--keks: it has no line"),
-    ("keks/table", ["a=none.hex", "b c=table1.hex", "ü=table2.hex"], "--keks: a: No such file or directory"),
-    ("keks/table", ["a=table", "b c=table1.hex", "ü=table2.hex"], "--keks: a: the file does not contain hex"),
-    ("keks/table", ["a=table0.hex", "b c=new-table1.hex", "ü=table2.hex"], "the KEK and the new KEK are the same key"),
-    ("keks/new-table", ["a=new-table0.hex"], "--new-keks: it has other names than --keks"),
-    ("keks/table", ["a=table1.hex", "b c=table0.hex", "ü=table2.hex"], "--keks: no key of a is under its KEK (2 such names)"),
-    ("keks/table", ["a=table0.hex", "b c=table1.hex", "ü=table1.hex"], "--keks: no key of ü is under its KEK (1 such names)"),
-]
-
-
-@pytest.mark.parametrize("table, lines, why", WRONG)
-def test_a_wrong_table_is_refused_before_anything_is_written(rotated, table, lines, why):
+@pytest.mark.parametrize("table, lines, why", [
+    ("table", ["a=table0.hex", "b c"], "line 2 is not NAME=FILE"), ("table", ["=table0.hex"], "line 1 is not NAME=FILE"),
+    ("table", ["a=table0.hex", "a=table1.hex"], "line 2 has a name that an earlier line has"), ("table", [], "it has no line"),
+    ("table", ["a=none.hex", "b c=table1.hex", "ü=table2.hex"], "none.hex: No such file or directory"),
+    ("table", ["a=table", "b c=table1.hex", "ü=table2.hex"], "--keks: a: {}/keks/table: not hex"),
+    ("table", ["a=table0.hex", "b c=new-table1.hex", "ü=table2.hex"], "the KEK and the new KEK are the same key"),
+    ("new-table", ["a=new-table0.hex"], "only one of them has 'b c'"),
+])  # fmt: skip
+def test_a_wrong_table_is_refused_before_anything_is_written(keks, table, lines, why):
     words = tables()
-    for number in range(3):
-        write(f"store{number}", in_csv(OF_TABLE))
-    write(table, lines)
-    status, said = rotated(*NAMED["csv"][0], *words, "--report", "report", *(f"store{number}" for number in range(3)))
-    assert (status, said) == (2, [f"keywrap.rotate: {why}"])
-    assert [read(f"store{number}") for number in range(3)] == [in_csv(OF_TABLE)] * 3
+    write("store", in_csv(OF_TABLE))
+    write(f"keks/{table}", lines)
+    done = rotated(*NAMED["csv"][0], *words, "store")
+    assert (done.status in (2, 3), why.format(keks) in done.said[0]) == (True, True), done
+    assert read("store") == in_csv(OF_TABLE)
+
+
+def test_a_table_that_changes_meanwhile():
     tables()
-    assert rotated(*NAMED["csv"][0], *words, "--report", "report", "store0")[0] == 0
+    pair = Keks(table="keks/table", new_table="keks/new-table").challenged()
+    assert pair.rings().keys() == OF_TABLE.keys()
+    write("keks/table", read("keks/table")[::-1])
+    assert pair.rings().keys() == OF_TABLE.keys()
+    write("keks/table", [line.replace("table0", "table1") for line in read("keks/table")])
+    with pytest.raises(WrongKeks):
+        pair.rings()
 
 
-def many_keks(names, count):
-    """A table of so many names, and a CSV file of keys, each under the KEK of its name."""
-    keks = {f"tenant-{at}": (at + 1).to_bytes(4, "big") * 4 for at in range(names)}
-    os.makedirs("many", exist_ok=True)
-    for name, kek in keks.items():
-        with open(f"many/{name}", "w") as file:
-            file.write(kek.hex())
-        with open(f"many/{name}.new", "w") as file:
-            file.write(kek[::-1].hex())
-    write("many/table", [f"{name}={name}" for name in keks])
-    write("many/new-table", [f"{name}={name}.new" for name in keks])
-    known = [*keks]
+@pytest.mark.parametrize("count", [10_000, pytest.param(1_000_000, marks=slow)])
+def test_a_thousand_keks(count):
+    """Right, and in constant memory."""
+    of = {f"tenant-{at}": (at + 1).to_bytes(4, "big") * 4 for at in range(1000)}
+    os.makedirs("many")
+    for name, kek in of.items():
+        for ending, content in (("", kek), (".new", kek[::-1])):
+            with open(f"many/{name}{ending}", "w") as file:
+                file.write(content.hex())
+    write("many/table", [f"{name}={name}" for name in of])
+    write("many/new-table", [f"{name}={name}.new" for name in of])
+    known = [*of]
     with open("keys.csv", "w") as file:
         file.write("tenant,key\n")
         for at in range(count):
-            name = known[at * 7919 % names]
-            file.write(f"{name},{pyca.aes_key_wrap(keks[name], at.to_bytes(16, 'big')).hex()}\n")
-    return keks
-
-
-def test_a_thousand_keks(rotated):
-    """Of ten thousand keys. With KEYWRAP_MANY=1000000 of a million, which takes minutes."""
-    count = int(os.environ.get("KEYWRAP_MANY", "10000"))
-    keks = many_keks(1000, count)
-    words = ["--csv", "key", "--kek-name", "tenant", "--keks", "many/table", "--new-keks", "many/new-table"]
-    status, lines = rotated(*words, "--report", "report", "keys.csv")
-    assert (status, lines[-1].split("; ")[1]) == (0, f"{count} keys: {count} rewrapped, 0 new before, 0 refused")
-    assert sum(json.loads(read("report")[1])["under"].values()) == count
+            name = known[at * 7919 % 1000]
+            file.write(f"{name},{pyca.aes_key_wrap(of[name], at.to_bytes(16, 'big')).hex()}\n")
+    words = ["--csv", "key", "--kek-name", "tenant", "--keks", "many/table", "--new-keks", "many/new-table", "keys.csv"]
+    measured = [sys.executable, "-c", "import resource, subprocess, sys; done = subprocess.run(sys.argv[1:]); "
+                "print(resource.getrusage(resource.RUSAGE_CHILDREN).ru_maxrss); sys.exit(done.returncode)"]  # fmt: skip
+    done = rotate(*words, program=[*measured, *ROTATE], timeout=3000)
+    assert (done.status, done.counts["keys"], done.counts["rewrapped"]) == (0, count, count)
+    assert int(done.printed) < 70_000
     with open("keys.csv", newline="") as file:
-        for at, (name, wrapped) in enumerate([*csv.reader(file)][1:]):
-            if at % max(1, count // 10_000) == 0:
-                assert pyca.aes_key_unwrap(keks[name][::-1], bytes.fromhex(wrapped)) == at.to_bytes(16, "big")
-    verify = [*words[:4], "--new-keks", "many/new-table"]
-    assert rotated("--verify", *verify, "keys.csv")[0] == 0
+        for at, (name, wrapped) in enumerate(csv.reader(file), -1):
+            if at >= 0 and at % max(1, count // 10_000) == 0:
+                assert pyca.aes_key_unwrap(of[name][::-1], bytes.fromhex(wrapped)) == at.to_bytes(16, "big")
 
 
-# Versions in prefixes.
+# Texts before keys.
 
-PREFIX = ["--prefix-format", "vault:v{version}:", "--new-version", "4", "--base64"]
+PREFIX = ["--base64", "--prefix", "vault:v2:", "--prefix", "vault:v3:", "--new-prefix", "vault:v4:"]
 
 
 def prefixed(kek, version, keys=KEYS):
     return [f"vault:v{version}:{base64.b64encode(wrapped_under(kek, key)).decode()}" for key in keys]
 
 
-def test_a_prefix_is_read_and_written_anew(rotated):
-    write("store", [*prefixed(KEK, 3)[:10], *prefixed(NEW_KEK, 4)[10:]])
-    status, lines = rotated(*PREFIX, "store")
-    assert (status, read("store")) == (0, prefixed(NEW_KEK, 4))
-    assert lines[-1].endswith("12 keys: 10 rewrapped, 2 new before, 0 refused")
-    assert rotated("--verify", *PREFIX, "store")[0] == 0
-    before = os.stat("store")
-    assert rotated(*PREFIX, "store")[0] == 0
-    assert os.stat("store").st_ino == before.st_ino
+def test_a_prefix_is_read_and_written_anew():
+    write("store", [*prefixed(KEK, 3)[:5], *prefixed(KEK, 2)[5:10], *prefixed(NEW_KEK, 4)[10:]])
+    done = rotated(*PREFIX, "store")
+    assert (done.status, read("store"), done.counts["rewrapped"]) == (0, prefixed(NEW_KEK, 4), 10)
+    assert rotated("--verify", *PREFIX, "store") == 0
 
 
-def test_a_key_under_the_new_kek_with_an_old_prefix(rotated):
-    write("store", prefixed(NEW_KEK, 3))
-    status, lines = rotated("--verify", *PREFIX, "store")
-    assert (status, lines[0].endswith("line 1: it is under the new KEK, but has the prefix of another one")) == (5, True)
-    assert rotated(*PREFIX, "store")[0] == 0
+def test_a_key_under_the_new_kek_with_an_old_prefix():
+    """A dry run says what the rotation then does; to verify, it is refused."""
+    write("store", [*prefixed(NEW_KEK, 3)[:6], *prefixed(NEW_KEK, 4)[6:]])
+    dry = rotated("--dry-run", *PREFIX, "store")
+    assert (dry.status, dry.counts["new"], dry.has("6 keys are under an old prefix")) == (6, 6, True)
+    assert rotated("--verify", *PREFIX, "store").has("line 1: it does not have the prefix of new keys")
+    assert rotated(*PREFIX, "store") == 0
     assert read("store") == prefixed(NEW_KEK, 4)
 
 
-@pytest.mark.parametrize("line", ["vault:v3", "vault:v3:", "vault:w3:AAAA", "", "vault:v\u00e9:AAAA"])
-def test_refuses_what_has_no_prefix(rotated, line):
-    write("store", [*prefixed(KEK, 3), line, hexes(KEK)[0]])
-    status, lines = rotated(*PREFIX, "store")
-    assert (status, len(lines)) == (5, 3)
-    assert read("store") == [*prefixed(NEW_KEK, 4), line, hexes(KEK)[0]]
+@pytest.mark.parametrize("line", ["vault:v3", "vault:v3:", "vault:w3:AAAA", "", "vault:v\u00e9:AAAA", "other:v3:{}", "{}"])
+def test_refuses_what_has_no_prefix(line):
+    line = line.format(prefixed(KEK, 3)[0].split(":")[2])
+    write("store", [line, *prefixed(KEK, 3)])
+    for mode in ["--dry-run"], [], []:
+        done = rotated(*mode, *PREFIX, "store")
+        assert (done.status, done.counts["refused"], done.has("line 1: ")) == (5, 1, True)
+    assert read("store") == [line, *prefixed(NEW_KEK, 4)]
 
 
-def test_the_version_chooses_the_kek(rotated):
-    write("table", ["2=0.hex", "3=kek.hex"])
-    write("store", [*prefixed(OTHERS[0], 2)[:5], *prefixed(KEK, 3)[5:10], *prefixed(NEW_KEK, 4)[10:]])
-    assert rotated(*PREFIX, "--keks", "table", "store")[0] == 0
-    assert read("store") == prefixed(NEW_KEK, 4)
-    write("store", [*prefixed(OTHERS[0], 2), *prefixed(KEK, 3), *prefixed(OTHERS[0], 3)[:1], *prefixed(KEK, 4)[:1],
-                    *prefixed(KEK, 5)[:1]])  # fmt: skip
-    status, lines = rotated(*PREFIX, "--keks", "table", "store")
-    assert [line.split("store: ")[1] for line in lines if ": line " in line] == [
-        "line 25: integrity check failed", "line 26: integrity check failed", "line 27: there is no KEK of its name"]
-
-
-def test_a_prefix_in_a_text_column(rotated):
+def test_a_prefix_in_a_text_column():
     connection = sqlite3.connect("keys.db", isolation_level=None)
     connection.execute("CREATE TABLE keys (key)")
-    connection.executemany("INSERT INTO keys VALUES (?)", [(text,) for text in prefixed(KEK, 3)])
-    assert rotated(*PREFIX, "--table", "keys", "keys.db")[0] == 0
-    assert [text for text, in connection.execute("SELECT key FROM keys")] == prefixed(NEW_KEK, 4)
-    connection.close()
-    write("store", ['{"k": "' + text + '"}' for text in prefixed(KEK, 3)])
-    assert rotated(*PREFIX, "--json", "k", "store")[0] == 0
-    assert [json.loads(line)["k"] for line in read("store")] == prefixed(NEW_KEK, 4)
-
-
-@pytest.mark.parametrize("words, why", [
-    (["--prefix-format", "v{version}:"], "--prefix-format and --new-version go together"),
-    (["--new-version", "4"], "--prefix-format and --new-version go together"),
-    (["--prefix-format", "vault", "--new-version", "4"], "it needs {version}, and a text after it"),
-    (["--prefix-format", "v{version}", "--new-version", "4"], "it needs {version}, and a text after it"),
-    (["--prefix-format", "v{version}:", "--new-version", "4", "--raw"], "--prefix-format does not go with --raw"),
-    (["--keks", "t"], "--keks and --new-keks need --kek-name or --prefix-format"),
-    (["--kek-name", "x", "--csv", "k"], "--kek-name needs --keks or --new-keks"),
-    (["--kek-name", "x", "--keks", "t"], "--kek-name goes with --csv, --json, --table and --postgresql only"),
-    (["--keks", "t", "--kek", "kek.hex"], "not allowed with argument"),
-    (["--kek-command", "c", "--kek", "kek.hex"], "not allowed with argument"),
-    (["--new-kek-command", "c", "--new-kek", "kek.hex"], "not allowed with argument"),
-    (["--kek-command", "c", "--dask", "tcp://127.0.0.1:1"], "nor a KEK that is read only once"),
-    (["--rate", "9", "--verify"], "--rate goes with a rotation only"),
-    (["--rate", "0"], "argument --rate: not a number from 1 on"),
-    (["--max-lag", "9"], "--max-lag goes with a rotation of --postgresql only")])
-def test_refuses_arguments(capfd, words, why):  # fmt: skip
-    write("store", hexes(KEK))
-    with pytest.raises(SystemExit) as ended:
-        command.main([*words, "store"])
-    assert (ended.value.code, why in capfd.readouterr().err) == (2, True)
-    assert read("store") == hexes(KEK)
-
-
-# KEKs that lie on no disk.
-
-
-def test_keks_of_commands(rotated, keks):
-    """Each is run once, without a shell, and its output reaches the processes of the run."""
-    (keks / "secret").write_text("#!/bin/sh\necho run >> runs\nprintf %s \"$1\" > word\ncat $2\n")
-    (keks / "secret").chmod(0o700)
-    for number in range(3):
-        write(f"store{number}", hexes(KEK))
-    (keks / "moved").write_text(KEK.hex())
-    (keks / "moved-new").write_text(NEW_KEK.hex())
-    for name in ("kek.hex", "new-kek.hex"):
-        os.unlink(name)
-    words = ["--kek-command", "./secret '$HOME;x' moved", "--new-kek-command", "./secret '$HOME;x' moved-new"]
-    assert rotated(*words, *(f"store{number}" for number in range(3)))[0] == 0
-    assert (read("runs"), read("word")) == (["run"] * 2, ["$HOME;x"])
-    assert [read(f"store{number}") for number in range(3)] == [hexes(NEW_KEK)] * 3
-    assert rotated("--verify", *words[2:], "store0")[0] == 0
-
-
-@pytest.mark.parametrize("command_line, why", [
-    ("false", "its command ended with status 1"), ("./none", "its command cannot be run: No such file or directory"),
-    ("'", "its command cannot be run: it is not a line of words"), ("", "its command cannot be run"),
-    ("sleep 100", "its command did not end in 1 seconds"), ("echo xx", "the file does not contain hex"),
-    ("echo 00", "the KEK is 1 bytes long")])  # fmt: skip
-def test_a_command_that_fails(rotated, command_line, why):
-    write("store", hexes(KEK))
-    status, lines = rotated("--timeout", "1", "--kek-command", command_line, "store")
-    assert (status, lines[0].startswith(f"keywrap.rotate: KEYWRAP_KEK: {why}")) == (3, True), lines
-    assert read("store") == hexes(KEK)
-
-
-def test_keks_of_descriptors(keks):
-    """A pipe is read once, by the first process. No KEK is in the arguments or the environment of any process."""
-    for number in range(4):
-        write(f"store{number}", hexes(KEK))
-    ends = [os.pipe() for _ in range(2)]
-    command_line = [sys.executable, "-B", "-m", "keywrap.rotate", "--jobs", "2", "--kek", f"/dev/fd/{ends[0][0]}",
-                    "--new-kek", f"/dev/fd/{ends[1][0]}", *(f"store{number}" for number in range(4))]  # fmt: skip
-    running = subprocess.Popen(command_line, pass_fds=[end for end, _ in ends], stderr=subprocess.PIPE)
-    for (ours, theirs), kek in zip(ends, (KEK, NEW_KEK)):
-        os.close(ours)
-        with open(theirs, "w") as file:
-            file.write(kek.hex())
-    lines = running.communicate(timeout=240)[1].decode().splitlines()
-    assert running.returncode == 0, lines
-    assert [read(f"store{number}") for number in range(4)] == [hexes(NEW_KEK)] * 4
-
-
-def test_a_fifo(rotated):
-    os.mkfifo("fifo")
-    write("store", hexes(KEK))
-    threading.Thread(target=write, args=("fifo", [KEK.hex()])).start()
-    assert rotated("--kek", "fifo", "store")[0] == 0
-    assert read("store") == hexes(NEW_KEK)
-
-
-def test_keks_in_no_argument_and_no_environment(keks):
-    """Neither of the run nor of its processes, while it is at work."""
-    program = """
-import os, sys
-sys.path.insert(0, %r)
-from keywrap import _many
-from one_by_one import before_each_key
-def act(text):
-    for pid in (os.getpid(), os.getppid()):
-        for name in ("cmdline", "environ"):
-            with open(f"/proc/{pid}/{name}", "rb") as ours, open(f"{name}.{pid}", "wb") as copy:
-                copy.write(ours.read())
-_many.rewrap_slots = before_each_key(act)
-from keywrap.rotate import main
-sys.exit(main())
-""" % os.path.dirname(__file__)
-    write("store", hexes(KEK))
-    words = ["--jobs", "1", "--kek-command", "cat kek.hex", "--new-kek-command", "cat new-kek.hex", "store"]
-    subprocess.run([sys.executable, "-B", "-c", program, *words], check=True, stderr=subprocess.DEVNULL)
-    copies = [name for name in os.listdir() if name.startswith(("cmdline.", "environ."))]
-    assert len(copies) == 4
-    for name in copies:
-        with open(name, "rb") as file:
-            assert secrets_in(file.read()) == []
-
-
-def test_challenges_of_many_keks():
-    """The calls for other stores know several KEKs, too."""
-    os.environ["KEYWRAP_KEK_2"] = "0.hex"
-    pair = rotate.challenges()
-    assert len(pair) == 3
-    old = {"a": wrapped_under(KEK, KEYS[0]), "b": wrapped_under(OTHERS[0], KEYS[1])}
-    assert rotate.rewrap_all(old, pair) == {"a": wrapped_under(NEW_KEK, KEYS[0]), "b": wrapped_under(NEW_KEK, KEYS[1])}
-    assert rotate.probe(*pair) is None
-    assert "the rotation began with 2 KEKs, and here are 3" in rotate.probe(*pair[1:])
+    connection.executemany("INSERT INTO keys VALUES (?)", [*((text,) for text in prefixed(KEK, 3)),
+                                                           (wrapped_under(KEK, KEYS[0]),)])  # fmt: skip
+    assert rotated(*PREFIX, "--table", "keys", "keys.db") == 0
+    assert [key for (key,) in connection.execute("SELECT key FROM keys")] == [
+        *prefixed(NEW_KEK, 4), wrapped_under(NEW_KEK, KEYS[0])]  # fmt: skip

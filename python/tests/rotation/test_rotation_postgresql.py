@@ -1,12 +1,9 @@
-"""`keywrap.rotate --postgresql`, with a server of its own: live writers, several runs, a hostile database."""
+"""PostgreSQL tables, with a server of its own: types, partitions, rules, live writers, several runs, a hostile database."""
 
 import contextlib
-import json
 import os
-import random
 import signal
 import subprocess
-import sys
 import threading
 import time
 
@@ -15,19 +12,24 @@ import pytest
 pytest.importorskip("cryptography", reason="no cryptography (apt-get install python3-cryptography)")
 pytest.importorskip("psycopg", reason="no psycopg (apt-get install python3-psycopg)")
 
+import random  # noqa: E402
+
 from postgresql_server import Server, server_programs  # noqa: E402
-from rotation_help import KEK, NEW_KEK, ONE_BY_ONE, make_keys, secrets_in, set_keks, slow, wrapped_under  # noqa: E402
+from rotation_help import (  # noqa: E402
+    KEK,
+    NEW_KEK,
+    ROTATE,
+    SLOWLY,
+    make_keys,
+    rotate,
+    secrets_in,
+    set_keks,
+    slow,
+    wrapped_under,
+)
 
 if not server_programs():
     pytest.skip("no PostgreSQL server (apt-get install postgresql)", allow_module_level=True)
-
-SMALL = """
-import sys
-from keywrap.rotation import postgresql_queue
-postgresql_queue.ROWS = {rows}
-from keywrap.rotate import main
-sys.exit(main())
-"""
 
 
 def rows(kek, keys):
@@ -36,6 +38,14 @@ def rows(kek, keys):
 
 KEYS, MANY, ADDED = make_keys(60), make_keys(1500, 3), wrapped_under(NEW_KEK, make_keys(2, 9)[1])
 OLD, NEW = rows(KEK, KEYS), rows(NEW_KEK, KEYS)
+# Ranges of one block, so that small tables have several.
+SMALL = ROTATE[:-2] + ("-c", """
+import sys
+from keywrap.rotation import postgresql
+postgresql.BLOCKS = 1
+from keywrap.rotate import main
+sys.exit(main())
+""")  # fmt: skip
 
 
 @pytest.fixture(scope="module")
@@ -55,20 +65,10 @@ def keks(tmp_path, monkeypatch, server):
     return tmp_path
 
 
-def command(*words, rows=7):
-    return [sys.executable, "-B", "-c", SMALL.format(rows=rows), "--postgresql", "keys", *words]
-
-
-def rotated(*words, rows=7):
-    """The exit status and standard error."""
-    done = subprocess.run(command(*words, rows=rows), check=False, capture_output=True, timeout=360)
-    assert done.stdout == b""
-    assert secrets_in(done.stderr) == []
-    return done.returncode, done.stderr.decode().splitlines()
-
-
-def has_queue(server):
-    return server.sql("SELECT to_regclass('keys_rotation') IS NOT NULL") == "t\n"
+def rotated(*words, table="keys", program=SMALL):
+    done = rotate("--postgresql", table, *words, program=program)
+    assert secrets_in("\n".join(done.said).encode()) == []
+    return done
 
 
 def set_row(number, key):
@@ -90,343 +90,209 @@ def holding(server, statement):
         process.communicate("COMMIT;\n", timeout=240)
 
 
-@pytest.mark.parametrize("words", [[], ["--all-or-nothing"]])
-@pytest.mark.parametrize("kind", ["bytea", "text", "varchar(200)"])
-def test_undisturbed_and_again(server, kind, words):
+@pytest.mark.parametrize("kind", ["bytea", "text", "varchar(200)", "char(100)"])
+@pytest.mark.parametrize("jobs", ["1", "4"])
+def test_undisturbed_and_again(server, kind, jobs):
     server.fill(OLD, kind)
-    value = "encode(key, 'hex')" if kind == "bytea" else "key"
-    for before in (0, 60):
-        status, lines = rotated("--report", "report", *words)
-        assert (status, server.held(value), has_queue(server)) == (0, NEW, False), lines
-        assert lines[-1].endswith(f"60 keys: {60 - before} rewrapped, {before} new before, 0 refused")
-    units = {json.loads(line)["unit"] for line in open("report") if '"unit"' in line}
-    assert units == {"keys"} if words else {"keys: rows 10 to 70", "keys: rows 570 to 600"} < units
+    value = "encode(key, 'hex')" if kind == "bytea" else "trim(key)"
+    for rewrapped in (60, 0):
+        done = rotated("--jobs", jobs)
+        assert (done.status, server.held(value), done.counts["rewrapped"]) == (0, NEW, rewrapped), done
+    assert rotated("--verify", "--record", "record") == 0
+    server.sql("VACUUM FULL keys")
+    assert rotated("--verify", "--verify-record", "record", program=ROTATE) == 0
+    server.sql("DELETE FROM keys WHERE id = 70")
+    assert rotated("--verify", "--verify-record", "record").has("keys: missing or changed since the record: 60 keys")
+
+
+@pytest.mark.parametrize("columns", [
+    "id uuid PRIMARY KEY DEFAULT gen_random_uuid()", "id char(8) DEFAULT left(random()::text, 8)", "id float DEFAULT random()",
+    "id int DEFAULT NULL", "id bigint GENERATED ALWAYS AS IDENTITY"])  # fmt: skip
+def test_no_column_has_to_order_the_rows(server, columns):
+    server.sql(f'DROP TABLE IF EXISTS other; CREATE TABLE other ({columns}, key bytea);'
+               + "".join(f"INSERT INTO other (key) VALUES (decode('{key.hex()}', 'hex'));" for key in OLD.values()))
+    done = rotated(table="other")
+    assert (done.status, done.counts["rewrapped"]) == (0, 60), done
+    found = server.sql("SELECT encode(key, 'hex') FROM other").split()
+    assert sorted(found) == sorted(key.hex() for key in NEW.values())
+
+
+def test_partitions(server):
+    """Their rows may have the same ctid, and the same key."""
+    server.sql("""DROP TABLE IF EXISTS parts; CREATE TABLE parts (id int, key bytea) PARTITION BY HASH (id);
+        CREATE TABLE p0 PARTITION OF parts FOR VALUES WITH (MODULUS 2, REMAINDER 0);
+        CREATE TABLE p1 PARTITION OF parts FOR VALUES WITH (MODULUS 2, REMAINDER 1);""")
+    same = OLD[10].hex()
+    server.sql(f"INSERT INTO parts SELECT n, decode('{same}', 'hex') FROM generate_series(1, 1500) n; ANALYZE parts")
+    done = rotated(table="parts")
+    assert (done.status, done.counts["keys"]) == (0, 1500), done
+    assert server.sql("SELECT DISTINCT encode(key, 'hex') FROM parts").split() == [NEW[10].hex()]
 
 
 def test_names_of_a_strange_table(server):
-    server.sql('CREATE SCHEMA "s .x"; CREATE TABLE "s .x"."a ""b" ("i d" text PRIMARY KEY, "k;" text);'
-               f"INSERT INTO \"s .x\".\"a \"\"b\" VALUES ('it''s', '{OLD[10].hex()}'), ('é', NULL);")  # fmt: skip
-    try:
-        # The name of a schema that has a dot cannot be given.
-        server.sql('ALTER SCHEMA "s .x" RENAME TO "s x"')
-        run = [sys.executable, "-B", "-m", "keywrap.rotate", "--postgresql", 's x.a "b', "--column", "k;", "--id", "i d"]
-        done = subprocess.run(run, capture_output=True, text=True, check=False)
-        assert (done.returncode, "1 keys: 1 rewrapped" in done.stderr) == (0, True), done.stderr
-        assert server.sql('SELECT "k;" FROM "s x"."a ""b" ORDER BY 1') == f"{NEW[10].hex()}\n\n"
-    finally:
-        server.sql('DROP SCHEMA IF EXISTS "s x" CASCADE; DROP SCHEMA IF EXISTS "s .x" CASCADE')
+    for schema, table, column in (("s x", 'a "b', "k;"), ("new", "new", "a%sb"), ("t", "a{key}", "{row}")):
+        names = ['"' + name.replace('"', '""') + '"' for name in (schema, table, column)]
+        server.sql('CREATE SCHEMA {0}; CREATE TABLE {0}.{1} (id text, {2} text);'.format(*names)
+                   + "INSERT INTO {0}.{1} VALUES ('x', '{3}'), ('y', NULL)".format(*names, OLD[10].hex()))
+        done = rotated("--column", column, table=f"{schema}.{table}")
+        assert (done.status, done.counts["rewrapped"]) == (0, 1), done
+        assert server.sql("SELECT {2} FROM {0}.{1} ORDER BY 1".format(*names)) == f"{NEW[10].hex()}\n\n"
 
 
-@pytest.mark.parametrize("words, said", [
-    (["--id", "n"], "the column of --id has a NULL, or the same value twice"),
-    (["--id", "none"], "PostgreSQL failed: UndefinedColumn (42703)"),
-    (["--column", "none"], "PostgreSQL failed: UndefinedColumn (42703)")])  # fmt: skip
-def test_refuses_names(server, words, said):
-    server.sql("ALTER TABLE keys ADD COLUMN n int")
-    status, lines = rotated(*words)
-    assert status in (2, 5) and any(line.endswith(said) for line in lines), lines
+@pytest.mark.parametrize("table, words, said", [
+    ("none", [], '"none" does not exist'), ("keys", ["--column", "none"], "the table 'keys' has no column 'none'"),
+    ("keys", ["--column", "id"], "the column 'id' of the table 'keys' is neither text nor bytea: bigint"),
+    ("keys", ["--column", "ctid"], "the table 'keys' has no column 'ctid'")])  # fmt: skip
+def test_refuses_names(server, table, words, said):
+    for mode in ([], ["--verify"]):
+        done = rotated(*mode, *words, table=table)
+        assert (done.status, said in done.said[0], len(done.said)) == (5, True, 1), done
     assert server.held() == OLD
 
 
-def test_an_unreachable_server_is_no_wrong_kek(server, monkeypatch):
+def test_an_unreachable_server(server, monkeypatch):
+    """The server's words are shown: nobody has read a key."""
     monkeypatch.setenv("PGHOST", "/nonexistent")
-    assert rotated() == (2, ["keywrap.rotate: PostgreSQL failed: OperationalError"])
+    done = rotated()
+    assert (done.status, "No such file or directory" in done.said[0]) == (6, True), done
 
 
 def test_dry_run_and_verify(server):
-    said = "60 keys: 60 old, 0 new, 0 under neither KEK"
-    assert rotated("--dry-run")[1][-1].endswith(said)
-    assert (server.held(), has_queue(server)) == (OLD, False)
-    assert rotated("--verify")[0] == 5
-    server.fill(NEW)
+    before = server.sql("SELECT ctid, xmin, * FROM keys")
+    assert (rotated("--dry-run").status, rotated("--verify").status) == (6, 5)
+    assert server.sql("SELECT ctid, xmin, * FROM keys") == before
+    rotated()
     os.unlink("kek.hex")
-    assert rotated("--verify", "--record", "record")[0] == 0
-    assert rotated("--verify-record", "record")[0] == 0
-    for change in (set_row(30, ADDED), "DELETE FROM keys WHERE id = 30;", f"INSERT INTO keys VALUES (5, '\\x{ADDED.hex()}')",
-                   set_row(30, NEW[40]) + set_row(40, NEW[30])):  # fmt: skip
-        server.fill(NEW)
-        server.sql(change)
-        status, lines = rotated("--verify-record", "record")
-        assert (status, "keywrap.rotate: keys: changed since the record" in lines[0]) == (5, True)
+    assert rotated("--verify") == 0
 
 
-def test_verify_reads_ranges_and_names_rows(server):
-    """A part can be verified by itself, and again. A record has one line for the table."""
-    server.fill(NEW)
-    server.sql(set_row(170, OLD[170]) + set_row(400, b"\0"))
-    status, lines = rotated("--verify")
-    assert (status, sorted(lines[:-1])) == (5, ["keywrap.rotate: keys: rows 150 to 210: row 170: integrity check failed",
-                                                "keywrap.rotate: keys: rows 360 to 420: row 400: integrity check failed"])
-    counts, named = [], []
-    for number in (1, 2, 3):
-        status, lines = rotated("--verify", "--shard", f"{number}/3", rows=7)
-        counts.append(int(lines[-1].split("; ")[1].split(" ")[0]))
-        named += [line.split(": ")[3] for line in lines[:-1]]
-    assert (sum(counts), sorted(named)) == (60, ["row 170", "row 400"])
-    rotated("--verify", "--record", "record")
-    assert [line["unit"] for line in map(json.loads, open("record")) if "unit" in line] == ["keys"]
-
-
-def test_verify_holds_no_snapshot_for_long(server):
-    """Each range has its own: rows that were removed meanwhile can be vacuumed, and the run sees rows that change."""
-    server.fill(NEW)
-    program = """
-import os, subprocess, sys
-from keywrap.rotation import keys, postgresql_queue
-postgresql_queue.ROWS = 7
-check = keys.are_under
-def changes(kek, some):
-    if not os.path.exists("changed"):
-        open("changed", "w").close()
-        subprocess.run(["psql", "-qXc", os.environ["STATEMENT"]], check=True)
-    return check(kek, some)
-keys.are_under = changes
-from keywrap.rotate import main
-sys.exit(main())
-"""
-    run = [sys.executable, "-B", "-c", program, "--jobs", "1", "--verify", "--postgresql", "keys"]
-    done = subprocess.run(run, capture_output=True, env={**os.environ, "STATEMENT": set_row(600, OLD[600])}, check=False)
-    assert (done.returncode, b"row 600: integrity check failed" in done.stderr) == (5, True), done.stderr
-
-
-@pytest.mark.parametrize("words", [["--verify"], ["--dry-run"], ["--all-or-nothing"]])
+@pytest.mark.parametrize("words", [[], ["--verify"], ["--dry-run"]])
 def test_an_empty_table_is_refused(server, words):
     server.sql("DELETE FROM keys")
-    status, lines = rotated(*words)
-    assert (status, lines[0]) == (5, "keywrap.rotate: keys: no rows")
-    if words == ["--verify"]:
-        assert "ranges: 0 done" in rotated("--verify", "--shard", "2/3")[1][-1]
-
-
-def test_a_null_in_the_column_of_the_ids_is_refused_by_verify(server):
-    server.sql("ALTER TABLE keys DROP CONSTRAINT keys_pkey; ALTER TABLE keys ALTER id DROP NOT NULL;"
-               "UPDATE keys SET id = NULL WHERE id = 30")
-    assert rotated("--verify") == (2, ["keywrap.rotate: the column of --id has a NULL, or the same value twice"])
+    assert rotated(*words).has("no key was found") and rotated(*words) == 5
 
 
 def test_names_of_keks_in_a_column(server):
-    other, new = bytes(range(40, 64)), bytes(range(60, 92))
-    for name, kek in (("other.hex", other), ("other-new.hex", new)):
+    other = bytes([7]) * 16
+    for name, kek in (("ada", KEK), ("bob", other), ("ada-new", NEW_KEK), ("bob-new", bytes(32))):
         with open(name, "w") as file:
             file.write(kek.hex())
-    for name, files in (("table", ("kek.hex", "other.hex")), ("new-table", ("new-kek.hex", "other-new.hex"))):
-        with open(name, "w") as file:
-            file.write("".join(f"{owner}={path}\n" for owner, path in zip("ab", files)))
-    server.sql("ALTER TABLE keys ADD COLUMN owner text DEFAULT 'a'; UPDATE keys SET owner = 'b' WHERE id > 300")
-    of_b = rows(other, KEYS)
-    server.sql("".join(set_row(number, of_b[number]) for number in of_b if number > 300))
-    tables = ["--keks", "table", "--new-keks", "new-table", "--kek-name", "owner"]
-    with open("wrong", "w") as file:
-        file.write("a=other.hex\nb=kek.hex\n")
-    held = server.held()
-    status, lines = rotated("--keks", "wrong", *tables[2:])
-    assert (status, server.held(), has_queue(server)) == (2, held, False), lines
-    assert rotated(*tables)[0] == 0
-    new_of_b = rows(new, KEYS)
-    assert server.held() == {number: (new_of_b if number > 300 else NEW)[number] for number in NEW}
-    assert rotated("--verify", *tables[2:])[0] == 0
-
-
-def test_a_rate_and_text_with_prefixes(server):
-    server.fill(OLD, "text")
-    server.sql("UPDATE keys SET key = 'v3.' || rtrim(translate(encode(decode(key, 'hex'), 'base64'), E'\\n', ''))")
-    began = time.monotonic()
-    words = ["--base64", "--prefix-format", "v{version}.", "--new-version", "4", "--rate", "60"]
-    assert rotated(*words)[0] == 0
-    assert time.monotonic() - began > 0.9
-    assert server.held("CASE WHEN key LIKE 'v4.%' THEN encode(decode(substr(key, 4), 'base64'), 'hex') END") == NEW
-
-
-# Replicas.
-
-
-@pytest.fixture
-def replica(server):
-    started = Server(server)
-    yield started
-    started.end()
-
-
-def test_waits_while_a_replica_is_behind(server, replica, monkeypatch):
-    """The test stops the replay of the log in the replica, and makes a lag of 3 MB."""
-    replica.sql("SELECT pg_wal_replay_pause()")
-    server.sql("SELECT pg_logical_emit_message(false, '', repeat('x', 3000000))")
-    running = subprocess.Popen(command("--max-lag", "2", "--timeout", "5"), stderr=subprocess.PIPE)
-    until = time.monotonic() + 60
-    while not has_queue(server):
-        assert time.monotonic() < until
-        time.sleep(0.1)
-    time.sleep(7)  # Who waits is not given up.
-    assert (running.poll(), server.held()) == (None, OLD)
-    replica.sql("SELECT pg_wal_replay_resume()")
-    resumed = time.monotonic()
-    while server.held() == OLD:
-        assert time.monotonic() < resumed + 60
-        time.sleep(0.02)
-    print(f"the first keys are new {time.monotonic() - resumed:.1f} s after the replica goes on")
-    lines = running.communicate(timeout=120)[1].decode().splitlines()
-    assert (running.returncode, server.held()) == (0, NEW), lines
-    replica.sql("SELECT pg_wal_replay_pause()")
-    server.fill(OLD)
-    assert rotated("--max-lag", "100")[0] == 0
-    replica.sql("SELECT pg_wal_replay_resume()")
-
-
-def test_a_lag_that_cannot_be_seen_is_refused(server):
-    status, lines = rotated("--max-lag", "2")
-    assert (status, lines) == (2, ["keywrap.rotate: --max-lag: the server has no replica, or does not show it to this role "
-                                   "(pg_monitor)"])
-    assert (server.held(), has_queue(server)) == (OLD, False)
+    for table, ending in (("old", ""), ("new", "-new")):
+        with open(table, "w") as file:
+            file.write(f"ada=ada{ending}\nbob=bob{ending}\n")
+    server.sql("ALTER TABLE keys ADD COLUMN who varchar(9) DEFAULT 'ada'; UPDATE keys SET who = 'bob' WHERE id > 300;"
+               + "".join(set_row(number, key) for number, key in rows(other, KEYS).items() if number > 300))
+    words = ["--kek-name", "who", "--keks", "old", "--new-keks", "new"]
+    done = rotated(*words)
+    assert (done.status, done.said[:2]) == (0, ["keywrap.rotate: 30 keys were under ada", "keywrap.rotate: 30 keys were under bob"])
+    assert server.held() == {number: (NEW if number <= 300 else rows(bytes(32), KEYS))[number] for number in NEW}
+    server.sql("UPDATE keys SET who = NULL WHERE id = 10")
+    assert rotated(*words).has("it has no name of a KEK")
 
 
 def test_refused_rows_are_named_and_the_others_rotated(server):
     foreign = wrapped_under(bytes(16), KEYS[3])
     server.sql(set_row(170, foreign) + set_row(400, b"\0") + "UPDATE keys SET key = NULL WHERE id = 410;")
     for _ in range(2):
-        status, lines = rotated()
-        assert status == 5
-        assert sorted(line.rsplit(": ", 2)[1:] for line in lines if ": row " in line) == [
-            ["row 170", "integrity check failed"], ["row 400", "bad length"]]  # fmt: skip
-        assert has_queue(server)
+        done = rotated()
+        assert done == 5
+        reasons = sorted(line.rsplit(": ", 1)[1] for line in done.said if ": row (" in line)
+        assert reasons == ["bad length", "under no KEK of this rotation"] or len(reasons) == 4
         held = server.held("coalesce(encode(key, 'hex'), '')")
         assert held == {**NEW, 170: foreign, 400: b"\0", 410: b""}
     server.sql(set_row(170, OLD[170]) + set_row(400, NEW[400]))
-    assert rotated()[0] == 0
-    assert (server.held("coalesce(encode(key, 'hex'), '')"), has_queue(server)) == ({**NEW, 410: b""}, False)
-
-
-def test_all_or_nothing(server):
-    server.sql(set_row(170, b"\0" * 40))
-    before = server.held()
-    status, lines = rotated("--all-or-nothing")
-    assert (status, lines[0]) == (5, "keywrap.rotate: keys: row 170: integrity check failed")
-    assert (server.held(), has_queue(server)) == (before, False)
+    assert rotated() == 0
 
 
 def test_a_value_that_is_too_long_is_not_fetched(server):
     server.sql("UPDATE keys SET key = decode(repeat('00', 3000000), 'hex') WHERE id = 30")
-    status, lines = rotated()
-    assert (status, lines[0].rsplit(": ", 2)[1:]) == (5, ["row 30", "longer than any wrapped key"])
+    assert rotated().has("longer than any key")
 
 
-# KEKs.
-
-
-@pytest.mark.parametrize("which", ["kek", "new-kek"])
-def test_other_keks_than_those_of_the_queue_are_refused(server, keks, which):
-    server.sql(set_row(170, b"\0" * 40))
-    rotated()
-    held = server.held()
-    (keks / f"{which}.hex").write_text("00" * 16)
-    status, lines = rotated()
-    assert (status, "the rotation of this table began with other KEKs" in lines[0]) == (2, True)
-    assert server.held() == held
-
-
-def test_a_kek_that_changes_meanwhile(server, keks):
-    """No row is under a third KEK. Each process waits in one of its first ranges until the KEK has changed."""
+def test_keks_that_change_meanwhile(server, keks):
+    """No row is under a third KEK."""
     server.fill(rows(KEK, MANY))
-    program = ONE_BY_ONE + """
-import os, time
-calls = iter(range(10000))
-def act(text):
-    waits = next(calls) > 30
-    while waits and not os.path.exists("go"):
-        time.sleep(0.01)
-_many.rewrap_slots = before_each_key(act)
-""" + SMALL.format(rows=7)
-    run = [sys.executable, "-B", "-c", program, "--jobs", "2", "--postgresql", "keys"]
-    running = subprocess.Popen(run, stderr=subprocess.PIPE)
+    program = (*SLOWLY[:-1], "from keywrap.rotation import postgresql, rows; postgresql.BLOCKS = 1" + SLOWLY[-1])
+    running = subprocess.Popen([*program, "--jobs", "2", "--postgresql", "keys"], stderr=subprocess.PIPE,
+                               env={**os.environ, "SLOW": "0.003"})  # fmt: skip
     until = time.monotonic() + 60
     while server.held() == rows(KEK, MANY):
         assert time.monotonic() < until
         time.sleep(0.05)
     (keks / "other").write_text("33" * 16)
     os.rename("other", "new-kek.hex")
-    open("go", "w").close()
-    lines = running.communicate(timeout=240)[1].decode().splitlines()
-    assert (running.returncode, len(lines)) == (3, 2), lines
-    new, old = rows(NEW_KEK, MANY), rows(KEK, MANY)
-    held = server.held()
+    said = running.communicate(timeout=240)[1].decode()
+    assert (running.returncode, "not those that the rotation began with" in said) == (3, True), said
+    new, old, held = rows(NEW_KEK, MANY), rows(KEK, MANY), server.held()
     assert all(held[at] in (new[at], old[at]) for at in old) and held != old
     (keks / "new-kek.hex").write_text(NEW_KEK.hex())
-    assert rotated(rows=1000)[0] == 0
-    assert server.held() == new
+    assert rotated() == 0 and server.held() == new
 
 
-# A hostile database.
+# What hides or changes rows.
 
 
-@pytest.mark.parametrize("column", ["first", "last", "tries", "refused", "comment", "everything"])
-def test_the_database_cannot_run_a_command_or_get_a_kek(server, keks, column):
-    """Whoever can replace the queue or the rows gets nothing: values are parameters."""
-    server.sql(set_row(170, b"\0" * 40))
-    rotated()
-    evil = "0)); \\! touch done\n'; DROP TABLE keys; COPY keys TO PROGRAM 'touch done' --"
-    values = {"first": "'10'", "last": "'90'", "tries": "'0'", "refused": "NULL"}
-    values.update({name: "$e$" + evil + "$e$" for name in values if column in (name, "everything")})
-    comment = server.sql("SELECT obj_description('keys_rotation'::regclass)").strip()
-    comment = evil if column in ("comment", "everything") else comment
-    server.sql("DROP TABLE keys_rotation; CREATE TABLE keys_rotation (first text, last text, tries text, refused text);"
-               f"INSERT INTO keys_rotation VALUES ({values['first']}, {values['last']}, {values['tries']}, "
-               f"{values['refused']}); COMMENT ON TABLE keys_rotation IS $e${comment}$e$;")  # fmt: skip
-    status, lines = rotated("--timeout", "1")
-    assert status in (0, 2, 5, 6), lines
-    assert not os.path.exists("done") and not (server.directory / "data/done").exists()
-    assert server.sql("SELECT count(*) FROM keys") == "60\n"
-    held = server.held()
-    assert all(held[at] in (OLD[at], NEW[at]) for at in OLD if at != 170)
+def test_row_level_security_is_an_error(server, monkeypatch):
+    server.sql("""CREATE ROLE app LOGIN; GRANT ALL ON keys TO app; ALTER TABLE keys ENABLE ROW LEVEL SECURITY;
+        CREATE POLICY p ON keys TO app USING (id <= 100)""")
+    try:
+        monkeypatch.setenv("PGUSER", "app")
+        for words in ([], ["--verify"]):
+            done = rotated(*words)
+            assert (done.status, done.has("row-level security")) == (5, True), done
+    finally:
+        server.sql("DROP TABLE keys; DROP ROLE app")
+
+
+def test_options_of_libpq_hold(server, monkeypatch):
+    server.sql("DROP SCHEMA IF EXISTS other CASCADE; CREATE SCHEMA other; CREATE TABLE other.keys AS SELECT * FROM keys LIMIT 7")
+    monkeypatch.setenv("PGOPTIONS", "-c search_path=other")
+    done = rotated()
+    assert (done.status, done.counts["keys"]) == (0, 7)
+    monkeypatch.undo()
+    assert server.held() == OLD
 
 
 def test_text_that_is_no_key_is_in_no_message(server):
     server.fill(OLD, "text")
     server.sql("UPDATE keys SET key = 'my plain master key \x1b[2J' WHERE id = 30")
-    status, lines = rotated("--report", "report")
-    assert (status, lines[0].rsplit(": ", 2)[1:]) == (5, ["row 30", "not in the notation of the store"])
-    assert "master" not in open("report").read() + "".join(lines)
+    done = rotated("--report", "report")
+    assert (done.status, done.has("not in the notation of the store")) == (5, True)
+    assert "master" not in open("report").read() + "".join(done.said)
 
 
-def test_a_trigger_that_changes_what_is_written(server):
-    server.sql("""CREATE FUNCTION t() RETURNS trigger LANGUAGE plpgsql AS $$ BEGIN NEW.key = '\\x00'; RETURN NEW; END $$;
-        CREATE TRIGGER t BEFORE UPDATE ON keys FOR EACH ROW EXECUTE FUNCTION t()""")
+@pytest.mark.parametrize("body, status", [("NEW.key = '\\x00'; RETURN NEW;", 5), ("RETURN NULL;", 6)])
+def test_a_trigger_that_changes_what_is_written(server, body, status):
+    server.sql(f"""CREATE FUNCTION t() RETURNS trigger LANGUAGE plpgsql AS $$ BEGIN {body} END $$;
+        CREATE TRIGGER t BEFORE UPDATE ON keys FOR EACH ROW WHEN (OLD.id = 70) EXECUTE FUNCTION t()""")
     try:
-        status, lines = rotated()
-        assert (status, "the table does not contain what was written" in lines[0]) == (5, True)
-        assert server.held() == OLD
+        assert rotated() == status
+        assert {number for number, key in server.held().items() if key != NEW[number]} == {70}
     finally:
         server.sql("DROP FUNCTION t CASCADE")
 
 
 @pytest.mark.parametrize("level", ["repeatable read", "serializable"])
-def test_the_isolation_of_the_role_does_not_matter(server, monkeypatch, level):
+def test_two_runs_in_any_isolation(server, monkeypatch, level):
     monkeypatch.setenv("PGOPTIONS", f"-c default_transaction_isolation={level.replace(' ', chr(92) + ' ')}")
-    running = [subprocess.Popen(command("--jobs", "2"), stderr=subprocess.PIPE) for _ in range(2)]
+    running = [subprocess.Popen([*SMALL, "--jobs", "2", "--postgresql", "keys"], stderr=subprocess.PIPE) for _ in range(2)]
     ends = [(process.communicate(timeout=240)[1].decode(), process.returncode) for process in running]
-    assert [status for _, status in ends] == [0, 0], ends
-    assert server.held() == NEW
+    assert all(status in (0, 6) for _, status in ends), ends
+    assert rotated() == 0 and server.held() == NEW
+
+
+def test_two_columns_at_once(server):
+    server.sql("ALTER TABLE keys ADD COLUMN key2 bytea; UPDATE keys SET key2 = key")
+    running = [subprocess.Popen([*SMALL, "--postgresql", "keys", "--column", column], stderr=subprocess.PIPE)
+               for column in ("key", "key2")]  # fmt: skip
+    ends = [(process.communicate(timeout=240)[1].decode(), process.returncode) for process in running]
+    assert all(status in (0, 6) for _, status in ends), ends
+    for column in ("key", "key2"):
+        assert rotated("--column", column) == 0
+        assert server.held(f"encode({column}, 'hex')") == NEW
 
 
 # Writers.
-
-
-def rotated_beside(statement, *words):
-    """The statuses of a run, and of another process that executes the statement before the third key."""
-    program = ONE_BY_ONE + """
-import os, subprocess
-calls = iter(range(1, 1000))
-def act(text):
-    if next(calls) == 3:
-        status = subprocess.run(["psql", "-qXc", os.environ["STATEMENT"]]).returncode
-        open("status", "w").write(str(status))
-_many.rewrap_slots = before_each_key(act)
-from keywrap.rotate import main
-sys.exit(main())
-"""
-    run = [sys.executable, "-B", "-c", program, "--jobs", "1", "--postgresql", "keys", *words]
-    environment = {**os.environ, "STATEMENT": f"SET lock_timeout = '1ms'; {statement}"}
-    status = subprocess.run(run, check=False, env=environment).returncode
-    with open("status", encoding="ascii") as file:
-        return status, int(file.read())
 
 
 @pytest.mark.parametrize("statement, changed", [
@@ -435,59 +301,50 @@ sys.exit(main())
     ids=["changed", "added", "removed"])  # fmt: skip
 def test_a_row_that_changes_meanwhile_is_kept(server, statement, changed):
     """No lock is held while keys are rewrapped: the other process does not wait."""
-    assert rotated_beside(statement) == (0, 0)
-    assert server.held() == changed
-    assert rotated("--verify")[0] == 0
+    program = (*SLOWLY[:-1], SLOWLY[-1].replace("time.sleep(float(os.environ.get(\"SLOW\", \"0.01\")))", """(
+        next(calls) == 3 and subprocess.run(["psql", "-qXc", os.environ["STATEMENT"]], check=True))""").replace(
+        "import os, sys, time", "import itertools, os, subprocess, sys, time\ncalls = itertools.count()"))  # fmt: skip
+    done = rotate("--jobs", "1", "--postgresql", "keys", program=program,
+                  env={**os.environ, "STATEMENT": f"SET lock_timeout = '1ms'; {statement}"})  # fmt: skip
+    assert (done.status, server.held()) == (0, changed), done
+    assert rotated("--verify") == 0
 
 
-def test_a_whole_table_is_locked(server):
-    """With --all-or-nothing the other process waits, and reads do not."""
-    assert rotated_beside(set_row(20, ADDED), "--all-or-nothing") == (0, 1)
-    assert server.held() == NEW
-    server.fill(OLD)
-    assert rotated_beside("SELECT * FROM keys", "--all-or-nothing") == (0, 0)
+@pytest.mark.parametrize("statement", ["SELECT FROM keys WHERE id IN (50, 330) FOR UPDATE", "UPDATE keys SET id = id WHERE id = 50"])
+def test_a_row_that_another_process_has_locked(server, statement):
+    """It is never waited for: status 6, and all others are new."""
+    with holding(server, statement):
+        assert rotated() == 6
+        assert {number for number, key in server.held().items() if key != NEW[number]} <= {50, 330}
+    assert rotated() == 0 and server.held() == NEW
 
 
-def test_a_row_that_another_process_has_locked_is_rotated_later(server):
-    with holding(server, "SELECT FROM keys WHERE id IN (50, 330) FOR UPDATE"):
-        running = subprocess.Popen(command(), stderr=subprocess.PIPE)
-        expected = {**NEW, 50: OLD[50], 330: OLD[330]}
-        until = time.monotonic() + 60
-        while server.held() != expected:
-            assert time.monotonic() < until
-            time.sleep(0.1)
-        assert running.poll() is None
-    assert running.wait(timeout=60) == 0
-    assert server.held() == NEW
+def test_a_table_that_another_process_has_locked(server, monkeypatch):
+    program = (*SMALL[:-1], SMALL[-1].replace("postgresql.BLOCKS = 1", 'postgresql.BLOCKS, postgresql.LOCK = 1, "1s"'))
+    with holding(server, "LOCK TABLE keys"):
+        done = rotated(program=program)
+        assert (done.status, done.has("lock timeout (55P03)")) == (6, True), done
+    assert rotated() == 0
 
 
-def test_a_range_that_another_run_keeps_is_unanswered(server):
-    server.sql(set_row(170, b"\0" * 40))
+def test_verify_on_a_replica(server):
     rotated()
-    server.sql("UPDATE keys_rotation SET refused = NULL")
-    with holding(server, "SELECT FROM keys_rotation FOR UPDATE"):
-        status, lines = rotated("--timeout", "1")
-    assert (status, lines[0]) == (6, "keywrap.rotate: keys: rows 170 to 170: unanswered: another run has had it for 1 seconds")
-
-
-def test_rows_that_another_run_refused_are_named(server):
-    """A status of 0 means that all is new, whoever met the refused row."""
-    with holding(server, "SELECT FROM keys WHERE id = 50 FOR UPDATE"):
-        running = subprocess.Popen(command(), stderr=subprocess.PIPE)
+    replica = Server(primary=server)
+    try:
         until = time.monotonic() + 60
-        while server.held() != {**NEW, 50: OLD[50]}:
+        while replica.held() != NEW:
             assert time.monotonic() < until
-            time.sleep(0.1)
-        server.sql("INSERT INTO keys_rotation VALUES (170, 170, 0, 'another');" + set_row(170, b"\0" * 40))
-    lines = running.communicate(timeout=60)[1].decode().splitlines()
-    assert running.returncode == 5, lines
-    assert "keywrap.rotate: keys: rows 170 to 170: row 170: integrity check failed" in lines
+            time.sleep(0.2)
+        done = rotate("--postgresql", "keys", "--verify", program=SMALL, env={**os.environ, **replica.environment})
+        assert (done.status, done.counts["keys"]) == (0, 60), done
+    finally:
+        replica.end()
 
 
 @pytest.mark.parametrize("kills", [pytest.param(0, marks=slow), 3])
 def test_beside_a_live_writer(server, kills):
-    """Three runs, killed with all that they started, and begun again. Every row is its old key, rewrapped, or what the
-    writer last got acknowledged."""
+    """Two runs, killed with all that they started, and begun again; backends are ended, too. Every row is its old key,
+    rewrapped, or what the writer last got acknowledged."""
     server.fill(rows(KEK, MANY))
     acknowledged, stopped = {}, threading.Event()
 
@@ -507,10 +364,13 @@ def test_beside_a_live_writer(server, kills):
     writer.start()
     try:
         for kill in range(kills + 1):
-            runs = [subprocess.Popen(command("--jobs", "2", rows=50), start_new_session=True, stderr=subprocess.PIPE)
-                    for _ in range(3)]  # fmt: skip
+            runs = [subprocess.Popen([*SMALL, "--jobs", "2", "--postgresql", "keys"], start_new_session=True,
+                                     stderr=subprocess.PIPE) for _ in range(2)]  # fmt: skip
             if kill < kills:
                 time.sleep(0.4 + 0.2 * kill)
+                if kill == 1:
+                    server.sql("SELECT pg_terminate_backend(pid) FROM pg_stat_activity "
+                               "WHERE query LIKE '%FETCH%' AND pid <> pg_backend_pid()")
                 for run in runs:
                     with contextlib.suppress(ProcessLookupError):
                         os.killpg(run.pid, signal.SIGKILL)
@@ -518,7 +378,7 @@ def test_beside_a_live_writer(server, kills):
     finally:
         stopped.set()
         writer.join(timeout=240)
-    assert [status for _, status in ends] == [0] * 3, ends
-    assert rotated("--verify")[0] == 0
+    assert all(status in (0, 6) for _, status in ends), ends
+    assert rotated() == 0 and rotated("--verify") == 0
     assert acknowledged
     assert server.held() == {**rows(NEW_KEK, MANY), **acknowledged}

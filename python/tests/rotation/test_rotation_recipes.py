@@ -1,5 +1,5 @@
-"""The recipes of docs/RECIPES.md that call keywrap.rotate, as they are, and the example for a Secret: what happens
-to a refused key, and to a store that somebody else writes meanwhile."""
+"""The lines of docs/ROTATION.md, as they are, and the example for a Secret: what happens to a refused key, and to a store
+that somebody else writes meanwhile."""
 
 import base64
 import json
@@ -17,10 +17,10 @@ pytest.importorskip("cryptography", reason="no cryptography (apt-get install pyt
 
 from postgresql_server import Server, server_programs  # noqa: E402
 from rotation_help import KEK, NEW_KEK, left_over, make_keys, set_keks, wrapped_under  # noqa: E402
-from slurm_server import DAEMONS, Slurm  # noqa: E402
 
 ROOT = pathlib.Path(__file__).resolve().parents[3]
-SECTIONS = (ROOT / "docs/RECIPES.md").read_text(encoding="utf-8").split("\n## ")[1:]
+PAGE = (ROOT / "docs/ROTATION.md").read_text(encoding="utf-8")
+SECTIONS = PAGE.split("\n## ")
 PROGRAM = os.environ.get("KEYWRAP") or str(ROOT / "crates/keywrap/out/keywrap")
 
 
@@ -45,7 +45,6 @@ STORE = "mkdir store; for n in 1 2; do wrapped 32000 %s > store/$n.hex; done\n"
 STORES_OF_RECIPES = {
     "Rotate files": STORE % "" + """
 wrapped 3200 | sed '1i key' > keys.csv
-wrapped 3200 | sed 's/.*/{"owner": "someone", "key": "&"}/' > keys.jsonl
 """,
     "Rotate a table": """
 wrapped 32000 | sed "s/.*/INSERT INTO keys (key) VALUES (x'&');/
@@ -58,7 +57,8 @@ wrapped 32000 | awk '{ print 1000 + NR "\\t\\\\\\\\x" $0 }' | psql -qc '\\copy k
 mkdir bucket; for name in a 'c d'; do wrapped 32 > "bucket/$name"; done; ls bucket > manifest
 """,
     "Verify before the KEK dies": STORE % "new-kek.hex" + "rm kek.hex\n",
-    "Rotate in parts": "mkdir store; for n in {1..40}; do wrapped 3200 > store/$n; done; wrapped 128000 > large\n",
+    "Rotate on several machines": "mkdir store; for n in {1..40}; do wrapped 3200 > store/$n; done\n",
+    "# Rotate a KEK": "rm kek.hex new-kek.hex\n",
     "Rotate many KEKs": r"""
 mkdir keks
 for name in ada bob; do
@@ -85,12 +85,12 @@ esac
 
 def recipes():
     """The name, the typed lines and the output of each such recipe."""
-    for section in SECTIONS:
+    for section in (re.sub("```.*?```", "", section, flags=re.S) for section in SECTIONS):
         lines = [line.strip() if line.startswith("       ") else line[4:] for line in section.splitlines()
                  if line.startswith("    ")]
         typed = "\n".join(line[2:] for line in lines if line.startswith(("$ ", "> ")))
         if "-m keywrap." in typed:
-            answer = [line for line in lines if not line.startswith(("$ ", "> "))]
+            answer = [line.strip() for line in lines if not line.startswith(("$ ", "> "))]
             name = section.splitlines()[0]
             yield pytest.param(KEKS + STORES_OF_RECIPES[name] + typed, "\n".join(answer), id=name)
 
@@ -119,15 +119,7 @@ def test_recipe(request, typed, answer, tmp_path, environment):
     environment.pop("KEYWRAP_KEK", None)
     done = subprocess.run(["bash", "-u", script], cwd=tmp_path / "here", env=environment, stdout=subprocess.PIPE,
                           stderr=subprocess.STDOUT, stdin=subprocess.DEVNULL, check=False, text=True)
-    lines, due = ([counted_at_once(line.strip()) for line in text.splitlines()] for text in (done.stdout, answer))
-    assert (done.returncode, lines) == (0, due)
-
-
-def counted_at_once(line):
-    """Of the ten runs that each make a part of a file, two may find all parts at once. One of them replaces the file,
-    and the other one counts its keys as new before."""
-    return re.sub(r"(?<=keywrap.rotate: units: 10 done, )(.*; \d+ keys: )(\d+) rewrapped, (\d+) new before",
-                  lambda found: f"{found[1]}{int(found[2]) + int(found[3])} new", line)  # fmt: skip
+    assert (done.returncode, [line.strip() for line in done.stdout.splitlines()]) == (0, answer.split("\n"))
 
 
 # A test double of Slurm's sbatch: it runs the line for each task.
@@ -135,57 +127,45 @@ SBATCH = r"""#!/bin/bash
 [ "$2" = --wrap ] && [[ $1 =~ ^--array=1-([0-9]+)$ ]] || exit
 for SLURM_ARRAY_TASK_ID in $(seq "${BASH_REMATCH[1]}"); do export SLURM_ARRAY_TASK_ID; sh -c "$3" || exit; done
 """
-# The variables that a scheduler sets for the ten tasks of an array.
-TASKS = {"GNU parallel": None, "Slurm": None, "AWS Batch": "AWS_BATCH_JOB_ARRAY_INDEX=%d",
-         "Kubernetes": "JOB_COMPLETION_INDEX=%d", "Airflow": "I=%d"}  # fmt: skip
+def several_machines():
+    return next(section for section in SECTIONS if section.startswith("Rotate on several machines\n"))
 
 
-def line_of(scheduler):
-    """Its line in the recipe."""
-    (section,) = (section for section in SECTIONS if section.startswith("Rotate in parts\n"))
-    lines = dict(re.findall(r"^# ([\w ]+).*\n(.*)$", section.split("```sh\n")[1].split("```")[0], re.M))
-    assert lines.keys() == TASKS.keys()
-    return lines[scheduler]
+# Each scheduler with the variable that it sets for a task, and the number of its first task.
+SLURM = re.search("(?m)^# Slurm\n(.*)$", several_machines())[1]
+KUBERNETES = re.search(r"command: \[sh, -c, '(.*)'\]", several_machines())[1]
 
 
-def rotated_by(line, environment, directory):
-    """Runs a line that rotates all parts. Then merges their reports, and verifies the store."""
-    prepare = KEKS + STORES_OF_RECIPES["Rotate in parts"] + "export KEYWRAP_KEK=kek.hex KEYWRAP_NEW_KEK=new-kek.hex\n"
-    merge = "python3 -m keywrap.rotate --merge report.*\npython3 -m keywrap.rotate --verify store\n"
-    done = subprocess.run(["bash", "-c", f"set -e\n{prepare}{line}\n{merge}"], cwd=directory, env=environment,
-                          stdin=subprocess.DEVNULL, capture_output=True, text=True, check=False)  # fmt: skip
-    assert done.returncode == 0, done.stderr
-    assert "units: 40 done, 0 refused" in done.stderr and "4000 under the new KEK, 0 not" in done.stderr
-
-
-@pytest.mark.parametrize("scheduler", TASKS)
-def test_line_of_an_array_of_jobs(scheduler, tmp_path, environment):
-    if scheduler == "GNU parallel" and shutil.which("parallel") is None:
-        pytest.skip("no parallel (apt-get install parallel)")
+@pytest.mark.parametrize("line", [
+    SLURM, f"for JOB_COMPLETION_INDEX in {{0..9}}; do export JOB_COMPLETION_INDEX; ({KUBERNETES}) || exit; done"],
+    ids=["Slurm", "Kubernetes"])  # fmt: skip
+def test_line_of_an_array_of_jobs(line, tmp_path, environment):
     (tmp_path / "bin/sbatch").write_text(SBATCH)
     (tmp_path / "bin/sbatch").chmod(0o755)
-    line = line_of(scheduler)
-    if TASKS[scheduler] is not None:
-        first = 1 if scheduler == "Airflow" else 0
-        of_task = "export " + TASKS[scheduler].replace("%d", "$task")
-        line = f"for task in $(seq {first} {first + 9}); do {of_task}; {line} || exit; done"
-    rotated_by(line, environment, tmp_path / "here")
+    prepare = KEKS + STORES_OF_RECIPES["Rotate on several machines"]
+    line = line.replace("/store", "store")
+    script = f"set -e\n{prepare}export KEYWRAP_KEK=kek.hex KEYWRAP_NEW_KEK=new-kek.hex\n{line}\n"
+    script += "python3 -m keywrap.rotate --verify store\n"
+    done = subprocess.run(["bash", "-c", script], cwd=tmp_path / "here", env=environment, stdin=subprocess.DEVNULL,
+                          capture_output=True, text=True, check=False)  # fmt: skip
+    assert done.returncode == 0, done.stderr
+    assert "4000 keys: 4000 new, 0 refused" in done.stderr.splitlines()[-1]
 
 
-@pytest.mark.skipif(os.geteuid() != 0, reason="not root")
-def test_line_over_slurm(tmp_path, environment):
-    """Slurm itself, on this machine."""
-    if not all(map(shutil.which, (*DAEMONS, "sbatch"))):
-        pytest.skip("no slurmctld and slurmd (apt-get install slurmctld slurmd slurm-client)")
-    try:
-        slurm = Slurm()
-    except RuntimeError as error:
-        pytest.skip(str(error))
-    try:
-        line = line_of("Slurm").replace("sbatch ", "sbatch --wait ")
-        rotated_by(line, {**environment, **slurm.environment}, tmp_path / "here")
-    finally:
-        slurm.end()
+def test_the_job_and_the_container_file():
+    yaml = pytest.importorskip("yaml", reason="no yaml (apt-get install python3-yaml)")
+    job = yaml.safe_load(several_machines().split("```yaml\n")[1].split("```")[0])
+    spec = job["spec"]["template"]["spec"]
+    (container,) = spec["containers"]
+    assert (job["kind"], job["spec"]["completionMode"], job["spec"]["completions"]) == ("Job", "Indexed", 10)
+    assert {mount["name"] for mount in container["volumeMounts"]} == {volume["name"] for volume in spec["volumes"]}
+    mounted = tuple(mount["mountPath"] for mount in container["volumeMounts"])
+    assert all(variable["value"].startswith(mounted) for variable in container["env"])
+    assert "/10 /store" in container["command"][-1]
+
+
+def test_the_page_is_short():
+    assert len(PAGE.split()) <= 1700
 
 
 def test_there_are_recipes():
@@ -263,7 +243,7 @@ def test_a_refused_member_is_named(file):
     file.write_bytes(in_secret([*under(KEK)[:3], bytes(40), *under(KEK)[4:]]))
     before = file.read_bytes()
     done = run(file)
-    assert (done.returncode, b"Refused: key-6: integrity check failed" in done.stderr) == (1, True)
+    assert (done.returncode, b"file: key-6: under no KEK of this rotation" in done.stderr) == (1, True)
     assert file.read_bytes() == before
 
 

@@ -14,12 +14,10 @@ import time
 
 import pytest
 
-from rotation_digests import blake2bp
-
-from keywrap.rotation import digests, replacing
-from keywrap.rotation.keys import Changed, Refused, Unsynced
-from keywrap.rotation.paths import Paths
-from keywrap.rotation.replacing import is_temporary, replace
+from keywrap.rotation import replacing, signs
+from keywrap.rotation.found import Changed, Refused, Unanswered, Unsynced
+from keywrap.rotation.listing import Listing, Names
+from keywrap.rotation.replacing import base_of, replace
 
 OLD, NEW, OTHER, THIRD = b"old\n", b"new\n", b"written by another program\n", b"and by a third\n"
 
@@ -90,25 +88,28 @@ def test_does_not_replace_a_link(file, tmp_path):
     assert file.read_bytes() == OLD
 
 
-@pytest.mark.parametrize("content", [b"", b"one\n", b"one\ntwo\nthre", b"one\ntwo\nthree\n", b"one\ntwo\nthree\n\n",
-                                     b"One\ntwo\nthree\n", b"one\ntwo\nthref\n", b"one\ntwo\nthree\0"])  # fmt: skip
+@pytest.mark.parametrize("content", [b"", b"one\n", b"one\ntwo\nthre", b"one\ntwo\nthree\n\n", b"One\ntwo\nthree\n",
+                                     b"one\ntwo\nthref\n", b"one\ntwo\nthree\0"])  # fmt: skip
 def test_what_was_read_is_compared_to_its_end(file, content):
     file.write_bytes(content)
-    read = read_as(b"one\n", b"two\n", b"three\n")
-    with open(file, "rb") as opened:
-        assert read.is_in(opened.fileno()) == (content == b"one\ntwo\nthree\n")
+    with pytest.raises(Refused, match="read it again"):
+        replace(str(file), NEW, old_bytes=b"one\ntwo\nthree\n")
+    assert contents(file.parent) == [content]
 
 
 @pytest.mark.parametrize("content, is_same", [(b"one\ntwo\nmore", True), (b"one\ntw0\nmore", False), (b"one\n", False)])
-def test_what_was_read_is_compared_when_it_is_read_again(file, content, is_same):
+def test_the_begin_of_a_file_is_compared_when_it_is_copied(file, content, is_same):
     file.write_bytes(content)
-    with open(file, "rb") as opened:
-        again = read_as(b"one\n", b"two\n").again(opened.fileno())
-        if is_same:
-            assert b"".join(again) == b"one\ntwo\n"
-        else:
-            with pytest.raises(Changed):
-                list(again)
+    with replacing.opened(os.fsencode(file)) as (old, before):
+        successor = replacing.Successor(os.fsencode(file), before)
+        try:
+            successor.copy(old, 8, digest(b"one\ntwo\n"))
+            assert is_same and sorted(contents(file.parent)) == sorted([content, b"one\ntwo\n"])
+        except Changed:
+            assert not is_same
+        finally:
+            successor.close()
+    assert contents(file.parent) == [content]
 
 
 # Writers at the worst moment.
@@ -118,14 +119,14 @@ def test_what_was_read_is_compared_when_it_is_read_again(file, content, is_same)
 @pytest.mark.parametrize("tick", [False, True], ids=["later", "in the same tick of the clock"])
 def test_a_write_right_before_the_exchange_is_put_back(file, at_exchange, monkeypatch, write, tick):
     if tick:
-        monkeypatch.setattr(replacing, "_identity", lambda status: (status.st_ino,))
+        monkeypatch.setattr(replacing, "identity", lambda status: str(status.st_ino))
     at_exchange(before=lambda: write(file, OTHER))
     with pytest.raises(Refused, match="read it again"):
         replace(str(file), NEW, old_bytes=OLD)
     assert contents(file.parent) == [OTHER]
 
 
-@pytest.mark.parametrize("old", [OLD, bytes(3 * digests.BLOCK) + OLD], ids=["short", "in its last block"])
+@pytest.mark.parametrize("old", [OLD, bytes(3 * replacing.BLOCK) + OLD], ids=["short", "in its last block"])
 def test_a_write_of_the_same_length_and_time_is_put_back(file, at_exchange, old):
     def write():
         status = file.stat()
@@ -170,7 +171,7 @@ def test_a_locked_file_is_waited_for(file, monkeypatch):
     monkeypatch.setattr(replacing, "LOCK_SECONDS", 0.1)
     with open(file, "rb") as other:
         fcntl.flock(other, fcntl.LOCK_EX)
-        with pytest.raises(Refused, match="another program has locked it"):
+        with pytest.raises(Unanswered, match="another program has locked it"):
             replace(str(file), NEW, old_bytes=OLD)
     replace(str(file), NEW, old_bytes=OLD)
 
@@ -195,21 +196,13 @@ def test_a_disk_that_cannot_sync_the_directory(file, monkeypatch):
 NAME = ".rotating.0123abcd.{}.{}.file"
 
 
-def digest(content, algorithm="blake2b"):
-    return (blake2bp if algorithm == "blake2bp" else hashlib.blake2b)(content).hexdigest()[:24]
+def digest(content):
+    return hashlib.blake2b(content).hexdigest()[:24]
 
 
-def read_as(*parts):
-    """What a run has read of a file."""
-    read = replacing.Content()
-    for part in parts:
-        read.add(part)
-    return read
-
-
-def killed(file, left, current, *, algorithm="blake2b"):
+def killed(file, left, current):
     """The state that a killed run leaves: its temporary name and the file, with these contents."""
-    path = file.with_name(NAME.format(digest(OLD, algorithm), digest(NEW, algorithm)))
+    path = file.with_name(NAME.format(digest(OLD), digest(NEW)))
     path.write_bytes(left)
     if current is None:
         file.unlink()
@@ -218,12 +211,12 @@ def killed(file, left, current, *, algorithm="blake2b"):
     return path
 
 
-def later(directory):
-    """What a later run lists and notes, and the files that are there afterwards."""
-    notes = []
-    names = [os.path.basename(path) for path in Paths([str(directory)]).listed(notes)]
-    assert not any(map(is_temporary, map(os.fsencode, names)))
-    return names, notes, contents(directory)
+def later(directory, may_write=True):
+    """What a later run lists and names, and the files that are there afterwards."""
+    listing = Listing(Names([str(directory)]), may_write=may_write)
+    names = [os.path.basename(unit.name) for unit in listing.units()]
+    assert not any(base_of(os.fsencode(name)) for name in names)
+    return names, [f"{place}: {why}" for place, why in listing.found.named], contents(directory)
 
 
 @pytest.mark.parametrize(
@@ -236,11 +229,32 @@ def later(directory):
         pytest.param(OTHER, NEW, [OTHER], id="between two exchanges"),
     ],
 )
-@pytest.mark.parametrize("algorithm", ["blake2b", "blake2bp"])
-def test_a_later_run_finishes_what_a_killed_run_began(file, left, current, after, algorithm):
-    """Also one on another machine, or of an earlier version."""
-    killed(file, left, current, algorithm=algorithm)
+def test_a_later_run_finishes_what_a_killed_run_began(file, left, current, after):
+    """Only if it may write. Else it names it, and changes nothing."""
+    path = killed(file, left, current)
+    note = f"{path}: a killed run left it: a rotation finishes it"
+    assert later(file.parent, may_write=False) == (["file"], [note], sorted([left, current]))
     assert later(file.parent) == (["file"], [], after)
+
+
+def test_an_unfinished_new_file_is_removed(file):
+    file.with_name(NAME.format("0" * 24, "0" * 24)).write_bytes(b"part of it")
+    assert later(file.parent) == (["file"], [], [OLD])
+
+
+@pytest.mark.skipif(os.geteuid() != 0, reason="not root")
+def test_nobody_puts_a_file_in_the_place_of_another_owners(file):
+    os.chown(killed(file, OTHER, NEW), 12, 34)
+    names, notes, after = later(file.parent)
+    assert (names, len(notes), after) == (["file"], 1, sorted([NEW, OTHER]))
+
+
+@pytest.mark.parametrize("make", [os.mkfifo, os.mkdir, lambda path: os.symlink("file", path)])
+@pytest.mark.parametrize("may_write", [True, False])
+def test_what_has_a_temporary_name_and_is_no_file(file, make, may_write):
+    make(file.with_name(NAME.format(digest(OLD), digest(NEW))))
+    listing = Listing(Names([str(file.parent)]), may_write=may_write)
+    assert (listing.found.refused, listing.count) == (1, 1)
 
 
 @pytest.mark.parametrize("current", [OTHER, OLD, None])
@@ -256,7 +270,10 @@ def test_a_later_run_names_what_it_cannot_decide(file, current):
 
 def test_one_file_by_its_name_is_finished_too(file):
     killed(file, OTHER, NEW)
-    assert list(Paths([str(file)]).listed([])) == [str(file)]
+    (file.parent / "list").write_text(f"{file}\n")
+    listing = Listing(Names([], (), str(file.parent / "list")), may_write=True)
+    assert [unit.name for unit in listing.units()] == [str(file)]
+    (file.parent / "list").unlink()
     assert contents(file.parent) == [OTHER]
 
 
@@ -264,7 +281,9 @@ def test_a_run_that_lives_is_left_alone(file):
     path = killed(file, OTHER, NEW)
     with open(path, "rb") as held:
         fcntl.flock(held, fcntl.LOCK_EX)
-        assert later(file.parent) == (["file"], [], sorted([OTHER, NEW]))
+        note = f"{path}: another run is at work on it"
+        assert later(file.parent) == (["file"], [note], sorted([OTHER, NEW]))
+        assert Listing(Names([str(file.parent)]), may_write=True).found.lost == 1
 
 
 @pytest.mark.parametrize("name", [".rotating.mine", ".rotating.abcdefgh", ".rotating.0123abcd.00.00.file", "x.rotating."])
@@ -275,7 +294,7 @@ def test_a_name_that_only_begins_like_a_temporary_one_is_a_file(tmp_path, name):
 
 STOPPED = """
 import os, sys
-from keywrap.rotation import digests, replacing
+from keywrap.rotation import replacing
 real = replacing.exchange
 def exchange(one, other):
     if sys.argv[2] == "write":
@@ -299,34 +318,56 @@ def test_a_kill_at_the_exchange(file, when, after):
     assert later(file.parent) == (["file"], [], [after])
 
 
-def test_a_kill_before_the_exchange_leaves_nothing(file):
-    """The new file has no name before it is complete."""
+def test_a_kill_before_the_exchange_leaves_the_old_file(file):
     script = "import os, sys\nfrom keywrap.rotation import replacing\n"
     script += "os.fsync = lambda descriptor: os.kill(os.getpid(), 9)\n"
     script += f"replacing.replace(sys.argv[1], {NEW!r}, old_bytes={OLD!r})\n"
     assert subprocess.run([sys.executable, "-B", "-c", script, file], check=False).returncode == -9
-    if is_temporary(os.fsencode(os.listdir(file.parent)[0])):
-        pytest.skip("no O_TMPFILE here")
-    assert contents(file.parent) == [OLD]
+    assert later(file.parent) == (["file"], [], [OLD])
 
 
-# Systems that lack something.
+@pytest.mark.parametrize("number", [1, 2])
+def test_an_exception_in_the_exchange_keeps_what_came_out(file, monkeypatch, number):
+    """As an interrupt between the exchange and the comparison: the file that came out is not removed uncompared."""
+    real = replacing.exchange
+
+    def exchange(one, other):
+        if number == 2:
+            real(one, other)
+        raise KeyboardInterrupt
+
+    monkeypatch.setattr(replacing, "exchange", exchange)
+    with pytest.raises(KeyboardInterrupt):
+        replace(str(file), NEW, old_bytes=OLD)
+    assert contents(file.parent) == sorted([OLD, NEW])
+    monkeypatch.undo()
+    assert later(file.parent) == (["file"], [], [NEW if number == 2 else OLD])
 
 
-def test_without_unnamed_files(file, monkeypatch):
-    real = os.open
+# Systems that lack something, or are slow.
 
-    def refusing(name, flags, *more, **others):
-        if flags & os.O_TMPFILE == os.O_TMPFILE:
-            raise OSError(95, "Operation not supported")
-        return real(name, flags, *more, **others)
 
-    monkeypatch.setattr(os, "open", refusing)
-    replace(str(file), NEW, old_bytes=OLD)
-    assert contents(file.parent) == [NEW]
-    with pytest.raises(Refused, match="empty"):
-        replace(str(file), b"", old_bytes=NEW)
-    assert contents(file.parent) == [NEW]
+def test_a_slow_disk_is_a_sign_of_life(file, monkeypatch):
+    """Both while it syncs and while what was read is read again."""
+    real = os.fsync
+    signs_of = []
+
+    def fsync(descriptor):
+        before = signs.shared[1]
+        time.sleep(1)
+        signs_of.append(signs.shared[1] - before)
+        real(descriptor)
+
+    monkeypatch.setattr(os, "fsync", fsync)
+    old = bytes(3 * replacing.BLOCK)
+    file.write_bytes(old)
+    before = signs.shared[1]
+    replace(str(file), NEW, old_bytes=old)
+    assert len(signs_of) == 2 and min(signs_of) >= 2
+    assert signs.shared[1] - before - sum(signs_of) >= 6
+    before = signs.shared[1]
+    time.sleep(0.5)
+    assert signs.shared[1] == before
 
 
 @pytest.mark.parametrize("number", [None, 100000])
@@ -339,8 +380,8 @@ def test_without_an_exchange(file, monkeypatch, number):
         successor = replacing.Successor(os.fsencode(file), before)
         successor.write(NEW)
         with pytest.raises(Changed):
-            successor.replace(old, read_as(OTHER), quiesced=True)
-        successor.replace(old, read_as(OLD), quiesced=True)
+            successor.replace(old, digest(OTHER), quiesced=True)
+        successor.replace(old, digest(OLD), quiesced=True)
         successor.close()
     assert contents(file.parent) == [NEW]
 
@@ -353,15 +394,16 @@ def test_syncs_before_and_after_it_replaces(file):
         pytest.skip("no strace (apt-get install strace)")
     log = file.parent.parent / "calls"
     program = f"from keywrap.rotate import replace; replace({str(file)!r}, {NEW!r}, old_bytes={OLD!r})"
-    calls = "fchown,fchmod,fsync,linkat,renameat2,unlink"
+    calls = "fchown,fchmod,fsync,rename,renameat2,unlink"
     done = subprocess.run(["strace", "-f", "-y", "-o", log, "-e", f"trace={calls}", sys.executable, "-B", "-c", program],
                           check=False, capture_output=True)  # fmt: skip
     if b"ptrace" in done.stderr:
         pytest.skip("strace is not allowed here")
     found = [line.split(None, 1)[1] for line in log.read_text().splitlines() if "= 0" in line]
     kinds = [line.split("(")[0] + (" directory" if f"<{file.parent}>" in line.split(")")[0] else "") for line in found]
-    kinds = ["linkat" if kind.startswith("linkat") else kind for kind in kinds]
-    assert kinds == ["fchmod", "fsync", "linkat", "renameat2", "unlink", "fsync directory"]
+    kinds = [kind.split()[0] if kind.startswith("rename") else kind for kind in kinds]
+    assert kinds[:-5] in ([], ["fchown"], ["fchmod"], ["fchown", "fchmod"]), kinds
+    assert kinds[-5:] == ["fsync", "rename", "renameat2", "unlink", "fsync directory"]
 
 
 @pytest.mark.skipif(os.geteuid() != 0, reason="not root")
@@ -420,4 +462,4 @@ def test_renames_at_random_moments_are_never_lost(file):
     assert int(file.read_bytes().split()[-1]) == acknowledged.value
     assert replaced > 10 and refused > 10
     # What two writes left around one exchange was named.
-    assert sorted(path.name for path in file.parent.iterdir() if is_temporary(os.fsencode(path.name))) == sorted(named)
+    assert sorted(path.name for path in file.parent.iterdir() if base_of(os.fsencode(path.name))) == sorted(named)

@@ -1,2 +1,1 @@
-"""The parts of `keywrap.rotate`. `engine` rotates one unit of any store; a module for each kind of store reads and
-replaces units; `run` hands them out, counts and reports."""
+"""The parts of `keywrap.rotate`: passes over a store are repeated until one of them has nothing to do."""

@@ -1,99 +1,160 @@
-"""What files with a key in a field of each record share: blocks of records, and a key that is replaced in its place.
-Everything else stays to the byte."""
+"""Files with a key in a field of each record: a column of CSV, or a member of JSON Lines. A key is replaced in its place;
+everything else stays to the byte."""
 
 from __future__ import annotations
 
-from typing import Any, Iterator, List, Mapping, NamedTuple, Optional
+import csv
+import io
+import json
+import os
+from typing import Any, Callable, Iterator, List, NamedTuple, Optional, Tuple
 
-from .digests import BLOCK
-from .keys import LONGEST, Block, Readable, Refused, Text
+from .found import Found, Refused
+from .keks import Rings
+from .keys import LONGEST, Notation, Text, renewed
+from .replacing import BLOCK
 
 
 class Record(NamedTuple):
-    """A record as it is written, the number of its first line, its key or why it has none, what was parsed, and the
-    name of its KEK."""
+    """A record as it is written, the number of its first line, its key or why it has none, the name of its KEK, and
+    whether other content is the same record with another key."""
 
     content: str
     line: int
     text: Text
-    parsed: Any
-    kek: Optional[str] = None
+    name: Optional[str] = None
+    is_with: Callable[[str, str], bool] = lambda content, key: False
 
 
-def _lines(file: Readable) -> Iterator[str]:
+def _lines(descriptor: int) -> Iterator[str]:
     """Reads lines of UTF-8 with their ends. Other bytes stay what they are."""
-    rest = b""
-    while chunk := file.read(BLOCK):
+    rest, offset = b"", 0
+    while chunk := os.pread(descriptor, BLOCK, offset):
+        offset += len(chunk)
         *lines, rest = (rest + chunk).split(b"\n")
         if len(rest) > 2 * LONGEST:
             raise Refused("a line is longer than any record with a wrapped key")
-        for line in lines:
-            yield (line + b"\n").decode("utf-8", "surrogateescape")
+        yield from ((line + b"\n").decode("utf-8", "surrogateescape") for line in lines)
     if rest:
         yield rest.decode("utf-8", "surrogateescape")
 
 
-def text_of(value: str) -> bytes:
+def _some(records: Iterator[Record]) -> List[Record]:
+    """Takes records until they are long."""
+    taken: List[Record] = []
+    size = 0
+    for record in records:
+        taken.append(record)
+        size += len(record.content)
+        if size >= BLOCK:
+            break
+    return taken
+
+
+def _text(value: str) -> bytes:
     return value.strip().encode("utf-8", "surrogateescape")
 
 
+def _in_place(value: str, key: str) -> str:
+    """The value with this key, and with the blanks around it."""
+    return value.replace(value.strip(), key, 1)
+
+
 class Fields:
-    """A file of records. A format parses them."""
+    """A file of records, of CSV or JSON."""
 
-    def __init__(self, name: str, notation: str, kek: Optional[str] = None) -> None:
-        self.name, self.notation, self.kek = name, notation, kek
+    def __init__(self, is_csv: bool, name: str, notation: Notation, kek_name: Optional[str] = None) -> None:
+        self.is_csv, self.name, self.notation, self.kek_name = is_csv, name, notation, kek_name
+        self.no_key = f"no key in the column {name!r}" if is_csv else f"no line has the member {name!r}"
 
-    def records(self, lines: Iterator[str]) -> Iterator[Record]:
-        raise NotImplementedError
+    def renewed(self, descriptor: int, rings: Rings, found: Found) -> Iterator[Tuple[bytes, bytes]]:
+        lines = _lines(descriptor)
+        records = self._csv(lines) if self.is_csv else self._json(lines)
+        while batch := _some(records):
+            texts = renewed(rings, self.notation, [record.text for record in batch], found,
+                            lambda at: f"line {batch[at].line}", [record.name for record in batch])  # fmt: skip
+            content = "".join(record.content for record in batch).encode("utf-8", "surrogateescape")
+            fresh = (_with(record, texts[at]) if at in texts else record.content for at, record in enumerate(batch))
+            yield content, "".join(fresh).encode("utf-8", "surrogateescape") if texts else content
 
-    def parsed(self, content: str) -> Any:
-        """Parses a record again."""
-        raise NotImplementedError
+    def _csv(self, lines: Iterator[str]) -> Iterator[Record]:
+        csv.field_size_limit(2 * LONGEST)
+        taken: List[str] = []
+        kept = (taken.append(line) or line for line in lines)  # type: ignore[func-returns-value]
+        number = 1
+        columns: List[int] = []
+        try:
+            for row in csv.reader(kept, strict=True):
+                if not columns:
+                    titles = [name.lstrip("\ufeff") for name in row]
+                    for name in filter(None, (self.name, self.kek_name)):
+                        if titles.count(name) != 1:
+                            raise Refused(f"the first line does not have the column {name!r} once")
+                        columns.append(titles.index(name))
+                    row = []
+                name_of_kek = row[columns[-1]] if len(row) > max(columns) else None
+                yield Record("".join(taken), number, _cell(row, columns[0]), name_of_kek, _csv_with(row, columns[0]))
+                number += len(taken)
+                taken.clear()
+        except csv.Error:
+            raise Refused(f"line {number}: not CSV") from None
 
-    def with_key(self, parsed: Any, key: str) -> Any:
-        """Returns what the record has to parse as with this key."""
-        raise NotImplementedError
+    def _json(self, lines: Iterator[str]) -> Iterator[Record]:
+        for number, line in enumerate(lines, 1):
+            try:
+                found = _parsed(line) if line.strip() else {}
+            except (ValueError, RecursionError):
+                yield Record(line, number, "not JSON, or a member comes twice")
+                continue
+            value: Any = found.get(self.name) if isinstance(found, dict) else 0
+            text: Text = "not a string in an object"
+            if value is None or type(value) is str:
+                text = None if value is None else _text(value)
+            name = found.get(self.kek_name) if isinstance(found, dict) and self.kek_name is not None else None
+            yield Record(line, number, text, name if type(name) is str else None, self._json_with(found))
 
-    def blocks(self, file: Readable) -> Iterator[Block]:
-        found: List[Record] = []
-        size = 0
-        for record in self.records(_lines(file)):
-            found.append(record)
-            size += len(record.content)
-            if size >= BLOCK:
-                yield self._block(found)
-                found, size = [], 0
-        if found:
-            yield self._block(found)
+    def _json_with(self, found: Any) -> Callable[[str, str], bool]:
+        return lambda content, key: bool(_parsed(content) == {**found, self.name: _in_place(found[self.name], key)})
 
-    def _block(self, found: List[Record]) -> Block:
-        content = "".join(record.content for record in found).encode("utf-8", "surrogateescape")
-        texts = [record.text for record in found]
-        names = [record.kek for record in found]
-        return Block(lambda: texts, self.notation, lambda at: f"line {found[at].line}", len(content), content, found,
-                     names=names)  # fmt: skip
 
-    def joined(self, block: Block, texts: Mapping[int, bytes]) -> bytes:
-        fresh = (
-            self._with(record, texts[at]) if at in texts else record.content for at, record in enumerate(block.parts)
-        )
-        return "".join(fresh).encode("utf-8", "surrogateescape")
+def _cell(row: List[str], column: int) -> Text:
+    if not row:
+        return None
+    if len(row) <= column:
+        return "the column is missing"
+    return _text(row[column]) or None
 
-    def _with(self, record: Record, text: bytes) -> str:
-        """Puts the new key in the place of the old one: the place from which the parser reads it."""
-        assert isinstance(record.text, bytes)
-        old, new = record.text.decode("utf-8", "surrogateescape"), text.decode("ascii")
-        expected = self.with_key(record.parsed, new)
-        at = record.content.find(old)
-        while at >= 0:
-            changed = record.content[:at] + new + record.content[at + len(old) :]
-            if self.parsed(changed) == expected:
+
+def _csv_with(row: List[str], column: int) -> Callable[[str, str], bool]:
+    return lambda content, key: list(csv.reader(io.StringIO(content, newline=""), strict=True)) == [
+        [*row[:column], _in_place(row[column], key), *row[column + 1 :]]]  # fmt: skip
+
+
+class _Number(str):
+    """A number as it is written: it must not change."""
+
+
+def _object(members: List[Tuple[str, Any]]) -> Any:
+    if len(dict(members)) != len(members):
+        raise ValueError
+    return dict(members)
+
+
+def _parsed(content: str) -> Any:
+    return json.loads(content, object_pairs_hook=_object, parse_float=_Number, parse_int=_Number, parse_constant=_Number)
+
+
+def _with(record: Record, text: bytes) -> str:
+    """Puts the new key in the place of the old one: the place from which the parser reads it."""
+    assert isinstance(record.text, bytes)
+    old, new = record.text.decode("utf-8", "surrogateescape"), text.decode("ascii")
+    at = record.content.find(old)
+    while at >= 0:
+        changed = record.content[:at] + new + record.content[at + len(old) :]
+        try:
+            if record.is_with(changed, new):
                 return changed
-            at = record.content.find(old, at + 1)
-        raise Refused(f"line {record.line}: the key is written with escapes, and cannot be replaced in its place")
-
-
-def in_place_of(value: str, key: str) -> str:
-    """Returns the value with this key, and with the blanks around it."""
-    before, _, after = value.partition(value.strip())
-    return before + key + after
+        except (ValueError, csv.Error):
+            pass
+        at = record.content.find(old, at + 1)
+    raise Refused(f"line {record.line}: the key is written with escapes, and cannot be replaced in its place")

@@ -3,111 +3,151 @@
 from __future__ import annotations
 
 import contextlib
+import io
 import os
-from typing import Iterable, Iterator, List, Mapping, Optional, Protocol
+from typing import Callable, ContextManager, Iterable, Iterator, NamedTuple, Optional, Protocol, Tuple
 
-from .keys import Block, Fresh, Readable, Refused
-from .paths import Paths
-from .replacing import Content, Successor, is_as, opened, state_of
-from .stores import Beat, Opened, Simple, State, Unit
+from . import signs
+from .found import Changed, Found, Gone, Refused
+from .keks import Rings
+from .keys import BLANKS, LONGEST, Notation, all_renewed, renewed
+from .listing import Listing, Names, Unit
+from .replacing import BLOCK, Successor, has_name, identity, new_digest, opened, refuse_long, short
+
+def _nothing() -> Tuple[Iterable[Unit], int]:
+    return (), 0
+
+
+class Listed(NamedTuple):
+    """A store in one pass: its units, their number and weight, and what could not be listed."""
+
+    units: Iterable[Unit]
+    number: int
+    weight: int
+    found: Found
+    #: Whether certainly every key that there was at some moment of the pass was in these units; from the sum over it.
+    is_quiet: Callable[[Found], bool]
+    #: Takes what was found in a unit; lists again: the units that are there and were not read, and their number.
+    take: Callable[[Unit, Found], None] = lambda unit, found: None
+    rest: Callable[[], Tuple[Iterable[Unit], int]] = _nothing
+    #: How many units other shards have.
+    others: int = 0
+
+
+class Store(Protocol):
+    noun: str
+    measure: str
+
+    def listed(self, may_write: bool) -> ContextManager[Listed]:
+        """Lists the store anew. Raises `Refused`."""
+
+    def do(self, unit: Unit, rings: Rings, may_write: bool) -> Found:
+        """Reads all keys of a unit, and writes new ones if it may and nobody else wrote there meanwhile."""
 
 
 class Format(Protocol):
-    def blocks(self, file: Readable) -> Iterator[Block]:
-        """Reads the keys of a file. The content of a block is the bytes that it was made from."""
+    #: What a file is called that has none.
+    no_key: str
 
-    def joined(self, block: Block, texts: Mapping[int, bytes]) -> bytes:
-        """Returns the content of the block with the new texts. Everything else stays to the byte."""
-
-
-class Reader:
-    """Reads from the start, or a range. It has no descriptor of its own, which would keep the lock of the file."""
-
-    def __init__(self, descriptor: int, begin: int = 0, end: Optional[int] = None) -> None:
-        self.descriptor, self.offset, self.end = descriptor, begin, end
-
-    def read(self, size: int) -> bytes:
-        left = size if self.end is None else min(size, self.end - self.offset)
-        content = os.pread(self.descriptor, left, self.offset)
-        self.offset += len(content)
-        return content
+    def renewed(self, descriptor: int, rings: Rings, found: Found) -> Iterator[Tuple[bytes, bytes]]:
+        """Reads a file from its start. Yields each part of it, and what that becomes: itself if nothing changes."""
 
 
-class _OpenFile:
-    """A file, and a new one that begins at the first block with a change."""
+class Lines:
+    """One key on each line. A line that stays is kept to the byte; a new one ends with LF."""
 
-    outcome = "new"
+    no_key = "no key"
 
-    def __init__(self, descriptor: int, successor: "_Lazy", files: "Files") -> None:
-        self.descriptor, self.successor, self.files = descriptor, successor, files
-        self.read = Content()
+    def __init__(self, notation: Notation) -> None:
+        self.notation = notation
 
-    def blocks(self) -> Iterator[Block]:
-        for block in self.files.format.blocks(Reader(self.descriptor)):
-            yield block
-            self.read.add(block.content)
-        if not self.read.length:
-            raise Refused("no key")
+    def renewed(self, descriptor: int, rings: Rings, found: Found) -> Iterator[Tuple[bytes, bytes]]:
+        number, offset, rest = 1, 0, b""
+        while chunk := os.pread(descriptor, BLOCK, offset):
+            offset += len(chunk)
+            rest += chunk
+            end = rest.rfind(b"\n") + 1
+            if end:
+                content, rest = rest[:end], rest[end:]
+                yield content, self._renewed(content, rings, found, number)
+                number += content.count(b"\n")
+            elif len(rest) > LONGEST:
+                raise Refused(f"line {number}: longer than any wrapped key")
+        if rest:
+            yield rest, self._renewed(rest, rings, found, number)
 
-    def write(self, block: Block, fresh: Fresh) -> None:
-        new = self.successor.made
-        if new is None and fresh.changed:
-            new = self.successor.make()
-            for content in self.read.again(self.descriptor):
-                new.write(content)
-        if new is not None:
-            new.write(self.files.format.joined(block, fresh.texts) if fresh.content is None else fresh.content)
-
-    def replace(self, beat: Beat) -> State:
-        new = self.successor.made
-        if new is None:
-            return state_of(self.successor.before, self.read.digest)
-        new.replace(self.descriptor, self.read, quiesced=self.files.quiesced)
-        return state_of(os.fstat(new.descriptor), new.digest)
-
-
-class _Lazy:
-    def __init__(self, path: bytes, before: os.stat_result) -> None:
-        self.path, self.before = path, before
-        self.made: Optional[Successor] = None
-
-    def make(self) -> Successor:
-        self.made = Successor(self.path, self.before)
-        return self.made
+    def _renewed(self, content: bytes, rings: Rings, found: Found, first: int) -> bytes:
+        fresh = all_renewed(rings, content, found) if self.notation == Notation() else None
+        if fresh is not None:
+            return fresh
+        lines = list(io.BytesIO(content))
+        keys = [line.strip(BLANKS) for line in lines]
+        texts = renewed(rings, self.notation, keys, found, lambda at: f"line {first + at}")
+        if not texts:
+            return content
+        return b"".join(texts[at] + b"\n" if at in texts else line for at, line in enumerate(lines))
 
 
-class Files(Simple):
+class OneKey:
+    """The file is one key, which may span lines."""
+
+    no_key = "no key"
+
+    def __init__(self, notation: Notation) -> None:
+        self.notation = notation
+
+    def renewed(self, descriptor: int, rings: Rings, found: Found) -> Iterator[Tuple[bytes, bytes]]:
+        content, end = b"", b"" if self.notation.name == "raw" else b"\n"
+        while len(content) <= 2 * LONGEST and (chunk := os.pread(descriptor, BLOCK, len(content))):
+            content += chunk
+        if len(content) > 2 * LONGEST:
+            raise Refused("longer than any wrapped key")
+        text = content.translate(None, BLANKS) if end else content
+        texts = renewed(rings, self.notation, [text], found, lambda at: "its key")
+        yield content, texts[0] + end if texts else content
+
+
+class Files:
     """All files that the names denote: a directory means the files below it."""
 
     noun, measure = "files", "bytes"
 
-    def __init__(self, format: Format, paths: Paths, quiesced: bool = False) -> None:
-        self.format, self.paths, self.quiesced = format, paths, quiesced
-        self.found: List[str] = []
+    def __init__(self, format: Format, names: Names, quiesced: bool = False) -> None:
+        self.format, self.names, self.quiesced = format, names, quiesced
 
     @contextlib.contextmanager
-    def open(self, unit: Unit) -> Iterator[Opened]:
-        path = os.fsencode(unit.place)
-        with opened(path) as (descriptor, before):
-            successor = _Lazy(path, before)
-            try:
-                yield _OpenFile(descriptor, successor, self)
-            finally:
-                if successor.made is not None:
-                    successor.made.close()
+    def listed(self, may_write: bool) -> Iterator[Listed]:
+        listing = Listing(self.names, may_write=may_write)
+        yield Listed(listing.units(), listing.count, listing.weight, listing.found, lambda found: listing.is_quiet(),
+                     listing.take, listing.rest, listing.others)  # fmt: skip
 
-    def notes(self) -> Iterable[str]:
-        return self.found
-
-    def units(self) -> Iterator[Unit]:
-        for path in self.paths.listed(self.found):
-            yield Unit(path, path, size_of(path))
-
-    def is_as(self, unit: Unit, state: State) -> bool:
-        return is_as(os.fsencode(unit.place), state)
-
-
-def size_of(path: str) -> int:
-    with contextlib.suppress(OSError):
-        return os.lstat(path).st_size
-    return 0
+    def do(self, unit: Unit, rings: Rings, may_write: bool) -> Found:
+        path, found, digest, length = os.fsencode(unit.place), Found(), new_digest(), 0
+        new: Optional[Successor] = None
+        is_rotation = any(ring.old for ring in rings.values())
+        try:
+            with opened(path, is_shared=not may_write) as (descriptor, before), contextlib.ExitStack() as stack:
+                if os.pread(descriptor, 16, 0) == b"SQLite format 3\0":
+                    raise Refused("an SQLite database: name its table by --table")
+                if is_rotation:
+                    refuse_long(path)
+                for content, fresh in self.format.renewed(descriptor, rings, found):
+                    if new is None and may_write and fresh is not content:
+                        new = Successor(path, before)
+                        stack.callback(new.close)
+                        new.copy(descriptor, length, short(digest))
+                    digest.update(content)
+                    length += len(content)
+                    if new is not None:
+                        new.write(fresh)
+                    signs.beat(len(content))
+                if not found.keys:
+                    raise Refused(self.format.no_key)
+                if new is not None:
+                    before = new.replace(descriptor, short(digest), quiesced=self.quiesced)
+                elif not has_name(path, before):
+                    raise Changed
+        except FileNotFoundError:
+            raise Gone from None
+        found.digest, found.identity = digest.hexdigest()[:64], identity(before)
+        return found

@@ -1,199 +1,176 @@
-"""The KEKs of a rotation, which each machine reads from its own files, and the challenges that compare them."""
+"""The KEKs of a rotation. Each process reads them from its own machine's files, and compares them by a challenge."""
 
 from __future__ import annotations
 
 import binascii
 import ctypes
+import hashlib
 import hmac
-import itertools
 import os
+import re
 import resource
-import socket
-from pathlib import Path
-from typing import Dict, List, Mapping, NamedTuple, Optional, Sequence, Tuple
+import stat
+from typing import Any, Dict, Mapping, NamedTuple, Optional, Tuple
 
 import keywrap
 
-#: The challenges of a rotation: for each KEK, and last for the new KEK, a random key wrapped under it, in hex. The name
-#: of the KEK is before it, if it has one.
-Challenges = Tuple[str, ...]
+from .found import EqualKeks, WrongKeks
 
-OLD, NEW = "KEYWRAP_KEK", "KEYWRAP_NEW_KEK"
-_PR_SET_DUMPABLE = 4
-
-
-class WrongKeks(Exception):
-    """This machine's KEKs cannot be read, or are others than the rotation began with."""
+_PR_SET_PDEATHSIG, _PR_SET_DUMPABLE = 1, 4
+#: The most bytes that a KEK file has, and a table of KEKs.
+_KEK_FILE, _TABLE = 4096, 1 << 24
+#: The content of KEK files that are pipes: read once, before any process is forked.
+_held: Dict[str, bytes] = {}
 
 
-class EqualKeks(WrongKeks):
-    """The KEK and the new KEK are the same key."""
+def protect_process(death_signal: int = 0) -> None:
+    """No core file, and no other process of the user reads the memory. With a signal: it comes if the parent dies."""
+    resource.setrlimit(resource.RLIMIT_CORE, (0, 0))
+    ctypes.CDLL(None).prctl(_PR_SET_DUMPABLE, 0, 0, 0, 0)
+    if death_signal:
+        ctypes.CDLL(None).prctl(_PR_SET_PDEATHSIG, death_signal, 0, 0, 0)
 
 
-class Kek(NamedTuple):
-    """A KEK, its name in messages, its label in reports, and the name that a store has beside its keys."""
-
-    source: str
-    label: str
-    name: Optional[str]
-    is_new: bool
-    key: bytes
-
-
-class Keks(NamedTuple):
-    """The KEKs that a key may be under, each with its label, and its new KEK."""
+class Ring(NamedTuple):
+    """The KEKs themselves: those that a key may be under, by their labels, and the new one. Not for a pickle."""
 
     old: Tuple[Tuple[str, bytes], ...]
     new: bytes
 
-
-#: By the names that a store has beside its keys, or for all keys by `None`.
-NamedKeks = Mapping[Optional[str], Keks]
-
-#: The KEKs that are read only once: the content of files that are pipes, by their variables, and the KEKs of tables.
-held: Dict[str, bytes] = {}
-tables: List[Kek] = []
+    def __reduce__(self) -> Any:
+        raise TypeError("KEKs are not sent")
 
 
-def protect_process() -> None:
-    """Prevents core files of this process, and other processes of the user from reading its memory."""
-    resource.setrlimit(resource.RLIMIT_CORE, (0, 0))
-    ctypes.CDLL(None).prctl(_PR_SET_DUMPABLE, 0, 0, 0, 0)
+#: The rings by the names that a store has beside its keys, or the one for all keys by `None`.
+Rings = Mapping[Optional[str], Ring]
 
 
-def from_hex(source: str, content: bytes) -> bytes:
-    """Returns the KEK. No error contains its bytes."""
+def _content(path: str, what: str, most: int) -> bytes:
+    """Reads a file. A name of hex digits is not shown: somebody may have given a KEK in its place."""
+    shown = "it" if re.fullmatch("(?:[0-9A-Fa-f]{2}){16,}", os.path.basename(path)) else path
+    if path in _held:
+        return _held[path]
     try:
-        kek = binascii.unhexlify(content.translate(None, b" \t\r\n"))
-    except ValueError:
-        raise WrongKeks(f"{source}: the file does not contain hex") from None
-    if len(kek) not in (16, 24, 32):
-        raise WrongKeks(f"{source}: the KEK is {len(kek)} bytes long; it must be 16, 24 or 32 bytes")
-    return kek
-
-
-def read_kek(source: str, path: str) -> bytes:
-    """Reads a KEK in hex. No error contains the name of the file, which may be a KEK."""
-    try:
-        return from_hex(source, Path(path).read_bytes())
+        with open(path, "rb") as file:
+            content, is_file = file.read(most + 1), stat.S_ISREG(os.fstat(file.fileno()).st_mode)
     except OSError as error:
-        raise WrongKeks(f"{source}: {error.strerror}") from None
+        raise WrongKeks(f"{what}: {shown}: {error.strerror}") from None
+    if len(content) > most:
+        raise WrongKeks(f"{what}: {shown}: too long")
+    return content if is_file else _held.setdefault(path, content)
 
 
-def old_variables() -> List[str]:
-    """The variables that name the files of the KEKs: a second one is in KEYWRAP_KEK_2, and so on."""
-    more = (f"{OLD}_{number}" for number in itertools.count(2))
-    return [OLD, *itertools.takewhile(os.environ.__contains__, more)]
+def _digits(content: bytes) -> bytes:
+    return binascii.unhexlify(content.translate(None, b" \t\r\n"))
 
 
-def _of_variable(variable: str, *, is_several: bool = False) -> Kek:
-    if variable in held:
-        return Kek(variable, variable, None, variable == NEW, from_hex(variable, held[variable]))
-    if variable not in os.environ:
-        raise WrongKeks(f"{variable} is not set")
-    path = os.environ[variable]
-    return Kek(variable, path if is_several else "", None, variable == NEW, read_kek(variable, path))
-
-
-def _new() -> List[Kek]:
-    return [kek for kek in tables if kek.is_new] or [_of_variable(NEW)]
-
-
-def _all() -> List[Kek]:
-    """Reads this machine's KEKs. The new ones are the last."""
-    variables = old_variables()
-    old = [kek for kek in tables if not kek.is_new]
-    return [*(old or (_of_variable(name, is_several=len(variables) > 1) for name in variables)), *_new()]
-
-
-def _named(keks: Sequence[Kek]) -> NamedKeks:
-    new = {kek.name: kek.key for kek in keks if kek.is_new}
-    old: Dict[Optional[str], List[Tuple[str, bytes]]] = {kek.name: [] for kek in keks if not kek.is_new} or {
-        name: [] for name in new
-    }
-    for kek in keks:
-        if not kek.is_new:
-            old[kek.name].append((kek.label, kek.key))
-    return {name: Keks(tuple(some), new[name] if name in new else new[None]) for name, some in old.items()}
-
-
-def is_under(kek: bytes, wrapped: bytes) -> bool:
-    return keywrap.check(kek, wrapped) is not None
-
-
-def _challenge(kek: Kek) -> str:
-    wrapped = keywrap.wrap(kek.key, os.urandom(32)).hex()
-    return wrapped if kek.name is None else f"{kek.name} {wrapped}"
-
-
-def _fits(kek: Kek, challenge: str) -> bool:
-    name, _, wrapped = challenge.rpartition(" ")
-    return name == (kek.name or "") and is_under(kek.key, bytes.fromhex(wrapped))
-
-
-def _refuse_equal(keks: NamedKeks) -> None:
-    if any(hmac.compare_digest(old, some.new) for some in keks.values() for _, old in some.old):
-        raise EqualKeks("the KEK and the new KEK are the same key")
-
-
-def challenges() -> Challenges:
-    """Wraps a random key under each of this machine's KEKs, in hex.
-
-    Another machine can check with them whether its KEKs are the same. Raises `WrongKeks`.
-    """
-    keks = _all()
-    _refuse_equal(_named(keks))
-    return tuple(map(_challenge, keks))
-
-
-def new_challenges() -> Challenges:
-    """Wraps a random key under each new KEK. The other KEKs are not read."""
-    return tuple(map(_challenge, _new()))
-
-
-#: The KEKs that fitted last, by their challenges: one file after another has the same.
-_fitted: Dict[Challenges, Tuple[List[Kek], NamedKeks]] = {}
-
-
-def keks_of(pair: Challenges) -> NamedKeks:
-    """Reads this machine's KEKs, for each unit. Raises `WrongKeks` unless the challenges are wrapped under them."""
-    keks = _all()
-    fitted = _fitted.get(pair)
-    if fitted is not None and fitted[0] == keks:
-        return fitted[1]
-    named = _named(keks)
-    _refuse_equal(named)
-    if len(keks) == len(pair) == 2 and _fits(keks[1], pair[0]) and _fits(keks[0], pair[1]):
-        raise WrongKeks(f"{OLD} and {NEW} are swapped")
-    _compare(keks, pair)
-    _fitted.clear()
-    _fitted[pair] = keks, named
-    return named
-
-
-def _compare(keks: Sequence[Kek], pair: Challenges) -> None:
-    if len(keks) != len(pair):
-        raise WrongKeks(f"the rotation began with {len(pair)} KEKs, and here are {len(keks)}")
-    for kek, challenge in zip(keks, pair):
-        if not _fits(kek, challenge):
-            raise WrongKeks(f"{kek.source} is not the one that the rotation began with")
-
-
-def new_keks_of(pair: Challenges) -> NamedKeks:
-    """Reads the new KEKs. Raises `WrongKeks` unless the challenges are wrapped under them."""
-    keks = _new()
-    if len(keks) != len(pair):
-        raise WrongKeks(f"this began with {len(pair)} new KEKs, and here are {len(keks)}")
-    for kek, challenge in zip(keks, pair):
-        if not _fits(kek, challenge):
-            raise WrongKeks(f"{kek.source} is not the one that this began with")
-    return _named(keks)
-
-
-def probe(*pair: str) -> Optional[str]:
-    """Returns what is wrong with this machine's KEKs, or `None`."""
+def _read(path: str, what: str, is_raw: bool) -> bytes:
+    """Reads a KEK. No error contains its bytes."""
+    content = _content(path, what, _KEK_FILE)
     try:
-        keks_of(pair)
-    except WrongKeks as wrong:
-        return f"{socket.gethostname()}: {wrong}"
-    return None
+        digits: Optional[bytes] = _digits(content)
+    except ValueError:
+        digits = None
+    kek = content if is_raw else digits
+    if kek is not None and len(kek) in (16, 24, 32):
+        return kek
+    why = (f"the KEK is {len(kek or b'')} bytes long; it must be 16, 24 or 32 bytes" if is_raw and digits is None or kek == digits
+           and kek is not None else "looks like hex: omit --raw-kek to read it as hex" if is_raw else
+           "not hex: --raw-kek reads a KEK of raw bytes")  # fmt: skip
+    raise WrongKeks(f"{what}: {path}: {why}")
+
+
+def _table(path: str, option: str) -> Dict[str, str]:
+    """Reads lines NAME=FILE. A FILE is beside the table, if it is no absolute path."""
+    found: Dict[str, str] = {}
+    try:
+        lines = _content(path, option, _TABLE).decode("utf-8").split("\n")
+    except UnicodeDecodeError:
+        raise WrongKeks(f"{option}: {path}: it is not UTF-8") from None
+    for number, line in enumerate(lines if lines[-1] else lines[:-1], 1):
+        name, separator, file = line.rstrip("\r").partition("=")
+        if not (name and separator and file):
+            raise WrongKeks(f"{option}: {path}: line {number} is not NAME=FILE")
+        if name in found:
+            raise WrongKeks(f"{option}: {path}: line {number} has a name that an earlier line has")
+        found[name] = os.path.join(os.path.dirname(path), file)
+    if not found:
+        raise WrongKeks(f"{option}: {path}: it has no line")
+    return found
+
+
+def _digest(rings: Rings) -> bytes:
+    """A key that only who has all of these KEKs has."""
+    digest = hashlib.sha256()
+    for name, ring in rings.items():
+        for kek in (*(kek for _, kek in ring.old), ring.new):
+            digest.update(f"{name!r} {len(ring.old)} {len(kek)} ".encode("utf-8", "surrogateescape") + kek)
+    return digest.digest()
+
+
+class Keks(NamedTuple):
+    """The files of the KEKs and of the new KEK, or tables of their names; and once `challenged`, a challenge: a random
+    key that is wrapped under a digest of all of them."""
+
+    old: Tuple[str, ...] = ()
+    new: Optional[str] = None
+    table: Optional[str] = None
+    new_table: Optional[str] = None
+    is_raw: bool = False
+    challenge: Optional[bytes] = None
+
+    def rings(self) -> Rings:
+        """Reads the KEKs anew. Raises `WrongKeks` unless they are those that the rotation began with."""
+        rings = self._rings()
+        if self.challenge is not None and keywrap.check(_digest(rings), self.challenge) is None:
+            raise WrongKeks("the KEKs of this machine are not those that the rotation began with")
+        return rings
+
+    def _new(self) -> bytes:
+        assert self.new is not None
+        return _read(self.new, "the new KEK", self.is_raw)
+
+    def _rings(self) -> Rings:
+        if self.table is None and self.new_table is None:
+            old = ((path, _read(path, "the KEK" if len(self.old) == 1 else f"KEK {at}", self.is_raw))
+                   for at, path in enumerate(self.old, 1))  # fmt: skip
+            return {None: Ring(tuple(old), self._new())}
+        names = {} if self.table is None else _table(self.table, "--keks")
+        new_names = {} if self.new_table is None else _table(self.new_table, "--new-keks")
+        if names and new_names and names.keys() != new_names.keys():
+            raise WrongKeks(f"--keks and --new-keks: only one of them has {min(names.keys() ^ new_names.keys())!r}")
+        new = None if new_names else self._new()
+        rings: Dict[Optional[str], Ring] = {}
+        for name in sorted(names or new_names):
+            olds = ((name, _read(names[name], f"--keks: {name}", self.is_raw)),) if names else ()
+            rings[name] = Ring(olds, new or _read(new_names[name], f"--new-keks: {name}", self.is_raw))
+        return rings
+
+    def challenged(self, new_challenge: Optional[str] = None) -> "Keks":
+        rings = self._rings()
+        for ring in rings.values():
+            if any(hmac.compare_digest(kek, ring.new) for _, kek in ring.old):
+                raise EqualKeks("the KEK and the new KEK are the same key")
+        if new_challenge is not None:
+            try:
+                wrapped = _digits(_content(new_challenge, "--new-challenge", _KEK_FILE))
+            except ValueError:
+                raise WrongKeks(f"--new-challenge: {new_challenge}: not hex") from None
+            if any(keywrap.check(ring.new, wrapped) is None for ring in rings.values()):
+                raise WrongKeks(f"the new KEK is not that of --new-challenge {new_challenge}: are the KEKs swapped?")
+        return self._replace(challenge=keywrap.wrap(_digest(rings), os.urandom(32)))
+
+    def make_challenges(self) -> Tuple[str, ...]:
+        """Writes a random key, wrapped under each KEK, beside its file, as `keywrap check` reads it. Returns the names."""
+        rings = self._rings()
+        made = []
+        for path, kek in (*rings[None].old, (str(self.new), rings[None].new)):
+            name = os.path.splitext(path)[0] + ".challenge"
+            try:
+                flags = os.O_WRONLY | os.O_CREAT | os.O_EXCL | os.O_NOFOLLOW | os.O_CLOEXEC
+                with open(os.open(name, flags, 0o666), "w", encoding="ascii") as file:
+                    print(keywrap.wrap(kek, os.urandom(32)).hex(), file=file)
+            except OSError as error:
+                raise WrongKeks(f"{name}: {error.strerror}") from None
+            made.append(name)
+        return tuple(made)

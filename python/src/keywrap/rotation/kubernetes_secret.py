@@ -6,7 +6,7 @@ import base64
 import json
 import sys
 
-from keywrap.rotate import challenges, replace, rewrap_all
+from keywrap.rotate import Refused, WrongKeks, challenges, replace, rewrap_all
 
 
 def main(path: str) -> None:
@@ -14,10 +14,13 @@ def main(path: str) -> None:
         old = file.read()
     secret = json.loads(old)
     keys = {name: base64.b64decode(key, validate=True) for name, key in secret["data"].items()}
-    fresh = rewrap_all(keys, challenges())
-    secret["data"] = {name: base64.b64encode(key).decode() for name, key in fresh.items()}
+    secret["data"] = {name: base64.b64encode(key).decode() for name, key in rewrap_all(keys, challenges()).items()}
     replace(path, json.dumps(secret, indent=2, ensure_ascii=False).encode() + b"\n", old_bytes=old)
+    print(f"{path}: {len(keys)} keys are under the new KEK")
 
 
 if __name__ == "__main__":
-    main(*sys.argv[1:])
+    try:
+        main(*sys.argv[1:] if sys.argv[1:] not in ([], ["--help"]) else sys.exit(__doc__))
+    except (OSError, ValueError, KeyError, Refused, WrongKeks) as error:
+        sys.exit(f"{sys.argv[1]}: {getattr(error, 'strerror', None) or error}")

@@ -1,25 +1,42 @@
-"""The arguments of `python -m keywrap.rotate`, and the store that they describe."""
+"""The arguments of `python -m keywrap.rotate`, and the KEKs and the store that they describe."""
 
 from __future__ import annotations
 
 import argparse
+import itertools
 import os
-import re
-from typing import Any, Optional, Sequence
+import sys
+from typing import Any, Optional, Sequence, Tuple
 
 import keywrap
 
-from . import kek_sources, keks
-from .files import Files, Format
-from .keys import Prefix, Prefixed, Refused
-from .lines import Lines, OneKey
-from .paths import Paths, Shard
-from .stores import Store
+from .files import Files, Lines, OneKey, Store
+from .found import WrongKeks
+from .keks import Keks
+from .keys import Notation
+from .listing import Names
 
-EPILOG = """Exit status: 0 all keys are under the new KEK; 2 arguments, or a report, a record or a store that belongs to
-other KEKs, were refused; 3 a machine lacks the KEKs of the rotation; 4 the report, record or progress file cannot be
-written, and the run stopped; 5 keys or units were refused, and are named; 6 units are unanswered: run it again; 130
-interrupted. It is right to run it again after any of them."""
+DESCRIPTION = """Rewraps the keys of a store from the KEK to the new KEK. By default a FILE has one key on each line, in
+hex; a directory means all files below it. The page docs/ROTATION.md has examples."""
+EPILOG = """Status: 0 a whole pass, which began after the last change, listed the store anew, found a key, and read every
+key under the new KEK (an empty shard is 0, too); 2 arguments; 3 a machine lacks the KEKs; 4 the report or record cannot
+be written; 5 keys or files were refused, or there is no key; 6 not finished: run it again; 130 interrupted. A file that
+is renamed at the right moment in both last passes can be missed: stop renames, then --verify."""
+#: The options of 1.1 that are gone, and what to do instead.
+GONE = {
+    "--id": "leave it out: rows are found without a column that orders them",
+    "--resume": "leave it out: a second run reads the store again; --report has a report",
+    "--merge": "--verify over the whole store says what merged reports cannot",
+    "--parts": "leave it out, and --shard for one large file: one run rotates it",
+    "--progress-file": "--report has a line for each unit, as soon as it is done",
+    "--max-lag": "--rate limits the keys a second; or interrupt the run, and begin it again",
+    "--all-or-nothing": "--dry-run first: its status is 5 if a key would be refused",
+    "--kek-command": "--kek <(COMMAND)",
+    "--new-kek-command": "--new-kek <(COMMAND)",
+    "--objects": "--files-from MANIFEST with --get and --put",
+    "--prefix-format": "--prefix with each text before old keys, as 'vault:v3:'",
+    "--new-version": "--new-prefix with the text before new keys, as 'vault:v4:'",
+}
 
 
 def _positive(text: str) -> int:
@@ -28,238 +45,147 @@ def _positive(text: str) -> int:
     return int(text)
 
 
-def _shard(text: str) -> Shard:
-    number, slash, count = text.partition("/")
-    if not (slash and number.isdecimal() and count.isdecimal() and 1 <= int(number) <= int(count)):
+def _shard(text: str) -> Tuple[int, int]:
+    number, _, count = text.partition("/")
+    if not (number.isdecimal() and count.isdecimal() and 1 <= int(number) <= int(count)):
         raise argparse.ArgumentTypeError("not I/N, with I from 1 to N")
-    return Shard(int(number), int(count))
+    return int(number), int(count)
+
+
+def _parser() -> argparse.ArgumentParser:
+    parser = argparse.ArgumentParser("python -m keywrap.rotate", usage="%(prog)s [OPTION].. [FILE]..", allow_abbrev=False,
+                                     description=DESCRIPTION, epilog=EPILOG, add_help=False,
+                                     formatter_class=lambda prog: argparse.HelpFormatter(prog, max_help_position=23))
+    add, env = parser.add_argument, os.environ.get
+    add("--kek", metavar="F", action="append", help="file of a KEK, in hex (default: $KEYWRAP_KEK)")
+    add("--new-kek", metavar="F", default=env("KEYWRAP_NEW_KEK"), help="its successor (default: $KEYWRAP_NEW_KEK)")
+    add("--raw-kek", action="store_true", help="KEK files are raw bytes")
+    add("--keks", metavar="F", help="table of KEKs: each line is NAME=FILE")
+    add("--new-keks", metavar="F", help="table of new KEKs, with the same names")
+    add("--kek-name", metavar="C", help="column or member with the name of a key's KEK")
+    add("--new-challenge", metavar="F", help="key under the new KEK: refuses swapped KEKs")
+    add("--make-challenges", action="store_true", help="only write one beside each KEK file")
+    notation = parser.add_mutually_exclusive_group()
+    for name, what in (("base64", "in base64"), ("base64url", "in base64url, unpadded"), ("raw", "raw: a file is one key")):
+        notation.add_argument(f"--{name}", dest="notation", action="store_const", const=name, default="hex",
+                              help=f"keys are {what}")  # fmt: skip
+    add("--prefix", metavar="P", action="append", default=[], help="text before old keys, as vault:v3:")
+    add("--new-prefix", metavar="P", default="", help="text before new keys")
+    store = parser.add_mutually_exclusive_group()
+    store.add_argument("--one-key", action="store_true", help="a file is one key, which may span lines")
+    store.add_argument("--csv", metavar="C", help="files are CSV with this column of keys")
+    store.add_argument("--json", metavar="M", help="lines are JSON objects with this member")
+    store.add_argument("--table", metavar="T", help="files are SQLite databases with this table")
+    store.add_argument("--postgresql", metavar="T", help="table of the database of libpq's variables")
+    add("--column", metavar="C", default="key", help="column of a table's keys (default: key)")
+    store.add_argument("--get", metavar="COMMAND", help="writes object {name} to {file}, prints its version")
+    add("--put", metavar="COMMAND", help="puts {file} as {name} if it still is {version}")
+    add("--files-from", metavar="F", help="take the names that are the lines of F")
+    add("--exclude", metavar="GLOB", action="append", default=[], help="leave out files of this name or path")
+    add("--shard", metavar="I/N", type=_shard, default=(1, 1), help="take part I of N of the names")
+    add("--quiesced", action="store_true", help="nobody writes: do not exchange names")
+    mode = parser.add_mutually_exclusive_group()
+    mode.add_argument("--dry-run", action="store_true", help="the same pass, and nothing is written")
+    mode.add_argument("--verify", action="store_true", help="the same pass, without the KEK")
+    add("--record", metavar="F", help="with --verify: write a record of the store")
+    add("--verify-record", metavar="F", help="with --verify: name what differs from a record")
+    add("--report", metavar="F", help="new file with a line of JSON for each unit")
+    add("--jobs", metavar="N", type=_positive, default=len(os.sched_getaffinity(0)), help="processes")
+    add("--dask", metavar="ADDRESS", help="scheduler of the Dask workers that do the units")
+    add("--rate", metavar="N", type=_positive, help="begin no unit while keys/s are more than N")
+    add("--timeout", metavar="S", type=_positive, default=600, help="give up a process without a sign of life")
+    add("--version", action="version", version=f"keywrap.rotate {keywrap.__version__}", help="print the version")
+    add("--help", action="help", help="print this help")
+    add("files", metavar="FILE", nargs="*", help="a file, a directory or a database")
+    return parser
+
+
+def _reason(options: argparse.Namespace) -> Optional[str]:
+    """Why these options do not go together."""
+    is_table = options.table is not None or options.postgresql is not None
+    is_file = not is_table and options.get is None
+    rotates = not (options.verify or options.dry_run)
+    has_tables = options.keks is not None or options.new_keks is not None
+    has_names = is_table or options.csv is not None or options.json is not None
+    prefixes = [prefix.encode() for prefix in (*options.prefix, options.new_prefix)]
+    wrong = {
+        "a FILE, or --files-from, is required": options.postgresql is None
+            and not (options.files or options.files_from or options.make_challenges),
+        "--postgresql goes with neither FILE, --files-from, --exclude nor --shard": options.postgresql is not None
+            and (options.files or options.files_from or options.exclude or options.shard != (1, 1)),
+        "--get, --put and --files-from go together, without FILE": bool(options.get) != bool(options.put)
+            or options.get and (options.files or not options.files_from),
+        "--quiesced goes with files only": options.quiesced and not is_file,
+        "--raw goes with neither --csv, --json nor a prefix": options.notation == "raw"
+            and (options.csv is not None or options.json is not None or options.prefix),
+        "--record and --verify-record go with --verify": (options.record or options.verify_record) and not options.verify,
+        "--rate goes with a rotation only": options.rate is not None and not rotates,
+        "--kek-name goes with --csv, --json, --table and --postgresql": options.kek_name is not None and not has_names,
+        "--kek-name and --keks, or --new-keks, go together": (options.kek_name is not None) != has_tables,
+        "--keks goes without --kek, and --new-keks without --new-kek": options.keks is not None
+            and options.kek is not None or options.new_keks is not None and "--new-kek" in options.given,
+        "--new-keks needs --keks": options.new_keks is not None and options.keks is None and not options.verify,
+        "--new-challenge and --make-challenges go without --keks and --new-keks": has_tables
+            and (options.new_challenge is not None or options.make_challenges),
+        "--prefix and --new-prefix go together": bool(options.prefix) != bool(options.new_prefix),
+        "a prefix has neither blanks at its ends nor control characters": any(
+            not text.isprintable() or text != text.strip() for text in (*options.prefix, options.new_prefix)),
+        "one prefix begins with another one": any(
+            one.startswith(other) for one in prefixes for other in prefixes if one is not other),
+    }  # fmt: skip
+    return next((why for why, is_so in wrong.items() if is_so), None)
 
 
 def parse(words: Optional[Sequence[str]]) -> argparse.Namespace:
-    parser = argparse.ArgumentParser(
-        prog="python -m keywrap.rotate",
-        description="Rewraps the wrapped keys of a store from the KEK to the new KEK. By default each FILE has one key "
-        "on each line, in hex; a directory means all files below it. A key that is under neither KEK is named and "
-        "stays as it is.",
-        epilog=EPILOG,
-    )
-    parser.add_argument("--version", action="version", version=f"keywrap.rotate {keywrap.__version__}")
-    _add_keks(parser)
-    _add_stores(parser)
-    _add_modes(parser)
-    _add_engines(parser)
-    parser.add_argument("files", metavar="FILE", nargs="*", help="a file, a directory or a database")
-    options = parser.parse_args(words)
+    words = sys.argv[1:] if words is None else list(words)
+    given = [word.partition("=")[0] for word in itertools.takewhile(lambda word: word != "--", words)]
+    parser = _parser()
+    for name in given:
+        if name in GONE:
+            parser.error(f"{name} is gone: {GONE[name]}")
+    options = parser.parse_args(words, argparse.Namespace(given=given))
     wrong = _reason(options)
     if wrong is not None:
         parser.error(wrong)
     return options
 
 
-def _add_keks(parser: argparse.ArgumentParser) -> None:
-    new = parser.add_mutually_exclusive_group()
-    old = parser.add_mutually_exclusive_group()
-    old.add_argument("--kek", metavar="F", action="append", help="the file of the KEK, in hex (default: $KEYWRAP_KEK). "
-                     "Given several times: a key may be under any of them")  # fmt: skip
-    new.add_argument("--new-kek", metavar="F", help="the file of the new KEK, in hex (default: $KEYWRAP_NEW_KEK)")
-    old.add_argument("--kek-command", metavar="COMMAND", help="a command that prints the KEK in hex; no shell runs it")
-    new.add_argument("--new-kek-command", metavar="COMMAND", help="a command that prints the new KEK in hex")
-    old.add_argument("--keks", metavar="F", help="a table of KEKs: each line is NAME=FILE")
-    new.add_argument("--new-keks", metavar="F", help="a table of new KEKs, with the same names")
-    parser.add_argument("--kek-name", metavar="C", help="the column or member with the name of a key's KEK")
-    parser.add_argument("--prefix-format", metavar="TEXT", help="the text before each key, with {version} in it, which "
-                        "is the name of its KEK: 'vault:v{version}:'")  # fmt: skip
-    parser.add_argument("--new-version", metavar="V", help="the version in the prefix of a new key")
+def keks_of(options: argparse.Namespace) -> Keks:
+    def absolute(name: Optional[str]) -> Optional[str]:
+        return None if name is None else os.path.abspath(name)
 
-
-def _add_stores(parser: argparse.ArgumentParser) -> None:
-    notation = parser.add_mutually_exclusive_group()
-    for name, what in (("base64", "base64"), ("base64url", "base64url without padding"), ("raw", "raw bytes, one key")):
-        help = f"keys are {what}"
-        notation.add_argument(f"--{name}", dest="notation", action="store_const", const=name, default="hex", help=help)
-    store = parser.add_mutually_exclusive_group()
-    store.add_argument("--one-key", action="store_true", help="a file is one key, which may span lines")
-    store.add_argument("--csv", metavar="COLUMN", help="a file is CSV, and its first line names this column of keys")
-    store.add_argument("--json", metavar="MEMBER", help="a file has a JSON object on each line, with this member")
-    store.add_argument("--table", metavar="TABLE", help="a file is an SQLite database with this table")
-    store.add_argument("--postgresql", metavar="TABLE", help="this table of the PostgreSQL database of libpq's "
-                       "variables, such as PGHOST; several runs share the work")  # fmt: skip
-    store.add_argument("--objects", metavar="MANIFEST", help="the objects whose names are the lines of this file, "
-                       "by two commands")  # fmt: skip
-    for name, what in (("get", "writes the object {name} to {file}, and prints its version"),
-                       ("put", "puts {file} as {name}, and fails unless it has still {version}")):  # fmt: skip
-        parser.add_argument(f"--{name}", metavar="COMMAND", help=f"with --objects: {what}; no shell runs it")
-    parser.add_argument("--column", metavar="C", help="the column of a table's keys (default: key)")
-    parser.add_argument("--id", metavar="C", help="the unique column that orders a table's rows (default: rowid in "
-                        "SQLite, id in PostgreSQL)")  # fmt: skip
-    parser.add_argument("--exclude", metavar="GLOB", action="append", default=[],
-                        help="leave out files and directories of this name or path")  # fmt: skip
-    parser.add_argument("--files-from", metavar="F", help="take the files whose names are the lines of F")
-    parser.add_argument("--shard", metavar="I/N", type=_shard, default=Shard(),
-                        help="take part I of N parts of the store: N runs take all of it")  # fmt: skip
-    parser.add_argument("--parts", metavar="DIR", help="with --shard: divide each file of lines itself, and put its part "
-                        "into DIR; the run that makes the last part replaces the file")  # fmt: skip
-    parser.add_argument("--quiesced", action="store_true", help="nobody writes the files: replace them even if the "
-                        "system cannot exchange names")  # fmt: skip
-
-
-def _add_modes(parser: argparse.ArgumentParser) -> None:
-    mode = parser.add_mutually_exclusive_group()
-    mode.add_argument("--dry-run", action="store_true",
-                      help="count the keys under the KEK, the new KEK and neither, and write nothing")  # fmt: skip
-    mode.add_argument("--verify", action="store_true", help="check all keys under the new KEK, without the KEK")
-    mode.add_argument("--verify-record", metavar="F", help="verify, and compare with the record of an earlier --verify")
-    mode.add_argument("--all-or-nothing", action="store_true",
-                      help="a file or table with a refused key stays as it is")  # fmt: skip
-    mode.add_argument("--merge", action="store_true", help="the FILEs are the reports of all shards: merge them")
-    parser.add_argument("--record", metavar="F", help="with --verify: write a record of each file or table")
-    report = parser.add_mutually_exclusive_group()
-    report.add_argument("--report", metavar="F", help="append a line of JSON for each file or range of rows")
-    report.add_argument("--resume", metavar="REPORT", help="the report of an earlier run: skip each file whose size, "
-                        "time and digest are there, and append the others")  # fmt: skip
-    parser.add_argument("--progress-file", metavar="F", help="write the progress as OpenMetrics text, once in a second")
-
-
-def _add_engines(parser: argparse.ArgumentParser) -> None:
-    engine = parser.add_mutually_exclusive_group()
-    engine.add_argument("--jobs", metavar="N", type=_positive, default=len(os.sched_getaffinity(0)),
-                        help="processes (default: one for each processor)")  # fmt: skip
-    engine.add_argument("--dask", metavar="ADDRESS", help="the scheduler whose workers rotate the files")
-    parser.add_argument("--rate", metavar="N", type=_positive, help="rewrap at most N keys a second")
-    parser.add_argument("--max-lag", metavar="MB", type=_positive, help="with --postgresql: wait while a replica has "
-                        "more megabytes of the log still to replay")  # fmt: skip
-    parser.add_argument("--timeout", metavar="SECONDS", type=_positive, default=600,
-                        help="give up a process that shows no progress for so long (default: 600)")  # fmt: skip
-
-
-def _reason(options: argparse.Namespace) -> Optional[str]:
-    """Why these options do not go together."""
-    is_table = options.table is not None or options.postgresql is not None
-    is_file = not is_table and options.objects is None
-    takes_files = is_file or options.table is not None
-    rotates = not (verifies(options) or options.dry_run or options.merge)
-    has_names = is_table or options.csv is not None or options.json is not None
-    wrong = {
-        "the following arguments are required: FILE": takes_files and not (options.files or options.files_from),
-        "a FILE goes with neither --postgresql nor --objects": options.files and not takes_files,
-        "--column and --id go with --table and --postgresql only": (options.column or options.id) and not is_table,
-        "--objects needs --get and --put": options.objects is not None and not (options.get and options.put),
-        "--get and --put go with --objects only": (options.get or options.put) and options.objects is None,
-        "--quiesced goes with files only": options.quiesced and not is_file,
-        "--exclude goes with files and --table only": options.exclude and not takes_files,
-        "--files-from goes with files and --table only": options.files_from is not None and not takes_files,
-        "--raw goes with neither --csv nor --json": options.notation == "raw" and (options.csv or options.json),
-        "--dask goes with files only": options.dask is not None and not is_file,
-        "--dask goes with neither --rate nor a KEK that is read only once": options.dask is not None and (
-            options.rate or options.keks or options.new_keks or options.kek_command or options.new_kek_command),
-        "--record goes with --verify only": options.record is not None and not options.verify,
-        "--report does not go with --verify: use --record": options.report is not None and verifies(options),
-        "--resume goes with a rotation of files only": options.resume is not None and not (is_file and rotates),
-        "--rate goes with a rotation only": options.rate is not None and not rotates,
-        "--max-lag goes with a rotation of --postgresql only": options.max_lag is not None
-            and not (options.postgresql is not None and rotates),
-        "--shard does not go with --postgresql: several runs share the work": options.shard != Shard()
-            and options.postgresql is not None and rotates,
-        "--shard goes with neither --all-or-nothing nor --merge": options.shard != Shard()
-            and (options.merge or options.all_or_nothing and is_table),
-        "--parts goes with a rotation of files of lines only": options.parts is not None and not (is_file and rotates
-            and not (options.one_key or options.csv or options.json or options.notation == "raw")),
-        "--parts needs --shard": options.parts is not None and options.shard.total == 1,
-        "--parts goes with neither --all-or-nothing, --resume nor --dask": options.parts is not None and (
-            options.all_or_nothing or options.resume is not None or options.dask is not None),
-        "--kek-name goes with --csv, --json, --table and --postgresql only": options.kek_name and not has_names,
-        "--kek-name needs --keks or --new-keks": options.kek_name and not (options.keks or options.new_keks),
-        "--keks and --new-keks need --kek-name or --prefix-format": (options.keks or options.new_keks)
-            and not (options.kek_name or options.prefix_format) and not options.merge,
-        "--new-keks needs --keks": options.new_keks and not options.keks and rotates,
-        "--prefix-format and --new-version go together": bool(options.prefix_format) != bool(options.new_version),
-        "--prefix-format does not go with --raw": options.prefix_format and options.notation == "raw",
-        "--prefix-format: it needs {version}, and a text after it": options.prefix_format
-            and not re.fullmatch(r"[ -~]*\{version\}[!-~][ -~]*", options.prefix_format),
-    }  # fmt: skip
-    return next((why for why, is_so in wrong.items() if is_so), None)
-
-
-def verifies(options: argparse.Namespace) -> bool:
-    return bool(options.verify or options.verify_record is not None)
-
-
-def take_keks(options: argparse.Namespace) -> None:
-    """Sets the variables of the KEKs, and reads those that are read only once."""
-    keks.held.clear()
-    if options.kek is not None or options.kek_command is not None:
-        for variable in keks.old_variables():
-            os.environ.pop(variable, None)
-    for at, name in enumerate(options.kek or [], 1):
-        os.environ[keks.OLD if at == 1 else f"{keks.OLD}_{at}"] = name
-    if options.new_kek is not None:
-        os.environ[keks.NEW] = options.new_kek
-    for variable, command in ((keks.OLD, options.kek_command), (keks.NEW, options.new_kek_command)):
-        if command is not None:
-            kek_sources.hold_output(variable, command, options.timeout)
-    kek_sources.hold_pipes(needs_old=not verifies(options))
-    kek_sources.hold_tables(options.keks, options.new_keks)
-
-
-def _notation(options: argparse.Namespace) -> str:
-    if options.prefix_format is None:
-        return str(options.notation)
-    before, after = options.prefix_format.split("{version}")
-    notation = Prefixed(options.notation)
-    notation.prefix = Prefix(before.encode(), after.encode(), options.new_version)
-    return notation
+    variables = itertools.chain(["KEYWRAP_KEK"], (f"KEYWRAP_KEK_{number}" for number in itertools.count(2)))
+    old = options.kek or [os.environ[name] for name in itertools.takewhile(os.environ.__contains__, variables)]
+    new = None if options.new_keks is not None else options.new_kek
+    table = None if options.verify else options.keks
+    if not (new or options.new_keks) or not (old or table or options.verify):
+        raise WrongKeks("give --kek and --new-kek, or set KEYWRAP_KEK and KEYWRAP_NEW_KEK")
+    paths = () if table is not None or options.verify else tuple(os.path.abspath(path) for path in old)
+    return Keks(paths, absolute(new), absolute(table), absolute(options.new_keks), options.raw_kek)
 
 
 def store_of(options: argparse.Namespace) -> Store:
     """Makes the store. Only what it needs is imported: the others would double the time of the start."""
-    notation, column, whole = _notation(options), options.column or "key", bool(options.all_or_nothing)
-    paths = Paths(options.files, options.exclude, options.files_from)
+    notation = Notation(options.notation, tuple(map(str.encode, options.prefix)), options.new_prefix.encode())
+    names = Names(options.files, options.exclude, options.files_from, options.shard)
     if options.table is not None:
-        from .rows import Table
         from .sqlite import Sqlite
 
-        table = Table(options.table, column, options.id or "rowid", options.kek_name, options.shard)
-        return Sqlite(table, notation, whole, paths)
+        return Sqlite(options.table, options.column, notation, names, options.kek_name)
     if options.postgresql is not None:
         from .postgresql import Postgresql
-        from .replication import Replication
-        from .rows import Table
 
-        table = Table(options.postgresql, column, options.id or "id", options.kek_name, options.shard)
-        only_reads = verifies(options) or options.dry_run
-        return Postgresql(table, notation, whole, only_reads, Replication(table, options.max_lag))
-    if options.objects is not None:
+        return Postgresql(options.postgresql, options.column, notation, options.kek_name)
+    if options.csv is not None or options.json is not None:
+        from .fields import Fields
+
+        is_csv = options.csv is not None
+        name = options.csv if is_csv else options.json
+        return Files(Fields(is_csv, name, notation, options.kek_name), names, options.quiesced)
+    if options.get is not None:
         from .objects import Objects
-        from .user_commands import Commands
 
         # A command is given up before the process that waits for it would be.
-        commands = Commands(options.get, options.put, 0.75 * options.timeout)
-        return Objects(options.objects, OneKey(notation), commands, options.shard)
-    if options.parts is not None:
-        from .parts import Parts
-
-        return Parts(Lines(notation), paths, options.shard, options.parts, options.quiesced)
-    return Files(_format(options, notation), paths._replace(shard=options.shard), options.quiesced)
-
-
-def _format(options: argparse.Namespace, notation: str) -> Format:
-    if options.csv is not None:
-        from .csv_column import CsvColumn
-
-        return CsvColumn(options.csv, notation, options.kek_name)
-    if options.json is not None:
-        from .json_member import JsonMember
-
-        return JsonMember(options.json, notation, options.kek_name)
-    if options.one_key or notation == "raw":
-        return OneKey(notation)
-    return Lines(notation)
-
-
-def outside(options: argparse.Namespace) -> None:
-    """Refuses an output file that is one of the files, or below them."""
-    for option in ("report", "resume", "record", "progress_file", "verify_record", "objects", "files_from", "parts"):
-        name: Any = getattr(options, option)
-        path = None if name is None else os.path.realpath(name)
-        if path and any((path + os.sep).startswith(os.path.realpath(file) + os.sep) for file in options.files):
-            raise Refused(f"--{option.replace('_', '-')}: it is one of the files, or below them")
+        return Objects(OneKey(notation), names, options.get, options.put, 0.75 * options.timeout)
+    format: Any = OneKey if options.one_key or options.notation == "raw" else Lines
+    return Files(format(notation), names, options.quiesced)

@@ -1,30 +1,27 @@
-"""What a run tells: a line for each unit in its report, refusals on standard error, and the counts."""
+"""What a run tells: refusals and counts on standard error, a line for each unit in its report, and a record of what was
+verified."""
 
 from __future__ import annotations
 
 import datetime
+import hashlib
 import json
 import os
+import secrets
+import sqlite3
+import stat
 import sys
-import time
-from typing import IO, Any, Callable, Counter, Dict, Optional
+from typing import Any, Callable, Iterator, Optional, Set, Tuple
 
-from .engine import Answer
-from .keks import Challenges, probe
-from .keys import Refused
+from .found import NAMED, Found
 
-#: The exit statuses. Each means one thing.
-DONE, ARGUMENTS, KEKS, REPORT, REFUSED, UNFINISHED, INTERRUPTED = 0, 2, 3, 4, 5, 6, 130
-#: How many unanswered units with the same cause are named on standard error, and how often a report is synced.
-NAMED, SYNC_SECONDS = 10, 1.0
+
+class Unusable(Exception):
+    """The report or the record is no file of ours. Nothing was touched."""
 
 
 class ReportFailed(Exception):
-    """The report, the record or the progress file cannot be written."""
-
-
-def now() -> str:
-    return datetime.datetime.now(datetime.timezone.utc).isoformat(timespec="milliseconds")
+    """The report or the record cannot be written."""
 
 
 def shown(text: str) -> str:
@@ -32,150 +29,111 @@ def shown(text: str) -> str:
     return "".join(c if c.isprintable() else c.encode("unicode_escape").decode("ascii") for c in text)
 
 
-class Lines:
-    """A file of lines of JSON, each with its time, that is synced."""
+class Report:
+    """Lines of JSON in a new file. Nobody reads them for a status."""
 
-    def __init__(self, option: str, name: str, flags: int = os.O_APPEND) -> None:
-        self.option, self.synced = option, time.monotonic()
-        try:
-            descriptor = os.open(name, os.O_RDWR | os.O_CREAT | os.O_NOFOLLOW | os.O_CLOEXEC | flags, 0o600)
-        except OSError as error:
-            raise Refused(f"{option}: {error.strerror}") from None
-        self.file: IO[str] = open(descriptor, "r+", encoding="utf-8")
+    def __init__(self, name: Optional[str]) -> None:
+        self.file: Any = None
+        self.clear: Callable[[], None] = lambda: None
+        self.said: Set[int] = set()
+        if name is not None:
+            try:
+                self.file = open(os.open(name, os.O_WRONLY | os.O_CREAT | os.O_EXCL | os.O_CLOEXEC, 0o600), "w", encoding="utf-8")
+            except OSError as error:
+                raise Unusable(f"--report: {name}: {error.strerror}") from None
 
     def line(self, **content: Any) -> None:
-        try:
-            print(json.dumps({"time": now(), **content}), file=self.file, flush=True)
-            if time.monotonic() - self.synced > SYNC_SECONDS:
-                self.sync()
-        except OSError as error:
-            raise ReportFailed(f"{self.option}: {error.strerror}") from None
+        if self.file is not None:
+            now = datetime.datetime.now(datetime.timezone.utc).isoformat(timespec="milliseconds")
+            try:
+                print(json.dumps({"time": now, **content}), file=self.file, flush=True)
+            except OSError as error:
+                raise ReportFailed(f"the report or record: {error.strerror}") from None
 
     def sync(self) -> None:
-        try:
+        if self.file is not None:
             os.fsync(self.file.fileno())
-            self.synced = time.monotonic()
-        except OSError as error:
-            raise ReportFailed(f"{self.option}: {error.strerror}") from None
-
-
-class Tally:
-    """Counts the answers of a run."""
-
-    def __init__(self) -> None:
-        self.outcomes: Counter[str] = Counter()
-        self.keys: Counter[str] = Counter()
-        self.under: Counter[str] = Counter()
-        self.causes: Counter[str] = Counter()
-        self.lacks_keks = False
-
-    def add(self, answer: Answer) -> None:
-        self.outcomes[answer["outcome"]] += 1
-        if answer["outcome"] != "refused":
-            for name in ("keys", "passed", "refused"):
-                self.keys[name] += answer[name]
-            self.under.update(answer.get("under", {}))
-        if answer["outcome"] == "unanswered":
-            self.causes[answer["why"]] += 1
-            self.lacks_keks |= "keks" in answer
-
-    def skip(self, answer: Answer) -> None:
-        """Counts a unit that is as an earlier run left it."""
-        self.add({**answer, "passed": answer["keys"], "under": {}})
-
-    def counts(self) -> Dict[str, Any]:
-        counts = {name: self.outcomes[name] for name in ("refused", "gone", "unanswered")}
-        done = sum(self.outcomes.values()) - sum(counts.values())
-        keys = {"keys": self.keys["keys"], "keys_new": self.keys["passed"], "keys_refused": self.keys["refused"]}
-        return {"done": done, **counts, **keys, **({"under": dict(self.under)} if self.under else {})}
-
-    def status(self) -> int:
-        if self.outcomes["unanswered"]:
-            return KEKS if self.lacks_keks else UNFINISHED
-        return REFUSED if self.outcomes["refused"] or self.keys["refused"] else DONE
-
-
-def head_of(option: str, line: str) -> str:
-    """Returns the shard of a report by its first line. Refuses a report of other KEKs."""
-    try:
-        head = json.loads(line)
-        wrong, shard = probe(*head["challenges"]), str(head["shard"])
-    except (ValueError, KeyError, TypeError, AttributeError):
-        raise Refused(f"{option}: it is not a report of keywrap.rotate") from None
-    if wrong is not None:
-        raise Refused(f"{option}: it belongs to a rotation with other KEKs: {wrong}")
-    return shard
-
-
-class Report:
-    """Writes answers to the report, if there is one, and refusals to standard error."""
-
-    def __init__(self, lines: Optional[Lines], clear: Callable[[], None]) -> None:
-        self.lines, self.clear, self.tally, self.began = lines, clear, Tally(), time.monotonic()
-
-    def begin(self, pair: Challenges, shard: str) -> None:
-        """Writes the challenges as the first line. An earlier run's report must be of the same KEKs and shard."""
-        if self.lines is None:
-            return
-        first = self.lines.file.readline()
-        if not first:
-            return self.line(challenges=pair, shard=shard)
-        if head_of(self.lines.option, first) != shard:
-            raise Refused(f"{self.lines.option}: it belongs to another shard than {shard}")
-        if not self._ends_with_a_line():  # The last run was killed.
-            self.lines.file.write("\n")
-
-    def _ends_with_a_line(self) -> bool:
-        assert self.lines is not None
-        size = os.fstat(self.lines.file.fileno()).st_size
-        return os.pread(self.lines.file.fileno(), 1, size - 1) == b"\n"
-
-    def line(self, **content: Any) -> None:
-        if self.lines is not None:
-            self.lines.line(**content)
-
-    def answer(self, answer: Answer) -> None:
-        self.tally.add(answer)
-        for place, why in answer["named"]:
-            self.say(f"{answer['unit']}: {place}: {why}")
-        if answer["refused"] > len(answer["named"]):
-            self.say(f"{answer['unit']}: {answer['refused'] - len(answer['named'])} more keys were refused")
-        if answer["outcome"] == "refused":
-            self.say(f"{answer['unit']}: {answer['why']}")
-        if answer["outcome"] == "unanswered" and "keks" not in answer and self.tally.causes[answer["why"]] <= NAMED:
-            self.say(f"{answer['unit']}: unanswered: {answer['why']}")
-        self.line(**answer)
-
-    def note(self, text: str) -> None:
-        """Names what a person has to look at. The run is not done."""
-        self.tally.outcomes["refused"] += 1
-        self.say(text)
-        self.line(note=text)
 
     def say(self, text: str) -> None:
         self.clear()
         print(f"keywrap.rotate: {shown(text)}", file=sys.stderr, flush=True)
 
-    def end(self, noun: str, words: str, not_begun: int, status: Optional[int] = None) -> int:
-        """Writes the counts, and returns the exit status. The words are for the keys."""
-        tally = self.tally
-        for cause, number in tally.causes.items():
-            if number > NAMED or tally.lacks_keks:
-                self.say(f"{number} {noun} are unanswered: {cause}")
-        counts = tally.counts()
-        more = f", {not_begun} not begun" if not_begun else ""
-        units = f"{counts['done']} done, {counts['refused']} refused, {counts['gone']} gone"
-        old = counts["keys"] - counts["keys_new"] - counts["keys_refused"]
-        if tally.outcomes["part"]:
-            self.say(f"{tally.outcomes['part']} {noun} wait for the runs that make their other parts")
-        for label, number in sorted(tally.under.items()):
-            self.say(f"{number} keys were under {label}")
-        self.say(f"{noun}: {units}, {counts['unanswered']} unanswered{more}; {words.format(old=old, **counts)}")
-        if status is None:
-            status = tally.status() or (UNFINISHED if not_begun else DONE)
-        seconds = round(time.monotonic() - self.began, 2)
-        if status != REPORT:
-            self.line(**counts, not_begun=not_begun, status=status, seconds=seconds)
-            if self.lines is not None:
-                self.lines.sync()
-        return status
+    def name(self, name: str, found: Found) -> None:
+        """Names what was refused or lost in a unit, once in all passes."""
+        texts = [": ".join(filter(None, (name, place, why))) for place, why in found.named]
+        if found.refused > len(found.named):
+            texts.append(f"{name}: {found.refused - len(found.named)} more keys were refused")
+        for text in texts:
+            if hash(text) not in self.said and len(self.said) <= NAMED:
+                self.say(text if len(self.said) < NAMED else "more is refused: the report has the first of each unit")
+                self.said.add(hash(text))
+
+
+class Record:
+    """The units of a pass with their numbers of keys and digests, in order; and those of an earlier record."""
+
+    def __init__(self) -> None:
+        self._database = sqlite3.connect("", isolation_level=None)
+        for table in ("now", "before"):
+            self._database.execute(f"CREATE TABLE {table} (unit PRIMARY KEY, keys, digest) WITHOUT ROWID")
+
+    def begin(self) -> None:
+        self._database.execute("DELETE FROM now")
+
+    def add(self, unit: str, keys: int, digest: Optional[str], table: str = "now") -> None:
+        """Adds a unit. The ranges of a table are one: their digests are numbers, which are added up."""
+        name, is_range, _ = unit.partition(": blocks from ")
+        unit = name.encode("utf-8", "surrogateescape").hex() if not name.isprintable() else name
+        old = self._database.execute(f"SELECT keys, digest FROM {table} WHERE unit = ?", (unit,)).fetchone()
+        if old and is_range:
+            keys, digest = keys + old[0], f"{(int(old[1] or '0', 16) + int(digest or '0', 16)) % (1 << 256):064x}"
+        self._database.execute(f"INSERT OR REPLACE INTO {table} VALUES (?, ?, ?)", (unit, keys, digest))
+
+    def _lines(self, table: str) -> Iterator[Tuple[str, int, str]]:
+        yield from self._database.execute(f"SELECT * FROM {table} ORDER BY unit")
+
+    def _chain(self, table: str, status: int) -> str:
+        """A hash over all lines and the status."""
+        chain = hashlib.blake2b(b"keywrap.rotate")
+        for line in self._lines(table):
+            chain.update(json.dumps(line).encode())
+        chain.update(str(status).encode())
+        return chain.hexdigest()
+
+    def write(self, name: str, status: int) -> None:
+        """Writes the record under a temporary name, and gives it its name, which no other file may have."""
+        temporary = f"{name}.{secrets.token_hex(8)}.new"
+        try:
+            report = Report(temporary)
+            try:
+                for unit, keys, digest in self._lines("now"):
+                    report.line(unit=unit, keys=keys, digest=digest)
+                report.line(status=status, chain=self._chain("now", status))
+                report.sync()
+                os.link(temporary, name)
+            finally:
+                os.unlink(temporary)
+        except (OSError, Unusable) as error:
+            raise ReportFailed(f"--record: {name}: {getattr(error, 'strerror', None) or error}") from None
+
+    def read(self, name: str) -> None:
+        last = None
+        try:
+            with open(os.open(name, os.O_RDONLY | os.O_NONBLOCK | os.O_CLOEXEC), encoding="utf-8") as file:
+                if not stat.S_ISREG(os.fstat(file.fileno()).st_mode):
+                    raise ValueError
+                for line in map(json.loads, file):
+                    if last is not None:
+                        self.add(last["unit"], last["keys"], last["digest"], "before")
+                    last = line
+            if not last or last["status"] != 0 or last["chain"] != self._chain("before", 0):
+                raise ValueError
+        except OSError as error:
+            raise Unusable(f"--verify-record: {name}: {error.strerror}") from None
+        except (ValueError, KeyError, TypeError, AttributeError, RecursionError, sqlite3.Error):
+            raise Unusable(f"--verify-record: {name}: it is not a whole record of status 0") from None
+
+    def differences(self) -> Iterator[str]:
+        for one, other, word in (("before", "now", "missing or changed"), ("now", "before", "added or changed")):
+            for unit, keys, _ in self._database.execute(f"SELECT * FROM {one} EXCEPT SELECT * FROM {other}"):
+                yield f"{unit}: {word} since the record: {keys} keys"

@@ -1,0 +1,207 @@
+"""Faults of I/O at each call of each kind, and kills at each point of an exchange, while another program may write: status 0
+is never wrong, no key is lost, and the next run finishes what is left."""
+
+import collections
+import os
+import shutil
+import subprocess
+import sys
+
+import pytest
+
+pytest.importorskip("cryptography", reason="no cryptography (apt-get install python3-cryptography)")
+
+from rotation_help import KEK, NEW_KEK, left_over, lines_under, make_keys, rotate, set_keks, slow  # noqa: E402
+
+FILES = 6
+KEYS = [make_keys(20, seed) for seed in range(FILES)]
+THEIRS = [lines_under(NEW_KEK, make_keys(1, seed)) for seed in (50, 51)]
+# Before or after its Nth call for the store, a function fails, or its process is killed.
+PROGRAM = """
+import errno, fcntl, os, sys
+from keywrap.rotation import replacing
+what, number, store = os.environ["WHAT"], int(os.environ["NUMBER"]), os.environ["STORE"]
+calls = 0
+def is_this():
+    global calls
+    calls += 1
+    return calls == number if number > 0 else calls % -number == 0
+def place(what):
+    return os.readlink(f"/proc/self/fd/{what}") if isinstance(what, int) else os.fsdecode(what)
+def die():
+    if "EACH" in os.environ or not os.path.exists("once"):
+        open("once", "w").close()
+        os.kill(os.getpid(), 9)
+def write(path, at):
+    if "EACH" in os.environ or not os.path.exists("once"):
+        with open(f"their{os.getpid()}", "wb") as file, open(f"theirs{at}", "rb") as content:
+            file.write(content.read())
+        os.rename(f"their{os.getpid()}", path)
+def failing(module, name, number):
+    real = getattr(module, name)
+    def call(first, *more, **others):
+        if what == f"fail {name}" and place(first).startswith(store) and is_this():
+            raise OSError(number, os.strerror(number))
+        if what == "short write" and name == "write" and place(first).startswith(store) and len(more[0]) > 1 and is_this():
+            return real(first, more[0][: len(more[0]) // 2])
+        kill = what == f"kill at {name}" and b".rotating." in os.fsencode(place(first)) and is_this()
+        kill = kill or what == "kill at dirsync" and name == "fsync" and os.path.isdir(place(first)) and is_this()
+        if kill and name != "rename":
+            die()
+        answer = real(first, *more, **others)
+        if kill:
+            die()
+        return answer
+    setattr(module, name, call)
+for name in "fsync", "pread", "write", "unlink", "rename":
+    failing(os, name, errno.EIO)
+failing(os, "fchmod", errno.EPERM)
+failing(fcntl, "flock", errno.ENOLCK)
+def exchange(one, other, real=replacing.exchange):
+    hit = what.split()[-1] in ("exchange", "before", "after", "written", "twice", "raced", "exchanged", "none") and is_this()
+    if hit and what == "fail none":
+        raise replacing.Refused("this file system cannot exchange two files: stop all writers, then use --quiesced")
+    if hit and what == "kill before":
+        die()
+    if hit and what == "fail exchange":
+        raise OSError(errno.EIO, "Input/output error")
+    if hit and what in ("kill written", "kill twice", "raced"):
+        write(other, 1)
+    real(one, other)
+    if hit and what == "kill twice":
+        write(other, 2)
+    if hit and what == "fail exchanged":
+        raise OSError(errno.EIO, "Input/output error")
+    if hit and what in ("kill after", "kill written", "kill twice"):
+        die()
+replacing.exchange = exchange
+from keywrap.rotate import main
+sys.exit(main())
+"""
+BROKEN = (sys.executable, "-B", "-c", PROGRAM)
+
+
+@pytest.fixture(autouse=True)
+def store(tmp_path, monkeypatch):
+    set_keks(tmp_path, monkeypatch)
+    monkeypatch.chdir(tmp_path)
+    for number, content in enumerate(THEIRS, 1):
+        (tmp_path / f"theirs{number}").write_bytes(content)
+    return tmp_path / "store"
+
+
+def fill(store):
+    shutil.rmtree(store, ignore_errors=True)
+    store.mkdir()
+    for number, keys in enumerate(KEYS):
+        (store / f"f{number}").write_bytes(lines_under(KEK, keys))
+    if os.path.exists("once"):
+        os.unlink("once")
+
+
+def kinds(store):
+    """For each file: old, new, their first or second content."""
+    found = []
+    for number, keys in enumerate(KEYS):
+        content = (store / f"f{number}").read_bytes()
+        found.append({lines_under(KEK, keys): "old", lines_under(NEW_KEK, keys): "new", THEIRS[0]: "1", THEIRS[1]: "2"}[content])
+    return collections.Counter(found)
+
+
+def broken(store, what, number, **more):
+    environment = {**os.environ, "WHAT": what, "NUMBER": str(number), "STORE": str(store), **more}
+    return rotate("--jobs", "1", store, program=BROKEN, env=environment)
+
+
+FAULTS = ["fail fsync", "fail pread", "fail write", "short write", "fail unlink", "fail rename", "fail fchmod", "fail flock",
+          "fail exchange", "fail exchanged", "fail none"]  # fmt: skip
+
+
+@pytest.mark.parametrize("what", FAULTS)
+@pytest.mark.parametrize("numbers", [[1, 3, -1], pytest.param([2, 4, 5, 6, 8, 13, -2, -3], marks=slow)], ids=["some", "all"])
+def test_faults_of_input_and_output(store, what, numbers):
+    for number in numbers:
+        fill(store)
+        done = broken(store, what, number)
+        found = kinds(store)
+        if done == 0:
+            assert (set(found), left_over(store)) == ({"new"}, []), (what, number)
+        assert set(found) <= {"old", "new"}
+        if (what, number) in ([("fail exchange", -1)], [("fail none", -1)]):
+            assert done.status in (5, 6) and set(found) == {"old"}
+        assert rotate(store) == 0
+        assert (set(kinds(store)), sorted(os.listdir(store))) == ({"new"}, [f"f{number}" for number in range(FILES)])
+
+
+KILLS = ["kill at rename", "kill before", "kill after", "kill at unlink", "kill at dirsync", "kill written", "kill twice", "raced"]
+
+
+@pytest.mark.parametrize("what", KILLS)
+@pytest.mark.parametrize("each", [False, True])
+@pytest.mark.parametrize("numbers", [[1, 4], pytest.param([2, 3, 5, 6], marks=slow)], ids=["some", "all"])
+def test_kills_at_each_point_of_an_exchange(store, what, each, numbers):
+    """All keys are right after the next run, or a file is named with 5 if only a person can decide."""
+    for number in numbers:
+        fill(store)
+        done = broken(store, what, number, **({"EACH": "1"} if each else {}))
+        assert done.status in (0, 5, 6, -9)
+        if done == 0:
+            assert left_over(store) == [] and "old" not in kinds(store)
+        last = rotate(store)
+        found = kinds(store)
+        assert "old" not in found and (last.status, found["new"] == FILES or found["1"] + found["2"] > 0) in (
+            (0, True), (5, True)), (what, number, last)  # fmt: skip
+        if last == 5:  # Others wrote the file twice around one exchange: what came out is there, and named.
+            assert what == "kill twice" or each and what == "kill written"
+            assert len(left_over(store)) > 0 and last.has("compare it with the file")
+            assert all((store / name).read_bytes() in THEIRS for name in left_over(store))
+        else:
+            assert left_over(store) == []
+
+
+# Programs that rename, make, replace and delete files while a rotation runs.
+
+MOVER = """
+import os, random, sys, time
+how, rate = sys.argv[1], float(sys.argv[2])
+source = random.Random(3)
+text = open("theirs1").read()
+while True:
+    one, other = source.randrange(10), source.randrange(10)
+    try:
+        if how == "move":
+            name = source.choice([name for name in os.listdir(f"store/{one}") if not name.startswith(".")])
+            os.rename(f"store/{one}/{name}", f"store/{other}/{name}")
+        elif source.random() < 0.4:
+            os.unlink(f"store/{one}/new{other}")
+        else:
+            with open("their", "w") as file:
+                file.write(text)
+            os.rename("their", f"store/{one}/new{other}")
+    except (OSError, IndexError):
+        pass
+    time.sleep(1 / rate)
+"""
+
+
+@pytest.mark.parametrize("how, rate", [("move", 50), ("move", 500), ("move", 5000), ("churn", 2000)])
+@pytest.mark.parametrize("runs", [2, pytest.param(10, marks=slow)])
+def test_beside_programs_that_rename(store, how, rate, runs):
+    """Status 0 is never wrong, and it comes beside fifty renames a second."""
+    keys = make_keys(600)
+    for _ in range(runs):
+        shutil.rmtree(store, ignore_errors=True)
+        for number, key in enumerate(keys):
+            (store / str(number % 10)).mkdir(parents=True, exist_ok=True)
+            (store / str(number % 10) / f"f{number}").write_bytes(lines_under(KEK, [key]))
+        mover = subprocess.Popen([sys.executable, "-B", "-c", MOVER, how, str(rate)])
+        try:
+            done = rotate("--jobs", "1", store)
+        finally:
+            mover.kill()
+            mover.wait()
+        expected = {lines_under(NEW_KEK, [key]) for key in keys}
+        found = {path.read_bytes() for path in store.glob("*/f*")}
+        assert len(found) == len(keys) and (done.status in (0, 6)) and (rate > 50 or done == 0), done
+        assert found == expected or done == 6
+        assert rotate(store) == 0 and {path.read_bytes() for path in store.glob("*/f*")} == expected
