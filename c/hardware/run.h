@@ -7,9 +7,11 @@
 
 static const uint8_t DEFAULT_IV[8] = {0xa6, 0xa6, 0xa6, 0xa6, 0xa6, 0xa6, 0xa6, 0xa6};
 
-/* Declares a call of the library that is proved as a whole, with the type of keywrap.h and the name
- * of c/hardware/names. */
-#define PROVED_CALL(call) __typeof__(keywrap_##call) proved_keywrap_##call
+/* On a processor without the instructions a call is the proved one of the whole library, by its name in
+ * c/hardware/names. */
+#define OR_PROVED(call, ...)                                                                       \
+    extern __typeof__(keywrap_##call) proved_keywrap_##call;                                       \
+    if (!aes_works()) return proved_keywrap_##call(__VA_ARGS__)
 
 /* A wrapping or an unwrapping that has begun. */
 struct run {
@@ -17,12 +19,12 @@ struct run {
     uint8_t block[BLOCK];
 };
 
-static inline int is_kek(size_t len) {
-    return aes_works() && (len == 16 || len == 24 || len == 32);
-}
-
-/* end_unwrap_any ends an unwrap in the form that the registers have. A refusal leaves any numbers. */
-int32_t end_unwrap_any(struct run *run, uint8_t *registers, size_t len, uint32_t *padded,
-                       size_t *key_len);
+/* The calls for one key in place, in the form of the flags, whose arguments are checked. */
+int32_t wrap_slot(const uint8_t *kek, size_t kek_len, uint32_t flags, uint8_t *text,
+                  size_t text_len, size_t key_len);
+int32_t unwrap_slot(const uint8_t *kek, size_t kek_len, uint32_t flags, uint8_t *text,
+                    size_t text_len, size_t *key_len);
+int32_t rewrap_slot(const uint8_t *old_kek, size_t old_kek_len, const uint8_t *new_kek,
+                    size_t new_kek_len, uint8_t *text, size_t text_len, uint32_t flags);
 
 #endif

@@ -52,9 +52,13 @@ typedef uint64_t u64;
 typedef int64_t s64;
 
 /* The bytes of the module's stack that a call takes, and that a step takes; the bytes of its
- * constants, and their address. */
+ * constants, and their address, of all and of those that the steps read. */
 @NUMBERS@
-#ifndef KEYWRAP_STEPS_ONLY
+#ifdef KEYWRAP_STEPS_ONLY
+enum { CONSTANTS = STEPS_DATA, CONSTANTS_AT = STEPS_AT };
+@STEPS_CONSTANTS@
+#else
+enum { CONSTANTS = DATA, CONSTANTS_AT = TOP };
 @CONSTANTS@
 #endif
 
@@ -89,8 +93,9 @@ struct call {
     int count, most_used; /* how many buffers, and the number of one */
     u64 number;           /* an argument that is no buffer */
     u32 flags;            /* and one beside it */
+    const u64 *numbers;   /* or more than these */
     size_t *key_len;      /* receives the number, if any */
-    uint32_t *flag;       /* receives the flag, if any */
+    uint32_t *flag;       /* receives the flag, if any; with steps it is the flag */
     uint64_t *steps;      /* is the number, if any */
     u8 *block;            /* is the block, if any */
     int begins;           /* whether these two may be undefined before the call */
@@ -147,19 +152,15 @@ INLINE u8 *written_at(struct memory memory, u64 address, u64 len) {
 /* Returns the place of the bytes that the module reads at an address. */
 INLINE const u8 *read_at(struct memory memory, u64 address, u64 len) {
     if (holds(OWN, address - FIRST, len)) return memory.own + (address - FIRST);
-#ifndef KEYWRAP_STEPS_ONLY
-    if (holds(DATA, address - TOP, len)) return constants + (address - TOP);
-#endif
+    if (holds(CONSTANTS, address - CONSTANTS_AT, len)) return constants + (address - CONSTANTS_AT);
     return read_in(memory.call, address, len);
 }
 
-#ifndef KEYWRAP_STEPS_ONLY
 /* Returns the place of bytes that can only be constants. */
 INLINE const u8 *constant_at(u64 address, u64 len) {
-    if (address - TOP > DATA - len) KEYWRAP_TRAP();
-    return constants + (address - TOP);
+    if (address - CONSTANTS_AT > CONSTANTS - len) KEYWRAP_TRAP();
+    return constants + (address - CONSTANTS_AT);
 }
-#endif
 
 /* The bytes of a number in the other order. */
 INLINE u64 reversed(u64 value, unsigned len) {
@@ -194,8 +195,8 @@ STORE(i32_store, u32, u32)
 STORE(i64_store, u64, u64)
 STORE(i32_store8, u8, u32)
 STORE(i32_store16, u16, u32)
-#ifndef KEYWRAP_STEPS_ONLY
 LOAD_CONSTANT(i32_load, u32, u32)
+#ifndef KEYWRAP_STEPS_ONLY
 LOAD_CONSTANT(i64_load, u64, u64)
 LOAD_CONSTANT(i32_load8_u, u8, u32)
 #endif
@@ -255,6 +256,8 @@ ALWAYS_INLINE u64 perform_in(struct call *call, size_t stack) {
     memset(used, 0, stack + BESIDE);
     lay_out(call);
     if (call->steps && !call->begins) i64_store(module.w2c_memory, NUMBER, *call->steps);
+    if (call->steps && call->flag && !call->begins)
+        i32_store(module.w2c_memory, FLAG, *call->flag);
     if (call->block && !call->begins) memcpy(block, call->block, 16);
     status = call->run(&module, call);
     changed = status == KEYWRAP_OK || status == KEYWRAP_INTEGRITY;
@@ -265,6 +268,9 @@ ALWAYS_INLINE u64 perform_in(struct call *call, size_t stack) {
     clear(used, stack + BESIDE);
     return status;
 }
+
+/* For a call that has numbers only, and uses no memory. */
+#define WITHOUT_MEMORY {TOP - BESIDE, 0, {NULL, NULL}}
 
 #define READS(bytes, len, longest) {(bytes), NULL, (len), (longest), 0, 0}
 #define WRITES(bytes, len, longest) {(bytes), (bytes), (len), (longest), 0, 0}

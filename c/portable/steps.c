@@ -4,6 +4,12 @@ ALWAYS_INLINE u64 perform_steps(struct call *call) {
     return perform_in(call, STEPS_STACK);
 }
 
+/* It uses no memory of the module. */
+uint64_t keywrap_step_count(size_t len) {
+    struct instance module = WITHOUT_MEMORY;
+    return w2c_keywrap_step_count(&module, len);
+}
+
 static u64 run_begin_wrap(struct instance *module, const struct call *call) {
     return w2c_keywrap_begin_wrap(module, BUFFER(0), BUFFER(1), NUMBER, BLOCK_AT);
 }
@@ -147,6 +153,82 @@ int32_t keywrap_end_unwrap_padded(uint8_t *registers, size_t len, uint64_t left,
         BUFFERS,
         .number = left,
         .key_len = key_len,
+        .block = block,
+    };
+    return (int32_t)perform_steps(&call);
+}
+
+static u64 run_end_unwrap_any(struct instance *module, const struct call *call) {
+    return w2c_keywrap_end_unwrap_any(module, BUFFER(0), call->number, BLOCK_AT, FLAG, NUMBER);
+}
+
+int32_t keywrap_end_unwrap_any(uint8_t *registers, size_t len, uint64_t left, uint8_t *block,
+                               uint32_t *padded, size_t *key_len) {
+    struct buffer buffers[] = {WRITES(registers, len, KEYWRAP_MAX_KEY)};
+    struct call call = {
+        .run = run_end_unwrap_any,
+        BUFFERS,
+        .number = left,
+        .key_len = key_len,
+        .flag = padded,
+        .block = block,
+    };
+    return (int32_t)perform_steps(&call);
+}
+
+static u64 run_begin_rewrap(struct instance *module, const struct call *call) {
+    return w2c_keywrap_begin_rewrap(module, call->flags, BUFFER(0), FLAG, NUMBER, BLOCK_AT);
+}
+
+int32_t keywrap_begin_rewrap(uint32_t flags, const uint8_t *text, size_t text_len, uint32_t *phase,
+                             uint64_t *steps, uint8_t *block) {
+    struct buffer buffers[] = {READS(text, text_len, KEYWRAP_MAX_TEXT)};
+    struct call call = {
+        .run = run_begin_rewrap,
+        BUFFERS,
+        .flags = flags,
+        .flag = phase,
+        .steps = steps,
+        .block = block,
+        .begins = 1,
+    };
+    return (int32_t)perform_steps(&call);
+}
+
+static u64 run_next_rewrap(struct instance *module, const struct call *call) {
+    return w2c_keywrap_next_rewrap(module, call->flags, BUFFER(0), FLAG, NUMBER, BLOCK_AT);
+}
+
+int32_t keywrap_next_rewrap(uint32_t flags, uint8_t *text, size_t text_len, uint32_t *phase,
+                            uint64_t *steps, uint8_t *block) {
+    struct buffer buffers[] = {WRITES(text, text_len, KEYWRAP_MAX_TEXT)};
+    struct call call = {
+        .run = run_next_rewrap,
+        BUFFERS,
+        .flags = flags,
+        .flag = phase,
+        .steps = steps,
+        .block = block,
+    };
+    return (int32_t)perform_steps(&call);
+}
+
+static u64 run_next_rewrap_from(struct instance *module, const struct call *call) {
+    return w2c_keywrap_next_rewrap_from(module, call->flags, BUFFER(0), BUFFER(1), FLAG, NUMBER,
+                                        BLOCK_AT);
+}
+
+int32_t keywrap_next_rewrap_from(uint32_t flags, const uint8_t *copy, size_t copy_len,
+                                 uint8_t *text, size_t text_len, uint32_t *phase, uint64_t *steps,
+                                 uint8_t *block) {
+    struct buffer buffers[] = {READS(copy, copy_len, KEYWRAP_MAX_TEXT),
+                               WRITES(text, text_len, KEYWRAP_MAX_TEXT)};
+    struct call call = {
+        .run = run_next_rewrap_from,
+        BUFFERS,
+        .flags = flags,
+        .flag = phase,
+        .steps = steps,
         .block = block,
     };
     return (int32_t)perform_steps(&call);

@@ -347,6 +347,104 @@ static void many_refusals(void) {
                  KEYWRAP_BAD_IV, 0, "many, 9 bytes of an initial value", 9);
 }
 
+/* By the two lowest bits of a phase: the AES that it asks for, under the old KEK and the new one. */
+static EVP_CIPHER_CTX *asked[4];
+
+/* Rewraps by steps, with or without a copy of the text. */
+static int32_t rewrapped_by(uint32_t flags, uint8_t *text, size_t len, const uint8_t *copy) {
+    uint8_t block[16];
+    uint64_t steps;
+    uint32_t phase;
+    int32_t status = keywrap_begin_rewrap(flags, text, len, &phase, &steps, block);
+    while (phase != 0) {
+        for (uint64_t left = keywrap_step_count(len - 8); left > 0; left--) {
+            ecb(asked[phase & (KEYWRAP_DECRYPT | KEYWRAP_NEW)], block);
+            if ((phase & KEYWRAP_DECRYPT ? keywrap_step_unwrap(text + 8, len - 8, &steps, block)
+                                         : keywrap_step_wrap(text + 8, len - 8, &steps, block))
+                != KEYWRAP_OK)
+                return -1;
+        }
+        status = copy ? keywrap_next_rewrap_from(flags, copy, len, text, len, &phase, &steps, block)
+                      : keywrap_next_rewrap(flags, text, len, &phase, &steps, block);
+    }
+    return status;
+}
+
+/* A text of each length in each form, under each KEK or damaged, is rewrapped as by the call with both KEKs. */
+static void rewraps(void) {
+    static const uint8_t KEKS[2][32] = {{1, 2, 3}, {4, 5, 6}};
+    static const size_t LENS[] = {5, 8, 16, 21, 24, 40};
+    uint8_t key[40] = {7, 8, 9}, text[48], due[48], made[48];
+    for (size_t i = 0; i < 4; i++) {
+        memcpy(kek, KEKS[i / 2], sizeof kek);
+        asked[i] = keyed(sizeof kek, i % 2 == 0);
+    }
+    for (uint32_t flags = 0; flags < 17; flags++)
+        for (size_t i = 0; i < 8 * (sizeof LENS / sizeof *LENS); i++) {
+            const size_t key_len = LENS[i / 8], len = (i & 1 ? (key_len + 7) / 8 * 8 : key_len) + 8;
+            const uint8_t *under = KEKS[i >> 1 & 1];
+            memset(text, 1, sizeof text);
+            /* In the plain form some lengths are refused, and then the text is none. */
+            if ((i & 1 ? keywrap_wrap_padded(under, 32, key, key_len, text, len)
+                       : keywrap_wrap(under, 32, key, key_len, text, len))
+                    == KEYWRAP_OK
+                && i & 4)
+                text[9] ^= 1;
+            for (int copied = 0; copied < 2; copied++) {
+                uint32_t already;
+                memcpy(due, text, sizeof due);
+                memcpy(made, text, sizeof made);
+                int32_t status = keywrap_rewrap(KEKS[0], 32, KEKS[1], 32, due, len, flags, &already);
+                if (already) status = KEYWRAP_ALREADY_NEW;
+                check(rewrapped_by(flags, made, len, copied ? text : NULL) == status
+                          && !memcmp(made, due, sizeof due),
+                      "a rewrap", i + 1000 * flags);
+            }
+        }
+}
+
+/* No phase, a step that is left, other flags and a copy of another length are refused. The text stays. */
+static void rewrap_refusals(void) {
+    static const uint32_t PHASES[] = {1, 2, 6, 16, 18, 19, 20, 22, 23, 32, 34, 35};
+    uint8_t text[40] = {1, 2, 3}, before[40], copy[40] = {4}, block[16] = {5}, was[16];
+    memcpy(before, text, sizeof text);
+    memcpy(was, block, sizeof block);
+    for (uint32_t number = 0; number < 300; number++) {
+        int is_phase = 0;
+        for (size_t i = 0; i < sizeof PHASES / sizeof *PHASES; i++) is_phase |= number == PHASES[i];
+        for (uint64_t left = 0; left < 26; left++) {
+            if (is_phase && left == (number & KEYWRAP_DECRYPT ? 0 : 24)) continue;
+            for (int from = 0; from < 2; from++) {
+                uint32_t phase = number;
+                uint64_t steps = left;
+                const int32_t status =
+                    from ? keywrap_next_rewrap_from(0, copy, 40, text, 40, &phase, &steps, block)
+                         : keywrap_next_rewrap(0, text, 40, &phase, &steps, block);
+                check(status == KEYWRAP_BAD_LENGTH && phase == 0 && steps == left && !memcmp(text, before, 40)
+                          && !memcmp(block, was, 16),
+                      "no phase, or a step that is left", number);
+            }
+        }
+    }
+    for (size_t len = 39; len < 42; len += 2) {
+        uint8_t other[41] = {0};
+        uint32_t phase = 1;
+        uint64_t steps = 0;
+        check(keywrap_next_rewrap_from(0, other, len, text, 40, &phase, &steps, block) == KEYWRAP_BAD_LENGTH
+                  && phase == 0 && !memcmp(text, before, 40),
+              "a copy of another length", len);
+    }
+    for (uint32_t flags = 0; flags < 32; flags++) {
+        uint32_t phase = 1;
+        uint64_t steps = 0;
+        if (flags < 16 && flags % 8 < 5) continue;
+        check(keywrap_next_rewrap(flags, text, 40, &phase, &steps, block) == KEYWRAP_BAD_LENGTH && phase == 0
+                  && keywrap_begin_rewrap(flags, text, 40, &phase, &steps, block) == KEYWRAP_BAD_LENGTH && phase == 0
+                  && !memcmp(text, before, 40),
+              "other flags", flags);
+    }
+}
+
 int main(void) {
     for (size_t kek_len = 16; kek_len <= sizeof kek; kek_len += 8) {
         for (size_t i = 0; i < sizeof kek; i++) kek[i] = (uint8_t)(kek_len * 3 + i);
@@ -362,6 +460,8 @@ int main(void) {
     }
     refusals();
     many_refusals();
+    rewraps();
+    rewrap_refusals();
     printf("%u passed, %u failed\n", passed, failed);
     return failed != 0;
 }

@@ -36,22 +36,26 @@ of_glibc_2_17() {
 
 # The calls that return a status.
 exports=$(sed -n 's/^int32_t \(keywrap_[a-z_]*\)(.*/\1/p' "$root/c/include/keywrap.h" | sort)
-names=$(sed -nE 's/^(u?int32_t|size_t) (keywrap_[a-z_]*)\(.*/\2/p' "$root"/c/include/keywrap{,_steps}.h | sort)
+names=$(sed -nE 's/^(u?int[0-9]+_t|size_t) (keywrap_[a-z_]*)\(.*/\2/p' "$root"/c/include/keywrap{,_steps}.h | sort)
+# The archive also has the calls that c/hardware makes.
+archived=$({ echo "$names" && sed -nE 's/^KEYWRAP_CHECK u?int[0-9]+_t (keywrap_[a-z_]*)\(.*/\1/p' \
+    "$root/c/include/keywrap_checks.h"; } | sort)
 
-# shows NM_OPTION.. FILE: the file shows the headers' names, and no others.
-shows() { diff <("${tools}nm" "$@" --defined-only | awk 'NF == 3 && $2 != "A" { print $3 }' | sort) - <<<"$names"; }
+# shows NAMES NM_OPTION.. FILE: the file shows these names, and no others.
+shows() {
+    diff <("${tools}nm" "${@:2}" --defined-only | awk 'NF == 3 && $2 != "A" { print $3 }' | sort) - <<<"$1"
+}
 
 # shows_only NAME FILE: the shared object shows this name only.
 shows_only() { [ "$("${tools}nm" -D --defined-only "$2" | awk '{ print $3 }')" = "$1" ]; }
 
-# versioned FILE: each name of the shared object is under the node of its version: KEYWRAP_1 for the names of 1.0.0.
+# versioned FILE: each name of the shared object is under the node of the version that it came with.
 versioned() {
-    local first
-    first=$(sed -n 's/^ *\(keywrap_[a-z_]*\);$/\1/p' "$root/tests/library/1.0.0/keywrap.map")
-    shows -D --without-symbol-versions "$1" &&
+    shows "$names" -D --without-symbol-versions "$1" &&
         diff <("${tools}nm" -D --defined-only "$1" | awk '$2 != "A" { print $3 }' | sort) \
-            <(awk 'NR == FNR { first[$1]; next } { print $1 "@@KEYWRAP_1" ($1 in first ? "" : ".1") }' \
-                <(echo "$first") - <<<"$names" | sort)
+            <(awk 'FILENAME != "-" { sub(";", ""); node[$1] = FILENAME ~ /1[.]0[.]0/ ? "1" : "1.1"; next }
+                { print $1 "@@KEYWRAP_" ($1 in node ? node[$1] : "1.2") }' \
+                "$root"/tests/library/1.{1,0}.0/keywrap.map - <<<"$names" | sort)
 }
 
 # wants FILE: the archive wants nothing but these of the C library.
@@ -68,7 +72,7 @@ hardened() {
 # shown NAME: the rows.
 shown() {
     row "$1: the archive needs nothing else" wants "$library/libkeywrap.a"
-    row "$1: the names of the archive" shows -g "$library/libkeywrap.a"
+    row "$1: the names of the archive" shows "$archived" -g "$library/libkeywrap.a"
     row "$1: the names of the shared object" versioned "$library/libkeywrap.so.1"
     row "$1: a hardened shared object" hardened "$library/libkeywrap.so.1"
     row "$1: its name" grep -q 'SONAME.*\[libkeywrap\.so\.1\]' "$workdir/elf"

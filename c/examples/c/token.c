@@ -4,9 +4,9 @@
  *     cc token.c $(pkg-config --cflags --libs keywrap p11-kit-1) -ldl -o token
  *     ./token /usr/lib/softhsm/libsofthsm2.so PIN
  *
- * It generates a KEK in the token, never extractable, and shows that the wrapped key is the one
+ * It generates two KEKs in the token, never extractable, and shows that the wrapped key is the one
  * that the token's own C_WrapKey makes. It also wraps a key of 20 bytes with padding, for which
- * many tokens have no mechanism. */
+ * many tokens have no mechanism, and rewraps it from one KEK to the other. */
 
 #include <dlfcn.h>
 #include <keywrap.h>
@@ -18,7 +18,7 @@
 
 static CK_FUNCTION_LIST_PTR token;
 static CK_SESSION_HANDLE session;
-static CK_OBJECT_HANDLE kek;
+static CK_OBJECT_HANDLE kek, new_kek;
 
 static void must(int holds, const char *what) {
     if (holds) return;
@@ -26,47 +26,34 @@ static void must(int holds, const char *what) {
     exit(1);
 }
 
-/* The token's AES: one block, in place. */
-static void encrypt(uint8_t block[16]) {
-    CK_ULONG len = 16;
-    must(token->C_EncryptUpdate(session, block, 16, block, &len) == CKR_OK && len == 16, "encrypt");
-}
-
-static void decrypt(uint8_t block[16]) {
-    CK_ULONG len = 16;
-    must(token->C_DecryptUpdate(session, block, 16, block, &len) == CKR_OK && len == 16, "decrypt");
-}
-
-static uint64_t step_count(size_t room) {
-    return room == 8 ? 1 : 6 * (uint64_t)(room / 8);
+/* Makes all steps with the token's AES under this KEK, or undoes them. */
+static void run_steps(CK_OBJECT_HANDLE under, int decrypts, uint8_t *registers, size_t room,
+                      uint64_t *steps, uint8_t block[16]) {
+    CK_MECHANISM ecb = {CKM_AES_ECB, NULL, 0};
+    CK_BYTE nothing[16];
+    CK_ULONG len = 16, rest = sizeof nothing;
+    must((decrypts ? token->C_DecryptInit : token->C_EncryptInit)(session, &ecb, under) == CKR_OK,
+         "C_EncryptInit, C_DecryptInit");
+    for (uint64_t left = keywrap_step_count(room); left > 0; left--) {
+        must((decrypts ? token->C_DecryptUpdate : token->C_EncryptUpdate)(session, block, 16, block,
+                                                                         &len)
+                     == CKR_OK
+                 && len == 16,
+             "the token's AES");
+        must((decrypts ? keywrap_step_unwrap : keywrap_step_wrap)(registers, room, steps, block)
+                 == KEYWRAP_OK,
+             "step");
+    }
+    must((decrypts ? token->C_DecryptFinal : token->C_EncryptFinal)(session, nothing, &rest)
+             == CKR_OK,
+         "C_EncryptFinal, C_DecryptFinal");
 }
 
 /* Makes all steps of a wrapping that has begun. */
 static void finish_wrap(uint8_t *wrapped, size_t room, uint8_t block[16]) {
-    CK_MECHANISM ecb = {CKM_AES_ECB, NULL, 0};
-    CK_BYTE nothing[16];
-    CK_ULONG rest = sizeof nothing;
     uint64_t done = 0;
-    must(token->C_EncryptInit(session, &ecb, kek) == CKR_OK, "C_EncryptInit");
-    while (done < step_count(room)) {
-        encrypt(block);
-        must(keywrap_step_wrap(wrapped + 8, room, &done, block) == KEYWRAP_OK, "step");
-    }
-    must(token->C_EncryptFinal(session, nothing, &rest) == CKR_OK, "C_EncryptFinal");
+    run_steps(kek, 0, wrapped + 8, room, &done, block);
     must(keywrap_end_wrap(wrapped, wrapped + 8, room, done, block) == KEYWRAP_OK, "end");
-}
-
-/* Undoes all steps of an unwrapping that has begun. */
-static void undo_steps(uint8_t *registers, size_t room, uint64_t *left, uint8_t block[16]) {
-    CK_MECHANISM ecb = {CKM_AES_ECB, NULL, 0};
-    CK_BYTE nothing[16];
-    CK_ULONG rest = sizeof nothing;
-    must(token->C_DecryptInit(session, &ecb, kek) == CKR_OK, "C_DecryptInit");
-    while (*left > 0) {
-        decrypt(block);
-        must(keywrap_step_unwrap(registers, room, left, block) == KEYWRAP_OK, "step");
-    }
-    must(token->C_DecryptFinal(session, nothing, &rest) == CKR_OK, "C_DecryptFinal");
 }
 
 /* A key of 32 bytes is wrapped by steps and by the token itself. */
@@ -97,7 +84,7 @@ static void plain(void) {
 
     uint8_t *registers = by_token + 8;
     must(keywrap_begin_unwrap(by_token, registers, 32, &left, block) == KEYWRAP_OK, "begin");
-    undo_steps(registers, 32, &left, block);
+    run_steps(kek, 1, registers, 32, &left, block);
     must(keywrap_end_unwrap(iv, 8, registers, 32, left, block) == KEYWRAP_OK, "integrity");
     must(!memcmp(registers, key, 32), "another key");
     puts("plain: unwrapped");
@@ -117,21 +104,61 @@ static void padded(void) {
 
     must(keywrap_begin_unwrap_padded(wrapped, wrapped + 8, 24, &left, block) == KEYWRAP_OK,
          "begin");
-    undo_steps(wrapped + 8, 24, &left, block);
+    run_steps(kek, 1, wrapped + 8, 24, &left, block);
     must(keywrap_end_unwrap_padded(wrapped + 8, 24, left, block, &len) == KEYWRAP_OK, "integrity");
     must(len == 20 && !memcmp(wrapped + 8, key, 20), "another key");
     puts("padded: wrapped and unwrapped");
 
     must(keywrap_begin_unwrap_padded(changed, changed + 8, 24, &left, block) == KEYWRAP_OK,
          "begin");
-    undo_steps(changed + 8, 24, &left, block);
+    run_steps(kek, 1, changed + 8, 24, &left, block);
     must(keywrap_end_unwrap_padded(changed + 8, 24, left, block, &len) == KEYWRAP_INTEGRITY,
          "taken");
     puts("padded: a changed bit is refused");
 }
 
+/* Rewraps a text. Which steps come next, and under which KEK, is in the phase. */
+static int32_t rewrap(uint8_t *text, size_t text_len, uint32_t flags) {
+    uint8_t block[16];
+    uint64_t steps;
+    uint32_t phase;
+    int32_t status = keywrap_begin_rewrap(flags, text, text_len, &phase, &steps, block);
+    while (phase != 0) {
+        run_steps(phase & KEYWRAP_NEW ? new_kek : kek, phase & KEYWRAP_DECRYPT, text + 8,
+                  text_len - 8, &steps, block);
+        status = keywrap_next_rewrap(flags, text, text_len, &phase, &steps, block);
+    }
+    return status;
+}
+
+/* A wrapped key of 20 bytes is rewrapped, and is refused, unchanged, once it is under the new KEK. */
+static void rewrapped(void) {
+    uint8_t key[20], text[8 + 24], again[8 + 24], block[16];
+    uint64_t done, left;
+    size_t len;
+    uint32_t is_padded;
+    for (size_t i = 0; i < sizeof key; i++) key[i] = (uint8_t)(3 * i + 4);
+    memcpy(text + 8, key, sizeof key);
+    must(keywrap_begin_wrap_padded(20, text + 8, 24, &done, block) == KEYWRAP_OK, "begin");
+    finish_wrap(text, 24, block);
+    must(rewrap(text, sizeof text, KEYWRAP_KEEP_FORM) == KEYWRAP_OK, "rewrap");
+    memcpy(again, text, sizeof again);
+    must(rewrap(again, sizeof again, KEYWRAP_KEEP_FORM) == KEYWRAP_INTEGRITY, "rewrapped twice");
+    must(!memcmp(again, text, sizeof text), "the refused text is another");
+    must(rewrap(again, sizeof again, KEYWRAP_KEEP_FORM | KEYWRAP_PASS_NEW) == KEYWRAP_ALREADY_NEW,
+         "not passed");
+
+    must(keywrap_begin_unwrap_padded(text, text + 8, 24, &left, block) == KEYWRAP_OK, "begin");
+    run_steps(new_kek, 1, text + 8, 24, &left, block);
+    must(keywrap_end_unwrap_any(text + 8, 24, left, block, &is_padded, &len) == KEYWRAP_OK,
+         "integrity");
+    must(is_padded == 1 && len == 20 && !memcmp(text + 8, key, 20), "another key");
+    puts("rewrap: from one KEK of the token to another");
+}
+
 /* Generates a KEK of 32 bytes that cannot be read. */
-static void generate(void) {
+static CK_OBJECT_HANDLE generate(void) {
+    CK_OBJECT_HANDLE made;
     CK_MECHANISM of_aes = {CKM_AES_KEY_GEN, NULL, 0};
     CK_ULONG len = 32;
     CK_BBOOL yes = CK_TRUE, no = CK_FALSE, never = CK_FALSE;
@@ -143,9 +170,10 @@ static void generate(void) {
                          {CKA_DECRYPT, &yes, 1},
                          {CKA_WRAP, &yes, 1}};
     CK_ATTRIBUTE asked = {CKA_NEVER_EXTRACTABLE, &never, 1};
-    must(token->C_GenerateKey(session, &of_aes, is, 7, &kek) == CKR_OK, "C_GenerateKey");
-    must(token->C_GetAttributeValue(session, kek, &asked, 1) == CKR_OK && never == CK_TRUE,
+    must(token->C_GenerateKey(session, &of_aes, is, 7, &made) == CKR_OK, "C_GenerateKey");
+    must(token->C_GetAttributeValue(session, made, &asked, 1) == CKR_OK && never == CK_TRUE,
          "the KEK could be extracted");
+    return made;
 }
 
 int main(int argc, char **argv) {
@@ -164,9 +192,11 @@ int main(int argc, char **argv) {
     must(token->C_Login(session, CKU_USER, (CK_UTF8CHAR *)argv[2], (CK_ULONG)strlen(argv[2]))
              == CKR_OK,
          "C_Login");
-    generate();
+    kek = generate();
+    new_kek = generate();
     plain();
     padded();
+    rewrapped();
     token->C_Finalize(NULL);
     return 0;
 }

@@ -22,3 +22,4 @@ pub mod EitherForms
 pub mod KindForms
 pub mod Rewraps
 pub mod Results
+pub mod RewrapTurns

@@ -19,3 +19,4 @@ pub mod Unwrapping
 pub mod BufferCalls
 pub mod StepCalls
 pub mod Private
+pub mod RewrapPhases

@@ -1,7 +1,8 @@
 -- The promises of the functions that only this crate calls.
-use Rattle.std.specs.Prelude.{◌≡◌, ◌↔◌, ℕ, List, ◌++◌, length, All, Result, Ok, Err, IsOkUnless}
+use Rattle.std.specs.Prelude.{◌≡◌, ◌↔◌, ℕ, List, ◌++◌, length, take, All, Result, Ok, Err, IsOkUnless}
 use Rattle.block_pair.specs.Pair.{AreInverse}
 use Rattle.key_wrap_core.specs.declared.agreed_form.AgreedForm.{AgreedForm}
+use Rattle.key_wrap_core.specs.declared.forms.FoundKey.{FoundKey}
 use Rattle.key_wrap_core.specs.declared.faults.InPlaceFault.{InPlaceFault}
 use Rattle.key_wrap_core.specs.declared.faults.InPlaceFault.TheVariants.{Integrity}
 use Rattle.key_wrap_core.specs.declared.rewrapping.RewrapForms.{RewrapForms}
@@ -11,9 +12,11 @@ use Rattle.key_wrap_core.specs.declared.rewrapping.RewrapFault.{RewrapFault}
 use Rattle.key_wrap_core.specs.Words.{word_bytes}
 use Rattle.key_wrap_core.specs.PaddedRegisters.{PaddedRegisters}
 use Rattle.key_wrap_core.specs.NoKey.{NoKey}
+use Rattle.key_wrap_core.specs.Lengths.{IsPaddedTextLength}
 use Rattle.key_wrap_core.specs.Forms.{IsKeyLengthAs, IsTextLengthAs}
 use Rattle.key_wrap_core.specs.Steps.{WrapSteps, UnwrapSteps}
 use Rattle.key_wrap_core.specs.Unwrapping.{Unwrapping}
+use Rattle.key_wrap_core.specs.BufferCalls.{UnwrappingEither}
 use Rattle.key_wrap_core.specs.Found.{IsIvAndKey}
 use Rattle.key_wrap_core.specs.Rewrap.{IsFrom}
 
@@ -32,6 +35,13 @@ IsWordsUnstep t t' registers registers' block block' = (E : List ℕ → List �
 pub record EndsIn {A : Type 0} (form : AgreedForm) (found : ℕ) (old new : List ℕ) (key : A → List ℕ) (result : Result A InPlaceFault) : Type 0 where
   pub answer : (E D : List ℕ → List ℕ) (text : List ℕ) → AreInverse E D → PaddedRegisters E (word_bytes found ++ old) text
       → Unwrapping (IsTextLengthAs form (length text)) form E text key result
+  pub only_fault : IsOkUnless result Integrity
+  pub cleared : result ≡ Err Integrity → All (λ byte. byte ≡ 0) new
+
+-- The same in either form, the plain one with this initial value.
+pub record EndsInEither (iv found : ℕ) (old new : List ℕ) (result : Result FoundKey InPlaceFault) : Type 0 where
+  pub answer : (E D : List ℕ → List ℕ) (text : List ℕ) → AreInverse E D → PaddedRegisters E (word_bytes found ++ old) text
+      → UnwrappingEither (IsPaddedTextLength (length text)) iv E text (λ found. take found.len new) result
   pub only_fault : IsOkUnless result Integrity
   pub cleared : result ≡ Err Integrity → All (λ byte. byte ≡ 0) new
 

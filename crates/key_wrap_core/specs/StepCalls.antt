@@ -2,14 +2,16 @@
 use Rattle.std.specs.Prelude.{◌≡◌, ℕ, ◌+◌, List, ◌++◌, length, Result}
 use Rattle.block_pair.specs.Pair.{AreInverse}
 use Rattle.key_wrap_core.specs.declared.agreed_form.AgreedForm.{AgreedForm}
+use Rattle.key_wrap_core.specs.declared.forms.FoundKey.{FoundKey}
 use Rattle.key_wrap_core.specs.declared.faults.InPlaceFault.{InPlaceFault}
-use Rattle.key_wrap_core.specs.Lengths.{IsPlainKeyLength, IsPaddedKeyLength}
+use Rattle.key_wrap_core.specs.Lengths.{IsPlainKeyLength, IsPaddedKeyLength, IsPaddedTextLength}
 use Rattle.key_wrap_core.specs.Plain.{Plain}
 use Rattle.key_wrap_core.specs.Padded.{Padded, aiv, padded}
 use Rattle.key_wrap_core.specs.BlockCalls.{block_calls}
 use Rattle.key_wrap_core.specs.Forms.{IsTextLengthAs}
 use Rattle.key_wrap_core.specs.Steps.{WrapState, UnwrapState}
 use Rattle.key_wrap_core.specs.Unwrapping.{Unwrapping}
+use Rattle.key_wrap_core.specs.BufferCalls.{UnwrappingEither}
 
 -- A wrapping is begun: no step is done, for every E.
 pub record WrapBegun (iv : ℕ) (key : List ℕ) (done : ℕ) (registers block : List ℕ) : Type 0 where
@@ -42,3 +44,8 @@ IsUnwrapStep t t' registers registers' block block' = (E : List ℕ → List ℕ
 abbrev pub EndsUnwrapping : {A : Type 0} (form : AgreedForm) (left : ℕ) (registers block : List ℕ) (key : A → List ℕ) → Result A InPlaceFault → Type 0
 EndsUnwrapping form left registers block key result = (E D : List ℕ → List ℕ) (text : List ℕ) → AreInverse E D
     → UnwrapState E text left registers block → Unwrapping (IsTextLengthAs form (length text)) form E text key result
+
+-- The same in either form, the plain one with this initial value.
+abbrev pub EndsUnwrappingEither : (iv left : ℕ) (registers block : List ℕ) (key : FoundKey → List ℕ) → Result FoundKey InPlaceFault → Type 0
+EndsUnwrappingEither iv left registers block key result = (E D : List ℕ → List ℕ) (text : List ℕ) → AreInverse E D
+    → UnwrapState E text left registers block → UnwrappingEither (IsPaddedTextLength (length text)) iv E text key result

@@ -27,6 +27,7 @@ mod kinds;
 mod laws;
 mod lengths;
 mod machine;
+mod rewrap_steps;
 mod rewrapping;
 mod steps;
 mod unwrap_steps;
@@ -47,13 +48,16 @@ pub use laws::{one_key_law, one_text_law};
 pub use lengths::{
     MAX_KEY, key_length_ok, padded_length_ok, padded_text_length_ok, text_length_ok,
 };
+pub use rewrap_steps::{
+    RewrapNext, RewrapPhase, RewrapRequest, begin_rewrap, next_rewrap, next_rewrap_from,
+};
 pub use rewrapping::{
     RewrapFault, RewrapForms, Rewrapped, one_result_law, rewrap, rewrap_length_ok,
 };
 pub use unwrap_steps::{
-    begin_unwrap, begin_unwrap_padded, end_unwrap, end_unwrap_padded, step_unwrap,
+    begin_unwrap, begin_unwrap_padded, end_unwrap, end_unwrap_any, end_unwrap_padded, step_unwrap,
 };
-pub use whole_runs::{whole_unwrap_law, whole_wrap_law};
+pub use whole_runs::{whole_rewrap_law, whole_unwrap_law, whole_wrap_law};
 pub use wrap_steps::{begin_wrap, begin_wrap_padded, end_wrap, step_wrap};
 
 #[cfg(test)]

@@ -145,7 +145,7 @@ fn find<B: BlockPair>(
 }
 
 // The forms of a rewrapping from the new pair to itself.
-fn to_itself(forms: &RewrapForms) -> RewrapForms
+pub(crate) fn to_itself(forms: &RewrapForms) -> RewrapForms
     ensures { result ≡ to_itself forms.now }
 {
     match forms {
@@ -169,8 +169,8 @@ pub fn rewrap_length_ok(forms: &RewrapForms, len: usize) -> bool
 
 // 0 if the initial value and the registers hold a key in one of the old forms.
 #[tactic(auto, using(crate::proofs::FoundForms::padded_holds, crate::proofs::FoundForms::padded_none_held))]
-fn old_difference(forms: &RewrapForms, iv: u64, registers: &[u8]) -> u64
-    requires { IsOldLength forms.now (8 + length registers.now) }
+pub(crate) fn old_difference(forms: &RewrapForms, iv: u64, registers: &[u8]) -> u64
+    requires { IsPaddedTextLength (8 + length registers.now) }
     ensures { TellsKey (IsFrom forms.now) (word_bytes iv ++ registers.now) result }
 {
     match forms {
@@ -189,7 +189,7 @@ fn old_difference(forms: &RewrapForms, iv: u64, registers: &[u8]) -> u64
 // which they hold it there. A padded key may have a length that no plain key has: it does not fill
 // its words, or has only one word.
 #[tactic(auto, using(crate::proofs::Rewraps::fits_own, crate::proofs::FoundForms::to_padded))]
-fn fit(forms: &RewrapForms, iv: u64, registers: &[u8]) -> (u64, u64)
+pub(crate) fn fit(forms: &RewrapForms, iv: u64, registers: &[u8]) -> (u64, u64)
     requires { IsPaddedTextLength (8 + length registers.now) }
     ensures { (form : AgreedForm) → IsFrom forms.now form → (key : List ℕ)
         → IsIvAndKey form key (word_bytes iv ++ registers.now)

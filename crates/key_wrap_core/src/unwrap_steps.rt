@@ -11,15 +11,16 @@ ghost use Rattle.std.specs.Prelude.{Err, OnOk, IfOk};
 ghost use Rattle.key_wrap_core.specs.Lengths.{IsPlainKeyLength, IsPlainTextLength, IsPaddedTextLength};
 ghost use Rattle.key_wrap_core.specs.BlockCalls.{block_calls};
 ghost use Rattle.key_wrap_core.specs.BufferCalls.{RefusesLength, KeepsOrClears, IsKeyBuffer};
-ghost use Rattle.key_wrap_core.specs.StepCalls.{UnwrapBegun, IsUnwrapStep, EndsUnwrapping};
+ghost use Rattle.key_wrap_core.specs.StepCalls.{UnwrapBegun, IsUnwrapStep, EndsUnwrapping, EndsUnwrappingEither};
 ghost use Rattle.key_wrap_core.specs.Words.{word_bytes};
 
 use crate::agreed_form::AgreedForm;
 use crate::faults::InPlaceFault;
+use crate::forms::FoundKey;
 use crate::initial_value::InitialValue;
 use crate::lengths::key_length_ok;
 use crate::steps::{last_block, registers_ok, step_count, unstep_registers};
-use crate::unwrapping::{end_padded, end_plain};
+use crate::unwrapping::{end_any, end_padded, end_plain};
 use byteorder::{BigEndian, ByteOrder};
 
 /// Begins the plain unwrapping of the text of which `first` has the first 8 bytes and the registers
@@ -154,6 +155,38 @@ pub fn end_unwrap_padded(
     }
     let found = take_value(block);
     end_padded(found, registers)
+}
+
+/// Ends an unwrapping in either form, the plain one under this initial value: the answer is the form
+/// that the text has and the length of its key, which is at the start of the registers; zero bytes
+/// come after it. The block becomes zeros.
+///
+/// `BadLength`, with everything as it was, if the registers have no legal length, or a step is left;
+/// `Integrity` if the text is the wrapping of no key in either form, and then every byte of the
+/// registers is zero.
+pub fn end_unwrap_any(
+    iv: &InitialValue,
+    registers: &mut [u8],
+    left: u64,
+    block: &mut [u8; 16],
+) -> Result<FoundKey, InPlaceFault>
+    ensures bad_length { (result ≡ Err InPlaceFault.BadLength)
+        ↔ ¬ (IsPaddedTextLength (8 + length registers.old) × (left ≡ 0)) }
+    ensures refused { KeepsOrClears registers.old registers.new result }
+    ensures block_kept { result ≡ Err InPlaceFault.BadLength → block.new ≡ block.old }
+    ensures answer { ¬ (result ≡ Err InPlaceFault.BadLength)
+        → EndsUnwrappingEither iv.now left registers.old block.old
+        (λ found. take found.len registers.new) result }
+    ensures key { IfOk result (λ found.
+        IsKeyBuffer [] (take found.len registers.new) found.len registers.new) }
+    ensures block_cleared { ¬ (result ≡ Err InPlaceFault.BadLength)
+        → All (λ byte. byte ≡ 0) block.new }
+{
+    if !registers_ok(registers.len()) || left != 0 {
+        return Err(InPlaceFault::BadLength);
+    }
+    let found = take_value(block);
+    end_any(found, iv.word(), registers)
 }
 
 // The initial value that the steps led back to; the block becomes zeros.

@@ -9,7 +9,7 @@ ghost use Rattle.key_wrap_core.specs.Plain.{IsReserved};
 ghost use Rattle.key_wrap_core.specs.BlockCalls.{block_calls};
 ghost use Rattle.key_wrap_core.specs.Unwrapping.{Unwrapping};
 ghost use Rattle.key_wrap_core.specs.BufferCalls.{UnwrappingEither, IsKeyBuffer};
-ghost use Rattle.key_wrap_core.specs.Private.{EndsIn};
+ghost use Rattle.key_wrap_core.specs.Private.{EndsIn, EndsInEither};
 
 use crate::agreed_form::AgreedForm;
 use crate::checks::{decide, given_length, padded_difference};
@@ -101,6 +101,18 @@ pub(crate) fn unwrap_any_registers<B: BlockPair>(
     ensures calls { meter.new ≡ counted (block_calls (8 + length registers.old)) meter.old }
 {
     let found = unwrap_slice(meter, c0, registers);
+    end_any(found, iv, registers)
+}
+
+// The registers that the steps led back to stay if they hold a key in either form under the initial
+// value found, and become zeros if they hold none.
+pub(crate) fn end_any(found: u64, iv: u64, registers: &mut [u8]) -> Result<FoundKey, InPlaceFault>
+    requires length { IsPaddedTextLength (8 + length registers.old) }
+    requires free { ¬ IsReserved iv }
+    ensures ends { EndsInEither iv found registers.old registers.new result }
+    ensures key { IfOk result (λ found.
+        IsKeyBuffer [] (take found.len registers.new) found.len registers.new) }
+{
     let padded = padded_difference(found, registers);
     let plain = plain_difference(iv, found, registers);
     decide(either(plain, padded), registers)?;

@@ -1,13 +1,18 @@
 //! The theorem of the steps, about the definitions only: a whole run makes the standard's wrapping,
 //! and a whole unwrapping leads back from it.
 
-ghost use Rattle.std.specs.Prelude.{ℕ, ◌+◌, ◌++◌, List, length, take};
+ghost use Rattle.std.specs.Prelude.{ℕ, ◌+◌, ◌++◌, Bool, List, Result, length, take};
+ghost use Rattle.block_pair.specs.Pair.{AreInverse};
+ghost use Rattle.key_wrap_core.specs.Rewrap.{IsRewrapping};
+ghost use Rattle.key_wrap_core.specs.RewrapPhases.{RewrapAt, RewrapRun};
 ghost use Rattle.key_wrap_core.specs.Lengths.{IsPlainKeyLength, IsPaddedKeyLength};
 ghost use Rattle.key_wrap_core.specs.Plain.{Plain};
 ghost use Rattle.key_wrap_core.specs.Padded.{Padded, aiv, padded};
 ghost use Rattle.key_wrap_core.specs.PaddedRegisters.{PaddedRegisters};
 ghost use Rattle.key_wrap_core.specs.BlockCalls.{block_calls};
 ghost use Rattle.key_wrap_core.specs.Steps.{WrapRun, UnwrapRun};
+
+use crate::rewrapping::{RewrapFault, RewrapForms, Rewrapped};
 
 /// Says that all steps of a wrapping, six for each 8 bytes of the key, or one for one word, end in the
 /// wrapping of the key, for every E. It does nothing.
@@ -30,4 +35,13 @@ pub fn whole_unwrap_law()
     ensures { (E : List ℕ → List ℕ) (text : List ℕ) (registers block : ℕ → List ℕ)
         → UnwrapRun E text registers block
         → PaddedRegisters E (take 8 (block 0) ++ registers 0) text }
+{}
+
+/// Says that all calls of a rewrapping, with steps and turns, end in what `rewrap` promises, for every two
+/// permutations. It does nothing.
+pub fn whole_rewrap_law()
+    ensures { (pass_new : Bool) (forms : RewrapForms) (E D F G : List ℕ → List ℕ) (text after : List ℕ) (calls : ℕ)
+        (at : ℕ → RewrapAt) (outcome : Result Rewrapped RewrapFault) → AreInverse E D → AreInverse F G
+        → RewrapRun pass_new forms E F text calls at outcome after
+        → IsRewrapping pass_new forms E F text outcome after }
 {}

@@ -1,10 +1,21 @@
 //! The exports of the steps, for an AES outside the library. `keywrap_steps.h` describes each call.
 
+ghost use Rattle.std.specs.Prelude.{◌≡◌, ◌+◌};
 ghost use Rattle.key_wrap_core.specs.Lengths.{IsPlainTextLength, IsPaddedTextLength};
+ghost use Rattle.key_wrap_core.specs.BlockCalls.{block_calls};
 ghost use Rattle.keywrap_calls.specs.StepPromises.{BeginsWrap, BeginsPadded, StepsWrap, EndsWrap};
-ghost use Rattle.keywrap_calls.specs.StepPromises.{BeginsUnwrap, StepsUnwrap, EndsUnwrap, EndsPadded};
+ghost use Rattle.keywrap_calls.specs.StepPromises.{BeginsUnwrap, StepsUnwrap, EndsUnwrap, EndsPadded, EndsAny};
+ghost use Rattle.keywrap_calls.specs.RewrapSteps.{BeginsRewrap, TurnsRun, TurnsRunFrom};
 
 use keywrap_calls::{In, Out};
+
+/// Returns the number of steps.
+#[unsafe(no_mangle)]
+pub extern "C" fn keywrap_step_count(len: usize) -> u64
+    ensures { IsPaddedTextLength (8 + len) → result ≡ block_calls (8 + len) }
+{
+    keywrap_calls::step_count(len)
+}
 
 /// Begins a plain wrapping.
 #[unsafe(no_mangle)]
@@ -109,4 +120,64 @@ pub extern "C" fn keywrap_end_unwrap_padded(
     ensures { EndsPadded registers.old registers.new left block.old block.new key_len.new result }
 {
     keywrap_calls::end_unwrap_padded(registers, left, block, key_len)
+}
+
+/// Ends an unwrapping in either form.
+#[unsafe(no_mangle)]
+pub extern "C" fn keywrap_end_unwrap_any(
+    registers: Out,
+    left: u64,
+    block: &mut [u8; 16],
+    padded: &mut u32,
+    key_len: &mut usize,
+) -> i32
+    ensures { EndsAny registers.old registers.new left block.old block.new padded.new key_len.new
+        result }
+{
+    keywrap_calls::end_unwrap_any(registers, left, block, padded, key_len)
+}
+
+/// Begins a rewrapping.
+#[unsafe(no_mangle)]
+pub extern "C" fn keywrap_begin_rewrap(
+    flags: u32,
+    text: In,
+    phase: &mut u32,
+    steps: &mut u64,
+    block: &mut [u8; 16],
+) -> i32
+    ensures { BeginsRewrap flags text.now phase.new steps.old steps.new block.old block.new result }
+{
+    keywrap_calls::begin_rewrap(flags, text, phase, steps, block)
+}
+
+/// Ends a run of a rewrapping, and begins the next one.
+#[unsafe(no_mangle)]
+pub extern "C" fn keywrap_next_rewrap(
+    flags: u32,
+    text: Out,
+    phase: &mut u32,
+    steps: &mut u64,
+    block: &mut [u8; 16],
+) -> i32
+    ensures { TurnsRun flags phase.old phase.new text.old text.new steps.old steps.new
+        block.old block.new result }
+{
+    keywrap_calls::next_rewrap(flags, text, phase, steps, block)
+}
+
+/// Ends a run of a rewrapping, and begins the next one, with a copy of the text.
+#[unsafe(no_mangle)]
+pub extern "C" fn keywrap_next_rewrap_from(
+    flags: u32,
+    copy: In,
+    text: Out,
+    phase: &mut u32,
+    steps: &mut u64,
+    block: &mut [u8; 16],
+) -> i32
+    ensures { TurnsRunFrom flags copy.now phase.old phase.new text.old text.new steps.old steps.new
+        block.old block.new result }
+{
+    keywrap_calls::next_rewrap_from(flags, copy, text, phase, steps, block)
 }

@@ -7,3 +7,4 @@ pub mod Lengths
 pub mod Rewraps
 pub mod Endings
 pub mod Slots
+pub mod RewrapCalls

@@ -1,5 +1,5 @@
 -- What the rewraps promise, from what is known of the outcome.
-use Rattle.std.proofs.Common.{◌≡◌, ap, ℕ, List, refl, Result, Ok, Err, false, ◌<◌, arith}
+use Rattle.std.proofs.Common.{◌≡◌, ap, ℕ, ◌+◌, pos, List, refl, Result, Ok, Err, false, ◌<◌, arith}
 use Rattle.std.proofs.lemmas.Bool.Decides.{nat_tests}
 use lib.IntN.{ℤ}
 use Rattle.std.specs.Prelude.{IsErr}
@@ -7,8 +7,10 @@ use Rattle.key_wrap_core.specs.declared.rewrapping.Rewrapped.{Rewrapped}
 use Rattle.key_wrap_core.specs.declared.rewrapping.RewrapFault.{RewrapFault}
 use Rattle.key_wrap_core.specs.declared.rewrapping.RewrapFault.TheVariants.{BadLength, Integrity, KeyNotPlain}
 use Rattle.key_wrap_core.specs.Rewrap.{IsRewrapping}
+use Rattle.key_wrap_core.specs.declared.rewrapping.Rewrapped.TheVariants.{Fresh, AlreadyNew}
 use Rattle.keywrap_calls.specs.Status.{IsDone, IsBadKek}
 use Rattle.keywrap_calls.specs.Rewraps.{AreKeks, AreFlags, forms_of, passes_new, rewrap_status, already_of, Rewraps, IsInPlace, RewrapsInPlace}
+use Rattle.keywrap_calls.specs.RewrapSteps.{end_status}
 
 -- no outcome is a bad KEK
 no_bad_kek : (outcome : Result Rewrapped RewrapFault) → ¬ IsBadKek (rewrap_status outcome)
@@ -45,3 +47,15 @@ in_place E F old_kek new_kek forms old after new outcome status keks small told 
       bad_flags = λ _ large. absurd (large small);
       rewraps = λ _ _. (outcome, after, rw unasked at (told (omega arith, omega arith)), is);
     }
+
+-- the byte of an outcome is its status, and 1 more for a wrapped key that was new already
+pub byte_parts : (outcome : Result Rewrapped RewrapFault) (byte : ℕ) → end_status outcome ≡ pos byte
+    → (code : ℕ) × (rewrap_status outcome ≡ pos code) × (byte ≡ code + already_of outcome)
+byte_parts (Ok Fresh) byte e = (0, refl, cc)
+byte_parts (Ok AlreadyNew) byte e = (0, refl, cc)
+byte_parts (Err BadLength) byte e = (4, refl, cc)
+byte_parts (Err Integrity) byte e = (5, refl, cc)
+byte_parts (Err KeyNotPlain) byte e = (8, refl, cc)
+
+pub ok_or_err : {A F P : Type 0} {v : A} {fault : F} → Ok v ≡ Err fault → P
+ok_or_err e = cc

@@ -12,3 +12,7 @@ pub mod Version
 pub mod Tried
 pub mod Many
 pub mod StepPromises
+pub mod RewrapSteps
+pub mod RewrapCalls
+pub mod Checks
+pub mod SlotSteps

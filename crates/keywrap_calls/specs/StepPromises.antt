@@ -3,15 +3,18 @@
 use Rattle.std.specs.Prelude.{◌≡◌, ◌↔◌, ◌⊎◌, ℕ, ℤ, ◌+◌, ◌≤◌, ◌<◌, ◌++◌, List, length, take, All}
 use Rattle.block_pair.specs.Pair.{AreInverse}
 use Rattle.key_wrap_core.specs.Lengths.{IsPlainKeyLength, IsPaddedKeyLength, IsPaddedTextLength}
-use Rattle.key_wrap_core.specs.Plain.{Plain}
+use Rattle.key_wrap_core.specs.Plain.{Plain, default_iv}
 use Rattle.key_wrap_core.specs.Padded.{Padded, aiv, padded}
 use Rattle.key_wrap_core.specs.NoKey.{NoKey, NoPlainKey}
 use Rattle.key_wrap_core.specs.InPlace.{IsPaddedRoom}
 use Rattle.key_wrap_core.specs.BlockCalls.{block_calls}
 use Rattle.key_wrap_core.specs.Steps.{WrapState, UnwrapState}
+use Rattle.key_wrap_core.specs.Forms.{NoOtherForm, by_default}
+use Rattle.key_wrap_core.specs.EitherForm.{IsEither, IsOnlyWrapping, NoKeyIn}
 use Rattle.keywrap_calls.specs.Status.{IsDone, IsBadIv, IsBadLength, IsIntegrity}
 use Rattle.keywrap_calls.specs.CallAnswers.{IsUnwrapAnswer}
 use Rattle.keywrap_calls.specs.AgreedValue.{IsIv, iv_word}
+use Rattle.keywrap_calls.specs.Any.{form_of}
 
 -- a call that begins the plain wrapping of the key in the registers
 pub record BeginsWrap (iv registers : List ℕ) (old_done new_done : ℕ) (old_block new_block : List ℕ) (status : ℤ) : Type 0 where
@@ -100,6 +103,24 @@ pub record EndsPadded (old new : List ℕ) (left : ℕ) (old_block new_block : L
       → UnwrapState E text left old old_block → Padded E other text → other ≡ take key_len new
   pub integrity : IsIntegrity status → (E D : List ℕ → List ℕ) (text : List ℕ) → AreInverse E D
       → UnwrapState E text left old old_block → NoKey (Padded E) text
+  pub size : IsDone status → length (take key_len new) ≡ key_len
+  pub around : IsDone status → new ≡ padded (take key_len new)
+  pub cleared : IsIntegrity status → All (λ byte. byte ≡ 0) new
+  pub block_cleared : IsDone status ⊎ IsIntegrity status → All (λ byte. byte ≡ 0) new_block
+
+-- a call that ends an unwrapping in either form: for every E that has an inverse, the key, of this length, in the form that the
+-- text has, or no key has this wrapping
+pub record EndsAny (old new : List ℕ) (left : ℕ) (old_block new_block : List ℕ) (is_padded key_len : ℕ) (status : ℤ) : Type 0 where
+  pub statuses : IsDone status ⊎ (IsBadLength status ⊎ IsIntegrity status)
+  pub bad_length : IsBadLength status ↔ ¬ (IsPaddedTextLength (8 + length old) × (left ≡ 0))
+  pub kept : IsBadLength status → (new ≡ old) × (new_block ≡ old_block)
+  pub none : ¬ IsDone status → (is_padded ≡ 0) × (key_len ≡ 0)
+  pub answer : IsDone status → (E D : List ℕ → List ℕ) (text : List ℕ) → AreInverse E D → UnwrapState E text left old old_block
+      → IsOnlyWrapping (IsEither default_iv) E (by_default (form_of is_padded)) (take key_len new) text
+      × NoOtherForm (by_default (form_of is_padded)) E text
+  pub integrity : IsIntegrity status → (E D : List ℕ → List ℕ) (text : List ℕ) → AreInverse E D
+      → UnwrapState E text left old old_block → NoKeyIn (IsEither default_iv) E text
+  pub flag : is_padded < 2
   pub size : IsDone status → length (take key_len new) ≡ key_len
   pub around : IsDone status → new ≡ padded (take key_len new)
   pub cleared : IsIntegrity status → All (λ byte. byte ≡ 0) new

@@ -41,7 +41,7 @@ pub fn unwrap_any<A: KeyInit>(
 }
 
 // 1 for the padded form, else 0.
-fn flag_of(form: Form) -> u32
+pub(crate) fn flag_of(form: Form) -> u32
     ensures is { form_of result ≡ form }
     ensures bit { result < 2 }
 {

@@ -49,7 +49,13 @@ pub fn kind_many<A: KeyInit>(
 }
 
 // Whether the lengths of the buffers are legal.
-fn are_kind_slots(len: usize, room: usize, forms: usize, key_lens: usize, count: usize) -> bool
+pub(crate) fn are_kind_slots(
+    len: usize,
+    room: usize,
+    forms: usize,
+    key_lens: usize,
+    count: usize,
+) -> bool
     ensures is { IsTrue result ↔ AreKindSlots len room forms key_lens count }
     ensures fills { IsTrue result → len ≡ (room + 8) * count }
 {

@@ -7,6 +7,7 @@ ghost use Rattle.key_wrap_core.specs.Rewrap.{IsOldLength};
 ghost use Rattle.keywrap_calls.specs.Many.{AreRewrapSlots, RewrapsMany, RewrapsSlot, slot_at};
 
 use crate::many_slots::slot_len;
+use crate::rewrap_steps::outcome_byte;
 use crate::rewrapping::{forms_of, rewrap_as};
 use crate::status::{BAD_KEK, BAD_LENGTH, DONE};
 use block_pair::{BlockPair, Meter};
@@ -43,7 +44,7 @@ pub fn rewrap_many<A: KeyInit>(
 }
 
 // The length of each slot, if it is legal in one of the old forms, and the flags are legal.
-fn rewrap_slot_len(flags: u32, len: usize, count: usize) -> Option<usize>
+pub(crate) fn rewrap_slot_len(flags: u32, len: usize, count: usize) -> Option<usize>
     ensures some { IfSome result (λ n. AreRewrapSlots flags len count
         × (n ≡ len / count) × (len ≡ n * count)) }
     ensures none { IfNone result (¬ AreRewrapSlots flags len count) }
@@ -95,27 +96,4 @@ fn rewrap_slot<O: BlockPair, N: BlockPair>(old: &O, new: &N, flags: u32, text: &
         text.old text.new result }
 {
     outcome_byte(rewrap_as(&mut Meter::new(old), &mut Meter::new(new), flags, text))
-}
-
-// The byte of an outcome.
-fn outcome_byte(outcome: Result<Rewrapped, RewrapFault>) -> u8
-    ensures { (code : ℕ) × (rewrap_status outcome ≡ pos code)
-        × (result ≡ code + already_of outcome) }
-{
-    match outcome {
-        Ok(Rewrapped::Fresh) => 0,
-        Ok(Rewrapped::AlreadyNew) => 1,
-        Err(fault) => refusal_byte(fault),
-    }
-}
-
-// The byte of a refusal.
-fn refusal_byte(fault: RewrapFault) -> u8
-    ensures { rewrap_status (Err fault) ≡ pos result }
-{
-    match fault {
-        RewrapFault::BadLength => 4,
-        RewrapFault::Integrity => 5,
-        RewrapFault::KeyNotPlain => 8,
-    }
 }

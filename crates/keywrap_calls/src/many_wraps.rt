@@ -42,7 +42,12 @@ pub fn wrap_many<A: KeyInit>(
 }
 
 // The form that the flags request, and the length of each slot, if flags and lengths are legal.
-fn wrap_slots_of(flags: u32, key_len: usize, len: usize, count: usize) -> Option<(Form, usize)>
+pub(crate) fn wrap_slots_of(
+    flags: u32,
+    key_len: usize,
+    len: usize,
+    count: usize,
+) -> Option<(Form, usize)>
     ensures some { IfSome result (λ slots. AreWrapSlots flags key_len len count
         × (slots.0 ≡ wrap_form flags) × (slots.1 ≡ len / count) × (len ≡ slots.1 * count)) }
     ensures none { IfNone result (¬ AreWrapSlots flags key_len len count) }
@@ -57,7 +62,7 @@ fn wrap_slots_of(flags: u32, key_len: usize, len: usize, count: usize) -> Option
 }
 
 // The form that the flags of a wrap request.
-fn new_form(flags: u32) -> Option<Form>
+pub(crate) fn new_form(flags: u32) -> Option<Form>
     ensures some { IfSome result (λ form. AreWrapFlags flags × (form ≡ wrap_form flags)) }
     ensures none { IfNone result (¬ AreWrapFlags flags) }
 {
@@ -69,7 +74,7 @@ fn new_form(flags: u32) -> Option<Form>
 }
 
 // Whether a slot of `len` bytes is as long as the wrapped key of a key of `key_len` bytes.
-fn is_key_slot(form: Form, key_len: usize, len: usize) -> bool
+pub(crate) fn is_key_slot(form: Form, key_len: usize, len: usize) -> bool
     ensures { IsTrue result ↔ IsKeySlot form key_len len }
 {
     match form {
@@ -139,7 +144,12 @@ pub fn unwrap_many<A: KeyInit>(
 }
 
 // The form that the flags request, and the length of each slot, if flags and lengths are legal.
-fn unwrap_slots_of(flags: u32, len: usize, count: usize, lens: usize) -> Option<(Form, usize)>
+pub(crate) fn unwrap_slots_of(
+    flags: u32,
+    len: usize,
+    count: usize,
+    lens: usize,
+) -> Option<(Form, usize)>
     ensures some { IfSome result (λ slots. AreUnwrapSlots flags len count lens
         × (slots.0 ≡ form_of_bit flags) × (slots.1 ≡ len / count) × (len ≡ slots.1 * count)) }
     ensures none { IfNone result (¬ AreUnwrapSlots flags len count lens) }
@@ -154,7 +164,7 @@ fn unwrap_slots_of(flags: u32, len: usize, count: usize, lens: usize) -> Option<
 }
 
 // The form that the flags of an unwrap request.
-fn old_form(flags: u32) -> Option<Form>
+pub(crate) fn old_form(flags: u32) -> Option<Form>
     ensures some { IfSome result (λ form. AreUnwrapFlags flags × (form ≡ form_of_bit flags)) }
     ensures none { IfNone result (¬ AreUnwrapFlags flags) }
 {

@@ -13,7 +13,7 @@ use fips197::KeyInit;
 use key_wrap_core::{Form, RewrapFault, RewrapForms, Rewrapped};
 
 // The flag beside the forms: a wrapped key that is new already is passed.
-const PASS_NEW: u32 = 8;
+pub(crate) const PASS_NEW: u32 = 8;
 
 /// Replaces the wrapped key in `buffer`, under the old KEK, by the same key wrapped under the new
 /// KEK, of the same length (RFC 3394 and RFC 5649). `keywrap.h` has the `flags`. `*already` is
@@ -71,7 +71,7 @@ pub fn rewrap_in_place<A: KeyInit>(
 }
 
 // The status of version 1.0, and its buffer.
-fn in_place_status(outcome: Result<Rewrapped, RewrapFault>, buffer: &mut [u8]) -> i32
+pub(crate) fn in_place_status(outcome: Result<Rewrapped, RewrapFault>, buffer: &mut [u8]) -> i32
     ensures is { IsInPlace outcome buffer.old buffer.new result }
     ensures other { ¬ IsBadKek result }
 {
@@ -126,7 +126,7 @@ pub(crate) fn forms_of(flags: u32) -> Option<RewrapForms>
 }
 
 // The status of an outcome, and 1 for a wrapped key that was new already, else 0.
-fn report(outcome: Result<Rewrapped, RewrapFault>, already: &mut u32) -> i32
+pub(crate) fn report(outcome: Result<Rewrapped, RewrapFault>, already: &mut u32) -> i32
     ensures status { result ≡ rewrap_status outcome }
     ensures already { already.new ≡ already_of outcome }
 {

@@ -2,5 +2,6 @@
 //! wrappings. The host clears the memory of the module after each call.
 #![tactic(auto)]
 
+mod checks;
 mod exports;
 mod steps;

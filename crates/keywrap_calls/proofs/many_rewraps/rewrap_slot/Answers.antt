@@ -1,7 +1,7 @@
 -- The meters' pairs are the given ones (`from`, `to`).
 use Rattle.std.proofs.Common.{◌≡◌, ap, sym}
 use Rattle.keywrap_calls.specs.Rewraps.{already_of}
-use Rattle.keywrap_calls.proofs.Rewraps.{rewraps}
+use Rattle.keywrap_calls.proofs.Rewraps.{byte_parts, rewraps}
 use Rattle.keywrap_calls.proofs.many_rewraps.rewrap_slot.Goals as goal
 
 pub returns : goal.returns
@@ -10,7 +10,7 @@ returns g c = λ old_kek new_kek keks.
     let to : g.N.BlockPair.encrypted c.new-2.result.pair ≡ g.N.BlockPair.encrypted c.args.new.now = ap (λ m. g.N.BlockPair.encrypted m.pair) c.new-2.ensures in
     let told = c.rewrap_as.ensures in
     let outcome = c.rewrap_as.result in
-    let byte = c.outcome_byte.ensures in
+    let byte = byte_parts outcome c.outcome_byte.result c.outcome_byte.ensures in
     record {
       already = already_of outcome;
       code = byte.0;

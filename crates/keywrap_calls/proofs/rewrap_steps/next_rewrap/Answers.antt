@@ -1,0 +1,22 @@
+-- The number means the phase, and the flags request the forms.
+use Rattle.std.proofs.Common.{rules, ◌≡◌, ◌∙◌, Ok, Err, sym, refl}
+use mir.Syntax.{w32}
+use mir.Val.{SFits}
+use Rattle.keywrap_calls.proofs.CallPromises.{passed_on}
+use Rattle.keywrap_calls.proofs.Rewraps.{ok_or_err}
+use Rattle.keywrap_calls.proofs.rewrap_steps.next_rewrap.Goals as goal
+
+pub returns-in-Ok : goal.returns-in-Ok
+returns-in-Ok c =
+    let named = c.in-Some.ensures.some in
+    let told = rw (named.1, named.2) at c.in-Ok.ensures.turns in
+    let fits : SFits w32 c.tell.result = search rules in
+    record {
+      turns = λ phase ended.
+          let same : c.in-Some-run.run' ≡ phase = cc in
+          (c.in-Ok.next, rw (passed_on fits refl) c.tell.ensures, rw same at told);
+      refused = λ none.
+          let bad = c.next_rewrap.ensures.refused.bad_length.1
+          (λ legal. none c.in-Some-run.run' (named.0, sym c.phase_of-run.ensures ∙ c.in-Some-run.is, legal.0, legal.1)) in
+          ok_or_err (sym c.in-Ok.is ∙ bad);
+    }

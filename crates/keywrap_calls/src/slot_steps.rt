@@ -1,0 +1,145 @@
+//! The calls for many keys, for an AES outside the library: their checks, and the first and the last
+//! step of one slot, in the form that the flags request.
+
+ghost use Rattle.std.specs.Prelude.{length};
+ghost use Rattle.fips197.specs.KeyExpansion.{IsKekLength};
+ghost use Rattle.keywrap_calls.specs.Checks.{ChecksCall};
+ghost use Rattle.keywrap_calls.specs.Many.{AreWrapSlots, AreUnwrapSlots, AreRewrapSlots, AreKindSlots};
+ghost use Rattle.keywrap_calls.specs.SlotSteps.{BeginsSlot, EndsSlot};
+
+use crate::argument_checks::is_kek_length;
+use crate::many_kinds::are_kind_slots;
+use crate::many_rewraps::rewrap_slot_len;
+use crate::many_wraps::{new_form, old_form, unwrap_slots_of, wrap_slots_of};
+use crate::status::{BAD_KEK, BAD_LENGTH, DONE};
+use crate::unwrap_steps::{end_unwrap, end_unwrap_padded};
+use crate::wrap_steps::{begin_wrap, begin_wrap_padded};
+use key_wrap_core::Form;
+
+// The default initial value.
+const DEFAULT_IV: [u8; 8] = [0xa6; 8];
+
+/// Checks the arguments of `wrap_many`.
+pub fn check_wrap_many(
+    kek_len: usize,
+    texts_len: usize,
+    key_len: usize,
+    flags: u32,
+    count: usize,
+) -> i32
+    ensures { ChecksCall (IsKekLength kek_len) (AreWrapSlots flags key_len texts_len count) result }
+{
+    if !is_kek_length(kek_len) {
+        return BAD_KEK;
+    }
+    match wrap_slots_of(flags, key_len, texts_len, count) {
+        Some(_) => DONE,
+        None => BAD_LENGTH,
+    }
+}
+
+/// Checks the arguments of `unwrap_many`.
+pub fn check_unwrap_many(
+    kek_len: usize,
+    texts_len: usize,
+    flags: u32,
+    key_lens: usize,
+    count: usize,
+) -> i32
+    ensures { ChecksCall (IsKekLength kek_len) (AreUnwrapSlots flags texts_len count key_lens) result }
+{
+    if !is_kek_length(kek_len) {
+        return BAD_KEK;
+    }
+    match unwrap_slots_of(flags, texts_len, count, key_lens) {
+        Some(_) => DONE,
+        None => BAD_LENGTH,
+    }
+}
+
+/// Checks the arguments of `rewrap_many`.
+pub fn check_rewrap_many(
+    old_kek_len: usize,
+    new_kek_len: usize,
+    texts_len: usize,
+    flags: u32,
+    count: usize,
+) -> i32
+    ensures { ChecksCall (IsKekLength old_kek_len × IsKekLength new_kek_len)
+        (AreRewrapSlots flags texts_len count) result }
+{
+    if !is_kek_length(old_kek_len) || !is_kek_length(new_kek_len) {
+        return BAD_KEK;
+    }
+    match rewrap_slot_len(flags, texts_len, count) {
+        Some(_) => DONE,
+        None => BAD_LENGTH,
+    }
+}
+
+/// Checks the arguments of `kind_many`.
+pub fn check_kind_many(
+    kek_len: usize,
+    texts_len: usize,
+    room: usize,
+    forms: usize,
+    key_lens: usize,
+    count: usize,
+) -> i32
+    ensures { ChecksCall (IsKekLength kek_len)
+        (AreKindSlots texts_len room forms key_lens count) result }
+{
+    if !is_kek_length(kek_len) {
+        return BAD_KEK;
+    }
+    if !are_kind_slots(texts_len, room, forms, key_lens, count) {
+        return BAD_LENGTH;
+    }
+    DONE
+}
+
+/// Begins to wrap the key of `key_len` bytes in `registers`, in the form of the flags of `wrap_many`:
+/// as `begin_wrap` under the default initial value, or as `begin_wrap_padded`.
+pub fn begin_wrap_slot(
+    flags: u32,
+    key_len: usize,
+    registers: &mut [u8],
+    done: &mut u64,
+    block: &mut [u8; 16],
+) -> i32
+    ensures { BeginsSlot flags key_len registers.old registers.new done.old done.new
+        block.old block.new result }
+{
+    match new_form(flags) {
+        Some(Form::Plain) if key_len == registers.len() => {
+            begin_wrap(&DEFAULT_IV, registers, done, block)
+        }
+        Some(Form::Padded) => begin_wrap_padded(key_len, registers, done, block),
+        _ => BAD_LENGTH,
+    }
+}
+
+/// Ends an unwrapping in the form of the flags of `unwrap_many`: as `end_unwrap` under the default
+/// initial value, or as `end_unwrap_padded`. `*key_len` is the length of the key, or 0 at a refusal.
+pub fn end_unwrap_slot(
+    flags: u32,
+    registers: &mut [u8],
+    left: u64,
+    block: &mut [u8; 16],
+    key_len: &mut usize,
+) -> i32
+    ensures { EndsSlot flags registers.old registers.new left block.old block.new key_len.new result }
+{
+    *key_len = 0;
+    match old_form(flags) {
+        Some(Form::Plain) => {
+            let status = end_unwrap(&DEFAULT_IV, registers, left, block);
+            if status == DONE {
+                *key_len = registers.len();
+            }
+            status
+        }
+        Some(Form::Padded) => end_unwrap_padded(registers, left, block, key_len),
+        None => BAD_LENGTH,
+    }
+}
