@@ -1,6 +1,6 @@
 -- What a command is for the arguments that clap parsed, option by option, and why there is none. Clap refuses options that
 -- exclude each other.
-use Rattle.std.specs.Prelude.{◌≡◌, ◌↔◌, ◌⊎◌, ℕ, IsTrue, List, Option, Some, None, codes}
+use Rattle.std.specs.Prelude.{◌≡◌, ◌≢◌, ◌↔◌, ◌⊎◌, ℕ, IsTrue, List, Option, Some, None, codes}
 use Rattle.std.specs.Borrow.{Bor}
 use Rattle.key_wrap_core.specs.Plain.{IsReserved, default_iv}
 use Rattle.key_wrap_core.specs.declared.agreed_form.AgreedForm.{AgreedForm}
@@ -22,17 +22,18 @@ use Rattle.keywrap_cli.specs.declared.fault.ProgramFault.{ProgramFault}
 use Rattle.keywrap_cli.specs.declared.fault.ProgramFault.TheVariants.{Iv, NewIv}
 use Rattle.keywrap_cli.specs.declared.initial_value.IvFault.{IvFault}
 use Rattle.keywrap_cli.specs.declared.initial_value.IvFault.TheVariants.{NotSixteenDigits, Reserved}
-use Rattle.keywrap_cli.specs.declared.job.Job.{Job}
-use Rattle.keywrap_cli.specs.declared.job.Job.TheVariants as jobs
-use Rattle.keywrap_cli.specs.declared.job.Notation.{Notation}
-use Rattle.keywrap_cli.specs.declared.job.Notation.TheVariants.{Raw, Hex, Base64}
+use Rattle.keywrap_cli.specs.declared.files.Notation.{Notation}
+use Rattle.keywrap_cli.specs.declared.files.Notation.TheVariants.{Raw, Hex, Base64}
+use Rattle.keywrap_cli.specs.declared.kek_file.Keks.{Keks}
 use Rattle.keywrap_cli.specs.declared.operation.Operation.{Operation}
-use Rattle.keywrap_cli.specs.declared.operation.Operation.TheVariants as operations
+use Rattle.keywrap_cli.specs.declared.what.How.{How}
+use Rattle.keywrap_cli.specs.declared.what.How.TheVariants.{Whole, Lines}
+use Rattle.keywrap_cli.specs.declared.what.What.{What}
+use Rattle.keywrap_cli.specs.declared.what.What.TheVariants as whats
 use Rattle.keywrap.specs.declared.cli.CommandStop.{CommandStop}
 use Rattle.keywrap.specs.declared.cli.CommandStop.TheVariants as stops
 use Rattle.keywrap.specs.declared.command.Command.{Command}
 use Rattle.keywrap.specs.declared.command.Command.TheVariants.{Run, Drill, Vectors}
-use Rattle.keywrap.specs.declared.command.LineOptions.{LineOptions}
 
 -- the padded form with this flag, else the plain form
 pub record IsForm (args : Args) (flag : List ℕ) (form : Form) : Type 0 where
@@ -65,41 +66,49 @@ pub record IsInitialValue (args : Args) (option : List ℕ) (iv : ℕ) : Type 0 
 abbrev pub IsAgreedForm : Args → (flag option : List ℕ) → AgreedForm → Type 0
 IsAgreedForm args flag option agreed = (form : Form) × (iv : ℕ) × IsForm args flag form × IsInitialValue args option iv × (agreed ≡ with_value form iv)
 
--- the job of a subcommand
-abbrev pub IsJob : Args → Subcommand → Job → Type 0
-IsJob args words.Wrap job = job ≡ jobs.Wrap
-IsJob args words.Unwrap job = (IsSet args (codes "any-form") → job ≡ jobs.UnwrapAny) × (¬ IsSet args (codes "any-form") → job ≡ jobs.Unwrap)
-IsJob args words.Check job = job ≡ jobs.Check
-IsJob args subcommand job = ⊥
+-- a subcommand with one KEK
+abbrev pub IsJob : Subcommand → Type 0
+IsJob subcommand = (subcommand ≢ words.Rewrap) × (subcommand ≢ words.Drill) × (subcommand ≢ words.Vectors)
 
 -- the forms of a rewrap
 abbrev pub AreForms : Args → RewrapForms → Type 0
 AreForms args Kept = IsSet args (codes "keep-form")
 AreForms args (Changed old new) = (¬ IsSet args (codes "keep-form")) × IsAgreedForm args (codes "padded") (codes "iv") old × IsAgreedForm args (codes "new-padded") (codes "new-iv") new
 
+-- what is done
+abbrev pub IsWhat : Args → Subcommand → What → Type 0
+IsWhat args words.Wrap (whats.Wrap form) = IsAgreedForm args (codes "padded") (codes "iv") form
+IsWhat args words.Unwrap (whats.Unwrap form) = (¬ IsSet args (codes "any-form")) × IsAgreedForm args (codes "padded") (codes "iv") form
+IsWhat args words.Unwrap (whats.UnwrapAny iv) = IsSet args (codes "any-form") × IsInitialValue args (codes "iv") iv
+IsWhat args words.Check (whats.Check iv) = IsInitialValue args (codes "iv") iv
+IsWhat args words.Rewrap (whats.Rewrap forms pass_new) = AreForms args forms × (IsTrue pass_new ↔ IsSet args (codes "pass-new"))
+IsWhat args subcommand what = ⊥
+
+-- the file of the new KEK, which only a rewrap has
+abbrev pub IsNewKek : Args → Option (Bor (List ℕ)) → Type 0
+IsNewKek args (Some name) = (args.subcommand ≡ words.Rewrap) × NamesFile args (codes "new-kek") name.now
+IsNewKek args None = args.subcommand ≢ words.Rewrap
+
 abbrev pub IsOperation : Args → Operation (Bor (List ℕ)) → Type 0
-IsOperation args (operations.Job iv task kek) =
-    IsJob args args.subcommand task.job × NamesFile args (codes "kek") kek.now × IsInitialValue args (codes "iv") iv × IsForm args (codes "padded") task.form
-    × IsNotation args task.input × IsKekNotation args task.kek
-IsOperation args (operations.Rewrap task kek new) =
-    (args.subcommand ≡ words.Rewrap) × NamesFile args (codes "kek") kek.now × NamesFile args (codes "new-kek") new.now × AreForms args task.forms
-    × (IsTrue task.pass_new ↔ IsSet args (codes "pass-new")) × IsNotation args task.input × IsKekNotation args task.kek
+IsOperation args operation =
+    IsWhat args args.subcommand operation.what × NamesFile args (codes "kek") operation.keks.kek.now × IsNewKek args operation.keks.new_kek
+    × IsKekNotation args operation.keks.notation
 
 -- the file of an option, or a standard stream
 abbrev pub IsFile : Args → List ℕ → Option (Bor (List ℕ)) → Type 0
 IsFile args option (Some name) = NamesFile args option name.now
 IsFile args option None = NamesNoFile args option
 
--- the options that go with `--lines`
-abbrev pub AreLineOptions : Args → Option LineOptions → Type 0
-AreLineOptions args (Some lines) =
-    IsSet args (codes "lines") × IsTextNotation args lines.notation × (IsTrue lines.keep_going ↔ IsSet args (codes "keep-going")) × (IsTrue lines.quiet ↔ IsSet args (codes "quiet"))
-AreLineOptions args None = ¬ IsSet args (codes "lines")
+-- how the input is read
+abbrev pub IsHow : Args → How → Type 0
+IsHow args (Whole notation) = (¬ IsSet args (codes "lines")) × IsNotation args notation
+IsHow args (Lines options) =
+    IsSet args (codes "lines") × IsTextNotation args options.notation × (IsTrue options.keep_going ↔ IsSet args (codes "keep-going"))
 
 abbrev pub IsCommand : Args → Command → Type 0
 IsCommand args (Run run) =
-    IsOperation args run.operation × IsFile args (codes "input") run.input × IsFile args (codes "output") run.output × AreLineOptions args run.lines
-    × (IsTrue run.verbose ↔ IsSet args (codes "verbose"))
+    IsOperation args run.operation × IsFile args (codes "input") run.input × IsFile args (codes "output") run.output × IsHow args run.how
+    × (IsTrue run.quiet ↔ IsSet args (codes "quiet")) × (IsTrue run.verbose ↔ IsSet args (codes "verbose"))
 IsCommand args (Drill form direction hex) =
     (args.subcommand ≡ words.Drill) × IsForm args (codes "padded") form × (IsSet args (codes "unwrap") → direction ≡ directions.Unwrap)
     × (¬ IsSet args (codes "unwrap") → direction ≡ directions.Wrap) × Has args (codes "hex") hex.now

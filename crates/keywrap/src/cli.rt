@@ -1,20 +1,20 @@
 //! Reads the arguments into a `Command`.
 
 ghost use Rattle.std.specs.Prelude.{◌≡◌, IfErr, IfOk, codes};
-ghost use Rattle.keywrap.specs.Arguments.{AreBadValues, AreForms, AreLineOptions, IsBadValue};
-ghost use Rattle.keywrap.specs.Arguments.{IsCommand, IsForm, IsInitialValue, IsJob};
-ghost use Rattle.keywrap.specs.Arguments.{IsKekNotation, IsNotation, IsOperation, IsTextNotation};
+ghost use Rattle.key_wrap_core.specs.Forms.{with_value};
+ghost use Rattle.keywrap.specs.Arguments.{AreBadValues, AreForms, IsBadValue};
+ghost use Rattle.keywrap.specs.Arguments.{IsCommand, IsForm, IsHow, IsInitialValue, IsJob};
+ghost use Rattle.keywrap.specs.Arguments.{IsKekNotation, IsNotation, IsOperation, IsTextNotation, IsWhat};
 ghost use Rattle.keywrap.specs.Arguments.{RefusesCommand, RefusesDrill, RefusesJob, RefusesRewrap};
 ghost use Rattle.keywrap_args.specs.Given.{IsSet};
 ghost use Rattle.keywrap.specs.declared.cli.CommandStop.TheVariants as Stops;
 
-use crate::command::{Command, LineOptions, Run, agreed_form};
-use key_lines::TextNotation;
-use key_wrap_core::{Form, InitialValue, RewrapForms};
+use crate::command::{Command, Run};
+use key_lines::{RunOptions, TextNotation};
+use key_wrap_core::{AgreedForm, Form, InitialValue, RewrapForms};
 use keywrap_args::{Args, Subcommand, parse};
 use keywrap_cli::{
-    Direction, IvFault, Job, Notation, Operation, ProgramFault, Rewrapping, Task, line_notation,
-    parse_iv,
+    Direction, How, IvFault, Keks, Notation, Operation, ProgramFault, What, line_notation, parse_iv,
 };
 use std::alloc::Global;
 
@@ -57,38 +57,50 @@ pub fn command<'a>(args: &Args<'a>) -> Result<Command<'a>, CommandStop>
     ensures refused { IfErr result (λ stop. RefusesCommand args.now args.now.subcommand stop) }
 {
     let operation = match args.subcommand {
-        Subcommand::Wrap => job(Job::Wrap, args)?,
-        Subcommand::Unwrap if args.has("any-form") => job(Job::UnwrapAny, args)?,
-        Subcommand::Unwrap => job(Job::Unwrap, args)?,
-        Subcommand::Check => job(Job::Check, args)?,
+        Subcommand::Wrap | Subcommand::Unwrap | Subcommand::Check => job(args)?,
         Subcommand::Rewrap => rewrap(args)?,
         Subcommand::Drill => return drill(args),
         Subcommand::Vectors => return Ok(Command::Vectors),
     };
     Ok(Command::Run(Run {
         operation,
+        how: how(args),
         input: args.file("input"),
         output: args.file("output"),
-        lines: lines(args),
+        quiet: args.has("quiet"),
         verbose: args.has("verbose"),
     }))
 }
 
-// UnwrapAny and Check try both forms and ignore this one.
-fn job<'a>(job: Job, args: &Args<'a>) -> Result<Operation<&'a str>, CommandStop>
-    requires { IsJob args.now args.now.subcommand job }
+fn job<'a>(args: &Args<'a>) -> Result<Operation<&'a str>, CommandStop>
+    requires { IsJob args.now.subcommand }
     ensures operation { IfOk result (λ operation. IsOperation args.now operation) }
     ensures refused { IfErr result (λ stop. RefusesJob args.now stop) }
 {
     let kek = args.kek_file("kek")?;
     let iv = parse_iv_option(args, "iv").map_err(ProgramFault::Iv)?;
-    let task = Task {
-        job,
-        form: form(args, "padded"),
-        input: notation(args),
-        kek: kek_notation(args),
+    let keks = Keks {
+        notation: kek_notation(args),
+        kek,
+        new_kek: None,
     };
-    Ok(Operation::Job { iv, task, kek })
+    let what = job_of(args, iv);
+    Ok(Operation { what, keks })
+}
+
+fn job_of(args: &Args<'_>, iv: InitialValue) -> What
+    requires job { IsJob args.now.subcommand }
+    requires iv { IsInitialValue args.now (codes "iv") iv }
+    ensures { IsWhat args.now args.now.subcommand result }
+{
+    let form = agreed_form(form(args, "padded"), iv);
+    match args.subcommand {
+        Subcommand::Wrap => What::Wrap(form),
+        Subcommand::Unwrap if args.has("any-form") => What::UnwrapAny(iv),
+        Subcommand::Unwrap => What::Unwrap(form),
+        Subcommand::Check | Subcommand::Rewrap | Subcommand::Drill | Subcommand::Vectors =>
+            What::Check(iv),
+    }
 }
 
 fn rewrap<'a>(args: &Args<'a>) -> Result<Operation<&'a str>, CommandStop>
@@ -98,13 +110,16 @@ fn rewrap<'a>(args: &Args<'a>) -> Result<Operation<&'a str>, CommandStop>
 {
     let kek = args.kek_file("kek")?;
     let new_kek = args.kek_file("new-kek")?;
-    let task = Rewrapping {
+    let what = What::Rewrap {
         forms: rewrap_forms(args)?,
         pass_new: args.has("pass-new"),
-        input: notation(args),
-        kek: kek_notation(args),
     };
-    Ok(Operation::Rewrap { task, kek, new_kek })
+    let keks = Keks {
+        notation: kek_notation(args),
+        kek,
+        new_kek: Some(new_kek),
+    };
+    Ok(Operation { what, keks })
 }
 
 // Clap refuses `--keep-form` with the arguments for one of the forms.
@@ -187,18 +202,27 @@ fn kek_notation(args: &Args<'_>) -> Notation
     }
 }
 
-// Clap refuses the other two flags without `--lines`.
-fn lines(args: &Args<'_>) -> Option<LineOptions>
-    ensures { AreLineOptions args.now result }
+// Clap refuses `--keep-going` without `--lines`.
+fn how(args: &Args<'_>) -> How
+    ensures { IsHow args.now result }
 {
     if !args.has("lines") {
-        return None;
+        return How::Whole(notation(args));
     }
-    Some(LineOptions {
+    How::Lines(RunOptions {
         notation: text_notation(args),
         keep_going: args.has("keep-going"),
-        quiet: args.has("quiet"),
     })
+}
+
+// Returns the form with its initial value.
+fn agreed_form(form: Form, iv: InitialValue) -> AgreedForm
+    ensures { result ≡ with_value form iv }
+{
+    match form {
+        Form::Plain => AgreedForm::Plain(iv),
+        Form::Padded => AgreedForm::Padded,
+    }
 }
 
 fn parse_iv_option(args: &Args<'_>, option: &str) -> Result<InitialValue, IvFault>

@@ -1,11 +1,11 @@
 //! What a command line asks for.
 
-ghost use Rattle.std.specs.Prelude.{◌≡◌};
-ghost use Rattle.key_wrap_core.specs.Forms.{with_value};
+ghost use Rattle.std.specs.Prelude.{◌≡◌, ◌↔◌, IsTrue};
+ghost use Rattle.keywrap_cli.specs.Files.{input_notation};
+ghost use Rattle.keywrap_cli.specs.Operation.{IsCheck};
 
-use key_lines::TextNotation;
-use key_wrap_core::{AgreedForm, Form, InitialValue};
-use keywrap_cli::{Direction, Operation};
+use key_wrap_core::Form;
+use keywrap_cli::{Direction, How, Notation, Operation};
 use keywrap_io::FileRole;
 
 /// What a command line asks for.
@@ -28,45 +28,34 @@ pub enum Command<'a> {
 pub struct Run<'a> {
     /// With the names of its KEK files.
     pub operation: Operation<&'a str>,
+    /// How the input is read.
+    pub how: How,
     /// The input file. `None` means standard input.
     pub input: Option<&'a str>,
     /// The output file. `None` means standard output.
     pub output: Option<&'a str>,
-    /// With `--lines`: the input has one key per line.
-    pub lines: Option<LineOptions>,
+    /// With `--lines`, no progress is shown.
+    pub quiet: bool,
     /// A refusal has a second line, also if standard error is not a terminal.
     pub verbose: bool,
 }
 
-/// The options that go with `--lines`.
-#[derive(Clone, Copy)]
-pub struct LineOptions {
-    /// The notation of the lines.
-    pub notation: TextNotation,
-    /// The run continues after a refused line.
-    pub keep_going: bool,
-    /// No progress is shown.
-    pub quiet: bool,
-}
-
 impl<'a> Run<'a> {
+    /// Whether the output is raw bytes. A check writes a line.
+    pub fn writes_raw(&self) -> bool
+        ensures { IsTrue result
+            ↔ (¬ IsCheck self.now.operation.what × (input_notation self.now.how ≡ Notation.Raw)) }
+    {
+        !self.operation.what.is_check() && matches!(self.how.notation(), Notation::Raw)
+    }
+
     /// Returns the name of a file, if it has one.
     pub fn file_name(&self, role: FileRole) -> Option<&'a str> {
         match role {
-            FileRole::Kek => Some(*self.operation.kek()),
-            FileRole::NewKek => self.operation.new_kek().copied(),
+            FileRole::Kek => Some(self.operation.keks.kek),
+            FileRole::NewKek => self.operation.keks.new_kek,
             FileRole::Input => self.input,
             FileRole::Output => self.output,
         }
-    }
-}
-
-/// Returns the form with its initial value.
-pub fn agreed_form(form: Form, iv: InitialValue) -> AgreedForm
-    ensures { result ≡ with_value form iv }
-{
-    match form {
-        Form::Plain => AgreedForm::Plain(iv),
-        Form::Padded => AgreedForm::Padded,
     }
 }

@@ -1,12 +1,12 @@
 //! Why a run was refused: the fault, the file that caused it, and the reason.
 
-use crate::command::{Run, agreed_form};
+use crate::command::Run;
 use key_files::{FileFault, MAX_FILE};
 use key_lines::LineFault;
 use key_wrap_core::AgreedForm::{self, Padded, Plain};
 use key_wrap_core::{InitialValue, MAX_KEY, RewrapFault, RewrapForms};
 use keywrap_args::Escaped;
-use keywrap_cli::{Job, JobFault, Notation, Operation, ProgramFault};
+use keywrap_cli::{JobFault, Keks, Notation, ProgramFault, What};
 use keywrap_io::{FileRole, Inspected, Inspection, Reason};
 use std::fmt;
 
@@ -17,9 +17,10 @@ const KEY_NOT_PLAIN: &str =
 /// The file that caused a fault, and the reason: the second line of a refusal.
 pub type Cause = (FileRole, Reason);
 
-/// Returns the cause of a fault of an operation on open files.
+/// Returns the cause of a fault of a run with these open KEK files.
 pub fn fault_cause<F>(
-    operation: &Operation<Inspected<F>>,
+    run: &Run<'_>,
+    keks: &Keks<Inspected<F>>,
     input: &Inspection,
     output: &Inspection,
     fault: &ProgramFault,
@@ -30,8 +31,8 @@ pub fn fault_cause<F>(
         | ProgramFault::Unsent { .. } => {
             Some((FileRole::Output, Reason::from_os_error(output.os_error)))
         }
-        ProgramFault::Job(fault) => job_cause(operation, input, *fault),
-        ProgramFault::Line(line) => Some(line_cause(operation, input, line.fault)),
+        ProgramFault::Job(fault) => job_cause(run, keks, input, *fault),
+        ProgramFault::Line(line) => Some(line_cause(run.operation.what, keks, input, line.fault)),
         ProgramFault::NoLines => Some((FileRole::Input, Reason::Text("is empty"))),
         _ => None,
     }
@@ -55,38 +56,40 @@ pub fn print_fault<R: Eprint>(rt: &R, fault: &ProgramFault) -> u8 {
 }
 
 /// If a raw KEK looks like text, returns a hint.
-pub fn raw_kek_looks_like<K>(operation: &Operation<K>, kek: &Inspection) -> Option<&'static str> {
-    match operation.kek_notation() {
+pub fn raw_kek_looks_like(notation: Notation, kek: &Inspection) -> Option<&'static str> {
+    match notation {
         Notation::Raw => kek.looks_like(),
         Notation::Hex | Notation::Base64 | Notation::Base64Url => None,
     }
 }
 
 fn job_cause<F>(
-    operation: &Operation<Inspected<F>>,
+    run: &Run<'_>,
+    keks: &Keks<Inspected<F>>,
     input: &Inspection,
     fault: JobFault,
 ) -> Option<Cause> {
-    let kek = &operation.kek().inspection;
-    let new_kek = match operation.new_kek() {
+    let kek = &keks.kek.inspection;
+    let new_kek = match &keks.new_kek {
         Some(file) => &file.inspection,
         None => kek,
     };
     Some(match fault {
         JobFault::KekFile(fault) => (FileRole::Kek, file_reason(fault, kek)),
-        JobFault::KekLength => (FileRole::Kek, kek_length_reason(operation, kek)),
+        JobFault::KekLength => (FileRole::Kek, kek_length_reason(keks.notation, kek)),
         JobFault::NewKekFile(fault) => (FileRole::NewKek, file_reason(fault, new_kek)),
-        JobFault::NewKekLength => (FileRole::NewKek, kek_length_reason(operation, new_kek)),
+        JobFault::NewKekLength => (FileRole::NewKek, kek_length_reason(keks.notation, new_kek)),
         JobFault::InputFile(fault) => (FileRole::Input, file_reason(fault, input)),
-        JobFault::BadLength => (FileRole::Input, length_reason(operation, input)),
-        JobFault::Integrity => integrity_cause(operation),
+        JobFault::BadLength => (FileRole::Input, length_reason(run, input)),
+        JobFault::Integrity => integrity_cause(run.operation.what, keks),
         JobFault::KeyNotPlain => (FileRole::Input, Reason::Text(KEY_NOT_PLAIN)),
         JobFault::Write { .. } | JobFault::Memory => return None,
     })
 }
 
 fn line_cause<F>(
-    operation: &Operation<Inspected<F>>,
+    what: What,
+    keks: &Keks<Inspected<F>>,
     input: &Inspection,
     fault: LineFault<RewrapFault>,
 ) -> Cause {
@@ -95,8 +98,8 @@ fn line_cause<F>(
             Reason::NameOnly
         }
         LineFault::Input(fault) => file_reason(fault, input),
-        LineFault::Refused(RewrapFault::Integrity) => return integrity_cause(operation),
-        LineFault::Refused(RewrapFault::BadLength) => Reason::Text(legal_lengths(operation)),
+        LineFault::Refused(RewrapFault::Integrity) => return integrity_cause(what, keks),
+        LineFault::Refused(RewrapFault::BadLength) => Reason::Text(legal_lengths(what)),
         LineFault::Refused(RewrapFault::KeyNotPlain) => Reason::Text(KEY_NOT_PLAIN),
     };
     (FileRole::Input, reason)
@@ -116,9 +119,11 @@ fn file_reason(fault: FileFault, seen: &Inspection) -> Reason {
     }
 }
 
-fn kek_length_reason<K>(operation: &Operation<K>, kek: &Inspection) -> Reason {
-    let bytes = denoted_bytes(operation.kek_notation(), kek);
-    Reason::KekLength(bytes, raw_kek_looks_like(operation, kek))
+fn kek_length_reason(notation: Notation, kek: &Inspection) -> Reason {
+    Reason::KekLength(
+        denoted_bytes(notation, kek),
+        raw_kek_looks_like(notation, kek),
+    )
 }
 
 // Returns the number of bytes that a file denotes if it was read whole.
@@ -130,49 +135,50 @@ fn denoted_bytes(notation: Notation, seen: &Inspection) -> u64 {
     }
 }
 
-// Returns the form of the input or, for a key, of its wrapped key, unless both forms are tried.
-fn input_form<K>(operation: &Operation<K>) -> Option<AgreedForm> {
-    match operation {
-        Operation::Job { iv, task, .. } => match task.job {
-            Job::Wrap | Job::Unwrap => Some(agreed_form(task.form, *iv)),
-            Job::UnwrapAny | Job::Check => None,
-        },
-        Operation::Rewrap { task, .. } => match task.forms {
-            RewrapForms::Kept => None,
-            RewrapForms::Changed { old, .. } => Some(old),
-        },
-    }
-}
-
-fn length_reason<K>(operation: &Operation<K>, input: &Inspection) -> Reason {
-    let bytes = denoted_bytes(operation.input_notation(), input);
-    let (what, most) = match operation.job() {
-        Some(Job::Wrap) => ("a key", MAX_KEY),
+fn length_reason(run: &Run<'_>, input: &Inspection) -> Reason {
+    let what = run.operation.what;
+    let bytes = denoted_bytes(run.how.notation(), input);
+    let (name, most) = match what {
+        What::Wrap(_) => ("a key", MAX_KEY),
         _ => ("a wrapped key", MAX_KEY + 8),
     };
     if bytes > most as u64 {
-        Reason::TooLong(bytes, what, most)
+        Reason::TooLong(bytes, name, most)
     } else {
-        Reason::Length(bytes, legal_lengths(operation))
+        Reason::Length(bytes, legal_lengths(what))
     }
 }
 
-fn legal_lengths<K>(operation: &Operation<K>) -> &'static str {
-    match (operation.job(), input_form(operation)) {
-        (Some(Job::Wrap), Some(Padded)) => "a key has 1 or more",
-        (Some(Job::Wrap), _) => "a plain key has 16 or more, a multiple of 8",
-        (_, Some(Plain(_))) => "a plain wrapped key has 24 or more, a multiple of 8",
-        (_, Some(Padded)) => "a padded wrapped key has 16 or more, a multiple of 8",
-        (_, None) => "a wrapped key has 16 or more, a multiple of 8",
+fn legal_lengths(what: What) -> &'static str {
+    match what {
+        What::Wrap(Padded) => "a key has 1 or more",
+        What::Wrap(Plain(_)) => "a plain key has 16 or more, a multiple of 8",
+        _ => match input_form(what) {
+            Some(Plain(_)) => "a plain wrapped key has 24 or more, a multiple of 8",
+            Some(Padded) => "a padded wrapped key has 16 or more, a multiple of 8",
+            None => "a wrapped key has 16 or more, a multiple of 8",
+        },
+    }
+}
+
+// Returns the form of the wrapped key that is read, unless both forms are tried.
+fn input_form(what: What) -> Option<AgreedForm> {
+    match what {
+        What::Unwrap(form)
+        | What::Rewrap {
+            forms: RewrapForms::Changed { old: form, .. },
+            ..
+        } => Some(form),
+        _ => None,
     }
 }
 
 // The likely cause is a KEK that was read in the wrong notation.
-fn integrity_cause<F>(operation: &Operation<Inspected<F>>) -> Cause {
-    if let Some(advice) = raw_kek_looks_like(operation, &operation.kek().inspection) {
+fn integrity_cause<F>(what: What, keks: &Keks<Inspected<F>>) -> Cause {
+    if let Some(advice) = raw_kek_looks_like(keks.notation, &keks.kek.inspection) {
         return (FileRole::Kek, Reason::Text(advice));
     }
-    let reason = match &input_form(operation) {
+    let reason = match &input_form(what) {
         Some(Plain(iv)) if *iv != InitialValue::default() => {
             "not a valid wrapped key under this KEK and --iv"
         }

@@ -4,7 +4,7 @@ use crate::command::Run;
 use crate::prompt::is_typed;
 use key_lines::{RefusalLog, RefusedLine, RunFault, RunOptions, RunSummary};
 use key_wrap_core::RewrapFault;
-use keywrap_cli::{Operation, Outcome, ProgramFault, lines_status};
+use keywrap_cli::{Operation, Outcome, ProgramFault, What, lines_status};
 use keywrap_io::{
     CountingReader, FileRole, InputSource, Inspected, LineCounts, Progress, Streams,
     is_output_piped,
@@ -31,22 +31,23 @@ pub struct LineCommand {
 }
 
 impl LineCommand {
-    /// Returns the options of a run over the lines of the input, if `--lines` was given.
-    pub fn new<R: Files>(rt: &R, run: &Run<'_>, streams: Streams) -> Option<LineCommand> {
-        let options = run.lines?;
+    /// Returns a run over the lines of the input with these options.
+    pub fn new<R: Files>(
+        rt: &R,
+        run: &Run<'_>,
+        options: RunOptions,
+        streams: Streams,
+    ) -> LineCommand {
         // Progress would be mixed with answers or with typed lines on the same terminal.
         let has_answers = run.output.is_none() && streams.output.is_terminal();
         let is_free = !has_answers && !is_typed(run, FileRole::Input, streams);
         let is_terminal = streams.error.is_terminal();
-        let is_shown = is_terminal && is_free && !options.quiet;
-        Some(LineCommand {
-            options: RunOptions {
-                notation: options.notation,
-                keep_going: options.keep_going,
-            },
+        let is_shown = is_terminal && is_free && !run.quiet;
+        LineCommand {
+            options,
             shows_progress: is_shown && (run.output.is_some() || !is_output_piped(rt)),
             shows_counts: is_shown || run.verbose && (is_free || !is_terminal),
-        })
+        }
     }
 
     /// Runs the operation on each line. The message of a skipped line is printed at once, and the
@@ -68,8 +69,8 @@ impl LineCommand {
         let Outcome { result, same_kek } = run?;
         let result = summary(result)?;
         // A rewrap notes the lines that it passes.
-        let passed = match operation {
-            Operation::Rewrap { task, .. } if task.pass_new => Some(result.noted),
+        let passed = match operation.what {
+            What::Rewrap { pass_new: true, .. } => Some(result.noted),
             _ => None,
         };
         let counts = LineCounts {
@@ -77,7 +78,7 @@ impl LineCommand {
             refused: result.refused,
             passed,
         };
-        let status = lines_status(operation.job(), &result);
+        let status = lines_status(&operation.what, &result);
         let result = (status, self.shows_counts.then_some(counts));
         Ok(Outcome { result, same_kek })
     }

@@ -6,7 +6,7 @@ use crate::lines::{LineCommand, RunOutcome};
 use crate::prompt::prompt;
 use crate::system::System;
 use crate::warnings::warn;
-use keywrap_cli::{Job, Operation, Outcome, ProgramFault, done_status};
+use keywrap_cli::{How, Keks, Notation, Operation, Outcome, ProgramFault, What, done_status};
 use keywrap_io::{
     Access, FileId, FileRole, InputSource, Inspected, Output, OutputFile, Protected, Reason,
     Streams, occupy_closed, open,
@@ -53,7 +53,7 @@ impl<'a, R: System> Session<'a, R> {
     /// the operation, Flush.
     pub fn run(&self) -> u8 {
         let is_terminal = self.run.output.is_none() && self.streams.output.is_terminal();
-        let outcome = if is_terminal && self.run.operation.writes_raw() {
+        let outcome = if is_terminal && self.run.writes_raw() {
             Err(self.refuse(&ProgramFault::RawToTerminal, None))
         } else {
             match occupy_closed(self.rt, self.streams) {
@@ -69,16 +69,17 @@ impl<'a, R: System> Session<'a, R> {
 
     fn open_keks_and_run(&self) -> Result<u8, Refused> {
         let kek = self.open(FileRole::Kek)?;
-        let mut operation = match &self.run.operation {
-            Operation::Job { iv, task, .. } => Operation::Job {
-                iv: *iv,
-                task: *task,
+        let new_kek = match self.run.operation.keks.new_kek {
+            Some(_) => Some(self.open(FileRole::NewKek)?),
+            None => None,
+        };
+        let notation = self.run.operation.keks.notation;
+        let mut operation = Operation {
+            what: self.run.operation.what,
+            keks: Keks {
+                notation,
                 kek,
-            },
-            Operation::Rewrap { task, .. } => Operation::Rewrap {
-                task: *task,
-                kek,
-                new_kek: self.open(FileRole::NewKek)?,
+                new_kek,
             },
         };
         self.open_io_and_run(&mut operation)
@@ -95,7 +96,7 @@ impl<'a, R: System> Session<'a, R> {
         match open(self.rt, self.run.file_name(role)) {
             Ok(file) => {
                 // The bytes of an input of lines are not counted: no reason needs them.
-                let has_lines = matches!(role, FileRole::Input) && self.run.lines.is_some();
+                let has_lines = matches!((role, self.run.how), (FileRole::Input, How::Lines(_)));
                 Ok(Inspected::new(file, self.explains && !has_lines))
             }
             Err(error) => Err(self.refuse_open(role, Reason::from(error))),
@@ -110,9 +111,9 @@ impl<'a, R: System> Session<'a, R> {
         let output = match self.run.output {
             Some(name) => {
                 let protected = self.protected(operation, input);
-                let access = match self.run.operation.job() {
-                    Some(Job::Unwrap | Job::UnwrapAny) => Access::Private,
-                    Some(Job::Wrap | Job::Check) | None => Access::LikeOld,
+                let access = match self.run.operation.what {
+                    What::Unwrap(_) | What::UnwrapAny(_) => Access::Private,
+                    What::Wrap(_) | What::Check(_) | What::Rewrap { .. } => Access::LikeOld,
                 };
                 match OutputFile::create(self.rt, name, &protected, access) {
                     Ok(file) => Output::File(file),
@@ -127,13 +128,13 @@ impl<'a, R: System> Session<'a, R> {
 
     // With --keep-going the input has the only copy of the refused lines.
     fn protected(&self, operation: &Opened<R::Reader>, input: &Source<R::Reader>) -> Protected {
-        let input = match self.run.lines {
-            Some(lines) if lines.keep_going => Some(input),
+        let input = match self.run.how {
+            How::Lines(options) if options.keep_going => Some(input),
             _ => None,
         };
         Protected {
-            kek: operation.kek().file.id(self.rt),
-            new_kek: file_id(self.rt, operation.new_kek()),
+            kek: operation.keks.kek.file.id(self.rt),
+            new_kek: file_id(self.rt, operation.keks.new_kek.as_ref()),
             input: file_id(self.rt, input),
         }
     }
@@ -156,7 +157,7 @@ impl<'a, R: System> Session<'a, R> {
             Err(fault) => {
                 output.file.discard(self.rt);
                 let (input, output) = (&input.inspection, &output.inspection);
-                let cause = fault_cause(operation, input, output, &fault);
+                let cause = fault_cause(self.run, &operation.keks, input, output, &fault);
                 Err(self.refuse(&fault, cause))
             }
         }
@@ -169,9 +170,11 @@ impl<'a, R: System> Session<'a, R> {
         input: &mut Source<R::Reader>,
         output: &mut Inspected<Output<'a, Printer<'a, R>>>,
     ) -> Result<RunOutcome, ProgramFault> {
-        match LineCommand::new(self.rt, self.run, self.streams) {
-            Some(lines) => lines.run(self.rt, operation, input, output),
-            None => run_whole(self.rt.alloc(), operation, input, output),
+        match self.run.how {
+            How::Whole(notation) => run_whole(self.rt.alloc(), operation, notation, input, output),
+            How::Lines(options) => LineCommand::new(self.rt, self.run, options, self.streams).run(
+                self.rt, operation, input, output,
+            ),
         }
     }
 
@@ -179,7 +182,7 @@ impl<'a, R: System> Session<'a, R> {
     fn report(&self, operation: &Opened<R::Reader>, outcome: RunOutcome) -> u8 {
         let (status, counts) = outcome.result;
         if self.explains {
-            warn(self.rt, self.run, operation, outcome.same_kek);
+            warn(self.rt, self.run, &operation.keks, outcome.same_kek);
         }
         if let Some(counts) = counts {
             let _ = self.rt.eprintln(counts);
@@ -211,10 +214,11 @@ fn file_id<R: Files, I>(rt: &R, file: Option<&Source<I>>) -> Option<FileId> {
 fn run_whole<K: Read, I: Read, W: Write>(
     alloc: Global,
     operation: &mut Operation<K>,
+    notation: Notation,
     input: &mut I,
     out: &mut W,
 ) -> Result<RunOutcome, ProgramFault> {
-    let run = operation.run(alloc, input, out);
+    let run = operation.run(alloc, notation, input, out);
     let Outcome { result, same_kek } = run.map_err(ProgramFault::Job)?;
     let result = (done_status(result), None);
     Ok(Outcome { result, same_kek })

@@ -1,73 +1,74 @@
--- What jobs answer, and what a run has written.
-use Rattle.std.proofs.Common.{◌≡◌, ◌≢◌, ℕ, List, length, Option, Result, Ok, Err, Vec}
+-- What operations answer, and what a run has written.
+use Rattle.std.proofs.Common.{◌≡◌, ◌≢◌, ◌∙◌, ℕ, List, length, Option, Result, Ok, Err, Vec, IsOk, ap, refl}
 use Rattle.std.proofs.KnownBytes.{Keeps-refl}
 use Rattle.std.specs.declared.alloc.Global.{Global}
+use Rattle.fips197.specs.Cipher.{cipher}
 use Rattle.key_lines.specs.LineAnswers.{Answer, IsAnswered}
 use Rattle.key_lines.specs.declared.fault.LineFault.{LineFault}
 use Rattle.key_lines.specs.declared.fault.LineFault.TheVariants.{Input, Refused, Memory, TooManyLines}
 use Rattle.key_lines.specs.declared.job.Note.{Note}
 use Rattle.key_lines.specs.declared.job.Note.TheVariants as notes
-use Rattle.key_wrap_core.specs.Forms.{IsTextLength}
-use Rattle.key_wrap_core.specs.declared.forms.Form.{Form}
-use Rattle.key_wrap_core.specs.declared.forms.Form.TheVariants.{Padded}
-use Rattle.keywrap_cli.specs.JobAnswers.{AnswerOfJob, FindsKey, HasBadLength, HasNote, IsMade, IsPrinted, MakesConversion, job_of}
-use Rattle.keywrap_cli.specs.Conversion.{IsInputLength}
-use Rattle.keywrap_cli.specs.RunSteps.{RunsInput, WritesAnswer, WritesFrom, WritesOutput, job_fault_of}
-use Rattle.keywrap_cli.specs.Files.{IsOneLine, printed}
-use Rattle.keywrap_cli.specs.JobReading.{ReadsInput}
-use Rattle.keywrap_cli.specs.declared.convert.Direction.{Direction}
-use Rattle.keywrap_cli.specs.declared.convert.Direction.TheVariants as directions
-use Rattle.keywrap_cli.specs.declared.job.Job.TheVariants.{UnwrapAny}
-use Rattle.keywrap_cli.specs.declared.job.JobFault.{JobFault}
-use Rattle.keywrap_cli.specs.declared.job.Notation.{Notation}
-use Rattle.keywrap_cli.specs.declared.job.Task.{Task}
+use Rattle.key_wrap_core.specs.Lengths.{IsPaddedTextLength}
+use Rattle.key_wrap_core.specs.declared.agreed_form.AgreedForm.{AgreedForm}
 use Rattle.key_wrap_core.specs.declared.rewrapping.RewrapFault.{RewrapFault}
 use Rattle.key_wrap_core.specs.declared.rewrapping.RewrapFault.TheVariants as refusals
+use Rattle.keywrap_cli.specs.Conversion.{IsInputLength}
+use Rattle.keywrap_cli.specs.Files.{IsOneLine, printed}
+use Rattle.keywrap_cli.specs.JobAnswers.{Answers, AnswersTo, FindsKey, IsMade, IsPrinted, MakesConversion, MayLack, WritesFor, conversion}
+use Rattle.keywrap_cli.specs.JobReading.{OpensKeks, ReadsInput, last_kek}
+use Rattle.keywrap_cli.specs.Operation.{RunsOperation, RunsUnder, WritesTheAnswer}
+use Rattle.keywrap_cli.specs.RunSteps.{IsRefusedBefore, RunsInput, WritesAnswer, WritesFrom, WritesOutput, job_fault_of}
+use Rattle.keywrap_cli.specs.declared.convert.Direction.{Direction}
+use Rattle.keywrap_cli.specs.declared.convert.Direction.TheVariants as directions
+use Rattle.keywrap_cli.specs.declared.files.Notation.{Notation}
+use Rattle.keywrap_cli.specs.declared.kek_file.Ciphers.{Ciphers}
+use Rattle.keywrap_cli.specs.declared.kek_file.Keks.{Keks}
+use Rattle.keywrap_cli.specs.declared.outcome.Done.{Done}
+use Rattle.keywrap_cli.specs.declared.outcome.JobFault.{JobFault}
+use Rattle.keywrap_cli.specs.declared.what.What.{What}
+use Rattle.keywrap_cli.specs.declared.what.What.TheVariants.{UnwrapAny}
+use Rattle.keywrap_cli.proofs.KekFiles.{keks_weaker, refused_keks, under_keks}
 
--- a conversion is no check
-pub not_noted : (direction : Direction) (text : List ℕ) → HasNote (job_of direction) text notes.None
-not_noted directions.Wrap text h = let no = h.0 in cc
-not_noted directions.Unwrap text h = let no = h.0 in cc
+-- memory may be lacking for an answer to bytes of a legal length
+pub may_lack : (direction : Direction) (form : AgreedForm) (E F : List ℕ → List ℕ) (X : List ℕ) → IsInputLength direction form (length X)
+    → MayLack (conversion direction form) E F X
+may_lack directions.Wrap form E F X legal = λ bad. bad legal
+may_lack directions.Unwrap form E F X legal = λ bad. bad legal
 
--- a legal length is not a bad one
-pub not_bad : (direction : Direction) (form : Form) (X : List ℕ) → IsInputLength direction form (length X) → ¬ HasBadLength (job_of direction) form X
-not_bad directions.Wrap form X legal bad = bad legal
-not_bad directions.Unwrap form X legal bad = bad legal
+-- what is answered to bytes, from what a conversion makes of them
+pub converted_fault : (direction : Direction) (form : AgreedForm) (notation : Notation) (E F : List ℕ → List ℕ) (X made text : List ℕ)
+    (fault : LineFault RewrapFault) → IsMade (MakesConversion direction form E X) made (Err fault)
+    → (fault ≢ Refused refusals.BadLength → IsInputLength direction form (length X))
+    → AnswersTo (conversion direction form) notation E F X text (Err fault)
+converted_fault directions.Wrap form notation E F X made text (Refused refusals.BadLength) h legal = h
+converted_fault directions.Unwrap form notation E F X made text (Refused refusals.BadLength) h legal = h
+converted_fault directions.Wrap form notation E F X made text (Refused refusals.Integrity) h legal = h.1
+converted_fault directions.Unwrap form notation E F X made text (Refused refusals.Integrity) h legal = h
+converted_fault direction form notation E F X made text (Refused refusals.KeyNotPlain) h legal = absurd h
+converted_fault direction form notation E F X made text Memory h legal = may_lack direction form E F X (legal (λ e. cc e))
+converted_fault direction form notation E F X made text (Input fault) h legal = absurd h
+converted_fault direction form notation E F X made text TooManyLines h legal = absurd h
 
--- what a job answers to bytes, from what its conversion makes of them
-pub converted_fault : (direction : Direction) (iv : ℕ) (task : Task) (E : List ℕ → List ℕ) (X made text : List ℕ) (fault : LineFault RewrapFault)
-    → IsMade (MakesConversion direction task.form iv E X) made (Err fault)
-    → (fault ≢ Refused refusals.BadLength → IsInputLength direction task.form (length X))
-    → IsAnswered (AnswerOfJob (job_of direction) iv task E X) (¬ HasBadLength (job_of direction) task.form X) text (Err fault)
-converted_fault directions.Wrap iv task E X made text (Refused refusals.BadLength) h legal = h
-converted_fault directions.Unwrap iv task E X made text (Refused refusals.BadLength) h legal = h
-converted_fault directions.Wrap iv task E X made text (Refused refusals.Integrity) h legal = h.1
-converted_fault directions.Unwrap iv task E X made text (Refused refusals.Integrity) h legal = h
-converted_fault direction iv task E X made text (Refused refusals.KeyNotPlain) h legal = h
-converted_fault direction iv task E X made text Memory h legal = not_bad direction task.form X (legal (λ e. cc e))
-converted_fault direction iv task E X made text (Input fault) h legal = absurd h
-converted_fault direction iv task E X made text TooManyLines h legal = absurd h
+pub converted : (direction : Direction) (form : AgreedForm) (notation : Notation) (E F : List ℕ → List ℕ) (X Y text : List ℕ)
+    → MakesConversion direction form E X (Ok Y) → text ≡ printed notation Y → IsOneLine notation text
+    → Answers (conversion direction form) notation E F X (Ok (record { text = text; note = notes.None }))
+converted directions.Wrap form notation E F X Y text h is line = ((Y, h, (is, refl)), line)
+converted directions.Unwrap form notation E F X Y text h is line = ((Y, h, (is, refl)), line)
 
-pub converted : (direction : Direction) (iv : ℕ) (task : Task) (E : List ℕ → List ℕ) (X Y text : List ℕ)
-    → MakesConversion direction task.form iv E X (Ok Y) → text ≡ printed task.input Y → IsOneLine task.input text
-    → AnswerOfJob (job_of direction) iv task E X (Ok (record { text = text; note = notes.None }))
-converted directions.Wrap iv task E X Y text h is line = ((Y, h, is), not_noted directions.Wrap text, line)
-converted directions.Unwrap iv task E X Y text h is line = ((Y, h, is), not_noted directions.Unwrap text, line)
+-- what an unwrap in either form answers, from what it finds
+pub found_fault : (iv : ℕ) (notation : Notation) (E F : List ℕ → List ℕ) (X made text : List ℕ) (fault : LineFault RewrapFault)
+    → IsMade (FindsKey iv E X) made (Err fault) → (fault ≢ Refused refusals.BadLength → IsPaddedTextLength (length X))
+    → AnswersTo (UnwrapAny iv) notation E F X text (Err fault)
+found_fault iv notation E F X made text (Refused refusals.BadLength) h legal = h
+found_fault iv notation E F X made text (Refused refusals.Integrity) h legal = h
+found_fault iv notation E F X made text (Refused refusals.KeyNotPlain) h legal = h
+found_fault iv notation E F X made text Memory h legal = λ bad. bad (legal (λ e. cc e))
+found_fault iv notation E F X made text (Input fault) h legal = absurd h
+found_fault iv notation E F X made text TooManyLines h legal = absurd h
 
--- what an unwrapping in either form answers, from what it finds
-pub found_fault : (iv : ℕ) (task : Task) (E : List ℕ → List ℕ) (X made text : List ℕ) (fault : LineFault RewrapFault)
-    → IsMade (FindsKey iv E X) made (Err fault) → (fault ≢ Refused refusals.BadLength → IsTextLength Padded (length X))
-    → IsAnswered (AnswerOfJob UnwrapAny iv task E X) (¬ HasBadLength UnwrapAny task.form X) text (Err fault)
-found_fault iv task E X made text (Refused refusals.BadLength) h legal = h
-found_fault iv task E X made text (Refused refusals.Integrity) h legal = h
-found_fault iv task E X made text (Refused refusals.KeyNotPlain) h legal = h
-found_fault iv task E X made text Memory h legal = λ bad. bad (legal (λ e. cc e))
-found_fault iv task E X made text (Input fault) h legal = absurd h
-found_fault iv task E X made text TooManyLines h legal = absurd h
-
-pub found : (iv : ℕ) (task : Task) (E : List ℕ → List ℕ) (X Y text : List ℕ) → FindsKey iv E X (Ok Y) → text ≡ printed task.input Y
-    → IsOneLine task.input text → AnswerOfJob UnwrapAny iv task E X (Ok (record { text = text; note = notes.None }))
-found iv task E X Y text h is line = ((h.0, Y, h.1, is), λ no. let wrong = no.0 in cc, line)
+pub found : (iv : ℕ) (notation : Notation) (E F : List ℕ → List ℕ) (X Y text : List ℕ) → FindsKey iv E X (Ok Y) → text ≡ printed notation Y
+    → IsOneLine notation text → Answers (UnwrapAny iv) notation E F X (Ok (record { text = text; note = notes.None }))
+found iv notation E F X Y text h is line = ((h.0, Y, h.1, (is, refl)), line)
 
 -- what a call answers with the bytes Y, from what it printed
 pub printed_answer : (answers : Result Answer RewrapFault → Type 0) (lacks : Type 0) (notation : Notation) (Y text : List ℕ)
@@ -92,22 +93,50 @@ failed_write answers lacks X text out Memory h = (h, Keeps-refl out)
 failed_write answers lacks X text out (Input fault) h = absurd h
 failed_write answers lacks X text out TooManyLines h = absurd h
 
--- what was written for an input that was answered
-output_from : (notation : Notation) (answers : List ℕ → Result Answer RewrapFault → Type 0) (lacks : List ℕ → Type 0) (Is : List ℕ → List ℕ → Type 0)
-    (input input' out out' : Option (List ℕ)) (answer : Answer) → ((X : List ℕ) → answers X (Ok answer) → Is X answer.text)
-    → (text : Result (Vec ℕ Global) JobFault) → ReadsInput notation input input' text → WritesFrom answers lacks text out out' (Ok answer)
-    → WritesOutput notation Is input input' out out'
-output_from notation answers lacks Is input input' out out' answer each (Ok X) read rest = record {
-  X = X.items;
-  output = answer.text;
-  read = read;
-  is_output = each X.items rest.0;
-  written = rest.1;
-}
-output_from notation answers lacks Is input input' out out' answer each (Err fault) read rest = let no = rest.0 in cc
+-- a result is not a fault
+pub not_fault : {T E : Type 0} (result : Result T E) (fault : E) → result ≡ Err fault → IsOk result → ⊥
+not_fault (Ok value) fault e ok = cc
+not_fault (Err other) fault e ok = cc
 
-pub written_output : (notation : Notation) (answers : List ℕ → Result Answer RewrapFault → Type 0) (lacks : List ℕ → Type 0) (Is : List ℕ → List ℕ → Type 0)
-    (input input' out out' : Option (List ℕ)) (answer : Answer) → ((X : List ℕ) → answers X (Ok answer) → Is X answer.text)
-    → RunsInput notation answers lacks input input' out out' (Ok answer) → WritesOutput notation Is input input' out out'
-written_output notation answers lacks Is input input' out out' answer each run =
-    output_from notation answers lacks Is input input' out out' answer each run.text run.read run.rest
+-- what was written for an input that was answered
+written_output : (what : What) (notation : Notation) (E F : List ℕ → List ℕ) (input input' out out' : Option (List ℕ)) (result : Result Done JobFault)
+    → IsOk result → RunsUnder what notation E F input input' out out' result → WritesOutput notation (WritesFor what notation E F) input input' out out'
+written_output what notation E F input input' out out' (Err fault) ok run = cc
+written_output what notation E F input input' out out' (Ok done) ok run = from run.text run.read run.rest
+  where
+    from : (text : Result (Vec ℕ Global) JobFault) → ReadsInput notation input input' text
+        → WritesFrom (Answers what notation E F) (MayLack what E F) text out out' (Ok done)
+        → WritesOutput notation (WritesFor what notation E F) input input' out out'
+    from (Ok X) read rest = record {
+      X = X.items;
+      output = rest.0.text;
+      read = read;
+      is_output = (rest.0, rest.1.0, refl);
+      written = rest.3;
+    }
+    from (Err fault) read rest = let no = rest.0 in cc
+
+pub headline : (what : What) (notation : Notation) (keks keks' : Keks (Option (List ℕ))) (input input' out out' : Option (List ℕ))
+    (result : Result Done JobFault) → RunsOperation what notation keks keks' input input' out out' result → IsOk result
+    → WritesTheAnswer what notation keks keks' input input' out out'
+headline what notation keks keks' input input' out out' result run ok =
+    keks_weaker keks keks' (λ K L. RunsUnder what notation (cipher K) (cipher L) input input' out out' result)
+    (λ K L. WritesOutput notation (WritesFor what notation (cipher K) (cipher L)) input input' out out')
+    (λ fault. IsRefusedBefore fault input input' out out' result) (λ _. ⊥)
+    (λ K L h. written_output what notation (cipher K) (cipher L) input input' out out' result ok h) (λ fault h. not_fault result fault h.0 ok) run
+
+-- a run whose KEKs were read
+pub whole_run : (what : What) (notation : Notation) (keks keks' : Keks (Option (List ℕ))) (ciphers : Ciphers)
+    (input input' out out' : Option (List ℕ)) (result : Result Done JobFault) → OpensKeks keks keks' (Ok ciphers)
+    → RunsUnder what notation (cipher ciphers.kek) (cipher (last_kek ciphers.kek ciphers.new_kek)) input input' out out' result
+    → RunsOperation what notation keks keks' input input' out out' result
+whole_run what notation keks keks' ciphers input input' out out' result opened run =
+    under_keks keks keks' ciphers (λ K L. RunsUnder what notation (cipher K) (cipher L) input input' out out' result)
+    (λ fault. IsRefusedBefore fault input input' out out' result) opened run
+
+-- a run that was refused a KEK
+pub refused_run : (what : What) (notation : Notation) (keks keks' : Keks (Option (List ℕ))) (input out : Option (List ℕ)) (fault : JobFault)
+    → OpensKeks keks keks' (Err fault) → RunsOperation what notation keks keks' input input out out (Err fault)
+refused_run what notation keks keks' input out fault opened =
+    refused_keks keks keks' fault (λ K L. RunsUnder what notation (cipher K) (cipher L) input input out out (Err fault))
+    (λ f. IsRefusedBefore {T = Done} f input input out out (Err fault)) opened (refl, refl, refl)

@@ -3,12 +3,13 @@ use Rattle.std.proofs.Common.{◌≡◌, ◌↔◌, ℕ, List, length, Result, O
 use Rattle.std.specs.Prelude.{IsOkUnless}
 use Rattle.key_lines.specs.LineAnswers.{made}
 use Rattle.key_lines.specs.declared.fault.LineFault.TheVariants.{Refused}
-use Rattle.key_wrap_core.specs.Forms.{IsTextLength, IsWrappingWithIv, with_value}
+use Rattle.key_wrap_core.specs.Forms.{IsTextLengthAs, IsWrapping, with_value}
 use Rattle.key_wrap_core.specs.EitherForm.{IsEither, IsOnlyWrapping, NoKeyIn}
 use Rattle.key_wrap_core.specs.InPlace.{ArePaddedLengths, KeyAnswer}
 use Rattle.key_wrap_core.specs.Forms.{NoOtherForm}
 use Rattle.key_wrap_core.specs.declared.faults.InPlaceFault.{InPlaceFault}
 use Rattle.key_wrap_core.specs.declared.faults.InPlaceFault.TheVariants.{BadLength, Integrity}
+use Rattle.key_wrap_core.specs.declared.agreed_form.AgreedForm.{AgreedForm}
 use Rattle.key_wrap_core.specs.declared.forms.Form.{Form}
 use Rattle.key_wrap_core.specs.declared.forms.FoundKey.{FoundKey}
 use Rattle.keywrap_cli.specs.JobAnswers.{FindsKey, IsMade, MakesConversion, job_refusal}
@@ -16,34 +17,34 @@ use Rattle.keywrap_cli.specs.Conversion.{IsInputLength, IsKeyOf}
 use Rattle.keywrap_cli.specs.declared.convert.Direction.TheVariants.{Wrap, Unwrap}
 
 -- a wrapping of a key with a legal length
-pub wrapped : {Room : Type 0} (form : Form) (iv : ℕ) (E : List ℕ → List ℕ) (key text : List ℕ) (r : Result (Unit {0}) InPlaceFault)
-    → Room → ((r ≡ Err BadLength) ↔ ¬ Room) → IsOkUnless r BadLength → OnOk r (IsTextLength form (length text))
-    → OnOk r (IsWrappingWithIv form iv E key text) → OnOk r ((other : List ℕ) → IsWrappingWithIv form iv E key other → other ≡ text)
-    → MakesConversion Wrap form iv E key (made text r)
-wrapped form iv E key text (Ok done) room bad only legal wrapping alone = record { legal = legal; wrapping = wrapping; alone = alone }
-wrapped form iv E key text (Err BadLength) room bad only legal wrapping alone = absurd (bad.0 refl room)
-wrapped form iv E key text (Err Integrity) room bad only legal wrapping alone = absurd (cc only)
+pub wrapped : {Room : Type 0} (form : AgreedForm) (E : List ℕ → List ℕ) (key text : List ℕ) (r : Result (Unit {0}) InPlaceFault)
+    → Room → ((r ≡ Err BadLength) ↔ ¬ Room) → IsOkUnless r BadLength → OnOk r (IsTextLengthAs form (length text))
+    → OnOk r (IsWrapping form E key text) → OnOk r ((other : List ℕ) → IsWrapping form E key other → other ≡ text)
+    → MakesConversion Wrap form E key (made text r)
+wrapped form E key text (Ok done) room bad only legal wrapping alone = record { legal = legal; wrapping = wrapping; alone = alone }
+wrapped form E key text (Err BadLength) room bad only legal wrapping alone = absurd (bad.0 refl room)
+wrapped form E key text (Err Integrity) room bad only legal wrapping alone = absurd (cc only)
 
 -- an unwrapping of a text with a legal length, in the form that relates these keys to texts
-pub refused_unwrap : {A : Type 0} (form : Form) (iv : ℕ) (Fits : List ℕ → List ℕ → Type 0) (E : List ℕ → List ℕ) (text : List ℕ)
+pub refused_unwrap : {A : Type 0} (form : AgreedForm) (Fits : List ℕ → List ℕ → Type 0) (E : List ℕ → List ℕ) (text : List ℕ)
     (Legal : Type 0) (key : A → List ℕ) (fault : InPlaceFault) → Legal → IsInputLength Unwrap form (length text)
-    → ((wrapped : List ℕ) → IsWrappingWithIv form iv E wrapped text → Fits wrapped text) → KeyAnswer Legal Fits text key (Err fault)
-    → MakesConversion Unwrap form iv E text (Err fault)
-refused_unwrap form iv Fits E text Legal key BadLength legal fits same h = absurd (h legal)
-refused_unwrap form iv Fits E text Legal key Integrity legal fits same h = (fits, λ wrapped s. h.1 wrapped (same wrapped s))
+    → ((wrapped : List ℕ) → IsWrapping form E wrapped text → Fits wrapped text) → KeyAnswer Legal Fits text key (Err fault)
+    → MakesConversion Unwrap form E text (Err fault)
+refused_unwrap form Fits E text Legal key BadLength legal fits same h = absurd (h legal)
+refused_unwrap form Fits E text Legal key Integrity legal fits same h = (fits, λ wrapped s. h.1 wrapped (same wrapped s))
 
-pub unwrapped : (form : Form) (iv : ℕ) (Fits : List ℕ → List ℕ → Type 0) (E : List ℕ → List ℕ) (text key : List ℕ) (Legal : Type 0)
+pub unwrapped : (form : AgreedForm) (Fits : List ℕ → List ℕ → Type 0) (E : List ℕ → List ℕ) (text key : List ℕ) (Legal : Type 0)
     (r : Result (Unit {0}) InPlaceFault) → Legal → IsInputLength Unwrap form (length text)
-    → ((wrapped : List ℕ) → IsWrappingWithIv form iv E wrapped text → Fits wrapped text)
-    → ((wrapped : List ℕ) → Fits wrapped text → IsWrappingWithIv form iv E wrapped text)
+    → ((wrapped : List ℕ) → IsWrapping form E wrapped text → Fits wrapped text)
+    → ((wrapped : List ℕ) → Fits wrapped text → IsWrapping form E wrapped text)
     → KeyAnswer Legal Fits text (λ (_ : Unit {0}). key) r
-    → OnOk r ((other : List ℕ) → IsWrappingWithIv form iv E other text → other ≡ key)
-    → OnOk r ((other : List ℕ) → IsWrappingWithIv form iv E key other → other ≡ text)
-    → OnOk r (NoOtherForm (with_value form iv) E text) → MakesConversion Unwrap form iv E text (made key r)
-unwrapped form iv Fits E text key Legal (Ok done) legal fits to from h alone restores one =
+    → OnOk r ((other : List ℕ) → IsWrapping form E other text → other ≡ key)
+    → OnOk r ((other : List ℕ) → IsWrapping form E key other → other ≡ text)
+    → OnOk r (NoOtherForm form E text) → MakesConversion Unwrap form E text (made key r)
+unwrapped form Fits E text key Legal (Ok done) legal fits to from h alone restores one =
     record { wrapping = from key h.1; alone = alone; restores = restores; one_form = one }
-unwrapped form iv Fits E text key Legal (Err fault) legal fits to from h alone restores one =
-    refused_unwrap {A = Unit {0}} form iv Fits E text Legal (λ (_ : Unit {0}). key) fault legal fits to h
+unwrapped form Fits E text key Legal (Err fault) legal fits to from h alone restores one =
+    refused_unwrap {A = Unit {0}} form Fits E text Legal (λ (_ : Unit {0}). key) fault legal fits to h
 
 abbrev refusal : InPlaceFault → Result FoundKey InPlaceFault
 refusal fault = Err fault
@@ -57,7 +58,7 @@ none_found iv room E text BadLength legal bad none = absurd (bad.0 refl legal)
 none_found iv room E text Integrity legal bad none = (legal.0, λ own. (none.0 refl).1 (with_value own iv) (own, refl))
 
 pub is_found : (iv : ℕ) (E : List ℕ → List ℕ) (form : Form) (key text : List ℕ)
-    → IsOnlyWrapping (IsEither iv) E (with_value form iv) key text → NoOtherForm (with_value form iv) E text → IsKeyOf form iv E text key
+    → IsOnlyWrapping (IsEither iv) E (with_value form iv) key text → NoOtherForm (with_value form iv) E text → IsKeyOf (with_value form iv) E text key
 is_found iv E form key text is one = record {
   wrapping = is.wrapping;
   alone = λ other h. (is.only (with_value form iv) other (form, refl) h).1;

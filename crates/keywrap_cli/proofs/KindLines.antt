@@ -11,8 +11,8 @@ use Rattle.key_wrap_core.specs.declared.forms.Kind.{Kind}
 use Rattle.key_wrap_core.specs.declared.forms.Kind.TheVariants as kinds
 use Rattle.keywrap_cli.specs.JobAnswers.{kind_line}
 use Rattle.keywrap_cli.specs.Files.{IsOneLine}
-use Rattle.keywrap_cli.specs.declared.job.Notation.{Notation}
-use Rattle.keywrap_cli.specs.declared.job.Notation.TheVariants.{Raw, Hex, Base64, Base64Url}
+use Rattle.keywrap_cli.specs.declared.files.Notation.{Notation}
+use Rattle.keywrap_cli.specs.declared.files.Notation.TheVariants.{Raw, Hex, Base64, Base64Url}
 
 -- any byte but LF
 abbrev is_other : ℕ → Bool

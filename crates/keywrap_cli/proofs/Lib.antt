@@ -1,10 +1,10 @@
 pub mod Answered
-pub mod BothKeks
 pub mod Conversions
 pub mod CutOff
 pub mod Drills
 pub mod EndsWell
 pub mod InitialValues
+pub mod KekFiles
 pub mod KindLines
 pub mod Reports
 pub mod VectorLaws

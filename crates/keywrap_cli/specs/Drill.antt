@@ -6,7 +6,7 @@ use Rattle.key_files.specs.HexText.{hex_line}
 use Rattle.key_files.specs.FileMeaning.{file_meaning, hex_meaning}
 use Rattle.key_files.specs.declared.fault.FileFault.{FileFault}
 use Rattle.key_files.specs.declared.fault.FileFault.TheVariants as files
-use Rattle.key_wrap_core.specs.Plain.{default_iv}
+use Rattle.key_wrap_core.specs.Forms.{by_default}
 use Rattle.key_wrap_core.specs.declared.forms.Form.{Form}
 use Rattle.keywrap_cli.specs.declared.convert.Direction.{Direction}
 use Rattle.keywrap_cli.specs.declared.drilling.DrillFault.{DrillFault}
@@ -43,15 +43,15 @@ text_fault_of files.Memory = Memory
 -- bytes.
 abbrev pub DrillAnswer : Direction → Form → List ℕ → Result (Vec ℕ Global) DrillFault → Type 0
 DrillAnswer direction form text (Ok Y) =
-    (X : List ℕ) × (drill_meaning text ≡ Ok X) × IsAnswer direction form default_iv swapped_halves X Y.items
+    (X : List ℕ) × (drill_meaning text ≡ Ok X) × IsAnswer direction (by_default form) swapped_halves X Y.items
 DrillAnswer direction form text (Err TooLong) = drill_meaning text ≡ Err files.TooLong
 DrillAnswer direction form text (Err (BadDigit at)) = drill_meaning text ≡ Err (files.BadDigit at)
 DrillAnswer direction form text (Err OddDigits) = drill_meaning text ≡ Err files.OddDigits
 DrillAnswer direction form text (Err BadLength) =
-    (X : List ℕ) × (drill_meaning text ≡ Ok X) × ¬ IsInputLength direction form (length X)
+    (X : List ℕ) × (drill_meaning text ≡ Ok X) × ¬ IsInputLength direction (by_default form) (length X)
 DrillAnswer direction form text (Err Integrity) =
-    (X : List ℕ) × (drill_meaning text ≡ Ok X) × IsInputLength direction form (length X)
-    × HasNoAnswer direction form default_iv swapped_halves X
+    (X : List ℕ) × (drill_meaning text ≡ Ok X) × IsInputLength direction (by_default form) (length X)
+    × HasNoAnswer direction (by_default form) swapped_halves X
 DrillAnswer direction form text (Err Memory) = (X : List ℕ) × (drill_meaning text ≡ Ok X)
 
 -- the line of a drill: the hex digits of its result

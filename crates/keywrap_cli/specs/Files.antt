@@ -8,8 +8,10 @@ use Rattle.key_files.specs.declared.base64_text.Alphabet.TheVariants.{Standard, 
 use Rattle.key_files.specs.declared.fault.FileFault.{FileFault}
 use Rattle.key_lines.specs.declared.text.TextNotation.{TextNotation}
 use Rattle.key_lines.specs.declared.text.TextNotation.TheVariants as texts
-use Rattle.keywrap_cli.specs.declared.job.Notation.{Notation}
-use Rattle.keywrap_cli.specs.declared.job.Notation.TheVariants.{Raw, Hex, Base64, Base64Url}
+use Rattle.keywrap_cli.specs.declared.files.Notation.{Notation}
+use Rattle.keywrap_cli.specs.declared.files.Notation.TheVariants.{Raw, Hex, Base64, Base64Url}
+use Rattle.keywrap_cli.specs.declared.what.How.{How}
+use Rattle.keywrap_cli.specs.declared.what.How.TheVariants.{Whole, Lines}
 
 abbrev pub meaning_in : Notation → List ℕ → Result (List ℕ) FileFault
 meaning_in Raw file = raw_meaning file
@@ -36,3 +38,8 @@ abbrev pub line_notation : TextNotation → Notation
 line_notation texts.Hex = Hex
 line_notation texts.Base64 = Base64
 line_notation texts.Base64Url = Base64Url
+
+-- the notation of the input of a command
+abbrev pub input_notation : How → Notation
+input_notation (Whole notation) = notation
+input_notation (Lines options) = line_notation options.notation

@@ -9,7 +9,6 @@ pub mod Job
 pub mod JobAnswers
 pub mod JobReading
 pub mod Operation
-pub mod Rewrapping
 pub mod RunSteps
 pub mod Statuses
 pub mod VectorReport

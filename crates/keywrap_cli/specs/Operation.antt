@@ -1,86 +1,75 @@
--- The effect of an operation whose KEK files are open. `known` is what is known of a KEK file.
-use Rattle.std.specs.Prelude.{◌≡◌, Bool, false, ℕ, List, Option, Result, IfSome}
+-- The effect of an operation. The KEK files, the input and the writer each appear twice: as known before the call and
+-- after it.
+use Rattle.std.specs.Prelude.{◌≡◌, ◌↔◌, ⊤, Bool, ℕ, IsTrue, List, Option, Result, Ok, Err, IfSome, IsSome}
 use Rattle.fips197.specs.Cipher.{cipher}
 use Rattle.key_lines.specs.declared.fault.RefusedLine.{RefusedLine}
 use Rattle.key_lines.specs.declared.fault.RunFault.{RunFault}
 use Rattle.key_lines.specs.declared.run.RunOptions.{RunOptions}
 use Rattle.key_lines.specs.declared.summary.RunSummary.{RunSummary}
-use Rattle.key_lines.specs.declared.text.TextNotation.{TextNotation}
-use Rattle.keywrap_cli.specs.JobAnswers.{JobAnswer, RewrappingAnswer}
-use Rattle.keywrap_cli.specs.RunSteps.{AnswersEachLine, AnswersLines, IsRefusedBefore, UnderKek, UnderKeks, UnderReadKek}
-use Rattle.keywrap_cli.specs.Files.{line_notation}
-use Rattle.keywrap_cli.specs.Job.{RunsJob, WritesTheAnswer}
-use Rattle.keywrap_cli.specs.JobReading.{kek_fault_of}
-use Rattle.keywrap_cli.specs.Rewrapping.{RunsRewrap, TellsSameKek, WritesTheNewText}
-use Rattle.keywrap_cli.specs.declared.job.Done.{Done}
-use Rattle.keywrap_cli.specs.declared.job.JobFault.{JobFault}
-use Rattle.keywrap_cli.specs.declared.job.Task.{Task}
-use Rattle.keywrap_cli.specs.declared.kek_file.KekRole.TheVariants.{Kek}
-use Rattle.keywrap_cli.specs.declared.operation.Operation.{Operation}
-use Rattle.keywrap_cli.specs.declared.operation.Operation.TheVariants.{Job, Rewrap}
+use Rattle.key_wrap_core.specs.Rewrap.{to_itself}
 use Rattle.key_wrap_core.specs.declared.rewrapping.RewrapFault.{RewrapFault}
-use Rattle.keywrap_cli.specs.declared.rewrapping.Rewrapping.{Rewrapping}
+use Rattle.keywrap_cli.specs.Files.{line_notation}
+use Rattle.keywrap_cli.specs.JobAnswers.{Answers, MayLack, WritesFor}
+use Rattle.keywrap_cli.specs.JobReading.{UnderKeks}
+use Rattle.keywrap_cli.specs.RunSteps.{AnswersEachLine, AnswersLines, IsRefusedBefore, RunsInput, WritesOutput}
+use Rattle.keywrap_cli.specs.declared.files.Notation.{Notation}
+use Rattle.keywrap_cli.specs.declared.kek_file.Keks.{Keks}
+use Rattle.keywrap_cli.specs.declared.outcome.Done.{Done}
+use Rattle.keywrap_cli.specs.declared.outcome.JobFault.{JobFault}
+use Rattle.keywrap_cli.specs.declared.outcome.Outcome.{Outcome}
+use Rattle.keywrap_cli.specs.declared.what.What.{What}
+use Rattle.keywrap_cli.specs.declared.what.What.TheVariants.{Check, Rewrap}
 
--- a property of a job, or of a rewrap
-abbrev pub MatchOperation : {K : Type 0} → Operation K → (ℕ → Task → K → Type 0) → (Rewrapping → K → K → Type 0) → Type 0
-MatchOperation (Job iv task kek) OfJob OfRewrap = OfJob iv task kek
-MatchOperation (Rewrap task kek new) OfJob OfRewrap = OfRewrap task kek new
+abbrev pub IsCheck : What → Type 0
+IsCheck (Check iv) = ⊤
+IsCheck what = ⊥
 
--- a property of a job before and after a call, or of a rewrap
-abbrev pub MatchOperations : {K : Type 0} → Operation K → Operation K → (ℕ → Task → K → ℕ → Task → K → Type 0)
-    → (Rewrapping → K → K → Rewrapping → K → K → Type 0) → Type 0
-MatchOperations (Job iv task kek) (Job iv' task' kek') OfJob OfRewrap = OfJob iv task kek iv' task' kek'
-MatchOperations (Rewrap task kek new) (Rewrap task' kek' new') OfJob OfRewrap = OfRewrap task kek new task' kek' new'
-MatchOperations old new OfJob OfRewrap = ⊥
+-- a rewrap that changes neither the form nor the initial value
+abbrev pub KeepsForm : What → Type 0
+KeepsForm (Rewrap forms pass_new) = forms ≡ to_itself forms
+KeepsForm what = ⊥
 
-abbrev pub RunsOperation : {K : Type 0} → (K → Option (List ℕ)) → Operation K → Operation K → Option (List ℕ) → Option (List ℕ)
-    → Option (List ℕ) → Option (List ℕ) → Result Done JobFault → Type 0
-RunsOperation known old new input input' out out' answer = MatchOperations old new
-    (λ iv task kek iv' task' kek'. RunsJob iv task (known kek) (known kek') input input' out out' answer)
-    (λ task kek new task' kek' new'. RunsRewrap task (known kek) (known kek') (known new) (known new') input input' out out' answer)
+-- The effect of a run over a whole input under these block permutations.
+abbrev pub RunsUnder : What → Notation → (E F : List ℕ → List ℕ) → (input input' out out' : Option (List ℕ)) → Result Done JobFault → Type 0
+RunsUnder what notation E F input input' out out' result =
+    RunsInput notation (Answers what notation E F) (MayLack what E F) input input' out out' result
 
--- The headline, about the bytes that a call read and wrote: the answer of a job, under AES of the KEK, or of a rewrap,
--- under AES of the new KEK.
-abbrev pub WritesTheAnswerOf : {K : Type 0} → (K → Option (List ℕ)) → Operation K → Operation K → Option (List ℕ) → Option (List ℕ)
-    → Option (List ℕ) → Option (List ℕ) → Type 0
-WritesTheAnswerOf known old new input input' out out' = MatchOperations old new
-    (λ iv task kek iv' task' kek'. WritesTheAnswer iv task (known kek) (known kek') input input' out out')
-    (λ task kek new task' kek' new'. WritesTheNewText task (known kek) (known kek') (known new) (known new') input input' out out')
+-- The effect of an operation on a whole input: the KEK files are read, and then the input is answered.
+abbrev pub RunsOperation : What → Notation → (keks keks' : Keks (Option (List ℕ))) → (input input' out out' : Option (List ℕ))
+    → Result Done JobFault → Type 0
+RunsOperation what notation keks keks' input input' out out' result = UnderKeks keks keks'
+    (λ K L. RunsUnder what notation (cipher K) (cipher L) input input' out out' result)
+    (λ fault. IsRefusedBefore fault input input' out out' result)
 
--- `same` is true exactly if both KEKs of a rewrap are the same key
-abbrev pub TellsSameKekOf : {K : Type 0} → (K → Option (List ℕ)) → Operation K → Operation K → Bool → Type 0
-TellsSameKekOf known old new same = MatchOperations old new (λ iv task kek iv' task' kek'. same ≡ false)
-    (λ task kek new task' kek' new'. TellsSameKek task.kek (known kek) (known kek') (known new) (known new') same)
-
--- after the call the operation is the same, except for the bytes that were read from its KEK files
-abbrev pub IsSameTask : {K : Type 0} → Operation K → Operation K → Type 0
-IsSameTask old new = MatchOperations old new (λ iv task kek iv' task' kek'. (iv' ≡ iv) × (task' ≡ task)) (λ task kek new task' kek' new'. task' ≡ task)
-
--- the task, and the rewrapping, with lines in this notation as its input and output
-abbrev pub in_lines : TextNotation → Task → Task
-in_lines notation task = record { job = task.job; form = task.form; input = line_notation notation; kek = task.kek }
-
-abbrev pub rewrapping_in_lines : TextNotation → Rewrapping → Rewrapping
-rewrapping_in_lines notation task = record { forms = task.forms; pass_new = task.pass_new; input = line_notation notation; kek = task.kek }
+-- The headline, about the bytes that a call read and wrote. The output is the answer to the bytes X of the input, under
+-- AES of the KEK: for a key its one wrapping, for a wrapping its one key, for a check the form of X. An unwrapped key has
+-- no other wrapping, and in the other form the input is not a wrapping. So wrapping the key again restores the input. For
+-- a rewrap the input was the old wrapping of one key, and the output is the new wrapping of that key, under AES of the new
+-- KEK. A kept form is the one form in which the input is a wrapping. With pass_new the input may have been the new
+-- wrapping itself.
+abbrev pub WritesTheAnswer : What → Notation → (keks keks' : Keks (Option (List ℕ))) → (input input' out out' : Option (List ℕ)) → Type 0
+WritesTheAnswer what notation keks keks' input input' out out' = UnderKeks keks keks'
+    (λ K L. WritesOutput notation (WritesFor what notation (cipher K) (cipher L)) input input' out out') (λ _. ⊥)
 
 -- The same line by line: the KEK files are read first, and then each line is answered.
-abbrev pub RunsOperationLines : {K : Type 0} → (K → Option (List ℕ)) → RunOptions → Operation K → Operation K → Option (List ℕ)
-    → Option (List ℕ) → Option (List ℕ) → Option (List ℕ) → Option (List (RefusedLine RewrapFault)) → Option (List (RefusedLine RewrapFault))
-    → Result (Result (RunSummary RewrapFault) (RunFault RewrapFault)) JobFault → Type 0
-RunsOperationLines known options old new input input' out out' log log' answer = MatchOperations old new
-    (λ iv task kek iv' task' kek'. UnderKek task.kek (known kek) (known kek')
-    (λ K. AnswersLines options (JobAnswer iv (in_lines options.notation task) (cipher K)) input input' out out' log log' answer)
-    (λ fault. (log' ≡ log) × IsRefusedBefore (kek_fault_of Kek fault) input input' out out' answer))
-    (λ task kek new task' kek' new'. UnderKeks task.kek (known kek) (known kek') (known new) (known new')
-    (λ K L. AnswersLines options (RewrappingAnswer (rewrapping_in_lines options.notation task) (cipher K) (cipher L)) input input' out out' log log' answer)
-    (λ fault. (log' ≡ log) × IsRefusedBefore fault input input' out out' answer))
+abbrev pub RunsOperationLines : What → RunOptions → (keks keks' : Keks (Option (List ℕ))) → (input input' out out' : Option (List ℕ))
+    → (log log' : Option (List (RefusedLine RewrapFault))) → Result (Result (RunSummary RewrapFault) (RunFault RewrapFault)) JobFault → Type 0
+RunsOperationLines what options keks keks' input input' out out' log log' result = UnderKeks keks keks'
+    (λ K L. AnswersLines options (Answers what (line_notation options.notation) (cipher K) (cipher L)) input input' out out' log log' result)
+    (λ fault. (log' ≡ log) × IsRefusedBefore fault input input' out out' result)
 
 -- The headline of lines. If the rest of the input is known, the answers to its first lines were written, in order, each
 -- under AES of the KEKs that the KEK files denote. Line i of the output is the answer to line i.
-abbrev pub WritesTheLinesOf : {K : Type 0} → (K → Option (List ℕ)) → RunOptions → Operation K → Operation K → Option (List ℕ) → Option (List ℕ)
-    → Option (List ℕ) → Result (RunSummary RewrapFault) (RunFault RewrapFault) → Type 0
-WritesTheLinesOf known options old new input out out' run = MatchOperations old new
-    (λ iv task kek iv' task' kek'. UnderReadKek task.kek (known kek) (known kek') (λ K. IfSome input
-    (λ text. AnswersEachLine options (JobAnswer iv (in_lines options.notation task) (cipher K)) text out out' run)))
-    (λ task kek new task' kek' new'. UnderReadKek task.kek (known kek) (known kek') (λ K. UnderReadKek task.kek (known new) (known new') (λ L. IfSome input
-    (λ text. AnswersEachLine options (RewrappingAnswer (rewrapping_in_lines options.notation task) (cipher K) (cipher L)) text out out' run))))
+abbrev pub WritesTheLines : What → RunOptions → (keks keks' : Keks (Option (List ℕ))) → (input out out' : Option (List ℕ))
+    → Result (RunSummary RewrapFault) (RunFault RewrapFault) → Type 0
+WritesTheLines what options keks keks' input out out' run = UnderKeks keks keks' (λ K L. IfSome input
+    (λ text. AnswersEachLine options (Answers what (line_notation options.notation) (cipher K) (cipher L)) text out out' run)) (λ _. ⊥)
+
+-- `same` is true exactly if there is a new KEK, which is the same key as the KEK
+abbrev pub TellsSameKek : (keks keks' : Keks (Option (List ℕ))) → Bool → Type 0
+TellsSameKek keks keks' same = UnderKeks keks keks' (λ K L. IsTrue same ↔ (IsSome keks.new_kek × (K ≡ L))) (λ _. ⊥)
+
+-- the result without what is known of the KEKs
+abbrev pub result_of : {T : Type 0} → Result (Outcome T) JobFault → Result T JobFault
+result_of (Ok outcome) = Ok outcome.result
+result_of (Err fault) = Err fault

@@ -7,8 +7,8 @@ use Rattle.keywrap_cli.specs.declared.drilling.DrillFault.{DrillFault}
 use Rattle.keywrap_cli.specs.declared.drilling.DrillFault.TheVariants as drills
 use Rattle.keywrap_cli.specs.declared.fault.ProgramFault.{ProgramFault}
 use Rattle.keywrap_cli.specs.declared.fault.ProgramFault.TheVariants as program
-use Rattle.keywrap_cli.specs.declared.job.JobFault.{JobFault}
-use Rattle.keywrap_cli.specs.declared.job.JobFault.TheVariants as jobs
+use Rattle.keywrap_cli.specs.declared.outcome.JobFault.{JobFault}
+use Rattle.keywrap_cli.specs.declared.outcome.JobFault.TheVariants as jobs
 use Rattle.key_wrap_core.specs.declared.rewrapping.RewrapFault.{RewrapFault}
 use Rattle.key_wrap_core.specs.declared.rewrapping.RewrapFault.TheVariants.{BadLength, Integrity, KeyNotPlain}
 

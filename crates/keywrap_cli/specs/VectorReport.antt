@@ -6,6 +6,7 @@ use Rattle.fips197.specs.Cipher.{cipher}
 use Rattle.fips197.specs.KeyExpansion.{IsKekLength}
 use Rattle.block_pair.specs.Words.{IsBlock}
 use Rattle.key_wrap_core.specs.Padded.{Padded}
+use Rattle.key_wrap_core.specs.Forms.{by_default}
 use Rattle.key_wrap_core.specs.Plain.{Plain, default_iv}
 use Rattle.key_wrap_core.specs.declared.forms.Form.{Form}
 use Rattle.key_wrap_core.specs.declared.forms.Form.TheVariants as forms
@@ -96,8 +97,8 @@ IsVerdictOnAll gave vectors false = IsOneMissed gave vectors
 
 -- the one answer to the bytes in a form, under E, or a refusal
 abbrev pub Converts : Direction → Form → (List ℕ → List ℕ) → List ℕ → Option (List ℕ) → Type 0
-Converts direction form E X (Some Y) = IsAnswer direction form default_iv E X Y
-Converts direction form E X None = ¬ IsInputLength direction form (length X) ⊎ HasNoAnswer direction form default_iv E X
+Converts direction form E X (Some Y) = IsAnswer direction (by_default form) E X Y
+Converts direction form E X None = ¬ IsInputLength direction (by_default form) (length X) ⊎ HasNoAnswer direction (by_default form) E X
 
 -- the same for one block
 abbrev pub Codes : Direction → (List ℕ → List ℕ) → List ℕ → Option (List ℕ) → Type 0

@@ -8,9 +8,8 @@ ghost use Rattle.keywrap_cli.specs.Conversion.{HasRoom, IsInputLength};
 use block_pair::{BlockPair, Meter};
 use key_lines::LineFault;
 use key_wrap_core::{
-    Form, InPlaceFault, InitialValue, RewrapFault, key_length_ok, padded_length_ok,
-    padded_text_length_ok, text_length_ok, unwrap_into_with, unwrap_padded_into, wrap_into_with,
-    wrap_padded_into,
+    AgreedForm, InPlaceFault, RewrapFault, key_length_ok, padded_length_ok, padded_text_length_ok,
+    text_length_ok, unwrap_into_with, unwrap_padded_into, wrap_into_with, wrap_padded_into,
 };
 
 // The size of a word in bytes.
@@ -25,26 +24,25 @@ pub enum Direction {
     Unwrap,
 }
 
-/// Replaces `output` with the wrapping of a key, or with the key of a wrapping. The plain form has
-/// this initial value. The only errors are Refused, with BadLength or Integrity, and Memory.
+/// Replaces `output` with the wrapping of a key, or with the key of a wrapping. The only errors are
+/// Refused, with BadLength or Integrity, and Memory.
 pub fn convert_into<B: BlockPair>(
     direction: Direction,
-    form: Form,
-    iv: &InitialValue,
+    form: &AgreedForm,
     pair: &B,
     input: &[u8],
     output: &mut Vec<u8>,
 ) -> Result<(), LineFault<RewrapFault>>
-    ensures answer { IsMade (MakesConversion direction form iv.now (B.encrypted pair.now) input.now)
+    ensures answer { IsMade (MakesConversion direction form.now (B.encrypted pair.now) input.now)
         output.new.items result }
     ensures legal { result ≢ Err (LineFault.Refused RewrapFault.BadLength)
-        → IsInputLength direction form (length input.now) }
+        → IsInputLength direction form.now (length input.now) }
 {
     if !is_input_length(direction, form, input.len()) {
         return Err(LineFault::Refused(RewrapFault::BadLength));
     }
     output.resize(room_for(direction, form, input.len()), 0)?;
-    match convert_in_room(direction, form, iv, &mut Meter::new(pair), input, output) {
+    match convert_in_room(direction, form, &mut Meter::new(pair), input, output) {
         Ok(()) => Ok(()),
         Err(fault) => Err(LineFault::Refused(job_refusal(fault))),
     }
@@ -60,48 +58,47 @@ pub fn job_refusal(fault: InPlaceFault) -> RewrapFault
     }
 }
 
-fn is_input_length(direction: Direction, form: Form, len: usize) -> bool
-    ensures { IsTrue result ↔ IsInputLength direction form len }
+fn is_input_length(direction: Direction, form: &AgreedForm, len: usize) -> bool
+    ensures { IsTrue result ↔ IsInputLength direction form.now len }
 {
     match (direction, form) {
-        (Direction::Wrap, Form::Plain) => key_length_ok(len),
-        (Direction::Wrap, Form::Padded) => padded_length_ok(len),
-        (Direction::Unwrap, Form::Plain) => text_length_ok(len),
-        (Direction::Unwrap, Form::Padded) => padded_text_length_ok(len),
+        (Direction::Wrap, AgreedForm::Plain(_)) => key_length_ok(len),
+        (Direction::Wrap, AgreedForm::Padded) => padded_length_ok(len),
+        (Direction::Unwrap, AgreedForm::Plain(_)) => text_length_ok(len),
+        (Direction::Unwrap, AgreedForm::Padded) => padded_text_length_ok(len),
     }
 }
 
 // Returns the room that the call for this direction and form needs.
-fn room_for(direction: Direction, form: Form, len: usize) -> usize
-    requires { IsInputLength direction form len }
-    ensures { HasRoom direction form len result }
+fn room_for(direction: Direction, form: &AgreedForm, len: usize) -> usize
+    requires { IsInputLength direction form.now len }
+    ensures { HasRoom direction form.now len result }
 {
     match (direction, form) {
-        (Direction::Wrap, Form::Plain) => len + WORD,
-        (Direction::Wrap, Form::Padded) => WORD + len.next_multiple_of(WORD),
-        (Direction::Unwrap, Form::Plain) => len - WORD,
-        (Direction::Unwrap, Form::Padded) => len - WORD,
+        (Direction::Wrap, AgreedForm::Plain(_)) => len + WORD,
+        (Direction::Wrap, AgreedForm::Padded) => WORD + len.next_multiple_of(WORD),
+        (Direction::Unwrap, AgreedForm::Plain(_)) => len - WORD,
+        (Direction::Unwrap, AgreedForm::Padded) => len - WORD,
     }
 }
 
-// Converts into `output`, which has this room. The padded form ignores the initial value.
+// Converts into `output`, which has this room.
 fn convert_in_room<B: BlockPair>(
     direction: Direction,
-    form: Form,
-    iv: &InitialValue,
+    form: &AgreedForm,
     meter: &mut Meter<B>,
     input: &[u8],
     output: &mut Vec<u8>,
 ) -> Result<(), InPlaceFault>
-    requires { HasRoom direction form (length input.now) (length output.old.items) }
-    ensures { MakesConversion direction form iv.now
-        (B.encrypted meter.old.pair) input.now (made output.new.items result) }
+    requires { HasRoom direction form.now (length input.now) (length output.old.items) }
+    ensures { MakesConversion direction form.now (B.encrypted meter.old.pair)
+        input.now (made output.new.items result) }
 {
     match (direction, form) {
-        (Direction::Wrap, Form::Plain) => wrap_into_with(meter, iv, input, output),
-        (Direction::Wrap, Form::Padded) => wrap_padded_into(meter, input, output),
-        (Direction::Unwrap, Form::Plain) => unwrap_into_with(meter, iv, input, output),
-        (Direction::Unwrap, Form::Padded) => match unwrap_padded_into(meter, input, output) {
+        (Direction::Wrap, AgreedForm::Plain(iv)) => wrap_into_with(meter, iv, input, output),
+        (Direction::Wrap, AgreedForm::Padded) => wrap_padded_into(meter, input, output),
+        (Direction::Unwrap, AgreedForm::Plain(iv)) => unwrap_into_with(meter, iv, input, output),
+        (Direction::Unwrap, AgreedForm::Padded) => match unwrap_padded_into(meter, input, output) {
             Ok(len) => {
                 output.truncate(len);
                 Ok(())

@@ -9,7 +9,7 @@ use crate::convert::{Direction, convert_into};
 use block_pair::SwapHalves;
 use key_files::{FileFault, MAX_FILE, decode_hex};
 use key_lines::LineFault;
-use key_wrap_core::{Form, InPlaceFault, InitialValue, RewrapFault};
+use key_wrap_core::{AgreedForm, Form, InPlaceFault, RewrapFault};
 use std::alloc::Global;
 use thiserror::Error;
 
@@ -53,9 +53,9 @@ pub fn drill(
         ↔ (drill_meaning text.now ≡ Err FileFaults.OddDigits) }
 {
     let input = bytes_of(alloc, text)?;
-    let iv = InitialValue::default();
+    let form = AgreedForm::by_default(form);
     let mut output = Vec::new(alloc);
-    match convert_into(direction, form, &iv, &SwapHalves, &input, &mut output) {
+    match convert_into(direction, &form, &SwapHalves, &input, &mut output) {
         Ok(()) => Ok(output),
         Err(LineFault::Refused(RewrapFault::BadLength)) => Err(DrillFault::BadLength),
         Err(LineFault::Refused(RewrapFault::Integrity)) => Err(DrillFault::Integrity),

@@ -7,7 +7,7 @@ ghost use Rattle.keywrap_cli.specs.declared.fault.ProgramFault.TheVariants as Pr
 
 use crate::drilling::DrillFault;
 use crate::initial_value::IvFault;
-use crate::job::JobFault;
+use crate::outcome::JobFault;
 use crate::statuses;
 use crate::vector_report::VectorsFault;
 use key_files::{FileFault, HexWriteFault, WriteFault};

@@ -1,20 +1,24 @@
-//! The jobs, which wrap, unwrap or check an input under a KEK.
+//! The calls for one key over readers and a writer: a job, a plain job under an initial value, and
+//! a rewrap.
 
-ghost use Rattle.std.specs.Prelude.{◌≡◌, IsOk};
+ghost use Rattle.std.specs.Prelude.{◌≡◌, IsOk, Result, false};
+ghost use Rattle.key_wrap_core.specs.Forms.{by_default};
 ghost use Rattle.key_wrap_core.specs.Plain.{default_iv};
-ghost use Rattle.keywrap_cli.specs.Job.{RunsJob, WritesTheAnswer, plain_task};
-ghost use Rattle.keywrap_cli.specs.JobAnswers.{done_of, job_of};
+ghost use Rattle.keywrap_cli.specs.Job.{fault_without_cause, what_of, without_cause};
+ghost use Rattle.keywrap_cli.specs.JobAnswers.{conversion};
+ghost use Rattle.keywrap_cli.specs.JobReading.{one_kek, two_keks};
+ghost use Rattle.keywrap_cli.specs.Operation.{RunsOperation, WritesTheAnswer};
+ghost use Rattle.key_wrap_core.specs.declared.agreed_form.AgreedForm.TheVariants as AgreedForms;
+ghost use Rattle.keywrap_cli.specs.declared.what.What.TheVariants as Whats;
 
 use crate::convert::Direction;
-use crate::kek_file::read_kek;
-use crate::key_job::KeyJob;
-use crate::whole_input::run_input;
-use key_files::{FileFault, WriteFault};
-use key_lines::Note;
-use key_wrap_core::{Form, InPlaceFault, InitialValue};
+use crate::files::Notation;
+use crate::kek_file::{read_kek, read_keks};
+use crate::outcome::{Done, JobFault};
+use crate::what::What;
+use key_wrap_core::{AgreedForm, Form, InitialValue, RewrapForms};
 use std::alloc::Global;
 use std::io::{Read, Write};
-use thiserror::Error;
 
 /// The kind of a job.
 #[derive(Clone, Copy)]
@@ -23,24 +27,8 @@ pub enum Job {
     Wrap,
     /// The input is a wrapped key, and the output the key.
     Unwrap,
-    /// The same for a wrapped key in either form.
-    UnwrapAny,
     /// The input is a wrapped key, and the output a line with its form and the length of its key.
     Check,
-}
-
-/// The notation of the bytes of a file.
-#[derive(Clone, Copy)]
-pub enum Notation {
-    /// Raw bytes.
-    Raw,
-    /// Two hex digits for each byte.
-    Hex,
-    /// Base64 (RFC 4648). Either alphabet is read, with or without padding. The alphabet of section
-    /// 4 is written, with padding.
-    Base64,
-    /// The same, but the alphabet of section 5 is written, without padding.
-    Base64Url,
 }
 
 /// A job, with the form of the wrapping and the notations of its files.
@@ -48,7 +36,7 @@ pub enum Notation {
 pub struct Task {
     /// The kind of the job.
     pub job: Job,
-    /// The form of the wrapping. `UnwrapAny` and `Check` try both forms.
+    /// The form of the wrapping. `Check` tries both forms.
     pub form: Form,
     /// The notation of the input, and of the output unless this is a `Check`.
     pub input: Notation,
@@ -56,59 +44,17 @@ pub struct Task {
     pub kek: Notation,
 }
 
-/// The outcome of a job that was not refused.
-#[derive(Clone, Copy, Debug, PartialEq)]
-pub enum Done {
-    Written,
-    /// The input is not a wrapping in either form, and `none` was written.
-    Neither,
-}
-
-/// The result of an operation, and whether its KEKs are the same key.
-#[derive(Clone, Copy)]
-pub struct Outcome<T> {
-    /// The result.
-    pub result: T,
-    /// Whether both KEKs of a rewrap are the same key.
-    pub same_kek: bool,
-}
-
-/// Why a job was refused.
-#[derive(Clone, Copy, Debug, PartialEq, Error)]
-pub enum JobFault {
-    /// The KEK file cannot be read, is too long, or does not decode.
-    #[error("key file: {0}")]
-    KekFile(FileFault),
-    #[error("key length is not 16, 24 or 32 bytes")]
-    KekLength,
-    /// The new KEK file cannot be read, is too long, or does not decode. Only a rewrapping returns
-    /// this.
-    #[error("new key file: {0}")]
-    NewKekFile(FileFault),
-    /// The new KEK is not 16, 24 or 32 bytes long. Only a rewrapping returns this.
-    #[error("new key length is not 16, 24 or 32 bytes")]
-    NewKekLength,
-    /// The input cannot be read, is too long, or does not decode.
-    #[error("input: {0}")]
-    InputFile(FileFault),
-    /// The length of the key or the wrapped key is not legal in this form.
-    #[error("{}", InPlaceFault::BadLength)]
-    BadLength,
-    /// The input is not a wrapping in this form under this KEK.
-    #[error("{}", InPlaceFault::Integrity)]
-    Integrity,
-    /// A rewrap found the key, but no plain key has its length. `run_rewrap` returns BadLength
-    /// instead.
-    #[error("{}", InPlaceFault::BadLength)]
-    KeyNotPlain,
-    /// The writer took only `written` bytes of the output.
-    #[error("output: {}", WriteFault {written: *written})]
-    Write {
-        /// The number of bytes that were written.
-        written: usize,
-    },
-    #[error("{}", FileFault::Memory)]
-    Memory,
+impl Task {
+    /// Returns what the job does, with the default initial value.
+    pub fn what(self) -> What
+        ensures { result ≡ what_of self.job self.form }
+    {
+        match self.job {
+            Job::Wrap => What::Wrap(AgreedForm::by_default(self.form)),
+            Job::Unwrap => What::Unwrap(AgreedForm::by_default(self.form)),
+            Job::Check => What::Check(InitialValue::default()),
+        }
+    }
 }
 
 /// Runs a job: reads the KEK and the input, and writes the answer in the notation of the input.
@@ -125,16 +71,20 @@ pub fn run_job<K: Read, R: Read, W: Write>(
     input: &mut R,
     out: &mut W,
 ) -> Result<Done, JobFault>
-    ensures run { RunsJob default_iv task (K.remaining kek.old) (K.remaining kek.new)
+    ensures run { RunsOperation (what_of task.job task.form) task.input
+        (one_kek task.kek (K.remaining kek.old)) (one_kek task.kek (K.remaining kek.new))
         (R.remaining input.old) (R.remaining input.new)
         (W.contents out.old) (W.contents out.new) result }
-
     // A key is written only if the input is the standard's wrapping of this key, and of no other.
-    ensures headline { IsOk result → WritesTheAnswer default_iv task
-        (K.remaining kek.old) (K.remaining kek.new) (R.remaining input.old) (R.remaining input.new)
+    ensures headline { IsOk result → WritesTheAnswer (what_of task.job task.form) task.input
+        (one_kek task.kek (K.remaining kek.old)) (one_kek task.kek (K.remaining kek.new))
+        (R.remaining input.old) (R.remaining input.new)
         (W.contents out.old) (W.contents out.new) }
 {
-    run(alloc, &InitialValue::default(), task, kek, input, out)
+    match read_kek(alloc, task.kek, kek) {
+        Ok(ciphers) => ciphers.run(alloc, task.what(), task.input, input, out),
+        Err(fault) => Err(fault),
+    }
 }
 
 /// Does what `run_job` does, for a plain wrapping or unwrapping under this initial value.
@@ -148,71 +98,89 @@ pub fn run_with<K: Read, R: Read, W: Write>(
     input: &mut R,
     out: &mut W,
 ) -> Result<Done, JobFault>
-    ensures run { RunsJob iv.now (plain_task direction input_notation kek_notation)
-        (K.remaining kek.old) (K.remaining kek.new) (R.remaining input.old) (R.remaining input.new)
-        (W.contents out.old) (W.contents out.new) result }
-
-    // A key is written only if the input is its wrapping with this initial value, and no other
-    // key's.
-    ensures headline { IsOk result → WritesTheAnswer iv.now
-        (plain_task direction input_notation kek_notation)
-        (K.remaining kek.old) (K.remaining kek.new) (R.remaining input.old) (R.remaining input.new)
-        (W.contents out.old) (W.contents out.new) }
-{
-    let task = Task {
-        job: job_of(direction),
-        form: Form::Plain,
-        input: input_notation,
-        kek: kek_notation,
-    };
-    run(alloc, iv, task, kek, input, out)
-}
-
-/// Returns the kind of job with this direction.
-pub fn job_of(direction: Direction) -> Job
-    ensures { result ≡ job_of direction }
-{
-    match direction {
-        Direction::Wrap => Job::Wrap,
-        Direction::Unwrap => Job::Unwrap,
-    }
-}
-
-/// Runs a job, as `run_job` does. The plain form uses this initial value.
-pub fn run<K: Read, R: Read, W: Write>(
-    alloc: Global,
-    iv: &InitialValue,
-    task: Task,
-    kek: &mut K,
-    input: &mut R,
-    out: &mut W,
-) -> Result<Done, JobFault>
-    ensures run { RunsJob iv.now task (K.remaining kek.old) (K.remaining kek.new)
+    ensures run { RunsOperation (conversion direction (AgreedForms.Plain iv.now)) input_notation
+        (one_kek kek_notation (K.remaining kek.old)) (one_kek kek_notation (K.remaining kek.new))
         (R.remaining input.old) (R.remaining input.new)
         (W.contents out.old) (W.contents out.new) result }
-    ensures headline { IsOk result → WritesTheAnswer iv.now task
-        (K.remaining kek.old) (K.remaining kek.new) (R.remaining input.old) (R.remaining input.new)
+    // A key is written only if the input is its wrapping with this initial value, and no other
+    // key's.
+    ensures headline { IsOk result
+        → WritesTheAnswer (conversion direction (AgreedForms.Plain iv.now)) input_notation
+        (one_kek kek_notation (K.remaining kek.old)) (one_kek kek_notation (K.remaining kek.new))
+        (R.remaining input.old) (R.remaining input.new)
         (W.contents out.old) (W.contents out.new) }
 {
-    let pair = read_kek(alloc, task.kek, kek)?;
-    let job = KeyJob {
-        alloc,
-        iv: *iv,
-        task,
-        pair,
-    };
-    match run_input(alloc, task.input, &job, input, out) {
-        Ok(note) => Ok(done_of(note)),
+    let what = conversion(direction, AgreedForm::Plain(*iv));
+    match read_kek(alloc, kek_notation, kek) {
+        Ok(ciphers) => ciphers.run(alloc, what, input_notation, input, out),
         Err(fault) => Err(fault),
     }
 }
 
-// Returns the outcome for an answer with this note.
-fn done_of(note: Note) -> Done
-    ensures { result ≡ done_of note }
+/// Reads the old KEK, the new KEK and a wrapped key under the old one, and writes the wrapping of
+/// the same key under the new one, in the notation of the input. The key itself is never written.
+///
+/// Returns the first error that applies: KekFile, KekLength, NewKekFile, NewKekLength, InputFile,
+/// BadLength for the wrapped key, Integrity, BadLength for the key, Memory for the output, Write.
+/// If memory runs out while a file is read, the error is Memory instead of this file's error. A
+/// file is read only if there was no error before it. Nothing is written before the whole output
+/// is made, and the call does not flush.
+pub fn run_rewrap<K: Read, N: Read, R: Read, W: Write>(
+    alloc: Global,
+    old_form: Form,
+    new_form: Form,
+    input_notation: Notation,
+    kek_notation: Notation,
+    old_kek: &mut K,
+    new_kek: &mut N,
+    input: &mut R,
+    out: &mut W,
+) -> Result<Done, JobFault>
+    ensures run { (answer : Result Done JobFault) × RunsOperation
+        (Whats.Rewrap (RewrapForms.Changed (by_default old_form) (by_default new_form)) false)
+        input_notation
+        (two_keks kek_notation (K.remaining old_kek.old) (N.remaining new_kek.old))
+        (two_keks kek_notation (K.remaining old_kek.new) (N.remaining new_kek.new))
+        (R.remaining input.old) (R.remaining input.new)
+        (W.contents out.old) (W.contents out.new) answer × (result ≡ without_cause answer) }
+    // The output wraps exactly the key that the input wrapped.
+    ensures headline { IsOk result → WritesTheAnswer
+        (Whats.Rewrap (RewrapForms.Changed (by_default old_form) (by_default new_form)) false)
+        input_notation
+        (two_keks kek_notation (K.remaining old_kek.old) (N.remaining new_kek.old))
+        (two_keks kek_notation (K.remaining old_kek.new) (N.remaining new_kek.new))
+        (R.remaining input.old) (R.remaining input.new)
+        (W.contents out.old) (W.contents out.new) }
 {
-    match note {
-        Note::None | Note::AlreadyNew => Done::Written,
-        Note::NoKey => Done::Neither,
+    let what = What::Rewrap {
+        forms: RewrapForms::by_default(old_form, new_form),
+        pass_new: false,
+    };
+    match read_keks(alloc, kek_notation, old_kek, new_kek) {
+        Ok(ciphers) => match ciphers.run(alloc, what, input_notation, input, out) {
+            Ok(done) => Ok(done),
+            Err(fault) => Err(without_cause(fault)),
+        },
+        Err(fault) => Err(without_cause(fault)),
+    }
+}
+
+// Returns the fault in which both lengths, of the wrapped key and of its key, have one cause.
+fn without_cause(fault: JobFault) -> JobFault
+    ensures { result ≡ fault_without_cause fault }
+{
+    match fault {
+        JobFault::KeyNotPlain => JobFault::BadLength,
+        fault => fault,
+    }
+}
+
+// Returns what a conversion in a form is.
+fn conversion(direction: Direction, form: AgreedForm) -> What
+    ensures { result ≡ conversion direction form }
+{
+    match direction {
+        Direction::Wrap => What::Wrap(form),
+        Direction::Unwrap => What::Unwrap(form),
     }
 }

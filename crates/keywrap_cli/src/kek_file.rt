@@ -1,17 +1,28 @@
 //! Reads KEKs from files.
 
-ghost use Rattle.std.specs.Prelude.{◌≡◌, IfOk};
-ghost use Rattle.keywrap_cli.specs.RunSteps.{OpensKeks};
-ghost use Rattle.keywrap_cli.specs.JobReading.{OpensKek, kek_fault_of};
+ghost use Rattle.std.specs.Prelude.{◌≡◌, Some, None, IfOk};
+ghost use Rattle.keywrap_cli.specs.JobReading.{OpensKek, OpensKeks, kek_fault_of, known_keks};
+ghost use Rattle.keywrap_cli.specs.JobReading.{one_kek, two_keks};
 
-use crate::files::read_file;
-use crate::job::{JobFault, Notation};
+use crate::files::{Notation, read_file};
+use crate::outcome::JobFault;
 use key_files::FileFault;
 use std::alloc::Global;
 use std::io::Read;
 
 /// The program's block cipher, named only here.
 pub use aes_vector::VectorAes as Aes;
+
+/// The KEK files of an operation: their names, or open files.
+#[derive(Drop)]
+pub struct Keks<K> {
+    /// The notation of the KEK files.
+    pub notation: Notation,
+    /// The KEK.
+    pub kek: K,
+    /// The new KEK of a rewrap.
+    pub new_kek: Option<K>,
+}
 
 /// One of the KEKs of an operation.
 #[derive(Clone, Copy)]
@@ -22,39 +33,73 @@ pub enum KekRole {
     NewKek,
 }
 
-/// Both KEKs of a rewrap.
+/// AES under each KEK of an operation.
 #[derive(Drop)]
-pub struct Keks {
-    /// AES under the old KEK.
-    pub old: Aes,
+pub struct Ciphers {
+    /// AES under the KEK.
+    pub kek: Aes,
     /// AES under the new KEK.
-    pub new: Aes,
-    /// Whether the KEKs are the same key.
+    pub new_kek: Option<Aes>,
+    /// Whether there are two KEKs, which are the same key.
     pub same: bool,
 }
 
-/// Reads both KEK files of a rewrap. The new one is read only after the old KEK is accepted.
+impl<K: Read> Keks<K> {
+    /// Reads the KEK files. The new KEK is read only after the KEK is accepted.
+    pub fn read(&mut self, alloc: Global) -> Result<Ciphers, JobFault>
+        ensures opens { OpensKeks (known_keks K.remaining self.old)
+            (known_keks K.remaining self.new) result }
+        ensures notation { self.new.notation ≡ self.old.notation }
+    {
+        match &mut self.new_kek {
+            None => read_kek(alloc, self.notation, &mut self.kek),
+            Some(new_kek) => read_keks(alloc, self.notation, &mut self.kek, new_kek),
+        }
+    }
+}
+
+/// Reads the only KEK file of an operation.
+pub fn read_kek<K: Read>(
+    alloc: Global,
+    notation: Notation,
+    file: &mut K,
+) -> Result<Ciphers, JobFault>
+    ensures { OpensKeks (one_kek notation (K.remaining file.old))
+        (one_kek notation (K.remaining file.new)) result }
+{
+    match read_into(alloc, KekRole::Kek, notation, file, &mut Vec::new(alloc)) {
+        Ok(kek) => Ok(Ciphers {
+            kek,
+            new_kek: None,
+            same: false,
+        }),
+        Err(fault) => Err(fault),
+    }
+}
+
+/// Reads both KEK files of a rewrap, as [`Keks::read`] does.
 pub fn read_keks<K: Read, N: Read>(
     alloc: Global,
     notation: Notation,
-    old_file: &mut K,
+    file: &mut K,
     new_file: &mut N,
-) -> Result<Keks, JobFault>
-    ensures { OpensKeks notation (K.remaining old_file.old) (K.remaining old_file.new)
-        (N.remaining new_file.old) (N.remaining new_file.new) result }
+) -> Result<Ciphers, JobFault>
+    ensures { OpensKeks (two_keks notation (K.remaining file.old) (N.remaining new_file.old))
+        (two_keks notation (K.remaining file.new) (N.remaining new_file.new)) result }
 {
-    let (mut old_kek, mut new_kek) = (Vec::new(alloc), Vec::new(alloc));
-    let old = read_into(alloc, KekRole::Kek, notation, old_file, &mut old_kek)?;
-    let new = read_into(alloc, KekRole::NewKek, notation, new_file, &mut new_kek)?;
-    let same = old_kek == new_kek;
-    Ok(Keks { old, new, same })
-}
-
-/// Reads a KEK file, and returns AES under its KEK.
-pub fn read_kek<K: Read>(alloc: Global, notation: Notation, file: &mut K) -> Result<Aes, JobFault>
-    ensures { OpensKek KekRole.Kek notation (K.remaining file.old) (K.remaining file.new) result }
-{
-    read_into(alloc, KekRole::Kek, notation, file, &mut Vec::new(alloc))
+    let (mut old, mut new) = (Vec::new(alloc), Vec::new(alloc));
+    let kek = match read_into(alloc, KekRole::Kek, notation, file, &mut old) {
+        Ok(kek) => kek,
+        Err(fault) => return Err(fault),
+    };
+    match read_into(alloc, KekRole::NewKek, notation, new_file, &mut new) {
+        Ok(new_kek) => Ok(Ciphers {
+            kek,
+            new_kek: Some(new_kek),
+            same: old == new,
+        }),
+        Err(fault) => Err(fault),
+    }
 }
 
 // Reads one of the KEKs, and replaces `kek` with its bytes.

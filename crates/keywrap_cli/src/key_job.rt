@@ -1,107 +1,142 @@
-//! Runs a job under a KEK on the bytes of an input or of a line.
+//! The answer of an operation to the bytes of an input or of a line.
 
 ghost use Rattle.std.specs.Prelude.{◌≡◌, IfOk, Ok, string_bytes};
-ghost use Rattle.key_lines.specs.LineAnswers.{IsAnswered, answered};
-ghost use Rattle.keywrap_cli.specs.JobAnswers.{AnswerOfJob, HasBadLength, IsPrinted, JobAnswer};
-ghost use Rattle.keywrap_cli.specs.JobAnswers.{job_of, kind_line};
+ghost use Rattle.key_lines.specs.LineAnswers.{answered};
+ghost use Rattle.keywrap_cli.specs.JobAnswers.{Answers, AnswersTo, IsPrinted, MayLack, conversion};
+ghost use Rattle.keywrap_cli.specs.JobAnswers.{kind_line, kind_note, rewrap_note};
+ghost use Rattle.keywrap_cli.specs.JobReading.{last_kek};
 
 use crate::any_form::unwrap_any;
 use crate::convert::{Direction, convert_into};
-use crate::job::{Job, Task};
-use crate::whole_input::print_in;
+use crate::files::{Notation, print_in};
+use crate::what::What;
 use block_pair::{BlockPair, Meter};
 use key_lines::{LineFault, LineJob, Note};
-use key_wrap_core::{InitialValue, Kind, RewrapFault, kind_into_with};
+use key_wrap_core::{
+    AgreedForm, InitialValue, Kind, RewrapFault, RewrapForms, Rewrapped, kind_into_with, rewrap,
+};
 use std::alloc::{AllocError, Global};
 
-/// A job under a block permutation. Only the plain form uses the initial value.
+/// An operation under its block permutations. A rewrap without a new one stays under the first.
 #[derive(Drop)]
 pub struct KeyJob<B: BlockPair> {
     pub alloc: Global,
-    pub iv: InitialValue,
-    pub task: Task,
+    pub what: What,
+    pub notation: Notation,
     pub pair: B,
+    pub new_pair: Option<B>,
 }
 
 impl<B: BlockPair> LineJob for KeyJob<B> {
     type Refusal = RewrapFault;
 
-    ghost answers = { λ job bytes answer. JobAnswer job.iv job.task (B.encrypted job.pair)
-        bytes answer };
+    ghost answers = { λ job bytes answer. Answers job.what job.notation (B.encrypted job.pair)
+        (B.encrypted (last_kek job.pair job.new_pair)) bytes answer };
 
-    ghost may_lack_memory = { λ job bytes. ¬ HasBadLength job.task.job job.task.form bytes };
+    ghost may_lack_memory = { λ job bytes. MayLack job.what (B.encrypted job.pair)
+        (B.encrypted (last_kek job.pair job.new_pair)) bytes };
 
     fn answer(
         &self,
         bytes: &mut Vec<u8>,
         output: &mut Vec<u8>,
     ) -> Result<Note, LineFault<RewrapFault>> {
-        match self.task.job {
-            Job::Wrap => self.convert(Direction::Wrap, bytes, output),
-            Job::Unwrap => self.convert(Direction::Unwrap, bytes, output),
-            Job::UnwrapAny => self.unwrap_any(bytes, output),
-            Job::Check => match self.check(bytes, output) {
+        match &self.what {
+            What::Wrap(form) => self.convert(Direction::Wrap, form, bytes, output),
+            What::Unwrap(form) => self.convert(Direction::Unwrap, form, bytes, output),
+            What::UnwrapAny(iv) => self.unwrap_any(iv, bytes, output),
+            What::Check(iv) => match self.check(iv, bytes, output) {
                 Ok(note) => Ok(note),
                 Err(_) => Err(LineFault::Memory),
             },
+            What::Rewrap { forms, pass_new } => self.rewrap(forms, *pass_new, bytes, output),
         }
     }
 }
 
 impl<B: BlockPair> KeyJob<B> {
-    // Makes the answer of a conversion, in the notation of the task.
+    // Makes the answer of a wrap, or of an unwrap in a form.
     fn convert(
         &self,
         direction: Direction,
+        form: &AgreedForm,
         bytes: &mut Vec<u8>,
         output: &mut Vec<u8>,
     ) -> Result<Note, LineFault<RewrapFault>>
-        ensures { IsAnswered (AnswerOfJob (job_of direction) self.now.iv self.now.task
-            (B.encrypted self.now.pair) bytes.old.items)
-            (¬ HasBadLength (job_of direction) self.now.task.form bytes.old.items)
-            output.new.items result }
+        ensures { AnswersTo (conversion direction form.now) self.now.notation
+            (B.encrypted self.now.pair) (B.encrypted (last_kek self.now.pair self.now.new_pair))
+            bytes.old.items output.new.items result }
     {
-        convert_into(
-            direction,
-            self.task.form,
-            &self.iv,
-            &self.pair,
-            bytes,
-            output,
-        )?;
+        convert_into(direction, form, &self.pair, bytes, output)?;
         self.print(bytes, output)
     }
 
-    // Makes the answer of an unwrapping in either form.
+    // Makes the answer of an unwrap in either form.
     fn unwrap_any(
         &self,
+        iv: &InitialValue,
         bytes: &mut Vec<u8>,
         output: &mut Vec<u8>,
     ) -> Result<Note, LineFault<RewrapFault>>
-        ensures { IsAnswered (AnswerOfJob Job.UnwrapAny self.now.iv self.now.task
-            (B.encrypted self.now.pair) bytes.old.items)
-            (¬ HasBadLength Job.UnwrapAny self.now.task.form bytes.old.items)
-            output.new.items result }
+        ensures { AnswersTo (What.UnwrapAny iv.now) self.now.notation
+            (B.encrypted self.now.pair) (B.encrypted (last_kek self.now.pair self.now.new_pair))
+            bytes.old.items output.new.items result }
     {
-        unwrap_any(&self.iv, &self.pair, bytes, output)?;
+        unwrap_any(iv, &self.pair, bytes, output)?;
         self.print(bytes, output)
     }
 
     // Makes the answer of a check. `output` is the room for the registers.
-    fn check(&self, text: &[u8], output: &mut Vec<u8>) -> Result<Note, AllocError>
-        ensures { IfOk result (λ note. AnswerOfJob Job.Check self.now.iv self.now.task
-            (B.encrypted self.now.pair) text.now (answered output.new.items (Ok note))) }
+    fn check(
+        &self,
+        iv: &InitialValue,
+        text: &[u8],
+        output: &mut Vec<u8>,
+    ) -> Result<Note, AllocError>
+        ensures { IfOk result (λ note. Answers (What.Check iv.now) self.now.notation
+            (B.encrypted self.now.pair) (B.encrypted (last_kek self.now.pair self.now.new_pair))
+            text.now (answered output.new.items (Ok note))) }
     {
         output.resize(text.len().saturating_sub(8), 0)?;
-        let Ok(found) = kind_into_with(&mut Meter::new(&self.pair), &self.iv, text, output) else {
+        let Ok(found) = kind_into_with(&mut Meter::new(&self.pair), iv, text, output) else {
             return Err(AllocError);
         };
         let line = kind_line(self.alloc, found)?;
         output.clear();
         output.extend_from_slice(line.as_bytes())?;
-        match found {
-            Kind::Plain(_) | Kind::Padded(_) => Ok(Note::None),
-            Kind::Neither => Ok(Note::NoKey),
+        Ok(kind_note(found))
+    }
+
+    // Makes the answer of a rewrap.
+    fn rewrap(
+        &self,
+        forms: &RewrapForms,
+        pass_new: bool,
+        bytes: &mut Vec<u8>,
+        output: &mut Vec<u8>,
+    ) -> Result<Note, LineFault<RewrapFault>>
+        ensures { AnswersTo (What.Rewrap forms.now pass_new) self.now.notation
+            (B.encrypted self.now.pair) (B.encrypted (last_kek self.now.pair self.now.new_pair))
+            bytes.old.items output.new.items result }
+    {
+        let (mut old, mut new) = (Meter::new(&self.pair), Meter::new(self.last_pair()));
+        let rewrapped = match rewrap(&mut old, &mut new, forms, pass_new, bytes) {
+            Ok(rewrapped) => rewrapped,
+            Err(fault) => return Err(LineFault::Refused(fault)),
+        };
+        match print_in(self.notation, bytes, output) {
+            Ok(()) => Ok(rewrap_note(rewrapped)),
+            Err(_) => Err(LineFault::Memory),
+        }
+    }
+
+    // Returns the new block permutation or, without it, the only one.
+    fn last_pair(&self) -> &B
+        ensures { result.now ≡ last_kek self.now.pair self.now.new_pair }
+    {
+        match &self.new_pair {
+            Some(new_pair) => new_pair,
+            None => &self.pair,
         }
     }
 
@@ -111,9 +146,9 @@ impl<B: BlockPair> KeyJob<B> {
         bytes: &mut Vec<u8>,
         output: &mut Vec<u8>,
     ) -> Result<Note, LineFault<RewrapFault>>
-        ensures { IsPrinted self.now.task.input output.old.items output.new.items result }
+        ensures { IsPrinted self.now.notation output.old.items output.new.items result }
     {
-        print_in(self.task.input, output, bytes)?;
+        print_in(self.notation, output, bytes)?;
         std::mem::swap(bytes, output);
         Ok(Note::None)
     }
@@ -127,5 +162,25 @@ pub fn kind_line(alloc: Global, kind: Kind) -> Result<String, AllocError>
         Kind::Plain(len) => format!(in alloc; "plain {len}\n"),
         Kind::Padded(len) => format!(in alloc; "padded {len}\n"),
         Kind::Neither => String::from_str(alloc, "none\n"),
+    }
+}
+
+// Returns the note on the line of a check.
+fn kind_note(kind: Kind) -> Note
+    ensures { result ≡ kind_note kind }
+{
+    match kind {
+        Kind::Plain(_) | Kind::Padded(_) => Note::None,
+        Kind::Neither => Note::NoKey,
+    }
+}
+
+// Returns the note on the answer of a rewrap.
+fn rewrap_note(rewrapped: Rewrapped) -> Note
+    ensures { result ≡ rewrap_note rewrapped }
+{
+    match rewrapped {
+        Rewrapped::Fresh => Note::None,
+        Rewrapped::AlreadyNew => Note::AlreadyNew,
     }
 }

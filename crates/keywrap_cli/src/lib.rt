@@ -1,5 +1,5 @@
-//! The command `keywrap`, as calls over readers and writers: jobs over a whole input and line by
-//! line, rewrapping, the drill, the published vectors. Also the exit status of each fault and of
+//! The command `keywrap`, as calls over readers and writers: operations on a whole input and line by
+//! line, the drill, the published vectors. Also the exit status of each fault and of
 //! each run, and the messages, which are tested and not proved.
 #![tactic(auto)]
 
@@ -13,29 +13,28 @@ mod initial_value;
 mod job;
 mod kek_file;
 mod key_job;
-mod lines;
 mod operation;
-mod rewrap;
-mod rewrap_job;
-mod rewrapping;
+mod outcome;
 mod run_status;
 pub mod statuses;
 #[cfg(test)]
 mod tests;
 mod vector_check;
 mod vector_report;
+mod what;
 mod whole_input;
 
 pub use convert::Direction;
 pub use drilling::{DrillFault, drill};
 pub use fault::ProgramFault;
 pub use fileless::{run_drill, run_vectors, write_help};
+pub use files::{Notation, line_notation};
 pub use initial_value::{IvFault, parse_iv};
-pub use job::{Done, Job, JobFault, Notation, Outcome, Task, run_job, run_with};
-pub use lines::line_notation;
+pub use job::{Job, Task, run_job, run_rewrap, run_with};
+pub use kek_file::Keks;
 pub use operation::Operation;
-pub use rewrap::run_rewrap;
-pub use rewrapping::Rewrapping;
+pub use outcome::{Done, JobFault, Outcome};
 pub use run_status::{done_status, lines_status};
 pub use vector_check::{Library, VectorCalls, library_law};
 pub use vector_report::{VectorsFault, vectors};
+pub use what::{How, What};

@@ -5,8 +5,9 @@ ghost use Rattle.keywrap_cli.specs.EndsWell.{EndsWell};
 ghost use Rattle.keywrap_cli.specs.Statuses.{line_status};
 
 use crate::fault::line_status;
-use crate::job::{Done, Job};
+use crate::outcome::Done;
 use crate::statuses;
+use crate::what::What;
 use key_lines::{RefusedLine, RunSummary};
 use key_wrap_core::RewrapFault;
 
@@ -23,8 +24,8 @@ pub fn done_status(done: Done) -> u8
 
 /// Returns the exit status of a run over lines: the status of the first refused line. A check notes
 /// the lines for which it found no key. A run over no lines is refused.
-pub fn lines_status(job: Option<Job>, summary: &RunSummary<RewrapFault>) -> u8
-    ensures done { (result ≡ 0) ↔ EndsWell job summary.now }
+pub fn lines_status(what: &What, summary: &RunSummary<RewrapFault>) -> u8
+    ensures done { (result ≡ 0) ↔ EndsWell what.now summary.now }
     ensures no_lines { summary.now.lines ≡ 0 → result ≡ 4 }
     ensures refused { summary.now.lines ≢ 0 → (refused : RefusedLine RewrapFault)
         → summary.now.first_refused ≡ Some refused → result ≡ line_status refused.fault }
@@ -37,8 +38,9 @@ pub fn lines_status(job: Option<Job>, summary: &RunSummary<RewrapFault>) -> u8
     if let Some(refused) = summary.first_refused {
         return line_status(refused.fault);
     }
-    match job {
-        Some(Job::Check) if summary.noted > 0 => statuses::FAILED,
-        _ => statuses::DONE,
+    if what.is_check() && summary.noted > 0 {
+        statuses::FAILED
+    } else {
+        statuses::DONE
     }
 }

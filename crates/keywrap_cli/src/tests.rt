@@ -5,6 +5,7 @@ mod cases;
 mod checks;
 mod drills;
 mod faults;
+mod fixed_calls;
 mod hostile;
 mod initial_values;
 mod jobs;

@@ -10,7 +10,7 @@ use crate::convert::{Direction, convert_into};
 use crate::kek_file::Aes;
 use block_pair::BlockPair;
 use key_lines::LineFault;
-use key_wrap_core::{Form, InitialValue};
+use key_wrap_core::{AgreedForm, Form};
 use std::alloc::{AllocError, Global};
 use test_vectors::{Algorithm, Vector};
 
@@ -96,9 +96,9 @@ fn convert<B: BlockPair>(
     ensures { IfOk result (λ found. Converts direction form (B.encrypted pair.now) input.now
         (bytes_of found)) }
 {
-    let iv = InitialValue::default();
+    let form = AgreedForm::by_default(form);
     let mut output = Vec::new(alloc);
-    match convert_into(direction, form, &iv, pair, input, &mut output) {
+    match convert_into(direction, &form, pair, input, &mut output) {
         Ok(()) => Ok(Some(output)),
         Err(LineFault::Refused(_)) => Ok(None),
         Err(_) => Err(AllocError),

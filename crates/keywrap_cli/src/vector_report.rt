@@ -7,7 +7,7 @@ ghost use Rattle.keywrap_cli.specs.VectorReport.{IsReport, IsVerdictOnAll, verdi
 ghost use Rattle.test_vectors.specs.Published.{published_vectors};
 ghost use Rattle.test_vectors.specs.Vectors.{shown};
 
-use crate::job::JobFault;
+use crate::outcome::JobFault;
 use crate::vector_check::{VectorCalls, is_right};
 use key_files::write_raw;
 use std::alloc::{AllocError, Global};

@@ -1,14 +1,15 @@
 //! How many block calls a line costs, with a block permutation that counts them.
 
+use super::cases::form as agreed;
 use super::operations::{Forms, KEPT, PLAIN, TO_PADDED, TO_PLAIN, rewrap_forms};
 use super::wrapping::wrapped;
-use crate::job::{Job, Notation, Task};
+use crate::files::Notation;
+use crate::job::{Job, Task};
 use crate::key_job::KeyJob;
-use crate::rewrap_job::RewrapJob;
-use crate::rewrapping::Rewrapping;
+use crate::what::What;
 use block_pair::SwapHalves;
 use key_lines::LineJob;
-use key_wrap_core::{Form, InitialValue};
+use key_wrap_core::Form;
 use std::alloc::Global;
 use std::test::Fail;
 use test_doubles::Tally;
@@ -31,17 +32,13 @@ static COSTS: [(Job, Form, usize, u64); 10] = [
 #[test]
 fn a_line_costs_six_calls_for_eight_bytes(rt: HostRuntime) -> Result<(), Fail> {
     for (job, form, len, calls) in COSTS {
-        let run = KeyJob {
-            alloc: rt.alloc(),
-            iv: InitialValue::default(),
-            task: Task {
-                job,
-                form,
-                input: Notation::Hex,
-                kek: Notation::Hex,
-            },
-            pair: Tally::new(),
+        let task = Task {
+            job,
+            form,
+            input: Notation::Hex,
+            kek: Notation::Hex,
         };
+        let run = key_job(rt.alloc(), task.what(), None);
         let (mut bytes, mut output) = (Vec::new(rt.alloc()), Vec::new(rt.alloc()));
         bytes.resize(len, 0)?;
         let _outcome = run.answer(&mut bytes, &mut output);
@@ -106,20 +103,29 @@ fn calls_of(
     form: Form,
     len: usize,
 ) -> Result<[u64; 2], Fail> {
-    let run = RewrapJob {
-        task: Rewrapping {
-            forms: rewrap_forms(forms),
-            pass_new,
-            input: Notation::Hex,
-            kek: Notation::Hex,
-        },
-        old: Tally::new(),
-        new: Tally::new(),
+    let what = What::Rewrap {
+        forms: rewrap_forms(forms),
+        pass_new,
     };
+    let run = key_job(alloc, what, Some(Tally::new()));
     let mut key = Vec::new(alloc);
     key.resize(len, 0)?;
-    let mut bytes = wrapped(alloc, form, &InitialValue::default(), &SwapHalves, &key)?;
+    let mut bytes = wrapped(alloc, &agreed(form), &SwapHalves, &key)?;
     let mut output = Vec::new(alloc);
     let _outcome = run.answer(&mut bytes, &mut output);
-    Ok([run.old.calls(), run.new.calls()])
+    let new_calls = match &run.new_pair {
+        Some(new_pair) => new_pair.calls(),
+        None => 0,
+    };
+    Ok([run.pair.calls(), new_calls])
+}
+
+fn key_job(alloc: Global, what: What, new_pair: Option<Tally>) -> KeyJob<Tally> {
+    KeyJob {
+        alloc,
+        what,
+        notation: Notation::Hex,
+        pair: Tally::new(),
+        new_pair,
+    }
 }

@@ -1,9 +1,10 @@
 //! Drills. Their results follow from one rule of the toy cipher: in step t, A(t) is the first
 //! register xored with t, and A(t-1) becomes the last register.
 
-use crate::convert::Direction;
-use crate::drilling::{DrillFault, drill};
-use key_wrap_core::Form;
+use crate::convert::Direction::{self, Unwrap, Wrap};
+use crate::drilling::DrillFault::{self, BadLength, Integrity};
+use crate::drilling::drill;
+use key_wrap_core::Form::{self, Padded, Plain};
 use std::alloc::Global;
 use std::test::Fail;
 
@@ -11,42 +12,38 @@ use std::test::Fail;
 static WRAPPINGS: [(Form, &str, &str); 8] = [
     // two words
     (
-        Form::Plain,
+        Plain,
         "00112233445566778899aabbccddeeff",
         "a6a6a6a6a6a6a6a6001122334455667f8899aabbccddeefb",
     ),
     // three zero words
     (
-        Form::Plain,
+        Plain,
         "000000000000000000000000000000000000000000000000",
         "00000000000000120000000000000000a6a6a6a6a6a6a6b60000000000000011",
     ),
     // three words: P2 xor 12, P3, IV xor 10, P1 xor 11
     (
-        Form::Plain,
+        Plain,
         "010203040506070811121314151617182122232425262728",
         "111213141516170a2122232425262728a6a6a6a6a6a6a6b60102030405060719",
     ),
     // four words: P4 xor 08, IV xor 14, P1 xor 09, P2 xor 0e, P3 xor 03
     (
-        Form::Plain,
+        Plain,
         "0000000000000000111111111111111122222222222222223333333333333333",
         "333333333333333ba6a6a6a6a6a6a6b20000000000000009111111111111111f2222222222222221",
     ),
     // padded keys: of one word, and of two words, which move like the plain ones above
+    (Padded, "466f7250617369", "466f725061736900a65959a600000007"),
+    (Padded, "ff", "ff00000000000000a65959a600000001"),
     (
-        Form::Padded,
-        "466f7250617369",
-        "466f725061736900a65959a600000007",
-    ),
-    (Form::Padded, "ff", "ff00000000000000a65959a600000001"),
-    (
-        Form::Padded,
+        Padded,
         "0011223344556677",
         "0011223344556677a65959a600000008",
     ),
     (
-        Form::Padded,
+        Padded,
         "112233445566778899",
         "a65959a60000000911223344556677809900000000000004",
     ),
@@ -58,17 +55,11 @@ const SPACED: &str = "00 11\t22 33 44 55 66 77\r\n88 99 AA bb CC dd EE ff\n";
 #[test]
 fn wraps_and_unwraps_keys(rt: HostRuntime) {
     for (form, key, text) in &WRAPPINGS {
-        assert!(rt;
-            answers(rt.alloc(), *form, Direction::Wrap, key, text),
-            "{key}"
-        );
-        assert!(rt;
-            answers(rt.alloc(), *form, Direction::Unwrap, text, key),
-            "{text}"
-        );
+        assert!(rt; answers(rt.alloc(), *form, Wrap, key, text), "{key}");
+        assert!(rt; answers(rt.alloc(), *form, Unwrap, text, key), "{text}");
     }
     let (_, _, text) = WRAPPINGS[0];
-    assert!(rt; answers(rt.alloc(), Form::Plain, Direction::Wrap, SPACED, text));
+    assert!(rt; answers(rt.alloc(), Plain, Wrap, SPACED, text));
 }
 
 // Returns whether the result of a drill is the bytes of these digits.
@@ -99,7 +90,7 @@ static PAST_256: [(usize, &[u8]); 5] = [
 fn wraps_past_256_steps(rt: HostRuntime) -> Result<(), Fail> {
     let digits = [b'0'; 688];
     let zeros = std::str::from_utf8(&digits)?;
-    let wrapped = drill(rt.alloc(), Form::Plain, Direction::Wrap, zeros)?;
+    let wrapped = drill(rt.alloc(), Plain, Wrap, zeros)?;
     assert!(rt; wrapped.len() == 352);
     for (at, word) in &PAST_256 {
         let from_there = wrapped.get(*at..).unwrap_or(&[]);
@@ -109,53 +100,24 @@ fn wraps_past_256_steps(rt: HostRuntime) -> Result<(), Fail> {
 }
 
 static REFUSALS: [(Form, Direction, &str, DrillFault); 10] = [
-    (
-        Form::Plain,
-        Direction::Wrap,
-        "0g",
-        DrillFault::BadDigit { at: 1 },
-    ),
-    (
-        Form::Plain,
-        Direction::Unwrap,
-        "g01",
-        DrillFault::BadDigit { at: 0 },
-    ),
-    (Form::Plain, Direction::Wrap, "001", DrillFault::OddDigits),
-    (Form::Plain, Direction::Wrap, "", DrillFault::BadLength),
-    (Form::Padded, Direction::Wrap, "", DrillFault::BadLength),
-    (
-        Form::Plain,
-        Direction::Wrap,
-        "0011223344556677",
-        DrillFault::BadLength,
-    ),
-    (
-        Form::Plain,
-        Direction::Unwrap,
-        "00112233445566778899aabbccddeeff",
-        DrillFault::BadLength,
-    ),
-    (
-        Form::Plain,
-        Direction::Unwrap,
-        "a7a6a6a6a6a6a6a6001122334455667f8899aabbccddeefb",
-        DrillFault::Integrity,
-    ),
-    (
-        Form::Padded,
-        Direction::Unwrap,
-        "a65959a60000000911223344556677809900000000000005",
-        DrillFault::Integrity,
-    ),
+    (Plain, Wrap, "0g", DrillFault::BadDigit { at: 1 }),
+    (Plain, Unwrap, "g01", DrillFault::BadDigit { at: 0 }),
+    (Plain, Wrap, "001", DrillFault::OddDigits),
+    (Plain, Wrap, "", BadLength),
+    (Padded, Wrap, "", BadLength),
+    (Plain, Wrap, "0011223344556677", BadLength),
+    (Plain, Unwrap, "00112233445566778899aabbccddeeff", BadLength),
+    (Plain, Unwrap, CHANGED_VALUE, Integrity),
+    (Padded, Unwrap, CHANGED_PADDING, Integrity),
     // a legal length, but a wrapping of the other form
-    (
-        Form::Plain,
-        Direction::Unwrap,
-        "a65959a60000000911223344556677809900000000000004",
-        DrillFault::Integrity,
-    ),
+    (Plain, Unwrap, PADDED_TEXT, Integrity),
 ];
+
+const CHANGED_VALUE: &str = "a7a6a6a6a6a6a6a6001122334455667f8899aabbccddeefb";
+
+const CHANGED_PADDING: &str = "a65959a60000000911223344556677809900000000000005";
+
+const PADDED_TEXT: &str = "a65959a60000000911223344556677809900000000000004";
 
 #[test]
 fn refuses_in_order(rt: HostRuntime) {

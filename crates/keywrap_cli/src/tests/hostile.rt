@@ -27,16 +27,16 @@ enum Trial {
 }
 
 fn try_each_case(rt: &impl Abort, alloc: Global, trial: Trial) {
-    for case in &jobs::CASES {
+    for case in &jobs::cases() {
         try_case(rt, alloc, trial, case);
     }
-    for case in &checks::CASES {
+    for case in &checks::cases() {
         try_case(rt, alloc, trial, case);
     }
-    for case in &initial_values::CASES {
+    for case in &initial_values::cases() {
         try_case(rt, alloc, trial, case);
     }
-    for case in &rewraps::CASES {
+    for case in &rewraps::cases() {
         try_case(rt, alloc, trial, case);
     }
 }

@@ -1,36 +1,46 @@
 //! Initial values: their texts, and jobs under them.
 
-use super::cases::{Call, Case, HEX, RAW, WRITTEN};
-use super::jobs::{HEX_KEK, HEX_KEY, HEX_TEXT, INTEGRITY, RAW_KEK, RAW_KEY, RAW_TEXT};
-use crate::convert::Direction;
+use super::cases::{Case, RAW_KEKS, WRITTEN, hex};
+use super::jobs::{HEX_KEK, HEX_KEY, HEX_TEXT, INTEGRITY, RAW_KEK};
 use crate::initial_value::{IvFault, parse_iv};
-
-const DEFAULT: [u8; 8] = [0xA6; 8];
+use crate::what::What;
+use key_wrap_core::{AgreedForm, InitialValue};
 
 /// A value that is not the default.
 pub const OTHER: [u8; 8] = *b"\x01\x23\x45\x67\x89\xAB\xCD\xEF";
 
 // The same key under this value, as OpenSSL wraps it.
-const OTHER_TEXT: &[u8] = b"a0f76f4b09e1f2191b8d94da2ca57adfd45ee9732992a98f\n";
+pub const OTHER_TEXT: &[u8] = b"a0f76f4b09e1f2191b8d94da2ca57adfd45ee9732992a98f\n";
 
-const WRAP: Call = Call::With(DEFAULT, Direction::Wrap, HEX, HEX);
+pub fn cases() -> [Case<'static>; 3] {
+    [
+        hex(
+            What::Wrap(other()),
+            [HEX_KEK, b"", HEX_KEY],
+            WRITTEN,
+            OTHER_TEXT,
+        ),
+        Case(
+            What::Unwrap(other()),
+            RAW_KEKS,
+            [RAW_KEK, b"", OTHER_TEXT],
+            WRITTEN,
+            HEX_KEY,
+        ),
+        Case(
+            What::Unwrap(other()),
+            RAW_KEKS,
+            [RAW_KEK, b"", HEX_TEXT],
+            INTEGRITY,
+            b"",
+        ),
+    ]
+}
 
-const UNWRAP: Call = Call::With(DEFAULT, Direction::Unwrap, HEX, HEX);
-
-const RAW_UNWRAP: Call = Call::With(DEFAULT, Direction::Unwrap, RAW, HEX);
-
-const OTHER_WRAP: Call = Call::With(OTHER, Direction::Wrap, HEX, HEX);
-
-const OTHER_UNWRAP: Call = Call::With(OTHER, Direction::Unwrap, HEX, RAW);
-
-pub static CASES: [Case; 6] = [
-    Case(WRAP, [HEX_KEK, b"", HEX_KEY], WRITTEN, HEX_TEXT),
-    Case(UNWRAP, [HEX_KEK, b"", HEX_TEXT], WRITTEN, HEX_KEY),
-    Case(RAW_UNWRAP, [HEX_KEK, b"", RAW_TEXT], WRITTEN, RAW_KEY),
-    Case(OTHER_WRAP, [HEX_KEK, b"", HEX_KEY], WRITTEN, OTHER_TEXT),
-    Case(OTHER_UNWRAP, [RAW_KEK, b"", OTHER_TEXT], WRITTEN, HEX_KEY),
-    Case(OTHER_UNWRAP, [RAW_KEK, b"", HEX_TEXT], INTEGRITY, b""),
-];
+/// The plain form with the other value, which is not reserved.
+pub fn other() -> AgreedForm {
+    AgreedForm::Plain(InitialValue::new(OTHER).unwrap_or_default())
+}
 
 #[test]
 fn reads_sixteen_digits_and_nothing_else(rt: HostRuntime) {

@@ -1,8 +1,10 @@
 //! Jobs over files in memory: the vector of RFC 3394, section 4.1, in each job and notation, and
 //! refusals.
 
-use super::cases::{Answer, Call, Case, HEX, RAW, WRITTEN};
-use crate::job::{Job, JobFault};
+use super::cases::{Answer, Case, RAW, RAW_KEKS, WRITTEN, check, form, hex};
+use crate::files::Notation;
+use crate::outcome::JobFault;
+use crate::what::What;
 use key_files::FileFault;
 use key_wrap_core::Form;
 
@@ -34,59 +36,71 @@ const SPACED_KEK: &[u8] = b"00 01 02 03 04 05 06 07\r\n08090A0b0C0d0E0f\r\n";
 
 const FIFTEEN: &[u8] = b"000000000000000000000000000000";
 
-pub const WRAP: Call = Call::Job(Job::Wrap, Form::Plain, HEX, HEX);
+fn wrap() -> What {
+    What::Wrap(form(Form::Plain))
+}
 
-const UNWRAP: Call = Call::Job(Job::Unwrap, Form::Plain, HEX, HEX);
+fn unwrap() -> What {
+    What::Unwrap(form(Form::Plain))
+}
 
-const CHECK: Call = Call::Job(Job::Check, Form::Plain, HEX, HEX);
-
-const RAW_WRAP: Call = Call::Job(Job::Wrap, Form::Plain, RAW, RAW);
-
-const RAW_UNWRAP: Call = Call::Job(Job::Unwrap, Form::Plain, RAW, RAW);
-
-const RAW_CHECK: Call = Call::Job(Job::Check, Form::Plain, RAW, RAW);
-
-const RAW_KEK_WRAP: Call = Call::Job(Job::Wrap, Form::Plain, HEX, RAW);
-
-const RAW_INPUT_WRAP: Call = Call::Job(Job::Wrap, Form::Plain, RAW, HEX);
-
-const PADDED_WRAP: Call = Call::Job(Job::Wrap, Form::Padded, HEX, HEX);
-
-const PADDED_UNWRAP: Call = Call::Job(Job::Unwrap, Form::Padded, HEX, HEX);
-
-pub static CASES: [Case; 27] = [
-    Case(WRAP, [HEX_KEK, b"", HEX_KEY], WRITTEN, HEX_TEXT),
-    Case(UNWRAP, [HEX_KEK, b"", HEX_TEXT], WRITTEN, HEX_KEY),
-    Case(CHECK, [HEX_KEK, b"", HEX_TEXT], WRITTEN, b"plain 16\n"),
-    Case(RAW_WRAP, [RAW_KEK, b"", RAW_KEY], WRITTEN, RAW_TEXT),
-    Case(RAW_UNWRAP, [RAW_KEK, b"", RAW_TEXT], WRITTEN, RAW_KEY),
-    Case(RAW_CHECK, [RAW_KEK, b"", RAW_TEXT], WRITTEN, b"plain 16\n"),
-    Case(RAW_KEK_WRAP, [RAW_KEK, b"", HEX_KEY], WRITTEN, HEX_TEXT),
-    Case(RAW_INPUT_WRAP, [HEX_KEK, b"", RAW_KEY], WRITTEN, RAW_TEXT),
-    Case(WRAP, [SPACED_KEK, b"", HEX_KEY], WRITTEN, HEX_TEXT),
-    // a KEK of an illegal length, with any input
-    Case(RAW_WRAP, [b"", b"", RAW_KEY], KEK_LENGTH, b""),
-    Case(RAW_WRAP, [&[0; 15], b"", RAW_KEY], KEK_LENGTH, b""),
-    Case(RAW_WRAP, [&[0; 17], b"", RAW_KEY], KEK_LENGTH, b""),
-    Case(WRAP, [b"", b"", FIFTEEN], KEK_LENGTH, b""),
-    Case(WRAP, [BLANKS, b"", HEX_KEY], KEK_LENGTH, b""),
-    Case(UNWRAP, [BLANKS, b"", HEX_TEXT], KEK_LENGTH, b""),
-    Case(CHECK, [BLANKS, b"", HEX_TEXT], KEK_LENGTH, b""),
-    // files that denote no bytes
-    Case(WRAP, [b"0g", b"", HEX_KEY], KEK_DIGIT, b""),
-    Case(WRAP, [b"012", b"", HEX_KEY], KEK_DIGITS, b""),
-    Case(WRAP, [HEX_KEK, b"", b"g01"], INPUT_DIGIT, b""),
-    Case(UNWRAP, [HEX_KEK, b"", b"012"], INPUT_DIGITS, b""),
-    Case(CHECK, [HEX_KEK, b"", b"zz"], INPUT_DIGIT, b""),
-    // inputs of an illegal length
-    Case(WRAP, [HEX_KEK, b"", FIFTEEN], BAD_LENGTH, b""),
-    Case(WRAP, [HEX_KEK, b"", BLANKS], BAD_LENGTH, b""),
-    Case(UNWRAP, [HEX_KEK, b"", BLANKS], BAD_LENGTH, b""),
-    Case(PADDED_WRAP, [HEX_KEK, b"", BLANKS], BAD_LENGTH, b""),
-    Case(PADDED_UNWRAP, [HEX_KEK, b"", BLANKS], BAD_LENGTH, b""),
-    // a legal length, but a wrapping in the other form
-    Case(UNWRAP, [PADDED_KEK, b"", TEXT_OF_20], INTEGRITY, b""),
-];
+pub fn cases() -> [Case<'static>; 27] {
+    [
+        hex(wrap(), [HEX_KEK, b"", HEX_KEY], WRITTEN, HEX_TEXT),
+        hex(unwrap(), [HEX_KEK, b"", HEX_TEXT], WRITTEN, HEX_KEY),
+        hex(check(), [HEX_KEK, b"", HEX_TEXT], WRITTEN, b"plain 16\n"),
+        Case(wrap(), RAW, [RAW_KEK, b"", RAW_KEY], WRITTEN, RAW_TEXT),
+        Case(unwrap(), RAW, [RAW_KEK, b"", RAW_TEXT], WRITTEN, RAW_KEY),
+        Case(
+            check(),
+            RAW,
+            [RAW_KEK, b"", RAW_TEXT],
+            WRITTEN,
+            b"plain 16\n",
+        ),
+        Case(wrap(), RAW_KEKS, [RAW_KEK, b"", HEX_KEY], WRITTEN, HEX_TEXT),
+        Case(
+            wrap(),
+            [Notation::Raw, Notation::Hex],
+            [HEX_KEK, b"", RAW_KEY],
+            WRITTEN,
+            RAW_TEXT,
+        ),
+        hex(wrap(), [SPACED_KEK, b"", HEX_KEY], WRITTEN, HEX_TEXT),
+        // a KEK of an illegal length, with any input
+        Case(wrap(), RAW, [b"", b"", RAW_KEY], KEK_LENGTH, b""),
+        Case(wrap(), RAW, [&[0; 15], b"", RAW_KEY], KEK_LENGTH, b""),
+        Case(wrap(), RAW, [&[0; 17], b"", RAW_KEY], KEK_LENGTH, b""),
+        hex(wrap(), [b"", b"", FIFTEEN], KEK_LENGTH, b""),
+        hex(wrap(), [BLANKS, b"", HEX_KEY], KEK_LENGTH, b""),
+        hex(unwrap(), [BLANKS, b"", HEX_TEXT], KEK_LENGTH, b""),
+        hex(check(), [BLANKS, b"", HEX_TEXT], KEK_LENGTH, b""),
+        // files that denote no bytes
+        hex(wrap(), [b"0g", b"", HEX_KEY], KEK_DIGIT, b""),
+        hex(wrap(), [b"012", b"", HEX_KEY], KEK_DIGITS, b""),
+        hex(wrap(), [HEX_KEK, b"", b"g01"], INPUT_DIGIT, b""),
+        hex(unwrap(), [HEX_KEK, b"", b"012"], INPUT_DIGITS, b""),
+        hex(check(), [HEX_KEK, b"", b"zz"], INPUT_DIGIT, b""),
+        // inputs of an illegal length
+        hex(wrap(), [HEX_KEK, b"", FIFTEEN], BAD_LENGTH, b""),
+        hex(wrap(), [HEX_KEK, b"", BLANKS], BAD_LENGTH, b""),
+        hex(unwrap(), [HEX_KEK, b"", BLANKS], BAD_LENGTH, b""),
+        hex(
+            What::Wrap(form(Form::Padded)),
+            [HEX_KEK, b"", BLANKS],
+            BAD_LENGTH,
+            b"",
+        ),
+        hex(
+            What::Unwrap(form(Form::Padded)),
+            [HEX_KEK, b"", BLANKS],
+            BAD_LENGTH,
+            b"",
+        ),
+        // a legal length, but a wrapping in the other form
+        hex(unwrap(), [PADDED_KEK, b"", TEXT_OF_20], INTEGRITY, b""),
+    ]
+}
 
 pub const KEK_LENGTH: Answer = Err(JobFault::KekLength);
 

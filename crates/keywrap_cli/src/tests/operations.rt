@@ -1,11 +1,12 @@
 //! Rewraps by `Operation`, as the program makes them with `--pass-new`.
 
-use super::cases::{Answer, HEX, WRITTEN};
+use super::cases::{Answer, WRITTEN};
 use super::jobs::{BAD_LENGTH, HEX_KEK, HEX_TEXT, INTEGRITY, PADDED_KEK, TEXT_OF_20};
-use super::rewraps::{NEW_KEK, NEW_OF_7, NEW_PADDED, NEW_TEXT};
-use crate::job::JobFault;
+use super::rewraps::{KEY_NOT_PLAIN, NEW_KEK, NEW_OF_7, NEW_PADDED, NEW_TEXT};
+use crate::files::Notation;
+use crate::kek_file::Keks;
 use crate::operation::Operation;
-use crate::rewrapping::Rewrapping;
+use crate::what::What;
 use key_lines::{LineFault, RefusalLog, RefusedLine, RunOptions, RunSummary, TextNotation};
 use key_wrap_core::{Form, RewrapFault, RewrapForms};
 use std::io::BufReader;
@@ -22,8 +23,6 @@ pub const PLAIN: Forms = Some((Form::Plain, Form::Plain));
 pub const TO_PADDED: Forms = Some((Form::Plain, Form::Padded));
 
 pub const TO_PLAIN: Forms = Some((Form::Padded, Form::Plain));
-
-const KEY_NOT_PLAIN: Answer = Err(JobFault::KeyNotPlain);
 
 // The forms, the KEK, the input, the result and the output. All rows have the same new KEK.
 static ROWS: [(Forms, &[u8], &[u8], Answer, &[u8]); 10] = [
@@ -42,15 +41,16 @@ static ROWS: [(Forms, &[u8], &[u8], Answer, &[u8]); 10] = [
 ];
 
 fn operation(forms: Forms, kek: &'static [u8]) -> Operation<Trickle<'static>> {
-    Operation::Rewrap {
-        task: Rewrapping {
+    Operation {
+        what: What::Rewrap {
             forms: rewrap_forms(forms),
             pass_new: true,
-            input: HEX,
-            kek: HEX,
         },
-        kek: Trickle::in_pieces(kek, 7),
-        new_kek: Trickle::in_pieces(NEW_KEK, 7),
+        keks: Keks {
+            notation: Notation::Hex,
+            kek: Trickle::in_pieces(kek, 7),
+            new_kek: Some(Trickle::in_pieces(NEW_KEK, 7)),
+        },
     }
 }
 
@@ -67,7 +67,8 @@ fn passes_what_is_new_already(rt: HostRuntime) {
     for (forms, kek, text, wanted, output) in ROWS {
         let mut out = Narrow::in_pieces(rt.alloc(), 7);
         let mut input = Trickle::in_pieces(text, 7);
-        let done = match operation(forms, kek).run(rt.alloc(), &mut input, &mut out) {
+        let mut operation = operation(forms, kek);
+        let done = match operation.run(rt.alloc(), Notation::Hex, &mut input, &mut out) {
             Ok(outcome) => Ok(outcome.result),
             Err(fault) => Err(fault),
         };

@@ -1,21 +1,14 @@
 //! Rewraps over files in memory: from one KEK and form to another, and refusals.
 
-use super::cases::{Answer, Call, Case, HEX, RAW, WRITTEN};
+use super::cases::{Answer, Case, RAW, RAW_KEKS, WRITTEN, hex, rewrap};
 use super::jobs::{
     BAD_LENGTH, BLANKS, HEX_KEK, HEX_TEXT, INPUT_DIGIT, INPUT_DIGITS, INTEGRITY, KEK_DIGIT,
     KEK_DIGITS, KEK_LENGTH, PADDED_KEK, RAW_KEK, RAW_TEXT, TEXT_OF_7, TEXT_OF_20,
 };
-use crate::job::JobFault;
+use crate::outcome::JobFault;
+use crate::what::What;
 use key_files::FileFault;
 use key_wrap_core::Form;
-
-pub const PLAIN: Call = Call::Rewrap(Form::Plain, Form::Plain, HEX, HEX);
-
-const TO_PADDED: Call = Call::Rewrap(Form::Plain, Form::Padded, HEX, HEX);
-
-const TO_PLAIN: Call = Call::Rewrap(Form::Padded, Form::Plain, HEX, HEX);
-
-const PADDED: Call = Call::Rewrap(Form::Padded, Form::Padded, HEX, HEX);
 
 /// The KEK of RFC 3394, section 4.3.
 pub const NEW_KEK: &[u8] = b"000102030405060708090a0b0c0d0e0f101112131415161718191a1b1c1d1e1f\n";
@@ -40,48 +33,87 @@ const FIFTEEN: &[u8] = b"000102030405060708090a0b0c0d0e";
 
 const TWENTY_THREE: &[u8] = b"1fa68b0a8112b447aef34bd8fb5a7b829d3e862371d2cf";
 
-const NEW_KEK_LENGTH: Answer = Err(JobFault::NewKekLength);
+pub const KEY_NOT_PLAIN: Answer = Err(JobFault::KeyNotPlain);
+
+pub const NEW_KEK_LENGTH: Answer = Err(JobFault::NewKekLength);
 
 const NEW_KEK_DIGIT: Answer = Err(JobFault::NewKekFile(FileFault::BadDigit { at: 1 }));
 
 const NEW_KEK_DIGITS: Answer = Err(JobFault::NewKekFile(FileFault::OddDigits));
 
-pub static CASES: [Case; 23] = [
-    Case(PLAIN, [HEX_KEK, NEW_KEK, HEX_TEXT], WRITTEN, NEW_TEXT),
-    Case(
-        Call::Rewrap(Form::Plain, Form::Plain, RAW, RAW),
-        [RAW_KEK, RAW_NEW_KEK, RAW_TEXT],
-        WRITTEN,
-        RAW_NEW_TEXT,
-    ),
-    Case(
-        Call::Rewrap(Form::Plain, Form::Plain, HEX, RAW),
-        [RAW_KEK, RAW_NEW_KEK, HEX_TEXT],
-        WRITTEN,
-        NEW_TEXT,
-    ),
-    Case(TO_PADDED, [HEX_KEK, NEW_KEK, HEX_TEXT], WRITTEN, NEW_PADDED),
-    Case(TO_PLAIN, [NEW_KEK, HEX_KEK, NEW_PADDED], WRITTEN, HEX_TEXT),
-    Case(PADDED, [PADDED_KEK, NEW_KEK, TEXT_OF_7], WRITTEN, NEW_OF_7),
-    // a refused KEK, with any files after it
-    Case(PLAIN, [b"", NEW_KEK, HEX_TEXT], KEK_LENGTH, b""),
-    Case(PLAIN, [FIFTEEN, b"0g", HEX_TEXT], KEK_LENGTH, b""),
-    Case(PLAIN, [b"0g", b"", HEX_TEXT], KEK_DIGIT, b""),
-    Case(PLAIN, [b"012", NEW_KEK, HEX_TEXT], KEK_DIGITS, b""),
-    Case(PLAIN, [HEX_KEK, b"", HEX_TEXT], NEW_KEK_LENGTH, b""),
-    Case(PLAIN, [HEX_KEK, FIFTEEN, b"0g"], NEW_KEK_LENGTH, b""),
-    Case(PLAIN, [HEX_KEK, b"0g", b""], NEW_KEK_DIGIT, b""),
-    Case(PLAIN, [HEX_KEK, b"012", HEX_TEXT], NEW_KEK_DIGITS, b""),
-    // inputs that denote no bytes, or have an illegal length
-    Case(PLAIN, [HEX_KEK, NEW_KEK, b"g01"], INPUT_DIGIT, b""),
-    Case(PLAIN, [HEX_KEK, NEW_KEK, b"012"], INPUT_DIGITS, b""),
-    Case(PLAIN, [HEX_KEK, NEW_KEK, TWENTY_THREE], BAD_LENGTH, b""),
-    Case(PLAIN, [HEX_KEK, NEW_KEK, BLANKS], BAD_LENGTH, b""),
-    // the KEKs swapped, and the forms
-    Case(PLAIN, [NEW_KEK, HEX_KEK, HEX_TEXT], INTEGRITY, b""),
-    Case(TO_PLAIN, [HEX_KEK, NEW_KEK, HEX_TEXT], INTEGRITY, b""),
-    Case(PADDED, [HEX_KEK, NEW_KEK, HEX_TEXT], INTEGRITY, b""),
-    // a key of 20 bytes has no plain wrapping; a text that is not a wrapping has no key
-    Case(TO_PLAIN, [PADDED_KEK, NEW_KEK, TEXT_OF_20], BAD_LENGTH, b""),
-    Case(TO_PLAIN, [HEX_KEK, NEW_KEK, TEXT_OF_20], INTEGRITY, b""),
-];
+fn plain() -> What {
+    rewrap(Form::Plain, Form::Plain)
+}
+
+fn to_plain() -> What {
+    rewrap(Form::Padded, Form::Plain)
+}
+
+pub fn cases() -> [Case<'static>; 23] {
+    [
+        hex(plain(), [HEX_KEK, NEW_KEK, HEX_TEXT], WRITTEN, NEW_TEXT),
+        Case(
+            plain(),
+            RAW,
+            [RAW_KEK, RAW_NEW_KEK, RAW_TEXT],
+            WRITTEN,
+            RAW_NEW_TEXT,
+        ),
+        Case(
+            plain(),
+            RAW_KEKS,
+            [RAW_KEK, RAW_NEW_KEK, HEX_TEXT],
+            WRITTEN,
+            NEW_TEXT,
+        ),
+        hex(
+            rewrap(Form::Plain, Form::Padded),
+            [HEX_KEK, NEW_KEK, HEX_TEXT],
+            WRITTEN,
+            NEW_PADDED,
+        ),
+        hex(
+            to_plain(),
+            [NEW_KEK, HEX_KEK, NEW_PADDED],
+            WRITTEN,
+            HEX_TEXT,
+        ),
+        hex(
+            rewrap(Form::Padded, Form::Padded),
+            [PADDED_KEK, NEW_KEK, TEXT_OF_7],
+            WRITTEN,
+            NEW_OF_7,
+        ),
+        // a refused KEK, with any files after it
+        hex(plain(), [b"", NEW_KEK, HEX_TEXT], KEK_LENGTH, b""),
+        hex(plain(), [FIFTEEN, b"0g", HEX_TEXT], KEK_LENGTH, b""),
+        hex(plain(), [b"0g", b"", HEX_TEXT], KEK_DIGIT, b""),
+        hex(plain(), [b"012", NEW_KEK, HEX_TEXT], KEK_DIGITS, b""),
+        hex(plain(), [HEX_KEK, b"", HEX_TEXT], NEW_KEK_LENGTH, b""),
+        hex(plain(), [HEX_KEK, FIFTEEN, b"0g"], NEW_KEK_LENGTH, b""),
+        hex(plain(), [HEX_KEK, b"0g", b""], NEW_KEK_DIGIT, b""),
+        hex(plain(), [HEX_KEK, b"012", HEX_TEXT], NEW_KEK_DIGITS, b""),
+        // inputs that denote no bytes, or have an illegal length
+        hex(plain(), [HEX_KEK, NEW_KEK, b"g01"], INPUT_DIGIT, b""),
+        hex(plain(), [HEX_KEK, NEW_KEK, b"012"], INPUT_DIGITS, b""),
+        hex(plain(), [HEX_KEK, NEW_KEK, TWENTY_THREE], BAD_LENGTH, b""),
+        hex(plain(), [HEX_KEK, NEW_KEK, BLANKS], BAD_LENGTH, b""),
+        // the KEKs swapped, and the forms
+        hex(plain(), [NEW_KEK, HEX_KEK, HEX_TEXT], INTEGRITY, b""),
+        hex(to_plain(), [HEX_KEK, NEW_KEK, HEX_TEXT], INTEGRITY, b""),
+        hex(
+            rewrap(Form::Padded, Form::Padded),
+            [HEX_KEK, NEW_KEK, HEX_TEXT],
+            INTEGRITY,
+            b"",
+        ),
+        // a key of 20 bytes has no plain wrapping; a text that is not a wrapping has no key
+        hex(
+            to_plain(),
+            [PADDED_KEK, NEW_KEK, TEXT_OF_20],
+            KEY_NOT_PLAIN,
+            b"",
+        ),
+        hex(to_plain(), [HEX_KEK, NEW_KEK, TEXT_OF_20], INTEGRITY, b""),
+    ]
+}

@@ -2,19 +2,18 @@
 
 use crate::convert::{Direction, convert_into};
 use block_pair::BlockPair;
-use key_wrap_core::{Form, InitialValue};
+use key_wrap_core::AgreedForm;
 use std::alloc::Global;
 use std::test::Fail;
 
-/// Returns the wrapping of a key in a form. The plain form has this initial value.
+/// Returns the wrapping of a key in a form.
 pub fn wrapped<B: BlockPair>(
     alloc: Global,
-    form: Form,
-    iv: &InitialValue,
+    form: &AgreedForm,
     pair: &B,
     key: &[u8],
 ) -> Result<Vec<u8>, Fail> {
     let mut text = Vec::new(alloc);
-    convert_into(Direction::Wrap, form, iv, pair, key, &mut text)?;
+    convert_into(Direction::Wrap, form, pair, key, &mut text)?;
     Ok(text)
 }

@@ -8,6 +8,6 @@ pub returns-in-Err-clause-answer : goal.returns-in-Err-clause-answer
 returns-in-Err-clause-answer g c =
     let own = ap (λ m. m.pair) c.new.ensures in
     let E = g.B.BlockPair.encrypted c.args.pair.now in
-    let refused : MakesConversion c.args.direction c.args.form c.args.iv.now E c.args.input.now (Err c.in-Err.fault) =
-    subst (λ p. MakesConversion c.args.direction c.args.form c.args.iv.now (g.B.BlockPair.encrypted p) c.args.input.now (Err c.in-Err.fault)) own c.in-Err.ensures in
-    rw c.job_refusal.ensures (IsMade-refused (MakesConversion c.args.direction c.args.form c.args.iv.now E c.args.input.now) [] c.in-Err.fault refused)
+    let refused : MakesConversion c.args.direction c.args.form.now E c.args.input.now (Err c.in-Err.fault) =
+    subst (λ p. MakesConversion c.args.direction c.args.form.now (g.B.BlockPair.encrypted p) c.args.input.now (Err c.in-Err.fault)) own c.in-Err.ensures in
+    rw c.job_refusal.ensures (IsMade-refused (MakesConversion c.args.direction c.args.form.now E c.args.input.now) [] c.in-Err.fault refused)

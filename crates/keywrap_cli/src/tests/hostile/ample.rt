@@ -1,15 +1,16 @@
-//! With ample memory and sound files, no call returns Memory, Read or Write.
+//! With ample memory and sound files, no operation returns Memory, Read or Write.
 
-use super::super::cases::{Call, Case, HEX, RAW, WRITTEN};
-use super::super::initial_values::OTHER;
+use super::super::cases::{Case, HEX, RAW, WRITTEN, check, form, rewrap};
+use super::super::initial_values::other;
 use super::super::jobs::{HEX_KEK, RAW_KEK};
 use super::super::rewraps::{NEW_KEK, RAW_NEW_KEK};
 use super::super::wrapping::wrapped;
 use crate::convert::Direction;
 use crate::drilling::drill;
-use crate::job::{Job, Notation};
+use crate::files::Notation;
+use crate::what::What;
 use aes_vector::VectorAes;
-use key_wrap_core::{Form, InitialValue, MAX_KEY};
+use key_wrap_core::{Form, MAX_KEY};
 use std::alloc::{AllocError, Global};
 use std::process::Abort;
 use std::test::Fail;
@@ -57,7 +58,7 @@ fn gives_up_for_io_at_no_length(rt: HostRuntime) -> Result<(), Fail> {
     run_each_length(&rt, rt.alloc(), 1)
 }
 
-// Makes each call on keys of each length, with reads and writes of at least `size` bytes.
+// Runs each operation on keys of each length, with reads and writes of at least `size` bytes.
 fn run_each_length(rt: &impl Abort, alloc: Global, size: usize) -> Result<(), Fail> {
     for content in 0..4 {
         let mut key = Vec::new(alloc);
@@ -73,36 +74,30 @@ fn run_each_length(rt: &impl Abort, alloc: Global, size: usize) -> Result<(), Fa
     Ok(())
 }
 
-// Makes each call in each form that the key has: wraps, rewraps and unwraps.
+// Runs each operation in each form that the key has: wraps, rewraps and unwraps.
 fn run_on_key(rt: &impl Abort, alloc: Global, key: &[u8], size: usize) -> Result<(), Fail> {
     let (old, new) = (VectorAes::new(RAW_KEK)?, VectorAes::new(RAW_NEW_KEK)?);
-    let iv = InitialValue::default();
-    for form in FORMS {
-        if is_key_length(form, key.len()) {
-            let text = wrapped(alloc, form, &iv, &old, key)?;
-            let wrap = Call::Job(Job::Wrap, form, RAW, RAW);
-            writes(rt, alloc, wrap, key, &text, size)?;
-            let unwrap = Call::Job(Job::Unwrap, form, RAW, RAW);
-            writes(rt, alloc, unwrap, &text, key, size)?;
-            let check = Call::Job(Job::Check, form, RAW, RAW);
-            let line = check_line(alloc, form, key.len())?;
-            writes(rt, alloc, check, &text, line.as_bytes(), size)?;
-            assert!(rt; drills(alloc, form, key), "{} bytes", key.len());
+    for old_form in FORMS {
+        if is_key_length(old_form, key.len()) {
+            let text = wrapped(alloc, &form(old_form), &old, key)?;
+            writes(rt, alloc, &What::Wrap(form(old_form)), key, &text, size)?;
+            writes(rt, alloc, &What::Unwrap(form(old_form)), &text, key, size)?;
+            let line = check_line(alloc, old_form, key.len())?;
+            writes(rt, alloc, &check(), &text, line.as_bytes(), size)?;
+            assert!(rt; drills(alloc, old_form, key), "{} bytes", key.len());
             for new_form in FORMS {
                 if is_key_length(new_form, key.len()) {
-                    let new_text = wrapped(alloc, new_form, &iv, &new, key)?;
-                    let rewrap = Call::Rewrap(form, new_form, RAW, RAW);
-                    writes(rt, alloc, rewrap, &text, &new_text, size)?;
+                    let new_text = wrapped(alloc, &form(new_form), &new, key)?;
+                    let what = rewrap(old_form, new_form);
+                    writes(rt, alloc, &what, &text, &new_text, size)?;
                 }
             }
         }
     }
     if is_key_length(Form::Plain, key.len()) {
-        let text = wrapped(alloc, Form::Plain, &InitialValue::new(OTHER)?, &old, key)?;
-        let wrap = Call::With(OTHER, Direction::Wrap, RAW, RAW);
-        writes(rt, alloc, wrap, key, &text, size)?;
-        let unwrap = Call::With(OTHER, Direction::Unwrap, RAW, RAW);
-        writes(rt, alloc, unwrap, &text, key, size)?;
+        let text = wrapped(alloc, &other(), &old, key)?;
+        writes(rt, alloc, &What::Wrap(other()), key, &text, size)?;
+        writes(rt, alloc, &What::Unwrap(other()), &text, key, size)?;
     }
     Ok(())
 }
@@ -114,22 +109,22 @@ fn check_line(alloc: Global, form: Form, len: usize) -> Result<String, AllocErro
     }
 }
 
-// Checks that a call writes this output for this input, in raw and in hex.
+// Checks that an operation writes this output for this input, in raw and in hex.
 fn writes(
     rt: &impl Abort,
     alloc: Global,
-    call: Call,
+    what: &What,
     input: &[u8],
     output: &[u8],
     size: usize,
 ) -> Result<(), Fail> {
-    writes_in(rt, alloc, RAW, call, input, output, size);
+    writes_in(rt, alloc, RAW, what, input, output, size);
     let input = line_of(alloc, input)?;
-    let output = match call {
-        Call::Job(Job::Check, ..) => output.to_vec(alloc)?,
+    let output = match what {
+        What::Check(_) => output.to_vec(alloc)?,
         _ => line_of(alloc, output)?,
     };
-    writes_in(rt, alloc, HEX, in_hex(call), &input, &output, size);
+    writes_in(rt, alloc, HEX, what, &input, &output, size);
     Ok(())
 }
 
@@ -137,31 +132,23 @@ fn writes(
 fn writes_in<'a>(
     rt: &impl Abort,
     alloc: Global,
-    notation: Notation,
-    call: Call,
+    notations: [Notation; 2],
+    what: &What,
     input: &'a [u8],
     output: &'a [u8],
     size: usize,
 ) {
-    let case = match notation {
-        Notation::Raw => Case(call, [RAW_KEK, RAW_NEW_KEK, input], WRITTEN, output),
-        _ => Case(call, [HEX_KEK, NEW_KEK, input], WRITTEN, output),
+    let files = match notations[0] {
+        Notation::Raw => [RAW_KEK, RAW_NEW_KEK, input],
+        _ => [HEX_KEK, NEW_KEK, input],
     };
-    case.holds(rt, alloc, size);
+    Case(*what, notations, files, WRITTEN, output).holds(rt, alloc, size);
 }
 
 fn line_of(alloc: Global, bytes: &[u8]) -> Result<Vec<u8>, AllocError> {
     let mut line = hex::encode(alloc, bytes)?;
     line.push('\n')?;
     Ok(line.into_bytes())
-}
-
-fn in_hex(call: Call) -> Call {
-    match call {
-        Call::Job(job, form, ..) => Call::Job(job, form, HEX, HEX),
-        Call::With(iv, direction, ..) => Call::With(iv, direction, HEX, HEX),
-        Call::Rewrap(old_form, new_form, ..) => Call::Rewrap(old_form, new_form, HEX, HEX),
-    }
 }
 
 // Returns whether drills of the key and of its wrapping succeed.

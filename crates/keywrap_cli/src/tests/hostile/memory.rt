@@ -1,30 +1,34 @@
 //! Each allocation is refused in turn: a call returns Memory and has written nothing, or succeeds.
 //! `rt try --test --fail-alloc N` refuses the Nth allocation; the gate refuses none.
 
-use super::super::cases::{Case, HEX, run};
+use super::super::cases::{Case, form, run};
 use super::super::jobs::{HEX_KEK, HEX_KEY, RAW_KEY};
 use super::super::operations::NoLog;
 use super::super::vectors::LINES;
 use super::swapped::{PADDED_KEY, PADDED_TEXT, TEXT};
-use crate::convert::Direction;
+use crate::convert::Direction::{self, Unwrap, Wrap};
 use crate::drilling::{DrillFault, drill};
-use crate::job::{Job, JobFault, Task};
+use crate::files::Notation;
+use crate::kek_file::Keks;
 use crate::operation::Operation;
+use crate::outcome::JobFault;
 use crate::vector_check::Library;
 use crate::vector_report::{VectorsFault, vectors};
+use crate::what::What;
 use key_files::FileFault;
 use key_lines::{LineFault, RunFault, RunOptions, TextNotation};
-use key_wrap_core::{Form, InitialValue, RewrapFault};
+use key_wrap_core::Form::{self, Padded, Plain};
+use key_wrap_core::RewrapFault;
 use std::alloc::Global;
 use std::process::Abort;
 use test_doubles::Trickle;
 
 pub(super) fn run_in_room(rt: &impl Abort, alloc: Global, case: &Case) {
-    let Case(call, _, wanted, output) = *case;
+    let Case(_, _, _, wanted, output) = *case;
     let mut room = [0; 64];
     // A writer that does not allocate: the room that is left.
     let mut free = room.as_mut_slice();
-    let (done, _) = run(alloc, call, case.files(usize::MAX), &mut free);
+    let (done, _) = run(alloc, case, case.files(usize::MAX), &mut free);
     let written = 64_usize.saturating_sub(free.len());
     if done == Err(JobFault::Memory) {
         assert!(rt; written == 0, "{wanted:?}");
@@ -37,26 +41,18 @@ pub(super) fn run_in_room(rt: &impl Abort, alloc: Global, case: &Case) {
 }
 
 static DRILLS: [(Form, Direction, &str, &[u8]); 4] = [
+    (Plain, Wrap, "00112233445566778899aabbccddeeff", TEXT),
+    (Plain, Unwrap, HEX_TEXT, RAW_KEY),
+    (Padded, Wrap, "466f7250617369", PADDED_TEXT),
     (
-        Form::Plain,
-        Direction::Wrap,
-        "00112233445566778899aabbccddeeff",
-        TEXT,
-    ),
-    (
-        Form::Plain,
-        Direction::Unwrap,
-        "a6a6a6a6a6a6a6a6001122334455667f8899aabbccddeefb",
-        RAW_KEY,
-    ),
-    (Form::Padded, Direction::Wrap, "466f7250617369", PADDED_TEXT),
-    (
-        Form::Padded,
-        Direction::Unwrap,
+        Padded,
+        Unwrap,
         "466f725061736900a65959a600000007",
         PADDED_KEY,
     ),
 ];
+
+const HEX_TEXT: &str = "a6a6a6a6a6a6a6a6001122334455667f8899aabbccddeefb";
 
 #[test]
 fn refuses_each_growth_of_a_drill(rt: HostRuntime) {
@@ -122,16 +118,13 @@ fn unwrap_lines(
     mut lines: &[u8],
     out: &mut &mut [u8],
 ) -> Option<(u64, LineFault<RewrapFault>)> {
-    let task = Task {
-        job: Job::Unwrap,
-        form: Form::Plain,
-        input: HEX,
-        kek: HEX,
-    };
-    let mut operation = Operation::Job {
-        iv: InitialValue::default(),
-        task,
-        kek: Trickle::in_pieces(HEX_KEK, 7),
+    let mut operation = Operation {
+        what: What::Unwrap(form(Plain)),
+        keks: Keks {
+            notation: Notation::Hex,
+            kek: Trickle::in_pieces(HEX_KEK, 7),
+            new_kek: None,
+        },
     };
     let options = RunOptions {
         notation: TextNotation::Hex,

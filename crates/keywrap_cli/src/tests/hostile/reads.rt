@@ -1,7 +1,7 @@
 //! Each read fails in turn, once or from then on.
 
 use super::super::cases::{Case, run};
-use crate::job::JobFault;
+use crate::outcome::JobFault;
 use key_files::FileFault;
 use std::alloc::Global;
 use std::process::Abort;
@@ -17,7 +17,7 @@ static READ_FAULTS: [JobFault; 3] = [
 // After a failed read nothing is written, the reader is not called again, and later files are not
 // read. The bytes before the failure do not matter.
 pub(super) fn fail_each_read(rt: &impl Abort, alloc: Global, case: &Case) {
-    let Case(call, bytes, ..) = *case;
+    let bytes = case.2;
     for at in 0..3 {
         if !case.reads(at) {
             continue;
@@ -28,11 +28,12 @@ pub(super) fn fail_each_read(rt: &impl Abort, alloc: Global, case: &Case) {
                 let mut files = case.files(1);
                 files[at] = Trickle::failing(file, room, faults);
                 let mut out = Narrow::in_pieces(alloc, 1);
-                let (done, [_, new_kek, input]) = run(alloc, call, files, &mut out);
+                let (done, files) = run(alloc, case, files, &mut out);
                 assert!(rt; done == Err(READ_FAULTS[at]), "file {at}, byte {room}");
                 assert!(rt; out.out().is_empty(), "file {at}, byte {room}");
-                assert!(rt; at > 0 || new_kek.is_unread, "byte {room}");
-                assert!(rt; at > 1 || input.is_unread, "byte {room}");
+                for later in files.iter().skip(at + 1).flatten() {
+                    assert!(rt; later.is_unread, "file {at}, byte {room}");
+                }
             }
         }
     }

@@ -1,12 +1,12 @@
 //! The eight texts of RFC 3394, section 4, and RFC 5649, section 6, cut short, or with one changed
 //! bit of the text or of the KEK. Each is refused, by a job and in a buffer.
 
-use super::super::cases::{Call, Case, RAW};
+use super::super::cases::{Case, RAW, form};
 use super::super::jobs::{BAD_LENGTH, INTEGRITY};
 use super::super::standards::{Wrapping, wrappings};
 use super::change_bit;
 use super::in_place::unwraps_to;
-use crate::job::Job;
+use crate::what::What;
 use aes_vector::VectorAes;
 use key_wrap_core::Form;
 use std::alloc::Global;
@@ -23,7 +23,6 @@ fn refuses_each_proper_prefix_of_a_text(rt: HostRuntime) -> Result<(), Fail> {
 
 // Each prefix is refused for its length or, if that is legal, for its bytes.
 fn refuse_each_prefix(rt: &impl Abort, alloc: Global, wrapping: &Wrapping) {
-    let unwrap = Call::Job(Job::Unwrap, wrapping.form, RAW, RAW);
     for len in 0..wrapping.text.len() {
         let done = if is_legal(wrapping.form, len) {
             INTEGRITY
@@ -31,7 +30,7 @@ fn refuse_each_prefix(rt: &impl Abort, alloc: Global, wrapping: &Wrapping) {
             BAD_LENGTH
         };
         let files = [wrapping.kek.as_slice(), b"", &wrapping.text[..len]];
-        Case(unwrap, files, done, b"").holds(rt, alloc, usize::MAX);
+        Case(What::Unwrap(form(wrapping.form)), RAW, files, done, b"").holds(rt, alloc, usize::MAX);
     }
 }
 
@@ -57,13 +56,13 @@ fn refuse_each_changed_bit(
     alloc: Global,
     wrapping: &Wrapping,
 ) -> Result<(), Fail> {
-    let unwrap = Call::Job(Job::Unwrap, wrapping.form, RAW, RAW);
     let mut bytes = wrapping.kek.to_vec(alloc)?;
     bytes.extend_from_slice(&wrapping.text)?;
     for bit in 0..bytes.len().saturating_mul(8) {
         change_bit(&mut bytes, bit);
         let (kek, text) = bytes.split_at(wrapping.kek.len().min(bytes.len()));
-        Case(unwrap, [kek, b"", text], INTEGRITY, b"").holds(rt, alloc, usize::MAX);
+        let unwrap = What::Unwrap(form(wrapping.form));
+        Case(unwrap, RAW, [kek, b"", text], INTEGRITY, b"").holds(rt, alloc, usize::MAX);
         unwraps_to(rt, alloc, wrapping.form, &VectorAes::new(kek)?, text, None)?;
         change_bit(&mut bytes, bit);
     }

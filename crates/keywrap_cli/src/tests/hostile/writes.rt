@@ -2,7 +2,7 @@
 
 use super::super::cases::{Case, run};
 use super::super::vectors::LINES;
-use crate::job::JobFault;
+use crate::outcome::JobFault;
 use crate::vector_check::Library;
 use crate::vector_report::{VectorsFault, vectors};
 use std::alloc::Global;
@@ -11,11 +11,11 @@ use test_doubles::{Narrow, STOPPINGS};
 
 // A writer that failed once is not called again. A fault after the output is not reached.
 pub(super) fn stop_each_write(rt: &impl Abort, alloc: Global, case: &Case) {
-    let Case(call, _, wanted, output) = *case;
+    let Case(_, _, _, wanted, output) = *case;
     for room in 0..=output.len() {
         for (stop, faults) in &STOPPINGS {
             let mut out = Narrow::stopping(alloc, room, *stop, *faults);
-            let (done, _) = run(alloc, call, case.files(1), &mut out);
+            let (done, _) = run(alloc, case, case.files(1), &mut out);
             let wanted = if room < output.len() {
                 Err(JobFault::Write { written: room })
             } else {

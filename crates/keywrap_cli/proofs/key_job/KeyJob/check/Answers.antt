@@ -1,19 +1,8 @@
 -- The line gives the text's kind, in a buffer that was cleared.
-use Rattle.std.proofs.Common.{◌≡◌, ap, refl, ◌∙◌, rules}
-use Rattle.key_lines.specs.declared.job.Note.TheVariants as notes
-use Rattle.keywrap_cli.specs.JobAnswers.{HasNote, kind_line}
-use Rattle.keywrap_cli.specs.declared.job.Job.TheVariants.{Check}
+use Rattle.std.proofs.Common.{◌≡◌, ap, ◌∙◌}
+use Rattle.keywrap_cli.specs.JobAnswers.{kind_line}
 use Rattle.keywrap_cli.proofs.KindLines.{check_line}
 use Rattle.keywrap_cli.proofs.key_job.KeyJob.check.Goals as goal
-
-pub returns-in-Plain : goal.returns-in-Plain
-returns-in-Plain g c =
-    let own = ap (λ m. m.pair) c.new.ensures in
-    let w = rw own at c.in-Ok.ensures in
-    let line : c.extend_from_slice.new.self.items ≡ kind_line c.in-Ok.found =
-    c.in_ok-extend_from_slice.ensures.items ∙ (rw c.clear.ensures.items (c.as_bytes.ensures.value ∙ c.in_ok-line.ensures)) in
-    let note : HasNote Check c.extend_from_slice.new.self.items notes.None = search rules in
-    ((c.in-Ok.found, w.kind.is, line), note, check_line _ _ _ c.args.self.now.task.input _ c.in-Ok.found w.kind.is line)
 
 pub returns : goal.returns
 returns g c =
@@ -21,4 +10,4 @@ returns g c =
     let w = rw own at c.in-Ok.ensures in
     let line : c.extend_from_slice.new.self.items ≡ kind_line c.in-Ok.found =
     c.in_ok-extend_from_slice.ensures.items ∙ (rw c.clear.ensures.items (c.as_bytes.ensures.value ∙ c.in_ok-line.ensures)) in
-    ((c.in-Ok.found, w.kind.is, line), (refl, line ∙ ap kind_line c.in-Neither.is), check_line _ _ _ c.args.self.now.task.input _ c.in-Ok.found w.kind.is line)
+    ((c.in-Ok.found, w.kind.is, line, c.kind_note.ensures), check_line _ _ _ c.args.self.now.notation _ c.in-Ok.found w.kind.is line)

@@ -9,9 +9,8 @@ returns-in-Unwrap g c = rw c.in-Unwrap.is c.convert-in-Unwrap.ensures
 pub returns-in-Ok : goal.returns-in-Ok
 returns-in-Ok g c = rw c.in-Check.is (rw c.deref.ensures.value at c.in-Ok.ensures)
 
--- a check has no bad length
-pub returns-in-Err : goal.returns-in-Err
-returns-in-Err g c = rw c.in-Check.is (λ bad. bad)
-
 pub returns-in-UnwrapAny : goal.returns-in-UnwrapAny
 returns-in-UnwrapAny g c = rw c.in-UnwrapAny.is c.unwrap_any.ensures
+
+pub returns-in-Rewrap : goal.returns-in-Rewrap
+returns-in-Rewrap g c = rw c.in-Rewrap.is c.rewrap.ensures

@@ -1,1 +1,0 @@
--- The file's bytes are a KEK or have no legal length, or there are none.

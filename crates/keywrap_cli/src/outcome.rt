@@ -1,0 +1,60 @@
+//! The outcome of an operation, or why it was refused.
+
+use key_files::{FileFault, WriteFault};
+use key_wrap_core::InPlaceFault;
+use thiserror::Error;
+
+/// The outcome of an operation on a whole input.
+#[derive(Clone, Copy, Debug, PartialEq)]
+pub enum Done {
+    Written,
+    /// The input is not a wrapping in either form, and `none` was written.
+    Neither,
+}
+
+/// The result of an operation, and whether its KEKs are the same key.
+#[derive(Clone, Copy)]
+pub struct Outcome<T> {
+    /// The result.
+    pub result: T,
+    /// Whether there are two KEKs, which are the same key.
+    pub same_kek: bool,
+}
+
+/// Why an operation was refused.
+#[derive(Clone, Copy, Debug, PartialEq, Error)]
+pub enum JobFault {
+    /// The KEK file cannot be read, is too long, or does not decode.
+    #[error("key file: {0}")]
+    KekFile(FileFault),
+    #[error("key length is not 16, 24 or 32 bytes")]
+    KekLength,
+    /// The new KEK file cannot be read, is too long, or does not decode. Only a rewrapping returns
+    /// this.
+    #[error("new key file: {0}")]
+    NewKekFile(FileFault),
+    /// The new KEK is not 16, 24 or 32 bytes long. Only a rewrapping returns this.
+    #[error("new key length is not 16, 24 or 32 bytes")]
+    NewKekLength,
+    /// The input cannot be read, is too long, or does not decode.
+    #[error("input: {0}")]
+    InputFile(FileFault),
+    /// The length of the key or the wrapped key is not legal in this form.
+    #[error("{}", InPlaceFault::BadLength)]
+    BadLength,
+    /// The input is not a wrapping in this form under this KEK.
+    #[error("{}", InPlaceFault::Integrity)]
+    Integrity,
+    /// A rewrap found the key, but no plain key has its length. `run_rewrap` returns BadLength
+    /// instead.
+    #[error("{}", InPlaceFault::BadLength)]
+    KeyNotPlain,
+    /// The writer took only `written` bytes of the output.
+    #[error("output: {}", WriteFault {written: *written})]
+    Write {
+        /// The number of bytes that were written.
+        written: usize,
+    },
+    #[error("{}", FileFault::Memory)]
+    Memory,
+}
